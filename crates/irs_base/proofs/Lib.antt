@@ -1,0 +1,14 @@
+pub mod Orders
+pub mod Dates
+pub mod DateTexts
+pub mod DateWalks
+pub mod DateLemmas
+pub mod MonthLemmas
+pub mod DayListLemmas
+pub mod Rising
+pub mod RoundingLemmas
+pub mod RoundingLaws
+pub mod TextLemmas
+pub mod TextLengths
+pub mod LineLemmas
+pub mod FieldLemmas

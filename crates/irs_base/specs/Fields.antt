@@ -1,0 +1,20 @@
+-- The fields of a line.
+use Rattle.std.specs.Prelude.{ℕ, Bool, true, false, ◌||◌, ◌==◌, List, [], ◌∷◌, if◌then◌else◌}
+use Rattle.irs_base.specs.Lines.{with_byte}
+
+-- a space or a tab
+abbrev pub is_space : ℕ → Bool
+is_space b = (b == 32) || (b == 9)
+
+abbrev pub begins_space : List ℕ → Bool
+begins_space [] = false
+begins_space (b ∷ bs) = is_space b
+
+abbrev pub ends_field : List ℕ → Bool
+ends_field [] = true
+ends_field (b ∷ bs) = is_space b
+
+-- what stands between spaces and tabs
+abbrev pub fields : List ℕ → List (List ℕ)
+fields [] = []
+fields (b ∷ bs) = if is_space b then fields bs else (if ends_field bs then (b ∷ []) ∷ fields bs else with_byte b (fields bs))

@@ -1,0 +1,13 @@
+pub mod Days
+pub mod Civils
+pub mod Months
+pub mod DateOf
+pub mod DayLists
+pub mod Listed
+pub mod Rounding
+pub mod Decimals
+pub mod Texts
+pub mod Lines
+pub mod Fields
+pub mod Dates
+pub mod Paths

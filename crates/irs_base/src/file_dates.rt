@@ -1,0 +1,44 @@
+ghost use Rattle.std.specs.Prelude.{◌≡◌, ◌<◌, IfSome};
+ghost use Rattle.irs_base.specs.Dates.{pair_at, day_number, date_at};
+
+use crate::{Civil, Day, day_of};
+
+fn pair(a: u8, b: u8) -> Option<u8>
+    ensures value { result ≡ pair_at a b }
+    ensures small { IfSome result (λ n. n < 100) }
+{
+    if b'0' <= a && a <= b'9' && b'0' <= b && b <= b'9' {
+        Some(10 * (a - b'0') + (b - b'0'))
+    } else {
+        None
+    }
+}
+
+fn day(year: u16, month: u8, day: u8) -> Option<Day>
+    requires { year < 10_000 }
+    ensures { result ≡ day_number year month day }
+{
+    day_of(Civil {
+        year: i32::from(year),
+        month,
+        day,
+    })
+}
+
+/// The day of a date `YYYY-MM-DD`.
+pub fn date(bytes: &[u8]) -> Option<Day>
+    ensures { result ≡ date_at bytes.now }
+{
+    if bytes.len() != 10 || bytes[4] != b'-' || bytes[7] != b'-' {
+        return None;
+    }
+    let (Some(century), Some(year), Some(month), Some(of_month)) = (
+        pair(bytes[0], bytes[1]),
+        pair(bytes[2], bytes[3]),
+        pair(bytes[5], bytes[6]),
+        pair(bytes[8], bytes[9]),
+    ) else {
+        return None;
+    };
+    day(100 * u16::from(century) + u16::from(year), month, of_month)
+}

@@ -1,0 +1,31 @@
+//! What every crate of the project stands on: days and months, decimals and rounding, lists,
+//! texts and lines, and the places of broken rules.
+#![tactic(auto)]
+
+mod file_dates;
+mod day;
+mod day_list;
+mod fields;
+mod line;
+mod lines;
+mod memory;
+mod months;
+mod names;
+mod places;
+mod reading;
+mod rounding;
+mod text;
+
+pub use file_dates::date;
+pub use day::{Civil, Day, DayName, FIRST_DAY, LAST_DAY, ahead, civil_of, day_of, plus, weekday};
+pub use day_list::DayList;
+pub use fields::{first_field, is_gap};
+pub use line::{Dec, Line};
+pub use lines::split_line;
+pub use memory::Memory;
+pub use months::{month_day, month_index};
+pub use names::Names;
+pub use places::{Broken, Elem, Place, Rule};
+pub use reading::read_date;
+pub use rounding::{Direction, round};
+pub use text::Text;

@@ -1,0 +1,52 @@
+//! Months, counted from January of the year 0: `12*year + month - 1`.
+ghost use Rattle.std.specs.Prelude.{◌≡◌, ◌<◌, ◌≤◌, pos, SomeIff};
+ghost use Rattle.irs_base.specs.Days.{IsDay};
+ghost use Rattle.irs_base.specs.Months.{InMonth, day_in_month};
+ghost use Rattle.jiff_core.specs.Calendar.{IsBetween};
+
+use crate::{Civil, Day, civil_of, day_of};
+use jiff_core::civil::days_in_month;
+
+/// The month of January 1901.
+const FIRST_MONTH: i64 = 22_812;
+
+/// The month of December 2199.
+const LAST_MONTH: i64 = 26_399;
+
+/// The month in which a day lies.
+pub fn month_index(d: Day) -> i32
+    ensures month { InMonth d result }
+    ensures range { IsBetween (pos 22_812) (pos 26_399) result }
+    ensures day { IsDay d }
+{
+    let c = civil_of(d);
+    12 * c.year + i32::from(c.month) - 1
+}
+
+fn day_of_month(index: u32, n: u8) -> Option<Day>
+    requires number { 0 < n }
+    requires low { 22_812 ≤ index }
+    requires high { index ≤ 26_399 }
+    ensures { SomeIff result (IsDay (day_in_month n (pos index))) (day_in_month n (pos index)) }
+{
+    let year = index / 12;
+    let month = (index % 12 + 1) as u8;
+    let day = n.min(days_in_month(year as i16, month));
+    day_of(Civil {
+        year: year as i32,
+        month,
+        day,
+    })
+}
+
+/// The day of a month with that number, or its last day where the month is shorter; `None` exactly
+/// where that day isn't in range.
+pub fn month_day(m: i64, n: u8) -> Option<Day>
+    requires { 0 < n }
+    ensures { SomeIff result (IsDay (day_in_month n m)) (day_in_month n m) }
+{
+    if m < FIRST_MONTH || m > LAST_MONTH {
+        return None;
+    }
+    day_of_month(m as u32, n)
+}
