@@ -10,4 +10,5 @@ pub mod Texts
 pub mod Lines
 pub mod Fields
 pub mod Dates
-pub mod Paths
+pub mod Elements
+pub mod Rules

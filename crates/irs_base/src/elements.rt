@@ -1,0 +1,667 @@
+//! Elements: the paths of FpML elements by which places are named, as one constant table.
+//!
+//! The order of the table is the order in which the first broken rule is sought: what lies outside
+//! the streams, the elements of a stream of a trade (FpML's InterestRateStream), and the elements
+//! of another party's cash flows. The table and its order are this project's own.
+ghost use Rattle.std.specs.Prelude.{◌≡◌, ◌<◌, ℕ, Some, None, SomeIff, map, slice_get, true, drop};
+ghost use Rattle.irs_base.specs.Elements.{fits_from, count};
+ghost use Rattle.irs_base.specs.declared.elements.TheConstants.{NAMES, PARENTS, PATHS};
+
+use std::marker::Model;
+
+/// The number of elements in the table.
+pub const ELEMENTS: u8 = 149;
+
+/// An element, by its place in the table of paths. Contracts see the place.
+#[derive(Clone, Copy, Debug, PartialEq, Eq, PartialOrd, Ord)]
+pub struct Elem {
+    place: u8,
+}
+
+impl Model for Elem {
+    ghost Value = { ℕ };
+
+    ghost view = { λ e. e.place };
+
+    ghost invariant = { λ e. e.place < count };
+
+    ghost inverse = { λ n. record { place = n } };
+}
+
+impl Elem {
+    /// `document`.
+    pub const DOCUMENT: Elem = Elem { place: 0 };
+
+    /// `swap`.
+    pub const SWAP: Elem = Elem { place: 1 };
+
+    /// `swapStream`.
+    pub const SWAP_STREAM: Elem = Elem { place: 2 };
+
+    /// `calculationPeriodDates`.
+    pub const CALCULATION_PERIOD_DATES: Elem = Elem { place: 3 };
+
+    /// `calculationPeriodDates/effectiveDate`.
+    pub const EFFECTIVE_DATE: Elem = Elem { place: 4 };
+
+    /// `calculationPeriodDates/effectiveDate/dateAdjustments`.
+    pub const EFFECTIVE_DATE_ADJUSTMENTS: Elem = Elem { place: 6 };
+
+    /// `calculationPeriodDates/effectiveDate/dateAdjustments/businessCentersReference`.
+    pub const EFFECTIVE_DATE_CENTERS_REFERENCE: Elem = Elem { place: 8 };
+
+    /// `calculationPeriodDates/terminationDate`.
+    pub const TERMINATION_DATE: Elem = Elem { place: 11 };
+
+    /// `calculationPeriodDates/terminationDate/dateAdjustments`.
+    pub const TERMINATION_DATE_ADJUSTMENTS: Elem = Elem { place: 13 };
+
+    /// `calculationPeriodDates/terminationDate/dateAdjustments/businessCentersReference`.
+    pub const TERMINATION_DATE_CENTERS_REFERENCE: Elem = Elem { place: 15 };
+
+    /// `calculationPeriodDates/calculationPeriodDatesAdjustments`.
+    pub const PERIOD_DATES_ADJUSTMENTS: Elem = Elem { place: 18 };
+
+    /// `calculationPeriodDates/calculationPeriodDatesAdjustments/businessCentersReference`.
+    pub const PERIOD_DATES_CENTERS_REFERENCE: Elem = Elem { place: 20 };
+
+    /// `calculationPeriodDates/firstRegularPeriodStartDate`.
+    pub const FIRST_REGULAR_PERIOD_START_DATE: Elem = Elem { place: 23 };
+
+    /// `calculationPeriodDates/lastRegularPeriodEndDate`.
+    pub const LAST_REGULAR_PERIOD_END_DATE: Elem = Elem { place: 24 };
+
+    /// `calculationPeriodDates/calculationPeriodFrequency`.
+    pub const CALCULATION_PERIOD_FREQUENCY: Elem = Elem { place: 26 };
+
+    /// `paymentDates`.
+    pub const PAYMENT_DATES: Elem = Elem { place: 30 };
+
+    /// `paymentDates/calculationPeriodDatesReference`.
+    pub const PAYMENT_DATES_REFERENCE: Elem = Elem { place: 31 };
+
+    /// `paymentDates/paymentFrequency`.
+    pub const PAYMENT_FREQUENCY: Elem = Elem { place: 32 };
+
+    /// `paymentDates/firstPaymentDate`.
+    pub const FIRST_PAYMENT_DATE: Elem = Elem { place: 35 };
+
+    /// `paymentDates/lastRegularPaymentDate`.
+    pub const LAST_REGULAR_PAYMENT_DATE: Elem = Elem { place: 36 };
+
+    /// `paymentDates/paymentDaysOffset`.
+    pub const PAYMENT_DAYS_OFFSET: Elem = Elem { place: 38 };
+
+    /// `paymentDates/paymentDatesAdjustments`.
+    pub const PAYMENT_DATES_ADJUSTMENTS: Elem = Elem { place: 42 };
+
+    /// `paymentDates/paymentDatesAdjustments/businessCentersReference`.
+    pub const PAYMENT_DATES_CENTERS_REFERENCE: Elem = Elem { place: 44 };
+
+    /// `resetDates`.
+    pub const RESET_DATES: Elem = Elem { place: 47 };
+
+    /// `resetDates/calculationPeriodDatesReference`.
+    pub const RESET_DATES_REFERENCE: Elem = Elem { place: 48 };
+
+    /// `resetDates/fixingDates`.
+    pub const FIXING_DATES: Elem = Elem { place: 50 };
+
+    /// `resetDates/fixingDates/businessCentersReference`.
+    pub const FIXING_DATES_CENTERS_REFERENCE: Elem = Elem { place: 55 };
+
+    /// `resetDates/fixingDates/dateRelativeTo`.
+    pub const FIXING_DATES_RELATIVE_TO: Elem = Elem { place: 58 };
+
+    /// `resetDates/resetFrequency`.
+    pub const RESET_FREQUENCY: Elem = Elem { place: 59 };
+
+    /// `resetDates/resetDatesAdjustments`.
+    pub const RESET_DATES_ADJUSTMENTS: Elem = Elem { place: 62 };
+
+    /// `resetDates/resetDatesAdjustments/businessCentersReference`.
+    pub const RESET_DATES_CENTERS_REFERENCE: Elem = Elem { place: 64 };
+
+    /// `calculationPeriodAmount`.
+    pub const CALCULATION_PERIOD_AMOUNT: Elem = Elem { place: 67 };
+
+    /// `calculationPeriodAmount/calculation`.
+    pub const CALCULATION: Elem = Elem { place: 68 };
+
+    /// `calculationPeriodAmount/calculation/notionalSchedule/notionalStepSchedule/step/stepDate`.
+    pub const NOTIONAL_STEP_DATE: Elem = Elem { place: 73 };
+
+    /// `calculationPeriodAmount/calculation/fixedRateSchedule/step/stepDate`.
+    pub const FIXED_RATE_STEP_DATE: Elem = Elem { place: 79 };
+
+    /// `calculationPeriodAmount/calculation/floatingRateCalculation/floatingRateMultiplierSchedule/step/stepDate`.
+    pub const MULTIPLIER_STEP_DATE: Elem = Elem { place: 89 };
+
+    /// `calculationPeriodAmount/calculation/floatingRateCalculation/spreadSchedule/step/stepDate`.
+    pub const SPREAD_STEP_DATE: Elem = Elem { place: 94 };
+
+    /// `calculationPeriodAmount/calculation/compoundingMethod`.
+    pub const COMPOUNDING_METHOD: Elem = Elem { place: 102 };
+
+    /// `stubCalculationPeriodAmount`.
+    pub const STUB_AMOUNT: Elem = Elem { place: 103 };
+
+    /// `stubCalculationPeriodAmount/calculationPeriodDatesReference`.
+    pub const STUB_AMOUNT_REFERENCE: Elem = Elem { place: 104 };
+
+    /// `stubCalculationPeriodAmount/initialStub`.
+    pub const INITIAL_STUB: Elem = Elem { place: 105 };
+
+    /// `stubCalculationPeriodAmount/finalStub`.
+    pub const FINAL_STUB: Elem = Elem { place: 112 };
+
+    /// `principalExchanges`.
+    pub const PRINCIPAL_EXCHANGES: Elem = Elem { place: 119 };
+
+    /// `cashflows`.
+    pub const CASHFLOWS: Elem = Elem { place: 123 };
+
+    /// `principalExchange`.
+    pub const FLOW_EXCHANGE: Elem = Elem { place: 124 };
+
+    /// `paymentCalculationPeriod`.
+    pub const FLOW_PAYMENT: Elem = Elem { place: 128 };
+
+    /// `calculationPeriod`.
+    pub const FLOW_PERIOD: Elem = Elem { place: 134 };
+
+    /// `rateObservation`.
+    pub const FLOW_OBSERVATION: Elem = Elem { place: 145 };
+
+    /// The element at a place of the table; `None` exactly past its end.
+    pub fn at(place: u8) -> Option<Elem>
+        ensures { SomeIff result (place < count) place }
+    {
+        if place < ELEMENTS {
+            Some(Elem { place })
+        } else {
+            None
+        }
+    }
+
+    /// The place in the table.
+    pub fn place(self) -> u8
+        ensures value { result ≡ self }
+        ensures within { self < count }
+    {
+        self.place
+    }
+
+    /// The path as it is printed: the names from below the stream down, joined by `/`.
+    pub fn path(self) -> &'static str
+        ensures { slice_get (map (λ p. p.now) PATHS) self ≡ Some result.now }
+    {
+        PATHS[self.place as usize]
+    }
+}
+
+/// The table is whole: each element stands behind its parent, its path is its parent's path with
+/// its own name behind a `/` (the name alone right below the stream), and no two elements of one
+/// parent have one name, so that no path stands twice.
+pub fn table_fits()
+    ensures { fits_from (map (λ p. p.now) PATHS) 3 (drop 3 PARENTS) (drop 3 (map (λ n. n.now) NAMES)) (drop 3 (map (λ p. p.now) PATHS)) ≡ true }
+{}
+
+/// The place of the element that the path continues; the stream for a path of one name.
+pub const PARENTS: [u8; 149] = [
+    0,
+    0,
+    1,
+    2,
+    3,
+    4,
+    4,
+    6,
+    6,
+    6,
+    9,
+    3,
+    11,
+    11,
+    13,
+    13,
+    13,
+    16,
+    3,
+    18,
+    18,
+    18,
+    21,
+    3,
+    3,
+    3,
+    3,
+    26,
+    26,
+    26,
+    2,
+    30,
+    30,
+    32,
+    32,
+    30,
+    30,
+    30,
+    30,
+    38,
+    38,
+    38,
+    30,
+    42,
+    42,
+    42,
+    45,
+    2,
+    47,
+    47,
+    47,
+    50,
+    50,
+    50,
+    50,
+    50,
+    50,
+    56,
+    50,
+    47,
+    59,
+    59,
+    47,
+    62,
+    62,
+    62,
+    65,
+    2,
+    67,
+    68,
+    69,
+    70,
+    70,
+    72,
+    72,
+    70,
+    68,
+    76,
+    76,
+    78,
+    78,
+    68,
+    81,
+    81,
+    83,
+    83,
+    81,
+    86,
+    86,
+    88,
+    88,
+    81,
+    91,
+    91,
+    93,
+    93,
+    81,
+    81,
+    97,
+    97,
+    81,
+    68,
+    68,
+    2,
+    103,
+    103,
+    105,
+    106,
+    106,
+    108,
+    108,
+    105,
+    103,
+    112,
+    113,
+    113,
+    115,
+    115,
+    112,
+    2,
+    119,
+    119,
+    119,
+    2,
+    2,
+    124,
+    124,
+    124,
+    2,
+    128,
+    128,
+    128,
+    131,
+    131,
+    2,
+    134,
+    134,
+    134,
+    134,
+    134,
+    134,
+    134,
+    134,
+    134,
+    143,
+    2,
+    145,
+    145,
+    145,
+];
+
+/// The name of each element.
+pub const NAMES: [&str; 149] = [
+    "document",
+    "swap",
+    "swapStream",
+    "calculationPeriodDates",
+    "effectiveDate",
+    "unadjustedDate",
+    "dateAdjustments",
+    "businessDayConvention",
+    "businessCentersReference",
+    "businessCenters",
+    "businessCenter",
+    "terminationDate",
+    "unadjustedDate",
+    "dateAdjustments",
+    "businessDayConvention",
+    "businessCentersReference",
+    "businessCenters",
+    "businessCenter",
+    "calculationPeriodDatesAdjustments",
+    "businessDayConvention",
+    "businessCentersReference",
+    "businessCenters",
+    "businessCenter",
+    "firstRegularPeriodStartDate",
+    "lastRegularPeriodEndDate",
+    "stubPeriodType",
+    "calculationPeriodFrequency",
+    "periodMultiplier",
+    "period",
+    "rollConvention",
+    "paymentDates",
+    "calculationPeriodDatesReference",
+    "paymentFrequency",
+    "periodMultiplier",
+    "period",
+    "firstPaymentDate",
+    "lastRegularPaymentDate",
+    "payRelativeTo",
+    "paymentDaysOffset",
+    "periodMultiplier",
+    "period",
+    "dayType",
+    "paymentDatesAdjustments",
+    "businessDayConvention",
+    "businessCentersReference",
+    "businessCenters",
+    "businessCenter",
+    "resetDates",
+    "calculationPeriodDatesReference",
+    "resetRelativeTo",
+    "fixingDates",
+    "periodMultiplier",
+    "period",
+    "dayType",
+    "businessDayConvention",
+    "businessCentersReference",
+    "businessCenters",
+    "businessCenter",
+    "dateRelativeTo",
+    "resetFrequency",
+    "periodMultiplier",
+    "period",
+    "resetDatesAdjustments",
+    "businessDayConvention",
+    "businessCentersReference",
+    "businessCenters",
+    "businessCenter",
+    "calculationPeriodAmount",
+    "calculation",
+    "notionalSchedule",
+    "notionalStepSchedule",
+    "initialValue",
+    "step",
+    "stepDate",
+    "stepValue",
+    "currency",
+    "fixedRateSchedule",
+    "initialValue",
+    "step",
+    "stepDate",
+    "stepValue",
+    "floatingRateCalculation",
+    "floatingRateIndex",
+    "indexTenor",
+    "periodMultiplier",
+    "period",
+    "floatingRateMultiplierSchedule",
+    "initialValue",
+    "step",
+    "stepDate",
+    "stepValue",
+    "spreadSchedule",
+    "initialValue",
+    "step",
+    "stepDate",
+    "stepValue",
+    "initialRate",
+    "finalRateRounding",
+    "roundingDirection",
+    "precision",
+    "negativeInterestRateTreatment",
+    "dayCountFraction",
+    "compoundingMethod",
+    "stubCalculationPeriodAmount",
+    "calculationPeriodDatesReference",
+    "initialStub",
+    "floatingRate",
+    "floatingRateIndex",
+    "indexTenor",
+    "periodMultiplier",
+    "period",
+    "stubRate",
+    "finalStub",
+    "floatingRate",
+    "floatingRateIndex",
+    "indexTenor",
+    "periodMultiplier",
+    "period",
+    "stubRate",
+    "principalExchanges",
+    "initialExchange",
+    "finalExchange",
+    "intermediateExchange",
+    "cashflows",
+    "principalExchange",
+    "unadjustedPrincipalExchangeDate",
+    "adjustedPrincipalExchangeDate",
+    "principalExchangeAmount",
+    "paymentCalculationPeriod",
+    "unadjustedPaymentDate",
+    "adjustedPaymentDate",
+    "forecastPaymentAmount",
+    "currency",
+    "amount",
+    "calculationPeriod",
+    "unadjustedStartDate",
+    "unadjustedEndDate",
+    "adjustedStartDate",
+    "adjustedEndDate",
+    "calculationPeriodNumberOfDays",
+    "notionalAmount",
+    "fixedRate",
+    "dayCountYearFraction",
+    "floatingRateDefinition",
+    "calculatedRate",
+    "rateObservation",
+    "resetDate",
+    "adjustedFixingDate",
+    "observedRate",
+];
+
+/// The path of each element.
+pub const PATHS: [&str; 149] = [
+    "document",
+    "swap",
+    "swapStream",
+    "calculationPeriodDates",
+    "calculationPeriodDates/effectiveDate",
+    "calculationPeriodDates/effectiveDate/unadjustedDate",
+    "calculationPeriodDates/effectiveDate/dateAdjustments",
+    "calculationPeriodDates/effectiveDate/dateAdjustments/businessDayConvention",
+    "calculationPeriodDates/effectiveDate/dateAdjustments/businessCentersReference",
+    "calculationPeriodDates/effectiveDate/dateAdjustments/businessCenters",
+    "calculationPeriodDates/effectiveDate/dateAdjustments/businessCenters/businessCenter",
+    "calculationPeriodDates/terminationDate",
+    "calculationPeriodDates/terminationDate/unadjustedDate",
+    "calculationPeriodDates/terminationDate/dateAdjustments",
+    "calculationPeriodDates/terminationDate/dateAdjustments/businessDayConvention",
+    "calculationPeriodDates/terminationDate/dateAdjustments/businessCentersReference",
+    "calculationPeriodDates/terminationDate/dateAdjustments/businessCenters",
+    "calculationPeriodDates/terminationDate/dateAdjustments/businessCenters/businessCenter",
+    "calculationPeriodDates/calculationPeriodDatesAdjustments",
+    "calculationPeriodDates/calculationPeriodDatesAdjustments/businessDayConvention",
+    "calculationPeriodDates/calculationPeriodDatesAdjustments/businessCentersReference",
+    "calculationPeriodDates/calculationPeriodDatesAdjustments/businessCenters",
+    "calculationPeriodDates/calculationPeriodDatesAdjustments/businessCenters/businessCenter",
+    "calculationPeriodDates/firstRegularPeriodStartDate",
+    "calculationPeriodDates/lastRegularPeriodEndDate",
+    "calculationPeriodDates/stubPeriodType",
+    "calculationPeriodDates/calculationPeriodFrequency",
+    "calculationPeriodDates/calculationPeriodFrequency/periodMultiplier",
+    "calculationPeriodDates/calculationPeriodFrequency/period",
+    "calculationPeriodDates/calculationPeriodFrequency/rollConvention",
+    "paymentDates",
+    "paymentDates/calculationPeriodDatesReference",
+    "paymentDates/paymentFrequency",
+    "paymentDates/paymentFrequency/periodMultiplier",
+    "paymentDates/paymentFrequency/period",
+    "paymentDates/firstPaymentDate",
+    "paymentDates/lastRegularPaymentDate",
+    "paymentDates/payRelativeTo",
+    "paymentDates/paymentDaysOffset",
+    "paymentDates/paymentDaysOffset/periodMultiplier",
+    "paymentDates/paymentDaysOffset/period",
+    "paymentDates/paymentDaysOffset/dayType",
+    "paymentDates/paymentDatesAdjustments",
+    "paymentDates/paymentDatesAdjustments/businessDayConvention",
+    "paymentDates/paymentDatesAdjustments/businessCentersReference",
+    "paymentDates/paymentDatesAdjustments/businessCenters",
+    "paymentDates/paymentDatesAdjustments/businessCenters/businessCenter",
+    "resetDates",
+    "resetDates/calculationPeriodDatesReference",
+    "resetDates/resetRelativeTo",
+    "resetDates/fixingDates",
+    "resetDates/fixingDates/periodMultiplier",
+    "resetDates/fixingDates/period",
+    "resetDates/fixingDates/dayType",
+    "resetDates/fixingDates/businessDayConvention",
+    "resetDates/fixingDates/businessCentersReference",
+    "resetDates/fixingDates/businessCenters",
+    "resetDates/fixingDates/businessCenters/businessCenter",
+    "resetDates/fixingDates/dateRelativeTo",
+    "resetDates/resetFrequency",
+    "resetDates/resetFrequency/periodMultiplier",
+    "resetDates/resetFrequency/period",
+    "resetDates/resetDatesAdjustments",
+    "resetDates/resetDatesAdjustments/businessDayConvention",
+    "resetDates/resetDatesAdjustments/businessCentersReference",
+    "resetDates/resetDatesAdjustments/businessCenters",
+    "resetDates/resetDatesAdjustments/businessCenters/businessCenter",
+    "calculationPeriodAmount",
+    "calculationPeriodAmount/calculation",
+    "calculationPeriodAmount/calculation/notionalSchedule",
+    "calculationPeriodAmount/calculation/notionalSchedule/notionalStepSchedule",
+    "calculationPeriodAmount/calculation/notionalSchedule/notionalStepSchedule/initialValue",
+    "calculationPeriodAmount/calculation/notionalSchedule/notionalStepSchedule/step",
+    "calculationPeriodAmount/calculation/notionalSchedule/notionalStepSchedule/step/stepDate",
+    "calculationPeriodAmount/calculation/notionalSchedule/notionalStepSchedule/step/stepValue",
+    "calculationPeriodAmount/calculation/notionalSchedule/notionalStepSchedule/currency",
+    "calculationPeriodAmount/calculation/fixedRateSchedule",
+    "calculationPeriodAmount/calculation/fixedRateSchedule/initialValue",
+    "calculationPeriodAmount/calculation/fixedRateSchedule/step",
+    "calculationPeriodAmount/calculation/fixedRateSchedule/step/stepDate",
+    "calculationPeriodAmount/calculation/fixedRateSchedule/step/stepValue",
+    "calculationPeriodAmount/calculation/floatingRateCalculation",
+    "calculationPeriodAmount/calculation/floatingRateCalculation/floatingRateIndex",
+    "calculationPeriodAmount/calculation/floatingRateCalculation/indexTenor",
+    "calculationPeriodAmount/calculation/floatingRateCalculation/indexTenor/periodMultiplier",
+    "calculationPeriodAmount/calculation/floatingRateCalculation/indexTenor/period",
+    "calculationPeriodAmount/calculation/floatingRateCalculation/floatingRateMultiplierSchedule",
+    "calculationPeriodAmount/calculation/floatingRateCalculation/floatingRateMultiplierSchedule/initialValue",
+    "calculationPeriodAmount/calculation/floatingRateCalculation/floatingRateMultiplierSchedule/step",
+    "calculationPeriodAmount/calculation/floatingRateCalculation/floatingRateMultiplierSchedule/step/stepDate",
+    "calculationPeriodAmount/calculation/floatingRateCalculation/floatingRateMultiplierSchedule/step/stepValue",
+    "calculationPeriodAmount/calculation/floatingRateCalculation/spreadSchedule",
+    "calculationPeriodAmount/calculation/floatingRateCalculation/spreadSchedule/initialValue",
+    "calculationPeriodAmount/calculation/floatingRateCalculation/spreadSchedule/step",
+    "calculationPeriodAmount/calculation/floatingRateCalculation/spreadSchedule/step/stepDate",
+    "calculationPeriodAmount/calculation/floatingRateCalculation/spreadSchedule/step/stepValue",
+    "calculationPeriodAmount/calculation/floatingRateCalculation/initialRate",
+    "calculationPeriodAmount/calculation/floatingRateCalculation/finalRateRounding",
+    "calculationPeriodAmount/calculation/floatingRateCalculation/finalRateRounding/roundingDirection",
+    "calculationPeriodAmount/calculation/floatingRateCalculation/finalRateRounding/precision",
+    "calculationPeriodAmount/calculation/floatingRateCalculation/negativeInterestRateTreatment",
+    "calculationPeriodAmount/calculation/dayCountFraction",
+    "calculationPeriodAmount/calculation/compoundingMethod",
+    "stubCalculationPeriodAmount",
+    "stubCalculationPeriodAmount/calculationPeriodDatesReference",
+    "stubCalculationPeriodAmount/initialStub",
+    "stubCalculationPeriodAmount/initialStub/floatingRate",
+    "stubCalculationPeriodAmount/initialStub/floatingRate/floatingRateIndex",
+    "stubCalculationPeriodAmount/initialStub/floatingRate/indexTenor",
+    "stubCalculationPeriodAmount/initialStub/floatingRate/indexTenor/periodMultiplier",
+    "stubCalculationPeriodAmount/initialStub/floatingRate/indexTenor/period",
+    "stubCalculationPeriodAmount/initialStub/stubRate",
+    "stubCalculationPeriodAmount/finalStub",
+    "stubCalculationPeriodAmount/finalStub/floatingRate",
+    "stubCalculationPeriodAmount/finalStub/floatingRate/floatingRateIndex",
+    "stubCalculationPeriodAmount/finalStub/floatingRate/indexTenor",
+    "stubCalculationPeriodAmount/finalStub/floatingRate/indexTenor/periodMultiplier",
+    "stubCalculationPeriodAmount/finalStub/floatingRate/indexTenor/period",
+    "stubCalculationPeriodAmount/finalStub/stubRate",
+    "principalExchanges",
+    "principalExchanges/initialExchange",
+    "principalExchanges/finalExchange",
+    "principalExchanges/intermediateExchange",
+    "cashflows",
+    "principalExchange",
+    "principalExchange/unadjustedPrincipalExchangeDate",
+    "principalExchange/adjustedPrincipalExchangeDate",
+    "principalExchange/principalExchangeAmount",
+    "paymentCalculationPeriod",
+    "paymentCalculationPeriod/unadjustedPaymentDate",
+    "paymentCalculationPeriod/adjustedPaymentDate",
+    "paymentCalculationPeriod/forecastPaymentAmount",
+    "paymentCalculationPeriod/forecastPaymentAmount/currency",
+    "paymentCalculationPeriod/forecastPaymentAmount/amount",
+    "calculationPeriod",
+    "calculationPeriod/unadjustedStartDate",
+    "calculationPeriod/unadjustedEndDate",
+    "calculationPeriod/adjustedStartDate",
+    "calculationPeriod/adjustedEndDate",
+    "calculationPeriod/calculationPeriodNumberOfDays",
+    "calculationPeriod/notionalAmount",
+    "calculationPeriod/fixedRate",
+    "calculationPeriod/dayCountYearFraction",
+    "calculationPeriod/floatingRateDefinition",
+    "calculationPeriod/floatingRateDefinition/calculatedRate",
+    "rateObservation",
+    "rateObservation/resetDate",
+    "rateObservation/adjustedFixingDate",
+    "rateObservation/observedRate",
+];
