@@ -3,7 +3,7 @@
 //! The order of the table is the order in which the first broken rule is sought: what lies outside
 //! the streams, the elements of a stream of a trade (FpML's InterestRateStream), and the elements
 //! of another party's cash flows. The table and its order are this project's own.
-ghost use Rattle.std.specs.Prelude.{◌≡◌, ◌<◌, ℕ, Some, None, SomeIff, map, slice_get, true, drop};
+ghost use Rattle.std.specs.Prelude.{◌≡◌, ◌<◌, ℕ, Some, SomeIff, map, slice_get, length, true, drop};
 ghost use Rattle.irs_base.specs.Elements.{fits_from, count};
 ghost use Rattle.irs_base.specs.declared.elements.TheConstants.{NAMES, PARENTS, PATHS};
 
@@ -196,8 +196,15 @@ impl Elem {
     pub fn path(self) -> &'static str
         ensures { slice_get (map (λ p. p.now) PATHS) self ≡ Some result.now }
     {
-        PATHS[self.place as usize]
+        path_at(&PATHS, self.place as usize)
     }
+}
+
+fn path_at(paths: &[&'static str], place: usize) -> &'static str
+    requires { place < length paths.now }
+    ensures { slice_get (map (λ p. p.now) paths.now) place ≡ Some result.now }
+{
+    paths[place]
 }
 
 /// The table is whole: each element stands behind its parent, its path is its parent's path with

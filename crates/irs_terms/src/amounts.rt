@@ -1,0 +1,65 @@
+//! The terms of rates, stubs and principal exchanges. Rates, multipliers and spreads are in units
+//! of 10^-9.
+use crate::{Frequency, RefState, StepValues};
+use irs_base::{Direction, Text};
+
+/// How a rate is rounded: to so many decimals, in which direction (FpML `finalRateRounding`).
+#[derive(Clone, Copy, Debug, PartialEq, Eq)]
+pub struct Rounding {
+    pub dir: Direction,
+    pub places: u8,
+}
+
+/// The terms of a floating rate (FpML `floatingRateCalculation`).
+#[derive(Debug, Drop)]
+pub struct FloatTerms {
+    /// `floatingRateIndex`.
+    pub index: Text,
+    /// `indexTenor`.
+    pub tenor: Option<Frequency>,
+    /// `floatingRateMultiplierSchedule`; 1 where it is absent.
+    pub multiplier: StepValues,
+    /// `spreadSchedule`; 0 where it is absent.
+    pub spread: StepValues,
+    /// `initialRate`.
+    pub initial_rate: Option<i64>,
+    /// `finalRateRounding`; Nearest at 9 decimals where it is absent.
+    pub rounding: Rounding,
+}
+
+/// What a stream pays.
+#[derive(Debug, Drop)]
+pub enum Leg {
+    /// A fixed rate (FpML `fixedRateSchedule`).
+    Fixed(StepValues),
+    /// A floating rate (FpML `floatingRateCalculation`).
+    Floating(FloatTerms),
+}
+
+/// The rate of a stub (FpML `StubValue`).
+#[derive(Debug, Drop)]
+pub enum StubRate {
+    /// Another index with its tenor (FpML `floatingRate`).
+    Index(Text, Option<Frequency>),
+    /// A rate (FpML `stubRate`).
+    Fixed(i64),
+}
+
+/// The rates of stubs (FpML `stubCalculationPeriodAmount`).
+#[derive(Debug, Drop)]
+pub struct StubTerms {
+    /// `calculationPeriodDatesReference`.
+    pub calc_ref: RefState,
+    /// `initialStub`.
+    pub initial: Option<StubRate>,
+    /// `finalStub`.
+    pub last: Option<StubRate>,
+}
+
+/// Which principal amounts are exchanged (FpML `principalExchanges`).
+#[derive(Clone, Copy, Debug, PartialEq, Eq)]
+pub struct ExchangeFlags {
+    pub initial: bool,
+    pub intermediate: bool,
+    pub last: bool,
+}

@@ -1,0 +1,26 @@
+//! Currencies: three capital letters, and how many decimals an amount has.
+//!
+//! The table of decimals is this project's own; it holds the currencies of ISO 4217 that have 0 or
+//! 3 decimals in swaps.
+ghost use Rattle.std.specs.Prelude.{◌≡◌};
+ghost use Rattle.irs_terms.specs.Currencies.{decimals_of};
+
+/// A currency, by the three capital letters of ISO 4217 (FpML `currency`).
+#[derive(Clone, Copy, Debug, PartialEq, Eq)]
+pub struct Currency {
+    pub letters: [u8; 3],
+}
+
+impl Currency {
+    /// The decimals of an amount: 0 for JPY, KRW, CLP, VND and ISK; 3 for BHD, KWD, OMR, JOD and
+    /// TND; 2 for every other currency.
+    pub fn places(self) -> u8
+        ensures { result ≡ decimals_of self.letters }
+    {
+        match &self.letters {
+            b"JPY" | b"KRW" | b"CLP" | b"VND" | b"ISK" => 0,
+            b"BHD" | b"KWD" | b"OMR" | b"JOD" | b"TND" => 3,
+            _ => 2,
+        }
+    }
+}

@@ -1,0 +1,23 @@
+//! Frequencies: a number of days, weeks, months or years, or the whole term (FpML `Period`).
+
+/// The unit of a frequency (FpML `period`).
+#[derive(Clone, Copy, Debug, PartialEq, Eq)]
+pub enum Unit {
+    /// Days.
+    D,
+    /// Weeks of 7 days.
+    W,
+    /// Months.
+    M,
+    /// Years of 12 months.
+    Y,
+    /// The term: one period from the effective date to the termination date.
+    T,
+}
+
+/// A frequency: a multiplier from 1 to 999, and its unit.
+#[derive(Clone, Copy, Debug, PartialEq, Eq)]
+pub struct Frequency {
+    pub count: u16,
+    pub unit: Unit,
+}

@@ -1,0 +1,26 @@
+//! Plain data: the terms of a swap as its streams give them, and the rows that are worked out from
+//! them. The names of the terms are those of FpML 5's InterestRateStream.
+#![tactic(auto)]
+
+mod adjustments;
+mod amounts;
+mod codes;
+mod currency;
+mod dates;
+mod frequency;
+mod results;
+mod step_list;
+mod stream;
+mod stream_list;
+
+pub use adjustments::{Adjustments, Centers, Dated, Offset};
+pub use amounts::{ExchangeFlags, FloatTerms, Leg, Rounding, StubRate, StubTerms};
+pub use codes::{CompCode, ConvCode, DayCountCode, DayKind, RefState, Relative, RollCode, StubKind};
+pub use currency::Currency;
+pub use dates::{FixTerms, PayTerms, ResetTerms};
+pub use frequency::{Frequency, Unit};
+pub use irs_base::Names;
+pub use results::{Exchange, Exchanges, Frac, Payment, Payments, Reset, Resets, Span};
+pub use step_list::{Step, StepList, StepValues};
+pub use stream::Stream;
+pub use stream_list::{StreamList, Swap};
