@@ -1,1 +1,2 @@
 pub mod Currencies
+pub mod Lawful

@@ -1,0 +1,161 @@
+-- Lawful terms: every value lies in the range that its element allows.
+use Rattle.std.specs.Prelude.{◌≡◌, ◌≢◌, ◌⊎◌, ℕ, ◌+◌, ◌-◌, ◌^◌, ◌*◌, ◌≤◌, List, [], ◌∷◌, length, get_or, All, Option, None, Some, IfSome, ℤ, pos, negsuc, ◌≤ℤ◌, unsigned_abs}
+use Rattle.irs_base.specs.Days.{IsDay}
+use Rattle.irs_terms.specs.declared.frequency.Unit.{Unit as FrequencyUnit}
+use Rattle.irs_terms.specs.declared.frequency.Unit.TheVariants.{T}
+use Rattle.irs_terms.specs.declared.frequency.Frequency.{Frequency}
+use Rattle.irs_terms.specs.declared.codes.RollCode.{RollCode}
+use Rattle.irs_terms.specs.declared.codes.RollCode.TheVariants.{Eom, Dom, Imm, OnWeekday, NoRoll}
+use Rattle.irs_terms.specs.declared.adjustments.Offset.{Offset}
+use Rattle.irs_terms.specs.declared.adjustments.Centers.{Centers}
+use Rattle.irs_terms.specs.declared.adjustments.Centers.TheVariants.{Absent, Listed, Dangling}
+use Rattle.irs_terms.specs.declared.adjustments.Dated.{Dated}
+use Rattle.irs_terms.specs.declared.step_list.Step.{Step}
+use Rattle.irs_terms.specs.declared.step_list.StepValues.{StepValues}
+use Rattle.irs_terms.specs.declared.dates.PayTerms.{PayTerms}
+use Rattle.irs_terms.specs.declared.dates.FixTerms.{FixTerms}
+use Rattle.irs_terms.specs.declared.dates.ResetTerms.{ResetTerms}
+use Rattle.irs_terms.specs.declared.amounts.FloatTerms.{FloatTerms}
+use Rattle.irs_terms.specs.declared.amounts.Leg.{Leg}
+use Rattle.irs_terms.specs.declared.amounts.Leg.TheVariants.{Fixed, Floating}
+use Rattle.irs_terms.specs.declared.amounts.StubRate.{StubRate}
+use Rattle.irs_terms.specs.declared.amounts.StubRate.TheVariants.{Index, Fixed as FixedStub}
+use Rattle.irs_terms.specs.declared.amounts.StubTerms.{StubTerms}
+use Rattle.irs_terms.specs.declared.currency.Currency.{Currency}
+use Rattle.irs_terms.specs.declared.stream.Stream.{Stream}
+use Rattle.irs_terms.specs.declared.stream_list.Swap.{Swap}
+
+-- the greatest multiplier of a frequency
+abbrev pub most_multiplier : ℕ
+most_multiplier = 999
+
+-- the most days of an offset
+abbrev pub most_offset : ℕ
+most_offset = 60
+
+-- the most steps of a schedule of values
+abbrev pub most_steps : ℕ
+most_steps = 4000
+
+-- the most centres of an element
+abbrev pub most_centers : ℕ
+most_centers = 16
+
+-- the most streams of a swap
+abbrev pub most_streams : ℕ
+most_streams = 8
+
+-- 10^13, in units of 10^-4
+abbrev pub most_notional : ℕ
+most_notional = 10 ^ 17
+
+-- 10, in units of 10^-9: the greatest rate, spread and multiplier in size
+abbrev pub most_rate : ℕ
+most_rate = 10 ^ 10
+
+-- a multiplier from 1 to 999
+abbrev pub IsLawfulFrequency : Frequency → Type 0
+IsLawfulFrequency f = (1 ≤ f.count) × (f.count ≤ most_multiplier)
+
+-- a tenor is a frequency and never the term
+abbrev pub IsLawfulTenor : Frequency → Type 0
+IsLawfulTenor f = IsLawfulFrequency f × (f.unit ≡ T → ⊥)
+
+-- a day number from 1 to 30
+abbrev pub IsLawfulRoll : RollCode → Type 0
+IsLawfulRoll Eom = Unit {0}
+IsLawfulRoll (Dom n) = (1 ≤ n) × (n ≤ 30)
+IsLawfulRoll Imm = Unit {0}
+IsLawfulRoll (OnWeekday name) = Unit {0}
+IsLawfulRoll NoRoll = Unit {0}
+
+-- -60 to 60 days
+abbrev pub IsLawfulOffset : Offset → Type 0
+IsLawfulOffset o = unsigned_abs o.days ≤ most_offset
+
+-- the name of a centre: 1 to 32 bytes from `!` to `~`
+abbrev pub IsLawfulName : List ℕ → Type 0
+IsLawfulName name = (1 ≤ length name) × (length name ≤ 32) × All (λ b. (33 ≤ b) × (b ≤ 126)) name
+
+-- 1 to 16 centres
+abbrev pub IsLawfulNames : List (List ℕ) → Type 0
+IsLawfulNames names = (1 ≤ length names) × (length names ≤ most_centers) × All IsLawfulName names
+
+abbrev pub IsLawfulCenters : Centers → Type 0
+IsLawfulCenters Absent = Unit {0}
+IsLawfulCenters (Listed names) = IsLawfulNames names
+IsLawfulCenters Dangling = Unit {0}
+
+abbrev pub IsLawfulDated : Dated → Type 0
+IsLawfulDated d = IsDay d.day × IsLawfulCenters d.adj.centers
+
+-- the index of a rate: 1 to 128 bytes, none of them a control byte, and no white space at its ends
+abbrev pub IsLawfulIndex : List ℕ → Type 0
+IsLawfulIndex index = (1 ≤ length index) × (length index ≤ 128) × All (λ b. (32 ≤ b) × (b ≢ 127)) index × (get_or index 0 0 ≢ 32) × (get_or index (length index - 1) 0 ≢ 32)
+
+abbrev pub IsNotional : ℤ → Type 0
+IsNotional v = (pos 0 ≤ℤ v) × (v ≤ℤ pos most_notional)
+
+abbrev pub IsRate : ℤ → Type 0
+IsRate v = unsigned_abs v ≤ most_rate
+
+-- at most 4,000 steps, each on a day, and every value in the range of its kind
+abbrev pub IsLawfulValues : (ℤ → Type 0) → StepValues → Type 0
+IsLawfulValues InRange values = InRange values.initial × (length values.steps ≤ most_steps) × All (λ s. IsDay s.day × InRange s.value) values.steps
+
+pub record IsLawfulPay (p : PayTerms) : Type 0 where
+  pub freq : IsLawfulFrequency p.freq
+  pub first : IfSome p.first IsDay
+  pub last : IfSome p.last IsDay
+  pub offset : IsLawfulOffset p.offset
+  pub centers : IsLawfulCenters p.adj.centers
+
+abbrev pub IsLawfulFix : FixTerms → Type 0
+IsLawfulFix f = IsLawfulOffset f.offset × IsLawfulCenters f.adj.centers
+
+pub record IsLawfulReset (r : ResetTerms) : Type 0 where
+  pub fixing : IfSome r.fixing IsLawfulFix
+  pub freq : IsLawfulFrequency r.freq
+  pub centers : IsLawfulCenters r.adj.centers
+
+pub record IsLawfulFloat (f : FloatTerms) : Type 0 where
+  pub index : IsLawfulIndex f.index
+  pub tenor : IfSome f.tenor IsLawfulTenor
+  pub multiplier : IsLawfulValues IsRate f.multiplier
+  pub spread : IsLawfulValues IsRate f.spread
+  pub initial_rate : IfSome f.initial_rate IsRate
+  pub rounding : f.rounding.places ≤ 9
+
+abbrev pub IsLawfulLeg : Leg → Type 0
+IsLawfulLeg (Fixed values) = IsLawfulValues IsRate values
+IsLawfulLeg (Floating f) = IsLawfulFloat f
+
+abbrev pub IsLawfulStubRate : StubRate → Type 0
+IsLawfulStubRate (Index index tenor) = IsLawfulIndex index × IfSome tenor IsLawfulTenor
+IsLawfulStubRate (FixedStub rate) = IsRate rate
+
+abbrev pub IsLawfulStubs : StubTerms → Type 0
+IsLawfulStubs s = IfSome s.initial IsLawfulStubRate × IfSome s.last IsLawfulStubRate
+
+-- three capital letters
+abbrev pub IsLawfulCurrency : Currency → Type 0
+IsLawfulCurrency c = All (λ b. (65 ≤ b) × (b ≤ 90)) c.letters
+
+pub record IsLawfulStream (s : Stream) : Type 0 where
+  pub effective : IsLawfulDated s.effective
+  pub termination : IsLawfulDated s.termination
+  pub centers : IsLawfulCenters s.period_adj.centers
+  pub first_regular : IfSome s.first_regular IsDay
+  pub last_regular : IfSome s.last_regular IsDay
+  pub freq : IsLawfulFrequency s.freq
+  pub roll : IsLawfulRoll s.roll
+  pub pay : IsLawfulPay s.pay
+  pub reset : IfSome s.reset IsLawfulReset
+  pub notional : IsLawfulValues IsNotional s.notional
+  pub currency : IsLawfulCurrency s.currency
+  pub leg : IsLawfulLeg s.leg
+  pub stubs : IfSome s.stubs IsLawfulStubs
+
+-- 1 to 8 lawful streams
+abbrev pub IsLawful : Swap → Type 0
+IsLawful swap = (1 ≤ length swap.streams) × (length swap.streams ≤ most_streams) × All IsLawfulStream swap.streams
