@@ -12,3 +12,4 @@ pub mod TextLemmas
 pub mod TextLengths
 pub mod LineLemmas
 pub mod FieldLemmas
+pub mod DecimalLemmas

@@ -5,6 +5,7 @@
 mod file_dates;
 mod day;
 mod day_list;
+mod decimals;
 mod elements;
 mod fields;
 mod line;
@@ -20,6 +21,7 @@ mod text;
 pub use file_dates::date;
 pub use day::{Civil, Day, DayName, FIRST_DAY, LAST_DAY, ahead, civil_of, day_of, plus, weekday};
 pub use day_list::DayList;
+pub use decimals::read_dec;
 pub use elements::{ELEMENTS, Elem, table_fits};
 pub use fields::{first_field, is_gap};
 pub use line::{Dec, Line};

@@ -1,7 +1,7 @@
 //! Frequencies: a number of days, weeks, months or years, or the whole term (FpML `Period`).
 
 /// The unit of a frequency (FpML `period`).
-#[derive(Clone, Copy, Debug, PartialEq, Eq)]
+#[derive(Clone, Copy, Debug, PartialEq, Eq, PartialOrd, Ord)]
 pub enum Unit {
     /// Days.
     D,
@@ -16,7 +16,7 @@ pub enum Unit {
 }
 
 /// A frequency: a multiplier from 1 to 999, and its unit.
-#[derive(Clone, Copy, Debug, PartialEq, Eq)]
+#[derive(Clone, Copy, Debug, PartialEq, Eq, PartialOrd, Ord)]
 pub struct Frequency {
     pub count: u16,
     pub unit: Unit,

@@ -1,0 +1,153 @@
+//! Decimals: an optional sign, then digits with at most one point, at least one digit in all and at
+//! most 18 before the point.
+ghost use Rattle.std.specs.Prelude.{◌≡◌, ◌+◌, ◌*◌, ◌^◌, ◌<◌, ◌≤◌, ◌∷◌, List, ℕ, suc, ℤ, pos, neg_ℤ, true, length, drop, unsigned_abs, IfSome, IfNone, IsTrue, ◌↔◌};
+ghost use Rattle.std.specs.List.{list_all};
+ghost use Rattle.irs_base.specs.Decimals.{AreDigits, AreParts, DecText, IsCut, IsUnsigned, is_digit, is_zero, number_after, padded};
+
+/// The most digits before the point.
+const MOST_DIGITS: usize = 18;
+
+fn all_digits(bytes: &[u8]) -> bool
+    ensures { result ≡ list_all is_digit bytes.now }
+{
+    bytes.iter().all(|b| b'0' <= *b && *b <= b'9')
+}
+
+fn are_digits(bytes: &[u8]) -> bool
+    ensures { IsTrue result ↔ AreDigits bytes.now }
+{
+    all_digits(bytes)
+}
+
+fn is_some_digit(whole: &[u8], fraction: &[u8]) -> bool
+    ensures { IsTrue result ↔ (0 < length whole.now + length fraction.now) }
+{
+    !(whole.is_empty() && fraction.is_empty())
+}
+
+fn are_parts(whole: &[u8], fraction: &[u8]) -> bool
+    ensures { IsTrue result ↔ AreParts whole.now fraction.now }
+{
+    are_digits(whole)
+        && are_digits(fraction)
+        && is_some_digit(whole, fraction)
+        && whole.len() <= MOST_DIGITS
+}
+
+fn are_zeros_past(digits: &[u8], places: u8) -> bool
+    ensures { result ≡ list_all is_zero (drop places digits.now) }
+{
+    digits.iter().skip(places as usize).all(|b| *b == b'0')
+}
+
+// What stands before the first point, and behind it.
+fn cut_at_point(text: &[u8]) -> (&[u8], &[u8])
+    ensures { IsCut text.now result.0.now result.1.now }
+{
+    for (i, b) in text.iter().enumerate() {
+        if *b == b'.' {
+            return (&text[..i], &text[i + 1..]);
+        }
+    }
+    (text, &[])
+}
+
+// The first digit, a zero where there is none, and those behind it.
+fn first_digit(digits: &[u8]) -> (u8, &[u8])
+    requires { AreDigits digits.now }
+    ensures digit { result.0 ≤ 9 }
+    ensures rest { AreDigits result.1.now }
+    ensures padded { (k : ℕ) → padded (suc k) digits.now ≡ (48 + result.0) ∷ padded k result.1.now }
+{
+    match digits {
+        [] => (0, digits),
+        [first, rest @ ..] => (*first - b'0', rest),
+    }
+}
+
+fn with_digit(n: u128, digit: u8) -> u128
+    requires digit { digit ≤ 9 }
+    requires fits { n < 10 ^ 30 }
+    ensures { result ≡ 10 * n + digit }
+{
+    10 * n + u128::from(digit)
+}
+
+// The number that the first digits spell behind those of n, zeros standing for digits that lack.
+#[tactic(auto, using(crate::proofs::DecimalLemmas::room_left))]
+fn number_behind(n: u128, digits: &[u8], count: u8) -> u128
+    requires digits { AreDigits digits.now }
+    requires fits { (n + 1) * 10 ^ count ≤ 10 ^ 30 }
+    ensures value { result ≡ number_after n (padded count digits.now) }
+    ensures below { result + 1 ≤ (n + 1) * 10 ^ count }
+{
+    if count == 0 {
+        return n;
+    }
+    let (digit, rest) = first_digit(digits);
+    number_behind(with_digit(n, digit), rest, count - 1)
+}
+
+fn read_unsigned(text: &[u8], places: u8) -> Option<u128>
+    requires { places ≤ 12 }
+    ensures some { IfSome result (IsUnsigned text.now places) }
+    ensures below { IfSome result (λ v. v < 10 ^ 30) }
+    ensures none { IfNone result ((v : ℕ) → IsUnsigned text.now places v → ⊥) }
+{
+    let (whole, fraction) = cut_at_point(text);
+    if !are_parts(whole, fraction) {
+        return None;
+    }
+    if !are_zeros_past(fraction, places) {
+        return None;
+    }
+    let number = number_behind(0, whole, whole.len() as u8);
+    Some(number_behind(number, fraction, places))
+}
+
+// What stands behind a sign, where the text begins with it.
+fn behind_sign(sign: u8, text: &[u8]) -> Option<&[u8]>
+    ensures some { IfSome result (λ rest. text.now ≡ sign ∷ rest.now) }
+    ensures none { IfNone result ((rest : List ℕ) → text.now ≡ sign ∷ rest → ⊥) }
+{
+    match text {
+        [] => None,
+        [first, rest @ ..] => { if *first == sign { Some(rest) } else { None } }
+    }
+}
+
+fn positive(n: u128) -> i128
+    requires { n < 10 ^ 30 }
+    ensures value { result ≡ pos n }
+    ensures size { unsigned_abs result ≡ n }
+{
+    n as i128
+}
+
+fn negative(n: u128) -> i128
+    requires { n < 10 ^ 30 }
+    ensures value { result ≡ neg_ℤ (pos n) }
+    ensures size { unsigned_abs result ≡ n }
+{
+    -(n as i128)
+}
+
+/// The value of a decimal in units of 10^-places; `None` exactly where the text is no decimal, has
+/// more than 18 digits before its point, or a digit other than 0 past its places.
+pub fn read_dec(text: &[u8], places: u8) -> Option<i128>
+    requires { places ≤ 12 }
+    ensures some { IfSome result (DecText text.now places) }
+    ensures none { IfNone result ((v : ℤ) → DecText text.now places v → ⊥) }
+    ensures size { IfSome result (λ v. unsigned_abs v < 10 ^ 30) }
+{
+    if let Some(digits) = behind_sign(b'+', text) {
+        let n = read_unsigned(digits, places)?;
+        return Some(positive(n));
+    }
+    if let Some(digits) = behind_sign(b'-', text) {
+        let n = read_unsigned(digits, places)?;
+        return Some(negative(n));
+    }
+    let n = read_unsigned(text, places)?;
+    Some(positive(n))
+}
