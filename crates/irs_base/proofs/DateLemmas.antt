@@ -19,7 +19,7 @@ and_true a b h k = rw (h, k) refl
 in_range_true : (n : ℤ) → IsDay n → is_in_range n ≡ true
 in_range_true n day = and_true (is_le (int_cmp (negsuc 25201) n)) (is_le (int_cmp n (pos 84005))) (true_le (negsuc 25201) n day.0) (true_le n (pos 84005) day.1)
 
-range_is_true : (n : ℤ) → is_in_range n ≡ true → IsDay n
+pub range_is_true : (n : ℤ) → is_in_range n ≡ true → IsDay n
 range_is_true n h = let b = both_true (is_le (int_cmp (negsuc 25201) n)) (is_le (int_cmp n (pos 84005))) h in (le_true (negsuc 25201) n b.0, le_true n (pos 84005) b.1)
 
 civil_true : (y m d : ℕ) → IsCivilDate (pos y) m d → is_civil y m d ≡ true
@@ -28,14 +28,14 @@ civil_true y m d h =
     (and_true (nat_le 1 m) (nat_le m 12) (le_nat 1 m h.1.0) (le_nat m 12 h.1.1))
     (and_true (nat_le 1 d) (nat_le d (days_in_month (pos y) m)) (le_nat 1 d h.2.0) (le_nat d (days_in_month (pos y) m) h.2.1))
 
-civil_is_true : (y m d : ℕ) → y < 10000 → is_civil y m d ≡ true → IsCivilDate (pos y) m d
+pub civil_is_true : (y m d : ℕ) → y < 10000 → is_civil y m d ≡ true → IsCivilDate (pos y) m d
 civil_is_true y m d small h =
     let b = both_true (nat_le 1 m && nat_le m 12) (nat_le 1 d && nat_le d (days_in_month (pos y) m)) h in
     let ms = both_true (nat_le 1 m) (nat_le m 12) b.0 in
     let ds = both_true (nat_le 1 d) (nat_le d (days_in_month (pos y) m)) b.1 in
     ((omega (arith, signed_arith), omega (arith, signed_arith, small)), (nat_is_le 1 m ms.0, nat_is_le m 12 ms.1), (nat_is_le 1 d ds.0, nat_is_le d (days_in_month (pos y) m) ds.1))
 
-true_or_false : (b : Bool) → (b ≡ true) ⊎ (b ≡ false)
+pub true_or_false : (b : Bool) → (b ≡ true) ⊎ (b ≡ false)
 true_or_false true = inl refl
 true_or_false false = inr refl
 

@@ -155,7 +155,7 @@ zeros_needed v n zero f h e = all_zeros v n f h (omega (arith, e))
 zeros_needed v n (suc p) [] h e = refl
 zeros_needed v n (suc p) (c ∷ cs) h e =
     let e₂ : v * (10 * 10 ^ length cs) ≡ number_after (10 * n + (c - 48)) cs * (10 * 10 ^ p) =
-        sym (ap (λ (k : ℕ). v * k) (pow-succ' 10 (length cs))) ∙ e ∙ ap (λ (k : ℕ). number_after (10 * n + (c - 48)) cs * k) (pow-succ' 10 p) in
+    sym (ap (λ (k : ℕ). v * k) (pow-succ' 10 (length cs))) ∙ e ∙ ap (λ (k : ℕ). number_after (10 * n + (c - 48)) cs * k) (pow-succ' 10 p) in
     zeros_needed v (10 * n + (c - 48)) p cs h.2 (omega (arith, e₂))
 
 -- what isn't refused is a decimal, and its value is what the digits spell
@@ -164,8 +164,14 @@ unsigned_is text w f p cut parts zeros =
     let n : ℕ = number_after 0 (padded (length w) w) in
     let same : number_of (w ++ f) ≡ number_after n f = number_behind_both 0 w f ∙ ap (λ (l : List ℕ). number_after (number_after 0 l) f) (sym (padded_whole w)) in
     record {
-        whole = w; fraction = f; whole_digits = parts.0; fraction_digits = parts.1; some = parts.2; short = parts.3; is = cut.is;
-        value = padded_value n p f zeros ∙ ap (λ (k : ℕ). k * 10 ^ p) (sym same)
+      whole = w;
+      fraction = f;
+      whole_digits = parts.0;
+      fraction_digits = parts.1;
+      some = parts.2;
+      short = parts.3;
+      is = cut.is;
+      value = padded_value n p f zeros ∙ ap (λ (k : ℕ). k * 10 ^ p) (sym same);
     }
 
 -- and what is refused is none

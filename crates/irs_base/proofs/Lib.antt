@@ -3,6 +3,7 @@ pub mod Dates
 pub mod DateTexts
 pub mod DateWalks
 pub mod DateLemmas
+pub mod PlainDates
 pub mod MonthLemmas
 pub mod DayListLemmas
 pub mod Rising
@@ -13,3 +14,4 @@ pub mod TextLengths
 pub mod LineLemmas
 pub mod FieldLemmas
 pub mod DecimalLemmas
+pub mod Standards

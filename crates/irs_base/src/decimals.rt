@@ -2,6 +2,7 @@
 //! most 18 before the point.
 ghost use Rattle.std.specs.Prelude.{◌≡◌, ◌+◌, ◌*◌, ◌^◌, ◌<◌, ◌≤◌, ◌∷◌, List, ℕ, suc, ℤ, pos, neg_ℤ, true, length, drop, unsigned_abs, IfSome, IfNone, IsTrue, ◌↔◌};
 ghost use Rattle.std.specs.List.{list_all};
+ghost use Rattle.irs_base.specs.Texts.{most_places};
 ghost use Rattle.irs_base.specs.Decimals.{AreDigits, AreParts, DecText, IsCut, IsUnsigned, is_digit, is_zero, number_after, padded};
 
 /// The most digits before the point.
@@ -89,7 +90,7 @@ fn number_behind(n: u128, digits: &[u8], count: u8) -> u128
 }
 
 fn read_unsigned(text: &[u8], places: u8) -> Option<u128>
-    requires { places ≤ 12 }
+    requires { places ≤ most_places }
     ensures some { IfSome result (IsUnsigned text.now places) }
     ensures below { IfSome result (λ v. v < 10 ^ 30) }
     ensures none { IfNone result ((v : ℕ) → IsUnsigned text.now places v → ⊥) }
@@ -135,7 +136,7 @@ fn negative(n: u128) -> i128
 /// The value of a decimal in units of 10^-places; `None` exactly where the text is no decimal, has
 /// more than 18 digits before its point, or a digit other than 0 past its places.
 pub fn read_dec(text: &[u8], places: u8) -> Option<i128>
-    requires { places ≤ 12 }
+    requires { places ≤ most_places }
     ensures some { IfSome result (DecText text.now places) }
     ensures none { IfNone result ((v : ℤ) → DecText text.now places v → ⊥) }
     ensures size { IfSome result (λ v. unsigned_abs v < 10 ^ 30) }

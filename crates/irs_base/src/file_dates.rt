@@ -1,4 +1,7 @@
-ghost use Rattle.std.specs.Prelude.{◌≡◌, ◌<◌, IfSome};
+//! Dates of calendar and fixing files: `YYYY-MM-DD` of a day in range, and nothing else.
+ghost use Rattle.std.specs.Prelude.{◌≡◌, ◌<◌, ℤ, IfSome, IfNone};
+ghost use Rattle.irs_base.specs.Days.{IsDay};
+ghost use Rattle.irs_base.specs.Texts.{IsPlainDate};
 ghost use Rattle.irs_base.specs.Dates.{pair_at, day_number, date_at};
 
 use crate::{Civil, Day, day_of};
@@ -25,8 +28,7 @@ fn day(year: u16, month: u8, day: u8) -> Option<Day>
     })
 }
 
-/// The day of a date `YYYY-MM-DD`.
-pub fn date(bytes: &[u8]) -> Option<Day>
+fn date_of_bytes(bytes: &[u8]) -> Option<Day>
     ensures { result ≡ date_at bytes.now }
 {
     if bytes.len() != 10 || bytes[4] != b'-' || bytes[7] != b'-' {
@@ -41,4 +43,13 @@ pub fn date(bytes: &[u8]) -> Option<Day>
         return None;
     };
     day(100 * u16::from(century) + u16::from(year), month, of_month)
+}
+
+/// The day of a date `YYYY-MM-DD`; `None` exactly where the text is no date of a day in range.
+pub fn date(bytes: &[u8]) -> Option<Day>
+    ensures value { result ≡ date_at bytes.now }
+    ensures some { IfSome result (IsPlainDate bytes.now) }
+    ensures none { IfNone result ((d : ℤ) → IsDay d → IsPlainDate bytes.now d → ⊥) }
+{
+    date_of_bytes(bytes)
 }

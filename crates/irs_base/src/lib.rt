@@ -2,12 +2,12 @@
 //! texts and lines, and the places of broken rules.
 #![tactic(auto)]
 
-mod file_dates;
 mod day;
 mod day_list;
 mod decimals;
 mod elements;
 mod fields;
+mod file_dates;
 mod line;
 mod lines;
 mod memory;
@@ -16,15 +16,17 @@ mod names;
 mod places;
 mod reading;
 mod rounding;
+#[cfg(test)]
+mod tests;
 mod text;
 
-pub use file_dates::date;
 pub use day::{Civil, Day, DayName, FIRST_DAY, LAST_DAY, ahead, civil_of, day_of, plus, weekday};
 pub use day_list::DayList;
 pub use decimals::read_dec;
 pub use elements::{ELEMENTS, Elem, table_fits};
 pub use fields::{first_field, is_gap};
-pub use line::{Dec, Line};
+pub use file_dates::date;
+pub use line::{Dec, LONGEST_LINE, Line};
 pub use lines::split_line;
 pub use memory::Memory;
 pub use months::{month_day, month_index};

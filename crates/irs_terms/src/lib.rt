@@ -12,10 +12,14 @@ mod results;
 mod step_list;
 mod stream;
 mod stream_list;
+#[cfg(test)]
+mod tests;
 
 pub use adjustments::{Adjustments, Centers, Dated, Offset};
 pub use amounts::{ExchangeFlags, FloatTerms, Leg, Rounding, StubRate, StubTerms};
-pub use codes::{CompCode, ConvCode, DayCountCode, DayKind, RefState, Relative, RollCode, StubKind};
+pub use codes::{
+    CompCode, ConvCode, DayCountCode, DayKind, RefState, Relative, RollCode, StubKind,
+};
 pub use currency::Currency;
 pub use dates::{FixTerms, PayTerms, ResetTerms};
 pub use frequency::{Frequency, Unit};
