@@ -1,10 +1,10 @@
 -- Values that ISO 8601 and the calendar give, and the roundings that this project states, so that a wrong definition does not check.
-use Rattle.std.proofs.Common.{◌≡◌, ℕ, List, true, false, ℤ, pos, negsuc, refl, rules, codes, arith}
+use Rattle.std.proofs.Common.{◌≡◌, true, false, pos, negsuc, refl, rules, codes}
 use Rattle.jiff_core.specs.Calendar.{is_leap_year, days_in_month, weekday_number}
 use Rattle.irs_base.specs.Days.{weekday_at, first_day, last_day}
 use Rattle.irs_base.specs.DateOf.{year_walk, month_walk, year_part, month_part}
 use Rattle.irs_base.specs.Rounding.{Rounded, rounded}
-use Rattle.irs_base.specs.Texts.{dec_text, day_text}
+use Rattle.irs_base.specs.Texts.{day_text}
 use Rattle.irs_base.specs.declared.rounding.Direction.TheVariants.{Up, Down, Nearest}
 
 -- of the centuries only every fourth is a leap year

@@ -1,5 +1,5 @@
 -- Days, as numbers counted from 1970-01-01 in the proleptic Gregorian calendar.
-use Rattle.std.specs.Prelude.{◌≡◌, ℕ, ◌+◌, ◌-◌, ◌*◌, ℤ, pos, negsuc, ◌+ℤ◌, ◌-ℤ◌, ◌*ℤ◌, ◌≤ℤ◌}
+use Rattle.std.specs.Prelude.{◌≡◌, ℕ, ℤ, pos, negsuc, ◌+ℤ◌, ◌-ℤ◌, ◌*ℤ◌}
 use Rattle.jiff_core.specs.Calendar.{IsBetween, IsCivilDate, days_from_civil, weekday_number}
 
 -- 1901-01-01

@@ -1,7 +1,6 @@
 -- Lawful terms: every value lies in the range that its element allows.
-use Rattle.std.specs.Prelude.{◌≡◌, ◌≢◌, ◌⊎◌, ℕ, ◌+◌, ◌-◌, ◌^◌, ◌*◌, ◌≤◌, List, [], ◌∷◌, length, get_or, All, Option, None, Some, IfSome, ℤ, pos, negsuc, ◌≤ℤ◌, unsigned_abs}
+use Rattle.std.specs.Prelude.{◌≡◌, ◌≢◌, ℕ, ◌-◌, ◌^◌, ◌≤◌, List, length, get_or, All, IfSome, ℤ, pos, ◌≤ℤ◌, unsigned_abs}
 use Rattle.irs_base.specs.Days.{IsDay}
-use Rattle.irs_terms.specs.declared.frequency.Unit.{Unit as FrequencyUnit}
 use Rattle.irs_terms.specs.declared.frequency.Unit.TheVariants.{T}
 use Rattle.irs_terms.specs.declared.frequency.Frequency.{Frequency}
 use Rattle.irs_terms.specs.declared.codes.RollCode.{RollCode}
@@ -10,7 +9,6 @@ use Rattle.irs_terms.specs.declared.adjustments.Offset.{Offset}
 use Rattle.irs_terms.specs.declared.adjustments.Centers.{Centers}
 use Rattle.irs_terms.specs.declared.adjustments.Centers.TheVariants.{Absent, Listed, Dangling}
 use Rattle.irs_terms.specs.declared.adjustments.Dated.{Dated}
-use Rattle.irs_terms.specs.declared.step_list.Step.{Step}
 use Rattle.irs_terms.specs.declared.step_list.StepValues.{StepValues}
 use Rattle.irs_terms.specs.declared.dates.PayTerms.{PayTerms}
 use Rattle.irs_terms.specs.declared.dates.FixTerms.{FixTerms}

@@ -1,6 +1,6 @@
-use Rattle.std.proofs.Common.{rules, arith, ◌≡◌, sym, ◌∙◌, length, subst, true, ap, ℕ}
+use Rattle.std.proofs.Common.{rules, arith, sym, ◌∙◌, length, subst, ap, ℕ}
 use Rattle.irs_base.specs.Decimals.{IsUnsigned, number_after, padded}
-use Rattle.irs_base.proofs.DecimalLemmas.{not_parts, not_zeros, unsigned_is, eighteen, twelve_more}
+use Rattle.irs_base.proofs.DecimalLemmas.{not_parts, not_zeros, unsigned_is, twelve_more}
 use Rattle.irs_base.proofs.decimals.read_unsigned.Goals as goal
 
 pub returns-then-not-are_parts-clause-none : goal.returns-then-not-are_parts-clause-none

@@ -1,4 +1,4 @@
-use Rattle.std.proofs.Common.{rules, arith, ◌≡◌, ◌<◌, ℤ, pos, ◌+ℤ◌, SomeIff, ℕ, ◌+◌, ◌/◌, ◌%◌, FitsSigned, to_z, of_z, w16, w32, refl, min, ap, sym, ◌∙◌}
+use Rattle.std.proofs.Common.{arith, ◌≡◌, ℤ, pos, ℕ, ◌+◌, ◌/◌, ◌%◌, to_z, w16, w32, refl, min, ap, sym, ◌∙◌}
 use Rattle.std.proofs.lemmas.Int.{to_z_pos}
 use Rattle.jiff_core.proofs.SignedLemmas.{signed_arith}
 use Rattle.jiff_core.specs.Calendar.{days_in_month}

@@ -1,4 +1,4 @@
-use Rattle.std.proofs.Common.{rules, arith, ◌≡◌, ◌<◌, ℤ, pos, ◌+ℤ◌, SomeIff, ℕ, ◌+◌, ◌/◌, ◌%◌, FitsSigned, to_z, of_z, unsigned_abs, w64, subst}
+use Rattle.std.proofs.Common.{arith, ℤ, SomeIff, subst}
 use Rattle.jiff_core.proofs.SignedLemmas.{signed_arith}
 use Rattle.irs_base.specs.Months.{day_in_month}
 use Rattle.irs_base.specs.Days.{IsDay}

@@ -1,8 +1,8 @@
-use Rattle.std.proofs.Common.{rules, arith, ◌≡◌, ℤ, pos, ◌+ℤ◌, ◌-ℤ◌, ◌≤ℤ◌, ◌<ℤ◌, FitsSigned, to_z, of_z}
+use Rattle.std.proofs.Common.{arith, pos, ◌+ℤ◌, ◌-ℤ◌, ◌≤ℤ◌, ◌<ℤ◌, FitsSigned}
 use Rattle.std.specs.Int.{w128}
 use Rattle.std.proofs.lemmas.Int.{to_z-of_z, ints}
 use Rattle.jiff_core.proofs.SignedLemmas.{signed_arith, unsigned_abs-parts as signed_parts}
-use Rattle.irs_base.proofs.RoundingLemmas.{down_low, up_low, up_high, near_low, near_high}
+use Rattle.irs_base.proofs.RoundingLemmas.{up_low, up_high, near_low, near_high}
 use Rattle.irs_base.proofs.rounding.rounded_quotient.Goals as goal
 
 pub returns-else-rest-gt0 : goal.returns-else-rest-gt0
