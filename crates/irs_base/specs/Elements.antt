@@ -6,7 +6,7 @@ use Rattle.std.specs.Str.{bytes_eq}
 abbrev pub count : ℕ
 count = 149
 
-abbrev name_in : Option (List ℕ) → List ℕ
+abbrev pub name_in : Option (List ℕ) → List ℕ
 name_in (Some p) = p
 name_in None = []
 

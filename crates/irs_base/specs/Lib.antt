@@ -11,4 +11,5 @@ pub mod Lines
 pub mod Fields
 pub mod Dates
 pub mod Elements
+pub mod Paths
 pub mod Rules

@@ -3,8 +3,9 @@
 //! The order of the table is the order in which the first broken rule is sought: what lies outside
 //! the streams, the elements of a stream of a trade (FpML's InterestRateStream), and the elements
 //! of another party's cash flows. The table and its order are this project's own.
-ghost use Rattle.std.specs.Prelude.{◌≡◌, ◌<◌, ℕ, Some, SomeIff, map, slice_get, length, true, drop};
+ghost use Rattle.std.specs.Prelude.{◌≡◌, ◌<◌, ◌≤◌, ℕ, Some, SomeIff, map, slice_get, length, true, drop};
 ghost use Rattle.irs_base.specs.Elements.{fits_from, count};
+ghost use Rattle.irs_base.specs.Paths.{path_of, longest_path};
 ghost use Rattle.irs_base.specs.declared.elements.TheConstants.{NAMES, PARENTS, PATHS};
 
 use std::marker::Model;
@@ -194,7 +195,8 @@ impl Elem {
 
     /// The path as it is printed: the names from below the stream down, joined by `/`.
     pub fn path(self) -> &'static str
-        ensures { slice_get (map (λ p. p.now) PATHS) self ≡ Some result.now }
+        ensures path { result.now ≡ path_of self }
+        ensures length { length result.now ≤ longest_path }
     {
         path_at(&PATHS, self.place as usize)
     }

@@ -1,0 +1,27 @@
+-- How long paths are.
+use Rattle.std.proofs.Common.{◌≡◌, ℕ, zero, suc, ◌≤◌, Bool, true, false, nat_le, List, [], ◌∷◌, length, map, slice_get, Some, refl, sym, ap, subst, arith}
+use Rattle.std.specs.List.{list_all}
+use Rattle.std.proofs.lemmas.Bool.Decides.{nat_tests}
+use Rattle.std.proofs.lemmas.Option.{same_Some}
+use Rattle.irs_base.specs.Elements.{name_in}
+use Rattle.irs_base.specs.Paths.{path_of, longest_path}
+use Rattle.irs_base.specs.declared.elements.TheConstants.{PATHS}
+use Rattle.irs_base.proofs.Orders.{both_true}
+
+abbrev is_short : List ℕ → Bool
+is_short p = nat_le (length p) longest_path
+
+all_short : list_all is_short (map (λ p. p.now) PATHS) ≡ true
+all_short = refl
+
+short_at : (ps : List (List ℕ)) (i : ℕ) (p : List ℕ) → list_all is_short ps ≡ true → slice_get ps i ≡ Some p → is_short p ≡ true
+short_at [] i p h e = absurd cc
+short_at (q ∷ qs) zero p h e = subst (λ (x : List ℕ). is_short x ≡ true) (same_Some q p e) (both_true (is_short q) (list_all is_short qs) h).0
+short_at (q ∷ qs) (suc i) p h e = short_at qs i p (both_true (is_short q) (list_all is_short qs) h).1 e
+
+pub path_short : (i : ℕ) (p : List ℕ) → slice_get (map (λ p. p.now) PATHS) i ≡ Some p → length p ≤ longest_path
+path_short i p e = let s = short_at (map (λ p. p.now) PATHS) i p all_short e in grind (arith, nat_tests, s)
+
+pub path_found : (i : ℕ) (p : List ℕ) → slice_get (map (λ p. p.now) PATHS) i ≡ Some p → p ≡ path_of i
+unfolding path_of
+path_found i p e = sym (ap name_in e)
