@@ -1,0 +1,16 @@
+# `make` proves and builds the program, leaves it as ./irs, and prints the schedule of the shipped
+# example. `make test` is the gate. Both need the kit's command `rt` and nothing else.
+.PHONY: all irs test clean
+
+all: irs
+	./irs schedule examples/B.json -
+
+irs:
+	cd crates/irs && rt run -- schedule ../../examples/B.json - > /dev/null
+	cp crates/irs/out/irs irs
+
+test:
+	.ci/run
+
+clean:
+	rm -rf irs crates/*/out

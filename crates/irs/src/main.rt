@@ -1,0 +1,32 @@
+//! The program `irs`: it prints what its words ask for, on standard output.
+#![tactic(auto)]
+
+use irs_cli::{RealFiles, RealSink, run};
+use std::env;
+use std::process::ExitCode;
+
+// The words behind the program's name, or the status where there are none to be had: 9 for a word
+// that isn't text, 7 for want of memory.
+fn words_of(rt: &HostRuntime) -> Result<Vec<String>, u8> {
+    let Ok(args) = env::args(rt) else {
+        return Err(9);
+    };
+    let mut words = Vec::new(rt.alloc());
+    for word in args.skip(1) {
+        if words.push(word).is_err() {
+            return Err(7);
+        }
+    }
+    Ok(words)
+}
+
+fn main(rt: HostRuntime) -> ExitCode {
+    match words_of(&rt) {
+        Ok(words) => {
+            let mut files = RealFiles::new(&rt);
+            let mut out = RealSink::new(&rt);
+            ExitCode::from(run(rt.alloc(), &words, &mut files, &mut out))
+        }
+        Err(status) => ExitCode::from(status),
+    }
+}

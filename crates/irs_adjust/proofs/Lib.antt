@@ -1,0 +1,4 @@
+pub mod CodeLaws
+pub mod WayLemmas
+pub mod OffsetLaws
+pub mod SameSets

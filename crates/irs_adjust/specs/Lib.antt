@@ -1,0 +1,5 @@
+pub mod Conventions
+pub mod ConventionLaws
+pub mod Codes
+pub mod Ways
+pub mod Offsets

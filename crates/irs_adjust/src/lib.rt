@@ -1,0 +1,16 @@
+//! Business day conventions and offsets of days.
+#![tactic(auto)]
+
+mod by_code;
+mod convention;
+mod conventions;
+mod months;
+mod offsets;
+#[cfg(test)]
+mod tests;
+mod ways;
+
+pub use by_code::adjust_by;
+pub use convention::Convention;
+pub use conventions::{Following, ModFollowing, ModPreceding, Nearest, Preceding, Unadjusted};
+pub use offsets::move_by;

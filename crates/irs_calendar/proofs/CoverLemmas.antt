@@ -1,0 +1,45 @@
+-- What covers have in common.
+use Rattle.std.proofs.Common.{◌≡◌, ℕ, suc, ◌+◌, ◌<◌, ◌≤◌, Bool, true, false, List, ◌∷◌, map, drop, length, get_or, arith, refl, sym, ◌∙◌, ap, subst, ℤ, Bor}
+use Rattle.std.proofs.Math.Seq.{drop-cons}
+use Rattle.irs_calendar.specs.declared.sections.Section.{Section}
+use Rattle.irs_calendar.specs.GoodDays.{DaySet, SameDays}
+use Rattle.irs_calendar.specs.Runs.{CoveredRuns, set_of_runs}
+use Rattle.irs_calendar.specs.Represents.{Represents}
+use Rattle.irs_calendar.specs.Selected.{later, earlier, latest_first, earliest_last}
+use Rattle.irs_calendar.proofs.CalendarLemmas.{drop_all}
+
+abbrev pub sections_at : List (Bor Section) → List Section
+sections_at xs = map {A = Bor Section} {B = Section} (λ s. s.now) xs
+
+next_section : (ss : List (Bor Section)) (i : ℕ) (x : Bor Section) → i < length ss → x ≡ get_or ss i x → sections_at (drop i ss) ≡ x.now ∷ sections_at (drop (i + 1) ss)
+next_section ss i x within is =
+    let k : i + 1 ≡ suc i = omega arith in
+    rw k (ap sections_at (drop-cons ss i x within ∙ ap (λ (s : Bor Section). s ∷ drop (suc i) ss) (sym is)))
+
+-- a cover that is narrowed by one section
+pub first_more : (ss : List (Bor Section)) (i : ℕ) (x : Bor Section) (a whole : ℤ) → i < length ss → x ≡ get_or ss i x → latest_first a (sections_at (drop i ss)) ≡ whole → latest_first (later a x.now.first) (sections_at (drop (i + 1) ss)) ≡ whole
+first_more ss i x a whole within is kept = subst (λ (l : List Section). latest_first a l ≡ whole) (next_section ss i x within is) kept
+
+pub last_more : (ss : List (Bor Section)) (i : ℕ) (x : Bor Section) (a whole : ℤ) → i < length ss → x ≡ get_or ss i x → earliest_last a (sections_at (drop i ss)) ≡ whole → earliest_last (earlier a x.now.last) (sections_at (drop (i + 1) ss)) ≡ whole
+last_more ss i x a whole within is kept = subst (λ (l : List Section). earliest_last a l ≡ whole) (next_section ss i x within is) kept
+
+pub first_end : (ss : List (Bor Section)) (i : ℕ) (a whole : ℤ) → length ss ≤ i → latest_first a (sections_at (drop i ss)) ≡ whole → a ≡ whole
+first_end ss i a whole past kept = subst (λ (l : List (Bor Section)). latest_first a (sections_at l) ≡ whole) (drop_all ss i past) kept
+
+pub last_end : (ss : List (Bor Section)) (i : ℕ) (a whole : ℤ) → length ss ≤ i → earliest_last a (sections_at (drop i ss)) ≡ whole → a ≡ whole
+last_end ss i a whole past kept = subst (λ (l : List (Bor Section)). earliest_last a (sections_at l) ≡ whole) (drop_all ss i past) kept
+
+same_bool : (a b : Bool) → (a ≡ true → b ≡ true) → (b ≡ true → a ≡ true) → a ≡ b
+same_bool true b there back = sym (there refl)
+same_bool false true there back = back refl
+same_bool false false there back = refl
+
+-- runs that represent a test are the set of that test
+pub same_days : (t : DaySet) (c : CoveredRuns) → c.first ≡ t.first → c.last ≡ t.last → Represents t.test c → SameDays (set_of_runs c) t
+same_days t c first last represents = record {
+  first = first;
+  last = last;
+  test = λ d inside. same_bool ((set_of_runs c).test d) (t.test d)
+      (λ passes. ((represents.good d).0 (record { inside = inside; passes = passes })).1)
+      (λ passes. ((represents.good d).1 (inside, passes)).passes);
+}

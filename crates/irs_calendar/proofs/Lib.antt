@@ -1,0 +1,11 @@
+pub mod Halving
+pub mod RunLemmas
+pub mod RisingLemmas
+pub mod GrownLemmas
+pub mod CoverLemmas
+pub mod MarkLemmas
+pub mod FileLemmas
+pub mod CalendarLemmas
+pub mod DistinctLemmas
+pub mod GrammarLemmas
+pub mod PlaceLemmas

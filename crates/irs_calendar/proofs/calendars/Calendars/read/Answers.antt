@@ -1,0 +1,33 @@
+use Rattle.std.proofs.Common.{◌≡◌, ℕ, List, [], IsSome, Option, Some, None, Result, Ok, Err, sym, ◌∙◌}
+use Rattle.std.proofs.lemmas.Result.{err_from_is_err_and}
+use Rattle.irs_calendar.specs.declared.sections.Section.{Section}
+use Rattle.irs_calendar.specs.declared.calendars.CalErr.{CalErr}
+use Rattle.irs_calendar.specs.Calendars.{Spot, calendars_in, spot_of, SpotFails}
+use Rattle.irs_calendar.specs.Grammar.{CalFiles}
+use Rattle.irs_calendar.proofs.DistinctLemmas.{calendars_apart}
+use Rattle.irs_calendar.proofs.CalendarLemmas.{texts}
+use Rattle.irs_calendar.proofs.GrammarLemmas.{read_is_spelt, spelt_is_read}
+use Rattle.irs_calendar.proofs.calendars.Calendars.read.Goals as goal
+
+both_ends : (o : Option Spot) (read : Result (List Section) Spot) (ss : List Section) → SpotFails o read → IsSome o → read ≡ Ok ss → ⊥
+both_ends None read ss fails some read_ok = absurd (cc some)
+both_ends (Some s) read ss fails some read_ok = differ (sym fails ∙ read_ok)
+  where
+    differ : ◌≡◌ {A = Result (List Section) Spot} (Err s) (Ok ss) → ⊥
+    differ e = cc e
+
+refused : (e : CalErr) (files : List (List ℕ)) → SpotFails (spot_of e) (calendars_in 1 [] files) → IsSome (spot_of e) → (ss : List Section) → CalFiles files ss → ⊥
+refused e files fails some ss spelt = both_ends (spot_of e) (calendars_in 1 [] files) ss fails some (spelt_is_read files ss spelt)
+
+pub returns-in_err-sections-clause-refused : goal.returns-in_err-sections-clause-refused
+returns-in_err-sections-clause-refused c =
+    let p = err_from_is_err_and c.from_residual.result c.from_residual.ensures.1 in
+    rw (p.1, p.2) (refused c.in_err-sections.field-0.0 (texts c.args.files.now) c.in_err-sections.ensures)
+
+pub invariant_of-result : goal.invariant_of-result
+invariant_of-result c = calendars_apart 1 [] (texts c.args.files.now) c.in_ok-sections.sections tt c.in_ok-sections.ensures
+
+pub returns-clause-spelt : goal.returns-clause-spelt
+returns-clause-spelt c =
+    let apart = calendars_apart 1 [] (texts c.args.files.now) c.in_ok-sections.sections tt c.in_ok-sections.ensures in
+    read_is_spelt (texts c.args.files.now) c.in_ok-sections.sections apart c.in_ok-sections.ensures

@@ -1,0 +1,85 @@
+-- What the fields of a line say.
+use Rattle.std.specs.Prelude.{ℕ, Bool, true, false, ◌&&◌, ◌==◌, List, [], ◌∷◌, length, ℤ, Option, Some, None, nat_le, slice_index_or, slice_set, if◌then◌else◌}
+use Rattle.std.specs.List.{list_all}
+use Rattle.std.specs.Ordering.{int_cmp, is_le}
+use Rattle.std.specs.Str.{bytes_eq}
+use Rattle.irs_base.specs.Dates.{date_at}
+use Rattle.irs_calendar.specs.declared.limits.TheConstants.{MOST_NAME}
+use Rattle.irs_base.specs.Fields.{begins_space, fields}
+use Rattle.irs_calendar.specs.Machine.{Said, Nothing, Center, Cover, Weekend, Holiday, Wrong}
+
+-- from ! to ~
+abbrev pub is_plain : ℕ → Bool
+is_plain b = nat_le 33 b && nat_le b 126
+
+abbrev pub is_center_name : List ℕ → Bool
+is_center_name n = nat_le (length n) MOST_NAME && list_all is_plain n
+
+abbrev pub said_center : List (List ℕ) → Said
+said_center [] = Wrong
+said_center (n ∷ []) = if is_center_name n then Center n else Wrong
+said_center (n ∷ m ∷ ms) = Wrong
+
+abbrev pub cover_of : Option ℤ → Option ℤ → Said
+cover_of None b = Wrong
+cover_of (Some a) None = Wrong
+cover_of (Some a) (Some b) = if is_le (int_cmp a b) then Cover a b else Wrong
+
+abbrev pub said_cover : List (List ℕ) → Said
+said_cover [] = Wrong
+said_cover (a ∷ []) = Wrong
+said_cover (a ∷ b ∷ []) = cover_of (date_at a) (date_at b)
+said_cover (a ∷ b ∷ c ∷ cs) = Wrong
+
+-- the place in the week, from Monday
+abbrev pub place_of : List ℕ → Option ℕ
+place_of n =
+    if bytes_eq n (77 ∷ 79 ∷ 78 ∷ []) then Some 0
+    else (if bytes_eq n (84 ∷ 85 ∷ 69 ∷ []) then Some 1
+    else (if bytes_eq n (87 ∷ 69 ∷ 68 ∷ []) then Some 2
+    else (if bytes_eq n (84 ∷ 72 ∷ 85 ∷ []) then Some 3
+    else (if bytes_eq n (70 ∷ 82 ∷ 73 ∷ []) then Some 4
+    else (if bytes_eq n (83 ∷ 65 ∷ 84 ∷ []) then Some 5
+    else (if bytes_eq n (83 ∷ 85 ∷ 78 ∷ []) then Some 6
+    else None))))))
+
+-- different names, each of which marks its day
+abbrev pub marked : Option ℕ → List Bool → Option (List Bool)
+marked None days = None
+marked (Some p) days = if slice_index_or days p false then None else Some (slice_set days p true)
+
+abbrev pub weekend_of : Option (List Bool) → List (List ℕ) → Said
+weekend_of None ns = Wrong
+weekend_of (Some days) [] = Weekend days
+weekend_of (Some days) (n ∷ ns) = weekend_of (marked (place_of n) days) ns
+
+abbrev pub holiday_of : Option ℤ → Said
+holiday_of None = Wrong
+holiday_of (Some d) = Holiday d
+
+abbrev pub said_holiday : List ℕ → List (List ℕ) → Said
+said_holiday w [] = holiday_of (date_at w)
+said_holiday w (x ∷ xs) = Wrong
+
+abbrev pub no_days : List Bool
+no_days = false ∷ false ∷ false ∷ false ∷ false ∷ false ∷ false ∷ []
+
+abbrev pub said_by : List ℕ → List (List ℕ) → Said
+said_by w ws =
+    if bytes_eq w (99 ∷ 101 ∷ 110 ∷ 116 ∷ 101 ∷ 114 ∷ []) then said_center ws
+    else (if bytes_eq w (99 ∷ 111 ∷ 118 ∷ 101 ∷ 114 ∷ []) then said_cover ws
+    else (if bytes_eq w (119 ∷ 101 ∷ 101 ∷ 107 ∷ 101 ∷ 110 ∷ 100 ∷ []) then weekend_of (Some no_days) ws
+    else said_holiday w ws))
+
+abbrev pub is_comment : List ℕ → Bool
+is_comment [] = false
+is_comment (b ∷ bs) = b == 35
+
+-- a field stands at the line's very beginning
+abbrev pub said_in_place : Bool → List (List ℕ) → Said
+said_in_place gap [] = Nothing
+said_in_place true (w ∷ ws) = Wrong
+said_in_place false (w ∷ ws) = said_by w ws
+
+abbrev pub kind_of : List ℕ → Said
+kind_of line = if is_comment line then Nothing else said_in_place (begins_space line) (fields line)

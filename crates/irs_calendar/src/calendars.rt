@@ -1,0 +1,195 @@
+//! Calendar files: which days are good in which centre.
+//!
+//! A file is a list of sections, none at all included. A section has, each on a line of its own and
+//! in this order, `center NAME`, `cover DATE DATE`, `weekend` with 0 to 7 different names of MON to
+//! SUN, and then its holidays, which rise strictly inside the cover. The format is this project's own.
+ghost use Rattle.std.specs.Prelude.{◌≡◌, ℕ, ◌<◌, ◌≤◌, ◌^◌, List, [], length, map, Some, Ok, All, IsOk, IfOk, IfErr, IsSome, None, is_some};
+ghost use Rattle.std.specs.Option.{option_copied};
+ghost use Rattle.irs_calendar.specs.Runs.{set_of_runs};
+ghost use Rattle.irs_calendar.specs.Files.{sections_of};
+ghost use Rattle.irs_calendar.specs.GoodDays.{SameDays};
+ghost use Rattle.irs_calendar.specs.Sections.{is_named, section_named, AreDistinct};
+ghost use Rattle.irs_calendar.specs.Selected.{sections_named, day_set_of, first_missing};
+ghost use Rattle.irs_calendar.specs.declared.sections.Section.{Section};
+ghost use Rattle.irs_calendar.specs.declared.calendars.SelErr.TheVariants.{Memory as NoMemory};
+ghost use Rattle.irs_calendar.specs.Calendars.{calendars_in, in_file, spot_of, GivesAll, SelFails};
+ghost use Rattle.irs_calendar.specs.Grammar.{CalFiles};
+
+use crate::RunSet;
+use crate::chosen::chosen_days;
+use crate::files::{FileErr, read_file};
+use crate::limits::{MOST_BYTES, MOST_CENTERS, MOST_FILES};
+use crate::machine::Fault;
+use crate::section_list::SectionList;
+use crate::sections::Section;
+use irs_base::{Memory, Names, Text};
+use std::alloc::{AllocFailed, Global};
+use std::marker::Model;
+use thiserror::Error;
+
+/// The first faulty line over the files in order, as file and line, both from 1; or want of memory.
+/// On one line `Syntax` comes before the others.
+#[derive(Clone, Copy, Debug, PartialEq, Eq, Error)]
+pub enum CalErr {
+    /// The line is outside the grammar. A file that ends inside an unfinished section has its fault at
+    /// the line after its last one.
+    #[error("calendar {0}, line {1}: not as a calendar is written")]
+    Syntax(u32, u32),
+    /// The line names a centre that has a section already, in this file or in an earlier one.
+    #[error("calendar {0}, line {1}: the centre stands twice")]
+    Repeat(u32, u32),
+    /// The line is a centre's holiday number 20,001.
+    #[error("calendar {0}, line {1}: too many holidays")]
+    TooMany(u32, u32),
+    /// Memory ran out.
+    #[error("out of memory")]
+    Memory,
+}
+
+/// Why no set of good days was selected.
+#[derive(Clone, Copy, Debug, PartialEq, Eq, Error)]
+pub enum SelErr {
+    /// The first name that is in no file, as its position from 1.
+    #[error("centre {0} is in no calendar")]
+    NoCenter(u32),
+    /// Memory ran out.
+    #[error("out of memory")]
+    Memory,
+}
+
+impl From<Memory> for SelErr {
+    ghost from_gives = { λ _ e. e ≡ NoMemory };
+
+    fn from(_e: Memory) -> SelErr {
+        SelErr::Memory
+    }
+}
+
+impl<T: Drop> From<AllocFailed<T>> for SelErr {
+    ghost from_gives = { λ _ e. e ≡ NoMemory };
+
+    fn from(_e: AllocFailed<T>) -> SelErr {
+        SelErr::Memory
+    }
+}
+
+/// The centres of calendar files, each with its cover, weekend and holidays; no two have the same
+/// name. Contracts see the list of their sections.
+#[derive(Drop)]
+pub struct Calendars {
+    sections: SectionList,
+}
+
+impl Model for Calendars {
+    ghost use Rattle.std.specs.Prelude.{List};
+    ghost use Rattle.irs_calendar.specs.declared.sections.Section.{Section};
+
+    ghost Value = { List Section };
+
+    ghost view = { λ c. c.sections };
+
+    ghost use Rattle.irs_calendar.specs.Sections.{AreDistinct};
+
+    ghost invariant = { λ c. AreDistinct c.sections };
+}
+
+/// The sections of one more file.
+fn read_one(
+    alloc: Global,
+    done: SectionList,
+    file: &[u8],
+    number: u32,
+) -> Result<SectionList, CalErr>
+    requires { length file.now ≤ MOST_BYTES }
+    ensures { GivesAll result (in_file number (sections_of done file.now)) }
+{
+    match read_file(alloc, done, file) {
+        Ok(sections) => Ok(sections),
+        Err(FileErr::Fault(Fault::Syntax, line)) => Err(CalErr::Syntax(number, line)),
+        Err(FileErr::Fault(Fault::Repeat, line)) => Err(CalErr::Repeat(number, line)),
+        Err(FileErr::Fault(Fault::TooMany, line)) => Err(CalErr::TooMany(number, line)),
+        Err(FileErr::Memory) => Err(CalErr::Memory),
+    }
+}
+
+/// The sections with these names, in the order of the names.
+fn pick<'a>(
+    alloc: Global,
+    sections: &'a SectionList,
+    names: &[Text],
+) -> Result<Vec<&'a Section>, SelErr>
+    requires few { length names.now ≤ MOST_CENTERS }
+    requires distinct { AreDistinct sections.now }
+    ensures found { IsOk result → first_missing sections.now 1 names.now ≡ None }
+    ensures picked { IfOk result (λ v. map (λ s. s.now) v.items ≡ sections_named sections.now names.now) }
+    ensures missing { IfErr result (λ e. SelFails e (first_missing sections.now 1 names.now)) }
+{
+    let mut picked: Vec<&Section> = Vec::new(alloc);
+    let mut number: u32 = 1;
+    for name in names {
+        let Some(section) = sections.find(name.as_slice()) else {
+            return Err(SelErr::NoCenter(number));
+        };
+        picked.push(section)?;
+        number += 1;
+    }
+    Ok(picked)
+}
+
+/// The sections of the files, one after another.
+fn read_all(alloc: Global, files: &[Vec<u8>]) -> Result<SectionList, CalErr>
+    requires few { length files.now ≤ MOST_FILES }
+    requires short { All (λ f. length f.items ≤ MOST_BYTES) files.now }
+    ensures { GivesAll result (calendars_in 1 [] (map (λ f. f.items) files.now)) }
+{
+    let mut done = SectionList::new(alloc);
+    let mut number: u32 = 1;
+    for file in files {
+        done = read_one(alloc, done, file, number)?;
+        number += 1;
+    }
+    Ok(done)
+}
+
+impl Calendars {
+    /// The centres that the files spell.
+    ///
+    /// An error comes exactly at the first faulty line over the files in order, with the file and
+    /// the line from 1. A file that ends inside an unfinished section has its fault at the line after
+    /// its last one.
+    pub fn read(alloc: Global, files: &[Vec<u8>]) -> Result<Calendars, CalErr>
+        requires few { length files.now ≤ MOST_FILES }
+        requires short { All (λ f. length f.items ≤ MOST_BYTES) files.now }
+        // What is read line after line: all sections, or the first fault.
+        ensures lines { GivesAll result (calendars_in 1 [] (map (λ f. f.items) files.now)) }
+        // The files spell the sections, by the grammar.
+        ensures spelt { IfOk result (λ c. CalFiles (map (λ f. f.items) files.now) c) }
+        // Files with a faulty line spell no sections.
+        ensures refused { IfErr result (λ e. IsSome (spot_of e) → (ss : List Section) → CalFiles (map (λ f. f.items) files.now) ss → ⊥) }
+    {
+        let sections = read_all(alloc, files)?;
+        Ok(Calendars { sections })
+    }
+
+    /// A section has that name. No memory is taken.
+    pub fn has_center(&self, name: &Text) -> bool
+        ensures { result ≡ is_named name.now self.now }
+    {
+        self.sections.has_name(name.as_slice())
+    }
+
+    /// The good days of the centres with these names: the cover is what their covers have in
+    /// common, and a day of it is good where its weekday is on no weekend list of theirs and the day
+    /// is on no holiday list. `NoCenter` comes exactly with the first position, from 1, whose name
+    /// is in no file.
+    pub fn select(&self, alloc: Global, names: &Names) -> Result<RunSet, SelErr>
+        requires { length names.now ≤ MOST_CENTERS }
+        ensures found { IsOk result → first_missing self.now 1 names.now ≡ None }
+        ensures days { IfOk result (λ s. SameDays (set_of_runs s) (day_set_of self.now names.now)) }
+        ensures missing { IfErr result (λ e. SelFails e (first_missing self.now 1 names.now)) }
+    {
+        let picked = pick(alloc, &self.sections, names.as_slice())?;
+        let days = chosen_days(alloc, &picked)?;
+        Ok(days)
+    }
+}

@@ -1,0 +1,68 @@
+//! Reading a calendar file line by line.
+ghost use Rattle.std.specs.Prelude.{◌≡◌, ℕ, ◌+◌, ◌<◌, ◌^◌, ◌≤◌, length};
+ghost use Rattle.irs_calendar.specs.Machine.{after_line, at_end};
+ghost use Rattle.irs_calendar.specs.Words.{kind_of};
+ghost use Rattle.irs_calendar.specs.Given.{Gives};
+ghost use Rattle.irs_calendar.specs.Files.{numbered, sections_of, GivesFile};
+
+use crate::limits::MOST_BYTES;
+use crate::machine::{Fault, StepErr, step};
+use crate::part::{Part, State};
+use crate::section_list::SectionList;
+use crate::words::said;
+use irs_base::split_line;
+use std::alloc::Global;
+
+/// The first line at fault, or no memory.
+#[derive(Debug, Drop)]
+pub enum FileErr {
+    Fault(Fault, u32),
+    Memory,
+}
+
+/// One line more.
+fn read_line(alloc: Global, state: State, line: &[u8], number: u32) -> Result<State, FileErr>
+    ensures { GivesFile result (numbered number (after_line state (kind_of line.now))) }
+{
+    match step(alloc, state, said(line)) {
+        Ok(next) => Ok(next),
+        Err(StepErr::Fault(fault)) => Err(FileErr::Fault(fault, number)),
+        Err(StepErr::Memory) => Err(FileErr::Memory),
+    }
+}
+
+/// The end of a file, at the line after its last: the section at hand has to be whole.
+fn read_end(alloc: Global, state: State, number: u32) -> Result<SectionList, FileErr>
+    ensures { GivesFile result (numbered number (at_end state.done state.part)) }
+{
+    let State { done, part } = state;
+    match part {
+        Part::Between => Ok(done),
+        Part::Open(section) => match done.with(alloc, section) {
+            Ok(done) => Ok(done),
+            Err(_) => Err(FileErr::Memory),
+        },
+        Part::Named(_) => Err(FileErr::Fault(Fault::Syntax, number)),
+        Part::Covered(_, _, _) => Err(FileErr::Fault(Fault::Syntax, number)),
+    }
+}
+
+/// The sections so far and those of a file, exactly as the definition reads it.
+pub fn read_file(alloc: Global, done: SectionList, bytes: &[u8]) -> Result<SectionList, FileErr>
+    requires { length bytes.now ≤ MOST_BYTES }
+    ensures { GivesFile result (sections_of done bytes.now) }
+{
+    let mut state = State {
+        done,
+        part: Part::Between,
+    };
+    let mut rest = bytes;
+    let mut number: u32 = 1;
+    while !rest.is_empty() {
+        let (line, more) = split_line(rest);
+        state = read_line(alloc, state, line, number)?;
+        rest = more;
+        number += 1;
+    }
+    read_end(alloc, state, number)
+}

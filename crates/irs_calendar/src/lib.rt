@@ -1,0 +1,29 @@
+//! Business days of centres: calendar files, and the good days of centres as sorted runs.
+#![tactic(auto)]
+
+mod calendars;
+mod chosen;
+mod files;
+mod good_days;
+mod grown;
+mod holidays;
+mod limits;
+mod machine;
+mod marks;
+mod part;
+mod run_set;
+mod runs;
+mod search;
+mod section_list;
+mod sections;
+mod steps;
+mod words;
+
+pub use calendars::{CalErr, Calendars, SelErr};
+pub use good_days::GoodDays;
+pub use limits::{MOST_BYTES, MOST_CENTERS, MOST_FILES, MOST_HOLIDAYS, MOST_NAME};
+pub use run_set::RunSet;
+pub use steps::Steps;
+
+#[cfg(test)]
+mod tests;

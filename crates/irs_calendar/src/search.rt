@@ -1,0 +1,46 @@
+//! Searching runs by halves.
+ghost use Rattle.std.specs.Prelude.{◌≡◌, ℕ, ◌+◌, ◌-◌, ◌*◌, ◌^◌, ◌≤◌, length};
+ghost use Rattle.irs_calendar.specs.Splits.{comes_before, IsDownward, Splits};
+
+use crate::Steps;
+use crate::runs::{Run, Runs};
+use irs_base::Day;
+use std::sync::ledger::Ledger;
+
+/// Which end of a run is compared with a day.
+#[derive(Clone, Copy)]
+pub enum End {
+    First,
+    Last,
+}
+
+/// The run begins at or before the day, or ends before it.
+pub fn is_before(end: End, run: Run, d: Day) -> bool
+    ensures { result ≡ comes_before end d run }
+{
+    match end {
+        End::First => run.first <= d,
+        End::Last => run.last < d,
+    }
+}
+
+/// How many of the runs come before the day.
+pub fn count_before<L: Ledger>(runs: &Runs, end: End, d: Day, steps: &mut Steps<L>) -> usize
+    requires { IsDownward (comes_before end d) runs.now }
+    ensures place { Splits (comes_before end d) runs.now result }
+    ensures rises { steps.old ≤ steps.new }
+    ensures cost { 2 ^ (steps.new - steps.old) ≤ 2 * length runs.now + 1 }
+{
+    let mut low = 0;
+    let mut high = runs.count();
+    while low < high {
+        let mid = low + (high - low) / 2;
+        let run = runs.read(mid, steps);
+        if is_before(end, run, d) {
+            low = mid + 1;
+        } else {
+            high = mid;
+        }
+    }
+    low
+}

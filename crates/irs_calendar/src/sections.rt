@@ -1,0 +1,27 @@
+//! What a calendar file says of one centre.
+ghost use Rattle.std.specs.Prelude.{◌≡◌, ◌<◌, map};
+ghost use Rattle.irs_base.specs.Days.{weekday_at};
+ghost use Rattle.irs_calendar.specs.Sections.{is_open, all_open};
+
+use crate::holidays::Holidays;
+use irs_base::{Day, Text};
+
+/// What a file says of one centre.
+#[derive(Drop)]
+pub struct Section {
+    pub name: Text,
+    pub first: Day,
+    pub last: Day,
+    /// From Monday.
+    pub weekend: [bool; 7],
+    pub holidays: Holidays,
+}
+
+/// The place in the week, from Monday.
+pub fn weekday_place(d: Day) -> usize
+    ensures place { result ≡ weekday_at d }
+    ensures range { result < 7 }
+{
+    let days = d.number() + 25_203;
+    days as usize % 7
+}

@@ -1,0 +1,24 @@
+//! The text of a schedule, one put each line.
+ghost use Rattle.std.specs.Prelude.{◌≡◌, ℕ, ◌++◌, OnOk, OnErr};
+ghost use Rattle.irs_cli.specs.Outside.{Rose, Grew, GrewByFront};
+ghost use Rattle.irs_schedule.specs.RowTexts.{text_of};
+
+use crate::{PutFailed, Sink};
+use irs_base::Line;
+use irs_schedule::{Schedule, row_text};
+
+/// Puts the text of a schedule, and nothing behind a put that failed.
+pub(crate) fn put_schedule<S: Sink>(out: &mut S, schedule: &Schedule) -> Result<(), PutFailed>
+    ensures ok { OnOk result (Grew (S.written out.old) (S.written out.new) (text_of schedule.now)) }
+    ensures quiet { OnOk result (S.faults out.new ≡ S.faults out.old) }
+    ensures err { OnErr result (GrewByFront (S.written out.old) (S.written out.new) (text_of schedule.now)) }
+    ensures rose { OnErr result (Rose (S.faults out.old) (S.faults out.new)) }
+{
+    out.put(b"irs-schedule 1\n")?;
+    let mut line = Line::new();
+    for row in schedule.rows() {
+        row_text(&row, &mut line);
+        out.put(line.bytes())?;
+    }
+    out.put(b"end\n")
+}

@@ -1,0 +1,5 @@
+pub mod Actual
+pub mod Thirty
+pub mod Fractions
+pub mod FractionLaws
+pub mod Places

@@ -1,0 +1,82 @@
+//! The days and the fraction of a period by the code of its day count: the 2006 ISDA Definitions,
+//! section 4.16.
+//!
+//! A period runs from its start, included, to its end, excluded. A fraction has the denominator
+//! of its code and isn't reduced: 133590 for ACT/ACT.ISDA, 365 for ACT/365.FIXED, 1 for 1/1 and
+//! 360 otherwise.
+ghost use Rattle.std.specs.Prelude.{◌≡◌, ℤ, ◌<ℤ◌};
+ghost use Rattle.irs_terms.specs.declared.results.Frac.{Frac};
+ghost use Rattle.irs_daycount.specs.Fractions.{Days, Fraction, days_of, fraction_of, denominator_of, IsNumerator};
+
+use crate::actual::{act_act, actual_days};
+use crate::thirty::{bond_days, euro_days, isda_days};
+use irs_base::Day;
+use irs_terms::{DayCountCode, Frac};
+
+/// The days of the period from `s` to `e`, which is after `s`: the numerator for the three 30/360
+/// kinds, and otherwise the days from `s`, included, to `e`, excluded. That 1/1 counts actual
+/// days is this project's own rule. `last` says that the period is its stream's last.
+pub fn days_by(code: DayCountCode, s: Day, e: Day, last: bool) -> i64
+    requires { s <ℤ e }
+    ensures days { Days code s e last result }
+    ensures value { result ≡ days_of code s e last }
+    // Any two numbers of days of the period are equal.
+    ensures one { (m n : ℤ) → Days code s e last m → Days code s e last n → m ≡ n }
+{
+    days_of(code, s, e, last)
+}
+
+/// The fraction of the period from `s` to `e`, which is after `s`, over the denominator of its
+/// code and not reduced. `last` says that the period is its stream's last: then 30E/360.ISDA
+/// leaves an end on the last day of February.
+pub fn fraction_by(code: DayCountCode, s: Day, e: Day, last: bool) -> Frac
+    requires { s <ℤ e }
+    ensures fraction { Fraction code s e last result }
+    ensures value { result ≡ fraction_of code s e last }
+    // The numerator is from 0 to 366 times the days from start to end.
+    ensures range { IsNumerator s e result.num }
+    ensures denominator { result.den ≡ denominator_of code }
+    // Any two fractions of the period are equal.
+    ensures one { (f g : Frac) → Fraction code s e last f → Fraction code s e last g → f ≡ g }
+{
+    // Both days are in range, also where the code doesn't look at them.
+    let (_start, _end) = (s.number(), e.number());
+    fraction_of(code, s, e, last)
+}
+
+fn days_of(code: DayCountCode, s: Day, e: Day, last: bool) -> i64
+    ensures { Days code s e last result }
+{
+    match code {
+        DayCountCode::OneOne => actual_days(s, e),
+        DayCountCode::ActActIsda => actual_days(s, e),
+        DayCountCode::Act365Fixed => actual_days(s, e),
+        DayCountCode::Act360 => actual_days(s, e),
+        DayCountCode::Thirty360 => bond_days(s, e),
+        DayCountCode::ThirtyE360 => euro_days(s, e),
+        DayCountCode::ThirtyE360Isda => isda_days(s, e, last),
+    }
+}
+
+fn fraction_of(code: DayCountCode, s: Day, e: Day, last: bool) -> Frac
+    requires { s <ℤ e }
+    ensures { Fraction code s e last result }
+{
+    match code {
+        DayCountCode::OneOne => over(1, 1),
+        DayCountCode::ActActIsda => act_act(s, e),
+        DayCountCode::Act365Fixed => over(365, actual_days(s, e)),
+        DayCountCode::Act360 => over(360, actual_days(s, e)),
+        DayCountCode::Thirty360 => over(360, bond_days(s, e)),
+        DayCountCode::ThirtyE360 => over(360, euro_days(s, e)),
+        DayCountCode::ThirtyE360Isda => over(360, isda_days(s, e, last)),
+    }
+}
+
+// The fraction of a denominator and a numerator.
+fn over(den: i64, num: i64) -> Frac
+    ensures numerator { result.num ≡ num }
+    ensures denominator { result.den ≡ den }
+{
+    Frac { num, den }
+}

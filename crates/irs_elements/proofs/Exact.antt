@@ -1,0 +1,27 @@
+-- An answer that is right on both sides is the value of a function that is.
+use Rattle.std.proofs.Common.{◌≡◌, Option, Some, None, IfSome, IfNone, Bool, true, false, ◌&&◌, refl, sym, ap}
+
+-- the answer stands in P, or nothing does
+abbrev pub Exact : {A : Type 0} → (A → Type 0) → Option A → Type 0
+Exact {A} P None = (v : A) → P v → ⊥
+Exact P (Some v) = P v
+
+pub exact_same : {A : Type 0} (P : A → Type 0) (o r : Option A) → ((v w : A) → P v → P w → v ≡ w) → Exact P o → Exact P r → r ≡ o
+exact_same P None None one p q = refl
+exact_same P None (Some w) one p q = absurd (p w q)
+exact_same P (Some v) None one p q = absurd (q v p)
+exact_same P (Some v) (Some w) one p q = ap Some (one w v q p)
+
+pub exact_of : {A : Type 0} (P : A → Type 0) (r : Option A) → IfSome r P → IfNone r ((v : A) → P v → ⊥) → Exact P r
+exact_of P None some none = none
+exact_of P (Some v) some none = some
+
+pub both_true : (a b : Bool) → a && b ≡ true → (a ≡ true) × (b ≡ true)
+both_true true true e = (refl, refl)
+both_true true false e = cc
+both_true false b e = cc
+
+pub true_both : (a b : Bool) → a ≡ true → b ≡ true → a && b ≡ true
+true_both true true p q = refl
+true_both true false p q = cc
+true_both false b p q = cc

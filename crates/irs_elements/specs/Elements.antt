@@ -1,0 +1,213 @@
+-- A table of elements, and the rules that a value breaks by it.
+use Rattle.irs_base.specs.Elements.{count}
+use Rattle.irs_base.specs.declared.places.Broken.{Broken}
+use Rattle.irs_base.specs.declared.places.Rule.{Rule}
+use Rattle.irs_base.specs.declared.places.Rule.TheVariants.{K2, K3, K4, K5, K6, K7}
+use Rattle.irs_elements.specs.Leaves.{leaf_rule}
+use Rattle.irs_elements.specs.declared.table.Choice.{Choice}
+use Rattle.irs_elements.specs.declared.table.Choice.TheVariants.{Free, AtMostOne, ExactlyOne, Reference}
+use Rattle.irs_elements.specs.declared.table.Count.{Count}
+use Rattle.irs_elements.specs.declared.table.Count.TheVariants.{One, Maybe, OneTo, UpTo}
+use Rattle.irs_elements.specs.declared.table.Kind.{Kind}
+use Rattle.irs_elements.specs.declared.table.Kind.TheVariants.{Object, Leaf, Passed, Refused}
+use Rattle.irs_elements.specs.declared.table.Row.{Row}
+use Rattle.irs_elements.specs.declared.walk.Unmet.{Unmet}
+use Rattle.irs_elements.specs.declared.walk.Unmet.TheVariants.{Both, Neither}
+use Rattle.irs_json.specs.Carrier.{child_of}
+use Rattle.irs_json.specs.Leaves.{leaf_of, is_attribute}
+use Rattle.irs_json.specs.Names.{names_of}
+use Rattle.irs_json.specs.Values.{items_of}
+use Rattle.serde_json.specs.Data.{Data}
+use Rattle.serde_json.specs.Find.{as_str}
+use Rattle.std.specs.Borrow.{Bor}
+use Rattle.std.specs.List.{list_any, enumerate_from}
+use Rattle.std.specs.Prelude.{map, ◌≡◌, ℕ, Bool, true, false, not, ◌&&◌, ◌||◌, ◌==◌, ◌<◌, ◌≤◌, ◌+◌, List, [], length, Option, Some, None, is_some, is_none, slice_get, codes, if◌then◌else◌, nat_lt}
+use Rattle.std.specs.Str.{bytes_eq}
+
+-- ---- counts
+
+-- whether a member must stand
+abbrev pub is_required : Count → Bool
+is_required One = true
+is_required Maybe = false
+is_required (OneTo n) = true
+is_required (UpTo n) = false
+
+-- how often a member may stand
+abbrev pub most : Count → ℕ
+most One = 1
+most Maybe = 1
+most (OneTo n) = n
+most (UpTo n) = n
+
+-- the index of what stands at a member's j-th place, from 0, in an object with index i
+abbrev pub index_in : Count → ℕ → ℕ → ℕ
+index_in One i j = i
+index_in Maybe i j = i
+index_in (OneTo n) i j = j + 1
+index_in (UpTo n) i j = j + 1
+
+-- the index of a member that is absent from an object with index i
+abbrev pub absent_index : Count → ℕ → ℕ
+absent_index One i = i
+absent_index Maybe i = i
+absent_index (OneTo n) i = 0
+absent_index (UpTo n) i = 0
+
+-- ---- kinds
+
+-- the rule that a value breaks by itself
+abbrev pub own_rule : Kind → Data → Option Rule
+own_rule (Object c) d = if is_some (names_of d) then None else Some K3
+own_rule (Leaf k) d = leaf_rule k (leaf_of d)
+own_rule Passed d = None
+own_rule Refused d = None
+
+-- an element, and neither passed over nor out of the profile
+abbrev pub is_element : Kind → Bool
+is_element (Object c) = true
+is_element (Leaf k) = true
+is_element Passed = false
+is_element Refused = false
+
+abbrev pub is_refused : Kind → Bool
+is_refused (Object c) = false
+is_refused (Leaf k) = false
+is_refused Passed = false
+is_refused Refused = true
+
+-- ---- attributes
+
+-- whether an attribute is there and is no text
+abbrev pub is_odd : Option Data → Bool
+is_odd None = false
+is_odd (Some d) = is_none (as_str d)
+
+-- whether `@id` or `@href` is there and is no text
+abbrev pub has_odd : Data → Bool
+has_odd d = is_odd (child_of (codes "@id") d) || is_odd (child_of (codes "@href") d)
+
+-- whether a reference has no `@href`
+abbrev pub lacks_href : Choice → Data → Bool
+lacks_href Free d = false
+lacks_href (AtMostOne a b) d = false
+lacks_href (ExactlyOne a b) d = false
+lacks_href Reference d = is_none (child_of (codes "@href") d)
+
+-- ---- places
+
+-- the element at a place of the table of paths; a place past its end stands for the document
+abbrev pub elem_of : ℕ → ℕ
+elem_of place = if nat_lt place count then place else 0
+
+abbrev pub elem_in : Option Row → ℕ
+elem_in None = 0
+elem_in (Some row) = elem_of row.1
+
+-- the element at row r; a row past the table stands for the document
+abbrev pub elem_at : List Row → ℕ → ℕ
+elem_at rows r = elem_in (slice_get rows r)
+
+-- a rule that is broken at row r
+abbrev pub place : List Row → ℕ → Rule → ℕ → ℕ → Broken
+place rows stream rule r index = record { rule = rule; place = record { stream = stream; elem = elem_at rows r; index = index } }
+
+-- a broken rule, where the test is true
+abbrev pub fault_if : Bool → Broken → Option Broken
+fault_if b f = if b then Some f else None
+
+-- two of a choice stand too often, which has no index; none is an absence
+abbrev pub unmet_place : List Row → ℕ → ℕ → ℕ → Unmet → Broken
+unmet_place rows stream r i Both = place rows stream K7 r 0
+unmet_place rows stream r i Neither = place rows stream K2 r i
+
+-- ---- names
+
+-- the names behind their references
+abbrev pub texts : List (Bor (List ℕ)) → List (List ℕ)
+texts names = map (λ n. n.now) names
+
+abbrev pub name_in : Option (List ℕ) → List ℕ
+name_in None = []
+name_in (Some name) = name
+
+module _ (names : List (List ℕ)) where
+  -- the name of the row c
+  abbrev pub name_at : ℕ → List ℕ
+  name_at c = name_in (slice_get names c)
+
+  -- whether the member at row c stands in the object d
+  abbrev pub stands : ℕ → Data → Bool
+  stands c d = is_some (child_of (name_at c) d)
+
+  -- how an object fails its choice
+  abbrev pub choice_unmet : Choice → Data → Option Unmet
+  choice_unmet Free d = None
+  choice_unmet Reference d = None
+  choice_unmet (AtMostOne a b) d = if stands a d && stands b d then Some Both else None
+  choice_unmet (ExactlyOne a b) d = if stands a d && stands b d then Some Both else (if stands a d || stands b d then None else Some Neither)
+
+module _ (rows : List Row) (names : List (List ℕ)) where
+  -- whether a row below the object at row r has the name
+  abbrev pub is_known : ℕ → List ℕ → Bool
+  is_known r name = list_any (λ (c, row). row.0 == r && bytes_eq (name_at names c) name) (enumerate_from 0 rows)
+
+  -- a name that is no attribute's and stands in no row
+  abbrev pub is_unknown : ℕ → List ℕ → Bool
+  is_unknown r name = not (is_attribute name || is_known r name)
+
+  -- c is the row of a member of the object at row r
+  pub record IsMember (r c : ℕ) (row : Row) : Type 0 where
+    pub found : slice_get rows c ≡ Some row
+    pub parent : row.0 ≡ r
+    pub later : r < c
+
+module _ (rows : List Row) (names : List (List ℕ)) (stream : ℕ) where
+  -- the rules that an object breaks beside those of its members
+  pub data ShapeFault : ℕ → Choice → ℕ → Data → Broken → Type 0 where
+    -- it has a member that the table doesn't know
+    unknown : (r i : ℕ) (choice : Choice) (d : Data) (ns : List (List ℕ)) → names_of d ≡ Some ns → list_any (is_unknown rows names r) ns ≡ true
+        → ShapeFault r choice i d (place rows stream K4 r i)
+    -- `@id` or `@href` is no text
+    odd : (r i : ℕ) (choice : Choice) (d : Data) → has_odd d ≡ true → ShapeFault r choice i d (place rows stream K3 r i)
+    -- it is a reference without `@href`
+    no_href : (r i : ℕ) (choice : Choice) (d : Data) → lacks_href choice d ≡ true → ShapeFault r choice i d (place rows stream K2 r i)
+    -- both or neither of two members stand
+    unmet : (r i : ℕ) (u : Unmet) (choice : Choice) (d : Data) → choice_unmet names choice d ≡ Some u
+        → ShapeFault r choice i d (unmet_place rows stream r i u)
+
+  mutual
+    -- the rules that a value breaks which stands at row r with index i
+    pub data FaultAt : ℕ → Kind → ℕ → Data → Broken → Type 0 where
+      -- by itself
+      own : (r i : ℕ) (k : Rule) (kind : Kind) (d : Data) → own_rule kind d ≡ Some k → FaultAt r kind i d (place rows stream k r i)
+      -- as an object
+      shape : (r i : ℕ) (choice : Choice) (d : Data) (ns : List (List ℕ)) (f : Broken) → names_of d ≡ Some ns → ShapeFault r choice i d f
+          → FaultAt r (Object choice) i d f
+      -- by a member
+      under : (r i c : ℕ) (choice : Choice) (d : Data) (ns : List (List ℕ)) (f : Broken) (row : Row) → names_of d ≡ Some ns
+          → IsMember rows names r c row → FaultUnder c row i d f → FaultAt r (Object choice) i d f
+
+    -- those of the member at row c of the object d, which has index i
+    pub data FaultUnder : ℕ → Row → ℕ → Data → Broken → Type 0 where
+      -- it must stand, and is absent
+      missing : (c i : ℕ) (row : Row) (d : Data) → is_element row.2 ≡ true → is_required row.3 ≡ true → child_of (name_at names c) d ≡ None
+          → FaultUnder c row i d (place rows stream K2 c (absent_index row.3 i))
+      -- it is out of the profile, and stands
+      refused : (c i : ℕ) (row : Row) (d m : Data) → is_refused row.2 ≡ true → child_of (name_at names c) d ≡ Some m
+          → FaultUnder c row i d (place rows stream K5 row.0 i)
+      -- it stands too often
+      too_many : (c i : ℕ) (row : Row) (d m : Data) → is_element row.2 ≡ true → child_of (name_at names c) d ≡ Some m
+          → most row.3 < length (items_of m) → FaultUnder c row i d (place rows stream K7 c 0)
+      -- it stands as often as it may, and a rule is broken in what stands there
+      inside : (c i j : ℕ) (row : Row) (d m x : Data) (f : Broken) → is_element row.2 ≡ true → child_of (name_at names c) d ≡ Some m
+          → length (items_of m) ≤ most row.3 → slice_get (items_of m) j ≡ Some x → FaultAt c row.2 (index_in row.3 i j) x f
+          → FaultUnder c row i d f
+
+  -- those of the values ds of the member at row c, of which the j-th has the index at j
+  abbrev pub FaultAmong : ℕ → Kind → (ℕ → ℕ) → List Data → Broken → Type 0
+  FaultAmong c kind at ds f = (j : ℕ) × ((x : Data) × ((slice_get ds j ≡ Some x) × FaultAt c kind (at j) x f))
+
+  -- those of the members of the object d at row r
+  abbrev pub MemberFault : ℕ → ℕ → Data → Broken → Type 0
+  MemberFault r i d f = (c : ℕ) × ((row : Row) × (IsMember rows names r c row × FaultUnder c row i d f))

@@ -1,0 +1,85 @@
+-- What the text of a leaf says, and the rule that it breaks where it says nothing.
+use Rattle.irs_base.specs.declared.places.Rule.{Rule}
+use Rattle.irs_base.specs.declared.places.Rule.TheVariants.{K3, K5, K6}
+use Rattle.irs_elements.specs.Codes.{compounding_at, convention_at, day_count_at, day_kind_at, direction_at, offset_unit_at, relative_at, roll_at, stub_kind_at, tenor_unit_at, treatment_at, truth_at, unit_at}
+use Rattle.irs_elements.specs.Dates.{day_at}
+use Rattle.irs_elements.specs.Numbers.{amount_at, multiplier_at, notional_at, offset_at, precision_at, rate_at, whole_at}
+use Rattle.irs_elements.specs.Words.{currency_at, is_center_name, is_index_name}
+use Rattle.irs_elements.specs.declared.table.Leaf.{Leaf as LeafKind}
+use Rattle.irs_elements.specs.declared.table.Leaf.TheVariants.{Date, Multiplier, OffsetDays, Precision, Whole, Notional, Rate, Amount, Truth, CenterName, IndexName, CurrencyName, Convention, PeriodUnit, TenorUnit, OffsetUnit, DayType, StubType, Roll, PayRelative, ResetRelative, DayCount, Compounding, Treatment, Direction}
+use Rattle.irs_json.specs.Leaves.{Leaf, word, whole, truth}
+use Rattle.std.specs.Fmt.{signed_decimal}
+use Rattle.std.specs.List.{list_any}
+use Rattle.std.specs.Prelude.{ℕ, Bool, List, [], ◌∷◌, Option, Some, None, is_some, codes, if◌then◌else◌}
+use Rattle.std.specs.Str.{bytes_eq}
+
+-- the text of a leaf: a whole number's decimal digits, and `true` or `false`
+abbrev pub text_of : Leaf → List ℕ
+text_of (word s) = s
+text_of (whole z) = signed_decimal z
+text_of (truth b) = if b then codes "true" else codes "false"
+
+-- whether the text is in the grammar and the range of its kind
+abbrev pub has_value : LeafKind → List ℕ → Bool
+has_value Date s = is_some (day_at s)
+has_value Multiplier s = is_some (multiplier_at s)
+has_value OffsetDays s = is_some (offset_at s)
+has_value Precision s = is_some (precision_at s)
+has_value Whole s = is_some (whole_at s)
+has_value Notional s = is_some (notional_at s)
+has_value Rate s = is_some (rate_at s)
+has_value Amount s = is_some (amount_at s)
+has_value Truth s = is_some (truth_at s)
+has_value CenterName s = is_center_name s
+has_value IndexName s = is_index_name s
+has_value CurrencyName s = is_some (currency_at s)
+has_value Convention s = is_some (convention_at s)
+has_value PeriodUnit s = is_some (unit_at s)
+has_value TenorUnit s = is_some (tenor_unit_at s)
+has_value OffsetUnit s = is_some (offset_unit_at s)
+has_value DayType s = is_some (day_kind_at s)
+has_value StubType s = is_some (stub_kind_at s)
+has_value Roll s = is_some (roll_at s)
+has_value PayRelative s = is_some (relative_at s)
+has_value ResetRelative s = is_some (relative_at s)
+has_value DayCount s = is_some (day_count_at s)
+has_value Compounding s = is_some (compounding_at s)
+has_value Treatment s = is_some (treatment_at s)
+has_value Direction s = is_some (direction_at s)
+
+-- the texts that are listed as out of the profile
+abbrev pub out_of_profile : LeafKind → List (List ℕ)
+out_of_profile Date = []
+out_of_profile Multiplier = []
+out_of_profile OffsetDays = []
+out_of_profile Precision = []
+out_of_profile Whole = []
+out_of_profile Notional = []
+out_of_profile Rate = []
+out_of_profile Amount = []
+out_of_profile Truth = []
+out_of_profile CenterName = []
+out_of_profile IndexName = []
+out_of_profile CurrencyName = []
+out_of_profile Convention = codes "FRN" ∷ codes "NotApplicable" ∷ []
+out_of_profile PeriodUnit = []
+out_of_profile TenorUnit = []
+out_of_profile OffsetUnit = codes "W" ∷ codes "M" ∷ codes "Y" ∷ []
+out_of_profile DayType = []
+out_of_profile StubType = []
+out_of_profile Roll = codes "FRN" ∷ codes "IMMCAD" ∷ codes "IMMAUD" ∷ codes "IMMNZD" ∷ codes "SFE" ∷ codes "TBILL" ∷ []
+out_of_profile PayRelative = codes "ResetDate" ∷ codes "LastPricingDate" ∷ codes "ValuationDate" ∷ []
+out_of_profile ResetRelative = []
+out_of_profile DayCount = codes "ACT/ACT.ICMA" ∷ codes "ACT/ACT.ISMA" ∷ codes "ACT/ACT.AFB" ∷ codes "ACT/365L" ∷ codes "BUS/252" ∷ []
+out_of_profile Compounding = codes "SpreadExclusive" ∷ []
+out_of_profile Treatment = codes "ZeroInterestRateMethod" ∷ []
+out_of_profile Direction = []
+
+-- a text without a value is out of the profile or outside its grammar
+unfoldable pub text_rule : LeafKind → List ℕ → Option Rule
+text_rule kind s = if has_value kind s then None else (if list_any (bytes_eq s) (out_of_profile kind) then Some K5 else Some K6)
+
+-- the rule that a value breaks at a leaf
+abbrev pub leaf_rule : LeafKind → Option Leaf → Option Rule
+leaf_rule kind None = Some K3
+leaf_rule kind (Some leaf) = text_rule kind (text_of leaf)

@@ -1,0 +1,9 @@
+pub mod Order
+pub mod Decimals
+pub mod Dates
+pub mod Numbers
+pub mod Codes
+pub mod Words
+pub mod Leaves
+pub mod Elements
+pub mod Find

@@ -1,0 +1,49 @@
+-- The numbers of leaves, with their ranges.
+use Rattle.irs_elements.specs.Decimals.{dec_at}
+use Rattle.irs_terms.specs.Lawful.{most_multiplier, most_notional, most_offset, most_rate}
+use Rattle.std.specs.List.{list_all}
+use Rattle.std.specs.Prelude.{ℕ, nat_le, Bool, not, ◌&&◌, ◌||◌, ◌==◌, List, [], ◌∷◌, length, ℤ, pos, neg_ℤ, unsigned_abs, int_le, Option, Some, None, option_map, if◌then◌else◌}
+
+-- the number, where it lies from low to high
+abbrev pub within : ℤ → ℤ → Option ℤ → Option ℤ
+within low high None = None
+within low high (Some z) = if int_le low z && int_le z high then Some z else None
+
+-- a notional: 4 places, 0 to 10^13
+abbrev pub notional_at : List ℕ → Option ℤ
+notional_at s = within (pos 0) (pos most_notional) (dec_at 4 s)
+
+-- a rate, a spread or a multiplier: 9 places, at most 10 in size
+abbrev pub rate_at : List ℕ → Option ℤ
+rate_at s = within (neg_ℤ (pos most_rate)) (pos most_rate) (dec_at 9 s)
+
+-- an amount of cash flows: 12 places
+abbrev pub amount_at : List ℕ → Option ℤ
+amount_at s = dec_at 12 s
+
+-- what stands behind a sign
+abbrev pub digits_of : List ℕ → List ℕ
+digits_of [] = []
+digits_of (c ∷ cs) = if c == 43 || c == 45 then cs else c ∷ cs
+
+abbrev pub has_no_point : List ℕ → Bool
+has_no_point s = list_all (λ b. not (b == 46)) s
+
+abbrev pub is_whole : List ℕ → Bool
+is_whole s = nat_le (length (digits_of s)) 9 && has_no_point s
+
+-- a whole number: a decimal without places and without a point, of at most 9 digits
+abbrev pub whole_at : List ℕ → Option ℤ
+whole_at s = if is_whole s then dec_at 0 s else None
+
+-- the multiplier of a frequency: 1 to 999
+abbrev pub multiplier_at : List ℕ → Option ℕ
+multiplier_at s = option_map unsigned_abs (within (pos 1) (pos most_multiplier) (whole_at s))
+
+-- the days of an offset: -60 to 60
+abbrev pub offset_at : List ℕ → Option ℤ
+offset_at s = within (neg_ℤ (pos most_offset)) (pos most_offset) (whole_at s)
+
+-- the decimals to which a rate is rounded: 0 to 9
+abbrev pub precision_at : List ℕ → Option ℕ
+precision_at s = option_map unsigned_abs (within (pos 0) (pos 9) (whole_at s))

@@ -1,0 +1,139 @@
+//! Dates and numbers: what a text stands for, `None` exactly where it is outside the grammar or the
+//! range of its kind.
+ghost use Rattle.irs_elements.specs.Dates.{day_at};
+ghost use Rattle.irs_elements.specs.Decimals.{dec_at};
+ghost use Rattle.irs_elements.specs.Numbers.{amount_at, digits_of, has_no_point as no_point_of, is_whole as is_whole_of, multiplier_at, notional_at, offset_at, precision_at, rate_at, whole_at, within as within_of};
+ghost use Rattle.std.specs.Prelude.{◌≡◌, ◌≤◌, IfSome, length};
+ghost use Rattle.irs_base.specs.Days.{IsDay};
+
+use irs_base::{Day, read_date, read_dec};
+
+/// A date: `YYYY-MM-DD` of a day in range, with or without a last `Z`.
+pub fn day(text: &[u8]) -> Option<Day>
+    ensures { result ≡ day_at text.now }
+{
+    match read_date(text) {
+        None => None,
+        Some(day) => {
+            let _number = day.number();
+            Some(day)
+        },
+    }
+}
+
+/// A decimal in units of 10^-places.
+pub fn decimal(text: &[u8], places: u8) -> Option<i128>
+    requires { places ≤ 12 }
+    ensures { result ≡ dec_at places text.now }
+{
+    read_dec(text, places)
+}
+
+// The number, where it lies in a range.
+fn within(low: i128, high: i128, n: Option<i128>) -> Option<i128>
+    ensures { result ≡ within_of low high n }
+{
+    match n {
+        None => None,
+        Some(n) => if low <= n && n <= high { Some(n) } else { None },
+    }
+}
+
+/// A notional: a decimal of 4 places from 0 to 10^13.
+pub fn notional(text: &[u8]) -> Option<i128>
+    ensures { result ≡ notional_at text.now }
+{
+    within(0, 100_000_000_000_000_000, decimal(text, 4))
+}
+
+/// A rate, a spread or a multiplier: a decimal of 9 places, at most 10 in size.
+pub fn rate(text: &[u8]) -> Option<i128>
+    ensures { result ≡ rate_at text.now }
+{
+    within(-10_000_000_000, 10_000_000_000, decimal(text, 9))
+}
+
+/// The same in 64 bits.
+pub fn small_rate(text: &[u8]) -> Option<i64>
+    ensures { result ≡ rate_at text.now }
+{
+    match within(-10_000_000_000, 10_000_000_000, decimal(text, 9)) {
+        None => None,
+        Some(n) => Some(n as i64),
+    }
+}
+
+/// An amount of cash flows: a decimal of 12 places.
+pub fn amount(text: &[u8]) -> Option<i128>
+    ensures { result ≡ amount_at text.now }
+{
+    decimal(text, 12)
+}
+
+// How many bytes there are behind a sign.
+fn digits(text: &[u8]) -> usize
+    ensures { result ≡ length (digits_of text.now) }
+{
+    match text {
+        [] => 0,
+        [first, rest @ ..] => if *first == b'+' || *first == b'-' {
+            rest.len()
+        } else {
+            text.len()
+        },
+    }
+}
+
+// Whether the text has no point and at most 9 digits.
+fn is_whole(text: &[u8]) -> bool
+    ensures { result ≡ is_whole_of text.now }
+{
+    digits(text) <= 9 && has_no_point(text)
+}
+
+fn has_no_point(text: &[u8]) -> bool
+    ensures { result ≡ no_point_of text.now }
+{
+    text.iter().all(|b| *b != b'.')
+}
+
+/// A whole number: 1 to 9 digits behind an optional sign.
+pub fn whole(text: &[u8]) -> Option<i128>
+    ensures { result ≡ whole_at text.now }
+{
+    if is_whole(text) {
+        decimal(text, 0)
+    } else {
+        None
+    }
+}
+
+/// `periodMultiplier` of a frequency: 1 to 999.
+pub fn multiplier(text: &[u8]) -> Option<u16>
+    ensures { result ≡ multiplier_at text.now }
+{
+    match within(1, 999, whole(text)) {
+        None => None,
+        Some(n) => Some(n.unsigned_abs() as u16),
+    }
+}
+
+/// `periodMultiplier` of an offset: -60 to 60.
+pub fn offset(text: &[u8]) -> Option<i16>
+    ensures { result ≡ offset_at text.now }
+{
+    match within(-60, 60, whole(text)) {
+        None => None,
+        Some(n) => Some(n as i16),
+    }
+}
+
+/// `precision`: 0 to 9.
+pub fn precision(text: &[u8]) -> Option<u8>
+    ensures { result ≡ precision_at text.now }
+{
+    match within(0, 9, whole(text)) {
+        None => None,
+        Some(n) => Some(n.unsigned_abs() as u8),
+    }
+}

@@ -1,0 +1,40 @@
+//! The order in which broken rules are told, this project's own: the lower stream first, then the
+//! lower rule, then the earlier element, then the lower index.
+ghost use Rattle.irs_elements.specs.Order.{earlier as earlier_of, is_before, is_before_in};
+ghost use Rattle.std.specs.Prelude.{◌≡◌};
+
+use irs_base::Broken;
+
+/// Whether `f` is told before `g`.
+pub fn comes_before(f: &Broken, g: &Broken) -> bool
+    ensures { result ≡ is_before f.now g.now }
+{
+    f.place.stream < g.place.stream || (f.place.stream == g.place.stream && comes_before_in(f, g))
+}
+
+// The order within a stream.
+fn comes_before_in(f: &Broken, g: &Broken) -> bool
+    ensures { result ≡ is_before_in f.now g.now }
+{
+    let (first, second) = (f.rule.number(), g.rule.number());
+    let (here, there) = (f.place.elem.place(), g.place.elem.place());
+    first < second
+        || (first == second && (here < there || (here == there && f.place.index < g.place.index)))
+}
+
+/// The earlier of two answers.
+pub fn earlier(a: Option<Broken>, b: Option<Broken>) -> Option<Broken>
+    ensures { result ≡ earlier_of a b }
+{
+    match a {
+        None => b,
+        Some(f) => match b {
+            None => Some(f),
+            Some(g) => if comes_before(&g, &f) {
+                Some(g)
+            } else {
+                Some(f)
+            },
+        },
+    }
+}

@@ -1,0 +1,101 @@
+//! The rows of a table of elements.
+
+/// What a member of an object is.
+#[derive(Clone, Copy, Debug)]
+pub enum Kind {
+    /// An object, with what its members must be together.
+    Object(Choice),
+    /// A text, a whole number or a truth value.
+    Leaf(Leaf),
+    /// A member that is passed over unread.
+    Passed,
+    /// A member that is out of the profile.
+    Refused,
+}
+
+/// What an object asks of its members together, beside their counts.
+#[derive(Clone, Copy, Debug)]
+pub enum Choice {
+    /// Nothing.
+    Free,
+    /// The members of these two rows don't stand together.
+    AtMostOne(usize, usize),
+    /// Exactly one of the members of these two rows stands.
+    ExactlyOne(usize, usize),
+    /// The object names another by its attribute `@href`.
+    Reference,
+}
+
+/// How often a member stands.
+#[derive(Clone, Copy, Debug)]
+pub enum Count {
+    /// Once.
+    One,
+    /// Once or not at all.
+    Maybe,
+    /// At least once and at most so often; its places count from 1, and give the index of what lies
+    /// below.
+    OneTo(u32),
+    /// At most so often; its places count from 1, and give the index of what lies below.
+    UpTo(u32),
+}
+
+/// A row: the row of its parent, the place of the element in the table of paths, its kind and its
+/// count. A row stands behind its parent's. Of a passed or refused member the place isn't used.
+#[derive(Clone, Copy, Debug)]
+pub struct Row(pub usize, pub u8, pub Kind, pub Count);
+
+/// What the text of a leaf says, with the FpML elements that have such a leaf.
+#[derive(Clone, Copy, Debug)]
+pub enum Leaf {
+    /// A date (FpML `unadjustedDate` and the like).
+    Date,
+    /// `periodMultiplier` of a frequency or a tenor.
+    Multiplier,
+    /// `periodMultiplier` of an offset.
+    OffsetDays,
+    /// `precision`.
+    Precision,
+    /// A whole number without a range (`calculationPeriodNumberOfDays`).
+    Whole,
+    /// A notional.
+    Notional,
+    /// A rate, a spread or a multiplier.
+    Rate,
+    /// An amount or a rate of cash flows.
+    Amount,
+    /// A truth value (`initialExchange` and the like).
+    Truth,
+    /// `businessCenter`.
+    CenterName,
+    /// `floatingRateIndex`.
+    IndexName,
+    /// `currency`.
+    CurrencyName,
+    /// `businessDayConvention`.
+    Convention,
+    /// `period` of a frequency.
+    PeriodUnit,
+    /// `period` of a tenor.
+    TenorUnit,
+    /// `period` of an offset.
+    OffsetUnit,
+    /// `dayType`.
+    DayType,
+    /// `stubPeriodType`.
+    StubType,
+    /// `rollConvention`.
+    Roll,
+    /// `payRelativeTo`.
+    PayRelative,
+    /// `resetRelativeTo`.
+    ResetRelative,
+    /// `dayCountFraction`.
+    DayCount,
+    /// `compoundingMethod`.
+    Compounding,
+    /// `negativeInterestRateTreatment`.
+    Treatment,
+    /// `roundingDirection`.
+    Direction,
+}

@@ -1,0 +1,428 @@
+//! The first broken rule of a value, by a table of elements.
+//!
+//! The walk goes down the table and not down the value: each row's members stand behind it. It keeps
+//! nothing on the way, each step answers the first broken rule of its part.
+ghost use Rattle.irs_elements.specs.Elements.{FaultAmong, FaultAt, FaultUnder, MemberFault, ShapeFault, absent_index as absent_index_of, choice_unmet as choice_unmet_of, elem_at, elem_of, fault_if, has_odd, index_in as index_in_of, is_element as is_element_of, is_known as is_known_in, is_odd as is_odd_of, is_refused as is_refused_of, is_required as is_required_of, is_unknown, lacks_href as lacks_href_of, most as most_of, name_at, own_rule as own_rule_of, place, stands as stands_of, texts, unmet_place};
+ghost use Rattle.irs_elements.specs.Order.{IsFirst};
+ghost use Rattle.irs_json.specs.Carrier.{child_of};
+ghost use Rattle.irs_json.specs.Names.{names_of};
+ghost use Rattle.serde_json.specs.View.{view};
+ghost use Rattle.std.specs.List.{list_any};
+ghost use Rattle.std.specs.Prelude.{◌≡◌, ◌+◌, ◌<◌, ◌^◌, ◌≤◌, Some, length, map, option_map, slice_get};
+
+use crate::leaves::leaf_rule;
+use crate::order::earlier;
+use crate::{Choice, Count, Kind, Row};
+use irs_base::{Broken, Elem, Place, Rule};
+use irs_json::{MemberIter, Value, child, is_attribute_name, items, members};
+
+// How an object fails its choice.
+#[derive(Clone, Copy)]
+enum Unmet {
+    // two members stand together that don't
+    Both,
+    // none of two members stands
+    Neither,
+}
+
+// The element at row r.
+fn element(rows: &[Row], r: usize) -> Elem
+    ensures { result ≡ elem_at rows.now r }
+{
+    match rows.get(r) {
+        None => Elem::DOCUMENT,
+        Some(row) => element_at(row.1),
+    }
+}
+
+// The element at a place of the table of paths.
+fn element_at(place: u8) -> Elem
+    ensures { result ≡ elem_of place }
+{
+    match Elem::at(place) {
+        None => Elem::DOCUMENT,
+        Some(elem) => elem,
+    }
+}
+
+// A rule that is broken at row r.
+fn broken(rows: &[Row], stream: u8, rule: Rule, r: usize, index: u32) -> Broken
+    ensures { result ≡ place rows.now stream rule r index }
+{
+    Broken {
+        rule,
+        place: Place {
+            stream,
+            elem: element(rows, r),
+            index,
+        },
+    }
+}
+
+// The rule that a value breaks by itself.
+fn own_rule(kind: Kind, v: &Value) -> Option<Rule>
+    ensures { result ≡ own_rule_of kind (view v.now) }
+{
+    match kind {
+        Kind::Object(_) => if members(v).is_some() {
+            None
+        } else {
+            Some(Rule::K3)
+        },
+        Kind::Leaf(leaf) => leaf_rule(leaf, v),
+        Kind::Passed => None,
+        Kind::Refused => None,
+    }
+}
+
+fn own_fault(
+    rows: &[Row],
+    stream: u8,
+    kind: Kind,
+    r: usize,
+    index: u32,
+    v: &Value,
+) -> Option<Broken>
+    ensures { result ≡ option_map (λ k. place rows.now stream k r index) (own_rule_of kind (view v.now)) }
+{
+    match own_rule(kind, v) {
+        None => None,
+        Some(rule) => Some(broken(rows, stream, rule, r, index)),
+    }
+}
+
+fn is_element(kind: Kind) -> bool
+    ensures { result ≡ is_element_of kind }
+{
+    match kind {
+        Kind::Object(_) => true,
+        Kind::Leaf(_) => true,
+        Kind::Passed => false,
+        Kind::Refused => false,
+    }
+}
+
+fn is_refused(kind: Kind) -> bool
+    ensures { result ≡ is_refused_of kind }
+{
+    match kind {
+        Kind::Object(_) => false,
+        Kind::Leaf(_) => false,
+        Kind::Passed => false,
+        Kind::Refused => true,
+    }
+}
+
+fn is_required(count: Count) -> bool
+    ensures { result ≡ is_required_of count }
+{
+    match count {
+        Count::One => true,
+        Count::Maybe => false,
+        Count::OneTo(_) => true,
+        Count::UpTo(_) => false,
+    }
+}
+
+fn most(count: Count) -> u32
+    ensures { result ≡ most_of count }
+{
+    match count {
+        Count::One => 1,
+        Count::Maybe => 1,
+        Count::OneTo(n) => n,
+        Count::UpTo(n) => n,
+    }
+}
+
+// The index of what stands at a member's j-th place, from 0.
+fn index_in(count: Count, index: u32, j: u32) -> u32
+    requires { j < most_of count }
+    ensures { result ≡ index_in_of count index j }
+{
+    match count {
+        Count::One => index,
+        Count::Maybe => index,
+        Count::OneTo(_) => j + 1,
+        Count::UpTo(_) => j + 1,
+    }
+}
+
+fn absent_index(count: Count, index: u32) -> u32
+    ensures { result ≡ absent_index_of count index }
+{
+    match count {
+        Count::One => index,
+        Count::Maybe => index,
+        Count::OneTo(_) => 0,
+        Count::UpTo(_) => 0,
+    }
+}
+
+// The name at row c, and the empty name past the table.
+fn name_of(names: &[&'static str], c: usize) -> &'static str
+    ensures { result.now ≡ name_at (texts names.now) c }
+{
+    match names.get(c) {
+        None => "",
+        Some(name) => name,
+    }
+}
+
+fn stands(names: &[&'static str], c: usize, v: &Value) -> bool
+    ensures { result ≡ stands_of (texts names.now) c (view v.now) }
+{
+    child(v, name_of(names, c)).is_some()
+}
+
+// How an object fails its choice.
+fn choice_unmet(names: &[&'static str], choice: Choice, v: &Value) -> Option<Unmet>
+    ensures { result ≡ choice_unmet_of (texts names.now) choice (view v.now) }
+{
+    match choice {
+        Choice::Free => None,
+        Choice::Reference => None,
+        Choice::AtMostOne(a, b) => if stands(names, a, v) && stands(names, b, v) {
+            Some(Unmet::Both)
+        } else {
+            None
+        },
+        Choice::ExactlyOne(a, b) => if stands(names, a, v) && stands(names, b, v) {
+            Some(Unmet::Both)
+        } else if stands(names, a, v) || stands(names, b, v) {
+            None
+        } else {
+            Some(Unmet::Neither)
+        },
+    }
+}
+
+fn choice_fault(
+    rows: &[Row],
+    names: &[&'static str],
+    stream: u8,
+    r: usize,
+    choice: Choice,
+    index: u32,
+    v: &Value,
+) -> Option<Broken>
+    ensures { result ≡ option_map (unmet_place rows.now stream r index) (choice_unmet_of (texts names.now) choice (view v.now)) }
+{
+    match choice_unmet(names, choice, v) {
+        None => None,
+        Some(Unmet::Both) => Some(broken(rows, stream, Rule::K7, r, 0)),
+        Some(Unmet::Neither) => Some(broken(rows, stream, Rule::K2, r, index)),
+    }
+}
+
+// Whether a row below the object at row r has the name.
+fn is_known(rows: &[Row], names: &[&'static str], r: usize, name: &str) -> bool
+    ensures { result ≡ is_known_in rows.now (texts names.now) r name.now }
+{
+    rows.iter()
+        .enumerate()
+        .any(|(c, row)| row.0 == r && name_of(names, c) == name)
+}
+
+// Whether an object at row r has a member that the table doesn't know.
+fn has_unknown(rows: &[Row], names: &[&'static str], r: usize, mut listed: MemberIter<'_>) -> bool
+    ensures { result ≡ list_any (is_unknown rows.now (texts names.now) r) listed.entry }
+{
+    listed.any(|name| !(is_attribute_name(name) || is_known(rows, names, r, name)))
+}
+
+fn unknown_fault(
+    rows: &[Row],
+    names: &[&'static str],
+    stream: u8,
+    r: usize,
+    index: u32,
+    listed: MemberIter<'_>,
+) -> Option<Broken>
+    ensures { result ≡ fault_if (list_any (is_unknown rows.now (texts names.now) r) listed.entry) (place rows.now stream Rule.K4 r index) }
+{
+    if has_unknown(rows, names, r, listed) {
+        Some(broken(rows, stream, Rule::K4, r, index))
+    } else {
+        None
+    }
+}
+
+// Whether an attribute is there and is no text.
+fn is_odd(v: &Value, name: &str) -> bool
+    ensures { result ≡ is_odd_of (child_of name.now (view v.now)) }
+{
+    match child(v, name) {
+        None => false,
+        Some(found) => found.as_str().is_none(),
+    }
+}
+
+fn odd_fault(rows: &[Row], stream: u8, r: usize, index: u32, v: &Value) -> Option<Broken>
+    ensures { result ≡ fault_if (has_odd (view v.now)) (place rows.now stream Rule.K3 r index) }
+{
+    if is_odd(v, "@id") || is_odd(v, "@href") {
+        Some(broken(rows, stream, Rule::K3, r, index))
+    } else {
+        None
+    }
+}
+
+fn lacks_href(choice: Choice, v: &Value) -> bool
+    ensures { result ≡ lacks_href_of choice (view v.now) }
+{
+    match choice {
+        Choice::Free => false,
+        Choice::AtMostOne(_, _) => false,
+        Choice::ExactlyOne(_, _) => false,
+        Choice::Reference => child(v, "@href").is_none(),
+    }
+}
+
+fn href_fault(
+    rows: &[Row],
+    stream: u8,
+    r: usize,
+    choice: Choice,
+    index: u32,
+    v: &Value,
+) -> Option<Broken>
+    ensures { result ≡ fault_if (lacks_href_of choice (view v.now)) (place rows.now stream Rule.K2 r index) }
+{
+    if lacks_href(choice, v) {
+        Some(broken(rows, stream, Rule::K2, r, index))
+    } else {
+        None
+    }
+}
+
+// The first rule that an object breaks beside those of its members.
+fn shape_fault(
+    rows: &[Row],
+    names: &[&'static str],
+    stream: u8,
+    r: usize,
+    choice: Choice,
+    index: u32,
+    v: &Value,
+    listed: MemberIter<'_>,
+) -> Option<Broken>
+    requires { names_of (view v.now) ≡ Some listed }
+    ensures { IsFirst (ShapeFault rows.now (texts names.now) stream r choice index (view v.now)) result }
+{
+    let unknown = unknown_fault(rows, names, stream, r, index, listed);
+    let chosen = choice_fault(rows, names, stream, r, choice, index, v);
+    let odd = odd_fault(rows, stream, r, index, v);
+    let href = href_fault(rows, stream, r, choice, index, v);
+    earlier(earlier(unknown, chosen), earlier(odd, href))
+}
+
+/// The first rule that is broken by `v`, which stands at row `r` of the table with this kind and
+/// index, in the stream of that number; `None` exactly where none is.
+#[cycle(faults)]
+pub fn first_fault(
+    rows: &[Row],
+    names: &[&'static str],
+    stream: u8,
+    r: usize,
+    kind: Kind,
+    index: u32,
+    v: &Value,
+) -> Option<Broken>
+    ensures { IsFirst (FaultAt rows.now (texts names.now) stream r kind index (view v.now)) result }
+{
+    match kind {
+        Kind::Object(choice) => match members(v) {
+            None => own_fault(rows, stream, kind, r, index, v),
+            Some(listed) => {
+                let shape = shape_fault(rows, names, stream, r, choice, index, v, listed);
+                earlier(shape, members_fault(rows, names, stream, r, index, v))
+            }
+        },
+        Kind::Leaf(_) => own_fault(rows, stream, kind, r, index, v),
+        Kind::Passed => None,
+        Kind::Refused => None,
+    }
+}
+
+// The first rule that the members of an object at row r break.
+#[cycle(faults)]
+fn members_fault(
+    rows: &[Row],
+    names: &[&'static str],
+    stream: u8,
+    r: usize,
+    index: u32,
+    v: &Value,
+) -> Option<Broken>
+    ensures { IsFirst (MemberFault rows.now (texts names.now) stream r index (view v.now)) result }
+{
+    let mut first = None;
+    for c in 0..rows.len() {
+        let row = rows[c];
+        if r < c && row.0 == r {
+            first = earlier(first, fault_under(rows, names, stream, c, row, index, v));
+        }
+    }
+    first
+}
+
+// The first rule that the member at row c breaks.
+#[cycle(faults)]
+fn fault_under(
+    rows: &[Row],
+    names: &[&'static str],
+    stream: u8,
+    c: usize,
+    row: Row,
+    index: u32,
+    v: &Value,
+) -> Option<Broken>
+    ensures { IsFirst (FaultUnder rows.now (texts names.now) stream c row index (view v.now)) result }
+{
+    match child(v, name_of(names, c)) {
+        None => if is_element(row.2) && is_required(row.3) {
+            let at = absent_index(row.3, index);
+            Some(broken(rows, stream, Rule::K2, c, at))
+        } else {
+            None
+        },
+        Some(member) => if is_refused(row.2) {
+            Some(broken(rows, stream, Rule::K5, row.0, index))
+        } else if is_element(row.2) {
+            let list = items(member).as_slice();
+            if list.len() > most(row.3) as usize {
+                Some(broken(rows, stream, Rule::K7, c, 0))
+            } else {
+                fault_among(rows, names, stream, c, row, index, list)
+            }
+        } else {
+            None
+        },
+    }
+}
+
+// The first rule that the values of the member at row c break.
+#[cycle(faults)]
+fn fault_among(
+    rows: &[Row],
+    names: &[&'static str],
+    stream: u8,
+    c: usize,
+    row: Row,
+    index: u32,
+    list: &[Value],
+) -> Option<Broken>
+    requires { length list.now ≤ most_of row.3 }
+    ensures { IsFirst (FaultAmong rows.now (texts names.now) stream c row.2 (index_in_of row.3 index) (map view list.now)) result }
+{
+    let mut first = None;
+    for j in 0..list.len() {
+        let at = index_in(row.3, index, j as u32);
+        first = earlier(
+            first,
+            first_fault(rows, names, stream, c, row.2, at, &list[j]),
+        );
+    }
+    first
+}

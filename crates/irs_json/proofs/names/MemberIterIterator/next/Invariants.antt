@@ -1,0 +1,10 @@
+use Rattle.std.proofs.Common.{◌≡◌, length}
+use Rattle.serde_json.specs.View.{members_view}
+use Rattle.irs_json.specs.Names.{names_in}
+use Rattle.irs_json.proofs.names.MemberIterIterator.next.Given as goal
+
+abbrev pub invariant-loop-name : goal.invariant-loop-name
+invariant-loop-name l = names_in (members_view l.self-inside.left) ≡ names_in (members_view l.initial.self-inside.left)
+
+abbrev pub decreases-loop-name : goal.decreases-loop-name
+decreases-loop-name l = length l.self-inside.left

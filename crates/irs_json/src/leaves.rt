@@ -1,0 +1,79 @@
+//! A leaf is a string, a whole number, a truth value, or an object with a member `#text` that is
+//! one of these and otherwise attributes alone. White space at both ends of a leaf is dropped.
+ghost use Rattle.irs_json.specs.Leaves.{bare_leaf, is_attribute, is_beside, leaf_of};
+ghost use Rattle.irs_json.specs.Seen.{leaf_seen};
+ghost use Rattle.serde_json.specs.View.{view};
+ghost use Rattle.std.specs.List.{list_all};
+ghost use Rattle.std.specs.Prelude.{◌≡◌, option_map};
+
+use crate::carrier::child;
+use crate::names::{MemberIter, members};
+use crate::trim::trimmed;
+use serde_json::Value;
+
+/// What a leaf says.
+#[derive(Clone, Copy, Debug, PartialEq, Eq)]
+pub enum LeafValue<'a> {
+    /// A text, without the white space at its ends.
+    Word(&'a str),
+    /// A whole number, of 64 bits.
+    Whole(i128),
+    /// A truth value.
+    Truth(bool),
+}
+
+/// What `v` says as a leaf. `None` exactly where it is no leaf: null, an array, a number with a
+/// fraction or an exponent or past 64 bits, `-0`, an object without `#text`, one with an element
+/// beside it, or one whose `#text` is none of the three.
+pub fn leaf<'a>(v: &'a Value) -> Option<LeafValue<'a>>
+    ensures { option_map leaf_seen result ≡ leaf_of (view v.now) }
+{
+    match members(v) {
+        None => bare(v),
+        Some(names) => if are_beside(names) {
+            match child(v, "#text") {
+                None => None,
+                Some(text) => bare(text),
+            }
+        } else {
+            None
+        },
+    }
+}
+
+// What a value that is no object says.
+fn bare(v: &Value) -> Option<LeafValue<'_>>
+    ensures { option_map leaf_seen result ≡ bare_leaf (view v.now) }
+{
+    match v {
+        Value::Bool(b) => Some(LeafValue::Truth(*b)),
+        Value::Number(n) => if let Some(whole) = n.as_u64() {
+            Some(LeafValue::Whole(whole as i128))
+        } else if let Some(whole) = n.as_i64() {
+            Some(LeafValue::Whole(whole as i128))
+        } else {
+            None
+        },
+        Value::String(text) => Some(LeafValue::Word(trimmed(text.as_str()))),
+        Value::Null => None,
+        Value::Array(_) => None,
+        Value::Object(_) => None,
+    }
+}
+
+// Whether each name is `#text` or an attribute's.
+fn are_beside(mut names: MemberIter<'_>) -> bool
+    ensures { result ≡ list_all is_beside names.entry }
+{
+    names.all(|name| name == "#text" || is_attribute_name(name))
+}
+
+/// Whether the name is that of an attribute: it begins with `@`.
+pub fn is_attribute_name(name: &str) -> bool
+    ensures { result ≡ is_attribute name.now }
+{
+    match name.as_bytes() {
+        [first, ..] => *first == b'@',
+        [] => false,
+    }
+}

@@ -1,0 +1,22 @@
+//! The carrier: FpML elements in a value that `serde_json` read.
+//!
+//! This carrier is this project's own. An element is a member of a JSON object, a repeated element
+//! is an array (or one value where there is one), an attribute is a member whose name begins with
+//! `@`, and a member that is null or an empty array counts as absent.
+#![tactic(auto)]
+
+mod carrier;
+mod leaves;
+mod names;
+mod reading;
+#[cfg(test)]
+mod tests;
+mod trim;
+mod values;
+
+pub use carrier::child;
+pub use leaves::{LeafValue, is_attribute_name, leaf};
+pub use names::{MemberIter, members};
+pub use reading::{JsonErr, parse};
+pub use serde_json::Value;
+pub use values::{ItemIter, items};

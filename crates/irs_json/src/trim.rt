@@ -1,0 +1,67 @@
+//! Text without the white space at its ends: space, tab, LF and CR, and no other byte.
+ghost use Rattle.std.specs.Prelude.{◌≡◌, ◌++◌, ◌∷◌, [], ℕ, List, true, MatchOption};
+ghost use Rattle.irs_json.specs.Trim.{NoSpaceFirst, NoSpaceLast, is_space, trim_front, trim_back, trim as trim_of};
+
+// The text after a first byte of white space.
+fn after_space(text: &str) -> Option<&str>
+    ensures { MatchOption result (NoSpaceFirst text.now) (λ rest. (x : ℕ) × ((text.now ≡ x ∷ rest.now) × (is_space x ≡ true))) }
+{
+    if let Some(rest) = text.strip_prefix(' ') {
+        return Some(rest);
+    }
+    if let Some(rest) = text.strip_prefix('\t') {
+        return Some(rest);
+    }
+    if let Some(rest) = text.strip_prefix('\n') {
+        return Some(rest);
+    }
+    if let Some(rest) = text.strip_prefix('\r') {
+        return Some(rest);
+    }
+    None
+}
+
+// The text before a last byte of white space.
+fn before_space(text: &str) -> Option<&str>
+    ensures { MatchOption result (NoSpaceLast text.now) (λ rest. (x : ℕ) × ((text.now ≡ rest.now ++ x ∷ []) × (is_space x ≡ true))) }
+{
+    if let Some(rest) = text.strip_suffix(' ') {
+        return Some(rest);
+    }
+    if let Some(rest) = text.strip_suffix('\t') {
+        return Some(rest);
+    }
+    if let Some(rest) = text.strip_suffix('\n') {
+        return Some(rest);
+    }
+    if let Some(rest) = text.strip_suffix('\r') {
+        return Some(rest);
+    }
+    None
+}
+
+fn trimmed_front(text: &str) -> &str
+    ensures { result.now ≡ trim_front text.now }
+{
+    let mut left = text;
+    while let Some(rest) = after_space(left) {
+        left = rest;
+    }
+    left
+}
+
+fn trimmed_back(text: &str) -> &str
+    ensures { result.now ≡ trim_back text.now }
+{
+    let mut left = text;
+    while let Some(rest) = before_space(left) {
+        left = rest;
+    }
+    left
+}
+
+pub(crate) fn trimmed(text: &str) -> &str
+    ensures { result.now ≡ trim_of text.now }
+{
+    trimmed_back(trimmed_front(text))
+}

@@ -1,0 +1,9 @@
+pub mod PlaceLemmas
+pub mod Searching
+pub mod FirstFaults
+pub mod NumberLemmas
+pub mod StepLemmas
+pub mod ExchangeLemmas
+pub mod DateLemmas
+pub mod CutLemmas
+pub mod PaymentLemmas

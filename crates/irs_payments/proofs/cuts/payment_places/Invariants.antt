@@ -1,0 +1,5 @@
+use Rattle.irs_payments.specs.Cuts.{AreCuts}
+use Rattle.irs_payments.proofs.cuts.payment_places.Given as goal
+
+abbrev pub invariant-loop-i : goal.invariant-loop-i
+invariant-loop-i l = AreCuts l.s l.boundaries l.i l.places.items

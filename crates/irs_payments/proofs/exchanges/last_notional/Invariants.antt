@@ -1,0 +1,10 @@
+use Rattle.std.proofs.Common.{◌≡◌, drop}
+use Rattle.irs_terms.specs.Lawful.{IsNotional}
+use Rattle.irs_payments.specs.Exchanges.{last_value}
+use Rattle.irs_payments.proofs.exchanges.last_notional.Given as goal
+
+abbrev pub invariant-loop-step : goal.invariant-loop-step
+invariant-loop-step l = record {
+  value : last_value l.value (drop l.step-index l.steps) ≡ last_value l.notional.initial l.notional.steps;
+  range : IsNotional l.value;
+}

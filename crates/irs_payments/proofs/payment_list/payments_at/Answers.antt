@@ -1,0 +1,34 @@
+use Rattle.std.proofs.Common.{◌≡◌, ℕ, arith, length, subst, Option}
+use Rattle.irs_payments.specs.Dating.{Dated, ArePaid}
+use Rattle.irs_payments.proofs.DateLemmas.{dated_more, lacks_more, none_dated}
+use Rattle.irs_payments.proofs.payment_list.payments_at.Goals as goal
+
+pub loop-j-init : goal.loop-j-init
+loop-j-init g c = record {
+  dated = rw c.new-list.ensures (none_dated c.args.s.now (g.G.GoodDays.days c.args.days.now) c.args.unadjusted.now c.args.adjusted.now c.args.places.now c.requires.places);
+  none = λ j low high _. omega (arith, low, high);
+}
+
+pub loop-j-preserved : goal.loop-j-preserved
+loop-j-preserved g c =
+    let s = c.args.s.now in
+    let set = g.G.GoodDays.days c.args.days.now in
+    let b = c.args.unadjusted.now in
+    let a = c.args.adjusted.now in
+    let cuts = c.args.places.now in
+    let settles = (c.in_ok-beyond.ensures {u = tt}).settles in
+    record {
+      dated = dated_more s set b a cuts c.loop-j.j c.requires.places c.loop-j.auto.j c.loop-j-test.true c.payment-payment.result _ _ _ _ c.payment-payment.ensures c.loop-j.invariant.dated settles;
+      none = lacks_more s set b a cuts c.loop-j.j c.requires.places c.loop-j.auto.j c.loop-j-test.true c.payment-payment.result _ _ _ _ c.payment-payment.ensures c.loop-j.invariant.none settles;
+    }
+
+pub returns-in-None-clause-paid : goal.returns-in-None-clause-paid
+returns-in-None-clause-paid g c =
+    let s = c.args.s.now in
+    let set = g.G.GoodDays.days c.args.days.now in
+    let b = c.args.unadjusted.now in
+    let a = c.args.adjusted.now in
+    let cuts = c.args.places.now in
+    let whole : c.loop-j.j ≡ length cuts = omega (arith, c.loop-j.auto.j-end c.requires.some, c.loop-j-test.false) in
+    let dated : ArePaid s set b a cuts c.loop-j.j c.loop-j.list = subst (λ (o : Option ℕ). Dated s set b a cuts c.loop-j.j o c.loop-j.list) c.in-None.is c.loop-j.invariant.dated in
+    subst (λ (k : ℕ). ArePaid s set b a cuts k c.loop-j.list) whole dated

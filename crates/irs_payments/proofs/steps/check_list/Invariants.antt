@@ -1,0 +1,6 @@
+use Rattle.irs_payments.specs.Steps.{IsOff}
+use Rattle.irs_payments.proofs.NumberLemmas.{NoneOf}
+use Rattle.irs_payments.proofs.steps.check_list.Given as goal
+
+abbrev pub invariant-loop-i : goal.invariant-loop-i
+invariant-loop-i l = NoneOf (IsOff l.boundaries) l.steps l.i

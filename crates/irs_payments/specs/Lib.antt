@@ -1,0 +1,13 @@
+pub mod Numbered
+pub mod Frequencies
+pub mod Faults
+pub mod Steps
+pub mod Transfers
+pub mod Exchanges
+pub mod Grouping
+pub mod Cuts
+pub mod Places
+pub mod PaymentDates
+pub mod NoDates
+pub mod Payments
+pub mod Dating

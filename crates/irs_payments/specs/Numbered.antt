@@ -1,0 +1,25 @@
+-- Lists whose members have numbers from 1, and lists that go in pairs.
+use Rattle.std.specs.Prelude.{◌≡◌, ℕ, ◌+◌, ◌-◌, ◌≤◌, List, [], ◌∷◌, Some, slice_get, slice_index_or, ℤ, pos}
+
+-- the day at a place, counted from 0
+abbrev pub day_at : List ℤ → ℕ → ℤ
+day_at days i = slice_index_or days i (pos 0)
+
+-- P holds of each member and its number, the first number being n
+abbrev pub EachNumbered : {X : Type 0} → (ℕ → X → Type 0) → ℕ → List X → Type 0
+EachNumbered P n [] = Unit {0}
+EachNumbered P n (x ∷ xs) = P n x × EachNumbered P (n + 1) xs
+
+-- the lists are as long as each other, and R holds of the members at each place
+abbrev pub Pairs : {X Y : Type 0} → (X → Y → Type 0) → List X → List Y → Type 0
+Pairs R [] [] = Unit {0}
+Pairs R [] (y ∷ ys) = ⊥
+Pairs R (x ∷ xs) [] = ⊥
+Pairs R (x ∷ xs) (y ∷ ys) = R x y × Pairs R xs ys
+
+-- P holds of the member with that number, from 1
+pub record HoldsOf {X : Type 0} (P : X → Type 0) (xs : List X) (number : ℕ) : Type 0 where
+  pub from_one : 1 ≤ number
+  pub member : X
+  pub at : slice_get xs (number - 1) ≡ Some member
+  pub holds : P member

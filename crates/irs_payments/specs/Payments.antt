@@ -1,0 +1,84 @@
+-- The payments of a stream, over the boundaries of its calculation periods and the adjusted ones.
+use Rattle.std.specs.Prelude.{◌≡◌, ◌⊎◌, ◌↔◌, ℕ, ◌+◌, ◌-◌, ◌<◌, ◌≤◌, List, [], ◌∷◌, length, ℤ, ◌≤ℤ◌, ◌<ℤ◌}
+use Rattle.irs_base.specs.Elements.{payment_dates}
+use Rattle.irs_base.specs.declared.places.Rule.TheVariants.{K33, K38}
+use Rattle.irs_base.specs.declared.places.Broken.{Broken}
+use Rattle.irs_terms.specs.declared.codes.Relative.{Relative}
+use Rattle.irs_terms.specs.declared.codes.Relative.TheVariants.{Start, End}
+use Rattle.irs_terms.specs.declared.results.Payment.{Payment}
+use Rattle.irs_terms.specs.declared.stream.Stream.{Stream}
+use Rattle.irs_calendar.specs.GoodDays.{DaySet}
+use Rattle.irs_payments.specs.Faults.{broken_at}
+use Rattle.irs_payments.specs.Numbered.{day_at, EachNumbered}
+use Rattle.irs_payments.specs.Grouping.{PayList, BreaksGrouping}
+use Rattle.irs_payments.specs.PaymentDates.{IsPaymentDate, LacksResult, LeavesRange}
+
+-- the place among the payment boundaries of the unadjusted date of payment j: the payment period's
+-- end, or its start under CalculationPeriodStartDate
+abbrev pub pay_place : Relative → ℕ → ℕ
+pay_place Start j = j - 1
+pay_place End j = j
+
+-- the payment from the first to the last of these periods covers exactly the calculation periods
+-- that end after the payment boundary before it and not after its own; these are one at least
+pub record CoversPeriods (boundaries : List ℤ) (before own : ℤ) (first last : ℕ) : Type 0 where
+  pub from_one : 1 ≤ first
+  pub some : first ≤ last
+  pub to_end : last < length boundaries
+  pub each : (i : ℕ) → 1 ≤ i → i < length boundaries → ((first ≤ i) × (i ≤ last)) ↔ ((before <ℤ day_at boundaries i) × (day_at boundaries i ≤ℤ own))
+
+-- the adjusted boundary at the place of this boundary is the start
+pub record StartsAt (boundaries adjusted : List ℤ) (d start : ℤ) : Type 0 where
+  pub place : ℕ
+  pub within : place < length boundaries
+  pub at : day_at boundaries place ≡ d
+  pub is : day_at adjusted place ≡ start
+
+-- p is payment j
+pub record IsPayment (s : Stream) (set : DaySet) (boundaries adjusted pay : List ℤ) (j : ℕ) (p : Payment) : Type 0 where
+  pub covers : CoversPeriods boundaries (day_at pay (j - 1)) (day_at pay j) p.first_period p.last_period
+  pub unadjusted : p.unadjusted ≡ day_at pay (pay_place s.pay.relative j)
+  pub start : ℤ
+  pub starts : StartsAt boundaries adjusted p.unadjusted start
+  pub date : IsPaymentDate s.pay set start p.adjusted
+
+-- the payments of the stream, one for each payment boundary after the effective date
+pub record ArePayments (s : Stream) (set : DaySet) (boundaries adjusted : List ℤ) (payments : List Payment) : Type 0 where
+  pub pay : List ℤ
+  pub listed : PayList s boundaries pay
+  pub count : length payments + 1 ≡ length pay
+  pub each : EachNumbered (IsPayment s set boundaries adjusted pay) 1 payments
+
+-- the payments cover the periods from `next` to `last`, one behind the other, each at least one
+abbrev pub Covers : ℕ → List Payment → ℕ → Type 0
+Covers next [] last = next ≡ last + 1
+Covers next (p ∷ ps) last = (p.first_period ≡ next) × (p.first_period ≤ p.last_period) × Covers (p.last_period + 1) ps last
+
+-- the date of payment j is to be worked out from this start
+pub record PaysFrom (s : Stream) (boundaries adjusted : List ℤ) (j : ℕ) (start : ℤ) : Type 0 where
+  pub pay : List ℤ
+  pub listed : PayList s boundaries pay
+  pub from_one : 1 ≤ j
+  pub within : j < length pay
+  pub starts : StartsAt boundaries adjusted (day_at pay (pay_place s.pay.relative j)) start
+
+-- the date of payment j lacks a result
+pub record IsLacking (s : Stream) (set : DaySet) (boundaries adjusted : List ℤ) (j : ℕ) : Type 0 where
+  pub start : ℤ
+  pub pays : PaysFrom s boundaries adjusted j start
+  pub lacks : LacksResult s.pay set start
+
+-- the date of payment j leaves the range of dates
+pub record IsLeaving (s : Stream) (set : DaySet) (boundaries adjusted : List ℤ) (j : ℕ) : Type 0 where
+  pub start : ℤ
+  pub pays : PaysFrom s boundaries adjusted j start
+  pub leaves : LeavesRange s.pay set start
+
+-- K33 or K38 of a payment date is broken; the index is the payment's number
+pub record BreaksDates (s : Stream) (set : DaySet) (boundaries adjusted : List ℤ) (x : Broken) : Type 0 where
+  pub number : ℕ
+  pub breaks : (IsLacking s set boundaries adjusted number × (x ≡ broken_at K33 payment_dates number)) ⊎ (IsLeaving s set boundaries adjusted number × (x ≡ broken_at K38 payment_dates number))
+
+-- the rules that the payments of a stream break: K35, K33 and K38
+abbrev pub BreaksPayments : Stream → DaySet → List ℤ → List ℤ → Broken → Type 0
+BreaksPayments s set boundaries adjusted x = BreaksGrouping s boundaries x ⊎ BreaksDates s set boundaries adjusted x

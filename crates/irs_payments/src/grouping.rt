@@ -1,0 +1,171 @@
+//! How payments group calculation periods (FpML `paymentFrequency`, `firstPaymentDate`,
+//! `lastRegularPaymentDate`): a payment is due at each boundary of calculation periods that is on
+//! the grid of the payment frequency, and at the termination date.
+//!
+//! The anchor of that grid is a rule of this project's own: the first payment date where it is
+//! given; else the end of the first calculation period where there is a payment for each period;
+//! else the effective date. The anchor need not be a roll day.
+ghost use Rattle.std.specs.Prelude.{◌≡◌, ◌↔◌, ◌<◌, ◌≤◌, ℤ, ◌<ℤ◌, ◌≤ℤ◌, IsTrue, IfSome, IfOk, IfErr, Option, length};
+ghost use Rattle.irs_base.specs.Listed.{Member, IsRising};
+ghost use Rattle.irs_base.specs.declared.places.Broken.{Broken};
+ghost use Rattle.irs_terms.specs.Lawful.{IsLawfulStream, IsLawfulFrequency, IsLawfulRoll};
+ghost use Rattle.irs_roll.specs.Rolls.{OnGrid};
+ghost use Rattle.irs_payments.specs.Faults.{IsFirst};
+ghost use Rattle.irs_payments.specs.Frequencies.{days_in, months_in, same_length};
+ghost use Rattle.irs_payments.specs.Grouping.{pay_anchor, IsRegularPay, EndsPayment, IsBadFirst, IsBadLast, BreaksGrouping};
+
+use crate::faults::broken;
+use crate::steps::has_day;
+use irs_base::{Broken, Day, Elem, Rule};
+use irs_roll::on_grid_of;
+use irs_terms::{Frequency, RollCode, Stream, Unit};
+
+// The days of days or weeks.
+fn days_in(freq: Frequency) -> u32
+    ensures { result ≡ days_in freq.unit freq.count }
+{
+    let count = u32::from(freq.count);
+    match freq.unit {
+        Unit::D => count,
+        Unit::W => 7 * count,
+        Unit::M | Unit::Y | Unit::T => 0,
+    }
+}
+
+// The months of months or years.
+fn months_in(freq: Frequency) -> u32
+    ensures { result ≡ months_in freq.unit freq.count }
+{
+    let count = u32::from(freq.count);
+    match freq.unit {
+        Unit::M => count,
+        Unit::Y => 12 * count,
+        Unit::D | Unit::W | Unit::T => 0,
+    }
+}
+
+// Whether both frequencies are as long.
+fn is_same_length(a: Frequency, b: Frequency) -> bool
+    ensures { result ≡ same_length a b }
+{
+    days_in(a) == days_in(b) && months_in(a) == months_in(b)
+}
+
+/// The anchor of the payment grid.
+pub fn payment_anchor(s: &Stream, boundaries: &[Day]) -> Day
+    requires { 1 < length boundaries.now }
+    ensures { result ≡ pay_anchor s.now boundaries.now }
+{
+    match s.pay.first {
+        Some(first) => first,
+        None => if is_same_length(s.pay.freq, s.freq) {
+            boundaries[1]
+        } else {
+            s.first_day()
+        },
+    }
+}
+
+// Whether the day is on the grid; the term has none.
+fn is_on_grid(freq: Frequency, roll: RollCode, anchor: Day, d: Day) -> bool
+    requires freq { IsLawfulFrequency freq }
+    requires roll { IsLawfulRoll roll }
+    ensures { IsTrue result ↔ OnGrid freq roll anchor d }
+{
+    match freq.unit {
+        Unit::D | Unit::W | Unit::M | Unit::Y => on_grid_of(freq, roll, anchor, d),
+        Unit::T => false,
+    }
+}
+
+// Not before the first payment date.
+fn is_from(first: Option<Day>, d: Day) -> bool
+    ensures { IsTrue result ↔ IfSome first (λ f. f ≤ℤ d) }
+{
+    match first {
+        Some(f) => f <= d,
+        None => true,
+    }
+}
+
+// Not after the last regular payment date.
+fn is_to(last: Option<Day>, d: Day) -> bool
+    ensures { IsTrue result ↔ IfSome last (λ l. d ≤ℤ l) }
+{
+    match last {
+        Some(l) => d <= l,
+        None => true,
+    }
+}
+
+fn is_regular(s: &Stream, anchor: Day, d: Day) -> bool
+    requires { IsLawfulStream s.now }
+    ensures { IsTrue result ↔ IsRegularPay s.now anchor d }
+{
+    is_from(s.pay.first, d) && is_to(s.pay.last, d) && is_on_grid(s.pay.freq, s.roll, anchor, d)
+}
+
+/// Whether a payment period ends at this boundary.
+pub fn ends_payment(s: &Stream, anchor: Day, d: Day) -> bool
+    requires { IsLawfulStream s.now }
+    ensures { IsTrue result ↔ EndsPayment s.now anchor d }
+{
+    d == s.termination.day || is_regular(s, anchor, d)
+}
+
+fn is_boundary_after(s: &Stream, boundaries: &[Day], d: Day) -> bool
+    requires { IsRising boundaries.now }
+    ensures { IsTrue result ↔ (Member d boundaries.now × (s.now.effective.day <ℤ d)) }
+{
+    has_day(boundaries, d) && s.first_day() < d
+}
+
+fn is_grid_boundary(s: &Stream, boundaries: &[Day], d: Day) -> bool
+    requires lawful { IsLawfulStream s.now }
+    requires rising { IsRising boundaries.now }
+    requires some { 1 < length boundaries.now }
+    ensures { IsTrue result ↔ (Member d boundaries.now × OnGrid s.now.pay.freq s.now.roll (pay_anchor s.now boundaries.now) d) }
+{
+    has_day(boundaries, d) && is_on_grid(s.pay.freq, s.roll, payment_anchor(s, boundaries), d)
+}
+
+fn is_bad_first(s: &Stream, boundaries: &[Day]) -> bool
+    requires { IsRising boundaries.now }
+    ensures { IsTrue result ↔ IsBadFirst s.now boundaries.now }
+{
+    match s.pay.first {
+        Some(first) => !is_boundary_after(s, boundaries, first),
+        None => false,
+    }
+}
+
+fn is_bad_last(s: &Stream, boundaries: &[Day]) -> bool
+    requires lawful { IsLawfulStream s.now }
+    requires rising { IsRising boundaries.now }
+    requires some { 1 < length boundaries.now }
+    ensures { IsTrue result ↔ IsBadLast s.now boundaries.now }
+{
+    match s.pay.last {
+        Some(last) => last != s.termination.day && !is_grid_boundary(s, boundaries, last),
+        None => false,
+    }
+}
+
+/// The first of the given payment dates that breaks K35: `firstPaymentDate` where it is no boundary
+/// after the effective date, then `lastRegularPaymentDate` where it isn't the termination date and
+/// no boundary on the payment grid.
+pub fn check_grouping(s: &Stream, boundaries: &[Day]) -> Result<(), Broken>
+    requires lawful { IsLawfulStream s.now }
+    requires rising { IsRising boundaries.now }
+    requires some { 1 < length boundaries.now }
+    ensures none { IfOk result (λ _. (x : Broken) → BreaksGrouping s.now boundaries.now x → ⊥) }
+    ensures first { IfErr result (IsFirst (BreaksGrouping s.now boundaries.now)) }
+{
+    if is_bad_first(s, boundaries) {
+        return Err(broken(Rule::K35, Elem::FIRST_PAYMENT_DATE, 0));
+    }
+    if is_bad_last(s, boundaries) {
+        return Err(broken(Rule::K35, Elem::LAST_REGULAR_PAYMENT_DATE, 0));
+    }
+    Ok(())
+}

@@ -1,0 +1,70 @@
+-- Grids of months, for any one day that each month has.
+use Rattle.std.proofs.Common.{◌≡◌, ℕ, ◌*◌, ◌<◌, ◌≤◌, arith, refl, sym, ◌∙◌, ap, subst, FitsSigned, w32, w64, ℤ, pos, ◌+ℤ◌, ◌-ℤ◌, ◌*ℤ◌, ◌≤ℤ◌, ◌<ℤ◌}
+use Rattle.jiff_core.proofs.SignedLemmas.{signed_arith}
+use Rattle.irs_base.specs.Days.{IsDay}
+use Rattle.irs_base.specs.Months.{InMonth, dim, month_start}
+use Rattle.irs_base.proofs.MonthLemmas.{month_start-later, same_month, month_range}
+use Rattle.irs_roll.specs.Grids.{IsMultiple, OnMonthsFrom, OnMonths, OnRollDay, kth}
+
+module _ (day : ℤ → ℤ) (stays : (m : ℤ) → InMonth (day m) m) where
+  pub roll_rises : (j k : ℤ) → j <ℤ k → day j <ℤ day k
+  roll_rises j k below =
+      let a = stays j in
+      let b = stays k in
+      omega (arith, signed_arith, a.to, b.from, month_start-later j k below)
+
+  roll_range : (m : ℤ) → IsDay (day m) → (pos 22_812 ≤ℤ m) × (m ≤ℤ pos 26_399)
+  roll_range m r = month_range m (day m) r (stays m)
+
+  pub roll_far_steps : (s : ℕ) (a k : ℤ) → FitsSigned w32 a → (FitsSigned w64 (k *ℤ pos s) → ⊥) → IsDay (day (kth a s k)) → ⊥
+  roll_far_steps s a k here wide r = wide (omega (arith, signed_arith, here, roll_range (kth a s k) r))
+
+  pub roll_far : (m : ℤ) → (FitsSigned w64 m → ⊥) → IsDay (day m) → ⊥
+  roll_far m wide r = wide (omega (arith, signed_arith, roll_range m r))
+
+-- the month that lies a number of steps from the start
+pub kth_month : (s : ℕ) (start month k : ℤ) → month -ℤ start ≡ k *ℤ pos s → kth start s k ≡ month
+kth_month s start month k apart = omega (arith, signed_arith, apart)
+
+module _ (rolls : ℤ → ℤ → Type 0) (day : ℤ → ℤ) (is : (m : ℤ) → rolls m (day m)) (only : (m d : ℤ) → rolls m d → d ≡ day m) (stays : (m : ℤ) → InMonth (day m) m) where
+  pub from_kth : (step : ℕ) (start k : ℤ) → OnMonthsFrom rolls step start (day (kth start step k))
+  from_kth step start k = record {
+    month = kth start step k;
+    of_day = stays (kth start step k);
+    rolls = is (kth start step k);
+    apart = record { times = k; is = omega (arith, signed_arith) };
+  }
+
+  pub roll_is_on : (step : ℕ) (anchor start k : ℤ) → InMonth anchor start → OnMonths rolls step anchor (day (kth start step k))
+  roll_is_on step anchor start k begins = record { start = start; of_anchor = begins; on = from_kth step start k }
+
+  -- the anchor has one month
+  pub from_start : (step : ℕ) (anchor start d : ℤ) → InMonth anchor start → OnMonths rolls step anchor d → OnMonthsFrom rolls step start d
+  from_start step anchor start d begins h =
+      let same = same_month anchor h.start start h.of_anchor begins in
+      subst (λ (s : ℤ). OnMonthsFrom rolls step s d) same h.on
+
+  pub kth-from : (step : ℕ) (start d : ℤ) → OnMonthsFrom rolls step start d → (k : ℤ) × (day (kth start step k) ≡ d)
+  kth-from step start d h = (h.apart.times, ap day (kth_month step start h.month h.apart.times h.apart.is) ∙ sym (only h.month d h.rolls))
+
+  pub roll_misses_none : (step : ℕ) (anchor start d : ℤ) → InMonth anchor start → OnMonths rolls step anchor d → (k : ℤ) × (day (kth start step k) ≡ d)
+  roll_misses_none step anchor start d begins h = kth-from step start d (from_start step anchor start d begins h)
+
+  pub roll_at : (s : ℕ) (start month d k : ℤ) → month -ℤ start ≡ k *ℤ pos s → day month ≡ d → day (kth start s k) ≡ d
+  roll_at s start month d k apart rolled = ap day (kth_month s start month k apart) ∙ rolled
+
+  -- a day on the grid is the roll day of the month in which it lies
+  pub rolls_on : (s : ℕ) (start d month : ℤ) → InMonth d month → OnMonthsFrom rolls s start d → day month ≡ d
+  rolls_on s start d month here h = ap day (same_month d month h.month here h.of_day) ∙ sym (only h.month d h.rolls)
+
+  pub roll_off_range : (s : ℕ) (start d month : ℤ) → InMonth d month → IsDay d → (IsDay (day month) → ⊥) → OnMonthsFrom rolls s start d → ⊥
+  roll_off_range s start d month here in_range out h = out (subst IsDay (sym (rolls_on s start d month here h)) in_range)
+
+  pub roll_off_steps : (s : ℕ) (start d month : ℤ) → InMonth d month → (IsMultiple s (month -ℤ start) → ⊥) → OnMonthsFrom rolls s start d → ⊥
+  roll_off_steps s start d month here out h =
+      let same = same_month d month h.month here h.of_day in
+      out (subst (λ (m : ℤ). IsMultiple s (m -ℤ start)) (sym same) h.apart)
+
+-- the roll day of a month is the roll day of every month in which it lies
+pub rolls_in : (rolls : ℤ → ℤ → Type 0) (d m : ℤ) → OnRollDay rolls d → InMonth d m → rolls m d
+rolls_in rolls d m h here = subst (λ (k : ℤ). rolls k d) (same_month d h.month m h.of_day here) h.rolls

@@ -1,0 +1,87 @@
+-- The grid that a frequency and a roll convention give from an anchor (FpML
+-- calculationPeriodFrequency, paymentFrequency, rollConvention).
+use Rattle.std.specs.Prelude.{◌≡◌, ℕ, ◌*◌, ◌≤◌, ℤ}
+use Rattle.irs_base.specs.Days.{weekday_at}
+use Rattle.irs_base.specs.Months.{InMonth}
+use Rattle.irs_base.specs.Civils.{place_in_week}
+use Rattle.irs_terms.specs.declared.codes.RollCode.{RollCode}
+use Rattle.irs_terms.specs.declared.codes.RollCode.TheVariants.{Eom, Dom, Imm, OnWeekday, NoRoll}
+use Rattle.irs_terms.specs.declared.frequency.Frequency.{Frequency}
+use Rattle.irs_terms.specs.declared.frequency.Unit.{Unit as FrequencyUnit}
+use Rattle.irs_terms.specs.declared.frequency.Unit.TheVariants.{D, W, M, Y, T}
+use Rattle.irs_roll.specs.RollDays.{IsLastDay, IsNumbered, IsThirdWednesday}
+use Rattle.irs_roll.specs.Grids.{OnDays, OnMonths, OnRollDay}
+
+-- the day is the roll day of the month: the last day, the day with the number or the last day where
+-- the month is shorter, or the third Wednesday; no other roll gives a month a roll day
+abbrev pub IsRollDay : RollCode → ℤ → ℤ → Type 0
+IsRollDay Eom month d = IsLastDay month d
+IsRollDay (Dom number) month d = IsNumbered number month d
+IsRollDay Imm month d = IsThirdWednesday month d
+IsRollDay (OnWeekday name) month d = ⊥
+IsRollDay NoRoll month d = ⊥
+
+-- the day is on the grid of so many units from the anchor; the term has no grid
+abbrev pub OnGridBy : FrequencyUnit → ℕ → RollCode → ℤ → ℤ → Type 0
+OnGridBy D count roll anchor d = OnDays count anchor d
+OnGridBy W count roll anchor d = OnDays (7 * count) anchor d
+OnGridBy M count roll anchor d = OnMonths (IsRollDay roll) count anchor d
+OnGridBy Y count roll anchor d = OnMonths (IsRollDay roll) (12 * count) anchor d
+OnGridBy T count roll anchor d = ⊥
+
+-- the day is on the grid of the frequency and the roll from the anchor, whether or not the roll fits the anchor
+abbrev pub OnGrid : Frequency → RollCode → ℤ → ℤ → Type 0
+OnGrid freq roll anchor d = OnGridBy freq.unit freq.count roll anchor d
+
+-- the anchor falls on the weekday of the roll; without a roll every day fits
+abbrev pub FitsWeek : RollCode → ℤ → Type 0
+FitsWeek Eom anchor = ⊥
+FitsWeek (Dom number) anchor = ⊥
+FitsWeek Imm anchor = ⊥
+FitsWeek (OnWeekday name) anchor = place_in_week name ≡ weekday_at anchor
+FitsWeek NoRoll anchor = Unit {0}
+
+-- in days every anchor fits; in weeks one on the weekday of the roll; in months and years one that
+-- is the roll day of its month; the term asks for nothing
+abbrev pub FitsBy : FrequencyUnit → RollCode → ℤ → Type 0
+FitsBy D roll anchor = Unit {0}
+FitsBy W roll anchor = FitsWeek roll anchor
+FitsBy M roll anchor = OnRollDay (IsRollDay roll) anchor
+FitsBy Y roll anchor = OnRollDay (IsRollDay roll) anchor
+FitsBy T roll anchor = Unit {0}
+
+-- the roll fits the anchor
+abbrev pub Fits : RollCode → Frequency → ℤ → Type 0
+Fits roll freq anchor = FitsBy freq.unit roll anchor
+
+-- a roll for months: the last day, a day number from 1 to 30, or the third Wednesday
+abbrev pub RollsMonths : RollCode → Type 0
+RollsMonths Eom = Unit {0}
+RollsMonths (Dom number) = (1 ≤ number) × (number ≤ 30)
+RollsMonths Imm = Unit {0}
+RollsMonths (OnWeekday name) = ⊥
+RollsMonths NoRoll = ⊥
+
+-- a roll for weeks: a weekday, or none
+abbrev pub RollsWeeks : RollCode → Type 0
+RollsWeeks Eom = ⊥
+RollsWeeks (Dom number) = ⊥
+RollsWeeks Imm = ⊥
+RollsWeeks (OnWeekday name) = Unit {0}
+RollsWeeks NoRoll = Unit {0}
+
+-- months and years ask for a roll of months, weeks for one of weeks, days for none, and the term for nothing
+abbrev pub SuitsBy : FrequencyUnit → RollCode → Type 0
+SuitsBy D roll = roll ≡ NoRoll
+SuitsBy W roll = RollsWeeks roll
+SuitsBy M roll = RollsMonths roll
+SuitsBy Y roll = RollsMonths roll
+SuitsBy T roll = Unit {0}
+
+-- the frequency and the roll suit each other
+abbrev pub Suits : Frequency → RollCode → Type 0
+Suits freq roll = SuitsBy freq.unit roll
+
+-- the frequency is the whole term
+abbrev pub IsTerm : Frequency → Type 0
+IsTerm freq = freq.unit ≡ T

@@ -1,0 +1,138 @@
+//! Whether a roll suits a frequency and fits an anchor, and whether a day is on the grid of any
+//! anchor. Which rolls suit which frequency is FpML's `rollConvention`; that NONE fits every day is
+//! this project's own.
+ghost use Rattle.std.specs.Prelude.{◌≡◌, ◌↔◌, ◌<◌, ℤ, IsTrue};
+ghost use Rattle.irs_terms.specs.Lawful.{IsLawfulRoll};
+ghost use Rattle.irs_roll.specs.Grids.{OnDays, OnMonths, OnRollDay};
+ghost use Rattle.irs_roll.specs.Rolls.{Fits, FitsWeek, IsRollDay, IsTerm, OnGrid, RollsMonths, RollsWeeks, Suits};
+
+use crate::month_grid::steps_to;
+use crate::rolls::{DayNumber, EndOfMonth, Imm, Roll};
+use crate::steps::whole_steps;
+use irs_base::{Day, month_index, weekday};
+use irs_terms::{Frequency, RollCode, Unit};
+
+/// Whether the roll suits the frequency: months and years roll on EOM, IMM or a day number from 1
+/// to 30, weeks on a weekday or NONE, days on NONE; nothing is asked of the roll of the term.
+pub fn suits(freq: Frequency, roll: RollCode) -> bool
+    ensures { IsTrue result ↔ Suits freq roll }
+{
+    match freq.unit {
+        Unit::D => roll == RollCode::NoRoll,
+        Unit::W => rolls_weeks(roll),
+        Unit::M | Unit::Y => rolls_months(roll),
+        Unit::T => true,
+    }
+}
+
+fn rolls_weeks(roll: RollCode) -> bool
+    ensures { IsTrue result ↔ RollsWeeks roll }
+{
+    match roll {
+        RollCode::OnWeekday(_) | RollCode::NoRoll => true,
+        RollCode::Eom | RollCode::Dom(_) | RollCode::Imm => false,
+    }
+}
+
+fn rolls_months(roll: RollCode) -> bool
+    ensures { IsTrue result ↔ RollsMonths roll }
+{
+    match roll {
+        RollCode::Eom | RollCode::Imm => true,
+        RollCode::Dom(number) => 1 <= number && number <= 30,
+        RollCode::OnWeekday(_) | RollCode::NoRoll => false,
+    }
+}
+
+/// Whether the roll fits the anchor: in months and years the anchor is the roll day of its month,
+/// in weeks it falls on the weekday of the roll, and with NONE every day fits. The conditions are
+/// that the frequency isn't the term and that the roll suits it.
+pub fn fits(roll: RollCode, freq: Frequency, anchor: Day) -> bool
+    requires term { ¬ (IsTerm freq) }
+    requires suits { Suits freq roll }
+    ensures { IsTrue result ↔ Fits roll freq anchor }
+{
+    match freq.unit {
+        Unit::D => true,
+        Unit::W => fits_week(roll, anchor),
+        Unit::M | Unit::Y => fits_month(roll, anchor),
+        Unit::T => unreachable!(),
+    }
+}
+
+fn fits_week(roll: RollCode, anchor: Day) -> bool
+    ensures { IsTrue result ↔ FitsWeek roll anchor }
+{
+    match roll {
+        RollCode::OnWeekday(name) => weekday(anchor) == name,
+        RollCode::NoRoll => true,
+        RollCode::Eom | RollCode::Dom(_) | RollCode::Imm => false,
+    }
+}
+
+fn fits_month(roll: RollCode, anchor: Day) -> bool
+    requires { RollsMonths roll }
+    ensures { IsTrue result ↔ OnRollDay (IsRollDay roll) anchor }
+{
+    match roll {
+        RollCode::Eom => is_roll_day(&EndOfMonth, anchor),
+        RollCode::Dom(number) => is_roll_day(&DayNumber::new(number), anchor),
+        RollCode::Imm => is_roll_day(&Imm, anchor),
+        RollCode::OnWeekday(_) | RollCode::NoRoll => unreachable!(),
+    }
+}
+
+fn is_roll_day<R: Roll>(roll: &R, d: Day) -> bool
+    ensures { IsTrue result ↔ OnRollDay (R.rolls roll.now) d }
+{
+    let Some(rolled) = roll.day_in(i64::from(month_index(d))) else {
+        return false;
+    };
+    rolled == d
+}
+
+/// Whether the day is on the grid of the frequency and the roll from the anchor, for every anchor
+/// and every lawful roll: the roll need neither fit the anchor nor suit the frequency. The
+/// conditions are that the frequency isn't the term and that its multiplier is at least 1.
+pub fn on_grid_of(freq: Frequency, roll: RollCode, anchor: Day, d: Day) -> bool
+    requires term { ¬ (IsTerm freq) }
+    requires step { 0 < freq.count }
+    requires roll { IsLawfulRoll roll }
+    ensures { IsTrue result ↔ OnGrid freq roll anchor d }
+{
+    let count = u32::from(freq.count);
+    match freq.unit {
+        Unit::D => on_days(count, anchor, d),
+        Unit::W => on_days(7 * count, anchor, d),
+        Unit::M => on_roll_days(roll, count, anchor, d),
+        Unit::Y => on_roll_days(roll, 12 * count, anchor, d),
+        Unit::T => unreachable!(),
+    }
+}
+
+fn on_days(days: u32, anchor: Day, d: Day) -> bool
+    requires { 0 < days }
+    ensures { IsTrue result ↔ OnDays days anchor d }
+{
+    whole_steps(i64::from(d.number() - anchor.number()), days).is_some()
+}
+
+fn on_roll_days(roll: RollCode, months: u32, anchor: Day, d: Day) -> bool
+    requires step { 0 < months }
+    requires roll { IsLawfulRoll roll }
+    ensures { IsTrue result ↔ OnMonths (IsRollDay roll) months anchor d }
+{
+    match roll {
+        RollCode::Eom => on_months(&EndOfMonth, months, anchor, d),
+        RollCode::Dom(number) => on_months(&DayNumber::new(number), months, anchor, d),
+        RollCode::Imm => on_months(&Imm, months, anchor, d),
+        RollCode::OnWeekday(_) | RollCode::NoRoll => false,
+    }
+}
+
+fn on_months<R: Roll>(roll: &R, months: u32, anchor: Day, d: Day) -> bool
+    requires { 0 < months }
+    ensures { IsTrue result ↔ OnMonths (R.rolls roll.now) months anchor d }
+{
+    steps_to(roll, months, month_index(anchor), d).is_some()
+}

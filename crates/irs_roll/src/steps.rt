@@ -1,0 +1,19 @@
+//! Whole steps: how often a step goes into a distance, days before the anchor included.
+ghost use Rattle.std.specs.Prelude.{◌≡◌, ◌<◌, ℤ, pos, neg_ℤ, ◌*ℤ◌, IfSome, IfNone};
+ghost use Rattle.jiff_core.specs.Calendar.{IsBetween};
+ghost use Rattle.irs_roll.specs.Grids.{IsMultiple};
+
+/// How many steps lie in `apart`; `None` exactly where it is no whole multiple of the step.
+pub fn whole_steps(apart: i64, step: u32) -> Option<i64>
+    requires step { 0 < step }
+    requires near { IsBetween (neg_ℤ (pos 1_099_511_627_776)) (pos 1_099_511_627_776) apart }
+    ensures some { IfSome result (λ k. apart ≡ k *ℤ pos step) }
+    ensures none { IfNone result (IsMultiple step apart → ⊥) }
+{
+    let step = i64::from(step);
+    let steps = apart.div_euclid(step);
+    if steps * step != apart {
+        return None;
+    }
+    Some(steps)
+}

@@ -1,0 +1,10 @@
+pub mod PartLemmas
+pub mod WalkLemmas
+pub mod TextLemmas
+pub mod PlaceLemmas
+pub mod PaymentLemmas
+pub mod CountLemmas
+pub mod GridDays
+pub mod Assembled
+pub mod AmountLemmas
+pub mod PlainLemmas

@@ -1,0 +1,12 @@
+pub mod Parts
+pub mod InForce
+pub mod KeptTerms
+pub mod Views
+pub mod Keeping
+pub mod RowsOf
+pub mod RowTexts
+pub mod WalkLists
+pub mod Walks
+pub mod AllWalks
+pub mod Boundaries
+pub mod Plain

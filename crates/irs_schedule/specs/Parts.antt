@@ -1,0 +1,91 @@
+-- What is seen of a schedule: a list of parts, one a stream, and the bounds that each part keeps.
+use Rattle.std.specs.Prelude.{IfSome, unsigned_abs, ◌≡◌, ℕ, ◌+◌, ◌*◌, ◌^◌, ◌<◌, ◌≤◌, List, [], ◌∷◌, length, Bool, slice_index_or, if◌then◌else◌, ℤ, pos, ◌<ℤ◌, ◌≤ℤ◌}
+use Rattle.irs_base.specs.declared.line.Dec.{Dec}
+use Rattle.irs_terms.specs.Currencies.{decimals_of}
+use Rattle.irs_terms.specs.declared.currency.Currency.{Currency}
+use Rattle.irs_terms.specs.declared.codes.DayCountCode.{DayCountCode}
+use Rattle.irs_terms.specs.declared.results.Exchange.{Exchange}
+use Rattle.irs_terms.specs.declared.results.Reset.{Reset}
+use Rattle.irs_daycount.specs.Fractions.{denominator_of}
+use Rattle.irs_schedule.specs.declared.entries.PaymentEntry.{PaymentEntry}
+use Rattle.irs_schedule.specs.declared.entries.PeriodEntry.{PeriodEntry}
+
+-- one stream: period i goes from boundary i - 1 to boundary i, reset i is that of period i
+pub record Part : Type 0 where
+  pub currency : Currency
+  pub day_count : DayCountCode
+  pub floating : Bool
+  pub unadjusted : List ℤ
+  pub adjusted : List ℤ
+  pub exchanges : List Exchange
+  pub payments : List PaymentEntry
+  pub periods : List PeriodEntry
+  pub resets : List Reset
+
+-- P holds of each member
+abbrev pub Every : {X : Type 0} → (X → Type 0) → List X → Type 0
+Every P [] = Unit {0}
+Every P (x ∷ xs) = P x × Every P xs
+
+-- the day at a place of a list, from 0
+abbrev pub day_at : List ℤ → ℕ → ℤ
+day_at xs i = slice_index_or xs i (pos 0)
+
+-- each member is after the one before it
+abbrev pub RisesFrom : ℤ → List ℤ → Type 0
+RisesFrom d [] = Unit {0}
+RisesFrom d (x ∷ xs) = (d <ℤ x) × RisesFrom x xs
+
+abbrev pub Rises : List ℤ → Type 0
+Rises [] = Unit {0}
+Rises (x ∷ xs) = RisesFrom x xs
+
+-- the payments cover the periods from this one to the last, in order: each begins behind the one before it
+abbrev pub Covers : ℕ → List PaymentEntry → ℕ → Type 0
+Covers next [] last = next ≡ last + 1
+Covers next (p ∷ ps) last = (p.first_period ≡ next) × (p.first_period ≤ p.last_period) × Covers (p.last_period + 1) ps last
+
+-- an amount of a currency: its decimals, at most 10^14 currency units in size
+pub record IsAmount (currency : Currency) (v : Dec) : Type 0 where
+  pub places : v.places ≡ decimals_of currency.letters
+  pub size : unsigned_abs v.units ≤ 10 ^ 14 * 10 ^ v.places
+
+abbrev pub HasAmount : Currency → PaymentEntry → Type 0
+HasAmount currency y = IfSome y.amount (IsAmount currency)
+
+-- a notional: 0 to 10^13 in units of 10^-4
+abbrev pub IsNotional : ℤ → Type 0
+IsNotional n = (pos 0 ≤ℤ n) × (n ≤ℤ pos 100_000_000_000_000_000)
+
+-- a rate of the terms, an observed one among them: at most 10 in size, in units of 10^-9
+abbrev pub IsRate : ℤ → Type 0
+IsRate r = unsigned_abs r ≤ 10_000_000_000
+
+-- a period within the limits of amounts
+pub record IsEntry (code : DayCountCode) (e : PeriodEntry) : Type 0 where
+  pub notional : IsNotional e.notional
+  pub numerator : (pos 0 ≤ℤ e.frac.num) × (e.frac.num ≤ℤ pos 40_000_000)
+  pub denominator : e.frac.den ≡ denominator_of code
+  pub rate : IfSome e.rate (λ r. unsigned_abs r ≤ 110_000_000_000)
+
+-- what every part keeps
+pub record KeepsBounds (p : Part) : Type 0 where
+  pub some : 0 < length p.periods
+  pub few : length p.periods ≤ 4000
+  pub unadjusted : length p.unadjusted ≡ length p.periods + 1
+  pub adjusted : length p.adjusted ≡ length p.periods + 1
+  pub rises : Rises p.unadjusted
+  pub adjusted_rises : Rises p.adjusted
+  pub covers : Covers 1 p.payments (length p.periods)
+  pub exchanges : length p.exchanges ≤ 4002
+  pub exchanged : Every (λ x. IsAmount p.currency x.amount) p.exchanges
+  pub paid : Every (HasAmount p.currency) p.payments
+  pub entries : Every (IsEntry p.day_count) p.periods
+  pub resets : length p.resets ≡ (if p.floating then length p.periods else 0)
+  pub observed : Every (λ r. IfSome r.observed IsRate) p.resets
+
+-- what every schedule keeps
+pub record IsWithin (parts : List Part) : Type 0 where
+  pub some : 0 < length parts
+  pub few : length parts ≤ 8
+  pub each : Every KeepsBounds parts

@@ -1,0 +1,235 @@
+//! One stream of a schedule. Its boundaries, payments, exchanges and resets are kept; days, fraction,
+//! notional and rate of a period are worked out when they are asked for.
+ghost use Rattle.std.specs.Prelude.{◌≡◌, ℕ, ◌+◌, ◌-◌, ◌<◌, ◌≤◌, ℤ, List, length, pos, ◌-ℤ◌, ◌<ℤ◌, ◌≤ℤ◌, unsigned_abs};
+ghost use Rattle.irs_schedule.specs.Parts.{day_at};
+
+use crate::in_force::{rate_in_force, value_in_force};
+use crate::kept_terms::KeptTerms;
+use crate::{PaymentEntry, PeriodEntry, Row};
+use irs_base::{Day, DayList};
+use irs_daycount::{days_by, fraction_by};
+use irs_terms::{Exchange, Exchanges, Reset, Resets};
+use std::marker::Model;
+
+/// One stream of a schedule.
+#[derive(Drop)]
+pub(crate) struct StreamPart {
+    terms: KeptTerms,
+    unadjusted: DayList,
+    adjusted: DayList,
+    exchanges: Exchanges,
+    payments: Vec<PaymentEntry>,
+    resets: Resets,
+}
+
+// Clauses see the list of its periods, as if they were kept.
+impl Model for StreamPart {
+    ghost use Rattle.irs_schedule.specs.Parts.{Part};
+
+    ghost Value = { Part };
+
+    ghost use Rattle.irs_schedule.specs.Views.{part_of};
+    ghost use Rattle.irs_schedule.specs.Keeping.{IsKept};
+
+    ghost view = { part_of };
+
+    ghost invariant = { IsKept };
+}
+
+ghost use Rattle.std.specs.Prelude.{Bool, true, false, IsTrue, IsFalse, IfSome, Some, [], slice_index_or};
+ghost use Rattle.irs_terms.specs.declared.results.Exchange.{Exchange};
+ghost use Rattle.irs_terms.specs.declared.results.Reset.{Reset};
+ghost use Rattle.irs_daycount.specs.Fractions.{days_of, fraction_of};
+ghost use Rattle.irs_schedule.specs.InForce.{value_after};
+ghost use Rattle.irs_schedule.specs.KeptTerms.{EveryValue};
+ghost use Rattle.irs_schedule.specs.Parts.{KeepsBounds, Rises, Covers, Every, HasAmount, IsAmount, IsNotional, IsRate};
+ghost use Rattle.irs_schedule.specs.RowsOf.{no_period, no_reset, period_row, reset_row, stream_row};
+
+impl StreamPart {
+    /// A stream of these parts, which lie within the limits.
+    pub(crate) fn new(
+        terms: KeptTerms,
+        unadjusted: DayList,
+        adjusted: DayList,
+        exchanges: Exchanges,
+        payments: Vec<PaymentEntry>,
+        resets: Resets,
+    ) -> StreamPart
+        requires notional { EveryValue IsNotional terms.notional }
+        requires rate { EveryValue IsRate terms.rate }
+        requires some { 2 ≤ length unadjusted }
+        requires few { length unadjusted ≤ 4001 }
+        requires same_count { length adjusted ≡ length unadjusted }
+        requires rises { Rises unadjusted }
+        requires adjusted_rises { Rises adjusted }
+        requires exchanges_few { length exchanges ≤ 4002 }
+        requires exchanged { Every (λ x. IsAmount terms.currency x.amount) exchanges }
+        requires covers { Covers 1 payments.items (length unadjusted - 1) }
+        requires paid { Every (HasAmount terms.currency) payments.items }
+        requires resets_count { length resets ≡ (if terms.floating then length unadjusted - 1 else 0) }
+        requires observed { Every (λ r. IfSome r.observed IsRate) resets }
+        ensures currency { result.currency ≡ terms.currency }
+        ensures day_count { result.day_count ≡ terms.day_count }
+        ensures floating { result.floating ≡ terms.floating }
+        ensures unadjusted { result.unadjusted ≡ unadjusted }
+        ensures adjusted { result.adjusted ≡ adjusted }
+        ensures exchanges { result.exchanges ≡ exchanges }
+        ensures payments { result.payments ≡ payments.items }
+        ensures resets { result.resets ≡ resets }
+        ensures bounds { KeepsBounds result }
+    {
+        let _days = adjusted.as_slice();
+        StreamPart {
+            terms,
+            unadjusted,
+            adjusted,
+            exchanges,
+            payments,
+            resets,
+        }
+    }
+
+    /// How many periods it has.
+    pub(crate) fn periods(&self) -> usize
+        ensures count { result ≡ length self.now.periods }
+        ensures bounds { KeepsBounds self.now }
+    {
+        self.adjusted.len() - 1
+    }
+
+    pub(crate) fn is_floating(&self) -> bool
+        ensures { result ≡ self.now.floating }
+    {
+        self.terms.floating
+    }
+
+    pub(crate) fn exchanges(&self) -> &[Exchange]
+        ensures value { result.now ≡ self.now.exchanges }
+        ensures bounds { KeepsBounds self.now }
+    {
+        self.exchanges.as_slice()
+    }
+
+    pub(crate) fn payments(&self) -> &[PaymentEntry]
+        ensures value { result.now ≡ self.now.payments }
+        ensures bounds { KeepsBounds self.now }
+    {
+        &self.payments
+    }
+
+    /// Days, fraction, notional and rate of a period, counted from 1.
+    pub(crate) fn entry(&self, number: u32) -> PeriodEntry
+        requires low { 0 < number }
+        requires high { number ≤ length self.now.periods }
+        ensures { result ≡ slice_index_or self.now.periods (number - 1) no_period }
+    {
+        let end = number as usize;
+        let start = day_at(self.unadjusted.as_slice(), end - 1);
+        entry_of(
+            &self.terms,
+            day_at(self.adjusted.as_slice(), end - 1),
+            day_at(self.adjusted.as_slice(), end),
+            end == self.adjusted.len() - 1,
+            start,
+            rate_for(&self.terms, self.resets.as_slice(), end - 1, start),
+        )
+    }
+
+    /// The row that begins it.
+    pub(crate) fn stream_row(&self, stream: u8) -> Row
+        ensures { result ≡ stream_row stream self.now }
+    {
+        Row::Stream {
+            stream,
+            currency: self.terms.currency,
+            day_count: self.terms.day_count,
+            floating: self.terms.floating,
+        }
+    }
+
+    /// The row of a period, counted from 1.
+    pub(crate) fn period_row(&self, stream: u8, number: u32) -> Row
+        requires low { 0 < number }
+        requires high { number ≤ length self.now.periods }
+        ensures { result ≡ period_row stream self.now number }
+    {
+        let end = number as usize;
+        let entry = self.entry(number);
+        Row::Period {
+            stream,
+            number,
+            start: day_at(self.unadjusted.as_slice(), end - 1),
+            end: day_at(self.unadjusted.as_slice(), end),
+            adjusted_start: day_at(self.adjusted.as_slice(), end - 1),
+            adjusted_end: day_at(self.adjusted.as_slice(), end),
+            days: entry.days,
+            frac: entry.frac,
+            notional: entry.notional,
+            rate: entry.rate,
+        }
+    }
+
+    /// The row of the reset of a period, counted from 1.
+    pub(crate) fn reset_row(&self, stream: u8, number: u32) -> Row
+        requires floating { IsTrue self.now.floating }
+        requires low { 0 < number }
+        requires high { number ≤ length self.now.periods }
+        ensures { result ≡ reset_row stream self.now number }
+    {
+        let entry = self.resets.as_slice()[number as usize - 1];
+        Row::Reset {
+            stream,
+            number,
+            reset: entry.reset,
+            fixing: entry.fixing,
+            observed: entry.observed,
+        }
+    }
+}
+
+fn day_at(days: &[Day], i: usize) -> Day
+    requires { i < length days.now }
+    ensures { result ≡ day_at days.now i }
+{
+    days[i]
+}
+
+// A period by its adjusted days, by whether it is the last one, by its unadjusted start and its rate.
+fn entry_of(
+    terms: &KeptTerms,
+    from: Day,
+    to: Day,
+    last: bool,
+    start: Day,
+    rate: Option<i64>,
+) -> PeriodEntry
+    requires { from <ℤ to }
+    ensures { result ≡ record { days = days_of terms.now.day_count from to last; frac = fraction_of terms.now.day_count from to last; notional = value_after terms.now.notional.initial terms.now.notional.steps start; rate = rate } }
+{
+    PeriodEntry {
+        days: days_by(terms.day_count, from, to, last),
+        frac: fraction_by(terms.day_count, from, to, last),
+        notional: value_in_force(&terms.notional, start),
+        rate,
+    }
+}
+
+// The rate of a period, by the place of its reset and by its unadjusted start.
+fn rate_for(terms: &KeptTerms, resets: &[Reset], place: usize, start: Day) -> Option<i64>
+    requires { EveryValue IsRate terms.now.rate }
+    ensures { result ≡ (if terms.now.floating then option_and_then (λ r. r.observed) (slice_get resets.now place) else Some (value_after terms.now.rate.initial terms.now.rate.steps start)) }
+{
+    if terms.floating {
+        observed_at(resets, place)
+    } else {
+        Some(rate_in_force(&terms.rate, start))
+    }
+}
+
+fn observed_at(resets: &[Reset], i: usize) -> Option<i64>
+    ensures { result ≡ option_and_then (λ r. r.observed) (slice_get resets.now i) }
+{
+    resets.get(i)?.observed
+}
+
+ghost use Rattle.std.specs.Prelude.{option_and_then, slice_get, if◌then◌else◌};
