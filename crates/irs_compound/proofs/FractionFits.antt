@@ -1,0 +1,27 @@
+-- The fraction of a period whose days are in range is one of a payment.
+use Rattle.std.proofs.Common.{◌≡◌, ℤ, pos, ◌≤ℤ◌, arith, sym, subst}
+use Rattle.jiff_core.proofs.SignedLemmas.{signed_arith}
+use Rattle.irs_base.specs.Days.{IsDay}
+use Rattle.irs_terms.specs.declared.results.Frac.{Frac}
+use Rattle.irs_terms.specs.declared.codes.DayCountCode.{DayCountCode}
+use Rattle.irs_terms.specs.declared.codes.DayCountCode.TheVariants.{OneOne, ActActIsda, Act365Fixed, Act360, Thirty360, ThirtyE360, ThirtyE360Isda}
+use Rattle.irs_daycount.specs.Actual.{act_act_denominator}
+use Rattle.irs_daycount.specs.Fractions.{IsNumerator, denominator_of}
+use Rattle.irs_compound.specs.Amounts.{IsFraction}
+
+abbrev IsDenominator : ℤ → Type 0
+IsDenominator d = (pos 1 ≤ℤ d) × (d ≤ℤ pos act_act_denominator)
+
+denominators : (code : DayCountCode) → IsDenominator (denominator_of code)
+denominators OneOne = (omega (arith, signed_arith), omega (arith, signed_arith))
+denominators ActActIsda = (omega (arith, signed_arith), omega (arith, signed_arith))
+denominators Act365Fixed = (omega (arith, signed_arith), omega (arith, signed_arith))
+denominators Act360 = (omega (arith, signed_arith), omega (arith, signed_arith))
+denominators Thirty360 = (omega (arith, signed_arith), omega (arith, signed_arith))
+denominators ThirtyE360 = (omega (arith, signed_arith), omega (arith, signed_arith))
+denominators ThirtyE360Isda = (omega (arith, signed_arith), omega (arith, signed_arith))
+
+pub fraction_fits : (code : DayCountCode) (s e : ℤ) (f : Frac) → IsDay s → IsDay e → IsNumerator s e f.num → f.den ≡ denominator_of code → IsFraction f
+fraction_fits code s e f a b n is =
+    let d : IsDenominator f.den = subst IsDenominator (sym is) (denominators code) in
+    (n.0, omega (arith, signed_arith, n.1, a, b), d.0, d.1)

@@ -1,0 +1,4 @@
+pub mod Sizes
+pub mod StepLemmas
+pub mod BalanceLemmas
+pub mod FractionFits

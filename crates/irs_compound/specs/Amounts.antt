@@ -1,0 +1,161 @@
+-- Amounts of the periods of a payment, and of the payment: the 2006 ISDA Definitions, articles 5 and 6. Notionals are in units of 10^-4, rates in units of 10^-9.
+use Rattle.std.specs.Prelude.{◌≡◌, ℕ, ℤ, pos, ◌+◌, ◌-◌, ◌*◌, ◌^◌, ◌<◌, ◌≤◌, ◌+ℤ◌, ◌*ℤ◌, ◌≤ℤ◌, unsigned_abs, List, [], ◌∷◌, ◌++◌, length, All, IsSome, IsSomeAnd, Option, Some, None, slice_get, take}
+use Rattle.irs_base.specs.Rounding.{Rounded}
+use Rattle.irs_base.specs.declared.rounding.Direction.TheVariants.{Nearest}
+use Rattle.irs_terms.specs.Lawful.{IsNotional, IsRate}
+use Rattle.irs_terms.specs.declared.results.Frac.{Frac}
+use Rattle.irs_terms.specs.declared.codes.CompCode.{CompCode}
+use Rattle.irs_terms.specs.declared.codes.CompCode.TheVariants.{Simple, Straight, Flat}
+use Rattle.irs_daycount.specs.Actual.{act_act_denominator}
+use Rattle.irs_compound.specs.declared.periods.Rates.{Rates}
+use Rattle.irs_compound.specs.declared.periods.PeriodTerm.{PeriodTerm}
+use Rattle.irs_compound.specs.declared.periods.Parts.{Parts}
+
+-- no numerator is greater: the range of dates has 109,207 days, and 366 times that is 39,969,762
+abbrev pub most_numerator : ℕ
+most_numerator = 4 * 10 ^ 7
+
+-- the most periods of a payment
+abbrev pub most_periods : ℕ
+most_periods = 4000
+
+-- 10^14 units of currency, in units of 10^-6
+abbrev pub most_amount : ℕ
+most_amount = 10 ^ 20
+
+-- 10^14 units of currency, in units of 10^-13
+abbrev pub most_exact : ℕ
+most_exact = 10 ^ 27
+
+-- the most decimals of a currency
+abbrev pub most_places : ℕ
+most_places = 3
+
+-- a fraction of a day count: its numerator and its denominator lie in the range of the seven codes
+abbrev pub IsFraction : Frac → Type 0
+IsFraction f = (pos 0 ≤ℤ f.num) × (f.num ≤ℤ pos most_numerator) × (pos 1 ≤ℤ f.den) × (f.den ≤ℤ pos act_act_denominator)
+
+-- a period of a payment whose fractions have this denominator
+abbrev pub IsTerm : ℤ → PeriodTerm → Type 0
+IsTerm den p = IsNotional p.notional × IsFraction p.frac × (p.frac.den ≡ den)
+
+-- the denominator of the first period
+abbrev pub denominator : List PeriodTerm → ℤ
+denominator [] = pos 1
+denominator (p ∷ ps) = p.frac.den
+
+-- the periods of one payment: at least one, and all with one denominator
+abbrev pub IsPayment : List PeriodTerm → Type 0
+IsPayment ps = (1 ≤ length ps) × (length ps ≤ most_periods) × All (IsTerm (denominator ps)) ps
+
+-- each period has its rates
+abbrev pub AllPriced : List PeriodTerm → Type 0
+AllPriced ps = All (λ p. IsSome p.rates) ps
+
+-- some period has none
+abbrev pub SomeUnpriced : List PeriodTerm → Type 0
+SomeUnpriced ps = (i : ℕ) × (p : PeriodTerm) × (slice_get ps i ≡ Some p) × (p.rates ≡ None)
+
+-- what a balance earns in a period at a rate, to the nearest unit of the balance
+abbrev pub Interest : ℤ → ℤ → Frac → ℤ → Type 0
+Interest balance rate frac c = Rounded Nearest (balance *ℤ rate *ℤ frac.num) (frac.den *ℤ pos (10 ^ 9)) c
+
+-- the amount of a period
+abbrev pub amount : Parts → ℤ
+amount c = c.main +ℤ c.extra
+
+-- the sum of the amounts of periods
+abbrev pub total : List Parts → ℤ
+total [] = pos 0
+total (c ∷ cs) = amount c +ℤ total cs
+
+-- what of the amount of a period bears interest in later periods: without compounding nothing, else all of it
+abbrev pub kept_of : CompCode → Parts → ℤ
+kept_of Simple c = pos 0
+kept_of Straight c = amount c
+kept_of Flat c = amount c
+
+-- the sum of what bears interest later
+abbrev pub kept : CompCode → List Parts → ℤ
+kept code [] = pos 0
+kept code (c ∷ cs) = kept_of code c +ℤ kept code cs
+
+-- the parts of a period, where `before` is what the earlier periods of the payment left to bear interest.
+-- Without compounding: notional times rate times fraction, exact, in units of 10^-13 over the denominator.
+-- Straight: the notional and all earlier amounts at the rate. Flat: the basic amount is the notional at the rate,
+-- the additional one all earlier basic and additional amounts at the base rate. All to the nearest unit of 10^-6.
+abbrev pub StandsAt : CompCode → PeriodTerm → Rates → ℤ → Parts → Type 0
+StandsAt Simple p r before c = (c.main ≡ p.notional *ℤ r.all_in *ℤ p.frac.num) × (c.extra ≡ pos 0)
+StandsAt Straight p r before c = Interest (pos 100 *ℤ p.notional +ℤ before) r.all_in p.frac c.main × (c.extra ≡ pos 0)
+StandsAt Flat p r before c = Interest (pos 100 *ℤ p.notional) r.all_in p.frac c.main × Interest before r.base p.frac c.extra
+
+-- the parts of a period whose rates are there, behind those of all earlier periods of the payment
+abbrev pub Stands : CompCode → PeriodTerm → List Parts → Parts → Type 0
+Stands code p earlier c = IsSomeAnd p.rates (λ r. StandsAt code p r (kept code earlier) c)
+
+-- each of the parts stands with its period and with the parts of all periods before it
+abbrev pub FollowsFrom : CompCode → List Parts → List PeriodTerm → List Parts → Type 0
+FollowsFrom code earlier [] [] = Unit {0}
+FollowsFrom code earlier [] (c ∷ cs) = ⊥
+FollowsFrom code earlier (p ∷ ps) [] = ⊥
+FollowsFrom code earlier (p ∷ ps) (c ∷ cs) = Stands code p earlier c × FollowsFrom code (earlier ++ c ∷ []) ps cs
+
+-- the list of parts of a payment's periods
+abbrev pub Follows : CompCode → List PeriodTerm → List Parts → Type 0
+Follows code ps cs = FollowsFrom code [] ps cs
+
+-- the rates are at most 10 in size
+abbrev pub RatesWithin : Rates → Type 0
+RatesWithin r = IsRate r.base × IsRate r.all_in
+
+-- neither a part nor one of the sums is above 10^14 units of currency in size; the two parts of a period together may be
+abbrev pub PartsWithin : Parts → ℤ → ℤ → Type 0
+PartsWithin c sum kept_sum = (unsigned_abs c.main ≤ most_amount) × (unsigned_abs c.extra ≤ most_amount) × (unsigned_abs sum ≤ most_amount) × (unsigned_abs kept_sum ≤ most_amount)
+
+-- the amounts through a period: without compounding their exact sum alone is bounded; with straight and flat compounding
+-- all of the sum bears interest later, and the two sums are one
+abbrev pub SumsWithin : CompCode → PeriodTerm → Parts → ℤ → ℤ → Type 0
+SumsWithin Simple p c sum kept_sum = unsigned_abs sum ≤ most_exact * unsigned_abs p.frac.den
+SumsWithin Straight p c sum kept_sum = PartsWithin c sum kept_sum
+SumsWithin Flat p c sum kept_sum = PartsWithin c sum kept_sum
+
+-- a period leaves the range neither by its rates nor by its amounts
+abbrev pub Within : CompCode → PeriodTerm → Parts → ℤ → ℤ → Type 0
+Within code p c sum kept_sum = IsSomeAnd p.rates RatesWithin × SumsWithin code p c sum kept_sum
+
+-- the period at index i leaves the range
+pub record Passes (code : CompCode) (ps : List PeriodTerm) (i : ℕ) : Type 0 where
+  pub earlier : List Parts
+  pub period : PeriodTerm
+  pub parts : Parts
+  pub there : slice_get ps i ≡ Some period
+  pub follows : Follows code (take i ps) earlier
+  pub stands : Stands code period earlier parts
+  pub passes : Within code period parts (total earlier +ℤ amount parts) (kept code earlier +ℤ kept_of code parts) → ⊥
+
+-- the first such position, counted from 1
+abbrev pub PassesFirst : CompCode → List PeriodTerm → ℕ → Type 0
+PassesFirst code ps n = (1 ≤ n) × Passes code ps (n - 1) × ((j : ℕ) → j + 1 < n → Passes code ps j → ⊥)
+
+-- a sum rounded to the decimals of the currency, in units of 10^-places
+abbrev pub RoundedAt : CompCode → ℤ → ℤ → ℕ → ℤ → Type 0
+RoundedAt Simple den sum places m = Rounded Nearest sum (den *ℤ pos (10 ^ (13 - places))) m
+RoundedAt Straight den sum places m = Rounded Nearest sum (pos (10 ^ (6 - places))) m
+RoundedAt Flat den sum places m = Rounded Nearest sum (pos (10 ^ (6 - places))) m
+
+-- m is what the periods pay: the sum of all their amounts, rounded once
+pub record Pays (code : CompCode) (ps : List PeriodTerm) (places : ℕ) (m : ℤ) : Type 0 where
+  pub parts : List Parts
+  pub follows : Follows code ps parts
+  pub rounds : RoundedAt code (denominator ps) (total parts) places m
+
+-- one period is never compounded
+abbrev pub code_for : CompCode → List PeriodTerm → CompCode
+code_for code [] = code
+code_for code (p ∷ []) = Simple
+code_for code (p ∷ q ∷ ps) = code
+
+-- the amount of a payment: absent where the rates of a period are
+abbrev pub AmountOf : CompCode → List PeriodTerm → ℕ → Option ℤ → Type 0
+AmountOf code ps places None = SomeUnpriced ps
+AmountOf code ps places (Some m) = AllPriced ps × Pays (code_for code ps) ps places m

@@ -1,0 +1,9 @@
+pub mod InForce
+pub mod InForceLaws
+pub mod PeriodRates
+pub mod RateLaws
+pub mod Amounts
+pub mod Balances
+pub mod Tens
+pub mod PartsLaws
+pub mod AmountLaws

@@ -1,0 +1,47 @@
+-- The rates of a period.
+use Rattle.std.specs.Prelude.{◌≡◌, ◌-◌, ◌^◌, ℤ, pos, ◌+ℤ◌, ◌*ℤ◌}
+use Rattle.irs_base.specs.Rounding.{Rounded, rounded}
+use Rattle.irs_terms.specs.declared.amounts.Rounding.{Rounding}
+use Rattle.irs_terms.specs.declared.amounts.FloatTerms.{FloatTerms}
+use Rattle.irs_terms.specs.declared.step_list.StepValues.{StepValues}
+use Rattle.irs_compound.specs.declared.periods.Rates.{Rates}
+use Rattle.irs_compound.specs.InForce.{InForce, value_in_force}
+
+-- an exact rate in units of 10^-18, rounded once to its places, in units of 10^-9
+pub record RateAt (rounding : Rounding) (exact rate : ℤ) : Type 0 where
+  pub whole : ℤ
+  pub rounds : Rounded rounding.dir exact (pos (10 ^ (18 - rounding.places))) whole
+  pub scales : rate ≡ whole *ℤ pos (10 ^ (9 - rounding.places))
+
+-- multiplier and spread in force on the period's unadjusted start, and the observed rate, give the rates:
+-- the base rate is multiplier times observed, the rate is that plus the spread, each rounded once from its exact value
+pub record RatesOf (f : FloatTerms) (start observed : ℤ) (rates : Rates) : Type 0 where
+  pub multiplier : ℤ
+  pub spread : ℤ
+  pub multiplies : InForce f.multiplier start multiplier
+  pub adds : InForce f.spread start spread
+  pub base : RateAt f.rounding (multiplier *ℤ observed) rates.base
+  pub all_in : RateAt f.rounding (multiplier *ℤ observed +ℤ spread *ℤ pos (10 ^ 9)) rates.all_in
+
+-- on a fixed stream both are the fixed rate in force
+abbrev pub FixedRatesOf : StepValues → ℤ → Rates → Type 0
+FixedRatesOf values start rates = InForce values start rates.base × (rates.all_in ≡ rates.base)
+
+-- a rounded rate as a function
+abbrev pub rate_at : Rounding → ℤ → ℤ
+rate_at rounding exact = rounded rounding.dir exact (pos (10 ^ (18 - rounding.places))) *ℤ pos (10 ^ (9 - rounding.places))
+
+-- multiplier times observed, in units of 10^-18
+abbrev pub exact_base : FloatTerms → ℤ → ℤ → ℤ
+exact_base f start observed = value_in_force f.multiplier start *ℤ observed
+
+-- the rates as a function
+unfoldable pub rates_of : FloatTerms → ℤ → ℤ → Rates
+rates_of f start observed = record {
+  base = rate_at f.rounding (exact_base f start observed);
+  all_in = rate_at f.rounding (exact_base f start observed +ℤ value_in_force f.spread start *ℤ pos (10 ^ 9));
+}
+
+-- the rates of a fixed stream as a function
+unfoldable pub fixed_rates_of : StepValues → ℤ → Rates
+fixed_rates_of values start = record { base = value_in_force values start; all_in = value_in_force values start }

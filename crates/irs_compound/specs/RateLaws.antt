@@ -1,0 +1,77 @@
+-- A period has rates, and where the steps rise only one pair of them.
+use Rattle.std.proofs.Common.{◌≡◌, ◌-◌, ◌^◌, ℤ, pos, ◌+ℤ◌, ◌*ℤ◌, refl, sym, ap, subst, ◌∙◌}
+use Rattle.irs_base.specs.Rounding.{rounded}
+use Rattle.irs_base.proofs.RoundingLaws.{rounded_once, rounded_is}
+use Rattle.irs_terms.specs.declared.amounts.Rounding.{Rounding}
+use Rattle.irs_terms.specs.declared.amounts.FloatTerms.{FloatTerms}
+use Rattle.irs_terms.specs.declared.step_list.StepValues.{StepValues}
+use Rattle.irs_compound.specs.declared.periods.Rates.{Rates}
+use Rattle.irs_compound.specs.InForce.{StepsRise, value_in_force}
+use Rattle.irs_compound.specs.InForceLaws.{in_force_is, one_in_force}
+use Rattle.irs_compound.specs.Tens.{ten_positive}
+use Rattle.irs_compound.specs.PeriodRates.{RateAt, RatesOf, FixedRatesOf, rate_at, exact_base, rates_of, fixed_rates_of}
+
+same_rates : (a b : Rates) → a.base ≡ b.base → a.all_in ≡ b.all_in → a ≡ b
+same_rates a b h k =
+    let mk : ℤ → ℤ → Rates = λ m n. record { base = m; all_in = n } in
+    ap (λ m. mk m a.all_in) h ∙ ap (λ n. mk b.base n) k
+
+-- the function gives a rounded rate
+pub rate_at_is : (rounding : Rounding) (exact : ℤ) → RateAt rounding exact (rate_at rounding exact)
+rate_at_is rounding exact = record {
+  whole = rounded rounding.dir exact (pos (10 ^ (18 - rounding.places)));
+  rounds = rounded_is rounding.dir exact (pos (10 ^ (18 - rounding.places))) (ten_positive (18 - rounding.places));
+  scales = refl;
+}
+
+one_rate_at : (rounding : Rounding) (exact x y : ℤ) → RateAt rounding exact x → RateAt rounding exact y → x ≡ y
+one_rate_at rounding exact x y a b =
+    let e : a.whole ≡ b.whole = rounded_once rounding.dir exact (pos (10 ^ (18 - rounding.places))) a.whole b.whole (ten_positive (18 - rounding.places)) a.rounds b.rounds in
+    a.scales ∙ ap (λ (w : ℤ). w *ℤ pos (10 ^ (9 - rounding.places))) e ∙ sym b.scales
+
+-- the function gives rates
+pub rates_are : (f : FloatTerms) (start observed : ℤ) → RatesOf f start observed (rates_of f start observed)
+unfolding rates_of
+rates_are f start observed = record {
+  multiplier = value_in_force f.multiplier start;
+  spread = value_in_force f.spread start;
+  multiplies = in_force_is f.multiplier start;
+  adds = in_force_is f.spread start;
+  base = rate_at_is f.rounding (exact_base f start observed);
+  all_in = rate_at_is f.rounding (exact_base f start observed +ℤ value_in_force f.spread start *ℤ pos (10 ^ 9));
+}
+
+-- where the steps rise, any two pairs of rates are equal
+pub one_rates : (f : FloatTerms) (start observed : ℤ) (a b : Rates) → StepsRise f.multiplier.steps → StepsRise f.spread.steps → RatesOf f start observed a → RatesOf f start observed b → a ≡ b
+one_rates f start observed a b r q x y =
+    let m : x.multiplier ≡ y.multiplier = one_in_force f.multiplier start x.multiplier y.multiplier r x.multiplies y.multiplies in
+    let s : x.spread ≡ y.spread = one_in_force f.spread start x.spread y.spread q x.adds y.adds in
+    let base : RateAt f.rounding (x.multiplier *ℤ observed) b.base = subst (λ (n : ℤ). RateAt f.rounding (n *ℤ observed) b.base) (sym m) y.base in
+    let mid : RateAt f.rounding (x.multiplier *ℤ observed +ℤ y.spread *ℤ pos (10 ^ 9)) b.all_in = subst (λ (n : ℤ). RateAt f.rounding (n *ℤ observed +ℤ y.spread *ℤ pos (10 ^ 9)) b.all_in) (sym m) y.all_in in
+    let all_in : RateAt f.rounding (x.multiplier *ℤ observed +ℤ x.spread *ℤ pos (10 ^ 9)) b.all_in = subst (λ (n : ℤ). RateAt f.rounding (x.multiplier *ℤ observed +ℤ n *ℤ pos (10 ^ 9)) b.all_in) (sym s) mid in
+    same_rates a b
+    (one_rate_at f.rounding (x.multiplier *ℤ observed) a.base b.base x.base base)
+    (one_rate_at f.rounding (x.multiplier *ℤ observed +ℤ x.spread *ℤ pos (10 ^ 9)) a.all_in b.all_in x.all_in all_in)
+
+-- rates by their parts
+pub rates_value : (f : FloatTerms) (start observed multiplier spread : ℤ) (rates : Rates) → multiplier ≡ value_in_force f.multiplier start → spread ≡ value_in_force f.spread start → rates.base ≡ rate_at f.rounding (multiplier *ℤ observed) → rates.all_in ≡ rate_at f.rounding (multiplier *ℤ observed +ℤ spread *ℤ pos (10 ^ 9)) → rates ≡ rates_of f start observed
+unfolding rates_of
+rates_value f start observed multiplier spread rates m s b a =
+    same_rates rates (rates_of f start observed)
+    (b ∙ ap (λ (n : ℤ). rate_at f.rounding (n *ℤ observed)) m)
+    (a ∙ ap (λ (n : ℤ). rate_at f.rounding (n *ℤ observed +ℤ spread *ℤ pos (10 ^ 9))) m ∙ ap (λ (n : ℤ). rate_at f.rounding (exact_base f start observed +ℤ n *ℤ pos (10 ^ 9))) s)
+
+-- the function gives the rates of a fixed stream
+pub fixed_rates_are : (values : StepValues) (start : ℤ) → FixedRatesOf values start (fixed_rates_of values start)
+unfolding fixed_rates_of
+fixed_rates_are values start = (in_force_is values start, refl)
+
+-- where the steps rise, any two pairs of rates of a fixed stream are equal
+pub one_fixed_rates : (values : StepValues) (start : ℤ) (a b : Rates) → StepsRise values.steps → FixedRatesOf values start a → FixedRatesOf values start b → a ≡ b
+one_fixed_rates values start a b r x y =
+    let e : a.base ≡ b.base = one_in_force values start a.base b.base r x.0 y.0 in
+    same_rates a b e (x.1 ∙ e ∙ sym y.1)
+
+pub fixed_rates_value : (values : StepValues) (start rate : ℤ) (rates : Rates) → rate ≡ value_in_force values start → rates.base ≡ rate → rates.all_in ≡ rate → rates ≡ fixed_rates_of values start
+unfolding fixed_rates_of
+fixed_rates_value values start rate rates e b a = same_rates rates (fixed_rates_of values start) (b ∙ e) (a ∙ e)

@@ -1,0 +1,81 @@
+//! The amount of a payment: the sum over its periods, rounded once to the decimals of its currency.
+ghost use Rattle.std.specs.Prelude.{◌≡◌, ℕ, ℤ, ◌+◌, ◌-◌, ◌*◌, ◌<◌, ◌≤◌, ◌^◌, IfOk, IfErr, OnOk, List, length, pos, ◌≤ℤ◌};
+ghost use Rattle.irs_daycount.specs.Actual.{act_act_denominator};
+ghost use Rattle.irs_compound.specs.Amounts.{IsPayment, AllPriced, Passes, PassesFirst, Pays, RoundedAt, code_for, most_places};
+ghost use Rattle.irs_compound.specs.Balances.{BalanceFits, Balances};
+
+use crate::balances::{Balance, next_balance};
+use crate::compounding::OutOfRange;
+use crate::periods::PeriodTerm;
+use crate::products::{finer, ten_to};
+use irs_base::{Direction, round};
+use irs_terms::CompCode;
+
+/// The amount of a payment that has all its rates, in units of 10^-places. One period is never
+/// compounded.
+pub fn amount_by(code: CompCode, periods: &[PeriodTerm], places: u8) -> Result<i128, OutOfRange>
+    requires payment { IsPayment periods.now }
+    requires priced { AllPriced periods.now }
+    requires places_fit { places ≤ most_places }
+    ensures amount { IfOk result (λ m. Pays (code_for code periods.now) periods.now places m) }
+    ensures within { OnOk result ((i : ℕ) → i < length periods.now → Passes (code_for code periods.now) periods.now i → ⊥) }
+    ensures out { IfErr result (λ e. PassesFirst (code_for code periods.now) periods.now e.period) }
+{
+    compounded(code_for(code, periods), periods, places)
+}
+
+fn code_for(code: CompCode, periods: &[PeriodTerm]) -> CompCode
+    ensures { result ≡ code_for code periods.now }
+{
+    if periods.len() == 1 {
+        CompCode::Simple
+    } else {
+        code
+    }
+}
+
+fn compounded(code: CompCode, periods: &[PeriodTerm], places: u8) -> Result<i128, OutOfRange>
+    requires payment { IsPayment periods.now }
+    requires priced { AllPriced periods.now }
+    requires places_fit { places ≤ most_places }
+    ensures amount { IfOk result (λ m. Pays code periods.now places m) }
+    ensures within { OnOk result ((i : ℕ) → i < length periods.now → Passes code periods.now i → ⊥) }
+    ensures out { IfErr result (λ e. PassesFirst code periods.now e.period) }
+{
+    let balance = balance_of(code, periods)?;
+    Ok(rounded_sum(code, balance, periods[0].frac.den, places))
+}
+
+// The balance over all periods of a payment.
+fn balance_of(code: CompCode, periods: &[PeriodTerm]) -> Result<Balance, OutOfRange>
+    requires payment { IsPayment periods.now }
+    requires priced { AllPriced periods.now }
+    ensures ok { IfOk result (λ b. Balances code periods.now (length periods.now) b) }
+    ensures out { IfErr result (λ e. PassesFirst code periods.now e.period) }
+{
+    let mut balance = Balance { sum: 0, kept: 0 };
+    let mut position: u32 = 0;
+    for p in periods {
+        position += 1;
+        match next_balance(code, p, balance) {
+            Some(next) => balance = next,
+            None => return Err(OutOfRange { period: position }),
+        }
+    }
+    Ok(balance)
+}
+
+// The sum to the nearest unit of 10^-places; without compounding it is over the denominator.
+fn rounded_sum(code: CompCode, balance: Balance, den: i64, places: u8) -> i128
+    requires den_low { pos 1 ≤ℤ den }
+    requires den_high { den ≤ℤ pos act_act_denominator }
+    requires balance_fits { BalanceFits code den balance }
+    requires places_fit { places ≤ most_places }
+    ensures { RoundedAt code den balance.sum places result }
+{
+    match code {
+        CompCode::Simple => round(Direction::Nearest, balance.sum, finer(den, 13 - places)),
+        CompCode::Straight => round(Direction::Nearest, balance.sum, ten_to(6 - places)),
+        CompCode::Flat => round(Direction::Nearest, balance.sum, ten_to(6 - places)),
+    }
+}

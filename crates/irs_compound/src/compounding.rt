@@ -1,0 +1,103 @@
+//! Compounding as types: one for each code, and a trait for what works with any of them.
+ghost use Rattle.std.specs.Prelude.{◌≡◌, ℕ, ℤ, ◌+◌, ◌-◌, ◌<◌, ◌≤◌, IfOk, IfErr, OnOk, List, length};
+ghost use Rattle.irs_terms.specs.declared.codes.CompCode.{CompCode};
+ghost use Rattle.irs_compound.specs.declared.periods.PeriodTerm.{PeriodTerm};
+ghost use Rattle.irs_compound.specs.Amounts.{IsPayment, AllPriced, Passes, Pays, code_for, most_places};
+ghost use Rattle.irs_compound.specs.AmountLaws.{one_amount_of, some_amount_of};
+
+use crate::amounts::amount_by;
+use crate::periods::PeriodTerm;
+use irs_terms::CompCode;
+use thiserror::Error;
+
+/// A rate or an amount of a payment leaves the range: the position, from 1, of the first period at
+/// which the base rate or the rate passes 10 in size, or an amount or a sum of amounts 10^14 units
+/// of currency.
+#[derive(Clone, Copy, Debug, PartialEq, Eq, Error)]
+#[error("period {period} of the payment is out of range")]
+pub struct OutOfRange {
+    pub period: u32,
+}
+
+/// A way to compound the amounts of a payment.
+pub trait Compounding {
+    // The amount that periods pay, in units of 10^-places.
+    ghost pays: { Self → List PeriodTerm → ℕ → ℤ → Type 0 };
+
+    // The period at an index leaves the range.
+    ghost passes: { Self → List PeriodTerm → ℕ → Type 0 };
+
+    /// The amount of a payment, in units of 10^-places: its periods are at least one and at most
+    /// 4,000, have one denominator and all their rates, notionals from 0 to 10^13 and numerators
+    /// from 0 to 4*10^7; places is at most 3. `OutOfRange` comes exactly with the first period at
+    /// which a rate or an amount leaves the range.
+    fn amount(&self, periods: &[PeriodTerm], places: u8) -> Result<i128, OutOfRange>
+        requires payment { IsPayment periods.now }
+        requires priced { AllPriced periods.now }
+        requires places_fit { places ≤ most_places }
+        ensures amount { IfOk result (λ m. pays self.now periods.now places m) }
+        ensures within { OnOk result ((i : ℕ) → i < length periods.now → passes self.now periods.now i → ⊥) }
+        ensures out { IfErr result (λ e. (1 ≤ e.period) × passes self.now periods.now (e.period - 1) × ((j : ℕ) → j + 1 < e.period → passes self.now periods.now j → ⊥)) };
+
+    // Periods pay at most one amount.
+    ghost one_amount: { (s : Self) (ps : List PeriodTerm) (k : ℕ) (m n : ℤ) → IsPayment ps → pays s ps k m → pays s ps k n → m ≡ n };
+
+    // Where all rates are there, they pay one.
+    ghost some_amount: { (s : Self) (ps : List PeriodTerm) (k : ℕ) → IsPayment ps → AllPriced ps → (m : ℤ) × pays s ps k m };
+}
+
+/// No compounding: the sum of notional times rate times fraction, exact, rounded once.
+#[derive(Clone, Copy, Debug, PartialEq, Eq)]
+pub struct Simple;
+
+impl Compounding for Simple {
+    ghost pays = { λ s ps. Pays (code_for CompCode.Simple ps) ps };
+
+    ghost passes = { λ s ps. Passes (code_for CompCode.Simple ps) ps };
+
+    fn amount(&self, periods: &[PeriodTerm], places: u8) -> Result<i128, OutOfRange> {
+        amount_by(CompCode::Simple, periods, places)
+    }
+
+    ghost one_amount = { λ s ps. one_amount_of (code_for CompCode.Simple ps) ps };
+
+    ghost some_amount = { λ s ps. some_amount_of (code_for CompCode.Simple ps) ps };
+}
+
+/// Straight compounding: notional and all earlier amounts of the payment bear interest at the rate,
+/// at 6 decimals.
+#[derive(Clone, Copy, Debug, PartialEq, Eq)]
+pub struct Straight;
+
+impl Compounding for Straight {
+    ghost pays = { λ s ps. Pays (code_for CompCode.Straight ps) ps };
+
+    ghost passes = { λ s ps. Passes (code_for CompCode.Straight ps) ps };
+
+    fn amount(&self, periods: &[PeriodTerm], places: u8) -> Result<i128, OutOfRange> {
+        amount_by(CompCode::Straight, periods, places)
+    }
+
+    ghost one_amount = { λ s ps. one_amount_of (code_for CompCode.Straight ps) ps };
+
+    ghost some_amount = { λ s ps. some_amount_of (code_for CompCode.Straight ps) ps };
+}
+
+/// Flat compounding: the notional bears interest at the rate, all earlier amounts of the payment at the
+/// base rate, each at 6 decimals. That it is the base rate is this project's own.
+#[derive(Clone, Copy, Debug, PartialEq, Eq)]
+pub struct Flat;
+
+impl Compounding for Flat {
+    ghost pays = { λ s ps. Pays (code_for CompCode.Flat ps) ps };
+
+    ghost passes = { λ s ps. Passes (code_for CompCode.Flat ps) ps };
+
+    fn amount(&self, periods: &[PeriodTerm], places: u8) -> Result<i128, OutOfRange> {
+        amount_by(CompCode::Flat, periods, places)
+    }
+
+    ghost one_amount = { λ s ps. one_amount_of (code_for CompCode.Flat ps) ps };
+
+    ghost some_amount = { λ s ps. some_amount_of (code_for CompCode.Flat ps) ps };
+}

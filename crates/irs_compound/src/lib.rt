@@ -1,0 +1,22 @@
+//! Rates of calculation periods and amounts of payments: the 2006 ISDA Definitions, articles 5, 6
+//! and 8.
+#![tactic(auto)]
+
+mod amounts;
+mod balances;
+mod compounding;
+mod interest;
+mod payments;
+mod periods;
+mod products;
+mod rates;
+mod step_values;
+
+pub use compounding::{Compounding, Flat, OutOfRange, Simple, Straight};
+pub use payments::payment_amount;
+pub use periods::{Parts, PeriodTerm, Rates};
+pub use rates::{fixed_rates, period_rates};
+pub use step_values::in_force;
+
+#[cfg(test)]
+mod tests;

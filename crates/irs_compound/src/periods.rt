@@ -1,0 +1,32 @@
+//! What a payment is made of: its calculation periods with their rates and fractions, and what
+//! each of them adds.
+use irs_terms::Frac;
+
+/// The rates of a period, in units of 10^-9.
+#[derive(Clone, Copy, Debug, PartialEq, Eq)]
+pub struct Rates {
+    /// Multiplier times observed rate; the fixed rate on a fixed stream.
+    pub base: i64,
+    /// The base rate with the spread; the fixed rate on a fixed stream.
+    pub all_in: i64,
+}
+
+/// A calculation period of a payment.
+#[derive(Clone, Copy, Debug, PartialEq, Eq)]
+pub struct PeriodTerm {
+    /// The notional, in units of 10^-4.
+    pub notional: i128,
+    /// Its rates; none where its observed rate is absent.
+    pub rates: Option<Rates>,
+    /// Its day count fraction.
+    pub frac: Frac,
+}
+
+/// What a period adds to its payment, in two parts that are rounded apart: without compounding one
+/// exact part, in units of 10^-13 over the fraction's denominator; with straight compounding one
+/// part; with flat compounding the basic and the additional amount, in units of 10^-6.
+#[derive(Clone, Copy, Debug, PartialEq, Eq)]
+pub struct Parts {
+    pub main: i128,
+    pub extra: i128,
+}

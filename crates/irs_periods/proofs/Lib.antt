@@ -1,0 +1,11 @@
+pub mod GridDays
+pub mod NearestLemmas
+pub mod WayLemmas
+pub mod SpanLemmas
+pub mod GridSpans
+pub mod Assembled
+pub mod SpanOrder
+pub mod RegularPart
+pub mod TermList
+pub mod AdjustedLemmas
+pub mod FirstResults

@@ -1,0 +1,14 @@
+use Rattle.std.proofs.Common.{ℕ, ◌-◌, ◌<◌, ◌≤◌}
+use Rattle.irs_periods.specs.Ways.{steps, Within}
+use Rattle.irs_periods.proofs.nearest.farthest.Given as goal
+
+abbrev pub invariant-loop-high : goal.invariant-loop-high
+invariant-loop-high g l = record {
+  order : l.low < l.high;
+  top : l.high ≤ 109_208;
+  here : Within l.way l.bound (g.G.Grid.at l.grid (steps l.way l.low));
+  past : Within l.way l.bound (g.G.Grid.at l.grid (steps l.way l.high)) → ⊥;
+}
+
+abbrev pub decreases-loop-high : goal.decreases-loop-high
+decreases-loop-high g l = l.high - l.low

@@ -1,0 +1,36 @@
+use Rattle.std.proofs.Common.{◌≡◌, ℕ, ℤ, true, false, inr, sym, ◌∙◌, ap, subst}
+use Rattle.irs_base.specs.declared.places.Rule.TheVariants.{K31}
+use Rattle.irs_terms.specs.declared.results.Span.{Span}
+use Rattle.irs_roll.specs.Rolls.{OnGrid, Fits, IsTerm}
+use Rattle.irs_periods.specs.Terms.{effective_of, termination_of}
+use Rattle.irs_periods.specs.Spans.{Regular, is_term}
+use Rattle.irs_periods.specs.SpanRules.{broken_at}
+use Rattle.irs_periods.proofs.SpanLemmas.{given_span_same}
+use Rattle.irs_periods.proofs.span.timed_span.Goals as goal
+
+pub returns-clause-ok : goal.returns-clause-ok
+returns-clause-ok c =
+    let s = c.args.s.now in
+    record {
+      anchored = c.anchor-anchor.ensures;
+      spans = rw c.requires.timed (given_span_same _ (OnGrid s.freq s.roll c.anchor-anchor.result) c.new-grid.ensures.on s.first_regular s.last_regular s.stub (effective_of s) (termination_of s) c.ends-first.result.0 c.ends-first.result.1 c.ends-first.ensures);
+    }
+
+pub returns-then-not-on_grid-clause-broken : goal.returns-then-not-on_grid-clause-broken
+returns-then-not-on_grid-clause-broken c =
+    let s = c.args.s.now in
+    let anchor = c.anchor-anchor.result in
+    let fit : Fits s.roll s.freq anchor = c.fits.ensures.0 c.if-not-fits.false in
+    let span : Span = record { first = c.ends-first.result.0; last = c.ends-first.result.1; anchor = anchor } in
+    let timed : IsTerm s.freq → ⊥ = λ h. let same = rw h at c.requires.timed in cc in
+    let regular : Regular s span = record {
+      anchored = c.anchor-anchor.ensures;
+      spans = rw c.requires.timed (given_span_same _ (OnGrid s.freq s.roll anchor) c.new-grid.ensures.on s.first_regular s.last_regular s.stub (effective_of s) (termination_of s) c.ends-first.result.0 c.ends-first.result.1 c.ends-first.ensures);
+    } in
+    let off : OnGrid s.freq s.roll anchor c.ends-first.result.1 → ⊥ = λ on.
+    let is = c.on_grid.ensures.1 ((c.new-grid.ensures.on c.ends-first.result.1).1 on) in cc in
+    inr (
+      (λ k30. k30.misfits (subst (Fits s.roll s.freq) c.anchor-anchor.ensures fit)),
+      record { timed = timed; span = span; regular = regular; off = off },
+      c.broken-then-not-on_grid.ensures ∙ ap (λ (e : ℕ). broken_at K31 e 0) c.last_elem.ensures,
+    )

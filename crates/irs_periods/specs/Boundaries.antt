@@ -1,0 +1,41 @@
+-- The unadjusted boundaries of a stream's calculation periods (2006 ISDA Definitions, 4.13 and 4.10).
+use Rattle.std.specs.Prelude.{◌≡◌, ◌⊎◌, ℕ, ◌+◌, ◌<◌, List, length, ℤ, ◌≤ℤ◌}
+use Rattle.irs_base.specs.Listed.{Lists}
+use Rattle.irs_base.specs.Elements.{calculation_period_frequency}
+use Rattle.irs_base.specs.declared.places.Broken.{Broken}
+use Rattle.irs_base.specs.declared.places.Rule.TheVariants.{K32}
+use Rattle.irs_terms.specs.declared.stream.Stream.{Stream}
+use Rattle.irs_terms.specs.declared.results.Span.{Span}
+use Rattle.irs_roll.specs.Rolls.{IsTerm, OnGrid}
+use Rattle.irs_periods.specs.SpanRules.{broken_at}
+use Rattle.irs_periods.specs.Terms.{effective_of, termination_of}
+
+-- the day lies from first to last and is on the grid
+abbrev pub OnSpan : (ℤ → Type 0) → ℤ → ℤ → ℤ → Type 0
+OnSpan on first last d = (first ≤ℤ d) × (d ≤ℤ last) × on d
+
+-- the day is the effective date, the termination date, or a grid day of the regular span
+abbrev pub IsBoundaryBy : (ℤ → Type 0) → ℤ → ℤ → ℤ → ℤ → ℤ → Type 0
+IsBoundaryBy on effective termination first last d = (d ≡ effective) ⊎ ((d ≡ termination) ⊎ OnSpan on first last d)
+
+-- the same for a stream and its span; the grid of the term has no day
+abbrev pub IsBoundary : Stream → Span → ℤ → Type 0
+IsBoundary s span d = IsBoundaryBy (OnGrid s.freq s.roll span.anchor) (effective_of s) (termination_of s) span.first span.last d
+
+-- the boundaries in order: the strictly rising list that has exactly these days
+abbrev pub Boundaries : Stream → Span → List ℤ → Type 0
+Boundaries s span b = Lists (IsBoundary s span) b
+
+-- the most calculation periods of a stream
+abbrev pub most_periods : ℕ
+most_periods = 4_000
+
+-- K32 at its element
+abbrev pub too_many_periods : Broken
+too_many_periods = broken_at K32 calculation_period_frequency 0
+
+-- K32: there are more boundaries than the most periods have
+pub record TooManyPeriods (s : Stream) (span : Span) : Type 0 where
+  pub list : List ℤ
+  pub lists : Boundaries s span list
+  pub many : most_periods + 1 < length list

@@ -1,0 +1,17 @@
+-- Days of a grid in the order of their numbers, as lists.
+use Rattle.std.specs.Prelude.{ℕ, zero, suc, ◌+◌, List, [], ◌∷◌, ◌++◌, ℤ, pos, ◌+ℤ◌, if◌then◌else◌}
+use Rattle.std.proofs.Common.{is_lt, int_cmp}
+
+-- the n days of the grid f from the number `start` on
+abbrev pub days_from : (ℤ → ℤ) → ℤ → ℕ → List ℤ
+days_from f start zero = []
+days_from f start (suc n) = days_from f start n ++ f (start +ℤ pos n) ∷ []
+
+-- the day alone where a comes before b, else no day
+abbrev pub where_before : ℤ → ℤ → ℤ → List ℤ
+where_before a b d = if is_lt (int_cmp a b) then d ∷ [] else []
+
+-- the effective date where it comes before the regular span, the n + 1 grid days of the span, and
+-- the termination date where it comes behind it
+abbrev pub all_boundaries : (ℤ → ℤ) → ℤ → ℕ → ℤ → ℤ → ℤ → ℤ → List ℤ
+all_boundaries f start n effective termination first last = (where_before effective first effective ++ days_from f start (n + 1)) ++ where_before last termination termination

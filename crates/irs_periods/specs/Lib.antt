@@ -1,0 +1,9 @@
+pub mod Nearest
+pub mod Ways
+pub mod Terms
+pub mod Spans
+pub mod SpanRules
+pub mod Boundaries
+pub mod GridLists
+pub mod PeriodErrors
+pub mod Adjusting

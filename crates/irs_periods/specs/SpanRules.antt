@@ -1,0 +1,63 @@
+-- The rules of a stream's span: that the roll fits the anchor (K30), and that the last regular day is
+-- on the grid (K31). A call that takes one stream names it as stream 1.
+use Rattle.std.specs.Prelude.{◌≡◌, ◌⊎◌, ℕ, Option, Some, None, ℤ}
+use Rattle.irs_base.specs.declared.places.Rule.{Rule}
+use Rattle.irs_base.specs.declared.places.Rule.TheVariants.{K30, K31}
+use Rattle.irs_base.specs.declared.places.Broken.{Broken}
+use Rattle.irs_base.specs.Elements.{effective_date, termination_date, first_regular_period_start_date, last_regular_period_end_date}
+use Rattle.irs_terms.specs.declared.codes.StubKind.{StubKind}
+use Rattle.irs_terms.specs.declared.codes.StubKind.TheVariants.{ShortInitial, LongInitial, ShortFinal, LongFinal}
+use Rattle.irs_terms.specs.declared.stream.Stream.{Stream}
+use Rattle.irs_terms.specs.declared.results.Span.{Span}
+use Rattle.irs_roll.specs.Rolls.{Fits, IsTerm, OnGrid}
+use Rattle.irs_periods.specs.Spans.{anchor_of, Regular}
+
+-- a rule broken at an element of the stream
+abbrev pub broken_at : Rule → ℕ → ℕ → Broken
+broken_at rule elem index = record { rule = rule; place = record { stream = 1; elem = elem; index = index } }
+
+-- the element of the anchor by the stub type alone
+abbrev pub stub_anchor_element : Option StubKind → ℕ
+stub_anchor_element None = effective_date
+stub_anchor_element (Some ShortInitial) = termination_date
+stub_anchor_element (Some LongInitial) = termination_date
+stub_anchor_element (Some ShortFinal) = effective_date
+stub_anchor_element (Some LongFinal) = effective_date
+
+-- the element of the anchor
+abbrev pub anchor_element_by : Option ℤ → Option ℤ → Option StubKind → ℕ
+anchor_element_by None None stub = stub_anchor_element stub
+anchor_element_by None (Some last) stub = effective_date
+anchor_element_by (Some first) last stub = first_regular_period_start_date
+
+abbrev pub anchor_element : Stream → ℕ
+anchor_element s = anchor_element_by s.first_regular s.last_regular s.stub
+
+-- the element of the span's last day
+abbrev pub last_element_by : Option ℤ → ℕ
+last_element_by None = termination_date
+last_element_by (Some last) = last_regular_period_end_date
+
+abbrev pub last_element : Stream → ℕ
+last_element s = last_element_by s.last_regular
+
+-- K30: the frequency isn't the term, and the roll doesn't fit the anchor
+pub record RollMisfits (s : Stream) : Type 0 where
+  pub timed : IsTerm s.freq → ⊥
+  pub misfits : Fits s.roll s.freq (anchor_of s) → ⊥
+
+-- K31: the frequency isn't the term, and the last day of the regular span isn't on the grid
+pub record LastOffGrid (s : Stream) : Type 0 where
+  pub timed : IsTerm s.freq → ⊥
+  pub span : Span
+  pub regular : Regular s span
+  pub off : OnGrid s.freq s.roll span.anchor span.last → ⊥
+
+-- the first of K30 and K31 that is broken
+abbrev pub SpanBroken : Stream → Broken → Type 0
+SpanBroken s b = (RollMisfits s × (b ≡ broken_at K30 (anchor_element s) 0)) ⊎ ((RollMisfits s → ⊥) × LastOffGrid s × (b ≡ broken_at K31 (last_element s) 0))
+
+-- neither is broken: unless the frequency is the term, the roll fits the anchor, and the last day is on the grid
+pub record SpanKept (s : Stream) (span : Span) : Type 0 where
+  pub fits : (IsTerm s.freq → ⊥) → Fits s.roll s.freq span.anchor
+  pub on_last : (IsTerm s.freq → ⊥) → OnGrid s.freq s.roll span.anchor span.last

@@ -1,0 +1,179 @@
+//! The adjusted boundaries of a stream: the effective date by its own adjustments, the termination
+//! date by its own, and every other boundary by the period adjustments (FpML
+//! `calculationPeriodDatesAdjustments`; 2006 ISDA Definitions, 4.10 and 4.12). That they have to rise
+//! is this project's own rule.
+ghost use Rattle.std.specs.Prelude.{◌≡◌, ◌<◌, ◌≤◌, ◌-◌, ◌^◌, ℕ, ℤ, List, length, IfOk, IfSome, IfNone};
+ghost use Rattle.irs_base.specs.Listed.{IsRising};
+ghost use Rattle.irs_terms.specs.declared.results.Span.{Span};
+ghost use Rattle.irs_periods.specs.Terms.{DatesInOrder};
+ghost use Rattle.irs_periods.specs.Boundaries.{Boundaries};
+ghost use Rattle.irs_periods.specs.SpanRules.{broken_at};
+ghost use Rattle.irs_periods.specs.Adjusting.{AdjustedBroken, AdjustedList, AdjustsAt, FirstNoResult, FirstNotAfter, NoResult, NotAfter, boundary_element, boundary_index, day_at, days_by, last_of};
+ghost use Rattle.irs_periods.specs.PeriodErrors.{IfBroken};
+ghost use Rattle.irs_base.specs.declared.places.Rule.TheVariants.{K33, K34};
+ghost use Rattle.irs_base.specs.Elements.{calculation_period_dates};
+
+use crate::PerErr;
+use irs_adjust::adjust_by;
+use irs_base::{Broken, Day, DayList, Elem, Place, Rule};
+use irs_calendar::GoodDays;
+use irs_terms::Stream;
+use std::alloc::Global;
+
+/// The adjusted boundaries of a stream. The condition is that `unadjusted` are the stream's
+/// boundaries; `start`, `end` and `middle` are the good days of the effective date's, the
+/// termination date's and the period adjustments.
+///
+/// `Broken` is the first rule broken: a boundary has no adjusted day (K33, in the order effective
+/// date, termination date, the other boundaries), or, where each has one, an adjusted day isn't
+/// after the one before it (K34). The place names stream 1. Both are decided whatever memory there
+/// is. Boundaries have at most one list of adjusted days, and one where K33 isn't broken.
+pub fn adjusted<G: GoodDays>(
+    alloc: Global,
+    s: &Stream,
+    unadjusted: &DayList,
+    start: &G,
+    end: &G,
+    middle: &G,
+) -> Result<DayList, PerErr>
+    requires dates { DatesInOrder s.now }
+    requires listed { (span : Span) × Boundaries s.now span unadjusted.now }
+    ensures ok { IfOk result (AdjustedList s.now (days_by (G.days start.now) (G.days end.now) (G.days middle.now)) unadjusted.now) }
+    ensures rising { IfOk result IsRising }
+    ensures broken { IfBroken result (AdjustedBroken s.now (days_by (G.days start.now) (G.days end.now) (G.days middle.now)) unadjusted.now) }
+    ensures exists { ((i : ℕ) → NoResult s.now (days_by (G.days start.now) (G.days end.now) (G.days middle.now)) unadjusted.now i → ⊥) → (a : List ℤ) × AdjustedList s.now (days_by (G.days start.now) (G.days end.now) (G.days middle.now)) unadjusted.now a }
+    ensures one { (a b : List ℤ) → AdjustedList s.now (days_by (G.days start.now) (G.days end.now) (G.days middle.now)) unadjusted.now a → AdjustedList s.now (days_by (G.days start.now) (G.days end.now) (G.days middle.now)) unadjusted.now b → a ≡ b }
+{
+    let days = unadjusted.as_slice();
+    if let Some(number) = first_without(s, days, start, end, middle) {
+        return Err(no_result(days.len() - 1, number));
+    }
+    let list = adjust_each(alloc, s, days, start, end, middle)?;
+    match first_not_after(list.as_slice()) {
+        Some(number) => Err(not_after(number)),
+        None => Ok(list),
+    }
+}
+
+// Boundary i, adjusted as its place asks.
+fn adjust_at<G: GoodDays>(
+    s: &Stream,
+    start: &G,
+    end: &G,
+    middle: &G,
+    last: usize,
+    i: usize,
+    d: Day,
+) -> Option<Day>
+    ensures some { IfSome result (AdjustsAt s.now (days_by (G.days start.now) (G.days end.now) (G.days middle.now)) last i d) }
+    ensures none { IfNone result ((r : ℤ) → AdjustsAt s.now (days_by (G.days start.now) (G.days end.now) (G.days middle.now)) last i d r → ⊥) }
+{
+    if i == 0 {
+        adjust_by(s.effective.adj.code, start, d)
+    } else if i == last {
+        adjust_by(s.termination.adj.code, end, d)
+    } else {
+        adjust_by(s.period_adj.code, middle, d)
+    }
+}
+
+// The first boundary, in the order of the elements, that has no adjusted day.
+fn first_without<G: GoodDays>(
+    s: &Stream,
+    days: &[Day],
+    start: &G,
+    end: &G,
+    middle: &G,
+) -> Option<usize>
+    requires { 2 ≤ length days.now }
+    ensures some { IfSome result (FirstNoResult s.now (days_by (G.days start.now) (G.days end.now) (G.days middle.now)) days.now) }
+    ensures none { IfNone result ((i : ℕ) → i < length days.now → (r : ℤ) × AdjustsAt s.now (days_by (G.days start.now) (G.days end.now) (G.days middle.now)) (last_of days.now) i (day_at days.now i) r) }
+{
+    let last = days.len() - 1;
+    let Some(_first) = adjust_at(s, start, end, middle, last, 0, days[0]) else {
+        return Some(0);
+    };
+    let Some(_last) = adjust_at(s, start, end, middle, last, last, days[last]) else {
+        return Some(last);
+    };
+    for i in 1..last {
+        let Some(_middle) = adjust_at(s, start, end, middle, last, i, days[i]) else {
+            return Some(i);
+        };
+    }
+    None
+}
+
+// Each boundary adjusted, where each has an adjusted day.
+fn adjust_each<G: GoodDays>(
+    alloc: Global,
+    s: &Stream,
+    days: &[Day],
+    start: &G,
+    end: &G,
+    middle: &G,
+) -> Result<DayList, PerErr>
+    requires some { 0 < length days.now }
+    requires each { (i : ℕ) → i < length days.now → (r : ℤ) × AdjustsAt s.now (days_by (G.days start.now) (G.days end.now) (G.days middle.now)) (last_of days.now) i (day_at days.now i) r }
+    ensures ok { IfOk result (AdjustedList s.now (days_by (G.days start.now) (G.days end.now) (G.days middle.now)) days.now) }
+    ensures memory { IfBroken result (λ _. ⊥) }
+{
+    let last = days.len() - 1;
+    let mut list = DayList::new(alloc);
+    for i in 0..days.len() {
+        match adjust_at(s, start, end, middle, last, i, days[i]) {
+            Some(d) => list.push(d)?,
+            None => unreachable!(),
+        }
+    }
+    Ok(list)
+}
+
+// The first day that isn't after the one before it.
+fn first_not_after(days: &[Day]) -> Option<usize>
+    ensures some { IfSome result (FirstNotAfter days.now) }
+    ensures none { IfNone result ((i : ℕ) → NotAfter days.now i → ⊥) }
+{
+    for i in 1..days.len() {
+        if days[i] <= days[i - 1] {
+            return Some(i);
+        }
+    }
+    None
+}
+
+// Boundary `number` of the boundaries up to `last` has no adjusted day.
+fn no_result(last: usize, number: usize) -> PerErr
+    requires { number < 2 ^ 32 }
+    ensures { result ≡ PerErr.Broken (broken_at K33 (boundary_element last number) (boundary_index last number)) }
+{
+    if number == 0 {
+        broken(Rule::K33, Elem::EFFECTIVE_DATE, 0)
+    } else if number == last {
+        broken(Rule::K33, Elem::TERMINATION_DATE, 0)
+    } else {
+        broken(Rule::K33, Elem::PERIOD_DATES_ADJUSTMENTS, number as u32)
+    }
+}
+
+// Adjusted boundary `number` isn't after the one before it.
+fn not_after(number: usize) -> PerErr
+    requires { number < 2 ^ 32 }
+    ensures { result ≡ PerErr.Broken (broken_at K34 calculation_period_dates number) }
+{
+    broken(Rule::K34, Elem::CALCULATION_PERIOD_DATES, number as u32)
+}
+
+// A rule that stream 1 breaks.
+fn broken(rule: Rule, elem: Elem, index: u32) -> PerErr
+    ensures { result ≡ PerErr.Broken (broken_at rule elem index) }
+{
+    PerErr::Broken(Broken {
+        rule,
+        place: Place {
+            stream: 1,
+            elem,
+            index,
+        },
+    })
+}

@@ -1,0 +1,218 @@
+//! The unadjusted boundaries of a stream's calculation periods: the effective date, the termination
+//! date, and every grid day of the regular span (2006 ISDA Definitions, 4.13: a Calculation Period
+//! runs from one period end date, included, to the next, excluded). The most periods are this
+//! project's own.
+ghost use Rattle.std.specs.Prelude.{◌≡◌, ◌↔◌, ◌<◌, ◌≤◌, ◌+◌, ◌++◌, ℕ, ℤ, List, length, pos, negsuc, ◌+ℤ◌, ◌≤ℤ◌, ◌<ℤ◌, true, IfOk};
+ghost use Rattle.irs_base.specs.Days.{IsDay};
+ghost use Rattle.irs_base.specs.Elements.{calculation_period_frequency};
+ghost use Rattle.irs_terms.specs.Lawful.{IsLawfulStream};
+ghost use Rattle.irs_roll.specs.Rolls.{IsTerm, OnGrid};
+ghost use Rattle.irs_periods.specs.Terms.{DatesInOrder, FrequencySuits, effective_of, termination_of};
+ghost use Rattle.irs_periods.specs.Spans.{Regular, is_term};
+ghost use Rattle.irs_periods.specs.SpanRules.{SpanKept};
+ghost use Rattle.irs_periods.specs.Boundaries.{Boundaries, TooManyPeriods, most_periods, too_many_periods};
+ghost use Rattle.irs_periods.specs.GridLists.{all_boundaries, days_from, where_before};
+ghost use Rattle.irs_periods.specs.PeriodErrors.{IfBroken};
+
+use crate::PerErr;
+use crate::span::is_whole_term;
+use irs_base::{Broken, Day, DayList, Elem, Place, Rule};
+use irs_roll::{Grid, StreamGrid};
+use irs_terms::{Span, Stream};
+use std::alloc::Global;
+
+/// The most calculation periods of a stream.
+pub const MOST_PERIODS: u32 = 4_000;
+
+/// The unadjusted boundaries of a stream, in order: with n periods the n + 1 days at which they
+/// begin and end. The conditions are that the frequency isn't T, that the stream's dates are in
+/// order (K13), that the span is the stream's and breaks neither K30 nor K31, and that the grid is
+/// that of the stream's frequency and roll from the span's anchor.
+///
+/// `Broken` comes exactly where there are more than 4,000 periods (K32); the place names stream 1.
+pub fn boundaries<G: Grid>(
+    alloc: Global,
+    s: &Stream,
+    span: &Span,
+    grid: &G,
+) -> Result<DayList, PerErr>
+    requires lawful { IsLawfulStream s.now }
+    requires dates { DatesInOrder s.now }
+    requires timed { ¬ (IsTerm s.now.freq) }
+    requires span { Regular s.now span.now }
+    requires kept { SpanKept s.now span.now }
+    requires first { G.at grid.now (pos 0) ≡ span.now.anchor }
+    requires on { (d : ℤ) → G.on grid.now d ↔ OnGrid s.now.freq s.now.roll span.now.anchor d }
+    ensures listed { IfOk result (Boundaries s.now span.now) }
+    ensures few { IfOk result (λ b. length b ≤ most_periods + 1) }
+    ensures broken { IfBroken result (λ b. TooManyPeriods s.now span.now × (b ≡ too_many_periods)) }
+    ensures exists { (b : List ℤ) × Boundaries s.now span.now b }
+{
+    let (start, steps) = regular_part(s, span, grid);
+    let effective = s.first_day();
+    let termination = s.termination.day;
+    let stubs = stub(effective, span.first) + stub(span.last, termination);
+    if steps > MOST_PERIODS - stubs {
+        return Err(too_many());
+    }
+    let list = front(alloc, effective, span.first)?;
+    let list = grid_days(list, grid, start, steps + 1)?;
+    Ok(close(list, span.last, termination)?)
+}
+
+// The number of the span's first day, and how many steps lead from it to the last day.
+fn regular_part<G: Grid>(s: &Stream, span: &Span, grid: &G) -> (i64, u32)
+    requires lawful { IsLawfulStream s.now }
+    requires dates { DatesInOrder s.now }
+    requires timed { ¬ (IsTerm s.now.freq) }
+    requires span { Regular s.now span.now }
+    requires kept { SpanKept s.now span.now }
+    requires first { G.at grid.now (pos 0) ≡ span.now.anchor }
+    requires on { (d : ℤ) → G.on grid.now d ↔ OnGrid s.now.freq s.now.roll span.now.anchor d }
+    ensures listed { Boundaries s.now span.now (all_boundaries (G.at grid.now) result.0 result.1 (effective_of s.now) (termination_of s.now) span.now.first span.now.last) }
+    ensures days { (j : ℕ) → j ≤ result.1 → IsDay (G.at grid.now (result.0 +ℤ pos j)) }
+    ensures near { (negsuc 109_999 ≤ℤ result.0) × (result.0 ≤ℤ pos 110_000) }
+{
+    let _in_range = (
+        span.anchor.number(),
+        span.first.number(),
+        span.last.number(),
+    );
+    let first = number_of(grid, span.first);
+    let last = number_of(grid, span.last);
+    (first, steps_between(first, last))
+}
+
+// The number of a day of the grid.
+fn number_of<G: Grid>(grid: &G, d: Day) -> i64
+    requires { G.on grid.now d }
+    ensures { G.at grid.now result ≡ d }
+{
+    match grid.index(d) {
+        Some(number) => number,
+        None => unreachable!(),
+    }
+}
+
+// How many steps lead from one number to another.
+fn steps_between(first: i64, last: i64) -> u32
+    requires low { negsuc 109_999 ≤ℤ first }
+    requires order { first ≤ℤ last }
+    requires high { last ≤ℤ pos 110_000 }
+    ensures { first +ℤ pos result ≡ last }
+{
+    (last - first) as u32
+}
+
+// How many periods a stub adds between two days: one where the first comes before the second.
+fn stub(from: Day, to: Day) -> u32
+    ensures count { result ≡ length (where_before from to from) }
+    ensures same { (d : ℤ) → result ≡ length (where_before from to d) }
+    ensures most { result ≤ 1 }
+{
+    if from < to { 1 } else { 0 }
+}
+
+// The rule on the number of periods, broken by stream 1.
+fn too_many() -> PerErr
+    ensures { result ≡ PerErr.Broken too_many_periods }
+{
+    PerErr::Broken(Broken {
+        rule: Rule::K32,
+        place: Place {
+            stream: 1,
+            elem: Elem::CALCULATION_PERIOD_FREQUENCY,
+            index: 0,
+        },
+    })
+}
+
+// The effective date alone where it comes before the regular span.
+fn front(alloc: Global, effective: Day, first: Day) -> Result<DayList, PerErr>
+    ensures ok { IfOk result (λ b. b ≡ where_before effective first effective) }
+    ensures memory { IfBroken result (λ _. ⊥) }
+{
+    let mut list = DayList::new(alloc);
+    if effective < first {
+        list.push(effective)?;
+    }
+    Ok(list)
+}
+
+// So many days of the grid from a number on, behind the list.
+fn grid_days<G: Grid>(
+    mut list: DayList,
+    grid: &G,
+    start: i64,
+    count: u32,
+) -> Result<DayList, PerErr>
+    requires near { (negsuc 109_999 ≤ℤ start) × (start ≤ℤ pos 110_000) }
+    requires days { (j : ℕ) → j < count → IsDay (G.at grid.now (start +ℤ pos j)) }
+    ensures ok { IfOk result (λ b. b ≡ list ++ days_from (G.at grid.now) start count) }
+    ensures memory { IfBroken result (λ _. ⊥) }
+{
+    for j in 0..count {
+        match grid.nth(start + i64::from(j)) {
+            Some(d) => list.push(d)?,
+            None => unreachable!(),
+        }
+    }
+    Ok(list)
+}
+
+// The termination date behind the list where it comes after the regular span.
+fn close(mut list: DayList, last: Day, termination: Day) -> Result<DayList, PerErr>
+    ensures ok { IfOk result (λ b. b ≡ list ++ where_before last termination termination) }
+    ensures memory { IfBroken result (λ _. ⊥) }
+{
+    if last < termination {
+        list.push(termination)?;
+    }
+    Ok(list)
+}
+
+/// The unadjusted boundaries of every stream, on the grid that its terms give. For frequency T they
+/// are the effective date and the termination date alone. The conditions are that the stream's dates
+/// are in order (K13), that its frequency and roll suit each other (K14), and that the span is the
+/// stream's and breaks neither K30 nor K31.
+///
+/// `Broken` comes exactly where there are more than 4,000 periods (K32); the place names stream 1.
+/// A stream has exactly one list of boundaries.
+pub fn boundaries_by(alloc: Global, s: &Stream, span: &Span) -> Result<DayList, PerErr>
+    requires lawful { IsLawfulStream s.now }
+    requires dates { DatesInOrder s.now }
+    requires frequency { FrequencySuits s.now }
+    requires span { Regular s.now span.now }
+    requires kept { SpanKept s.now span.now }
+    ensures listed { IfOk result (Boundaries s.now span.now) }
+    ensures few { IfOk result (λ b. length b ≤ most_periods + 1) }
+    ensures broken { IfBroken result (λ b. TooManyPeriods s.now span.now × (b ≡ too_many_periods)) }
+    ensures exists { (b : List ℤ) × Boundaries s.now span.now b }
+    ensures one { (a b : List ℤ) → Boundaries s.now span.now a → Boundaries s.now span.now b → a ≡ b }
+{
+    if is_whole_term(s.freq) {
+        whole_term(alloc, s, span)
+    } else {
+        boundaries(
+            alloc,
+            s,
+            span,
+            &StreamGrid::new(s.freq, s.roll, span.anchor),
+        )
+    }
+}
+
+// The boundaries of a stream whose frequency is the term.
+fn whole_term(alloc: Global, s: &Stream, span: &Span) -> Result<DayList, PerErr>
+    requires dates { DatesInOrder s.now }
+    requires term { IsTerm s.now.freq }
+    ensures listed { IfOk result (Boundaries s.now span.now) }
+    ensures few { IfOk result (λ b. length b ≤ most_periods + 1) }
+    ensures broken { IfBroken result (λ _. ⊥) }
+    ensures exists { (b : List ℤ) × Boundaries s.now span.now b }
+{
+    let mut list = DayList::new(alloc);
+    list.push(s.first_day())?;
+    list.push(s.termination.day)?;
+    Ok(list)
+}

@@ -1,0 +1,4 @@
+pub mod Each
+pub mod Ways
+pub mod Lists
+pub mod Parts

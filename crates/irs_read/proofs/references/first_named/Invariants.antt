@@ -1,0 +1,8 @@
+use Rattle.irs_elements.specs.Find.{seen}
+use Rattle.irs_read.proofs.references.first_named.Given as goal
+use Rattle.irs_read.specs.References.{has_id}
+use Rattle.std.proofs.Common.{◌≡◌, drop, map}
+use Rattle.std.specs.Prelude.{find}
+
+abbrev pub invariant-loop-list : goal.invariant-loop-list
+invariant-loop-list l = find (has_id l.id) (map seen (drop l.list-index l.lists)) ≡ find (has_id l.id) (map seen l.lists)

@@ -1,0 +1,8 @@
+use Rattle.irs_elements.specs.Find.{seen}
+use Rattle.irs_read.proofs.references.lists.Given as goal
+use Rattle.irs_read.specs.References.{lists_of}
+use Rattle.serde_json.specs.View.{view}
+use Rattle.std.proofs.Common.{◌≡◌, map, take}
+
+abbrev pub invariant-loop-stream : goal.invariant-loop-stream
+invariant-loop-stream l = map seen l.lists.items ≡ lists_of (map view (take l.stream-index l.streams))

@@ -1,0 +1,6 @@
+pub mod Tables
+pub mod Swaps
+pub mod Documents
+pub mod References
+pub mod Meaning
+pub mod Reading

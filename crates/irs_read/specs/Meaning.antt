@@ -1,0 +1,217 @@
+-- The swap that a document says: each field is the value of the leaf at its element, or the default
+-- where the leaf is absent.
+use Rattle.irs_base.specs.Days.{first_day}
+use Rattle.irs_base.specs.declared.rounding.Direction.TheVariants.{Nearest}
+use Rattle.irs_elements.specs.Codes.{compounding_at, convention_at, day_count_at, day_kind_at, direction_at, relative_at, roll_at, stub_kind_at, tenor_unit_at, truth_at, unit_at}
+use Rattle.irs_elements.specs.Dates.{day_at}
+use Rattle.irs_elements.specs.Find.{member, once, text_in, values_in}
+use Rattle.irs_elements.specs.Numbers.{multiplier_at, notional_at, offset_at, precision_at, rate_at}
+use Rattle.irs_elements.specs.Words.{currency_at}
+use Rattle.irs_read.specs.References.{href_of, lists_of, reference_in, the_one}
+use Rattle.irs_read.specs.declared.leaf_values.Scale.{Scale}
+use Rattle.irs_read.specs.declared.leaf_values.Scale.TheVariants.{Notionals, Rates}
+use Rattle.irs_terms.specs.declared.adjustments.Adjustments.{Adjustments}
+use Rattle.irs_terms.specs.declared.adjustments.Centers.{Centers}
+use Rattle.irs_terms.specs.declared.adjustments.Centers.TheVariants.{Absent, Listed, Dangling}
+use Rattle.irs_terms.specs.declared.adjustments.Dated.{Dated}
+use Rattle.irs_terms.specs.declared.adjustments.Offset.{Offset}
+use Rattle.irs_terms.specs.declared.amounts.ExchangeFlags.{ExchangeFlags}
+use Rattle.irs_terms.specs.declared.amounts.FloatTerms.{FloatTerms}
+use Rattle.irs_terms.specs.declared.amounts.Leg.{Leg}
+use Rattle.irs_terms.specs.declared.amounts.Leg.TheVariants.{Fixed, Floating}
+use Rattle.irs_terms.specs.declared.amounts.Rounding.{Rounding}
+use Rattle.irs_terms.specs.declared.amounts.StubRate.{StubRate}
+use Rattle.irs_terms.specs.declared.amounts.StubRate.TheVariants.{Index, Fixed as FixedStub}
+use Rattle.irs_terms.specs.declared.amounts.StubTerms.{StubTerms}
+use Rattle.irs_terms.specs.declared.codes.CompCode.TheVariants.{Simple}
+use Rattle.irs_terms.specs.declared.codes.ConvCode.TheVariants.{Unadjusted}
+use Rattle.irs_terms.specs.declared.codes.DayCountCode.TheVariants.{OneOne}
+use Rattle.irs_terms.specs.declared.codes.DayKind.TheVariants.{Unsaid}
+use Rattle.irs_terms.specs.declared.codes.Relative.{Relative}
+use Rattle.irs_terms.specs.declared.codes.Relative.TheVariants.{Start}
+use Rattle.irs_terms.specs.declared.codes.RollCode.TheVariants.{NoRoll}
+use Rattle.irs_terms.specs.declared.currency.Currency.{Currency}
+use Rattle.irs_terms.specs.declared.dates.FixTerms.{FixTerms}
+use Rattle.irs_terms.specs.declared.dates.PayTerms.{PayTerms}
+use Rattle.irs_terms.specs.declared.dates.ResetTerms.{ResetTerms}
+use Rattle.irs_terms.specs.declared.frequency.Frequency.{Frequency}
+use Rattle.irs_terms.specs.declared.frequency.Unit.TheVariants.{D}
+use Rattle.irs_terms.specs.declared.step_list.Step.{Step}
+use Rattle.irs_terms.specs.declared.step_list.StepValues.{StepValues}
+use Rattle.irs_terms.specs.declared.stream.Stream.{Stream}
+use Rattle.irs_terms.specs.declared.stream_list.Swap.{Swap}
+use Rattle.serde_json.specs.Data.{Data}
+use Rattle.std.specs.Prelude.{ℕ, List, [], ◌∷◌, map, ℤ, pos, false, Bool, Option, Some, None, option_map, option_and_then, unwrap_or, codes}
+
+-- ---- leaves
+
+-- the value that the leaf's text has, if there is a leaf and it has one
+abbrev pub said : {A : Type 0} → (List ℕ → Option A) → Option Data → Option A
+said at o = option_and_then at (text_in o)
+
+-- the text of a leaf, empty where there is none
+abbrev pub word_in : Option Data → List ℕ
+word_in o = unwrap_or (text_in o) []
+
+abbrev pub day_in : Option Data → ℤ
+day_in o = unwrap_or (said day_at o) first_day
+
+-- the values of a schedule are notionals or rates
+abbrev pub scale_at : Scale → List ℕ → Option ℤ
+scale_at Notionals = notional_at
+scale_at Rates = rate_at
+
+abbrev pub number_in : Scale → Option Data → ℤ
+number_in scale o = unwrap_or (said (scale_at scale) o) (pos 0)
+
+abbrev pub truth_in : Option Data → Bool
+truth_in o = unwrap_or (said truth_at o) false
+
+abbrev pub relative_in : Option Data → Relative
+relative_in o = unwrap_or (said relative_at o) Start
+
+abbrev pub no_currency : Currency
+no_currency = record { letters = 88 ∷ 88 ∷ 88 ∷ [] }
+
+-- ---- blocks
+
+abbrev pub frequency_in : Option Data → Frequency
+frequency_in o = record { count = unwrap_or (said multiplier_at (member (codes "periodMultiplier") o)) 1; unit = unwrap_or (said unit_at (member (codes "period") o)) D }
+
+abbrev pub tenor_in : Data → Frequency
+tenor_in d = record { count = unwrap_or (said multiplier_at (once (codes "periodMultiplier") d)) 1; unit = unwrap_or (said tenor_unit_at (once (codes "period") d)) D }
+
+abbrev pub offset_in : Option Data → Offset
+offset_in o = record { days = unwrap_or (said offset_at (member (codes "periodMultiplier") o)) (pos 0); kind = unwrap_or (said day_kind_at (member (codes "dayType") o)) Unsaid }
+
+-- the names of a list of centres
+abbrev pub names_in : Data → List (List ℕ)
+names_in d = map (λ x. word_in (Some x)) (values_in (codes "businessCenter") (Some d))
+
+abbrev pub named_centers : Option Data → Centers
+named_centers None = Dangling
+named_centers (Some d) = Listed (names_in d)
+
+abbrev pub own_centers : Option Data → Centers
+own_centers None = Absent
+own_centers (Some d) = Listed (names_in d)
+
+-- the centres are those of the one list that is named, or those that stand there
+abbrev pub centers_by : List (Option Data) → Option Data → Option Data → Centers
+centers_by lists (Some reference) own = named_centers (the_one (href_of reference) lists)
+centers_by lists None own = own_centers own
+
+abbrev pub adjustments_in : List (Option Data) → Option Data → Adjustments
+adjustments_in lists o = record { code = unwrap_or (said convention_at (member (codes "businessDayConvention") o)) Unadjusted; centers = centers_by lists (member (codes "businessCentersReference") o) (member (codes "businessCenters") o) }
+
+abbrev pub dated_in : List (Option Data) → Option Data → Dated
+dated_in lists o = record { day = day_in (member (codes "unadjustedDate") o); adj = adjustments_in lists (member (codes "dateAdjustments") o) }
+
+abbrev pub step_in : Scale → Data → Step
+step_in scale d = record { day = day_in (once (codes "stepDate") d); value = number_in scale (once (codes "stepValue") d) }
+
+abbrev pub schedule_in : Scale → Option Data → StepValues
+schedule_in scale o = record { initial = number_in scale (member (codes "initialValue") o); steps = map (step_in scale) (values_in (codes "step") o) }
+
+-- a value without steps, where there is no schedule
+abbrev pub schedule_or : ℤ → Option Data → StepValues
+schedule_or v None = record { initial = v; steps = [] }
+schedule_or v (Some d) = schedule_in Rates (Some d)
+
+-- ---- parts of a stream
+
+abbrev pub rounding_in : Option Data → Rounding
+rounding_in o = record { dir = unwrap_or (said direction_at (member (codes "roundingDirection") o)) Nearest; places = unwrap_or (said precision_at (member (codes "precision") o)) 9 }
+
+abbrev pub float_in : Data → FloatTerms
+float_in d = record {
+  index = word_in (once (codes "floatingRateIndex") d);
+  tenor = option_map tenor_in (once (codes "indexTenor") d);
+  multiplier = schedule_or (pos 1_000_000_000) (once (codes "floatingRateMultiplierSchedule") d);
+  spread = schedule_or (pos 0) (once (codes "spreadSchedule") d);
+  initial_rate = said rate_at (once (codes "initialRate") d);
+  rounding = rounding_in (once (codes "finalRateRounding") d);
+}
+
+abbrev pub leg_by : Option Data → Option Data → Leg
+leg_by (Some float) fixed = Floating (float_in float)
+leg_by None fixed = Fixed (schedule_in Rates fixed)
+
+abbrev pub pay_in : List (Option Data) → Option Data → Option Data → PayTerms
+pay_in lists dates o = record {
+  calc_ref = reference_in dates (member (codes "calculationPeriodDatesReference") o);
+  freq = frequency_in (member (codes "paymentFrequency") o);
+  first = said day_at (member (codes "firstPaymentDate") o);
+  last = said day_at (member (codes "lastRegularPaymentDate") o);
+  relative = relative_in (member (codes "payRelativeTo") o);
+  offset = offset_in (member (codes "paymentDaysOffset") o);
+  adj = adjustments_in lists (member (codes "paymentDatesAdjustments") o);
+}
+
+abbrev pub fix_in : List (Option Data) → Data → FixTerms
+fix_in lists d = record { offset = offset_in (Some d); adj = adjustments_in lists (Some d) }
+
+abbrev pub reset_in : List (Option Data) → Option Data → Data → ResetTerms
+reset_in lists dates d = record {
+  calc_ref = reference_in dates (once (codes "calculationPeriodDatesReference") d);
+  fixing_ref = reference_in (Some d) (member (codes "dateRelativeTo") (once (codes "fixingDates") d));
+  relative = relative_in (once (codes "resetRelativeTo") d);
+  fixing = option_map (fix_in lists) (once (codes "fixingDates") d);
+  freq = frequency_in (once (codes "resetFrequency") d);
+  adj = adjustments_in lists (once (codes "resetDatesAdjustments") d);
+}
+
+abbrev pub stub_by : Option Data → Option Data → StubRate
+stub_by (Some float) rate = Index (word_in (once (codes "floatingRateIndex") float)) (option_map tenor_in (once (codes "indexTenor") float))
+stub_by None rate = FixedStub (number_in Rates rate)
+
+abbrev pub stub_in : Data → StubRate
+stub_in d = stub_by (once (codes "floatingRate") d) (once (codes "stubRate") d)
+
+abbrev pub stubs_in : Option Data → Data → StubTerms
+stubs_in dates d = record {
+  calc_ref = reference_in dates (once (codes "calculationPeriodDatesReference") d);
+  initial = option_map stub_in (once (codes "initialStub") d);
+  last = option_map stub_in (once (codes "finalStub") d);
+}
+
+abbrev pub exchanges_in : Option Data → ExchangeFlags
+exchanges_in o = record {
+  initial = truth_in (member (codes "initialExchange") o);
+  intermediate = truth_in (member (codes "intermediateExchange") o);
+  last = truth_in (member (codes "finalExchange") o);
+}
+
+-- ---- streams
+
+abbrev pub stream_parts : List (Option Data) → Data → Option Data → Option Data → Option Data → Stream
+stream_parts lists d dates freq calc = record {
+  effective = dated_in lists (member (codes "effectiveDate") dates);
+  termination = dated_in lists (member (codes "terminationDate") dates);
+  period_adj = adjustments_in lists (member (codes "calculationPeriodDatesAdjustments") dates);
+  first_regular = said day_at (member (codes "firstRegularPeriodStartDate") dates);
+  last_regular = said day_at (member (codes "lastRegularPeriodEndDate") dates);
+  stub = said stub_kind_at (member (codes "stubPeriodType") dates);
+  freq = frequency_in freq;
+  roll = unwrap_or (said roll_at (member (codes "rollConvention") freq)) NoRoll;
+  pay = pay_in lists dates (once (codes "paymentDates") d);
+  reset = option_map (reset_in lists dates) (once (codes "resetDates") d);
+  notional = schedule_in Notionals (member (codes "notionalStepSchedule") (member (codes "notionalSchedule") calc));
+  currency = unwrap_or (said currency_at (member (codes "currency") (member (codes "notionalStepSchedule") (member (codes "notionalSchedule") calc)))) no_currency;
+  leg = leg_by (member (codes "floatingRateCalculation") calc) (member (codes "fixedRateSchedule") calc);
+  day_count = unwrap_or (said day_count_at (member (codes "dayCountFraction") calc)) OneOne;
+  compounding = unwrap_or (said compounding_at (member (codes "compoundingMethod") calc)) Simple;
+  stubs = option_map (stubs_in dates) (once (codes "stubCalculationPeriodAmount") d);
+  exchanges = exchanges_in (once (codes "principalExchanges") d);
+}
+
+-- the stream that d says, with the lists of centres of all streams
+unfoldable pub stream_in : List (Option Data) → Data → Stream
+stream_in lists d = stream_parts lists d (once (codes "calculationPeriodDates") d) (member (codes "calculationPeriodFrequency") (once (codes "calculationPeriodDates") d)) (member (codes "calculation") (once (codes "calculationPeriodAmount") d))
+
+-- the streams of a swap
+abbrev pub streams_in : Data → List Data
+streams_in d = values_in (codes "swapStream") (Some d)
+
+abbrev pub swap_in : Data → Swap
+swap_in d = record { streams = map (stream_in (lists_of (streams_in d))) (streams_in d) }

@@ -1,0 +1,57 @@
+-- References by `@href`, and the lists of centres that they may name.
+use Rattle.irs_elements.specs.Find.{member, once}
+use Rattle.irs_json.specs.Carrier.{child_of}
+use Rattle.irs_terms.specs.declared.codes.RefState.{RefState}
+use Rattle.irs_terms.specs.declared.codes.RefState.TheVariants.{Absent, Good, Dangling}
+use Rattle.serde_json.specs.Data.{Data}
+use Rattle.serde_json.specs.Find.{as_str}
+use Rattle.std.specs.List.{flat_map}
+use Rattle.std.specs.Prelude.{ℕ, Bool, false, ◌==◌, List, [], ◌∷◌, Option, Some, None, option_and_then, unwrap_or, count_by, find, codes, if◌then◌else◌}
+use Rattle.std.specs.Str.{bytes_eq}
+
+-- the text of an attribute, as it stands
+abbrev pub attribute : List ℕ → Option Data → Option (List ℕ)
+attribute name o = option_and_then as_str (option_and_then (child_of name) o)
+
+abbrev pub is_text : List ℕ → Option (List ℕ) → Bool
+is_text id None = false
+is_text id (Some s) = bytes_eq s id
+
+-- whether the element has that `@id`
+abbrev pub has_id : List ℕ → Option Data → Bool
+has_id id o = is_text id (attribute (codes "@id") o)
+
+-- the text of a reference's `@href`
+abbrev pub href_of : Data → List ℕ
+href_of d = unwrap_or (attribute (codes "@href") (Some d)) []
+
+-- a reference names its target by the target's `@id`
+abbrev pub reference_in : Option Data → Option Data → RefState
+reference_in target None = Absent
+reference_in target (Some reference) = if has_id (href_of reference) target then Good else Dangling
+
+-- what stands where a search ended
+abbrev pub first_of : Option (Option Data) → Option Data
+first_of None = None
+first_of (Some o) = o
+
+-- the list that has the id, where exactly one has it
+abbrev pub the_one : List ℕ → List (Option Data) → Option Data
+the_one id lists = if count_by (has_id id) lists == 1 then first_of (find (has_id id) lists) else None
+
+-- where a stream may have a list of centres
+abbrev pub lists_in : Data → List (Option Data)
+lists_in d =
+    let dates = once (codes "calculationPeriodDates") d in
+    let resets = once (codes "resetDates") d in
+    member (codes "businessCenters") (member (codes "dateAdjustments") (member (codes "effectiveDate") dates))
+    ∷ member (codes "businessCenters") (member (codes "dateAdjustments") (member (codes "terminationDate") dates))
+    ∷ member (codes "businessCenters") (member (codes "calculationPeriodDatesAdjustments") dates)
+    ∷ member (codes "businessCenters") (member (codes "paymentDatesAdjustments") (once (codes "paymentDates") d))
+    ∷ member (codes "businessCenters") (member (codes "fixingDates") resets)
+    ∷ member (codes "businessCenters") (member (codes "resetDatesAdjustments") resets)
+    ∷ []
+
+-- the lists of centres of all streams
+abbrev pub lists_of : List Data → List (Option Data)
+lists_of streams = flat_map lists_in streams

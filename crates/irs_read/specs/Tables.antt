@@ -1,0 +1,40 @@
+-- What makes a table of rows whole.
+use Rattle.irs_base.specs.Elements.{no_twin}
+use Rattle.irs_elements.specs.declared.table.Choice.{Choice}
+use Rattle.irs_elements.specs.declared.table.Choice.TheVariants.{Free, AtMostOne, ExactlyOne, Reference}
+use Rattle.irs_elements.specs.declared.table.Kind.{Kind}
+use Rattle.irs_elements.specs.declared.table.Kind.TheVariants.{Object, Leaf, Passed, Refused}
+use Rattle.irs_elements.specs.declared.table.Row.{Row}
+use Rattle.std.specs.Prelude.{ℕ, ◌+◌, nat_lt, Bool, true, false, ◌&&◌, ◌==◌, List, [], ◌∷◌, map, Option, Some, None, slice_get}
+use Rattle.std.specs.Str.{bytes_eq}
+
+-- the rows from the place k on are the elements of the table of paths: each has its place, its
+-- parent's place is that of the row of its parent, and its name is the element's
+abbrev pub follows : ℕ → List Row → List (List ℕ) → List ℕ → List (List ℕ) → Bool
+follows k [] [] [] [] = true
+follows k (row ∷ rows) (name ∷ names) (parent ∷ parents) (element ∷ elements) = (row.1 == k) && (row.0 + 2 == parent) && bytes_eq name element && follows (k + 1) rows names parents elements
+follows k rows names parents elements = false
+
+abbrev stands_below : ℕ → Option Row → Bool
+stands_below r None = false
+stands_below r (Some row) = row.0 == r
+
+-- the rows of a choice at row r are members of that row
+abbrev chooses : List Row → ℕ → Choice → Bool
+chooses rows r Free = true
+chooses rows r Reference = true
+chooses rows r (AtMostOne a b) = stands_below r (slice_get rows a) && stands_below r (slice_get rows b)
+chooses rows r (ExactlyOne a b) = stands_below r (slice_get rows a) && stands_below r (slice_get rows b)
+
+abbrev kind_fits : List Row → ℕ → Kind → Bool
+kind_fits rows r (Object choice) = chooses rows r choice
+kind_fits rows r (Leaf leaf) = true
+kind_fits rows r Passed = true
+kind_fits rows r Refused = true
+
+-- from row r on, each row stands behind its parent, its choice is among its members, and no later
+-- row of the same parent has its name
+abbrev pub is_whole : List Row → ℕ → List Row → List (List ℕ) → Bool
+is_whole all r [] [] = true
+is_whole all r (row ∷ rows) (name ∷ names) = nat_lt row.0 r && kind_fits all r row.2 && no_twin row.0 name (map (λ (x : Row). x.0) rows) names && is_whole all (r + 1) rows names
+is_whole all r rows names = false

@@ -1,0 +1,111 @@
+//! The way from the root of a document to its swap: the root is an object with exactly one of
+//! `swap`, `trade` (which holds `swap`) and `dataDocument` (which holds `trade`). The carrier's roots
+//! are this project's own.
+ghost use Rattle.irs_elements.specs.Order.{IsFirst};
+ghost use Rattle.irs_read.specs.Documents.{DocumentFault, by_root as by_root_of, document_below as document_below_of, has as has_of, one_object as one_object_of, one_swap as one_swap_of, swap_below as swap_below_of, the_swap as the_swap_of, trade_below as trade_below_of, way_seen};
+ghost use Rattle.serde_json.specs.View.{view};
+ghost use Rattle.std.specs.Prelude.{◌≡◌, map};
+
+use crate::swap::{first_in_swap, outside};
+use irs_base::{Broken, Elem, Rule};
+use irs_elements::values_at;
+use irs_json::{Value, child, members};
+
+// An element on the way stands once and is an object.
+fn one_object(list: &[Value]) -> Result<&Value, Broken>
+    ensures { way_seen result ≡ one_object_of (map view list.now) }
+{
+    match list {
+        [] => Err(outside(Rule::K2, Elem::SWAP)),
+        [one] => if members(one).is_some() {
+            Ok(one)
+        } else {
+            Err(outside(Rule::K3, Elem::DOCUMENT))
+        },
+        [_, _, ..] => Err(outside(Rule::K7, Elem::DOCUMENT)),
+    }
+}
+
+// The swap stands once.
+fn one_swap(list: &[Value]) -> Result<&Value, Broken>
+    ensures { way_seen result ≡ one_swap_of (map view list.now) }
+{
+    match list {
+        [] => Err(outside(Rule::K2, Elem::SWAP)),
+        [one] => Ok(one),
+        [_, _, ..] => Err(outside(Rule::K7, Elem::SWAP)),
+    }
+}
+
+// The swap below an object.
+fn swap_below(v: &Value) -> Result<&Value, Broken>
+    ensures { way_seen result ≡ swap_below_of (view v.now) }
+{
+    one_swap(values_at(v, "swap"))
+}
+
+// The swap below the `trade` of an object.
+fn trade_below(v: &Value) -> Result<&Value, Broken>
+    ensures { way_seen result ≡ trade_below_of (view v.now) }
+{
+    match one_object(values_at(v, "trade")) {
+        Ok(trade) => swap_below(trade),
+        Err(broken) => Err(broken),
+    }
+}
+
+// The swap below the `dataDocument` of an object.
+fn document_below(v: &Value) -> Result<&Value, Broken>
+    ensures { way_seen result ≡ document_below_of (view v.now) }
+{
+    match one_object(values_at(v, "dataDocument")) {
+        Ok(document) => trade_below(document),
+        Err(broken) => Err(broken),
+    }
+}
+
+// Whether an element of that name stands in the object.
+fn has(v: &Value, name: &str) -> bool
+    ensures { result ≡ has_of name.now (view v.now) }
+{
+    child(v, name).is_some()
+}
+
+// Exactly one of the three roots stands.
+fn by_root(swap: bool, trade: bool, document: bool, v: &Value) -> Result<&Value, Broken>
+    ensures { way_seen result ≡ by_root_of swap trade document (view v.now) }
+{
+    match (swap, trade, document) {
+        (false, false, false) => Err(outside(Rule::K2, Elem::SWAP)),
+        (true, false, false) => swap_below(v),
+        (false, true, false) => trade_below(v),
+        (false, false, true) => document_below(v),
+        (true, true, false) | (true, true, true) | (true, false, true) | (false, true, true) => {
+            Err(outside(Rule::K7, Elem::DOCUMENT))
+        }
+    }
+}
+
+/// The swap of a document, or the rule that ends the way to it.
+pub fn the_swap(v: &Value) -> Result<&Value, Broken>
+    ensures { way_seen result ≡ the_swap_of (view v.now) }
+{
+    if members(v).is_some() {
+        let swap = has(v, "swap");
+        let trade = has(v, "trade");
+        let document = has(v, "dataDocument");
+        by_root(swap, trade, document, v)
+    } else {
+        Err(outside(Rule::K3, Elem::DOCUMENT))
+    }
+}
+
+/// The first rule that a document breaks; `None` exactly where it breaks none.
+pub fn first_in_document(v: &Value) -> Option<Broken>
+    ensures { IsFirst (DocumentFault (view v.now)) result }
+{
+    match the_swap(v) {
+        Ok(swap) => first_in_swap(swap),
+        Err(broken) => Some(broken),
+    }
+}

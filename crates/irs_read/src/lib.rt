@@ -1,0 +1,18 @@
+//! The reader of a trade's document: the table of its elements, the first rule that it breaks, and
+//! the swap that it spells (FpML 5, InterestRateStream).
+#![tactic(auto)]
+
+mod blocks;
+mod document;
+mod leaf_values;
+mod reader;
+mod references;
+mod stream;
+mod swap;
+mod table;
+#[cfg(test)]
+mod tests;
+
+pub use document::first_in_document;
+pub use reader::{ReadErr, read_swap};
+pub use table::{rows_follow, rows_whole, swap_rows_whole};

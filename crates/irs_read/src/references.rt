@@ -1,0 +1,136 @@
+//! References by `@href`: a reference names the element that has its text as `@id`. What is in the
+//! profile are references to business centres of any stream of the swap, and to dates of the stream.
+ghost use Rattle.irs_elements.specs.Find.{seen};
+ghost use Rattle.irs_read.specs.References.{attribute as attribute_of, first_of, has_id as has_id_of, href_of, lists_in, lists_of, reference_in, the_one};
+ghost use Rattle.serde_json.specs.View.{view};
+ghost use Rattle.std.specs.Prelude.{◌≡◌, ◌++◌, IfOk, count_by, find, map, option_map};
+
+use irs_base::Memory;
+use irs_elements::{member, once};
+use irs_json::{Value, child};
+use irs_terms::RefState;
+use std::alloc::Global;
+
+// The text of an attribute, as it stands.
+fn attribute<'a>(v: Option<&'a Value>, name: &str) -> Option<&'a str>
+    ensures { option_map (λ s. s.now) result ≡ attribute_of name.now (seen v.entry) }
+{
+    match v {
+        None => None,
+        Some(v) => match child(v, name) {
+            None => None,
+            Some(found) => found.as_str(),
+        },
+    }
+}
+
+// Whether the element has that `@id`.
+fn has_id(v: Option<&Value>, id: &str) -> bool
+    ensures { result ≡ has_id_of id.now (seen v.entry) }
+{
+    match attribute(v, "@id") {
+        None => false,
+        Some(text) => text == id,
+    }
+}
+
+// The text of a reference's `@href`.
+fn href(reference: &Value) -> &str
+    ensures { result.now ≡ href_of (view reference.now) }
+{
+    match attribute(Some(reference), "@href") {
+        None => "",
+        Some(text) => text,
+    }
+}
+
+/// What becomes of a reference that is to name the target.
+pub fn reference(target: Option<&Value>, reference: Option<&Value>) -> RefState
+    ensures { result ≡ reference_in (seen target.entry) (seen reference.entry) }
+{
+    match reference {
+        None => RefState::Absent,
+        Some(reference) => if has_id(target, href(reference)) {
+            RefState::Good
+        } else {
+            RefState::Dangling
+        },
+    }
+}
+
+// How many lists have the id.
+fn named_count(lists: &[Option<&Value>], id: &str) -> usize
+    ensures { result ≡ count_by (has_id_of id.now) (map seen lists.now) }
+{
+    lists.iter().filter(|list| has_id(**list, id)).count()
+}
+
+// The first list with the id.
+fn first_named<'a>(lists: &[Option<&'a Value>], id: &str) -> Option<&'a Value>
+    ensures { seen result ≡ first_of (find (has_id_of id.now) (map seen lists.now)) }
+{
+    for list in lists {
+        if has_id(*list, id) {
+            return *list;
+        }
+    }
+    None
+}
+
+/// The one list that the reference names.
+pub fn the_named<'a>(lists: &[Option<&'a Value>], reference: &Value) -> Option<&'a Value>
+    ensures { seen result ≡ the_one (href_of (view reference.now)) (map seen lists.now) }
+{
+    let id = href(reference);
+    if named_count(lists, id) == 1 {
+        first_named(lists, id)
+    } else {
+        None
+    }
+}
+
+// Where a stream may have a list of centres.
+fn slots(stream: &Value) -> [Option<&Value>; 6]
+    ensures { map seen result ≡ lists_in (view stream.now) }
+{
+    let dates = once(stream, "calculationPeriodDates");
+    let resets = once(stream, "resetDates");
+    let effective = member(member(dates, "effectiveDate"), "dateAdjustments");
+    let termination = member(member(dates, "terminationDate"), "dateAdjustments");
+    let periods = member(dates, "calculationPeriodDatesAdjustments");
+    let payments = member(once(stream, "paymentDates"), "paymentDatesAdjustments");
+    let fixings = member(resets, "fixingDates");
+    let adjusted = member(resets, "resetDatesAdjustments");
+    [
+        member(effective, "businessCenters"),
+        member(termination, "businessCenters"),
+        member(periods, "businessCenters"),
+        member(payments, "businessCenters"),
+        member(fixings, "businessCenters"),
+        member(adjusted, "businessCenters"),
+    ]
+}
+
+// The lists with more behind them.
+fn add<'a>(
+    mut lists: Vec<Option<&'a Value>>,
+    more: &[Option<&'a Value>],
+) -> Result<Vec<Option<&'a Value>>, Memory>
+    ensures { IfOk result (λ all. all.items ≡ lists.entry.items ++ more.now) }
+{
+    for list in more {
+        lists.push(*list)?;
+    }
+    Ok(lists)
+}
+
+/// The lists of centres of all streams.
+pub fn lists<'a>(alloc: Global, streams: &'a [Value]) -> Result<Vec<Option<&'a Value>>, Memory>
+    ensures { IfOk result (λ lists. map seen lists.items ≡ lists_of (map view streams.now)) }
+{
+    let mut lists = Vec::new(alloc);
+    for stream in streams {
+        lists = add(lists, &slots(stream))?;
+    }
+    Ok(lists)
+}

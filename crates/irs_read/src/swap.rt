@@ -1,0 +1,65 @@
+//! The first rule that a swap breaks: its own, and those of its one to eight streams.
+ghost use Rattle.irs_elements.specs.Order.{IsFirst};
+ghost use Rattle.irs_read.specs.Swaps.{Among, StreamFault, StreamsFault, SwapFault, outside as outside_of};
+ghost use Rattle.irs_terms.specs.Lawful.{most_streams};
+ghost use Rattle.serde_json.specs.View.{view};
+ghost use Rattle.std.specs.Prelude.{◌≡◌, ◌≤◌, length, map};
+
+use crate::table::{MOST_STREAMS, NAMES, ROWS, STREAM, SWAP, SWAP_NAMES, SWAP_ROWS};
+use irs_base::{Broken, Elem, Place, Rule};
+use irs_elements::{earlier, first_fault, values_at};
+use irs_json::{Value, members};
+
+/// A rule that is broken outside the streams.
+pub fn outside(rule: Rule, elem: Elem) -> Broken
+    ensures { result ≡ outside_of rule elem }
+{
+    Broken {
+        rule,
+        place: Place {
+            stream: 0,
+            elem,
+            index: 0,
+        },
+    }
+}
+
+// The first rule that one to eight streams break.
+fn each_stream_fault(list: &[Value]) -> Option<Broken>
+    requires { length list.now ≤ most_streams }
+    ensures { IsFirst (Among StreamFault (map view list.now)) result }
+{
+    let mut first = None;
+    for j in 0..list.len() {
+        let number = j as u8 + 1;
+        first = earlier(
+            first,
+            first_fault(&ROWS, &NAMES, number, 0, STREAM, 0, &list[j]),
+        );
+    }
+    first
+}
+
+// The first rule that the streams of a swap break, and their count.
+fn streams_fault(list: &[Value]) -> Option<Broken>
+    ensures { IsFirst (StreamsFault (map view list.now)) result }
+{
+    if list.len() == 0 {
+        Some(outside(Rule::K2, Elem::SWAP_STREAM))
+    } else if list.len() > MOST_STREAMS {
+        Some(outside(Rule::K7, Elem::SWAP_STREAM))
+    } else {
+        each_stream_fault(list)
+    }
+}
+
+/// The first rule that a swap breaks.
+pub fn first_in_swap(v: &Value) -> Option<Broken>
+    ensures { IsFirst (SwapFault (view v.now)) result }
+{
+    let own = first_fault(&SWAP_ROWS, &SWAP_NAMES, 0, 0, SWAP, 0, v);
+    match members(v) {
+        None => own,
+        Some(_) => earlier(own, streams_fault(values_at(v, "swapStream"))),
+    }
+}

@@ -1,0 +1,78 @@
+-- What a fixing file holds, and its first line that is at fault. Lines count from 1.
+use Rattle.std.specs.Prelude.{◌≡◌, ◌⊎◌, ◌↔◌, ℕ, ◌-◌, ◌<◌, ◌≤◌, Bool, true, false, IsTrue, List, [], length, slice_index_or, Option, Some, None, IsSome, ℤ}
+use Rattle.irs_base.specs.Lines.{lines_of}
+use Rattle.irs_resets.specs.declared.store.Slot.{Slot}
+use Rattle.irs_resets.specs.Words.{is_passed}
+use Rattle.irs_resets.specs.FixingLines.{Spells}
+use Rattle.irs_resets.specs.Rates.{RateTable, rate_at, Adds}
+
+-- 4 MiB: the most bytes of a file
+abbrev pub most_bytes : ℕ
+most_bytes = 4_194_304
+
+-- the line is neither passed over nor spells a fixing
+pub record IsBadLine (line : List ℕ) : Type 0 where
+  pub not_passed : is_passed line ≡ false
+  pub spells_none : (index : List ℕ) (slot : Slot) (rate : ℤ) → Spells line index slot rate → ⊥
+
+-- the line with that number
+abbrev pub line_at : List (List ℕ) → ℕ → List ℕ
+line_at lines n = slice_index_or lines (n - 1) []
+
+-- a number of a line
+abbrev pub IsLine : List (List ℕ) → ℕ → Type 0
+IsLine lines n = (1 ≤ n) × (n ≤ length lines)
+
+-- the line n gives that rate
+pub record Fixes (lines : List (List ℕ)) (n : ℕ) (index : List ℕ) (slot : Slot) (rate : ℤ) : Type 0 where
+  pub is_line : IsLine lines n
+  pub spelt : Spells (line_at lines n) index slot rate
+
+-- the line n isn't passed over and spells no fixing
+pub record IsBad (lines : List (List ℕ)) (n : ℕ) : Type 0 where
+  pub is_line : IsLine lines n
+  pub bad : IsBadLine (line_at lines n)
+
+-- the line n has the index, date and tenor of an earlier line
+pub record Repeats (lines : List (List ℕ)) (n : ℕ) : Type 0 where
+  pub index : List ℕ
+  pub slot : Slot
+  pub rate : ℤ
+  pub here : Fixes lines n index slot rate
+  pub earlier : ℕ
+  pub before : earlier < n
+  pub old_rate : ℤ
+  pub there : Fixes lines earlier index slot old_rate
+
+abbrev pub IsFaulty : List (List ℕ) → ℕ → Type 0
+IsFaulty lines n = IsBad lines n ⊎ Repeats lines n
+
+-- the line n is at fault in this way, and no line before it is at fault in any
+pub record IsFirstFault (P : ℕ → Type 0) (lines : List (List ℕ)) (n : ℕ) : Type 0 where
+  pub fault : P n
+  pub none_before : (k : ℕ) → k < n → IsFaulty lines k → ⊥
+
+-- no line is at fault, and the rates are exactly those that the lines give
+pub record IsFixingFile (bytes : List ℕ) (table : RateTable) : Type 0 where
+  pub clean : (n : ℕ) → IsFaulty (lines_of bytes) n → ⊥
+  pub holds : (index : List ℕ) (slot : Slot) (rate : ℤ) → (rate_at table index slot ≡ Some rate) ↔ ((n : ℕ) × Fixes (lines_of bytes) n index slot rate)
+
+-- a line more is read: it is passed over, or its rate is put where there was none
+pub record TakesLine (old : RateTable) (line : List ℕ) (new : RateTable) : Type 0 where
+  pub index : List ℕ
+  pub slot : Slot
+  pub rate : ℤ
+  pub spelt : Spells line index slot rate
+  pub absent : rate_at old index slot ≡ None
+  pub adds : Adds old index slot rate new
+
+abbrev pub ReadsLine : RateTable → List ℕ → RateTable → Type 0
+ReadsLine old line new = (IsTrue (is_passed line) × (new ≡ old)) ⊎ TakesLine old line new
+
+-- the line spells a fixing whose index, date and tenor have a rate already
+pub record StandsAlready (table : RateTable) (line : List ℕ) : Type 0 where
+  pub index : List ℕ
+  pub slot : Slot
+  pub rate : ℤ
+  pub spelt : Spells line index slot rate
+  pub there : IsSome (rate_at table index slot)

@@ -1,0 +1,9 @@
+pub mod Words
+pub mod Tenors
+pub mod Rates
+pub mod FixingLines
+pub mod FixingFiles
+pub mod ResetDates
+pub mod ObservedRates
+pub mod Resets
+pub mod ResetRules

@@ -1,0 +1,67 @@
+-- Rates by index, date and tenor.
+use Rattle.std.specs.Prelude.{◌≡◌, ℕ, Bool, true, false, ◌&&◌, ◌==◌, Option, Some, None, ℤ, List, [], ◌∷◌, IfSome, if◌then◌else◌}
+use Rattle.std.specs.Ordering.{int_eq}
+use Rattle.std.specs.Map.{lookup}
+use Rattle.std.specs.Str.{bytes_eq}
+use Rattle.std.specs.declared.vec.Vec.{Vec}
+use Rattle.irs_terms.specs.declared.frequency.Unit.{Unit as FrequencyUnit}
+use Rattle.irs_terms.specs.declared.frequency.Unit.TheVariants.{D, W, M, Y, T}
+use Rattle.irs_terms.specs.Lawful.{IsRate}
+use Rattle.irs_terms.specs.declared.frequency.Frequency.{Frequency}
+use Rattle.irs_resets.specs.declared.store.Slot.{Slot}
+
+abbrev pub is_unit : FrequencyUnit → FrequencyUnit → Bool
+is_unit D D = true
+is_unit W W = true
+is_unit M M = true
+is_unit Y Y = true
+is_unit T T = true
+is_unit a b = false
+
+-- the same number of the same unit, so that 12M isn't 1Y
+abbrev pub is_tenor : Option Frequency → Option Frequency → Bool
+is_tenor None None = true
+is_tenor None (Some b) = false
+is_tenor (Some a) None = false
+is_tenor (Some a) (Some b) = (a.count == b.count) && is_unit a.unit b.unit
+
+-- the same date and tenor
+abbrev pub is_slot : Slot → Slot → Bool
+is_slot a b = int_eq a.date b.date && is_tenor a.tenor b.tenor
+
+-- rates by date and tenor
+abbrev pub SlotRates : Type 0
+SlotRates = List (Slot × ℤ)
+
+-- rates by index, and for each index by date and tenor
+abbrev pub RateTable : Type 0
+RateTable = List (List ℕ × SlotRates)
+
+abbrev pub rate_of : Option SlotRates → Slot → Option ℤ
+rate_of None slot = None
+rate_of (Some rates) slot = lookup (is_slot slot) rates
+
+-- the rate of an index at a date and tenor; the index is compared by its bytes
+abbrev pub rate_at : RateTable → List ℕ → Slot → Option ℤ
+rate_at table index slot = rate_of (lookup (bytes_eq index) table) slot
+
+-- new has the rate there, and at every other place what old has
+abbrev pub AddsTo : SlotRates → Slot → ℤ → SlotRates → Type 0
+AddsTo old slot rate new = (q : Slot) → lookup (is_slot q) new ≡ (if is_slot slot q then Some rate else lookup (is_slot q) old)
+
+abbrev pub Adds : RateTable → List ℕ → Slot → ℤ → RateTable → Type 0
+Adds old index slot rate new = (i : List ℕ) (q : Slot) → rate_at new i q ≡ (if bytes_eq index i && is_slot slot q then Some rate else rate_at old i q)
+
+-- each key as its bytes
+abbrev pub by_bytes : {Y X : Type 0} → List (Vec ℕ Y × X) → List (List ℕ × X)
+by_bytes [] = []
+by_bytes (e ∷ es) = (e.0.items, e.1) ∷ by_bytes es
+
+-- where nothing is kept there are no rates
+abbrev pub or_empty : Option RateTable → RateTable
+or_empty None = []
+or_empty (Some table) = table
+
+-- each rate is at most 10 in size
+abbrev pub AreSmall : RateTable → Type 0
+AreSmall table = (index : List ℕ) (slot : Slot) → IfSome (rate_at table index slot) IsRate

@@ -1,0 +1,47 @@
+-- Tenors as text.
+use Rattle.std.specs.Prelude.{ℕ, ◌+◌, ◌-◌, ◌*◌, ◌&&◌, ◌==◌, List, [], ◌∷◌, Option, Some, None, nat_le, if◌then◌else◌}
+use Rattle.irs_terms.specs.declared.frequency.Unit.{Unit as FrequencyUnit}
+use Rattle.irs_terms.specs.declared.frequency.Unit.TheVariants.{D, W, M, Y}
+use Rattle.irs_terms.specs.declared.frequency.Frequency.{Frequency}
+
+abbrev pub digit_at : ℕ → Option ℕ
+digit_at b = if nat_le 48 b && nat_le b 57 then Some (b - 48) else None
+
+-- a number has no leading zero
+abbrev pub first_digit : ℕ → Option ℕ
+first_digit b = if b == 48 then None else digit_at b
+
+abbrev pub tens : Option ℕ → Option ℕ → Option ℕ
+tens (Some x) (Some y) = Some (10 * x + y)
+tens (Some x) None = None
+tens None y = None
+
+abbrev pub two_digits : ℕ → ℕ → Option ℕ
+two_digits a b = tens (first_digit a) (digit_at b)
+
+abbrev pub hundreds : Option ℕ → Option ℕ → Option ℕ → Option ℕ
+hundreds (Some x) (Some y) (Some z) = Some (100 * x + 10 * y + z)
+hundreds (Some x) (Some y) None = None
+hundreds (Some x) None z = None
+hundreds None y z = None
+
+abbrev pub three_digits : ℕ → ℕ → ℕ → Option ℕ
+three_digits a b c = hundreds (first_digit a) (digit_at b) (digit_at c)
+
+-- D, W, M and Y
+abbrev pub unit_at : ℕ → Option FrequencyUnit
+unit_at b = if b == 68 then Some D else (if b == 87 then Some W else (if b == 77 then Some M else (if b == 89 then Some Y else None)))
+
+abbrev pub with_unit : Option ℕ → Option FrequencyUnit → Option (Option Frequency)
+with_unit (Some n) (Some u) = Some (Some (record { count = n; unit = u }))
+with_unit (Some n) None = None
+with_unit None u = None
+
+-- `-` is no tenor; else a number from 1 to 999, and its unit
+abbrev pub tenor_at : List ℕ → Option (Option Frequency)
+tenor_at [] = None
+tenor_at (a ∷ []) = if a == 45 then Some None else None
+tenor_at (a ∷ u ∷ []) = with_unit (first_digit a) (unit_at u)
+tenor_at (a ∷ b ∷ u ∷ []) = with_unit (two_digits a b) (unit_at u)
+tenor_at (a ∷ b ∷ c ∷ u ∷ []) = with_unit (three_digits a b c) (unit_at u)
+tenor_at (a ∷ b ∷ c ∷ d ∷ e ∷ rest) = None

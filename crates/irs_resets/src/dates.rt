@@ -1,0 +1,148 @@
+//! Reset dates and fixing dates (2006 ISDA Definitions, section 6.2; FpML `resetDates`).
+//!
+//! The reset date of a calculation period is its adjusted start or end, adjusted again. The fixing
+//! date is the reset date moved by the offset of `fixingDates` and then adjusted, or the reset date
+//! itself. The order of these steps is this project's own.
+ghost use Rattle.std.specs.Prelude.{◌≡◌, ◌⊎◌, ◌↔◌, ◌<◌, ◌^◌, ℕ, ℤ, pos, length, IsTrue, IfOk, IfErr, IfSome, IfNone};
+ghost use Rattle.irs_terms.specs.declared.codes.DayKind.TheVariants.{Unsaid};
+ghost use Rattle.irs_resets.specs.ResetDates.{base_day, IsPeriod, IsFirst, IsSaid, IsSaidOffset, ResetsOn, FixesOn, FixesBy, IsDates, FixingFails, FixFails, Fails, Decided, unmoved_fault};
+
+use irs_adjust::{adjust_by, move_by};
+use irs_base::Day;
+use irs_calendar::GoodDays;
+use irs_terms::{DayKind, FixTerms, Relative, ResetTerms};
+
+/// The dates of a reset.
+#[derive(Clone, Copy, Debug, PartialEq, Eq)]
+pub struct Dates {
+    pub reset: Day,
+    pub fixing: Day,
+}
+
+/// Why a period has no such dates.
+#[derive(Clone, Copy, Debug, PartialEq, Eq)]
+pub enum DateFault {
+    /// The adjustment of the reset date has no result.
+    NoReset,
+    /// The Business offset or the adjustment of the fixing date has no result.
+    NoFixing,
+    /// The Calendar offset of the fixing date leaves the range of dates.
+    OutOfRange,
+}
+
+// The day by which the reset date of a period goes. Periods count from 1.
+fn base(relative: Relative, adjusted: &[Day], number: usize) -> Day
+    requires { IsPeriod adjusted.now number }
+    ensures { result ≡ base_day relative adjusted.now number }
+{
+    match relative {
+        Relative::Start => adjusted[number - 1],
+        Relative::End => adjusted[number],
+    }
+}
+
+// What it means that there is no moved day.
+fn unmoved(kind: DayKind) -> DateFault
+    ensures { result ≡ unmoved_fault kind }
+{
+    match kind {
+        DayKind::Business => DateFault::NoFixing,
+        DayKind::Calendar => DateFault::OutOfRange,
+        DayKind::Unsaid => DateFault::NoFixing,
+    }
+}
+
+fn fix_by<G: GoodDays>(fix: &FixTerms, days: &G, reset: Day) -> Result<Day, DateFault>
+    requires { IsSaidOffset fix.now.offset }
+    ensures ok { IfOk result (FixesBy fix.now (G.days days.now) reset) }
+    ensures fault { IfErr result (λ e. FixFails e fix.now (G.days days.now) reset) }
+{
+    let Some(moved) = move_by(fix.offset, days, reset) else {
+        return Err(unmoved(fix.offset.kind));
+    };
+    match adjust_by(fix.adj.code, days, moved) {
+        Some(fixing) => Ok(fixing),
+        None => Err(DateFault::NoFixing),
+    }
+}
+
+fn fixing_date<G: GoodDays>(fixing: &Option<FixTerms>, days: &G, reset: Day) -> Result<Day, DateFault>
+    requires { IsSaid fixing.now }
+    ensures ok { IfOk result (FixesOn fixing.now (G.days days.now) reset) }
+    ensures fault { IfErr result (λ e. FixingFails e fixing.now (G.days days.now) reset) }
+{
+    match fixing {
+        Some(fix) => fix_by(fix, days, reset),
+        None => Ok(reset),
+    }
+}
+
+/// The dates of a period.
+pub fn period_dates<G: GoodDays>(
+    terms: &ResetTerms,
+    adjusted: &[Day],
+    number: usize,
+    reset_days: &G,
+    fixing_days: &G,
+) -> Result<Dates, DateFault>
+    requires period { IsPeriod adjusted.now number }
+    requires offset { IsSaid terms.now.fixing }
+    ensures ok { IfOk result (λ d. IsDates terms.now adjusted.now (G.days reset_days.now) (G.days fixing_days.now) number d.reset d.fixing) }
+    ensures fault { IfErr result (λ e. Fails e terms.now adjusted.now (G.days reset_days.now) (G.days fixing_days.now) number) }
+{
+    let day = base(terms.relative, adjusted, number);
+    let Some(reset) = adjust_by(terms.adj.code, reset_days, day) else {
+        return Err(DateFault::NoReset);
+    };
+    match fixing_date(&terms.fixing, fixing_days, reset) {
+        Ok(fixing) => Ok(Dates { reset, fixing }),
+        Err(fault) => Err(fault),
+    }
+}
+
+fn is_same(found: DateFault, fault: DateFault) -> bool
+    ensures { IsTrue result ↔ (found ≡ fault) }
+{
+    found == fault
+}
+
+fn has_fault<G: GoodDays>(
+    fault: DateFault,
+    terms: &ResetTerms,
+    adjusted: &[Day],
+    number: usize,
+    reset_days: &G,
+    fixing_days: &G,
+) -> bool
+    requires period { IsPeriod adjusted.now number }
+    requires offset { IsSaid terms.now.fixing }
+    ensures fault { IsTrue result ↔ Fails fault terms.now adjusted.now (G.days reset_days.now) (G.days fixing_days.now) number }
+    ensures decided { Decided terms.now adjusted.now (G.days reset_days.now) (G.days fixing_days.now) number }
+{
+    match period_dates(terms, adjusted, number, reset_days, fixing_days) {
+        Ok(_) => false,
+        Err(found) => is_same(found, fault),
+    }
+}
+
+/// The first period with that fault.
+pub fn first_with<G: GoodDays>(
+    fault: DateFault,
+    terms: &ResetTerms,
+    adjusted: &[Day],
+    reset_days: &G,
+    fixing_days: &G,
+) -> Option<u32>
+    requires few { length adjusted.now < 2 ^ 32 }
+    requires offset { IsSaid terms.now.fixing }
+    ensures some { IfSome result (IsFirst (Fails fault terms.now adjusted.now (G.days reset_days.now) (G.days fixing_days.now))) }
+    ensures none { IfNone result ((i : ℕ) → IsPeriod adjusted.now i → Fails fault terms.now adjusted.now (G.days reset_days.now) (G.days fixing_days.now) i → ⊥) }
+    ensures decided { IfNone result ((i : ℕ) → IsPeriod adjusted.now i → Decided terms.now adjusted.now (G.days reset_days.now) (G.days fixing_days.now) i) }
+{
+    for number in 1..adjusted.len() {
+        if has_fault(fault, terms, adjusted, number, reset_days, fixing_days) {
+            return Some(number as u32);
+        }
+    }
+    None
+}

@@ -1,0 +1,72 @@
+//! A line of a fixing file: DATE RATE TENOR INDEX.
+//!
+//! DATE is `YYYY-MM-DD` in range, RATE a decimal of 9 places and at most 10 in size, and TENOR `-`
+//! or a frequency other than the term. INDEX is the rest of the line, 1 to 128 bytes none of which
+//! is a control byte. The format is this project's own.
+ghost use Rattle.std.specs.Prelude.{◌≡◌, ◌≢◌, ◌↔◌, ◌≤◌, ℕ, ℤ, List, All, IsTrue, IfSome, IfNone, unsigned_abs};
+ghost use Rattle.irs_resets.specs.FixingLines.{IsRateText, IsIndexText, Spells};
+ghost use Rattle.irs_resets.specs.declared.store.Slot.{Slot as AtSlot};
+
+use crate::store::Slot;
+use crate::tenors::tenor;
+use crate::words::{first_word, trim_end};
+use irs_base::{date, read_dec};
+
+/// The most bytes of an index.
+const MOST_INDEX: usize = 128;
+
+/// The greatest rate in size: 10, in units of 10^-9.
+const MOST_RATE: i128 = 10_000_000_000;
+
+/// What a line says.
+#[derive(Clone, Copy)]
+pub struct FixingLine<'a> {
+    pub index: &'a [u8],
+    pub slot: Slot,
+    pub rate: i64,
+}
+
+fn rate(text: &[u8]) -> Option<i64>
+    ensures some { IfSome result (IsRateText text.now) }
+    ensures none { IfNone result ((v : ℤ) → IsRateText text.now v → ⊥) }
+{
+    let units = read_dec(text, 9)?;
+    if units < -MOST_RATE || units > MOST_RATE {
+        return None;
+    }
+    Some(units as i64)
+}
+
+fn has_no_control(bytes: &[u8]) -> bool
+    ensures { IsTrue result ↔ All (λ b. (32 ≤ b) × (b ≢ 127)) bytes.now }
+{
+    bytes.iter().all(|b| *b >= 32 && *b != 127)
+}
+
+fn is_index(bytes: &[u8]) -> bool
+    ensures { IsTrue result ↔ IsIndexText bytes.now }
+{
+    !bytes.is_empty() && bytes.len() <= MOST_INDEX && has_no_control(bytes)
+}
+
+/// What the line spells; `None` exactly where it spells nothing.
+pub fn fixing_line(line: &[u8]) -> Option<FixingLine<'_>>
+    ensures some { IfSome result (λ f. Spells line.now f.index.now f.slot f.rate) }
+    ensures none { IfNone result ((index : List ℕ) (slot : AtSlot) (rate : ℤ) → Spells line.now index slot rate → ⊥) }
+{
+    let (date_text, rest) = first_word(line);
+    let (rate_text, rest) = first_word(rest);
+    let (tenor_text, rest) = first_word(rest);
+    let index = trim_end(rest);
+    let date = date(date_text)?;
+    let rate = rate(rate_text)?;
+    let tenor = tenor(tenor_text)?;
+    if !is_index(index) {
+        return None;
+    }
+    Some(FixingLine {
+        index,
+        slot: Slot { date, tenor },
+        rate,
+    })
+}

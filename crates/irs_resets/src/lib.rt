@@ -1,0 +1,18 @@
+//! Rate fixings from a file, and the resets of a floating stream: reset dates, fixing dates and
+//! observed rates.
+#![tactic(auto)]
+
+mod dates;
+mod fixing_line;
+mod fixings;
+mod observed;
+mod rows;
+mod store;
+mod tenors;
+mod words;
+
+pub use fixings::{FixErr, Fixings};
+pub use rows::{ResErr, resets};
+
+#[cfg(test)]
+mod tests;

@@ -1,0 +1,77 @@
+//! The tenor of a line of a fixing file: `-`, or a number from 1 to 999 without leading zeros
+//! followed by D, W, M or Y.
+ghost use Rattle.std.specs.Prelude.{◌≡◌, ◌≤◌, IfSome};
+ghost use Rattle.irs_resets.specs.Tenors.{digit_at, first_digit, unit_at, two_digits, three_digits, with_unit, tenor_at};
+
+use irs_terms::{Frequency, Unit};
+
+fn digit(b: u8) -> Option<u16>
+    ensures value { result ≡ digit_at b }
+    ensures small { IfSome result (λ n. n ≤ 9) }
+{
+    if b'0' <= b && b <= b'9' {
+        Some(u16::from(b - b'0'))
+    } else {
+        None
+    }
+}
+
+// A digit that may stand first: no zero.
+fn leading(b: u8) -> Option<u16>
+    ensures value { result ≡ first_digit b }
+    ensures small { IfSome result (λ n. n ≤ 9) }
+{
+    if b == b'0' { None } else { digit(b) }
+}
+
+fn two(a: u8, b: u8) -> Option<u16>
+    ensures { result ≡ two_digits a b }
+{
+    let (Some(x), Some(y)) = (leading(a), digit(b)) else {
+        return None;
+    };
+    Some(10 * x + y)
+}
+
+fn three(a: u8, b: u8, c: u8) -> Option<u16>
+    ensures { result ≡ three_digits a b c }
+{
+    let (Some(x), Some(y), Some(z)) = (leading(a), digit(b), digit(c)) else {
+        return None;
+    };
+    Some(100 * x + 10 * y + z)
+}
+
+fn unit(b: u8) -> Option<Unit>
+    ensures { result ≡ unit_at b }
+{
+    match b {
+        b'D' => Some(Unit::D),
+        b'W' => Some(Unit::W),
+        b'M' => Some(Unit::M),
+        b'Y' => Some(Unit::Y),
+        _ => None,
+    }
+}
+
+fn frequency(count: Option<u16>, unit: Option<Unit>) -> Option<Option<Frequency>>
+    ensures { result ≡ with_unit count unit }
+{
+    match (count, unit) {
+        (Some(count), Some(unit)) => Some(Some(Frequency { count, unit })),
+        (Some(_), None) | (None, _) => None,
+    }
+}
+
+/// The tenor that a word spells; the inner `None` is the tenor `-`.
+pub fn tenor(word: &[u8]) -> Option<Option<Frequency>>
+    ensures { result ≡ tenor_at word.now }
+{
+    match word {
+        [b'-'] => Some(None),
+        [a, u] => frequency(leading(*a), unit(*u)),
+        [a, b, u] => frequency(two(*a, *b), unit(*u)),
+        [a, b, c, u] => frequency(three(*a, *b, *c), unit(*u)),
+        _ => None,
+    }
+}

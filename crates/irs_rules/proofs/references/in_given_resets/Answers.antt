@@ -1,0 +1,4 @@
+use Rattle.irs_rules.proofs.references.in_given_resets.Goals as goal
+
+pub returns-in-Some : goal.returns-in-Some
+returns-in-Some c = rw c.in-Some.is c.in_resets.ensures

@@ -1,0 +1,81 @@
+-- K11 and K12: an element that needs days has centres, and each stands in a calendar.
+use Rattle.std.specs.Prelude.{◌≡◌, ◌≢◌, ◌⊎◌, ℕ, List, false, IsSomeAnd, slice_get, pos}
+use Rattle.irs_base.specs.Elements as elements
+use Rattle.irs_calendar.specs.declared.sections.Section.{Section}
+use Rattle.irs_calendar.specs.Sections.{is_named}
+use Rattle.irs_terms.specs.declared.adjustments.Adjustments.{Adjustments}
+use Rattle.irs_terms.specs.declared.adjustments.Offset.{Offset}
+use Rattle.irs_terms.specs.declared.adjustments.Centers.{Centers}
+use Rattle.irs_terms.specs.declared.adjustments.Centers.TheVariants.{Absent, Listed, Dangling}
+use Rattle.irs_terms.specs.declared.codes.ConvCode.TheVariants.{Unadjusted}
+use Rattle.irs_terms.specs.declared.codes.DayKind.TheVariants.{Business}
+use Rattle.irs_terms.specs.declared.dates.FixTerms.{FixTerms}
+use Rattle.irs_terms.specs.declared.dates.ResetTerms.{ResetTerms}
+use Rattle.irs_terms.specs.declared.stream.Stream.{Stream}
+use Rattle.irs_rules.specs.declared.spot.Spot.{Spot}
+use Rattle.irs_rules.specs.Spots.{At, AtItem}
+
+-- adjustments need days where their convention isn't NONE
+abbrev pub NeedsDays : Adjustments → Type 0
+NeedsDays adj = adj.code ≢ Unadjusted
+
+-- an offset counts good days where it is a Business offset other than 0
+abbrev pub CountsGoodDays : Offset → Type 0
+CountsGoodDays o = (o.kind ≡ Business) × (o.days ≢ pos 0)
+
+-- payment dates and fixing dates also need days for their offset
+abbrev pub NeedsDaysWith : Offset → Adjustments → Type 0
+NeedsDaysWith o adj = NeedsDays adj ⊎ CountsGoodDays o
+
+-- there is no list of centres and no reference to one
+abbrev pub HasNoCenters : Adjustments → Type 0
+HasNoCenters adj = adj.centers ≡ Absent
+
+-- fixing dates that need days, for their own convention or their own offset, and have no centres
+abbrev pub LacksCentersInFixing : FixTerms → Type 0
+LacksCentersInFixing f = NeedsDaysWith f.offset f.adj × HasNoCenters f.adj
+
+-- K11 below resetDates
+abbrev pub LacksCentersInResets : ResetTerms → Spot → Type 0
+LacksCentersInResets r at =
+    At elements.fixing_dates (IsSomeAnd r.fixing LacksCentersInFixing) at
+    ⊎ At elements.reset_dates_adjustments (NeedsDays r.adj × HasNoCenters r.adj) at
+
+-- K11: an element needs days and has no centres; place: its adjustments
+abbrev pub BreaksK11 : Stream → Spot → Type 0
+BreaksK11 s at =
+    At elements.effective_date_adjustments (NeedsDays s.effective.adj × HasNoCenters s.effective.adj) at
+    ⊎ (At elements.termination_date_adjustments (NeedsDays s.termination.adj × HasNoCenters s.termination.adj) at
+    ⊎ (At elements.period_dates_adjustments (NeedsDays s.period_adj × HasNoCenters s.period_adj) at
+    ⊎ (At elements.payment_dates_adjustments (NeedsDaysWith s.pay.offset s.pay.adj × HasNoCenters s.pay.adj) at
+    ⊎ IsSomeAnd s.reset (λ r. LacksCentersInResets r at))))
+
+-- the i-th name, counted from 0, is that of no section of the calendar files
+abbrev pub IsUnlisted : List Section → List (List ℕ) → ℕ → Type 0
+IsUnlisted cal names i = IsSomeAnd (slice_get names i) (λ name. is_named name cal ≡ false)
+
+-- the i-th centre is in no calendar
+abbrev pub IsUnknown : List Section → Centers → ℕ → Type 0
+IsUnknown cal Absent i = ⊥
+IsUnknown cal (Listed names) i = IsUnlisted cal names i
+IsUnknown cal Dangling i = ⊥
+
+-- K12 at fixingDates
+abbrev pub UnknownInFixing : List Section → FixTerms → Spot → Type 0
+UnknownInFixing cal f at = AtItem elements.fixing_dates (λ i. NeedsDaysWith f.offset f.adj × IsUnknown cal f.adj.centers i) at
+
+-- K12 below resetDates
+abbrev pub UnknownInResets : List Section → ResetTerms → Spot → Type 0
+UnknownInResets cal r at =
+    IsSomeAnd r.fixing (λ f. UnknownInFixing cal f at)
+    ⊎ AtItem elements.reset_dates_adjustments (λ i. NeedsDays r.adj × IsUnknown cal r.adj.centers i) at
+
+-- K12: an element needs days and a centre of it is in no calendar; place: its adjustments, with the
+-- centre's position
+abbrev pub BreaksK12 : List Section → Stream → Spot → Type 0
+BreaksK12 cal s at =
+    AtItem elements.effective_date_adjustments (λ i. NeedsDays s.effective.adj × IsUnknown cal s.effective.adj.centers i) at
+    ⊎ (AtItem elements.termination_date_adjustments (λ i. NeedsDays s.termination.adj × IsUnknown cal s.termination.adj.centers i) at
+    ⊎ (AtItem elements.period_dates_adjustments (λ i. NeedsDays s.period_adj × IsUnknown cal s.period_adj.centers i) at
+    ⊎ (AtItem elements.payment_dates_adjustments (λ i. NeedsDaysWith s.pay.offset s.pay.adj × IsUnknown cal s.pay.adj.centers i) at
+    ⊎ IsSomeAnd s.reset (λ r. UnknownInResets cal r at))))

@@ -1,0 +1,28 @@
+-- The length of a frequency: days, months, or the whole term.
+use Rattle.std.specs.Prelude.{◌≡◌, ℕ, ◌*◌, ◌<◌}
+use Rattle.irs_terms.specs.declared.frequency.Unit.{Unit as FrequencyUnit}
+use Rattle.irs_terms.specs.declared.frequency.Unit.TheVariants.{D, W, M, Y, T}
+use Rattle.irs_terms.specs.declared.frequency.Frequency.{Frequency}
+use Rattle.irs_rules.specs.declared.lengths.Length.{Length}
+use Rattle.irs_rules.specs.declared.lengths.Length.TheVariants.{Days, Months, Term}
+
+-- a week is 7 days and a year 12 months; the term keeps its multiplier
+abbrev pub length_by : FrequencyUnit → ℕ → Length
+length_by D count = Days count
+length_by W count = Days (7 * count)
+length_by M count = Months count
+length_by Y count = Months (12 * count)
+length_by T count = Term count
+
+abbrev pub length_of : Frequency → Length
+length_of f = length_by f.unit f.count
+
+-- a whole multiple, with how many times it is
+abbrev pub IsTimes : ℕ → ℕ → ℕ → Type 0
+IsTimes whole part times = whole ≡ times * part
+
+-- at least 1 day or 1 month, and at least the multiplier 1
+abbrev pub IsPositive : Length → Type 0
+IsPositive (Days count) = 0 < count
+IsPositive (Months count) = 0 < count
+IsPositive (Term count) = 0 < count

@@ -1,0 +1,12 @@
+pub mod Order
+pub mod Spots
+pub mod Lengths
+pub mod References
+pub mod Centers
+pub mod DateOrder
+pub mod Frequencies
+pub mod PaymentDates
+pub mod DayTypes
+pub mod StepDates
+pub mod Legs
+pub mod TermsRules
