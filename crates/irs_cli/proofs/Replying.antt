@@ -1,10 +1,9 @@
 -- What a run says, from what its parts say.
-use Rattle.std.proofs.Common.{◌≡◌, ◌≢◌, ◌⊎◌, inl, inr, ℕ, zero, suc, ◌+◌, ◌<◌, ◌≤◌, List, [], ◌∷◌, ◌++◌, length, take, get_or, map, Option, Some, None, IfSome, codes, refl, sym, ◌∙◌, ap, subst, arith, String, string_bytes}
+use Rattle.std.proofs.Common.{◌≡◌, inl, inr, ℕ, ◌<◌, ◌≤◌, List, [], ◌∷◌, length, take, get_or, codes, refl, subst, arith, String, string_bytes}
 use Rattle.std.specs.declared.alloc.Global.{Global}
 use Rattle.std.proofs.lemmas.Bool.{cases_lt}
 use Rattle.std.proofs.lemmas.List.{take_all, length-take-le}
 use Rattle.std.proofs.lemmas.Fmt.{decimal_digit}
-use Rattle.irs_cli.specs.Outside.{Rose}
 use Rattle.irs_cli.specs.Run.{Words, texts, AsksSchedule, too_many, DueOf, no_file, too_long}
 
 -- what is due for the first bytes is due for the file

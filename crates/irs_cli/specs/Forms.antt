@@ -1,5 +1,5 @@
 -- What a document in the first form says.
-use Rattle.std.specs.Prelude.{◌≡◌, ◌≤◌, ℤ, pos, ◌≤ℤ◌, ◌<ℤ◌, unsigned_abs}
+use Rattle.std.specs.Prelude.{◌≤◌, pos, ◌≤ℤ◌, ◌<ℤ◌, unsigned_abs}
 use Rattle.irs_terms.specs.declared.frequency.Frequency.{Frequency}
 use Rattle.irs_terms.specs.declared.frequency.Unit.TheVariants.{M}
 use Rattle.irs_terms.specs.declared.codes.RollCode.{RollCode}

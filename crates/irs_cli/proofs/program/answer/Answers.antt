@@ -1,8 +1,7 @@
-use Rattle.std.proofs.Common.{◌≡◌, ◌≢◌, inl, inr, sym, ◌∙◌, ap, rules, arith, refl, ⊎_elim, List, ℕ, ◌∷◌, [], codes, IfOk, IfSome, Err, Ok, Some, subst, take, Option}
+use Rattle.std.proofs.Common.{◌≡◌, inl, inr, sym, ◌∙◌, ap, arith, refl, List, ℕ, IfSome, Err, Some, subst, take, Option}
 use Rattle.std.proofs.lemmas.Result.{IfOk-weaker}
-use Rattle.irs_cli.specs.declared.files.FetchErr.TheVariants.{Failed}
 use Rattle.irs_cli.specs.Replying.{reply_status, reply_text}
-use Rattle.irs_cli.specs.Run.{texts, IsListed, AsksSchedule, Replies, Due, DueOf, NoFile}
+use Rattle.irs_cli.specs.Run.{DueOf}
 use Rattle.irs_cli.proofs.Replying.{due_front, one_document, first_file}
 use Rattle.irs_cli.proofs.program.answer.Goals as goal
 

@@ -1,6 +1,5 @@
-use Rattle.std.proofs.Common.{◌≡◌, sym, refl, ◌∙◌, ap, rules, List, ℕ, ◌∷◌, [], codes, string_bytes, nat_eq}
+use Rattle.std.proofs.Common.{◌≡◌, sym, refl, ◌∙◌, codes, string_bytes}
 use Rattle.std.proofs.lemmas.Slice.Eq.{bytes_eq-Decides}
-use Rattle.irs_cli.specs.Run.{texts, IsListed, AsksSchedule}
 use Rattle.irs_cli.proofs.Replying.{three}
 use Rattle.irs_cli.proofs.program.document_of.Goals as goal
 
