@@ -108,7 +108,7 @@ pub passes : (lines : List (List ℕ)) (k : ℕ) (line : List ℕ) (more : List 
 passes lines k line more table r passed =
     let next = next_line lines k line more r.some r.rest in
     let none : (index : List ℕ) (slot : Slot) (rate : ℤ) (n : ℕ) → n ≡ k → Fixes lines n index slot rate → ⊥ = λ index slot rate n e f.
-      passed_none line index slot rate passed (at_line lines k line more index slot rate next (subst (λ (m : ℕ). Fixes lines m index slot rate) e f)) in
+    passed_none line index slot rate passed (at_line lines k line more index slot rate next (subst (λ (m : ℕ). Fixes lines m index slot rate) e f)) in
     record {
       some = omega arith;
       rest = rw (plus_one k) next.rest;
@@ -162,7 +162,7 @@ pub takes : (lines : List (List ℕ)) (k : ℕ) (line : List ℕ) (more : List (
 takes lines k line more old new r t =
     let next = next_line lines k line more r.some r.rest in
     let here : (i : List ℕ) (q : Slot) (rate : ℤ) (n : ℕ) → n ≡ k → Fixes lines n i q rate → Spells line i q rate = λ i q rate n e f.
-      at_line lines k line more i q rate next (subst (λ (m : ℕ). Fixes lines m i q rate) e f) in
+    at_line lines k line more i q rate next (subst (λ (m : ℕ). Fixes lines m i q rate) e f) in
     record {
       some = omega arith;
       rest = rw (plus_one k) next.rest;

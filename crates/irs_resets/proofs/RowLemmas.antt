@@ -80,8 +80,8 @@ one_resets s span a rs fs rates xs ys p q = one_of s.leg s.reset s span a rs fs 
 pub some_resets : (s : Stream) (f : FloatTerms) (t : ResetTerms) (span : Span) (a : List ℤ) (rs fs : DaySet) (rates : RateTable) → ((i : ℕ) → IsPeriod a i → HasDates t a rs fs i) → (rows : List Reset) × HasResets s f t span a rs fs rates rows
 some_resets s f t span a rs fs rates h =
     let row : (k : ℕ) → 1 ≤ k → k < 1 + (length a - 1) → (r : Reset) × IsReset s f t span a rs fs rates k r = λ k low high.
-      let d = h k (low, omega (arith, low, high)) in
-      (record { reset = d.0; fixing = d.1; observed = observed_rate (kind_at s.effective.day s.termination.day span (length a - 1) k) f s.stubs rates d.1 }, record { dates = d.2; observed = refl }) in
+    let d = h k (low, omega (arith, low, high)) in
+    (record { reset = d.0; fixing = d.1; observed = observed_rate (kind_at s.effective.day s.termination.day span (length a - 1) k) f s.stubs rates d.1 }, record { dates = d.2; observed = refl }) in
     let l = some_list (IsReset s f t span a rs fs rates) (length a - 1) 1 row in
     (l.0, record { many = l.1; each = l.2 })
 

@@ -66,7 +66,11 @@ fn fix_by<G: GoodDays>(fix: &FixTerms, days: &G, reset: Day) -> Result<Day, Date
     }
 }
 
-fn fixing_date<G: GoodDays>(fixing: &Option<FixTerms>, days: &G, reset: Day) -> Result<Day, DateFault>
+fn fixing_date<G: GoodDays>(
+    fixing: &Option<FixTerms>,
+    days: &G,
+    reset: Day,
+) -> Result<Day, DateFault>
     requires { IsSaid fixing.now }
     ensures ok { IfOk result (FixesOn fixing.now (G.days days.now) reset) }
     ensures fault { IfErr result (λ e. FixingFails e fixing.now (G.days days.now) reset) }

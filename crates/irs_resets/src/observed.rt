@@ -61,7 +61,12 @@ fn on_stub(stub: &StubRate, fixings: &Fixings, d: Day) -> Option<i64>
     }
 }
 
-fn on_stub_or_index(stub: &Option<StubRate>, float: &FloatTerms, fixings: &Fixings, d: Day) -> Option<i64>
+fn on_stub_or_index(
+    stub: &Option<StubRate>,
+    float: &FloatTerms,
+    fixings: &Fixings,
+    d: Day,
+) -> Option<i64>
     requires { IfSome stub.now IsLawfulStubRate }
     ensures value { result ≡ stub_or_index stub.now float.now fixings.now d }
     ensures small { IfSome result IsRate }
@@ -72,7 +77,12 @@ fn on_stub_or_index(stub: &Option<StubRate>, float: &FloatTerms, fixings: &Fixin
     }
 }
 
-fn of_initial_stub(stubs: &Option<StubTerms>, float: &FloatTerms, fixings: &Fixings, d: Day) -> Option<i64>
+fn of_initial_stub(
+    stubs: &Option<StubTerms>,
+    float: &FloatTerms,
+    fixings: &Fixings,
+    d: Day,
+) -> Option<i64>
     requires { IfSome stubs.now IsLawfulStubs }
     ensures value { result ≡ initial_stub_rate stubs.now float.now fixings.now d }
     ensures small { IfSome result IsRate }
@@ -83,7 +93,12 @@ fn of_initial_stub(stubs: &Option<StubTerms>, float: &FloatTerms, fixings: &Fixi
     }
 }
 
-fn of_final_stub(stubs: &Option<StubTerms>, float: &FloatTerms, fixings: &Fixings, d: Day) -> Option<i64>
+fn of_final_stub(
+    stubs: &Option<StubTerms>,
+    float: &FloatTerms,
+    fixings: &Fixings,
+    d: Day,
+) -> Option<i64>
     requires { IfSome stubs.now IsLawfulStubs }
     ensures value { result ≡ final_stub_rate stubs.now float.now fixings.now d }
     ensures small { IfSome result IsRate }

@@ -118,10 +118,22 @@ fn dates_broken<G: GoodDays>(
     if let Some(i) = first_with(DateFault::NoReset, terms, adjusted, reset_days, fixing_days) {
         return Some(broken(Rule::K33, Elem::RESET_DATES, i));
     }
-    if let Some(i) = first_with(DateFault::NoFixing, terms, adjusted, reset_days, fixing_days) {
+    if let Some(i) = first_with(
+        DateFault::NoFixing,
+        terms,
+        adjusted,
+        reset_days,
+        fixing_days,
+    ) {
         return Some(broken(Rule::K33, Elem::FIXING_DATES, i));
     }
-    if let Some(i) = first_with(DateFault::OutOfRange, terms, adjusted, reset_days, fixing_days) {
+    if let Some(i) = first_with(
+        DateFault::OutOfRange,
+        terms,
+        adjusted,
+        reset_days,
+        fixing_days,
+    ) {
         return Some(broken(Rule::K38, Elem::FIXING_DATES, i));
     }
     None
@@ -207,7 +219,17 @@ fn floating_resets<G: GoodDays>(
     if let Some(b) = dates_broken(terms, days, reset_days, fixing_days) {
         return Err(ResErr::Broken(b));
     }
-    let rows = listed(alloc, s, float, terms, span, days, reset_days, fixing_days, fixings)?;
+    let rows = listed(
+        alloc,
+        s,
+        float,
+        terms,
+        span,
+        days,
+        reset_days,
+        fixing_days,
+        fixings,
+    )?;
     Ok(rows)
 }
 

@@ -7,7 +7,7 @@ ghost use Rattle.irs_base.specs.Days.{IsDay};
 ghost use Rattle.irs_terms.specs.Lawful.{IsLawful, IsLawfulCenters, IsLawfulFrequency, IsLawfulLeg, IsLawfulNames, IsLawfulOffset, IsLawfulPay, IsLawfulReset, IsLawfulRoll, IsLawfulStream, IsLawfulStubs, IsLawfulValues, IsNotional, IsRate};
 
 use crate::check_terms;
-use irs_base::{Broken, Civil, Day, DayName, Direction, Names, Text, day_of};
+use irs_base::{Broken, Civil, Day, DayName, Direction, Elem, Names, Text, day_of};
 use irs_calendar::Calendars;
 use irs_terms::*;
 use std::alloc::Global;
@@ -545,46 +545,46 @@ fn calendars(alloc: Global) -> Result<Calendars, Fail> {
     }
 }
 
-/// A row: what is changed, and the rule that is broken then, with its path and index.
+/// A row: what is changed, and the rule that is broken then, with its element and index.
 #[derive(Clone, Copy)]
-struct Row(&'static [Change], u8, &'static str, u32);
+struct Row(&'static [Change], u8, Elem, u32);
 
 const BROKEN: [Row; 78] = [
     // K10 each reference
     Row(
         &[Adjusted(Of::Effective, ConvCode::Unadjusted, Given::Dangling)],
         10,
-        "calculationPeriodDates/effectiveDate/dateAdjustments/businessCentersReference",
+        Elem::EFFECTIVE_DATE_CENTERS_REFERENCE,
         0,
     ),
     Row(
         &[Adjusted(Of::Termination, ConvCode::Unadjusted, Given::Dangling)],
         10,
-        "calculationPeriodDates/terminationDate/dateAdjustments/businessCentersReference",
+        Elem::TERMINATION_DATE_CENTERS_REFERENCE,
         0,
     ),
     Row(
         &[Adjusted(Of::Periods, ConvCode::Following, Given::Dangling)],
         10,
-        "calculationPeriodDates/calculationPeriodDatesAdjustments/businessCentersReference",
+        Elem::PERIOD_DATES_CENTERS_REFERENCE,
         0,
     ),
     Row(
         &[Dangles(Ref::Payments)],
         10,
-        "paymentDates/calculationPeriodDatesReference",
+        Elem::PAYMENT_DATES_REFERENCE,
         0,
     ),
     Row(
         &[Adjusted(Of::Payments, ConvCode::Unadjusted, Given::Dangling)],
         10,
-        "paymentDates/paymentDatesAdjustments/businessCentersReference",
+        Elem::PAYMENT_DATES_CENTERS_REFERENCE,
         0,
     ),
     Row(
         &[Floats, Dangles(Ref::Resets)],
         10,
-        "resetDates/calculationPeriodDatesReference",
+        Elem::RESET_DATES_REFERENCE,
         0,
     ),
     Row(
@@ -593,13 +593,13 @@ const BROKEN: [Row; 78] = [
             Adjusted(Of::Fixing, ConvCode::Unadjusted, Given::Dangling),
         ],
         10,
-        "resetDates/fixingDates/businessCentersReference",
+        Elem::FIXING_DATES_CENTERS_REFERENCE,
         0,
     ),
     Row(
         &[Floats, Dangles(Ref::FixingRelativeTo)],
         10,
-        "resetDates/fixingDates/dateRelativeTo",
+        Elem::FIXING_DATES_RELATIVE_TO,
         0,
     ),
     Row(
@@ -608,44 +608,44 @@ const BROKEN: [Row; 78] = [
             Adjusted(Of::Resets, ConvCode::Unadjusted, Given::Dangling),
         ],
         10,
-        "resetDates/resetDatesAdjustments/businessCentersReference",
+        Elem::RESET_DATES_CENTERS_REFERENCE,
         0,
     ),
     Row(
         &[Floats, HasStubs, Dangles(Ref::Stubs)],
         10,
-        "stubCalculationPeriodAmount/calculationPeriodDatesReference",
+        Elem::STUB_AMOUNT_REFERENCE,
         0,
     ),
     // K11 and K12
     Row(
         &[Adjusted(Of::Effective, ConvCode::Preceding, Given::Absent)],
         11,
-        "calculationPeriodDates/effectiveDate/dateAdjustments",
+        Elem::EFFECTIVE_DATE_ADJUSTMENTS,
         0,
     ),
     Row(
         &[Adjusted(Of::Termination, ConvCode::Nearest, Given::Absent)],
         11,
-        "calculationPeriodDates/terminationDate/dateAdjustments",
+        Elem::TERMINATION_DATE_ADJUSTMENTS,
         0,
     ),
     Row(
         &[Adjusted(Of::Periods, ConvCode::ModFollowing, Given::Absent)],
         11,
-        "calculationPeriodDates/calculationPeriodDatesAdjustments",
+        Elem::PERIOD_DATES_ADJUSTMENTS,
         0,
     ),
     Row(
         &[Adjusted(Of::Payments, ConvCode::Following, Given::Absent)],
         11,
-        "paymentDates/paymentDatesAdjustments",
+        Elem::PAYMENT_DATES_ADJUSTMENTS,
         0,
     ),
     Row(
         &[PayOffset(2, DayKind::Business)],
         11,
-        "paymentDates/paymentDatesAdjustments",
+        Elem::PAYMENT_DATES_ADJUSTMENTS,
         0,
     ),
     Row(
@@ -654,13 +654,13 @@ const BROKEN: [Row; 78] = [
             Adjusted(Of::Fixing, ConvCode::Preceding, Given::Absent),
         ],
         11,
-        "resetDates/fixingDates",
+        Elem::FIXING_DATES,
         0,
     ),
     Row(
         &[Floats, FixingOffset(-2, DayKind::Business)],
         11,
-        "resetDates/fixingDates",
+        Elem::FIXING_DATES,
         0,
     ),
     Row(
@@ -669,13 +669,13 @@ const BROKEN: [Row; 78] = [
             Adjusted(Of::Resets, ConvCode::ModPreceding, Given::Absent),
         ],
         11,
-        "resetDates/resetDatesAdjustments",
+        Elem::RESET_DATES_ADJUSTMENTS,
         0,
     ),
     Row(
         &[Adjusted(Of::Effective, ConvCode::Following, Given::SecondUnknown)],
         12,
-        "calculationPeriodDates/effectiveDate/dateAdjustments",
+        Elem::EFFECTIVE_DATE_ADJUSTMENTS,
         2,
     ),
     Row(
@@ -685,13 +685,13 @@ const BROKEN: [Row; 78] = [
             Given::SecondUnknown,
         )],
         12,
-        "calculationPeriodDates/terminationDate/dateAdjustments",
+        Elem::TERMINATION_DATE_ADJUSTMENTS,
         2,
     ),
     Row(
         &[Adjusted(Of::Periods, ConvCode::Following, Given::SecondUnknown)],
         12,
-        "calculationPeriodDates/calculationPeriodDatesAdjustments",
+        Elem::PERIOD_DATES_ADJUSTMENTS,
         2,
     ),
     Row(
@@ -700,7 +700,7 @@ const BROKEN: [Row; 78] = [
             Adjusted(Of::Payments, ConvCode::Unadjusted, Given::SecondUnknown),
         ],
         12,
-        "paymentDates/paymentDatesAdjustments",
+        Elem::PAYMENT_DATES_ADJUSTMENTS,
         2,
     ),
     Row(
@@ -710,7 +710,7 @@ const BROKEN: [Row; 78] = [
             Adjusted(Of::Fixing, ConvCode::Unadjusted, Given::SecondUnknown),
         ],
         12,
-        "resetDates/fixingDates",
+        Elem::FIXING_DATES,
         2,
     ),
     Row(
@@ -719,87 +719,77 @@ const BROKEN: [Row; 78] = [
             Adjusted(Of::Resets, ConvCode::Following, Given::SecondUnknown),
         ],
         12,
-        "resetDates/resetDatesAdjustments",
+        Elem::RESET_DATES_ADJUSTMENTS,
         2,
     ),
     // K13
-    Row(
-        &[Ends((2024, 1, 15))],
-        13,
-        "calculationPeriodDates/terminationDate",
-        0,
-    ),
-    Row(
-        &[Ends((2023, 1, 15))],
-        13,
-        "calculationPeriodDates/terminationDate",
-        0,
-    ),
+    Row(&[Ends((2024, 1, 15))], 13, Elem::TERMINATION_DATE, 0),
+    Row(&[Ends((2023, 1, 15))], 13, Elem::TERMINATION_DATE, 0),
     Row(
         &[FirstRegular((2024, 1, 14))],
         13,
-        "calculationPeriodDates/firstRegularPeriodStartDate",
+        Elem::FIRST_REGULAR_PERIOD_START_DATE,
         0,
     ),
     Row(
         &[FirstRegular((2025, 1, 16))],
         13,
-        "calculationPeriodDates/firstRegularPeriodStartDate",
+        Elem::FIRST_REGULAR_PERIOD_START_DATE,
         0,
     ),
     Row(
         &[LastRegular((2024, 1, 14))],
         13,
-        "calculationPeriodDates/lastRegularPeriodEndDate",
+        Elem::LAST_REGULAR_PERIOD_END_DATE,
         0,
     ),
     Row(
         &[LastRegular((2025, 1, 16))],
         13,
-        "calculationPeriodDates/lastRegularPeriodEndDate",
+        Elem::LAST_REGULAR_PERIOD_END_DATE,
         0,
     ),
     Row(
         &[FirstRegular((2024, 7, 15)), LastRegular((2024, 7, 14))],
         13,
-        "calculationPeriodDates/lastRegularPeriodEndDate",
+        Elem::LAST_REGULAR_PERIOD_END_DATE,
         0,
     ),
     // K14
     Row(
         &[Roll(RollCode::NoRoll)],
         14,
-        "calculationPeriodDates/calculationPeriodFrequency",
+        Elem::CALCULATION_PERIOD_FREQUENCY,
         0,
     ),
     Row(
         &[Roll(RollCode::OnWeekday(DayName::Mon))],
         14,
-        "calculationPeriodDates/calculationPeriodFrequency",
+        Elem::CALCULATION_PERIOD_FREQUENCY,
         0,
     ),
     Row(
         &[Calc(1, Unit::Y), Pay(1, Unit::Y), Roll(RollCode::NoRoll)],
         14,
-        "calculationPeriodDates/calculationPeriodFrequency",
+        Elem::CALCULATION_PERIOD_FREQUENCY,
         0,
     ),
     Row(
         &[Calc(6, Unit::W), Pay(6, Unit::W)],
         14,
-        "calculationPeriodDates/calculationPeriodFrequency",
+        Elem::CALCULATION_PERIOD_FREQUENCY,
         0,
     ),
     Row(
         &[Calc(6, Unit::W), Pay(6, Unit::W), Roll(RollCode::Eom)],
         14,
-        "calculationPeriodDates/calculationPeriodFrequency",
+        Elem::CALCULATION_PERIOD_FREQUENCY,
         0,
     ),
     Row(
         &[Calc(6, Unit::W), Pay(6, Unit::W), Roll(RollCode::Imm)],
         14,
-        "calculationPeriodDates/calculationPeriodFrequency",
+        Elem::CALCULATION_PERIOD_FREQUENCY,
         0,
     ),
     Row(
@@ -809,19 +799,19 @@ const BROKEN: [Row; 78] = [
             Roll(RollCode::OnWeekday(DayName::Sun)),
         ],
         14,
-        "calculationPeriodDates/calculationPeriodFrequency",
+        Elem::CALCULATION_PERIOD_FREQUENCY,
         0,
     ),
     Row(
         &[Calc(6, Unit::D), Pay(6, Unit::D), Roll(RollCode::Dom(1))],
         14,
-        "calculationPeriodDates/calculationPeriodFrequency",
+        Elem::CALCULATION_PERIOD_FREQUENCY,
         0,
     ),
     Row(
         &[Calc(2, Unit::T), Pay(1, Unit::T)],
         14,
-        "calculationPeriodDates/calculationPeriodFrequency",
+        Elem::CALCULATION_PERIOD_FREQUENCY,
         0,
     ),
     Row(
@@ -831,7 +821,7 @@ const BROKEN: [Row; 78] = [
             FirstRegular((2024, 7, 15)),
         ],
         14,
-        "calculationPeriodDates/calculationPeriodFrequency",
+        Elem::CALCULATION_PERIOD_FREQUENCY,
         0,
     ),
     Row(
@@ -841,36 +831,36 @@ const BROKEN: [Row; 78] = [
             LastRegular((2024, 7, 15)),
         ],
         14,
-        "calculationPeriodDates/calculationPeriodFrequency",
+        Elem::CALCULATION_PERIOD_FREQUENCY,
         0,
     ),
     // K15
-    Row(&[Pay(9, Unit::M)], 15, "paymentDates/paymentFrequency", 0),
-    Row(&[Pay(3, Unit::M)], 15, "paymentDates/paymentFrequency", 0),
-    Row(&[Pay(180, Unit::D)], 15, "paymentDates/paymentFrequency", 0),
+    Row(&[Pay(9, Unit::M)], 15, Elem::PAYMENT_FREQUENCY, 0),
+    Row(&[Pay(3, Unit::M)], 15, Elem::PAYMENT_FREQUENCY, 0),
+    Row(&[Pay(180, Unit::D)], 15, Elem::PAYMENT_FREQUENCY, 0),
     Row(
         &[Calc(7, Unit::D), Roll(RollCode::NoRoll), Pay(1, Unit::M)],
         15,
-        "paymentDates/paymentFrequency",
+        Elem::PAYMENT_FREQUENCY,
         0,
     ),
     Row(
         &[Calc(5, Unit::D), Roll(RollCode::NoRoll), Pay(1, Unit::W)],
         15,
-        "paymentDates/paymentFrequency",
+        Elem::PAYMENT_FREQUENCY,
         0,
     ),
-    Row(&[Pay(2, Unit::T)], 15, "paymentDates/paymentFrequency", 0),
+    Row(&[Pay(2, Unit::T)], 15, Elem::PAYMENT_FREQUENCY, 0),
     Row(
         &[Calc(1, Unit::T), Pay(1, Unit::Y)],
         15,
-        "paymentDates/paymentFrequency",
+        Elem::PAYMENT_FREQUENCY,
         0,
     ),
     Row(
         &[Calc(1, Unit::T), Pay(7, Unit::D)],
         15,
-        "paymentDates/paymentFrequency",
+        Elem::PAYMENT_FREQUENCY,
         0,
     ),
     // K16
@@ -881,7 +871,7 @@ const BROKEN: [Row; 78] = [
             Stub(StubKind::ShortInitial),
         ],
         16,
-        "paymentDates/firstPaymentDate",
+        Elem::FIRST_PAYMENT_DATE,
         0,
     ),
     Row(
@@ -891,7 +881,7 @@ const BROKEN: [Row; 78] = [
             Stub(StubKind::LongInitial),
         ],
         16,
-        "paymentDates/firstPaymentDate",
+        Elem::FIRST_PAYMENT_DATE,
         0,
     ),
     Row(
@@ -902,19 +892,19 @@ const BROKEN: [Row; 78] = [
             Roll(RollCode::NoRoll),
         ],
         16,
-        "paymentDates/firstPaymentDate",
+        Elem::FIRST_PAYMENT_DATE,
         0,
     ),
     Row(
         &[FirstPayment((2024, 7, 15)), PaidAt(Relative::Start)],
         16,
-        "paymentDates/firstPaymentDate",
+        Elem::FIRST_PAYMENT_DATE,
         0,
     ),
     Row(
         &[LastPayment((2024, 7, 15)), PaidAt(Relative::Start)],
         16,
-        "paymentDates/lastRegularPaymentDate",
+        Elem::LAST_REGULAR_PAYMENT_DATE,
         0,
     ),
     Row(
@@ -924,62 +914,62 @@ const BROKEN: [Row; 78] = [
             Pay(1, Unit::T),
         ],
         16,
-        "paymentDates/firstPaymentDate",
+        Elem::FIRST_PAYMENT_DATE,
         0,
     ),
     Row(
         &[LastPayment((2024, 7, 15)), Pay(1, Unit::T)],
         16,
-        "paymentDates/lastRegularPaymentDate",
+        Elem::LAST_REGULAR_PAYMENT_DATE,
         0,
     ),
     Row(
         &[FirstPayment((2024, 1, 15))],
         16,
-        "paymentDates/firstPaymentDate",
+        Elem::FIRST_PAYMENT_DATE,
         0,
     ),
     Row(
         &[FirstPayment((2025, 1, 16))],
         16,
-        "paymentDates/firstPaymentDate",
+        Elem::FIRST_PAYMENT_DATE,
         0,
     ),
     Row(
         &[LastPayment((2025, 1, 16))],
         16,
-        "paymentDates/lastRegularPaymentDate",
+        Elem::LAST_REGULAR_PAYMENT_DATE,
         0,
     ),
     Row(
         &[LastPayment((2024, 1, 15))],
         16,
-        "paymentDates/lastRegularPaymentDate",
+        Elem::LAST_REGULAR_PAYMENT_DATE,
         0,
     ),
     Row(
         &[FirstPayment((2025, 1, 15)), LastPayment((2024, 7, 15))],
         16,
-        "paymentDates/lastRegularPaymentDate",
+        Elem::LAST_REGULAR_PAYMENT_DATE,
         0,
     ),
     // K17 and K18
     Row(
         &[PayOffset(2, DayKind::Unsaid)],
         17,
-        "paymentDates/paymentDaysOffset",
+        Elem::PAYMENT_DAYS_OFFSET,
         0,
     ),
     Row(
         &[Floats, FixingOffset(-2, DayKind::Unsaid)],
         17,
-        "resetDates/fixingDates",
+        Elem::FIXING_DATES,
         0,
     ),
     Row(
         &[StepOn(Values::Notional, (2024, 1, 15))],
         18,
-        "calculationPeriodAmount/calculation/notionalSchedule/notionalStepSchedule/step/stepDate",
+        Elem::NOTIONAL_STEP_DATE,
         1,
     ),
     Row(
@@ -988,7 +978,7 @@ const BROKEN: [Row; 78] = [
             StepOn(Values::Notional, (2025, 1, 15)),
         ],
         18,
-        "calculationPeriodAmount/calculation/notionalSchedule/notionalStepSchedule/step/stepDate",
+        Elem::NOTIONAL_STEP_DATE,
         2,
     ),
     Row(
@@ -997,13 +987,13 @@ const BROKEN: [Row; 78] = [
             StepOn(Values::Rate, (2024, 7, 15)),
         ],
         18,
-        "calculationPeriodAmount/calculation/fixedRateSchedule/step/stepDate",
+        Elem::FIXED_RATE_STEP_DATE,
         2,
     ),
     Row(
         &[StepOn(Values::Rate, (2025, 1, 16))],
         18,
-        "calculationPeriodAmount/calculation/fixedRateSchedule/step/stepDate",
+        Elem::FIXED_RATE_STEP_DATE,
         1,
     ),
     Row(
@@ -1013,23 +1003,23 @@ const BROKEN: [Row; 78] = [
             StepOn(Values::Multiplier, (2024, 7, 14)),
         ],
         18,
-        "calculationPeriodAmount/calculation/floatingRateCalculation/floatingRateMultiplierSchedule/step/stepDate",
+        Elem::MULTIPLIER_STEP_DATE,
         2,
     ),
     Row(
         &[Floats, StepOn(Values::Spread, (2024, 1, 14))],
         18,
-        "calculationPeriodAmount/calculation/floatingRateCalculation/spreadSchedule/step/stepDate",
+        Elem::SPREAD_STEP_DATE,
         1,
     ),
     // K19 to K21
-    Row(&[HasResets], 19, "resetDates", 0),
-    Row(&[HasStubs], 19, "stubCalculationPeriodAmount", 0),
-    Row(&[Floats, NoResets], 19, "resetDates", 0),
+    Row(&[HasResets], 19, Elem::RESET_DATES, 0),
+    Row(&[HasStubs], 19, Elem::STUB_AMOUNT, 0),
+    Row(&[Floats, NoResets], 19, Elem::RESET_DATES, 0),
     Row(
         &[Floats, ResetEvery(3, Unit::M)],
         20,
-        "resetDates/resetFrequency",
+        Elem::RESET_FREQUENCY,
         0,
     ),
     Row(
@@ -1040,7 +1030,7 @@ const BROKEN: [Row; 78] = [
             ResetEvery(2, Unit::T),
         ],
         20,
-        "resetDates/resetFrequency",
+        Elem::RESET_FREQUENCY,
         0,
     ),
     Row(
@@ -1051,19 +1041,19 @@ const BROKEN: [Row; 78] = [
             Roll(RollCode::NoRoll),
         ],
         20,
-        "resetDates/resetFrequency",
+        Elem::RESET_FREQUENCY,
         0,
     ),
     Row(
         &[Compounds(CompCode::Straight)],
         21,
-        "calculationPeriodAmount/calculation/compoundingMethod",
+        Elem::COMPOUNDING_METHOD,
         0,
     ),
     Row(
         &[Compounds(CompCode::Flat)],
         21,
-        "calculationPeriodAmount/calculation/compoundingMethod",
+        Elem::COMPOUNDING_METHOD,
         0,
     ),
 ];
@@ -1140,20 +1130,20 @@ const SOUND: [&[Change]; 26] = [
     ],
 ];
 
-fn is_at(found: &Broken, rule: u8, path: &str, index: u32) -> bool {
+fn is_at(found: &Broken, rule: u8, elem: Elem, index: u32) -> bool {
     found.place.stream == 1
         && found.rule.number() == rule
-        && found.place.elem.path() == path
+        && found.place.elem == elem
         && found.place.index == index
 }
 
 fn each_is_named<R: Abort>(rt: &R, alloc: Global, rows: &[Row]) -> Result<(), Fail> {
     let cal = calendars(alloc)?;
-    for Row(changes, rule, path, index) in rows {
+    for Row(changes, rule, elem, index) in rows {
         let swap = one_stream(alloc, &changed(changes))?;
         let found = check_terms(&swap, &cal).ok_or("none is broken")?;
         assert!(rt;
-            is_at(&found, *rule, path, *index),
+            is_at(&found, *rule, *elem, *index),
             "K{rule}, index {index}"
         );
     }

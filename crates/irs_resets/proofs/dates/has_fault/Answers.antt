@@ -13,6 +13,7 @@ returns-in-Ok-clause-fault g c =
 pub returns-in-Err-clause-fault : goal.returns-in-Err-clause-fault
 returns-in-Err-clause-fault g c =
     let s = g.G.GoodDays.days c.args.reset_days.now in
-    let u = g.G.GoodDays.days c.args.fixing_days.now in
-    (λ h. subst (λ (e : DateFault). Fails e c.args.terms.now c.args.adjusted.now s u c.args.number) (c.is_same.ensures.0 h) c.in-Err.ensures.fault,
-    λ f. c.is_same.ensures.1 (one_fault c.in-Err.found c.args.fault c.args.terms.now c.args.adjusted.now s u c.args.number c.in-Err.ensures.fault f))
+    let u = g.G.GoodDays.days c.args.fixing_days.now in (
+      λ h. subst (λ (e : DateFault). Fails e c.args.terms.now c.args.adjusted.now s u c.args.number) (c.is_same.ensures.0 h) c.in-Err.ensures.fault,
+      λ f. c.is_same.ensures.1 (one_fault c.in-Err.found c.args.fault c.args.terms.now c.args.adjusted.now s u c.args.number c.in-Err.ensures.fault f),
+    )
