@@ -7,6 +7,8 @@ mod error;
 mod listing;
 mod nearest;
 mod span;
+#[cfg(test)]
+mod tests;
 
 pub use adjusting::adjusted;
 pub use error::PerErr;
