@@ -1,7 +1,7 @@
 -- The days of the regular span between the two ends of the term, as one list.
-use Rattle.std.proofs.Common.{◌≡◌, ◌⊎◌, ◌↔◌, inl, inr, ⊎_elim, ℕ, ◌<◌, Bool, true, false, is_lt, int_cmp, length, List, [], ◌∷◌, ◌++◌, ℤ, pos, ◌<ℤ◌, ◌≤ℤ◌, refl, sym, ap, subst, ◌∙◌, arith, append-nil}
+use Rattle.std.proofs.Common.{◌≡◌, ◌⊎◌, ◌↔◌, inl, inr, ⊎_elim, Bool, true, false, is_lt, int_cmp, List, [], ◌∷◌, ◌++◌, ℤ, ◌<ℤ◌, ◌≤ℤ◌, refl, sym, subst, ◌∙◌, arith, append-nil}
 use Rattle.jiff_core.proofs.SignedLemmas.{signed_arith}
-use Rattle.irs_base.specs.Listed.{Member, AllAfter, IsRising, Lists}
+use Rattle.irs_base.specs.Listed.{Member, AllAfter, Lists}
 use Rattle.irs_base.proofs.Rising.{member_old, member_new, member_cases, rising_push, one_rising}
 use Rattle.irs_periods.specs.Boundaries.{OnSpan, IsBoundaryBy}
 use Rattle.irs_periods.specs.GridLists.{where_before}

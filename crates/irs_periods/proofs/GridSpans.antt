@@ -1,9 +1,9 @@
 -- The days of a grid from the first to the last day of a span, listed.
-use Rattle.std.proofs.Common.{◌≡◌, ◌⊎◌, inl, inr, ⊎_elim, ℕ, zero, suc, ◌+◌, ◌-◌, ◌<◌, ◌≤◌, List, [], ◌∷◌, ◌++◌, length, ℤ, pos, negsuc, ◌+ℤ◌, ◌-ℤ◌, ◌<ℤ◌, ◌≤ℤ◌, refl, sym, ap, subst, ◌∙◌, arith, length-append, add-one}
+use Rattle.std.proofs.Common.{◌≡◌, inl, inr, ℕ, zero, suc, ◌+◌, ◌-◌, ◌<◌, [], ◌∷◌, ◌++◌, length, ℤ, pos, ◌+ℤ◌, ◌<ℤ◌, ◌≤ℤ◌, refl, sym, ap, subst, ◌∙◌, arith, length-append}
 use Rattle.std.proofs.lemmas.Bool.{cases_lt}
 use Rattle.jiff_core.proofs.SignedLemmas.{signed_arith}
 use borrow.Author.Differences.{up, down}
-use Rattle.irs_base.specs.Listed.{Member, AllAfter, IsRising, Lists}
+use Rattle.irs_base.specs.Listed.{Member, IsRising, Lists}
 use Rattle.irs_base.proofs.Rising.{member_old, member_new, member_cases, rising_push}
 use Rattle.irs_periods.specs.Boundaries.{OnSpan}
 use Rattle.irs_periods.specs.GridLists.{days_from, where_before, all_boundaries}

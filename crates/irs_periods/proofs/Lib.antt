@@ -9,3 +9,4 @@ pub mod RegularPart
 pub mod TermList
 pub mod AdjustedLemmas
 pub mod FirstResults
+pub mod OneSpan

@@ -1,5 +1,5 @@
 -- What a grid of the stream's frequency and roll says of the stream's regular span.
-use Rattle.std.proofs.Common.{◌≡◌, ◌⊎◌, ◌↔◌, inl, inr, ℕ, ◌+◌, ◌≤◌, true, false, List, ◌++◌, ℤ, pos, ◌+ℤ◌, ◌≤ℤ◌, ◌<ℤ◌, refl, sym, subst, ◌∙◌, arith}
+use Rattle.std.proofs.Common.{◌≡◌, ◌↔◌, ℕ, ◌+◌, ◌≤◌, false, ℤ, pos, ◌+ℤ◌, ◌≤ℤ◌, ◌<ℤ◌, refl, subst, arith}
 use Rattle.jiff_core.proofs.SignedLemmas.{signed_arith}
 use Rattle.irs_base.specs.Days.{IsDay}
 use Rattle.irs_base.specs.Listed.{Lists}
@@ -11,9 +11,9 @@ use Rattle.irs_roll.specs.Rolls.{IsTerm, OnGrid}
 use Rattle.irs_periods.specs.Terms.{DatesInOrder, effective_of, termination_of}
 use Rattle.irs_periods.specs.Spans.{Regular, GivenSpan, given_anchor, is_term}
 use Rattle.irs_periods.specs.SpanRules.{SpanKept}
-use Rattle.irs_periods.specs.Boundaries.{Boundaries, IsBoundaryBy, OnSpan}
+use Rattle.irs_periods.specs.Boundaries.{Boundaries, OnSpan}
 use Rattle.irs_periods.specs.GridLists.{all_boundaries, days_from}
-use Rattle.irs_periods.proofs.GridDays.{no_earlier, number_order, number_bounds}
+use Rattle.irs_periods.proofs.GridDays.{no_earlier, number_order}
 use Rattle.irs_periods.proofs.GridSpans.{span_days}
 use Rattle.irs_periods.proofs.SpanOrder.{InTerm, given_in_term}
 use Rattle.irs_periods.proofs.Assembled.{assembled, same_boundaries}

@@ -1,5 +1,5 @@
 -- The regular span over two tests that say the same of each day.
-use Rattle.std.proofs.Common.{◌≡◌, ◌⊎◌, inl, inr, ⊎_elim, ◌↔◌, Option, Some, None, ℤ, ◌≤ℤ◌, ◌<ℤ◌}
+use Rattle.std.proofs.Common.{inl, inr, ⊎_elim, ◌↔◌, Option, Some, None, ℤ}
 use Rattle.irs_terms.specs.declared.codes.StubKind.{StubKind}
 use Rattle.irs_terms.specs.declared.codes.StubKind.TheVariants.{ShortInitial, LongInitial, ShortFinal, LongFinal}
 use Rattle.irs_periods.specs.Nearest.{FirstFrom, FirstAfter, LastUpTo, LastBefore, LongFirst, LongLast}

@@ -1,9 +1,9 @@
 -- The regular span lies in the term, its first day is on the grid, and its ends stand in order.
-use Rattle.std.proofs.Common.{◌≡◌, ◌⊎◌, inl, inr, ⊎_elim, Bool, true, false, Option, Some, None, IfSome, ℤ, ◌≤ℤ◌, ◌<ℤ◌, refl, sym, subst, ◌∙◌, arith}
+use Rattle.std.proofs.Common.{◌≡◌, ⊎_elim, Option, Some, None, IfSome, ℤ, ◌≤ℤ◌, ◌<ℤ◌, sym, subst, ◌∙◌, arith}
 use Rattle.jiff_core.proofs.SignedLemmas.{signed_arith}
 use Rattle.irs_terms.specs.declared.codes.StubKind.{StubKind}
 use Rattle.irs_terms.specs.declared.codes.StubKind.TheVariants.{ShortInitial, LongInitial, ShortFinal, LongFinal}
-use Rattle.irs_periods.specs.Nearest.{FirstFrom, FirstAfter, LastUpTo, LastBefore, LongFirst, LongLast}
+use Rattle.irs_periods.specs.Nearest.{LongFirst, LongLast}
 use Rattle.irs_periods.specs.Terms.{given_or}
 use Rattle.irs_periods.specs.Spans.{StubSpan, GivenSpan, stub_anchor, given_anchor}
 

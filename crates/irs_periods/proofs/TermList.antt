@@ -1,6 +1,6 @@
 -- A stream whose frequency is the term has two boundaries.
-use Rattle.std.proofs.Common.{◌≡◌, ◌⊎◌, inl, inr, ⊎_elim, [], ◌∷◌, ℤ, ◌<ℤ◌}
-use Rattle.irs_base.specs.Listed.{Member, Lists}
+use Rattle.std.proofs.Common.{inl, inr, ⊎_elim, [], ◌∷◌, ℤ, ◌<ℤ◌}
+use Rattle.irs_base.specs.Listed.{Member}
 use Rattle.irs_terms.specs.declared.stream.Stream.{Stream}
 use Rattle.irs_terms.specs.declared.results.Span.{Span}
 use Rattle.irs_roll.specs.Rolls.{IsTerm, OnGrid}

@@ -1,10 +1,10 @@
 -- Steps from the anchor on either side: how far they lead, and which day stands next to a stub.
-use Rattle.std.proofs.Common.{◌≡◌, ◌⊎◌, inl, inr, ℕ, zero, suc, ◌+◌, ◌-◌, ◌<◌, ◌≤◌, arith, refl, sym, ap, subst, ◌∙◌, ℤ, pos, ◌+ℤ◌, ◌-ℤ◌, ◌≤ℤ◌, ◌<ℤ◌}
+use Rattle.std.proofs.Common.{◌≡◌, inl, inr, ℕ, ◌+◌, ◌-◌, ◌<◌, ◌≤◌, arith, refl, subst, ℤ, pos, ◌+ℤ◌, ◌-ℤ◌, ◌≤ℤ◌, ◌<ℤ◌}
 use Rattle.jiff_core.proofs.SignedLemmas.{signed_arith}
 use Rattle.irs_base.specs.Days.{IsDay}
 use Rattle.irs_periods.specs.declared.nearest.Way.{Way}
 use Rattle.irs_periods.specs.declared.nearest.Way.TheVariants.{Back, Ahead}
-use Rattle.irs_periods.specs.Nearest.{FirstFrom, FirstAfter, LastUpTo, LastBefore, LongFirst, LongLast}
+use Rattle.irs_periods.specs.Nearest.{FirstAfter, LastBefore}
 use Rattle.irs_periods.specs.Ways.{steps, Within, ShortEnd, LongEnd}
 use Rattle.irs_periods.proofs.GridDays.{cases_ltz, grows, no_earlier}
 use Rattle.irs_periods.proofs.NearestLemmas.{first_from, last_up_to, first_after, last_before}

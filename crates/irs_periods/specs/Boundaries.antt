@@ -6,7 +6,7 @@ use Rattle.irs_base.specs.declared.places.Broken.{Broken}
 use Rattle.irs_base.specs.declared.places.Rule.TheVariants.{K32}
 use Rattle.irs_terms.specs.declared.stream.Stream.{Stream}
 use Rattle.irs_terms.specs.declared.results.Span.{Span}
-use Rattle.irs_roll.specs.Rolls.{IsTerm, OnGrid}
+use Rattle.irs_roll.specs.Rolls.{OnGrid}
 use Rattle.irs_periods.specs.SpanRules.{broken_at}
 use Rattle.irs_periods.specs.Terms.{effective_of, termination_of}
 

@@ -1,4 +1,4 @@
-use Rattle.std.proofs.Common.{◌≡◌, ◌<◌, length, ℤ, pos, arith, subst, sym}
+use Rattle.std.proofs.Common.{◌<◌, length, ℤ, pos, subst, sym}
 use Rattle.std.proofs.lemmas.List.{get_or_read}
 use Rattle.irs_periods.specs.Adjusting.{AdjustsAt, days_by, last_of}
 use Rattle.irs_periods.proofs.adjusting.adjust_each.Goals as goal

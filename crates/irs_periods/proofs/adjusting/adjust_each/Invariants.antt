@@ -1,4 +1,4 @@
-use Rattle.std.proofs.Common.{◌≡◌, ℕ, ℤ, ◌<◌, length}
+use Rattle.std.proofs.Common.{◌≡◌, ℕ, ◌<◌, length}
 use Rattle.irs_periods.specs.Adjusting.{AdjustsAt, day_at, days_by, last_of}
 use Rattle.irs_periods.proofs.adjusting.adjust_each.Given as goal
 

@@ -1,4 +1,4 @@
-use Rattle.std.proofs.Common.{◌≡◌, ℕ, ◌<◌, ◌≤◌, List, length, ℤ, arith, ap, subst, sym, ◌∙◌}
+use Rattle.std.proofs.Common.{List, length, ℤ, arith, ap, subst}
 use Rattle.irs_periods.specs.Adjusting.{AdjustedList, NoResult, days_by}
 use Rattle.irs_periods.proofs.AdjustedLemmas.{one_adjusted, adjusted_exists, two_boundaries, few_days, rising_of}
 use Rattle.irs_periods.proofs.adjusting.adjusted.Goals as goal

@@ -1,5 +1,5 @@
-use Rattle.std.proofs.Common.{◌≡◌, ℕ, ◌+◌, ◌<◌, ◌++◌, List, length, ℤ, arith, ap, ◌∙◌, refl, subst, sym, to_z, of_z, w64, length-append}
-use Rattle.irs_periods.specs.Boundaries.{TooManyPeriods, too_many_periods}
+use Rattle.std.proofs.Common.{◌≡◌, ◌+◌, ◌++◌, length, ℤ, arith, ap, refl, subst, to_z, of_z, w64, length-append}
+use Rattle.irs_periods.specs.Boundaries.{TooManyPeriods}
 use Rattle.irs_periods.specs.GridLists.{all_boundaries, days_from, where_before}
 use Rattle.irs_periods.specs.Terms.{effective_of, termination_of}
 use Rattle.irs_periods.proofs.GridSpans.{length-all_boundaries, length-days_from}

@@ -1,4 +1,4 @@
-use Rattle.std.proofs.Common.{ℕ, ◌-◌, ◌<◌, ◌≤◌}
+use Rattle.std.proofs.Common.{◌-◌, ◌<◌, ◌≤◌}
 use Rattle.irs_periods.specs.Ways.{steps, Within}
 use Rattle.irs_periods.proofs.nearest.farthest.Given as goal
 

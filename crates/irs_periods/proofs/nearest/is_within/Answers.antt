@@ -1,4 +1,3 @@
-use Rattle.std.proofs.Common.{◌≡◌}
 use Rattle.irs_periods.proofs.WayLemmas.{within_is_day}
 use Rattle.irs_periods.proofs.nearest.is_within.Goals as goal
 

@@ -1,9 +1,9 @@
-use Rattle.std.proofs.Common.{◌≡◌, ℕ, ℤ, true, false, inr, sym, ◌∙◌, ap, subst}
+use Rattle.std.proofs.Common.{ℕ, inr, ◌∙◌, ap, subst}
 use Rattle.irs_base.specs.declared.places.Rule.TheVariants.{K31}
 use Rattle.irs_terms.specs.declared.results.Span.{Span}
 use Rattle.irs_roll.specs.Rolls.{OnGrid, Fits, IsTerm}
 use Rattle.irs_periods.specs.Terms.{effective_of, termination_of}
-use Rattle.irs_periods.specs.Spans.{Regular, is_term}
+use Rattle.irs_periods.specs.Spans.{Regular}
 use Rattle.irs_periods.specs.SpanRules.{broken_at}
 use Rattle.irs_periods.proofs.SpanLemmas.{given_span_same}
 use Rattle.irs_periods.proofs.span.timed_span.Goals as goal
