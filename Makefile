@@ -6,7 +6,8 @@ all: irs
 	./irs schedule examples/B.json -
 
 irs:
-	cd crates/irs && rt run -- schedule ../../examples/B.json - > /dev/null
+	mkdir -p crates/irs/out
+	cd crates/irs && rt run -- schedule ../../examples/B.json - > out/printed
 	cp crates/irs/out/irs irs
 
 test:
