@@ -2,3 +2,8 @@ pub mod Each
 pub mod Ways
 pub mod Lists
 pub mod Parts
+pub mod Clean
+pub mod Ranges
+pub mod Words
+pub mod Streams
+pub mod LawfulSwaps

@@ -5,7 +5,7 @@ use Rattle.irs_elements.specs.Order.{IsFirst}
 use Rattle.irs_read.specs.Documents.{DocumentFault, below, ended, the_swap}
 use Rattle.irs_read.specs.Swaps.{SwapFault}
 use Rattle.serde_json.specs.Data.{Data}
-use Rattle.std.proofs.Common.{◌≡◌, Option, Some, Ok, Err, refl, sym, subst, ◌∙◌}
+use Rattle.std.proofs.Common.{◌≡◌, Option, Some, Ok, Err, subst}
 
 pub ended_first : (d : Data) (f : Broken) → the_swap d ≡ Err f → IsFirst (DocumentFault d) (Some f)
 ended_first d f e = first_one _ f (ended f e) (only d f e)

@@ -9,7 +9,7 @@ use Rattle.irs_read.specs.declared.leaf_values.Scale.TheVariants.{Notionals}
 use Rattle.irs_terms.specs.declared.codes.CompCode.TheVariants.{Simple}
 use Rattle.irs_terms.specs.declared.codes.DayCountCode.TheVariants.{OneOne}
 use Rattle.irs_terms.specs.declared.codes.RollCode.TheVariants.{NoRoll}
-use Rattle.std.proofs.Common.{◌≡◌, ap, ◌∙◌, map, option_map}
+use Rattle.std.proofs.Common.{ap, ◌∙◌, map, option_map}
 use Rattle.std.specs.Prelude.{codes, unwrap_or}
 
 pub returns : goal.returns

@@ -1,0 +1,182 @@
+-- The texts of leaves that name a centre or an index are lawful.
+use Rattle.irs_elements.specs.Leaves.{text_of}
+use Rattle.irs_elements.specs.Words.{is_center_name, is_index_name, is_no_control, is_visible}
+use Rattle.irs_elements.specs.declared.table.Leaf.TheVariants.{CenterName, IndexName}
+use Rattle.irs_json.specs.Carrier.{child_of}
+use Rattle.irs_json.specs.Leaves.{Leaf, word, whole, truth, bare_leaf, is_beside, leaf_among, leaf_of, whole_of}
+use Rattle.irs_json.specs.Names.{names_of}
+use Rattle.irs_json.specs.Trim.{is_space, trim, trim_back, trim_front}
+use Rattle.irs_read.proofs.Clean.{Said}
+use Rattle.irs_read.specs.Meaning.{word_in}
+use Rattle.irs_terms.specs.Lawful.{IsLawfulIndex, IsLawfulName}
+use Rattle.serde_json.specs.Data.{Data, null, boolean, number, string, array, object, Num, unsigned, negative, float}
+use Rattle.std.proofs.Common.{◌≡◌, ◌≢◌, ℕ, zero, suc, ◌+◌, ◌-◌, ◌/◌, ◌%◌, ◌≤◌, nat_lt, nat_le, Bool, true, false, ◌&&◌, ◌==◌, true≢false, ◌⊎◌, inl, inr, List, [], ◌∷◌, ◌++◌, length, reverse, get_or, ℤ, pos, negsuc, Option, Some, None, option_map, option_and_then, unwrap_or, slice_index_or, decimal, codes, refl, sym, ap, subst, ◌∙◌, arith, if◌then◌else◌, length-append}
+use Rattle.std.proofs.Math.Seq.{get_or-append_seam}
+use Rattle.std.proofs.lemmas.Bool.Decides.{nat_tests}
+use Rattle.std.proofs.lemmas.List.{reverse-append}
+use Rattle.std.proofs.lemmas.List.Sums.{AllPass-from_list_all}
+use Rattle.std.specs.Fmt.{digit_glyph, digits, digits_onto, signed_decimal}
+use Rattle.std.specs.List.{list_all}
+
+-- ---- no blank at the ends
+
+abbrev pub EndsWell : List ℕ → Type 0
+EndsWell s = (get_or s 0 0 ≢ 32) × (get_or s (length s - 1) 0 ≢ 32)
+
+abbrev NoBlank : List ℕ → Type 0
+NoBlank [] = Unit {0}
+NoBlank (x ∷ xs) = (x ≢ 32) × NoBlank xs
+
+no_blank_at : (s : List ℕ) (i : ℕ) → NoBlank s → get_or s i 0 ≢ 32
+no_blank_at [] i h = λ e. omega (arith, e)
+no_blank_at (x ∷ xs) zero h = h.0
+no_blank_at (x ∷ xs) (suc i) h = no_blank_at xs i h.1
+
+no_blank_ends : (s : List ℕ) → NoBlank s → EndsWell s
+no_blank_ends s h = (no_blank_at s 0 h, no_blank_at s (length s - 1) h)
+
+glyph_by : (d : ℕ) (b : Bool) → (if b then 48 + d else 87 + d) ≢ 32
+glyph_by d true = λ e. omega (arith, e)
+glyph_by d false = λ e. omega (arith, e)
+
+onto_by : (b : Bool) (s t : List ℕ) → NoBlank s → NoBlank t → NoBlank (if b then s else t)
+onto_by true s t p q = p
+onto_by false s t p q = q
+
+onto_no_blank : (k n : ℕ) (acc : List ℕ) → NoBlank acc → NoBlank (digits_onto k 10 false n acc)
+onto_no_blank zero n acc h = h
+onto_no_blank (suc k) n acc h =
+    let more : NoBlank (digit_glyph false (n % 10) ∷ acc) = (glyph_by (n % 10) (nat_lt (n % 10) 10), h) in
+    onto_by (n / 10 == 0) _ _ more (onto_no_blank k (n / 10) (digit_glyph false (n % 10) ∷ acc) more)
+
+decimal_no_blank : (n : ℕ) → NoBlank (decimal n)
+unfolding digits
+decimal_no_blank n = onto_no_blank 64 n [] tt
+
+signed_no_blank : (z : ℤ) → NoBlank (signed_decimal z)
+signed_no_blank (pos n) = decimal_no_blank n
+signed_no_blank (negsuc n) = ((λ e. omega (arith, e)), decimal_no_blank (suc n))
+
+-- ---- what is trimmed
+
+no_space : (x : ℕ) → is_space x ≡ false → x ≢ 32
+no_space x h e = true≢false (sym (ap is_space e) ∙ h)
+
+-- nothing is left, or what is left begins with no space
+abbrev Front : List ℕ → Type 0
+Front s = (s ≡ []) ⊎ ((x : ℕ) × ((rest : List ℕ) × ((s ≡ x ∷ rest) × (is_space x ≡ false))))
+
+front_by : (x : ℕ) (xs : List ℕ) (b : Bool) → is_space x ≡ b → Front (trim_front xs) → Front (if b then trim_front xs else x ∷ xs)
+front_by x xs true e h = h
+front_by x xs false e h = inr (x, (xs, (refl, e)))
+
+front_is : (xs : List ℕ) → Front (trim_front xs)
+front_is [] = inl refl
+front_is (x ∷ xs) = front_by x xs (is_space x) refl (front_is xs)
+
+-- a last byte that is no space is kept
+abbrev Kept : ℕ → List ℕ → Type 0
+Kept y s = (w : List ℕ) × (s ≡ w ++ y ∷ [])
+
+kept_by : (z y : ℕ) (zs : List ℕ) (b : Bool) → Kept y (trim_front (zs ++ y ∷ [])) → Kept y (if b then trim_front (zs ++ y ∷ []) else z ∷ (zs ++ y ∷ []))
+kept_by z y zs true h = h
+kept_by z y zs false h = (z ∷ zs, refl)
+
+kept_last : (zs : List ℕ) (y : ℕ) → is_space y ≡ false → Kept y (trim_front (zs ++ y ∷ []))
+kept_last [] y e = ([], rw e refl)
+kept_last (z ∷ zs) y e = kept_by z y zs (is_space z) (kept_last zs y e)
+
+last_is : (v : List ℕ) (x : ℕ) → get_or (v ++ x ∷ []) (length (v ++ x ∷ []) - 1) 0 ≡ x
+last_is v x =
+    let long : length (v ++ x ∷ []) - 1 ≡ length v = omega (arith, length-append v (x ∷ [])) in
+    ap (λ (i : ℕ). get_or (v ++ x ∷ []) i 0) long ∙ get_or-append_seam v x [] 0
+
+back_last : (s : List ℕ) → Front s → get_or (reverse s) (length (reverse s) - 1) 0 ≢ 32
+back_last s (inl e) = rw e (λ h. omega (arith, h))
+back_last s (inr (x, (rest, (e, apart)))) =
+    let turned : reverse s ≡ reverse rest ++ x ∷ [] = ap reverse e ∙ reverse-append (x ∷ []) rest in
+    rw turned (λ h. no_space x apart (sym (last_is (reverse rest) x) ∙ h))
+
+first_of : (s : List ℕ) (y : ℕ) → is_space y ≡ false → Kept y s → get_or (reverse s) 0 0 ≢ 32
+first_of s y apart (w, e) =
+    let turned : reverse s ≡ y ∷ reverse w = ap reverse e ∙ reverse-append w (y ∷ []) in
+    rw turned (no_space y apart)
+
+back_first : (s : List ℕ) → Front s → get_or (trim_back s) 0 0 ≢ 32
+back_first s (inl e) = rw e (λ h. omega (arith, h))
+back_first s (inr (y, (rest, (e, apart)))) =
+    let turned : reverse s ≡ reverse rest ++ y ∷ [] = ap reverse e ∙ reverse-append (y ∷ []) rest in
+    first_of (trim_front (reverse s)) y apart (subst (λ (r : List ℕ). Kept y (trim_front r)) (sym turned) (kept_last (reverse rest) y apart))
+
+trim_ends : (t : List ℕ) → EndsWell (trim t)
+trim_ends t = (back_first (trim_front t) (front_is t), back_last (trim_front (reverse (trim_front t))) (front_is (reverse (trim_front t))))
+
+-- ---- leaves
+
+whole_ends : (n : Num) (l : Leaf) → whole_of n ≡ Some l → EndsWell (text_of l)
+whole_ends (unsigned n) l e = let s : whole (pos n) ≡ l = cc in subst (λ (x : Leaf). EndsWell (text_of x)) s (no_blank_ends (signed_decimal (pos n)) (signed_no_blank (pos n)))
+whole_ends (negative z) l e = let s : whole z ≡ l = cc in subst (λ (x : Leaf). EndsWell (text_of x)) s (no_blank_ends (signed_decimal z) (signed_no_blank z))
+whole_ends (float x) l e = cc
+
+truth_ends : (b : Bool) → EndsWell (text_of (truth b))
+truth_ends true = ((λ e. omega (arith, e)), (λ e. omega (arith, e)))
+truth_ends false = ((λ e. omega (arith, e)), (λ e. omega (arith, e)))
+
+bare_ends : (d : Data) (l : Leaf) → bare_leaf d ≡ Some l → EndsWell (text_of l)
+bare_ends null l e = cc
+bare_ends (boolean b) l e = let s : truth b ≡ l = cc in subst (λ (x : Leaf). EndsWell (text_of x)) s (truth_ends b)
+bare_ends (number n) l e = whole_ends n l e
+bare_ends (string t) l e = let s : word (trim t) ≡ l = cc in subst (λ (x : Leaf). EndsWell (text_of x)) s (trim_ends t)
+bare_ends (array ds) l e = cc
+bare_ends (object ms) l e = cc
+
+inner_ends : (o : Option Data) (b : Bool) (l : Leaf) → (if b then option_and_then bare_leaf o else None) ≡ Some l → EndsWell (text_of l)
+inner_ends o false l e = cc
+inner_ends None true l e = cc
+inner_ends (Some d) true l e = bare_ends d l e
+
+among_ends : (o : Option (List (List ℕ))) (d : Data) (l : Leaf) → leaf_among o d ≡ Some l → EndsWell (text_of l)
+among_ends None d l e = bare_ends d l e
+among_ends (Some names) d l e = inner_ends (child_of (codes "#text") d) (list_all is_beside names) l e
+
+leaf_ends : (d : Data) (l : Leaf) → leaf_of d ≡ Some l → EndsWell (text_of l)
+leaf_ends d l e = among_ends (names_of d) d l e
+
+-- ---- names
+
+visible : (b : ℕ) → is_visible b ≡ true → (33 ≤ b) × (b ≤ 126)
+visible b e = grind (arith, nat_tests)
+
+no_control : (b : ℕ) → is_no_control b ≡ true → (32 ≤ b) × (b ≢ 127)
+no_control b e = grind (arith, nat_tests)
+
+more : (n : ℕ) → nat_lt 0 n ≡ true → 1 ≤ n
+more n e = grind (arith, nat_tests)
+
+less : (m n : ℕ) → nat_le m n ≡ true → m ≤ n
+less m n e = grind (arith, nat_tests)
+
+split : (a b c : Bool) → (a && b && c) ≡ true → (a ≡ true) × ((b ≡ true) × (c ≡ true))
+split true true true e = (refl, (refl, refl))
+split true true false e = cc
+split true false c e = cc
+split false b c e = cc
+
+name_lawful : (s : List ℕ) → is_center_name s ≡ true → IsLawfulName s
+name_lawful s e =
+    let (some, (few, all)) = split (nat_lt 0 (length s)) (nat_le (length s) 32) (list_all is_visible s) e in
+    (more (length s) some, less (length s) 32 few, λ k d lt. visible (slice_index_or s k d) (AllPass-from_list_all is_visible s all k d lt))
+
+index_lawful : (s : List ℕ) → is_index_name s ≡ true → EndsWell s → IsLawfulIndex s
+index_lawful s e ends =
+    let (some, (few, all)) = split (nat_lt 0 (length s)) (nat_le (length s) 128) (list_all is_no_control s) e in
+    (more (length s) some, less (length s) 128 few, (λ k d lt. no_control (slice_index_or s k d) (AllPass-from_list_all is_no_control s all k d lt)), ends.0, ends.1)
+
+word_is : (d : Data) (l : Leaf) → leaf_of d ≡ Some l → word_in (Some d) ≡ text_of l
+word_is d l e = ap (λ (o : Option Leaf). unwrap_or (option_map text_of o) []) e
+
+pub center_lawful : (d : Data) → Said CenterName d → IsLawfulName (word_in (Some d))
+center_lawful d said = subst IsLawfulName (sym (word_is d said.says said.found)) (name_lawful (text_of said.says) said.valued)
+
+pub index_word : (d : Data) → Said IndexName d → IsLawfulIndex (word_in (Some d))
+index_word d said = subst IsLawfulIndex (sym (word_is d said.says said.found)) (index_lawful (text_of said.says) said.valued (leaf_ends d said.says said.found))
