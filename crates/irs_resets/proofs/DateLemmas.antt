@@ -1,5 +1,5 @@
 -- A period has one reset date and one fixing date, and its dates fail in one way at most.
-use Rattle.std.proofs.Common.{◌≡◌, ◌⊎◌, inl, inr, ℕ, List, Option, Some, None, ℤ, sym, subst, ◌∙◌, refl}
+use Rattle.std.proofs.Common.{◌≡◌, inl, inr, ℕ, List, Option, Some, None, ℤ, sym, subst, ◌∙◌, refl}
 use Rattle.irs_terms.specs.declared.codes.DayKind.{DayKind}
 use Rattle.irs_terms.specs.declared.codes.DayKind.TheVariants.{Business, Calendar, Unsaid}
 use Rattle.irs_terms.specs.declared.dates.FixTerms.{FixTerms}
@@ -11,7 +11,7 @@ use Rattle.irs_adjust.proofs.CodeLaws.{one_adjusts}
 use Rattle.irs_adjust.proofs.OffsetLaws.{one_moved}
 use Rattle.irs_resets.specs.declared.dates.DateFault.{DateFault}
 use Rattle.irs_resets.specs.declared.dates.DateFault.TheVariants.{NoReset, NoFixing, OutOfRange}
-use Rattle.irs_resets.specs.ResetDates.{base_day, ResetsOn, FixesBy, FixesOn, IsDates, FixFails, FixingFails, HasNoReset, HasFixingFault, Fails, HasDates, Decided, IsSaidOffset, unmoved_fault}
+use Rattle.irs_resets.specs.ResetDates.{base_day, ResetsOn, FixesBy, FixesOn, IsDates, FixFails, FixingFails, HasFixingFault, Fails, IsSaidOffset, unmoved_fault}
 
 pub one_reset : (t : ResetTerms) (a : List ℤ) (set : DaySet) (i : ℕ) (r s : ℤ) → ResetsOn t a set i r → ResetsOn t a set i s → r ≡ s
 one_reset t a set i r s p q = one_adjusts t.adj.code set (base_day t.relative a i) r s p q

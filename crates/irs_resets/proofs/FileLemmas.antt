@@ -1,8 +1,7 @@
 -- Reading a fixing file line by line.
-use Rattle.std.proofs.Common.{◌≡◌, ◌⊎◌, inl, inr, ◌↔◌, ℕ, zero, suc, ◌+◌, ◌-◌, ◌<◌, ◌≤◌, Bool, true, false, ◌&&◌, IsTrue, List, [], ◌∷◌, length, drop, get_or, Option, Some, None, IsSome, is_some, IfSome, ℤ, refl, sym, ap, ap₂, subst, ◌∙◌, arith, cond, ◌||◌, ◌==◌}
+use Rattle.std.proofs.Common.{◌≡◌, ◌⊎◌, inl, inr, ℕ, zero, suc, ◌+◌, ◌-◌, ◌<◌, ◌≤◌, Bool, true, false, ◌&&◌, List, [], ◌∷◌, length, drop, Option, Some, None, IsSome, is_some, IfSome, ℤ, refl, sym, ap₂, subst, ◌∙◌, arith, cond, ◌||◌, ◌==◌}
 use Rattle.std.specs.Prelude.{slice_index_or, slice_index}
 use Rattle.std.specs.Str.{bytes_eq}
-use Rattle.std.proofs.Math.Seq.{drop-cons}
 use Rattle.irs_base.proofs.DecimalLemmas.{one_decimal}
 use Rattle.std.specs.Prelude.{if◌then◌else◌}
 use Rattle.std.proofs.lemmas.Bool.Decides.{nat_tests}
@@ -10,13 +9,13 @@ use Rattle.irs_base.specs.Fields.{is_space}
 use Rattle.irs_base.specs.Dates.{date_at, date_of_parts, pair_at}
 use Rattle.irs_terms.specs.declared.frequency.Frequency.{Frequency}
 use Rattle.irs_resets.specs.declared.store.Slot.{Slot}
-use Rattle.irs_resets.specs.Words.{word, is_passed, is_blank}
+use Rattle.irs_resets.specs.Words.{word, is_passed}
 use Rattle.std.proofs.lemmas.Slice.Eq.{bytes_eq-Decides}
 use Rattle.irs_base.proofs.Orders.{both_true}
 use Rattle.irs_resets.proofs.SlotLemmas.{slot_same, slot_itself}
 use Rattle.irs_base.specs.Lines.{lines_of}
 use Rattle.irs_terms.specs.Lawful.{IsRate}
-use Rattle.irs_resets.specs.Rates.{RateTable, rate_at, is_slot, Adds, AreSmall}
+use Rattle.irs_resets.specs.Rates.{RateTable, rate_at, is_slot, AreSmall}
 use Rattle.irs_resets.specs.FixingLines.{Spells, second_text}
 use Rattle.irs_resets.specs.FixingFiles.{IsBadLine, line_at, IsLine, Fixes, IsBad, Repeats, IsFaulty, IsFirstFault, IsFixingFile, TakesLine, ReadsLine, StandsAlready}
 

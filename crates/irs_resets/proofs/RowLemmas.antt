@@ -1,7 +1,7 @@
 -- Lists of resets: one at most, and one where each period has its dates.
-use Rattle.std.proofs.Common.{◌≡◌, ◌⊎◌, inl, inr, ℕ, zero, suc, ◌+◌, ◌-◌, ◌<◌, ◌≤◌, List, [], ◌∷◌, ◌++◌, length, Option, Some, None, IfSome, Result, ℤ, pos, ◌≤ℤ◌, ◌<ℤ◌, ◌-ℤ◌, refl, sym, ap, ap₂, subst, ◌∙◌, arith}
+use Rattle.std.proofs.Common.{◌≡◌, ◌⊎◌, inl, inr, ℕ, zero, suc, ◌+◌, ◌-◌, ◌<◌, ◌≤◌, List, [], ◌∷◌, ◌++◌, length, Option, Some, None, Result, ℤ, pos, ◌≤ℤ◌, ◌-ℤ◌, refl, sym, ap, ap₂, subst, ◌∙◌, arith}
 use Rattle.jiff_core.proofs.SignedLemmas.{signed_arith}
-use Rattle.irs_base.specs.Days.{IsDay, first_day, last_day}
+use Rattle.irs_base.specs.Days.{first_day, last_day}
 use Rattle.irs_base.specs.DayLists.{AreDays}
 use Rattle.irs_base.specs.Listed.{AllAfter, IsRising}
 use Rattle.irs_base.specs.declared.places.Broken.{Broken}
@@ -15,7 +15,7 @@ use Rattle.irs_terms.specs.declared.results.Reset.{Reset}
 use Rattle.irs_calendar.specs.GoodDays.{DaySet}
 use Rattle.irs_resets.specs.declared.dates.DateFault.{DateFault}
 use Rattle.irs_resets.specs.declared.dates.DateFault.TheVariants.{NoReset, NoFixing, OutOfRange}
-use Rattle.irs_resets.specs.ResetDates.{IsPeriod, IsDates, HasDates, Decided, Fails}
+use Rattle.irs_resets.specs.ResetDates.{IsPeriod, HasDates, Decided, Fails}
 use Rattle.irs_resets.specs.ObservedRates.{kind_at, observed_rate}
 use Rattle.irs_resets.specs.Rates.{RateTable}
 use Rattle.irs_resets.specs.declared.rows.ResErr.{ResErr}

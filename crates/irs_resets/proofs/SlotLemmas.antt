@@ -1,5 +1,5 @@
 -- The order of slots tells them apart.
-use Rattle.std.proofs.Common.{rules, ◌≡◌, ◌⊎◌, inl, inr, ℕ, Bool, true, false, ◌&&◌, ◌==◌, Option, Some, None, ℤ, refl, arith, ap, ap₂, ◌∙◌, sym, List, [], ◌∷◌, cond}
+use Rattle.std.proofs.Common.{◌≡◌, ℕ, Bool, true, ◌&&◌, ◌==◌, Option, Some, None, ℤ, refl, arith, ap₂, ◌∙◌, List, [], ◌∷◌, cond}
 use Rattle.std.proofs.lemmas.Bool.Decides.{nat_tests}
 use Rattle.std.specs.Ordering.{int_eq, is_eq, int_cmp, nat_cmp, ordering_then}
 use Rattle.std.specs.Option.{option_cmp}

@@ -1,6 +1,5 @@
 -- Where a word ends.
-use Rattle.std.proofs.Common.{◌≡◌, ◌⊎◌, inl, inr, ℕ, zero, suc, ◌+◌, ◌-◌, ◌<◌, ◌≤◌, Bool, true, false, ◌&&◌, List, [], ◌∷◌, take, drop, length, get_or, arith, refl, sym, ◌∙◌, ap}
-use Rattle.std.specs.List.{list_all}
+use Rattle.std.proofs.Common.{◌≡◌, ℕ, zero, suc, ◌-◌, ◌<◌, ◌≤◌, Bool, true, false, ◌&&◌, List, [], ◌∷◌, take, drop, length, get_or, arith, refl, ap}
 use Rattle.irs_base.specs.Fields.{is_space}
 use Rattle.irs_resets.specs.Words.{word, behind_word, without_gap, trimmed, is_blank}
 

@@ -1,5 +1,5 @@
 -- What a fixing file holds, and its first line that is at fault. Lines count from 1.
-use Rattle.std.specs.Prelude.{◌≡◌, ◌⊎◌, ◌↔◌, ℕ, ◌-◌, ◌<◌, ◌≤◌, Bool, true, false, IsTrue, List, [], length, slice_index_or, Option, Some, None, IsSome, ℤ}
+use Rattle.std.specs.Prelude.{◌≡◌, ◌⊎◌, ◌↔◌, ℕ, ◌-◌, ◌<◌, ◌≤◌, false, IsTrue, List, [], length, slice_index_or, Some, None, IsSome, ℤ}
 use Rattle.irs_base.specs.Lines.{lines_of}
 use Rattle.irs_resets.specs.declared.store.Slot.{Slot}
 use Rattle.irs_resets.specs.Words.{is_passed}

@@ -1,5 +1,5 @@
 -- What a line of a fixing file spells: DATE RATE TENOR INDEX.
-use Rattle.std.specs.Prelude.{◌≡◌, ◌≢◌, ℕ, ◌≤◌, List, length, All, Some, ℤ, unsigned_abs}
+use Rattle.std.specs.Prelude.{◌≡◌, ◌≢◌, ℕ, ◌≤◌, List, length, All, Some, ℤ}
 use Rattle.irs_base.specs.Dates.{date_at}
 use Rattle.irs_base.specs.Decimals.{DecText}
 use Rattle.irs_terms.specs.Lawful.{IsRate}

@@ -1,5 +1,5 @@
 -- The resets of a stream: one row for each calculation period of a floating stream, none for a fixed one.
-use Rattle.std.specs.Prelude.{◌≡◌, ◌⊎◌, ℕ, ◌+◌, ◌-◌, List, [], ◌∷◌, length, Option, Some, None, IsSome, IfSome, ℤ}
+use Rattle.std.specs.Prelude.{◌≡◌, ℕ, ◌+◌, ◌-◌, List, [], ◌∷◌, length, Option, Some, None, IsSome, IfSome, ℤ}
 use Rattle.irs_terms.specs.declared.dates.ResetTerms.{ResetTerms}
 use Rattle.irs_terms.specs.declared.amounts.FloatTerms.{FloatTerms}
 use Rattle.irs_terms.specs.declared.amounts.Leg.{Leg}

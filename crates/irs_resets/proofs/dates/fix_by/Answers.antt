@@ -1,4 +1,3 @@
-use Rattle.std.proofs.Common.{refl}
 use Rattle.irs_resets.proofs.DateLemmas.{unmoved_fails}
 use Rattle.irs_resets.proofs.dates.fix_by.Goals as goal
 

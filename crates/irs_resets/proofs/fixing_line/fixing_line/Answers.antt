@@ -1,10 +1,9 @@
-use Rattle.std.proofs.Common.{arith, ◌≡◌, sym, ap, ◌∙◌, w64, to_z, of_z, IsTrue, refl}
+use Rattle.std.proofs.Common.{arith, ◌≡◌, sym, ap, ◌∙◌, w64, to_z, of_z, refl}
 use Rattle.std.proofs.lemmas.Int.{ints}
 use Rattle.jiff_core.proofs.SignedLemmas.{signed_arith}
 use Rattle.irs_base.specs.Dates.{date_at}
 use Rattle.irs_resets.specs.Words.{word, behind_gap, trimmed}
 use Rattle.irs_resets.specs.Tenors.{tenor_at}
-use Rattle.irs_resets.specs.FixingLines.{IsRateText}
 use Rattle.irs_resets.proofs.fixing_line.fixing_line.Goals as goal
 
 pub returns-clause-some : goal.returns-clause-some

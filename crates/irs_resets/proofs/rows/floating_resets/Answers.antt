@@ -1,6 +1,4 @@
-use Rattle.std.proofs.Common.{arith, inl, inr, sym, subst, List, ℤ}
-use Rattle.irs_resets.specs.ResetRules.{StubsMet, DatesBroken}
-use Rattle.irs_resets.specs.ResetDates.{IsPeriod, HasDates}
+use Rattle.std.proofs.Common.{arith, inl, inr}
 use Rattle.irs_resets.proofs.RowLemmas.{few_days, some_resets}
 use Rattle.irs_resets.proofs.rows.floating_resets.Goals as goal
 

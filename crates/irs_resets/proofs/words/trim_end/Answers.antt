@@ -1,4 +1,4 @@
-use Rattle.std.proofs.Common.{arith, sym, ◌∙◌}
+use Rattle.std.proofs.Common.{sym, ◌∙◌}
 use Rattle.irs_resets.proofs.WordLemmas.{trimmed_to, trimmed_none}
 use Rattle.irs_resets.proofs.words.trim_end.Goals as goal
 use Rattle.irs_resets.proofs.words.trim_end.Goals.{then-loop-n-test+else-is_gap, else-loop-n-test}

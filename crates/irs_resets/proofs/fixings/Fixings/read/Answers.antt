@@ -2,7 +2,7 @@ use Rattle.std.proofs.Common.{arith, ◌≤◌, length, subst, sym, ℕ}
 use Rattle.std.proofs.lemmas.Result.{err_from_is_err_and}
 use Rattle.irs_base.specs.Lines.{lines_of}
 use Rattle.irs_resets.specs.FixingFiles.{IsBad, Repeats, IsFirstFault}
-use Rattle.irs_resets.proofs.FileLemmas.{reads, bad_first, repeat_first, whole_file, small_rates}
+use Rattle.irs_resets.proofs.FileLemmas.{reads, bad_first, repeat_first, whole_file}
 use Rattle.irs_resets.proofs.fixings.Fixings.read.Goals as goal
 
 pub returns-in_err-table-clause-syntax : goal.returns-in_err-table-clause-syntax

@@ -1,4 +1,4 @@
-use Rattle.std.proofs.Common.{◌≡◌, ◌+◌, ◌≤◌, length}
+use Rattle.std.proofs.Common.{◌+◌, ◌≤◌, length}
 use Rattle.irs_base.specs.Lines.{lines_of}
 use Rattle.irs_resets.proofs.FileLemmas.{ReadTo}
 use Rattle.irs_resets.proofs.fixings.Fixings.read.Given as goal

@@ -1,5 +1,5 @@
-use Rattle.std.proofs.Common.{◌≡◌, ◌∙◌, sym, ap, ap₂, Some, cond, w64, to_z, of_z, ℤ, arith}
-use Rattle.std.proofs.lemmas.Int.{to_z-of_z, ints}
+use Rattle.std.proofs.Common.{◌≡◌, ◌∙◌, sym, ap₂, Some, cond, w64, to_z, of_z, arith}
+use Rattle.std.proofs.lemmas.Int.{ints}
 use Rattle.irs_resets.proofs.SlotLemmas.{slot_lookup, slot_cmp-is}
 use Rattle.irs_resets.proofs.store.Rates.add.Goals as goal
 

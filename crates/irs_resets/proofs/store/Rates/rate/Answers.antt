@@ -1,4 +1,4 @@
-use Rattle.std.proofs.Common.{◌≡◌, ◌∙◌}
+use Rattle.std.proofs.Common.{◌∙◌}
 use Rattle.irs_resets.proofs.SlotLemmas.{slot_lookup}
 use Rattle.irs_resets.proofs.store.Rates.rate.Goals as goal
 

@@ -1,4 +1,4 @@
-use Rattle.std.proofs.Common.{◌≡◌, ◌∙◌, sym, ap, Some, None}
+use Rattle.std.proofs.Common.{◌∙◌, ap}
 use Rattle.irs_resets.specs.Rates.{rate_of}
 use Rattle.irs_resets.proofs.KeyLemmas.{lookup_by_bytes}
 use Rattle.irs_resets.proofs.store.Table.rate.Goals as goal
