@@ -10,3 +10,9 @@ pub mod Walks
 pub mod AllWalks
 pub mod Boundaries
 pub mod Plain
+pub mod DaySets
+pub mod Layouts
+pub mod PeriodTerms
+pub mod Schedules
+pub mod DatedRules
+pub mod TermsKept

@@ -1,0 +1,94 @@
+-- The good days by which each date of a stream is adjusted or moved.
+use Rattle.std.specs.Prelude.{ℕ, Bool, true, false, not, ◌&&◌, ◌||◌, List, Option, Some, None, ℤ, pos, if◌then◌else◌}
+use Rattle.std.specs.Ordering.{int_eq}
+use Rattle.irs_base.specs.Days.{first_day, last_day}
+use Rattle.irs_terms.specs.declared.codes.ConvCode.{ConvCode}
+use Rattle.irs_terms.specs.declared.codes.ConvCode.TheVariants.{Following, ModFollowing, Preceding, ModPreceding, Nearest, Unadjusted}
+use Rattle.irs_terms.specs.declared.codes.DayKind.{DayKind}
+use Rattle.irs_terms.specs.declared.codes.DayKind.TheVariants.{Business, Calendar, Unsaid}
+use Rattle.irs_terms.specs.declared.adjustments.Offset.{Offset}
+use Rattle.irs_terms.specs.declared.adjustments.Centers.{Centers}
+use Rattle.irs_terms.specs.declared.adjustments.Centers.TheVariants.{Absent, Listed, Dangling}
+use Rattle.irs_terms.specs.declared.adjustments.Adjustments.{Adjustments}
+use Rattle.irs_terms.specs.declared.dates.FixTerms.{FixTerms}
+use Rattle.irs_terms.specs.declared.dates.ResetTerms.{ResetTerms}
+use Rattle.irs_terms.specs.declared.stream.Stream.{Stream}
+use Rattle.irs_calendar.specs.declared.sections.Section.{Section}
+use Rattle.irs_calendar.specs.GoodDays.{DaySet}
+use Rattle.irs_calendar.specs.Selected.{day_set_of}
+use Rattle.irs_periods.specs.Adjusting.{BoundaryDays}
+
+-- the whole range of dates, and every day of it good
+abbrev pub whole_range : DaySet
+whole_range = record { first = first_day; last = last_day; test = λ _. true }
+
+-- the good days of the centres with these names; without names the whole range
+abbrev pub days_of_names : List Section → Option (List (List ℕ)) → DaySet
+days_of_names cal None = whole_range
+days_of_names cal (Some names) = day_set_of cal names
+
+-- the names of the centres that an element lists, or has by its reference
+abbrev pub listed_names : Centers → Option (List (List ℕ))
+listed_names Absent = None
+listed_names (Listed names) = Some names
+listed_names Dangling = None
+
+-- an adjustment needs days where its convention isn't NONE
+abbrev pub adjusts_days : ConvCode → Bool
+adjusts_days Following = true
+adjusts_days ModFollowing = true
+adjusts_days Preceding = true
+adjusts_days ModPreceding = true
+adjusts_days Nearest = true
+adjusts_days Unadjusted = false
+
+abbrev pub is_business : DayKind → Bool
+is_business Business = true
+is_business Calendar = false
+is_business Unsaid = false
+
+-- an offset needs days where it is a Business offset other than 0
+abbrev pub counts_days : Offset → Bool
+counts_days offset = is_business offset.kind && not (int_eq offset.days (pos 0))
+
+-- the names by which an element has its good days; none where it needs none
+abbrev pub names_for : Bool → Centers → Option (List (List ℕ))
+names_for needed centers = if needed then listed_names centers else None
+
+abbrev pub names_by : Adjustments → Option (List (List ℕ))
+names_by adj = names_for (adjusts_days adj.code) adj.centers
+
+-- payment dates and fixing dates also need days for their offset
+abbrev pub names_with : Offset → Adjustments → Option (List (List ℕ))
+names_with offset adj = names_for (adjusts_days adj.code || counts_days offset) adj.centers
+
+abbrev pub reset_names : Option ResetTerms → Option (List (List ℕ))
+reset_names None = None
+reset_names (Some terms) = names_by terms.adj
+
+abbrev pub fixing_names_of : Option FixTerms → Option (List (List ℕ))
+fixing_names_of None = None
+fixing_names_of (Some fixing) = names_with fixing.offset fixing.adj
+
+abbrev pub fixing_names : Option ResetTerms → Option (List (List ℕ))
+fixing_names None = None
+fixing_names (Some terms) = fixing_names_of terms.fixing
+
+-- the good days of the effective date, of the termination date, and of the other boundaries
+abbrev pub boundary_days : List Section → Stream → BoundaryDays
+boundary_days cal s = record {
+  start = days_of_names cal (names_by s.effective.adj);
+  end = days_of_names cal (names_by s.termination.adj);
+  middle = days_of_names cal (names_by s.period_adj);
+}
+
+-- the good days of payment dates and of principal exchanges
+abbrev pub payment_days : List Section → Stream → DaySet
+payment_days cal s = days_of_names cal (names_with s.pay.offset s.pay.adj)
+
+-- the good days of reset dates, and of fixing dates
+abbrev pub reset_days : List Section → Stream → DaySet
+reset_days cal s = days_of_names cal (reset_names s.reset)
+
+abbrev pub fixing_days : List Section → Stream → DaySet
+fixing_days cal s = days_of_names cal (fixing_names s.reset)

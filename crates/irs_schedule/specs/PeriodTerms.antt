@@ -1,0 +1,76 @@
+-- What is worked out for the calculation periods of a stream, and the amounts of its payments.
+-- Periods are counted from 1. b are the unadjusted boundaries, a the adjusted ones, rs the resets.
+use Rattle.std.specs.Prelude.{◌≡◌, ℕ, ◌+◌, ◌-◌, ◌==◌, List, length, Option, Some, None, option_map, option_and_then, slice_get, ℤ}
+use Rattle.irs_base.specs.declared.line.Dec.{Dec}
+use Rattle.irs_terms.specs.Currencies.{decimals_of}
+use Rattle.irs_terms.specs.declared.amounts.Leg.{Leg}
+use Rattle.irs_terms.specs.declared.amounts.Leg.TheVariants.{Fixed, Floating}
+use Rattle.irs_terms.specs.declared.results.Payment.{Payment}
+use Rattle.irs_terms.specs.declared.results.Reset.{Reset}
+use Rattle.irs_terms.specs.declared.stream.Stream.{Stream}
+use Rattle.irs_daycount.specs.Fractions.{Days, Fraction}
+use Rattle.irs_compound.specs.InForce.{InForce}
+use Rattle.irs_compound.specs.PeriodRates.{RatesOf, FixedRatesOf}
+use Rattle.irs_compound.specs.Amounts.{AllPriced, AmountOf, Passes, code_for}
+use Rattle.irs_compound.specs.declared.periods.Rates.{Rates}
+use Rattle.irs_compound.specs.declared.periods.PeriodTerm.{PeriodTerm}
+use Rattle.irs_payments.specs.Numbered.{EachNumbered}
+use Rattle.irs_schedule.specs.declared.entries.PeriodEntry.{PeriodEntry}
+use Rattle.irs_schedule.specs.Parts.{day_at}
+
+-- the observed rate of period i: that of its reset
+abbrev pub observed_at : List Reset → ℕ → Option ℤ
+observed_at rs i = option_and_then (λ r. r.observed) (slice_get rs (i - 1))
+
+-- the rates of a period with this unadjusted start: on a fixed stream the fixed rate in force; on a
+-- floating one those of the observed rate, absent where it is
+abbrev pub AreRates : Leg → ℤ → Option ℤ → Option Rates → Type 0
+AreRates (Fixed values) start observed None = ⊥
+AreRates (Fixed values) start observed (Some rates) = FixedRatesOf values start rates
+AreRates (Floating float) start None None = Unit {0}
+AreRates (Floating float) start None (Some rates) = ⊥
+AreRates (Floating float) start (Some observed) None = ⊥
+AreRates (Floating float) start (Some observed) (Some rates) = RatesOf float start observed rates
+
+-- notional, rates and fraction of period i; the last period is the last of the stream
+pub record IsPeriodTerm (s : Stream) (b a : List ℤ) (rs : List Reset) (i : ℕ) (t : PeriodTerm) : Type 0 where
+  pub notional : InForce s.notional (day_at b (i - 1)) t.notional
+  pub rates : AreRates s.leg (day_at b (i - 1)) (observed_at rs i) t.rates
+  pub frac : Fraction s.day_count (day_at a (i - 1)) (day_at a i) (i == length a - 1) t.frac
+
+-- what a schedule says of period i
+pub record IsPeriodEntry (s : Stream) (b a : List ℤ) (rs : List Reset) (i : ℕ) (e : PeriodEntry) : Type 0 where
+  pub term : PeriodTerm
+  pub is_term : IsPeriodTerm s b a rs i term
+  pub days : Days s.day_count (day_at a (i - 1)) (day_at a i) (i == length a - 1) e.days
+  pub frac : e.frac ≡ term.frac
+  pub notional : e.notional ≡ term.notional
+  pub rate : e.rate ≡ option_map (λ r. r.all_in) term.rates
+
+-- the terms of the periods of a payment, in order
+pub record AreTerms (s : Stream) (b a : List ℤ) (rs : List Reset) (p : Payment) (terms : List PeriodTerm) : Type 0 where
+  pub count : p.first_period + length terms ≡ p.last_period + 1
+  pub each : EachNumbered (IsPeriodTerm s b a rs) p.first_period terms
+
+-- the amount of a payment in the decimals of the stream's currency; absent where the rate of one of
+-- its periods is
+abbrev pub IsAmountBy : Stream → List PeriodTerm → Option Dec → Type 0
+IsAmountBy s terms None = AmountOf s.compounding terms (decimals_of s.currency.letters) None
+IsAmountBy s terms (Some v) = (v.places ≡ decimals_of s.currency.letters) × AmountOf s.compounding terms (decimals_of s.currency.letters) (Some v.units)
+
+pub record IsAmountFor (s : Stream) (b a : List ℤ) (rs : List Reset) (p : Payment) (amount : Option Dec) : Type 0 where
+  pub terms : List PeriodTerm
+  pub are_terms : AreTerms s b a rs p terms
+  pub is_amount : IsAmountBy s terms amount
+
+-- at period i, in a payment whose rates are all there, a rate or an amount leaves its range
+pub record PassesAt (s : Stream) (b a : List ℤ) (rs : List Reset) (ps : List Payment) (i : ℕ) : Type 0 where
+  pub number : ℕ
+  pub payment : Payment
+  pub there : slice_get ps number ≡ Some payment
+  pub terms : List PeriodTerm
+  pub are_terms : AreTerms s b a rs payment terms
+  pub priced : AllPriced terms
+  pub place : ℕ
+  pub passes : Passes (code_for s.compounding terms) terms place
+  pub is : i ≡ payment.first_period + place

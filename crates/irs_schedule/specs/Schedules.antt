@@ -1,0 +1,46 @@
+-- The schedule of a swap: which list of parts it is.
+use Rattle.std.specs.Prelude.{◌≡◌, ◌+◌, Bool, true, false, List, length, map}
+use Rattle.irs_terms.specs.declared.amounts.Leg.{Leg}
+use Rattle.irs_terms.specs.declared.amounts.Leg.TheVariants.{Fixed, Floating}
+use Rattle.irs_terms.specs.declared.results.Payment.{Payment}
+use Rattle.irs_terms.specs.declared.stream.Stream.{Stream}
+use Rattle.irs_terms.specs.declared.stream_list.Swap.{Swap}
+use Rattle.irs_calendar.specs.declared.sections.Section.{Section}
+use Rattle.irs_payments.specs.Numbered.{EachNumbered, Pairs}
+use Rattle.irs_payments.specs.Payments.{ArePayments}
+use Rattle.irs_payments.specs.Exchanges.{AreExchanges}
+use Rattle.irs_resets.specs.Rates.{RateTable}
+use Rattle.irs_resets.specs.Resets.{IsResets}
+use Rattle.irs_schedule.specs.declared.entries.PaymentEntry.{PaymentEntry}
+use Rattle.irs_schedule.specs.Parts.{Part, Every}
+use Rattle.irs_schedule.specs.DaySets.{payment_days, reset_days, fixing_days}
+use Rattle.irs_schedule.specs.Layouts.{Layout, IsLayout}
+use Rattle.irs_schedule.specs.PeriodTerms.{IsPeriodEntry, IsAmountFor}
+
+abbrev pub is_floating : Leg → Bool
+is_floating (Fixed values) = false
+is_floating (Floating float) = true
+
+-- the payment without its amount
+abbrev pub payment_of : PaymentEntry → Payment
+payment_of y = record { unadjusted = y.unadjusted; adjusted = y.adjusted; first_period = y.first_period; last_period = y.last_period }
+
+-- p is the part of the stream: every list and every field stands in its relation
+pub record IsPart (cal : List Section) (fix : RateTable) (s : Stream) (p : Part) : Type 0 where
+  pub currency : p.currency ≡ s.currency
+  pub day_count : p.day_count ≡ s.day_count
+  pub floating : p.floating ≡ is_floating s.leg
+  pub layout : Layout
+  pub is_layout : IsLayout cal s layout
+  pub unadjusted : p.unadjusted ≡ layout.unadjusted
+  pub adjusted : p.adjusted ≡ layout.adjusted
+  pub exchanges : AreExchanges s (payment_days cal s) p.exchanges
+  pub payments : ArePayments s (payment_days cal s) p.unadjusted p.adjusted (map payment_of p.payments)
+  pub amounts : Every (λ y. IsAmountFor s p.unadjusted p.adjusted p.resets (payment_of y) y.amount) p.payments
+  pub count : length p.periods + 1 ≡ length p.unadjusted
+  pub periods : EachNumbered (IsPeriodEntry s p.unadjusted p.adjusted p.resets) 1 p.periods
+  pub resets : IsResets s layout.span p.adjusted (reset_days cal s) (fixing_days cal s) fix p.resets
+
+-- one part for each stream of the swap, in order
+abbrev pub IsSchedule : Swap → List Section → RateTable → List Part → Type 0
+IsSchedule swap cal fix parts = Pairs (IsPart cal fix) swap.streams parts

@@ -1,0 +1,39 @@
+-- What a stream keeps that breaks no rule of the terms (K10 to K21).
+use Rattle.std.specs.Prelude.{◌≡◌, ℕ, List, Option, Some, None}
+use Rattle.irs_terms.specs.declared.amounts.Leg.{Leg}
+use Rattle.irs_terms.specs.declared.amounts.Leg.TheVariants.{Fixed, Floating}
+use Rattle.irs_terms.specs.declared.stream.Stream.{Stream}
+use Rattle.irs_calendar.specs.declared.sections.Section.{Section}
+use Rattle.irs_calendar.specs.Selected.{first_missing}
+use Rattle.irs_compound.specs.InForce.{StepsRise}
+use Rattle.irs_payments.specs.PaymentDates.{IsSaid}
+use Rattle.irs_periods.specs.Terms.{DatesInOrder, FrequencySuits}
+use Rattle.irs_resets.specs.Resets.{HasResetTerms, IsSaidReset}
+use Rattle.irs_schedule.specs.DaySets.{names_by, names_with, reset_names, fixing_names}
+
+-- each of the names is that of a section
+abbrev pub AreFound : List Section → Option (List (List ℕ)) → Type 0
+AreFound cal None = Unit {0}
+AreFound cal (Some names) = first_missing cal 1 names ≡ None
+
+-- the steps of a fixed rate rise, and so do those of the multiplier and of the spread
+abbrev pub LegStepsRise : Leg → Type 0
+LegStepsRise (Fixed values) = StepsRise values.steps
+LegStepsRise (Floating float) = StepsRise float.multiplier.steps × StepsRise float.spread.steps
+
+-- dates in order, a frequency that suits the roll, offsets that say their days, resets on a floating
+-- stream alone, steps that rise, and centres that the calendars have
+pub record TermsKept (cal : List Section) (s : Stream) : Type 0 where
+  pub dates : DatesInOrder s
+  pub frequency : FrequencySuits s
+  pub said : IsSaid s.pay
+  pub said_reset : IsSaidReset s
+  pub legs : HasResetTerms s
+  pub notional_rises : StepsRise s.notional.steps
+  pub leg_rises : LegStepsRise s.leg
+  pub start_found : AreFound cal (names_by s.effective.adj)
+  pub end_found : AreFound cal (names_by s.termination.adj)
+  pub middle_found : AreFound cal (names_by s.period_adj)
+  pub payment_found : AreFound cal (names_with s.pay.offset s.pay.adj)
+  pub reset_found : AreFound cal (reset_names s.reset)
+  pub fixing_found : AreFound cal (fixing_names s.reset)
