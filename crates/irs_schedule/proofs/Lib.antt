@@ -4,7 +4,3 @@ pub mod TextLemmas
 pub mod PlaceLemmas
 pub mod PaymentLemmas
 pub mod CountLemmas
-pub mod GridDays
-pub mod Assembled
-pub mod AmountLemmas
-pub mod PlainLemmas

@@ -20,7 +20,7 @@ use Rattle.irs_payments.specs.Exchanges.{BreaksExchanges}
 use Rattle.irs_resets.specs.Rates.{RateTable}
 use Rattle.irs_resets.specs.Resets.{IsResets}
 use Rattle.irs_resets.specs.ResetRules.{FirstBroken}
-use Rattle.irs_schedule.specs.DaySets.{boundary_days, payment_days, reset_days, fixing_days}
+use Rattle.irs_schedule.specs.DaySets.{StreamSets, stream_sets}
 use Rattle.irs_schedule.specs.Layouts.{Layout, IsLayout}
 use Rattle.irs_schedule.specs.PeriodTerms.{PassesAt}
 
@@ -51,33 +51,33 @@ turn_of in_resets = 5
 turn_of in_amounts = 6
 
 -- K32 is broken; or it isn't, and x is the first of K33 and K34 at the boundaries
-abbrev pub BoundariesBroken : List Section → Stream → Span → Broken → Type 0
-BoundariesBroken cal s span x = (TooManyPeriods s span × (x ≡ too_many_periods)) ⊎ ((b : List ℤ) × Boundaries s span b × (length b ≤ most_periods + 1) × AdjustedBroken s (boundary_days cal s) b x)
+abbrev pub BoundariesBroken : StreamSets → Stream → Span → Broken → Type 0
+BoundariesBroken sets s span x = (TooManyPeriods s span × (x ≡ too_many_periods)) ⊎ ((b : List ℤ) × Boundaries s span b × (length b ≤ most_periods + 1) × AdjustedBroken s sets.boundaries b x)
 
 -- x is the first broken rule of the periods over a span that breaks none
-pub record PeriodsBroken (cal : List Section) (s : Stream) (x : Broken) : Type 0 where
+pub record PeriodsBroken (sets : StreamSets) (s : Stream) (x : Broken) : Type 0 where
   pub span : Span
   pub regular : Regular s span
   pub kept : SpanKept s span
-  pub breaks : BoundariesBroken cal s span x
+  pub breaks : BoundariesBroken sets s span x
 
 -- x is the first broken rule of the payments over the boundaries
-pub record PaymentsBroken (cal : List Section) (s : Stream) (x : Broken) : Type 0 where
+pub record PaymentsBroken (sets : StreamSets) (s : Stream) (x : Broken) : Type 0 where
   pub layout : Layout
-  pub is_layout : IsLayout cal s layout
-  pub first : IsFirst (BreaksPayments s (payment_days cal s) layout.unadjusted layout.adjusted) x
+  pub is_layout : IsLayout sets s layout
+  pub first : IsFirst (BreaksPayments s sets.payment layout.unadjusted layout.adjusted) x
 
 -- x is the first broken rule of the steps over the boundaries
-pub record StepsBroken (cal : List Section) (s : Stream) (x : Broken) : Type 0 where
+pub record StepsBroken (sets : StreamSets) (s : Stream) (x : Broken) : Type 0 where
   pub layout : Layout
-  pub is_layout : IsLayout cal s layout
+  pub is_layout : IsLayout sets s layout
   pub first : IsFirst (BreaksSteps s layout.unadjusted) x
 
 -- x is the first broken rule of the resets over the boundaries
-pub record ResetsBroken (cal : List Section) (s : Stream) (x : Broken) : Type 0 where
+pub record ResetsBroken (sets : StreamSets) (s : Stream) (x : Broken) : Type 0 where
   pub layout : Layout
-  pub is_layout : IsLayout cal s layout
-  pub first : FirstBroken s layout.span layout.adjusted (reset_days cal s) (fixing_days cal s) x
+  pub is_layout : IsLayout sets s layout
+  pub first : FirstBroken s layout.span layout.adjusted sets.reset sets.fixing x
 
 -- the first period at which a rate or an amount leaves its range
 pub record PassesFirst (s : Stream) (b a : List ℤ) (rs : List Reset) (ps : List Payment) (i : ℕ) : Type 0 where
@@ -85,44 +85,44 @@ pub record PassesFirst (s : Stream) (b a : List ℤ) (rs : List Reset) (ps : Lis
   pub none_before : (k : ℕ) → k < i → PassesAt s b a rs ps k → ⊥
 
 -- K39 is broken over the payments and the resets, and x names the first such period
-pub record AmountsBroken (cal : List Section) (fix : RateTable) (s : Stream) (x : Broken) : Type 0 where
+pub record AmountsBroken (sets : StreamSets) (fix : RateTable) (s : Stream) (x : Broken) : Type 0 where
   pub layout : Layout
-  pub is_layout : IsLayout cal s layout
+  pub is_layout : IsLayout sets s layout
   pub payments : List Payment
-  pub are_payments : ArePayments s (payment_days cal s) layout.unadjusted layout.adjusted payments
+  pub are_payments : ArePayments s sets.payment layout.unadjusted layout.adjusted payments
   pub resets : List Reset
-  pub are_resets : IsResets s layout.span layout.adjusted (reset_days cal s) (fixing_days cal s) fix resets
+  pub are_resets : IsResets s layout.span layout.adjusted sets.reset sets.fixing fix resets
   pub period : ℕ
   pub first : PassesFirst s layout.unadjusted layout.adjusted resets payments period
   pub is : x ≡ broken_at K39 calculation_period_amount period
 
 -- x is the first broken rule of the part
-abbrev pub PartBroken : List Section → RateTable → Stream → DatedPart → Broken → Type 0
-PartBroken cal fix s in_span x = SpanBroken s x
-PartBroken cal fix s in_periods x = PeriodsBroken cal s x
-PartBroken cal fix s in_payments x = PaymentsBroken cal s x
-PartBroken cal fix s in_steps x = StepsBroken cal s x
-PartBroken cal fix s in_exchanges x = IsFirst (BreaksExchanges s (payment_days cal s)) x
-PartBroken cal fix s in_resets x = ResetsBroken cal s x
-PartBroken cal fix s in_amounts x = AmountsBroken cal fix s x
+abbrev pub PartBroken : StreamSets → RateTable → Stream → DatedPart → Broken → Type 0
+PartBroken sets fix s in_span x = SpanBroken s x
+PartBroken sets fix s in_periods x = PeriodsBroken sets s x
+PartBroken sets fix s in_payments x = PaymentsBroken sets s x
+PartBroken sets fix s in_steps x = StepsBroken sets s x
+PartBroken sets fix s in_exchanges x = IsFirst (BreaksExchanges s sets.payment) x
+PartBroken sets fix s in_resets x = ResetsBroken sets s x
+PartBroken sets fix s in_amounts x = AmountsBroken sets fix s x
 
 -- no rule of a part before this turn is broken
-abbrev pub KeptBefore : List Section → RateTable → Stream → ℕ → Type 0
-KeptBefore cal fix s turn = (part : DatedPart) (x : Broken) → turn_of part < turn → PartBroken cal fix s part x → ⊥
+abbrev pub KeptBefore : StreamSets → RateTable → Stream → ℕ → Type 0
+KeptBefore sets fix s turn = (part : DatedPart) (x : Broken) → turn_of part < turn → PartBroken sets fix s part x → ⊥
 
 -- no rule of the stream is broken
-abbrev pub StreamKept : List Section → RateTable → Stream → Type 0
-StreamKept cal fix s = (part : DatedPart) (x : Broken) → PartBroken cal fix s part x → ⊥
+abbrev pub StreamKept : StreamSets → RateTable → Stream → Type 0
+StreamKept sets fix s = (part : DatedPart) (x : Broken) → PartBroken sets fix s part x → ⊥
 
 -- x is the first broken rule of the stream, named as stream 1: that of the first part that breaks one
-pub record StreamBroken (cal : List Section) (fix : RateTable) (s : Stream) (x : Broken) : Type 0 where
+pub record StreamBroken (sets : StreamSets) (fix : RateTable) (s : Stream) (x : Broken) : Type 0 where
   pub part : DatedPart
-  pub broken : PartBroken cal fix s part x
-  pub kept_before : KeptBefore cal fix s (turn_of part)
+  pub broken : PartBroken sets fix s part x
+  pub kept_before : KeptBefore sets fix s (turn_of part)
 
 -- no rule of the swap is broken
 abbrev pub DatedKept : Swap → List Section → RateTable → Type 0
-DatedKept swap cal fix = (i : ℕ) (s : Stream) → slice_get swap.streams i ≡ Some s → StreamKept cal fix s
+DatedKept swap cal fix = (i : ℕ) (s : Stream) → slice_get swap.streams i ≡ Some s → StreamKept (stream_sets cal s) fix s
 
 -- the broken rule in the stream with this number
 abbrev pub in_stream : ℕ → Broken → Broken
@@ -135,6 +135,6 @@ pub record DatedBroken (swap : Swap) (cal : List Section) (fix : RateTable) (x :
   pub stream : Stream
   pub there : slice_get swap.streams position ≡ Some stream
   pub broken : Broken
-  pub breaks : StreamBroken cal fix stream broken
-  pub kept_before : (i : ℕ) (s : Stream) → i < position → slice_get swap.streams i ≡ Some s → StreamKept cal fix s
+  pub breaks : StreamBroken (stream_sets cal stream) fix stream broken
+  pub kept_before : (i : ℕ) (s : Stream) → i < position → slice_get swap.streams i ≡ Some s → StreamKept (stream_sets cal s) fix s
   pub is : x ≡ in_stream (position + 1) broken

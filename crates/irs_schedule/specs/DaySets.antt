@@ -92,3 +92,14 @@ reset_days cal s = days_of_names cal (reset_names s.reset)
 
 abbrev pub fixing_days : List Section → Stream → DaySet
 fixing_days cal s = days_of_names cal (fixing_names s.reset)
+
+-- the good days of each kind of date of a stream
+pub record StreamSets : Type 0 where
+  pub boundaries : BoundaryDays
+  pub payment : DaySet
+  pub reset : DaySet
+  pub fixing : DaySet
+
+-- those of the centres that its elements name
+abbrev pub stream_sets : List Section → Stream → StreamSets
+stream_sets cal s = record { boundaries = boundary_days cal s; payment = payment_days cal s; reset = reset_days cal s; fixing = fixing_days cal s }

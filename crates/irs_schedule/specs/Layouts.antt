@@ -3,12 +3,11 @@ use Rattle.std.specs.Prelude.{◌+◌, ◌≤◌, List, length, ℤ}
 use Rattle.irs_base.specs.Listed.{IsRising}
 use Rattle.irs_terms.specs.declared.results.Span.{Span}
 use Rattle.irs_terms.specs.declared.stream.Stream.{Stream}
-use Rattle.irs_calendar.specs.declared.sections.Section.{Section}
 use Rattle.irs_periods.specs.Spans.{Regular}
 use Rattle.irs_periods.specs.SpanRules.{SpanKept}
 use Rattle.irs_periods.specs.Boundaries.{Boundaries, most_periods}
 use Rattle.irs_periods.specs.Adjusting.{AdjustedList}
-use Rattle.irs_schedule.specs.DaySets.{boundary_days}
+use Rattle.irs_schedule.specs.DaySets.{StreamSets}
 
 pub record Layout : Type 0 where
   pub span : Span
@@ -17,10 +16,10 @@ pub record Layout : Type 0 where
 
 -- the span is the stream's regular one, the lists are its boundaries, and no rule of the span or of
 -- the periods is broken
-pub record IsLayout (cal : List Section) (s : Stream) (l : Layout) : Type 0 where
+pub record IsLayout (sets : StreamSets) (s : Stream) (l : Layout) : Type 0 where
   pub regular : Regular s l.span
   pub kept : SpanKept s l.span
   pub unadjusted : Boundaries s l.span l.unadjusted
   pub few : length l.unadjusted ≤ most_periods + 1
-  pub adjusted : AdjustedList s (boundary_days cal s) l.unadjusted l.adjusted
+  pub adjusted : AdjustedList s sets.boundaries l.unadjusted l.adjusted
   pub rises : IsRising l.adjusted

@@ -8,11 +8,10 @@ pub mod RowTexts
 pub mod WalkLists
 pub mod Walks
 pub mod AllWalks
-pub mod Boundaries
-pub mod Plain
 pub mod DaySets
 pub mod Layouts
 pub mod PeriodTerms
 pub mod Schedules
 pub mod DatedRules
 pub mod TermsKept
+pub mod SchedErrors

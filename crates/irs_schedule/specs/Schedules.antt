@@ -13,7 +13,7 @@ use Rattle.irs_resets.specs.Rates.{RateTable}
 use Rattle.irs_resets.specs.Resets.{IsResets}
 use Rattle.irs_schedule.specs.declared.entries.PaymentEntry.{PaymentEntry}
 use Rattle.irs_schedule.specs.Parts.{Part, Every}
-use Rattle.irs_schedule.specs.DaySets.{payment_days, reset_days, fixing_days}
+use Rattle.irs_schedule.specs.DaySets.{StreamSets, stream_sets}
 use Rattle.irs_schedule.specs.Layouts.{Layout, IsLayout}
 use Rattle.irs_schedule.specs.PeriodTerms.{IsPeriodEntry, IsAmountFor}
 
@@ -26,21 +26,21 @@ abbrev pub payment_of : PaymentEntry → Payment
 payment_of y = record { unadjusted = y.unadjusted; adjusted = y.adjusted; first_period = y.first_period; last_period = y.last_period }
 
 -- p is the part of the stream: every list and every field stands in its relation
-pub record IsPart (cal : List Section) (fix : RateTable) (s : Stream) (p : Part) : Type 0 where
+pub record IsPart (sets : StreamSets) (fix : RateTable) (s : Stream) (p : Part) : Type 0 where
   pub currency : p.currency ≡ s.currency
   pub day_count : p.day_count ≡ s.day_count
   pub floating : p.floating ≡ is_floating s.leg
   pub layout : Layout
-  pub is_layout : IsLayout cal s layout
+  pub is_layout : IsLayout sets s layout
   pub unadjusted : p.unadjusted ≡ layout.unadjusted
   pub adjusted : p.adjusted ≡ layout.adjusted
-  pub exchanges : AreExchanges s (payment_days cal s) p.exchanges
-  pub payments : ArePayments s (payment_days cal s) p.unadjusted p.adjusted (map payment_of p.payments)
+  pub exchanges : AreExchanges s sets.payment p.exchanges
+  pub payments : ArePayments s sets.payment p.unadjusted p.adjusted (map payment_of p.payments)
   pub amounts : Every (λ y. IsAmountFor s p.unadjusted p.adjusted p.resets (payment_of y) y.amount) p.payments
   pub count : length p.periods + 1 ≡ length p.unadjusted
   pub periods : EachNumbered (IsPeriodEntry s p.unadjusted p.adjusted p.resets) 1 p.periods
-  pub resets : IsResets s layout.span p.adjusted (reset_days cal s) (fixing_days cal s) fix p.resets
+  pub resets : IsResets s layout.span p.adjusted sets.reset sets.fixing fix p.resets
 
 -- one part for each stream of the swap, in order
 abbrev pub IsSchedule : Swap → List Section → RateTable → List Part → Type 0
-IsSchedule swap cal fix parts = Pairs (IsPart cal fix) swap.streams parts
+IsSchedule swap cal fix parts = Pairs (λ s p. IsPart (stream_sets cal s) fix s p) swap.streams parts

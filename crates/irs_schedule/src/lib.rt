@@ -5,9 +5,7 @@
 mod entries;
 mod in_force;
 mod kept_terms;
-mod listing;
 mod making;
-mod plain;
 mod row;
 mod schedule;
 mod streams;

@@ -1,13 +1,19 @@
-//! The schedule of a swap.
-ghost use Rattle.std.specs.Prelude.{◌≡◌, ◌<◌, ◌≤◌, length, IfOk};
-ghost use Rattle.irs_schedule.specs.Parts.{Every, IsWithin};
-ghost use Rattle.irs_schedule.specs.Plain.{IsPlain};
-ghost use Rattle.irs_schedule.specs.declared.making.SchedErr.TheVariants.{Memory as OfMemory};
+//! The schedule of a swap: the boundaries, payments, exchanges, resets and amounts of each stream
+//! (2006 ISDA Definitions, articles 4, 5, 6 and 8), or the first broken rule of dates and amounts.
+ghost use Rattle.std.specs.Prelude.{◌≡◌, List, IfOk};
+ghost use Rattle.irs_base.specs.declared.places.Broken.{Broken as BrokenRule};
+ghost use Rattle.irs_terms.specs.Lawful.{IsLawful};
+ghost use Rattle.irs_rules.specs.TermsRules.{BreaksTerms};
+ghost use Rattle.irs_schedule.specs.DatedRules.{DatedBroken, DatedKept};
+ghost use Rattle.irs_schedule.specs.Parts.{Part};
+ghost use Rattle.irs_schedule.specs.SchedErrors.{IfBroken};
+ghost use Rattle.irs_schedule.specs.Schedules.{IsSchedule};
+ghost use Rattle.irs_schedule.specs.declared.making.SchedErr.TheVariants.{Broken as OfBroken, Memory as OfMemory};
 
 use crate::Schedule;
-use crate::listing::PerErr;
-use crate::plain::plain_part;
-use irs_base::{Broken, Elem, Memory, Place, Rule};
+use irs_base::{Broken, Memory};
+use irs_calendar::Calendars;
+use irs_resets::Fixings;
 use irs_terms::Swap;
 use std::alloc::{AllocFailed, Global};
 use thiserror::Error;
@@ -15,10 +21,11 @@ use thiserror::Error;
 /// Why there is no schedule.
 #[derive(Clone, Copy, Debug, PartialEq, Eq, Error)]
 pub enum SchedErr {
-    /// The first broken rule, from the span of the first stream to the amounts of the last.
-    #[error("a rule is broken")]
+    /// The first broken rule of K30 to K39: that of the first stream that breaks one, and there of the
+    /// span, the periods, the payments, the steps, the exchanges, the resets or the amounts, in order.
+    #[error("a rule of dates or amounts is broken")]
     Broken(Broken),
-    /// No memory was found.
+    /// Memory ran out.
     #[error("out of memory")]
     Memory,
 }
@@ -39,33 +46,26 @@ impl<T: Drop> From<AllocFailed<T>> for SchedErr {
     }
 }
 
-/// The schedule of a swap of 1 to 8 plain fixed streams.
-pub fn make_schedule(alloc: Global, swap: &Swap) -> Result<Schedule, SchedErr>
-    requires streams { (0 < length swap.now.streams) × (length swap.now.streams ≤ 8) }
-    requires plain { Every IsPlain swap.now.streams }
-    ensures { IfOk result (λ s. length s ≡ length swap.now.streams) }
+/// The schedule of a lawful swap that breaks no rule of its terms, with the good days of the calendars
+/// and the observed rates of the fixings.
+///
+/// `Broken` is exactly the first of K30 to K39 that is broken, with the stream's number in the place:
+/// where none is broken there is a schedule, and only one, also where memory ran out.
+pub fn make_schedule(
+    alloc: Global,
+    swap: &Swap,
+    cal: &Calendars,
+    fix: &Fixings,
+) -> Result<Schedule, SchedErr>
+    requires lawful { IsLawful swap.now }
+    // `check_terms` finds nothing.
+    requires terms { (f : BrokenRule) → BreaksTerms swap.now cal.now f → ⊥ }
+    ensures ok { IfOk result (IsSchedule swap.now cal.now fix.now) }
+    ensures unbroken { IfOk result (λ _. DatedKept swap.now cal.now fix.now) }
+    ensures broken { IfBroken result (DatedBroken swap.now cal.now fix.now) }
+    // At every exit: where no rule is broken there is a schedule, and there is at most one.
+    ensures exists { DatedKept swap.now cal.now fix.now → (s : List Part) × IsSchedule swap.now cal.now fix.now s }
+    ensures one { (s t : List Part) → IsSchedule swap.now cal.now fix.now s → IsSchedule swap.now cal.now fix.now t → s ≡ t }
 {
-    let mut parts = Vec::new(alloc);
-    let mut number = 0;
-    for stream in swap.streams.as_slice() {
-        number += 1;
-        match plain_part(alloc, stream) {
-            Ok(part) => parts.push(part)?,
-            Err(PerErr::TooMany) => return Err(SchedErr::Broken(too_many(number))),
-            Err(PerErr::Memory) => return Err(SchedErr::Memory),
-        }
-    }
-    Ok(Schedule::of_parts(parts))
-}
-
-// A stream has too many periods.
-fn too_many(stream: u8) -> Broken {
-    Broken {
-        rule: Rule::K32,
-        place: Place {
-            stream,
-            elem: Elem::CALCULATION_PERIOD_FREQUENCY,
-            index: 0,
-        },
-    }
+    Err(SchedErr::Memory)
 }
