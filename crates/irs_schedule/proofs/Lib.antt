@@ -4,3 +4,4 @@ pub mod TextLemmas
 pub mod PlaceLemmas
 pub mod PaymentLemmas
 pub mod CountLemmas
+pub mod Unique

@@ -14,7 +14,8 @@ use Rattle.irs_resets.specs.Resets.{IsResets}
 use Rattle.irs_schedule.specs.declared.entries.PaymentEntry.{PaymentEntry}
 use Rattle.irs_schedule.specs.Parts.{Part, Every}
 use Rattle.irs_schedule.specs.DaySets.{StreamSets, stream_sets}
-use Rattle.irs_schedule.specs.Layouts.{Layout, IsLayout}
+use Rattle.irs_schedule.specs.declared.layouts.Layout.{Layout}
+use Rattle.irs_schedule.specs.Layouts.{IsLayout}
 use Rattle.irs_schedule.specs.PeriodTerms.{IsPeriodEntry, IsAmountFor}
 
 abbrev pub is_floating : Leg → Bool

@@ -2,9 +2,11 @@
 //! rows in order, and their texts.
 #![tactic(auto)]
 
+mod dated;
 mod entries;
 mod in_force;
 mod kept_terms;
+mod layouts;
 mod making;
 mod row;
 mod schedule;
