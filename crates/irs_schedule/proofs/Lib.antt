@@ -5,3 +5,4 @@ pub mod PlaceLemmas
 pub mod PaymentLemmas
 pub mod CountLemmas
 pub mod Unique
+pub mod Turns
