@@ -15,3 +15,4 @@ pub mod Schedules
 pub mod DatedRules
 pub mod TermsKept
 pub mod SchedErrors
+pub mod StepsRising

@@ -1,6 +1,8 @@
 -- What is worked out for the calculation periods of a stream, and the amounts of its payments.
 -- Periods are counted from 1. b are the unadjusted boundaries, a the adjusted ones, rs the resets.
-use Rattle.std.specs.Prelude.{◌≡◌, ℕ, ◌+◌, ◌-◌, ◌==◌, List, length, Option, Some, None, option_map, option_and_then, slice_get, ℤ}
+use Rattle.std.specs.Prelude.{◌≡◌, ℕ, ◌+◌, ◌-◌, ◌==◌, ◌≤◌, All, List, length, Option, Some, None, option_map, option_and_then, slice_get, ℤ}
+use Rattle.irs_base.specs.DayLists.{AreDays}
+use Rattle.irs_base.specs.Listed.{IsRising}
 use Rattle.irs_base.specs.declared.line.Dec.{Dec}
 use Rattle.irs_terms.specs.Currencies.{decimals_of}
 use Rattle.irs_terms.specs.declared.amounts.Leg.{Leg}
@@ -15,6 +17,8 @@ use Rattle.irs_compound.specs.Amounts.{AllPriced, AmountOf, Passes, code_for}
 use Rattle.irs_compound.specs.declared.periods.Rates.{Rates}
 use Rattle.irs_compound.specs.declared.periods.PeriodTerm.{PeriodTerm}
 use Rattle.irs_payments.specs.Numbered.{EachNumbered}
+use Rattle.irs_periods.specs.Boundaries.{most_periods}
+use Rattle.irs_resets.specs.Resets.{HasSmallRate}
 use Rattle.irs_schedule.specs.declared.entries.PeriodEntry.{PeriodEntry}
 use Rattle.irs_schedule.specs.Parts.{day_at}
 
@@ -63,14 +67,27 @@ pub record IsAmountFor (s : Stream) (b a : List ℤ) (rs : List Reset) (p : Paym
   pub are_terms : AreTerms s b a rs p terms
   pub is_amount : IsAmountBy s terms amount
 
--- at period i, in a payment whose rates are all there, a rate or an amount leaves its range
-pub record PassesAt (s : Stream) (b a : List ℤ) (rs : List Reset) (ps : List Payment) (i : ℕ) : Type 0 where
-  pub number : ℕ
-  pub payment : Payment
-  pub there : slice_get ps number ≡ Some payment
+-- at period i of the payment, whose rates are all there, a rate or an amount leaves its range
+pub record PassesIn (s : Stream) (b a : List ℤ) (rs : List Reset) (payment : Payment) (i : ℕ) : Type 0 where
   pub terms : List PeriodTerm
   pub are_terms : AreTerms s b a rs payment terms
   pub priced : AllPriced terms
   pub place : ℕ
   pub passes : Passes (code_for s.compounding terms) terms place
   pub is : i ≡ payment.first_period + place
+
+-- the same in one of the payments
+pub record PassesAt (s : Stream) (b a : List ℤ) (rs : List Reset) (ps : List Payment) (i : ℕ) : Type 0 where
+  pub number : ℕ
+  pub payment : Payment
+  pub there : slice_get ps number ≡ Some payment
+  pub within : PassesIn s b a rs payment i
+
+-- the lists that periods are worked out of: the adjusted boundaries are days that rise, one for each
+-- unadjusted boundary, and observed rates are small
+pub record IsTable (b a : List ℤ) (rs : List Reset) : Type 0 where
+  pub few : length b ≤ most_periods + 1
+  pub same_length : length a ≡ length b
+  pub rises : IsRising a
+  pub days : AreDays a
+  pub small : All HasSmallRate rs

@@ -2,6 +2,7 @@
 //! rows in order, and their texts.
 #![tactic(auto)]
 
+mod amounts;
 mod dated;
 mod entries;
 mod in_force;
