@@ -40,7 +40,7 @@ next_day [] i h low high = absurd (omega arith)
 next_day (x ∷ xs) zero h low high = absurd (omega arith)
 next_day (x ∷ xs) (suc i) h low high = let e : suc i - 1 ≡ i = omega arith in rw e (rises_at x xs i h (omega arith))
 
-is_day_at : (xs : List ℤ) (i : ℕ) → AreDays xs → i < length xs → IsDay (day_at xs i)
+pub is_day_at : (xs : List ℤ) (i : ℕ) → AreDays xs → i < length xs → IsDay (day_at xs i)
 is_day_at [] i h low = absurd (omega arith)
 is_day_at (x ∷ xs) zero h low = h.0
 is_day_at (x ∷ xs) (suc i) h low = is_day_at xs i h.1 (omega arith)

@@ -3,7 +3,6 @@
 #![tactic(auto)]
 
 mod amounts;
-mod dated;
 mod entries;
 mod in_force;
 mod kept_terms;
