@@ -6,3 +6,9 @@ pub mod PaymentLemmas
 pub mod CountLemmas
 pub mod Unique
 pub mod Turns
+pub mod RateLemmas
+pub mod PeriodLemmas
+pub mod EntryLemmas
+pub mod BoundLemmas
+pub mod TermsLemmas
+pub mod CenterLemmas

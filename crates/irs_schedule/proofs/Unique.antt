@@ -45,8 +45,9 @@ use Rattle.irs_schedule.specs.declared.entries.PeriodEntry.{PeriodEntry}
 use Rattle.irs_schedule.specs.declared.layouts.Layout.{Layout}
 use Rattle.irs_schedule.specs.Layouts.{IsLayout}
 use Rattle.irs_schedule.specs.Parts.{Part, Every, day_at}
-use Rattle.irs_schedule.specs.PeriodTerms.{AreRates, IsPeriodTerm, IsPeriodEntry, AreTerms, IsAmountBy, IsAmountFor, observed_at}
+use Rattle.irs_schedule.specs.PeriodTerms.{AreRates, IsPeriodTerm, IsPeriodEntry, AreTerms, IsAmountBy, IsAmountFor}
 use Rattle.irs_schedule.specs.Schedules.{IsPart, payment_of}
+use Rattle.irs_schedule.specs.Periods.{observed_of}
 use Rattle.irs_schedule.specs.TermsKept.{LegStepsRise}
 use Rattle.irs_schedule.proofs.PartLemmas.{is_day_at}
 
@@ -86,7 +87,7 @@ module _ (s : Stream) (b a : List ℤ) (rs : List Reset) (rises : StepsRise s.no
   one_term : (i : ℕ) (t u : PeriodTerm) → IsPeriodTerm s b a rs i t → IsPeriodTerm s b a rs i u → t ≡ u
   one_term i t u h k =
       let notional : t.notional ≡ u.notional = one_in_force s.notional (day_at b (i - 1)) t.notional u.notional rises h.notional k.notional in
-      let rates : t.rates ≡ u.rates = one_leg_rates s.leg (day_at b (i - 1)) (observed_at rs i) t.rates u.rates leg_rises h.rates k.rates in
+      let rates : t.rates ≡ u.rates = one_leg_rates s.leg (day_at b (i - 1)) (observed_of rs i) t.rates u.rates leg_rises h.rates k.rates in
       let frac : t.frac ≡ u.frac = one_fraction s.day_count (day_at a (i - 1)) (day_at a i) (i == length a - 1) t.frac u.frac h.frac k.frac in
       λ j. record { notional = notional j; rates = rates j; frac = frac j }
 

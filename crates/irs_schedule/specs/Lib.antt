@@ -1,6 +1,6 @@
 pub mod Parts
-pub mod InForce
 pub mod KeptTerms
+pub mod Periods
 pub mod Views
 pub mod Keeping
 pub mod RowsOf
@@ -16,3 +16,6 @@ pub mod DatedRules
 pub mod TermsKept
 pub mod SchedErrors
 pub mod StepsRising
+pub mod CenterDays
+pub mod StageSets
+pub mod DatedLists

@@ -21,10 +21,7 @@ use Rattle.irs_periods.specs.Boundaries.{most_periods}
 use Rattle.irs_resets.specs.Resets.{HasSmallRate}
 use Rattle.irs_schedule.specs.declared.entries.PeriodEntry.{PeriodEntry}
 use Rattle.irs_schedule.specs.Parts.{day_at}
-
--- the observed rate of period i: that of its reset
-abbrev pub observed_at : List Reset → ℕ → Option ℤ
-observed_at rs i = option_and_then (λ r. r.observed) (slice_get rs (i - 1))
+use Rattle.irs_schedule.specs.Periods.{observed_of}
 
 -- the rates of a period with this unadjusted start: on a fixed stream the fixed rate in force; on a
 -- floating one those of the observed rate, absent where it is
@@ -39,7 +36,7 @@ AreRates (Floating float) start (Some observed) (Some rates) = RatesOf float sta
 -- notional, rates and fraction of period i; the last period is the last of the stream
 pub record IsPeriodTerm (s : Stream) (b a : List ℤ) (rs : List Reset) (i : ℕ) (t : PeriodTerm) : Type 0 where
   pub notional : InForce s.notional (day_at b (i - 1)) t.notional
-  pub rates : AreRates s.leg (day_at b (i - 1)) (observed_at rs i) t.rates
+  pub rates : AreRates s.leg (day_at b (i - 1)) (observed_of rs i) t.rates
   pub frac : Fraction s.day_count (day_at a (i - 1)) (day_at a i) (i == length a - 1) t.frac
 
 -- what a schedule says of period i

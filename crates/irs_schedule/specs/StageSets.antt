@@ -2,7 +2,7 @@
 use Rattle.irs_periods.specs.Adjusting.{days_by}
 use Rattle.irs_schedule.specs.CenterDays.{days_of_centers}
 use Rattle.irs_schedule.specs.DaySets.{StreamSets}
-use Rattle.irs_schedule.specs.declared.center_days.StreamDays.{StreamDays}
+use Rattle.irs_schedule.specs.declared.center_table.StreamDays.{StreamDays}
 
 abbrev pub sets_of : StreamDays → StreamSets
 sets_of days = record {

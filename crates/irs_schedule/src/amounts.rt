@@ -11,7 +11,8 @@ ghost use Rattle.irs_payments.specs.Payments.{Covers};
 ghost use Rattle.irs_periods.specs.SpanRules.{broken_at};
 ghost use Rattle.irs_schedule.specs.DatedRules.{PassesFirst};
 ghost use Rattle.irs_schedule.specs.Parts.{Every, HasAmount};
-ghost use Rattle.irs_schedule.specs.PeriodTerms.{AreRates, IsPeriodTerm, AreTerms, IsAmountFor, PassesIn, PassesAt, IsTable, observed_at};
+ghost use Rattle.irs_schedule.specs.PeriodTerms.{AreRates, IsPeriodTerm, AreTerms, IsAmountFor, PassesIn, PassesAt, IsTable};
+ghost use Rattle.irs_schedule.specs.Periods.{observed_of};
 ghost use Rattle.irs_schedule.specs.SchedErrors.{IfBroken};
 ghost use Rattle.irs_schedule.specs.Schedules.{payment_of};
 ghost use Rattle.irs_schedule.specs.StepsRising.{AllStepsRise};
@@ -160,7 +161,7 @@ fn period_term(s: &Stream, table: PeriodTable<'_>, number: usize) -> PeriodTerm
 fn observed_at(resets: &[Reset], number: usize) -> Option<i64>
     requires low { 1 ≤ number }
     requires small { All HasSmallRate resets.now }
-    ensures value { result ≡ observed_at resets.now number }
+    ensures value { result ≡ observed_of resets.now number }
     ensures small { IfSome result IsRate }
 {
     resets.get(number - 1)?.observed

@@ -20,7 +20,7 @@ ghost use Rattle.irs_schedule.specs.TermsKept.{TermsKept};
 ghost use Rattle.irs_terms.specs.Lawful.{IsLawfulStream};
 
 use crate::SchedErr;
-use crate::center_days::StreamDays;
+use crate::center_table::StreamDays;
 use crate::layouts::Layout;
 use irs_base::DayList;
 use irs_payments::{PayErr, check_steps, payments, principals};

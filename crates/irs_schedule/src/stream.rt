@@ -13,7 +13,7 @@ ghost use Rattle.irs_terms.specs.Lawful.{IsLawfulStream};
 
 use crate::SchedErr;
 use crate::amounts::{PeriodTable, paid};
-use crate::center_days::StreamDays;
+use crate::center_table::StreamDays;
 use crate::kept_terms::kept_terms;
 use crate::layouts::Layout;
 use crate::stages::{exchanges_of, layout_of, payments_of, resets_of, span_of, steps_on};
