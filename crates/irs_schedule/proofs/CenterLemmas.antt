@@ -1,5 +1,4 @@
--- The good days of the centres that elements name: their range, the runs that stand for them, and the
--- table that has them.
+-- The good days of the centres that elements name: their range, and the table that has them.
 use Rattle.std.proofs.Common.{◌≡◌, ◌≢◌, ℕ, ◌+◌, ◌<◌, ◌≤◌, Bool, true, false, if◌then◌else◌, List, [], ◌∷◌, ◌++◌, Option, Some, None, IfSome, IfNone, Contains, ℤ, ◌≤ℤ◌, ◌<ℤ◌, length, refl, sym, ◌∙◌, ap, subst, arith}
 use Rattle.std.specs.Ordering.{int_cmp, is_lt}
 use Rattle.jiff_core.proofs.SignedLemmas.{signed_arith}
@@ -11,7 +10,6 @@ use Rattle.irs_terms.specs.declared.adjustments.Centers.TheVariants.{Absent, Lis
 use Rattle.irs_calendar.specs.declared.sections.Section.{Section}
 use Rattle.irs_calendar.specs.GoodDays.{DaySet, InCover, IsGood, Next, Prev, IsWhole, SameDays}
 use Rattle.irs_calendar.specs.Selected.{later, earlier, latest_first, earliest_last, sections_named}
-use Rattle.irs_adjust.proofs.SameSets.{same_next, same_prev, turned}
 use Rattle.irs_schedule.specs.DaySets.{days_of_names, whole_range, names_for}
 
 -- the range
@@ -53,27 +51,6 @@ days_in_range cal None d inside = (inside.from, inside.to)
 days_in_range cal (Some names) d inside =
     let ss = sections_named cal names in
     (trans first_day (latest_first first_day ss) d (latest_from first_day ss) inside.from, trans d (earliest_last last_day ss) last_day inside.to (earliest_to last_day ss))
-
--- the runs
-
-pub whole_days : (s : DaySet) → IsWhole s → SameDays s whole_range
-whole_days s whole = record { first = whole.first; last = whole.last; test = λ d inside. (whole.every d inside).passes }
-
-pub some_next : (r : Option ℤ) (s t : DaySet) (d : ℤ) → SameDays s t → IfSome r (Next s d) → IfSome r (Next t d)
-some_next None s t d same h = tt
-some_next (Some x) s t d same h = same_next s t d x same h
-
-pub none_next : (r : Option ℤ) (s t : DaySet) (d : ℤ) → SameDays s t → IfNone r ((x : ℤ) → Next s d x → ⊥) → IfNone r ((x : ℤ) → Next t d x → ⊥)
-none_next None s t d same h = λ x n. h x (same_next t s d x (turned s t same) n)
-none_next (Some x) s t d same h = tt
-
-pub some_prev : (r : Option ℤ) (s t : DaySet) (d : ℤ) → SameDays s t → IfSome r (Prev s d) → IfSome r (Prev t d)
-some_prev None s t d same h = tt
-some_prev (Some x) s t d same h = same_prev s t d x same h
-
-pub none_prev : (r : Option ℤ) (s t : DaySet) (d : ℤ) → SameDays s t → IfNone r ((x : ℤ) → Prev s d x → ⊥) → IfNone r ((x : ℤ) → Prev t d x → ⊥)
-none_prev None s t d same h = λ x n. h x (same_prev t s d x (turned s t same) n)
-none_prev (Some x) s t d same h = tt
 
 -- a lawful element lists at most 16 names
 pub few_names : (needed : Bool) (centers : Centers) → IsLawfulCenters centers → IfSome (names_for needed centers) (λ listed. length listed ≤ most_centers)

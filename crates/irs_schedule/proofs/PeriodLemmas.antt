@@ -1,5 +1,5 @@
 -- Periods that are worked out.
-use Rattle.std.proofs.Common.{◌≡◌, ℕ, ◌+◌, ◌-◌, ◌<◌, ◌≤◌, ◌==◌, length, slice_index_or, arith, List, [], ◌∷◌, ℤ, pos, ◌<ℤ◌, ◌≤ℤ◌, Option, IfSome, map, zero, suc, Bool, option_and_then, slice_get, subst, sym}
+use Rattle.std.proofs.Common.{◌≡◌, ℕ, ◌+◌, ◌-◌, ◌<◌, ◌≤◌, ◌==◌, length, slice_index_or, arith, List, [], ◌∷◌, ℤ, pos, ◌<ℤ◌, ◌≤ℤ◌, IfSome, map, zero, suc, Bool, option_and_then, slice_get, subst, sym}
 use Rattle.std.proofs.lemmas.List.FromFn.{get_or-map-range_with_len, length-map-range_with_len}
 use Rattle.std.specs.List.{range_with_len}
 use Rattle.jiff_core.proofs.SignedLemmas.{signed_arith}

@@ -1,9 +1,7 @@
 -- How large the rates of periods can be.
-use Rattle.std.proofs.Common.{◌≡◌, ℕ, ◌+◌, ◌-◌, ◌*◌, ◌^◌, ◌≤◌, ℤ, pos, negsuc, ◌+ℤ◌, ◌*ℤ◌, unsigned_abs, Option, Some, None, IfSome, arith, sym, ap, ◌∙◌}
-use Rattle.std.proofs.Math.Nat.{mul-le-mul}
-use Rattle.std.proofs.lemmas.Int.{unsigned_abs-mul}
+use Rattle.std.proofs.Common.{◌≡◌, ℕ, ◌+◌, ◌-◌, ◌*◌, ◌^◌, ◌≤◌, ℤ, pos, negsuc, ◌+ℤ◌, ◌*ℤ◌, ◌≤ℤ◌, neg_ℤ, unsigned_abs, Option, Some, None, IfSome, arith, sym, ap, ◌∙◌}
 use Rattle.std.proofs.lemmas.Nat.{pow-add}
-use Rattle.jiff_core.proofs.SignedLemmas.{signed_arith}
+use Rattle.jiff_core.proofs.SignedLemmas.{signed_arith, product_within}
 use Rattle.irs_base.specs.Rounding.{rounded}
 use Rattle.irs_base.proofs.RoundingLaws.{rounded_is, rounded_size}
 use Rattle.irs_terms.specs.declared.amounts.Rounding.{Rounding}
@@ -22,14 +20,13 @@ use Rattle.irs_schedule.specs.Periods.{rate_by}
 pub value_within : (Within : ℤ → Type 0) (values : StepValues) (d : ℤ) → IsLawfulValues Within values → Within (value_in_force values d)
 value_within Within values d h = in_force_within Within values d (value_in_force values d) h (in_force_is values d)
 
-sum_size : (a b : ℤ) → unsigned_abs (a +ℤ b) ≤ unsigned_abs a + unsigned_abs b
-sum_size (pos m) (pos n) = omega (arith, signed_arith)
-sum_size (pos m) (negsuc n) = omega (arith, signed_arith)
-sum_size (negsuc m) (pos n) = omega (arith, signed_arith)
-sum_size (negsuc m) (negsuc n) = omega (arith, signed_arith)
+-- the size of a number between two opposite ones
+size_within : (z : ℤ) (n : ℕ) → neg_ℤ (pos n) ≤ℤ z → z ≤ℤ pos n → unsigned_abs z ≤ n
+size_within (pos m) n h k = omega (arith, signed_arith, h, k)
+size_within (negsuc m) n h k = omega (arith, signed_arith, h, k)
 
-product_size : (a b : ℤ) (m n : ℕ) → unsigned_abs a ≤ m → unsigned_abs b ≤ n → unsigned_abs (a *ℤ b) ≤ m * n
-product_size a b m n h k = rw (unsigned_abs-mul a b) (mul-le-mul h k)
+sum_within : (a b : ℤ) (m n : ℕ) → unsigned_abs a ≤ m → unsigned_abs b ≤ n → unsigned_abs (a +ℤ b) ≤ m + n
+sum_within a b m n h k = size_within (a +ℤ b) (m + n) (omega (arith, signed_arith, h, k)) (omega (arith, signed_arith, h, k))
 
 -- a rate of 110 in units of 10^-18 is one of 110 in units of 10^-9, at any number of places
 rounded_rate_size : (rounding : Rounding) (exact : ℤ) → rounding.places ≤ 9 → unsigned_abs exact ≤ 11 * 10 ^ 19 → unsigned_abs (rate_at rounding exact) ≤ 11 * 10 ^ 10
@@ -42,16 +39,16 @@ rounded_rate_size rounding exact few small =
     let w : unsigned_abs whole ≤ 11 * 10 ^ (n + 1) = rounded_size rounding.dir exact whole (10 ^ (18 - n)) (11 * 10 ^ (n + 1)) (ten_above (18 - n)) h (rounded_is rounding.dir exact (pos (10 ^ (18 - n))) (ten_positive (18 - n))) in
     let f : n + 1 + (9 - n) ≡ 10 = omega (arith, few) in
     let q : 10 ^ (n + 1) * 10 ^ (9 - n) ≡ 10 ^ 10 = sym (pow-add 10 (n + 1) (9 - n)) ∙ ap (λ j. 10 ^ j) f in
-    let r = product_size whole (pos (10 ^ (9 - n))) (11 * 10 ^ (n + 1)) (10 ^ (9 - n)) w (omega arith) in
+    let r = product_within whole (pos (10 ^ (9 - n))) (11 * 10 ^ (n + 1)) (10 ^ (9 - n)) w (omega arith) in
     omega (arith, r, q)
 
 -- a multiplier of 10 times an observed rate of 10, plus a spread of 10
 exact_size : (m o s : ℤ) → IsRate m → IsRate o → IsRate s → unsigned_abs (m *ℤ o +ℤ s *ℤ pos (10 ^ 9)) ≤ 11 * 10 ^ 19
 exact_size m o s h k l =
-    let a = product_size m o (10 ^ 10) (10 ^ 10) h k in
-    let b = product_size s (pos (10 ^ 9)) (10 ^ 10) (10 ^ 9) l (omega arith) in
-    let c = sum_size (m *ℤ o) (s *ℤ pos (10 ^ 9)) in
-    omega (arith, a, b, c)
+    let a = product_within m o (10 ^ 10) (10 ^ 10) h k in
+    let b = product_within s (pos (10 ^ 9)) (10 ^ 10) (10 ^ 9) l (omega arith) in
+    let c = sum_within (m *ℤ o) (s *ℤ pos (10 ^ 9)) (10 ^ 10 * 10 ^ 10) (10 ^ 10 * 10 ^ 9) a b in
+    omega (arith, c)
 
 -- the rate that an observed one gives
 pub floating_size : (f : FloatTerms) (start observed : ℤ) → IsLawfulFloat f → IsRate observed → unsigned_abs (rates_of f start observed).all_in ≤ 11 * 10 ^ 10

@@ -49,10 +49,10 @@ pub(crate) fn paid(
     requires table { IsTable table.unadjusted.now table.adjusted.now table.resets.now }
     requires covers { Covers 1 payments.now (length table.unadjusted.now - 1) }
     ensures payments { IfOk result (λ es. map payment_of es.items ≡ payments.now) }
-    ensures amounts { IfOk result (λ es. Every (λ y. IsAmountFor s.now table.unadjusted.now table.adjusted.now table.resets.now (payment_of y) y.amount) es.items) }
+    ensures amounts { IfOk result (λ es. Every (λ y. IsAmountFor s.now table.entry.unadjusted.now table.entry.adjusted.now table.entry.resets.now (payment_of y) y.amount) es.items) }
     ensures bounds { IfOk result (λ es. Every (HasAmount s.now.currency) es.items) }
-    ensures within { IfOk result (λ _. (i : ℕ) → PassesAt s.now table.unadjusted.now table.adjusted.now table.resets.now payments.now i → ⊥) }
-    ensures broken { IfBroken result (λ x. (i : ℕ) × PassesFirst s.now table.unadjusted.now table.adjusted.now table.resets.now payments.now i × (x ≡ broken_at K39 calculation_period_amount i)) }
+    ensures within { IfOk result (λ _. (i : ℕ) → PassesAt s.now table.entry.unadjusted.now table.entry.adjusted.now table.entry.resets.now payments.now i → ⊥) }
+    ensures broken { IfBroken result (λ x. (i : ℕ) × PassesFirst s.now table.entry.unadjusted.now table.entry.adjusted.now table.entry.resets.now payments.now i × (x ≡ broken_at K39 calculation_period_amount i)) }
 {
     let mut entries = Vec::new(alloc);
     for payment in payments {
@@ -75,10 +75,10 @@ fn paid_by(
     requires some { payment.first_period ≤ payment.last_period }
     requires to_end { payment.last_period < length table.unadjusted.now }
     ensures payment { IfOk result (λ y. payment_of y ≡ payment) }
-    ensures amount { IfOk result (λ y. IsAmountFor s.now table.unadjusted.now table.adjusted.now table.resets.now payment y.amount) }
+    ensures amount { IfOk result (λ y. IsAmountFor s.now table.entry.unadjusted.now table.entry.adjusted.now table.entry.resets.now payment y.amount) }
     ensures bound { IfOk result (HasAmount s.now.currency) }
-    ensures within { IfOk result (λ _. (i : ℕ) → PassesIn s.now table.unadjusted.now table.adjusted.now table.resets.now payment i → ⊥) }
-    ensures broken { IfBroken result (λ x. (i : ℕ) × PassesIn s.now table.unadjusted.now table.adjusted.now table.resets.now payment i × ((k : ℕ) → k < i → PassesIn s.now table.unadjusted.now table.adjusted.now table.resets.now payment k → ⊥) × (i ≤ payment.last_period) × (x ≡ broken_at K39 calculation_period_amount i)) }
+    ensures within { IfOk result (λ _. (i : ℕ) → PassesIn s.now table.entry.unadjusted.now table.entry.adjusted.now table.entry.resets.now payment i → ⊥) }
+    ensures broken { IfBroken result (λ x. (i : ℕ) × PassesIn s.now table.entry.unadjusted.now table.entry.adjusted.now table.entry.resets.now payment i × ((k : ℕ) → k < i → PassesIn s.now table.entry.unadjusted.now table.entry.adjusted.now table.entry.resets.now payment k → ⊥) × (i ≤ payment.last_period) × (x ≡ broken_at K39 calculation_period_amount i)) }
 {
     let terms = terms_of(alloc, s, table, payment)?;
     let places = s.currency.places();
@@ -125,7 +125,7 @@ fn terms_of(
     requires from_one { 1 ≤ payment.first_period }
     requires some { payment.first_period ≤ payment.last_period }
     requires to_end { payment.last_period < length table.unadjusted.now }
-    ensures terms { IfOk result (λ ts. AreTerms s.now table.unadjusted.now table.adjusted.now table.resets.now payment ts.items) }
+    ensures terms { IfOk result (λ ts. AreTerms s.now table.entry.unadjusted.now table.entry.adjusted.now table.entry.resets.now payment ts.items) }
     ensures payment { IfOk result (λ ts. IsPayment ts.items) }
 {
     let mut terms = Vec::new(alloc);
@@ -141,7 +141,7 @@ fn period_term(s: &Stream, table: PeriodTable<'_>, number: usize) -> PeriodTerm
     requires table { IsTable table.unadjusted.now table.adjusted.now table.resets.now }
     requires low { 1 ≤ number }
     requires high { number < length table.unadjusted.now }
-    ensures term { IsPeriodTerm s.now table.unadjusted.now table.adjusted.now table.resets.now number result }
+    ensures term { IsPeriodTerm s.now table.entry.unadjusted.now table.entry.adjusted.now table.entry.resets.now number result }
     ensures range { IsTerm (denominator_of s.now.day_count) result }
 {
     let start = table.unadjusted[number - 1];
