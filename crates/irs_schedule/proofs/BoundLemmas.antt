@@ -43,10 +43,10 @@ covers_paid n last (e ∷ es) h = (h.0, h.1, covers_paid (e.last_period + 1) las
 
 -- 10^13 in units of 10^-4, rounded to so many decimals
 rounded_fits : (k : ℕ) (p m : ℤ) → k ≤ 3 → unsigned_abs p ≤ most_notional → Rounded Nearest p (pos (10 ^ (4 - k))) m → unsigned_abs m ≤ 10 ^ 14 * 10 ^ k
-rounded_fits 0 p m low size h = let r = rounded_size Nearest p m (10 ^ 4) (10 ^ 13) (omega arith) (omega (arith, size)) h in omega (arith, r)
-rounded_fits 1 p m low size h = let r = rounded_size Nearest p m (10 ^ 3) (10 ^ 14) (omega arith) (omega (arith, size)) h in omega (arith, r)
-rounded_fits 2 p m low size h = let r = rounded_size Nearest p m (10 ^ 2) (10 ^ 15) (omega arith) (omega (arith, size)) h in omega (arith, r)
-rounded_fits 3 p m low size h = let r = rounded_size Nearest p m (10 ^ 1) (10 ^ 16) (omega arith) (omega (arith, size)) h in omega (arith, r)
+rounded_fits zero p m low size h = let r = rounded_size Nearest p m (10 ^ 4) (10 ^ 13) (omega arith) (omega (arith, size)) h in omega (arith, r)
+rounded_fits (suc zero) p m low size h = let r = rounded_size Nearest p m (10 ^ 3) (10 ^ 14) (omega arith) (omega (arith, size)) h in omega (arith, r)
+rounded_fits (suc (suc zero)) p m low size h = let r = rounded_size Nearest p m (10 ^ 2) (10 ^ 15) (omega arith) (omega (arith, size)) h in omega (arith, r)
+rounded_fits (suc (suc (suc zero))) p m low size h = let r = rounded_size Nearest p m (10 ^ 1) (10 ^ 16) (omega arith) (omega (arith, size)) h in omega (arith, r)
 rounded_fits (suc (suc (suc (suc k)))) p m low size h = absurd (omega (arith, low))
 
 abbrev IsSmallTransfer : Transfer → Type 0

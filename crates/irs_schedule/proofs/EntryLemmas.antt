@@ -23,7 +23,7 @@ use Rattle.irs_schedule.specs.Periods.{count_of, observed_of, rate_by, period_by
 use Rattle.irs_schedule.specs.PeriodTerms.{AreRates, IsPeriodTerm, IsPeriodEntry}
 
 -- the rates of a period as a function
-rates_by : Leg → ℤ → Option ℤ → Option Rates
+abbrev rates_by : Leg → ℤ → Option ℤ → Option Rates
 rates_by (Fixed values) start observed = Some (fixed_rates_of values start)
 rates_by (Floating float) start observed = option_map (rates_of float start) observed
 
@@ -38,7 +38,7 @@ rate_is (Floating float) start None = refl
 rate_is (Floating float) start (Some o) = refl
 
 -- the terms of period i as a function
-pub term_by : Stream → List ℤ → List ℤ → List Reset → ℕ → PeriodTerm
+abbrev pub term_by : Stream → List ℤ → List ℤ → List Reset → ℕ → PeriodTerm
 term_by s b a rs i = record {
   notional = value_in_force s.notional (day_at b (i - 1));
   rates = rates_by s.leg (day_at b (i - 1)) (observed_of rs i);

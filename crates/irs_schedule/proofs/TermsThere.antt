@@ -30,7 +30,8 @@ use Rattle.irs_payments.proofs.PlaceLemmas.{rises_at}
 use Rattle.irs_schedule.specs.declared.entries.PaymentEntry.{PaymentEntry}
 use Rattle.irs_schedule.specs.declared.entries.PeriodEntry.{PeriodEntry}
 use Rattle.irs_schedule.specs.Parts.{Every, day_at}
-use Rattle.irs_schedule.specs.PeriodTerms.{observed_of, AreRates, IsPeriodTerm, IsPeriodEntry, AreTerms, IsAmountBy, IsAmountFor}
+use Rattle.irs_schedule.specs.Periods.{observed_of}
+use Rattle.irs_schedule.specs.PeriodTerms.{AreRates, IsPeriodTerm, IsPeriodEntry, AreTerms, IsAmountBy, IsAmountFor}
 use Rattle.irs_schedule.specs.Schedules.{payment_of}
 use Rattle.irs_schedule.proofs.AdjustedBoundaries.{day_of_days}
 

@@ -31,14 +31,14 @@ use Rattle.irs_schedule.specs.PeriodTerms.{PassesAt}
 use Rattle.irs_schedule.specs.DatedRules.{DatedPart, in_span, in_periods, in_payments, in_steps, in_exchanges, in_resets, in_amounts, turn_of, BoundariesBroken, PeriodsBroken, PaymentsBroken, StepsBroken, ResetsBroken, AmountsBroken, PassesFirst, PartBroken, KeptBefore, StreamKept, StreamBroken}
 use Rattle.irs_schedule.proofs.Unique.{one_layout}
 
-part_at : ℕ → DatedPart
-part_at 0 = in_span
-part_at 1 = in_periods
-part_at 2 = in_payments
-part_at 3 = in_steps
-part_at 4 = in_exchanges
-part_at 5 = in_resets
-part_at _ = in_amounts
+abbrev part_at : ℕ → DatedPart
+part_at zero = in_span
+part_at (suc zero) = in_periods
+part_at (suc (suc zero)) = in_payments
+part_at (suc (suc (suc zero))) = in_steps
+part_at (suc (suc (suc (suc zero)))) = in_exchanges
+part_at (suc (suc (suc (suc (suc zero))))) = in_resets
+part_at (suc (suc (suc (suc (suc (suc n)))))) = in_amounts
 
 part_at-turn : (part : DatedPart) → part_at (turn_of part) ≡ part
 part_at-turn in_span = refl
@@ -57,7 +57,7 @@ below_next : (m n : ℕ) → m < n + 1 → (m < n) ⊎ (m ≡ n)
 below_next zero zero h = inr refl
 below_next zero (suc n) h = inl (omega arith)
 below_next (suc m) zero h = absurd (omega (arith, h))
-below_next (suc m) (suc n) h = elim below_next m n (omega (arith, h)) [ inl low ↦ inl (omega (arith, low)) | inr e ↦ inr (ap suc e) ]
+below_next (suc m) (suc n) h = elim (below_next m n (omega (arith, h))) [ inl low ↦ inl (omega (arith, low)) | inr e ↦ inr (ap suc e) ]
 
 -- the turns that end: no part has a turn from 7 on
 turn_below : (part : DatedPart) → turn_of part < 7
@@ -76,7 +76,7 @@ module _ (sets : StreamSets) (fix : RateTable) (s : Stream) where
 
   -- one part more keeps its rules
   pub kept_next : (part : DatedPart) → KeptBefore sets fix s (turn_of part) → ((x : Broken) → PartBroken sets fix s part x → ⊥) → KeptBefore sets fix s (turn_of part + 1)
-  kept_next part before none other x low broken = elim below_next (turn_of other) (turn_of part) low [
+  kept_next part before none other x low broken = elim (below_next (turn_of other) (turn_of part) low) [
     | inl lower ↦ before other x lower broken
     | inr e ↦ none x (subst (λ (p : DatedPart). PartBroken sets fix s p x) (one_turn other part e) broken)
   ]

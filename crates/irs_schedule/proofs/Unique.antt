@@ -49,7 +49,7 @@ use Rattle.irs_schedule.specs.PeriodTerms.{AreRates, IsPeriodTerm, IsPeriodEntry
 use Rattle.irs_schedule.specs.Schedules.{IsPart, payment_of}
 use Rattle.irs_schedule.specs.Periods.{observed_of}
 use Rattle.irs_schedule.specs.TermsKept.{LegStepsRise}
-use Rattle.irs_schedule.proofs.PartLemmas.{is_day_at}
+use Rattle.irs_schedule.proofs.PeriodLemmas.{is_day_at}
 
 -- a stream has one layout
 pub one_layout : (sets : StreamSets) (s : Stream) (l m : Layout) → IsLayout sets s l → IsLayout sets s m → l ≡ m
@@ -73,9 +73,17 @@ one_leg_rates (Floating float) start (Some o) None y r h k = absurd h
 one_leg_rates (Floating float) start (Some o) (Some x) None r h k = absurd k
 one_leg_rates (Floating float) start (Some o) (Some x) (Some y) r h k = ap Some (one_rates float start o x y r.0 r.1 h k)
 
-units_of : Option Dec → Option ℤ
+abbrev units_of : Option Dec → Option ℤ
 units_of None = None
 units_of (Some v) = Some v.units
+
+abbrev IsNothing : Option ℤ → Type 0
+IsNothing None = Unit {0}
+IsNothing (Some z) = ⊥
+
+abbrev IsNoPayment : List Payment → Type 0
+IsNoPayment [] = Unit {0}
+IsNoPayment (p ∷ ps) = ⊥
 
 same_dec : (k : ℕ) (v w : Dec) → v.places ≡ k → w.places ≡ k → Some v.units ≡ Some w.units → v ≡ w
 same_dec k v w h j e =
@@ -123,8 +131,8 @@ module _ (s : Stream) (b a : List ℤ) (rs : List Reset) (rises : StepsRise s.no
 
   same_amount : (ts : List PeriodTerm) (x y : Option Dec) → IsAmountBy s ts x → IsAmountBy s ts y → units_of x ≡ units_of y → x ≡ y
   same_amount ts None None h k e = refl
-  same_amount ts None (Some w) h k e = absurd (search e)
-  same_amount ts (Some v) None h k e = absurd (search e)
+  same_amount ts None (Some w) h k e = absurd (subst IsNothing e tt)
+  same_amount ts (Some v) None h k e = absurd (subst IsNothing (sym e) tt)
   same_amount ts (Some v) (Some w) h k e = ap Some (same_dec (decimals_of s.currency.letters) v w h.0 k.0 e)
 
   -- a payment of these periods has one amount
@@ -150,11 +158,11 @@ covers_each n last (p ∷ ps) low h =
     let k = covers_low (p.last_period + 1) last ps h.2 in
     ((omega (arith, first, low), h.1, omega (arith, k)), covers_each (p.last_period + 1) last ps (omega arith) h.2)
 
-payment_head : PaymentEntry → List Payment → Payment
+abbrev payment_head : PaymentEntry → List Payment → Payment
 payment_head e [] = payment_of e
 payment_head e (p ∷ ps) = p
 
-payment_tail : List Payment → List Payment
+abbrev payment_tail : List Payment → List Payment
 payment_tail [] = []
 payment_tail (p ∷ ps) = ps
 
@@ -166,8 +174,8 @@ module _ (s : Stream) (b a : List ℤ) (rs : List Reset) (rises : StepsRise s.no
   pub one_paid : (last : ℕ) (xs ys : List PaymentEntry) → last < length a → map payment_of xs ≡ map payment_of ys → Every (InPeriods last) (map payment_of xs)
       → Every (λ y. IsAmountFor s b a rs (payment_of y) y.amount) xs → Every (λ y. IsAmountFor s b a rs (payment_of y) y.amount) ys → xs ≡ ys
   one_paid last [] [] high e within h k = refl
-  one_paid last [] (y ∷ ys) high e within h k = absurd (search e)
-  one_paid last (x ∷ xs) [] high e within h k = absurd (search e)
+  one_paid last [] (y ∷ ys) high e within h k = absurd (subst IsNoPayment e tt)
+  one_paid last (x ∷ xs) [] high e within h k = absurd (subst IsNoPayment (sym e) tt)
   one_paid last (x ∷ xs) (y ∷ ys) high e within h k =
       let first : payment_of x ≡ payment_of y = ap (payment_head x) e in
       let moved : IsAmountFor s b a rs (payment_of x) y.amount = subst (λ (p : Payment). IsAmountFor s b a rs p y.amount) (sym first) k.0 in
