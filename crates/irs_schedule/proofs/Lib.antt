@@ -26,3 +26,5 @@ pub mod Unique
 pub mod Turns
 pub mod EntryLemmas
 pub mod BoundLemmas
+pub mod ResetLemmas
+pub mod Handed

@@ -152,3 +152,28 @@ module _ (sets : StreamSets) (fix : RateTable) (s : Stream) where
       let here : PassesAt s l.unadjusted l.adjusted broken.resets broken.payments broken.period = subst (λ (m : Layout). PassesAt s m.unadjusted m.adjusted broken.resets broken.payments broken.period) same broken.first.passes in
       let there : PassesAt s l.unadjusted l.adjusted rs broken.payments broken.period = subst (λ (qs : List Reset). PassesAt s l.unadjusted l.adjusted qs broken.payments broken.period) resets here in
       none broken.period (subst (λ (qs : List Payment). PassesAt s l.unadjusted l.adjusted rs qs broken.period) payments there)
+
+  -- the first broken rule of the first part that breaks one
+  pub stream_first : (part : DatedPart) → KeptBefore sets fix s (turn_of part) → (x : Broken) → PartBroken sets fix s part x → StreamBroken sets fix s x
+  stream_first part before x broken = record { part = part; broken = broken; kept_before = before }
+
+  -- the turns up to the periods, the payments, the steps, the exchanges and the resets
+  pub kept_1 : (span : Span) → Regular s span → SpanKept s span → KeptBefore sets fix s 1
+  kept_1 span regular kept = kept_next in_span kept_none (span_kept span regular kept)
+
+  pub kept_2 : (l : Layout) → IsLayout sets s l → KeptBefore sets fix s 2
+  kept_2 l h = kept_next in_periods (kept_1 l.span h.regular h.kept) (periods_kept l h)
+
+  pub kept_3 : (l : Layout) → IsLayout sets s l → ((x : Broken) → BreaksPayments s sets.payment l.unadjusted l.adjusted x → ⊥) → KeptBefore sets fix s 3
+  kept_3 l h none = kept_next in_payments (kept_2 l h) (payments_kept l h none)
+
+  pub kept_4 : (l : Layout) → IsLayout sets s l → ((x : Broken) → BreaksPayments s sets.payment l.unadjusted l.adjusted x → ⊥) → ((x : Broken) → BreaksSteps s l.unadjusted x → ⊥) → KeptBefore sets fix s 4
+  kept_4 l h none steps = kept_next in_steps (kept_3 l h none) (steps_kept l h steps)
+
+  pub kept_5 : (l : Layout) → IsLayout sets s l → ((x : Broken) → BreaksPayments s sets.payment l.unadjusted l.adjusted x → ⊥) → ((x : Broken) → BreaksSteps s l.unadjusted x → ⊥)
+      → ((x : Broken) → BreaksExchanges s sets.payment x → ⊥) → KeptBefore sets fix s 5
+  kept_5 l h none steps exchanges = kept_next in_exchanges (kept_4 l h none steps) (exchanges_kept exchanges)
+
+  pub kept_6 : (l : Layout) → IsLayout sets s l → ((x : Broken) → BreaksPayments s sets.payment l.unadjusted l.adjusted x → ⊥) → ((x : Broken) → BreaksSteps s l.unadjusted x → ⊥)
+      → ((x : Broken) → BreaksExchanges s sets.payment x → ⊥) → ((x : Broken) → FirstBroken s l.span l.adjusted sets.reset sets.fixing x → ⊥) → KeptBefore sets fix s 6
+  kept_6 l h none steps exchanges resets = kept_next in_resets (kept_5 l h none steps exchanges) (resets_kept l h resets)
