@@ -28,3 +28,4 @@ pub mod EntryLemmas
 pub mod BoundLemmas
 pub mod ResetLemmas
 pub mod Handed
+pub mod MakingLemmas

@@ -1,6 +1,6 @@
 //! The good days of the streams of a swap: each list of centres is looked up in the calendars once,
 //! however many elements and streams have it.
-ghost use Rattle.std.specs.Prelude.{◌≡◌, ℕ, Contains, Some, option_copied, IfOk, IfSome, IfNone, OnOk, slice_get};
+ghost use Rattle.std.specs.Prelude.{◌≡◌, ◌↔◌, ℕ, Contains, Some, option_copied, IfOk, IsSome, IfSome, OnOk, slice_get};
 ghost use Rattle.irs_terms.specs.Lawful.{IsLawful, IsLawfulStream};
 ghost use Rattle.irs_terms.specs.declared.stream.Stream.{Stream as StreamTerms};
 ghost use Rattle.irs_schedule.specs.DaySets.{boundary_days, payment_days, reset_days, fixing_days};
@@ -103,7 +103,8 @@ impl<'a> CenterTable<'a> {
         self.add(alloc, names_by(&s.period_adj))?;
         self.add(alloc, names_with(s.pay.offset, &s.pay.adj))?;
         self.add(alloc, reset_names(&s.reset))?;
-        self.add(alloc, fixing_names(&s.reset))
+        self.add(alloc, fixing_names(&s.reset))?;
+        Ok(())
     }
 
     // The good days of the centres with these names, which may have been found already.
@@ -121,8 +122,8 @@ impl<'a> CenterTable<'a> {
 
     // The good days of the centres with these names, where the table has them.
     fn get(&self, names: Option<&Names>) -> Option<&CenterDays<'a>>
-        ensures some { IfSome result (λ days. days.now ≡ centers_named self.now.sections (option_copied names.entry)) }
-        ensures none { IfNone result (Contains self.now.lists (option_copied names.entry) → ⊥) }
+        ensures there { IsSome result ↔ Contains self.now.lists (option_copied names.entry) }
+        ensures value { IfSome result (λ days. days.now ≡ centers_named self.now.sections (option_copied names.entry)) }
     {
         for days in &self.found {
             if days.has_names(names) {

@@ -40,6 +40,7 @@ pub(crate) fn stream_part(
     requires lawful { IsLawfulStream s.now }
     requires kept { (cal : List Section) × TermsKept cal s.now }
     ensures ok { IfOk result (IsPart (sets_of days.now) fix.now s.now) }
+    ensures bounds { IfOk result KeepsBounds }
     ensures unbroken { IfOk result (λ _. StreamKept (sets_of days.now) fix.now s.now) }
     ensures broken { IfBroken result (StreamBroken (sets_of days.now) fix.now s.now) }
 {
@@ -94,6 +95,7 @@ fn part_over(
     requires lawful { IsLawfulStream s.now }
     requires kept { (cal : List Section) × TermsKept cal s.now }
     ensures ok { (sets : StreamSets) (fix : RateTable) → IsLayout sets s.now layout → AreDated sets fix s.now layout dated → IfOk result (IsPart sets fix s.now) }
+    ensures bounds { IfOk result KeepsBounds }
     ensures unbroken { (sets : StreamSets) (fix : RateTable) → IsLayout sets s.now layout → AreDated sets fix s.now layout dated → IfOk result (λ _. StreamKept sets fix s.now) }
     ensures broken { (sets : StreamSets) (fix : RateTable) → IsLayout sets s.now layout → AreDated sets fix s.now layout dated → IfBroken result (StreamBroken sets fix s.now) }
 {
@@ -115,3 +117,4 @@ fn part_over(
 }
 
 ghost use Rattle.irs_schedule.specs.DaySets.{StreamSets};
+ghost use Rattle.irs_schedule.specs.Parts.{KeepsBounds};
