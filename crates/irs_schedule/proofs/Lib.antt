@@ -29,3 +29,12 @@ pub mod BoundLemmas
 pub mod ResetLemmas
 pub mod Handed
 pub mod MakingLemmas
+pub mod FirstFaults
+pub mod StreamRanges
+pub mod LayoutLemmas
+pub mod LayoutThere
+pub mod PartThere
+pub mod OnePart
+pub mod AmountBounds
+pub mod AmountLemmas
+pub mod PaidLemmas

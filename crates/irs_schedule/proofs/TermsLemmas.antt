@@ -265,7 +265,7 @@ stream_keeps cal s lawful never =
       fixing_found = found_for_fixing cal s.reset resets;
     }
 
-lawful_stream : (swap : Swap) → IsLawful swap → (i : ℕ) (s : Stream) → slice_get swap.streams i ≡ Some s → IsLawfulStream s
+pub lawful_stream : (swap : Swap) → IsLawful swap → (i : ℕ) (s : Stream) → slice_get swap.streams i ≡ Some s → IsLawfulStream s
 lawful_stream swap lawful i s there = subst IsLawfulStream (get_or_from_slice_get swap.streams i s s there) (lawful.2 i s (slice_get_within swap.streams i s there))
 
 -- the rule at the place, as one of the swap's

@@ -1,12 +1,13 @@
 -- What is worked out for the calculation periods of a stream, and the amounts of its payments.
 -- Periods are counted from 1. b are the unadjusted boundaries, a the adjusted ones, rs the resets.
-use Rattle.std.specs.Prelude.{◌≡◌, ℕ, ◌+◌, ◌-◌, ◌==◌, ◌≤◌, All, List, length, Option, Some, None, option_map, option_and_then, slice_get, ℤ}
+use Rattle.std.specs.Prelude.{◌≡◌, ℕ, ◌+◌, ◌-◌, ◌==◌, ◌<◌, ◌≤◌, All, List, length, Option, Some, None, option_map, option_and_then, slice_get, ℤ}
 use Rattle.irs_base.specs.DayLists.{AreDays}
 use Rattle.irs_base.specs.Listed.{IsRising}
 use Rattle.irs_base.specs.declared.line.Dec.{Dec}
 use Rattle.irs_terms.specs.Currencies.{decimals_of}
 use Rattle.irs_terms.specs.declared.amounts.Leg.{Leg}
 use Rattle.irs_terms.specs.declared.amounts.Leg.TheVariants.{Fixed, Floating}
+use Rattle.irs_terms.specs.declared.codes.CompCode.{CompCode}
 use Rattle.irs_terms.specs.declared.results.Payment.{Payment}
 use Rattle.irs_terms.specs.declared.results.Reset.{Reset}
 use Rattle.irs_terms.specs.declared.stream.Stream.{Stream}
@@ -53,6 +54,10 @@ pub record AreTerms (s : Stream) (b a : List ℤ) (rs : List Reset) (p : Payment
   pub count : p.first_period + length terms ≡ p.last_period + 1
   pub each : EachNumbered (IsPeriodTerm s b a rs) p.first_period terms
 
+-- so many units of so many decimals
+abbrev pub dec_of : ℕ → ℤ → Dec
+dec_of places units = record { units = units; places = places }
+
 -- the amount of a payment in the decimals of the stream's currency; absent where the rate of one of
 -- its periods is
 abbrev pub IsAmountBy : Stream → List PeriodTerm → Option Dec → Type 0
@@ -64,6 +69,10 @@ pub record IsAmountFor (s : Stream) (b a : List ℤ) (rs : List Reset) (p : Paym
   pub are_terms : AreTerms s b a rs p terms
   pub is_amount : IsAmountBy s terms amount
 
+-- no period leaves its range, if all have their rates
+abbrev pub NonePasses : CompCode → List PeriodTerm → Type 0
+NonePasses code terms = AllPriced terms → (i : ℕ) → i < length terms → Passes (code_for code terms) terms i → ⊥
+
 -- at period i of the payment, whose rates are all there, a rate or an amount leaves its range
 pub record PassesIn (s : Stream) (b a : List ℤ) (rs : List Reset) (payment : Payment) (i : ℕ) : Type 0 where
   pub terms : List PeriodTerm
@@ -73,7 +82,13 @@ pub record PassesIn (s : Stream) (b a : List ℤ) (rs : List Reset) (payment : P
   pub passes : Passes (code_for s.compounding terms) terms place
   pub is : i ≡ payment.first_period + place
 
--- the same in one of the payments
+-- the first such period of the payment
+pub record PassesFirstIn (s : Stream) (b a : List ℤ) (rs : List Reset) (payment : Payment) (i : ℕ) : Type 0 where
+  pub passes : PassesIn s b a rs payment i
+  pub none_before : (k : ℕ) → k < i → PassesIn s b a rs payment k → ⊥
+  pub to_end : i ≤ payment.last_period
+
+-- at period i of one of the payments, whose rates are all there, a rate or an amount leaves its range
 pub record PassesAt (s : Stream) (b a : List ℤ) (rs : List Reset) (ps : List Payment) (i : ℕ) : Type 0 where
   pub number : ℕ
   pub payment : Payment

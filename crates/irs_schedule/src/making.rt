@@ -74,10 +74,10 @@ pub fn make_schedule(
 }
 
 // The parts of all streams, or the first broken rule of the first stream that breaks one.
-fn schedule_of(
+fn schedule_of<'a>(
     alloc: Global,
-    swap: &Swap,
-    cal: &Calendars,
+    swap: &'a Swap,
+    cal: &'a Calendars,
     fix: &Fixings,
 ) -> Result<Schedule, SchedErr>
     requires lawful { IsLawful swap.now }
@@ -86,11 +86,31 @@ fn schedule_of(
     ensures unbroken { IfOk result (λ _. DatedKept swap.now cal.now fix.now) }
     ensures broken { IfBroken result (DatedBroken swap.now cal.now fix.now) }
 {
-    let table = CenterTable::new(alloc, swap, cal)?;
+    match CenterTable::new(alloc, swap, cal) {
+        Ok(table) => schedule_by(alloc, swap, &table, fix),
+        Err(Memory) => Err(SchedErr::Memory),
+    }
+}
+
+// The same, by a table of the good days.
+fn schedule_by(
+    alloc: Global,
+    swap: &Swap,
+    table: &CenterTable<'_>,
+    fix: &Fixings,
+) -> Result<Schedule, SchedErr>
+    requires lawful { IsLawful swap.now }
+    requires kept { (i : ℕ) (s : StreamTerms) → slice_get swap.now.streams i ≡ Some s → TermsKept table.now.sections s }
+    requires table { HasSwap table.now.sections swap.now table.now }
+    ensures ok { IfOk result (IsSchedule swap.now table.now.sections fix.now) }
+    ensures unbroken { IfOk result (λ _. DatedKept swap.now table.now.sections fix.now) }
+    ensures broken { IfBroken result (DatedBroken swap.now table.now.sections fix.now) }
+{
     let mut parts = Vec::new(alloc);
     for (i, stream) in swap.streams.as_slice().iter().enumerate() {
-        let days = table.stream_days(stream);
-        parts.push(numbered_part(alloc, stream, &days, fix, i as u8 + 1)?)?;
+        let days = (&*table).stream_days(stream);
+        let part = numbered_part(alloc, stream, &days, fix, i as u8 + 1)?;
+        parts.push(part)?;
     }
     Ok(Schedule::of_parts(parts))
 }
@@ -121,18 +141,20 @@ fn numbered_part(
 fn in_stream(number: u8, broken: Broken) -> Broken
     ensures { result ≡ in_stream number broken }
 {
+    let place = broken.place;
     Broken {
         rule: broken.rule,
         place: Place {
             stream: number,
-            elem: broken.place.elem,
-            index: broken.place.index,
+            elem: place.elem,
+            index: place.index,
         },
     }
 }
 
 ghost use Rattle.std.specs.Prelude.{ℕ, Some, slice_get, ◌+◌};
 ghost use Rattle.irs_calendar.specs.declared.sections.Section.{Section};
+ghost use Rattle.irs_schedule.specs.CenterDays.{HasSwap};
 ghost use Rattle.irs_schedule.specs.DatedRules.{StreamBroken, StreamKept, in_stream};
 ghost use Rattle.irs_schedule.specs.Parts.{KeepsBounds};
 ghost use Rattle.irs_schedule.specs.Schedules.{IsPart};

@@ -104,7 +104,7 @@ fn part_over(
         adjusted: layout.adjusted.as_slice(),
         resets: dated.resets.as_slice(),
     };
-    let entries = paid(alloc, s, table, dated.payments.as_slice())?;
+    let entries = paid(alloc, s, &table, dated.payments.as_slice())?;
     let terms = kept_terms(alloc, s)?;
     Ok(StreamPart::new(
         terms,

@@ -1,0 +1,1 @@
+use Rattle.irs_schedule.proofs.stream.part_over.Goals as goal
