@@ -1,5 +1,5 @@
 -- The amount of a payment is at most 10^14 currency units in size, where no period leaves the range.
-use Rattle.std.proofs.Common.{◌≡◌, ℕ, ◌+◌, ◌-◌, ◌*◌, ◌^◌, ◌<◌, ◌≤◌, ℤ, pos, ◌+ℤ◌, ◌*ℤ◌, ◌≤ℤ◌, unsigned_abs, arith, sym, ap, subst, ◌∙◌, inl, inr, List, [], ◌∷◌, ◌++◌, length, take, get_or, Some, IsSome, All}
+use Rattle.std.proofs.Common.{◌≡◌, ℕ, ◌+◌, ◌-◌, ◌*◌, ◌^◌, ◌<◌, ◌≤◌, ℤ, pos, ◌+ℤ◌, ◌*ℤ◌, ◌≤ℤ◌, unsigned_abs, arith, sym, ap, subst, ◌∙◌, inl, inr, List, [], ◌∷◌, ◌++◌, length, take, get_or, Some, IsSome}
 use Rattle.std.specs.List.{slice_get}
 use Rattle.std.proofs.Math.Nat.{mul-le-mul}
 use Rattle.std.proofs.lemmas.Bool.{cases_lt}
@@ -105,14 +105,14 @@ amount_bounded code (q ∷ qs) places m payment few priced none pays =
     let term = part.term in
     let sum = total part.earlier +ℤ amount part.last in
     let small : SumFits code part.period.frac.den sum =
-        sum_fits code part.period part.last sum (kept code part.earlier +ℤ kept_of code part.last) (λ passes. none (length ps - 1) (omega arith) (record {
-          earlier = part.earlier;
-          period = part.period;
-          parts = part.last;
-          there = part.there;
-          follows = part.follows;
-          stands = part.stands;
-          passes = passes;
-        })) in
+    sum_fits code part.period part.last sum (kept code part.earlier +ℤ kept_of code part.last) (λ passes. none (length ps - 1) (omega arith) (record {
+      earlier = part.earlier;
+      period = part.period;
+      parts = part.last;
+      there = part.there;
+      follows = part.follows;
+      stands = part.stands;
+      passes = passes;
+    })) in
     let fits : SumFits code (denominator ps) (total pays.parts) = subst (λ (n : ℤ). SumFits code (denominator ps) n) (sym part.sum) (subst (λ (d : ℤ). SumFits code d sum) term.2 small) in
     rounded_fits code (denominator ps) (total pays.parts) places m (subst (λ (d : ℤ). pos 1 ≤ℤ d) term.2 term.1.2) few fits pays.rounds

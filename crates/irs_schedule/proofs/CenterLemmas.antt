@@ -15,7 +15,7 @@ use Rattle.irs_terms.specs.declared.stream.Stream.{Stream}
 use Rattle.irs_terms.specs.declared.adjustments.Centers.{Centers}
 use Rattle.irs_terms.specs.declared.adjustments.Centers.TheVariants.{Absent, Listed, Dangling}
 use Rattle.irs_calendar.specs.declared.sections.Section.{Section}
-use Rattle.irs_calendar.specs.GoodDays.{DaySet, InCover, IsGood, Next, Prev, IsWhole, SameDays}
+use Rattle.irs_calendar.specs.GoodDays.{InCover}
 use Rattle.irs_calendar.specs.Selected.{later, earlier, latest_first, earliest_last, sections_named}
 use Rattle.irs_schedule.specs.DaySets.{adjusts_days, counts_days, days_of_names, fixing_names, fixing_names_of, names_by, names_for, names_with, reset_names}
 use Rattle.irs_schedule.specs.CenterDays.{NamedCenters, centers_named, FoundCenters, CanFind, HasStream, Grows, HasMore, HasMoreOf}
@@ -177,8 +177,8 @@ one_more_stream streams n x old now within is more before i s below there =
     elim (cases_lt i n) [
       | inl earlier ↦ stream_kept s old now more.grows (before i s earlier there)
       | inr last ↦
-        let here : i ≡ n = omega arith in
-        let last_there : slice_get streams n ≡ Some s = subst (λ (k : ℕ). slice_get streams k ≡ Some s) here there in
-        let same_stream : x ≡ s = is ∙ get_or_from_slice_get streams n s x last_there in
-        subst (λ (t : Stream). HasStream now t) same_stream more.added
+          let here : i ≡ n = omega arith in
+          let last_there : slice_get streams n ≡ Some s = subst (λ (k : ℕ). slice_get streams k ≡ Some s) here there in
+          let same_stream : x ≡ s = is ∙ get_or_from_slice_get streams n s x last_there in
+          subst (λ (t : Stream). HasStream now t) same_stream more.added
     ]

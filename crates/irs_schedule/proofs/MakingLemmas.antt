@@ -1,5 +1,5 @@
 -- The parts of a swap's streams, made one after another.
-use Rattle.std.proofs.Common.{◌≡◌, ◌⊎◌, inl, inr, ℕ, zero, suc, ◌+◌, ◌<◌, ◌≤◌, List, [], ◌∷◌, ◌++◌, length, take, Some, refl, sym, ap, subst, ◌∙◌, arith}
+use Rattle.std.proofs.Common.{◌≡◌, ◌⊎◌, inl, inr, ℕ, zero, suc, ◌+◌, ◌<◌, ◌≤◌, List, [], ◌∷◌, ◌++◌, length, length-append, take, Some, refl, sym, ap, subst, ◌∙◌, arith}
 use Rattle.std.specs.Prelude.{slice_get}
 use Rattle.std.proofs.lemmas.List.{take_all}
 use Rattle.std.proofs.lemmas.Option.{slice_get_within}
@@ -59,7 +59,7 @@ module _ (swap : Swap) (cal : List Section) (fix : RateTable) (i : ℕ) (parts :
 
 module _ (swap : Swap) (cal : List Section) (fix : RateTable) (i : ℕ) (parts : List Part) (all : length swap.streams ≤ i) (made : Made swap cal fix i parts) where
   pub made_schedule : IsSchedule swap cal fix parts
-  made_schedule = subst (λ (ss : List Stream). Pairs (IsPartOf cal fix) ss parts) (take_all swap.streams i all) made.pairs
+  made_schedule = subst (λ (ss : List Stream). Pairs (IsPartOf cal fix) ss parts) (take_all i swap.streams all) made.pairs
 
   pub made_kept : DatedKept swap cal fix
   made_kept k s at = made.kept k s (let within = slice_get_within swap.streams k s at in omega (arith, within, all)) at

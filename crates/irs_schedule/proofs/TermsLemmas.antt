@@ -31,19 +31,18 @@ use Rattle.irs_calendar.specs.declared.sections.Section.{Section}
 use Rattle.irs_calendar.specs.Sections.{is_named}
 use Rattle.irs_calendar.specs.Selected.{first_missing}
 use Rattle.irs_compound.specs.InForce.{StepsRise}
-use Rattle.irs_payments.specs.PaymentDates.{IsSaid}
 use Rattle.irs_periods.specs.Terms.{DatesInOrder, FrequencySuits, given_or}
 use Rattle.irs_resets.specs.ResetDates.{IsSaidOffset, IsSaid as IsSaidFixing}
-use Rattle.irs_resets.specs.Resets.{FitsLeg, IsSaidReset}
+use Rattle.irs_resets.specs.Resets.{FitsLeg}
 use Rattle.irs_roll.specs.Rolls.{RollsMonths, RollsWeeks, SuitsBy}
 use Rattle.irs_rules.specs.declared.spot.Spot.{Spot}
 use Rattle.irs_rules.specs.Spots.{At, AtItem}
-use Rattle.irs_rules.specs.Centers.{BreaksK12, CountsGoodDays, IsUnknown, IsUnlisted, NeedsDays, NeedsDaysWith, UnknownInFixing, UnknownInResets}
+use Rattle.irs_rules.specs.Centers.{IsUnknown, IsUnlisted, NeedsDays, NeedsDaysWith, UnknownInFixing, UnknownInResets}
 use Rattle.irs_rules.specs.DateOrder.{BreaksK13, IsOutside, regular_start}
 use Rattle.irs_rules.specs.Frequencies.{BreaksK14, MisfitsBy, RollsNoMonth, RollsNoWeek}
-use Rattle.irs_rules.specs.DayTypes.{BreaksK17, LacksDayType}
-use Rattle.irs_rules.specs.StepDates.{BreaksK18, IsLegStepOut, IsStepDayOut, IsStepOut}
-use Rattle.irs_rules.specs.Legs.{BreaksK19, HasWrongResets, IsFixed}
+use Rattle.irs_rules.specs.DayTypes.{LacksDayType}
+use Rattle.irs_rules.specs.StepDates.{IsLegStepOut, IsStepDayOut, IsStepOut}
+use Rattle.irs_rules.specs.Legs.{HasWrongResets, IsFixed}
 use Rattle.irs_rules.specs.TermsRules.{BreaksRule, BreaksTerms}
 use Rattle.irs_schedule.specs.DaySets.{adjusts_days, counts_days, fixing_names, fixing_names_of, is_business, names_for, reset_names}
 use Rattle.irs_schedule.specs.TermsKept.{AreFound, LegStepsRise, TermsKept}
@@ -79,7 +78,7 @@ dates_in_order s never = record {
       (not_there elements.first_regular_period_start_date (IsSomeAnd s.first_regular (IsOutside s.effective.day s.termination.day)) (λ at h. never at (inr (inl h))));
   last = subst (λ (start : ℤ). IfSome s.last_regular (λ l. (start ≤ℤ l) × (l ≤ℤ s.termination.day))) (same_default s.first_regular s.effective.day)
       (is_inside (regular_start s) s.termination.day s.last_regular
-        (not_there elements.last_regular_period_end_date (IsSomeAnd s.last_regular (IsOutside (regular_start s) s.termination.day)) (λ at h. never at (inr (inr h)))));
+      (not_there elements.last_regular_period_end_date (IsSomeAnd s.last_regular (IsOutside (regular_start s) s.termination.day)) (λ at h. never at (inr (inr h)))));
 }
 
 -- K14

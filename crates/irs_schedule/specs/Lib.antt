@@ -19,3 +19,4 @@ pub mod StepsRising
 pub mod CenterDays
 pub mod StageSets
 pub mod DatedLists
+pub mod PaidEntries

@@ -14,9 +14,8 @@ ghost use Rattle.irs_schedule.specs.SchedErrors.{IfBroken};
 ghost use Rattle.irs_schedule.specs.Schedules.{payment_of};
 ghost use Rattle.irs_schedule.specs.StepsRising.{AllStepsRise};
 
-use crate::PaymentEntry;
-use crate::SchedErr;
 use crate::periods::{day_at, observed_at};
+use crate::{PaymentEntry, SchedErr};
 use irs_base::{Broken, Day, Dec, Elem, Memory, Place, Rule};
 use irs_compound::{PeriodTerm, Rates, fixed_rates, in_force, payment_amount, period_rates};
 use irs_daycount::fraction_by;
@@ -35,7 +34,7 @@ pub(crate) struct PeriodTable<'a> {
 /// The payments with their amounts. An amount is absent where the observed rate of a period is.
 ///
 /// `Broken` is K39 at the first period at which a rate or an amount leaves its range, in a payment
-/// whose rates are all there; the index is the period's number.
+/// whose rates are all there; the index is the period's number. `Memory` comes where memory ran out.
 pub(crate) fn paid(
     alloc: Global,
     s: &Stream,
@@ -99,11 +98,7 @@ fn entry_of(payment: Payment, amount: Option<Dec>) -> PaymentEntry
 }
 
 // What periods pay from this one on, or K39 at the first of them that breaks it.
-fn amount_of(
-    s: &Stream,
-    terms: &[PeriodTerm],
-    first_period: u32,
-) -> Result<Option<Dec>, SchedErr>
+fn amount_of(s: &Stream, terms: &[PeriodTerm], first_period: u32) -> Result<Option<Dec>, SchedErr>
     requires payment { IsPayment terms.now }
     requires small { first_period ≤ most_periods }
     ensures amount { IfOk result (IsAmountBy s.now terms.now) }

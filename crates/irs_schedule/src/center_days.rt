@@ -17,13 +17,13 @@ use std::marker::Model;
 /// The good days of an element: those of the centres that it names, or every day of the range.
 /// Contracts see the sections of the calendars and the names.
 #[derive(Drop)]
-pub(crate) struct CenterDays<'a> {
-    cal: &'a Calendars,
-    names: Option<&'a Names>,
+pub(crate) struct CenterDays<'cal, 'swap> {
+    cal: &'cal Calendars,
+    names: Option<&'swap Names>,
     runs: RunSet,
 }
 
-impl<'a> Model for CenterDays<'a> {
+impl<'cal, 'swap> Model for CenterDays<'cal, 'swap> {
     ghost use Rattle.std.specs.Prelude.{option_copied};
     ghost use Rattle.irs_calendar.specs.GoodDays.{SameDays};
     ghost use Rattle.irs_calendar.specs.Runs.{set_of_runs};
@@ -37,14 +37,14 @@ impl<'a> Model for CenterDays<'a> {
     ghost invariant = { λ c. SameDays (set_of_runs c.runs) (days_of_names c.cal.now (option_copied c.names)) };
 }
 
-impl<'a> CenterDays<'a> {
+impl<'cal, 'swap> CenterDays<'cal, 'swap> {
     /// The good days of the centres with these names, at most 16, of which each is in the calendars;
     /// without names every day of the range.
     pub(crate) fn find(
         alloc: Global,
-        cal: &'a Calendars,
-        names: Option<&'a Names>,
-    ) -> Result<CenterDays<'a>, Memory>
+        cal: &'cal Calendars,
+        names: Option<&'swap Names>,
+    ) -> Result<CenterDays<'cal, 'swap>, Memory>
         requires { CanFind cal.now (option_copied names) }
         ensures { IfOk result (λ days. days ≡ centers_named cal.now (option_copied names.entry)) }
     {
@@ -67,7 +67,7 @@ impl<'a> CenterDays<'a> {
     }
 }
 
-impl<'a> GoodDays for CenterDays<'a> {
+impl<'cal, 'swap> GoodDays for CenterDays<'cal, 'swap> {
     ghost days = { days_of_centers };
 
     fn cover(&self) -> (Day, Day) {

@@ -18,12 +18,12 @@ use std::marker::Model;
 /// The good days of the lists of centres that the elements of a swap name, each list once. Contracts
 /// see the sections of the calendars and the lists.
 #[derive(Drop)]
-pub(crate) struct CenterTable<'a> {
-    cal: &'a Calendars,
-    found: Vec<CenterDays<'a>>,
+pub(crate) struct CenterTable<'cal, 'swap> {
+    cal: &'cal Calendars,
+    found: Vec<CenterDays<'cal, 'swap>>,
 }
 
-impl<'a> Model for CenterTable<'a> {
+impl<'cal, 'swap> Model for CenterTable<'cal, 'swap> {
     ghost use Rattle.std.specs.Prelude.{◌≡◌, All, map};
     ghost use Rattle.irs_schedule.specs.CenterDays.{FoundCenters};
 
@@ -34,30 +34,30 @@ impl<'a> Model for CenterTable<'a> {
     ghost invariant = { λ t. All (λ days. days.sections ≡ t.cal.now) t.found.items };
 }
 
-/// The good days of one stream's elements.
+/// The good days of one stream's elements, out of a table.
 #[derive(Drop)]
 pub(crate) struct StreamDays<'a> {
     /// Of the effective date.
-    pub start: &'a CenterDays<'a>,
+    pub start: &'a CenterDays<'a, 'a>,
     /// Of the termination date.
-    pub end: &'a CenterDays<'a>,
+    pub end: &'a CenterDays<'a, 'a>,
     /// Of the other boundaries of calculation periods.
-    pub middle: &'a CenterDays<'a>,
+    pub middle: &'a CenterDays<'a, 'a>,
     /// Of payment dates and of principal exchanges.
-    pub payment: &'a CenterDays<'a>,
+    pub payment: &'a CenterDays<'a, 'a>,
     /// Of reset dates.
-    pub reset: &'a CenterDays<'a>,
+    pub reset: &'a CenterDays<'a, 'a>,
     /// Of fixing dates.
-    pub fixing: &'a CenterDays<'a>,
+    pub fixing: &'a CenterDays<'a, 'a>,
 }
 
-impl<'a> CenterTable<'a> {
+impl<'cal, 'swap> CenterTable<'cal, 'swap> {
     /// The good days of every element of the swap, whose centres are all in the calendars.
     pub(crate) fn new(
         alloc: Global,
-        swap: &'a Swap,
-        cal: &'a Calendars,
-    ) -> Result<CenterTable<'a>, Memory>
+        swap: &'swap Swap,
+        cal: &'cal Calendars,
+    ) -> Result<CenterTable<'cal, 'swap>, Memory>
         requires lawful { IsLawful swap.now }
         requires kept { (i : ℕ) (s : StreamTerms) → slice_get swap.now.streams i ≡ Some s → TermsKept cal.now s }
         ensures { IfOk result (HasSwap cal.now swap.now) }
@@ -73,7 +73,7 @@ impl<'a> CenterTable<'a> {
     }
 
     /// The good days of a stream of the swap.
-    pub(crate) fn stream_days(&'a self, s: &Stream) -> StreamDays<'a>
+    pub(crate) fn stream_days<'table>(&'table self, s: &Stream) -> StreamDays<'table>
         requires { HasStream self.now s.now }
         ensures start { days_of_centers result.start.now ≡ (boundary_days self.now.sections s.now).start }
         ensures end { days_of_centers result.end.now ≡ (boundary_days self.now.sections s.now).end }
@@ -93,7 +93,7 @@ impl<'a> CenterTable<'a> {
     }
 
     // The good days of each element of one more stream.
-    fn add_stream(&mut self, alloc: Global, s: &'a Stream) -> Result<(), Memory>
+    fn add_stream(&mut self, alloc: Global, s: &'swap Stream) -> Result<(), Memory>
         requires lawful { IsLawfulStream s.now }
         requires kept { TermsKept self.old.sections s.now }
         ensures { OnOk result (HasMoreOf s.now self.old self.new) }
@@ -108,7 +108,7 @@ impl<'a> CenterTable<'a> {
     }
 
     // The good days of the centres with these names, which may have been found already.
-    fn add(&mut self, alloc: Global, names: Option<&'a Names>) -> Result<(), Memory>
+    fn add(&mut self, alloc: Global, names: Option<&'swap Names>) -> Result<(), Memory>
         requires { CanFind self.old.sections (option_copied names) }
         ensures { OnOk result (HasMore (option_copied names.entry) self.old self.new) }
     {
@@ -121,7 +121,7 @@ impl<'a> CenterTable<'a> {
     }
 
     // The good days of the centres with these names, where the table has them.
-    fn get(&self, names: Option<&Names>) -> Option<&CenterDays<'a>>
+    fn get(&self, names: Option<&Names>) -> Option<&CenterDays<'cal, 'swap>>
         ensures there { IsSome result ↔ Contains self.now.lists (option_copied names.entry) }
         ensures value { IfSome result (λ days. days.now ≡ centers_named self.now.sections (option_copied names.entry)) }
     {
@@ -134,7 +134,7 @@ impl<'a> CenterTable<'a> {
     }
 
     // The good days of the centres with these names, which the table has.
-    fn days_of(&self, names: Option<&Names>) -> &CenterDays<'a>
+    fn days_of(&self, names: Option<&Names>) -> &CenterDays<'cal, 'swap>
         requires { Contains self.now.lists (option_copied names) }
         ensures { result.now ≡ centers_named self.now.sections (option_copied names.entry) }
     {

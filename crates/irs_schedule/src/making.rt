@@ -54,6 +54,7 @@ impl<T: Drop> From<AllocFailed<T>> for SchedErr {
 ///
 /// `Broken` is exactly the first of K30 to K39 that is broken, with the stream's number in the place:
 /// where none is broken there is a schedule, and only one, also where memory ran out.
+#[tactic(auto, using(crate::proofs::PartThere::schedule_there, crate::proofs::OnePart::one_schedule, crate::proofs::TermsLemmas::terms_kept))]
 pub fn make_schedule(
     alloc: Global,
     swap: &Swap,
@@ -74,10 +75,10 @@ pub fn make_schedule(
 }
 
 // The parts of all streams, or the first broken rule of the first stream that breaks one.
-fn schedule_of<'a>(
+fn schedule_of(
     alloc: Global,
-    swap: &'a Swap,
-    cal: &'a Calendars,
+    swap: &Swap,
+    cal: &Calendars,
     fix: &Fixings,
 ) -> Result<Schedule, SchedErr>
     requires lawful { IsLawful swap.now }
@@ -86,17 +87,15 @@ fn schedule_of<'a>(
     ensures unbroken { IfOk result (λ _. DatedKept swap.now cal.now fix.now) }
     ensures broken { IfBroken result (DatedBroken swap.now cal.now fix.now) }
 {
-    match CenterTable::new(alloc, swap, cal) {
-        Ok(table) => schedule_by(alloc, swap, &table, fix),
-        Err(Memory) => Err(SchedErr::Memory),
-    }
+    let table = CenterTable::new(alloc, swap, cal)?;
+    schedule_by(alloc, swap, &table, fix)
 }
 
 // The same, by a table of the good days.
 fn schedule_by(
     alloc: Global,
     swap: &Swap,
-    table: &CenterTable<'_>,
+    table: &CenterTable<'_, '_>,
     fix: &Fixings,
 ) -> Result<Schedule, SchedErr>
     requires lawful { IsLawful swap.now }
@@ -108,7 +107,7 @@ fn schedule_by(
 {
     let mut parts = Vec::new(alloc);
     for (i, stream) in swap.streams.as_slice().iter().enumerate() {
-        let days = (&*table).stream_days(stream);
+        let days = table.stream_days(stream);
         let part = numbered_part(alloc, stream, &days, fix, i as u8 + 1)?;
         parts.push(part)?;
     }

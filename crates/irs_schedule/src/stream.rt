@@ -1,5 +1,5 @@
 //! The part of one stream in a schedule, or the first rule of its dates and amounts that is broken.
-ghost use Rattle.std.specs.Prelude.{◌≡◌, ◌-◌, IfOk, List, length};
+ghost use Rattle.std.specs.Prelude.{◌-◌, IfOk, List, length};
 ghost use Rattle.irs_calendar.specs.declared.sections.Section.{Section};
 ghost use Rattle.irs_resets.specs.Rates.{RateTable};
 ghost use Rattle.irs_schedule.specs.DatedRules.{StreamBroken, StreamKept};
@@ -11,6 +11,7 @@ ghost use Rattle.irs_schedule.specs.StageSets.{sets_of};
 ghost use Rattle.irs_schedule.specs.TermsKept.{TermsKept};
 ghost use Rattle.irs_terms.specs.Lawful.{IsLawfulStream};
 
+use crate::PaymentEntry;
 use crate::SchedErr;
 use crate::amounts::{PeriodTable, paid};
 use crate::center_table::StreamDays;
@@ -46,7 +47,39 @@ pub(crate) fn stream_part(
 {
     let layout = laid_out(alloc, s, days)?;
     let dated = dated_over(alloc, s, &layout, days, fix)?;
-    part_over(alloc, s, layout, dated)
+    let entries = entries_of(alloc, s, &layout, &dated)?;
+    let terms = kept_terms(alloc, s)?;
+    Ok(StreamPart::new(
+        terms,
+        layout.unadjusted,
+        layout.adjusted,
+        dated.exchanges,
+        entries,
+        dated.resets,
+    ))
+}
+
+// The payments with their amounts. `Broken` is K39.
+fn entries_of(
+    alloc: Global,
+    s: &Stream,
+    layout: &Layout,
+    dated: &Dated,
+) -> Result<Vec<PaymentEntry>, SchedErr>
+    requires lawful { IsLawfulStream s.now }
+    requires kept { (cal : List Section) × TermsKept cal s.now }
+    requires laid { (sets : StreamSets) × IsLayout sets s.now layout.now }
+    requires covers { Covers 1 dated.now.payments (length layout.now.unadjusted - 1) }
+    requires small { All HasSmallRate dated.now.resets }
+    ensures entries { IfOk result (λ es. ArePaid s.now layout.now.unadjusted layout.now.adjusted dated.now.resets dated.now.payments es.items) }
+    ensures broken { IfBroken result (λ x. (i : ℕ) × PassesFirst s.now layout.now.unadjusted layout.now.adjusted dated.now.resets dated.now.payments i × (x ≡ broken_at K39 calculation_period_amount i)) }
+{
+    let table = PeriodTable {
+        unadjusted: layout.unadjusted.as_slice(),
+        adjusted: layout.adjusted.as_slice(),
+        resets: dated.resets.as_slice(),
+    };
+    paid(alloc, s, &table, dated.payments.as_slice())
 }
 
 // The boundaries over the regular span.
@@ -85,36 +118,13 @@ fn dated_over(
     })
 }
 
-// The part with its amounts.
-fn part_over(
-    alloc: Global,
-    s: &Stream,
-    layout: Layout,
-    dated: Dated,
-) -> Result<StreamPart, SchedErr>
-    requires lawful { IsLawfulStream s.now }
-    requires kept { (cal : List Section) × TermsKept cal s.now }
-    ensures ok { (sets : StreamSets) (fix : RateTable) → IsLayout sets s.now layout → AreDated sets fix s.now layout dated → IfOk result (IsPart sets fix s.now) }
-    ensures bounds { IfOk result KeepsBounds }
-    ensures unbroken { (sets : StreamSets) (fix : RateTable) → IsLayout sets s.now layout → AreDated sets fix s.now layout dated → IfOk result (λ _. StreamKept sets fix s.now) }
-    ensures broken { (sets : StreamSets) (fix : RateTable) → IsLayout sets s.now layout → AreDated sets fix s.now layout dated → IfBroken result (StreamBroken sets fix s.now) }
-{
-    let table = PeriodTable {
-        unadjusted: layout.unadjusted.as_slice(),
-        adjusted: layout.adjusted.as_slice(),
-        resets: dated.resets.as_slice(),
-    };
-    let entries = paid(alloc, s, &table, dated.payments.as_slice())?;
-    let terms = kept_terms(alloc, s)?;
-    Ok(StreamPart::new(
-        terms,
-        layout.unadjusted,
-        layout.adjusted,
-        dated.exchanges,
-        entries,
-        dated.resets,
-    ))
-}
-
+ghost use Rattle.std.specs.Prelude.{◌≡◌, ℕ, All};
+ghost use Rattle.irs_base.specs.Elements.{calculation_period_amount};
+ghost use Rattle.irs_base.specs.declared.places.Rule.TheVariants.{K39};
+ghost use Rattle.irs_payments.specs.Payments.{Covers};
+ghost use Rattle.irs_periods.specs.SpanRules.{broken_at};
+ghost use Rattle.irs_resets.specs.Resets.{HasSmallRate};
+ghost use Rattle.irs_schedule.specs.DatedRules.{PassesFirst};
 ghost use Rattle.irs_schedule.specs.DaySets.{StreamSets};
+ghost use Rattle.irs_schedule.specs.PaidEntries.{ArePaid};
 ghost use Rattle.irs_schedule.specs.Parts.{KeepsBounds};

@@ -1,5 +1,4 @@
-use Rattle.std.proofs.Common.{◌≡◌, ◌+◌, ◌-◌, ◌++◌, [], ◌∷◌, length, length-append, ap, arith}
-use Rattle.irs_compound.specs.declared.periods.PeriodTerm.{PeriodTerm}
+use Rattle.std.proofs.Common.{◌≡◌, ◌++◌, [], ◌∷◌, length, length-append, ap, arith}
 use Rattle.irs_payments.proofs.NumberLemmas.{numbered_push}
 use Rattle.irs_schedule.specs.PeriodTerms.{IsPeriodTerm}
 use Rattle.irs_schedule.proofs.amounts.terms_of.Goals as goal

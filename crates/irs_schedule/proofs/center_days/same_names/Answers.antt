@@ -1,4 +1,4 @@
-use Rattle.std.proofs.Common.{◌≡◌, ◌<◌, [], length, arith, refl, ext_get_or}
+use Rattle.std.proofs.Common.{◌≡◌, [], length, arith, refl, ext_get_or}
 use Rattle.irs_schedule.proofs.center_days.same_names.Goals as goal
 
 pub returns : goal.returns

@@ -1,4 +1,4 @@
-use Rattle.std.proofs.Common.{◌<◌, true≢false, List, Contains, option_copied, sym, subst, arith}
+use Rattle.std.proofs.Common.{true≢false, List, Contains, option_copied, sym, subst, arith}
 use Rattle.irs_schedule.specs.CenterDays.{NamedCenters, FoundCenters}
 use Rattle.irs_schedule.proofs.CenterLemmas.{lists_of, not_among}
 use Rattle.irs_schedule.proofs.center_table.CenterTable.get.Goals as goal

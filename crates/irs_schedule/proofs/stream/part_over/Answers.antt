@@ -1,1 +1,0 @@
-use Rattle.irs_schedule.proofs.stream.part_over.Goals as goal
