@@ -8,3 +8,4 @@ pub mod GridDays
 pub mod Assembled
 pub mod AmountLemmas
 pub mod PlainLemmas
+pub mod ViewLemmas
