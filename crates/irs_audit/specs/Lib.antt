@@ -1,1 +1,10 @@
 pub mod FlowParts
+pub mod StatedValues
+pub mod Comparisons
+pub mod FieldTables
+pub mod FieldDepartures
+pub mod DepartureOrder
+pub mod Agreement
+pub mod Verdicts
+pub mod RowSets
+pub mod StreamSets
