@@ -3,3 +3,5 @@ pub mod Steps
 pub mod Exact
 pub mod DecimalsAt
 pub mod DatesAt
+pub mod FractionsAt
+pub mod Wholes
