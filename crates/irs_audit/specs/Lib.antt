@@ -1,1 +1,5 @@
 pub mod FlowParts
+pub mod FlowTables
+pub mod FlowFaults
+pub mod FlowMeaning
+pub mod FlowReading

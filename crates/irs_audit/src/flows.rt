@@ -1,14 +1,10 @@
 //! Cash flows as a document states them (FpML 5, `cashflows` of an InterestRateStream). Each field is
 //! there where it is stated.
 ghost use Rattle.irs_audit.specs.FlowParts.{FlowPart};
-ghost use Rattle.irs_audit.specs.declared.flows.FlowExchange.{FlowExchange};
-ghost use Rattle.irs_audit.specs.declared.flows.FlowPayment.{FlowPayment};
-ghost use Rattle.irs_audit.specs.declared.flows.FlowPeriod.{FlowPeriod};
-ghost use Rattle.std.specs.Prelude.{◌≡◌, List, [], ◌∷◌, ◌++◌, length, OnOk, OnErr};
+ghost use Rattle.std.specs.Prelude.{◌≡◌, List};
 
-use irs_base::{Day, Memory};
+use irs_base::Day;
 use irs_terms::Currency;
-use std::alloc::Global;
 use std::marker::Model;
 
 /// A principal exchange of cash flows (FpML `principalExchange`): each field where it is stated;
@@ -96,50 +92,21 @@ impl Model for FlowStream {
 }
 
 impl FlowStream {
-    /// A stream without flows; it takes no memory.
-    pub fn new(alloc: Global) -> FlowStream
-        ensures exchanges { result.exchanges ≡ [] }
-        ensures payments { result.payments ≡ [] }
-        ensures periods { result.periods ≡ [] }
+    /// A stream of these flows.
+    pub(crate) fn new(
+        exchanges: Vec<FlowExchange>,
+        payments: Vec<FlowPayment>,
+        periods: Vec<FlowPeriod>,
+    ) -> FlowStream
+        ensures exchanges { result.exchanges ≡ exchanges.items }
+        ensures payments { result.payments ≡ payments.items }
+        ensures periods { result.periods ≡ periods.items }
     {
         FlowStream {
-            exchanges: Vec::new(alloc),
-            payments: Vec::new(alloc),
-            periods: Vec::new(alloc),
+            exchanges,
+            payments,
+            periods,
         }
-    }
-
-    /// Puts an exchange at the end; where memory runs out the stream stays as it was.
-    pub fn push_exchange(&mut self, x: FlowExchange) -> Result<(), Memory>
-        ensures ok { OnOk result (self.new.exchanges ≡ self.old.exchanges ++ x ∷ []) }
-        ensures payments { self.new.payments ≡ self.old.payments }
-        ensures periods { self.new.periods ≡ self.old.periods }
-        ensures err { OnErr result (self.new ≡ self.old) }
-    {
-        self.exchanges.push(x)?;
-        Ok(())
-    }
-
-    /// Puts a payment at the end; where memory runs out the stream stays as it was.
-    pub fn push_payment(&mut self, x: FlowPayment) -> Result<(), Memory>
-        ensures ok { OnOk result (self.new.payments ≡ self.old.payments ++ x ∷ []) }
-        ensures exchanges { self.new.exchanges ≡ self.old.exchanges }
-        ensures periods { self.new.periods ≡ self.old.periods }
-        ensures err { OnErr result (self.new ≡ self.old) }
-    {
-        self.payments.push(x)?;
-        Ok(())
-    }
-
-    /// Puts a calculation period at the end; where memory runs out the stream stays as it was.
-    pub fn push_period(&mut self, x: FlowPeriod) -> Result<(), Memory>
-        ensures ok { OnOk result (self.new.periods ≡ self.old.periods ++ x ∷ []) }
-        ensures exchanges { self.new.exchanges ≡ self.old.exchanges }
-        ensures payments { self.new.payments ≡ self.old.payments }
-        ensures err { OnErr result (self.new ≡ self.old) }
-    {
-        self.periods.push(x)?;
-        Ok(())
     }
 
     /// The principal exchanges in order.
@@ -177,23 +144,11 @@ impl Model for Flows {
 }
 
 impl Flows {
-    /// No streams; it takes no memory.
-    pub fn new(alloc: Global) -> Flows
-        ensures { result ≡ [] }
+    /// The flows of these streams.
+    pub(crate) fn new(streams: Vec<FlowStream>) -> Flows
+        ensures { result ≡ streams.items }
     {
-        Flows {
-            streams: Vec::new(alloc),
-        }
-    }
-
-    /// Puts a stream at the end; where memory runs out the list stays as it was and the stream is
-    /// dropped.
-    pub fn push(&mut self, x: FlowStream) -> Result<(), Memory>
-        ensures ok { OnOk result (self.new ≡ self.old ++ x ∷ []) }
-        ensures err { OnErr result (self.new ≡ self.old) }
-    {
-        self.streams.push(x)?;
-        Ok(())
+        Flows { streams }
     }
 
     /// The streams in order.

@@ -2,9 +2,19 @@
 #![tactic(auto)]
 
 mod error;
+mod flow_faults;
+mod flow_leaves;
+mod flow_reader;
+mod flow_rows;
+mod flow_table;
 mod flows;
+#[cfg(test)]
+mod tests;
 
 pub use error::{FlowErr, ShapeKind};
+pub use flow_faults::first_in_flows;
+pub use flow_reader::read_flows;
+pub use flow_table::{flow_rows_follow, flow_rows_whole, period_rows_follow, period_rows_whole};
 pub use flows::{
     FlowExchange, FlowPayment, FlowPeriod, FlowReset, FlowStream, Flows, StatedFraction,
 };

@@ -5,3 +5,4 @@ pub mod DecimalsAt
 pub mod DatesAt
 pub mod FractionsAt
 pub mod Wholes
+pub mod TableRules

@@ -1,0 +1,3 @@
+pub mod FlowSteps
+pub mod FlowRules
+pub mod FlowClean
