@@ -1,5 +1,4 @@
 -- The function of a date's text gives the day that the text names.
-use Rattle.irs_base.proofs.DateTexts.{date_text_injective}
 use Rattle.irs_base.proofs.DateWalks.{date_of_day}
 use Rattle.irs_base.proofs.Dates.{same_date, year_range}
 use Rattle.irs_base.specs.DateOf.{year_of, month_of, day_of_month}
@@ -10,7 +9,7 @@ use Rattle.irs_elements.specs.Dates.{day_at, is_text_of, named_day, pair_at, pla
 use Rattle.jiff_core.proofs.CalendarLemmas.{days_in_month_bounds}
 use Rattle.jiff_core.proofs.SignedLemmas.{signed_arith}
 use Rattle.jiff_core.specs.Calendar.{days_from_civil}
-use Rattle.std.proofs.Common.{◌≡◌, ◌⊎◌, inl, inr, ℕ, ◌+◌, ◌-◌, ◌*◌, ◌/◌, ◌%◌, ◌<◌, ◌≤◌, Bool, true, false, ◌&&◌, ◌==◌, List, [], ◌∷◌, ◌++◌, length, take, ℤ, pos, ◌≤ℤ◌, int_le, slice_index, Option, Some, None, IfSome, IfNone, refl, sym, ap, ◌∙◌, subst, arith, true≢false, if◌then◌else◌}
+use Rattle.std.proofs.Common.{◌≡◌, inl, inr, ℕ, ◌+◌, ◌-◌, ◌*◌, ◌/◌, ◌%◌, ◌<◌, Bool, true, false, ◌&&◌, ◌==◌, List, [], ◌∷◌, ◌++◌, length, take, ℤ, pos, ◌≤ℤ◌, int_le, slice_index, Option, Some, None, IfSome, IfNone, refl, sym, ap, ◌∙◌, subst, arith, true≢false, if◌then◌else◌}
 use Rattle.std.proofs.lemmas.Bool.Decides.{nat_tests}
 use Rattle.std.proofs.lemmas.Int.{ints}
 use Rattle.std.proofs.lemmas.List.{take_all, take_more}

@@ -3,7 +3,7 @@ use Rattle.irs_base.proofs.DecimalLemmas.{bare_none, digits_true, minus_none, no
 use Rattle.irs_base.specs.Decimals.{AreParts, DecText, bare, plus, minus, IsCut, IsUnsigned, is_digit, is_zero, number_after, number_of, padded}
 use Rattle.irs_elements.proofs.Exact.{Exact, both_true, exact_of, exact_same, true_both}
 use Rattle.irs_elements.specs.Decimals.{are_parts, before_point, behind_point, dec_at, unsigned_at}
-use Rattle.std.proofs.Common.{◌≡◌, ◌≢◌, ◌⊎◌, inl, inr, ℕ, ◌+◌, ◌<◌, ◌≤◌, nat_lt, nat_le, Bool, true, false, ◌&&◌, ◌==◌, List, [], ◌∷◌, ◌++◌, length, drop, ℤ, pos, neg_ℤ, Option, Some, None, IfSome, IfNone, option_map, refl, sym, ap, ◌∙◌, subst, arith, true≢false, if◌then◌else◌}
+use Rattle.std.proofs.Common.{◌≡◌, inl, inr, ℕ, ◌+◌, ◌<◌, ◌≤◌, nat_lt, nat_le, Bool, true, false, ◌&&◌, ◌==◌, List, [], ◌∷◌, length, drop, ℤ, pos, neg_ℤ, Option, Some, None, IfSome, IfNone, option_map, refl, sym, ap, ◌∙◌, subst, arith, true≢false, if◌then◌else◌}
 use Rattle.std.proofs.lemmas.Bool.Decides.{nat_tests}
 use Rattle.std.specs.List.{list_all}
 
@@ -33,14 +33,14 @@ is_short n e = grind (arith, nat_tests)
 short_is : (n : ℕ) → n ≤ 18 → nat_le n 18 ≡ true
 short_is n h = grind (arith, nat_tests)
 
-to_parts : (w f : List ℕ) → are_parts w f ≡ true → AreParts w f
+pub to_parts : (w f : List ℕ) → are_parts w f ≡ true → AreParts w f
 to_parts w f e =
     let a = both_true (list_all is_digit w) (list_all is_digit f && (nat_lt 0 (length w + length f) && nat_le (length w) 18)) e in
     let b = both_true (list_all is_digit f) (nat_lt 0 (length w + length f) && nat_le (length w) 18) a.1 in
     let c = both_true (nat_lt 0 (length w + length f)) (nat_le (length w) 18) b.1 in
     (digits_true w a.0, digits_true f b.0, is_some (length w + length f) c.0, is_short (length w) c.1)
 
-from_parts : (w f : List ℕ) → AreParts w f → are_parts w f ≡ true
+pub from_parts : (w f : List ℕ) → AreParts w f → are_parts w f ≡ true
 from_parts w f p =
     true_both (list_all is_digit w) (list_all is_digit f && (nat_lt 0 (length w + length f) && nat_le (length w) 18)) (true_digits w p.0)
     (true_both (list_all is_digit f) (nat_lt 0 (length w + length f) && nat_le (length w) 18) (true_digits f p.1)

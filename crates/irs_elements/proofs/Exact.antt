@@ -1,5 +1,5 @@
 -- An answer that is right on both sides is the value of a function that is.
-use Rattle.std.proofs.Common.{◌≡◌, Option, Some, None, IfSome, IfNone, Bool, true, false, ◌&&◌, refl, sym, ap}
+use Rattle.std.proofs.Common.{◌≡◌, Option, Some, None, IfSome, IfNone, Bool, true, false, ◌&&◌, refl, ap}
 
 -- the answer stands in P, or nothing does
 abbrev pub Exact : {A : Type 0} → (A → Type 0) → Option A → Type 0

@@ -3,3 +3,6 @@ pub mod Steps
 pub mod Exact
 pub mod DecimalsAt
 pub mod DatesAt
+pub mod FractionsAt
+pub mod Wholes
+pub mod TableRules

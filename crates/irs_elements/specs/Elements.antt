@@ -2,7 +2,7 @@
 use Rattle.irs_base.specs.Elements.{count}
 use Rattle.irs_base.specs.declared.places.Broken.{Broken}
 use Rattle.irs_base.specs.declared.places.Rule.{Rule}
-use Rattle.irs_base.specs.declared.places.Rule.TheVariants.{K2, K3, K4, K5, K6, K7}
+use Rattle.irs_base.specs.declared.places.Rule.TheVariants.{K2, K3, K4, K5, K7}
 use Rattle.irs_elements.specs.Leaves.{leaf_rule}
 use Rattle.irs_elements.specs.declared.table.Choice.{Choice}
 use Rattle.irs_elements.specs.declared.table.Choice.TheVariants.{Free, AtMostOne, ExactlyOne, Reference}

@@ -3,10 +3,11 @@ use Rattle.irs_base.specs.declared.places.Rule.{Rule}
 use Rattle.irs_base.specs.declared.places.Rule.TheVariants.{K3, K5, K6}
 use Rattle.irs_elements.specs.Codes.{compounding_at, convention_at, day_count_at, day_kind_at, direction_at, offset_unit_at, relative_at, roll_at, stub_kind_at, tenor_unit_at, treatment_at, truth_at, unit_at}
 use Rattle.irs_elements.specs.Dates.{day_at}
+use Rattle.irs_elements.specs.Fractions.{fraction_at}
 use Rattle.irs_elements.specs.Numbers.{amount_at, multiplier_at, notional_at, offset_at, precision_at, rate_at, whole_at}
 use Rattle.irs_elements.specs.Words.{currency_at, is_center_name, is_index_name}
 use Rattle.irs_elements.specs.declared.table.Leaf.{Leaf as LeafKind}
-use Rattle.irs_elements.specs.declared.table.Leaf.TheVariants.{Date, Multiplier, OffsetDays, Precision, Whole, Notional, Rate, Amount, Truth, CenterName, IndexName, CurrencyName, Convention, PeriodUnit, TenorUnit, OffsetUnit, DayType, StubType, Roll, PayRelative, ResetRelative, DayCount, Compounding, Treatment, Direction}
+use Rattle.irs_elements.specs.declared.table.Leaf.TheVariants.{Date, Multiplier, OffsetDays, Precision, Whole, Notional, Rate, Amount, Fraction, Truth, CenterName, IndexName, CurrencyName, Convention, PeriodUnit, TenorUnit, OffsetUnit, DayType, StubType, Roll, PayRelative, ResetRelative, DayCount, Compounding, Treatment, Direction}
 use Rattle.irs_json.specs.Leaves.{Leaf, word, whole, truth}
 use Rattle.std.specs.Fmt.{signed_decimal}
 use Rattle.std.specs.List.{list_any}
@@ -29,6 +30,7 @@ has_value Whole s = is_some (whole_at s)
 has_value Notional s = is_some (notional_at s)
 has_value Rate s = is_some (rate_at s)
 has_value Amount s = is_some (amount_at s)
+has_value Fraction s = is_some (fraction_at s)
 has_value Truth s = is_some (truth_at s)
 has_value CenterName s = is_center_name s
 has_value IndexName s = is_index_name s
@@ -57,6 +59,7 @@ out_of_profile Whole = []
 out_of_profile Notional = []
 out_of_profile Rate = []
 out_of_profile Amount = []
+out_of_profile Fraction = []
 out_of_profile Truth = []
 out_of_profile CenterName = []
 out_of_profile IndexName = []

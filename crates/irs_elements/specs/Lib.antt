@@ -2,6 +2,7 @@ pub mod Order
 pub mod Decimals
 pub mod Dates
 pub mod Numbers
+pub mod Fractions
 pub mod Codes
 pub mod Words
 pub mod Leaves

@@ -7,7 +7,7 @@ ghost use Rattle.std.specs.Prelude.{◌≡◌};
 ghost use Rattle.std.specs.Str.{bytes_eq};
 
 use crate::find::leaf_text;
-use crate::{Leaf, codes, numbers, words};
+use crate::{Leaf, codes, fractions, numbers, words};
 use irs_base::Rule;
 use irs_json::Value;
 use itoa::Buffer;
@@ -25,6 +25,7 @@ fn has_value(kind: Leaf, text: &str) -> bool
         Leaf::Notional => numbers::notional(text.as_bytes()).is_some(),
         Leaf::Rate => numbers::rate(text.as_bytes()).is_some(),
         Leaf::Amount => numbers::amount(text.as_bytes()).is_some(),
+        Leaf::Fraction => fractions::fraction(text.as_bytes()).is_some(),
         Leaf::Truth => codes::truth(text).is_some(),
         Leaf::CenterName => words::is_center_name(text.as_bytes()),
         Leaf::IndexName => words::is_index_name(text.as_bytes()),
@@ -58,6 +59,7 @@ fn is_out_of_profile(kind: Leaf, text: &str) -> bool
         Leaf::Notional => false,
         Leaf::Rate => false,
         Leaf::Amount => false,
+        Leaf::Fraction => false,
         Leaf::Truth => false,
         Leaf::CenterName => false,
         Leaf::IndexName => false,

@@ -8,6 +8,7 @@
 
 pub mod codes;
 mod find;
+pub mod fractions;
 mod leaves;
 pub mod numbers;
 mod order;

@@ -3,7 +3,7 @@
 ghost use Rattle.irs_elements.specs.Dates.{day_at};
 ghost use Rattle.irs_elements.specs.Decimals.{dec_at};
 ghost use Rattle.irs_elements.specs.Numbers.{amount_at, digits_of, has_no_point as no_point_of, is_whole as is_whole_of, multiplier_at, notional_at, offset_at, precision_at, rate_at, whole_at, within as within_of};
-ghost use Rattle.std.specs.Prelude.{◌≡◌, ◌≤◌, IfSome, length};
+ghost use Rattle.std.specs.Prelude.{◌≡◌, ◌^◌, ◌<◌, ◌≤◌, IfSome, length, unsigned_abs};
 ghost use Rattle.irs_base.specs.Days.{IsDay};
 
 use irs_base::{Day, read_date, read_dec};
@@ -105,6 +105,24 @@ pub fn whole(text: &[u8]) -> Option<i128>
         decimal(text, 0)
     } else {
         None
+    }
+}
+
+// A number of at most ten digits in 64 bits.
+fn small(n: i128) -> i64
+    requires { unsigned_abs n < 10 ^ 10 }
+    ensures { result ≡ n }
+{
+    n as i64
+}
+
+/// The same in 64 bits.
+pub fn small_whole(text: &[u8]) -> Option<i64>
+    ensures { result ≡ whole_at text.now }
+{
+    match whole(text) {
+        None => None,
+        Some(n) => Some(small(n)),
     }
 }
 

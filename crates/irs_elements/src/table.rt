@@ -64,6 +64,8 @@ pub enum Leaf {
     Rate,
     /// An amount or a rate of cash flows.
     Amount,
+    /// A day count fraction of cash flows (`dayCountYearFraction`).
+    Fraction,
     /// A truth value (`initialExchange` and the like).
     Truth,
     /// `businessCenter`.

@@ -13,6 +13,6 @@ mod table;
 #[cfg(test)]
 mod tests;
 
-pub use document::first_in_document;
+pub use document::{first_in_document, the_swap};
 pub use reader::{ReadErr, read_swap};
 pub use table::{rows_follow, rows_whole, swap_rows_whole};

@@ -1,0 +1,11 @@
+pub mod FlowSteps
+pub mod FlowRules
+pub mod FlowClean
+pub mod ValueLemmas
+pub mod TableLemmas
+pub mod FieldLemmas
+pub mod OrderLemmas
+pub mod BoundLemmas
+pub mod RowLemmas
+pub mod StreamLemmas
+pub mod VerdictLemmas

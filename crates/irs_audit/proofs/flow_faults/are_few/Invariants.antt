@@ -1,0 +1,7 @@
+use Rattle.irs_audit.proofs.flow_faults.are_few.Given as goal
+use Rattle.irs_audit.specs.FlowFaults.{most_rows, periods_of}
+use Rattle.serde_json.specs.View.{view}
+use Rattle.std.proofs.Common.{◌≡◌, ◌+◌, length, map, take}
+
+abbrev pub invariant-loop-p : goal.invariant-loop-p
+invariant-loop-p l = l.left + length (periods_of (map view (take l.p l.payments))) ≡ most_rows

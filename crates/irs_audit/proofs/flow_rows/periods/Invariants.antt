@@ -1,0 +1,11 @@
+use Rattle.irs_audit.proofs.flow_rows.periods.Given as goal
+use Rattle.irs_audit.specs.FlowFaults.{periods_of}
+use Rattle.irs_audit.specs.FlowMeaning.{period_in}
+use Rattle.serde_json.specs.View.{view}
+use Rattle.std.proofs.Common.{◌≡◌, ◌++◌, map, take}
+
+abbrev pub invariant-loop-payment : goal.invariant-loop-payment
+invariant-loop-payment l = l.list.items ≡ map period_in (periods_of (map view (take l.payment-index l.payments)))
+
+abbrev pub invariant-loop-v : goal.invariant-loop-v
+invariant-loop-v l = l.list.items ≡ l.initial.list.items ++ map period_in (map view (take l.v-index l.v-items))

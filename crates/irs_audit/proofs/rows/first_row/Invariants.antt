@@ -1,0 +1,5 @@
+use Rattle.irs_audit.proofs.RowLemmas.{NoneBelow}
+use Rattle.irs_audit.proofs.rows.first_row.Given as goal
+
+abbrev pub invariant-loop-place : goal.invariant-loop-place
+invariant-loop-place l = NoneBelow l.kind l.ours l.theirs l.place

@@ -1,0 +1,61 @@
+-- The order of departures, and the first of a set of them.
+use Rattle.std.specs.Prelude.{◌≡◌, ℕ, ◌<◌, ◌≤◌, ◌⊎◌, Option, Some, None}
+use Rattle.irs_audit.specs.declared.departures.Departure.{Departure}
+use Rattle.irs_audit.specs.declared.departures.RowKind.{RowKind}
+use Rattle.irs_audit.specs.declared.departures.RowKind.TheVariants.{Stream, Exchange, Payment, Period, Reset}
+use Rattle.irs_audit.specs.declared.departures.Field.{Field}
+use Rattle.irs_audit.specs.declared.departures.Field.TheVariants.{Missing, Extra}
+use Rattle.irs_audit.specs.declared.departures.Field.TheVariants.{UnadjustedPrincipalExchangeDate, AdjustedPrincipalExchangeDate, PrincipalExchangeAmount}
+use Rattle.irs_audit.specs.declared.departures.Field.TheVariants.{UnadjustedPaymentDate, AdjustedPaymentDate, CalculationPeriod, Currency, Amount}
+use Rattle.irs_audit.specs.declared.departures.Field.TheVariants.{UnadjustedStartDate, UnadjustedEndDate, AdjustedStartDate, AdjustedEndDate, CalculationPeriodNumberOfDays, NotionalAmount, Rate, DayCountYearFraction}
+use Rattle.irs_audit.specs.declared.departures.Field.TheVariants.{ResetDate, AdjustedFixingDate, ObservedRate}
+
+-- the place of a kind of rows in the order
+abbrev pub kind_place : RowKind → ℕ
+kind_place Stream = 0
+kind_place Exchange = 1
+kind_place Payment = 2
+kind_place Period = 3
+kind_place Reset = 4
+
+-- the place of a field in the order
+abbrev pub field_place : Field → ℕ
+field_place Missing = 0
+field_place Extra = 1
+field_place UnadjustedPrincipalExchangeDate = 2
+field_place AdjustedPrincipalExchangeDate = 3
+field_place PrincipalExchangeAmount = 4
+field_place UnadjustedPaymentDate = 5
+field_place AdjustedPaymentDate = 6
+field_place CalculationPeriod = 7
+field_place Currency = 8
+field_place Amount = 9
+field_place UnadjustedStartDate = 10
+field_place UnadjustedEndDate = 11
+field_place AdjustedStartDate = 12
+field_place AdjustedEndDate = 13
+field_place CalculationPeriodNumberOfDays = 14
+field_place NotionalAmount = 15
+field_place Rate = 16
+field_place DayCountYearFraction = 17
+field_place ResetDate = 18
+field_place AdjustedFixingDate = 19
+field_place ObservedRate = 20
+
+-- by two numbers, and where they are equal by what comes next
+abbrev pub Level : ℕ → ℕ → Type 0 → Type 0
+Level a b Next = (a < b) ⊎ ((a ≡ b) × Next)
+
+-- d comes before e or is in the same place: by stream, kind, row and field
+abbrev pub NotAfter : Departure → Departure → Type 0
+NotAfter d e = Level d.stream e.stream (Level (kind_place d.kind) (kind_place e.kind) (Level d.row e.row (field_place d.field ≤ field_place e.field)))
+
+-- the first departure that meets P; none where none does
+abbrev pub IsFirst : (Departure → Type 0) → Option Departure → Type 0
+IsFirst P None = (d : Departure) → P d → ⊥
+IsFirst P (Some d) = P d × ((e : Departure) → P e → NotAfter d e)
+
+-- the first field that meets P; none where none does
+abbrev pub IsFirstField : (Field → Type 0) → Option Field → Type 0
+IsFirstField P None = (f : Field) → P f → ⊥
+IsFirstField P (Some f) = P f × ((g : Field) → P g → field_place f ≤ field_place g)

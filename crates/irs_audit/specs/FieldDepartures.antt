@@ -1,0 +1,52 @@
+-- Which fields of a row of cash flows depart from the schedule's row: one line a field.
+use Rattle.std.specs.Prelude.{◌≡◌, ◌+◌, ◌-◌}
+use Rattle.irs_terms.specs.declared.currency.Currency.{Currency}
+use Rattle.irs_terms.specs.declared.results.Exchange.{Exchange}
+use Rattle.irs_terms.specs.declared.results.Reset.{Reset}
+use Rattle.irs_schedule.specs.declared.entries.PaymentEntry.{PaymentEntry}
+use Rattle.irs_schedule.specs.declared.views.CalculationPeriod.{CalculationPeriod}
+use Rattle.irs_audit.specs.declared.departures.Field.{Field}
+use Rattle.irs_audit.specs.declared.departures.Field.TheVariants.{UnadjustedPrincipalExchangeDate, AdjustedPrincipalExchangeDate, PrincipalExchangeAmount}
+use Rattle.irs_audit.specs.declared.departures.Field.TheVariants.{UnadjustedPaymentDate, AdjustedPaymentDate, CalculationPeriod as PeriodCount, Currency as CurrencyField, Amount}
+use Rattle.irs_audit.specs.declared.departures.Field.TheVariants.{UnadjustedStartDate, UnadjustedEndDate, AdjustedStartDate, AdjustedEndDate, CalculationPeriodNumberOfDays, NotionalAmount, Rate, DayCountYearFraction}
+use Rattle.irs_audit.specs.declared.departures.Field.TheVariants.{ResetDate, AdjustedFixingDate, ObservedRate}
+use Rattle.irs_audit.specs.declared.flows.FlowExchange.{FlowExchange}
+use Rattle.irs_audit.specs.declared.flows.FlowPayment.{FlowPayment}
+use Rattle.irs_audit.specs.declared.flows.FlowPeriod.{FlowPeriod}
+use Rattle.irs_audit.specs.declared.flows.FlowReset.{FlowReset}
+use Rattle.irs_audit.specs.StatedValues.{IsNumber, IsAmount, IsFraction, StatedWrongly, NotStatedRightly, WhereKnown}
+
+-- a principal exchange
+abbrev pub ExchangeDeparts : Exchange → FlowExchange → Field → Type 0
+ExchangeDeparts x y UnadjustedPrincipalExchangeDate = StatedWrongly (λ d. d ≡ x.unadjusted) y.unadjusted
+ExchangeDeparts x y AdjustedPrincipalExchangeDate = NotStatedRightly (λ d. d ≡ x.adjusted) y.adjusted
+ExchangeDeparts x y PrincipalExchangeAmount = NotStatedRightly (IsAmount x.amount) y.amount
+ExchangeDeparts x y _ = ⊥
+
+-- a payment in the currency of its stream; it always states how many calculation periods it has
+abbrev pub PaymentDeparts : Currency → PaymentEntry → FlowPayment → Field → Type 0
+PaymentDeparts currency x y UnadjustedPaymentDate = StatedWrongly (λ d. d ≡ x.unadjusted) y.unadjusted
+PaymentDeparts currency x y AdjustedPaymentDate = NotStatedRightly (λ d. d ≡ x.adjusted) y.adjusted
+PaymentDeparts currency x y PeriodCount = ¬ (y.periods ≡ x.last_period + 1 - x.first_period)
+PaymentDeparts currency x y CurrencyField = StatedWrongly (λ c. c ≡ currency) y.currency
+PaymentDeparts currency x y Amount = WhereKnown (λ v. NotStatedRightly (IsAmount v) y.amount) x.amount
+PaymentDeparts currency x y _ = ⊥
+
+-- a calculation period: notionals are in units of 10^-4, rates in units of 10^-9
+abbrev pub PeriodDeparts : CalculationPeriod → FlowPeriod → Field → Type 0
+PeriodDeparts x y UnadjustedStartDate = StatedWrongly (λ d. d ≡ x.start) y.start
+PeriodDeparts x y UnadjustedEndDate = StatedWrongly (λ d. d ≡ x.end) y.end
+PeriodDeparts x y AdjustedStartDate = NotStatedRightly (λ d. d ≡ x.adjusted_start) y.adjusted_start
+PeriodDeparts x y AdjustedEndDate = NotStatedRightly (λ d. d ≡ x.adjusted_end) y.adjusted_end
+PeriodDeparts x y CalculationPeriodNumberOfDays = StatedWrongly (λ n. n ≡ x.days) y.days
+PeriodDeparts x y NotionalAmount = StatedWrongly (IsNumber x.notional 4) y.notional
+PeriodDeparts x y Rate = WhereKnown (λ r. StatedWrongly (IsNumber r 9) y.rate) x.rate
+PeriodDeparts x y DayCountYearFraction = StatedWrongly (IsFraction x.frac) y.fraction
+PeriodDeparts x y _ = ⊥
+
+-- a reset
+abbrev pub ResetDeparts : Reset → FlowReset → Field → Type 0
+ResetDeparts x y ResetDate = StatedWrongly (λ d. d ≡ x.reset) y.reset
+ResetDeparts x y AdjustedFixingDate = NotStatedRightly (λ d. d ≡ x.fixing) y.fixing
+ResetDeparts x y ObservedRate = WhereKnown (λ r. StatedWrongly (IsNumber r 9) y.observed) x.observed
+ResetDeparts x y _ = ⊥

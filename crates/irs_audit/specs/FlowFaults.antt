@@ -1,0 +1,131 @@
+-- The faults of a document of cash flows.
+use Rattle.irs_audit.specs.declared.flow_table.TheConstants.{FLOW_NAMES, FLOW_ROWS, FLOWS, PERIOD, PERIOD_NAMES, PERIOD_ROWS}
+use Rattle.irs_base.specs.Elements.{cashflows, flow_period, swap, swap_stream}
+use Rattle.irs_base.specs.declared.places.Broken.{Broken}
+use Rattle.irs_base.specs.declared.places.Rule.{Rule}
+use Rattle.irs_base.specs.declared.places.Rule.TheVariants.{K2, K3, K7}
+use Rattle.irs_elements.specs.Elements.{FaultAt, has_odd}
+use Rattle.irs_elements.specs.Find.{values_in}
+use Rattle.irs_json.specs.Carrier.{child_of}
+use Rattle.irs_json.specs.Names.{names_of}
+use Rattle.irs_read.specs.Documents.{the_swap}
+use Rattle.irs_read.specs.Swaps.{Among}
+use Rattle.irs_terms.specs.Lawful.{most_streams}
+use Rattle.serde_json.specs.Data.{Data}
+use Rattle.std.specs.List.{flat_map}
+use Rattle.std.specs.Prelude.{◌≡◌, ◌⊎◌, ℕ, ◌+◌, ◌<◌, ◌≤◌, nat_le, Bool, true, not, ◌&&◌, List, [], ◌∷◌, length, map, Option, Some, None, is_some, option_and_then, codes, Ok, Err, if◌then◌else◌}
+
+-- the most exchanges, payments and calculation periods of a stream
+abbrev pub most_rows : ℕ
+most_rows = 10000
+
+-- a rule that is broken in a stream, or outside the streams, at an element without index
+abbrev pub at : ℕ → Rule → ℕ → Broken
+at stream rule elem = record { rule = rule; place = record { stream = stream; elem = elem; index = 0 } }
+
+-- the fault x, where the test is true
+abbrev pub Only : Bool → Broken → Broken → Type 0
+Only b x f = (b ≡ true) × (f ≡ x)
+
+-- the names of the rows of `cashflows`, and of a calculation period
+abbrev pub flow_names : List (List ℕ)
+flow_names = map (λ n. n.now) FLOW_NAMES
+
+abbrev pub period_names : List (List ℕ)
+period_names = map (λ n. n.now) PERIOD_NAMES
+
+-- ---- an object of which most members are passed over
+
+-- d is an object, and its `@id` and `@href` are texts where they stand
+abbrev pub is_sound : Data → Bool
+is_sound d = is_some (names_of d) && not (has_odd d)
+
+-- it isn't
+abbrev pub OwnFault : ℕ → ℕ → Data → Broken → Type 0
+OwnFault stream elem d = Only (not (is_sound d)) (at stream K3 elem)
+
+-- ---- calculation periods
+
+-- the one value of a list
+abbrev pub sole : List Data → Option Data
+sole [] = None
+sole (x ∷ []) = Some x
+sole (x ∷ y ∷ rest) = None
+
+-- whether `calculatedRate` stands in the one `floatingRateDefinition` of a period
+abbrev pub has_calculated_rate : Data → Bool
+has_calculated_rate d = is_some (option_and_then (child_of (codes "calculatedRate")) (sole (values_in (codes "floatingRateDefinition") (Some d))))
+
+-- whether both rates stand in a period
+abbrev pub has_both_rates : Data → Bool
+has_both_rates d = is_some (child_of (codes "fixedRate") d) && has_calculated_rate d
+
+-- the faults of the calculation period with this number: those of its table, and that both rates stand
+abbrev pub PeriodFault : ℕ → ℕ → Data → Broken → Type 0
+PeriodFault stream number d f = FaultAt PERIOD_ROWS period_names stream 0 PERIOD number d f ⊎ Only (has_both_rates d) (at stream K7 flow_period) f
+
+-- the calculation periods of a payment
+abbrev pub periods_in : Data → List Data
+periods_in d = values_in (codes "calculationPeriod") (Some d)
+
+-- those of payments, in order
+abbrev pub periods_of : List Data → List Data
+periods_of payments = flat_map periods_in payments
+
+-- the faults of calculation periods that come behind so many others of the stream
+abbrev pub PeriodsFrom : ℕ → ℕ → List Data → Broken → Type 0
+PeriodsFrom stream before = Among (λ j. PeriodFault stream (before + j + 1))
+
+-- the faults of all calculation periods of a stream
+pub data PeriodsFault (stream : ℕ) (ds : List Data) : Broken → Type 0 where
+  -- there are too many of them
+  many_periods : most_rows < length ds → PeriodsFault stream ds (at stream K7 flow_period)
+  -- there are not, and one of them has the fault
+  in_period : (f : Broken) → length ds ≤ most_rows → PeriodsFrom stream 0 ds f → PeriodsFault stream ds f
+
+-- ---- the cash flows of a stream
+
+-- the payments of cash flows; where there are too many, none of them is looked into
+abbrev pub few : List Data → List Data
+few ds = if nat_le (length ds) most_rows then ds else []
+
+abbrev pub payments_in : Option Data → List Data
+payments_in o = few (values_in (codes "paymentCalculationPeriod") o)
+
+-- the faults of cash flows: those of their table, and those of the periods of their payments
+abbrev pub CashflowsFault : ℕ → Data → Broken → Type 0
+CashflowsFault stream d f = FaultAt FLOW_ROWS flow_names stream 0 FLOWS 0 d f ⊎ PeriodsFault stream (periods_of (payments_in (Some d))) f
+
+-- the faults of the values of `cashflows`, which stands once
+abbrev pub OnceFault : ℕ → List Data → Broken → Type 0
+OnceFault stream [] f = f ≡ at stream K2 cashflows
+OnceFault stream (x ∷ []) f = CashflowsFault stream x f
+OnceFault stream (x ∷ y ∷ rest) f = f ≡ at stream K7 cashflows
+
+-- the faults of the stream with this number: its own, and where it is an object those of its cash flows
+abbrev pub StreamFault : ℕ → Data → Broken → Type 0
+StreamFault number d f = OwnFault number swap_stream d f
+    ⊎ ((is_some (names_of d) ≡ true) × OnceFault number (values_in (codes "cashflows") (Some d)) f)
+
+-- ---- the document
+
+-- the faults of streams
+pub data StreamsFault (ds : List Data) : Broken → Type 0 where
+  -- there is none
+  no_stream : length ds ≡ 0 → StreamsFault ds (at 0 K2 swap_stream)
+  -- there are more than eight
+  many_streams : most_streams < length ds → StreamsFault ds (at 0 K7 swap_stream)
+  -- there are one to eight, and one of them has the fault
+  in_stream : (f : Broken) → 0 < length ds → length ds ≤ most_streams → Among (λ j. StreamFault (j + 1)) ds f → StreamsFault ds f
+
+-- the faults of a swap: its own, and where it is an object those of its streams
+abbrev pub SwapFault : Data → Broken → Type 0
+SwapFault d f = OwnFault 0 swap d f
+    ⊎ ((is_some (names_of d) ≡ true) × StreamsFault (values_in (codes "swapStream") (Some d)) f)
+
+-- the faults of a document of cash flows
+pub data FlowFault (d : Data) : Broken → Type 0 where
+  -- a rule ends the way to the swap
+  ended : (f : Broken) → the_swap d ≡ Err f → FlowFault d f
+  -- the swap has the fault
+  below : (s : Data) (f : Broken) → the_swap d ≡ Ok s → SwapFault s f → FlowFault d f

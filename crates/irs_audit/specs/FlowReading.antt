@@ -1,0 +1,68 @@
+-- The cash flows of a document, and the first fault that it has.
+use Rattle.irs_audit.specs.FlowFaults.{FlowFault}
+use Rattle.irs_audit.specs.FlowMeaning.{streams_in}
+use Rattle.irs_audit.specs.FlowParts.{FlowPart}
+use Rattle.irs_audit.specs.declared.error.FlowErr.{FlowErr}
+use Rattle.irs_audit.specs.declared.error.FlowErr.TheVariants.{Memory, Shape}
+use Rattle.irs_audit.specs.declared.error.ShapeKind.{ShapeKind}
+use Rattle.irs_audit.specs.declared.error.ShapeKind.TheVariants.{Count, Kind, Missing, NotJson, Profile, Unknown, Value}
+use Rattle.irs_base.specs.declared.places.Broken.{Broken}
+use Rattle.irs_base.specs.declared.places.Place.{Place}
+use Rattle.irs_base.specs.declared.places.Rule.{Rule}
+use Rattle.irs_base.specs.declared.places.Rule.TheVariants.{K1, K10, K11, K12, K13, K14, K15, K16, K17, K18, K19, K2, K20, K21, K3, K30, K31, K32, K33, K34, K35, K36, K37, K38, K39, K4, K5, K6, K7}
+use Rattle.irs_elements.specs.Order.{IsFirst}
+use Rattle.irs_read.specs.Documents.{the_swap}
+use Rattle.serde_json.specs.Data.{Data}
+use Rattle.std.specs.Prelude.{◌≡◌, ◌≢◌, List, Some, Ok}
+
+-- the document has no fault, and the flows are those that its swap states
+pub record FlowsOf (d : Data) (flows : List FlowPart) : Type 0 where
+  pub clean : (f : Broken) → FlowFault d f → ⊥
+  pub swap : Data
+  pub found : the_swap d ≡ Ok swap
+  pub says : flows ≡ streams_in swap
+
+-- the kind of a fault by the rule that is broken; no table of elements has a rule of the terms
+abbrev pub kind_of : Rule → ShapeKind
+kind_of K1 = NotJson
+kind_of K2 = Missing
+kind_of K3 = Kind
+kind_of K4 = Unknown
+kind_of K5 = Profile
+kind_of K6 = Value
+kind_of K7 = Count
+kind_of K10 = NotJson
+kind_of K11 = NotJson
+kind_of K12 = NotJson
+kind_of K13 = NotJson
+kind_of K14 = NotJson
+kind_of K15 = NotJson
+kind_of K16 = NotJson
+kind_of K17 = NotJson
+kind_of K18 = NotJson
+kind_of K19 = NotJson
+kind_of K20 = NotJson
+kind_of K21 = NotJson
+kind_of K30 = NotJson
+kind_of K31 = NotJson
+kind_of K32 = NotJson
+kind_of K33 = NotJson
+kind_of K34 = NotJson
+kind_of K35 = NotJson
+kind_of K36 = NotJson
+kind_of K37 = NotJson
+kind_of K38 = NotJson
+kind_of K39 = NotJson
+
+-- a refusal tells kind and place of the first fault, and never that there is no JSON
+pub record IsFirstShape (d : Data) (kind : ShapeKind) (place : Place) : Type 0 where
+  pub fault : Broken
+  pub first : IsFirst (FlowFault d) (Some fault)
+  pub kind_is : kind ≡ kind_of fault.rule
+  pub place_is : place ≡ fault.place
+  pub read : kind ≢ NotJson
+
+-- or that memory was wanting
+abbrev pub IsFirstFault : Data → FlowErr → Type 0
+IsFirstFault d (Shape kind place) = IsFirstShape d kind place
+IsFirstFault d Memory = Unit {0}

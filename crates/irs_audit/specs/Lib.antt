@@ -1,0 +1,14 @@
+pub mod FlowParts
+pub mod FlowTables
+pub mod FlowFaults
+pub mod FlowMeaning
+pub mod FlowReading
+pub mod StatedValues
+pub mod FieldDepartures
+pub mod Agreement
+pub mod DepartureOrder
+pub mod Verdicts
+pub mod Comparisons
+pub mod FieldTables
+pub mod RowSets
+pub mod StreamSets

@@ -1,0 +1,86 @@
+//! The audit: whether cash flows agree with a schedule, row by row and field by field.
+ghost use Rattle.std.specs.Prelude.{◌≡◌, ◌+◌, ◌-◌, ◌<◌, ◌≤◌, length, option_copied, slice_get};
+ghost use Rattle.irs_audit.specs.Agreement.{StreamDeparts, Departs};
+ghost use Rattle.irs_audit.specs.DepartureOrder.{IsFirst};
+ghost use Rattle.irs_audit.specs.StreamSets.{OfStream};
+ghost use Rattle.irs_audit.specs.Verdicts.{IsVerdict, row_count, unfixed_count, stream_rows};
+ghost use Rattle.irs_schedule.specs.Parts.{IsWithin};
+
+use crate::counts::{row_count, unfixed_count};
+use crate::rows::{first_of_rows, item};
+use crate::{Departure, Field, FlowStream, Flows, RowKind, Verdict};
+use irs_schedule::{Schedule, StreamPart};
+
+// A whole stream departs.
+fn whole_stream(stream: u8, field: Field) -> Departure
+    ensures { result ≡ record { stream = stream; kind = RowKind.Stream; row = 0; field = field } }
+{
+    Departure {
+        stream,
+        kind: RowKind::Stream,
+        row: 0,
+        field,
+    }
+}
+
+// The first departure of a stream of the schedule and one of the flows, each where there is one.
+fn first_of_stream(
+    stream: u8,
+    ours: Option<&StreamPart>,
+    theirs: Option<&FlowStream>,
+) -> Option<Departure>
+    ensures { IsFirst (OfStream stream (option_copied ours.entry) (option_copied theirs.entry)) result }
+{
+    match (ours, theirs) {
+        (Some(x), Some(y)) => first_of_rows(stream, x, y),
+        (Some(_), None) => Some(whole_stream(stream, Field::Missing)),
+        (None, Some(_)) => Some(whole_stream(stream, Field::Extra)),
+        (None, None) => None,
+    }
+}
+
+// The first departure. Where a stream of the flows is past the one behind the schedule's last, that one
+// departs too.
+fn first_departure(ours: &[StreamPart], theirs: &[FlowStream]) -> Option<Departure>
+    requires { length ours.now ≤ 8 }
+    ensures { IsFirst (Departs theirs.now ours.now) result }
+{
+    for place in 0..ours.len() + 1 {
+        let stream = place as u8 + 1;
+        if let Some(d) = first_of_stream(stream, item(ours, place), item(theirs, place)) {
+            return Some(d);
+        }
+    }
+    None
+}
+
+fn verdict(s: &Schedule, f: &Flows) -> Verdict
+    ensures { IsVerdict f.now s.now result }
+{
+    let parts = s.streams();
+    match first_departure(parts, f.streams()) {
+        Some(d) => Verdict::No(d),
+        None => Verdict::Yes {
+            rows: row_count(parts),
+            unfixed: unfixed_count(parts),
+        },
+    }
+}
+
+ghost use Rattle.std.specs.Prelude.{◌↔◌};
+ghost use Rattle.irs_audit.specs.declared.departures.Departure.{Departure};
+ghost use Rattle.irs_audit.specs.declared.departures.Verdict.{Verdict};
+ghost use Rattle.irs_audit.specs.Verdicts.{IsNo};
+
+/// Whether the flows agree with the schedule (FpML 5, `cashflows` of an InterestRateStream; the rules of
+/// agreement are this project's own). `No` comes exactly where a row or a field departs, with the first
+/// departure by stream, kind of row, row and field; `Yes` counts the schedule's exchanges, payments,
+/// calculation periods and resets, and its payments without amount. It takes no memory, and time linear
+/// in the rows.
+pub fn audit(s: &Schedule, f: &Flows) -> Verdict
+    ensures verdict { IsVerdict f.now s.now result }
+    ensures no { IsNo result ↔ ((d : Departure) × Departs f.now s.now d) }
+    ensures only { (v : Verdict) → IsVerdict f.now s.now v → v ≡ result }
+{
+    verdict(s, f)
+}

@@ -1,0 +1,260 @@
+//! The first fault of a document of cash flows: its own, and those of its streams, of their
+//! `cashflows`, and of the calculation periods, which are counted through all payments of a stream.
+//!
+//! The carrier, the table and the order of faults are this project's own.
+ghost use Rattle.irs_audit.specs.FlowFaults.{CashflowsFault, FlowFault, OnceFault, OwnFault, PeriodFault, PeriodsFault, PeriodsFrom, StreamFault, StreamsFault, SwapFault, at as at_of, has_both_rates as has_both_rates_of, has_calculated_rate as has_calculated_rate_of, is_sound as is_sound_of, most_rows, payments_in, periods_of, sole as sole_of};
+ghost use Rattle.irs_base.specs.Elements.{flow_period};
+ghost use Rattle.irs_elements.specs.Elements.{fault_if, is_odd as is_odd_of};
+ghost use Rattle.irs_elements.specs.Find.{seen};
+ghost use Rattle.irs_elements.specs.Order.{IsFirst};
+ghost use Rattle.irs_json.specs.Carrier.{child_of};
+ghost use Rattle.irs_read.specs.Swaps.{Among};
+ghost use Rattle.irs_terms.specs.Lawful.{most_streams};
+ghost use Rattle.serde_json.specs.View.{view};
+ghost use Rattle.std.specs.Prelude.{◌≡◌, ◌+◌, ◌<◌, ◌^◌, ◌≤◌, length, map, nat_le, not};
+
+use crate::flow_table::{
+    FLOW_NAMES, FLOW_ROWS, FLOWS, MOST_ROWS, PERIOD, PERIOD_NAMES, PERIOD_ROWS,
+};
+use irs_base::{Broken, Elem, Place, Rule};
+use irs_elements::{earlier, first_fault, values, values_at};
+use irs_json::{Value, child, members};
+use irs_read::the_swap;
+
+/// The most streams of a swap.
+const MOST_STREAMS: usize = 8;
+
+// A rule that is broken at an element without index.
+fn at(stream: u8, rule: Rule, elem: Elem) -> Broken
+    ensures { result ≡ at_of stream rule elem }
+{
+    Broken {
+        rule,
+        place: Place {
+            stream,
+            elem,
+            index: 0,
+        },
+    }
+}
+
+// ---- an object of which most members are passed over
+
+// Whether an attribute is there and is no text.
+fn is_odd(v: &Value, name: &str) -> bool
+    ensures { result ≡ is_odd_of (child_of name.now (view v.now)) }
+{
+    match child(v, name) {
+        None => false,
+        Some(found) => found.as_str().is_none(),
+    }
+}
+
+// Whether `v` is an object whose `@id` and `@href` are texts where they stand.
+fn is_sound(v: &Value) -> bool
+    ensures { result ≡ is_sound_of (view v.now) }
+{
+    members(v).is_some() && !(is_odd(v, "@id") || is_odd(v, "@href"))
+}
+
+fn own_fault(stream: u8, elem: Elem, v: &Value) -> Option<Broken>
+    ensures { IsFirst (OwnFault stream elem (view v.now)) result }
+{
+    if is_sound(v) {
+        None
+    } else {
+        Some(at(stream, Rule::K3, elem))
+    }
+}
+
+// ---- calculation periods
+
+// The one value of a list.
+fn sole(list: &[Value]) -> Option<&Value>
+    ensures { seen result ≡ sole_of (map view list.now) }
+{
+    match list {
+        [] => None,
+        [one] => Some(one),
+        [_, _, ..] => None,
+    }
+}
+
+// Whether `calculatedRate` stands in the one `floatingRateDefinition` of a period.
+fn has_calculated_rate(v: &Value) -> bool
+    ensures { result ≡ has_calculated_rate_of (view v.now) }
+{
+    match sole(values_at(v, "floatingRateDefinition")) {
+        None => false,
+        Some(float) => child(float, "calculatedRate").is_some(),
+    }
+}
+
+// Whether both rates stand in a period.
+fn has_both_rates(v: &Value) -> bool
+    ensures { result ≡ has_both_rates_of (view v.now) }
+{
+    child(v, "fixedRate").is_some() && has_calculated_rate(v)
+}
+
+fn both_rates_fault(stream: u8, v: &Value) -> Option<Broken>
+    ensures { result ≡ fault_if (has_both_rates_of (view v.now)) (at_of stream Rule.K7 flow_period) }
+{
+    if has_both_rates(v) {
+        Some(at(stream, Rule::K7, Elem::FLOW_PERIOD))
+    } else {
+        None
+    }
+}
+
+// The first fault of the calculation period with this number.
+fn period_fault(stream: u8, number: u32, v: &Value) -> Option<Broken>
+    ensures { IsFirst (PeriodFault stream number (view v.now)) result }
+{
+    let own = first_fault(&PERIOD_ROWS, &PERIOD_NAMES, stream, 0, PERIOD, number, v);
+    earlier(own, both_rates_fault(stream, v))
+}
+
+// The first fault of calculation periods that come behind so many others.
+fn periods_behind(stream: u8, before: u32, list: &[Value]) -> Option<Broken>
+    requires { before + length list.now < 2 ^ 32 }
+    ensures { IsFirst (PeriodsFrom stream before (map view list.now)) result }
+{
+    let mut first = None;
+    for j in 0..list.len() {
+        let number = before + j as u32 + 1;
+        first = earlier(first, period_fault(stream, number, &list[j]));
+    }
+    first
+}
+
+// The first fault of the calculation periods of payments.
+fn each_period_fault(stream: u8, payments: &[Value]) -> Option<Broken>
+    requires { length (periods_of (map view payments.now)) ≤ most_rows }
+    ensures { IsFirst (PeriodsFrom stream 0 (periods_of (map view payments.now))) result }
+{
+    let mut first = None;
+    let mut before = 0;
+    for p in 0..payments.len() {
+        let list = values_at(&payments[p], "calculationPeriod");
+        first = earlier(first, periods_behind(stream, before, list));
+        before += list.len() as u32;
+    }
+    first
+}
+
+// Whether payments have at most as many calculation periods as a stream may have.
+fn are_few(payments: &[Value]) -> bool
+    ensures { result ≡ nat_le (length (periods_of (map view payments.now))) most_rows }
+{
+    let mut left = MOST_ROWS as usize;
+    for p in 0..payments.len() {
+        let count = values_at(&payments[p], "calculationPeriod").len();
+        if left < count {
+            return false;
+        }
+        left -= count;
+    }
+    true
+}
+
+fn periods_fault(stream: u8, payments: &[Value]) -> Option<Broken>
+    ensures { IsFirst (PeriodsFault stream (periods_of (map view payments.now))) result }
+{
+    if are_few(payments) {
+        each_period_fault(stream, payments)
+    } else {
+        Some(at(stream, Rule::K7, Elem::FLOW_PERIOD))
+    }
+}
+
+// ---- the cash flows of a stream
+
+/// The payments of cash flows; none where there are too many.
+pub fn payments_of<'a>(v: Option<&'a Value>) -> &'a [Value]
+    ensures { map view result.now ≡ payments_in (seen v.entry) }
+{
+    let list = values(v, "paymentCalculationPeriod");
+    if list.len() <= MOST_ROWS as usize {
+        list
+    } else {
+        &[]
+    }
+}
+
+fn cashflows_fault(stream: u8, v: &Value) -> Option<Broken>
+    ensures { IsFirst (CashflowsFault stream (view v.now)) result }
+{
+    let own = first_fault(&FLOW_ROWS, &FLOW_NAMES, stream, 0, FLOWS, 0, v);
+    earlier(own, periods_fault(stream, payments_of(Some(v))))
+}
+
+// The first fault of the values of `cashflows`, which stands once.
+fn once_fault(stream: u8, list: &[Value]) -> Option<Broken>
+    ensures { IsFirst (OnceFault stream (map view list.now)) result }
+{
+    match list {
+        [] => Some(at(stream, Rule::K2, Elem::CASHFLOWS)),
+        [one] => cashflows_fault(stream, one),
+        [_, _, ..] => Some(at(stream, Rule::K7, Elem::CASHFLOWS)),
+    }
+}
+
+// The first fault of the stream with this number.
+fn stream_fault(number: u8, v: &Value) -> Option<Broken>
+    ensures { IsFirst (StreamFault number (view v.now)) result }
+{
+    let own = own_fault(number, Elem::SWAP_STREAM, v);
+    match members(v) {
+        None => own,
+        Some(_) => earlier(own, once_fault(number, values_at(v, "cashflows"))),
+    }
+}
+
+// ---- the document
+
+// The first fault of one to eight streams.
+fn each_stream_fault(list: &[Value]) -> Option<Broken>
+    requires { length list.now ≤ most_streams }
+    ensures { IsFirst (Among (λ j. StreamFault (j + 1)) (map view list.now)) result }
+{
+    let mut first = None;
+    for j in 0..list.len() {
+        let number = j as u8 + 1;
+        first = earlier(first, stream_fault(number, &list[j]));
+    }
+    first
+}
+
+// The first fault of streams, and their count.
+fn streams_fault(list: &[Value]) -> Option<Broken>
+    ensures { IsFirst (StreamsFault (map view list.now)) result }
+{
+    if list.len() == 0 {
+        Some(at(0, Rule::K2, Elem::SWAP_STREAM))
+    } else if list.len() > MOST_STREAMS {
+        Some(at(0, Rule::K7, Elem::SWAP_STREAM))
+    } else {
+        each_stream_fault(list)
+    }
+}
+
+fn swap_fault(v: &Value) -> Option<Broken>
+    ensures { IsFirst (SwapFault (view v.now)) result }
+{
+    let own = own_fault(0, Elem::SWAP, v);
+    match members(v) {
+        None => own,
+        Some(_) => earlier(own, streams_fault(values_at(v, "swapStream"))),
+    }
+}
+
+/// The first fault of a document of cash flows; `None` exactly where it has none.
+pub fn first_in_flows(v: &Value) -> Option<Broken>
+    ensures { IsFirst (FlowFault (view v.now)) result }
+{
+    match the_swap(v) {
+        Ok(swap) => swap_fault(swap),
+        Err(broken) => Some(broken),
+    }
+}

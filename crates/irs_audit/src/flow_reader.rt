@@ -1,0 +1,85 @@
+//! Reading cash flows: the flows that a document states, or its first fault.
+ghost use Rattle.irs_elements.specs.Find.{values_in};
+ghost use Rattle.irs_audit.specs.FlowMeaning.{AllHaveFewPeriods, stream_in, streams_in};
+ghost use Rattle.irs_audit.specs.FlowReading.{FlowsOf, IsFirstFault, kind_of as kind_by};
+ghost use Rattle.irs_audit.specs.declared.error.FlowErr.TheVariants.{Shape};
+ghost use Rattle.serde_json.specs.View.{view};
+ghost use Rattle.std.specs.Prelude.{◌≡◌, IfErr, IfOk, Some, codes, map};
+
+use crate::flow_faults::first_in_flows;
+use crate::flow_rows::stream_flows;
+use crate::{FlowErr, FlowStream, Flows, ShapeKind};
+use irs_base::{Broken, Memory, Rule};
+use irs_elements::values_at;
+use irs_json::Value;
+use irs_read::the_swap;
+use std::alloc::Global;
+
+// The kind of a fault, by the rule of the tables of elements; the rules from K10 on are rules of the
+// terms of a trade, which no table has.
+fn kind_of(rule: Rule) -> ShapeKind
+    ensures { result ≡ kind_by rule }
+{
+    match rule {
+        Rule::K1 => ShapeKind::NotJson,
+        Rule::K2 => ShapeKind::Missing,
+        Rule::K3 => ShapeKind::Kind,
+        Rule::K4 => ShapeKind::Unknown,
+        Rule::K5 => ShapeKind::Profile,
+        Rule::K6 => ShapeKind::Value,
+        Rule::K7 => ShapeKind::Count,
+        Rule::K10 | Rule::K11 | Rule::K12 | Rule::K13 | Rule::K14 | Rule::K15 | Rule::K16 => {
+            ShapeKind::NotJson
+        },
+        Rule::K17 | Rule::K18 | Rule::K19 | Rule::K20 | Rule::K21 => ShapeKind::NotJson,
+        Rule::K30 | Rule::K31 | Rule::K32 | Rule::K33 | Rule::K34 => ShapeKind::NotJson,
+        Rule::K35 | Rule::K36 | Rule::K37 | Rule::K38 | Rule::K39 => ShapeKind::NotJson,
+    }
+}
+
+fn shape(fault: Broken) -> FlowErr
+    ensures { result ≡ Shape (kind_by fault.rule) fault.place }
+{
+    FlowErr::Shape(kind_of(fault.rule), fault.place)
+}
+
+fn each_stream(alloc: Global, found: &[Value]) -> Result<Vec<FlowStream>, Memory>
+    requires { AllHaveFewPeriods (map view found.now) }
+    ensures { IfOk result (λ list. list.items ≡ map stream_in (map view found.now)) }
+{
+    let mut list = Vec::new(alloc);
+    for j in 0..found.len() {
+        list.push(stream_flows(alloc, &found[j])?)?;
+    }
+    Ok(list)
+}
+
+// The flows of a swap that has no fault.
+fn flows_of(alloc: Global, v: &Value) -> Result<Flows, Memory>
+    requires { AllHaveFewPeriods (values_in (codes "swapStream") (Some (view v.now))) }
+    ensures { IfOk result (λ flows. flows ≡ streams_in (view v.now)) }
+{
+    let streams = each_stream(alloc, values_at(v, "swapStream"))?;
+    Ok(Flows::new(streams))
+}
+
+/// The cash flows that a document states. `Shape` comes exactly where the document has a fault, and
+/// tells the first: the least stream, then the kind in the order of `ShapeKind`, then the element in the
+/// order of the table, then the index. They are the rules K2 to K7 read on the tables of cash flows;
+/// `NotJson` is never answered. Dates are day numbers from 1970-01-01, amounts and rates in units of
+/// 10^-12.
+pub fn read_flows(alloc: Global, v: &Value) -> Result<Flows, FlowErr>
+    ensures flows { IfOk result (λ flows. FlowsOf (view v.now) flows) }
+    ensures fault { IfErr result (λ e. IsFirstFault (view v.now) e) }
+{
+    if let Some(fault) = first_in_flows(v) {
+        return Err(shape(fault));
+    }
+    match the_swap(v) {
+        Err(fault) => Err(shape(fault)),
+        Ok(found) => match flows_of(alloc, found) {
+            Ok(flows) => Ok(flows),
+            Err(_) => Err(FlowErr::Memory),
+        },
+    }
+}

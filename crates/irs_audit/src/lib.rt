@@ -1,0 +1,30 @@
+//! The audit of cash flows: the flows that a document states, and whether they agree with a schedule.
+#![tactic(auto)]
+
+mod agreement;
+mod comparisons;
+mod counts;
+mod departures;
+mod error;
+mod flow_faults;
+mod flow_leaves;
+mod flow_reader;
+mod flow_rows;
+mod flow_table;
+mod flows;
+mod row_fields;
+mod rows;
+#[cfg(test)]
+mod tests;
+#[cfg(test)]
+mod tests_agreement;
+
+pub use agreement::audit;
+pub use departures::{Departure, Field, RowKind, Verdict};
+pub use error::{FlowErr, ShapeKind};
+pub use flow_faults::first_in_flows;
+pub use flow_reader::read_flows;
+pub use flow_table::{flow_rows_follow, flow_rows_whole, period_rows_follow, period_rows_whole};
+pub use flows::{
+    FlowExchange, FlowPayment, FlowPeriod, FlowReset, FlowStream, Flows, StatedFraction,
+};

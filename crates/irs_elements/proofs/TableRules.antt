@@ -1,0 +1,86 @@
+-- Every rule that is broken by a table of elements is one of K2 to K7.
+use Rattle.irs_base.specs.declared.places.Broken.{Broken}
+use Rattle.irs_base.specs.declared.places.Rule.{Rule}
+use Rattle.irs_base.specs.declared.places.Rule.TheVariants.{K2, K3, K4, K5, K6, K7}
+use Rattle.irs_elements.specs.Elements.{FaultAt, FaultUnder, ShapeFault, inside, missing, no_href, odd, own, own_rule, refused, shape, too_many, under, unknown, unmet}
+use Rattle.irs_elements.specs.Leaves.{has_value, leaf_rule, out_of_profile, text_of, text_rule}
+use Rattle.irs_elements.specs.declared.table.Choice.{Choice}
+use Rattle.irs_elements.specs.declared.table.Kind.{Kind}
+use Rattle.irs_elements.specs.declared.table.Kind.TheVariants.{Object, Leaf, Passed, Refused}
+use Rattle.irs_elements.specs.declared.table.Leaf.{Leaf as LeafKind}
+use Rattle.irs_elements.specs.declared.table.Row.{Row}
+use Rattle.irs_elements.specs.declared.walk.Unmet.TheVariants.{Both, Neither}
+use Rattle.irs_json.specs.Leaves.{Leaf as LeafSaid, leaf_of}
+use Rattle.irs_json.specs.Names.{names_of}
+use Rattle.serde_json.specs.Data.{Data}
+use Rattle.std.proofs.Common.{◌≡◌, ℕ, Bool, true, false, List, Option, Some, None, if◌then◌else◌, subst}
+use Rattle.std.specs.List.{list_any}
+use Rattle.std.specs.Prelude.{is_some}
+use Rattle.std.specs.Str.{bytes_eq}
+
+-- the rule is one of K2 to K7
+abbrev pub IsOfTables : Rule → Type 0
+IsOfTables K2 = Unit {0}
+IsOfTables K3 = Unit {0}
+IsOfTables K4 = Unit {0}
+IsOfTables K5 = Unit {0}
+IsOfTables K6 = Unit {0}
+IsOfTables K7 = Unit {0}
+IsOfTables k = ⊥
+
+abbrev Told : Option Rule → Type 0
+Told None = Unit {0}
+Told (Some k) = IsOfTables k
+
+-- ---- the rules that a value breaks by itself
+
+by_profile : (b : Bool) → Told (if b then Some K5 else Some K6)
+by_profile true = tt
+by_profile false = tt
+
+by_value : (b c : Bool) → Told (if b then None else (if c then Some K5 else Some K6))
+by_value true c = tt
+by_value false c = by_profile c
+
+of_text : (k : LeafKind) (s : List ℕ) → Told (text_rule k s)
+unfolding text_rule
+of_text k s = by_value (has_value k s) (list_any (bytes_eq s) (out_of_profile k))
+
+of_leaf : (k : LeafKind) (o : Option LeafSaid) → Told (leaf_rule k o)
+of_leaf k None = tt
+of_leaf k (Some says) = of_text k (text_of says)
+
+by_object : (b : Bool) → Told (if b then None else Some K3)
+by_object true = tt
+by_object false = tt
+
+of_own : (kind : Kind) (d : Data) → Told (own_rule kind d)
+of_own (Object choice) d = by_object (is_some (names_of d))
+of_own (Leaf k) d = of_leaf k (leaf_of d)
+of_own Passed d = tt
+of_own Refused d = tt
+
+told : (o : Option Rule) (k : Rule) → o ≡ Some k → Told o → IsOfTables k
+told o k e h = subst (λ (x : Option Rule). Told x) e h
+
+-- ---- those of a table
+
+module _ (rows : List Row) (names : List (List ℕ)) (stream : ℕ) where
+  of_shape : (r i : ℕ) (choice : Choice) (d : Data) (f : Broken) → ShapeFault rows names stream r choice i d f → IsOfTables f.rule
+  of_shape r i choice d f (unknown _ _ _ _ ns e u) = tt
+  of_shape r i choice d f (odd _ _ _ _ e) = tt
+  of_shape r i choice d f (no_href _ _ _ _ e) = tt
+  of_shape r i choice d f (unmet _ _ Both _ _ e) = tt
+  of_shape r i choice d f (unmet _ _ Neither _ _ e) = tt
+
+  mutual
+    pub of_table : (r i : ℕ) (kind : Kind) (d : Data) (f : Broken) → FaultAt rows names stream r kind i d f → IsOfTables f.rule
+    of_table r i kind d f (own _ _ k _ _ e) = told (own_rule kind d) k e (of_own kind d)
+    of_table r i kind d f (shape _ _ choice _ ns _ e s) = of_shape r i choice d f s
+    of_table r i kind d f (under _ _ c choice _ ns _ row e m u) = of_member c i row d f u
+
+    of_member : (c i : ℕ) (row : Row) (d : Data) (f : Broken) → FaultUnder rows names stream c row i d f → IsOfTables f.rule
+    of_member c i row d f (missing _ _ _ _ el rq h) = tt
+    of_member c i row d f (refused _ _ _ _ m el h) = tt
+    of_member c i row d f (too_many _ _ _ _ m el h lt) = tt
+    of_member c i row d f (inside _ _ j _ _ m x _ el h le at g) = of_table c _ _ x f g
