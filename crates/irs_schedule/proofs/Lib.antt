@@ -39,3 +39,4 @@ pub mod AmountBounds
 pub mod AmountLemmas
 pub mod PaidLemmas
 pub mod PartMade
+pub mod ViewLemmas

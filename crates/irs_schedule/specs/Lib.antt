@@ -4,6 +4,7 @@ pub mod Periods
 pub mod Views
 pub mod Keeping
 pub mod RowsOf
+pub mod PeriodViews
 pub mod RowTexts
 pub mod WalkLists
 pub mod Walks

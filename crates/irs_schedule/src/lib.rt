@@ -17,10 +17,13 @@ mod stages;
 mod stream;
 mod streams;
 mod texts;
+mod views;
 mod walking;
 
 pub use entries::{PaymentEntry, PeriodEntry};
 pub use making::{SchedErr, make_schedule};
 pub use row::Row;
 pub use schedule::{Rows, Schedule};
+pub use streams::StreamPart;
 pub use texts::row_text;
+pub use views::CalculationPeriod;

@@ -43,6 +43,14 @@ impl Schedule {
         let _ = &self.parts;
     }
 
+    /// Its streams in order; it takes no memory.
+    pub fn streams(&self) -> &[StreamPart]
+        ensures value { result.now ≡ self.now }
+        ensures bounds { IsWithin self.now }
+    {
+        &self.parts
+    }
+
     /// Its rows, in the order of its text; they take no memory.
     #[tactic(auto, using(crate::proofs::PlaceLemmas::rows_few, crate::proofs::CountLemmas::rows_count), unfolding(crate::specs::RowsOf::rows_of))]
     pub fn rows(&self) -> Rows<'_>

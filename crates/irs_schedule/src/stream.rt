@@ -11,14 +11,13 @@ ghost use Rattle.irs_schedule.specs.StageSets.{sets_of};
 ghost use Rattle.irs_schedule.specs.TermsKept.{TermsKept};
 ghost use Rattle.irs_terms.specs.Lawful.{IsLawfulStream};
 
-use crate::PaymentEntry;
-use crate::SchedErr;
 use crate::amounts::{PeriodTable, paid};
 use crate::center_table::StreamDays;
 use crate::kept_terms::kept_terms;
 use crate::layouts::Layout;
 use crate::stages::{exchanges_of, layout_of, payments_of, resets_of, span_of, steps_on};
 use crate::streams::StreamPart;
+use crate::{PaymentEntry, SchedErr};
 use irs_resets::Fixings;
 use irs_terms::{Exchanges, Payments, Resets, Stream};
 use std::alloc::Global;

@@ -5,13 +5,14 @@ ghost use Rattle.std.specs.Prelude.{◌≡◌, ℕ, ◌-◌, ◌<◌, ◌≤◌,
 use crate::kept_terms::KeptTerms;
 use crate::periods::{day_at, entry_by, observed_at};
 use crate::{PaymentEntry, PeriodEntry, Row};
-use irs_base::DayList;
-use irs_terms::{Exchange, Exchanges, Reset, Resets};
+use irs_base::{Day, DayList};
+use irs_terms::{Currency, Exchange, Exchanges, Reset, Resets};
 use std::marker::Model;
 
-/// One stream of a schedule.
+/// One stream of a schedule. Contracts see a record of its currency, its boundaries, exchanges,
+/// payments and resets, and of its periods with all that is worked out for them.
 #[derive(Drop)]
-pub(crate) struct StreamPart {
+pub struct StreamPart {
     terms: KeptTerms,
     unadjusted: DayList,
     adjusted: DayList,
@@ -86,8 +87,8 @@ impl StreamPart {
         }
     }
 
-    /// How many periods it has.
-    pub(crate) fn periods(&self) -> usize
+    /// How many calculation periods it has.
+    pub fn periods(&self) -> usize
         ensures count { result ≡ length self.now.periods }
         ensures bounds { KeepsBounds self.now }
     {
@@ -100,18 +101,49 @@ impl StreamPart {
         self.terms.is_floating()
     }
 
-    pub(crate) fn exchanges(&self) -> &[Exchange]
+    /// Its principal exchanges in order.
+    pub fn exchanges(&self) -> &[Exchange]
         ensures value { result.now ≡ self.now.exchanges }
         ensures bounds { KeepsBounds self.now }
     {
         self.exchanges.as_slice()
     }
 
-    pub(crate) fn payments(&self) -> &[PaymentEntry]
+    /// Its payments in order.
+    pub fn payments(&self) -> &[PaymentEntry]
         ensures value { result.now ≡ self.now.payments }
         ensures bounds { KeepsBounds self.now }
     {
         &self.payments
+    }
+
+    /// The resets of its periods in order; a fixed stream has none.
+    pub fn resets(&self) -> &[Reset]
+        ensures value { result.now ≡ self.now.resets }
+        ensures bounds { KeepsBounds self.now }
+    {
+        self.resets.as_slice()
+    }
+
+    /// The currency of its amounts.
+    pub fn currency(&self) -> Currency
+        ensures { result ≡ self.now.currency }
+    {
+        self.terms.currency
+    }
+
+    /// The boundaries of its periods, unadjusted.
+    pub(crate) fn unadjusted(&self) -> &[Day]
+        ensures { result.now ≡ self.now.unadjusted }
+    {
+        self.unadjusted.as_slice()
+    }
+
+    /// The boundaries of its periods, adjusted.
+    pub(crate) fn adjusted(&self) -> &[Day]
+        ensures { result.now ≡ self.now.adjusted }
+    {
+        self.adjusted.as_slice()
     }
 
     /// Days, fraction, notional and rate of a period, counted from 1.
