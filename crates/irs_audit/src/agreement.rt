@@ -1,10 +1,11 @@
 //! The audit: whether cash flows agree with a schedule, row by row and field by field.
-ghost use Rattle.std.specs.Prelude.{◌≡◌, ◌+◌, ◌-◌, ◌<◌, ◌≤◌, length, option_copied, slice_get};
-ghost use Rattle.irs_audit.specs.Agreement.{StreamDeparts, Departs};
+ghost use Rattle.std.specs.Prelude.{◌≡◌, ◌↔◌, ◌≤◌, length, option_copied};
+ghost use Rattle.irs_audit.specs.Agreement.{Departs};
 ghost use Rattle.irs_audit.specs.DepartureOrder.{IsFirst};
 ghost use Rattle.irs_audit.specs.StreamSets.{OfStream};
-ghost use Rattle.irs_audit.specs.Verdicts.{IsVerdict, row_count, unfixed_count, stream_rows};
-ghost use Rattle.irs_schedule.specs.Parts.{IsWithin};
+ghost use Rattle.irs_audit.specs.Verdicts.{IsNo, IsVerdict};
+ghost use Rattle.irs_audit.specs.declared.departures.Departure.{Departure};
+ghost use Rattle.irs_audit.specs.declared.departures.Verdict.{Verdict};
 
 use crate::counts::{row_count, unfixed_count};
 use crate::rows::{first_of_rows, item};
@@ -66,11 +67,6 @@ fn verdict(s: &Schedule, f: &Flows) -> Verdict
         },
     }
 }
-
-ghost use Rattle.std.specs.Prelude.{◌↔◌};
-ghost use Rattle.irs_audit.specs.declared.departures.Departure.{Departure};
-ghost use Rattle.irs_audit.specs.declared.departures.Verdict.{Verdict};
-ghost use Rattle.irs_audit.specs.Verdicts.{IsNo};
 
 /// Whether the flows agree with the schedule (FpML 5, `cashflows` of an InterestRateStream; the rules of
 /// agreement are this project's own). `No` comes exactly where a row or a field departs, with the first

@@ -1,6 +1,6 @@
 //! Whether one field of cash flows departs. Amounts, notionals and rates are compared as numbers; those
 //! of flows are in units of 10^-12.
-ghost use Rattle.std.specs.Prelude.{◌≡◌, ◌-◌, ◌^◌, ◌<◌, ◌≤◌, ℤ, pos, ◌+ℤ◌, ◌*ℤ◌, ◌<ℤ◌, ◌≤ℤ◌, IsTrue, ◌↔◌};
+ghost use Rattle.std.specs.Prelude.{◌≡◌, ◌^◌, ◌≤◌, pos, ◌*ℤ◌, ◌<ℤ◌, ◌≤ℤ◌, IsTrue, ◌↔◌};
 ghost use Rattle.std.specs.Int.{int_div_euclid, int_rem_euclid};
 ghost use Rattle.irs_audit.specs.StatedValues.{IsNumber, IsAmount, IsFraction, StatedWrongly, NotStatedRightly};
 ghost use Rattle.irs_audit.specs.Comparisons.{IsSmall};

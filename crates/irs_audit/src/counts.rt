@@ -1,5 +1,5 @@
 //! How many rows a schedule has, and how many of its payments have no amount yet.
-ghost use Rattle.std.specs.Prelude.{◌≡◌, ◌<◌, ◌≤◌, ◌^◌, sum_by};
+ghost use Rattle.std.specs.Prelude.{◌≡◌, ◌<◌, ◌^◌};
 ghost use Rattle.irs_audit.specs.Verdicts.{stream_rows, stream_unfixed, row_count, unfixed_count};
 
 use irs_schedule::StreamPart;

@@ -77,9 +77,6 @@ pub fn read_flows(alloc: Global, v: &Value) -> Result<Flows, FlowErr>
     }
     match the_swap(v) {
         Err(fault) => Err(shape(fault)),
-        Ok(found) => match flows_of(alloc, found) {
-            Ok(flows) => Ok(flows),
-            Err(_) => Err(FlowErr::Memory),
-        },
+        Ok(found) => Ok(flows_of(alloc, found)?),
     }
 }

@@ -1,6 +1,6 @@
 //! The first field of a row that departs: each kind of rows is a table of its fields in order, with
 //! whether each departs.
-ghost use Rattle.std.specs.Prelude.{◌≡◌, ◌+◌, ◌-◌, ◌≤◌, IsTrue, ◌↔◌};
+ghost use Rattle.std.specs.Prelude.{◌≡◌, ◌+◌, ◌-◌, ◌≤◌, IfSome, IsTrue, ◌↔◌};
 ghost use Rattle.irs_audit.specs.Comparisons.{IsSmall, IsPayment};
 ghost use Rattle.irs_audit.specs.DepartureOrder.{IsFirstField};
 ghost use Rattle.irs_audit.specs.FieldDepartures.{ExchangeDeparts, PaymentDeparts, PeriodDeparts, ResetDeparts};
@@ -48,8 +48,6 @@ fn known_rate_departs(rate: Option<i64>, stated: Option<i128>) -> bool
         None => false,
     }
 }
-
-ghost use Rattle.std.specs.Prelude.{IfSome};
 
 /// The first field of an exchange that departs.
 pub(crate) fn exchange_field(x: &Exchange, y: &FlowExchange) -> Option<Field>

@@ -1,6 +1,6 @@
 //! The first row of a stream that departs, in a stream that both the schedule and the flows have.
 ghost use Rattle.std.specs.Prelude.{◌≡◌, option_copied, slice_get};
-ghost use Rattle.irs_audit.specs.Agreement.{KindDeparts};
+ghost use Rattle.irs_audit.specs.Agreement.{KindDeparts, stated_reset};
 ghost use Rattle.irs_audit.specs.DepartureOrder.{IsFirst, IsFirstField};
 ghost use Rattle.irs_audit.specs.RowSets.{AmongRows, AmongStream};
 
@@ -57,8 +57,6 @@ fn stated_reset(theirs: &FlowStream, place: usize) -> Option<FlowReset>
 {
     item(theirs.periods(), place)?.reset
 }
-
-ghost use Rattle.irs_audit.specs.Agreement.{stated_reset};
 
 fn reset_at(ours: &StreamPart, theirs: &FlowStream, place: usize) -> Option<Field>
     ensures { IsFirstField (KindDeparts RowKind.Reset ours.now theirs.now place) result }
