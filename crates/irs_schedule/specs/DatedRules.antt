@@ -21,7 +21,8 @@ use Rattle.irs_resets.specs.Rates.{RateTable}
 use Rattle.irs_resets.specs.Resets.{IsResets}
 use Rattle.irs_resets.specs.ResetRules.{FirstBroken}
 use Rattle.irs_schedule.specs.DaySets.{StreamSets, stream_sets}
-use Rattle.irs_schedule.specs.Layouts.{Layout, IsLayout}
+use Rattle.irs_schedule.specs.declared.layouts.Layout.{Layout}
+use Rattle.irs_schedule.specs.Layouts.{IsLayout}
 use Rattle.irs_schedule.specs.PeriodTerms.{PassesAt}
 
 -- the parts in which the dates and amounts of a stream are worked out, in their order

@@ -1,9 +1,9 @@
 -- What a schedule keeps of the terms of a stream.
-use Rattle.std.specs.Prelude.{ℤ}
-use Rattle.irs_terms.specs.declared.step_list.Step.{Step}
-use Rattle.irs_terms.specs.declared.step_list.StepValues.{StepValues}
-use Rattle.irs_schedule.specs.Parts.{Every}
+use Rattle.std.specs.Prelude.{Bool, true, false}
+use Rattle.irs_terms.specs.declared.amounts.Leg.{Leg}
+use Rattle.irs_terms.specs.declared.amounts.Leg.TheVariants.{Fixed, Floating}
 
--- P holds of the initial value and of that of each step
-abbrev pub EveryValue : (ℤ → Type 0) → StepValues → Type 0
-EveryValue P values = P values.initial × Every (λ (s : Step). P s.value) values.steps
+-- whether a stream floats, by what it pays
+abbrev pub is_floating : Leg → Bool
+is_floating (Fixed values) = false
+is_floating (Floating float) = true

@@ -1,18 +1,13 @@
 -- The boundaries of a stream's calculation periods, unadjusted and adjusted, over its regular span.
-use Rattle.std.specs.Prelude.{◌+◌, ◌≤◌, List, length, ℤ}
+use Rattle.std.specs.Prelude.{◌+◌, ◌≤◌, length}
 use Rattle.irs_base.specs.Listed.{IsRising}
-use Rattle.irs_terms.specs.declared.results.Span.{Span}
 use Rattle.irs_terms.specs.declared.stream.Stream.{Stream}
 use Rattle.irs_periods.specs.Spans.{Regular}
 use Rattle.irs_periods.specs.SpanRules.{SpanKept}
 use Rattle.irs_periods.specs.Boundaries.{Boundaries, most_periods}
 use Rattle.irs_periods.specs.Adjusting.{AdjustedList}
 use Rattle.irs_schedule.specs.DaySets.{StreamSets}
-
-pub record Layout : Type 0 where
-  pub span : Span
-  pub unadjusted : List ℤ
-  pub adjusted : List ℤ
+use Rattle.irs_schedule.specs.declared.layouts.Layout.{Layout}
 
 -- the span is the stream's regular one, the lists are its boundaries, and no rule of the span or of
 -- the periods is broken

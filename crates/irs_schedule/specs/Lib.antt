@@ -1,6 +1,6 @@
 pub mod Parts
-pub mod InForce
 pub mod KeptTerms
+pub mod Periods
 pub mod Views
 pub mod Keeping
 pub mod RowsOf
@@ -15,3 +15,8 @@ pub mod Schedules
 pub mod DatedRules
 pub mod TermsKept
 pub mod SchedErrors
+pub mod StepsRising
+pub mod CenterDays
+pub mod StageSets
+pub mod DatedLists
+pub mod PaidEntries

@@ -2,6 +2,7 @@
 use Rattle.std.specs.Prelude.{IfSome, unsigned_abs, ◌≡◌, ℕ, ◌+◌, ◌*◌, ◌^◌, ◌<◌, ◌≤◌, List, [], ◌∷◌, length, Bool, slice_index_or, if◌then◌else◌, ℤ, pos, ◌<ℤ◌, ◌≤ℤ◌}
 use Rattle.irs_base.specs.declared.line.Dec.{Dec}
 use Rattle.irs_terms.specs.Currencies.{decimals_of}
+use Rattle.irs_terms.specs.Lawful.{IsNotional, IsRate}
 use Rattle.irs_terms.specs.declared.currency.Currency.{Currency}
 use Rattle.irs_terms.specs.declared.codes.DayCountCode.{DayCountCode}
 use Rattle.irs_terms.specs.declared.results.Exchange.{Exchange}
@@ -53,15 +54,7 @@ pub record IsAmount (currency : Currency) (v : Dec) : Type 0 where
 abbrev pub HasAmount : Currency → PaymentEntry → Type 0
 HasAmount currency y = IfSome y.amount (IsAmount currency)
 
--- a notional: 0 to 10^13 in units of 10^-4
-abbrev pub IsNotional : ℤ → Type 0
-IsNotional n = (pos 0 ≤ℤ n) × (n ≤ℤ pos 100_000_000_000_000_000)
-
--- a rate of the terms, an observed one among them: at most 10 in size, in units of 10^-9
-abbrev pub IsRate : ℤ → Type 0
-IsRate r = unsigned_abs r ≤ 10_000_000_000
-
--- a period within the limits of amounts
+-- a period within the limits of amounts: its rate is at most a multiplier of 10 times an observed rate of 10, plus a spread of 10
 pub record IsEntry (code : DayCountCode) (e : PeriodEntry) : Type 0 where
   pub notional : IsNotional e.notional
   pub numerator : (pos 0 ≤ℤ e.frac.num) × (e.frac.num ≤ℤ pos 40_000_000)

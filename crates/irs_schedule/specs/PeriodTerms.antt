@@ -1,10 +1,13 @@
 -- What is worked out for the calculation periods of a stream, and the amounts of its payments.
 -- Periods are counted from 1. b are the unadjusted boundaries, a the adjusted ones, rs the resets.
-use Rattle.std.specs.Prelude.{◌≡◌, ℕ, ◌+◌, ◌-◌, ◌==◌, List, length, Option, Some, None, option_map, option_and_then, slice_get, ℤ}
+use Rattle.std.specs.Prelude.{◌≡◌, ℕ, ◌+◌, ◌-◌, ◌==◌, ◌<◌, ◌≤◌, All, List, length, Option, Some, None, option_map, option_and_then, slice_get, ℤ}
+use Rattle.irs_base.specs.DayLists.{AreDays}
+use Rattle.irs_base.specs.Listed.{IsRising}
 use Rattle.irs_base.specs.declared.line.Dec.{Dec}
 use Rattle.irs_terms.specs.Currencies.{decimals_of}
 use Rattle.irs_terms.specs.declared.amounts.Leg.{Leg}
 use Rattle.irs_terms.specs.declared.amounts.Leg.TheVariants.{Fixed, Floating}
+use Rattle.irs_terms.specs.declared.codes.CompCode.{CompCode}
 use Rattle.irs_terms.specs.declared.results.Payment.{Payment}
 use Rattle.irs_terms.specs.declared.results.Reset.{Reset}
 use Rattle.irs_terms.specs.declared.stream.Stream.{Stream}
@@ -15,12 +18,11 @@ use Rattle.irs_compound.specs.Amounts.{AllPriced, AmountOf, Passes, code_for}
 use Rattle.irs_compound.specs.declared.periods.Rates.{Rates}
 use Rattle.irs_compound.specs.declared.periods.PeriodTerm.{PeriodTerm}
 use Rattle.irs_payments.specs.Numbered.{EachNumbered}
+use Rattle.irs_periods.specs.Boundaries.{most_periods}
+use Rattle.irs_resets.specs.Resets.{HasSmallRate}
 use Rattle.irs_schedule.specs.declared.entries.PeriodEntry.{PeriodEntry}
 use Rattle.irs_schedule.specs.Parts.{day_at}
-
--- the observed rate of period i: that of its reset
-abbrev pub observed_at : List Reset → ℕ → Option ℤ
-observed_at rs i = option_and_then (λ r. r.observed) (slice_get rs (i - 1))
+use Rattle.irs_schedule.specs.Periods.{observed_of}
 
 -- the rates of a period with this unadjusted start: on a fixed stream the fixed rate in force; on a
 -- floating one those of the observed rate, absent where it is
@@ -35,7 +37,7 @@ AreRates (Floating float) start (Some observed) (Some rates) = RatesOf float sta
 -- notional, rates and fraction of period i; the last period is the last of the stream
 pub record IsPeriodTerm (s : Stream) (b a : List ℤ) (rs : List Reset) (i : ℕ) (t : PeriodTerm) : Type 0 where
   pub notional : InForce s.notional (day_at b (i - 1)) t.notional
-  pub rates : AreRates s.leg (day_at b (i - 1)) (observed_at rs i) t.rates
+  pub rates : AreRates s.leg (day_at b (i - 1)) (observed_of rs i) t.rates
   pub frac : Fraction s.day_count (day_at a (i - 1)) (day_at a i) (i == length a - 1) t.frac
 
 -- what a schedule says of period i
@@ -52,6 +54,10 @@ pub record AreTerms (s : Stream) (b a : List ℤ) (rs : List Reset) (p : Payment
   pub count : p.first_period + length terms ≡ p.last_period + 1
   pub each : EachNumbered (IsPeriodTerm s b a rs) p.first_period terms
 
+-- so many units of so many decimals
+abbrev pub dec_of : ℕ → ℤ → Dec
+dec_of places units = record { units = units; places = places }
+
 -- the amount of a payment in the decimals of the stream's currency; absent where the rate of one of
 -- its periods is
 abbrev pub IsAmountBy : Stream → List PeriodTerm → Option Dec → Type 0
@@ -63,14 +69,37 @@ pub record IsAmountFor (s : Stream) (b a : List ℤ) (rs : List Reset) (p : Paym
   pub are_terms : AreTerms s b a rs p terms
   pub is_amount : IsAmountBy s terms amount
 
--- at period i, in a payment whose rates are all there, a rate or an amount leaves its range
-pub record PassesAt (s : Stream) (b a : List ℤ) (rs : List Reset) (ps : List Payment) (i : ℕ) : Type 0 where
-  pub number : ℕ
-  pub payment : Payment
-  pub there : slice_get ps number ≡ Some payment
+-- no period leaves its range, if all have their rates
+abbrev pub NonePasses : CompCode → List PeriodTerm → Type 0
+NonePasses code terms = AllPriced terms → (i : ℕ) → i < length terms → Passes (code_for code terms) terms i → ⊥
+
+-- at period i of the payment, whose rates are all there, a rate or an amount leaves its range
+pub record PassesIn (s : Stream) (b a : List ℤ) (rs : List Reset) (payment : Payment) (i : ℕ) : Type 0 where
   pub terms : List PeriodTerm
   pub are_terms : AreTerms s b a rs payment terms
   pub priced : AllPriced terms
   pub place : ℕ
   pub passes : Passes (code_for s.compounding terms) terms place
   pub is : i ≡ payment.first_period + place
+
+-- the first such period of the payment
+pub record PassesFirstIn (s : Stream) (b a : List ℤ) (rs : List Reset) (payment : Payment) (i : ℕ) : Type 0 where
+  pub passes : PassesIn s b a rs payment i
+  pub none_before : (k : ℕ) → k < i → PassesIn s b a rs payment k → ⊥
+  pub to_end : i ≤ payment.last_period
+
+-- at period i of one of the payments, whose rates are all there, a rate or an amount leaves its range
+pub record PassesAt (s : Stream) (b a : List ℤ) (rs : List Reset) (ps : List Payment) (i : ℕ) : Type 0 where
+  pub number : ℕ
+  pub payment : Payment
+  pub there : slice_get ps number ≡ Some payment
+  pub within : PassesIn s b a rs payment i
+
+-- the lists that periods are worked out of: the adjusted boundaries are days that rise, one for each
+-- unadjusted boundary, and observed rates are small
+pub record IsTable (b a : List ℤ) (rs : List Reset) : Type 0 where
+  pub few : length b ≤ most_periods + 1
+  pub same_length : length a ≡ length b
+  pub rises : IsRising a
+  pub days : AreDays a
+  pub small : All HasSmallRate rs

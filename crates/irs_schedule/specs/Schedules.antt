@@ -1,7 +1,5 @@
 -- The schedule of a swap: which list of parts it is.
-use Rattle.std.specs.Prelude.{◌≡◌, ◌+◌, Bool, true, false, List, length, map}
-use Rattle.irs_terms.specs.declared.amounts.Leg.{Leg}
-use Rattle.irs_terms.specs.declared.amounts.Leg.TheVariants.{Fixed, Floating}
+use Rattle.std.specs.Prelude.{◌≡◌, ◌+◌, List, length, map}
 use Rattle.irs_terms.specs.declared.results.Payment.{Payment}
 use Rattle.irs_terms.specs.declared.stream.Stream.{Stream}
 use Rattle.irs_terms.specs.declared.stream_list.Swap.{Swap}
@@ -12,14 +10,12 @@ use Rattle.irs_payments.specs.Exchanges.{AreExchanges}
 use Rattle.irs_resets.specs.Rates.{RateTable}
 use Rattle.irs_resets.specs.Resets.{IsResets}
 use Rattle.irs_schedule.specs.declared.entries.PaymentEntry.{PaymentEntry}
+use Rattle.irs_schedule.specs.KeptTerms.{is_floating}
 use Rattle.irs_schedule.specs.Parts.{Part, Every}
 use Rattle.irs_schedule.specs.DaySets.{StreamSets, stream_sets}
-use Rattle.irs_schedule.specs.Layouts.{Layout, IsLayout}
+use Rattle.irs_schedule.specs.declared.layouts.Layout.{Layout}
+use Rattle.irs_schedule.specs.Layouts.{IsLayout}
 use Rattle.irs_schedule.specs.PeriodTerms.{IsPeriodEntry, IsAmountFor}
-
-abbrev pub is_floating : Leg → Bool
-is_floating (Fixed values) = false
-is_floating (Floating float) = true
 
 -- the payment without its amount
 abbrev pub payment_of : PaymentEntry → Payment

@@ -1,24 +1,77 @@
 //! What a schedule keeps of the terms of a stream, so that its periods are worked out when they are
 //! asked for.
 ghost use Rattle.std.specs.Prelude.{◌≡◌, IfOk};
+ghost use Rattle.irs_terms.specs.Lawful.{IsLawfulStream, IsLawfulValues, IsLawfulLeg, IsNotional};
+ghost use Rattle.irs_schedule.specs.KeptTerms.{is_floating};
 
 use irs_base::Memory;
-use irs_terms::{Currency, DayCountCode, StepValues};
+use irs_terms::{Currency, DayCountCode, FloatTerms, Leg, StepValues, Stream};
 use std::alloc::Global;
 
-/// Currency and day count, the notional, and the fixed rate, which is 0 on a floating stream.
+/// Currency and day count, the notional in units of 10^-4, and the fixed or the floating rate in
+/// units of 10^-9.
 #[derive(Debug, Drop)]
 pub(crate) struct KeptTerms {
     pub(crate) currency: Currency,
     pub(crate) day_count: DayCountCode,
-    pub(crate) floating: bool,
     pub(crate) notional: StepValues,
-    pub(crate) rate: StepValues,
+    pub(crate) leg: Leg,
 }
 
-/// An equal list of values.
-pub(crate) fn copy_of(alloc: Global, values: &StepValues) -> Result<StepValues, Memory>
-    ensures { IfOk result (λ t. t ≡ values.now) }
+impl KeptTerms {
+    /// Whether the stream pays a floating rate.
+    pub(crate) fn is_floating(&self) -> bool
+        ensures { result ≡ is_floating self.now.leg }
+    {
+        match &self.leg {
+            Leg::Fixed(_) => false,
+            Leg::Floating(_) => true,
+        }
+    }
+}
+
+/// What is kept of a stream.
+pub(crate) fn kept_terms(alloc: Global, s: &Stream) -> Result<KeptTerms, Memory>
+    requires { IsLawfulStream s.now }
+    ensures currency { IfOk result (λ t. t.currency ≡ s.now.currency) }
+    ensures day_count { IfOk result (λ t. t.day_count ≡ s.now.day_count) }
+    ensures notional { IfOk result (λ t. t.notional ≡ s.now.notional) }
+    ensures leg { IfOk result (λ t. t.leg ≡ s.now.leg) }
+    ensures lawful_notional { IfOk result (λ t. IsLawfulValues IsNotional t.notional) }
+    ensures lawful_leg { IfOk result (λ t. IsLawfulLeg t.leg) }
+{
+    Ok(KeptTerms {
+        currency: s.currency,
+        day_count: s.day_count,
+        notional: copy_of_values(alloc, &s.notional)?,
+        leg: copy_of_leg(alloc, &s.leg)?,
+    })
+}
+
+fn copy_of_leg(alloc: Global, leg: &Leg) -> Result<Leg, Memory>
+    ensures { IfOk result (λ l. l ≡ leg.now) }
+{
+    match leg {
+        Leg::Fixed(values) => Ok(Leg::Fixed(copy_of_values(alloc, values)?)),
+        Leg::Floating(terms) => Ok(Leg::Floating(copy_of_floating(alloc, terms)?)),
+    }
+}
+
+fn copy_of_floating(alloc: Global, terms: &FloatTerms) -> Result<FloatTerms, Memory>
+    ensures { IfOk result (λ t. t ≡ terms.now) }
+{
+    Ok(FloatTerms {
+        index: terms.index.copy(alloc)?,
+        tenor: terms.tenor,
+        multiplier: copy_of_values(alloc, &terms.multiplier)?,
+        spread: copy_of_values(alloc, &terms.spread)?,
+        initial_rate: terms.initial_rate,
+        rounding: terms.rounding,
+    })
+}
+
+fn copy_of_values(alloc: Global, values: &StepValues) -> Result<StepValues, Memory>
+    ensures { IfOk result (λ v. v ≡ values.now) }
 {
     Ok(StepValues {
         initial: values.initial,

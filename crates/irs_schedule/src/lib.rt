@@ -2,12 +2,19 @@
 //! rows in order, and their texts.
 #![tactic(auto)]
 
+mod amounts;
+mod center_days;
+mod center_names;
+mod center_table;
 mod entries;
-mod in_force;
 mod kept_terms;
+mod layouts;
 mod making;
+mod periods;
 mod row;
 mod schedule;
+mod stages;
+mod stream;
 mod streams;
 mod texts;
 mod walking;

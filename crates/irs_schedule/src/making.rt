@@ -11,10 +11,13 @@ ghost use Rattle.irs_schedule.specs.Schedules.{IsSchedule};
 ghost use Rattle.irs_schedule.specs.declared.making.SchedErr.TheVariants.{Broken as OfBroken, Memory as OfMemory};
 
 use crate::Schedule;
-use irs_base::{Broken, Memory};
+use crate::center_table::{CenterTable, StreamDays};
+use crate::stream::stream_part;
+use crate::streams::StreamPart;
+use irs_base::{Broken, Memory, Place};
 use irs_calendar::Calendars;
 use irs_resets::Fixings;
-use irs_terms::Swap;
+use irs_terms::{Stream, Swap};
 use std::alloc::{AllocFailed, Global};
 use thiserror::Error;
 
@@ -51,6 +54,7 @@ impl<T: Drop> From<AllocFailed<T>> for SchedErr {
 ///
 /// `Broken` is exactly the first of K30 to K39 that is broken, with the stream's number in the place:
 /// where none is broken there is a schedule, and only one, also where memory ran out.
+#[tactic(auto, using(crate::proofs::PartThere::schedule_there, crate::proofs::OnePart::one_schedule, crate::proofs::TermsLemmas::terms_kept))]
 pub fn make_schedule(
     alloc: Global,
     swap: &Swap,
@@ -67,5 +71,93 @@ pub fn make_schedule(
     ensures exists { DatedKept swap.now cal.now fix.now → (s : List Part) × IsSchedule swap.now cal.now fix.now s }
     ensures one { (s t : List Part) → IsSchedule swap.now cal.now fix.now s → IsSchedule swap.now cal.now fix.now t → s ≡ t }
 {
-    Err(SchedErr::Memory)
+    schedule_of(alloc, swap, cal, fix)
 }
+
+// The parts of all streams, or the first broken rule of the first stream that breaks one.
+fn schedule_of(
+    alloc: Global,
+    swap: &Swap,
+    cal: &Calendars,
+    fix: &Fixings,
+) -> Result<Schedule, SchedErr>
+    requires lawful { IsLawful swap.now }
+    requires kept { (i : ℕ) (s : StreamTerms) → slice_get swap.now.streams i ≡ Some s → TermsKept cal.now s }
+    ensures ok { IfOk result (IsSchedule swap.now cal.now fix.now) }
+    ensures unbroken { IfOk result (λ _. DatedKept swap.now cal.now fix.now) }
+    ensures broken { IfBroken result (DatedBroken swap.now cal.now fix.now) }
+{
+    let table = CenterTable::new(alloc, swap, cal)?;
+    schedule_by(alloc, swap, &table, fix)
+}
+
+// The same, by a table of the good days.
+fn schedule_by(
+    alloc: Global,
+    swap: &Swap,
+    table: &CenterTable<'_, '_>,
+    fix: &Fixings,
+) -> Result<Schedule, SchedErr>
+    requires lawful { IsLawful swap.now }
+    requires kept { (i : ℕ) (s : StreamTerms) → slice_get swap.now.streams i ≡ Some s → TermsKept table.now.sections s }
+    requires table { HasSwap table.now.sections swap.now table.now }
+    ensures ok { IfOk result (IsSchedule swap.now table.now.sections fix.now) }
+    ensures unbroken { IfOk result (λ _. DatedKept swap.now table.now.sections fix.now) }
+    ensures broken { IfBroken result (DatedBroken swap.now table.now.sections fix.now) }
+{
+    let mut parts = Vec::new(alloc);
+    for (i, stream) in swap.streams.as_slice().iter().enumerate() {
+        let days = table.stream_days(stream);
+        let part = numbered_part(alloc, stream, &days, fix, i as u8 + 1)?;
+        parts.push(part)?;
+    }
+    Ok(Schedule::of_parts(parts))
+}
+
+// The part of the stream with that number; a broken rule is named by it.
+fn numbered_part(
+    alloc: Global,
+    s: &Stream,
+    days: &StreamDays<'_>,
+    fix: &Fixings,
+    number: u8,
+) -> Result<StreamPart, SchedErr>
+    requires lawful { IsLawfulStream s.now }
+    requires kept { (cal : List Section) × TermsKept cal s.now }
+    ensures ok { IfOk result (IsPart (sets_of days.now) fix.now s.now) }
+    ensures bounds { IfOk result KeepsBounds }
+    ensures unbroken { IfOk result (λ _. StreamKept (sets_of days.now) fix.now s.now) }
+    ensures broken { IfBroken result (λ x. (y : BrokenRule) × StreamBroken (sets_of days.now) fix.now s.now y × (x ≡ in_stream number y)) }
+{
+    match stream_part(alloc, s, days, fix) {
+        Ok(part) => Ok(part),
+        Err(SchedErr::Broken(broken)) => Err(SchedErr::Broken(in_stream(number, broken))),
+        Err(SchedErr::Memory) => Err(SchedErr::Memory),
+    }
+}
+
+// The broken rule in the stream with that number.
+fn in_stream(number: u8, broken: Broken) -> Broken
+    ensures { result ≡ in_stream number broken }
+{
+    let place = broken.place;
+    Broken {
+        rule: broken.rule,
+        place: Place {
+            stream: number,
+            elem: place.elem,
+            index: place.index,
+        },
+    }
+}
+
+ghost use Rattle.std.specs.Prelude.{ℕ, Some, slice_get, ◌+◌};
+ghost use Rattle.irs_calendar.specs.declared.sections.Section.{Section};
+ghost use Rattle.irs_schedule.specs.CenterDays.{HasSwap};
+ghost use Rattle.irs_schedule.specs.DatedRules.{StreamBroken, StreamKept, in_stream};
+ghost use Rattle.irs_schedule.specs.Parts.{KeepsBounds};
+ghost use Rattle.irs_schedule.specs.Schedules.{IsPart};
+ghost use Rattle.irs_schedule.specs.StageSets.{sets_of};
+ghost use Rattle.irs_schedule.specs.TermsKept.{TermsKept};
+ghost use Rattle.irs_terms.specs.Lawful.{IsLawfulStream};
+ghost use Rattle.irs_terms.specs.declared.stream.Stream.{Stream as StreamTerms};

@@ -1,13 +1,11 @@
 //! One stream of a schedule. Its boundaries, payments, exchanges and resets are kept; days, fraction,
 //! notional and rate of a period are worked out when they are asked for.
-ghost use Rattle.std.specs.Prelude.{◌≡◌, ℕ, ◌+◌, ◌-◌, ◌<◌, ◌≤◌, ℤ, List, length, pos, ◌-ℤ◌, ◌<ℤ◌, ◌≤ℤ◌, unsigned_abs};
-ghost use Rattle.irs_schedule.specs.Parts.{day_at};
+ghost use Rattle.std.specs.Prelude.{◌≡◌, ℕ, ◌-◌, ◌<◌, ◌≤◌, ℤ, List, length};
 
-use crate::in_force::{rate_in_force, value_in_force};
 use crate::kept_terms::KeptTerms;
+use crate::periods::{day_at, entry_by, observed_at};
 use crate::{PaymentEntry, PeriodEntry, Row};
-use irs_base::{Day, DayList};
-use irs_daycount::{days_by, fraction_by};
+use irs_base::DayList;
 use irs_terms::{Exchange, Exchanges, Reset, Resets};
 use std::marker::Model;
 
@@ -36,13 +34,11 @@ impl Model for StreamPart {
     ghost invariant = { IsKept };
 }
 
-ghost use Rattle.std.specs.Prelude.{Bool, true, false, IsTrue, IsFalse, IfSome, Some, [], slice_index_or};
-ghost use Rattle.irs_terms.specs.declared.results.Exchange.{Exchange};
-ghost use Rattle.irs_terms.specs.declared.results.Reset.{Reset};
-ghost use Rattle.irs_daycount.specs.Fractions.{days_of, fraction_of};
-ghost use Rattle.irs_schedule.specs.InForce.{value_after};
-ghost use Rattle.irs_schedule.specs.KeptTerms.{EveryValue};
-ghost use Rattle.irs_schedule.specs.Parts.{KeepsBounds, Rises, Covers, Every, HasAmount, IsAmount, IsNotional, IsRate};
+ghost use Rattle.std.specs.Prelude.{IsTrue, IfSome, slice_index_or, if◌then◌else◌};
+ghost use Rattle.irs_terms.specs.Lawful.{IsLawfulValues, IsLawfulLeg, IsNotional, IsRate};
+ghost use Rattle.irs_schedule.specs.KeptTerms.{is_floating};
+ghost use Rattle.irs_schedule.specs.Parts.{KeepsBounds, Rises, Covers, Every, HasAmount, IsAmount};
+ghost use Rattle.irs_schedule.specs.Periods.{periods_by};
 ghost use Rattle.irs_schedule.specs.RowsOf.{no_period, no_reset, period_row, reset_row, stream_row};
 
 impl StreamPart {
@@ -55,8 +51,8 @@ impl StreamPart {
         payments: Vec<PaymentEntry>,
         resets: Resets,
     ) -> StreamPart
-        requires notional { EveryValue IsNotional terms.notional }
-        requires rate { EveryValue IsRate terms.rate }
+        requires notional { IsLawfulValues IsNotional terms.notional }
+        requires leg { IsLawfulLeg terms.leg }
         requires some { 2 ≤ length unadjusted }
         requires few { length unadjusted ≤ 4001 }
         requires same_count { length adjusted ≡ length unadjusted }
@@ -66,15 +62,16 @@ impl StreamPart {
         requires exchanged { Every (λ x. IsAmount terms.currency x.amount) exchanges }
         requires covers { Covers 1 payments.items (length unadjusted - 1) }
         requires paid { Every (HasAmount terms.currency) payments.items }
-        requires resets_count { length resets ≡ (if terms.floating then length unadjusted - 1 else 0) }
+        requires resets_count { length resets ≡ (if is_floating terms.leg then length unadjusted - 1 else 0) }
         requires observed { Every (λ r. IfSome r.observed IsRate) resets }
         ensures currency { result.currency ≡ terms.currency }
         ensures day_count { result.day_count ≡ terms.day_count }
-        ensures floating { result.floating ≡ terms.floating }
+        ensures floating { result.floating ≡ is_floating terms.leg }
         ensures unadjusted { result.unadjusted ≡ unadjusted }
         ensures adjusted { result.adjusted ≡ adjusted }
         ensures exchanges { result.exchanges ≡ exchanges }
         ensures payments { result.payments ≡ payments.items }
+        ensures periods { result.periods ≡ periods_by terms unadjusted adjusted resets }
         ensures resets { result.resets ≡ resets }
         ensures bounds { KeepsBounds result }
     {
@@ -100,7 +97,7 @@ impl StreamPart {
     pub(crate) fn is_floating(&self) -> bool
         ensures { result ≡ self.now.floating }
     {
-        self.terms.floating
+        self.terms.is_floating()
     }
 
     pub(crate) fn exchanges(&self) -> &[Exchange]
@@ -124,14 +121,13 @@ impl StreamPart {
         ensures { result ≡ slice_index_or self.now.periods (number - 1) no_period }
     {
         let end = number as usize;
-        let start = day_at(self.unadjusted.as_slice(), end - 1);
-        entry_of(
+        entry_by(
             &self.terms,
             day_at(self.adjusted.as_slice(), end - 1),
             day_at(self.adjusted.as_slice(), end),
             end == self.adjusted.len() - 1,
-            start,
-            rate_for(&self.terms, self.resets.as_slice(), end - 1, start),
+            day_at(self.unadjusted.as_slice(), end - 1),
+            observed_at(self.resets.as_slice(), end - 1),
         )
     }
 
@@ -143,7 +139,7 @@ impl StreamPart {
             stream,
             currency: self.terms.currency,
             day_count: self.terms.day_count,
-            floating: self.terms.floating,
+            floating: self.terms.is_floating(),
         }
     }
 
@@ -186,50 +182,3 @@ impl StreamPart {
         }
     }
 }
-
-fn day_at(days: &[Day], i: usize) -> Day
-    requires { i < length days.now }
-    ensures { result ≡ day_at days.now i }
-{
-    days[i]
-}
-
-// A period by its adjusted days, by whether it is the last one, by its unadjusted start and its rate.
-fn entry_of(
-    terms: &KeptTerms,
-    from: Day,
-    to: Day,
-    last: bool,
-    start: Day,
-    rate: Option<i64>,
-) -> PeriodEntry
-    requires { from <ℤ to }
-    ensures { result ≡ record { days = days_of terms.now.day_count from to last; frac = fraction_of terms.now.day_count from to last; notional = value_after terms.now.notional.initial terms.now.notional.steps start; rate = rate } }
-{
-    PeriodEntry {
-        days: days_by(terms.day_count, from, to, last),
-        frac: fraction_by(terms.day_count, from, to, last),
-        notional: value_in_force(&terms.notional, start),
-        rate,
-    }
-}
-
-// The rate of a period, by the place of its reset and by its unadjusted start.
-fn rate_for(terms: &KeptTerms, resets: &[Reset], place: usize, start: Day) -> Option<i64>
-    requires { EveryValue IsRate terms.now.rate }
-    ensures { result ≡ (if terms.now.floating then option_and_then (λ r. r.observed) (slice_get resets.now place) else Some (value_after terms.now.rate.initial terms.now.rate.steps start)) }
-{
-    if terms.floating {
-        observed_at(resets, place)
-    } else {
-        Some(rate_in_force(&terms.rate, start))
-    }
-}
-
-fn observed_at(resets: &[Reset], i: usize) -> Option<i64>
-    ensures { result ≡ option_and_then (λ r. r.observed) (slice_get resets.now i) }
-{
-    resets.get(i)?.observed
-}
-
-ghost use Rattle.std.specs.Prelude.{option_and_then, slice_get, if◌then◌else◌};

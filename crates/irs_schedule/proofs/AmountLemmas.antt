@@ -1,0 +1,102 @@
+-- The terms of a payment's periods, its amount, and the first of its periods that leaves the range.
+use Rattle.std.proofs.Common.{◌≡◌, ℕ, ◌+◌, ◌-◌, ◌<◌, ◌≤◌, ◌==◌, List, [], ◌∷◌, length, Option, Some, None, option_map, IfSome, sym, subst, arith, ℤ, All}
+use Rattle.std.proofs.lemmas.List.Elements.{All-nil, All-cons, All-head}
+use Rattle.std.proofs.lemmas.Option.{slice_get_within}
+use Rattle.irs_terms.specs.Currencies.{decimals_of}
+use Rattle.irs_terms.specs.Lawful.{IsLawfulStream, IsNotional}
+use Rattle.irs_terms.specs.declared.codes.CompCode.{CompCode}
+use Rattle.irs_terms.specs.declared.currency.Currency.{Currency}
+use Rattle.irs_terms.specs.declared.results.Payment.{Payment}
+use Rattle.irs_terms.specs.declared.results.Reset.{Reset}
+use Rattle.irs_terms.specs.declared.stream.Stream.{Stream}
+use Rattle.irs_daycount.specs.Fractions.{denominator_of}
+use Rattle.irs_daycount.specs.FractionLaws.{one_denominator}
+use Rattle.irs_compound.specs.Amounts.{IsFraction, IsTerm, IsPayment, AllPriced, AmountOf, Passes, PassesFirst, code_for, denominator, most_places}
+use Rattle.irs_compound.specs.InForceLaws.{in_force_within}
+use Rattle.irs_compound.specs.declared.periods.PeriodTerm.{PeriodTerm}
+use Rattle.irs_payments.specs.Numbered.{EachNumbered}
+use Rattle.irs_schedule.specs.Parts.{IsAmount, day_at}
+use Rattle.irs_schedule.specs.PeriodTerms.{IsPeriodTerm, AreTerms, IsAmountBy, NonePasses, PassesIn, PassesFirstIn, IsTable, dec_of}
+use Rattle.irs_schedule.specs.StepsRising.{AllStepsRise}
+use Rattle.irs_schedule.proofs.AmountBounds.{amount_bounded}
+use Rattle.irs_schedule.proofs.PlaceLemmas.{decimals_few}
+use Rattle.irs_schedule.proofs.TermsThere.{terms_fit}
+use Rattle.irs_schedule.proofs.Unique.{one_terms}
+
+-- the amount in the decimals of the currency
+pub amount_by : (s : Stream) (ts : List PeriodTerm) (places : ℕ) (units : Option ℤ) → places ≡ decimals_of s.currency.letters → AmountOf s.compounding ts places units → IsAmountBy s ts (option_map (dec_of places) units)
+amount_by s ts places None e h = h
+amount_by s ts places (Some m) e h = (e, subst (λ (k : ℕ). AmountOf s.compounding ts k (Some m)) e h)
+
+-- where no period leaves the range the amount is within its bound
+pub amount_fits : (code : CompCode) (currency : Currency) (ts : List PeriodTerm) (places : ℕ) (units : Option ℤ) → places ≡ decimals_of currency.letters → IsPayment ts → NonePasses code ts → AmountOf code ts places units → IfSome (option_map (dec_of places) units) (IsAmount currency)
+amount_fits code currency ts places None e payment none h = tt
+amount_fits code currency ts places (Some m) e payment none h =
+    let few : places ≤ most_places = omega (arith, e, decimals_few currency.letters) in
+    record { places = e; size = amount_bounded (code_for code ts) ts places m payment few h.0 (none h.0) h.1 }
+
+-- the first position that leaves the range is one of the positions
+pub place_within : (code : CompCode) (ts : List PeriodTerm) (n : ℕ) → PassesFirst code ts n → n ≤ length ts
+place_within code ts n h =
+    let passes = h.1 in
+    let inside = slice_get_within ts (n - 1) passes.period passes.there in
+    omega (arith, inside)
+
+-- periods with one denominator have that of the first
+one_denominator_of : (den : ℤ) (ts : List PeriodTerm) → 1 ≤ length ts → All (IsTerm den) ts → All (IsTerm (denominator ts)) ts
+one_denominator_of den [] some h = absurd (omega (arith, some))
+one_denominator_of den (t ∷ ts) some h = subst (λ (d : ℤ). All (IsTerm d) (t ∷ ts)) (sym (All-head (IsTerm den) t ts h).2) h
+
+module _ (s : Stream) (b a : List ℤ) (rs : List Reset) (lawful : IsLawfulStream s) (table : IsTable b a rs) where
+  -- notional and fraction of a period are in their ranges
+  term_in_range : (i : ℕ) (t : PeriodTerm) → 1 ≤ i → i < length a → IsPeriodTerm s b a rs i t → IsTerm (denominator_of s.day_count) t
+  term_in_range i t low high h =
+      let fits = terms_fit s b a rs table.rises table.days i (t ∷ []) low (omega (arith, high)) (h, tt) in (
+        in_force_within IsNotional s.notional (day_at b (i - 1)) t.notional lawful.notional h.notional,
+        All-head (λ (u : PeriodTerm). IsFraction u.frac) t [] fits,
+        one_denominator s.day_count (day_at a (i - 1)) (day_at a i) (i == length a - 1) t.frac h.frac,
+      )
+
+  terms_in_range : (n : ℕ) (ts : List PeriodTerm) → 1 ≤ n → n + length ts ≤ length a → EachNumbered (IsPeriodTerm s b a rs) n ts → All (IsTerm (denominator_of s.day_count)) ts
+  terms_in_range n [] low high h = All-nil (IsTerm (denominator_of s.day_count))
+  terms_in_range n (t ∷ ts) low high h =
+      All-cons (IsTerm (denominator_of s.day_count)) t ts (term_in_range n t low (omega (arith, high)) h.0) (terms_in_range (n + 1) ts (omega arith) (omega (arith, high)) h.1)
+
+  -- the terms of a payment's periods are those of a payment
+  pub is_payment : (p : Payment) (ts : List PeriodTerm) → 1 ≤ p.first_period → p.first_period ≤ p.last_period → p.last_period < length b → AreTerms s b a rs p ts → IsPayment ts
+  is_payment p ts low order high are =
+      let count = are.count in
+      let few = table.few in
+      let same = table.same_length in
+      let some : 1 ≤ length ts = omega (arith, count, order) in (
+        some,
+        omega (arith, count, low, high, few),
+        one_denominator_of (denominator_of s.day_count) ts some (terms_in_range p.first_period ts low (omega (arith, count, high, same)) are.each),
+      )
+
+module _ (s : Stream) (b a : List ℤ) (rs : List Reset) (rises : AllStepsRise s) (p : Payment) (ts : List PeriodTerm) (are : AreTerms s b a rs p ts) where
+  -- any terms of its periods are these
+  same_terms : (us : List PeriodTerm) → AreTerms s b a rs p us → us ≡ ts
+  same_terms us h = one_terms s b a rs rises.0 rises.1 p us ts h are
+
+  same_passes : (i : ℕ) (x : PassesIn s b a rs p i) → Passes (code_for s.compounding ts) ts x.place
+  same_passes i x = subst (λ (us : List PeriodTerm). Passes (code_for s.compounding us) us x.place) (same_terms x.terms x.are_terms) x.passes
+
+  -- none of its periods leaves the range
+  pub none_in : NonePasses s.compounding ts → (i : ℕ) → PassesIn s b a rs p i → ⊥
+  none_in none i x =
+      let priced : AllPriced ts = subst AllPriced (same_terms x.terms x.are_terms) x.priced in
+      let passes = same_passes i x in
+      none priced x.place (slice_get_within ts x.place passes.period passes.there) passes
+
+  -- the first of its periods that leaves the range
+  pub first_in : (n : ℕ) → AllPriced ts → PassesFirst (code_for s.compounding ts) ts n → PassesFirstIn s b a rs p (p.first_period + n - 1)
+  first_in n priced first =
+      let low = first.0 in
+      let inside = place_within (code_for s.compounding ts) ts n first in
+      let count = are.count in
+      record {
+        passes = record { terms = ts; are_terms = are; priced = priced; place = n - 1; passes = first.1; is = omega (arith, low) };
+        none_before = λ k less x. let at = x.is in first.2 x.place (omega (arith, at, less)) (same_passes k x);
+        to_end = omega (arith, count, inside, low);
+      }

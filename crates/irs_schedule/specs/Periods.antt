@@ -1,0 +1,47 @@
+-- What is worked out for a calculation period, counted from 1.
+use Rattle.std.specs.Prelude.{ℕ, ◌-◌, ◌==◌, Bool, ℤ, List, length, map, Option, Some, option_map, option_and_then, slice_get}
+use Rattle.std.specs.List.{range_with_len}
+use Rattle.irs_terms.specs.declared.amounts.Leg.{Leg}
+use Rattle.irs_terms.specs.declared.amounts.Leg.TheVariants.{Fixed, Floating}
+use Rattle.irs_terms.specs.declared.results.Reset.{Reset}
+use Rattle.irs_daycount.specs.Fractions.{days_of, fraction_of}
+use Rattle.irs_compound.specs.InForce.{value_in_force}
+use Rattle.irs_compound.specs.PeriodRates.{rates_of, fixed_rates_of}
+use Rattle.irs_schedule.specs.declared.entries.PeriodEntry.{PeriodEntry}
+use Rattle.irs_schedule.specs.declared.kept_terms.KeptTerms.{KeptTerms}
+use Rattle.irs_schedule.specs.Parts.{day_at}
+
+-- how many periods lie between boundaries
+abbrev pub count_of : List ℤ → ℕ
+count_of boundaries = length boundaries - 1
+
+-- period i starts on boundary i - 1
+abbrev pub start_of : List ℤ → ℕ → ℤ
+start_of boundaries i = day_at boundaries (i - 1)
+
+-- the rate that was observed for period i
+abbrev pub observed_of : List Reset → ℕ → Option ℤ
+observed_of resets i = option_and_then (λ r. r.observed) (slice_get resets (i - 1))
+
+-- the rate by the unadjusted start of a period: the fixed rate in force, or that which the observed rate gives
+abbrev pub rate_by : Leg → ℤ → Option ℤ → Option ℤ
+rate_by (Fixed values) start observed = Some (fixed_rates_of values start).all_in
+rate_by (Floating float) start observed = option_map (λ o. (rates_of float start o).all_in) observed
+
+-- a period from its adjusted start to its adjusted end, by whether it is the last one, its unadjusted start and its observed rate
+abbrev pub entry_by : KeptTerms → ℤ → ℤ → Bool → ℤ → Option ℤ → PeriodEntry
+entry_by terms from to last start observed = record {
+  days = days_of terms.day_count from to last;
+  frac = fraction_of terms.day_count from to last;
+  notional = value_in_force terms.notional start;
+  rate = rate_by terms.leg start observed;
+}
+
+-- period i runs from adjusted boundary i - 1 to adjusted boundary i; notional and rate are those on its unadjusted start
+abbrev pub period_by : KeptTerms → List ℤ → List ℤ → List Reset → ℕ → PeriodEntry
+period_by terms unadjusted adjusted resets i =
+    entry_by terms (start_of adjusted i) (day_at adjusted i) (i == count_of adjusted) (start_of unadjusted i) (observed_of resets i)
+
+-- the periods between adjusted boundaries
+abbrev pub periods_by : KeptTerms → List ℤ → List ℤ → List Reset → List PeriodEntry
+periods_by terms unadjusted adjusted resets = map (period_by terms unadjusted adjusted resets) (range_with_len 1 (count_of adjusted))

@@ -1,0 +1,189 @@
+//! The amounts of a stream's payments: what their calculation periods pay by the stream's compounding,
+//! rounded to the decimals of its currency (2006 ISDA Definitions, articles 5, 6 and 8).
+ghost use Rattle.std.specs.Prelude.{◌≡◌, ℕ, ◌+◌, ◌-◌, ◌<◌, ◌≤◌, map, length, IfOk, IfSome, option_map};
+ghost use Rattle.irs_base.specs.Elements.{calculation_period_amount};
+ghost use Rattle.irs_base.specs.declared.places.Rule.TheVariants.{K39};
+ghost use Rattle.irs_terms.specs.Lawful.{IsLawfulStream, IsLawfulLeg, IsRate};
+ghost use Rattle.irs_compound.specs.Amounts.{AllPriced, IsPayment, PassesFirst, code_for, most_periods};
+ghost use Rattle.irs_payments.specs.Payments.{Covers};
+ghost use Rattle.irs_periods.specs.SpanRules.{broken_at};
+ghost use Rattle.irs_schedule.specs.DatedRules.{PassesFirst as FirstPassed};
+ghost use Rattle.irs_schedule.specs.Parts.{Every, HasAmount, IsAmount};
+ghost use Rattle.irs_schedule.specs.PeriodTerms.{AreRates, IsPeriodTerm, AreTerms, IsAmountBy, IsAmountFor, NonePasses, PassesIn, PassesAt, PassesFirstIn, IsTable, dec_of};
+ghost use Rattle.irs_schedule.specs.SchedErrors.{IfBroken};
+ghost use Rattle.irs_schedule.specs.Schedules.{payment_of};
+ghost use Rattle.irs_schedule.specs.StepsRising.{AllStepsRise};
+
+use crate::periods::{day_at, observed_at};
+use crate::{PaymentEntry, SchedErr};
+use irs_base::{Broken, Day, Dec, Elem, Memory, Place, Rule};
+use irs_compound::{PeriodTerm, Rates, fixed_rates, in_force, payment_amount, period_rates};
+use irs_daycount::fraction_by;
+use irs_terms::{Leg, Payment, Reset, Stream};
+use std::alloc::Global;
+
+/// What the periods of a stream are worked out of: its unadjusted and adjusted boundaries, and its
+/// resets.
+#[derive(Clone, Copy)]
+pub(crate) struct PeriodTable<'a> {
+    pub(crate) unadjusted: &'a [Day],
+    pub(crate) adjusted: &'a [Day],
+    pub(crate) resets: &'a [Reset],
+}
+
+/// The payments with their amounts. An amount is absent where the observed rate of a period is.
+///
+/// `Broken` is K39 at the first period at which a rate or an amount leaves its range, in a payment
+/// whose rates are all there; the index is the period's number. `Memory` comes where memory ran out.
+pub(crate) fn paid(
+    alloc: Global,
+    s: &Stream,
+    table: &PeriodTable<'_>,
+    payments: &[Payment],
+) -> Result<Vec<PaymentEntry>, SchedErr>
+    requires lawful { IsLawfulStream s.now }
+    requires rises { AllStepsRise s.now }
+    requires table { IsTable table.now.unadjusted.now table.now.adjusted.now table.now.resets.now }
+    requires covers { Covers 1 payments.now (length table.now.unadjusted.now - 1) }
+    ensures payments { IfOk result (λ es. map payment_of es.items ≡ payments.now) }
+    ensures amounts { IfOk result (λ es. Every (λ y. IsAmountFor s.now table.now.unadjusted.now table.now.adjusted.now table.now.resets.now (payment_of y) y.amount) es.items) }
+    ensures bounds { IfOk result (λ es. Every (HasAmount s.now.currency) es.items) }
+    ensures within { IfOk result (λ _. (i : ℕ) → PassesAt s.now table.now.unadjusted.now table.now.adjusted.now table.now.resets.now payments.now i → ⊥) }
+    ensures broken { IfBroken result (λ x. (i : ℕ) × FirstPassed s.now table.now.unadjusted.now table.now.adjusted.now table.now.resets.now payments.now i × (x ≡ broken_at K39 calculation_period_amount i)) }
+{
+    let mut entries = Vec::new(alloc);
+    for payment in payments {
+        let entry = paid_by(alloc, s, table, payment)?;
+        entries.push(entry)?;
+    }
+    Ok(entries)
+}
+
+// A payment with its amount, or K39 at the first of its periods that breaks it.
+fn paid_by(
+    alloc: Global,
+    s: &Stream,
+    table: &PeriodTable<'_>,
+    payment: &Payment,
+) -> Result<PaymentEntry, SchedErr>
+    requires lawful { IsLawfulStream s.now }
+    requires rises { AllStepsRise s.now }
+    requires table { IsTable table.now.unadjusted.now table.now.adjusted.now table.now.resets.now }
+    requires from_one { 1 ≤ payment.now.first_period }
+    requires some { payment.now.first_period ≤ payment.now.last_period }
+    requires to_end { payment.now.last_period < length table.now.unadjusted.now }
+    ensures payment { IfOk result (λ y. payment_of y ≡ payment.now) }
+    ensures amount { IfOk result (λ y. IsAmountFor s.now table.now.unadjusted.now table.now.adjusted.now table.now.resets.now payment.now y.amount) }
+    ensures bound { IfOk result (HasAmount s.now.currency) }
+    ensures within { IfOk result (λ _. (i : ℕ) → PassesIn s.now table.now.unadjusted.now table.now.adjusted.now table.now.resets.now payment.now i → ⊥) }
+    ensures broken { IfBroken result (λ x. (i : ℕ) × PassesFirstIn s.now table.now.unadjusted.now table.now.adjusted.now table.now.resets.now payment.now i × (x ≡ broken_at K39 calculation_period_amount i)) }
+{
+    let terms = terms_of(alloc, s, table, payment)?;
+    let amount = amount_of(s, &terms, payment.first_period)?;
+    Ok(entry_of(*payment, amount))
+}
+
+// The payment with this amount.
+fn entry_of(payment: Payment, amount: Option<Dec>) -> PaymentEntry
+    ensures payment { payment_of result ≡ payment }
+    ensures amount { result.amount ≡ amount }
+{
+    PaymentEntry {
+        unadjusted: payment.unadjusted,
+        adjusted: payment.adjusted,
+        first_period: payment.first_period,
+        last_period: payment.last_period,
+        amount,
+    }
+}
+
+// What periods pay from this one on, or K39 at the first of them that breaks it.
+fn amount_of(s: &Stream, terms: &[PeriodTerm], first_period: u32) -> Result<Option<Dec>, SchedErr>
+    requires payment { IsPayment terms.now }
+    requires small { first_period ≤ most_periods }
+    ensures amount { IfOk result (IsAmountBy s.now terms.now) }
+    ensures bound { IfOk result (λ v. IfSome v (IsAmount s.now.currency)) }
+    ensures within { IfOk result (λ _. NonePasses s.now.compounding terms.now) }
+    ensures broken { IfBroken result (λ x. (n : ℕ) × AllPriced terms.now × PassesFirst (code_for s.now.compounding terms.now) terms.now n × (x ≡ broken_at K39 calculation_period_amount (first_period + n - 1))) }
+{
+    let places = s.currency.places();
+    match payment_amount(s.compounding, terms, places) {
+        Ok(units) => Ok(decimal(units, places)),
+        Err(out) => Err(passed_at(first_period + out.period - 1)),
+    }
+}
+
+// So many units of so many decimals.
+fn decimal(units: Option<i128>, places: u8) -> Option<Dec>
+    ensures { result ≡ option_map (dec_of places) units }
+{
+    units.map(|units| Dec { units, places })
+}
+
+// K39 at a period.
+fn passed_at(period: u32) -> SchedErr
+    ensures { result ≡ SchedErr.Broken (broken_at K39 calculation_period_amount period) }
+{
+    SchedErr::Broken(Broken {
+        rule: Rule::K39,
+        place: Place {
+            stream: 1,
+            elem: Elem::CALCULATION_PERIOD_AMOUNT,
+            index: period,
+        },
+    })
+}
+
+// The terms of a payment's periods.
+fn terms_of(
+    alloc: Global,
+    s: &Stream,
+    table: &PeriodTable<'_>,
+    payment: &Payment,
+) -> Result<Vec<PeriodTerm>, Memory>
+    requires lawful { IsLawfulStream s.now }
+    requires table { IsTable table.now.unadjusted.now table.now.adjusted.now table.now.resets.now }
+    requires from_one { 1 ≤ payment.now.first_period }
+    requires some { payment.now.first_period ≤ payment.now.last_period }
+    requires to_end { payment.now.last_period < length table.now.unadjusted.now }
+    ensures { IfOk result (λ ts. AreTerms s.now table.now.unadjusted.now table.now.adjusted.now table.now.resets.now payment.now ts.items) }
+{
+    let mut terms = Vec::new(alloc);
+    for number in payment.first_period..payment.last_period + 1 {
+        terms.push(period_term(s, table, number as usize))?;
+    }
+    Ok(terms)
+}
+
+// Notional, rates and fraction of a period, counted from 1.
+fn period_term(s: &Stream, table: &PeriodTable<'_>, number: usize) -> PeriodTerm
+    requires lawful { IsLawfulStream s.now }
+    requires table { IsTable table.now.unadjusted.now table.now.adjusted.now table.now.resets.now }
+    requires low { 1 ≤ number }
+    requires high { number < length table.now.unadjusted.now }
+    ensures { IsPeriodTerm s.now table.now.unadjusted.now table.now.adjusted.now table.now.resets.now number result }
+{
+    let start = day_at(table.unadjusted, number - 1);
+    PeriodTerm {
+        notional: in_force(&s.notional, start),
+        rates: rates_on(&s.leg, start, observed_at(table.resets, number - 1)),
+        frac: fraction_by(
+            s.day_count,
+            day_at(table.adjusted, number - 1),
+            day_at(table.adjusted, number),
+            number == table.adjusted.len() - 1,
+        ),
+    }
+}
+
+// The rates of a period with this unadjusted start.
+fn rates_on(leg: &Leg, start: Day, observed: Option<i64>) -> Option<Rates>
+    requires lawful { IsLawfulLeg leg.now }
+    requires small { IfSome observed IsRate }
+    ensures { AreRates leg.now start observed result }
+{
+    match leg {
+        Leg::Fixed(values) => Some(fixed_rates(values, start)),
+        Leg::Floating(float) => Some(period_rates(float, start, observed?)),
+    }
+}

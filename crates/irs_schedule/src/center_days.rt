@@ -1,0 +1,127 @@
+//! The good days by which a date is adjusted or moved: those of the business centres that an element
+//! names (2006 ISDA Definitions, article 1, 'Business Day'), or every day of the range where it needs
+//! none.
+ghost use Rattle.std.specs.Prelude.{◌≡◌, ◌≤◌, ◌↔◌, List, length, None, option_copied, IfOk, IsTrue};
+ghost use Rattle.irs_terms.specs.Lawful.{most_centers};
+ghost use Rattle.irs_calendar.specs.GoodDays.{SameDays};
+ghost use Rattle.irs_calendar.specs.Runs.{set_of_runs};
+ghost use Rattle.irs_calendar.specs.Selected.{day_set_of, first_missing};
+ghost use Rattle.irs_schedule.specs.DaySets.{days_of_names};
+ghost use Rattle.irs_schedule.specs.CenterDays.{CanFind, centers_named, days_of_centers};
+
+use irs_base::{Day, Memory, Names, Text};
+use irs_calendar::{Calendars, GoodDays, RunSet, SelErr};
+use std::alloc::Global;
+use std::marker::Model;
+
+/// The good days of an element: those of the centres that it names, or every day of the range.
+/// Contracts see the sections of the calendars and the names.
+#[derive(Drop)]
+pub(crate) struct CenterDays<'cal, 'swap> {
+    cal: &'cal Calendars,
+    names: Option<&'swap Names>,
+    runs: RunSet,
+}
+
+impl<'cal, 'swap> Model for CenterDays<'cal, 'swap> {
+    ghost use Rattle.std.specs.Prelude.{option_copied};
+    ghost use Rattle.irs_calendar.specs.GoodDays.{SameDays};
+    ghost use Rattle.irs_calendar.specs.Runs.{set_of_runs};
+    ghost use Rattle.irs_schedule.specs.DaySets.{days_of_names};
+    ghost use Rattle.irs_schedule.specs.CenterDays.{NamedCenters};
+
+    ghost Value = { NamedCenters };
+
+    ghost view = { λ c. record { sections = c.cal.now; names = option_copied c.names } };
+
+    ghost invariant = { λ c. SameDays (set_of_runs c.runs) (days_of_names c.cal.now (option_copied c.names)) };
+}
+
+impl<'cal, 'swap> CenterDays<'cal, 'swap> {
+    /// The good days of the centres with these names, at most 16, of which each is in the calendars;
+    /// without names every day of the range.
+    pub(crate) fn find(
+        alloc: Global,
+        cal: &'cal Calendars,
+        names: Option<&'swap Names>,
+    ) -> Result<CenterDays<'cal, 'swap>, Memory>
+        requires { CanFind cal.now (option_copied names) }
+        ensures { IfOk result (λ days. days ≡ centers_named cal.now (option_copied names.entry)) }
+    {
+        Ok(CenterDays {
+            cal,
+            names,
+            runs: runs_of(alloc, cal, names)?,
+        })
+    }
+
+    /// These are the good days of the centres with these names.
+    pub(crate) fn has_names(&self, names: Option<&Names>) -> bool
+        ensures { IsTrue result ↔ self.now.names ≡ option_copied names.entry }
+    {
+        match (self.names, names) {
+            (None, None) => true,
+            (Some(own), Some(other)) => same_names(own.as_slice(), other.as_slice()),
+            (None, Some(_)) | (Some(_), None) => false,
+        }
+    }
+}
+
+impl<'cal, 'swap> GoodDays for CenterDays<'cal, 'swap> {
+    ghost days = { days_of_centers };
+
+    fn cover(&self) -> (Day, Day) {
+        self.runs.cover()
+    }
+
+    fn is_good(&self, d: Day) -> bool {
+        self.runs.is_good(d)
+    }
+
+    fn next_good(&self, d: Day) -> Option<Day> {
+        self.runs.next_good(d)
+    }
+
+    fn prev_good(&self, d: Day) -> Option<Day> {
+        self.runs.prev_good(d)
+    }
+}
+
+// The runs of good days of the centres with these names; without names the whole range.
+fn runs_of(alloc: Global, cal: &Calendars, names: Option<&Names>) -> Result<RunSet, Memory>
+    requires { CanFind cal.now (option_copied names) }
+    ensures { IfOk result (λ runs. SameDays (set_of_runs runs) (days_of_names cal.now (option_copied names.entry))) }
+{
+    match names {
+        None => Ok(RunSet::all()),
+        Some(listed) => selected(alloc, cal, listed),
+    }
+}
+
+// The runs of good days of the centres with these names.
+fn selected(alloc: Global, cal: &Calendars, names: &Names) -> Result<RunSet, Memory>
+    requires few { length names.now ≤ most_centers }
+    requires found { first_missing cal.now 1 names.now ≡ None }
+    ensures { IfOk result (λ runs. SameDays (set_of_runs runs) (day_set_of cal.now names.now)) }
+{
+    match cal.select(alloc, names) {
+        Ok(runs) => Ok(runs),
+        Err(SelErr::Memory) => Err(Memory),
+        Err(SelErr::NoCenter(_)) => unreachable!(),
+    }
+}
+
+// The lists have the same names in the same order.
+fn same_names(a: &[Text], b: &[Text]) -> bool
+    ensures { IsTrue result ↔ a.now ≡ b.now }
+{
+    if a.len() != b.len() {
+        return false;
+    }
+    for (i, name) in a.iter().enumerate() {
+        if name.as_slice() != b[i].as_slice() {
+            return false;
+        }
+    }
+    true
+}
