@@ -38,3 +38,4 @@ pub mod OnePart
 pub mod AmountBounds
 pub mod AmountLemmas
 pub mod PaidLemmas
+pub mod PartMade

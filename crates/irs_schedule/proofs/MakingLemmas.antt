@@ -44,7 +44,7 @@ module _ (swap : Swap) (cal : List Section) (fix : RateTable) (i : ℕ) (parts :
   -- one part more
   pub made_more : (p : Part) → IsPartOf cal fix s p → KeepsBounds p → StreamKept (stream_sets cal s) fix s → Made swap cal fix (i + 1) (parts ++ p ∷ [])
   made_more p is bounds kept = record {
-    count = let e = made.count in omega (arith, simp length-append, e);
+    count = let grown : length (parts ++ p ∷ []) ≡ length parts + 1 = simp length-append in grown ∙ ap (λ (n : ℕ). n + 1) made.count;
     pairs = pairs_more (IsPartOf cal fix) swap.streams i parts s p at made.pairs is;
     each = every_more KeepsBounds parts p made.each bounds;
     kept = λ k t low there. elim (below_next k i low) [

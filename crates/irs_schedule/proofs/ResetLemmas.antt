@@ -1,5 +1,5 @@
 -- Resets that stand in their relation break no rule.
-use Rattle.std.proofs.Common.{◌≡◌, inl, inr, ℕ, zero, suc, ◌+◌, ◌-◌, ◌<◌, ◌≤◌, List, [], ◌∷◌, length, Option, Some, None, ap, ◌⊎◌, refl, sym, subst, ◌∙◌, arith, ℤ}
+use Rattle.std.proofs.Common.{◌≡◌, inl, inr, ℕ, zero, suc, ◌+◌, ◌-◌, ◌<◌, ◌≤◌, List, [], ◌∷◌, length, Option, Some, None, ap, ◌⊎◌, if◌then◌else◌, refl, sym, subst, ◌∙◌, arith, ℤ}
 use Rattle.irs_base.specs.declared.places.Broken.{Broken}
 use Rattle.irs_terms.specs.declared.amounts.FloatTerms.{FloatTerms}
 use Rattle.irs_terms.specs.declared.amounts.Leg.{Leg}
@@ -16,6 +16,7 @@ use Rattle.irs_resets.specs.ResetDates.{IsPeriod, Fails}
 use Rattle.irs_resets.specs.ResetRules.{StubBroken, StubsMet, DatesBroken, DatesBrokenIn, FirstBroken}
 use Rattle.irs_resets.specs.Resets.{FitsLeg, HasResetTerms, IsReset, AreRows, HasResets, IsResetsOf, IsResets}
 use Rattle.irs_resets.proofs.DateLemmas.{dates_stand}
+use Rattle.irs_schedule.specs.KeptTerms.{is_floating}
 
 -- the row of a number
 row_of : (R : ℕ → Reset → Type 0) (n i : ℕ) (rows : List Reset) → AreRows R n rows → n ≤ i → i < n + length rows → (row : Reset) × R i row
@@ -66,3 +67,12 @@ unbroken_in (Floating f) (Some t) s span a rs fs fix rows x fits has broken = da
 pub resets_unbroken : (s : Stream) (span : Span) (a : List ℤ) (rs fs : DaySet) (fix : RateTable) (rows : List Reset) → HasResetTerms s → StubsMet s span → IsResets s span a rs fs fix rows → (x : Broken) → FirstBroken s span a rs fs x → ⊥
 resets_unbroken s span a rs fs fix rows legs met has x (inl stub) = stubs_unbroken s span x met stub
 resets_unbroken s span a rs fs fix rows legs met has x (inr dates) = unbroken_in s.leg s.reset s span a rs fs fix rows x legs has dates.1
+
+count_in : (leg : Leg) (reset : Option ResetTerms) (s : Stream) (span : Span) (a : List ℤ) (rs fs : DaySet) (fix : RateTable) (rows : List Reset) → IsResetsOf leg reset s span a rs fs fix rows → length rows ≡ (if is_floating leg then length a - 1 else 0)
+count_in (Fixed values) reset s span a rs fs fix rows has = ap length has
+count_in (Floating f) None s span a rs fs fix rows has = absurd has
+count_in (Floating f) (Some t) s span a rs fs fix rows has = has.many
+
+-- a floating stream has a reset for each period, a fixed one has none
+pub resets_count : (s : Stream) (span : Span) (a : List ℤ) (rs fs : DaySet) (fix : RateTable) (rows : List Reset) → IsResets s span a rs fs fix rows → length rows ≡ (if is_floating s.leg then length a - 1 else 0)
+resets_count s span a rs fs fix rows has = count_in s.leg s.reset s span a rs fs fix rows has

@@ -1,6 +1,6 @@
 -- What is worked out for the calculation periods of a stream, and the amounts of its payments.
 -- Periods are counted from 1. b are the unadjusted boundaries, a the adjusted ones, rs the resets.
-use Rattle.std.specs.Prelude.{◌≡◌, ℕ, ◌+◌, ◌-◌, ◌==◌, ◌<◌, ◌≤◌, All, List, length, Option, Some, None, option_map, option_and_then, slice_get, ℤ}
+use Rattle.std.specs.Prelude.{◌≡◌, ℕ, ◌+◌, ◌-◌, ◌==◌, ◌<◌, ◌≤◌, All, List, length, Option, Some, None, option_map, slice_get, ℤ}
 use Rattle.irs_base.specs.DayLists.{AreDays}
 use Rattle.irs_base.specs.Listed.{IsRising}
 use Rattle.irs_base.specs.declared.line.Dec.{Dec}

@@ -54,7 +54,6 @@ impl<T: Drop> From<AllocFailed<T>> for SchedErr {
 ///
 /// `Broken` is exactly the first of K30 to K39 that is broken, with the stream's number in the place:
 /// where none is broken there is a schedule, and only one, also where memory ran out.
-#[tactic(auto, using(crate::proofs::PartThere::schedule_there, crate::proofs::OnePart::one_schedule, crate::proofs::TermsLemmas::terms_kept))]
 pub fn make_schedule(
     alloc: Global,
     swap: &Swap,
