@@ -23,7 +23,7 @@ use Rattle.irs_cli.specs.declared.commands.Task.{Task}
 use Rattle.irs_cli.specs.declared.commands.Task.TheVariants.{Check, Schedule}
 use Rattle.irs_cli.specs.Given.{Given}
 use Rattle.irs_cli.specs.Messages.{refused, unreadable, bad_calendar, bad_fixings, all_kept}
-use Rattle.irs_cli.specs.Due.{Only, IsJson, SpellsSwap, AreFixings, IsFixingsFault, TermsKept, FilesSay, DueUnbroken, DueFor}
+use Rattle.irs_cli.specs.Due.{Only, IsJson, SpellsSwap, AreFixings, IsFixingsFault, KeepsTerms, FilesSay, DueUnbroken, DueFor}
 use Rattle.irs_cli.specs.Outcomes.{IsScheduled, IsTermsFirst, IsRuleFirst, outcome_for, outcome_status, outcome_text}
 use Rattle.std.specs.Prelude.{IfSome, IfErr, IsErr}
 use Rattle.std.specs.Result.{IsErrAnd}
@@ -171,7 +171,7 @@ module _ (task : Task) (g : Given) (swap : Swap) (cal : List Section) (table : R
 
   pub due_terms : (b : Broken) → IsTermsFirst swap cal b → DueFor task g 2 (refused b)
   due_terms b first =
-      let broken : (s : Swap) (c : List Section) (t : RateTable) → FilesSay g s c t → TermsKept s c → ⊥ = λ s c t h k. terms_too s c t (λ x y. TermsKept x y → ⊥) h (λ kept. kept b first.is.0) k in
+      let broken : (s : Swap) (c : List Section) (t : RateTable) → FilesSay g s c t → KeepsTerms s c → ⊥ = λ s c t h k. terms_too s c t (λ x y. KeepsTerms x y → ⊥) h (λ kept. kept b first.is.0) k in
       record {
         unread = λ n. absurd (no_unread n);
         document = λ v reads n. absurd (no_document v reads n);
@@ -182,13 +182,13 @@ module _ (task : Task) (g : Given) (swap : Swap) (cal : List Section) (table : R
         unbroken = λ s c t h kept _. absurd (broken s c t h kept);
       }
 
-  pub due_dated : (b : Broken) → TermsKept swap cal → DatedBroken swap cal table b → DueFor task g 2 (refused b)
+  pub due_dated : (b : Broken) → KeepsTerms swap cal → DatedBroken swap cal table b → DueFor task g 2 (refused b)
   due_dated b kept first = record {
     unread = λ n. absurd (no_unread n);
     document = λ v reads n. absurd (no_document v reads n);
     calendars = λ _ _ n. absurd (n (cal, says.calendars));
     fixings = λ _ _ _ _ n. absurd (n (table, says.fixings));
-    terms = λ s c t h n. absurd (n (terms_too s c t (λ x y. TermsKept x y) h kept));
+    terms = λ s c t h n. absurd (n (terms_too s c t (λ x y. KeepsTerms x y) h kept));
     dated = λ s c t h _ _. (b, broken_too s c t b h first, (refl, refl));
     unbroken = λ s c t h _ all. absurd (not_kept s c t b (broken_too s c t b h first) all);
   }
@@ -207,7 +207,7 @@ module _ (task : Task) (g : Given) (swap : Swap) (cal : List Section) (table : R
     document = λ v reads n. absurd (no_document v reads n);
     calendars = λ _ _ n. absurd (n (cal, says.calendars));
     fixings = λ _ _ _ _ n. absurd (n (table, says.fixings));
-    terms = λ s c t h n. absurd (n (terms_too s c t (λ x y. TermsKept x y) h all.terms));
+    terms = λ s c t h n. absurd (n (terms_too s c t (λ x y. KeepsTerms x y) h all.terms));
     dated = λ s c t h _ n. absurd (n (dated_too s c t h all.dated));
     unbroken = λ s c t h _ _. unbroken_for task s c t parts (schedule_too s c t parts h all.schedule);
   }
@@ -261,6 +261,6 @@ refuse_fixings g swap cal (fixing.Syntax line) spells files h = λ task. record 
 refuse_fixings g swap cal (fixing.Repeat line) spells files h = λ task. record { due = due_fixings task g swap cal (fixing.Repeat line) spells files h; verdict = omega arith }
 refuse_fixings g swap cal fixing.Memory spells files h = tt
 
-pub refuse_making : (swap : Swap) (cal : List Section) (table : RateTable) (e : SchedErr) → TermsKept swap cal → (let r : Result (Unit {0}) SchedErr = Err e in IfBroken r (DatedBroken swap cal table)) → IfRefused (of_making e) (IsUnscheduled swap cal table)
+pub refuse_making : (swap : Swap) (cal : List Section) (table : RateTable) (e : SchedErr) → KeepsTerms swap cal → (let r : Result (Unit {0}) SchedErr = Err e in IfBroken r (DatedBroken swap cal table)) → IfRefused (of_making e) (IsUnscheduled swap cal table)
 refuse_making swap cal table (making.Broken b) kept h = (b, inr (kept, h), (refl, refl))
 refuse_making swap cal table making.Memory kept h = tt

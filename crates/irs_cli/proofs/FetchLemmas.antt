@@ -212,9 +212,9 @@ row_short told first ns i fs h n other bytes below at is = each_short told (take
 
 pub row_stops : (told : Told) (first : ℕ) (ns : Words) (i place : ℕ) (name : List ℕ) (fs : List (List ℕ)) (failed : Option (List ℕ)) (before now : ℕ) (u : Unfetched) → place ≡ first + i → slice_get ns i ≡ Some name → Pairs (Holds told) (take i ns) fs → Stops told (IsAlone place name) failed before now u → Stops told (IsInRow first ns) failed before now u
 row_stops told first ns i place name fs failed before now u e at h s = stops_among told (IsAlone place name) (IsInRow first ns) failed before now u
-  (λ n other alone. (i, alone.0 ∙ e, at ∙ ap Some (sym alone.1)))
-  (λ p other alone none. rw (alone.0 ∙ e) (row_short told first ns i fs h))
-  s
+    (λ n other alone. (i, alone.0 ∙ e, at ∙ ap Some (sym alone.1)))
+    (λ p other alone none. rw (alone.0 ∙ e) (row_short told first ns i fs h))
+    s
 
 pub row_by : (told : Told) (at : Placed) (failed : Option (List ℕ)) (before now : ℕ) (ns : Words) (r : Result (Vec (Vec ℕ Global) Global) Unfetched) (u : Unfetched) → IsErr r → IsErrAnd r (λ x. x ≡ u) → Stops told at failed before now u → FetchesRow told at failed before now ns r
 row_by told at failed before now ns (Ok x) u h k s = absurd k

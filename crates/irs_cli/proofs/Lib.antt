@@ -6,3 +6,4 @@ pub mod FirstLemmas
 pub mod SameRates
 pub mod DueLemmas
 pub mod RunLemmas
+pub mod MessageLemmas

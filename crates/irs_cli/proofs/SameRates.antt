@@ -44,8 +44,8 @@ same_option (Some x) b h k = sym (h x refl)
 
 pub same_file : (bytes : List ℕ) (t u : RateTable) → IsFixingFile bytes t → IsFixingFile bytes u → SameRates t u
 same_file bytes t u h k index slot = same_option (rate_at t index slot) (rate_at u index slot)
-  (λ r e. (k.holds index slot r).1 ((h.holds index slot r).0 e))
-  (λ r e. (h.holds index slot r).1 ((k.holds index slot r).0 e))
+    (λ r e. (k.holds index slot r).1 ((h.holds index slot r).0 e))
+    (λ r e. (h.holds index slot r).1 ((k.holds index slot r).0 e))
 
 -- ---- observed rates
 

@@ -60,8 +60,8 @@ IsFixingsFault None f = ⊥
 IsFixingsFault (Some bytes) f = IsFixingFault bytes f
 
 -- no rule of the terms is broken
-abbrev pub TermsKept : Swap → List Section → Type 0
-TermsKept swap cal = (b : Broken) → BreaksTerms swap cal b → ⊥
+abbrev pub KeepsTerms : Swap → List Section → Type 0
+KeepsTerms swap cal = (b : Broken) → BreaksTerms swap cal b → ⊥
 
 -- the files say the swap, the sections of the calendars and the rates
 pub record FilesSay (g : Given) (swap : Swap) (cal : List Section) (table : RateTable) : Type 0 where
@@ -85,11 +85,11 @@ pub record DueFor (task : Task) (g : Given) (status : ℕ) (text : List ℕ) : T
   -- the file of fixings has a line at fault
   pub fixings : (swap : Swap) (cal : List Section) → SpellsSwap g.document swap → CalFiles g.calendars cal → ¬ ((table : RateTable) × AreFixings g.fixings table) → (f : FixErr) × Only (IsFixingsFault g.fixings) f × Is 3 (bad_fixings f) status text
   -- K10 to K21
-  pub terms : (swap : Swap) (cal : List Section) (table : RateTable) → FilesSay g swap cal table → ¬ (TermsKept swap cal) → (b : Broken) × Only (λ f. IsFirstOfTerms (BreaksTerms swap cal) (Some f)) b × Is 2 (refused b) status text
+  pub terms : (swap : Swap) (cal : List Section) (table : RateTable) → FilesSay g swap cal table → ¬ (KeepsTerms swap cal) → (b : Broken) × Only (λ f. IsFirstOfTerms (BreaksTerms swap cal) (Some f)) b × Is 2 (refused b) status text
   -- K30 to K39
-  pub dated : (swap : Swap) (cal : List Section) (table : RateTable) → FilesSay g swap cal table → TermsKept swap cal → ¬ (DatedKept swap cal table) → (b : Broken) × DatedBroken swap cal table b × Is 2 (refused b) status text
+  pub dated : (swap : Swap) (cal : List Section) (table : RateTable) → FilesSay g swap cal table → KeepsTerms swap cal → ¬ (DatedKept swap cal table) → (b : Broken) × DatedBroken swap cal table b × Is 2 (refused b) status text
   -- no rule is broken
-  pub unbroken : (swap : Swap) (cal : List Section) (table : RateTable) → FilesSay g swap cal table → TermsKept swap cal → DatedKept swap cal table → DueUnbroken task swap cal table status text
+  pub unbroken : (swap : Swap) (cal : List Section) (table : RateTable) → FilesSay g swap cal table → KeepsTerms swap cal → DatedKept swap cal table → DueUnbroken task swap cal table status text
 
 -- what is due, where the source tells the files that the words name
 pub record Due (ws : Words) (told : Told) (status : ℕ) (text : List ℕ) : Type 0 where

@@ -30,7 +30,7 @@ use Rattle.irs_cli.specs.declared.refusals.Refusal.{Refusal}
 use Rattle.irs_cli.specs.declared.refusals.Refusal.TheVariants.{BadWords, NoFile, TooLong, Rule, Calendars, Fixings, Memory}
 use Rattle.irs_cli.specs.Messages.{bad_words, no_file, too_long, refused, unreadable, bad_calendar, bad_fixings, all_kept}
 use Rattle.irs_cli.specs.Given.{Given}
-use Rattle.irs_cli.specs.Due.{Is, Only, TermsKept, IsFixingsFault, DueFor}
+use Rattle.irs_cli.specs.Due.{Is, Only, KeepsTerms, IsFixingsFault, DueFor}
 
 -- the refusals that errors of the calls below become
 abbrev pub of_fetch : Unfetched → Refusal
@@ -102,7 +102,7 @@ FixingsFail bytes fixing.Memory = Unit {0}
 
 -- no rule of the swap is broken, and the schedule is the only one
 pub record IsScheduled (swap : Swap) (cal : List Section) (table : RateTable) (s : List Part) : Type 0 where
-  pub terms : TermsKept swap cal
+  pub terms : KeepsTerms swap cal
   pub dated : DatedKept swap cal table
   pub schedule : Only (IsSchedule swap cal table) s
 
@@ -112,7 +112,7 @@ IsTermsFirst swap cal b = Only (λ f. IsFirstOfTerms (BreaksTerms swap cal) (Som
 
 -- b is the first broken rule of the swap
 abbrev pub IsRuleFirst : Swap → List Section → RateTable → Broken → Type 0
-IsRuleFirst swap cal table b = IsTermsFirst swap cal b ⊎ (TermsKept swap cal × DatedBroken swap cal table b)
+IsRuleFirst swap cal table b = IsTermsFirst swap cal b ⊎ (KeepsTerms swap cal × DatedBroken swap cal table b)
 
 -- the answer is the line of the first broken rule of the swap
 abbrev pub IsUnscheduled : Swap → List Section → RateTable → ℕ → List ℕ → Type 0

@@ -3,8 +3,8 @@
 //! `check DOC CAL..` asks whether a document keeps every rule, without fixings, and
 //! `schedule DOC FIX CAL..` for its schedule, where `-` as FIX means no fixings. Each takes 0 to 16
 //! calendars.
-ghost use Rattle.std.specs.Prelude.{◌≡◌, ◌∷◌, codes, option_map, IfSome, IfNone};
-ghost use Rattle.irs_cli.specs.Commands.{Asks, IsListed, asked_by, texts, named, first_calendar};
+ghost use Rattle.std.specs.Prelude.{◌≡◌, ◌↔◌, ◌≤◌, ◌∷◌, length, codes, option_map, IfSome, IfNone, IsTrue};
+ghost use Rattle.irs_cli.specs.Commands.{Asks, IsListed, asked_by, texts, named, first_calendar, most_calendars};
 
 use irs_calendar::MOST_FILES;
 
@@ -65,7 +65,7 @@ fn check_of<'w>(document: &'w str, calendars: &'w [String]) -> Option<Command<'w
     ensures some { IfSome result (λ c. Asks (codes "check" ∷ document.now ∷ texts calendars.now) (asked_by c)) }
     ensures none { IfNone result (IsListed (codes "check" ∷ document.now ∷ texts calendars.now) → ⊥) }
 {
-    if calendars.len() > MOST_FILES {
+    if !are_few(calendars) {
         return None;
     }
     Some(Command {
@@ -92,7 +92,7 @@ fn schedule_of<'w>(
     ensures some { IfSome result (λ c. Asks (codes "schedule" ∷ document.now ∷ fixings.now ∷ texts calendars.now) (asked_by c)) }
     ensures none { IfNone result (IsListed (codes "schedule" ∷ document.now ∷ fixings.now ∷ texts calendars.now) → ⊥) }
 {
-    if calendars.len() > MOST_FILES {
+    if !are_few(calendars) {
         return None;
     }
     Some(Command {
@@ -101,6 +101,13 @@ fn schedule_of<'w>(
         fixings: named(fixings),
         calendars,
     })
+}
+
+/// Whether there are no more calendars than a command takes.
+fn are_few(calendars: &[String]) -> bool
+    ensures { IsTrue result ↔ (length calendars.now ≤ most_calendars) }
+{
+    calendars.len() <= MOST_FILES
 }
 
 /// The file of fixings that a word names; `-` is none.

@@ -71,11 +71,7 @@ fn answer<F: Files>(alloc: Global, words: &[String], files: &mut F) -> Result<Re
 }
 
 // What the command of the words comes to, or why it isn't carried out.
-fn carry_out<F: Files>(
-    alloc: Global,
-    words: &[String],
-    files: &mut F,
-) -> Result<Outcome, Refusal>
+fn carry_out<F: Files>(alloc: Global, words: &[String], files: &mut F) -> Result<Outcome, Refusal>
     ensures { IfAnswered result (Replies (texts words.now) (F.told files.old) (F.failed files.new) (F.faults files.old) (F.faults files.new)) }
 {
     let Some(command) = command_of(words) else {

@@ -89,13 +89,7 @@ fn fixings_reply(alloc: Global, e: FixErr) -> Result<Reply, Memory>
     }
 }
 
-fn numbered(
-    alloc: Global,
-    status: u8,
-    before: &[u8],
-    n: u32,
-    after: &[u8],
-) -> Result<Reply, Memory>
+fn numbered(alloc: Global, status: u8, before: &[u8], n: u32, after: &[u8]) -> Result<Reply, Memory>
     ensures { IfOk result (λ r. (reply_status r ≡ status) × (reply_text r ≡ before.now ++ decimal n ++ after.now)) }
 {
     Ok(Reply::Line(status, numbered_text(alloc, before, n, after)?))

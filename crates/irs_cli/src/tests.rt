@@ -54,7 +54,11 @@ fn expect(rt: &HostRuntime, asked: &[&str], status: u8, text: &str) -> Result<()
     let mut files = all_files(alloc)?;
     let mut out = MemSink::with_room(alloc, 1000)?;
     let words = words(alloc, asked)?;
-    assert_eq!(rt; run(alloc, &words, &mut files, &mut out), status, "at {text}");
+    assert_eq!(rt;
+        run(alloc, &words, &mut files, &mut out),
+        status,
+        "at {text}"
+    );
     assert_eq!(rt; out.bytes(), text.as_bytes(), "at {text}");
     Ok(())
 }
@@ -78,10 +82,30 @@ fn files_and_their_faults(rt: HostRuntime) -> Result<(), Fail> {
     expect(&rt, &["check", "none", "gone"], 5, "no file 1\n")?;
     expect(&rt, &["schedule", "B", "-", "gone"], 5, "no file 3\n")?;
     expect(&rt, &["schedule", "B", "long", "gone"], 8, "too long 2\n")?;
-    expect(&rt, &["check", "cut", "word"], 2, "refused K1 0 document 0\n")?;
-    expect(&rt, &["check", "other", "word"], 2, "refused K2 0 swap/swapStream 0\n")?;
-    expect(&rt, &["schedule", "B", "word_fix", "cal", "word"], 3, "bad calendar 2 2 syntax\n")?;
-    expect(&rt, &["schedule", "B", "word_fix", "cal"], 3, "bad fixings 1 syntax\n")
+    expect(
+        &rt,
+        &["check", "cut", "word"],
+        2,
+        "refused K1 0 document 0\n",
+    )?;
+    expect(
+        &rt,
+        &["check", "other", "word"],
+        2,
+        "refused K2 0 swap/swapStream 0\n",
+    )?;
+    expect(
+        &rt,
+        &["schedule", "B", "word_fix", "cal", "word"],
+        3,
+        "bad calendar 2 2 syntax\n",
+    )?;
+    expect(
+        &rt,
+        &["schedule", "B", "word_fix", "cal"],
+        3,
+        "bad fixings 1 syntax\n",
+    )
 }
 
 #[test]

@@ -60,8 +60,7 @@ returns g c =
     let told = g.F.Files.told c.args.files.now in
     let first = g.F.Files.told c.fetch.new.files in
     let later = g.F.Files.told c.fetch_if.new.files in
-    let same : (n : List ℕ) → later n ≡ told n = λ n. c.fetch_if.ensures.told n ∙ c.fetch.ensures.told n in
-    (
+    let same : (n : List ℕ) → later n ≡ told n = λ n. c.fetch_if.ensures.told n ∙ c.fetch.ensures.told n in (
       record {
         document = c.in_ok-document.ensures.one.0;
         fixings = option_before told first a.fixings (option_map (λ v. v.items) c.in_ok-fixings.fixings) c.fetch.ensures.told c.in_ok-fixings.ensures.one.0;

@@ -22,8 +22,8 @@ returns-in_err-fetch-clause-row g c =
     let name = c.as_str.result.now in
     let at : slice_get ns i ≡ Some name = word_at c.args.names.now i c.name-item.result c.loop-name-test.true c.name-item.is ∙ sym (ap_some c.as_str.ensures.value) in
     row_by told (IsInRow c.args.first ns) failed before now ns c.from_residual.result e c.from_residual.ensures.0 c.from_residual.ensures.1
-      (row_stops told c.args.first ns i c.loop-name.place name _ failed before now e c.loop-name.invariant.place at c.loop-name.invariant.held
-        (stops_before told later (IsAlone c.loop-name.place name) failed before mid now e c.loop-name.invariant.told c.loop-name.invariant.quiet c.in_err-fetch.ensures.one))
+    (row_stops told c.args.first ns i c.loop-name.place name _ failed before now e c.loop-name.invariant.place at c.loop-name.invariant.held
+    (stops_before told later (IsAlone c.loop-name.place name) failed before mid now e c.loop-name.invariant.told c.loop-name.invariant.quiet c.in_err-fetch.ensures.one))
 
 pub loop-name-preserved : goal.loop-name-preserved
 loop-name-preserved g c =
