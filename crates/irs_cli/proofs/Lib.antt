@@ -1,3 +1,8 @@
 pub mod Putting
 pub mod Pushes
-pub mod Replying
+pub mod CommandLemmas
+pub mod FetchLemmas
+pub mod FirstLemmas
+pub mod SameRates
+pub mod DueLemmas
+pub mod RunLemmas

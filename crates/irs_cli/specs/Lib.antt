@@ -5,6 +5,11 @@ pub mod SureFiles
 pub mod MemSinks
 pub mod MemSinkViews
 pub mod SureSinks
-pub mod Forms
+pub mod Commands
+pub mod Given
+pub mod Fetching
+pub mod Messages
+pub mod Due
+pub mod Outcomes
 pub mod Run
 pub mod Replying

@@ -1,15 +1,19 @@
 //! The program as a library: files, a sink, and `run`, which prints what its words ask for.
 #![tactic(auto)]
 
+mod commands;
+mod fetching;
 mod file_map;
 mod files;
-mod form;
-mod form_swap;
+mod inputs;
 mod memory_files;
 mod memory_sink;
+mod messages;
+mod outcomes;
 mod program;
 mod real;
 mod refusals;
+mod replies;
 mod rows;
 mod sink;
 mod sure_files;

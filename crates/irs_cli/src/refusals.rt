@@ -1,48 +1,108 @@
-//! The line of a broken rule: `refused RULE STREAM PATH INDEX`.
-ghost use Rattle.std.specs.Prelude.{◌≡◌, ◌++◌, ◌∷◌, codes, decimal, IfOk, OnOk};
-ghost use Rattle.irs_cli.specs.Run.{IsRefusal};
+//! Why a command isn't carried out.
+ghost use Rattle.std.specs.Prelude.{◌≡◌};
+ghost use Rattle.irs_cli.specs.Messages.{unreadable};
+ghost use Rattle.irs_cli.specs.Outcomes.{of_fetch, of_json, of_read, of_making};
+ghost use Rattle.irs_cli.specs.declared.refusals.Refusal.TheVariants.{Calendars as OfCalendars, Fixings as OfFixings};
 
-use irs_base::{Broken, Memory};
-use std::alloc::Global;
+use crate::fetching::Unfetched;
+use irs_base::{Broken, Elem, Place, Rule};
+use irs_calendar::CalErr;
+use irs_json::JsonErr;
+use irs_read::ReadErr;
+use irs_resets::FixErr;
+use irs_schedule::SchedErr;
 
-/// The line of a broken rule, with its line feed.
-pub(crate) fn refused_text(alloc: Global, broken: Broken) -> Result<Vec<u8>, Memory>
-    ensures { IfOk result (λ t. IsRefusal broken t.items) }
-{
-    let rule = u32::from(broken.rule.number());
-    let place = broken.place;
-    let (stream, index) = (u32::from(place.stream), place.index);
-    let elem = place.elem;
-    line_of(alloc, rule, stream, elem.path(), index)
+/// Why a command isn't carried out.
+#[derive(Clone, Copy, Debug, PartialEq, Eq)]
+pub(crate) enum Refusal {
+    /// The words are no listed command.
+    BadWords,
+    /// The file of the word at this place behind the command can't be read.
+    NoFile(u32),
+    /// The file of the word at this place behind the command is too long.
+    TooLong(u32),
+    /// A rule is broken.
+    Rule(Broken),
+    /// A calendar file is outside its grammar or limits.
+    Calendars(CalErr),
+    /// The file of fixings is outside its grammar.
+    Fixings(FixErr),
+    /// Memory ran out.
+    Memory,
 }
 
-fn line_of(alloc: Global, rule: u32, stream: u32, path: &str, index: u32) -> Result<Vec<u8>, Memory>
-    ensures { IfOk result (λ t. t.items ≡ codes "refused K" ++ decimal rule ++ 32 ∷ decimal stream ++ 32 ∷ path.now ++ 32 ∷ decimal index ++ codes "\n") }
-{
-    let mut text = Vec::from_slice(alloc, b"refused K")?;
-    push_number(&mut text, rule)?;
-    push_spaced(&mut text, stream)?;
-    text.push(b' ')?;
-    text.extend_from_slice(path.as_bytes())?;
-    push_spaced(&mut text, index)?;
-    text.push(b'\n')?;
-    Ok(text)
+impl From<Unfetched> for Refusal {
+    ghost from_gives = { λ e r. r ≡ of_fetch e };
+
+    fn from(e: Unfetched) -> Refusal {
+        match e {
+            Unfetched::NoFile(place) => Refusal::NoFile(place),
+            Unfetched::TooLong(place) => Refusal::TooLong(place),
+            Unfetched::Memory => Refusal::Memory,
+        }
+    }
 }
 
-// A space, and a number in decimal digits.
-#[tactic(auto, using(crate::proofs::Pushes::appended))]
-fn push_spaced(text: &mut Vec<u8>, n: u32) -> Result<(), Memory>
-    ensures { OnOk result (text.new.items ≡ text.old.items ++ 32 ∷ decimal n) }
-{
-    text.push(b' ')?;
-    push_number(text, n)
+impl From<JsonErr> for Refusal {
+    ghost from_gives = { λ e r. r ≡ of_json e };
+
+    fn from(e: JsonErr) -> Refusal {
+        match e {
+            JsonErr::NotJson => Refusal::Rule(unreadable()),
+            JsonErr::Memory => Refusal::Memory,
+        }
+    }
 }
 
-// A number in decimal digits.
-fn push_number(text: &mut Vec<u8>, n: u32) -> Result<(), Memory>
-    ensures { OnOk result (text.new.items ≡ text.old.items ++ decimal n) }
+impl From<ReadErr> for Refusal {
+    ghost from_gives = { λ e r. r ≡ of_read e };
+
+    fn from(e: ReadErr) -> Refusal {
+        match e {
+            ReadErr::Broken(broken) => Refusal::Rule(broken),
+            ReadErr::Memory => Refusal::Memory,
+        }
+    }
+}
+
+impl From<CalErr> for Refusal {
+    ghost from_gives = { λ e r. r ≡ OfCalendars e };
+
+    fn from(e: CalErr) -> Refusal {
+        Refusal::Calendars(e)
+    }
+}
+
+impl From<FixErr> for Refusal {
+    ghost from_gives = { λ e r. r ≡ OfFixings e };
+
+    fn from(e: FixErr) -> Refusal {
+        Refusal::Fixings(e)
+    }
+}
+
+impl From<SchedErr> for Refusal {
+    ghost from_gives = { λ e r. r ≡ of_making e };
+
+    fn from(e: SchedErr) -> Refusal {
+        match e {
+            SchedErr::Broken(broken) => Refusal::Rule(broken),
+            SchedErr::Memory => Refusal::Memory,
+        }
+    }
+}
+
+/// The rule that a document without a JSON reading breaks.
+fn unreadable() -> Broken
+    ensures { result ≡ unreadable }
 {
-    let mut digits = itoa::Buffer::new();
-    text.extend_from_slice(digits.format(n).as_bytes())?;
-    Ok(())
+    let place = Place {
+        stream: 0,
+        elem: Elem::DOCUMENT,
+        index: 0,
+    };
+    Broken {
+        rule: Rule::K1,
+        place,
+    }
 }

@@ -1,5 +1,5 @@
-// The program over files and sinks in memory, by the document of the shipped example.
-use crate::{Files, MemFiles, MemSink, Sink, SureFiles, SureSink, run};
+// The program over files and sinks in memory. What it prints of documents at large is tested above.
+use crate::{Files, MemFiles, MemSink, SureFiles, SureSink, run};
 use std::alloc::{AllocError, Global};
 use std::test::Fail;
 
@@ -34,56 +34,79 @@ fn words(alloc: Global, all: &[&str]) -> Result<Vec<String>, AllocError> {
     Ok(words)
 }
 
-// Each row: the file that is asked for, the status, the text.
-#[test]
-fn documents_and_their_answers(rt: HostRuntime) -> Result<(), Fail> {
-    let alloc = rt.alloc();
+// The document, and a file of each fault.
+fn all_files(alloc: Global) -> Result<MemFiles, Fail> {
     let mut files = MemFiles::new(alloc);
     files.add("B", DOCUMENT.as_bytes())?;
-    files.add("empty", b"")?;
     files.add("cut", &DOCUMENT.as_bytes()[..100])?;
     files.add("other", b"{\"swap\":{}}")?;
-    for (name, status, text) in [
-        ("B", 0, SCHEDULE),
-        ("empty", 2, "refused K1 0 document 0\n"),
-        ("cut", 2, "refused K1 0 document 0\n"),
-        ("other", 2, "refused K5 0 document 0\n"),
-        ("none", 5, "no file 1\n"),
-    ] {
-        let mut out = MemSink::with_room(alloc, 1000)?;
-        let words = words(alloc, &["schedule", name, "-"])?;
-        assert_eq!(rt;
-            run(alloc, &words, &mut files, &mut out),
-            status,
-            "at {name}"
-        );
-        assert_eq!(rt; out.bytes(), text.as_bytes(), "at {name}");
-    }
+    files.add("cal", b"center A\ncover 2024-01-01 2024-12-31\nweekend\n")?;
+    files.add("word", b"# a comment\ncentre A\n")?;
+    files.add("fix", b"2024-01-15 0.05 6M USD-LIBOR-BBA\n")?;
+    files.add("word_fix", b"2024-01-15 0.05\n")?;
+    files.add("long", &vec![in alloc; b' '; 4_194_305]?)?;
+    Ok(files)
+}
+
+// The words' status and text.
+fn expect(rt: &HostRuntime, asked: &[&str], status: u8, text: &str) -> Result<(), Fail> {
+    let alloc = rt.alloc();
+    let mut files = all_files(alloc)?;
+    let mut out = MemSink::with_room(alloc, 1000)?;
+    let words = words(alloc, asked)?;
+    assert_eq!(rt; run(alloc, &words, &mut files, &mut out), status, "at {text}");
+    assert_eq!(rt; out.bytes(), text.as_bytes(), "at {text}");
     Ok(())
 }
 
 #[test]
-fn words_sinks_and_long_files(rt: HostRuntime) -> Result<(), Fail> {
+fn words_that_are_and_are_not_listed(rt: HostRuntime) -> Result<(), Fail> {
+    expect(&rt, &["schedule", "B", "-"], 0, SCHEDULE)?;
+    expect(&rt, &["check", "B", "cal"], 0, "ok\n")?;
+    expect(&rt, &[], 4, "bad words\n")?;
+    expect(&rt, &["check"], 4, "bad words\n")?;
+    expect(&rt, &["schedule", "B"], 4, "bad words\n")?;
+    expect(&rt, &["chec", "B"], 4, "bad words\n")?;
+    let mut many = ["cal"; 19];
+    many[0] = "check";
+    expect(&rt, &many[..18], 3, "bad calendar 2 1 repeat\n")?;
+    expect(&rt, &many, 4, "bad words\n")
+}
+
+#[test]
+fn files_and_their_faults(rt: HostRuntime) -> Result<(), Fail> {
+    expect(&rt, &["check", "none", "gone"], 5, "no file 1\n")?;
+    expect(&rt, &["schedule", "B", "-", "gone"], 5, "no file 3\n")?;
+    expect(&rt, &["schedule", "B", "long", "gone"], 8, "too long 2\n")?;
+    expect(&rt, &["check", "cut", "word"], 2, "refused K1 0 document 0\n")?;
+    expect(&rt, &["check", "other", "word"], 2, "refused K2 0 swap/swapStream 0\n")?;
+    expect(&rt, &["schedule", "B", "word_fix", "cal", "word"], 3, "bad calendar 2 2 syntax\n")?;
+    expect(&rt, &["schedule", "B", "word_fix", "cal"], 3, "bad fixings 1 syntax\n")
+}
+
+#[test]
+fn sinks_that_fail(rt: HostRuntime) -> Result<(), Fail> {
     let alloc = rt.alloc();
-    let mut files = SureFiles::new(alloc);
-    files.add("B", DOCUMENT.as_bytes())?;
-    files.add("long", &vec![in alloc; b' '; 4_194_305]?)?;
+    let mut files = all_files(alloc)?;
     let asked = words(alloc, &["schedule", "B", "-"])?;
-    let mut sure = SureSink::new();
-    assert_eq!(rt; run(alloc, &asked, &mut files, &mut sure), 0);
-    let mut out = MemSink::with_room(alloc, 20)?;
-    assert_eq!(rt; run(alloc, &words(alloc, &[])?, &mut files, &mut out), 4);
-    assert_eq!(rt; out.bytes(), b"bad words\n".as_slice());
-    out.fail_at(2);
+    let mut out = MemSink::with_room(alloc, 1000)?;
+    out.fail_at(3);
     assert_eq!(rt; run(alloc, &asked, &mut files, &mut out), 6);
-    assert_eq!(rt; out.bytes(), b"bad words\n".as_slice());
+    assert_eq!(rt; out.bytes(), &SCHEDULE.as_bytes()[..42]);
     let mut short = MemSink::with_room(alloc, 20)?;
     assert_eq!(rt; run(alloc, &asked, &mut files, &mut short), 6);
     assert_eq!(rt; short.bytes(), &SCHEDULE.as_bytes()[..20]);
-    let mut room = MemSink::with_room(alloc, 20)?;
-    let long = words(alloc, &["schedule", "long", "-"])?;
-    assert_eq!(rt; run(alloc, &long, &mut files, &mut room), 8);
-    assert_eq!(rt; room.bytes(), b"too long 1\n".as_slice());
+    Ok(())
+}
+
+#[test]
+fn files_and_sinks_that_never_fail(rt: HostRuntime) -> Result<(), Fail> {
+    let alloc = rt.alloc();
+    let mut files = SureFiles::new(alloc);
+    files.add("B", DOCUMENT.as_bytes())?;
+    let mut sure = SureSink::new();
+    let asked = words(alloc, &["schedule", "B", "empty"])?;
+    assert_eq!(rt; run(alloc, &asked, &mut files, &mut sure), 0);
     Ok(())
 }
 

@@ -1,0 +1,101 @@
+-- What is due for the words and the files: status and text, by the first case that applies.
+use Rattle.std.specs.Prelude.{◌≡◌, ℕ, List, [], Option, Some, None, Err}
+use Rattle.serde_json.specs.Data.{Data}
+use Rattle.irs_base.specs.Lines.{lines_of}
+use Rattle.irs_base.specs.declared.places.Broken.{Broken}
+use Rattle.irs_json.specs.Reading.{Reads}
+use Rattle.irs_elements.specs.Order.{IsFirst}
+use Rattle.irs_read.specs.Documents.{DocumentFault}
+use Rattle.irs_read.specs.Reading.{Means}
+use Rattle.irs_terms.specs.declared.stream_list.Swap.{Swap}
+use Rattle.irs_calendar.specs.Calendars.{Spot, calendars_in}
+use Rattle.irs_calendar.specs.Grammar.{CalFiles}
+use Rattle.irs_calendar.specs.declared.sections.Section.{Section}
+use Rattle.irs_resets.specs.FixingFiles.{IsFixingFile, IsFirstFault, IsBad, Repeats}
+use Rattle.irs_resets.specs.Rates.{RateTable}
+use Rattle.irs_resets.specs.declared.fixings.FixErr.{FixErr}
+use Rattle.irs_resets.specs.declared.fixings.FixErr.TheVariants as fault
+use Rattle.irs_rules.specs.Order.{IsFirst as IsFirstOfTerms}
+use Rattle.irs_rules.specs.TermsRules.{BreaksTerms}
+use Rattle.irs_schedule.specs.DatedRules.{DatedKept, DatedBroken}
+use Rattle.irs_schedule.specs.Parts.{Part}
+use Rattle.irs_schedule.specs.RowTexts.{text_of}
+use Rattle.irs_schedule.specs.Schedules.{IsSchedule}
+use Rattle.irs_cli.specs.declared.commands.Task.{Task}
+use Rattle.irs_cli.specs.declared.commands.Task.TheVariants.{Check, Schedule}
+use Rattle.irs_cli.specs.Commands.{Words, Asked, Asks, IsListed}
+use Rattle.irs_cli.specs.Given.{Told, Given, AreTold, IsFirstLong}
+use Rattle.irs_cli.specs.Messages.{bad_words, too_long, refused, unreadable, bad_calendar, bad_fixings, all_kept}
+
+-- status and text
+abbrev pub Is : ℕ → List ℕ → ℕ → List ℕ → Type 0
+Is s t status text = (status ≡ s) × (text ≡ t)
+
+-- x meets P, and nothing else does
+pub record Only {X : Type 0} (P : X → Type 0) (x : X) : Type 0 where
+  pub is : P x
+  pub only : (y : X) → P y → y ≡ x
+
+-- the bytes have a JSON reading
+abbrev pub IsJson : List ℕ → Type 0
+IsJson bytes = (v : Data) × Reads bytes v
+
+-- the bytes have a reading, and it means the swap
+abbrev pub SpellsSwap : List ℕ → Swap → Type 0
+SpellsSwap bytes swap = (v : Data) × Reads bytes v × Means v swap
+
+-- the rates of a file of fixings, none without one
+abbrev pub AreFixings : Option (List ℕ) → RateTable → Type 0
+AreFixings None table = table ≡ []
+AreFixings (Some bytes) table = IsFixingFile bytes table
+
+-- the first line of a file of fixings that is at fault, and how it is
+abbrev pub IsFixingFault : List ℕ → FixErr → Type 0
+IsFixingFault bytes (fault.Syntax line) = IsFirstFault (IsBad (lines_of bytes)) (lines_of bytes) line
+IsFixingFault bytes (fault.Repeat line) = IsFirstFault (Repeats (lines_of bytes)) (lines_of bytes) line
+IsFixingFault bytes fault.Memory = ⊥
+
+abbrev pub IsFixingsFault : Option (List ℕ) → FixErr → Type 0
+IsFixingsFault None f = ⊥
+IsFixingsFault (Some bytes) f = IsFixingFault bytes f
+
+-- no rule of the terms is broken
+abbrev pub TermsKept : Swap → List Section → Type 0
+TermsKept swap cal = (b : Broken) → BreaksTerms swap cal b → ⊥
+
+-- the files say the swap, the sections of the calendars and the rates
+pub record FilesSay (g : Given) (swap : Swap) (cal : List Section) (table : RateTable) : Type 0 where
+  pub document : SpellsSwap g.document swap
+  pub calendars : CalFiles g.calendars cal
+  pub fixings : AreFixings g.fixings table
+
+-- what is due where no rule is broken: `ok`, or the text of the one schedule
+abbrev pub DueUnbroken : Task → Swap → List Section → RateTable → ℕ → List ℕ → Type 0
+DueUnbroken Check swap cal table status text = Is 0 all_kept status text
+DueUnbroken Schedule swap cal table status text = (s : List Part) × Only (IsSchedule swap cal table) s × Is 0 (text_of s) status text
+
+-- what is due for a task and the files
+pub record DueFor (task : Task) (g : Given) (status : ℕ) (text : List ℕ) : Type 0 where
+  -- K1: the document has no reading
+  pub unread : ¬ (IsJson g.document) → Is 2 (refused unreadable) status text
+  -- K2 to K7: its reading means no swap
+  pub document : (v : Data) → Reads g.document v → ¬ ((swap : Swap) × Means v swap) → (b : Broken) × Only (λ f. IsFirst (DocumentFault v) (Some f)) b × Is 2 (refused b) status text
+  -- the calendar files spell no sections
+  pub calendars : (swap : Swap) → SpellsSwap g.document swap → ¬ ((cal : List Section) × CalFiles g.calendars cal) → (s : Spot) × (calendars_in 1 [] g.calendars ≡ Err s) × Is 3 (bad_calendar s) status text
+  -- the file of fixings has a line at fault
+  pub fixings : (swap : Swap) (cal : List Section) → SpellsSwap g.document swap → CalFiles g.calendars cal → ¬ ((table : RateTable) × AreFixings g.fixings table) → (f : FixErr) × Only (IsFixingsFault g.fixings) f × Is 3 (bad_fixings f) status text
+  -- K10 to K21
+  pub terms : (swap : Swap) (cal : List Section) (table : RateTable) → FilesSay g swap cal table → ¬ (TermsKept swap cal) → (b : Broken) × Only (λ f. IsFirstOfTerms (BreaksTerms swap cal) (Some f)) b × Is 2 (refused b) status text
+  -- K30 to K39
+  pub dated : (swap : Swap) (cal : List Section) (table : RateTable) → FilesSay g swap cal table → TermsKept swap cal → ¬ (DatedKept swap cal table) → (b : Broken) × DatedBroken swap cal table b × Is 2 (refused b) status text
+  -- no rule is broken
+  pub unbroken : (swap : Swap) (cal : List Section) (table : RateTable) → FilesSay g swap cal table → TermsKept swap cal → DatedKept swap cal table → DueUnbroken task swap cal table status text
+
+-- what is due, where the source tells the files that the words name
+pub record Due (ws : Words) (told : Told) (status : ℕ) (text : List ℕ) : Type 0 where
+  -- the words are no listed command
+  pub unlisted : ¬ (IsListed ws) → Is 4 bad_words status text
+  -- a file is too long
+  pub long : (place : ℕ) → IsFirstLong ws told place → Is 8 (too_long place) status text
+  -- all files are told, and none is too long
+  pub given : (a : Asked) (g : Given) → Asks ws a → AreTold told a g → DueFor a.task g status text

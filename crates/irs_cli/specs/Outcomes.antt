@@ -1,0 +1,124 @@
+-- What a command comes to: an outcome, or a refusal.
+use Rattle.std.specs.Prelude.{◌≡◌, ◌⊎◌, ℕ, ◌<◌, List, Option, Some, None, IfSome, option_map, Result, Ok, Err}
+use Rattle.irs_base.specs.declared.places.Broken.{Broken}
+use Rattle.irs_json.specs.declared.JsonErr.{JsonErr}
+use Rattle.irs_json.specs.declared.JsonErr.TheVariants as json
+use Rattle.irs_read.specs.declared.reader.ReadErr.{ReadErr}
+use Rattle.irs_read.specs.declared.reader.ReadErr.TheVariants as reading
+use Rattle.irs_calendar.specs.Calendars.{spot_of}
+use Rattle.irs_calendar.specs.declared.calendars.CalErr.{CalErr}
+use Rattle.irs_calendar.specs.declared.sections.Section.{Section}
+use Rattle.irs_resets.specs.Rates.{RateTable}
+use Rattle.irs_resets.specs.declared.fixings.FixErr.{FixErr}
+use Rattle.irs_resets.specs.declared.fixings.FixErr.TheVariants as fixing
+use Rattle.irs_rules.specs.Order.{IsFirst as IsFirstOfTerms}
+use Rattle.irs_rules.specs.TermsRules.{BreaksTerms}
+use Rattle.irs_schedule.specs.DatedRules.{DatedKept, DatedBroken}
+use Rattle.irs_schedule.specs.Parts.{Part}
+use Rattle.irs_schedule.specs.RowTexts.{text_of}
+use Rattle.irs_schedule.specs.Schedules.{IsSchedule}
+use Rattle.irs_schedule.specs.declared.making.SchedErr.{SchedErr}
+use Rattle.irs_schedule.specs.declared.making.SchedErr.TheVariants as making
+use Rattle.irs_terms.specs.declared.stream_list.Swap.{Swap}
+use Rattle.irs_cli.specs.declared.commands.Task.{Task}
+use Rattle.irs_cli.specs.declared.commands.Task.TheVariants.{Check, Schedule}
+use Rattle.irs_cli.specs.declared.fetching.Unfetched.{Unfetched}
+use Rattle.irs_cli.specs.declared.fetching.Unfetched.TheVariants as fetching
+use Rattle.irs_cli.specs.declared.outcomes.Outcome.{Outcome}
+use Rattle.irs_cli.specs.declared.outcomes.Outcome.TheVariants.{Checked, Scheduled}
+use Rattle.irs_cli.specs.declared.refusals.Refusal.{Refusal}
+use Rattle.irs_cli.specs.declared.refusals.Refusal.TheVariants.{BadWords, NoFile, TooLong, Rule, Calendars, Fixings, Memory}
+use Rattle.irs_cli.specs.Messages.{bad_words, no_file, too_long, refused, unreadable, bad_calendar, bad_fixings, all_kept}
+use Rattle.irs_cli.specs.Given.{Given}
+use Rattle.irs_cli.specs.Due.{Is, Only, TermsKept, IsFixingsFault, DueFor}
+
+-- the refusals that errors of the calls below become
+abbrev pub of_fetch : Unfetched → Refusal
+of_fetch (fetching.NoFile place) = NoFile place
+of_fetch (fetching.TooLong place) = TooLong place
+of_fetch fetching.Memory = Memory
+
+abbrev pub of_json : JsonErr → Refusal
+of_json json.NotJson = Rule unreadable
+of_json json.Memory = Memory
+
+abbrev pub of_read : ReadErr → Refusal
+of_read (reading.Broken b) = Rule b
+of_read reading.Memory = Memory
+
+abbrev pub of_making : SchedErr → Refusal
+of_making (making.Broken b) = Rule b
+of_making making.Memory = Memory
+
+-- a status and a text
+abbrev pub Answer : Type 0
+Answer = ℕ × List ℕ
+
+abbrev pub calendars_answer : CalErr → Option Answer
+calendars_answer e = option_map (λ s. (3, bad_calendar s)) (spot_of e)
+
+abbrev pub fixings_answer : FixErr → Option Answer
+fixings_answer (fixing.Syntax line) = Some (3, bad_fixings (fixing.Syntax line))
+fixings_answer (fixing.Repeat line) = Some (3, bad_fixings (fixing.Repeat line))
+fixings_answer fixing.Memory = None
+
+-- the answer of a refusal, none for want of memory
+abbrev pub answer_of : Refusal → Option Answer
+answer_of BadWords = Some (4, bad_words)
+answer_of (NoFile place) = Some (5, no_file place)
+answer_of (TooLong place) = Some (8, too_long place)
+answer_of (Rule b) = Some (2, refused b)
+answer_of (Calendars e) = calendars_answer e
+answer_of (Fixings e) = fixings_answer e
+answer_of Memory = None
+
+abbrev pub outcome_status : Outcome → ℕ
+outcome_status Checked = 0
+outcome_status (Scheduled s) = 0
+
+abbrev pub outcome_text : Outcome → List ℕ
+outcome_text Checked = all_kept
+outcome_text (Scheduled s) = text_of s
+
+-- P holds of the refusal's answer, if it has one
+abbrev pub IfRefused : Refusal → (ℕ → List ℕ → Type 0) → Type 0
+IfRefused r P = IfSome (answer_of r) (λ a. P a.0 a.1)
+
+-- P holds of the answer, if there is one
+abbrev pub IfAnswered : Result Outcome Refusal → (ℕ → List ℕ → Type 0) → Type 0
+IfAnswered (Ok o) P = P (outcome_status o) (outcome_text o)
+IfAnswered (Err r) P = IfRefused r P
+
+-- what a task over its files comes to: the answer that is due, and a status that no words, fetch or put has
+pub record Concludes (task : Task) (g : Given) (status : ℕ) (text : List ℕ) : Type 0 where
+  pub due : DueFor task g status text
+  pub verdict : status < 4
+
+-- an error of a file of fixings tells of its first line that is at fault, or of want of memory
+abbrev pub FixingsFail : Option (List ℕ) → FixErr → Type 0
+FixingsFail bytes (fixing.Syntax line) = IsFixingsFault bytes (fixing.Syntax line)
+FixingsFail bytes (fixing.Repeat line) = IsFixingsFault bytes (fixing.Repeat line)
+FixingsFail bytes fixing.Memory = Unit {0}
+
+-- no rule of the swap is broken, and the schedule is the only one
+pub record IsScheduled (swap : Swap) (cal : List Section) (table : RateTable) (s : List Part) : Type 0 where
+  pub terms : TermsKept swap cal
+  pub dated : DatedKept swap cal table
+  pub schedule : Only (IsSchedule swap cal table) s
+
+-- b is the first broken rule of the terms
+abbrev pub IsTermsFirst : Swap → List Section → Broken → Type 0
+IsTermsFirst swap cal b = Only (λ f. IsFirstOfTerms (BreaksTerms swap cal) (Some f)) b
+
+-- b is the first broken rule of the swap
+abbrev pub IsRuleFirst : Swap → List Section → RateTable → Broken → Type 0
+IsRuleFirst swap cal table b = IsTermsFirst swap cal b ⊎ (TermsKept swap cal × DatedBroken swap cal table b)
+
+-- the answer is the line of the first broken rule of the swap
+abbrev pub IsUnscheduled : Swap → List Section → RateTable → ℕ → List ℕ → Type 0
+IsUnscheduled swap cal table status text = (b : Broken) × IsRuleFirst swap cal table b × Is 2 (refused b) status text
+
+-- what a schedule comes to for a task
+abbrev pub outcome_for : Task → List Part → Outcome
+outcome_for Check s = Checked
+outcome_for Schedule s = Scheduled s
