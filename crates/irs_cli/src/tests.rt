@@ -1,6 +1,7 @@
 // The program over files and sinks in memory. What it prints of documents at large is tested above.
 use crate::{Files, MemFiles, MemSink, SureFiles, SureSink, run};
 use std::alloc::{AllocError, Global};
+use std::process::Abort;
 use std::test::Fail;
 
 const DOCUMENT: &str = r#"{"swap":{"swapStream":{
@@ -42,15 +43,19 @@ fn all_files(alloc: Global) -> Result<MemFiles, Fail> {
     files.add("other", b"{\"swap\":{}}")?;
     files.add("cal", b"center A\ncover 2024-01-01 2024-12-31\nweekend\n")?;
     files.add("word", b"# a comment\ncentre A\n")?;
-    files.add("fix", b"2024-01-15 0.05 6M USD-LIBOR-BBA\n")?;
-    files.add("word_fix", b"2024-01-15 0.05\n")?;
+    files.add("bad", b"2024-01-15 0.05\n")?;
     files.add("long", &vec![in alloc; b' '; 4_194_305]?)?;
     Ok(files)
 }
 
 // The words' status and text.
-fn expect(rt: &HostRuntime, asked: &[&str], status: u8, text: &str) -> Result<(), Fail> {
-    let alloc = rt.alloc();
+fn expect(
+    rt: &impl Abort,
+    alloc: Global,
+    asked: &[&str],
+    status: u8,
+    text: &str,
+) -> Result<(), Fail> {
     let mut files = all_files(alloc)?;
     let mut out = MemSink::with_room(alloc, 1000)?;
     let words = words(alloc, asked)?;
@@ -65,47 +70,48 @@ fn expect(rt: &HostRuntime, asked: &[&str], status: u8, text: &str) -> Result<()
 
 #[test]
 fn words_that_are_and_are_not_listed(rt: HostRuntime) -> Result<(), Fail> {
-    expect(&rt, &["schedule", "B", "-"], 0, SCHEDULE)?;
-    expect(&rt, &["check", "B", "cal"], 0, "ok\n")?;
-    expect(&rt, &[], 4, "bad words\n")?;
-    expect(&rt, &["check"], 4, "bad words\n")?;
-    expect(&rt, &["schedule", "B"], 4, "bad words\n")?;
-    expect(&rt, &["chec", "B"], 4, "bad words\n")?;
+    let alloc = rt.alloc();
+    expect(&rt, alloc, &["schedule", "B", "-"], 0, SCHEDULE)?;
+    expect(&rt, alloc, &["check", "B", "cal"], 0, "ok\n")?;
+    expect(&rt, alloc, &[], 4, "bad words\n")?;
+    expect(&rt, alloc, &["check"], 4, "bad words\n")?;
+    expect(&rt, alloc, &["schedule", "B"], 4, "bad words\n")?;
+    expect(&rt, alloc, &["chec", "B"], 4, "bad words\n")?;
     let mut many = ["cal"; 19];
     many[0] = "check";
-    expect(&rt, &many[..18], 3, "bad calendar 2 1 repeat\n")?;
-    expect(&rt, &many, 4, "bad words\n")
+    many[1] = "B";
+    expect(&rt, alloc, &many[..18], 3, "bad calendar 2 1 repeat\n")?;
+    expect(&rt, alloc, &many, 4, "bad words\n")
 }
 
 #[test]
 fn files_and_their_faults(rt: HostRuntime) -> Result<(), Fail> {
-    expect(&rt, &["check", "none", "gone"], 5, "no file 1\n")?;
-    expect(&rt, &["schedule", "B", "-", "gone"], 5, "no file 3\n")?;
-    expect(&rt, &["schedule", "B", "long", "gone"], 8, "too long 2\n")?;
-    expect(
-        &rt,
-        &["check", "cut", "word"],
-        2,
-        "refused K1 0 document 0\n",
-    )?;
-    expect(
-        &rt,
-        &["check", "other", "word"],
-        2,
-        "refused K2 0 swap/swapStream 0\n",
-    )?;
-    expect(
-        &rt,
-        &["schedule", "B", "word_fix", "cal", "word"],
-        3,
-        "bad calendar 2 2 syntax\n",
-    )?;
-    expect(
-        &rt,
-        &["schedule", "B", "word_fix", "cal"],
-        3,
-        "bad fixings 1 syntax\n",
-    )
+    let alloc = rt.alloc();
+    for (asked, status, text) in [
+        (["check", "none", "gone", "cal"], 5, "no file 1\n"),
+        (["schedule", "B", "-", "gone"], 5, "no file 3\n"),
+        (["schedule", "B", "long", "gone"], 8, "too long 2\n"),
+        (
+            ["check", "cut", "word", "cal"],
+            2,
+            "refused K1 0 document 0\n",
+        ),
+        (
+            ["check", "other", "word", "cal"],
+            2,
+            "refused K2 0 swapStream 0\n",
+        ),
+        (
+            ["schedule", "B", "bad", "word"],
+            3,
+            "bad calendar 1 2 syntax\n",
+        ),
+        (["schedule", "B", "bad", "cal"], 3, "bad fixings 1 syntax\n"),
+        (["check", "B", "cal", "cal"], 3, "bad calendar 2 1 repeat\n"),
+    ] {
+        expect(&rt, alloc, &asked, status, text)?;
+    }
+    Ok(())
 }
 
 #[test]
