@@ -8,8 +8,13 @@ use std::process::ExitCode;
 /// The status of `run` for words that are no listed command.
 const BAD_WORDS: u8 = 4;
 
-/// The listed commands: DOC is a document, FIX a file of fixings or `-` for none, CAL a calendar file.
-const COMMANDS: [&str; 2] = ["check DOC CAL..", "schedule DOC FIX CAL.."];
+/// The listed commands: DOC is a document, FIX a file of fixings or `-` for none, FLOWS a document of
+/// cash flows, CAL a calendar file.
+const COMMANDS: [&str; 3] = [
+    "check DOC CAL..",
+    "schedule DOC FIX CAL..",
+    "audit DOC FIX FLOWS CAL..",
+];
 
 // The words behind the program's name, or the status where there are none to be had: 9 for a word
 // that isn't text, 7 for want of memory.

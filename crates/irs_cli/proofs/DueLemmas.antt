@@ -1,5 +1,5 @@
 -- What is due, from what the files say.
-use Rattle.std.proofs.Common.{◌≡◌, inl, inr, ◌⊎◌, ℕ, ◌<◌, List, [], Option, Some, None, Result, Ok, Err, refl, sym, ◌∙◌, ap, subst, arith}
+use Rattle.std.proofs.Common.{◌≡◌, inl, inr, ℕ, List, [], Option, Some, None, Result, Ok, Err, refl, sym, ◌∙◌, ap, subst, arith}
 use Rattle.std.proofs.lemmas.Option.{same_Some}
 use Rattle.serde_json.specs.Data.{Data}
 use Rattle.irs_base.specs.declared.places.Broken.{Broken}
@@ -17,14 +17,13 @@ use Rattle.irs_resets.specs.Rates.{RateTable}
 use Rattle.irs_resets.specs.declared.fixings.FixErr.{FixErr}
 use Rattle.irs_schedule.specs.DatedRules.{DatedKept, DatedBroken}
 use Rattle.irs_schedule.specs.Parts.{Part}
-use Rattle.irs_schedule.specs.RowTexts.{text_of}
 use Rattle.irs_schedule.specs.Schedules.{IsSchedule}
 use Rattle.irs_cli.specs.declared.commands.Task.{Task}
-use Rattle.irs_cli.specs.declared.commands.Task.TheVariants.{Check, Schedule}
+use Rattle.irs_cli.specs.declared.commands.Task.TheVariants.{Check, Schedule, Audit}
 use Rattle.irs_cli.specs.Given.{Given}
-use Rattle.irs_cli.specs.Messages.{refused, unreadable, bad_calendar, bad_fixings, all_kept}
-use Rattle.irs_cli.specs.Due.{Only, IsJson, SpellsSwap, AreFixings, IsFixingsFault, KeepsTerms, FilesSay, DueUnbroken, DueFor}
-use Rattle.irs_cli.specs.Outcomes.{IsScheduled, IsTermsFirst, IsRuleFirst, outcome_for, outcome_status, outcome_text}
+use Rattle.irs_cli.specs.Messages.{refused, unreadable, bad_calendar, bad_fixings}
+use Rattle.irs_cli.specs.Due.{Only, IsJson, SpellsSwap, AreFixings, IsFixingsFault, KeepsTerms, FilesSay, DueUnbroken, DueFor, flow_bytes}
+use Rattle.irs_cli.specs.Outcomes.{ComesTo, DueOf, IsScheduled, IsTermsFirst, IsRuleFirst, outcome_status, outcome_text}
 use Rattle.std.specs.Prelude.{IfSome, IfErr, IsErr}
 use Rattle.std.specs.Result.{IsErrAnd}
 use Rattle.irs_json.specs.declared.reading.JsonErr.{JsonErr}
@@ -48,7 +47,7 @@ use Rattle.irs_cli.proofs.SameRates.{SameRates, same_back, same_file, schedule_s
 
 -- ---- the files say one thing
 
-one_reading : (bytes : List ℕ) (v w : Data) → Reads bytes v → Reads bytes w → w ≡ v
+pub one_reading : (bytes : List ℕ) (v w : Data) → Reads bytes v → Reads bytes w → w ≡ v
 one_reading bytes v w h k = same_Some w v (sym k.1 ∙ h.1)
 
 same_ok : {A E : Type 0} (x y : A) → (let r : Result A E = Ok x in r ≡ Ok y) → x ≡ y
@@ -140,6 +139,10 @@ pub some_more : (o : Option Answer) (P Q : ℕ → List ℕ → Type 0) → ((st
 some_more None P Q f h = tt
 some_more (Some a) P Q f h = f a.0 a.1 h
 
+pub answered_more : (r : Result Outcome Refusal) (P Q : ℕ → List ℕ → Type 0) → ((status : ℕ) (text : List ℕ) → P status text → Q status text) → IfAnswered r P → IfAnswered r Q
+answered_more (Ok o) P Q f h = f (outcome_status o) (outcome_text o) h
+answered_more (Err e) P Q f h = some_more (answer_of e) P Q f h
+
 module _ (task : Task) (g : Given) (swap : Swap) (cal : List Section) (table : RateTable) (says : FilesSay g swap cal table) where
   -- what holds of what these files say holds of whatever they say
   terms_too : (s : Swap) (c : List Section) (t : RateTable) (P : Swap → List Section → Type 0) → FilesSay g s c t → P swap cal → P s c
@@ -197,27 +200,27 @@ module _ (task : Task) (g : Given) (swap : Swap) (cal : List Section) (table : R
   due_rule b (inl first) = due_terms b first
   due_rule b (inr first) = due_dated b first.0 first.1
 
-  unbroken_for : (t : Task) (s : Swap) (c : List Section) (r : RateTable) (parts : List Part) → Only (IsSchedule s c r) parts → DueUnbroken t s c r (outcome_status (outcome_for t parts)) (outcome_text (outcome_for t parts))
-  unbroken_for Check s c r parts h = (refl, refl)
-  unbroken_for Schedule s c r parts h = (parts, h, (refl, refl))
+  unbroken_for : (t : Task) (flows : List ℕ) (s : Swap) (c : List Section) (r : RateTable) (parts : List Part) (status : ℕ) (text : List ℕ) → Only (IsSchedule s c r) parts → DueOf t flows parts status text → DueUnbroken t flows s c r status text
+  unbroken_for Check flows s c r parts status text h k = k
+  unbroken_for Schedule flows s c r parts status text h k = (parts, h, k)
+  unbroken_for Audit flows s c r parts status text h k = (parts, h, k)
 
-  pub due_scheduled : (parts : List Part) → IsScheduled swap cal table parts → DueFor task g (outcome_status (outcome_for task parts)) (outcome_text (outcome_for task parts))
-  due_scheduled parts all = record {
+  due_scheduled : (parts : List Part) (status : ℕ) (text : List ℕ) → IsScheduled swap cal table parts → DueOf task (flow_bytes g.flows) parts status text → DueFor task g status text
+  due_scheduled parts status text all due = record {
     unread = λ n. absurd (no_unread n);
     document = λ v reads n. absurd (no_document v reads n);
     calendars = λ _ _ n. absurd (n (cal, says.calendars));
     fixings = λ _ _ _ _ n. absurd (n (table, says.fixings));
     terms = λ s c t h n. absurd (n (terms_too s c t (λ x y. KeepsTerms x y) h all.terms));
     dated = λ s c t h _ n. absurd (n (dated_too s c t h all.dated));
-    unbroken = λ s c t h _ _. unbroken_for task s c t parts (schedule_too s c t parts h all.schedule);
+    unbroken = λ s c t h _ _. unbroken_for task (flow_bytes g.flows) s c t parts status text (schedule_too s c t parts h all.schedule) due;
   }
 
-  verdict_for : (t : Task) (parts : List Part) → outcome_status (outcome_for t parts) < 4
-  verdict_for Check parts = omega arith
-  verdict_for Schedule parts = omega arith
+  scheduled_due : (parts : List Part) → IsScheduled swap cal table parts → (status : ℕ) (text : List ℕ) → ComesTo task (flow_bytes g.flows) parts status text → Concludes task g status text
+  scheduled_due parts all status text h = record { due = due_scheduled parts status text all h.due; verdict = h.verdict }
 
-  pub scheduled_due : (parts : List Part) → IsScheduled swap cal table parts → Concludes task g (outcome_status (outcome_for task parts)) (outcome_text (outcome_for task parts))
-  scheduled_due parts all = record { due = due_scheduled parts all; verdict = verdict_for task parts }
+  pub scheduled_answer : (parts : List Part) (r : Result Outcome Refusal) → IsScheduled swap cal table parts → IfAnswered r (ComesTo task (flow_bytes g.flows) parts) → IfAnswered r (Concludes task g)
+  scheduled_answer parts r all h = answered_more r (ComesTo task (flow_bytes g.flows) parts) (Concludes task g) (scheduled_due parts all) h
 
   unscheduled_due : (status : ℕ) (text : List ℕ) → IsUnscheduled swap cal table status text → Concludes task g status text
   unscheduled_due status text h = rw (h.2.0, h.2.1) (record { due = due_rule h.0 h.1; verdict = omega arith })

@@ -1,5 +1,5 @@
 -- What the fetch of files says of the files that are told.
-use Rattle.std.proofs.Common.{◌≡◌, inl, inr, ℕ, zero, suc, ◌+◌, ◌<◌, ◌≤◌, List, [], ◌∷◌, ◌++◌, length, take, Option, Some, None, refl, sym, ◌∙◌, ap, subst, arith, add-one}
+use Rattle.std.proofs.Common.{◌≡◌, inl, inr, ℕ, zero, suc, ◌+◌, ◌<◌, ◌≤◌, List, [], ◌∷◌, ◌++◌, length, take, Option, Some, None, refl, sym, ◌∙◌, ap, subst, arith}
 use Rattle.std.specs.Result.{IsErrAnd}
 use Rattle.std.specs.Prelude.{IfSome, IsErr, Result, Ok, Err, option_map, slice_get, All, map, get_or, String, string_bytes, Vec}
 use Rattle.std.specs.declared.alloc.Global.{Global}
@@ -10,13 +10,13 @@ use Rattle.std.proofs.lemmas.List.Elements.{All-nil, All-cons}
 use Rattle.irs_payments.specs.Numbered.{Pairs}
 use Rattle.irs_payments.proofs.NumberLemmas.{pairs_more}
 use Rattle.irs_cli.specs.declared.commands.Task.{Task}
-use Rattle.irs_cli.specs.declared.commands.Task.TheVariants.{Check, Schedule}
+use Rattle.irs_cli.specs.declared.commands.Task.TheVariants.{Check, Schedule, Audit}
 use Rattle.irs_cli.specs.declared.fetching.Fetched.{Fetched}
 use Rattle.irs_cli.specs.declared.fetching.Unfetched.{Unfetched}
 use Rattle.irs_cli.specs.declared.fetching.Unfetched.TheVariants.{NoFile, TooLong, Memory}
-use Rattle.irs_cli.specs.Commands.{Words, texts, Asked, IsFileAt, at_document, at_fixings, at_calendar, first_calendar}
+use Rattle.irs_cli.specs.Commands.{Words, texts, Asked, IsFileAt, TakesFlows, at_document, at_fixings, at_flows, at_calendar, first_calendar}
 use Rattle.irs_cli.specs.Given.{Told, Given, IsTold, EachOption, AreTold, IsWithin, too_many}
-use Rattle.irs_cli.specs.Fetching.{Holds, HoldsFiles, Placed, IsAlone, IsInRow, NoneLong, NotFetched, IsLong, Stops, FetchesRow, FetchesAll}
+use Rattle.irs_cli.specs.Fetching.{Holds, HoldsFiles, Placed, IsAlone, IsInRow, NoneLong, Stops, FetchesRow, FetchesAll}
 
 -- ---- what a later call is told is what was told before it
 
@@ -101,31 +101,48 @@ each_short told (n ∷ ns) (f ∷ fs) (suc i) name xs h e is = each_short told n
 far : (t : Task) → 2 ≤ first_calendar t
 far Check = omega arith
 far Schedule = omega arith
+far Audit = omega arith
 
-pub near : (t : Task) → first_calendar t ≤ 3
+far_flows : (t : Task) (o : Option (List ℕ)) (name : List ℕ) → TakesFlows t o → o ≡ Some name → 4 ≤ first_calendar t
+far_flows Check o name h e = cc
+far_flows Schedule o name h e = cc
+far_flows Audit o name h e = omega arith
+
+pub near : (t : Task) → first_calendar t ≤ 4
 near Check = omega arith
 near Schedule = omega arith
+near Audit = omega arith
 
--- before the fixings stands the document, before the calendars these two
+-- before the fixings stands the document, before the flows these two, and before the calendars all three
 pub document_first : (told : Told) (a : Asked) → NoneLong told (IsFileAt a) 1
 document_first told a n other bytes below (at_document p e) is = absurd (omega arith)
 document_first told a n other bytes below (at_fixings p e) is = absurd (omega arith)
+document_first told a n other bytes below (at_flows p e) is = absurd (omega arith)
 document_first told a n other bytes below (at_calendar i p e) is = let f = far a.task in absurd (omega arith)
 
 pub fixings_second : (told : Told) (a : Asked) (d : List ℕ) → Holds told a.document d → NoneLong told (IsFileAt a) 2
 fixings_second told a d h n other bytes below (at_document p e) is = held_short told a.document d bytes h (ap told (sym e) ∙ is)
 fixings_second told a d h n other bytes below (at_fixings p e) is = absurd (omega arith)
+fixings_second told a d h n other bytes below (at_flows p e) is = absurd (omega arith)
 fixings_second told a d h n other bytes below (at_calendar i p e) is = let f = far a.task in absurd (omega arith)
 
-pub calendars_last : (told : Told) (a : Asked) (d : List ℕ) (f : Option (List ℕ)) (p : ℕ) → Holds told a.document d → EachOption (Holds told) a.fixings f → NoneLong told (IsInRow (first_calendar a.task) a.calendars) p → NoneLong told (IsFileAt a) p
-calendars_last told a d f p h k l n other bytes below (at_document q e) is = held_short told a.document d bytes h (ap told (sym e) ∙ is)
-calendars_last told a d f p h k l n other bytes below (at_fixings q e) is = option_short told a.fixings f other bytes k e is
-calendars_last told a d f p h k l n other bytes below (at_calendar i q e) is = l n other bytes below (i, q, e) is
+pub flows_third : (told : Told) (a : Asked) (d name : List ℕ) (f : Option (List ℕ)) → Holds told a.document d → EachOption (Holds told) a.fixings f → TakesFlows a.task a.flows → a.flows ≡ Some name → NoneLong told (IsFileAt a) 3
+flows_third told a d name f h k t w n other bytes below (at_document p e) is = held_short told a.document d bytes h (ap told (sym e) ∙ is)
+flows_third told a d name f h k t w n other bytes below (at_fixings p e) is = option_short told a.fixings f other bytes k e is
+flows_third told a d name f h k t w n other bytes below (at_flows p e) is = absurd (omega arith)
+flows_third told a d name f h k t w n other bytes below (at_calendar i p e) is = let c = far_flows a.task a.flows name t w in absurd (omega arith)
+
+pub calendars_last : (told : Told) (a : Asked) (d : List ℕ) (f l : Option (List ℕ)) (p : ℕ) → Holds told a.document d → EachOption (Holds told) a.fixings f → EachOption (Holds told) a.flows l → NoneLong told (IsInRow (first_calendar a.task) a.calendars) p → NoneLong told (IsFileAt a) p
+calendars_last told a d f l p h k m r n other bytes below (at_document q e) is = held_short told a.document d bytes h (ap told (sym e) ∙ is)
+calendars_last told a d f l p h k m r n other bytes below (at_fixings q e) is = option_short told a.fixings f other bytes k e is
+calendars_last told a d f l p h k m r n other bytes below (at_flows q e) is = option_short told a.flows l other bytes m e is
+calendars_last told a d f l p h k m r n other bytes below (at_calendar i q e) is = r n other bytes below (i, q, e) is
 
 -- no file of a command whose files are held is too long
 pub files_short : (told : Told) (a : Asked) (g : Given) (n : ℕ) (other bytes : List ℕ) → HoldsFiles told a g → IsFileAt a n other → told other ≡ Some bytes → length bytes < too_many
 files_short told a g n other bytes h (at_document p e) is = held_short told a.document g.document bytes h.document (ap told (sym e) ∙ is)
 files_short told a g n other bytes h (at_fixings p e) is = option_short told a.fixings g.fixings other bytes h.fixings e is
+files_short told a g n other bytes h (at_flows p e) is = option_short told a.flows g.flows other bytes h.flows e is
 files_short told a g n other bytes h (at_calendar i p e) is = each_short told a.calendars g.calendars i other bytes h.calendars e is
 
 -- ---- what is held is what is told
@@ -152,15 +169,16 @@ told_each told (n ∷ ns) (x ∷ fs) (y ∷ gs) h k =
     let b : gs ≡ fs = told_each told ns fs gs h.1 k.1 in
     ap (λ (z : List ℕ). z ∷ gs) a ∙ ap (λ (z : List (List ℕ)). x ∷ z) b
 
-abbrev files : List ℕ → Option (List ℕ) → List (List ℕ) → Given
-files d f c = record { document = d; fixings = f; calendars = c }
+abbrev files : List ℕ → Option (List ℕ) → Option (List ℕ) → List (List ℕ) → Given
+files d f l c = record { document = d; fixings = f; flows = l; calendars = c }
 
 pub told_files : (told : Told) (a : Asked) (g k : Given) → HoldsFiles told a g → AreTold told a k → k ≡ g
 told_files told a g k h t =
     let d : k.document ≡ g.document = told_is told a.document g.document k.document h.document t.document in
     let f : k.fixings ≡ g.fixings = told_option told a.fixings g.fixings k.fixings h.fixings t.fixings in
+    let l : k.flows ≡ g.flows = told_option told a.flows g.flows k.flows h.flows t.flows in
     let c : k.calendars ≡ g.calendars = told_each told a.calendars g.calendars k.calendars h.calendars t.calendars in
-    ap (λ (z : List ℕ). files z k.fixings k.calendars) d ∙ ap (λ (z : Option (List ℕ)). files g.document z k.calendars) f ∙ ap (λ (z : List (List ℕ)). files g.document g.fixings z) c
+    ap (λ (z : List ℕ). files z k.fixings k.flows k.calendars) d ∙ ap (λ (z : Option (List ℕ)). files g.document z k.flows k.calendars) f ∙ ap (λ (z : Option (List ℕ)). files g.document g.fixings z k.calendars) l ∙ ap (λ (z : List (List ℕ)). files g.document g.fixings g.flows z) c
 
 -- ---- the files keep their limits
 
@@ -224,7 +242,7 @@ pub all_by : (told : Told) (failed : Option (List ℕ)) (before now : ℕ) (a : 
 all_by told failed before now a (Ok x) u h k s = absurd k
 all_by told failed before now a (Err x) u h k s = subst (λ (y : Unfetched). Stops told (IsFileAt a) failed before now y) (sym k) s
 
--- ---- the three fetches of a command
+-- ---- the fetches of a command
 
 pub document_stops : (told : Told) (a : Asked) (failed : Option (List ℕ)) (before now : ℕ) (u : Unfetched) → Stops told (IsAlone 1 a.document) failed before now u → Stops told (IsFileAt a) failed before now u
 document_stops told a failed before now u s = stops_among told (IsAlone 1 a.document) (IsFileAt a) failed before now u (λ n other alone. at_document alone.0 alone.1) (λ p other alone none. rw alone.0 (document_first told a)) s
@@ -232,8 +250,11 @@ document_stops told a failed before now u s = stops_among told (IsAlone 1 a.docu
 pub fixings_stop : (told : Told) (a : Asked) (d : List ℕ) (failed : Option (List ℕ)) (before now : ℕ) (u : Unfetched) → Holds told a.document d → Stops told (λ n other. (n ≡ 2) × (a.fixings ≡ Some other)) failed before now u → Stops told (IsFileAt a) failed before now u
 fixings_stop told a d failed before now u h s = stops_among told (λ n other. (n ≡ 2) × (a.fixings ≡ Some other)) (IsFileAt a) failed before now u (λ n other at. at_fixings at.0 at.1) (λ p other at none. rw at.0 (fixings_second told a d h)) s
 
-pub calendars_stop : (told : Told) (a : Asked) (d : List ℕ) (f : Option (List ℕ)) (failed : Option (List ℕ)) (before now : ℕ) (u : Unfetched) → Holds told a.document d → EachOption (Holds told) a.fixings f → Stops told (IsInRow (first_calendar a.task) a.calendars) failed before now u → Stops told (IsFileAt a) failed before now u
-calendars_stop told a d f failed before now u h k s = stops_among told (IsInRow (first_calendar a.task) a.calendars) (IsFileAt a) failed before now u (λ n other at. at_calendar at.0 at.1 at.2) (λ p other at none. calendars_last told a d f p h k none) s
+pub flows_stop : (told : Told) (a : Asked) (d : List ℕ) (f : Option (List ℕ)) (failed : Option (List ℕ)) (before now : ℕ) (u : Unfetched) → Holds told a.document d → EachOption (Holds told) a.fixings f → TakesFlows a.task a.flows → Stops told (λ n other. (n ≡ 3) × (a.flows ≡ Some other)) failed before now u → Stops told (IsFileAt a) failed before now u
+flows_stop told a d f failed before now u h k t s = stops_among told (λ n other. (n ≡ 3) × (a.flows ≡ Some other)) (IsFileAt a) failed before now u (λ n other at. at_flows at.0 at.1) (λ p other at none. rw at.0 (flows_third told a d other f h k t at.1)) s
+
+pub calendars_stop : (told : Told) (a : Asked) (d : List ℕ) (f l : Option (List ℕ)) (failed : Option (List ℕ)) (before now : ℕ) (u : Unfetched) → Holds told a.document d → EachOption (Holds told) a.fixings f → EachOption (Holds told) a.flows l → Stops told (IsInRow (first_calendar a.task) a.calendars) failed before now u → Stops told (IsFileAt a) failed before now u
+calendars_stop told a d f l failed before now u h k m s = stops_among told (IsInRow (first_calendar a.task) a.calendars) (IsFileAt a) failed before now u (λ n other at. at_calendar at.0 at.1 at.2) (λ p other at none. calendars_last told a d f l p h k m none) s
 
 -- ---- the first bytes of a file
 

@@ -5,5 +5,6 @@ pub mod FetchLemmas
 pub mod FirstLemmas
 pub mod SameRates
 pub mod DueLemmas
+pub mod FlowLemmas
 pub mod RunLemmas
 pub mod MessageLemmas

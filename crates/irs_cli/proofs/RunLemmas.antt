@@ -1,21 +1,21 @@
 -- What a run says, from what its parts say.
-use Rattle.std.proofs.Common.{◌≡◌, ◌≢◌, inl, inr, ◌⊎◌, ℕ, zero, suc, ◌<◌, ◌≤◌, List, [], ◌∷◌, length, Option, Some, None, Result, Ok, Err, refl, sym, ◌∙◌, ap, subst, arith}
-use Rattle.std.specs.Prelude.{IfSome, IsErr, slice_get}
+use Rattle.std.proofs.Common.{◌≡◌, inl, inr, ℕ, zero, suc, ◌<◌, ◌≤◌, List, [], ◌∷◌, length, Option, Some, None, Result, refl, sym, ap, subst, arith}
+use Rattle.std.specs.Prelude.{IfSome, slice_get}
 use Rattle.std.proofs.lemmas.Bool.{cases_order}
 use Rattle.irs_payments.specs.Numbered.{Pairs}
 use Rattle.irs_cli.specs.declared.fetching.Unfetched.{Unfetched}
 use Rattle.irs_cli.specs.declared.fetching.Unfetched.TheVariants as fetching
 use Rattle.irs_cli.specs.declared.outcomes.Outcome.{Outcome}
 use Rattle.irs_cli.specs.declared.refusals.Refusal.{Refusal}
-use Rattle.irs_cli.specs.Commands.{Words, Asked, Asks, IsListed, IsFileAt, at_document, at_fixings, at_calendar, NamesFile}
+use Rattle.irs_cli.specs.Commands.{Words, Asked, Asks, IsListed, IsFileAt, at_document, at_fixings, at_flows, at_calendar}
 use Rattle.irs_cli.specs.Given.{Told, Given, IsTold, EachOption, AreTold, IsFirstLong, too_many}
-use Rattle.irs_cli.specs.Fetching.{Holds, HoldsFiles, NotFetched, IsLong, Stops}
+use Rattle.irs_cli.specs.Fetching.{HoldsFiles, NotFetched, IsLong, Stops}
 use Rattle.irs_cli.specs.Messages.{bad_words, no_file, too_long}
-use Rattle.irs_cli.specs.Due.{Due, DueFor, Is}
-use Rattle.irs_cli.specs.Outcomes.{Answer, answer_of, of_fetch, Concludes, IfRefused, IfAnswered, outcome_status, outcome_text}
-use Rattle.irs_cli.specs.Run.{NoFile, IsDueText, Replies}
+use Rattle.irs_cli.specs.Due.{Due}
+use Rattle.irs_cli.specs.Outcomes.{of_fetch, Concludes, IfRefused, IfAnswered}
+use Rattle.irs_cli.specs.Run.{NoFile, Replies}
 use Rattle.irs_cli.proofs.CommandLemmas.{one_command, named_by}
-use Rattle.irs_cli.proofs.DueLemmas.{some_more}
+use Rattle.irs_cli.proofs.DueLemmas.{answered_more}
 use Rattle.irs_cli.proofs.FetchLemmas.{files_short, told_files}
 
 -- ---- words that are no command
@@ -78,6 +78,7 @@ told_row_at told (n ∷ ns) (f ∷ fs) (suc i) name h e = told_row_at told ns fs
 told_at : (told : Told) (a : Asked) (g : Given) (n : ℕ) (name : List ℕ) → AreTold told a g → IsFileAt a n name → (xs : List ℕ) × IsTold told name xs
 told_at told a g n name h (at_document p e) = (g.document, subst (λ (m : List ℕ). IsTold told m g.document) (sym e) h.document)
 told_at told a g n name h (at_fixings p e) = told_option_at told a.fixings g.fixings name h.fixings e
+told_at told a g n name h (at_flows p e) = told_option_at told a.flows g.flows name h.flows e
 told_at told a g n name h (at_calendar i p e) = told_row_at told a.calendars g.calendars i name h.calendars e
 
 -- a file that is told to be short isn't long
@@ -145,5 +146,4 @@ concluded_replies ws told a g failed before now asks held quiet status text h =
     }
 
 pub fetched_replies : (ws : Words) (told : Told) (a : Asked) (g : Given) (failed : Option (List ℕ)) (before now : ℕ) (r : Result Outcome Refusal) → Asks ws a → HoldsFiles told a g → now ≡ before → IfAnswered r (Concludes a.task g) → IfAnswered r (Replies ws told failed before now)
-fetched_replies ws told a g failed before now (Ok o) asks held quiet h = concluded_replies ws told a g failed before now asks held quiet (outcome_status o) (outcome_text o) h
-fetched_replies ws told a g failed before now (Err e) asks held quiet h = some_more (answer_of e) (Concludes a.task g) (Replies ws told failed before now) (concluded_replies ws told a g failed before now asks held quiet) h
+fetched_replies ws told a g failed before now r asks held quiet h = answered_more r (Concludes a.task g) (Replies ws told failed before now) (concluded_replies ws told a g failed before now asks held quiet) h

@@ -1,5 +1,5 @@
 -- A schedule and the rules of dates and amounts depend on a table of rates by its rates alone.
-use Rattle.std.proofs.Common.{◌≡◌, ℕ, ◌+◌, ◌<◌, List, [], ◌∷◌, Option, Some, None, ℤ, refl, sym, ◌∙◌, ap}
+use Rattle.std.proofs.Common.{◌≡◌, ℕ, ◌+◌, List, [], ◌∷◌, Option, Some, None, ℤ, refl, sym, ◌∙◌}
 use Rattle.irs_terms.specs.declared.amounts.FloatTerms.{FloatTerms}
 use Rattle.irs_terms.specs.declared.amounts.Leg.{Leg}
 use Rattle.irs_terms.specs.declared.amounts.Leg.TheVariants.{Fixed, Floating}
@@ -7,7 +7,6 @@ use Rattle.irs_terms.specs.declared.amounts.StubRate.{StubRate}
 use Rattle.irs_terms.specs.declared.amounts.StubRate.TheVariants.{Index, Fixed as FixedStub}
 use Rattle.irs_terms.specs.declared.amounts.StubTerms.{StubTerms}
 use Rattle.irs_terms.specs.declared.dates.ResetTerms.{ResetTerms}
-use Rattle.irs_terms.specs.declared.frequency.Frequency.{Frequency}
 use Rattle.irs_terms.specs.declared.results.Reset.{Reset}
 use Rattle.irs_terms.specs.declared.results.Span.{Span}
 use Rattle.irs_terms.specs.declared.stream.Stream.{Stream}
@@ -17,13 +16,13 @@ use Rattle.irs_calendar.specs.GoodDays.{DaySet}
 use Rattle.irs_calendar.specs.declared.sections.Section.{Section}
 use Rattle.irs_payments.specs.Numbered.{Pairs}
 use Rattle.irs_resets.specs.FixingFiles.{IsFixingFile}
-use Rattle.irs_resets.specs.ObservedRates.{kind_at, index_rate, stub_rate, stub_or_index, initial_stub_rate, final_stub_rate, first_regular_rate, initial_or_index, observed_rate}
+use Rattle.irs_resets.specs.ObservedRates.{index_rate, stub_rate, stub_or_index, initial_stub_rate, final_stub_rate, initial_or_index, observed_rate}
 use Rattle.irs_resets.specs.Rates.{RateTable, rate_at}
 use Rattle.irs_resets.specs.Resets.{IsReset, AreRows, HasResets, IsResetsOf}
 use Rattle.irs_resets.specs.declared.observed.PeriodKind.{PeriodKind}
 use Rattle.irs_resets.specs.declared.observed.PeriodKind.TheVariants.{InitialStub, FinalStub, FirstRegular, LaterRegular}
 use Rattle.irs_resets.specs.declared.store.Slot.{Slot}
-use Rattle.irs_schedule.specs.DatedRules.{DatedPart, in_span, in_periods, in_payments, in_steps, in_exchanges, in_resets, in_amounts, PartBroken, KeptBefore, StreamKept, StreamBroken, DatedKept, DatedBroken, turn_of}
+use Rattle.irs_schedule.specs.DatedRules.{DatedPart, in_span, in_periods, in_payments, in_steps, in_exchanges, in_resets, in_amounts, PartBroken, StreamKept, StreamBroken, DatedKept, DatedBroken}
 use Rattle.irs_schedule.specs.DaySets.{StreamSets, stream_sets}
 use Rattle.irs_schedule.specs.Parts.{Part}
 use Rattle.irs_schedule.specs.Schedules.{IsPart, IsSchedule}

@@ -1,5 +1,5 @@
 -- What is due for the words and the files: status and text, by the first case that applies.
-use Rattle.std.specs.Prelude.{◌≡◌, ℕ, List, [], Option, Some, None, Err}
+use Rattle.std.specs.Prelude.{◌≡◌, ℕ, List, [], Option, Some, None, unwrap_or, Err}
 use Rattle.serde_json.specs.Data.{Data}
 use Rattle.irs_base.specs.Lines.{lines_of}
 use Rattle.irs_base.specs.declared.places.Broken.{Broken}
@@ -21,11 +21,18 @@ use Rattle.irs_schedule.specs.DatedRules.{DatedKept, DatedBroken}
 use Rattle.irs_schedule.specs.Parts.{Part}
 use Rattle.irs_schedule.specs.RowTexts.{text_of}
 use Rattle.irs_schedule.specs.Schedules.{IsSchedule}
+use Rattle.irs_audit.specs.FlowFaults.{FlowFault}
+use Rattle.irs_audit.specs.FlowParts.{FlowPart}
+use Rattle.irs_audit.specs.FlowReading.{FlowsOf, kind_of}
+use Rattle.irs_audit.specs.Verdicts.{IsVerdict}
+use Rattle.irs_audit.specs.declared.departures.Verdict.{Verdict}
+use Rattle.irs_audit.specs.declared.error.ShapeKind.TheVariants.{NotJson}
 use Rattle.irs_cli.specs.declared.commands.Task.{Task}
-use Rattle.irs_cli.specs.declared.commands.Task.TheVariants.{Check, Schedule}
+use Rattle.irs_cli.specs.declared.commands.Task.TheVariants.{Check, Schedule, Audit}
 use Rattle.irs_cli.specs.Commands.{Words, Asked, Asks, IsListed}
 use Rattle.irs_cli.specs.Given.{Told, Given, AreTold, IsFirstLong}
 use Rattle.irs_cli.specs.Messages.{bad_words, too_long, refused, unreadable, bad_calendar, bad_fixings, all_kept}
+use Rattle.irs_cli.specs.FlowMessages.{bad_flows, whole_document, verdict_status, verdict_text}
 
 -- status and text
 abbrev pub Is : ℕ → List ℕ → ℕ → List ℕ → Type 0
@@ -69,10 +76,24 @@ pub record FilesSay (g : Given) (swap : Swap) (cal : List Section) (table : Rate
   pub calendars : CalFiles g.calendars cal
   pub fixings : AreFixings g.fixings table
 
--- what is due where no rule is broken: `ok`, or the text of the one schedule
-abbrev pub DueUnbroken : Task → Swap → List Section → RateTable → ℕ → List ℕ → Type 0
-DueUnbroken Check swap cal table status text = Is 0 all_kept status text
-DueUnbroken Schedule swap cal table status text = (s : List Part) × Only (IsSchedule swap cal table) s × Is 0 (text_of s) status text
+-- the bytes of the file of flows, which an audit has
+abbrev pub flow_bytes : Option (List ℕ) → List ℕ
+flow_bytes flows = unwrap_or flows []
+
+-- what is due for flows against a schedule
+pub record DueFlows (bytes : List ℕ) (s : List Part) (status : ℕ) (text : List ℕ) : Type 0 where
+  -- the flows have no JSON reading
+  pub unread : ¬ (IsJson bytes) → Is 3 (bad_flows NotJson whole_document) status text
+  -- their reading states no flows: its first fault
+  pub fault : (v : Data) → Reads bytes v → ¬ ((flows : List FlowPart) × FlowsOf v flows) → (b : Broken) × Only (λ f. IsFirst (FlowFault v) (Some f)) b × Is 3 (bad_flows (kind_of b.rule) b.place) status text
+  -- it states flows: the verdict on them
+  pub verdict : (v : Data) (flows : List FlowPart) → Reads bytes v → FlowsOf v flows → (w : Verdict) × Only (IsVerdict flows s) w × Is (verdict_status w) (verdict_text w) status text
+
+-- what is due where no rule is broken: `ok`, the text of the one schedule, or what is due for the flows against it
+abbrev pub DueUnbroken : Task → List ℕ → Swap → List Section → RateTable → ℕ → List ℕ → Type 0
+DueUnbroken Check flows swap cal table status text = Is 0 all_kept status text
+DueUnbroken Schedule flows swap cal table status text = (s : List Part) × Only (IsSchedule swap cal table) s × Is 0 (text_of s) status text
+DueUnbroken Audit flows swap cal table status text = (s : List Part) × Only (IsSchedule swap cal table) s × DueFlows flows s status text
 
 -- what is due for a task and the files
 pub record DueFor (task : Task) (g : Given) (status : ℕ) (text : List ℕ) : Type 0 where
@@ -89,7 +110,7 @@ pub record DueFor (task : Task) (g : Given) (status : ℕ) (text : List ℕ) : T
   -- K30 to K39
   pub dated : (swap : Swap) (cal : List Section) (table : RateTable) → FilesSay g swap cal table → KeepsTerms swap cal → ¬ (DatedKept swap cal table) → (b : Broken) × DatedBroken swap cal table b × Is 2 (refused b) status text
   -- no rule is broken
-  pub unbroken : (swap : Swap) (cal : List Section) (table : RateTable) → FilesSay g swap cal table → KeepsTerms swap cal → DatedKept swap cal table → DueUnbroken task swap cal table status text
+  pub unbroken : (swap : Swap) (cal : List Section) (table : RateTable) → FilesSay g swap cal table → KeepsTerms swap cal → DatedKept swap cal table → DueUnbroken task (flow_bytes g.flows) swap cal table status text
 
 -- what is due, where the source tells the files that the words name
 pub record Due (ws : Words) (told : Told) (status : ℕ) (text : List ℕ) : Type 0 where

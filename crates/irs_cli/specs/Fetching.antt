@@ -11,7 +11,7 @@ use Rattle.irs_cli.specs.Given.{Told, Given, EachOption, too_many}
 
 -- the files as the code keeps them
 abbrev pub given_by : Fetched → Given
-given_by f = record { document = f.document.items; fixings = option_map (λ v. v.items) f.fixings; calendars = map (λ v. v.items) f.calendars.items }
+given_by f = record { document = f.document.items; fixings = option_map (λ v. v.items) f.fixings; flows = option_map (λ v. v.items) f.flows; calendars = map (λ v. v.items) f.calendars.items }
 
 -- the bytes are those of the name, where it is told, and they aren't too many
 abbrev pub Holds : Told → List ℕ → List ℕ → Type 0
@@ -21,6 +21,7 @@ Holds told name bytes = IfSome (told name) (λ xs. bytes ≡ xs) × (length byte
 pub record HoldsFiles (told : Told) (a : Asked) (g : Given) : Type 0 where
   pub document : Holds told a.document g.document
   pub fixings : EachOption (Holds told) a.fixings g.fixings
+  pub flows : EachOption (Holds told) a.flows g.flows
   pub calendars : Pairs (Holds told) a.calendars g.calendars
 
 -- which names stand at which places

@@ -15,6 +15,7 @@ too_many = 4_194_305
 pub record Given : Type 0 where
   pub document : List ℕ
   pub fixings : Option (List ℕ)
+  pub flows : Option (List ℕ)
   pub calendars : List (List ℕ)
 
 -- the files keep the limits of their number and sizes
@@ -38,6 +39,7 @@ EachOption R (Some name) (Some file) = R name file
 pub record AreTold (told : Told) (a : Asked) (g : Given) : Type 0 where
   pub document : IsTold told a.document g.document
   pub fixings : EachOption (IsTold told) a.fixings g.fixings
+  pub flows : EachOption (IsTold told) a.flows g.flows
   pub calendars : Pairs (IsTold told) a.calendars g.calendars
 
 -- the file of the word at this place is too long, and each before it is told and isn't

@@ -9,6 +9,7 @@ pub mod Commands
 pub mod Given
 pub mod Fetching
 pub mod Messages
+pub mod FlowMessages
 pub mod Due
 pub mod Outcomes
 pub mod Run

@@ -20,17 +20,25 @@ use Rattle.irs_schedule.specs.Schedules.{IsSchedule}
 use Rattle.irs_schedule.specs.declared.making.SchedErr.{SchedErr}
 use Rattle.irs_schedule.specs.declared.making.SchedErr.TheVariants as making
 use Rattle.irs_terms.specs.declared.stream_list.Swap.{Swap}
+use Rattle.irs_json.specs.Reading.{Reads}
+use Rattle.serde_json.specs.Data.{Data}
+use Rattle.irs_audit.specs.FlowParts.{FlowPart}
+use Rattle.irs_audit.specs.FlowReading.{FlowsOf, IsFirstShape}
+use Rattle.irs_audit.specs.declared.error.FlowErr.{FlowErr}
+use Rattle.irs_audit.specs.declared.error.FlowErr.TheVariants as flowing
+use Rattle.irs_audit.specs.declared.error.ShapeKind.TheVariants.{NotJson}
 use Rattle.irs_cli.specs.declared.commands.Task.{Task}
-use Rattle.irs_cli.specs.declared.commands.Task.TheVariants.{Check, Schedule}
+use Rattle.irs_cli.specs.declared.commands.Task.TheVariants.{Check, Schedule, Audit}
 use Rattle.irs_cli.specs.declared.fetching.Unfetched.{Unfetched}
 use Rattle.irs_cli.specs.declared.fetching.Unfetched.TheVariants as fetching
 use Rattle.irs_cli.specs.declared.outcomes.Outcome.{Outcome}
-use Rattle.irs_cli.specs.declared.outcomes.Outcome.TheVariants.{Checked, Scheduled}
+use Rattle.irs_cli.specs.declared.outcomes.Outcome.TheVariants.{Checked, Scheduled, Audited}
 use Rattle.irs_cli.specs.declared.refusals.Refusal.{Refusal}
-use Rattle.irs_cli.specs.declared.refusals.Refusal.TheVariants.{BadWords, NoFile, TooLong, Rule, Calendars, Fixings, Memory}
+use Rattle.irs_cli.specs.declared.refusals.Refusal.TheVariants.{BadWords, NoFile, TooLong, Rule, Calendars, Fixings, Flows, Memory}
 use Rattle.irs_cli.specs.Messages.{bad_words, no_file, too_long, refused, unreadable, bad_calendar, bad_fixings, all_kept}
+use Rattle.irs_cli.specs.FlowMessages.{bad_flows, whole_document, verdict_status, verdict_text}
 use Rattle.irs_cli.specs.Given.{Given}
-use Rattle.irs_cli.specs.Due.{Is, Only, KeepsTerms, IsFixingsFault, DueFor}
+use Rattle.irs_cli.specs.Due.{Is, Only, IsJson, KeepsTerms, IsFixingsFault, DueFlows, DueFor}
 
 -- the refusals that errors of the calls below become
 abbrev pub of_fetch : Unfetched → Refusal
@@ -62,6 +70,10 @@ fixings_answer (fixing.Syntax line) = Some (3, bad_fixings (fixing.Syntax line))
 fixings_answer (fixing.Repeat line) = Some (3, bad_fixings (fixing.Repeat line))
 fixings_answer fixing.Memory = None
 
+abbrev pub flows_answer : FlowErr → Option Answer
+flows_answer (flowing.Shape kind place) = Some (3, bad_flows kind place)
+flows_answer flowing.Memory = None
+
 -- the answer of a refusal, none for want of memory
 abbrev pub answer_of : Refusal → Option Answer
 answer_of BadWords = Some (4, bad_words)
@@ -70,15 +82,18 @@ answer_of (TooLong place) = Some (8, too_long place)
 answer_of (Rule b) = Some (2, refused b)
 answer_of (Calendars e) = calendars_answer e
 answer_of (Fixings e) = fixings_answer e
+answer_of (Flows e) = flows_answer e
 answer_of Memory = None
 
 abbrev pub outcome_status : Outcome → ℕ
 outcome_status Checked = 0
 outcome_status (Scheduled s) = 0
+outcome_status (Audited w) = verdict_status w
 
 abbrev pub outcome_text : Outcome → List ℕ
 outcome_text Checked = all_kept
 outcome_text (Scheduled s) = text_of s
+outcome_text (Audited w) = verdict_text w
 
 -- P holds of the refusal's answer, if it has one
 abbrev pub IfRefused : Refusal → (ℕ → List ℕ → Type 0) → Type 0
@@ -100,6 +115,15 @@ FixingsFail bytes (fixing.Syntax line) = IsFixingsFault bytes (fixing.Syntax lin
 FixingsFail bytes (fixing.Repeat line) = IsFixingsFault bytes (fixing.Repeat line)
 FixingsFail bytes fixing.Memory = Unit {0}
 
+-- the bytes have a reading, and it states the flows
+abbrev pub SpellsFlows : List ℕ → List FlowPart → Type 0
+SpellsFlows bytes flows = (v : Data) × Reads bytes v × FlowsOf v flows
+
+-- an error of a file of flows tells that it has no reading, or the first fault of its reading, or of want of memory
+abbrev pub FlowsFail : List ℕ → FlowErr → Type 0
+FlowsFail bytes (flowing.Shape kind place) = (¬ (IsJson bytes) × (kind ≡ NotJson) × (place ≡ whole_document)) ⊎ ((v : Data) × Reads bytes v × IsFirstShape v kind place)
+FlowsFail bytes flowing.Memory = Unit {0}
+
 -- no rule of the swap is broken, and the schedule is the only one
 pub record IsScheduled (swap : Swap) (cal : List Section) (table : RateTable) (s : List Part) : Type 0 where
   pub terms : KeepsTerms swap cal
@@ -118,7 +142,13 @@ IsRuleFirst swap cal table b = IsTermsFirst swap cal b ⊎ (KeepsTerms swap cal 
 abbrev pub IsUnscheduled : Swap → List Section → RateTable → ℕ → List ℕ → Type 0
 IsUnscheduled swap cal table status text = (b : Broken) × IsRuleFirst swap cal table b × Is 2 (refused b) status text
 
--- what a schedule comes to for a task
-abbrev pub outcome_for : Task → List Part → Outcome
-outcome_for Check s = Checked
-outcome_for Schedule s = Scheduled s
+-- what is due for a task whose schedule is s
+abbrev pub DueOf : Task → List ℕ → List Part → ℕ → List ℕ → Type 0
+DueOf Check flows s status text = Is 0 all_kept status text
+DueOf Schedule flows s status text = Is 0 (text_of s) status text
+DueOf Audit flows s status text = DueFlows flows s status text
+
+-- what a task whose schedule is s comes to: what is due, and a status that no words, fetch or put has
+pub record ComesTo (task : Task) (flows : List ℕ) (s : List Part) (status : ℕ) (text : List ℕ) : Type 0 where
+  pub due : DueOf task flows s status text
+  pub verdict : status < 4

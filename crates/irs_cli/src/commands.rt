@@ -1,8 +1,8 @@
 //! The listed commands, by their words; they are this project's own.
 //!
-//! `check DOC CAL..` asks whether a document keeps every rule, without fixings, and
-//! `schedule DOC FIX CAL..` for its schedule, where `-` as FIX means no fixings. Each takes 0 to 16
-//! calendars.
+//! `check DOC CAL..` asks whether a document keeps every rule, without fixings,
+//! `schedule DOC FIX CAL..` for its schedule, and `audit DOC FIX FLOWS CAL..` whether the cash flows of
+//! FLOWS agree with that schedule. `-` as FIX means no fixings. Each takes 0 to 16 calendars.
 ghost use Rattle.std.specs.Prelude.{◌≡◌, ◌↔◌, ◌≤◌, ◌∷◌, length, codes, option_map, IfSome, IfNone, IsTrue};
 ghost use Rattle.irs_cli.specs.Commands.{Asks, IsListed, asked_by, texts, named, first_calendar, most_calendars};
 
@@ -15,14 +15,17 @@ pub(crate) enum Task {
     Check,
     /// The schedule of a document.
     Schedule,
+    /// Whether cash flows agree with the schedule of a document.
+    Audit,
 }
 
-/// A listed command: what is asked for, and the names of the files.
+/// A listed command: what is asked for, and the names of the files. An audit alone has flows.
 #[derive(Clone, Copy)]
 pub(crate) struct Command<'w> {
     pub(crate) task: Task,
     pub(crate) document: &'w str,
     pub(crate) fixings: Option<&'w str>,
+    pub(crate) flows: Option<&'w str>,
     pub(crate) calendars: &'w [String],
 }
 
@@ -34,6 +37,7 @@ impl Task {
         match self {
             Task::Check => 2,
             Task::Schedule => 3,
+            Task::Audit => 4,
         }
     }
 }
@@ -58,6 +62,9 @@ fn command_by<'w>(command: &str, document: &'w str, files: &'w [String]) -> Opti
     if command == "schedule" {
         return schedule_by(document, files);
     }
+    if command == "audit" {
+        return audit_by(document, files);
+    }
     None
 }
 
@@ -72,6 +79,7 @@ fn check_of<'w>(document: &'w str, calendars: &'w [String]) -> Option<Command<'w
         task: Task::Check,
         document,
         fixings: None,
+        flows: None,
         calendars,
     })
 }
@@ -99,6 +107,37 @@ fn schedule_of<'w>(
         task: Task::Schedule,
         document,
         fixings: named(fixings),
+        flows: None,
+        calendars,
+    })
+}
+
+fn audit_by<'w>(document: &'w str, files: &'w [String]) -> Option<Command<'w>>
+    ensures some { IfSome result (λ c. Asks (codes "audit" ∷ document.now ∷ texts files.now) (asked_by c)) }
+    ensures none { IfNone result (IsListed (codes "audit" ∷ document.now ∷ texts files.now) → ⊥) }
+{
+    let (fixings, others) = files.split_first()?;
+    let (flows, calendars) = others.split_first()?;
+    audit_of(document, fixings.as_str(), flows.as_str(), calendars)
+}
+
+fn audit_of<'w>(
+    document: &'w str,
+    fixings: &'w str,
+    flows: &'w str,
+    calendars: &'w [String],
+) -> Option<Command<'w>>
+    ensures some { IfSome result (λ c. Asks (codes "audit" ∷ document.now ∷ fixings.now ∷ flows.now ∷ texts calendars.now) (asked_by c)) }
+    ensures none { IfNone result (IsListed (codes "audit" ∷ document.now ∷ fixings.now ∷ flows.now ∷ texts calendars.now) → ⊥) }
+{
+    if !are_few(calendars) {
+        return None;
+    }
+    Some(Command {
+        task: Task::Audit,
+        document,
+        fixings: named(fixings),
+        flows: Some(flows),
         calendars,
     })
 }

@@ -1,7 +1,7 @@
 //! Fetching the files of a command: all of them, in the order of the words.
 ghost use Rattle.std.specs.Prelude.{◌≡◌, ℕ, ◌+◌, ◌≤◌, ◌^◌, ◌<◌, List, length, Option, Some, option_map, string_bytes};
 ghost use Rattle.irs_cli.specs.Outside.{Rose};
-ghost use Rattle.irs_cli.specs.Commands.{asked_by, texts, first_calendar, most_calendars};
+ghost use Rattle.irs_cli.specs.Commands.{asked_by, texts, TakesFlows, first_calendar, most_calendars};
 ghost use Rattle.irs_cli.specs.Fetching.{IsAlone, IsInRow, FetchesOne, FetchesIf, FetchesRow, FetchesAll};
 ghost use Rattle.irs_cli.specs.declared.fetching.Unfetched.TheVariants.{Memory as OfMemory};
 
@@ -18,6 +18,7 @@ const MOST: usize = 4_194_305;
 pub(crate) struct Fetched {
     pub(crate) document: Vec<u8>,
     pub(crate) fixings: Option<Vec<u8>>,
+    pub(crate) flows: Option<Vec<u8>>,
     pub(crate) calendars: Vec<Vec<u8>>,
 }
 
@@ -46,16 +47,19 @@ pub(crate) fn fetch_all<F: Files>(
     command: &Command<'_>,
     files: &mut F,
 ) -> Result<Fetched, Unfetched>
-    requires { length command.now.calendars.now ≤ most_calendars }
+    requires few { length command.now.calendars.now ≤ most_calendars }
+    requires flows { TakesFlows command.now.task (asked_by command.now).flows }
     ensures { FetchesAll (F.told files.old) (F.failed files.new) (F.faults files.old) (F.faults files.new) (asked_by command.now) result }
 {
     let document = fetch(alloc, files, command.document, 1)?;
     let fixings = fetch_if(alloc, files, command.fixings, 2)?;
+    let flows = fetch_if(alloc, files, command.flows, 3)?;
     let first = command.task.first_calendar();
     let calendars = fetch_row(alloc, files, command.calendars, first)?;
     Ok(Fetched {
         document,
         fixings,
+        flows,
         calendars,
     })
 }

@@ -5,6 +5,8 @@ mod commands;
 mod fetching;
 mod file_map;
 mod files;
+mod flow_messages;
+mod flows;
 mod inputs;
 mod memory_files;
 mod memory_sink;

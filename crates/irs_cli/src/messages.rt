@@ -69,17 +69,17 @@ pub(crate) fn numbered_text(
     Ok(text)
 }
 
-// A space, and a number in decimal digits.
+/// A space, and a number in decimal digits.
 #[tactic(auto, using(crate::proofs::Pushes::appended))]
-fn push_spaced(text: &mut Vec<u8>, n: u32) -> Result<(), Memory>
+pub(crate) fn push_spaced(text: &mut Vec<u8>, n: u32) -> Result<(), Memory>
     ensures { OnOk result (text.new.items ≡ text.old.items ++ 32 ∷ decimal n) }
 {
     text.push(b' ')?;
     push_number(text, n)
 }
 
-// A number in decimal digits.
-fn push_number(text: &mut Vec<u8>, n: u32) -> Result<(), Memory>
+/// A number in decimal digits.
+pub(crate) fn push_number(text: &mut Vec<u8>, n: u32) -> Result<(), Memory>
     ensures { OnOk result (text.new.items ≡ text.old.items ++ decimal n) }
 {
     let mut digits = itoa::Buffer::new();

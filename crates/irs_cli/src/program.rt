@@ -18,12 +18,13 @@ use crate::{Files, Sink};
 use irs_base::Memory;
 use std::alloc::Global;
 
-/// Prints what the words ask for, and answers the status: 0 done, 2 a rule is broken, 3 a calendar
-/// or fixing file is outside its grammar or limits, 4 the words are no listed command, 5 a file
-/// can't be read, 6 a put failed, 7 want of memory, 8 a file is too long.
+/// Prints what the words ask for, and answers the status: 0 done, 1 the flows don't agree, 2 a rule is
+/// broken, 3 a calendar, fixing or flow file is outside its grammar or limits, 4 the words are no
+/// listed command, 5 a file can't be read, 6 a put failed, 7 want of memory, 8 a file is too long.
 ///
-/// The commands are `check DOC CAL..` and `schedule DOC FIX CAL..`, with 0 to 16 calendars, and `-`
-/// as FIX for no fixings. All files are fetched first, in the order of the words.
+/// The commands are `check DOC CAL..`, `schedule DOC FIX CAL..` and `audit DOC FIX FLOWS CAL..`, with 0
+/// to 16 calendars, and `-` as FIX for no fixings. All files are fetched first, in the order of the
+/// words; the flows are read when no rule is broken.
 pub fn run<F: Files, S: Sink>(alloc: Global, words: &[String], files: &mut F, out: &mut S) -> u8
     // Want of memory: nothing was written.
     ensures memory { result ≡ 7 → S.written out.new ≡ S.written out.old }

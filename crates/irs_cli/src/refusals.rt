@@ -2,9 +2,10 @@
 ghost use Rattle.std.specs.Prelude.{◌≡◌};
 ghost use Rattle.irs_cli.specs.Messages.{unreadable};
 ghost use Rattle.irs_cli.specs.Outcomes.{of_fetch, of_json, of_read, of_making};
-ghost use Rattle.irs_cli.specs.declared.refusals.Refusal.TheVariants.{Calendars as OfCalendars, Fixings as OfFixings};
+ghost use Rattle.irs_cli.specs.declared.refusals.Refusal.TheVariants.{Calendars as OfCalendars, Fixings as OfFixings, Flows as OfFlows};
 
 use crate::fetching::Unfetched;
+use irs_audit::FlowErr;
 use irs_base::{Broken, Elem, Place, Rule};
 use irs_calendar::CalErr;
 use irs_json::JsonErr;
@@ -27,6 +28,8 @@ pub(crate) enum Refusal {
     Calendars(CalErr),
     /// The file of fixings is outside its grammar.
     Fixings(FixErr),
+    /// The flows are out of shape.
+    Flows(FlowErr),
     /// Memory ran out.
     Memory,
 }
@@ -78,6 +81,14 @@ impl From<FixErr> for Refusal {
 
     fn from(e: FixErr) -> Refusal {
         Refusal::Fixings(e)
+    }
+}
+
+impl From<FlowErr> for Refusal {
+    ghost from_gives = { λ e r. r ≡ OfFlows e };
+
+    fn from(e: FlowErr) -> Refusal {
+        Refusal::Flows(e)
     }
 }
 

@@ -1,15 +1,18 @@
 //! What is to be written, and the status that goes with it. All memory is taken here.
 ghost use Rattle.std.specs.Prelude.{◌≡◌, ◌++◌, decimal, Some, IfOk, OnOk, OnErr};
 ghost use Rattle.irs_cli.specs.Outside.{Rose, Grew, GrewByFront};
-ghost use Rattle.irs_cli.specs.Outcomes.{answer_of, fixings_answer, calendars_answer, outcome_status, outcome_text};
+ghost use Rattle.irs_cli.specs.Outcomes.{answer_of, fixings_answer, calendars_answer, flows_answer, outcome_status, outcome_text};
 ghost use Rattle.irs_cli.specs.Messages.{refused};
+ghost use Rattle.irs_cli.specs.FlowMessages.{verdict_status, verdict_text};
 ghost use Rattle.irs_cli.specs.Replying.{reply_status, reply_text};
 
+use crate::flow_messages::{departure_text, flows_text, yes_text};
 use crate::messages::{calendar_text, numbered_text, refused_text};
 use crate::outcomes::Outcome;
 use crate::refusals::Refusal;
 use crate::rows::put_schedule;
 use crate::{PutFailed, Sink};
+use irs_audit::{FlowErr, Verdict};
 use irs_base::Memory;
 use irs_calendar::CalErr;
 use irs_resets::FixErr;
@@ -44,6 +47,16 @@ pub(crate) fn outcome_reply(alloc: Global, outcome: Outcome) -> Result<Reply, Me
     match outcome {
         Outcome::Checked => Ok(Reply::Line(0, Vec::from_slice(alloc, b"ok\n")?)),
         Outcome::Scheduled(schedule) => Ok(Reply::Rows(schedule)),
+        Outcome::Audited(verdict) => verdict_reply(alloc, verdict),
+    }
+}
+
+fn verdict_reply(alloc: Global, verdict: Verdict) -> Result<Reply, Memory>
+    ensures { IfOk result (λ r. (reply_status r ≡ verdict_status verdict) × (reply_text r ≡ verdict_text verdict)) }
+{
+    match verdict {
+        Verdict::Yes { rows, unfixed } => Ok(Reply::Line(0, yes_text(alloc, rows, unfixed)?)),
+        Verdict::No(departure) => Ok(Reply::Line(1, departure_text(alloc, departure)?)),
     }
 }
 
@@ -58,6 +71,7 @@ pub(crate) fn refusal_reply(alloc: Global, refusal: Refusal) -> Result<Reply, Me
         Refusal::Rule(broken) => Ok(Reply::Line(2, refused_text(alloc, broken)?)),
         Refusal::Calendars(e) => calendars_reply(alloc, e),
         Refusal::Fixings(e) => fixings_reply(alloc, e),
+        Refusal::Flows(e) => flows_reply(alloc, e),
         Refusal::Memory => Err(Memory),
     }
 }
@@ -86,6 +100,15 @@ fn fixings_reply(alloc: Global, e: FixErr) -> Result<Reply, Memory>
         FixErr::Syntax(line) => numbered(alloc, 3, b"bad fixings ", line, b" syntax\n"),
         FixErr::Repeat(line) => numbered(alloc, 3, b"bad fixings ", line, b" repeat\n"),
         FixErr::Memory => Err(Memory),
+    }
+}
+
+fn flows_reply(alloc: Global, e: FlowErr) -> Result<Reply, Memory>
+    ensures { IfOk result (λ r. flows_answer e ≡ Some (reply_status r, reply_text r)) }
+{
+    match e {
+        FlowErr::Shape(kind, place) => Ok(Reply::Line(3, flows_text(alloc, kind, place)?)),
+        FlowErr::Memory => Err(Memory),
     }
 }
 

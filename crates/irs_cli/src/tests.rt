@@ -27,6 +27,19 @@ c 1 2 2024-07-15 2025-01-15 2024-07-15 2025-01-15 184 184/360 1000000.0000 0.050
 end
 ";
 
+// Its cash flows.
+const FLOWS: &str =
+    r#"{"swap":{"swapStream":{"cashflows":{"cashflowsMatchParameters":"true","paymentCalculationPeriod":[
+{"adjustedPaymentDate":"2024-07-15","calculationPeriod":{"adjustedStartDate":"2024-01-15",
+"adjustedEndDate":"2024-07-15","notionalAmount":"1000000","calculationPeriodNumberOfDays":"182",
+"fixedRate":"0.05","dayCountYearFraction":"0.5055555556"},
+"forecastPaymentAmount":{"currency":"USD","amount":"25277.78"}},
+{"adjustedPaymentDate":"2025-01-15","calculationPeriod":{"adjustedStartDate":"2024-07-15",
+"adjustedEndDate":"2025-01-15","notionalAmount":"1000000.00","calculationPeriodNumberOfDays":184,
+"fixedRate":"0.05","dayCountYearFraction":"0.5111111111"},
+"forecastPaymentAmount":{"currency":"USD","amount":"25555.56"}}]}}}}
+"#;
+
 fn words(alloc: Global, all: &[&str]) -> Result<Vec<String>, AllocError> {
     let mut words = Vec::new(alloc);
     for word in all {
@@ -40,6 +53,8 @@ fn all_files(alloc: Global) -> Result<MemFiles, Fail> {
     let mut files = MemFiles::new(alloc);
     files.add("B", DOCUMENT.as_bytes())?;
     files.add("cut", &DOCUMENT.as_bytes()[..100])?;
+    files.add("F", FLOWS.as_bytes())?;
+    files.add("unpaid", b"{\"swap\":{\"swapStream\":{\"cashflows\":{}}}}")?;
     files.add("other", b"{\"swap\":{}}")?;
     files.add("cal", b"center A\ncover 2024-01-01 2024-12-31\nweekend\n")?;
     files.add("word", b"# a comment\ncentre A\n")?;
@@ -108,6 +123,35 @@ fn files_and_their_faults(rt: HostRuntime) -> Result<(), Fail> {
         ),
         (["schedule", "B", "bad", "cal"], 3, "bad fixings 1 syntax\n"),
         (["check", "B", "cal", "cal"], 3, "bad calendar 2 1 repeat\n"),
+    ] {
+        expect(&rt, alloc, &asked, status, text)?;
+    }
+    Ok(())
+}
+
+// No flows stand in B itself.
+#[test]
+fn flows_that_do_and_do_not_agree(rt: HostRuntime) -> Result<(), Fail> {
+    let alloc = rt.alloc();
+    for (asked, status, text) in [
+        (["audit", "B", "-", "F"], 0, "yes 4 0\n"),
+        (["audit", "B", "-", "unpaid"], 1, "no 1 payment 1 missing\n"),
+        (
+            ["audit", "B", "-", "B"],
+            3,
+            "bad flows missing 1 cashflows 0\n",
+        ),
+        (
+            ["audit", "B", "-", "cut"],
+            3,
+            "bad flows notjson 0 document 0\n",
+        ),
+        (
+            ["audit", "other", "-", "cut"],
+            2,
+            "refused K2 0 swapStream 0\n",
+        ),
+        (["audit", "B", "-", "gone"], 5, "no file 3\n"),
     ] {
         expect(&rt, alloc, &asked, status, text)?;
     }

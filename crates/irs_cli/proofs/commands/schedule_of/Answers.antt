@@ -1,4 +1,4 @@
-use Rattle.std.proofs.Common.{arith, rules, List, String, string_bytes}
+use Rattle.std.proofs.Common.{rules, String, string_bytes}
 use Rattle.std.specs.declared.alloc.Global.{Global}
 use Rattle.std.proofs.lemmas.List.{length-map}
 use Rattle.irs_cli.specs.Commands.{texts}

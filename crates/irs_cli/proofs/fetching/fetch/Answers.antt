@@ -1,4 +1,4 @@
-use Rattle.std.proofs.Common.{◌≡◌, ◌<◌, ◌≤◌, refl, arith, rules, length}
+use Rattle.std.proofs.Common.{◌<◌, ◌≤◌, refl, arith, rules, length}
 use Rattle.irs_cli.proofs.FetchLemmas.{front_whole, front_long}
 use Rattle.irs_cli.proofs.fetching.fetch.Goals as goal
 

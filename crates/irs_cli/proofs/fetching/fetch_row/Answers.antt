@@ -4,7 +4,7 @@ use Rattle.std.specs.declared.alloc.Global.{Global}
 use Rattle.std.proofs.lemmas.List.{length-map, take_all}
 use Rattle.irs_payments.specs.Numbered.{Pairs}
 use Rattle.irs_cli.specs.Commands.{Words, texts}
-use Rattle.irs_cli.specs.Fetching.{Holds, IsAlone, IsInRow, Stops}
+use Rattle.irs_cli.specs.Fetching.{Holds, IsAlone, IsInRow}
 use Rattle.irs_cli.proofs.FetchLemmas.{ap_some, holds_before, stops_before, row_stops, row_by, row_more, word_at}
 use Rattle.irs_cli.proofs.fetching.fetch_row.Goals as goal
 

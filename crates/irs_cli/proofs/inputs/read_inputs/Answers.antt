@@ -1,4 +1,4 @@
-use Rattle.std.proofs.Common.{◌≡◌, ◌<◌, ◌≤◌, ℕ, List, [], sym, subst, Vec}
+use Rattle.std.proofs.Common.{ℕ, List, [], sym, subst, Vec}
 use Rattle.std.specs.Prelude.{map}
 use Rattle.std.specs.declared.alloc.Global.{Global}
 use Rattle.irs_calendar.specs.Calendars.{SpotFails, spot_of, calendars_in}

@@ -1,8 +1,6 @@
-use Rattle.std.proofs.Common.{sym, subst}
-use Rattle.irs_cli.specs.declared.outcomes.Outcome.{Outcome}
-use Rattle.irs_cli.specs.Outcomes.{Concludes, outcome_status, outcome_text}
+use Rattle.irs_cli.specs.Outcomes.{Concludes}
 use Rattle.irs_cli.specs.Fetching.{given_by}
-use Rattle.irs_cli.proofs.DueLemmas.{answered_by, refused_due, scheduled_due}
+use Rattle.irs_cli.proofs.DueLemmas.{answered_by, refused_due, scheduled_answer}
 use Rattle.irs_cli.proofs.outcomes.outcome_of.Goals as goal
 
 pub returns-in_err-schedule : goal.returns-in_err-schedule
@@ -16,5 +14,4 @@ returns-in_err-schedule c =
 pub returns : goal.returns
 returns c =
     let i = c.in_ok-inputs.inputs in
-    let g = given_by c.args.fetched.now in
-    subst (λ (o : Outcome). Concludes c.args.task g (outcome_status o) (outcome_text o)) (sym c.outcome_by.ensures) (scheduled_due c.args.task g i.swap i.calendars i.fixings c.in_ok-inputs.ensures.says c.in_ok-schedule.schedule c.in_ok-schedule.ensures.schedule)
+    scheduled_answer c.args.task (given_by c.args.fetched.now) i.swap i.calendars i.fixings c.in_ok-inputs.ensures.says c.in_ok-schedule.schedule c.outcome_by.result c.in_ok-schedule.ensures.schedule c.outcome_by.ensures
