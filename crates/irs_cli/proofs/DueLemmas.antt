@@ -15,6 +15,7 @@ use Rattle.irs_calendar.specs.declared.sections.Section.{Section}
 use Rattle.irs_calendar.proofs.GrammarLemmas.{spelt_is_read}
 use Rattle.irs_resets.specs.Rates.{RateTable}
 use Rattle.irs_resets.specs.declared.fixings.FixErr.{FixErr}
+use Rattle.irs_schedule.proofs.OneBroken.{one_broken}
 use Rattle.irs_schedule.specs.DatedRules.{DatedKept, DatedBroken}
 use Rattle.irs_schedule.specs.Parts.{Part}
 use Rattle.irs_schedule.specs.Schedules.{IsSchedule}
@@ -22,7 +23,7 @@ use Rattle.irs_cli.specs.declared.commands.Task.{Task}
 use Rattle.irs_cli.specs.declared.commands.Task.TheVariants.{Check, Schedule, Audit}
 use Rattle.irs_cli.specs.Given.{Given}
 use Rattle.irs_cli.specs.Messages.{refused, unreadable, bad_calendar, bad_fixings}
-use Rattle.irs_cli.specs.Due.{Only, IsJson, SpellsSwap, AreFixings, IsFixingsFault, KeepsTerms, FilesSay, DueUnbroken, DueFor, flow_bytes}
+use Rattle.irs_cli.specs.Due.{Only, IsJson, SpellsSwap, AreFixings, IsFixingsFault, KeepsTerms, FilesSay, DueUnbroken, DueFor, flow_bytes, unread_document, no_swap, no_calendars, no_rates, broken_terms, broken_dates, none_broken}
 use Rattle.irs_cli.specs.Outcomes.{ComesTo, DueOf, IsScheduled, IsTermsFirst, IsRuleFirst, outcome_status, outcome_text}
 use Rattle.std.specs.Prelude.{IfSome, IfErr, IsErr}
 use Rattle.std.specs.Result.{IsErrAnd}
@@ -81,17 +82,18 @@ due_unread task g h = record {
   terms = λ swap cal table s _. absurd (h (s.document.0, s.document.1));
   dated = λ swap cal table s _ _. absurd (h (s.document.0, s.document.1));
   unbroken = λ swap cal table s _ _. absurd (h (s.document.0, s.document.1));
+  case = unread_document h;
 }
 
 -- a document that breaks a rule spells no swap
-no_swap : (bytes : List ℕ) (v : Data) (b : Broken) (swap : Swap) → Reads bytes v → DocumentFault v b → SpellsSwap bytes swap → ⊥
-no_swap bytes v b swap reads fault s =
+spells_none : (bytes : List ℕ) (v : Data) (b : Broken) (swap : Swap) → Reads bytes v → DocumentFault v b → SpellsSwap bytes swap → ⊥
+spells_none bytes v b swap reads fault s =
     let e : s.0 ≡ v = one_reading bytes v s.0 reads s.1 in
     s.2.clean b (subst (λ (d : Data). DocumentFault d b) (sym e) fault)
 
 pub due_document : (task : Task) (g : Given) (v : Data) (b : Broken) → Reads g.document v → IsFirst (DocumentFault v) (Some b) → DueFor task g 2 (refused b)
 due_document task g v b reads first =
-    let none : (swap : Swap) → SpellsSwap g.document swap → ⊥ = λ swap s. no_swap g.document v b swap reads first.0 s in
+    let none : (swap : Swap) → SpellsSwap g.document swap → ⊥ = λ swap s. spells_none g.document v b swap reads first.0 s in
     record {
       unread = λ n. absurd (n (v, reads));
       document = λ w k _.
@@ -103,6 +105,7 @@ due_document task g v b reads first =
       terms = λ swap cal table s _. absurd (none swap s.document);
       dated = λ swap cal table s _ _. absurd (none swap s.document);
       unbroken = λ swap cal table s _ _. absurd (none swap s.document);
+      case = no_swap v reads (λ k. none k.0 (v, reads, k.1));
     }
 
 -- files with a faulty line spell no sections
@@ -120,6 +123,7 @@ due_calendars task g swap s spells e =
       terms = λ _ cal table h _. absurd (none cal h.calendars);
       dated = λ _ cal table h _ _. absurd (none cal h.calendars);
       unbroken = λ _ cal table h _ _. absurd (none cal h.calendars);
+      case = no_calendars swap spells (λ k. none k.0 k.1);
     }
 
 pub due_fixings : (task : Task) (g : Given) (swap : Swap) (cal : List Section) (f : FixErr) → SpellsSwap g.document swap → CalFiles g.calendars cal → IsFixingsFault g.fixings f → DueFor task g 3 (bad_fixings f)
@@ -131,6 +135,7 @@ due_fixings task g swap cal f spells files fault = record {
   terms = λ _ _ table h _. absurd (no_fixings g.fixings f table fault h.fixings);
   dated = λ _ _ table h _ _. absurd (no_fixings g.fixings f table fault h.fixings);
   unbroken = λ _ _ table h _ _. absurd (no_fixings g.fixings f table fault h.fixings);
+  case = no_rates swap cal spells files (λ k. no_fixings g.fixings f k.0 fault k.1);
 }
 
 -- ---- the rules of the swap
@@ -183,6 +188,7 @@ module _ (task : Task) (g : Given) (swap : Swap) (cal : List Section) (table : R
         terms = λ s c t h _. (b, terms_too s c t (λ x y. IsTermsFirst x y b) h first, (refl, refl));
         dated = λ s c t h kept _. absurd (broken s c t h kept);
         unbroken = λ s c t h kept _. absurd (broken s c t h kept);
+        case = broken_terms swap cal table says (λ kept. kept b first.is.0);
       }
 
   pub due_dated : (b : Broken) → KeepsTerms swap cal → DatedBroken swap cal table b → DueFor task g 2 (refused b)
@@ -192,8 +198,9 @@ module _ (task : Task) (g : Given) (swap : Swap) (cal : List Section) (table : R
     calendars = λ _ _ n. absurd (n (cal, says.calendars));
     fixings = λ _ _ _ _ n. absurd (n (table, says.fixings));
     terms = λ s c t h n. absurd (n (terms_too s c t (λ x y. KeepsTerms x y) h kept));
-    dated = λ s c t h _ _. (b, broken_too s c t b h first, (refl, refl));
+    dated = λ s c t h _ _. let is = broken_too s c t b h first in (b, record { is = is; only = λ y k. one_broken s c t y b k is }, (refl, refl));
     unbroken = λ s c t h _ all. absurd (not_kept s c t b (broken_too s c t b h first) all);
+    case = broken_dates swap cal table says kept (λ all. not_kept swap cal table b first all);
   }
 
   pub due_rule : (b : Broken) → IsRuleFirst swap cal table b → DueFor task g 2 (refused b)
@@ -214,6 +221,7 @@ module _ (task : Task) (g : Given) (swap : Swap) (cal : List Section) (table : R
     terms = λ s c t h n. absurd (n (terms_too s c t (λ x y. KeepsTerms x y) h all.terms));
     dated = λ s c t h _ n. absurd (n (dated_too s c t h all.dated));
     unbroken = λ s c t h _ _. unbroken_for task (flow_bytes g.flows) s c t parts status text (schedule_too s c t parts h all.schedule) due;
+    case = none_broken swap cal table says all.terms all.dated;
   }
 
   scheduled_due : (parts : List Part) → IsScheduled swap cal table parts → (status : ℕ) (text : List ℕ) → ComesTo task (flow_bytes g.flows) parts status text → Concludes task g status text

@@ -18,7 +18,7 @@ use Rattle.irs_audit.specs.declared.error.ShapeKind.{ShapeKind}
 use Rattle.irs_audit.specs.declared.error.ShapeKind.TheVariants.{NotJson}
 use Rattle.irs_cli.specs.declared.commands.Task.TheVariants.{Audit}
 use Rattle.irs_cli.specs.declared.refusals.Refusal.TheVariants.{Flows}
-use Rattle.irs_cli.specs.Due.{IsJson, DueFlows}
+use Rattle.irs_cli.specs.Due.{IsJson, DueFlows, unread_flows, no_flows}
 use Rattle.irs_cli.specs.FlowMessages.{bad_flows, whole_document, verdict_status, verdict_text}
 use Rattle.irs_cli.specs.Outcomes.{ComesTo, FlowsFail, IfRefused}
 use Rattle.irs_cli.proofs.DueLemmas.{one_reading}
@@ -29,6 +29,7 @@ due_unread bytes s h = record {
   unread = λ _. (refl, refl);
   fault = λ v reads _. absurd (h (v, reads));
   verdict = λ v flows reads _. absurd (h (v, reads));
+  case = unread_flows h;
 }
 
 due_fault : (bytes : List ℕ) (s : List Part) (v : Data) (b : Broken) → Reads bytes v → IsFirst (FlowFault v) (Some b) → DueFlows bytes s 3 (bad_flows (kind_of b.rule) b.place)
@@ -41,6 +42,7 @@ due_fault bytes s v b reads first = record {
   verdict = λ w flows k of.
       let e : w ≡ v = one_reading bytes v w reads k in
       absurd (of.clean b (subst (λ (d : Data). FlowFault d b) (sym e) first.0));
+  case = no_flows v reads (λ k. k.1.clean b first.0);
 }
 
 due_shape : (bytes : List ℕ) (s : List Part) (v : Data) (how : ShapeKind) (place : Place) → Reads bytes v → IsFirstShape v how place → DueFlows bytes s 3 (bad_flows how place)

@@ -1,5 +1,5 @@
 -- What a run says, from what its parts say.
-use Rattle.std.proofs.Common.{◌≡◌, inl, inr, ℕ, zero, suc, ◌<◌, ◌≤◌, List, [], ◌∷◌, length, Option, Some, None, Result, refl, sym, ap, subst, arith}
+use Rattle.std.proofs.Common.{◌≡◌, inl, inr, ℕ, zero, suc, ◌+◌, ◌<◌, ◌≤◌, List, [], ◌∷◌, length, Option, Some, None, Result, refl, sym, ◌∙◌, ap, subst, arith}
 use Rattle.std.specs.Prelude.{IfSome, slice_get}
 use Rattle.std.proofs.lemmas.Bool.{cases_order}
 use Rattle.irs_payments.specs.Numbered.{Pairs}
@@ -7,11 +7,11 @@ use Rattle.irs_cli.specs.declared.fetching.Unfetched.{Unfetched}
 use Rattle.irs_cli.specs.declared.fetching.Unfetched.TheVariants as fetching
 use Rattle.irs_cli.specs.declared.outcomes.Outcome.{Outcome}
 use Rattle.irs_cli.specs.declared.refusals.Refusal.{Refusal}
-use Rattle.irs_cli.specs.Commands.{Words, Asked, Asks, IsListed, IsFileAt, at_document, at_fixings, at_flows, at_calendar}
-use Rattle.irs_cli.specs.Given.{Told, Given, IsTold, EachOption, AreTold, IsFirstLong, too_many}
-use Rattle.irs_cli.specs.Fetching.{HoldsFiles, NotFetched, IsLong, Stops}
+use Rattle.irs_cli.specs.Commands.{Words, Asked, Asks, IsListed, IsFileAt, at_document, at_fixings, at_flows, at_calendar, first_calendar}
+use Rattle.irs_cli.specs.Given.{Told, Given, IsTold, EachOption, AreTold, IsFirstLong, TellsAll, too_many}
+use Rattle.irs_cli.specs.Fetching.{Holds, HoldsFiles, NotFetched, IsLong, Stops}
 use Rattle.irs_cli.specs.Messages.{bad_words, no_file, too_long}
-use Rattle.irs_cli.specs.Due.{Due}
+use Rattle.irs_cli.specs.Due.{Due, no_command, long_file, all_told}
 use Rattle.irs_cli.specs.Outcomes.{of_fetch, Concludes, IfRefused, IfAnswered}
 use Rattle.irs_cli.specs.Run.{NoFile, Replies}
 use Rattle.irs_cli.proofs.CommandLemmas.{one_command, named_by}
@@ -26,6 +26,7 @@ unlisted_replies ws told failed n none =
       unlisted = λ _. (refl, refl);
       long = λ place first. absurd (none (first.word.0, first.word.1));
       given = λ a g asks _. absurd (none (a, asks));
+      case = λ _. no_command none;
     } in
     record {
       is_text = inl (4, due);
@@ -94,6 +95,18 @@ same_place ws told a before now p q asks h first = elim (cases_order p q) [
   | inr (inr more) ↦ let short : length first.bytes < too_many = h.none_long q first.name first.bytes more (named_by ws a q first.name asks first.word) first.is_told in absurd (omega (arith, short, first.long))
 ]
 
+first_long : (ws : Words) (told : Told) (a : Asked) (before now place : ℕ) → Asks ws a → IsLong told (IsFileAt a) before now place → TellsAll ws told → IsFirstLong ws told place
+first_long ws told a before now place asks h tells =
+    let own = tells place h.name (a, asks, h.word) in
+    record {
+      name = h.name;
+      bytes = own.0;
+      word = (a, asks, h.word);
+      is_told = own.1;
+      long = subst (λ (o : Option (List ℕ)). IfSome o (λ xs. too_many ≤ length xs)) own.1 h.long;
+      before = λ n other less names. let k = tells n other names in (k.0, (k.1, h.none_long n other k.0 less (named_by ws a n other asks names) k.1));
+    }
+
 pub long_replies : (ws : Words) (told : Told) (a : Asked) (failed : Option (List ℕ)) (before now place : ℕ) → Asks ws a → IsLong told (IsFileAt a) before now place → Replies ws told failed before now 8 (too_long place)
 long_replies ws told a failed before now place asks h =
     let due : Due ws told 8 (too_long place) = record {
@@ -103,6 +116,7 @@ long_replies ws told a failed before now place asks h =
           let e : b ≡ a = one_command ws b a other asks in
           let k = told_at told a g place h.name (subst (λ (x : Asked). AreTold told x g) e are) h.word in
           absurd (not_long told h.name k.0 h.long k.1);
+      case = λ tells. long_file place (first_long ws told a before now place asks h tells);
     } in
     record {
       is_text = inl (8, due);
@@ -122,6 +136,34 @@ stopped_replies ws told a failed before now fetching.Memory asks h = tt
 
 -- ---- files that are fetched
 
+is_told : (told : Told) (name bytes xs : List ℕ) → Holds told name bytes → told name ≡ Some xs → IsTold told name bytes
+is_told told name bytes xs h e =
+    let same : bytes ≡ xs = subst (λ (o : Option (List ℕ)). IfSome o (λ ys. bytes ≡ ys)) e h.0 in
+    (e ∙ ap Some (sym same), h.1)
+
+option_told : (told : Told) (o f : Option (List ℕ)) → ((name : List ℕ) → o ≡ Some name → (xs : List ℕ) × (told name ≡ Some xs)) → EachOption (Holds told) o f → EachOption (IsTold told) o f
+option_told told None None tells h = tt
+option_told told None (Some x) tells h = absurd h
+option_told told (Some n) None tells h = absurd h
+option_told told (Some n) (Some x) tells h = let k = tells n refl in is_told told n x k.0 h k.1
+
+each_told : (told : Told) (ns : Words) (fs : List (List ℕ)) → ((i : ℕ) (name : List ℕ) → slice_get ns i ≡ Some name → (xs : List ℕ) × (told name ≡ Some xs)) → Pairs (Holds told) ns fs → Pairs (IsTold told) ns fs
+each_told told [] [] tells h = tt
+each_told told [] (f ∷ fs) tells h = absurd h
+each_told told (n ∷ ns) [] tells h = absurd h
+each_told told (n ∷ ns) (f ∷ fs) tells h = let k = tells zero n refl in (is_told told n f k.0 h.0 k.1, each_told told ns fs (λ i name at. tells (suc i) name at) h.1)
+
+-- held files are those that the source tells, where it tells all
+are_told : (ws : Words) (told : Told) (a : Asked) (g : Given) → Asks ws a → HoldsFiles told a g → TellsAll ws told → AreTold told a g
+are_told ws told a g asks held tells =
+    let document = tells 1 a.document (a, asks, at_document refl refl) in
+    record {
+      document = is_told told a.document g.document document.0 held.document document.1;
+      fixings = option_told told a.fixings g.fixings (λ name e. tells 2 name (a, asks, at_fixings refl e)) held.fixings;
+      flows = option_told told a.flows g.flows (λ name e. tells 3 name (a, asks, at_flows refl e)) held.flows;
+      calendars = each_told told a.calendars g.calendars (λ i name e. tells (first_calendar a.task + i) name (a, asks, at_calendar i refl e)) held.calendars;
+    }
+
 concluded_replies : (ws : Words) (told : Told) (a : Asked) (g : Given) (failed : Option (List ℕ)) (before now : ℕ) → Asks ws a → HoldsFiles told a g → now ≡ before → (status : ℕ) (text : List ℕ) → Concludes a.task g status text → Replies ws told failed before now status text
 concluded_replies ws told a g failed before now asks held quiet status text h =
     let due : Due ws told status text = record {
@@ -133,6 +175,7 @@ concluded_replies ws told a g failed before now asks held quiet status text h =
           let e : b ≡ a = one_command ws b a other asks in
           let same : k ≡ g = told_files told a g k held (subst (λ (x : Asked). AreTold told x k) e are) in
           rw (e, same) h.due;
+      case = λ tells. all_told a g asks (are_told ws told a g asks held tells);
     } in
     record {
       is_text = inl (status, due);

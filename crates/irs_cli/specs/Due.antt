@@ -30,7 +30,7 @@ use Rattle.irs_audit.specs.declared.error.ShapeKind.TheVariants.{NotJson}
 use Rattle.irs_cli.specs.declared.commands.Task.{Task}
 use Rattle.irs_cli.specs.declared.commands.Task.TheVariants.{Check, Schedule, Audit}
 use Rattle.irs_cli.specs.Commands.{Words, Asked, Asks, IsListed}
-use Rattle.irs_cli.specs.Given.{Told, Given, AreTold, IsFirstLong}
+use Rattle.irs_cli.specs.Given.{Told, Given, AreTold, IsFirstLong, TellsAll}
 use Rattle.irs_cli.specs.Messages.{bad_words, too_long, refused, unreadable, bad_calendar, bad_fixings, all_kept}
 use Rattle.irs_cli.specs.FlowMessages.{bad_flows, whole_document, verdict_status, verdict_text}
 
@@ -80,6 +80,12 @@ pub record FilesSay (g : Given) (swap : Swap) (cal : List Section) (table : Rate
 abbrev pub flow_bytes : Option (List ℕ) → List ℕ
 flow_bytes flows = unwrap_or flows []
 
+-- how a file of flows may be: it has no JSON reading, its reading states no flows, or it states them
+pub data FlowsCase (bytes : List ℕ) : Type 0 where
+  unread_flows : ¬ (IsJson bytes) → FlowsCase bytes
+  no_flows : (v : Data) → Reads bytes v → ¬ ((flows : List FlowPart) × FlowsOf v flows) → FlowsCase bytes
+  some_flows : (v : Data) (flows : List FlowPart) → Reads bytes v → FlowsOf v flows → FlowsCase bytes
+
 -- what is due for flows against a schedule
 pub record DueFlows (bytes : List ℕ) (s : List Part) (status : ℕ) (text : List ℕ) : Type 0 where
   -- the flows have no JSON reading
@@ -88,12 +94,24 @@ pub record DueFlows (bytes : List ℕ) (s : List Part) (status : ℕ) (text : Li
   pub fault : (v : Data) → Reads bytes v → ¬ ((flows : List FlowPart) × FlowsOf v flows) → (b : Broken) × Only (λ f. IsFirst (FlowFault v) (Some f)) b × Is 3 (bad_flows (kind_of b.rule) b.place) status text
   -- it states flows: the verdict on them
   pub verdict : (v : Data) (flows : List FlowPart) → Reads bytes v → FlowsOf v flows → (w : Verdict) × Only (IsVerdict flows s) w × Is (verdict_status w) (verdict_text w) status text
+  -- one of these applies
+  pub case : FlowsCase bytes
 
 -- what is due where no rule is broken: `ok`, the text of the one schedule, or what is due for the flows against it
 abbrev pub DueUnbroken : Task → List ℕ → Swap → List Section → RateTable → ℕ → List ℕ → Type 0
 DueUnbroken Check flows swap cal table status text = Is 0 all_kept status text
 DueUnbroken Schedule flows swap cal table status text = (s : List Part) × Only (IsSchedule swap cal table) s × Is 0 (text_of s) status text
 DueUnbroken Audit flows swap cal table status text = (s : List Part) × Only (IsSchedule swap cal table) s × DueFlows flows s status text
+
+-- how the files of a task may be: the first step that fails, or no rule is broken
+pub data FilesCase (g : Given) : Type 0 where
+  unread_document : ¬ (IsJson g.document) → FilesCase g
+  no_swap : (v : Data) → Reads g.document v → ¬ ((swap : Swap) × Means v swap) → FilesCase g
+  no_calendars : (swap : Swap) → SpellsSwap g.document swap → ¬ ((cal : List Section) × CalFiles g.calendars cal) → FilesCase g
+  no_rates : (swap : Swap) (cal : List Section) → SpellsSwap g.document swap → CalFiles g.calendars cal → ¬ ((table : RateTable) × AreFixings g.fixings table) → FilesCase g
+  broken_terms : (swap : Swap) (cal : List Section) (table : RateTable) → FilesSay g swap cal table → ¬ (KeepsTerms swap cal) → FilesCase g
+  broken_dates : (swap : Swap) (cal : List Section) (table : RateTable) → FilesSay g swap cal table → KeepsTerms swap cal → ¬ (DatedKept swap cal table) → FilesCase g
+  none_broken : (swap : Swap) (cal : List Section) (table : RateTable) → FilesSay g swap cal table → KeepsTerms swap cal → DatedKept swap cal table → FilesCase g
 
 -- what is due for a task and the files
 pub record DueFor (task : Task) (g : Given) (status : ℕ) (text : List ℕ) : Type 0 where
@@ -108,9 +126,17 @@ pub record DueFor (task : Task) (g : Given) (status : ℕ) (text : List ℕ) : T
   -- K10 to K21
   pub terms : (swap : Swap) (cal : List Section) (table : RateTable) → FilesSay g swap cal table → ¬ (KeepsTerms swap cal) → (b : Broken) × Only (λ f. IsFirstOfTerms (BreaksTerms swap cal) (Some f)) b × Is 2 (refused b) status text
   -- K30 to K39
-  pub dated : (swap : Swap) (cal : List Section) (table : RateTable) → FilesSay g swap cal table → KeepsTerms swap cal → ¬ (DatedKept swap cal table) → (b : Broken) × DatedBroken swap cal table b × Is 2 (refused b) status text
+  pub dated : (swap : Swap) (cal : List Section) (table : RateTable) → FilesSay g swap cal table → KeepsTerms swap cal → ¬ (DatedKept swap cal table) → (b : Broken) × Only (DatedBroken swap cal table) b × Is 2 (refused b) status text
   -- no rule is broken
   pub unbroken : (swap : Swap) (cal : List Section) (table : RateTable) → FilesSay g swap cal table → KeepsTerms swap cal → DatedKept swap cal table → DueUnbroken task (flow_bytes g.flows) swap cal table status text
+  -- one of these applies
+  pub case : FilesCase g
+
+-- how words and files may be: the words are no listed command, a file is too long, or all files are told
+pub data WordsCase (ws : Words) (told : Told) : Type 0 where
+  no_command : ¬ (IsListed ws) → WordsCase ws told
+  long_file : (place : ℕ) → IsFirstLong ws told place → WordsCase ws told
+  all_told : (a : Asked) (g : Given) → Asks ws a → AreTold told a g → WordsCase ws told
 
 -- what is due, where the source tells the files that the words name
 pub record Due (ws : Words) (told : Told) (status : ℕ) (text : List ℕ) : Type 0 where
@@ -120,3 +146,5 @@ pub record Due (ws : Words) (told : Told) (status : ℕ) (text : List ℕ) : Typ
   pub long : (place : ℕ) → IsFirstLong ws told place → Is 8 (too_long place) status text
   -- all files are told, and none is too long
   pub given : (a : Asked) (g : Given) → Asks ws a → AreTold told a g → DueFor a.task g status text
+  -- where every file is told, one of these applies
+  pub case : TellsAll ws told → WordsCase ws told

@@ -42,6 +42,10 @@ pub record AreTold (told : Told) (a : Asked) (g : Given) : Type 0 where
   pub flows : EachOption (IsTold told) a.flows g.flows
   pub calendars : Pairs (IsTold told) a.calendars g.calendars
 
+-- the source tells the file of every word that names one
+abbrev pub TellsAll : Words → Told → Type 0
+TellsAll ws told = (place : ℕ) (name : List ℕ) → NamesFile ws place name → (bytes : List ℕ) × (told name ≡ Some bytes)
+
 -- the file of the word at this place is too long, and each before it is told and isn't
 pub record IsFirstLong (ws : Words) (told : Told) (place : ℕ) : Type 0 where
   pub name : List ℕ

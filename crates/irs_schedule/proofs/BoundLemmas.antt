@@ -1,15 +1,13 @@
 -- What was dated lies within the bounds of a schedule.
-use Rattle.std.proofs.Common.{◌≡◌, ℕ, zero, suc, ◌+◌, ◌-◌, ◌*◌, ◌^◌, ◌<◌, ◌≤◌, List, [], ◌∷◌, length, map, All, IfSome, refl, sym, subst, arith, ℤ, pos, ◌<ℤ◌, unsigned_abs}
+use Rattle.std.proofs.Common.{◌≡◌, ℕ, zero, suc, ◌+◌, ◌-◌, ◌*◌, ◌^◌, ◌≤◌, List, [], ◌∷◌, length, map, All, refl, sym, subst, arith, ℤ, pos, unsigned_abs}
 use Rattle.std.proofs.lemmas.List.Elements.{All-head, All-tail}
 use Rattle.irs_base.proofs.RoundingLaws.{rounded_size}
 use Rattle.irs_base.specs.Listed.{AllAfter, IsRising}
 use Rattle.irs_base.specs.Rounding.{Rounded}
 use Rattle.irs_base.specs.declared.rounding.Direction.TheVariants.{Nearest}
 use Rattle.irs_terms.specs.Currencies.{decimals_of}
-use Rattle.irs_terms.specs.Lawful.{IsLawfulStream, IsRate, most_notional}
+use Rattle.irs_terms.specs.Lawful.{IsLawfulStream, most_notional}
 use Rattle.irs_terms.specs.declared.results.Exchange.{Exchange}
-use Rattle.irs_terms.specs.declared.results.Payment.{Payment}
-use Rattle.irs_terms.specs.declared.results.Reset.{Reset}
 use Rattle.irs_terms.specs.declared.stream.Stream.{Stream}
 use Rattle.irs_calendar.specs.GoodDays.{DaySet}
 use Rattle.irs_payments.specs.declared.exchanges.Transfer.{Transfer}
@@ -17,7 +15,6 @@ use Rattle.irs_payments.specs.Exchanges.{IsExchange, AreExchanges, transfers_of}
 use Rattle.irs_payments.specs.Numbered.{Pairs}
 use Rattle.irs_payments.specs.Payments.{Covers as CoversPeriods}
 use Rattle.irs_payments.proofs.ExchangeLemmas.{small_transfers, few_transfers}
-use Rattle.irs_resets.specs.Resets.{HasSmallRate}
 use Rattle.irs_schedule.specs.declared.entries.PaymentEntry.{PaymentEntry}
 use Rattle.irs_schedule.specs.Parts.{Every, Covers, Rises, RisesFrom, IsAmount}
 use Rattle.irs_schedule.specs.Schedules.{payment_of}

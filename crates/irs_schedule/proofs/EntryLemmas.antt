@@ -1,5 +1,5 @@
 -- What a part works out for its periods stands in the relations.
-use Rattle.std.proofs.Common.{◌≡◌, ℕ, zero, suc, ◌+◌, ◌-◌, ◌<◌, ◌≤◌, ◌==◌, List, [], ◌∷◌, length, map, Option, Some, None, option_map, refl, sym, subst, arith, ℤ, ◌<ℤ◌}
+use Rattle.std.proofs.Common.{◌≡◌, ℕ, zero, suc, ◌+◌, ◌-◌, ◌<◌, ◌≤◌, ◌==◌, List, length, map, Option, Some, None, option_map, refl, sym, subst, arith, ℤ}
 use Rattle.std.specs.List.{range_with_len}
 use Rattle.irs_base.specs.Listed.{IsRising}
 use Rattle.irs_terms.specs.declared.amounts.Leg.{Leg}
@@ -16,7 +16,6 @@ use Rattle.irs_compound.specs.declared.periods.PeriodTerm.{PeriodTerm}
 use Rattle.irs_compound.specs.declared.periods.Rates.{Rates}
 use Rattle.irs_payments.specs.Numbered.{EachNumbered}
 use Rattle.irs_payments.proofs.PlaceLemmas.{rises_at}
-use Rattle.irs_schedule.specs.declared.entries.PeriodEntry.{PeriodEntry}
 use Rattle.irs_schedule.specs.declared.kept_terms.KeptTerms.{KeptTerms}
 use Rattle.irs_schedule.specs.Parts.{day_at}
 use Rattle.irs_schedule.specs.Periods.{count_of, observed_of, rate_by, period_by, periods_by}

@@ -34,6 +34,7 @@ pub mod StreamRanges
 pub mod LayoutLemmas
 pub mod LayoutThere
 pub mod PartThere
+pub mod OneBroken
 pub mod OnePart
 pub mod AmountBounds
 pub mod AmountLemmas

@@ -8,11 +8,10 @@ use Rattle.irs_terms.specs.Lawful.{IsLawful}
 use Rattle.irs_terms.specs.declared.stream.Stream.{Stream}
 use Rattle.irs_terms.specs.declared.stream_list.Swap.{Swap}
 use Rattle.irs_calendar.specs.declared.sections.Section.{Section}
-use Rattle.irs_calendar.specs.GoodDays.{DaySet}
 use Rattle.irs_payments.specs.Numbered.{Pairs}
 use Rattle.irs_payments.proofs.NumberLemmas.{pairs_more}
 use Rattle.irs_resets.specs.Rates.{RateTable}
-use Rattle.irs_schedule.specs.DaySets.{StreamSets, stream_sets, boundary_days, payment_days, reset_days, fixing_days}
+use Rattle.irs_schedule.specs.DaySets.{StreamSets, stream_sets}
 use Rattle.irs_schedule.specs.DatedRules.{StreamKept, StreamBroken, DatedKept, DatedBroken, in_stream}
 use Rattle.irs_schedule.specs.Parts.{Part, Every, KeepsBounds, IsWithin}
 use Rattle.irs_schedule.specs.Schedules.{IsPart, IsSchedule}

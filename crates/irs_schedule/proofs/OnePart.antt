@@ -1,5 +1,5 @@
 -- A stream has at most one part, and a swap at most one schedule.
-use Rattle.std.proofs.Common.{◌≡◌, ℕ, zero, suc, ◌+◌, ◌-◌, ◌<◌, List, [], ◌∷◌, length, map, Some, slice_get, refl, sym, ap, ap₂, subst, ◌∙◌, arith}
+use Rattle.std.proofs.Common.{◌≡◌, ℕ, zero, suc, ◌+◌, ◌-◌, ◌<◌, List, [], ◌∷◌, length, map, Some, slice_get, refl, sym, ap₂, subst, ◌∙◌, arith}
 use Rattle.irs_base.specs.declared.places.Broken.{Broken}
 use Rattle.irs_terms.specs.Lawful.{IsLawful, IsLawfulStream}
 use Rattle.irs_terms.specs.declared.results.Reset.{Reset}

@@ -1,5 +1,5 @@
 -- The part that is made of what was worked out for a stream.
-use Rattle.std.proofs.Common.{◌≡◌, ℕ, ◌+◌, ◌-◌, ◌≤◌, List, length, map, refl, sym, subst, arith, ℤ}
+use Rattle.std.proofs.Common.{◌≤◌, List, length, refl, sym, subst, arith}
 use Rattle.irs_terms.specs.declared.results.Payment.{Payment}
 use Rattle.irs_terms.specs.declared.stream.Stream.{Stream}
 use Rattle.irs_payments.specs.Payments.{ArePayments}
@@ -10,10 +10,9 @@ use Rattle.irs_schedule.specs.KeptTerms.{is_floating}
 use Rattle.irs_schedule.specs.Layouts.{IsLayout}
 use Rattle.irs_schedule.specs.PaidEntries.{ArePaid}
 use Rattle.irs_schedule.specs.Parts.{Part}
-use Rattle.irs_schedule.specs.Periods.{periods_by, count_of}
-use Rattle.irs_schedule.specs.Schedules.{IsPart, payment_of}
+use Rattle.irs_schedule.specs.Periods.{periods_by}
+use Rattle.irs_schedule.specs.Schedules.{IsPart}
 use Rattle.irs_schedule.specs.declared.entries.PaymentEntry.{PaymentEntry}
-use Rattle.irs_schedule.specs.declared.kept_terms.KeptTerms.{KeptTerms}
 use Rattle.irs_schedule.specs.declared.layouts.Layout.{Layout}
 use Rattle.irs_schedule.specs.declared.stream.Dated.{Dated}
 use Rattle.irs_schedule.proofs.EntryLemmas.{kept_of, entries_stand}

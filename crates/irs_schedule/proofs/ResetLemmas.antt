@@ -1,5 +1,5 @@
 -- Resets that stand in their relation break no rule.
-use Rattle.std.proofs.Common.{◌≡◌, inl, inr, ℕ, zero, suc, ◌+◌, ◌-◌, ◌<◌, ◌≤◌, List, [], ◌∷◌, length, Option, Some, None, ap, ◌⊎◌, if◌then◌else◌, refl, sym, subst, ◌∙◌, arith, ℤ}
+use Rattle.std.proofs.Common.{◌≡◌, inl, inr, ℕ, zero, suc, ◌+◌, ◌-◌, ◌<◌, ◌≤◌, List, [], ◌∷◌, length, Option, Some, None, ap, ◌⊎◌, if◌then◌else◌, refl, subst, arith, ℤ}
 use Rattle.irs_base.specs.declared.places.Broken.{Broken}
 use Rattle.irs_terms.specs.declared.amounts.FloatTerms.{FloatTerms}
 use Rattle.irs_terms.specs.declared.amounts.Leg.{Leg}

@@ -1,19 +1,19 @@
 -- The parts of a stream in their turns, and that a part which was worked out breaks no rule.
-use Rattle.std.proofs.Common.{◌≡◌, ◌⊎◌, inl, inr, ℕ, zero, suc, ◌+◌, ◌<◌, ◌≤◌, List, length, refl, sym, ap, subst, ◌∙◌, ◌-◌, arith, ℤ}
+use Rattle.std.proofs.Common.{◌≡◌, ◌⊎◌, inl, inr, ℕ, zero, suc, ◌+◌, ◌<◌, List, length, refl, sym, ap, subst, ◌∙◌, ◌-◌, arith, ℤ}
 use Rattle.jiff_core.proofs.SignedLemmas.{signed_arith}
 use Rattle.irs_base.specs.declared.places.Broken.{Broken}
 use Rattle.irs_terms.specs.declared.results.Payment.{Payment}
 use Rattle.irs_terms.specs.declared.results.Reset.{Reset}
 use Rattle.irs_terms.specs.declared.results.Span.{Span}
 use Rattle.irs_terms.specs.declared.stream.Stream.{Stream}
-use Rattle.irs_roll.specs.Rolls.{Fits, IsTerm, OnGrid}
+use Rattle.irs_roll.specs.Rolls.{Fits, OnGrid}
 use Rattle.irs_periods.proofs.OneSpan.{one_span}
 use Rattle.irs_periods.proofs.Assembled.{one_list}
 use Rattle.irs_periods.proofs.AdjustedLemmas.{one_adjusted}
-use Rattle.irs_periods.specs.Spans.{Regular, anchor_of}
-use Rattle.irs_periods.specs.SpanRules.{SpanKept, SpanBroken, RollMisfits, LastOffGrid}
-use Rattle.irs_periods.specs.Boundaries.{Boundaries, IsBoundary, TooManyPeriods, most_periods}
-use Rattle.irs_periods.specs.Adjusting.{AdjustedList, AdjustedBroken, MissesResult, DoesNotRise, NotAfter, last_of, day_at, AdjustsAt}
+use Rattle.irs_periods.specs.Spans.{Regular}
+use Rattle.irs_periods.specs.SpanRules.{SpanKept}
+use Rattle.irs_periods.specs.Boundaries.{Boundaries, IsBoundary, most_periods}
+use Rattle.irs_periods.specs.Adjusting.{AdjustedBroken, NotAfter, day_at}
 use Rattle.irs_payments.specs.Faults.{IsFirst}
 use Rattle.irs_payments.specs.Payments.{ArePayments, BreaksPayments}
 use Rattle.irs_payments.specs.Steps.{BreaksSteps}
@@ -28,7 +28,7 @@ use Rattle.irs_schedule.specs.DaySets.{StreamSets}
 use Rattle.irs_schedule.specs.declared.layouts.Layout.{Layout}
 use Rattle.irs_schedule.specs.Layouts.{IsLayout}
 use Rattle.irs_schedule.specs.PeriodTerms.{PassesAt}
-use Rattle.irs_schedule.specs.DatedRules.{DatedPart, in_span, in_periods, in_payments, in_steps, in_exchanges, in_resets, in_amounts, turn_of, BoundariesBroken, PeriodsBroken, PaymentsBroken, StepsBroken, ResetsBroken, AmountsBroken, PassesFirst, PartBroken, KeptBefore, StreamKept, StreamBroken}
+use Rattle.irs_schedule.specs.DatedRules.{DatedPart, in_span, in_periods, in_payments, in_steps, in_exchanges, in_resets, in_amounts, turn_of, BoundariesBroken, PartBroken, KeptBefore, StreamKept, StreamBroken}
 use Rattle.irs_schedule.proofs.Unique.{one_layout}
 
 abbrev part_at : ℕ → DatedPart

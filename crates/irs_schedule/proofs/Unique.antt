@@ -1,6 +1,6 @@
 -- A stream has at most one layout, at most one list of periods, at most one amount for each payment,
 -- and so at most one part.
-use Rattle.std.proofs.Common.{◌≡◌, ℕ, ◌+◌, ◌-◌, ◌<◌, ◌≤◌, ◌==◌, Bool, List, [], ◌∷◌, length, map, Option, Some, None, option_map, refl, sym, ap, ap₂, subst, ◌∙◌, arith, ℤ, ◌<ℤ◌, All}
+use Rattle.std.proofs.Common.{◌≡◌, ℕ, ◌+◌, ◌-◌, ◌<◌, ◌≤◌, ◌==◌, List, [], ◌∷◌, length, map, Option, Some, None, option_map, refl, sym, ap, ap₂, subst, ◌∙◌, arith, ℤ, ◌<ℤ◌}
 use Rattle.std.proofs.lemmas.List.Elements.{All-nil, All-cons}
 use Rattle.irs_base.specs.declared.line.Dec.{Dec}
 use Rattle.irs_base.specs.Days.{IsDay}
@@ -9,7 +9,6 @@ use Rattle.irs_base.specs.Listed.{IsRising}
 use Rattle.irs_terms.specs.Currencies.{decimals_of}
 use Rattle.irs_terms.specs.declared.amounts.Leg.{Leg}
 use Rattle.irs_terms.specs.declared.amounts.Leg.TheVariants.{Fixed, Floating}
-use Rattle.irs_terms.specs.declared.results.Frac.{Frac}
 use Rattle.irs_terms.specs.declared.results.Payment.{Payment}
 use Rattle.irs_terms.specs.declared.results.Reset.{Reset}
 use Rattle.irs_terms.specs.declared.results.Span.{Span}
@@ -29,24 +28,19 @@ use Rattle.irs_payments.specs.Numbered.{EachNumbered}
 use Rattle.irs_payments.proofs.NumberLemmas.{one_numbered}
 use Rattle.irs_payments.specs.Payments.{Covers}
 use Rattle.irs_payments.proofs.PlaceLemmas.{rises_at}
-use Rattle.irs_payments.proofs.PaymentLemmas.{one_payments}
-use Rattle.irs_payments.proofs.ExchangeLemmas.{one_exchanges}
 use Rattle.irs_periods.proofs.OneSpan.{one_span}
 use Rattle.irs_periods.proofs.Assembled.{one_list}
 use Rattle.irs_periods.proofs.AdjustedLemmas.{one_adjusted}
 use Rattle.irs_periods.specs.Boundaries.{Boundaries, IsBoundary}
 use Rattle.irs_periods.specs.Adjusting.{AdjustedList}
-use Rattle.irs_resets.proofs.RowLemmas.{one_resets}
-use Rattle.irs_resets.specs.Rates.{RateTable}
-use Rattle.irs_resets.specs.Resets.{IsResets}
 use Rattle.irs_schedule.specs.DaySets.{StreamSets}
 use Rattle.irs_schedule.specs.declared.entries.PaymentEntry.{PaymentEntry}
 use Rattle.irs_schedule.specs.declared.entries.PeriodEntry.{PeriodEntry}
 use Rattle.irs_schedule.specs.declared.layouts.Layout.{Layout}
 use Rattle.irs_schedule.specs.Layouts.{IsLayout}
-use Rattle.irs_schedule.specs.Parts.{Part, Every, day_at}
+use Rattle.irs_schedule.specs.Parts.{Every, day_at}
 use Rattle.irs_schedule.specs.PeriodTerms.{AreRates, IsPeriodTerm, IsPeriodEntry, AreTerms, IsAmountBy, IsAmountFor}
-use Rattle.irs_schedule.specs.Schedules.{IsPart, payment_of}
+use Rattle.irs_schedule.specs.Schedules.{payment_of}
 use Rattle.irs_schedule.specs.Periods.{observed_of}
 use Rattle.irs_schedule.specs.TermsKept.{LegStepsRise}
 use Rattle.irs_schedule.proofs.PeriodLemmas.{is_day_at}

@@ -1,5 +1,5 @@
 -- The good days by which each date of a stream is adjusted or moved.
-use Rattle.std.specs.Prelude.{ℕ, Bool, true, false, not, ◌&&◌, ◌||◌, List, Option, Some, None, ℤ, pos, if◌then◌else◌}
+use Rattle.std.specs.Prelude.{ℕ, Bool, true, false, not, ◌&&◌, ◌||◌, List, Option, Some, None, pos, if◌then◌else◌}
 use Rattle.std.specs.Ordering.{int_eq}
 use Rattle.irs_base.specs.Days.{first_day, last_day}
 use Rattle.irs_terms.specs.declared.codes.ConvCode.{ConvCode}

@@ -69,6 +69,8 @@ pub fn make_schedule(
     // At every exit: where no rule is broken there is a schedule, and there is at most one.
     ensures exists { DatedKept swap.now cal.now fix.now → (s : List Part) × IsSchedule swap.now cal.now fix.now s }
     ensures one { (s t : List Part) → IsSchedule swap.now cal.now fix.now s → IsSchedule swap.now cal.now fix.now t → s ≡ t }
+    // And at most one broken rule comes first.
+    ensures one_broken { (x y : BrokenRule) → DatedBroken swap.now cal.now fix.now x → DatedBroken swap.now cal.now fix.now y → x ≡ y }
 {
     schedule_of(alloc, swap, cal, fix)
 }

@@ -1,3 +1,4 @@
+use Rattle.irs_schedule.proofs.OneBroken.{one_broken}
 use Rattle.irs_schedule.proofs.OnePart.{one_schedule}
 use Rattle.irs_schedule.proofs.PartThere.{schedule_there}
 use Rattle.irs_schedule.proofs.TermsLemmas.{terms_kept}
@@ -11,3 +12,6 @@ returns-clause-exists c = schedule_there c.args.swap.now c.args.cal.now c.args.f
 
 pub returns-clause-one : goal.returns-clause-one
 returns-clause-one c = one_schedule c.args.swap.now c.args.cal.now c.args.fix.now c.requires.lawful c.requires.terms
+
+pub returns-clause-one_broken : goal.returns-clause-one_broken
+returns-clause-one_broken c = one_broken c.args.swap.now c.args.cal.now c.args.fix.now
