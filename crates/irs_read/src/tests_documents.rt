@@ -7,8 +7,7 @@ use std::alloc::Global;
 use std::test::Fail;
 
 /// A fixed stream. Its centres stand as lists, its stubs have indexes.
-pub const FIXED: &str =
-    r#"{"calculationPeriodDates":{"@id":"cpd",
+pub const FIXED: &str = r#"{"calculationPeriodDates":{"@id":"cpd",
 "effectiveDate":{"unadjustedDate":"2024-01-15","dateAdjustments":{"businessDayConvention":"FOLLOWING","businessCenters":{"businessCenter":"EFFE"}}},
 "terminationDate":{"unadjustedDate":"2024-12-20","dateAdjustments":{"businessDayConvention":"PRECEDING","businessCenters":{"businessCenter":"TERM"}}},
 "calculationPeriodDatesAdjustments":{"businessDayConvention":"MODFOLLOWING","businessCenters":{"businessCenter":"PERI"}},
@@ -33,8 +32,7 @@ pub const FIXED: &str =
 "principalExchanges":{"initialExchange":"true","finalExchange":"false","intermediateExchange":"1"}}"#;
 
 /// A floating stream. Its centres are named by references, its stubs have rates.
-pub const FLOATING: &str =
-    r#"{"calculationPeriodDates":{"@id":"cpd",
+pub const FLOATING: &str = r#"{"calculationPeriodDates":{"@id":"cpd",
 "effectiveDate":{"unadjustedDate":"2024-01-15","dateAdjustments":{"businessDayConvention":"FOLLOWING","businessCentersReference":{"@href":"bc"}}},
 "terminationDate":{"unadjustedDate":"2024-12-20","dateAdjustments":{"businessDayConvention":"FOLLOWING","businessCentersReference":{"@href":"bc"}}},
 "calculationPeriodDatesAdjustments":{"businessDayConvention":"FOLLOWING","businessCentersReference":{"@href":"bc"}},

@@ -16,48 +16,176 @@ struct Listed(&'static str, &'static str, &'static str);
 const ELEMENTS: [Listed; 120] = [
     Listed("calculationPeriodDates", "O", "1"),
     Listed("calculationPeriodDates/effectiveDate", "O", "1"),
-    Listed("calculationPeriodDates/effectiveDate/unadjustedDate", "D", "1"),
-    Listed("calculationPeriodDates/effectiveDate/dateAdjustments", "O", "1"),
-    Listed("calculationPeriodDates/effectiveDate/dateAdjustments/businessDayConvention", "C convention", "1"),
-    Listed("calculationPeriodDates/effectiveDate/dateAdjustments/businessCentersReference", "R", "0..1"),
-    Listed("calculationPeriodDates/effectiveDate/dateAdjustments/businessCenters", "O", "0..1"),
-    Listed("calculationPeriodDates/effectiveDate/dateAdjustments/businessCenters/businessCenter", "T centre", "1..16"),
+    Listed(
+        "calculationPeriodDates/effectiveDate/unadjustedDate",
+        "D",
+        "1",
+    ),
+    Listed(
+        "calculationPeriodDates/effectiveDate/dateAdjustments",
+        "O",
+        "1",
+    ),
+    Listed(
+        "calculationPeriodDates/effectiveDate/dateAdjustments/businessDayConvention",
+        "C convention",
+        "1",
+    ),
+    Listed(
+        "calculationPeriodDates/effectiveDate/dateAdjustments/businessCentersReference",
+        "R",
+        "0..1",
+    ),
+    Listed(
+        "calculationPeriodDates/effectiveDate/dateAdjustments/businessCenters",
+        "O",
+        "0..1",
+    ),
+    Listed(
+        "calculationPeriodDates/effectiveDate/dateAdjustments/businessCenters/businessCenter",
+        "T centre",
+        "1..16",
+    ),
     Listed("calculationPeriodDates/terminationDate", "O", "1"),
-    Listed("calculationPeriodDates/terminationDate/unadjustedDate", "D", "1"),
-    Listed("calculationPeriodDates/terminationDate/dateAdjustments", "O", "1"),
-    Listed("calculationPeriodDates/terminationDate/dateAdjustments/businessDayConvention", "C convention", "1"),
-    Listed("calculationPeriodDates/terminationDate/dateAdjustments/businessCentersReference", "R", "0..1"),
-    Listed("calculationPeriodDates/terminationDate/dateAdjustments/businessCenters", "O", "0..1"),
-    Listed("calculationPeriodDates/terminationDate/dateAdjustments/businessCenters/businessCenter", "T centre", "1..16"),
-    Listed("calculationPeriodDates/calculationPeriodDatesAdjustments", "O", "1"),
-    Listed("calculationPeriodDates/calculationPeriodDatesAdjustments/businessDayConvention", "C convention", "1"),
-    Listed("calculationPeriodDates/calculationPeriodDatesAdjustments/businessCentersReference", "R", "0..1"),
-    Listed("calculationPeriodDates/calculationPeriodDatesAdjustments/businessCenters", "O", "0..1"),
-    Listed("calculationPeriodDates/calculationPeriodDatesAdjustments/businessCenters/businessCenter", "T centre", "1..16"),
-    Listed("calculationPeriodDates/firstRegularPeriodStartDate", "D", "0..1"),
-    Listed("calculationPeriodDates/lastRegularPeriodEndDate", "D", "0..1"),
-    Listed("calculationPeriodDates/stubPeriodType", "C stub type", "0..1"),
-    Listed("calculationPeriodDates/calculationPeriodFrequency", "O", "1"),
-    Listed("calculationPeriodDates/calculationPeriodFrequency/periodMultiplier", "I multiplier", "1"),
-    Listed("calculationPeriodDates/calculationPeriodFrequency/period", "C period", "1"),
-    Listed("calculationPeriodDates/calculationPeriodFrequency/rollConvention", "C roll", "1"),
+    Listed(
+        "calculationPeriodDates/terminationDate/unadjustedDate",
+        "D",
+        "1",
+    ),
+    Listed(
+        "calculationPeriodDates/terminationDate/dateAdjustments",
+        "O",
+        "1",
+    ),
+    Listed(
+        "calculationPeriodDates/terminationDate/dateAdjustments/businessDayConvention",
+        "C convention",
+        "1",
+    ),
+    Listed(
+        "calculationPeriodDates/terminationDate/dateAdjustments/businessCentersReference",
+        "R",
+        "0..1",
+    ),
+    Listed(
+        "calculationPeriodDates/terminationDate/dateAdjustments/businessCenters",
+        "O",
+        "0..1",
+    ),
+    Listed(
+        "calculationPeriodDates/terminationDate/dateAdjustments/businessCenters/businessCenter",
+        "T centre",
+        "1..16",
+    ),
+    Listed(
+        "calculationPeriodDates/calculationPeriodDatesAdjustments",
+        "O",
+        "1",
+    ),
+    Listed(
+        "calculationPeriodDates/calculationPeriodDatesAdjustments/businessDayConvention",
+        "C convention",
+        "1",
+    ),
+    Listed(
+        "calculationPeriodDates/calculationPeriodDatesAdjustments/businessCentersReference",
+        "R",
+        "0..1",
+    ),
+    Listed(
+        "calculationPeriodDates/calculationPeriodDatesAdjustments/businessCenters",
+        "O",
+        "0..1",
+    ),
+    Listed(
+        "calculationPeriodDates/calculationPeriodDatesAdjustments/businessCenters/businessCenter",
+        "T centre",
+        "1..16",
+    ),
+    Listed(
+        "calculationPeriodDates/firstRegularPeriodStartDate",
+        "D",
+        "0..1",
+    ),
+    Listed(
+        "calculationPeriodDates/lastRegularPeriodEndDate",
+        "D",
+        "0..1",
+    ),
+    Listed(
+        "calculationPeriodDates/stubPeriodType",
+        "C stub type",
+        "0..1",
+    ),
+    Listed(
+        "calculationPeriodDates/calculationPeriodFrequency",
+        "O",
+        "1",
+    ),
+    Listed(
+        "calculationPeriodDates/calculationPeriodFrequency/periodMultiplier",
+        "I multiplier",
+        "1",
+    ),
+    Listed(
+        "calculationPeriodDates/calculationPeriodFrequency/period",
+        "C period",
+        "1",
+    ),
+    Listed(
+        "calculationPeriodDates/calculationPeriodFrequency/rollConvention",
+        "C roll",
+        "1",
+    ),
     Listed("paymentDates", "O", "1"),
     Listed("paymentDates/calculationPeriodDatesReference", "R", "0..1"),
     Listed("paymentDates/paymentFrequency", "O", "1"),
-    Listed("paymentDates/paymentFrequency/periodMultiplier", "I multiplier", "1"),
+    Listed(
+        "paymentDates/paymentFrequency/periodMultiplier",
+        "I multiplier",
+        "1",
+    ),
     Listed("paymentDates/paymentFrequency/period", "C period", "1"),
     Listed("paymentDates/firstPaymentDate", "D", "0..1"),
     Listed("paymentDates/lastRegularPaymentDate", "D", "0..1"),
     Listed("paymentDates/payRelativeTo", "C payment relative", "1"),
     Listed("paymentDates/paymentDaysOffset", "O", "0..1"),
-    Listed("paymentDates/paymentDaysOffset/periodMultiplier", "I offset", "1"),
-    Listed("paymentDates/paymentDaysOffset/period", "C offset period", "1"),
-    Listed("paymentDates/paymentDaysOffset/dayType", "C day type", "0..1"),
+    Listed(
+        "paymentDates/paymentDaysOffset/periodMultiplier",
+        "I offset",
+        "1",
+    ),
+    Listed(
+        "paymentDates/paymentDaysOffset/period",
+        "C offset period",
+        "1",
+    ),
+    Listed(
+        "paymentDates/paymentDaysOffset/dayType",
+        "C day type",
+        "0..1",
+    ),
     Listed("paymentDates/paymentDatesAdjustments", "O", "0..1"),
-    Listed("paymentDates/paymentDatesAdjustments/businessDayConvention", "C convention", "1"),
-    Listed("paymentDates/paymentDatesAdjustments/businessCentersReference", "R", "0..1"),
-    Listed("paymentDates/paymentDatesAdjustments/businessCenters", "O", "0..1"),
-    Listed("paymentDates/paymentDatesAdjustments/businessCenters/businessCenter", "T centre", "1..16"),
+    Listed(
+        "paymentDates/paymentDatesAdjustments/businessDayConvention",
+        "C convention",
+        "1",
+    ),
+    Listed(
+        "paymentDates/paymentDatesAdjustments/businessCentersReference",
+        "R",
+        "0..1",
+    ),
+    Listed(
+        "paymentDates/paymentDatesAdjustments/businessCenters",
+        "O",
+        "0..1",
+    ),
+    Listed(
+        "paymentDates/paymentDatesAdjustments/businessCenters/businessCenter",
+        "T centre",
+        "1..16",
+    ),
     Listed("resetDates", "O", "0..1"),
     Listed("resetDates/calculationPeriodDatesReference", "R", "0..1"),
     Listed("resetDates/resetRelativeTo", "C reset relative", "0..1"),
@@ -65,71 +193,291 @@ const ELEMENTS: [Listed; 120] = [
     Listed("resetDates/fixingDates/periodMultiplier", "I offset", "1"),
     Listed("resetDates/fixingDates/period", "C offset period", "1"),
     Listed("resetDates/fixingDates/dayType", "C day type", "0..1"),
-    Listed("resetDates/fixingDates/businessDayConvention", "C convention", "1"),
-    Listed("resetDates/fixingDates/businessCentersReference", "R", "0..1"),
+    Listed(
+        "resetDates/fixingDates/businessDayConvention",
+        "C convention",
+        "1",
+    ),
+    Listed(
+        "resetDates/fixingDates/businessCentersReference",
+        "R",
+        "0..1",
+    ),
     Listed("resetDates/fixingDates/businessCenters", "O", "0..1"),
-    Listed("resetDates/fixingDates/businessCenters/businessCenter", "T centre", "1..16"),
+    Listed(
+        "resetDates/fixingDates/businessCenters/businessCenter",
+        "T centre",
+        "1..16",
+    ),
     Listed("resetDates/fixingDates/dateRelativeTo", "R", "0..1"),
     Listed("resetDates/resetFrequency", "O", "1"),
-    Listed("resetDates/resetFrequency/periodMultiplier", "I multiplier", "1"),
+    Listed(
+        "resetDates/resetFrequency/periodMultiplier",
+        "I multiplier",
+        "1",
+    ),
     Listed("resetDates/resetFrequency/period", "C period", "1"),
     Listed("resetDates/resetDatesAdjustments", "O", "0..1"),
-    Listed("resetDates/resetDatesAdjustments/businessDayConvention", "C convention", "1"),
-    Listed("resetDates/resetDatesAdjustments/businessCentersReference", "R", "0..1"),
-    Listed("resetDates/resetDatesAdjustments/businessCenters", "O", "0..1"),
-    Listed("resetDates/resetDatesAdjustments/businessCenters/businessCenter", "T centre", "1..16"),
+    Listed(
+        "resetDates/resetDatesAdjustments/businessDayConvention",
+        "C convention",
+        "1",
+    ),
+    Listed(
+        "resetDates/resetDatesAdjustments/businessCentersReference",
+        "R",
+        "0..1",
+    ),
+    Listed(
+        "resetDates/resetDatesAdjustments/businessCenters",
+        "O",
+        "0..1",
+    ),
+    Listed(
+        "resetDates/resetDatesAdjustments/businessCenters/businessCenter",
+        "T centre",
+        "1..16",
+    ),
     Listed("calculationPeriodAmount", "O", "1"),
     Listed("calculationPeriodAmount/calculation", "O", "1"),
-    Listed("calculationPeriodAmount/calculation/notionalSchedule", "O", "1"),
-    Listed("calculationPeriodAmount/calculation/notionalSchedule/notionalStepSchedule", "O", "1"),
-    Listed("calculationPeriodAmount/calculation/notionalSchedule/notionalStepSchedule/initialValue", "N", "1"),
-    Listed("calculationPeriodAmount/calculation/notionalSchedule/notionalStepSchedule/step", "O", "0..4000"),
-    Listed("calculationPeriodAmount/calculation/notionalSchedule/notionalStepSchedule/step/stepDate", "D", "1"),
-    Listed("calculationPeriodAmount/calculation/notionalSchedule/notionalStepSchedule/step/stepValue", "N", "1"),
-    Listed("calculationPeriodAmount/calculation/notionalSchedule/notionalStepSchedule/currency", "T currency", "1"),
-    Listed("calculationPeriodAmount/calculation/fixedRateSchedule", "O", "0..1"),
-    Listed("calculationPeriodAmount/calculation/fixedRateSchedule/initialValue", "X", "1"),
-    Listed("calculationPeriodAmount/calculation/fixedRateSchedule/step", "O", "0..4000"),
-    Listed("calculationPeriodAmount/calculation/fixedRateSchedule/step/stepDate", "D", "1"),
-    Listed("calculationPeriodAmount/calculation/fixedRateSchedule/step/stepValue", "X", "1"),
-    Listed("calculationPeriodAmount/calculation/floatingRateCalculation", "O", "0..1"),
-    Listed("calculationPeriodAmount/calculation/floatingRateCalculation/floatingRateIndex", "T index", "1"),
-    Listed("calculationPeriodAmount/calculation/floatingRateCalculation/indexTenor", "O", "0..1"),
-    Listed("calculationPeriodAmount/calculation/floatingRateCalculation/indexTenor/periodMultiplier", "I multiplier", "1"),
-    Listed("calculationPeriodAmount/calculation/floatingRateCalculation/indexTenor/period", "C tenor period", "1"),
-    Listed("calculationPeriodAmount/calculation/floatingRateCalculation/floatingRateMultiplierSchedule", "O", "0..1"),
-    Listed("calculationPeriodAmount/calculation/floatingRateCalculation/floatingRateMultiplierSchedule/initialValue", "X", "1"),
-    Listed("calculationPeriodAmount/calculation/floatingRateCalculation/floatingRateMultiplierSchedule/step", "O", "0..4000"),
-    Listed("calculationPeriodAmount/calculation/floatingRateCalculation/floatingRateMultiplierSchedule/step/stepDate", "D", "1"),
-    Listed("calculationPeriodAmount/calculation/floatingRateCalculation/floatingRateMultiplierSchedule/step/stepValue", "X", "1"),
-    Listed("calculationPeriodAmount/calculation/floatingRateCalculation/spreadSchedule", "O", "0..1"),
-    Listed("calculationPeriodAmount/calculation/floatingRateCalculation/spreadSchedule/initialValue", "X", "1"),
-    Listed("calculationPeriodAmount/calculation/floatingRateCalculation/spreadSchedule/step", "O", "0..4000"),
-    Listed("calculationPeriodAmount/calculation/floatingRateCalculation/spreadSchedule/step/stepDate", "D", "1"),
-    Listed("calculationPeriodAmount/calculation/floatingRateCalculation/spreadSchedule/step/stepValue", "X", "1"),
-    Listed("calculationPeriodAmount/calculation/floatingRateCalculation/initialRate", "X", "0..1"),
-    Listed("calculationPeriodAmount/calculation/floatingRateCalculation/finalRateRounding", "O", "0..1"),
-    Listed("calculationPeriodAmount/calculation/floatingRateCalculation/finalRateRounding/roundingDirection", "C direction", "1"),
-    Listed("calculationPeriodAmount/calculation/floatingRateCalculation/finalRateRounding/precision", "I precision", "1"),
-    Listed("calculationPeriodAmount/calculation/floatingRateCalculation/negativeInterestRateTreatment", "C treatment", "0..1"),
-    Listed("calculationPeriodAmount/calculation/dayCountFraction", "C day count", "1"),
-    Listed("calculationPeriodAmount/calculation/compoundingMethod", "C compounding", "0..1"),
+    Listed(
+        "calculationPeriodAmount/calculation/notionalSchedule",
+        "O",
+        "1",
+    ),
+    Listed(
+        "calculationPeriodAmount/calculation/notionalSchedule/notionalStepSchedule",
+        "O",
+        "1",
+    ),
+    Listed(
+        "calculationPeriodAmount/calculation/notionalSchedule/notionalStepSchedule/initialValue",
+        "N",
+        "1",
+    ),
+    Listed(
+        "calculationPeriodAmount/calculation/notionalSchedule/notionalStepSchedule/step",
+        "O",
+        "0..4000",
+    ),
+    Listed(
+        "calculationPeriodAmount/calculation/notionalSchedule/notionalStepSchedule/step/stepDate",
+        "D",
+        "1",
+    ),
+    Listed(
+        "calculationPeriodAmount/calculation/notionalSchedule/notionalStepSchedule/step/stepValue",
+        "N",
+        "1",
+    ),
+    Listed(
+        "calculationPeriodAmount/calculation/notionalSchedule/notionalStepSchedule/currency",
+        "T currency",
+        "1",
+    ),
+    Listed(
+        "calculationPeriodAmount/calculation/fixedRateSchedule",
+        "O",
+        "0..1",
+    ),
+    Listed(
+        "calculationPeriodAmount/calculation/fixedRateSchedule/initialValue",
+        "X",
+        "1",
+    ),
+    Listed(
+        "calculationPeriodAmount/calculation/fixedRateSchedule/step",
+        "O",
+        "0..4000",
+    ),
+    Listed(
+        "calculationPeriodAmount/calculation/fixedRateSchedule/step/stepDate",
+        "D",
+        "1",
+    ),
+    Listed(
+        "calculationPeriodAmount/calculation/fixedRateSchedule/step/stepValue",
+        "X",
+        "1",
+    ),
+    Listed(
+        "calculationPeriodAmount/calculation/floatingRateCalculation",
+        "O",
+        "0..1",
+    ),
+    Listed(
+        "calculationPeriodAmount/calculation/floatingRateCalculation/floatingRateIndex",
+        "T index",
+        "1",
+    ),
+    Listed(
+        "calculationPeriodAmount/calculation/floatingRateCalculation/indexTenor",
+        "O",
+        "0..1",
+    ),
+    Listed(
+        "calculationPeriodAmount/calculation/floatingRateCalculation/indexTenor/periodMultiplier",
+        "I multiplier",
+        "1",
+    ),
+    Listed(
+        "calculationPeriodAmount/calculation/floatingRateCalculation/indexTenor/period",
+        "C tenor period",
+        "1",
+    ),
+    Listed(
+        "calculationPeriodAmount/calculation/floatingRateCalculation/floatingRateMultiplierSchedule",
+        "O",
+        "0..1",
+    ),
+    Listed(
+        "calculationPeriodAmount/calculation/floatingRateCalculation/floatingRateMultiplierSchedule/initialValue",
+        "X",
+        "1",
+    ),
+    Listed(
+        "calculationPeriodAmount/calculation/floatingRateCalculation/floatingRateMultiplierSchedule/step",
+        "O",
+        "0..4000",
+    ),
+    Listed(
+        "calculationPeriodAmount/calculation/floatingRateCalculation/floatingRateMultiplierSchedule/step/stepDate",
+        "D",
+        "1",
+    ),
+    Listed(
+        "calculationPeriodAmount/calculation/floatingRateCalculation/floatingRateMultiplierSchedule/step/stepValue",
+        "X",
+        "1",
+    ),
+    Listed(
+        "calculationPeriodAmount/calculation/floatingRateCalculation/spreadSchedule",
+        "O",
+        "0..1",
+    ),
+    Listed(
+        "calculationPeriodAmount/calculation/floatingRateCalculation/spreadSchedule/initialValue",
+        "X",
+        "1",
+    ),
+    Listed(
+        "calculationPeriodAmount/calculation/floatingRateCalculation/spreadSchedule/step",
+        "O",
+        "0..4000",
+    ),
+    Listed(
+        "calculationPeriodAmount/calculation/floatingRateCalculation/spreadSchedule/step/stepDate",
+        "D",
+        "1",
+    ),
+    Listed(
+        "calculationPeriodAmount/calculation/floatingRateCalculation/spreadSchedule/step/stepValue",
+        "X",
+        "1",
+    ),
+    Listed(
+        "calculationPeriodAmount/calculation/floatingRateCalculation/initialRate",
+        "X",
+        "0..1",
+    ),
+    Listed(
+        "calculationPeriodAmount/calculation/floatingRateCalculation/finalRateRounding",
+        "O",
+        "0..1",
+    ),
+    Listed(
+        "calculationPeriodAmount/calculation/floatingRateCalculation/finalRateRounding/roundingDirection",
+        "C direction",
+        "1",
+    ),
+    Listed(
+        "calculationPeriodAmount/calculation/floatingRateCalculation/finalRateRounding/precision",
+        "I precision",
+        "1",
+    ),
+    Listed(
+        "calculationPeriodAmount/calculation/floatingRateCalculation/negativeInterestRateTreatment",
+        "C treatment",
+        "0..1",
+    ),
+    Listed(
+        "calculationPeriodAmount/calculation/dayCountFraction",
+        "C day count",
+        "1",
+    ),
+    Listed(
+        "calculationPeriodAmount/calculation/compoundingMethod",
+        "C compounding",
+        "0..1",
+    ),
     Listed("stubCalculationPeriodAmount", "O", "0..1"),
-    Listed("stubCalculationPeriodAmount/calculationPeriodDatesReference", "R", "0..1"),
+    Listed(
+        "stubCalculationPeriodAmount/calculationPeriodDatesReference",
+        "R",
+        "0..1",
+    ),
     Listed("stubCalculationPeriodAmount/initialStub", "O", "0..1"),
-    Listed("stubCalculationPeriodAmount/initialStub/floatingRate", "O", "0..1"),
-    Listed("stubCalculationPeriodAmount/initialStub/floatingRate/floatingRateIndex", "T index", "1"),
-    Listed("stubCalculationPeriodAmount/initialStub/floatingRate/indexTenor", "O", "0..1"),
-    Listed("stubCalculationPeriodAmount/initialStub/floatingRate/indexTenor/periodMultiplier", "I multiplier", "1"),
-    Listed("stubCalculationPeriodAmount/initialStub/floatingRate/indexTenor/period", "C tenor period", "1"),
-    Listed("stubCalculationPeriodAmount/initialStub/stubRate", "X", "0..1"),
+    Listed(
+        "stubCalculationPeriodAmount/initialStub/floatingRate",
+        "O",
+        "0..1",
+    ),
+    Listed(
+        "stubCalculationPeriodAmount/initialStub/floatingRate/floatingRateIndex",
+        "T index",
+        "1",
+    ),
+    Listed(
+        "stubCalculationPeriodAmount/initialStub/floatingRate/indexTenor",
+        "O",
+        "0..1",
+    ),
+    Listed(
+        "stubCalculationPeriodAmount/initialStub/floatingRate/indexTenor/periodMultiplier",
+        "I multiplier",
+        "1",
+    ),
+    Listed(
+        "stubCalculationPeriodAmount/initialStub/floatingRate/indexTenor/period",
+        "C tenor period",
+        "1",
+    ),
+    Listed(
+        "stubCalculationPeriodAmount/initialStub/stubRate",
+        "X",
+        "0..1",
+    ),
     Listed("stubCalculationPeriodAmount/finalStub", "O", "0..1"),
-    Listed("stubCalculationPeriodAmount/finalStub/floatingRate", "O", "0..1"),
-    Listed("stubCalculationPeriodAmount/finalStub/floatingRate/floatingRateIndex", "T index", "1"),
-    Listed("stubCalculationPeriodAmount/finalStub/floatingRate/indexTenor", "O", "0..1"),
-    Listed("stubCalculationPeriodAmount/finalStub/floatingRate/indexTenor/periodMultiplier", "I multiplier", "1"),
-    Listed("stubCalculationPeriodAmount/finalStub/floatingRate/indexTenor/period", "C tenor period", "1"),
-    Listed("stubCalculationPeriodAmount/finalStub/stubRate", "X", "0..1"),
+    Listed(
+        "stubCalculationPeriodAmount/finalStub/floatingRate",
+        "O",
+        "0..1",
+    ),
+    Listed(
+        "stubCalculationPeriodAmount/finalStub/floatingRate/floatingRateIndex",
+        "T index",
+        "1",
+    ),
+    Listed(
+        "stubCalculationPeriodAmount/finalStub/floatingRate/indexTenor",
+        "O",
+        "0..1",
+    ),
+    Listed(
+        "stubCalculationPeriodAmount/finalStub/floatingRate/indexTenor/periodMultiplier",
+        "I multiplier",
+        "1",
+    ),
+    Listed(
+        "stubCalculationPeriodAmount/finalStub/floatingRate/indexTenor/period",
+        "C tenor period",
+        "1",
+    ),
+    Listed(
+        "stubCalculationPeriodAmount/finalStub/stubRate",
+        "X",
+        "0..1",
+    ),
     Listed("principalExchanges", "O", "0..1"),
     Listed("principalExchanges/initialExchange", "B", "1"),
     Listed("principalExchanges/finalExchange", "B", "1"),
@@ -210,7 +558,12 @@ fn the_table_has_each_element_in_order(rt: HostRuntime) -> Result<(), Fail> {
         let (above, last) = split(listed.0);
         assert_eq!(rt; path_of(row.1), listed.0);
         assert_eq!(rt; kind_text(row.2), listed.1, "{}", listed.0);
-        assert_eq!(rt; count_text(rt.alloc(), row.3)?.as_str(), listed.2, "{}", listed.0);
+        assert_eq!(rt;
+            count_text(rt.alloc(), row.3)?.as_str(),
+            listed.2,
+            "{}",
+            listed.0
+        );
         assert_eq!(rt; path_of(ROWS[row.0].1), above, "{}", listed.0);
         assert_eq!(rt; *name, last);
     }
@@ -268,7 +621,9 @@ fn difference(alloc: Global, path: &str, edit: Edit, want: &str) -> Result<Strin
 // What is wanted: a rule at a path of the first stream, with the position of the one repeated
 // element on the path.
 fn at(alloc: Global, rule: &str, path: &str) -> Result<String, Fail> {
-    let repeats = path.ends_with("/step") || path.contains("/step/") || path.ends_with("/businessCenter");
+    let repeats = path.ends_with("/step")
+        || path.contains("/step/")
+        || path.ends_with("/businessCenter");
     let index = if repeats { 1 } else { 0 };
     let text = format!(in alloc; "{rule} 1 {path} {index}")?;
     Ok(text)
@@ -372,7 +727,10 @@ fn the_forms_of_a_wrong_kind(rt: HostRuntime) -> Result<(), Fail> {
     let alloc = rt.alloc();
     // Each row: a path, and texts of the wrong kind there.
     let rows = [
-        ("calculationPeriodDates/terminationDate/unadjustedDate", NO_LEAVES),
+        (
+            "calculationPeriodDates/terminationDate/unadjustedDate",
+            NO_LEAVES,
+        ),
         ("paymentDates/paymentDaysOffset/dayType", NO_LEAVES),
         (
             "resetDates/fixingDates/businessCenters/businessCenter",
@@ -383,7 +741,10 @@ fn the_forms_of_a_wrong_kind(rt: HostRuntime) -> Result<(), Fail> {
             "calculationPeriodAmount/calculation/fixedRateSchedule/step",
             NO_OBJECTS,
         ),
-        ("paymentDates/calculationPeriodDatesReference", NO_REFERENCES),
+        (
+            "paymentDates/calculationPeriodDatesReference",
+            NO_REFERENCES,
+        ),
     ];
     for (path, texts) in rows {
         let want = at(alloc, "K3", path)?;
@@ -398,8 +759,16 @@ fn a_reference_without_its_name_is_told(rt: HostRuntime) -> Result<(), Fail> {
     for listed in &ELEMENTS {
         if listed.1 == "R" {
             let want = at(alloc, "K2", listed.0)?;
-            for text in ["{}", r#"{"@href":null}"#, r#"{"@href":[]}"#, r#"{"@id":"cpd"}"#] {
-                assert_eq!(rt; difference(alloc, listed.0, Edit::Put(text), &want)?.as_str(), "");
+            for text in [
+                "{}",
+                r#"{"@href":null}"#,
+                r#"{"@href":[]}"#,
+                r#"{"@id":"cpd"}"#,
+            ] {
+                assert_eq!(rt;
+                    difference(alloc, listed.0, Edit::Put(text), &want)?.as_str(),
+                    ""
+                );
             }
         }
     }
@@ -416,7 +785,10 @@ fn an_element_that_stands_twice_is_told(rt: HostRuntime) -> Result<(), Fail> {
         } else {
             format!(in alloc; "ok 1")?
         };
-        assert_eq!(rt; difference(alloc, listed.0, Edit::Twice, &want)?.as_str(), "");
+        assert_eq!(rt;
+            difference(alloc, listed.0, Edit::Twice, &want)?.as_str(),
+            ""
+        );
         if once {
             let edit = Edit::Put("[null,0.5]");
             assert_eq!(rt; difference(alloc, listed.0, edit, &want)?.as_str(), "");
@@ -471,7 +843,11 @@ fn a_repeated_element_stands_at_most_so_often(rt: HostRuntime) -> Result<(), Fai
     ];
     for (path, item, most) in rows {
         let want = format!(in alloc; "K7 1 {path} 0")?;
-        assert_eq!(rt; told_of_items(alloc, path, item, most)?.as_str(), "ok 1", "{path}");
+        assert_eq!(rt;
+            told_of_items(alloc, path, item, most)?.as_str(),
+            "ok 1",
+            "{path}"
+        );
         assert_eq!(rt; told_of_items(alloc, path, item, most + 1)?, want);
         assert_eq!(rt; told_of_items(alloc, path, "0.5", most + 1)?, want);
     }
@@ -696,11 +1072,25 @@ const GRAMMARS: &[Grammar] = &[
     Grammar {
         kind: "B",
         lawful: &[
-            "true", "false", "1", "0", r#""true""#, r#""false""#, r#""1""#, r#""0""#,
+            "true",
+            "false",
+            "1",
+            "0",
+            r#""true""#,
+            r#""false""#,
+            r#""1""#,
+            r#""0""#,
             r#"" true ""#,
         ],
         unlawful: &[
-            "2", "-1", r#""TRUE""#, r#""False""#, r#""yes""#, r#""01""#, r#""t""#, r#""""#,
+            "2",
+            "-1",
+            r#""TRUE""#,
+            r#""False""#,
+            r#""yes""#,
+            r#""01""#,
+            r#""t""#,
+            r#""""#,
         ],
         refused: &[],
     },
@@ -755,7 +1145,14 @@ const GRAMMARS: &[Grammar] = &[
             r##"{"@currencyScheme":"x","#text":"EUR"}"##,
         ],
         unlawful: &[
-            r#""usd""#, r#""US""#, r#""USDX""#, r#""U D""#, r#""U1D""#, r#""ÉU""#, r#""""#, "840",
+            r#""usd""#,
+            r#""US""#,
+            r#""USDX""#,
+            r#""U D""#,
+            r#""U1D""#,
+            r#""ÉU""#,
+            r#""""#,
+            "840",
         ],
         refused: &[],
     },
@@ -771,8 +1168,14 @@ const GRAMMARS: &[Grammar] = &[
             r#"" NONE ""#,
         ],
         unlawful: &[
-            r#""Following""#, r#""FOLLOW""#, r#""none""#, r#""FRNX""#, r#""frn""#,
-            r#""NOTAPPLICABLE""#, r#""""#, "1",
+            r#""Following""#,
+            r#""FOLLOW""#,
+            r#""none""#,
+            r#""FRNX""#,
+            r#""frn""#,
+            r#""NOTAPPLICABLE""#,
+            r#""""#,
+            "1",
         ],
         refused: &[r#""FRN""#, r#""NotApplicable""#, r#"" FRN ""#],
     },
@@ -798,14 +1201,20 @@ const GRAMMARS: &[Grammar] = &[
         kind: "C day type",
         lawful: &[r#""Business""#, r#""Calendar""#],
         unlawful: &[
-            r#""business""#, r#""CurrencyBusiness""#, r#""ExchangeBusiness""#, r#""""#,
+            r#""business""#,
+            r#""CurrencyBusiness""#,
+            r#""ExchangeBusiness""#,
+            r#""""#,
         ],
         refused: &[],
     },
     Grammar {
         kind: "C stub type",
         lawful: &[
-            r#""ShortInitial""#, r#""LongInitial""#, r#""ShortFinal""#, r#""LongFinal""#,
+            r#""ShortInitial""#,
+            r#""LongInitial""#,
+            r#""ShortFinal""#,
+            r#""LongFinal""#,
         ],
         unlawful: &[r#""shortInitial""#, r#""Short""#, r#""Initial""#, r#""""#],
         refused: &[],
@@ -813,15 +1222,44 @@ const GRAMMARS: &[Grammar] = &[
     Grammar {
         kind: "C roll",
         lawful: &[
-            r#""EOM""#, r#""IMM""#, r#""NONE""#, r#""MON""#, r#""TUE""#, r#""WED""#, r#""THU""#,
-            r#""FRI""#, r#""SAT""#, r#""SUN""#, "1", r#""9""#, r#""10""#, r#""29""#, "30",
+            r#""EOM""#,
+            r#""IMM""#,
+            r#""NONE""#,
+            r#""MON""#,
+            r#""TUE""#,
+            r#""WED""#,
+            r#""THU""#,
+            r#""FRI""#,
+            r#""SAT""#,
+            r#""SUN""#,
+            "1",
+            r#""9""#,
+            r#""10""#,
+            r#""29""#,
+            "30",
         ],
         unlawful: &[
-            "0", "31", "-1", r#""01""#, r#""015""#, r#""+1""#, r#""1.0""#, r#""eom""#, r#""Mon""#,
-            r#""IMMXXX""#, r#""TBILLS""#, r#""sfe""#, r#""""#,
+            "0",
+            "31",
+            "-1",
+            r#""01""#,
+            r#""015""#,
+            r#""+1""#,
+            r#""1.0""#,
+            r#""eom""#,
+            r#""Mon""#,
+            r#""IMMXXX""#,
+            r#""TBILLS""#,
+            r#""sfe""#,
+            r#""""#,
         ],
         refused: &[
-            r#""FRN""#, r#""IMMCAD""#, r#""IMMAUD""#, r#""IMMNZD""#, r#""SFE""#, r#""TBILL""#,
+            r#""FRN""#,
+            r#""IMMCAD""#,
+            r#""IMMAUD""#,
+            r#""IMMNZD""#,
+            r#""SFE""#,
+            r#""TBILL""#,
         ],
     },
     Grammar {
@@ -831,10 +1269,15 @@ const GRAMMARS: &[Grammar] = &[
             r#""CalculationPeriodEndDate""#,
         ],
         unlawful: &[
-            r#""calculationPeriodEndDate""#, r#""ResetDates""#, r#""valuationDate""#, r#""""#,
+            r#""calculationPeriodEndDate""#,
+            r#""ResetDates""#,
+            r#""valuationDate""#,
+            r#""""#,
         ],
         refused: &[
-            r#""ResetDate""#, r#""LastPricingDate""#, r#""ValuationDate""#,
+            r#""ResetDate""#,
+            r#""LastPricingDate""#,
+            r#""ValuationDate""#,
         ],
     },
     Grammar {
@@ -844,35 +1287,61 @@ const GRAMMARS: &[Grammar] = &[
             r#""CalculationPeriodEndDate""#,
         ],
         unlawful: &[
-            r#""ResetDate""#, r#""LastPricingDate""#, r#""ValuationDate""#, r#""""#,
+            r#""ResetDate""#,
+            r#""LastPricingDate""#,
+            r#""ValuationDate""#,
+            r#""""#,
         ],
         refused: &[],
     },
     Grammar {
         kind: "C day count",
         lawful: &[
-            r#""1/1""#, r#""ACT/ACT.ISDA""#, r#""ACT/365.FIXED""#, r#""ACT/360""#, r#""30/360""#,
-            r#""30E/360""#, r#""30E/360.ISDA""#,
+            r#""1/1""#,
+            r#""ACT/ACT.ISDA""#,
+            r#""ACT/365.FIXED""#,
+            r#""ACT/360""#,
+            r#""30/360""#,
+            r#""30E/360""#,
+            r#""30E/360.ISDA""#,
         ],
         unlawful: &[
-            r#""ACT/365""#, r#""ACT/ACT""#, r#""act/360""#, r#""30/365""#, r#""ACT/ACT.icma""#,
-            r#""BUS/253""#, r#""""#,
+            r#""ACT/365""#,
+            r#""ACT/ACT""#,
+            r#""act/360""#,
+            r#""30/365""#,
+            r#""ACT/ACT.icma""#,
+            r#""BUS/253""#,
+            r#""""#,
         ],
         refused: &[
-            r#""ACT/ACT.ICMA""#, r#""ACT/ACT.ISMA""#, r#""ACT/ACT.AFB""#, r#""ACT/365L""#,
+            r#""ACT/ACT.ICMA""#,
+            r#""ACT/ACT.ISMA""#,
+            r#""ACT/ACT.AFB""#,
+            r#""ACT/365L""#,
             r#""BUS/252""#,
         ],
     },
     Grammar {
         kind: "C compounding",
         lawful: &[r#""None""#, r#""Straight""#, r#""Flat""#],
-        unlawful: &[r#""NONE""#, r#""flat""#, r#""Spread""#, r#""SpreadInclusive""#, r#""""#],
+        unlawful: &[
+            r#""NONE""#,
+            r#""flat""#,
+            r#""Spread""#,
+            r#""SpreadInclusive""#,
+            r#""""#,
+        ],
         refused: &[r#""SpreadExclusive""#],
     },
     Grammar {
         kind: "C treatment",
         lawful: &[r#""NegativeInterestRateMethod""#],
-        unlawful: &[r#""negativeInterestRateMethod""#, r#""ZeroInterestRate""#, r#""""#],
+        unlawful: &[
+            r#""negativeInterestRateMethod""#,
+            r#""ZeroInterestRate""#,
+            r#""""#,
+        ],
         refused: &[r#""ZeroInterestRateMethod""#],
     },
     Grammar {

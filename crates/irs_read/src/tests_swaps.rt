@@ -98,8 +98,7 @@ const A: &str =
 "party":[{"@id":"party1"},{"@id":"party2"}]}}"##;
 
 /// A fixed stream of two periods without centres.
-const B: &str =
-    r#"{"swap":{"swapStream":{
+const B: &str = r#"{"swap":{"swapStream":{
 "calculationPeriodDates":{"@id":"cpd",
 "effectiveDate":{"unadjustedDate":"2024-01-15","dateAdjustments":{"businessDayConvention":"NONE"}},
 "terminationDate":{"unadjustedDate":"2025-01-15","dateAdjustments":{"businessDayConvention":"NONE"}},
@@ -113,8 +112,7 @@ const B: &str =
 "fixedRateSchedule":{"initialValue":"0.05"},"dayCountFraction":"ACT/360"}}}}}"#;
 
 /// A floating stream that compounds two periods.
-const C: &str =
-    r#"{"swap":{"swapStream":{
+const C: &str = r#"{"swap":{"swapStream":{
 "calculationPeriodDates":{"@id":"cpd",
 "effectiveDate":{"unadjustedDate":"2024-01-15","dateAdjustments":{"businessDayConvention":"NONE"}},
 "terminationDate":{"unadjustedDate":"2024-07-15","dateAdjustments":{"businessDayConvention":"NONE"}},
@@ -146,10 +144,16 @@ fn the_swap_of_a_trade(rt: HostRuntime) -> Result<(), Fail> {
     assert_eq!(rt; swap.streams.len(), 1);
     assert_eq!(rt; Some(s.effective.day), day("1994-12-14"));
     assert_eq!(rt; s.effective.adj.code, ConvCode::Unadjusted);
-    assert_eq!(rt; centers(alloc, &s.effective.adj.centers)?.as_str(), "absent");
+    assert_eq!(rt;
+        centers(alloc, &s.effective.adj.centers)?.as_str(),
+        "absent"
+    );
     assert_eq!(rt; Some(s.termination.day), day("1999-12-14"));
     assert_eq!(rt; s.termination.adj.code, ConvCode::ModFollowing);
-    assert_eq!(rt; centers(alloc, &s.termination.adj.centers)?.as_str(), "DEFR ");
+    assert_eq!(rt;
+        centers(alloc, &s.termination.adj.centers)?.as_str(),
+        "DEFR "
+    );
     assert_eq!(rt; s.period_adj.code, ConvCode::ModFollowing);
     assert_eq!(rt; centers(alloc, &s.period_adj.centers)?.as_str(), "DEFR ");
     assert_eq!(rt; s.freq, frequency(1, Unit::Y));
@@ -178,7 +182,13 @@ fn what_is_absent_has_its_default(rt: HostRuntime) -> Result<(), Fail> {
     assert_eq!(rt; s.stub, None);
     assert_eq!(rt; s.pay.calc_ref, RefState::Absent);
     assert_eq!(rt; (s.pay.first, s.pay.last), (None, None));
-    assert_eq!(rt; s.pay.offset, Offset { days: 0, kind: DayKind::Unsaid });
+    assert_eq!(rt;
+        s.pay.offset,
+        Offset {
+            days: 0,
+            kind: DayKind::Unsaid
+        }
+    );
     assert!(rt; s.reset.is_none());
     assert_eq!(rt; s.notional.initial, 10_000_000_000);
     assert_eq!(rt; s.notional.steps.len(), 0);
@@ -206,10 +216,19 @@ fn the_swap_of_a_floating_stream(rt: HostRuntime) -> Result<(), Fail> {
     let swap = spelled(alloc, C)?;
     let s = first_stream(&swap)?;
     assert_eq!(rt; Some(s.termination.day), day("2024-07-15"));
-    assert_eq!(rt; (s.freq, s.pay.freq), (frequency(3, Unit::M), frequency(6, Unit::M)));
-    assert_eq!(rt; (s.day_count, s.compounding), (DayCountCode::Thirty360, CompCode::Straight));
+    assert_eq!(rt;
+        (s.freq, s.pay.freq),
+        (frequency(3, Unit::M), frequency(6, Unit::M))
+    );
+    assert_eq!(rt;
+        (s.day_count, s.compounding),
+        (DayCountCode::Thirty360, CompCode::Straight)
+    );
     let reset = s.reset.as_ref().ok_or("reset dates")?;
-    assert_eq!(rt; (reset.calc_ref, reset.fixing_ref), (RefState::Good, RefState::Absent));
+    assert_eq!(rt;
+        (reset.calc_ref, reset.fixing_ref),
+        (RefState::Good, RefState::Absent)
+    );
     assert_eq!(rt; reset.relative, Relative::Start);
     assert!(rt; reset.fixing.is_none());
     assert_eq!(rt; reset.freq, frequency(3, Unit::M));
@@ -221,7 +240,13 @@ fn the_swap_of_a_floating_stream(rt: HostRuntime) -> Result<(), Fail> {
     assert_eq!(rt; float.multiplier.steps.len(), 0);
     assert_eq!(rt; float.spread.initial, 10_000_000);
     assert_eq!(rt; float.initial_rate, None);
-    assert_eq!(rt; float.rounding, Rounding { dir: Direction::Nearest, places: 9 });
+    assert_eq!(rt;
+        float.rounding,
+        Rounding {
+            dir: Direction::Nearest,
+            places: 9
+        }
+    );
     Ok(())
 }
 
@@ -241,16 +266,34 @@ fn each_date_gives_its_field(rt: HostRuntime) -> Result<(), Fail> {
     assert_eq!(rt; s.last_regular, day("2024-11-15"));
     assert_eq!(rt; s.stub, Some(StubKind::ShortInitial));
     assert_eq!(rt; s.roll, RollCode::Dom(15));
-    assert_eq!(rt; (s.freq, s.pay.freq), (frequency(3, Unit::M), frequency(6, Unit::M)));
+    assert_eq!(rt;
+        (s.freq, s.pay.freq),
+        (frequency(3, Unit::M), frequency(6, Unit::M))
+    );
     assert_eq!(rt; s.pay.first, day("2024-05-15"));
     assert_eq!(rt; s.pay.last, day("2024-11-15"));
     assert_eq!(rt; s.pay.relative, Relative::Start);
-    assert_eq!(rt; s.pay.offset, Offset { days: 2, kind: DayKind::Business });
+    assert_eq!(rt;
+        s.pay.offset,
+        Offset {
+            days: 2,
+            kind: DayKind::Business
+        }
+    );
     let reset = s.reset.as_ref().ok_or("reset dates")?;
-    assert_eq!(rt; (reset.relative, reset.freq), (Relative::End, frequency(3, Unit::M)));
+    assert_eq!(rt;
+        (reset.relative, reset.freq),
+        (Relative::End, frequency(3, Unit::M))
+    );
     assert_eq!(rt; reset.adj.code, ConvCode::Following);
     let fixing = reset.fixing.as_ref().ok_or("fixing dates")?;
-    assert_eq!(rt; fixing.offset, Offset { days: -2, kind: DayKind::Calendar });
+    assert_eq!(rt;
+        fixing.offset,
+        Offset {
+            days: -2,
+            kind: DayKind::Calendar
+        }
+    );
     assert_eq!(rt; fixing.adj.code, ConvCode::Nearest);
     assert_eq!(rt;
         all_centers(alloc, s)?.as_str(),
@@ -283,7 +326,10 @@ fn each_amount_gives_its_field(rt: HostRuntime) -> Result<(), Fail> {
     assert_eq!(rt; s.notional.initial, 10_000_000_000);
     assert_eq!(rt; one_step(&s.notional), step("2024-05-15", 9_000_000_001));
     assert_eq!(rt; one_step(fixed_values(s)?), step("2024-08-15", -60_000_000));
-    assert_eq!(rt; (s.day_count, s.compounding), (DayCountCode::Act365Fixed, CompCode::Simple));
+    assert_eq!(rt;
+        (s.day_count, s.compounding),
+        (DayCountCode::Act365Fixed, CompCode::Simple)
+    );
     assert_eq!(rt; s.exchanges, flags(true, true, false));
     let stubs = s.stubs.as_ref().ok_or("stubs")?;
     assert_eq!(rt; stub_text(alloc, &stubs.initial)?.as_str(), "FIRST 1 M");
@@ -313,19 +359,37 @@ fn each_term_of_a_floating_rate_gives_its_field(rt: HostRuntime) -> Result<(), F
     let value = document(alloc, FLOATING)?;
     let swap = read_swap(alloc, &value)?;
     let s = first_stream(&swap)?;
-    assert_eq!(rt; (s.stub, s.roll), (Some(StubKind::LongFinal), RollCode::Eom));
-    assert_eq!(rt; s.pay.offset, Offset { days: -1, kind: DayKind::Calendar });
+    assert_eq!(rt;
+        (s.stub, s.roll),
+        (Some(StubKind::LongFinal), RollCode::Eom)
+    );
+    assert_eq!(rt;
+        s.pay.offset,
+        Offset {
+            days: -1,
+            kind: DayKind::Calendar
+        }
+    );
     assert_eq!(rt; s.notional.initial, 20_000_005_000);
     assert_eq!(rt; s.currency.letters, *b"JPY");
     let float = float_terms(s)?;
     assert_eq!(rt; float.index.as_slice(), b"USD INDEX".as_slice());
     assert_eq!(rt; float.tenor, Some(frequency(12, Unit::M)));
     assert_eq!(rt; float.multiplier.initial, 2_000_000_000);
-    assert_eq!(rt; one_step(&float.multiplier), step("2024-02-15", 3_000_000_000));
+    assert_eq!(rt;
+        one_step(&float.multiplier),
+        step("2024-02-15", 3_000_000_000)
+    );
     assert_eq!(rt; float.spread.initial, -10_000_000);
     assert_eq!(rt; one_step(&float.spread), step("2024-05-15", 20_000_000));
     assert_eq!(rt; float.initial_rate, Some(40_000_000));
-    assert_eq!(rt; float.rounding, Rounding { dir: Direction::Up, places: 5 });
+    assert_eq!(rt;
+        float.rounding,
+        Rounding {
+            dir: Direction::Up,
+            places: 5
+        }
+    );
     assert_eq!(rt; s.day_count, DayCountCode::ThirtyE360Isda);
     assert_eq!(rt; s.compounding, CompCode::Flat);
     assert_eq!(rt; s.exchanges, flags(false, false, true));
@@ -366,16 +430,34 @@ fn a_floating_stream_without_them_has_the_defaults(rt: HostRuntime) -> Result<()
     }
     let swap = read_swap(alloc, &value)?;
     let s = first_stream(&swap)?;
-    assert_eq!(rt; (s.first_regular, s.last_regular), (None, day("2024-11-15")));
+    assert_eq!(rt;
+        (s.first_regular, s.last_regular),
+        (None, day("2024-11-15"))
+    );
     assert_eq!(rt; (s.pay.first, s.pay.last), (None, day("2024-11-15")));
     assert_eq!(rt; (s.stub, s.pay.calc_ref), (None, RefState::Absent));
-    assert_eq!(rt; s.pay.offset, Offset { days: -1, kind: DayKind::Unsaid });
+    assert_eq!(rt;
+        s.pay.offset,
+        Offset {
+            days: -1,
+            kind: DayKind::Unsaid
+        }
+    );
     assert_eq!(rt; s.pay.adj.code, ConvCode::Unadjusted);
     let reset = s.reset.as_ref().ok_or("reset dates")?;
-    assert_eq!(rt; (reset.relative, reset.fixing_ref), (Relative::Start, RefState::Absent));
+    assert_eq!(rt;
+        (reset.relative, reset.fixing_ref),
+        (Relative::Start, RefState::Absent)
+    );
     assert_eq!(rt; reset.adj.code, ConvCode::Unadjusted);
     let fixing = reset.fixing.as_ref().ok_or("fixing dates")?;
-    assert_eq!(rt; fixing.offset, Offset { days: -2, kind: DayKind::Unsaid });
+    assert_eq!(rt;
+        fixing.offset,
+        Offset {
+            days: -2,
+            kind: DayKind::Unsaid
+        }
+    );
     assert_eq!(rt;
         all_centers(alloc, s)?.as_str(),
         "dangling; dangling; dangling; absent; dangling; absent; "
@@ -385,8 +467,17 @@ fn a_floating_stream_without_them_has_the_defaults(rt: HostRuntime) -> Result<()
     assert_eq!(rt; float.multiplier.initial, 1_000_000_000);
     assert_eq!(rt; float.multiplier.steps.len(), 0);
     assert_eq!(rt; (float.spread.initial, float.spread.steps.len()), (0, 0));
-    assert_eq!(rt; float.rounding, Rounding { dir: Direction::Nearest, places: 9 });
-    assert_eq!(rt; (s.compounding, s.exchanges), (CompCode::Simple, flags(false, false, false)));
+    assert_eq!(rt;
+        float.rounding,
+        Rounding {
+            dir: Direction::Nearest,
+            places: 9
+        }
+    );
+    assert_eq!(rt;
+        (s.compounding, s.exchanges),
+        (CompCode::Simple, flags(false, false, false))
+    );
     let stubs = s.stubs.as_ref().ok_or("stubs")?;
     assert!(rt; stubs.initial.is_none());
     assert_eq!(rt; stub_text(alloc, &stubs.last)?.as_str(), "-10000000000");
@@ -425,7 +516,10 @@ const LISTS: [(&str, &str); 6] = [
         "PAYM ",
     ),
     ("resetDates/fixingDates/businessCenters/@id", "FIXI "),
-    ("resetDates/resetDatesAdjustments/businessCenters/@id", "RESE "),
+    (
+        "resetDates/resetDatesAdjustments/businessCenters/@id",
+        "RESE ",
+    ),
 ];
 
 #[test]
@@ -452,7 +546,11 @@ fn centres_of_one_list_alone(rt: HostRuntime) -> Result<(), Fail> {
         ((0, list, r#""other""#), (1, list, r#""other""#), "dangling"),
         ((0, list, r#""bc""#), (1, list, r#""bc""#), "dangling"),
         ((0, list, r#""bc""#), (0, LISTS[4].0, r#""bc""#), "dangling"),
-        ((0, list, r#""bc ""#), (0, LISTS[4].0, r#""BC""#), "dangling"),
+        (
+            (0, list, r#""bc ""#),
+            (0, LISTS[4].0, r#""BC""#),
+            "dangling",
+        ),
         (
             (0, list, r#""x""#),
             (0, "calculationPeriodDates/@id", r#""bc""#),
@@ -535,7 +633,11 @@ fn dates_of_the_same_stream(rt: HostRuntime) -> Result<(), Fail> {
     ];
     let streams = format!(in alloc; "{FIXED},{FLOATING}")?;
     for ((path, text), want) in rows {
-        let swap = edited(alloc, &streams, &[(0, dates, r#""first""#), (1, path, text)])?;
+        let swap = edited(
+            alloc,
+            &streams,
+            &[(0, dates, r#""first""#), (1, path, text)],
+        )?;
         assert_eq!(rt; references(last_stream(&swap)?)?, want, "{path} {text}");
     }
     Ok(())
