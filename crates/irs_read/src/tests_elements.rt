@@ -854,38 +854,40 @@ fn a_repeated_element_stands_at_most_so_often(rt: HostRuntime) -> Result<(), Fai
     Ok(())
 }
 
+/// What an object may hold beside its members: the name of a member, its text, and the rule that the
+/// object breaks, if any.
+const BESIDE: [(&str, &str, &str); 19] = [
+    ("unlisted", "1", "K4"),
+    ("unlisted", "{}", "K4"),
+    ("unlisted", "[1,2]", "K4"),
+    ("unlisted", "null", ""),
+    ("unlisted", "[]", ""),
+    ("@unlisted", "1", ""),
+    ("@unlisted", "{}", ""),
+    ("", r#""x""#, "K4"),
+    ("#text", r#""x""#, "K4"),
+    ("Period", r#""D""#, "K4"),
+    ("swapStream", "{}", "K4"),
+    ("@id", r#""other""#, ""),
+    ("@id", "null", ""),
+    ("@id", "[]", ""),
+    ("@id", "1", "K3"),
+    ("@id", r#"["cpd"]"#, "K3"),
+    ("@href", r#""other""#, ""),
+    ("@href", "{}", "K3"),
+    ("@href", "true", "K3"),
+];
+
 #[test]
 fn what_an_object_holds_beside_its_members(rt: HostRuntime) -> Result<(), Fail> {
     let alloc = rt.alloc();
-    // Each row: the name of a member, its text, and the rule that the object breaks, if any.
-    let rows = [
-        ("unlisted", "1", "K4"),
-        ("unlisted", "{}", "K4"),
-        ("unlisted", "[1,2]", "K4"),
-        ("unlisted", "null", ""),
-        ("unlisted", "[]", ""),
-        ("@unlisted", "1", ""),
-        ("@unlisted", "{}", ""),
-        ("", r#""x""#, "K4"),
-        ("#text", r#""x""#, "K4"),
-        ("Period", r#""D""#, "K4"),
-        ("swapStream", "{}", "K4"),
-        ("@id", r#""other""#, ""),
-        ("@id", "null", ""),
-        ("@id", "[]", ""),
-        ("@id", "1", "K3"),
-        ("@id", r#"["cpd"]"#, "K3"),
-        ("@href", r#""other""#, ""),
-        ("@href", "{}", "K3"),
-        ("@href", "true", "K3"),
-    ];
     let paths = [
         "paymentDates",
         "calculationPeriodAmount/calculation/notionalSchedule/notionalStepSchedule/step",
         "stubCalculationPeriodAmount/calculationPeriodDatesReference",
     ];
     for path in paths {
-        for (name, text, rule) in rows {
+        for (name, text, rule) in BESIDE {
             let want = if rule.is_empty() {
                 format!(in alloc; "ok 1")?
             } else {

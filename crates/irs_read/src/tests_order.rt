@@ -289,516 +289,696 @@ fn a_member_is_passed_over_where_it_is_listed(rt: HostRuntime) -> Result<(), Fai
     Ok(())
 }
 
-// An edit of a swap.
-fn put_at(at: &'static str, text: &'static str) -> Edit {
-    Edit { at, text }
+/// A stream with one edit, and what is told of it.
+#[derive(Clone, Copy, Debug)]
+struct Chosen {
+    stream: &'static str,
+    edit: Edit,
+    told: &'static str,
 }
+
+const CHOSEN: [Chosen; 43] = [
+    Chosen {
+        stream: FIXED,
+        edit: Edit {
+            at: "swapStream/0/calculationPeriodDates/effectiveDate/dateAdjustments/businessCentersReference",
+            text: r#"{"@href":"bc"}"#,
+        },
+        told: "K7 1 calculationPeriodDates/effectiveDate/dateAdjustments 0",
+    },
+    Chosen {
+        stream: FIXED,
+        edit: Edit {
+            at: "swapStream/0/calculationPeriodDates/terminationDate/dateAdjustments/businessCentersReference",
+            text: r#"{"@href":"bc"}"#,
+        },
+        told: "K7 1 calculationPeriodDates/terminationDate/dateAdjustments 0",
+    },
+    Chosen {
+        stream: FIXED,
+        edit: Edit {
+            at: "swapStream/0/calculationPeriodDates/calculationPeriodDatesAdjustments/businessCentersReference",
+            text: r#"{"@href":"bc"}"#,
+        },
+        told: "K7 1 calculationPeriodDates/calculationPeriodDatesAdjustments 0",
+    },
+    Chosen {
+        stream: FIXED,
+        edit: Edit {
+            at: "swapStream/0/paymentDates/paymentDatesAdjustments/businessCentersReference",
+            text: r#"{"@href":"bc"}"#,
+        },
+        told: "K7 1 paymentDates/paymentDatesAdjustments 0",
+    },
+    Chosen {
+        stream: FIXED,
+        edit: Edit {
+            at: "swapStream/0/resetDates/fixingDates/businessCentersReference",
+            text: r#"{"@href":"bc"}"#,
+        },
+        told: "K7 1 resetDates/fixingDates 0",
+    },
+    Chosen {
+        stream: FIXED,
+        edit: Edit {
+            at: "swapStream/0/resetDates/resetDatesAdjustments/businessCentersReference",
+            text: r#"{"@href":"bc"}"#,
+        },
+        told: "K7 1 resetDates/resetDatesAdjustments 0",
+    },
+    Chosen {
+        stream: FLOATING,
+        edit: Edit {
+            at: "swapStream/0/calculationPeriodDates/effectiveDate/dateAdjustments/businessCenters",
+            text: r#"{"businessCenter":"DEFR"}"#,
+        },
+        told: "K7 1 calculationPeriodDates/effectiveDate/dateAdjustments 0",
+    },
+    Chosen {
+        stream: FIXED,
+        edit: Edit {
+            at: "swapStream/0/calculationPeriodDates/effectiveDate/dateAdjustments/businessCenters",
+            text: "null",
+        },
+        told: "ok 1",
+    },
+    Chosen {
+        stream: FLOATING,
+        edit: Edit {
+            at: "swapStream/0/calculationPeriodDates/terminationDate/dateAdjustments/businessCenters",
+            text: r#"{"businessCenter":"DEFR"}"#,
+        },
+        told: "K7 1 calculationPeriodDates/terminationDate/dateAdjustments 0",
+    },
+    Chosen {
+        stream: FIXED,
+        edit: Edit {
+            at: "swapStream/0/calculationPeriodDates/terminationDate/dateAdjustments/businessCenters",
+            text: "null",
+        },
+        told: "ok 1",
+    },
+    Chosen {
+        stream: FIXED,
+        edit: Edit {
+            at: "swapStream/0/calculationPeriodDates/effectiveDate/dateAdjustments/businessCentersReference",
+            text: "{}",
+        },
+        told: "K2 1 calculationPeriodDates/effectiveDate/dateAdjustments/businessCentersReference 0",
+    },
+    Chosen {
+        stream: FIXED,
+        edit: Edit {
+            at: "swapStream/0/calculationPeriodDates/effectiveDate/dateAdjustments/businessCentersReference",
+            text: r#""bc""#,
+        },
+        told: "K3 1 calculationPeriodDates/effectiveDate/dateAdjustments/businessCentersReference 0",
+    },
+    Chosen {
+        stream: FLOATING,
+        edit: Edit {
+            at: "swapStream/0/calculationPeriodDates/effectiveDate/dateAdjustments/businessCenters",
+            text: r#"{"businessCenter":"a b"}"#,
+        },
+        told: "K6 1 calculationPeriodDates/effectiveDate/dateAdjustments/businessCenters/businessCenter 1",
+    },
+    Chosen {
+        stream: FIXED,
+        edit: Edit {
+            at: "swapStream/0/calculationPeriodDates/effectiveDate/dateAdjustments/businessCentersReference",
+            text: r#"[{"@href":"bc"},{"@href":"bc"}]"#,
+        },
+        told: "K7 1 calculationPeriodDates/effectiveDate/dateAdjustments 0",
+    },
+    Chosen {
+        stream: FIXED,
+        edit: Edit {
+            at: "swapStream/0/calculationPeriodAmount/calculation/floatingRateCalculation",
+            text: r#"{"floatingRateIndex":"INDEX"}"#,
+        },
+        told: "K7 1 calculationPeriodAmount/calculation 0",
+    },
+    Chosen {
+        stream: FLOATING,
+        edit: Edit {
+            at: "swapStream/0/calculationPeriodAmount/calculation/fixedRateSchedule",
+            text: r#"{"initialValue":"0.05"}"#,
+        },
+        told: "K7 1 calculationPeriodAmount/calculation 0",
+    },
+    Chosen {
+        stream: FIXED,
+        edit: Edit {
+            at: "swapStream/0/calculationPeriodAmount/calculation/floatingRateCalculation",
+            text: "{}",
+        },
+        told: "K2 1 calculationPeriodAmount/calculation/floatingRateCalculation/floatingRateIndex 0",
+    },
+    Chosen {
+        stream: FIXED,
+        edit: Edit {
+            at: "swapStream/0/calculationPeriodAmount/calculation/floatingRateCalculation",
+            text: r#""INDEX""#,
+        },
+        told: "K3 1 calculationPeriodAmount/calculation/floatingRateCalculation 0",
+    },
+    Chosen {
+        stream: FIXED,
+        edit: Edit {
+            at: "swapStream/0/calculationPeriodAmount/calculation/floatingRateCalculation",
+            text: r#"{"floatingRateIndex":"INDEX","x":1}"#,
+        },
+        told: "K4 1 calculationPeriodAmount/calculation/floatingRateCalculation 0",
+    },
+    Chosen {
+        stream: FIXED,
+        edit: Edit {
+            at: "swapStream/0/calculationPeriodAmount/calculation/floatingRateCalculation",
+            text: r#"{"floatingRateIndex":"INDEX","averagingMethod":"Unweighted"}"#,
+        },
+        told: "K5 1 calculationPeriodAmount/calculation/floatingRateCalculation 0",
+    },
+    Chosen {
+        stream: FIXED,
+        edit: Edit {
+            at: "swapStream/0/calculationPeriodAmount/calculation/floatingRateCalculation",
+            text: r#"{"floatingRateIndex":""}"#,
+        },
+        told: "K6 1 calculationPeriodAmount/calculation/floatingRateCalculation/floatingRateIndex 0",
+    },
+    Chosen {
+        stream: FIXED,
+        edit: Edit {
+            at: "swapStream/0/calculationPeriodAmount/calculation/floatingRateCalculation",
+            text: "[{},{}]",
+        },
+        told: "K7 1 calculationPeriodAmount/calculation 0",
+    },
+    Chosen {
+        stream: FIXED,
+        edit: Edit {
+            at: "swapStream/0/calculationPeriodAmount/calculation/fixedRateSchedule",
+            text: "null",
+        },
+        told: "K2 1 calculationPeriodAmount/calculation 0",
+    },
+    Chosen {
+        stream: FLOATING,
+        edit: Edit {
+            at: "swapStream/0/calculationPeriodAmount/calculation/floatingRateCalculation",
+            text: "[]",
+        },
+        told: "K2 1 calculationPeriodAmount/calculation 0",
+    },
+    Chosen {
+        stream: FIXED,
+        edit: Edit {
+            at: "swapStream/0/calculationPeriodAmount/calculation/fixedRateSchedule",
+            text: "[{},{}]",
+        },
+        told: "K7 1 calculationPeriodAmount/calculation/fixedRateSchedule 0",
+    },
+    Chosen {
+        stream: FIXED,
+        edit: Edit {
+            at: "swapStream/0/stubCalculationPeriodAmount/initialStub/stubRate",
+            text: "0.5e0",
+        },
+        told: "K3 1 stubCalculationPeriodAmount/initialStub/stubRate 0",
+    },
+    Chosen {
+        stream: FIXED,
+        edit: Edit {
+            at: "swapStream/0/stubCalculationPeriodAmount/initialStub/stubRate",
+            text: r#""x""#,
+        },
+        told: "K6 1 stubCalculationPeriodAmount/initialStub/stubRate 0",
+    },
+    Chosen {
+        stream: FIXED,
+        edit: Edit {
+            at: "swapStream/0/stubCalculationPeriodAmount/initialStub/stubRate",
+            text: "0",
+        },
+        told: "K7 1 stubCalculationPeriodAmount/initialStub 0",
+    },
+    Chosen {
+        stream: FLOATING,
+        edit: Edit {
+            at: "swapStream/0/stubCalculationPeriodAmount/initialStub/floatingRate",
+            text: r#"{"floatingRateIndex":"INDEX"}"#,
+        },
+        told: "K7 1 stubCalculationPeriodAmount/initialStub 0",
+    },
+    Chosen {
+        stream: FLOATING,
+        edit: Edit {
+            at: "swapStream/0/stubCalculationPeriodAmount/initialStub/floatingRate",
+            text: "{}",
+        },
+        told: "K2 1 stubCalculationPeriodAmount/initialStub/floatingRate/floatingRateIndex 0",
+    },
+    Chosen {
+        stream: FLOATING,
+        edit: Edit {
+            at: "swapStream/0/stubCalculationPeriodAmount/initialStub/stubRate",
+            text: "null",
+        },
+        told: "K2 1 stubCalculationPeriodAmount/initialStub 0",
+    },
+    Chosen {
+        stream: FLOATING,
+        edit: Edit {
+            at: "swapStream/0/stubCalculationPeriodAmount/initialStub",
+            text: "{}",
+        },
+        told: "K2 1 stubCalculationPeriodAmount/initialStub 0",
+    },
+    Chosen {
+        stream: FLOATING,
+        edit: Edit {
+            at: "swapStream/0/stubCalculationPeriodAmount/initialStub",
+            text: r#"{"stubRate":["1","2"]}"#,
+        },
+        told: "K7 1 stubCalculationPeriodAmount/initialStub/stubRate 0",
+    },
+    Chosen {
+        stream: FLOATING,
+        edit: Edit {
+            at: "swapStream/0/stubCalculationPeriodAmount/initialStub",
+            text: r#"{"stubRate":["1","2"],"floatingRate":{"floatingRateIndex":"INDEX"}}"#,
+        },
+        told: "K7 1 stubCalculationPeriodAmount/initialStub 0",
+    },
+    Chosen {
+        stream: FIXED,
+        edit: Edit {
+            at: "swapStream/0/stubCalculationPeriodAmount/finalStub/stubRate",
+            text: "0.5e0",
+        },
+        told: "K3 1 stubCalculationPeriodAmount/finalStub/stubRate 0",
+    },
+    Chosen {
+        stream: FIXED,
+        edit: Edit {
+            at: "swapStream/0/stubCalculationPeriodAmount/finalStub/stubRate",
+            text: r#""x""#,
+        },
+        told: "K6 1 stubCalculationPeriodAmount/finalStub/stubRate 0",
+    },
+    Chosen {
+        stream: FIXED,
+        edit: Edit {
+            at: "swapStream/0/stubCalculationPeriodAmount/finalStub/stubRate",
+            text: "0",
+        },
+        told: "K7 1 stubCalculationPeriodAmount/finalStub 0",
+    },
+    Chosen {
+        stream: FLOATING,
+        edit: Edit {
+            at: "swapStream/0/stubCalculationPeriodAmount/finalStub/floatingRate",
+            text: r#"{"floatingRateIndex":"INDEX"}"#,
+        },
+        told: "K7 1 stubCalculationPeriodAmount/finalStub 0",
+    },
+    Chosen {
+        stream: FLOATING,
+        edit: Edit {
+            at: "swapStream/0/stubCalculationPeriodAmount/finalStub/floatingRate",
+            text: "{}",
+        },
+        told: "K2 1 stubCalculationPeriodAmount/finalStub/floatingRate/floatingRateIndex 0",
+    },
+    Chosen {
+        stream: FLOATING,
+        edit: Edit {
+            at: "swapStream/0/stubCalculationPeriodAmount/finalStub/stubRate",
+            text: "null",
+        },
+        told: "K2 1 stubCalculationPeriodAmount/finalStub 0",
+    },
+    Chosen {
+        stream: FLOATING,
+        edit: Edit {
+            at: "swapStream/0/stubCalculationPeriodAmount/finalStub",
+            text: "{}",
+        },
+        told: "K2 1 stubCalculationPeriodAmount/finalStub 0",
+    },
+    Chosen {
+        stream: FLOATING,
+        edit: Edit {
+            at: "swapStream/0/stubCalculationPeriodAmount/finalStub",
+            text: r#"{"stubRate":["1","2"]}"#,
+        },
+        told: "K7 1 stubCalculationPeriodAmount/finalStub/stubRate 0",
+    },
+    Chosen {
+        stream: FLOATING,
+        edit: Edit {
+            at: "swapStream/0/stubCalculationPeriodAmount/finalStub",
+            text: r#"{"stubRate":["1","2"],"floatingRate":{"floatingRateIndex":"INDEX"}}"#,
+        },
+        told: "K7 1 stubCalculationPeriodAmount/finalStub 0",
+    },
+];
 
 #[test]
 fn both_of_a_choice_and_none(rt: HostRuntime) -> Result<(), Fail> {
-    let alloc = rt.alloc();
-    // Each row: a stream, where a member is put, its text, and what is told.
-    let rows = [
-        (
-            FIXED,
-            "swapStream/0/calculationPeriodDates/effectiveDate/dateAdjustments/businessCentersReference",
-            r#"{"@href":"bc"}"#,
-            "K7 1 calculationPeriodDates/effectiveDate/dateAdjustments 0",
-        ),
-        (
-            FIXED,
-            "swapStream/0/calculationPeriodDates/terminationDate/dateAdjustments/businessCentersReference",
-            r#"{"@href":"bc"}"#,
-            "K7 1 calculationPeriodDates/terminationDate/dateAdjustments 0",
-        ),
-        (
-            FIXED,
-            "swapStream/0/calculationPeriodDates/calculationPeriodDatesAdjustments/businessCentersReference",
-            r#"{"@href":"bc"}"#,
-            "K7 1 calculationPeriodDates/calculationPeriodDatesAdjustments 0",
-        ),
-        (
-            FIXED,
-            "swapStream/0/paymentDates/paymentDatesAdjustments/businessCentersReference",
-            r#"{"@href":"bc"}"#,
-            "K7 1 paymentDates/paymentDatesAdjustments 0",
-        ),
-        (
-            FIXED,
-            "swapStream/0/resetDates/fixingDates/businessCentersReference",
-            r#"{"@href":"bc"}"#,
-            "K7 1 resetDates/fixingDates 0",
-        ),
-        (
-            FIXED,
-            "swapStream/0/resetDates/resetDatesAdjustments/businessCentersReference",
-            r#"{"@href":"bc"}"#,
-            "K7 1 resetDates/resetDatesAdjustments 0",
-        ),
-        (
-            FLOATING,
-            "swapStream/0/calculationPeriodDates/effectiveDate/dateAdjustments/businessCenters",
-            r#"{"businessCenter":"DEFR"}"#,
-            "K7 1 calculationPeriodDates/effectiveDate/dateAdjustments 0",
-        ),
-        (
-            FIXED,
-            "swapStream/0/calculationPeriodDates/effectiveDate/dateAdjustments/businessCenters",
-            "null",
-            "ok 1",
-        ),
-        (
-            FLOATING,
-            "swapStream/0/calculationPeriodDates/terminationDate/dateAdjustments/businessCenters",
-            r#"{"businessCenter":"DEFR"}"#,
-            "K7 1 calculationPeriodDates/terminationDate/dateAdjustments 0",
-        ),
-        (
-            FIXED,
-            "swapStream/0/calculationPeriodDates/terminationDate/dateAdjustments/businessCenters",
-            "null",
-            "ok 1",
-        ),
-        (
-            FIXED,
-            "swapStream/0/calculationPeriodDates/effectiveDate/dateAdjustments/businessCentersReference",
-            "{}",
-            "K2 1 calculationPeriodDates/effectiveDate/dateAdjustments/businessCentersReference 0",
-        ),
-        (
-            FIXED,
-            "swapStream/0/calculationPeriodDates/effectiveDate/dateAdjustments/businessCentersReference",
-            r#""bc""#,
-            "K3 1 calculationPeriodDates/effectiveDate/dateAdjustments/businessCentersReference 0",
-        ),
-        (
-            FLOATING,
-            "swapStream/0/calculationPeriodDates/effectiveDate/dateAdjustments/businessCenters",
-            r#"{"businessCenter":"a b"}"#,
-            "K6 1 calculationPeriodDates/effectiveDate/dateAdjustments/businessCenters/businessCenter 1",
-        ),
-        (
-            FIXED,
-            "swapStream/0/calculationPeriodDates/effectiveDate/dateAdjustments/businessCentersReference",
-            r#"[{"@href":"bc"},{"@href":"bc"}]"#,
-            "K7 1 calculationPeriodDates/effectiveDate/dateAdjustments 0",
-        ),
-        (
-            FIXED,
-            "swapStream/0/calculationPeriodAmount/calculation/floatingRateCalculation",
-            r#"{"floatingRateIndex":"INDEX"}"#,
-            "K7 1 calculationPeriodAmount/calculation 0",
-        ),
-        (
-            FLOATING,
-            "swapStream/0/calculationPeriodAmount/calculation/fixedRateSchedule",
-            r#"{"initialValue":"0.05"}"#,
-            "K7 1 calculationPeriodAmount/calculation 0",
-        ),
-        (
-            FIXED,
-            "swapStream/0/calculationPeriodAmount/calculation/floatingRateCalculation",
-            "{}",
-            "K2 1 calculationPeriodAmount/calculation/floatingRateCalculation/floatingRateIndex 0",
-        ),
-        (
-            FIXED,
-            "swapStream/0/calculationPeriodAmount/calculation/floatingRateCalculation",
-            r#""INDEX""#,
-            "K3 1 calculationPeriodAmount/calculation/floatingRateCalculation 0",
-        ),
-        (
-            FIXED,
-            "swapStream/0/calculationPeriodAmount/calculation/floatingRateCalculation",
-            r#"{"floatingRateIndex":"INDEX","x":1}"#,
-            "K4 1 calculationPeriodAmount/calculation/floatingRateCalculation 0",
-        ),
-        (
-            FIXED,
-            "swapStream/0/calculationPeriodAmount/calculation/floatingRateCalculation",
-            r#"{"floatingRateIndex":"INDEX","averagingMethod":"Unweighted"}"#,
-            "K5 1 calculationPeriodAmount/calculation/floatingRateCalculation 0",
-        ),
-        (
-            FIXED,
-            "swapStream/0/calculationPeriodAmount/calculation/floatingRateCalculation",
-            r#"{"floatingRateIndex":""}"#,
-            "K6 1 calculationPeriodAmount/calculation/floatingRateCalculation/floatingRateIndex 0",
-        ),
-        (
-            FIXED,
-            "swapStream/0/calculationPeriodAmount/calculation/floatingRateCalculation",
-            "[{},{}]",
-            "K7 1 calculationPeriodAmount/calculation 0",
-        ),
-        (
-            FIXED,
-            "swapStream/0/calculationPeriodAmount/calculation/fixedRateSchedule",
-            "null",
-            "K2 1 calculationPeriodAmount/calculation 0",
-        ),
-        (
-            FLOATING,
-            "swapStream/0/calculationPeriodAmount/calculation/floatingRateCalculation",
-            "[]",
-            "K2 1 calculationPeriodAmount/calculation 0",
-        ),
-        (
-            FIXED,
-            "swapStream/0/calculationPeriodAmount/calculation/fixedRateSchedule",
-            "[{},{}]",
-            "K7 1 calculationPeriodAmount/calculation/fixedRateSchedule 0",
-        ),
-        (
-            FIXED,
-            "swapStream/0/stubCalculationPeriodAmount/initialStub/stubRate",
-            "0.5e0",
-            "K3 1 stubCalculationPeriodAmount/initialStub/stubRate 0",
-        ),
-        (
-            FIXED,
-            "swapStream/0/stubCalculationPeriodAmount/initialStub/stubRate",
-            r#""x""#,
-            "K6 1 stubCalculationPeriodAmount/initialStub/stubRate 0",
-        ),
-        (
-            FIXED,
-            "swapStream/0/stubCalculationPeriodAmount/initialStub/stubRate",
-            "0",
-            "K7 1 stubCalculationPeriodAmount/initialStub 0",
-        ),
-        (
-            FLOATING,
-            "swapStream/0/stubCalculationPeriodAmount/initialStub/floatingRate",
-            r#"{"floatingRateIndex":"INDEX"}"#,
-            "K7 1 stubCalculationPeriodAmount/initialStub 0",
-        ),
-        (
-            FLOATING,
-            "swapStream/0/stubCalculationPeriodAmount/initialStub/floatingRate",
-            "{}",
-            "K2 1 stubCalculationPeriodAmount/initialStub/floatingRate/floatingRateIndex 0",
-        ),
-        (
-            FLOATING,
-            "swapStream/0/stubCalculationPeriodAmount/initialStub/stubRate",
-            "null",
-            "K2 1 stubCalculationPeriodAmount/initialStub 0",
-        ),
-        (
-            FLOATING,
-            "swapStream/0/stubCalculationPeriodAmount/initialStub",
-            "{}",
-            "K2 1 stubCalculationPeriodAmount/initialStub 0",
-        ),
-        (
-            FLOATING,
-            "swapStream/0/stubCalculationPeriodAmount/initialStub",
-            r#"{"stubRate":["1","2"]}"#,
-            "K7 1 stubCalculationPeriodAmount/initialStub/stubRate 0",
-        ),
-        (
-            FLOATING,
-            "swapStream/0/stubCalculationPeriodAmount/initialStub",
-            r#"{"stubRate":["1","2"],"floatingRate":{"floatingRateIndex":"INDEX"}}"#,
-            "K7 1 stubCalculationPeriodAmount/initialStub 0",
-        ),
-        (
-            FIXED,
-            "swapStream/0/stubCalculationPeriodAmount/finalStub/stubRate",
-            "0.5e0",
-            "K3 1 stubCalculationPeriodAmount/finalStub/stubRate 0",
-        ),
-        (
-            FIXED,
-            "swapStream/0/stubCalculationPeriodAmount/finalStub/stubRate",
-            r#""x""#,
-            "K6 1 stubCalculationPeriodAmount/finalStub/stubRate 0",
-        ),
-        (
-            FIXED,
-            "swapStream/0/stubCalculationPeriodAmount/finalStub/stubRate",
-            "0",
-            "K7 1 stubCalculationPeriodAmount/finalStub 0",
-        ),
-        (
-            FLOATING,
-            "swapStream/0/stubCalculationPeriodAmount/finalStub/floatingRate",
-            r#"{"floatingRateIndex":"INDEX"}"#,
-            "K7 1 stubCalculationPeriodAmount/finalStub 0",
-        ),
-        (
-            FLOATING,
-            "swapStream/0/stubCalculationPeriodAmount/finalStub/floatingRate",
-            "{}",
-            "K2 1 stubCalculationPeriodAmount/finalStub/floatingRate/floatingRateIndex 0",
-        ),
-        (
-            FLOATING,
-            "swapStream/0/stubCalculationPeriodAmount/finalStub/stubRate",
-            "null",
-            "K2 1 stubCalculationPeriodAmount/finalStub 0",
-        ),
-        (
-            FLOATING,
-            "swapStream/0/stubCalculationPeriodAmount/finalStub",
-            "{}",
-            "K2 1 stubCalculationPeriodAmount/finalStub 0",
-        ),
-        (
-            FLOATING,
-            "swapStream/0/stubCalculationPeriodAmount/finalStub",
-            r#"{"stubRate":["1","2"]}"#,
-            "K7 1 stubCalculationPeriodAmount/finalStub/stubRate 0",
-        ),
-        (
-            FLOATING,
-            "swapStream/0/stubCalculationPeriodAmount/finalStub",
-            r#"{"stubRate":["1","2"],"floatingRate":{"floatingRateIndex":"INDEX"}}"#,
-            "K7 1 stubCalculationPeriodAmount/finalStub 0",
-        ),
-    ];
-    for (stream, at, text, want) in rows {
-        let line = told_of(alloc, stream, &[Edit { at, text }])?;
-        assert_eq!(rt; line.as_str(), want, "{at} {text}");
+    for row in &CHOSEN {
+        let line = told_of(rt.alloc(), row.stream, &[row.edit])?;
+        assert_eq!(rt; line.as_str(), row.told, "{:?}", row.edit);
     }
     Ok(())
 }
 
+/// Two edits of a swap of a fixed and a floating stream, and what is told of it.
+#[derive(Clone, Copy, Debug)]
+struct Pair {
+    first: Edit,
+    second: Edit,
+    told: &'static str,
+}
+
+const PAIRS: [Pair; 28] = [
+    Pair {
+        first: Edit {
+            at: "swapStream/0/calculationPeriodDates/effectiveDate/unadjustedDate",
+            text: "0.5",
+        },
+        second: Edit {
+            at: "swapStream/0/paymentDates/payRelativeTo",
+            text: "null",
+        },
+        told: "K2 1 paymentDates/payRelativeTo 0",
+    },
+    Pair {
+        first: Edit {
+            at: "swapStream/0/paymentDates/unlisted",
+            text: "1",
+        },
+        second: Edit {
+            at: "swapStream/0/principalExchanges/initialExchange",
+            text: "0.5",
+        },
+        told: "K3 1 principalExchanges/initialExchange 0",
+    },
+    Pair {
+        first: Edit {
+            at: "swapStream/0/calculationPeriodDates/relativeEffectiveDate",
+            text: "1",
+        },
+        second: Edit {
+            at: "swapStream/0/principalExchanges/unlisted",
+            text: "1",
+        },
+        told: "K4 1 principalExchanges 0",
+    },
+    Pair {
+        first: Edit {
+            at: "swapStream/0/calculationPeriodDates/effectiveDate/unadjustedDate",
+            text: r#""x""#,
+        },
+        second: Edit {
+            at: "swapStream/0/calculationPeriodAmount/calculation/dayCountFraction",
+            text: r#""BUS/252""#,
+        },
+        told: "K5 1 calculationPeriodAmount/calculation/dayCountFraction 0",
+    },
+    Pair {
+        first: Edit {
+            at: "swapStream/0/calculationPeriodDates/stubPeriodType",
+            text: r#"["ShortInitial","ShortInitial"]"#,
+        },
+        second: Edit {
+            at: "swapStream/0/calculationPeriodAmount/calculation/dayCountFraction",
+            text: r#""x""#,
+        },
+        told: "K6 1 calculationPeriodAmount/calculation/dayCountFraction 0",
+    },
+    Pair {
+        first: Edit {
+            at: "swapStream/0/calculationPeriodDates/calculationPeriodFrequency/rollConvention",
+            text: r#""FRN""#,
+        },
+        second: Edit {
+            at: "swapStream/0/calculationPeriodAmount/calculation/discounting",
+            text: "1",
+        },
+        told: "K5 1 calculationPeriodDates/calculationPeriodFrequency/rollConvention 0",
+    },
+    Pair {
+        first: Edit {
+            at: "swapStream/0/paymentDates/payRelativeTo",
+            text: r#""x""#,
+        },
+        second: Edit {
+            at: "swapStream/0/calculationPeriodAmount/calculation/dayCountFraction",
+            text: r#""x""#,
+        },
+        told: "K6 1 paymentDates/payRelativeTo 0",
+    },
+    Pair {
+        first: Edit {
+            at: "swapStream/0/principalExchanges/intermediateExchange",
+            text: r#""x""#,
+        },
+        second: Edit {
+            at: "swapStream/0/principalExchanges/finalExchange",
+            text: r#""x""#,
+        },
+        told: "K6 1 principalExchanges/finalExchange 0",
+    },
+    Pair {
+        first: Edit {
+            at: "swapStream/0/resetDates/fixingDates/businessDayConvention",
+            text: r#""x""#,
+        },
+        second: Edit {
+            at: "swapStream/0/resetDates/fixingDates/dayType",
+            text: r#""x""#,
+        },
+        told: "K6 1 resetDates/fixingDates/dayType 0",
+    },
+    Pair {
+        first: Edit {
+            at: "swapStream/0/paymentDates/paymentDaysOffset/dayType",
+            text: r#""x""#,
+        },
+        second: Edit {
+            at: "swapStream/0/paymentDates/paymentDaysOffset/periodMultiplier",
+            text: "99",
+        },
+        told: "K6 1 paymentDates/paymentDaysOffset/periodMultiplier 0",
+    },
+    Pair {
+        first: Edit {
+            at: "swapStream/0/calculationPeriodDates/terminationDate",
+            text: "null",
+        },
+        second: Edit {
+            at: "swapStream/0/calculationPeriodDates/calculationPeriodFrequency",
+            text: "null",
+        },
+        told: "K2 1 calculationPeriodDates/terminationDate 0",
+    },
+    Pair {
+        first: Edit {
+            at: "swapStream/0/unlisted",
+            text: "1",
+        },
+        second: Edit {
+            at: "swapStream/0/calculationPeriodDates/unlisted",
+            text: "1",
+        },
+        told: "K4 1 swapStream 0",
+    },
+    Pair {
+        first: Edit {
+            at: "swapStream/0/formula",
+            text: "1",
+        },
+        second: Edit {
+            at: "swapStream/0/calculationPeriodDates/firstPeriodStartDate",
+            text: "1",
+        },
+        told: "K5 1 swapStream 0",
+    },
+    Pair {
+        first: Edit {
+            at: "swapStream/0/calculationPeriodDates/terminationDate/dateAdjustments/businessCenters/businessCenter",
+            text: r#"["A","","a b"]"#,
+        },
+        second: Edit {
+            at: "swapStream/0/paymentDates/payRelativeTo",
+            text: r#""x""#,
+        },
+        told: "K6 1 calculationPeriodDates/terminationDate/dateAdjustments/businessCenters/businessCenter 2",
+    },
+    Pair {
+        first: Edit {
+            at: "swapStream/0/calculationPeriodDates/effectiveDate/dateAdjustments/businessCenters/businessCenter",
+            text: r#"["A","B",0.5,""]"#,
+        },
+        second: Edit {
+            at: "swapStream/0/calculationPeriodDates/terminationDate/dateAdjustments/businessCenters/businessCenter",
+            text: r#"["",{}]"#,
+        },
+        told: "K3 1 calculationPeriodDates/effectiveDate/dateAdjustments/businessCenters/businessCenter 3",
+    },
+    Pair {
+        first: Edit {
+            at: "swapStream/0/calculationPeriodAmount/calculation/fixedRateSchedule/step",
+            text: r#"[{"stepDate":"2024-05-15","stepValue":"x"},{"stepDate":"x","stepValue":"1"}]"#,
+        },
+        second: Edit {
+            at: "swapStream/0/principalExchanges/finalExchange",
+            text: r#""x""#,
+        },
+        told: "K6 1 calculationPeriodAmount/calculation/fixedRateSchedule/step/stepDate 2",
+    },
+    Pair {
+        first: Edit {
+            at: "swapStream/0/calculationPeriodAmount/calculation/fixedRateSchedule/step",
+            text: r#"[{"stepDate":"x","stepValue":"1"},{"stepDate":"2024-05-15","stepValue":"1"},{"stepDate":"2024-05-15"}]"#,
+        },
+        second: Edit {
+            at: "swapStream/0/calculationPeriodAmount/calculation/fixedRateSchedule/step/0/unlisted",
+            text: "1",
+        },
+        told: "K2 1 calculationPeriodAmount/calculation/fixedRateSchedule/step/stepValue 3",
+    },
+    Pair {
+        first: Edit {
+            at: "swapStream/0/calculationPeriodAmount/calculation/fixedRateSchedule/step",
+            text: r#"[{"stepDate":"2024-05-15","stepValue":"1"},"x",{"stepDate":"2024-05-15","stepValue":"1","x":1}]"#,
+        },
+        second: Edit {
+            at: "swapStream/0/paymentDates/payRelativeTo",
+            text: r#""x""#,
+        },
+        told: "K3 1 calculationPeriodAmount/calculation/fixedRateSchedule/step 2",
+    },
+    Pair {
+        first: Edit {
+            at: "swapStream/0/calculationPeriodAmount/calculation/fixedRateSchedule/step",
+            text: r#"[{"stepDate":"2024-05-15","stepValue":"1"},{"stepDate":["2024-05-15","2024-05-15"],"stepValue":"1"}]"#,
+        },
+        second: Edit {
+            at: "swapStream/0/principalExchanges/finalExchange",
+            text: r#"["1","1"]"#,
+        },
+        told: "K7 1 calculationPeriodAmount/calculation/fixedRateSchedule/step/stepDate 0",
+    },
+    Pair {
+        first: Edit {
+            at: "swapStream/0/calculationPeriodDates/effectiveDate",
+            text: r#""x""#,
+        },
+        second: Edit {
+            at: "swapStream/0/paymentDates/unlisted",
+            text: "1",
+        },
+        told: "K3 1 calculationPeriodDates/effectiveDate 0",
+    },
+    Pair {
+        first: Edit {
+            at: "swapStream/0/calculationPeriodDates/effectiveDate",
+            text: "[{},{}]",
+        },
+        second: Edit {
+            at: "swapStream/0/principalExchanges",
+            text: "[{},{}]",
+        },
+        told: "K7 1 calculationPeriodDates/effectiveDate 0",
+    },
+    Pair {
+        first: Edit {
+            at: "swapStream/1/paymentDates/payRelativeTo",
+            text: "null",
+        },
+        second: Edit {
+            at: "swapStream/0/principalExchanges",
+            text: "[{},{}]",
+        },
+        told: "K7 1 principalExchanges 0",
+    },
+    Pair {
+        first: Edit {
+            at: "swapStream/1/paymentDates/payRelativeTo",
+            text: "null",
+        },
+        second: Edit {
+            at: "swapStream/1/calculationPeriodDates/effectiveDate/unadjustedDate",
+            text: r#""x""#,
+        },
+        told: "K2 2 paymentDates/payRelativeTo 0",
+    },
+    Pair {
+        first: Edit {
+            at: "swapStream/0/paymentDates/payRelativeTo",
+            text: "null",
+        },
+        second: Edit {
+            at: "additionalTerms",
+            text: "1",
+        },
+        told: "K5 0 swap 0",
+    },
+    Pair {
+        first: Edit {
+            at: "extendibleProvision",
+            text: "1",
+        },
+        second: Edit {
+            at: "unlisted",
+            text: "1",
+        },
+        told: "K4 0 swap 0",
+    },
+    Pair {
+        first: Edit {
+            at: "swapStream/1/unlisted",
+            text: "1",
+        },
+        second: Edit {
+            at: "swapStream/1/formula",
+            text: "1",
+        },
+        told: "K4 2 swapStream 0",
+    },
+    Pair {
+        first: Edit {
+            at: "swapStream/1/@id",
+            text: "1",
+        },
+        second: Edit {
+            at: "swapStream/1/unlisted",
+            text: "1",
+        },
+        told: "K3 2 swapStream 0",
+    },
+    Pair {
+        first: Edit {
+            at: "@href",
+            text: "{}",
+        },
+        second: Edit {
+            at: "swapStream/0/paymentDates",
+            text: "null",
+        },
+        told: "K3 0 swap 0",
+    },
+];
+
 #[test]
 fn the_first_of_two_faults_is_told(rt: HostRuntime) -> Result<(), Fail> {
     let alloc = rt.alloc();
-    // Each row: two edits of a swap of two streams, and what is told.
-    let rows = [
-        (
-            put_at(
-                "swapStream/0/calculationPeriodDates/effectiveDate/unadjustedDate",
-                "0.5",
-            ),
-            put_at("swapStream/0/paymentDates/payRelativeTo", "null"),
-            "K2 1 paymentDates/payRelativeTo 0",
-        ),
-        (
-            put_at("swapStream/0/paymentDates/unlisted", "1"),
-            put_at("swapStream/0/principalExchanges/initialExchange", "0.5"),
-            "K3 1 principalExchanges/initialExchange 0",
-        ),
-        (
-            put_at(
-                "swapStream/0/calculationPeriodDates/relativeEffectiveDate",
-                "1",
-            ),
-            put_at("swapStream/0/principalExchanges/unlisted", "1"),
-            "K4 1 principalExchanges 0",
-        ),
-        (
-            put_at(
-                "swapStream/0/calculationPeriodDates/effectiveDate/unadjustedDate",
-                r#""x""#,
-            ),
-            put_at(
-                "swapStream/0/calculationPeriodAmount/calculation/dayCountFraction",
-                r#""BUS/252""#,
-            ),
-            "K5 1 calculationPeriodAmount/calculation/dayCountFraction 0",
-        ),
-        (
-            put_at(
-                "swapStream/0/calculationPeriodDates/stubPeriodType",
-                r#"["ShortInitial","ShortInitial"]"#,
-            ),
-            put_at(
-                "swapStream/0/calculationPeriodAmount/calculation/dayCountFraction",
-                r#""x""#,
-            ),
-            "K6 1 calculationPeriodAmount/calculation/dayCountFraction 0",
-        ),
-        (
-            put_at(
-                "swapStream/0/calculationPeriodDates/calculationPeriodFrequency/rollConvention",
-                r#""FRN""#,
-            ),
-            put_at(
-                "swapStream/0/calculationPeriodAmount/calculation/discounting",
-                "1",
-            ),
-            "K5 1 calculationPeriodDates/calculationPeriodFrequency/rollConvention 0",
-        ),
-        (
-            put_at("swapStream/0/paymentDates/payRelativeTo", r#""x""#),
-            put_at(
-                "swapStream/0/calculationPeriodAmount/calculation/dayCountFraction",
-                r#""x""#,
-            ),
-            "K6 1 paymentDates/payRelativeTo 0",
-        ),
-        (
-            put_at(
-                "swapStream/0/principalExchanges/intermediateExchange",
-                r#""x""#,
-            ),
-            put_at("swapStream/0/principalExchanges/finalExchange", r#""x""#),
-            "K6 1 principalExchanges/finalExchange 0",
-        ),
-        (
-            put_at(
-                "swapStream/0/resetDates/fixingDates/businessDayConvention",
-                r#""x""#,
-            ),
-            put_at("swapStream/0/resetDates/fixingDates/dayType", r#""x""#),
-            "K6 1 resetDates/fixingDates/dayType 0",
-        ),
-        (
-            put_at(
-                "swapStream/0/paymentDates/paymentDaysOffset/dayType",
-                r#""x""#,
-            ),
-            put_at(
-                "swapStream/0/paymentDates/paymentDaysOffset/periodMultiplier",
-                "99",
-            ),
-            "K6 1 paymentDates/paymentDaysOffset/periodMultiplier 0",
-        ),
-        (
-            put_at(
-                "swapStream/0/calculationPeriodDates/terminationDate",
-                "null",
-            ),
-            put_at(
-                "swapStream/0/calculationPeriodDates/calculationPeriodFrequency",
-                "null",
-            ),
-            "K2 1 calculationPeriodDates/terminationDate 0",
-        ),
-        (
-            put_at("swapStream/0/unlisted", "1"),
-            put_at("swapStream/0/calculationPeriodDates/unlisted", "1"),
-            "K4 1 swapStream 0",
-        ),
-        (
-            put_at("swapStream/0/formula", "1"),
-            put_at(
-                "swapStream/0/calculationPeriodDates/firstPeriodStartDate",
-                "1",
-            ),
-            "K5 1 swapStream 0",
-        ),
-        (
-            put_at(
-                "swapStream/0/calculationPeriodDates/terminationDate/dateAdjustments/businessCenters/businessCenter",
-                r#"["A","","a b"]"#,
-            ),
-            put_at("swapStream/0/paymentDates/payRelativeTo", r#""x""#),
-            "K6 1 calculationPeriodDates/terminationDate/dateAdjustments/businessCenters/businessCenter 2",
-        ),
-        (
-            put_at(
-                "swapStream/0/calculationPeriodDates/effectiveDate/dateAdjustments/businessCenters/businessCenter",
-                r#"["A","B",0.5,""]"#,
-            ),
-            put_at(
-                "swapStream/0/calculationPeriodDates/terminationDate/dateAdjustments/businessCenters/businessCenter",
-                r#"["",{}]"#,
-            ),
-            "K3 1 calculationPeriodDates/effectiveDate/dateAdjustments/businessCenters/businessCenter 3",
-        ),
-        (
-            put_at(
-                "swapStream/0/calculationPeriodAmount/calculation/fixedRateSchedule/step",
-                r#"[{"stepDate":"2024-05-15","stepValue":"x"},{"stepDate":"x","stepValue":"1"}]"#,
-            ),
-            put_at("swapStream/0/principalExchanges/finalExchange", r#""x""#),
-            "K6 1 calculationPeriodAmount/calculation/fixedRateSchedule/step/stepDate 2",
-        ),
-        (
-            put_at(
-                "swapStream/0/calculationPeriodAmount/calculation/fixedRateSchedule/step",
-                r#"[{"stepDate":"x","stepValue":"1"},{"stepDate":"2024-05-15","stepValue":"1"},{"stepDate":"2024-05-15"}]"#,
-            ),
-            put_at(
-                "swapStream/0/calculationPeriodAmount/calculation/fixedRateSchedule/step/0/unlisted",
-                "1",
-            ),
-            "K2 1 calculationPeriodAmount/calculation/fixedRateSchedule/step/stepValue 3",
-        ),
-        (
-            put_at(
-                "swapStream/0/calculationPeriodAmount/calculation/fixedRateSchedule/step",
-                r#"[{"stepDate":"2024-05-15","stepValue":"1"},"x",{"stepDate":"2024-05-15","stepValue":"1","x":1}]"#,
-            ),
-            put_at("swapStream/0/paymentDates/payRelativeTo", r#""x""#),
-            "K3 1 calculationPeriodAmount/calculation/fixedRateSchedule/step 2",
-        ),
-        (
-            put_at(
-                "swapStream/0/calculationPeriodAmount/calculation/fixedRateSchedule/step",
-                r#"[{"stepDate":"2024-05-15","stepValue":"1"},{"stepDate":["2024-05-15","2024-05-15"],"stepValue":"1"}]"#,
-            ),
-            put_at(
-                "swapStream/0/principalExchanges/finalExchange",
-                r#"["1","1"]"#,
-            ),
-            "K7 1 calculationPeriodAmount/calculation/fixedRateSchedule/step/stepDate 0",
-        ),
-        (
-            put_at(
-                "swapStream/0/calculationPeriodDates/effectiveDate",
-                r#""x""#,
-            ),
-            put_at("swapStream/0/paymentDates/unlisted", "1"),
-            "K3 1 calculationPeriodDates/effectiveDate 0",
-        ),
-        (
-            put_at(
-                "swapStream/0/calculationPeriodDates/effectiveDate",
-                "[{},{}]",
-            ),
-            put_at("swapStream/0/principalExchanges", "[{},{}]"),
-            "K7 1 calculationPeriodDates/effectiveDate 0",
-        ),
-        (
-            put_at("swapStream/1/paymentDates/payRelativeTo", "null"),
-            put_at("swapStream/0/principalExchanges", "[{},{}]"),
-            "K7 1 principalExchanges 0",
-        ),
-        (
-            put_at("swapStream/1/paymentDates/payRelativeTo", "null"),
-            put_at(
-                "swapStream/1/calculationPeriodDates/effectiveDate/unadjustedDate",
-                r#""x""#,
-            ),
-            "K2 2 paymentDates/payRelativeTo 0",
-        ),
-        (
-            put_at("swapStream/0/paymentDates/payRelativeTo", "null"),
-            put_at("additionalTerms", "1"),
-            "K5 0 swap 0",
-        ),
-        (
-            put_at("extendibleProvision", "1"),
-            put_at("unlisted", "1"),
-            "K4 0 swap 0",
-        ),
-        (
-            put_at("swapStream/1/unlisted", "1"),
-            put_at("swapStream/1/formula", "1"),
-            "K4 2 swapStream 0",
-        ),
-        (
-            put_at("swapStream/1/@id", "1"),
-            put_at("swapStream/1/unlisted", "1"),
-            "K3 2 swapStream 0",
-        ),
-        (
-            put_at("@href", "{}"),
-            put_at("swapStream/0/paymentDates", "null"),
-            "K3 0 swap 0",
-        ),
-    ];
     let streams = format!(in alloc; "{FIXED},{FLOATING}")?;
-    for (first, second, want) in rows {
-        let line = told_of(alloc, &streams, &[first, second])?;
-        assert_eq!(rt; line.as_str(), want, "{first:?} {second:?}");
+    for row in &PAIRS {
+        let line = told_of(alloc, &streams, &[row.first, row.second])?;
+        assert_eq!(rt; line.as_str(), row.told, "{row:?}");
     }
     Ok(())
 }
