@@ -12,6 +12,14 @@ mod swap;
 mod table;
 #[cfg(test)]
 mod tests;
+#[cfg(test)]
+mod tests_documents;
+#[cfg(test)]
+mod tests_elements;
+#[cfg(test)]
+mod tests_order;
+#[cfg(test)]
+mod tests_swaps;
 
 pub use document::{first_in_document, the_swap};
 pub use reader::{ReadErr, read_swap};

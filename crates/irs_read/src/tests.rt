@@ -1,5 +1,5 @@
-use crate::{ReadErr, read_swap};
-use irs_base::Broken;
+use crate::read_swap;
+use crate::tests_documents::told;
 use irs_json::parse;
 use irs_terms::{Centers, ConvCode, Leg, RefState, Unit};
 use std::alloc::Global;
@@ -21,31 +21,6 @@ fn document(alloc: Global, dates: &str, payments: &str, calculation: &str) -> Re
         "{{\"swap\":{{\"swapStream\":{{\"calculationPeriodDates\":{{{dates}}},\"paymentDates\":{{{payments}}},\"calculationPeriodAmount\":{{\"calculation\":{{{calculation}}}}}}}}}}}"
     )?;
     Ok(text)
-}
-
-// The line that tells of the answer.
-fn told(alloc: Global, text: &str) -> Result<String, Fail> {
-    let value = parse(alloc, text.as_bytes())?;
-    match read_swap(alloc, &value) {
-        Ok(swap) => {
-            let line = format!(in alloc; "ok {}", swap.streams.len())?;
-            Ok(line)
-        }
-        Err(ReadErr::Memory) => {
-            let line = format!(in alloc; "memory")?;
-            Ok(line)
-        }
-        Err(ReadErr::Broken(Broken { rule, place })) => {
-            let line = format!(in alloc;
-                "K{} {} {} {}",
-                rule.number(),
-                place.stream,
-                place.elem.path(),
-                place.index
-            )?;
-            Ok(line)
-        }
-    }
 }
 
 #[test]
@@ -76,7 +51,8 @@ fn the_first_broken_rule_is_told(rt: HostRuntime) -> Result<(), Fail> {
         ("{\"swap\":{\"swapStream\":1}}", "K3 1 swapStream 0"),
     ];
     for (text, line) in rows {
-        assert_eq!(rt; told(rt.alloc(), text)?.as_str(), line, "{text}");
+        let value = parse(rt.alloc(), text.as_bytes())?;
+        assert_eq!(rt; told(rt.alloc(), &value)?.as_str(), line, "{text}");
     }
     Ok(())
 }
@@ -127,7 +103,8 @@ fn the_elements_of_a_stream_are_read(rt: HostRuntime) -> Result<(), Fail> {
     ];
     for (dates, payments, calculation, line) in rows {
         let text = document(rt.alloc(), dates, payments, calculation)?;
-        assert_eq!(rt; told(rt.alloc(), &text)?.as_str(), line, "{line}");
+        let value = parse(rt.alloc(), text.as_bytes())?;
+        assert_eq!(rt; told(rt.alloc(), &value)?.as_str(), line, "{line}");
     }
     Ok(())
 }
