@@ -13,6 +13,8 @@ mod leaves;
 pub mod numbers;
 mod order;
 mod table;
+#[cfg(test)]
+mod tests;
 mod walk;
 pub mod words;
 
