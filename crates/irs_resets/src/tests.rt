@@ -1,163 +1,60 @@
-//! Fixing files whose rates and faults are known from outside the code.
-ghost use Rattle.std.specs.Prelude.{◌≡◌, ◌≤◌, length, pos, [], IsTrue, IfSome};
+//! Resets of floating streams whose dates, rates and first broken rule are known from outside the code.
+ghost use Rattle.std.specs.Prelude.{◌≡◌, ◌≤◌, length, pos, [], IsTrue, IfOk, IfSome};
 ghost use Rattle.irs_terms.specs.declared.adjustments.Centers.TheVariants.{Absent};
+ghost use Rattle.irs_base.specs.Days.{IsDay};
 ghost use Rattle.irs_base.specs.Listed.{IsRising};
-ghost use Rattle.irs_terms.specs.Lawful.{IsRate, IsLawfulIndex, IsLawfulFix, IsLawfulStubRate, IsLawfulStream};
+ghost use Rattle.irs_terms.specs.Lawful.{IsRate, IsLawfulDated, IsLawfulFix, IsLawfulFloat, IsLawfulFrequency, IsLawfulIndex, IsLawfulPay, IsLawfulReset, IsLawfulStubRate, IsLawfulStubs, IsLawfulStream, IsLawfulTenor};
+ghost use Rattle.irs_terms.specs.declared.frequency.Unit.TheVariants.{M};
 ghost use Rattle.irs_resets.specs.ResetDates.{IsSaid, IsSaidOffset};
 ghost use Rattle.irs_resets.specs.Resets.{HasResetTerms, IsSaidReset};
 
-use crate::{FixErr, Fixings, ResErr, resets};
-use irs_base::{Civil, Day, DayList, Direction, Elem, Rule, Text, day_of};
-use irs_calendar::RunSet;
+mod files;
+mod rows;
+
+use crate::{Fixings, ResErr, resets};
+use irs_base::{Broken, Day, DayList, Direction, Names, Rule, Text, read_date};
+use irs_calendar::{Calendars, RunSet};
 use irs_terms::*;
+use rows::{By, DATES, Days, Fixing, Index, NOT_MOVED, RATES, Row, Stub, Want};
 use std::alloc::Global;
+use std::process::Abort;
 use std::test::*;
 
-fn ymd(year: i32, month: u8, day: u8) -> Day {
-    day_of(Civil { year, month, day }).unwrap_or(Day::earliest())
-}
+/// The centres by whose days dates go.
+const CALENDAR: &[u8] = b"center WIDE
+cover 2023-01-01 2024-12-31
+weekend SAT SUN
+2024-03-29
+2024-04-01
+center EARLY
+cover 2023-01-01 2024-04-14
+weekend SAT SUN
+center LATE
+cover 2024-01-12 2024-12-31
+weekend SAT SUN
+center EDGE
+cover 2024-01-11 2024-12-31
+weekend SAT SUN
+";
 
-fn months(count: u16) -> Option<Frequency> {
-    Some(Frequency {
-        count,
-        unit: Unit::M,
-    })
-}
+/// The rates that were observed.
+const FIXINGS: &[u8] = b"2024-01-15 0.05 3M A
+2024-04-15 0.06 3M A
+2024-01-13 0.01 3M A
+2024-04-13 0.02 3M A
+2024-01-15 0.03 1M A
+2024-04-15 0.04 1M B
+2024-01-15 0.08 - B
+2024-01-13 0.09 - B
+";
 
-fn years(count: u16) -> Option<Frequency> {
-    Some(Frequency {
-        count,
-        unit: Unit::Y,
-    })
-}
-
-// What reading the file answers: its rate of the index `A` at 2024-01-15 for the tenor, or its fault.
-fn answer(alloc: Global, file: &[u8], tenor: Option<Frequency>) -> Result<Option<i64>, FixErr> {
-    if file.len() > 4_194_304 {
-        return Err(FixErr::Memory);
-    }
-    let fixings = Fixings::read(alloc, file)?;
-    let index = Text::from_bytes(alloc, b"A")?;
-    Ok(fixings.rate_on(&index, tenor, ymd(2024, 1, 15)))
-}
-
-#[test]
-fn reads_files(rt: HostRuntime) -> Result<(), Fail> {
-    let alloc = rt.alloc();
-    // Each row: the file, the tenor that is looked up, the rate or the fault.
-    let rows: [(&[u8], Option<Frequency>, Result<Option<i64>, FixErr>); 20] = [
-        (b"", None, Ok(None)),
-        (
-            b"2024-01-15 0.05 3M A\n2024-04-15 0.06 3M A\n",
-            months(3),
-            Ok(Some(50_000_000)),
-        ),
-        (b"2024-01-15 0.05 3M B\n", months(3), Ok(None)),
-        (b"2024-01-16 0.05 3M A\n", months(3), Ok(None)),
-        (b"2024-01-15 0.05 12M A\n", years(1), Ok(None)),
-        (b"2024-01-15 0.05 1Y A\n", years(1), Ok(Some(50_000_000))),
-        (
-            b"# a comment\r\n \t\r\n2024-01-15\t-0.005  -\tA \t",
-            None,
-            Ok(Some(-5_000_000)),
-        ),
-        (b"2024-01-15 10 - A\n", None, Ok(Some(10_000_000_000))),
-        (
-            b"2024-01-15 10.000000001 - A\n",
-            None,
-            Err(FixErr::Syntax(1)),
-        ),
-        (
-            b"2024-01-15 0.05 3M A\n2024-01-15 0.05 3M A\n",
-            months(3),
-            Err(FixErr::Repeat(2)),
-        ),
-        (
-            b"2024-01-15 0.05 3M A B\n2024-01-15 0.05 3M A  B\n",
-            months(3),
-            Ok(None),
-        ),
-        (b"2024-01-15 0.05 3M A\xff\n", months(3), Ok(None)),
-        (
-            b"2024-01-15 0.05 3M A\tB\n",
-            months(3),
-            Err(FixErr::Syntax(1)),
-        ),
-        (
-            b"\n 2024-01-15 0.05 3M A\n",
-            months(3),
-            Err(FixErr::Syntax(2)),
-        ),
-        (
-            b"2024-01-15 0.05 01M A\n",
-            months(1),
-            Err(FixErr::Syntax(1)),
-        ),
-        (
-            b"2024-01-15 0.05 999M A\n",
-            months(999),
-            Ok(Some(50_000_000)),
-        ),
-        (b"2024-01-15 0.05 1000M A\n", None, Err(FixErr::Syntax(1))),
-        (b"2024-01-15 0.05 1T A\n", None, Err(FixErr::Syntax(1))),
-        (b"2024-02-30 0.05 1M A\n", None, Err(FixErr::Syntax(1))),
-        (
-            b"2024-01-15 0.05 1M\n2024-01-15 0.05 1M A\n",
-            months(1),
-            Err(FixErr::Syntax(1)),
-        ),
-    ];
-    for (file, tenor, want) in rows {
-        assert_eq!(rt; answer(alloc, file, tenor), want, "{file:?}");
-    }
-    Ok(())
-}
-
-// A file with an index of that many bytes.
-fn with_index(alloc: Global, bytes: usize) -> Result<bool, Fail> {
-    let mut file = Vec::from_slice(alloc, b"2024-01-15 0.05 - ")?;
-    for _i in 0..bytes {
-        file.push(b'A')?;
-    }
-    if file.len() > 4_194_304 {
-        return Err("too long")?;
-    }
-    Ok(Fixings::read(alloc, &file).is_ok())
-}
-
-#[test]
-fn reads_indexes_of_128_bytes(rt: HostRuntime) -> Result<(), Fail> {
-    assert!(rt; with_index(rt.alloc(), 128)?);
-    assert!(rt; !with_index(rt.alloc(), 129)?);
-    assert!(rt; !with_index(rt.alloc(), 0)?);
-    let index = Text::from_bytes(rt.alloc(), b"A").or(Err("no memory"))?;
-    assert_eq!(rt;
-        Fixings::none().rate_on(&index, None, ymd(2024, 1, 15)),
-        None
-    );
-    Ok(())
-}
-
-// What a row says of a stream over the boundaries 2024-01-15, 2024-04-15 and 2024-07-15.
-#[derive(Clone, Copy, Debug)]
-struct Terms {
-    relative: Relative,
-    fixes: bool,
-    initial_rate: Option<i64>,
-    stub_rate: Option<i64>,
-    stub_index: bool,
-    span_first: Day,
-}
-
-fn plain() -> Terms {
-    Terms {
-        relative: Relative::Start,
-        fixes: false,
-        initial_rate: None,
-        stub_rate: None,
-        stub_index: false,
-        span_first: ymd(2024, 1, 15),
-    }
+/// A day that is written as `YYYY-MM-DD`.
+pub fn day(text: &str) -> Option<Day>
+    ensures { IfSome result IsDay }
+{
+    let day = read_date(text.as_bytes())?;
+    let _number = day.number();
+    Some(day)
 }
 
 fn adjustments(code: ConvCode) -> Adjustments
@@ -169,6 +66,15 @@ fn adjustments(code: ConvCode) -> Adjustments
     }
 }
 
+fn dated(text: &str) -> Option<Dated>
+    ensures { IfSome result IsLawfulDated }
+{
+    Some(Dated {
+        day: day(text)?,
+        adj: adjustments(ConvCode::Unadjusted),
+    })
+}
+
 fn values(alloc: Global) -> StepValues
     ensures { result ≡ record { initial = pos 0; steps = [] } }
 {
@@ -178,132 +84,181 @@ fn values(alloc: Global) -> StepValues
     }
 }
 
-fn index(alloc: Global) -> Option<Text>
-    ensures { IfSome result IsLawfulIndex }
+fn quarterly() -> Frequency
+    ensures { result ≡ record { count = 3; unit = M } }
 {
-    Text::from_bytes(alloc, b"A").ok()
-}
-
-fn is_rate(rate: Option<i64>) -> bool
-    ensures { IsTrue result → IfSome rate IsRate }
-{
-    match rate {
-        Some(rate) => -10_000_000_000 <= rate && rate <= 10_000_000_000,
-        None => true,
+    Frequency {
+        count: 3,
+        unit: Unit::M,
     }
 }
 
-// Two Business days back.
-fn two_back() -> FixTerms
-    ensures said { IsSaidOffset result.offset }
-    ensures lawful { IsLawfulFix result }
+fn paid_quarterly() -> PayTerms
+    ensures { IsLawfulPay result }
 {
-    FixTerms {
+    PayTerms {
+        calc_ref: RefState::Absent,
+        freq: quarterly(),
+        first: None,
+        last: None,
+        relative: Relative::End,
         offset: Offset {
-            days: -2,
-            kind: DayKind::Business,
+            days: 0,
+            kind: DayKind::Unsaid,
         },
         adj: adjustments(ConvCode::Unadjusted),
     }
 }
 
-fn fixing(fixes: bool) -> Option<FixTerms>
+fn is_rate(rate: i64) -> bool
+    ensures { IsTrue result → IsRate rate }
+{
+    -10_000_000_000 <= rate && rate <= 10_000_000_000
+}
+
+fn given_rate(rate: Option<i64>) -> Option<i64>
+    ensures { IfSome result IsRate }
+{
+    match rate {
+        Some(rate) if is_rate(rate) => Some(rate),
+        Some(_) | None => None,
+    }
+}
+
+fn index_text(alloc: Global, name: Index) -> Option<Text>
+    ensures { IfSome result IsLawfulIndex }
+{
+    match name {
+        Index::A => Text::from_bytes(alloc, b"A").ok(),
+        Index::B => Text::from_bytes(alloc, b"B").ok(),
+    }
+}
+
+fn tenor(months: Option<u16>) -> Option<Frequency>
+    ensures { IfSome result IsLawfulTenor }
+{
+    match months {
+        Some(count) if 1 <= count && count <= 999 => Some(Frequency {
+            count,
+            unit: Unit::M,
+        }),
+        Some(_) | None => None,
+    }
+}
+
+fn stub_rate(alloc: Global, stub: Stub) -> Option<StubRate>
+    ensures { IfSome result IsLawfulStubRate }
+{
+    match stub {
+        Stub::Rate(rate) if is_rate(rate) => Some(StubRate::Fixed(rate)),
+        Stub::Rate(_) => None,
+        Stub::Line(name, months) => Some(StubRate::Index(index_text(alloc, name)?, tenor(months))),
+    }
+}
+
+fn given_stub(alloc: Global, stub: Option<Stub>) -> Option<StubRate>
+    ensures { IfSome result IsLawfulStubRate }
+{
+    match stub {
+        Some(stub) => stub_rate(alloc, stub),
+        None => None,
+    }
+}
+
+fn stubs(alloc: Global, row: &Row) -> Option<StubTerms>
+    ensures { IfSome result IsLawfulStubs }
+{
+    let initial = given_stub(alloc, row.initial_stub);
+    let last = given_stub(alloc, row.final_stub);
+    if initial.is_none() && last.is_none() {
+        return None;
+    }
+    Some(StubTerms {
+        calc_ref: RefState::Absent,
+        initial,
+        last,
+    })
+}
+
+fn fix_terms(given: Fixing) -> Option<FixTerms>
+    ensures said { IfSome result (λ f. IsSaidOffset f.offset) }
+    ensures lawful { IfSome result IsLawfulFix }
+{
+    let Fixing(days, kind, by) = given;
+    if days < -60 || days > 60 || (days != 0 && kind == DayKind::Unsaid) {
+        return None;
+    }
+    Some(FixTerms {
+        offset: Offset { days, kind },
+        adj: adjustments(by.0),
+    })
+}
+
+fn given_fixing(given: Option<Fixing>) -> Option<FixTerms>
     ensures said { IsSaid result }
     ensures lawful { IfSome result IsLawfulFix }
 {
-    if fixes { Some(two_back()) } else { None }
+    match given {
+        Some(given) => fix_terms(given),
+        None => None,
+    }
 }
 
-fn stub(alloc: Global, t: &Terms) -> Option<Option<StubRate>>
-    ensures { IfSome result (λ s. IfSome s IsLawfulStubRate) }
+fn reset_terms(row: &Row) -> ResetTerms
+    ensures said { IsSaid result.fixing }
+    ensures lawful { IsLawfulReset result }
 {
-    if t.stub_index {
-        return Some(Some(StubRate::Index(index(alloc)?, None)));
-    }
-    if !is_rate(t.stub_rate) {
-        return None;
-    }
-    match t.stub_rate {
-        Some(rate) => Some(Some(StubRate::Fixed(rate))),
-        None => Some(None),
+    ResetTerms {
+        calc_ref: RefState::Absent,
+        fixing_ref: RefState::Absent,
+        relative: row.relative,
+        fixing: given_fixing(row.fixing),
+        freq: quarterly(),
+        adj: adjustments(row.resets.0),
     }
 }
 
-fn stream(alloc: Global, t: &Terms) -> Option<Stream>
+fn float_terms(alloc: Global, row: &Row) -> Option<FloatTerms>
+    ensures { IfSome result IsLawfulFloat }
+{
+    Some(FloatTerms {
+        index: index_text(alloc, Index::A)?,
+        tenor: tenor(Some(3)),
+        multiplier: values(alloc),
+        spread: values(alloc),
+        initial_rate: given_rate(row.initial_rate),
+        rounding: Rounding {
+            dir: Direction::Nearest,
+            places: 9,
+        },
+    })
+}
+
+fn stream(alloc: Global, row: &Row) -> Option<Stream>
     ensures lawful { IfSome result IsLawfulStream }
     ensures legs { IfSome result HasResetTerms }
     ensures said { IfSome result IsSaidReset }
 {
-    let freq = Frequency {
-        count: 3,
-        unit: Unit::M,
-    };
-    if !is_rate(t.initial_rate) {
+    if row.roll < 1 || row.roll > 30 {
         return None;
     }
     Some(Stream {
-        effective: Dated {
-            day: day_of(Civil {
-                year: 2024,
-                month: 1,
-                day: 15,
-            })?,
-            adj: adjustments(ConvCode::Unadjusted),
-        },
-        termination: Dated {
-            day: day_of(Civil {
-                year: 2024,
-                month: 7,
-                day: 15,
-            })?,
-            adj: adjustments(ConvCode::Unadjusted),
-        },
+        effective: dated(row.boundaries[0])?,
+        termination: dated(row.boundaries[2])?,
         period_adj: adjustments(ConvCode::Unadjusted),
-        first_regular: None,
-        last_regular: None,
+        first_regular: day(row.first),
+        last_regular: day(row.last),
         stub: None,
-        freq,
-        roll: RollCode::Dom(15),
-        pay: PayTerms {
-            calc_ref: RefState::Absent,
-            freq,
-            first: None,
-            last: None,
-            relative: Relative::End,
-            offset: Offset {
-                days: 0,
-                kind: DayKind::Unsaid,
-            },
-            adj: adjustments(ConvCode::Unadjusted),
-        },
-        reset: Some(ResetTerms {
-            calc_ref: RefState::Absent,
-            fixing_ref: RefState::Absent,
-            relative: t.relative,
-            fixing: fixing(t.fixes),
-            freq,
-            adj: adjustments(ConvCode::Unadjusted),
-        }),
+        freq: quarterly(),
+        roll: RollCode::Dom(row.roll),
+        pay: paid_quarterly(),
+        reset: Some(reset_terms(row)),
         notional: values(alloc),
         currency: Currency { letters: *b"EUR" },
-        leg: Leg::Floating(FloatTerms {
-            index: index(alloc)?,
-            tenor: Some(freq),
-            multiplier: values(alloc),
-            spread: values(alloc),
-            initial_rate: t.initial_rate,
-            rounding: Rounding {
-                dir: Direction::Nearest,
-                places: 9,
-            },
-        }),
+        leg: Leg::Floating(float_terms(alloc, row)?),
         day_count: DayCountCode::Act360,
         compounding: CompCode::Simple,
-        stubs: Some(StubTerms {
-            calc_ref: RefState::Absent,
-            initial: stub(alloc, t)?,
-            last: None,
-        }),
+        stubs: stubs(alloc, row),
         exchanges: ExchangeFlags {
             initial: false,
             intermediate: false,
@@ -312,10 +267,27 @@ fn stream(alloc: Global, t: &Terms) -> Option<Stream>
     })
 }
 
-fn boundaries(alloc: Global) -> Option<DayList>
+// The same with a fixed rate.
+fn fixed_stream(alloc: Global, row: &Row) -> Option<Stream>
+    ensures lawful { IfSome result IsLawfulStream }
+    ensures legs { IfSome result HasResetTerms }
+    ensures said { IfSome result IsSaidReset }
+{
+    let floating = stream(alloc, row)?;
+    Some(Stream {
+        leg: Leg::Fixed(values(alloc)),
+        reset: None,
+        stubs: None,
+        ..floating
+    })
+}
+
+fn boundaries(alloc: Global, row: &Row) -> Option<DayList>
     ensures { IfSome result IsRising }
 {
-    let (a, b, c) = (ymd(2024, 1, 15), ymd(2024, 4, 15), ymd(2024, 7, 15));
+    let a = day(row.boundaries[0])?;
+    let b = day(row.boundaries[1])?;
+    let c = day(row.boundaries[2])?;
     if b <= a || c <= b {
         return None;
     }
@@ -326,116 +298,154 @@ fn boundaries(alloc: Global) -> Option<DayList>
     Some(list)
 }
 
-fn rows_of(alloc: Global, t: &Terms) -> Option<Result<Resets, ResErr>> {
-    let s = stream(alloc, t)?;
-    let adjusted = boundaries(alloc)?;
+/// The good days of each kind, and the fixings.
+#[derive(Drop)]
+struct Market {
+    wide: RunSet,
+    early: RunSet,
+    late: RunSet,
+    edge: RunSet,
+    fixings: Fixings,
+}
+
+impl Market {
+    fn days(&self, days: Days) -> &RunSet {
+        match days {
+            Days::Wide => &self.wide,
+            Days::Early => &self.early,
+            Days::Late => &self.late,
+            Days::Edge => &self.edge,
+        }
+    }
+}
+
+fn good_days(alloc: Global, calendars: &Calendars, name: &[u8]) -> Result<RunSet, Fail> {
+    let mut names = Names::new(alloc);
+    names.push(Text::from_bytes(alloc, name)?)?;
+    match calendars.select(alloc, &names) {
+        Ok(days) => Ok(days),
+        Err(_) => Err("not selected")?,
+    }
+}
+
+fn read_market(alloc: Global) -> Result<Market, Fail> {
+    let files = [Vec::from_slice(alloc, CALENDAR)?];
+    let Ok(calendars) = Calendars::read(alloc, &files) else {
+        return Err("no calendars")?;
+    };
+    let Ok(fixings) = Fixings::read(alloc, FIXINGS) else {
+        return Err("no fixings")?;
+    };
+    Ok(Market {
+        wide: good_days(alloc, &calendars, b"WIDE")?,
+        early: good_days(alloc, &calendars, b"EARLY")?,
+        late: good_days(alloc, &calendars, b"LATE")?,
+        edge: good_days(alloc, &calendars, b"EDGE")?,
+        fixings,
+    })
+}
+
+fn fixing_days(row: &Row) -> Days {
+    match row.fixing {
+        Some(Fixing(_, _, by)) => by.1,
+        None => NOT_MOVED.1,
+    }
+}
+
+fn resets_of(
+    alloc: Global,
+    s: &Stream,
+    row: &Row,
+    market: &Market,
+) -> Option<Result<Resets, ResErr>>
+    requires lawful { IsLawfulStream s.now }
+    requires legs { HasResetTerms s.now }
+    requires said { IsSaidReset s.now }
+{
+    let adjusted = boundaries(alloc, row)?;
     let span = Span {
-        first: t.span_first,
-        last: ymd(2024, 7, 15),
-        anchor: ymd(2024, 7, 15),
+        first: day(row.first)?,
+        last: day(row.last)?,
+        anchor: day(row.first)?,
     };
-    let file =
-        b"2024-01-15 0.05 3M A\n2024-04-15 0.06 3M A\n2024-01-13 0.01 3M A\n2024-04-13 0.02 3M A\n";
-    let fixings = Fixings::read(alloc, file).ok()?;
-    let all = RunSet::all();
-    Some(resets(alloc, &s, &span, &adjusted, &all, &all, &fixings))
+    let reset_days = market.days(row.resets.1);
+    let fixing_days = market.days(fixing_days(row));
+    Some(resets(
+        alloc,
+        s,
+        &span,
+        &adjusted,
+        reset_days,
+        fixing_days,
+        &market.fixings,
+    ))
 }
 
-fn row(reset: Day, fixing: Day, observed: Option<i64>) -> Reset {
-    Reset {
-        reset,
-        fixing,
-        observed,
+fn is_dated(found: &Reset, reset: &str, fixing: &str) -> bool {
+    Some(found.reset) == day(reset) && Some(found.fixing) == day(fixing)
+}
+
+fn are(list: &[Reset], want: &Want) -> bool {
+    let [first, second] = list else {
+        return false;
+    };
+    match want {
+        Want::Dates(a, b) => is_dated(first, a.0, a.1) && is_dated(second, b.0, b.1),
+        Want::Rates(a, b) => first.observed == *a && second.observed == *b,
+        Want::Breaks(..) => false,
     }
 }
 
-fn broken_of(answer: Option<Result<Resets, ResErr>>) -> Option<(Rule, Elem)> {
-    let Some(answer) = answer else {
-        return None;
+fn is_at(found: &Broken, rule: Rule, path: &str, index: u32) -> bool {
+    found.rule == rule
+        && found.place.stream == 1
+        && found.place.elem.path() == path
+        && found.place.index == index
+}
+
+fn is_broken(found: &ResErr, want: &Want) -> bool {
+    let ResErr::Broken(broken) = found else {
+        return false;
     };
-    let Err(err) = answer else {
-        return None;
-    };
-    match err {
-        ResErr::Broken(broken) => Some((broken.rule, broken.place.elem)),
-        ResErr::Memory => None,
+    match want {
+        Want::Breaks(rule, path, index) => is_at(broken, *rule, path, *index),
+        Want::Dates(..) | Want::Rates(..) => false,
     }
 }
 
-fn are_rows(list: &Resets, first: Reset, second: Reset) -> bool {
-    match list.as_slice() {
-        [a, b] => *a == first && *b == second,
-        _ => false,
+fn each_agrees<R: Abort>(rt: &R, alloc: Global, rows: &[Row]) -> Result<(), Fail> {
+    let market = read_market(alloc)?;
+    for row in rows {
+        let s = stream(alloc, row).ok_or("no such stream")?;
+        let holds = match resets_of(alloc, &s, row, &market).ok_or("no such dates")? {
+            Ok(list) => are(list.as_slice(), &row.want),
+            Err(found) => is_broken(&found, &row.want),
+        };
+        assert!(rt; holds, "{row:?}");
     }
+    Ok(())
 }
 
 #[test]
-fn resets_of_a_stream(rt: HostRuntime) -> Result<(), Fail> {
+fn reset_and_fixing_dates(rt: HostRuntime) -> Result<(), Fail> {
+    each_agrees(&rt, rt.alloc(), &DATES)
+}
+
+#[test]
+fn observed_rates(rt: HostRuntime) -> Result<(), Fail> {
+    each_agrees(&rt, rt.alloc(), &RATES)
+}
+
+#[test]
+fn a_fixed_stream_has_none(rt: HostRuntime) -> Result<(), Fail> {
     let alloc = rt.alloc();
-    let (a, b, c) = (ymd(2024, 1, 15), ymd(2024, 4, 15), ymd(2024, 7, 15));
-    // Each row: the terms, and the two resets.
-    let rows = [
-        (
-            plain(),
-            row(a, a, Some(50_000_000)),
-            row(b, b, Some(60_000_000)),
-        ),
-        (
-            Terms {
-                relative: Relative::End,
-                ..plain()
-            },
-            row(b, b, Some(60_000_000)),
-            row(c, c, None),
-        ),
-        (
-            Terms {
-                fixes: true,
-                ..plain()
-            },
-            row(a, ymd(2024, 1, 13), Some(10_000_000)),
-            row(b, ymd(2024, 4, 13), Some(20_000_000)),
-        ),
-        (
-            Terms {
-                initial_rate: Some(7),
-                ..plain()
-            },
-            row(a, a, Some(7)),
-            row(b, b, Some(60_000_000)),
-        ),
-        (
-            Terms {
-                stub_rate: Some(9),
-                initial_rate: Some(7),
-                span_first: b,
-                ..plain()
-            },
-            row(a, a, Some(9)),
-            row(b, b, Some(7)),
-        ),
-        (
-            Terms {
-                stub_index: true,
-                span_first: b,
-                ..plain()
-            },
-            row(a, a, None),
-            row(b, b, Some(60_000_000)),
-        ),
-    ];
-    for (terms, first, second) in rows {
-        let Some(Ok(list)) = rows_of(alloc, &terms) else {
-            return Err("no resets")?;
-        };
-        assert!(rt; are_rows(&list, first, second), "{terms:?}");
+    let market = read_market(alloc)?;
+    for row in &DATES {
+        let s = fixed_stream(alloc, row).ok_or("no such stream")?;
+        match resets_of(alloc, &s, row, &market).ok_or("no such dates")? {
+            Ok(list) => assert!(rt; list.as_slice().is_empty(), "{row:?}"),
+            Err(found) => assert!(rt; false, "{found:?} for {row:?}"),
+        }
     }
-    // A rate for a stub that isn't there.
-    let broken = Terms {
-        stub_rate: Some(9),
-        ..plain()
-    };
-    let found = broken_of(rows_of(alloc, &broken));
-    assert_eq!(rt; found, Some((Rule::K37, Elem::INITIAL_STUB)));
     Ok(())
 }
