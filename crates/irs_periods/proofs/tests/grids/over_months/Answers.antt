@@ -19,8 +19,7 @@ pub boundaries-requires-clause-on : goal.boundaries-requires-clause-on
 boundaries-requires-clause-on c = λ d.
     let s = c.args.s.now in
     let anchor = c.args.span.now.anchor in
-    let count = c.from.ensures in
-    (
+    let count = c.from.ensures in (
       (λ on.
           let numbered = (c.new-grid.ensures.on d).0 on in
           let rolled = subst (λ (roll : RollCode). OnMonths (IsRollDay roll) s.freq.count anchor d) (sym c.in-Dom.is) (subst (λ (k : ℕ). OnMonths (IsNumbered c.in-Dom.number) k anchor d) count numbered) in
