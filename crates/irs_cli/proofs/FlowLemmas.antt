@@ -1,5 +1,5 @@
 -- What is due for flows against a schedule.
-use Rattle.std.proofs.Common.{◌≡◌, inl, inr, ℕ, ◌<◌, List, Some, Result, Ok, Err, refl, sym, subst, arith}
+use Rattle.std.proofs.Common.{◌≡◌, inl, inr, ℕ, ◌<◌, List, Some, Result, Ok, Err, refl, sym, ◌∙◌, ap, subst, arith}
 use Rattle.std.specs.Prelude.{IfErr, IsErr}
 use Rattle.std.specs.Result.{IsErrAnd}
 use Rattle.serde_json.specs.Data.{Data}
@@ -9,7 +9,10 @@ use Rattle.irs_json.specs.Reading.{Reads}
 use Rattle.irs_elements.specs.Order.{IsFirst}
 use Rattle.irs_schedule.specs.Parts.{Part}
 use Rattle.irs_audit.specs.FlowFaults.{FlowFault}
-use Rattle.irs_audit.specs.FlowReading.{IsFirstShape, kind_of}
+use Rattle.irs_audit.specs.FlowMeaning.{streams_in}
+use Rattle.irs_audit.specs.FlowParts.{FlowPart}
+use Rattle.irs_audit.specs.FlowReading.{FlowsOf, IsFirstShape, kind_of}
+use Rattle.irs_audit.specs.Verdicts.{IsVerdict}
 use Rattle.irs_audit.specs.declared.departures.Verdict.{Verdict}
 use Rattle.irs_audit.specs.declared.departures.Verdict.TheVariants.{Yes, No}
 use Rattle.irs_audit.specs.declared.error.FlowErr.{FlowErr}
@@ -18,9 +21,9 @@ use Rattle.irs_audit.specs.declared.error.ShapeKind.{ShapeKind}
 use Rattle.irs_audit.specs.declared.error.ShapeKind.TheVariants.{NotJson}
 use Rattle.irs_cli.specs.declared.commands.Task.TheVariants.{Audit}
 use Rattle.irs_cli.specs.declared.refusals.Refusal.TheVariants.{Flows}
-use Rattle.irs_cli.specs.Due.{IsJson, DueFlows, unread_flows, no_flows}
+use Rattle.irs_cli.specs.Due.{IsJson, Only, DueFlows, unread_flows, no_flows, some_flows}
 use Rattle.irs_cli.specs.FlowMessages.{bad_flows, whole_document, verdict_status, verdict_text}
-use Rattle.irs_cli.specs.Outcomes.{ComesTo, FlowsFail, IfRefused}
+use Rattle.irs_cli.specs.Outcomes.{ComesTo, FlowsFail, IfRefused, SpellsFlows}
 use Rattle.irs_cli.proofs.DueLemmas.{one_reading}
 use Rattle.irs_cli.proofs.FirstLemmas.{one_first}
 
@@ -52,6 +55,27 @@ pub refuse_flows : (bytes : List ℕ) (s : List Part) (e : FlowErr) → FlowsFai
 refuse_flows bytes s (flowing.Shape how place) (inl h) = rw (h.1, h.2) (due_unread bytes s h.0)
 refuse_flows bytes s (flowing.Shape how place) (inr h) = due_shape bytes s h.0 how place h.1 h.2
 refuse_flows bytes s flowing.Memory h = tt
+
+-- the flows that a file states are one list
+same_ok : {E : Type 0} (x y : Data) → (let r : Result Data E = Ok x in r ≡ Ok y) → x ≡ y
+same_ok x y e = cc
+
+one_flows : (v : Data) (f g : List FlowPart) → FlowsOf v f → FlowsOf v g → g ≡ f
+one_flows v f g h k =
+    let swaps : k.swap ≡ h.swap = same_ok k.swap h.swap (sym k.found ∙ h.found) in
+    k.says ∙ ap (λ (d : Data). streams_in d) swaps ∙ sym h.says
+
+pub due_verdict : (bytes : List ℕ) (s : List Part) (flows : List FlowPart) (w : Verdict) → SpellsFlows bytes flows → IsVerdict flows s w → ((o : Verdict) → IsVerdict flows s o → o ≡ w) → DueFlows bytes s (verdict_status w) (verdict_text w)
+due_verdict bytes s flows w spells is only =
+    let same : (v : Data) → Reads bytes v → FlowsOf v flows = λ v reads. subst (λ (d : Data). FlowsOf d flows) (sym (one_reading bytes spells.0 v spells.1 reads)) spells.2 in
+    record {
+      unread = λ n. absurd (n (spells.0, spells.1));
+      fault = λ v reads n. absurd (n (flows, same v reads));
+      verdict = λ v g reads of.
+          let e : flows ≡ g = one_flows v g flows of (same v reads) in
+          (w, subst (λ (f : List FlowPart). Only (IsVerdict f s) w) e (record { is = is; only = only }), (refl, refl));
+      case = some_flows spells.0 flows spells.1 spells.2;
+    }
 
 -- ---- what an audit comes to
 
