@@ -65,6 +65,15 @@ pub fn document(alloc: Global, streams: &str) -> Result<Value, Fail> {
     Ok(parse(alloc, text.as_bytes())?)
 }
 
+/// Where the swap stands in a document.
+const SWAP: &str = "/swap";
+
+/// Where an element stands in a stream of a document; the streams count from 0.
+pub fn in_stream(alloc: Global, stream: u8, path: &str) -> Result<String, Fail> {
+    let at = format!(in alloc; "{}/swapStream/{stream}/{path}", SWAP)?;
+    Ok(at)
+}
+
 /// Puts what a text says at a place, over what stands there.
 pub fn put(alloc: Global, document: &mut Value, at: &str, text: &str) -> Result<(), Fail> {
     let value = parse(alloc, text.as_bytes())?;

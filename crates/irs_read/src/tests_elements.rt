@@ -1,7 +1,7 @@
 //! Each element of a stream: its place in the table, and what is told of a document where it is
 //! absent, of the wrong kind, outside its grammar or too often, or holds an unknown member.
 use crate::table::{NAMES, ROWS};
-use crate::tests_documents::{FIXED, FLOATING, document, double, put, take, told};
+use crate::tests_documents::{FIXED, FLOATING, document, double, in_stream, put, take, told};
 use irs_base::Elem;
 use irs_elements::{Choice, Count, Kind, Leaf};
 use std::alloc::Global;
@@ -586,7 +586,7 @@ enum Edit {
 // The line of a document with an edit at a path of its stream; none where nothing stands there.
 fn line_at(alloc: Global, stream: &str, path: &str, edit: Edit) -> Result<Option<String>, Fail> {
     let mut value = document(alloc, stream)?;
-    let at = format!(in alloc; "/swap/swapStream/0/{path}")?;
+    let at = in_stream(alloc, 0, path)?;
     if value.pointer(&at).is_none() {
         return Ok(None);
     }
@@ -814,7 +814,7 @@ fn repeated(alloc: Global, item: &str, times: u32) -> Result<String, Fail> {
 // What is told of a fixed stream in which an item stands so often.
 fn told_of_items(alloc: Global, path: &str, item: &str, times: u32) -> Result<String, Fail> {
     let mut value = document(alloc, FIXED)?;
-    let at = format!(in alloc; "/swap/swapStream/0/{path}")?;
+    let at = in_stream(alloc, 0, path)?;
     let items = repeated(alloc, item, times)?;
     put(alloc, &mut value, &at, &items)?;
     told(alloc, &value)

@@ -1,6 +1,6 @@
 //! The swap that a document spells: each element's field, the defaults, and references.
 use crate::read_swap;
-use crate::tests_documents::{FIXED, FLOATING, document, put, take};
+use crate::tests_documents::{FIXED, FLOATING, document, in_stream, put, take};
 use irs_base::{Day, Direction, read_date};
 use irs_json::parse;
 use irs_terms::{
@@ -425,7 +425,7 @@ fn a_floating_stream_without_them_has_the_defaults(rt: HostRuntime) -> Result<()
     let alloc = rt.alloc();
     let mut value = document(alloc, FLOATING)?;
     for path in WITH_DEFAULTS {
-        let at = format!(in alloc; "/swap/swapStream/0/{path}")?;
+        let at = in_stream(alloc, 0, path)?;
         take(&mut value, &at)?;
     }
     let swap = read_swap(alloc, &value)?;
@@ -491,7 +491,7 @@ type Edit = (u8, &'static str, &'static str);
 fn edited(alloc: Global, streams: &str, edits: &[Edit]) -> Result<Swap, Fail> {
     let mut value = document(alloc, streams)?;
     for (stream, path, text) in edits {
-        let at = format!(in alloc; "/swap/swapStream/{stream}/{path}")?;
+        let at = in_stream(alloc, *stream, path)?;
         put(alloc, &mut value, &at, text)?;
     }
     Ok(read_swap(alloc, &value)?)
