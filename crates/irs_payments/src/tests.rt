@@ -56,8 +56,8 @@ fn answer_over<G: GoodDays>(
     Ok(payments(alloc, s, span, unadjusted, adjusted, good))
 }
 
-// What `payments` answers.
-fn answer<G: GoodDays>(
+/// What `payments` answers.
+pub fn answer<G: GoodDays>(
     alloc: Global,
     row: &Paying<'_>,
     good: &G,
@@ -66,7 +66,7 @@ fn answer<G: GoodDays>(
     let unadjusted = days(alloc, row.unadjusted)?;
     let adjusted = days(alloc, row.adjusted)?;
     let span = span(&terms, unadjusted.as_slice())?;
-    let s = stream(alloc, &terms, &unadjusted, NO_STEPS, NO_RATE_STEPS)?;
+    let s = stream(alloc, &terms, &unadjusted, NO_STEPS, &NO_RATE_STEPS)?;
     answer_over(alloc, &s, &span, &unadjusted, &adjusted, good)
 }
 

@@ -450,7 +450,7 @@ fn told(alloc: Global, list: &Exchanges) -> Result<String, Fail> {
 fn outcome(alloc: Global, row: &Row) -> Result<String, Fail> {
     let Row(changes, term, steps, _) = *row;
     let term = days(alloc, term)?;
-    let s = stream(alloc, &changed(changes), &term, steps, NO_RATE_STEPS)?;
+    let s = stream(alloc, &changed(changes), &term, steps, &NO_RATE_STEPS)?;
     match principals(alloc, &s, &test_days(alloc)?) {
         Ok(list) => told(alloc, &list),
         Err(PayErr::Broken(broken)) => told_broken(alloc, broken),

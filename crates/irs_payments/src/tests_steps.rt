@@ -227,7 +227,7 @@ const OFF_BOUNDARIES: [Off; 24] = [
 fn outcome(
     alloc: Global,
     steps: &[DatedValue],
-    rate: RateSteps,
+    rate: &RateSteps,
 ) -> Result<Result<(), Broken>, Fail> {
     let boundaries = days(alloc, QUARTERS)?;
     let s = stream(alloc, &changed(&[]), &boundaries, steps, rate)?;
@@ -251,11 +251,11 @@ fn broken(elem: Elem, index: u32) -> Broken {
 #[test]
 fn steps_on_boundaries_and_off(rt: HostRuntime) -> Result<(), Fail> {
     for row in &ON_BOUNDARIES {
-        let found = outcome(rt.alloc(), row.0, row.1)?;
+        let found = outcome(rt.alloc(), row.0, &row.1)?;
         assert_eq!(rt; found, Ok(()), "{row:?}");
     }
     for row in &OFF_BOUNDARIES {
-        let found = outcome(rt.alloc(), row.0, row.1)?;
+        let found = outcome(rt.alloc(), row.0, &row.1)?;
         assert_eq!(rt; found, Err(broken(row.2, row.3)), "{row:?}");
     }
     Ok(())

@@ -292,16 +292,16 @@ pub enum RateSteps {
 /// A fixed rate without steps.
 pub const NO_RATE_STEPS: RateSteps = RateSteps::Fixed(NO_STEPS);
 
-fn leg(alloc: Global, given: RateSteps) -> Result<Leg, Fail>
+fn leg(alloc: Global, given: &RateSteps) -> Result<Leg, Fail>
     ensures { IfOk result IsLawfulLeg }
 {
     match given {
-        RateSteps::Fixed(steps) => Ok(Leg::Fixed(rates(alloc, steps)?)),
+        RateSteps::Fixed(steps) => Ok(Leg::Fixed(rates(alloc, *steps)?)),
         RateSteps::Floating(multiplier, spread) => Ok(Leg::Floating(FloatTerms {
             index: Text::from_bytes(alloc, b"USD-TEST")?,
             tenor: None,
-            multiplier: rates(alloc, multiplier)?,
-            spread: rates(alloc, spread)?,
+            multiplier: rates(alloc, *multiplier)?,
+            spread: rates(alloc, *spread)?,
             initial_rate: None,
             rounding: Rounding {
                 dir: Direction::Nearest,
@@ -312,7 +312,7 @@ fn leg(alloc: Global, given: RateSteps) -> Result<Leg, Fail>
 }
 
 // A floating rate has reset dates.
-fn reset(t: &Terms, rate: RateSteps) -> Result<Option<ResetTerms>, Fail>
+fn reset(t: &Terms, rate: &RateSteps) -> Result<Option<ResetTerms>, Fail>
     ensures { IfOk result (λ r. IfSome r IsLawfulReset) }
 {
     match rate {
@@ -357,36 +357,90 @@ fn dated(day: Day) -> Dated
     }
 }
 
+// The terms of a stream that are no dates.
+#[derive(Drop)]
+struct MoneyTerms {
+    notional: StepValues,
+    leg: Leg,
+    reset: Option<ResetTerms>,
+}
+
+fn money_terms(
+    alloc: Global,
+    t: &Terms,
+    steps: &[DatedValue],
+    rate: &RateSteps,
+) -> Result<MoneyTerms, Fail>
+    ensures notional { IfOk result (λ a. IsLawfulValues IsNotional a.notional) }
+    ensures leg { IfOk result (λ a. IsLawfulLeg a.leg) }
+    ensures reset { IfOk result (λ a. IfSome a.reset IsLawfulReset) }
+{
+    let notional = notional(alloc, t.notional, steps)?;
+    let leg = leg(alloc, rate)?;
+    let reset = reset(t, rate)?;
+    Ok(MoneyTerms {
+        notional,
+        leg,
+        reset,
+    })
+}
+
+fn assembled(
+    t: &Terms,
+    term: (Day, Day),
+    freq: Frequency,
+    roll: RollCode,
+    pay: PayTerms,
+    currency: Currency,
+    money: MoneyTerms,
+) -> Stream
+    requires freq { IsLawfulFrequency freq }
+    requires roll { IsLawfulRoll roll }
+    requires pay { IsLawfulPay pay }
+    requires currency { IsLawfulCurrency currency }
+    requires notional { IsLawfulValues IsNotional money.notional }
+    requires leg { IsLawfulLeg money.leg }
+    requires reset { IfSome money.reset IsLawfulReset }
+    ensures { IsLawfulStream result }
+{
+    Stream {
+        effective: dated(term.0),
+        termination: dated(term.1),
+        period_adj: adjustments(ConvCode::Unadjusted),
+        first_regular: None,
+        last_regular: None,
+        stub: t.stub,
+        freq,
+        roll,
+        pay,
+        reset: money.reset,
+        notional: money.notional,
+        currency,
+        leg: money.leg,
+        day_count: DayCountCode::Act360,
+        compounding: CompCode::Simple,
+        stubs: None,
+        exchanges: t.exchanges,
+    }
+}
+
 /// The stream over these boundaries, with these steps of its notional and of its rate.
 pub fn stream(
     alloc: Global,
     t: &Terms,
     boundaries: &DayList,
     steps: &[DatedValue],
-    rate: RateSteps,
+    rate: &RateSteps,
 ) -> Result<Stream, Fail>
     ensures { IfOk result IsLawfulStream }
 {
-    let (effective, termination) = term(boundaries.as_slice())?;
-    Ok(Stream {
-        effective: dated(effective),
-        termination: dated(termination),
-        period_adj: adjustments(ConvCode::Unadjusted),
-        first_regular: None,
-        last_regular: None,
-        stub: t.stub,
-        freq: frequency(t.calc)?,
-        roll: roll(t.roll)?,
-        pay: pay_terms(t)?,
-        reset: reset(t, rate)?,
-        notional: notional(alloc, t.notional, steps)?,
-        currency: currency(t.letters)?,
-        leg: leg(alloc, rate)?,
-        day_count: DayCountCode::Act360,
-        compounding: CompCode::Simple,
-        stubs: None,
-        exchanges: t.exchanges,
-    })
+    let term = term(boundaries.as_slice())?;
+    let freq = frequency(t.calc)?;
+    let roll = roll(t.roll)?;
+    let currency = currency(t.letters)?;
+    let pay = pay_terms(t)?;
+    let money = money_terms(alloc, t, steps, rate)?;
+    Ok(assembled(t, term, freq, roll, pay, currency, money))
 }
 
 fn is_before_all(d: Day, days: &[Day]) -> bool
