@@ -7,6 +7,7 @@ ghost use Rattle.irs_base.specs.Listed.{AllAfter, IsRising, Member};
 ghost use Rattle.irs_terms.specs.Lawful.{IsLawfulCenters, IsLawfulCurrency, IsLawfulDated, IsLawfulFloat, IsLawfulFrequency, IsLawfulLeg, IsLawfulOffset, IsLawfulPay, IsLawfulReset, IsLawfulRoll, IsLawfulStream, IsLawfulValues, IsNotional, IsRate};
 ghost use Rattle.irs_payments.specs.Grouping.{RunsFromTo};
 
+use crate::steps::has_day;
 use irs_base::{Civil, Day, DayList, Direction, Text, day_of, read_date};
 use irs_calendar::{Calendars, RunSet};
 use irs_terms::*;
@@ -476,10 +477,7 @@ fn lie_within(days: &[Day], from: Day, to: Day) -> bool
 pub fn run_from_to(days: &[Day], from: Day, to: Day) -> bool
     ensures { IsTrue result → RunsFromTo from to days.now }
 {
-    is_rising(days)
-        && lie_within(days, from, to)
-        && days.binary_search(&from).is_ok()
-        && days.binary_search(&to).is_ok()
+    is_rising(days) && lie_within(days, from, to) && has_day(days, from) && has_day(days, to)
 }
 
 /// The regular span: behind the first period where the stub is an initial one, before the last
