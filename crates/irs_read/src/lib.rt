@@ -12,15 +12,7 @@ mod swap;
 mod table;
 #[cfg(test)]
 mod tests;
-#[cfg(test)]
-mod tests_documents;
-#[cfg(test)]
-mod tests_elements;
-#[cfg(test)]
-mod tests_order;
-#[cfg(test)]
-mod tests_swaps;
 
 pub use document::{first_in_document, the_swap};
 pub use reader::{ReadErr, read_swap};
-pub use table::{rows_follow, rows_whole, swap_rows_whole};
+pub use table::{NAMES, ROWS, SWAP_NAMES, SWAP_ROWS, rows_follow, rows_whole, swap_rows_whole};

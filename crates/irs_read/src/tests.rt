@@ -1,13 +1,21 @@
-//! The swap that a small document spells.
+//! The swap that a small document spells. The program irs_element_rows has the tables of tests: each
+//! element, each rule of the reader, each default and each reference.
 use crate::read_swap;
-use crate::tests_documents::{CALCULATION, DATES, PAYMENTS, document};
 use irs_json::parse;
 use irs_terms::{Centers, ConvCode, Leg, RefState, Unit};
 use std::test::Fail;
 
 #[test]
 fn a_swap_is_what_its_document_spells(rt: HostRuntime) -> Result<(), Fail> {
-    let text = document(rt.alloc(), DATES, PAYMENTS, CALCULATION)?;
+    let text = r#"{"swap":{"swapStream":{"calculationPeriodDates":{
+"effectiveDate":{"unadjustedDate":"2024-01-15","dateAdjustments":{"businessDayConvention":"NONE"}},
+"terminationDate":{"unadjustedDate":"2025-01-15","dateAdjustments":{"businessDayConvention":"NONE"}},
+"calculationPeriodDatesAdjustments":{"businessDayConvention":"NONE"},
+"calculationPeriodFrequency":{"periodMultiplier":"6","period":"M","rollConvention":15}},
+"paymentDates":{"paymentFrequency":{"periodMultiplier":"6","period":"M"},"payRelativeTo":"CalculationPeriodEndDate"},
+"calculationPeriodAmount":{"calculation":{
+"notionalSchedule":{"notionalStepSchedule":{"initialValue":"1000000","currency":"USD"}},
+"fixedRateSchedule":{"initialValue":"0.05"},"dayCountFraction":"ACT/360"}}}}}"#;
     let value = parse(rt.alloc(), text.as_bytes())?;
     let swap = read_swap(rt.alloc(), &value)?;
     let stream = swap.streams.as_slice().first().ok_or("a stream")?;

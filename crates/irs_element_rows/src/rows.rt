@@ -1,0 +1,95 @@
+//! The rows: each names a document, edits of it, and a line that has to be told of the document
+//! behind the edits.
+use crate::edits::make_edits;
+use crate::told::told;
+use anyhow::{Context, Result};
+use irs_json::{Value, parse};
+use std::fs;
+
+/// A row.
+#[derive(Clone, Copy, Debug)]
+struct Row<'a> {
+    /// The file of the document.
+    document: &'a str,
+    /// The edits, `;` between them.
+    edits: &'a str,
+    /// The line that has to be among those that are told.
+    line: &'a str,
+}
+
+// The row of a text: its three parts, `|` between them.
+fn row_of(text: &str) -> Result<Row> {
+    let (document, rest) = text.split_once(" | ").context("a row has three parts")?;
+    let (edits, line) = rest.split_once(" | ").context("a row has three parts")?;
+    Ok(Row {
+        document,
+        edits,
+        line,
+    })
+}
+
+/// How many rows were run since the last remark, and of how many the line was told.
+#[derive(Clone, Copy, Debug)]
+struct Tally {
+    rows: u32,
+    told: u32,
+}
+
+impl Tally {
+    const NONE: Tally = Tally { rows: 0, told: 0 };
+
+    // One row more.
+    fn with(self, is_told: bool) -> Tally {
+        Tally {
+            rows: self.rows.saturating_add(1),
+            told: self.told.saturating_add(u32::from(is_told)),
+        }
+    }
+
+    fn print(self, rt: &HostRuntime) -> Result<()> {
+        if self.rows > 0 {
+            println!(rt; "{} of {} rows", self.told, self.rows)?;
+        }
+        Ok(())
+    }
+}
+
+// The document of a file.
+fn document_of(rt: &HostRuntime, file: &str) -> Result<Value> {
+    let text = fs::read_to_string(rt, file).context("a document's file")?;
+    Ok(parse(rt.alloc(), text.as_bytes())?)
+}
+
+// Runs a row; where its line isn't told, prints it and what is told. Whether it is told.
+fn run_row(rt: &HostRuntime, text: &str) -> Result<bool> {
+    let row = row_of(text)?;
+    let mut document = document_of(rt, row.document)?;
+    make_edits(rt.alloc(), &mut document, row.edits)?;
+    let lines = told(rt.alloc(), &document)?;
+    let is_told = lines.lines().any(|line| line == row.line);
+    if !is_told {
+        println!(rt; "not told: {text}\n{lines}")?;
+    }
+    Ok(is_told)
+}
+
+/// Runs the rows of a text, a line each, and prints how many there were and of how many the line was
+/// told, and each of the others with what is told there. A line that begins with `#` is a remark: it
+/// is printed, and the rows are counted anew. A line that begins with `=` names a document: all that
+/// is told of it is printed.
+pub fn run_rows(rt: &HostRuntime, text: &str) -> Result<()> {
+    let mut tally = Tally::NONE;
+    for line in text.lines() {
+        if line.starts_with('#') {
+            tally.print(rt)?;
+            tally = Tally::NONE;
+            println!(rt; "{line}")?;
+        } else if let Some(file) = line.strip_prefix("= ") {
+            let document = document_of(rt, file)?;
+            print!(rt; "{}", told(rt.alloc(), &document)?)?;
+        } else {
+            tally = tally.with(run_row(rt, line)?);
+        }
+    }
+    tally.print(rt)
+}

@@ -1,0 +1,180 @@
+//! The lines of a swap: how many streams it has, and for each stream its number and a field a line.
+//!
+//! The names are those of the elements that give the fields. The values are those of irs_terms:
+//! notionals in units of 10^-4, rates in units of 10^-9.
+use crate::values::{
+    adjustments_text, dated_text, frequency_text, given, given_day, given_frequency, given_stub,
+    offset_text, steps_text,
+};
+use anyhow::Result;
+use irs_terms::{
+    ExchangeFlags, FixTerms, FloatTerms, Leg, PayTerms, ResetTerms, Stream, StubTerms, Swap,
+};
+use std::alloc::Global;
+
+/// The lines of a stream.
+#[derive(Debug, Drop)]
+struct Lines {
+    alloc: Global,
+    /// The number of the stream.
+    stream: usize,
+    text: String,
+}
+
+impl Lines {
+    fn push(&mut self, name: &str, value: &str) -> Result<()> {
+        let line = format!(in self.alloc; "{} {name} {value}\n", self.stream)?;
+        self.text.push_str(&line)?;
+        Ok(())
+    }
+
+    fn push_periods(&mut self, stream: &Stream) -> Result<()> {
+        let alloc = self.alloc;
+        let frequency = frequency_text(alloc, stream.freq)?;
+        let roll = format!(in alloc; "{frequency} {:?}", stream.roll)?;
+        self.push("effectiveDate", &dated_text(alloc, &stream.effective)?)?;
+        self.push("terminationDate", &dated_text(alloc, &stream.termination)?)?;
+        self.push(
+            "calculationPeriodDatesAdjustments",
+            &adjustments_text(alloc, &stream.period_adj)?,
+        )?;
+        self.push(
+            "firstRegularPeriodStartDate",
+            &given_day(alloc, stream.first_regular)?,
+        )?;
+        self.push(
+            "lastRegularPeriodEndDate",
+            &given_day(alloc, stream.last_regular)?,
+        )?;
+        self.push("stubPeriodType", &given(alloc, &stream.stub)?)?;
+        self.push("calculationPeriodFrequency", &roll)
+    }
+
+    fn push_payments(&mut self, pay: &PayTerms) -> Result<()> {
+        let alloc = self.alloc;
+        let reference = format!(in alloc; "reference {:?}", pay.calc_ref)?;
+        let relative = format!(in alloc; "{:?}", pay.relative)?;
+        self.push("paymentDates", &reference)?;
+        self.push("paymentFrequency", &frequency_text(alloc, pay.freq)?)?;
+        self.push("firstPaymentDate", &given_day(alloc, pay.first)?)?;
+        self.push("lastRegularPaymentDate", &given_day(alloc, pay.last)?)?;
+        self.push("payRelativeTo", &relative)?;
+        self.push("paymentDaysOffset", &offset_text(alloc, pay.offset)?)?;
+        self.push(
+            "paymentDatesAdjustments",
+            &adjustments_text(alloc, &pay.adj)?,
+        )
+    }
+
+    fn push_fixings(&mut self, fixing: &FixTerms) -> Result<()> {
+        let alloc = self.alloc;
+        let offset = offset_text(alloc, fixing.offset)?;
+        let adjustments = adjustments_text(alloc, &fixing.adj)?;
+        let text = format!(in alloc; "{offset} {adjustments}")?;
+        self.push("fixingDates", &text)
+    }
+
+    fn push_resets(&mut self, reset: &ResetTerms) -> Result<()> {
+        let alloc = self.alloc;
+        let references = format!(in alloc;
+            "reference {:?}, of fixing dates {:?}",
+            reset.calc_ref, reset.fixing_ref
+        )?;
+        let relative = format!(in alloc; "{:?}", reset.relative)?;
+        self.push("resetDates", &references)?;
+        self.push("resetRelativeTo", &relative)?;
+        match &reset.fixing {
+            Some(fixing) => self.push_fixings(fixing)?,
+            None => self.push("fixingDates", "absent")?,
+        }
+        self.push("resetFrequency", &frequency_text(alloc, reset.freq)?)?;
+        self.push(
+            "resetDatesAdjustments",
+            &adjustments_text(alloc, &reset.adj)?,
+        )
+    }
+
+    fn push_floating(&mut self, float: &FloatTerms) -> Result<()> {
+        let alloc = self.alloc;
+        let tenor = given_frequency(alloc, float.tenor)?;
+        let index = format!(in alloc;
+            "{}, tenor {tenor}",
+            str::from_utf8(float.index.as_slice())?
+        )?;
+        let rounding = format!(in alloc; "{:?} {}", float.rounding.dir, float.rounding.places)?;
+        self.push("floatingRateIndex", &index)?;
+        self.push(
+            "floatingRateMultiplierSchedule",
+            &steps_text(alloc, &float.multiplier)?,
+        )?;
+        self.push("spreadSchedule", &steps_text(alloc, &float.spread)?)?;
+        self.push("initialRate", &given(alloc, &float.initial_rate)?)?;
+        self.push("finalRateRounding", &rounding)
+    }
+
+    fn push_amounts(&mut self, stream: &Stream) -> Result<()> {
+        let alloc = self.alloc;
+        self.push(
+            "notionalStepSchedule",
+            &steps_text(alloc, &stream.notional)?,
+        )?;
+        self.push("currency", str::from_utf8(&stream.currency.letters)?)?;
+        match &stream.leg {
+            Leg::Fixed(rate) => self.push("fixedRateSchedule", &steps_text(alloc, rate)?)?,
+            Leg::Floating(float) => self.push_floating(float)?,
+        }
+        self.push(
+            "dayCountFraction",
+            &format!(in alloc; "{:?}", stream.day_count)?,
+        )?;
+        self.push(
+            "compoundingMethod",
+            &format!(in alloc; "{:?}", stream.compounding)?,
+        )
+    }
+
+    fn push_stubs(&mut self, stubs: &StubTerms) -> Result<()> {
+        let reference = format!(in self.alloc; "reference {:?}", stubs.calc_ref)?;
+        self.push("stubCalculationPeriodAmount", &reference)?;
+        self.push("initialStub", &given_stub(self.alloc, &stubs.initial)?)?;
+        self.push("finalStub", &given_stub(self.alloc, &stubs.last)?)
+    }
+
+    fn push_exchanges(&mut self, exchanges: ExchangeFlags) -> Result<()> {
+        let flags = format!(in self.alloc;
+            "initial {}, intermediate {}, final {}",
+            exchanges.initial, exchanges.intermediate, exchanges.last
+        )?;
+        self.push("principalExchanges", &flags)
+    }
+
+    fn push_stream(&mut self, stream: &Stream) -> Result<()> {
+        self.push_periods(stream)?;
+        self.push_payments(&stream.pay)?;
+        match &stream.reset {
+            Some(reset) => self.push_resets(reset)?,
+            None => self.push("resetDates", "absent")?,
+        }
+        self.push_amounts(stream)?;
+        match &stream.stubs {
+            Some(stubs) => self.push_stubs(stubs)?,
+            None => self.push("stubCalculationPeriodAmount", "absent")?,
+        }
+        self.push_exchanges(stream.exchanges)
+    }
+}
+
+/// The lines of a swap.
+pub fn swap_lines(alloc: Global, swap: &Swap) -> Result<String> {
+    let text = format!(in alloc; "ok {}\n", swap.streams.len())?;
+    let mut lines = Lines {
+        alloc,
+        stream: 0,
+        text,
+    };
+    for stream in swap.streams.as_slice() {
+        lines.stream = lines.stream.saturating_add(1);
+        lines.push_stream(stream)?;
+    }
+    Ok(lines.text)
+}
