@@ -93,7 +93,7 @@ below_is r None e = absurd (true≢false (sym e))
 below_is r (Some row) e = let b = both_true (row.0 == r) (is_element row.2) e in record { row = row; found = refl; parent = is_number row.0 r b.0; element = b.1 }
 
 -- what stands is no empty array
-filled : (o : Option Data) (m : Data) → option_and_then present o ≡ Some m → 0 < length (items_of m)
+pub filled : (o : Option Data) (m : Data) → option_and_then present o ≡ Some m → 0 < length (items_of m)
 filled None m e = cc
 filled (Some null) m e = cc
 filled (Some (array no_items)) m e = cc
@@ -119,7 +119,7 @@ pub record Said (leaf : LeafKind) (d : Data) : Type 0 where
   pub valued : has_value leaf (text_of says) ≡ true
 
 module _ (rows : List Row) (names : List (List ℕ)) where
-  abbrev Unbroken : ℕ → ℕ → Kind → ℕ → Data → Type 0
+  abbrev pub Unbroken : ℕ → ℕ → Kind → ℕ → Data → Type 0
   Unbroken stream r kind i d = (f : Broken) → FaultAt rows names stream r kind i d f → ⊥
 
   -- d breaks no rule at row c
@@ -130,16 +130,16 @@ module _ (rows : List Row) (names : List (List ℕ)) where
     pub index : ℕ
     pub none : Unbroken stream c row.2 index d
 
-  names_by : (s r i : ℕ) (choice : Choice) (d : Data) (o : Option (List (List ℕ))) → names_of d ≡ o → Unbroken s r (Object choice) i d → (ns : List (List ℕ)) × (names_of d ≡ Some ns)
+  pub names_by : (s r i : ℕ) (choice : Choice) (d : Data) (o : Option (List (List ℕ))) → names_of d ≡ o → Unbroken s r (Object choice) i d → (ns : List (List ℕ)) × (names_of d ≡ Some ns)
   names_by s r i choice d None e none = absurd (none (place rows s K3 r i) (own r i K3 (Object choice) d (rw e refl)))
   names_by s r i choice d (Some ns) e none = (ns, e)
 
-  few_by : (s r i c : ℕ) (choice : Choice) (row : Row) (d m : Data) (ns : List (List ℕ)) → names_of d ≡ Some ns → IsMember rows names r c row → is_element row.2 ≡ true
+  pub few_by : (s r i c : ℕ) (choice : Choice) (row : Row) (d m : Data) (ns : List (List ℕ)) → names_of d ≡ Some ns → IsMember rows names r c row → is_element row.2 ≡ true
       → child_of (name_at names c) d ≡ Some m → Unbroken s r (Object choice) i d → (length (items_of m) ≤ most row.3) ⊎ (most row.3 < length (items_of m)) → length (items_of m) ≤ most row.3
   few_by s r i c choice row d m ns n mem el h none (inl le) = le
   few_by s r i c choice row d m ns n mem el h none (inr lt) = absurd (none (place rows s K7 c 0) (under r i c choice d ns (place rows s K7 c 0) row n mem (too_many c i row d m el h lt)))
 
-  there_by : (s r i c : ℕ) (choice : Choice) (row : Row) (d : Data) (ns : List (List ℕ)) (o : Option Data) → names_of d ≡ Some ns → IsMember rows names r c row → is_element row.2 ≡ true
+  pub there_by : (s r i c : ℕ) (choice : Choice) (row : Row) (d : Data) (ns : List (List ℕ)) (o : Option Data) → names_of d ≡ Some ns → IsMember rows names r c row → is_element row.2 ≡ true
       → is_required row.3 ≡ true → child_of (name_at names c) d ≡ o → Unbroken s r (Object choice) i d → (m : Data) × (child_of (name_at names c) d ≡ Some m)
   there_by s r i c choice row d ns None n mem el rq h none = absurd (none (place rows s K2 c (absent_index row.3 i)) (under r i c choice d ns (place rows s K2 c (absent_index row.3 i)) row n mem (missing c i row d el rq h)))
   there_by s r i c choice row d ns (Some m) n mem el rq h none = (m, h)
@@ -217,7 +217,7 @@ module _ (rows : List Row) (names : List (List ℕ)) where
       let (m, h) = required r c d rq (joint r c d e clean) in
       subst (λ (p : Option Data). 0 < length (values_of p)) (sym h) (filled (get (name_at names c) d) m h)
 
-  head_of : (ds : List Data) → 0 < length ds → (x : Data) × (slice_get ds 0 ≡ Some x)
+  pub head_of : (ds : List Data) → 0 < length ds → (x : Data) × (slice_get ds 0 ≡ Some x)
   head_of [] h = absurd (omega arith)
   head_of (x ∷ xs) h = (x, refl)
 
@@ -228,7 +228,7 @@ module _ (rows : List Row) (names : List (List ℕ)) where
       let (x, at) = head_of (items_of m) (filled (get (name_at names c) d) m h) in
       (x, (rw h at, (fine_items r c d m k h).1 0 x at))
 
-  said_by : (s r i : ℕ) (leaf : LeafKind) (d : Data) (o : Option LeafSaid) (p : Option Rule) → leaf_of d ≡ o → leaf_rule leaf o ≡ p → Unbroken s r (Leaf leaf) i d → Said leaf d
+  pub said_by : (s r i : ℕ) (leaf : LeafKind) (d : Data) (o : Option LeafSaid) (p : Option Rule) → leaf_of d ≡ o → leaf_rule leaf o ≡ p → Unbroken s r (Leaf leaf) i d → Said leaf d
   said_by s r i leaf d o (Some k) h e none = absurd (none (place rows s k r i) (own r i k (Leaf leaf) d (rw h e)))
   said_by s r i leaf d None None h e none = cc
   said_by s r i leaf d (Some says) None h e none = record { says = says; found = h; valued = value_by leaf (text_of says) (has_value leaf (text_of says)) refl e }

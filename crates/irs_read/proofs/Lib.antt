@@ -7,3 +7,4 @@ pub mod Ranges
 pub mod Words
 pub mod Streams
 pub mod LawfulSwaps
+pub mod StatedStreams

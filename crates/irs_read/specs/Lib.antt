@@ -4,3 +4,4 @@ pub mod Documents
 pub mod References
 pub mod Meaning
 pub mod Reading
+pub mod Stated

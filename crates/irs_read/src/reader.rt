@@ -1,5 +1,6 @@
 //! Reading a trade's document: the swap that it spells, or the first rule that it breaks.
 ghost use Rattle.irs_read.specs.Reading.{IsFirstBroken, Means};
+ghost use Rattle.irs_read.specs.Stated.{EachStated};
 ghost use Rattle.irs_terms.specs.Lawful.{IsLawful};
 ghost use Rattle.serde_json.specs.View.{view};
 ghost use Rattle.std.specs.Prelude.{IfErr, IfOk};
@@ -23,11 +24,13 @@ pub enum ReadErr {
     Memory,
 }
 
-/// The swap that a document spells; its terms are lawful. `Broken` comes exactly where a rule of K2
-/// to K7 is broken, and tells the first.
+/// The swap that a document spells. Its terms are lawful; what must stand in the document stands
+/// there, and each leaf has a value of its kind, so no default stands in for what must be said.
+/// `Broken` comes exactly where a rule of K2 to K7 is broken, and tells the first.
 pub fn read_swap(alloc: Global, v: &Value) -> Result<Swap, ReadErr>
     ensures means { IfOk result (λ swap. Means (view v.now) swap) }
     ensures lawful { IfOk result (λ swap. IsLawful swap) }
+    ensures stated { IfOk result (λ _. EachStated (view v.now)) }
     ensures broken { IfErr result (λ e. IsFirstBroken (view v.now) e) }
 {
     if let Some(broken) = first_in_document(v) {
