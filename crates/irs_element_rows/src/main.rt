@@ -1,5 +1,5 @@
-//! The element rows: documents with an element taken away, put elsewhere or given another value, and
-//! what the reader of irs_read tells of each.
+//! The element rows: documents in which an element is taken away, repeated or given another value,
+//! and what the reader of irs_read tells of each.
 //!
 //! The rows, their documents and what is expected of them stand in `data/`; their form is this
 //! project's own.
