@@ -1,13 +1,16 @@
 //! The element rows: documents in which an element is taken away, repeated or given another value,
-//! and what the reader of irs_read tells of each.
+//! and what the readers of irs_read and irs_audit tell of each.
 //!
 //! The rows, their documents and what is expected of them stand in `data/`; their form is this
 //! project's own.
 #![tactic(auto)]
 
-use std::fs;
+use rows::run_rows;
+use told::Reader;
 
 mod edits;
+mod flow_lines;
+mod lines;
 mod rows;
 mod swap_lines;
 mod table_lines;
@@ -16,6 +19,6 @@ mod values;
 
 fn main(rt: HostRuntime) -> anyhow::Result<()> {
     table_lines::print_tables(&rt)?;
-    let text = fs::read_to_string(&rt, "rows")?;
-    rows::run_rows(&rt, &text)
+    run_rows(&rt, Reader::Terms, "rows")?;
+    run_rows(&rt, Reader::Flows, "flow_rows")
 }

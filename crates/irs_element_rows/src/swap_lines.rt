@@ -1,7 +1,8 @@
-//! The lines of a swap: how many streams it has, and for each stream its number and a field a line.
+//! The lines of a swap: how many streams it has, and for each stream a field a line.
 //!
 //! The names are those of the elements that give the fields. The values are those of irs_terms:
 //! notionals in units of 10^-4, rates in units of 10^-9.
+use crate::lines::Lines;
 use crate::values::{
     adjustments_text, dated_text, frequency_text, given, given_day, given_frequency, given_stub,
     offset_text, steps_text,
@@ -12,24 +13,9 @@ use irs_terms::{
 };
 use std::alloc::Global;
 
-/// The lines of a stream.
-#[derive(Debug, Drop)]
-struct Lines {
-    alloc: Global,
-    /// The number of the stream.
-    stream: usize,
-    text: String,
-}
-
 impl Lines {
-    fn push(&mut self, name: &str, value: &str) -> Result<()> {
-        let line = format!(in self.alloc; "{} {name} {value}\n", self.stream)?;
-        self.text.push_str(&line)?;
-        Ok(())
-    }
-
     fn push_periods(&mut self, stream: &Stream) -> Result<()> {
-        let alloc = self.alloc;
+        let alloc = self.alloc();
         let frequency = frequency_text(alloc, stream.freq)?;
         let roll = format!(in alloc; "{frequency} {:?}", stream.roll)?;
         self.push("effectiveDate", &dated_text(alloc, &stream.effective)?)?;
@@ -51,7 +37,7 @@ impl Lines {
     }
 
     fn push_payments(&mut self, pay: &PayTerms) -> Result<()> {
-        let alloc = self.alloc;
+        let alloc = self.alloc();
         let reference = format!(in alloc; "reference {:?}", pay.calc_ref)?;
         let relative = format!(in alloc; "{:?}", pay.relative)?;
         self.push("paymentDates", &reference)?;
@@ -67,7 +53,7 @@ impl Lines {
     }
 
     fn push_fixings(&mut self, fixing: &FixTerms) -> Result<()> {
-        let alloc = self.alloc;
+        let alloc = self.alloc();
         let offset = offset_text(alloc, fixing.offset)?;
         let adjustments = adjustments_text(alloc, &fixing.adj)?;
         let text = format!(in alloc; "{offset} {adjustments}")?;
@@ -75,7 +61,7 @@ impl Lines {
     }
 
     fn push_resets(&mut self, reset: &ResetTerms) -> Result<()> {
-        let alloc = self.alloc;
+        let alloc = self.alloc();
         let references = format!(in alloc;
             "reference {:?}, of fixing dates {:?}",
             reset.calc_ref, reset.fixing_ref
@@ -95,7 +81,7 @@ impl Lines {
     }
 
     fn push_floating(&mut self, float: &FloatTerms) -> Result<()> {
-        let alloc = self.alloc;
+        let alloc = self.alloc();
         let tenor = given_frequency(alloc, float.tenor)?;
         let index = format!(in alloc;
             "{}, tenor {tenor}",
@@ -113,7 +99,7 @@ impl Lines {
     }
 
     fn push_amounts(&mut self, stream: &Stream) -> Result<()> {
-        let alloc = self.alloc;
+        let alloc = self.alloc();
         self.push(
             "notionalStepSchedule",
             &steps_text(alloc, &stream.notional)?,
@@ -134,14 +120,14 @@ impl Lines {
     }
 
     fn push_stubs(&mut self, stubs: &StubTerms) -> Result<()> {
-        let reference = format!(in self.alloc; "reference {:?}", stubs.calc_ref)?;
+        let reference = format!(in self.alloc(); "reference {:?}", stubs.calc_ref)?;
         self.push("stubCalculationPeriodAmount", &reference)?;
-        self.push("initialStub", &given_stub(self.alloc, &stubs.initial)?)?;
-        self.push("finalStub", &given_stub(self.alloc, &stubs.last)?)
+        self.push("initialStub", &given_stub(self.alloc(), &stubs.initial)?)?;
+        self.push("finalStub", &given_stub(self.alloc(), &stubs.last)?)
     }
 
     fn push_exchanges(&mut self, exchanges: ExchangeFlags) -> Result<()> {
-        let flags = format!(in self.alloc;
+        let flags = format!(in self.alloc();
             "initial {}, intermediate {}, final {}",
             exchanges.initial, exchanges.intermediate, exchanges.last
         )?;
@@ -166,15 +152,10 @@ impl Lines {
 
 /// The lines of a swap.
 pub fn swap_lines(alloc: Global, swap: &Swap) -> Result<String> {
-    let text = format!(in alloc; "ok {}\n", swap.streams.len())?;
-    let mut lines = Lines {
-        alloc,
-        stream: 0,
-        text,
-    };
+    let mut lines = Lines::new(alloc, swap.streams.len())?;
     for stream in swap.streams.as_slice() {
-        lines.stream = lines.stream.saturating_add(1);
+        lines.next_stream();
         lines.push_stream(stream)?;
     }
-    Ok(lines.text)
+    Ok(lines.into_text())
 }

@@ -1,7 +1,8 @@
-//! The texts of a swap's values.
+//! The texts of the values of swaps and cash flows.
 use anyhow::Result;
+use irs_audit::StatedFraction;
 use irs_base::{Day, civil_of};
-use irs_terms::{Adjustments, Centers, Dated, Frequency, Offset, StepValues, StubRate};
+use irs_terms::{Adjustments, Centers, Currency, Dated, Frequency, Offset, StepValues, StubRate};
 use std::alloc::Global;
 use std::fmt::Debug;
 
@@ -109,5 +110,24 @@ pub fn given_stub(alloc: Global, stub: &Option<StubRate>) -> Result<String> {
             let text = format!(in alloc; "index {index}, tenor {tenor}")?;
             Ok(text)
         }
+    }
+}
+
+/// A currency that may be absent.
+pub fn given_currency(alloc: Global, currency: Option<Currency>) -> Result<String> {
+    match currency {
+        Some(currency) => Ok(String::from_str(alloc, str::from_utf8(&currency.letters)?)?),
+        None => absent(alloc),
+    }
+}
+
+/// A stated fraction that may be absent: its units, and the number of its decimals.
+pub fn given_fraction(alloc: Global, fraction: Option<StatedFraction>) -> Result<String> {
+    match fraction {
+        Some(fraction) => {
+            let text = format!(in alloc; "{} of {} decimals", fraction.units, fraction.places)?;
+            Ok(text)
+        }
+        None => absent(alloc),
     }
 }
