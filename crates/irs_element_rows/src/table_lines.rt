@@ -1,6 +1,7 @@
 //! The lines of the tables of elements: a line for each row, in their order, with the path, the kind
 //! and the count.
 use anyhow::{Context, Result};
+use irs_audit::{FLOW_NAMES, FLOW_ROWS, PERIOD_NAMES, PERIOD_ROWS};
 use irs_elements::{Choice, Count, Kind, Leaf, Row};
 use irs_read::{NAMES, ROWS, SWAP_NAMES, SWAP_ROWS};
 use std::alloc::Global;
@@ -94,8 +95,16 @@ fn print_table(rt: &HostRuntime, title: &str, rows: &[Row], names: &[&'static st
     Ok(())
 }
 
-/// Prints the table of a swap and that of a stream.
+/// Prints the table of a swap, that of a stream, that of cash flows and that of their calculation
+/// periods.
 pub fn print_tables(rt: &HostRuntime) -> Result<()> {
     print_table(rt, "the elements of a swap", &SWAP_ROWS, &SWAP_NAMES)?;
-    print_table(rt, "the elements of a stream", &ROWS, &NAMES)
+    print_table(rt, "the elements of a stream", &ROWS, &NAMES)?;
+    print_table(rt, "the elements of cash flows", &FLOW_ROWS, &FLOW_NAMES)?;
+    print_table(
+        rt,
+        "the elements of a calculation period of cash flows",
+        &PERIOD_ROWS,
+        &PERIOD_NAMES,
+    )
 }
