@@ -4,6 +4,7 @@ use Rattle.std.specs.List.{list_all}
 use Rattle.std.proofs.lemmas.Bool.Decides.{nat_tests}
 use Rattle.std.proofs.lemmas.Option.{same_Some}
 use Rattle.irs_base.specs.Elements.{name_in}
+use Rattle.irs_base.specs.PathList.{paths, printed}
 use Rattle.irs_base.specs.Paths.{path_of, longest_path}
 use Rattle.irs_base.specs.declared.elements.TheConstants.{PATHS}
 use Rattle.irs_base.proofs.Orders.{both_true}
@@ -22,6 +23,10 @@ short_at (q ∷ qs) (suc i) p h e = short_at qs i p (both_true (is_short q) (lis
 pub path_short : (i : ℕ) (p : List ℕ) → slice_get (map (λ p. p.now) PATHS) i ≡ Some p → length p ≤ longest_path
 path_short i p e = let s = short_at (map (λ p. p.now) PATHS) i p all_short e in grind (arith, nat_tests, s)
 
+pub paths_are : map (λ p. p.now) PATHS ≡ printed
+unfolding paths printed
+paths_are = refl
+
 pub path_found : (i : ℕ) (p : List ℕ) → slice_get (map (λ p. p.now) PATHS) i ≡ Some p → p ≡ path_of i
 unfolding path_of
-path_found i p e = sym (ap name_in e)
+path_found i p e = sym (ap name_in (subst (λ (ps : List (List ℕ)). slice_get ps i ≡ Some p) paths_are e))

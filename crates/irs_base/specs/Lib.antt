@@ -11,5 +11,6 @@ pub mod Lines
 pub mod Fields
 pub mod Dates
 pub mod Elements
+pub mod PathList
 pub mod Paths
 pub mod Rules

@@ -5,6 +5,7 @@
 //! of another party's cash flows. The table and its order are this project's own.
 ghost use Rattle.std.specs.Prelude.{◌≡◌, ◌<◌, ◌≤◌, ℕ, Some, SomeIff, map, slice_get, length, true, drop};
 ghost use Rattle.irs_base.specs.Elements.{fits_from, count};
+ghost use Rattle.irs_base.specs.PathList.{printed};
 ghost use Rattle.irs_base.specs.Paths.{path_of, longest_path};
 ghost use Rattle.irs_base.specs.declared.elements.TheConstants.{NAMES, PARENTS, PATHS};
 
@@ -208,6 +209,11 @@ fn path_at(paths: &[&'static str], place: usize) -> &'static str
 {
     paths[place]
 }
+
+/// The paths are those that the specification lists, in its order.
+pub fn paths_listed()
+    ensures { map (λ p. p.now) PATHS ≡ printed }
+{}
 
 /// The table is whole: each element stands behind its parent, its path is its parent's path with
 /// its own name behind a `/` (the name alone right below the stream), and no two elements of one

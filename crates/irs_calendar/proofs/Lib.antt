@@ -3,6 +3,7 @@ pub mod RunLemmas
 pub mod RisingLemmas
 pub mod GrownLemmas
 pub mod CoverLemmas
+pub mod ClosedLemmas
 pub mod MarkLemmas
 pub mod FileLemmas
 pub mod CalendarLemmas

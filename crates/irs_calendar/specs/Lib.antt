@@ -6,10 +6,10 @@ pub mod Halves
 pub mod Rising
 pub mod Sections
 pub mod Places
-pub mod Grown
+pub mod Weekends
 pub mod Represents
 pub mod Selected
-pub mod Marks
+pub mod Closed
 pub mod Words
 pub mod Machine
 pub mod Given

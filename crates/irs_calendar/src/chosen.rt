@@ -6,7 +6,7 @@ ghost use Rattle.irs_calendar.specs.Runs.{set_of_runs};
 ghost use Rattle.irs_calendar.specs.Selected.{later, earlier, latest_first, earliest_last, set_of_sections};
 
 use crate::RunSet;
-use crate::marks::marked_runs;
+use crate::openings::open_runs;
 use crate::sections::Section;
 use irs_base::{Day, Memory};
 use std::alloc::Global;
@@ -51,6 +51,6 @@ pub fn chosen_days(alloc: Global, sections: &[&Section]) -> Result<RunSet, Memor
     ensures { IfOk result (λ s. SameDays (set_of_runs s) (set_of_sections (map (λ s. s.now) sections.now))) }
 {
     let (first, last) = common_cover(sections);
-    let runs = marked_runs(alloc, sections, first, last)?;
+    let runs = open_runs(alloc, sections, first, last)?;
     Ok(RunSet::of_runs(first, last, runs))
 }

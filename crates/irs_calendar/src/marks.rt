@@ -1,88 +1,103 @@
-//! The days of a cover with a mark for each that is a holiday, so that a set is made in the time of
-//! the cover's days and the holidays.
-ghost use Rattle.std.specs.Prelude.{◌≡◌, ◌<◌, ◌+◌, ℕ, ℤ, pos, ◌+ℤ◌, IfOk, map, IsTrue};
-ghost use Rattle.irs_base.specs.Days.{weekday_at};
+//! The days of a stretch with a bit for each that is a holiday, so that the next one is found in few
+//! steps.
+ghost use Rattle.std.specs.Prelude.{◌≡◌, ℕ, ◌+◌, ◌*◌, ◌<◌, ◌≤◌, ◌^◌, ◌==◌, ◌||◌, IfOk, map, length};
 ghost use Rattle.irs_calendar.specs.Rising.{is_listed};
-ghost use Rattle.irs_calendar.specs.Runs.{CoveredRuns};
-ghost use Rattle.irs_calendar.specs.Represents.{Represents};
-ghost use Rattle.irs_calendar.specs.Sections.{all_open};
-ghost use Rattle.irs_calendar.specs.Marks.{IsClosed, any_listed, any_off};
+ghost use Rattle.irs_calendar.specs.Closed.{any_listed, is_marked, IsClosed, IsNextBit, IsNext, AreMarks};
 
 use crate::chosen::days_after;
-use crate::grown::add_day;
 use crate::holidays::Holidays;
-use crate::runs::Run;
-use crate::sections::{Section, weekday_place};
-use irs_base::{Day, Memory, ahead};
+use crate::sections::Section;
+use irs_base::{Day, Memory};
 use std::alloc::Global;
 
-/// Marks the days that are on the list; the first mark is that of the day `first`.
-fn close_days(marks: &mut [bool], first: Day, holidays: &Holidays)
-    ensures { IsClosed first (λ d. is_listed d holidays.now) marks.old marks.new }
+/// Marks day k.
+fn mark(marks: &mut [u64], k: u32)
+    requires { k < 64 * length marks.old }
+    ensures { (i : ℕ) → is_marked marks.new i ≡ (is_marked marks.old i || i == k) }
+{
+    marks[k as usize / 64] |= 1 << (k % 64);
+}
+
+/// Marks the days that are on the list; day 0 is the day `first`.
+fn close_days(marks: &mut [u64], first: Day, limit: u32, holidays: &Holidays)
+    requires { limit ≤ 64 * length marks.old }
+    ensures { IsClosed first limit (λ d. is_listed d holidays.now) marks.old marks.new }
 {
     for h in holidays.as_slice() {
         if first <= *h {
-            let k = days_after(first, *h) as usize;
-            if k < marks.len() {
-                marks[k] = true;
+            let k = days_after(first, *h);
+            if k < limit {
+                mark(marks, k);
             }
         }
     }
 }
 
 /// Marks the days that are on the holiday list of any section.
-fn close_all(marks: &mut [bool], first: Day, sections: &[&Section])
-    ensures { IsClosed first (any_listed (map (λ s. s.now) sections.now)) marks.old marks.new }
+fn close_all(marks: &mut [u64], first: Day, limit: u32, sections: &[&Section])
+    requires { limit ≤ 64 * length marks.old }
+    ensures { IsClosed first limit (any_listed (map (λ s. s.now) sections.now)) marks.old marks.new }
 {
     for s in sections {
-        close_days(marks, first, &s.holidays);
+        close_days(marks, first, limit, &s.holidays);
     }
 }
 
-/// The day's weekday is on the weekend list of some section.
-fn is_off(sections: &[&Section], d: Day) -> bool
-    ensures { result ≡ any_off (map (λ s. s.now) sections.now) d }
-{
-    let place = weekday_place(d);
-    for s in sections {
-        if s.weekend[place] {
-            return true;
-        }
-    }
-    false
-}
-
-/// The day is on no list of any section.
-#[tactic(auto, using(crate::proofs::MarkLemmas::open_is))]
-fn is_left_open(sections: &[&Section], marked: bool, d: Day) -> bool
-    requires { marked ≡ any_listed (map (λ s. s.now) sections.now) d }
-    ensures { result ≡ all_open (map (λ s. s.now) sections.now) d }
-{
-    !marked && !is_off(sections, d)
-}
-
-/// The runs of the days that all sections leave open.
-pub fn marked_runs(
+/// The marks of the first limit days from `first` on.
+pub fn marks_of(
     alloc: Global,
-    sections: &[&Section],
     first: Day,
-    last: Day,
-) -> Result<Vec<Run>, Memory>
-    ensures { IfOk result (λ runs. Represents (all_open (map (λ s. s.now) sections.now)) (record { first = first; last = last; runs = runs.items })) }
+    limit: u32,
+    sections: &[&Section],
+) -> Result<Vec<u64>, Memory>
+    requires { limit < 2 ^ 24 }
+    ensures { IfOk result (λ v. AreMarks first limit (any_listed (map (λ s. s.now) sections.now)) v.items) }
 {
-    let mut runs = Vec::new(alloc);
-    if last < first {
-        return Ok(runs);
+    let mut marks = vec![in alloc; 0; limit as usize / 64 + 1]?;
+    close_all(&mut marks, first, limit, sections);
+    Ok(marks)
+}
+
+/// The first bit that is set from bit k on; 64 if there is none.
+fn next_bit(word: u64, k: u32) -> u32
+    requires { k < 64 }
+    ensures { IsNextBit word k result }
+{
+    let rest = word >> k;
+    if rest == 0 {
+        64
+    } else {
+        k + rest.trailing_zeros()
     }
-    let days = days_after(first, last) + 1;
-    let mut marks = vec![in alloc; false; days as usize]?;
-    close_all(&mut marks, first, sections);
-    for k in 0..days {
-        let d = ahead(first, k);
-        let marked = marks[k as usize];
-        if is_left_open(sections, marked, d) {
-            add_day(&mut runs, d)?;
-        }
+}
+
+/// The first day from day k on that is marked; the limit if there is none below it.
+fn next_marked(marks: &[u64], k: u32, limit: u32) -> u32
+    requires below { k < limit }
+    requires room { limit ≤ 64 * length marks.now }
+    requires few { length marks.now < 2 ^ 20 }
+    ensures { IsNext (is_marked marks.now) k result limit }
+{
+    let mut place = k as usize / 64;
+    let mut bit = next_bit(marks[place], k % 64);
+    while bit == 64 && place + 1 < marks.len() {
+        place += 1;
+        bit = next_bit(marks[place], 0);
     }
-    Ok(runs)
+    let found = place as u32 * 64 + bit;
+    if found < limit { found } else { limit }
+}
+
+/// The same, where `h` is that day if it isn't passed.
+pub fn marked_from(marks: &[u64], k: u32, h: u32, limit: u32) -> u32
+    requires below { k < limit }
+    requires room { limit ≤ 64 * length marks.now }
+    requires few { length marks.now < 2 ^ 20 }
+    requires known { k < h → IsNext (is_marked marks.now) k h limit }
+    ensures { IsNext (is_marked marks.now) k result limit }
+{
+    if k < h {
+        return h;
+    }
+    next_marked(marks, k, limit)
 }

@@ -150,7 +150,7 @@ module _ (names : List (List ℕ)) where
 module _ (rows : List Row) (names : List (List ℕ)) where
   -- whether a row below the object at row r has the name
   abbrev pub is_known : ℕ → List ℕ → Bool
-  is_known r name = list_any (λ (c, row). row.0 == r && bytes_eq (name_at names c) name) (enumerate_from 0 rows)
+  is_known r name = list_any (λ (c, row). nat_lt r c && row.0 == r && bytes_eq (name_at names c) name) (enumerate_from 0 rows)
 
   -- a name that is no attribute's and stands in no row
   abbrev pub is_unknown : ℕ → List ℕ → Bool

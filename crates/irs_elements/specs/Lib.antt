@@ -1,4 +1,5 @@
 pub mod Order
+pub mod Lines
 pub mod Decimals
 pub mod Dates
 pub mod Numbers

@@ -219,9 +219,7 @@ fn choice_fault(
 fn is_known(rows: &[Row], names: &[&'static str], r: usize, name: &str) -> bool
     ensures { result ≡ is_known_in rows.now (texts names.now) r name.now }
 {
-    rows.iter()
-        .enumerate()
-        .any(|(c, row)| row.0 == r && name_of(names, c) == name)
+    rows.iter().enumerate().any(|(c, row)| r < c && row.0 == r && name_of(names, c) == name)
 }
 
 // Whether an object at row r has a member that the table doesn't know.

@@ -7,8 +7,9 @@ use Rattle.irs_elements.specs.Elements.{FaultAt}
 use Rattle.irs_elements.specs.Find.{values_in}
 use Rattle.irs_elements.specs.Order.{IsFirst, earlier}
 use Rattle.irs_json.specs.Names.{names_of}
-use Rattle.irs_read.specs.Swaps.{Among, StreamFault, StreamsFault, SwapFault, in_stream, many_streams, no_stream, outside, swap_row_names}
-use Rattle.irs_read.specs.declared.table.TheConstants.{SWAP, SWAP_ROWS}
+use Rattle.irs_read.specs.StreamLines.{swap_names, swap_rows}
+use Rattle.irs_read.specs.Swaps.{Among, StreamFault, StreamsFault, SwapFault, in_stream, many_streams, no_stream, outside}
+use Rattle.irs_read.specs.declared.table.TheConstants.{SWAP}
 use Rattle.irs_terms.specs.Lawful.{most_streams}
 use Rattle.serde_json.specs.Data.{Data}
 use Rattle.serde_json.specs.View.{view}
@@ -58,7 +59,7 @@ each_first ds a lo hi p = first_same _ _ a (λ f q. in_stream f lo hi q) (inner 
     inner ds lo hi g (in_stream _ lo' hi' q) = q
 
 abbrev Own : Data → Broken → Type 0
-Own d f = FaultAt SWAP_ROWS swap_row_names 0 0 SWAP 0 d f
+Own d f = FaultAt swap_rows swap_names 0 0 SWAP 0 d f
 
 object_only : (o : Option (List (List ℕ))) (ns : List (List ℕ)) → o ≡ Some ns → is_some o ≡ true
 object_only o ns e = rw e refl

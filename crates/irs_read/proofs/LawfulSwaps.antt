@@ -11,8 +11,10 @@ use Rattle.irs_read.specs.Meaning.{stream_in, streams_in, swap_in}
 use Rattle.irs_read.proofs.StatedStreams.{stated}
 use Rattle.irs_read.specs.References.{lists_of}
 use Rattle.irs_read.specs.Stated.{EachStated, IsStated}
-use Rattle.irs_read.specs.Swaps.{StreamsFault, SwapFault, in_stream, many_streams, no_stream, outside, row_names}
-use Rattle.irs_read.specs.declared.table.TheConstants.{ROWS, SWAP, SWAP_ROWS}
+use Rattle.irs_read.proofs.TableLaws.{code_names, stream_fault}
+use Rattle.irs_read.specs.StreamLines.{swap_rows}
+use Rattle.irs_read.specs.Swaps.{StreamsFault, SwapFault, in_stream, many_streams, no_stream, outside}
+use Rattle.irs_read.specs.declared.table.TheConstants.{ROWS, SWAP}
 use Rattle.irs_terms.specs.Lawful.{IsLawful, IsLawfulStream, most_streams}
 use Rattle.irs_terms.specs.declared.stream_list.Swap.{Swap}
 use Rattle.serde_json.specs.Data.{Data}
@@ -23,7 +25,7 @@ use Rattle.std.proofs.lemmas.Option.{slice_get-get_or}
 
 object_by : (d : Data) (b : Bool) → is_some (names_of d) ≡ b → ((f : Broken) → SwapFault d f → ⊥) → is_some (names_of d) ≡ true
 object_by d true e none = e
-object_by d false e none = absurd (none (place SWAP_ROWS 0 K3 0 0) (inl (own 0 0 K3 SWAP d (rw e refl))))
+object_by d false e none = absurd (none (place swap_rows 0 K3 0 0) (inl (own 0 0 K3 SWAP d (rw e refl))))
 
 some_by : (ds : List Data) (n : ℕ) → length ds ≡ n → ((f : Broken) → StreamsFault ds f → ⊥) → 0 < length ds
 some_by ds zero e none = absurd (none (outside K2 swap_stream) (no_stream e))
@@ -34,7 +36,7 @@ few_by ds (inl le) none = le
 few_by ds (inr lt) none = absurd (none (outside K7 swap_stream) (many_streams lt))
 
 each_clean : (ds : List Data) → 0 < length ds → length ds ≤ most_streams → ((f : Broken) → StreamsFault ds f → ⊥) → (j : ℕ) (x : Data) → slice_get ds j ≡ Some x → At 0 x
-each_clean ds lo hi none j x e = clean_from ROWS row_names 0 (j + 1) 0 x _ refl (λ f q. none f (in_stream f lo hi (j, (x, (e, q)))))
+each_clean ds lo hi none j x e = clean_from ROWS code_names 0 (j + 1) 0 x _ refl (λ f q. none f (in_stream f lo hi (j, (x, (e, stream_fault q)))))
 
 streams_lawful : (ds : List Data) → ((f : Broken) → StreamsFault ds f → ⊥) → (1 ≤ length ds) × ((length ds ≤ most_streams) × All IsLawfulStream (map (stream_in (lists_of ds)) ds))
 streams_lawful ds none =

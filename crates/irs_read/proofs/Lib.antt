@@ -1,3 +1,4 @@
+pub mod TableLaws
 pub mod Each
 pub mod Ways
 pub mod Lists

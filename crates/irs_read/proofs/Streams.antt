@@ -12,7 +12,7 @@ use Rattle.irs_read.proofs.Ranges.{InScale, capitals, currency_range, day_range,
 use Rattle.irs_read.proofs.Words.{center_lawful, index_word}
 use Rattle.irs_read.specs.Meaning.{adjustments_in, centers_by, dated_in, day_in, fix_in, float_in, frequency_in, leg_by, named_centers, names_in, no_currency, number_in, offset_in, own_centers, pay_in, reset_in, said, scale_at, schedule_in, schedule_or, step_in, stream_in, stream_parts, stub_by, stub_in, stubs_in, tenor_in, word_in}
 use Rattle.irs_read.specs.References.{first_of, has_id, href_of, lists_in, lists_of, the_one}
-use Rattle.irs_read.specs.Swaps.{row_names}
+use Rattle.irs_read.proofs.TableLaws.{code_names as row_names}
 use Rattle.irs_read.specs.declared.leaf_values.Scale.{Scale}
 use Rattle.irs_read.specs.declared.leaf_values.Scale.TheVariants.{Notionals, Rates}
 use Rattle.irs_read.specs.declared.table.TheConstants.{ROWS}

@@ -1,4 +1,5 @@
 pub mod Tables
+pub mod StreamLines
 pub mod Swaps
 pub mod Documents
 pub mod References

@@ -4,6 +4,7 @@ use Rattle.irs_elements.specs.Elements.{IsMember, is_element, is_required, name_
 use Rattle.irs_elements.specs.Find.{once, text_in}
 use Rattle.irs_elements.specs.Leaves.{has_value}
 use Rattle.irs_elements.specs.declared.table.Choice.{Choice}
+use Rattle.irs_elements.specs.declared.table.Choice.TheVariants.{Free}
 use Rattle.irs_elements.specs.declared.table.Kind.{Kind}
 use Rattle.irs_elements.specs.declared.table.Kind.TheVariants.{Object, Leaf}
 use Rattle.irs_elements.specs.declared.table.Leaf.{Leaf as LeafKind}
@@ -12,18 +13,17 @@ use Rattle.irs_json.specs.Carrier.{child_of}
 use Rattle.irs_json.specs.Values.{items_of}
 use Rattle.irs_read.specs.Documents.{the_swap}
 use Rattle.irs_read.specs.Meaning.{streams_in}
-use Rattle.irs_read.specs.Swaps.{row_names}
-use Rattle.irs_read.specs.declared.table.TheConstants.{ROWS, STREAM}
+use Rattle.irs_read.specs.StreamLines.{stream_names, stream_rows}
 use Rattle.serde_json.specs.Data.{Data}
 use Rattle.std.specs.Prelude.{◌≡◌, ℕ, Bool, true, false, List, Option, Some, None, is_some, slice_get, Ok}
 
 -- x stands in the stream d, at a row of the table and with its kind
 pub data Stands (d : Data) : ℕ → Kind → Data → Type 0 where
   -- the stream itself
-  stream : Stands d 0 STREAM d
+  stream : Stands d 0 (Object Free) d
   -- an element of an object that stands there
-  element : (r c j : ℕ) (choice : Choice) (row : Row) (y m x : Data) → Stands d r (Object choice) y → IsMember ROWS row_names r c row → is_element row.2 ≡ true
-      → child_of (name_at row_names c) y ≡ Some m → slice_get (items_of m) j ≡ Some x → Stands d c row.2 x
+  element : (r c j : ℕ) (choice : Choice) (row : Row) (y m x : Data) → Stands d r (Object choice) y → IsMember stream_rows stream_names r c row → is_element row.2 ≡ true
+      → child_of (name_at stream_names c) y ≡ Some m → slice_get (items_of m) j ≡ Some x → Stands d c row.2 x
 
 -- whether a text has a value of the kind
 abbrev pub has_said : LeafKind → Option (List ℕ) → Bool
@@ -33,8 +33,8 @@ has_said leaf (Some s) = has_value leaf s
 -- nothing is wanting in the stream d
 pub record IsStated (d : Data) : Type 0 where
   -- what must stand in an object stands there
-  pub there : (r c : ℕ) (choice : Choice) (row : Row) (y : Data) → Stands d r (Object choice) y → IsMember ROWS row_names r c row → is_element row.2 ≡ true → is_required row.3 ≡ true
-      → is_some (once (name_at row_names c) y) ≡ true
+  pub there : (r c : ℕ) (choice : Choice) (row : Row) (y : Data) → Stands d r (Object choice) y → IsMember stream_rows stream_names r c row → is_element row.2 ≡ true → is_required row.3 ≡ true
+      → is_some (once (name_at stream_names c) y) ≡ true
   -- each leaf has a value of its kind
   pub said : (r : ℕ) (leaf : LeafKind) (x : Data) → Stands d r (Leaf leaf) x → has_said leaf (text_in (Some x)) ≡ true
 

@@ -5,22 +5,17 @@ use Rattle.irs_base.specs.declared.places.Rule.{Rule}
 use Rattle.irs_base.specs.declared.places.Rule.TheVariants.{K2, K7}
 use Rattle.irs_elements.specs.Elements.{FaultAt}
 use Rattle.irs_elements.specs.Find.{values_in}
+use Rattle.irs_elements.specs.declared.table.Choice.TheVariants.{Free}
+use Rattle.irs_elements.specs.declared.table.Kind.TheVariants.{Object}
 use Rattle.irs_json.specs.Names.{names_of}
-use Rattle.irs_read.specs.declared.table.TheConstants.{NAMES, ROWS, STREAM, SWAP, SWAP_NAMES, SWAP_ROWS}
+use Rattle.irs_read.specs.StreamLines.{stream_names, stream_rows, swap_names, swap_rows}
 use Rattle.irs_terms.specs.Lawful.{most_streams}
 use Rattle.serde_json.specs.Data.{Data}
-use Rattle.std.specs.Prelude.{◌≡◌, ℕ, ◌+◌, ◌<◌, ◌≤◌, ◌⊎◌, true, List, map, length, Some, is_some, slice_get, codes}
+use Rattle.std.specs.Prelude.{◌≡◌, ℕ, ◌+◌, ◌<◌, ◌≤◌, ◌⊎◌, true, List, length, Some, is_some, slice_get, codes}
 
 -- a rule that is broken outside the streams
 abbrev pub outside : Rule → ℕ → Broken
 outside rule elem = record { rule = rule; place = record { stream = 0; elem = elem; index = 0 } }
-
--- the names of the rows of a stream, and of a swap
-abbrev pub row_names : List (List ℕ)
-row_names = map (λ n. n.now) NAMES
-
-abbrev pub swap_row_names : List (List ℕ)
-swap_row_names = map (λ n. n.now) SWAP_NAMES
 
 -- what P says of some value of a list, with its position from 0
 abbrev pub Among : (ℕ → Data → Broken → Type 0) → List Data → Broken → Type 0
@@ -28,7 +23,7 @@ Among P ds f = (j : ℕ) × ((x : Data) × ((slice_get ds j ≡ Some x) × P j x
 
 -- the rules that the j-th stream breaks, from 0
 abbrev pub StreamFault : ℕ → Data → Broken → Type 0
-StreamFault j d f = FaultAt ROWS row_names (j + 1) 0 STREAM 0 d f
+StreamFault j d f = FaultAt stream_rows stream_names (j + 1) 0 (Object Free) 0 d f
 
 -- those of the streams of a swap
 pub data StreamsFault (ds : List Data) : Broken → Type 0 where
@@ -41,5 +36,5 @@ pub data StreamsFault (ds : List Data) : Broken → Type 0 where
 
 -- those of a swap: its own, and where it is an object those of its streams
 abbrev pub SwapFault : Data → Broken → Type 0
-SwapFault d f = FaultAt SWAP_ROWS swap_row_names 0 0 SWAP 0 d f
+SwapFault d f = FaultAt swap_rows swap_names 0 0 (Object Free) 0 d f
     ⊎ ((is_some (names_of d) ≡ true) × StreamsFault (values_in (codes "swapStream") (Some d)) f)

@@ -15,4 +15,6 @@ mod tests;
 
 pub use document::{first_in_document, the_swap};
 pub use reader::{ReadErr, read_swap};
-pub use table::{NAMES, ROWS, SWAP_NAMES, SWAP_ROWS, rows_follow, rows_whole, swap_rows_whole};
+pub use table::{
+    NAMES, ROWS, SWAP_NAMES, SWAP_ROWS, rows_follow, rows_whole, swap_rows_whole, tables_listed,
+};

@@ -4,6 +4,7 @@
 //! The first rows are the elements of a stream in the order of the table of paths; behind them stand
 //! the members that are passed over and those that are out of the profile.
 ghost use Rattle.irs_base.specs.declared.elements.TheConstants.{NAMES as ELEMENT_NAMES, PARENTS};
+ghost use Rattle.irs_read.specs.StreamLines.{stream_names, stream_rows, swap_names, swap_rows};
 ghost use Rattle.irs_read.specs.Tables.{follows, is_whole};
 ghost use Rattle.std.specs.Prelude.{◌≡◌, drop, map, take, true};
 
@@ -412,7 +413,7 @@ pub const SWAP: Kind = Kind::Object(Choice::Free);
 /// The rows of a swap. Its streams are passed over here: each is looked into with its own number.
 pub const SWAP_ROWS: [Row; 12] = [
     Row(0, 1, SWAP, Count::One),
-    Row(0, 2, Kind::Passed, Count::Maybe),
+    Row(0, 1, Kind::Passed, Count::Maybe),
     Row(0, 1, Kind::Passed, Count::Maybe),
     Row(0, 1, Kind::Passed, Count::Maybe),
     Row(0, 1, Kind::Passed, Count::Maybe),
@@ -440,6 +441,15 @@ pub const SWAP_NAMES: [&str; 12] = [
     "cancelableProvision",
     "extendibleProvision",
 ];
+
+/// The rows of the tables and their names are those that the lines of the specification give.
+#[tactic(auto, using(crate::proofs::TableLaws::rows_are, crate::proofs::TableLaws::names_are, crate::proofs::TableLaws::swap_rows_are, crate::proofs::TableLaws::swap_names_are))]
+pub fn tables_listed()
+    ensures rows { ROWS ≡ stream_rows }
+    ensures names { map (λ n. n.now) NAMES ≡ stream_names }
+    ensures swap_rows { SWAP_ROWS ≡ swap_rows }
+    ensures swap_names { map (λ n. n.now) SWAP_NAMES ≡ swap_names }
+{}
 
 /// The rows of a stream are the elements of the table of paths from `swapStream` on, up to the
 /// cash flows, in its order.

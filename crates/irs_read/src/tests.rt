@@ -1,6 +1,7 @@
 //! The swap that a small document spells. The program irs_element_rows has the tables of tests: each
 //! element, each rule of the reader, each default and each reference.
-use crate::read_swap;
+use crate::{first_in_document, read_swap};
+use irs_base::{Elem, Rule};
 use irs_json::parse;
 use irs_terms::{Centers, ConvCode, Leg, RefState, Unit};
 use std::test::Fail;
@@ -29,5 +30,14 @@ fn a_swap_is_what_its_document_spells(rt: HostRuntime) -> Result<(), Fail> {
         Leg::Fixed(values) => assert_eq!(rt; values.initial, 50_000_000),
         Leg::Floating(_) => assert!(rt; false),
     }
+    Ok(())
+}
+
+#[test]
+fn a_swap_has_no_member_swap(rt: HostRuntime) -> Result<(), Fail> {
+    let value = parse(rt.alloc(), r#"{"swap":{"swap":{},"swapStream":{}}}"#.as_bytes())?;
+    let broken = first_in_document(&value).ok_or("a broken rule")?;
+    assert_eq!(rt; broken.rule, Rule::K4);
+    assert_eq!(rt; broken.place.elem, Elem::SWAP);
     Ok(())
 }

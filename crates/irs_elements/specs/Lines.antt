@@ -1,0 +1,127 @@
+-- A table of elements as lines, each with the path of an element, and the rows that the lines give.
+use Prim.Native.String.{String}
+use Rattle.irs_elements.specs.declared.table.Choice.TheVariants.{Free, AtMostOne, ExactlyOne, Reference}
+use Rattle.irs_elements.specs.declared.table.Count.{Count}
+use Rattle.irs_elements.specs.declared.table.Count.TheVariants.{One, Maybe}
+use Rattle.irs_elements.specs.declared.table.Kind.{Kind}
+use Rattle.irs_elements.specs.declared.table.Kind.TheVariants.{Object, Leaf, Passed, Refused}
+use Rattle.irs_elements.specs.declared.table.Leaf.{Leaf as LeafKind}
+use Rattle.irs_elements.specs.declared.table.Row.{Row}
+use Rattle.std.specs.Prelude.{ℕ, ◌+◌, ◌-◌, Bool, true, false, ◌==◌, List, [], ◌∷◌, ◌++◌, length, map, take, codes, if◌then◌else◌}
+use Rattle.std.specs.Str.{bytes_eq}
+
+-- ---- what a table says
+
+-- what stands at a path
+pub data Form : Type 0 where
+  -- an object
+  object : Form
+  -- an object of which at most one, or exactly one, of the two members of these names stands
+  at_most_one : String → String → Form
+  exactly_one : String → String → Form
+  -- an object that names another by its `@href`
+  reference : Form
+  -- a leaf of that kind
+  leaf : LeafKind → Form
+
+-- the path as it is printed, the path of the object that the element is a member of, what stands
+-- there and how often
+pub record Line : Type 0 where
+  pub path : List ℕ
+  pub above : List ℕ
+  pub form : Form
+  pub often : Count
+
+-- members of the object at a path that are no elements
+pub record Others : Type 0 where
+  pub above : String
+  pub names : List String
+
+-- a table: the object that all of it lies in, with the path that the lines continue, the elements, and
+-- the members that are passed over unread and those that are out of the profile
+pub record Table : Type 0 where
+  pub whole : String
+  pub top : String
+  pub lines : List Line
+  pub passed : List Others
+  pub refused : List Others
+
+-- ---- paths
+
+-- the last name of a path, and the path without it
+abbrev last_name_in : List ℕ → List ℕ → List ℕ
+last_name_in name [] = name
+last_name_in name (c ∷ p) = last_name_in (if c == 47 then p else name) p
+
+abbrev pub last_name : List ℕ → List ℕ
+last_name p = last_name_in p p
+
+abbrev pub path_above : List ℕ → List ℕ
+path_above p = take (length p - length (last_name p) - 1) p
+
+-- the path of a member; the stream has no path of its own
+abbrev path_of_member : List ℕ → List ℕ → List ℕ
+path_of_member [] name = name
+path_of_member (c ∷ p) name = c ∷ p ++ 47 ∷ name
+
+-- how many paths stand before p
+abbrev pub place_of : List (List ℕ) → List ℕ → ℕ
+place_of [] p = 0
+place_of (q ∷ qs) p = elim (bytes_eq q p) [ true ↦ 0 | false ↦ place_of qs p + 1 ]
+
+-- ---- lines
+
+-- an element whose path is its object's path with its name
+abbrev pub line : String → Form → Count → Line
+line path form often = record { path = codes path; above = path_above (codes path); form = form; often = often }
+
+-- an element whose path begins anew
+abbrev pub line_below : String → String → Form → Count → Line
+line_below above path form often = record { path = codes path; above = codes above; form = form; often = often }
+
+-- members of these names
+abbrev pub at : String → List String → Others
+at above names = record { above = above; names = names }
+
+-- ---- the rows that a table gives; `places` are the paths of all elements
+
+-- the paths of the rows
+abbrev pub row_paths : Table → List (List ℕ)
+row_paths t = codes t.top ∷ map (λ (l : Line). l.path) t.lines
+
+module _ (places rows : List (List ℕ)) where
+  abbrev row_of_member : List ℕ → String → ℕ
+  row_of_member path name = place_of rows (path_of_member path (codes name))
+
+  abbrev kind_of : List ℕ → Form → Kind
+  kind_of path object = Object Free
+  kind_of path (at_most_one a b) = Object (AtMostOne (row_of_member path a) (row_of_member path b))
+  kind_of path (exactly_one a b) = Object (ExactlyOne (row_of_member path a) (row_of_member path b))
+  kind_of path reference = Object Reference
+  kind_of path (leaf k) = Leaf k
+
+  abbrev pub row_of : Line → Row
+  row_of l = record { 0 = place_of rows l.above; 1 = place_of places l.path; 2 = kind_of l.path l.form; 3 = l.often }
+
+  -- the rows of members that are no elements have the place of the whole
+  abbrev pub other_rows : ℕ → Kind → List Others → List Row
+  other_rows place kind [] = []
+  other_rows place kind (o ∷ os) = map (λ (name : String). record { 0 = place_of rows (codes o.above); 1 = place; 2 = kind; 3 = Maybe }) o.names ++ other_rows place kind os
+
+abbrev pub other_names : List Others → List (List ℕ)
+other_names [] = []
+other_names (o ∷ os) = map codes o.names ++ other_names os
+
+-- the row of the whole is its own parent, and it is an object that stands once
+abbrev pub first_row : ℕ → Row
+first_row place = record { 0 = 0; 1 = place; 2 = Object Free; 3 = One }
+
+abbrev pub rows_of : List (List ℕ) → Table → List Row
+rows_of places t =
+    let whole : ℕ = place_of places (codes t.whole) in
+    let rows : List (List ℕ) = row_paths t in
+    first_row whole ∷ map (row_of places rows) t.lines ++ other_rows places rows whole Passed t.passed ++ other_rows places rows whole Refused t.refused
+
+-- and their names
+abbrev pub names_of : Table → List (List ℕ)
+names_of t = last_name (codes t.whole) ∷ map (λ (l : Line). last_name l.path) t.lines ++ other_names t.passed ++ other_names t.refused

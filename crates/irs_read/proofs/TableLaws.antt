@@ -1,0 +1,47 @@
+-- The code's tables are those of the specification.
+use Rattle.irs_base.specs.PathList.{paths, printed}
+use Rattle.irs_base.specs.declared.places.Broken.{Broken}
+use Rattle.irs_elements.specs.Elements.{FaultAt}
+use Rattle.irs_elements.specs.Order.{IsFirst}
+use Rattle.irs_elements.specs.declared.table.Kind.{Kind}
+use Rattle.irs_elements.specs.declared.table.Row.{Row}
+use Rattle.irs_read.specs.StreamLines.{stream_names, stream_rows, stream_table, swap_names, swap_rows, swap_table}
+use Rattle.irs_read.specs.declared.table.TheConstants.{NAMES, ROWS, SWAP_NAMES, SWAP_ROWS}
+use Rattle.serde_json.specs.Data.{Data}
+use Rattle.std.proofs.Common.{◌≡◌, ℕ, List, map, Option, refl, subst}
+
+-- the names as the code has them
+abbrev pub code_names : List (List ℕ)
+code_names = map (λ n. n.now) NAMES
+
+abbrev pub swap_code_names : List (List ℕ)
+swap_code_names = map (λ n. n.now) SWAP_NAMES
+
+pub rows_are : ROWS ≡ stream_rows
+unfolding stream_rows stream_table printed paths
+rows_are = refl
+
+pub names_are : code_names ≡ stream_names
+unfolding stream_names stream_table
+names_are = refl
+
+pub swap_rows_are : SWAP_ROWS ≡ swap_rows
+unfolding swap_rows swap_table printed paths
+swap_rows_are = refl
+
+pub swap_names_are : swap_code_names ≡ swap_names
+unfolding swap_names swap_table
+swap_names_are = refl
+
+-- what holds of the code's tables holds of the specification's
+by_tables : (P : List Row → List (List ℕ) → Type 0) (rows rows' : List Row) (names names' : List (List ℕ)) → rows ≡ rows' → names ≡ names' → P rows names → P rows' names'
+by_tables P rows rows' names names' r n p = subst (λ (ns : List (List ℕ)). P rows' ns) n (subst (λ (rs : List Row). P rs names) r p)
+
+pub stream_fault : {s r i : ℕ} {k : Kind} {d : Data} {f : Broken} → FaultAt ROWS code_names s r k i d f → FaultAt stream_rows stream_names s r k i d f
+stream_fault {s = s} {r = r} {i = i} {k = k} {d = d} {f = f} q = by_tables (λ rows names. FaultAt rows names s r k i d f) ROWS stream_rows code_names stream_names rows_are names_are q
+
+pub stream_first : (s r : ℕ) (k : Kind) (i : ℕ) (d : Data) (a : Option Broken) → IsFirst (FaultAt ROWS code_names s r k i d) a → IsFirst (FaultAt stream_rows stream_names s r k i d) a
+stream_first s r k i d a p = by_tables (λ rows names. IsFirst (FaultAt rows names s r k i d) a) ROWS stream_rows code_names stream_names rows_are names_are p
+
+pub swap_first : (s r : ℕ) (k : Kind) (i : ℕ) (d : Data) (a : Option Broken) → IsFirst (FaultAt SWAP_ROWS swap_code_names s r k i d) a → IsFirst (FaultAt swap_rows swap_names s r k i d) a
+swap_first s r k i d a p = by_tables (λ rows names. IsFirst (FaultAt rows names s r k i d) a) SWAP_ROWS swap_rows swap_code_names swap_names swap_rows_are swap_names_are p
