@@ -14,7 +14,7 @@ use Rattle.irs_json.specs.Names.{names_of}
 use Rattle.irs_json.specs.Values.{items_of}
 use Rattle.irs_read.proofs.Clean.{le_or_lt}
 use Rattle.irs_read.specs.Documents.{the_swap}
-use Rattle.irs_terms.specs.Lawful.{most_streams}
+use Rattle.irs_base.specs.Limits.{most_streams}
 use Rattle.serde_json.specs.Data.{Data, null, boolean, number, string, array, object}
 use Rattle.serde_json.specs.View.{view}
 use Rattle.serde_json.specs.declared.value.Value.{Value}

@@ -10,7 +10,7 @@ use Rattle.irs_elements.specs.Order.{IsFirst, earlier}
 use Rattle.irs_json.specs.Names.{names_of}
 use Rattle.irs_read.specs.Documents.{the_swap}
 use Rattle.irs_read.specs.Swaps.{Among}
-use Rattle.irs_terms.specs.Lawful.{most_streams}
+use Rattle.irs_base.specs.Limits.{most_streams}
 use Rattle.serde_json.specs.Data.{Data}
 use Rattle.serde_json.specs.View.{view}
 use Rattle.serde_json.specs.declared.value.Value.{Value}

@@ -9,7 +9,7 @@ ghost use Rattle.irs_elements.specs.Find.{seen};
 ghost use Rattle.irs_elements.specs.Order.{IsFirst};
 ghost use Rattle.irs_json.specs.Carrier.{child_of};
 ghost use Rattle.irs_read.specs.Swaps.{Among};
-ghost use Rattle.irs_terms.specs.Lawful.{most_streams};
+ghost use Rattle.irs_base.specs.Limits.{most_streams};
 ghost use Rattle.serde_json.specs.View.{view};
 ghost use Rattle.std.specs.Prelude.{◌≡◌, ◌+◌, ◌<◌, ◌^◌, ◌≤◌, length, map, nat_le, not};
 

@@ -3,7 +3,7 @@ use Rattle.std.proofs.Common.{◌≡◌, ◌⊎◌, inl, inr, ℕ, ◌<◌, ◌�
 use Rattle.std.specs.Ordering.{int_cmp, is_le}
 use Rattle.jiff_core.specs.Calendar.{IsCivilDate, days_in_month, days_from_civil}
 use Rattle.jiff_core.proofs.SignedLemmas.{signed_arith}
-use Rattle.irs_base.specs.Days.{IsDay, HasDate}
+use Rattle.irs_base.specs.Days.{IsDay, HasDate, first_day, last_day}
 use Rattle.irs_base.specs.Dates.{is_civil, is_in_range, day_number}
 use Rattle.irs_base.proofs.Orders.{le_true, true_le, both_true}
 
@@ -17,10 +17,10 @@ and_true : (a b : Bool) → a ≡ true → b ≡ true → (a && b) ≡ true
 and_true a b h k = rw (h, k) refl
 
 in_range_true : (n : ℤ) → IsDay n → is_in_range n ≡ true
-in_range_true n day = and_true (is_le (int_cmp (negsuc 25201) n)) (is_le (int_cmp n (pos 84005))) (true_le (negsuc 25201) n day.0) (true_le n (pos 84005) day.1)
+in_range_true n day = and_true (is_le (int_cmp first_day n)) (is_le (int_cmp n last_day)) (true_le first_day n day.0) (true_le n last_day day.1)
 
 pub range_is_true : (n : ℤ) → is_in_range n ≡ true → IsDay n
-range_is_true n h = let b = both_true (is_le (int_cmp (negsuc 25201) n)) (is_le (int_cmp n (pos 84005))) h in (le_true (negsuc 25201) n b.0, le_true n (pos 84005) b.1)
+range_is_true n h = let b = both_true (is_le (int_cmp first_day n)) (is_le (int_cmp n last_day)) h in (le_true first_day n b.0, le_true n last_day b.1)
 
 civil_true : (y m d : ℕ) → IsCivilDate (pos y) m d → is_civil y m d ≡ true
 civil_true y m d h =

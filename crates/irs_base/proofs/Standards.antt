@@ -20,7 +20,7 @@ unfolding weekday_number
 weekdays = (refl, refl)
 
 -- the ends of the range, and leap days
-texts_of_days : (day_text first_day ≡ codes "1901-01-01") × (day_text last_day ≡ codes "2199-12-31") × (day_text (pos 11_016) ≡ codes "2000-02-29") × (day_text (negsuc 0) ≡ codes "1969-12-31")
+texts_of_days : (day_text first_day ≡ codes "1901-01-01") × (day_text last_day ≡ codes "2299-12-31") × (day_text (pos 11_016) ≡ codes "2000-02-29") × (day_text (negsuc 0) ≡ codes "1969-12-31")
 unfolding day_text year_part month_part year_walk month_walk
 texts_of_days = (refl, refl, refl, refl)
 

@@ -6,9 +6,27 @@ use Rattle.jiff_core.specs.Calendar.{IsBetween, IsCivilDate, days_from_civil, we
 abbrev pub first_day : ℤ
 first_day = negsuc 25_201
 
--- 2199-12-31
+-- 2299-12-31
 abbrev pub last_day : ℤ
-last_day = pos 84_005
+last_day = pos 120_529
+
+-- how many days there are
+abbrev pub all_days : ℕ
+all_days = 145_732
+
+-- the years of the first and of the last day
+abbrev pub first_year : ℕ
+first_year = 1901
+
+abbrev pub last_year : ℕ
+last_year = 2299
+
+-- their months, January 1901 and December 2299, counted from January of the year 0
+abbrev pub first_month : ℕ
+first_month = 22_812
+
+abbrev pub last_month : ℕ
+last_month = 27_599
 
 -- the days that there are
 abbrev pub IsDay : ℤ → Type 0

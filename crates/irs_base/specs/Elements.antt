@@ -4,7 +4,7 @@ use Rattle.std.specs.Str.{bytes_eq}
 
 -- how many elements there are
 abbrev pub count : ℕ
-count = 149
+count = 157
 
 abbrev pub name_in : Option (List ℕ) → List ℕ
 name_in (Some p) = p
@@ -36,137 +36,149 @@ swap = 1
 abbrev pub swap_stream : ℕ
 swap_stream = 2
 
+abbrev pub payer_party_reference : ℕ
+payer_party_reference = 3
+
 abbrev pub calculation_period_dates : ℕ
-calculation_period_dates = 3
+calculation_period_dates = 4
 
 abbrev pub effective_date : ℕ
-effective_date = 4
+effective_date = 5
 
 abbrev pub effective_date_adjustments : ℕ
-effective_date_adjustments = 6
+effective_date_adjustments = 7
 
 abbrev pub effective_date_centers_reference : ℕ
-effective_date_centers_reference = 8
+effective_date_centers_reference = 9
 
 abbrev pub termination_date : ℕ
-termination_date = 11
+termination_date = 12
 
 abbrev pub termination_date_adjustments : ℕ
-termination_date_adjustments = 13
+termination_date_adjustments = 14
 
 abbrev pub termination_date_centers_reference : ℕ
-termination_date_centers_reference = 15
+termination_date_centers_reference = 16
 
 abbrev pub period_dates_adjustments : ℕ
-period_dates_adjustments = 18
+period_dates_adjustments = 19
 
 abbrev pub period_dates_centers_reference : ℕ
-period_dates_centers_reference = 20
+period_dates_centers_reference = 21
+
+abbrev pub first_period_start_date : ℕ
+first_period_start_date = 24
+
+abbrev pub first_period_start_adjustments : ℕ
+first_period_start_adjustments = 26
+
+abbrev pub first_period_start_centers_reference : ℕ
+first_period_start_centers_reference = 28
 
 abbrev pub first_regular_period_start_date : ℕ
-first_regular_period_start_date = 23
+first_regular_period_start_date = 31
 
 abbrev pub last_regular_period_end_date : ℕ
-last_regular_period_end_date = 24
+last_regular_period_end_date = 32
 
 abbrev pub calculation_period_frequency : ℕ
-calculation_period_frequency = 26
+calculation_period_frequency = 34
 
 abbrev pub payment_dates : ℕ
-payment_dates = 30
+payment_dates = 38
 
 abbrev pub payment_dates_reference : ℕ
-payment_dates_reference = 31
+payment_dates_reference = 39
 
 abbrev pub payment_frequency : ℕ
-payment_frequency = 32
+payment_frequency = 40
 
 abbrev pub first_payment_date : ℕ
-first_payment_date = 35
+first_payment_date = 43
 
 abbrev pub last_regular_payment_date : ℕ
-last_regular_payment_date = 36
+last_regular_payment_date = 44
 
 abbrev pub payment_days_offset : ℕ
-payment_days_offset = 38
+payment_days_offset = 46
 
 abbrev pub payment_dates_adjustments : ℕ
-payment_dates_adjustments = 42
+payment_dates_adjustments = 50
 
 abbrev pub payment_dates_centers_reference : ℕ
-payment_dates_centers_reference = 44
+payment_dates_centers_reference = 52
 
 abbrev pub reset_dates : ℕ
-reset_dates = 47
+reset_dates = 55
 
 abbrev pub reset_dates_reference : ℕ
-reset_dates_reference = 48
+reset_dates_reference = 56
 
 abbrev pub fixing_dates : ℕ
-fixing_dates = 50
+fixing_dates = 58
 
 abbrev pub fixing_dates_centers_reference : ℕ
-fixing_dates_centers_reference = 55
+fixing_dates_centers_reference = 63
 
 abbrev pub fixing_dates_relative_to : ℕ
-fixing_dates_relative_to = 58
+fixing_dates_relative_to = 66
 
 abbrev pub reset_frequency : ℕ
-reset_frequency = 59
+reset_frequency = 67
 
 abbrev pub reset_dates_adjustments : ℕ
-reset_dates_adjustments = 62
+reset_dates_adjustments = 70
 
 abbrev pub reset_dates_centers_reference : ℕ
-reset_dates_centers_reference = 64
+reset_dates_centers_reference = 72
 
 abbrev pub calculation_period_amount : ℕ
-calculation_period_amount = 67
+calculation_period_amount = 75
 
 abbrev pub calculation : ℕ
-calculation = 68
+calculation = 76
 
 abbrev pub notional_step_date : ℕ
-notional_step_date = 73
+notional_step_date = 81
 
 abbrev pub fixed_rate_step_date : ℕ
-fixed_rate_step_date = 79
+fixed_rate_step_date = 87
 
 abbrev pub multiplier_step_date : ℕ
-multiplier_step_date = 89
+multiplier_step_date = 97
 
 abbrev pub spread_step_date : ℕ
-spread_step_date = 94
+spread_step_date = 102
 
 abbrev pub compounding_method : ℕ
-compounding_method = 102
+compounding_method = 110
 
 abbrev pub stub_amount : ℕ
-stub_amount = 103
+stub_amount = 111
 
 abbrev pub stub_amount_reference : ℕ
-stub_amount_reference = 104
+stub_amount_reference = 112
 
 abbrev pub initial_stub : ℕ
-initial_stub = 105
+initial_stub = 113
 
 abbrev pub final_stub : ℕ
-final_stub = 112
+final_stub = 120
 
 abbrev pub principal_exchanges : ℕ
-principal_exchanges = 119
+principal_exchanges = 127
 
 abbrev pub cashflows : ℕ
-cashflows = 123
+cashflows = 131
 
 abbrev pub flow_exchange : ℕ
-flow_exchange = 124
+flow_exchange = 132
 
 abbrev pub flow_payment : ℕ
-flow_payment = 128
+flow_payment = 136
 
 abbrev pub flow_period : ℕ
-flow_period = 134
+flow_period = 142
 
 abbrev pub flow_observation : ℕ
-flow_observation = 145
+flow_observation = 153

@@ -8,6 +8,7 @@ pub mod Rounding
 pub mod Decimals
 pub mod Texts
 pub mod Lines
+pub mod Limits
 pub mod Fields
 pub mod Dates
 pub mod Elements

@@ -1,9 +1,9 @@
-//! Days: the dates of the proleptic Gregorian calendar from 1901-01-01 to 2199-12-31, counted from
+//! Days: the dates of the proleptic Gregorian calendar from 1901-01-01 to 2299-12-31, counted from
 //! 1970-01-01.
 //!
 //! The range is this project's own; the calendar is that of ISO 8601, by `jiff`.
 ghost use Rattle.std.specs.Prelude.{◌≡◌, ◌≤◌, ℤ, pos, negsuc, ◌+ℤ◌, ◌≤ℤ◌, IfSome, IfNone, SomeIff};
-ghost use Rattle.irs_base.specs.Days.{IsDay, first_day, last_day, weekday_at};
+ghost use Rattle.irs_base.specs.Days.{IsDay, first_day, first_year, last_day, last_year, weekday_at};
 
 use jiff::ToSpan;
 use jiff::civil::{Date, Weekday};
@@ -12,8 +12,8 @@ use std::marker::Model;
 /// The number of the first day, 1901-01-01.
 pub const FIRST_DAY: i32 = -25_202;
 
-/// The number of the last day, 2199-12-31.
-pub const LAST_DAY: i32 = 84_005;
+/// The number of the last day, 2299-12-31.
+pub const LAST_DAY: i32 = 120_529;
 
 /// A date of the proleptic Gregorian calendar as three numbers, of which there may be no such date.
 #[derive(Clone, Copy, Debug, PartialEq, Eq)]
@@ -38,7 +38,7 @@ pub enum DayName {
     Sun,
 }
 
-/// A day from 1901-01-01 to 2199-12-31. Contracts see its number, counted from 1970-01-01.
+/// A day from 1901-01-01 to 2299-12-31. Contracts see its number, counted from 1970-01-01.
 #[derive(Clone, Copy, Debug, PartialEq, Eq, PartialOrd, Ord)]
 pub struct Day {
     number: i32,
@@ -62,7 +62,7 @@ impl Day {
         Day { number: FIRST_DAY }
     }
 
-    /// The last day, 2199-12-31.
+    /// The last day, 2299-12-31.
     pub fn latest() -> Day
         ensures { result ≡ last_day }
     {
@@ -119,7 +119,7 @@ fn date_of(d: Day) -> Date
 #[tactic(auto, using(crate::proofs::Dates::year_range))]
 pub fn civil_of(d: Day) -> Civil
     ensures date { IsCivilOf d result }
-    ensures range { IsBetween (pos 1901) (pos 2199) result.year }
+    ensures range { IsBetween (pos first_year) (pos last_year) result.year }
     ensures exact { (result.year ≡ pos (year_of d)) × (result.month ≡ month_of d) × (result.day ≡ day_of_month d) }
     ensures day { IsDay d }
 {

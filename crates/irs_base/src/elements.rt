@@ -12,7 +12,7 @@ ghost use Rattle.irs_base.specs.declared.elements.TheConstants.{NAMES, PARENTS, 
 use std::marker::Model;
 
 /// The number of elements in the table.
-pub const ELEMENTS: u8 = 149;
+pub const ELEMENTS: u8 = 157;
 
 /// An element, by its place in the table of paths. Contracts see the place.
 #[derive(Clone, Copy, Debug, PartialEq, Eq, PartialOrd, Ord)]
@@ -40,140 +40,152 @@ impl Elem {
     /// `swapStream`.
     pub const SWAP_STREAM: Elem = Elem { place: 2 };
 
+    /// `payerPartyReference`.
+    pub const PAYER_PARTY_REFERENCE: Elem = Elem { place: 3 };
+
     /// `calculationPeriodDates`.
-    pub const CALCULATION_PERIOD_DATES: Elem = Elem { place: 3 };
+    pub const CALCULATION_PERIOD_DATES: Elem = Elem { place: 4 };
 
     /// `calculationPeriodDates/effectiveDate`.
-    pub const EFFECTIVE_DATE: Elem = Elem { place: 4 };
+    pub const EFFECTIVE_DATE: Elem = Elem { place: 5 };
 
     /// `calculationPeriodDates/effectiveDate/dateAdjustments`.
-    pub const EFFECTIVE_DATE_ADJUSTMENTS: Elem = Elem { place: 6 };
+    pub const EFFECTIVE_DATE_ADJUSTMENTS: Elem = Elem { place: 7 };
 
     /// `calculationPeriodDates/effectiveDate/dateAdjustments/businessCentersReference`.
-    pub const EFFECTIVE_DATE_CENTERS_REFERENCE: Elem = Elem { place: 8 };
+    pub const EFFECTIVE_DATE_CENTERS_REFERENCE: Elem = Elem { place: 9 };
 
     /// `calculationPeriodDates/terminationDate`.
-    pub const TERMINATION_DATE: Elem = Elem { place: 11 };
+    pub const TERMINATION_DATE: Elem = Elem { place: 12 };
 
     /// `calculationPeriodDates/terminationDate/dateAdjustments`.
-    pub const TERMINATION_DATE_ADJUSTMENTS: Elem = Elem { place: 13 };
+    pub const TERMINATION_DATE_ADJUSTMENTS: Elem = Elem { place: 14 };
 
     /// `calculationPeriodDates/terminationDate/dateAdjustments/businessCentersReference`.
-    pub const TERMINATION_DATE_CENTERS_REFERENCE: Elem = Elem { place: 15 };
+    pub const TERMINATION_DATE_CENTERS_REFERENCE: Elem = Elem { place: 16 };
 
     /// `calculationPeriodDates/calculationPeriodDatesAdjustments`.
-    pub const PERIOD_DATES_ADJUSTMENTS: Elem = Elem { place: 18 };
+    pub const PERIOD_DATES_ADJUSTMENTS: Elem = Elem { place: 19 };
 
     /// `calculationPeriodDates/calculationPeriodDatesAdjustments/businessCentersReference`.
-    pub const PERIOD_DATES_CENTERS_REFERENCE: Elem = Elem { place: 20 };
+    pub const PERIOD_DATES_CENTERS_REFERENCE: Elem = Elem { place: 21 };
+
+    /// `calculationPeriodDates/firstPeriodStartDate`.
+    pub const FIRST_PERIOD_START_DATE: Elem = Elem { place: 24 };
+
+    /// `calculationPeriodDates/firstPeriodStartDate/dateAdjustments`.
+    pub const FIRST_PERIOD_START_ADJUSTMENTS: Elem = Elem { place: 26 };
+
+    /// `calculationPeriodDates/firstPeriodStartDate/dateAdjustments/businessCentersReference`.
+    pub const FIRST_PERIOD_START_CENTERS_REFERENCE: Elem = Elem { place: 28 };
 
     /// `calculationPeriodDates/firstRegularPeriodStartDate`.
-    pub const FIRST_REGULAR_PERIOD_START_DATE: Elem = Elem { place: 23 };
+    pub const FIRST_REGULAR_PERIOD_START_DATE: Elem = Elem { place: 31 };
 
     /// `calculationPeriodDates/lastRegularPeriodEndDate`.
-    pub const LAST_REGULAR_PERIOD_END_DATE: Elem = Elem { place: 24 };
+    pub const LAST_REGULAR_PERIOD_END_DATE: Elem = Elem { place: 32 };
 
     /// `calculationPeriodDates/calculationPeriodFrequency`.
-    pub const CALCULATION_PERIOD_FREQUENCY: Elem = Elem { place: 26 };
+    pub const CALCULATION_PERIOD_FREQUENCY: Elem = Elem { place: 34 };
 
     /// `paymentDates`.
-    pub const PAYMENT_DATES: Elem = Elem { place: 30 };
+    pub const PAYMENT_DATES: Elem = Elem { place: 38 };
 
     /// `paymentDates/calculationPeriodDatesReference`.
-    pub const PAYMENT_DATES_REFERENCE: Elem = Elem { place: 31 };
+    pub const PAYMENT_DATES_REFERENCE: Elem = Elem { place: 39 };
 
     /// `paymentDates/paymentFrequency`.
-    pub const PAYMENT_FREQUENCY: Elem = Elem { place: 32 };
+    pub const PAYMENT_FREQUENCY: Elem = Elem { place: 40 };
 
     /// `paymentDates/firstPaymentDate`.
-    pub const FIRST_PAYMENT_DATE: Elem = Elem { place: 35 };
+    pub const FIRST_PAYMENT_DATE: Elem = Elem { place: 43 };
 
     /// `paymentDates/lastRegularPaymentDate`.
-    pub const LAST_REGULAR_PAYMENT_DATE: Elem = Elem { place: 36 };
+    pub const LAST_REGULAR_PAYMENT_DATE: Elem = Elem { place: 44 };
 
     /// `paymentDates/paymentDaysOffset`.
-    pub const PAYMENT_DAYS_OFFSET: Elem = Elem { place: 38 };
+    pub const PAYMENT_DAYS_OFFSET: Elem = Elem { place: 46 };
 
     /// `paymentDates/paymentDatesAdjustments`.
-    pub const PAYMENT_DATES_ADJUSTMENTS: Elem = Elem { place: 42 };
+    pub const PAYMENT_DATES_ADJUSTMENTS: Elem = Elem { place: 50 };
 
     /// `paymentDates/paymentDatesAdjustments/businessCentersReference`.
-    pub const PAYMENT_DATES_CENTERS_REFERENCE: Elem = Elem { place: 44 };
+    pub const PAYMENT_DATES_CENTERS_REFERENCE: Elem = Elem { place: 52 };
 
     /// `resetDates`.
-    pub const RESET_DATES: Elem = Elem { place: 47 };
+    pub const RESET_DATES: Elem = Elem { place: 55 };
 
     /// `resetDates/calculationPeriodDatesReference`.
-    pub const RESET_DATES_REFERENCE: Elem = Elem { place: 48 };
+    pub const RESET_DATES_REFERENCE: Elem = Elem { place: 56 };
 
     /// `resetDates/fixingDates`.
-    pub const FIXING_DATES: Elem = Elem { place: 50 };
+    pub const FIXING_DATES: Elem = Elem { place: 58 };
 
     /// `resetDates/fixingDates/businessCentersReference`.
-    pub const FIXING_DATES_CENTERS_REFERENCE: Elem = Elem { place: 55 };
+    pub const FIXING_DATES_CENTERS_REFERENCE: Elem = Elem { place: 63 };
 
     /// `resetDates/fixingDates/dateRelativeTo`.
-    pub const FIXING_DATES_RELATIVE_TO: Elem = Elem { place: 58 };
+    pub const FIXING_DATES_RELATIVE_TO: Elem = Elem { place: 66 };
 
     /// `resetDates/resetFrequency`.
-    pub const RESET_FREQUENCY: Elem = Elem { place: 59 };
+    pub const RESET_FREQUENCY: Elem = Elem { place: 67 };
 
     /// `resetDates/resetDatesAdjustments`.
-    pub const RESET_DATES_ADJUSTMENTS: Elem = Elem { place: 62 };
+    pub const RESET_DATES_ADJUSTMENTS: Elem = Elem { place: 70 };
 
     /// `resetDates/resetDatesAdjustments/businessCentersReference`.
-    pub const RESET_DATES_CENTERS_REFERENCE: Elem = Elem { place: 64 };
+    pub const RESET_DATES_CENTERS_REFERENCE: Elem = Elem { place: 72 };
 
     /// `calculationPeriodAmount`.
-    pub const CALCULATION_PERIOD_AMOUNT: Elem = Elem { place: 67 };
+    pub const CALCULATION_PERIOD_AMOUNT: Elem = Elem { place: 75 };
 
     /// `calculationPeriodAmount/calculation`.
-    pub const CALCULATION: Elem = Elem { place: 68 };
+    pub const CALCULATION: Elem = Elem { place: 76 };
 
     /// `calculationPeriodAmount/calculation/notionalSchedule/notionalStepSchedule/step/stepDate`.
-    pub const NOTIONAL_STEP_DATE: Elem = Elem { place: 73 };
+    pub const NOTIONAL_STEP_DATE: Elem = Elem { place: 81 };
 
     /// `calculationPeriodAmount/calculation/fixedRateSchedule/step/stepDate`.
-    pub const FIXED_RATE_STEP_DATE: Elem = Elem { place: 79 };
+    pub const FIXED_RATE_STEP_DATE: Elem = Elem { place: 87 };
 
     /// `calculationPeriodAmount/calculation/floatingRateCalculation/floatingRateMultiplierSchedule/step/stepDate`.
-    pub const MULTIPLIER_STEP_DATE: Elem = Elem { place: 89 };
+    pub const MULTIPLIER_STEP_DATE: Elem = Elem { place: 97 };
 
     /// `calculationPeriodAmount/calculation/floatingRateCalculation/spreadSchedule/step/stepDate`.
-    pub const SPREAD_STEP_DATE: Elem = Elem { place: 94 };
+    pub const SPREAD_STEP_DATE: Elem = Elem { place: 102 };
 
     /// `calculationPeriodAmount/calculation/compoundingMethod`.
-    pub const COMPOUNDING_METHOD: Elem = Elem { place: 102 };
+    pub const COMPOUNDING_METHOD: Elem = Elem { place: 110 };
 
     /// `stubCalculationPeriodAmount`.
-    pub const STUB_AMOUNT: Elem = Elem { place: 103 };
+    pub const STUB_AMOUNT: Elem = Elem { place: 111 };
 
     /// `stubCalculationPeriodAmount/calculationPeriodDatesReference`.
-    pub const STUB_AMOUNT_REFERENCE: Elem = Elem { place: 104 };
+    pub const STUB_AMOUNT_REFERENCE: Elem = Elem { place: 112 };
 
     /// `stubCalculationPeriodAmount/initialStub`.
-    pub const INITIAL_STUB: Elem = Elem { place: 105 };
+    pub const INITIAL_STUB: Elem = Elem { place: 113 };
 
     /// `stubCalculationPeriodAmount/finalStub`.
-    pub const FINAL_STUB: Elem = Elem { place: 112 };
+    pub const FINAL_STUB: Elem = Elem { place: 120 };
 
     /// `principalExchanges`.
-    pub const PRINCIPAL_EXCHANGES: Elem = Elem { place: 119 };
+    pub const PRINCIPAL_EXCHANGES: Elem = Elem { place: 127 };
 
     /// `cashflows`.
-    pub const CASHFLOWS: Elem = Elem { place: 123 };
+    pub const CASHFLOWS: Elem = Elem { place: 131 };
 
     /// `principalExchange`.
-    pub const FLOW_EXCHANGE: Elem = Elem { place: 124 };
+    pub const FLOW_EXCHANGE: Elem = Elem { place: 132 };
 
     /// `paymentCalculationPeriod`.
-    pub const FLOW_PAYMENT: Elem = Elem { place: 128 };
+    pub const FLOW_PAYMENT: Elem = Elem { place: 136 };
 
     /// `calculationPeriod`.
-    pub const FLOW_PERIOD: Elem = Elem { place: 134 };
+    pub const FLOW_PERIOD: Elem = Elem { place: 142 };
 
     /// `rateObservation`.
-    pub const FLOW_OBSERVATION: Elem = Elem { place: 145 };
+    pub const FLOW_OBSERVATION: Elem = Elem { place: 153 };
 
     /// The element at a place of the table; `None` exactly past its end.
     pub fn at(place: u8) -> Option<Elem>
@@ -223,21 +235,22 @@ pub fn table_fits()
 {}
 
 /// The place of the element that the path continues; the stream for a path of one name.
-pub const PARENTS: [u8; 149] = [
-    0, 0, 1, 2, 3, 4, 4, 6, 6, 6, 9, 3, 11, 11, 13, 13, 13, 16, 3, 18, 18, 18, 21, 3, 3, 3, 3, 26,
-    26, 26, 2, 30, 30, 32, 32, 30, 30, 30, 30, 38, 38, 38, 30, 42, 42, 42, 45, 2, 47, 47, 47, 50,
-    50, 50, 50, 50, 50, 56, 50, 47, 59, 59, 47, 62, 62, 62, 65, 2, 67, 68, 69, 70, 70, 72, 72, 70,
-    68, 76, 76, 78, 78, 68, 81, 81, 83, 83, 81, 86, 86, 88, 88, 81, 91, 91, 93, 93, 81, 81, 97, 97,
-    81, 68, 68, 2, 103, 103, 105, 106, 106, 108, 108, 105, 103, 112, 113, 113, 115, 115, 112, 2,
-    119, 119, 119, 2, 2, 124, 124, 124, 2, 128, 128, 128, 131, 131, 2, 134, 134, 134, 134, 134,
-    134, 134, 134, 134, 143, 2, 145, 145, 145,
+pub const PARENTS: [u8; 157] = [
+    0, 0, 1, 2, 2, 4, 5, 5, 7, 7, 7, 10, 4, 12, 12, 14, 14, 14, 17, 4, 19, 19, 19, 22, 4, 24, 24,
+    26, 26, 26, 29, 4, 4, 4, 4, 34, 34, 34, 2, 38, 38, 40, 40, 38, 38, 38, 38, 46, 46, 46, 38, 50,
+    50, 50, 53, 2, 55, 55, 55, 58, 58, 58, 58, 58, 58, 64, 58, 55, 67, 67, 55, 70, 70, 70, 73, 2,
+    75, 76, 77, 78, 78, 80, 80, 78, 76, 84, 84, 86, 86, 76, 89, 89, 91, 91, 89, 94, 94, 96, 96, 89,
+    99, 99, 101, 101, 89, 89, 105, 105, 89, 76, 76, 2, 111, 111, 113, 114, 114, 116, 116, 113, 111,
+    120, 121, 121, 123, 123, 120, 2, 127, 127, 127, 2, 2, 132, 132, 132, 2, 136, 136, 136, 139,
+    139, 2, 142, 142, 142, 142, 142, 142, 142, 142, 142, 151, 2, 153, 153, 153,
 ];
 
 /// The name of each element.
-pub const NAMES: [&str; 149] = [
+pub const NAMES: [&str; 157] = [
     "document",
     "swap",
     "swapStream",
+    "payerPartyReference",
     "calculationPeriodDates",
     "effectiveDate",
     "unadjustedDate",
@@ -254,6 +267,13 @@ pub const NAMES: [&str; 149] = [
     "businessCenters",
     "businessCenter",
     "calculationPeriodDatesAdjustments",
+    "businessDayConvention",
+    "businessCentersReference",
+    "businessCenters",
+    "businessCenter",
+    "firstPeriodStartDate",
+    "unadjustedDate",
+    "dateAdjustments",
     "businessDayConvention",
     "businessCentersReference",
     "businessCenters",
@@ -387,10 +407,11 @@ pub const NAMES: [&str; 149] = [
 ];
 
 /// The path of each element.
-pub const PATHS: [&str; 149] = [
+pub const PATHS: [&str; 157] = [
     "document",
     "swap",
     "swapStream",
+    "payerPartyReference",
     "calculationPeriodDates",
     "calculationPeriodDates/effectiveDate",
     "calculationPeriodDates/effectiveDate/unadjustedDate",
@@ -411,6 +432,13 @@ pub const PATHS: [&str; 149] = [
     "calculationPeriodDates/calculationPeriodDatesAdjustments/businessCentersReference",
     "calculationPeriodDates/calculationPeriodDatesAdjustments/businessCenters",
     "calculationPeriodDates/calculationPeriodDatesAdjustments/businessCenters/businessCenter",
+    "calculationPeriodDates/firstPeriodStartDate",
+    "calculationPeriodDates/firstPeriodStartDate/unadjustedDate",
+    "calculationPeriodDates/firstPeriodStartDate/dateAdjustments",
+    "calculationPeriodDates/firstPeriodStartDate/dateAdjustments/businessDayConvention",
+    "calculationPeriodDates/firstPeriodStartDate/dateAdjustments/businessCentersReference",
+    "calculationPeriodDates/firstPeriodStartDate/dateAdjustments/businessCenters",
+    "calculationPeriodDates/firstPeriodStartDate/dateAdjustments/businessCenters/businessCenter",
     "calculationPeriodDates/firstRegularPeriodStartDate",
     "calculationPeriodDates/lastRegularPeriodEndDate",
     "calculationPeriodDates/stubPeriodType",

@@ -8,6 +8,7 @@ mod decimals;
 mod elements;
 mod fields;
 mod file_dates;
+mod limits;
 mod line;
 mod lines;
 mod memory;
@@ -26,6 +27,10 @@ pub use decimals::read_dec;
 pub use elements::{ELEMENTS, Elem, PATHS, paths_listed, table_fits};
 pub use fields::{first_field, is_gap};
 pub use file_dates::date;
+pub use limits::{
+    ALL_DAYS, MOST_BYTES, MOST_CENTERS, MOST_EXCHANGES, MOST_FILES, MOST_HOLIDAYS, MOST_INDEX,
+    MOST_NAME, MOST_PERIODS, MOST_RATE, MOST_ROWS, MOST_STEPS, MOST_STREAMS, limits_stated,
+};
 pub use line::{Dec, LONGEST_LINE, Line};
 pub use lines::split_line;
 pub use memory::Memory;

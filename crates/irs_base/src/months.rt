@@ -1,6 +1,6 @@
 //! Months, counted from January of the year 0: `12*year + month - 1`.
 ghost use Rattle.std.specs.Prelude.{◌≡◌, ◌<◌, ◌≤◌, pos, SomeIff};
-ghost use Rattle.irs_base.specs.Days.{IsDay};
+ghost use Rattle.irs_base.specs.Days.{IsDay, first_month, last_month};
 ghost use Rattle.irs_base.specs.Months.{InMonth, day_in_month};
 ghost use Rattle.jiff_core.specs.Calendar.{IsBetween};
 
@@ -10,13 +10,13 @@ use jiff_core::civil::days_in_month;
 /// The month of January 1901.
 const FIRST_MONTH: i64 = 22_812;
 
-/// The month of December 2199.
-const LAST_MONTH: i64 = 26_399;
+/// The month of December 2299.
+const LAST_MONTH: i64 = 27_599;
 
 /// The month in which a day lies.
 pub fn month_index(d: Day) -> i32
     ensures month { InMonth d result }
-    ensures range { IsBetween (pos 22_812) (pos 26_399) result }
+    ensures range { IsBetween (pos first_month) (pos last_month) result }
     ensures day { IsDay d }
 {
     let c = civil_of(d);
@@ -25,8 +25,8 @@ pub fn month_index(d: Day) -> i32
 
 fn day_of_month(index: u32, n: u8) -> Option<Day>
     requires number { 0 < n }
-    requires low { 22_812 ≤ index }
-    requires high { index ≤ 26_399 }
+    requires low { first_month ≤ index }
+    requires high { index ≤ last_month }
     ensures { SomeIff result (IsDay (day_in_month n (pos index))) (day_in_month n (pos index)) }
 {
     let year = index / 12;

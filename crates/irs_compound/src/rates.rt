@@ -6,7 +6,8 @@
 //! is this project's own.
 ghost use Rattle.std.specs.Prelude.{◌≡◌, ℤ, ◌+◌, ◌-◌, ◌*◌, ◌≤◌, ◌^◌, pos, ◌+ℤ◌, ◌*ℤ◌, unsigned_abs};
 ghost use Rattle.irs_base.specs.Rounding.{rounded, Rounded};
-ghost use Rattle.irs_terms.specs.Lawful.{IsRate, IsLawfulValues, IsLawfulFloat, most_rate};
+ghost use Rattle.irs_terms.specs.Lawful.{IsRate, IsLawfulValues, IsLawfulFloat};
+ghost use Rattle.irs_base.specs.Limits.{most_rate};
 ghost use Rattle.irs_compound.specs.declared.periods.Rates.{Rates};
 ghost use Rattle.irs_compound.specs.InForce.{StepsRise, value_in_force};
 ghost use Rattle.irs_compound.specs.PeriodRates.{RatesOf, FixedRatesOf, rate_at, rates_of, fixed_rates_of};

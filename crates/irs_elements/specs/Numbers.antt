@@ -1,6 +1,6 @@
 -- The numbers of leaves, with their ranges.
 use Rattle.irs_elements.specs.Decimals.{dec_at}
-use Rattle.irs_terms.specs.Lawful.{most_multiplier, most_notional, most_offset, most_rate}
+use Rattle.irs_base.specs.Limits.{most_multiplier, most_notional, most_offset, most_rate}
 use Rattle.std.specs.List.{list_all}
 use Rattle.std.specs.Prelude.{ℕ, nat_le, Bool, not, ◌&&◌, ◌||◌, ◌==◌, List, [], ◌∷◌, length, ℤ, pos, neg_ℤ, unsigned_abs, int_le, Option, Some, None, option_map, if◌then◌else◌}
 

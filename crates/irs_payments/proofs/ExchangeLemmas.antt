@@ -9,7 +9,8 @@ use Rattle.jiff_core.proofs.SignedLemmas.{signed_arith}
 use Rattle.irs_base.specs.declared.rounding.Direction.TheVariants.{Nearest}
 use Rattle.irs_base.proofs.RoundingLaws.{rounded_once}
 use Rattle.irs_terms.specs.Currencies.{decimals_of}
-use Rattle.irs_terms.specs.Lawful.{IsLawfulStream, IsNotional, most_notional}
+use Rattle.irs_terms.specs.Lawful.{IsLawfulStream, IsNotional}
+use Rattle.irs_base.specs.Limits.{most_notional}
 use Rattle.irs_terms.specs.declared.step_list.Step.{Step}
 use Rattle.irs_terms.specs.declared.results.Exchange.{Exchange}
 use Rattle.irs_terms.specs.declared.stream.Stream.{Stream}

@@ -8,7 +8,8 @@ ghost use Rattle.std.specs.Prelude.{◌≡◌, ◌-◌, ◌^◌, ◌<◌, ◌≤
 ghost use Rattle.irs_base.specs.Rounding.{Rounded};
 ghost use Rattle.irs_base.specs.declared.rounding.Direction.TheVariants.{Nearest};
 ghost use Rattle.irs_base.specs.declared.places.Broken.{Broken};
-ghost use Rattle.irs_terms.specs.Lawful.{IsLawfulStream, IsLawfulValues, IsNotional, most_notional};
+ghost use Rattle.irs_terms.specs.Lawful.{IsLawfulStream, IsLawfulValues, IsNotional};
+ghost use Rattle.irs_base.specs.Limits.{most_notional};
 ghost use Rattle.irs_terms.specs.declared.results.Exchange.{Exchange};
 ghost use Rattle.irs_payments.specs.Faults.{IsFirst};
 ghost use Rattle.irs_payments.specs.Exchanges.{initial_of, change, changes, intermediate_of, last_value, final_of, transfers_of, AreExchanges, BreaksExchanges};

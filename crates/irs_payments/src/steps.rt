@@ -3,7 +3,8 @@
 ghost use Rattle.std.specs.Prelude.{◌≡◌, ◌↔◌, ◌≤◌, ℤ, IsTrue, IfOk, IfErr, Ok, length};
 ghost use Rattle.irs_base.specs.Listed.{Member, IsRising};
 ghost use Rattle.irs_base.specs.declared.places.Broken.{Broken};
-ghost use Rattle.irs_terms.specs.Lawful.{IsLawfulStream, IsLawfulLeg, most_steps};
+ghost use Rattle.irs_terms.specs.Lawful.{IsLawfulStream, IsLawfulLeg};
+ghost use Rattle.irs_base.specs.Limits.{most_steps};
 ghost use Rattle.irs_payments.specs.Faults.{IsFirst};
 ghost use Rattle.irs_payments.specs.Steps.{BreaksUnder, BreaksRateSteps, BreaksSteps};
 

@@ -10,7 +10,7 @@ use Rattle.irs_json.specs.Names.{names_of}
 use Rattle.irs_read.specs.StreamLines.{swap_names, swap_rows}
 use Rattle.irs_read.specs.Swaps.{Among, StreamFault, StreamsFault, SwapFault, in_stream, many_streams, no_stream, outside}
 use Rattle.irs_read.specs.declared.table.TheConstants.{SWAP}
-use Rattle.irs_terms.specs.Lawful.{most_streams}
+use Rattle.irs_base.specs.Limits.{most_streams}
 use Rattle.serde_json.specs.Data.{Data}
 use Rattle.serde_json.specs.View.{view}
 use Rattle.serde_json.specs.declared.value.Value.{Value}

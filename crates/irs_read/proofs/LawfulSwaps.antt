@@ -15,7 +15,8 @@ use Rattle.irs_read.proofs.TableLaws.{code_names, stream_fault}
 use Rattle.irs_read.specs.StreamLines.{swap_rows}
 use Rattle.irs_read.specs.Swaps.{StreamsFault, SwapFault, in_stream, many_streams, no_stream, outside}
 use Rattle.irs_read.specs.declared.table.TheConstants.{ROWS, SWAP}
-use Rattle.irs_terms.specs.Lawful.{IsLawful, IsLawfulStream, most_streams}
+use Rattle.irs_terms.specs.Lawful.{IsLawful, IsLawfulStream}
+use Rattle.irs_base.specs.Limits.{most_streams}
 use Rattle.irs_terms.specs.declared.stream_list.Swap.{Swap}
 use Rattle.serde_json.specs.Data.{Data}
 use Rattle.std.proofs.Common.{◌≡◌, ℕ, zero, suc, ◌+◌, ◌<◌, ◌≤◌, Bool, true, false, ◌⊎◌, inl, inr, List, map, length, get_or, Some, Ok, is_some, slice_get, All, refl, sym, subst, arith}

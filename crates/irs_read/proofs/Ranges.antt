@@ -11,7 +11,8 @@ use Rattle.irs_read.specs.Meaning.{said, scale_at}
 use Rattle.irs_read.specs.declared.leaf_values.Scale.{Scale}
 use Rattle.irs_read.specs.declared.leaf_values.Scale.TheVariants.{Notionals, Rates}
 use Rattle.irs_base.specs.Texts.{day_text}
-use Rattle.irs_terms.specs.Lawful.{IsLawfulCurrency, IsLawfulRoll, IsNotional, IsRate, most_multiplier, most_notional, most_offset, most_rate}
+use Rattle.irs_terms.specs.Lawful.{IsLawfulCurrency, IsLawfulRoll, IsNotional, IsRate}
+use Rattle.irs_base.specs.Limits.{most_multiplier, most_notional, most_offset, most_rate}
 use Rattle.irs_terms.specs.declared.codes.RollCode.TheVariants.{Dom, Eom, Imm, NoRoll, OnWeekday}
 use Rattle.irs_base.specs.declared.day.DayName.TheVariants.{Mon, Tue, Wed, Thu, Fri, Sat, Sun}
 use Rattle.irs_terms.specs.declared.frequency.Unit.{Unit as PeriodUnit}

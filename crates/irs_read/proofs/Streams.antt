@@ -16,7 +16,8 @@ use Rattle.irs_read.proofs.TableLaws.{code_names as row_names}
 use Rattle.irs_read.specs.declared.leaf_values.Scale.{Scale}
 use Rattle.irs_read.specs.declared.leaf_values.Scale.TheVariants.{Notionals, Rates}
 use Rattle.irs_read.specs.declared.table.TheConstants.{ROWS}
-use Rattle.irs_terms.specs.Lawful.{IsLawfulCenters, IsLawfulCurrency, IsLawfulDated, IsLawfulFix, IsLawfulFloat, IsLawfulFrequency, IsLawfulIndex, IsLawfulLeg, IsLawfulName, IsLawfulNames, IsLawfulOffset, IsLawfulPay, IsLawfulReset, IsLawfulRoll, IsLawfulStream, IsLawfulStubRate, IsLawfulStubs, IsLawfulTenor, IsLawfulValues, IsRate, most_centers, most_multiplier, most_offset, most_steps}
+use Rattle.irs_terms.specs.Lawful.{IsLawfulCenters, IsLawfulCurrency, IsLawfulDated, IsLawfulFix, IsLawfulFloat, IsLawfulFrequency, IsLawfulIndex, IsLawfulLeg, IsLawfulName, IsLawfulNames, IsLawfulOffset, IsLawfulPay, IsLawfulReset, IsLawfulRoll, IsLawfulStream, IsLawfulStubRate, IsLawfulStubs, IsLawfulTenor, IsLawfulValues, IsRate}
+use Rattle.irs_base.specs.Limits.{most_centers, most_multiplier, most_offset, most_steps}
 use Rattle.irs_terms.specs.declared.codes.RollCode.TheVariants.{NoRoll}
 use Rattle.irs_terms.specs.declared.frequency.Unit.{Unit as PeriodUnit}
 use Rattle.irs_terms.specs.declared.frequency.Unit.TheVariants.{D, T as Term}

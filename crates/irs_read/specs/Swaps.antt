@@ -9,7 +9,7 @@ use Rattle.irs_elements.specs.declared.table.Choice.TheVariants.{Free}
 use Rattle.irs_elements.specs.declared.table.Kind.TheVariants.{Object}
 use Rattle.irs_json.specs.Names.{names_of}
 use Rattle.irs_read.specs.StreamLines.{stream_names, stream_rows, swap_names, swap_rows}
-use Rattle.irs_terms.specs.Lawful.{most_streams}
+use Rattle.irs_base.specs.Limits.{most_streams}
 use Rattle.serde_json.specs.Data.{Data}
 use Rattle.std.specs.Prelude.{◌≡◌, ℕ, ◌+◌, ◌<◌, ◌≤◌, ◌⊎◌, true, List, length, Some, is_some, slice_get, codes}
 

@@ -1,7 +1,7 @@
 //! The first rule that a swap breaks: its own, and those of its one to eight streams.
 ghost use Rattle.irs_elements.specs.Order.{IsFirst};
 ghost use Rattle.irs_read.specs.Swaps.{Among, StreamFault, StreamsFault, SwapFault, outside as outside_of};
-ghost use Rattle.irs_terms.specs.Lawful.{most_streams};
+ghost use Rattle.irs_base.specs.Limits.{most_streams};
 ghost use Rattle.serde_json.specs.View.{view};
 ghost use Rattle.std.specs.Prelude.{◌≡◌, ◌≤◌, length, map};
 

@@ -5,7 +5,8 @@
 //! their offset is a Business offset other than 0. Reset dates are asked whether or not the stream
 //! floats.
 ghost use Rattle.std.specs.Prelude.{◌≤◌, ◌↔◌, IsTrue, IsSomeAnd, IfSome, length};
-ghost use Rattle.irs_terms.specs.Lawful.{IsLawfulCenters, IsLawfulReset, IsLawfulFix, IsLawfulStream, most_centers};
+ghost use Rattle.irs_terms.specs.Lawful.{IsLawfulCenters, IsLawfulReset, IsLawfulFix, IsLawfulStream};
+ghost use Rattle.irs_base.specs.Limits.{most_centers};
 ghost use Rattle.irs_base.specs.Elements.{fixing_dates};
 ghost use Rattle.irs_rules.specs.Order.{IsFirstSpot};
 ghost use Rattle.irs_rules.specs.Spots.{At, AtItem};

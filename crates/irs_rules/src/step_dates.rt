@@ -1,7 +1,8 @@
 //! K18: the steps of notionals, fixed rates, multipliers and spreads lie strictly in order and
 //! strictly between the effective and the termination date.
 ghost use Rattle.std.specs.Prelude.{◌<◌, ◌≤◌, ◌≤ℤ◌, ◌↔◌, IsTrue, IsSomeAnd, length};
-ghost use Rattle.irs_terms.specs.Lawful.{IsLawfulStream, IsLawfulLeg, most_steps};
+ghost use Rattle.irs_terms.specs.Lawful.{IsLawfulStream, IsLawfulLeg};
+ghost use Rattle.irs_base.specs.Limits.{most_steps};
 ghost use Rattle.irs_rules.specs.Order.{IsFirstSpot};
 ghost use Rattle.irs_rules.specs.Spots.{AtItem};
 ghost use Rattle.irs_rules.specs.StepDates.{BreaksK18, IsLegStepOut, IsStepDayOut, IsStepOut, step_before};

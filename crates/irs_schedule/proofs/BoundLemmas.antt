@@ -6,7 +6,8 @@ use Rattle.irs_base.specs.Listed.{AllAfter, IsRising}
 use Rattle.irs_base.specs.Rounding.{Rounded}
 use Rattle.irs_base.specs.declared.rounding.Direction.TheVariants.{Nearest}
 use Rattle.irs_terms.specs.Currencies.{decimals_of}
-use Rattle.irs_terms.specs.Lawful.{IsLawfulStream, most_notional}
+use Rattle.irs_terms.specs.Lawful.{IsLawfulStream}
+use Rattle.irs_base.specs.Limits.{most_notional}
 use Rattle.irs_terms.specs.declared.results.Exchange.{Exchange}
 use Rattle.irs_terms.specs.declared.stream.Stream.{Stream}
 use Rattle.irs_calendar.specs.GoodDays.{DaySet}

@@ -8,7 +8,8 @@ use Rattle.std.specs.Ordering.{int_cmp, is_lt}
 use Rattle.jiff_core.proofs.SignedLemmas.{signed_arith}
 use Rattle.irs_base.proofs.Orders.{lt_true}
 use Rattle.irs_base.specs.Days.{IsDay, first_day, last_day}
-use Rattle.irs_terms.specs.Lawful.{IsLawfulCenters, IsLawfulFix, IsLawfulReset, IsLawfulStream, most_centers}
+use Rattle.irs_terms.specs.Lawful.{IsLawfulCenters, IsLawfulFix, IsLawfulReset, IsLawfulStream}
+use Rattle.irs_base.specs.Limits.{most_centers}
 use Rattle.irs_terms.specs.declared.dates.FixTerms.{FixTerms}
 use Rattle.irs_terms.specs.declared.dates.ResetTerms.{ResetTerms}
 use Rattle.irs_terms.specs.declared.stream.Stream.{Stream}

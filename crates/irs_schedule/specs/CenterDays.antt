@@ -1,6 +1,6 @@
 -- The good days of the centres that elements name, and a table of them for the streams of a swap.
 use Rattle.std.specs.Prelude.{◌≡◌, ℕ, ◌≤◌, List, Contains, Option, Some, IfSome, length, slice_get}
-use Rattle.irs_terms.specs.Lawful.{most_centers}
+use Rattle.irs_base.specs.Limits.{most_centers}
 use Rattle.irs_terms.specs.declared.stream.Stream.{Stream}
 use Rattle.irs_terms.specs.declared.stream_list.Swap.{Swap}
 use Rattle.irs_calendar.specs.declared.sections.Section.{Section}

@@ -2,7 +2,7 @@
 //! names (2006 ISDA Definitions, article 1, 'Business Day'), or every day of the range where it needs
 //! none.
 ghost use Rattle.std.specs.Prelude.{◌≡◌, ◌≤◌, ◌↔◌, List, length, None, option_copied, IfOk, IsTrue};
-ghost use Rattle.irs_terms.specs.Lawful.{most_centers};
+ghost use Rattle.irs_base.specs.Limits.{most_centers};
 ghost use Rattle.irs_calendar.specs.GoodDays.{SameDays};
 ghost use Rattle.irs_calendar.specs.Runs.{set_of_runs};
 ghost use Rattle.irs_calendar.specs.Selected.{day_set_of, first_missing};

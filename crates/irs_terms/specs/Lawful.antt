@@ -1,6 +1,7 @@
 -- Lawful terms: every value lies in the range that its element allows.
 use Rattle.std.specs.Prelude.{◌≡◌, ◌≢◌, ℕ, ◌-◌, ◌^◌, ◌≤◌, List, length, get_or, All, IfSome, ℤ, pos, ◌≤ℤ◌, unsigned_abs}
 use Rattle.irs_base.specs.Days.{IsDay}
+use Rattle.irs_base.specs.Limits.{most_centers, most_index, most_multiplier, most_name, most_notional, most_offset, most_rate, most_steps, most_streams}
 use Rattle.irs_terms.specs.declared.frequency.Unit.TheVariants.{T}
 use Rattle.irs_terms.specs.declared.frequency.Frequency.{Frequency}
 use Rattle.irs_terms.specs.declared.codes.RollCode.{RollCode}
@@ -22,34 +23,6 @@ use Rattle.irs_terms.specs.declared.amounts.StubTerms.{StubTerms}
 use Rattle.irs_terms.specs.declared.currency.Currency.{Currency}
 use Rattle.irs_terms.specs.declared.stream.Stream.{Stream}
 use Rattle.irs_terms.specs.declared.stream_list.Swap.{Swap}
-
--- the greatest multiplier of a frequency
-abbrev pub most_multiplier : ℕ
-most_multiplier = 999
-
--- the most days of an offset
-abbrev pub most_offset : ℕ
-most_offset = 60
-
--- the most steps of a schedule of values
-abbrev pub most_steps : ℕ
-most_steps = 4000
-
--- the most centres of an element
-abbrev pub most_centers : ℕ
-most_centers = 16
-
--- the most streams of a swap
-abbrev pub most_streams : ℕ
-most_streams = 8
-
--- 10^13, in units of 10^-4
-abbrev pub most_notional : ℕ
-most_notional = 10 ^ 17
-
--- 10, in units of 10^-9: the greatest rate, spread and multiplier in size
-abbrev pub most_rate : ℕ
-most_rate = 10 ^ 10
 
 -- a multiplier from 1 to 999
 abbrev pub IsLawfulFrequency : Frequency → Type 0
@@ -73,7 +46,7 @@ IsLawfulOffset o = unsigned_abs o.days ≤ most_offset
 
 -- the name of a centre: 1 to 32 bytes from `!` to `~`
 abbrev pub IsLawfulName : List ℕ → Type 0
-IsLawfulName name = (1 ≤ length name) × (length name ≤ 32) × All (λ b. (33 ≤ b) × (b ≤ 126)) name
+IsLawfulName name = (1 ≤ length name) × (length name ≤ most_name) × All (λ b. (33 ≤ b) × (b ≤ 126)) name
 
 -- 1 to 16 centres
 abbrev pub IsLawfulNames : List (List ℕ) → Type 0
@@ -89,7 +62,7 @@ IsLawfulDated d = IsDay d.day × IsLawfulCenters d.adj.centers
 
 -- the index of a rate: 1 to 128 bytes, none of them a control byte, and no white space at its ends
 abbrev pub IsLawfulIndex : List ℕ → Type 0
-IsLawfulIndex index = (1 ≤ length index) × (length index ≤ 128) × All (λ b. (32 ≤ b) × (b ≢ 127)) index × (get_or index 0 0 ≢ 32) × (get_or index (length index - 1) 0 ≢ 32)
+IsLawfulIndex index = (1 ≤ length index) × (length index ≤ most_index) × All (λ b. (32 ≤ b) × (b ≢ 127)) index × (get_or index 0 0 ≢ 32) × (get_or index (length index - 1) 0 ≢ 32)
 
 abbrev pub IsNotional : ℤ → Type 0
 IsNotional v = (pos 0 ≤ℤ v) × (v ≤ℤ pos most_notional)
@@ -141,6 +114,7 @@ IsLawfulCurrency c = All (λ b. (65 ≤ b) × (b ≤ 90)) c.letters
 
 pub record IsLawfulStream (s : Stream) : Type 0 where
   pub effective : IsLawfulDated s.effective
+  pub first_start : IfSome s.first_start IsLawfulDated
   pub termination : IsLawfulDated s.termination
   pub centers : IsLawfulCenters s.period_adj.centers
   pub first_regular : IfSome s.first_regular IsDay

@@ -1,2 +1,3 @@
 pub mod Currencies
+pub mod FirstDay
 pub mod Lawful

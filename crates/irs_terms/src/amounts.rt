@@ -1,6 +1,6 @@
 //! The terms of rates, stubs and principal exchanges. Rates, multipliers and spreads are in units
 //! of 10^-9.
-use crate::{Frequency, RefState, StepValues};
+use crate::{Frequency, RefState, StepValues, Treatment};
 use irs_base::{Direction, Text};
 
 /// How a rate is rounded: to so many decimals, in which direction (FpML `finalRateRounding`).
@@ -25,6 +25,8 @@ pub struct FloatTerms {
     pub initial_rate: Option<i64>,
     /// `finalRateRounding`; Nearest at 9 decimals where it is absent.
     pub rounding: Rounding,
+    /// `negativeInterestRateTreatment`; NegativeInterestRateMethod where it is absent.
+    pub treatment: Treatment,
 }
 
 /// What a stream pays.

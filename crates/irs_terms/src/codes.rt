@@ -61,6 +61,18 @@ pub enum CompCode {
     Straight,
     /// `Flat`: at the base rate of the period, without the spread.
     Flat,
+    /// `SpreadExclusive`: at the base rate of the period; the spread is paid on the notional alone.
+    /// Its rule is this project's own.
+    SpreadExclusive,
+}
+
+/// What becomes of a rate below 0 (FpML `negativeInterestRateTreatment`).
+#[derive(Clone, Copy, Debug, PartialEq, Eq)]
+pub enum Treatment {
+    /// `NegativeInterestRateMethod`: it stays.
+    AsIs,
+    /// `ZeroInterestRateMethod`: the rate is 0.
+    ZeroFloor,
 }
 
 /// Where an irregular period stands and whether it is shorter or longer than a regular one (FpML

@@ -18,7 +18,7 @@ mod tests;
 pub use adjustments::{Adjustments, Centers, Dated, Offset};
 pub use amounts::{ExchangeFlags, FloatTerms, Leg, Rounding, StubRate, StubTerms};
 pub use codes::{
-    CompCode, ConvCode, DayCountCode, DayKind, RefState, Relative, RollCode, StubKind,
+    CompCode, ConvCode, DayCountCode, DayKind, RefState, Relative, RollCode, StubKind, Treatment,
 };
 pub use currency::Currency;
 pub use dates::{FixTerms, PayTerms, ResetTerms};

@@ -1,6 +1,7 @@
 //! A stream of a swap.
 ghost use Rattle.std.specs.Prelude.{◌≡◌};
 ghost use Rattle.irs_base.specs.Days.{IsDay};
+ghost use Rattle.irs_terms.specs.FirstDay.{first_date_of, first_day_of};
 
 use crate::{
     Adjustments, CompCode, Currency, Dated, DayCountCode, ExchangeFlags, Frequency, Leg, PayTerms,
@@ -13,6 +14,8 @@ use irs_base::Day;
 pub struct Stream {
     /// `calculationPeriodDates/effectiveDate`.
     pub effective: Dated,
+    /// `calculationPeriodDates/firstPeriodStartDate`.
+    pub first_start: Option<Dated>,
     /// `calculationPeriodDates/terminationDate`.
     pub termination: Dated,
     /// `calculationPeriodDates/calculationPeriodDatesAdjustments`.
@@ -48,12 +51,24 @@ pub struct Stream {
 }
 
 impl Stream {
-    /// The first day of the first calculation period: the unadjusted effective date.
+    /// The date at which the first calculation period begins, with its adjustments: FpML's
+    /// `firstPeriodStartDate` where it is given, else the effective date.
+    pub fn first_date(&self) -> &Dated
+        ensures { result.now ≡ first_date_of self.now }
+    {
+        match &self.first_start {
+            Some(first) => first,
+            None => &self.effective,
+        }
+    }
+
+    /// The unadjusted first day of the first calculation period.
     pub fn first_day(&self) -> Day
-        ensures value { result ≡ self.now.effective.day }
+        ensures value { result ≡ first_day_of self.now }
         ensures day { IsDay result }
     {
-        let day = self.effective.day;
+        let day = self.first_date().day;
+        // The call tells that the day is in range.
         let _number = day.number();
         day
     }

@@ -1,6 +1,7 @@
 use Rattle.std.proofs.Common.{◌≡◌, ℕ, zero, suc, ◌<◌, ◌≤◌, List, [], ◌∷◌, ◌++◌, length, get_or, ap, ◌∙◌, arith, lit≤}
 use Rattle.irs_terms.specs.declared.stream.Stream.{Stream}
-use Rattle.irs_terms.specs.Lawful.{IsLawfulStream, most_streams}
+use Rattle.irs_terms.specs.Lawful.{IsLawfulStream}
+use Rattle.irs_base.specs.Limits.{most_streams}
 use Rattle.irs_rules.proofs.tests.two_streams.Goals as goal
 
 each : (a b : Stream) → IsLawfulStream a → IsLawfulStream b → (k : ℕ) (d : Stream) → k < 2 → IsLawfulStream (get_or (a ∷ (b ∷ [])) k d)

@@ -1,0 +1,66 @@
+-- The limits of terms, of files and of what is worked out of them. They are this project's own.
+use Rattle.std.specs.Prelude.{ℕ, ◌+◌, ◌*◌, ◌^◌}
+
+-- the most streams of a swap
+abbrev pub most_streams : ℕ
+most_streams = 8
+
+-- the most calculation periods of a stream
+abbrev pub most_periods : ℕ
+most_periods = 8_000
+
+-- the most steps of a schedule of values
+abbrev pub most_steps : ℕ
+most_steps = 4_000
+
+-- the most principal exchanges of a stream: one for each step, the initial and the final one
+abbrev pub most_exchanges : ℕ
+most_exchanges = most_steps + 2
+
+-- the most centres of an element
+abbrev pub most_centers : ℕ
+most_centers = 16
+
+-- the greatest multiplier of a frequency
+abbrev pub most_multiplier : ℕ
+most_multiplier = 999
+
+-- the most days of an offset
+abbrev pub most_offset : ℕ
+most_offset = 60
+
+-- 10^13, in units of 10^-4
+abbrev pub most_notional : ℕ
+most_notional = 10 ^ 17
+
+-- 10, in units of 10^-9: the greatest rate, spread and multiplier in size
+abbrev pub most_rate : ℕ
+most_rate = 10 ^ 10
+
+-- no numerator of a day count fraction is greater: 366 times the number of days is 53,337,912
+abbrev pub most_numerator : ℕ
+most_numerator = 6 * 10 ^ 7
+
+-- the most bytes of the index of a rate
+abbrev pub most_index : ℕ
+most_index = 128
+
+-- the most bytes of the name of a centre
+abbrev pub most_name : ℕ
+most_name = 32
+
+-- the most holidays of a centre
+abbrev pub most_holidays : ℕ
+most_holidays = 20_000
+
+-- the most calendar files
+abbrev pub most_files : ℕ
+most_files = 16
+
+-- the most bytes of a file
+abbrev pub most_bytes : ℕ
+most_bytes = 4_194_304
+
+-- the most rows of each kind in the cash flows of a stream
+abbrev pub most_rows : ℕ
+most_rows = 10_000
