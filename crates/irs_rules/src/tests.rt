@@ -573,7 +573,7 @@ fn calendars(alloc: Global) -> Result<Calendars, Fail> {
 #[derive(Clone, Copy)]
 struct Row(&'static [Change], u8, Elem, u32);
 
-const BROKEN: [Row; 95] = [
+const BROKEN: [Row; 97] = [
     // K10 each reference
     Row(
         &[Adjusted(Of::Effective, ConvCode::Unadjusted, Given::Dangling)],
