@@ -15,6 +15,7 @@ use Rattle.irs_compound.specs.InForceLaws.{in_force_is, in_force_within}
 use Rattle.irs_compound.specs.PeriodRates.{rate_at, exact_base, rates_of, fixed_rates_of}
 use Rattle.irs_compound.specs.Tens.{ten_above, ten_positive}
 use Rattle.irs_schedule.specs.Periods.{rate_by}
+use Rattle.irs_schedule.specs.Parts.{most_all_in}
 
 -- a value in force is one of those that there are
 pub value_within : (Within : ℤ → Type 0) (values : StepValues) (d : ℤ) → IsLawfulValues Within values → Within (value_in_force values d)
@@ -63,7 +64,7 @@ unfolding fixed_rates_of
 fixed_size values start h = value_within IsRate values start h
 
 -- the rate of a period
-pub rate_size : (leg : Leg) (start : ℤ) (observed : Option ℤ) → IsLawfulLeg leg → IfSome observed IsRate → IfSome (rate_by leg start observed) (λ r. unsigned_abs r ≤ 110_000_000_000)
+pub rate_size : (leg : Leg) (start : ℤ) (observed : Option ℤ) → IsLawfulLeg leg → IfSome observed IsRate → IfSome (rate_by leg start observed) (λ r. unsigned_abs r ≤ most_all_in)
 rate_size (Fixed values) start observed h k = let small = fixed_size values start h in omega (arith, small)
 rate_size (Floating f) start None h k = tt
 rate_size (Floating f) start (Some o) h k = let small = floating_size f start o h k in omega (arith, small)
