@@ -4,8 +4,9 @@ use Rattle.irs_base.specs.declared.places.Broken.{Broken}
 use Rattle.irs_elements.specs.Elements.{FaultAt}
 use Rattle.irs_elements.specs.Order.{IsFirst}
 use Rattle.irs_elements.specs.declared.table.Kind.{Kind}
+use Rattle.irs_elements.specs.Lines.{Line}
 use Rattle.irs_elements.specs.declared.table.Row.{Row}
-use Rattle.irs_read.specs.StreamLines.{stream_names, stream_rows, stream_table, swap_names, swap_rows, swap_table}
+use Rattle.irs_read.specs.StreamLines.{stream_elements, stream_names, stream_rows, stream_table, swap_names, swap_rows, swap_table}
 use Rattle.irs_read.specs.declared.table.TheConstants.{NAMES, ROWS, SWAP_NAMES, SWAP_ROWS}
 use Rattle.serde_json.specs.Data.{Data}
 use Rattle.std.proofs.Common.{◌≡◌, ℕ, List, map, Option, refl, subst}
@@ -20,6 +21,10 @@ swap_code_names = map (λ n. n.now) SWAP_NAMES
 pub rows_are : ROWS ≡ stream_rows
 unfolding stream_rows stream_table printed paths
 rows_are = refl
+
+pub lines_are : map (λ (l : Line). l.path) stream_table.lines ≡ stream_elements
+unfolding stream_table stream_elements printed paths
+lines_are = refl
 
 pub names_are : code_names ≡ stream_names
 unfolding stream_names stream_table
