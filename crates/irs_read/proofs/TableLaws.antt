@@ -38,8 +38,8 @@ pub swap_names_are : swap_code_names ≡ swap_names
 unfolding swap_names swap_table
 swap_names_are = refl
 
--- what holds of the code's tables holds of the specification's
-by_tables : (P : List Row → List (List ℕ) → Type 0) (rows rows' : List Row) (names names' : List (List ℕ)) → rows ≡ rows' → names ≡ names' → P rows names → P rows' names'
+-- what holds of a table holds of one that is equal to it, as of the specification's
+pub by_tables : (P : List Row → List (List ℕ) → Type 0) (rows rows' : List Row) (names names' : List (List ℕ)) → rows ≡ rows' → names ≡ names' → P rows names → P rows' names'
 by_tables P rows rows' names names' r n p = subst (λ (ns : List (List ℕ)). P rows' ns) n (subst (λ (rs : List Row). P rs names) r p)
 
 pub stream_fault : {s r i : ℕ} {k : Kind} {d : Data} {f : Broken} → FaultAt ROWS code_names s r k i d f → FaultAt stream_rows stream_names s r k i d f
