@@ -90,7 +90,7 @@ pub fn the_named<'a>(lists: &[Option<&'a Value>], reference: &Value) -> Option<&
 }
 
 // Where a stream may have a list of centres.
-fn slots(stream: &Value) -> [Option<&Value>; 6]
+fn slots(stream: &Value) -> [Option<&Value>; 7]
     ensures { map seen result ≡ lists_in (view stream.now) }
 {
     let dates = once(stream, "calculationPeriodDates");
@@ -98,6 +98,7 @@ fn slots(stream: &Value) -> [Option<&Value>; 6]
     let effective = member(member(dates, "effectiveDate"), "dateAdjustments");
     let termination = member(member(dates, "terminationDate"), "dateAdjustments");
     let periods = member(dates, "calculationPeriodDatesAdjustments");
+    let first = member(member(dates, "firstPeriodStartDate"), "dateAdjustments");
     let payments = member(once(stream, "paymentDates"), "paymentDatesAdjustments");
     let fixings = member(resets, "fixingDates");
     let adjusted = member(resets, "resetDatesAdjustments");
@@ -105,6 +106,7 @@ fn slots(stream: &Value) -> [Option<&Value>; 6]
         member(effective, "businessCenters"),
         member(termination, "businessCenters"),
         member(periods, "businessCenters"),
+        member(first, "businessCenters"),
         member(payments, "businessCenters"),
         member(fixings, "businessCenters"),
         member(adjusted, "businessCenters"),
