@@ -8,9 +8,10 @@ use Rattle.irs_terms.specs.declared.codes.DayCountCode.{DayCountCode}
 use Rattle.irs_terms.specs.declared.results.Exchange.{Exchange}
 use Rattle.irs_terms.specs.declared.results.Reset.{Reset}
 use Rattle.irs_daycount.specs.Fractions.{denominator_of}
+use Rattle.irs_compound.specs.PeriodRates.{most_rounded_rate}
 use Rattle.irs_schedule.specs.declared.entries.PaymentEntry.{PaymentEntry}
 use Rattle.irs_schedule.specs.declared.entries.PeriodEntry.{PeriodEntry}
-use Rattle.irs_base.specs.Limits.{most_exchanges, most_numerator, most_periods, most_rate, most_streams}
+use Rattle.irs_base.specs.Limits.{most_exchanges, most_numerator, most_periods, most_streams}
 
 -- one stream: period i goes from boundary i - 1 to boundary i, reset i is that of period i
 pub record Part : Type 0 where
@@ -55,16 +56,12 @@ pub record IsAmount (currency : Currency) (v : Dec) : Type 0 where
 abbrev pub HasAmount : Currency → PaymentEntry → Type 0
 HasAmount currency y = IfSome y.amount (IsAmount currency)
 
--- the greatest rate of a period in size: a multiplier of 10 times an observed rate of 10, plus a spread of 10
-abbrev pub most_all_in : ℕ
-most_all_in = 11 * most_rate
-
 -- a period within the limits of amounts
 pub record IsEntry (code : DayCountCode) (e : PeriodEntry) : Type 0 where
   pub notional : IsNotional e.notional
   pub numerator : (pos 0 ≤ℤ e.frac.num) × (e.frac.num ≤ℤ pos most_numerator)
   pub denominator : e.frac.den ≡ denominator_of code
-  pub rate : IfSome e.rate (λ r. unsigned_abs r ≤ most_all_in)
+  pub rate : IfSome e.rate (λ r. unsigned_abs r ≤ most_rounded_rate)
 
 -- what every part keeps
 pub record KeepsBounds (p : Part) : Type 0 where
