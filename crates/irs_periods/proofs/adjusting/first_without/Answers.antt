@@ -1,4 +1,4 @@
-use Rattle.std.proofs.Common.{ℕ, ℤ, pos, arith, subst}
+use Rattle.std.proofs.Common.{ℤ, pos, arith, subst}
 use Rattle.std.proofs.lemmas.List.{get_or_read}
 use Rattle.std.proofs.lemmas.Option.{IfSome_then}
 use Rattle.irs_base.proofs.DateTexts.{IfNone_then}
