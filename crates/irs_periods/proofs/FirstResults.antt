@@ -94,8 +94,8 @@ module _ (s : Stream) (sets : BoundaryDays) (b : List ℤ) where
   pub first_before_start : (i : ℕ) (start : Dated) → s.first_start ≡ Some start → FirstLaterNoResult s sets b i → FirstNoResult s sets b i
   first_before_start i start given h =
       let behind = subst
-          (λ (o : Option Dated). Named (first_day_element_by o) (last_of b) 0 i → ⊥) (sym given)
-          (start_behind (last_of b) i h.later) in
+      (λ (o : Option Dated). Named (first_day_element_by o) (last_of b) 0 i → ⊥) (sym given)
+      (start_behind (last_of b) i h.later) in
       record {
         holds = h.holds;
         none_before = λ j named misses. at_place
@@ -142,7 +142,7 @@ one_first_number s sets b i j p q =
     let start = first_day_element s in
     let last = last_of b in
     let elements : element start last i ≡ element start last j = tied (element start last i) (element start last j)
-        (λ below. q.none_before i (inl below) p.holds) (λ above. p.none_before j (inl above) q.holds) in
+    (λ below. q.none_before i (inl below) p.holds) (λ above. p.none_before j (inl above) q.holds) in
     let indexes : boundary_index last i ≡ boundary_index last j = tied (boundary_index last i) (boundary_index last j)
-        (λ below. q.none_before i (inr (elements, below)) p.holds) (λ above. p.none_before j (inr (sym elements, above)) q.holds) in
+    (λ below. q.none_before i (inr (elements, below)) p.holds) (λ above. p.none_before j (inr (sym elements, above)) q.holds) in
     named_alike s.first_start last i j elements indexes

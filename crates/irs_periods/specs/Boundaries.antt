@@ -1,5 +1,5 @@
 -- The unadjusted boundaries of a stream's calculation periods (2006 ISDA Definitions, 4.13 and 4.10).
-use Rattle.std.specs.Prelude.{◌≡◌, ◌⊎◌, ℕ, ◌+◌, ◌<◌, List, length, ℤ, ◌≤ℤ◌}
+use Rattle.std.specs.Prelude.{◌≡◌, ◌⊎◌, ◌+◌, ◌<◌, List, length, ℤ, ◌≤ℤ◌}
 use Rattle.irs_base.specs.Limits.{most_periods}
 use Rattle.irs_base.specs.Listed.{Lists}
 use Rattle.irs_base.specs.Elements.{calculation_period_frequency}

@@ -179,12 +179,7 @@ fn ends<G: Grid>(s: &Stream, grid: &G) -> (Day, Day)
 }
 
 // The same by the stub type alone.
-fn stub_ends<G: Grid>(
-    stub: Option<StubKind>,
-    begin: Day,
-    termination: Day,
-    grid: &G,
-) -> (Day, Day)
+fn stub_ends<G: Grid>(stub: Option<StubKind>, begin: Day, termination: Day, grid: &G) -> (Day, Day)
     requires days { IsDay begin × IsDay termination }
     requires order { begin <ℤ termination }
     requires anchored { G.at grid.now (pos 0) ≡ stub_anchor stub begin termination }
@@ -193,14 +188,8 @@ fn stub_ends<G: Grid>(
     match stub {
         None => (begin, termination),
         Some(StubKind::ShortInitial) => (short_end(grid, Way::Back, begin), termination),
-        Some(StubKind::LongInitial) => (
-            long_end(grid, Way::Back, termination, begin),
-            termination,
-        ),
+        Some(StubKind::LongInitial) => (long_end(grid, Way::Back, termination, begin), termination),
         Some(StubKind::ShortFinal) => (begin, short_end(grid, Way::Ahead, termination)),
-        Some(StubKind::LongFinal) => (
-            begin,
-            long_end(grid, Way::Ahead, begin, termination),
-        ),
+        Some(StubKind::LongFinal) => (begin, long_end(grid, Way::Ahead, begin, termination)),
     }
 }

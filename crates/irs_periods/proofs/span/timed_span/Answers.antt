@@ -6,6 +6,7 @@ use Rattle.irs_terms.specs.FirstDay.{first_day_of}
 use Rattle.irs_periods.specs.Terms.{termination_of}
 use Rattle.irs_periods.specs.Spans.{Regular}
 use Rattle.irs_periods.specs.SpanRules.{broken_at}
+use Rattle.irs_periods.proofs.TermOrder.{begins_before_end}
 use Rattle.irs_periods.proofs.SpanLemmas.{given_span_same}
 use Rattle.irs_periods.proofs.span.timed_span.Goals as goal
 
@@ -35,3 +36,6 @@ returns-then-not-on_grid-clause-broken c =
       record { timed = timed; span = span; regular = regular; off = off },
       c.broken-then-not-on_grid.ensures ∙ ap (λ (e : ℕ). broken_at K31 e 0) c.last_elem.ensures,
     )
+
+pub ends-first-requires-clause-order : goal.ends-first-requires-clause-order
+ends-first-requires-clause-order c = begins_before_end c.args.s.now c.requires.dates
