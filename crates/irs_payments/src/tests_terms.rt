@@ -8,9 +8,7 @@ ghost use Rattle.irs_terms.specs.Lawful.{IsLawfulCenters, IsLawfulCurrency, IsLa
 ghost use Rattle.irs_payments.specs.Grouping.{RunsFromTo};
 
 use crate::steps::has_day;
-use irs_base::{
-    Civil, Day, DayList, Direction, MOST_RATE, MOST_STEPS, Text, day_of, read_date,
-};
+use irs_base::{Civil, Day, DayList, Direction, MOST_RATE, MOST_STEPS, Text, day_of, read_date};
 use irs_calendar::{Calendars, RunSet};
 use irs_terms::*;
 use std::alloc::Global;
@@ -264,7 +262,10 @@ fn notional(alloc: Global, initial: i128, given: &[DatedValue]) -> Result<StepVa
     ensures { IfOk result (IsLawfulValues IsNotional) }
 {
     let steps = step_list(alloc, given)?;
-    if !is_notional(initial) || MOST_STEPS as usize < steps.len() || !are_notionals(steps.as_slice()) {
+    if !is_notional(initial)
+        || steps.len() > MOST_STEPS as usize
+        || !are_notionals(steps.as_slice())
+    {
         return Err("no notional")?;
     }
     Ok(StepValues { initial, steps })
@@ -286,7 +287,7 @@ fn rates(alloc: Global, given: &[DatedValue]) -> Result<StepValues, Fail>
     ensures { IfOk result (IsLawfulValues IsRate) }
 {
     let steps = step_list(alloc, given)?;
-    if MOST_STEPS as usize < steps.len() || !are_rates(steps.as_slice()) {
+    if steps.len() > MOST_STEPS as usize || !are_rates(steps.as_slice()) {
         return Err("no rates")?;
     }
     Ok(StepValues { initial: 0, steps })
@@ -467,9 +468,7 @@ pub fn stream(
     let currency = currency(t.letters)?;
     let pay = pay_terms(t)?;
     let money = money_terms(alloc, t, steps, rate)?;
-    Ok(assembled(
-        t, effective, term, freq, roll, pay, currency, money,
-    ))
+    Ok(assembled(t, effective, term, freq, roll, pay, currency, money))
 }
 
 fn is_before_all(d: Day, days: &[Day]) -> bool
