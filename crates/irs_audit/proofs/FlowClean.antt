@@ -1,6 +1,6 @@
 -- In a document without faults no stream has too many calculation periods.
 use Rattle.irs_audit.proofs.FlowRules.{of_flows, told}
-use Rattle.irs_audit.specs.FlowFaults.{FlowFault, OnceFault, StreamFault, StreamsFault, SwapFault, at, below, in_stream, many_periods, many_streams, most_rows, payments_in, periods_of}
+use Rattle.irs_audit.specs.FlowFaults.{FlowFault, OnceFault, StreamFault, StreamsFault, SwapFault, at, below, in_stream, many_periods, many_streams, payments_in, periods_of}
 use Rattle.irs_audit.specs.FlowMeaning.{AllHaveFewPeriods, HasFewPeriods}
 use Rattle.irs_audit.specs.FlowReading.{IsFirstFault, kind_of}
 use Rattle.irs_audit.specs.declared.error.FlowErr.TheVariants.{Shape}
@@ -14,7 +14,7 @@ use Rattle.irs_json.specs.Names.{names_of}
 use Rattle.irs_json.specs.Values.{items_of}
 use Rattle.irs_read.proofs.Clean.{le_or_lt}
 use Rattle.irs_read.specs.Documents.{the_swap}
-use Rattle.irs_base.specs.Limits.{most_streams}
+use Rattle.irs_base.specs.Limits.{most_rows, most_streams}
 use Rattle.serde_json.specs.Data.{Data, null, boolean, number, string, array, object}
 use Rattle.serde_json.specs.View.{view}
 use Rattle.serde_json.specs.declared.value.Value.{Value}

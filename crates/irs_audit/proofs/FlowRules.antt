@@ -1,7 +1,8 @@
 -- Every fault of cash flows is a rule of the tables of elements.
-use Rattle.irs_audit.specs.FlowFaults.{CashflowsFault, FlowFault, OnceFault, OwnFault, PeriodFault, PeriodsFault, StreamFault, StreamsFault, SwapFault, at, below, ended, flow_names, in_period, in_stream, many_periods, many_streams, no_stream, payments_in, period_names, periods_of}
+use Rattle.irs_audit.specs.FlowFaults.{CashflowsFault, FlowFault, OnceFault, OwnFault, PeriodFault, PeriodsFault, StreamFault, StreamsFault, SwapFault, at, below, ended, in_period, in_stream, many_periods, many_streams, no_stream, payments_in, periods_of}
+use Rattle.irs_audit.specs.FlowLines.{flow_names, flow_rows, period_names, period_rows}
 use Rattle.irs_audit.specs.FlowReading.{kind_of}
-use Rattle.irs_audit.specs.declared.flow_table.TheConstants.{FLOW_ROWS, FLOWS, PERIOD, PERIOD_ROWS}
+use Rattle.irs_audit.specs.declared.flow_table.TheConstants.{FLOWS, PERIOD}
 use Rattle.irs_audit.specs.declared.error.ShapeKind.TheVariants.{NotJson}
 use Rattle.irs_base.specs.Elements.{cashflows, document, flow_period, swap, swap_stream}
 use Rattle.irs_base.specs.declared.places.Broken.{Broken}
@@ -95,7 +96,7 @@ of_own_fault : (stream elem : ℕ) (d : Data) (f : Broken) → OwnFault stream e
 of_own_fault stream elem d f (t, is) = of_one (at stream K3 elem) f three is
 
 of_period : (stream number : ℕ) (d : Data) (f : Broken) → PeriodFault stream number d f → IsOfTables f.rule
-of_period stream number d f (inl q) = of_table PERIOD_ROWS period_names stream 0 number PERIOD d f q
+of_period stream number d f (inl q) = of_table period_rows period_names stream 0 number PERIOD d f q
 of_period stream number d f (inr (t, is)) = of_one (at stream K7 flow_period) f seven is
 
 of_periods : (stream : ℕ) (ds : List Data) (f : Broken) → PeriodsFault stream ds f → IsOfTables f.rule
@@ -103,7 +104,7 @@ of_periods stream ds f (many_periods h) = seven
 of_periods stream ds f (in_period _ h (j, (x, (e, q)))) = of_period stream (0 + j + 1) x f q
 
 of_cashflows : (stream : ℕ) (d : Data) (f : Broken) → CashflowsFault stream d f → IsOfTables f.rule
-of_cashflows stream d f (inl q) = of_table FLOW_ROWS flow_names stream 0 0 FLOWS d f q
+of_cashflows stream d f (inl q) = of_table flow_rows flow_names stream 0 0 FLOWS d f q
 of_cashflows stream d f (inr q) = of_periods stream (periods_of (payments_in (Some d))) f q
 
 of_once : (stream : ℕ) (ds : List Data) (f : Broken) → OnceFault stream ds f → IsOfTables f.rule

@@ -1,5 +1,5 @@
 -- The first fault at each step of the reading of cash flows.
-use Rattle.irs_audit.specs.FlowFaults.{FlowFault, OnceFault, Only, OwnFault, PeriodFault, PeriodsFault, PeriodsFrom, StreamFault, StreamsFault, SwapFault, at, below, ended, few, in_period, in_stream, is_sound, many_periods, many_streams, most_rows, no_stream, periods_in, periods_of}
+use Rattle.irs_audit.specs.FlowFaults.{FlowFault, OnceFault, Only, OwnFault, PeriodFault, PeriodsFault, PeriodsFrom, StreamFault, StreamsFault, SwapFault, at, below, ended, few, in_period, in_stream, is_sound, many_periods, many_streams, no_stream, periods_in, periods_of}
 use Rattle.irs_base.specs.Elements.{cashflows, flow_period, swap_stream}
 use Rattle.irs_base.specs.declared.places.Broken.{Broken}
 use Rattle.irs_base.specs.declared.places.Rule.TheVariants.{K2, K3, K7}
@@ -10,7 +10,7 @@ use Rattle.irs_elements.specs.Order.{IsFirst, earlier}
 use Rattle.irs_json.specs.Names.{names_of}
 use Rattle.irs_read.specs.Documents.{the_swap}
 use Rattle.irs_read.specs.Swaps.{Among}
-use Rattle.irs_base.specs.Limits.{most_streams}
+use Rattle.irs_base.specs.Limits.{most_rows, most_streams}
 use Rattle.serde_json.specs.Data.{Data}
 use Rattle.serde_json.specs.View.{view}
 use Rattle.serde_json.specs.declared.value.Value.{Value}

@@ -1,3 +1,4 @@
+pub mod FlowLaws
 pub mod FlowSteps
 pub mod FlowRules
 pub mod FlowClean

@@ -1,23 +1,21 @@
 -- The faults of a document of cash flows.
-use Rattle.irs_audit.specs.declared.flow_table.TheConstants.{FLOW_NAMES, FLOW_ROWS, FLOWS, PERIOD, PERIOD_NAMES, PERIOD_ROWS}
+use Rattle.irs_audit.specs.FlowLines.{flow_names, flow_rows, period_names, period_rows}
 use Rattle.irs_base.specs.Elements.{cashflows, flow_period, swap, swap_stream}
 use Rattle.irs_base.specs.declared.places.Broken.{Broken}
 use Rattle.irs_base.specs.declared.places.Rule.{Rule}
 use Rattle.irs_base.specs.declared.places.Rule.TheVariants.{K2, K3, K7}
 use Rattle.irs_elements.specs.Elements.{FaultAt, has_odd}
 use Rattle.irs_elements.specs.Find.{values_in}
+use Rattle.irs_elements.specs.declared.table.Choice.TheVariants.{Free}
+use Rattle.irs_elements.specs.declared.table.Kind.TheVariants.{Object}
 use Rattle.irs_json.specs.Carrier.{child_of}
 use Rattle.irs_json.specs.Names.{names_of}
 use Rattle.irs_read.specs.Documents.{the_swap}
 use Rattle.irs_read.specs.Swaps.{Among}
-use Rattle.irs_base.specs.Limits.{most_streams}
+use Rattle.irs_base.specs.Limits.{most_rows, most_streams}
 use Rattle.serde_json.specs.Data.{Data}
 use Rattle.std.specs.List.{flat_map}
-use Rattle.std.specs.Prelude.{◌≡◌, ◌⊎◌, ℕ, ◌+◌, ◌<◌, ◌≤◌, nat_le, Bool, true, not, ◌&&◌, List, [], ◌∷◌, length, map, Option, Some, None, is_some, option_and_then, codes, Ok, Err, if◌then◌else◌}
-
--- the most exchanges, payments and calculation periods of a stream
-abbrev pub most_rows : ℕ
-most_rows = 10000
+use Rattle.std.specs.Prelude.{◌≡◌, ◌⊎◌, ℕ, ◌+◌, ◌<◌, ◌≤◌, nat_le, Bool, true, not, ◌&&◌, List, [], ◌∷◌, length, Option, Some, None, is_some, option_and_then, codes, Ok, Err, if◌then◌else◌}
 
 -- a rule that is broken in a stream, or outside the streams, at an element without index
 abbrev pub at : ℕ → Rule → ℕ → Broken
@@ -26,13 +24,6 @@ at stream rule elem = record { rule = rule; place = record { stream = stream; el
 -- the fault x, where the test is true
 abbrev pub Only : Bool → Broken → Broken → Type 0
 Only b x f = (b ≡ true) × (f ≡ x)
-
--- the names of the rows of `cashflows`, and of a calculation period
-abbrev pub flow_names : List (List ℕ)
-flow_names = map (λ n. n.now) FLOW_NAMES
-
-abbrev pub period_names : List (List ℕ)
-period_names = map (λ n. n.now) PERIOD_NAMES
 
 -- ---- an object of which most members are passed over
 
@@ -62,7 +53,7 @@ has_both_rates d = is_some (child_of (codes "fixedRate") d) && has_calculated_ra
 
 -- the faults of the calculation period with this number: those of its table, and that both rates stand
 abbrev pub PeriodFault : ℕ → ℕ → Data → Broken → Type 0
-PeriodFault stream number d f = FaultAt PERIOD_ROWS period_names stream 0 PERIOD number d f ⊎ Only (has_both_rates d) (at stream K7 flow_period) f
+PeriodFault stream number d f = FaultAt period_rows period_names stream 0 (Object Free) number d f ⊎ Only (has_both_rates d) (at stream K7 flow_period) f
 
 -- the calculation periods of a payment
 abbrev pub periods_in : Data → List Data
@@ -94,7 +85,7 @@ payments_in o = few (values_in (codes "paymentCalculationPeriod") o)
 
 -- the faults of cash flows: those of their table, and those of the periods of their payments
 abbrev pub CashflowsFault : ℕ → Data → Broken → Type 0
-CashflowsFault stream d f = FaultAt FLOW_ROWS flow_names stream 0 FLOWS 0 d f ⊎ PeriodsFault stream (periods_of (payments_in (Some d))) f
+CashflowsFault stream d f = FaultAt flow_rows flow_names stream 0 (Object Free) 0 d f ⊎ PeriodsFault stream (periods_of (payments_in (Some d))) f
 
 -- the faults of the values of `cashflows`, which stands once
 abbrev pub OnceFault : ℕ → List Data → Broken → Type 0

@@ -1,12 +1,13 @@
 -- The cash flows that a document states: each field is the value of the leaf at its element, where the
 -- leaf stands.
-use Rattle.irs_audit.specs.FlowFaults.{most_rows, payments_in, periods_in, periods_of}
+use Rattle.irs_audit.specs.FlowFaults.{payments_in, periods_in, periods_of}
 use Rattle.irs_audit.specs.FlowParts.{FlowPart}
 use Rattle.irs_audit.specs.declared.flows.FlowExchange.{FlowExchange}
 use Rattle.irs_audit.specs.declared.flows.FlowPayment.{FlowPayment}
 use Rattle.irs_audit.specs.declared.flows.FlowPeriod.{FlowPeriod}
 use Rattle.irs_audit.specs.declared.flows.FlowReset.{FlowReset}
 use Rattle.irs_audit.specs.declared.flows.StatedFraction.{StatedFraction}
+use Rattle.irs_base.specs.Limits.{most_rows}
 use Rattle.irs_base.specs.declared.line.Dec.{Dec}
 use Rattle.irs_elements.specs.Codes.{either}
 use Rattle.irs_elements.specs.Dates.{day_at}

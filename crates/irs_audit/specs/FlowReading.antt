@@ -9,7 +9,7 @@ use Rattle.irs_audit.specs.declared.error.ShapeKind.TheVariants.{Count, Kind, Mi
 use Rattle.irs_base.specs.declared.places.Broken.{Broken}
 use Rattle.irs_base.specs.declared.places.Place.{Place}
 use Rattle.irs_base.specs.declared.places.Rule.{Rule}
-use Rattle.irs_base.specs.declared.places.Rule.TheVariants.{K1, K10, K11, K12, K13, K14, K15, K16, K17, K18, K19, K2, K20, K21, K3, K30, K31, K32, K33, K34, K35, K36, K37, K38, K39, K4, K5, K6, K7}
+use Rattle.irs_base.specs.declared.places.Rule.TheVariants.{K1, K2, K3, K4, K5, K6, K7}
 use Rattle.irs_elements.specs.Order.{IsFirst}
 use Rattle.irs_read.specs.Documents.{the_swap}
 use Rattle.serde_json.specs.Data.{Data}
@@ -22,7 +22,7 @@ pub record FlowsOf (d : Data) (flows : List FlowPart) : Type 0 where
   pub found : the_swap d ≡ Ok swap
   pub says : flows ≡ streams_in swap
 
--- the kind of a fault by the rule that is broken; no table of elements has a rule of the terms
+-- the kind of a fault by the rule that is broken; no table of elements has a rule but K2 to K7
 abbrev pub kind_of : Rule → ShapeKind
 kind_of K1 = NotJson
 kind_of K2 = Missing
@@ -31,28 +31,7 @@ kind_of K4 = Unknown
 kind_of K5 = Profile
 kind_of K6 = Value
 kind_of K7 = Count
-kind_of K10 = NotJson
-kind_of K11 = NotJson
-kind_of K12 = NotJson
-kind_of K13 = NotJson
-kind_of K14 = NotJson
-kind_of K15 = NotJson
-kind_of K16 = NotJson
-kind_of K17 = NotJson
-kind_of K18 = NotJson
-kind_of K19 = NotJson
-kind_of K20 = NotJson
-kind_of K21 = NotJson
-kind_of K30 = NotJson
-kind_of K31 = NotJson
-kind_of K32 = NotJson
-kind_of K33 = NotJson
-kind_of K34 = NotJson
-kind_of K35 = NotJson
-kind_of K36 = NotJson
-kind_of K37 = NotJson
-kind_of K38 = NotJson
-kind_of K39 = NotJson
+kind_of k = NotJson
 
 -- a refusal tells kind and place of the first fault, and never that there is no JSON
 pub record IsFirstShape (d : Data) (kind : ShapeKind) (place : Place) : Type 0 where

@@ -1,5 +1,5 @@
 pub mod FlowParts
-pub mod FlowTables
+pub mod FlowLines
 pub mod FlowFaults
 pub mod FlowMeaning
 pub mod FlowReading

@@ -2,27 +2,22 @@
 //! `cashflows`, and of the calculation periods, which are counted through all payments of a stream.
 //!
 //! The carrier, the table and the order of faults are this project's own.
-ghost use Rattle.irs_audit.specs.FlowFaults.{CashflowsFault, FlowFault, OnceFault, OwnFault, PeriodFault, PeriodsFault, PeriodsFrom, StreamFault, StreamsFault, SwapFault, at as at_of, has_both_rates as has_both_rates_of, has_calculated_rate as has_calculated_rate_of, is_sound as is_sound_of, most_rows, payments_in, periods_of, sole as sole_of};
+ghost use Rattle.irs_audit.specs.FlowFaults.{CashflowsFault, FlowFault, OnceFault, OwnFault, PeriodFault, PeriodsFault, PeriodsFrom, StreamFault, StreamsFault, SwapFault, at as at_of, has_both_rates as has_both_rates_of, has_calculated_rate as has_calculated_rate_of, is_sound as is_sound_of, payments_in, periods_of, sole as sole_of};
 ghost use Rattle.irs_base.specs.Elements.{flow_period};
 ghost use Rattle.irs_elements.specs.Elements.{fault_if, is_odd as is_odd_of};
 ghost use Rattle.irs_elements.specs.Find.{seen};
 ghost use Rattle.irs_elements.specs.Order.{IsFirst};
 ghost use Rattle.irs_json.specs.Carrier.{child_of};
 ghost use Rattle.irs_read.specs.Swaps.{Among};
-ghost use Rattle.irs_base.specs.Limits.{most_streams};
+ghost use Rattle.irs_base.specs.Limits.{most_rows, most_streams};
 ghost use Rattle.serde_json.specs.View.{view};
 ghost use Rattle.std.specs.Prelude.{◌≡◌, ◌+◌, ◌<◌, ◌^◌, ◌≤◌, length, map, nat_le, not};
 
-use crate::flow_table::{
-    FLOW_NAMES, FLOW_ROWS, FLOWS, MOST_ROWS, PERIOD, PERIOD_NAMES, PERIOD_ROWS,
-};
-use irs_base::{Broken, Elem, Place, Rule};
+use crate::flow_table::{FLOW_NAMES, FLOW_ROWS, FLOWS, PERIOD, PERIOD_NAMES, PERIOD_ROWS};
+use irs_base::{Broken, Elem, MOST_ROWS, MOST_STREAMS, Place, Rule};
 use irs_elements::{earlier, first_fault, values, values_at};
 use irs_json::{Value, child, members};
 use irs_read::the_swap;
-
-/// The most streams of a swap.
-const MOST_STREAMS: usize = 8;
 
 // A rule that is broken at an element without index.
 fn at(stream: u8, rule: Rule, elem: Elem) -> Broken

@@ -15,8 +15,7 @@ use irs_json::Value;
 use irs_read::the_swap;
 use std::alloc::Global;
 
-// The kind of a fault, by the rule of the tables of elements; the rules from K10 on are rules of the
-// terms of a trade, which no table has.
+// The kind of a fault, by the rule of the tables of elements; no table has another rule.
 fn kind_of(rule: Rule) -> ShapeKind
     ensures { result ≡ kind_by rule }
 {
@@ -28,12 +27,7 @@ fn kind_of(rule: Rule) -> ShapeKind
         Rule::K5 => ShapeKind::Profile,
         Rule::K6 => ShapeKind::Value,
         Rule::K7 => ShapeKind::Count,
-        Rule::K10 | Rule::K11 | Rule::K12 | Rule::K13 | Rule::K14 | Rule::K15 | Rule::K16 => {
-            ShapeKind::NotJson
-        },
-        Rule::K17 | Rule::K18 | Rule::K19 | Rule::K20 | Rule::K21 => ShapeKind::NotJson,
-        Rule::K30 | Rule::K31 | Rule::K32 | Rule::K33 | Rule::K34 => ShapeKind::NotJson,
-        Rule::K35 | Rule::K36 | Rule::K37 | Rule::K38 | Rule::K39 => ShapeKind::NotJson,
+        _ => ShapeKind::NotJson,
     }
 }
 

@@ -4,15 +4,13 @@
 //! calculation periods are passed over, since they are counted through all payments of the stream and
 //! each is looked into with that number. The order of the rows, the counts, and which elements are in
 //! the profile, are this project's own.
-ghost use Rattle.irs_audit.specs.FlowTables.{follows};
-ghost use Rattle.irs_base.specs.declared.elements.TheConstants.{NAMES as ELEMENT_NAMES, PARENTS};
+ghost use Rattle.irs_audit.specs.FlowLines.{flow_elements, flow_names, flow_rows, flow_table, period_elements, period_names, period_rows, period_table};
+ghost use Rattle.irs_elements.specs.Lines.{Line};
 ghost use Rattle.irs_read.specs.Tables.{is_whole};
-ghost use Rattle.std.specs.Prelude.{◌≡◌, drop, map, take, true};
+ghost use Rattle.std.specs.Prelude.{◌≡◌, drop, map, true};
 
+use irs_base::MOST_ROWS;
 use irs_elements::{Choice, Count, Kind, Leaf, Row};
-
-/// The most exchanges, payments and calculation periods of a stream's cash flows.
-pub const MOST_ROWS: u32 = 10_000;
 
 const OBJECT: Kind = Kind::Object(Choice::Free);
 
@@ -21,24 +19,24 @@ pub const FLOWS: Kind = Kind::Object(Choice::Free);
 
 /// The rows of `cashflows`: parent, place among the elements, kind, count.
 pub const FLOW_ROWS: [Row; 18] = [
-    Row(0, 123, FLOWS, Count::One),
-    Row(0, 124, OBJECT, Count::UpTo(MOST_ROWS)),
-    Row(1, 125, Kind::Leaf(Leaf::Date), Count::Maybe),
-    Row(1, 126, Kind::Leaf(Leaf::Date), Count::Maybe),
-    Row(1, 127, Kind::Leaf(Leaf::Amount), Count::Maybe),
-    Row(0, 128, OBJECT, Count::UpTo(MOST_ROWS)),
-    Row(5, 129, Kind::Leaf(Leaf::Date), Count::Maybe),
-    Row(5, 130, Kind::Leaf(Leaf::Date), Count::Maybe),
-    Row(5, 131, OBJECT, Count::Maybe),
-    Row(8, 132, Kind::Leaf(Leaf::CurrencyName), Count::Maybe),
-    Row(8, 133, Kind::Leaf(Leaf::Amount), Count::Maybe),
-    Row(0, 123, Kind::Passed, Count::Maybe),
-    Row(1, 124, Kind::Passed, Count::Maybe),
-    Row(1, 124, Kind::Passed, Count::Maybe),
-    Row(5, 128, Kind::Passed, Count::Maybe),
-    Row(5, 128, Kind::Passed, Count::Maybe),
-    Row(5, 128, Kind::Passed, Count::Maybe),
-    Row(5, 128, Kind::Refused, Count::Maybe),
+    Row(0, 131, FLOWS, Count::One),
+    Row(0, 132, OBJECT, Count::UpTo(MOST_ROWS)),
+    Row(1, 133, Kind::Leaf(Leaf::Date), Count::Maybe),
+    Row(1, 134, Kind::Leaf(Leaf::Date), Count::Maybe),
+    Row(1, 135, Kind::Leaf(Leaf::Amount), Count::Maybe),
+    Row(0, 136, OBJECT, Count::UpTo(MOST_ROWS)),
+    Row(5, 137, Kind::Leaf(Leaf::Date), Count::Maybe),
+    Row(5, 138, Kind::Leaf(Leaf::Date), Count::Maybe),
+    Row(5, 139, OBJECT, Count::Maybe),
+    Row(8, 140, Kind::Leaf(Leaf::CurrencyName), Count::Maybe),
+    Row(8, 141, Kind::Leaf(Leaf::Amount), Count::Maybe),
+    Row(0, 131, Kind::Passed, Count::Maybe),
+    Row(1, 131, Kind::Passed, Count::Maybe),
+    Row(1, 131, Kind::Passed, Count::Maybe),
+    Row(5, 131, Kind::Passed, Count::Maybe),
+    Row(5, 131, Kind::Passed, Count::Maybe),
+    Row(5, 131, Kind::Passed, Count::Maybe),
+    Row(5, 131, Kind::Refused, Count::Maybe),
 ];
 
 /// The name at each row of `cashflows`.
@@ -68,31 +66,31 @@ pub const PERIOD: Kind = Kind::Object(Choice::Free);
 
 /// The rows of a calculation period.
 pub const PERIOD_ROWS: [Row; 25] = [
-    Row(0, 134, PERIOD, Count::One),
-    Row(0, 135, Kind::Leaf(Leaf::Date), Count::Maybe),
-    Row(0, 136, Kind::Leaf(Leaf::Date), Count::Maybe),
-    Row(0, 137, Kind::Leaf(Leaf::Date), Count::Maybe),
-    Row(0, 138, Kind::Leaf(Leaf::Date), Count::Maybe),
-    Row(0, 139, Kind::Leaf(Leaf::Whole), Count::Maybe),
-    Row(0, 140, Kind::Leaf(Leaf::Amount), Count::Maybe),
-    Row(0, 141, Kind::Leaf(Leaf::Amount), Count::Maybe),
-    Row(0, 142, Kind::Leaf(Leaf::Fraction), Count::Maybe),
-    Row(0, 143, OBJECT, Count::Maybe),
-    Row(9, 144, Kind::Leaf(Leaf::Amount), Count::Maybe),
-    Row(9, 145, OBJECT, Count::Maybe),
-    Row(11, 146, Kind::Leaf(Leaf::Date), Count::Maybe),
-    Row(11, 147, Kind::Leaf(Leaf::Date), Count::Maybe),
-    Row(11, 148, Kind::Leaf(Leaf::Amount), Count::Maybe),
-    Row(0, 134, Kind::Passed, Count::Maybe),
-    Row(0, 134, Kind::Passed, Count::Maybe),
-    Row(0, 134, Kind::Refused, Count::Maybe),
-    Row(9, 143, Kind::Passed, Count::Maybe),
-    Row(9, 143, Kind::Passed, Count::Maybe),
-    Row(9, 143, Kind::Refused, Count::Maybe),
-    Row(9, 143, Kind::Refused, Count::Maybe),
-    Row(11, 145, Kind::Passed, Count::Maybe),
-    Row(11, 145, Kind::Passed, Count::Maybe),
-    Row(11, 145, Kind::Passed, Count::Maybe),
+    Row(0, 142, PERIOD, Count::One),
+    Row(0, 143, Kind::Leaf(Leaf::Date), Count::Maybe),
+    Row(0, 144, Kind::Leaf(Leaf::Date), Count::Maybe),
+    Row(0, 145, Kind::Leaf(Leaf::Date), Count::Maybe),
+    Row(0, 146, Kind::Leaf(Leaf::Date), Count::Maybe),
+    Row(0, 147, Kind::Leaf(Leaf::Whole), Count::Maybe),
+    Row(0, 148, Kind::Leaf(Leaf::Amount), Count::Maybe),
+    Row(0, 149, Kind::Leaf(Leaf::Amount), Count::Maybe),
+    Row(0, 150, Kind::Leaf(Leaf::Fraction), Count::Maybe),
+    Row(0, 151, OBJECT, Count::Maybe),
+    Row(9, 152, Kind::Leaf(Leaf::Amount), Count::Maybe),
+    Row(9, 153, OBJECT, Count::Maybe),
+    Row(11, 154, Kind::Leaf(Leaf::Date), Count::Maybe),
+    Row(11, 155, Kind::Leaf(Leaf::Date), Count::Maybe),
+    Row(11, 156, Kind::Leaf(Leaf::Amount), Count::Maybe),
+    Row(0, 142, Kind::Passed, Count::Maybe),
+    Row(0, 142, Kind::Passed, Count::Maybe),
+    Row(9, 142, Kind::Passed, Count::Maybe),
+    Row(9, 142, Kind::Passed, Count::Maybe),
+    Row(11, 142, Kind::Passed, Count::Maybe),
+    Row(11, 142, Kind::Passed, Count::Maybe),
+    Row(11, 142, Kind::Passed, Count::Maybe),
+    Row(0, 142, Kind::Refused, Count::Maybe),
+    Row(9, 142, Kind::Refused, Count::Maybe),
+    Row(9, 142, Kind::Refused, Count::Maybe),
 ];
 
 /// The name at each row of a calculation period.
@@ -114,26 +112,30 @@ pub const PERIOD_NAMES: [&str; 25] = [
     "observedRate",
     "forecastAmount",
     "forecastRate",
-    "fxLinkedNotionalAmount",
     "floatingRateMultiplier",
     "spread",
-    "capRate",
-    "floorRate",
     "treatedRate",
     "observationWeight",
     "forecastRate",
+    "fxLinkedNotionalAmount",
+    "capRate",
+    "floorRate",
 ];
 
-/// The first rows of `cashflows` are the elements of the table of paths from `cashflows` up to the
-/// calculation periods, in its order.
-pub fn flow_rows_follow()
-    ensures { follows 123 FLOW_ROWS (take 11 FLOW_ROWS) (take 11 (map (λ n. n.now) FLOW_NAMES)) (take 11 (drop 123 PARENTS)) (take 11 (drop 123 (map (λ n. n.now) ELEMENT_NAMES))) ≡ true }
+/// The rows of the tables and their names are those that the lines of the specification give.
+#[tactic(auto, using(crate::proofs::FlowLaws::flow_rows_are, crate::proofs::FlowLaws::flow_names_are, crate::proofs::FlowLaws::period_rows_are, crate::proofs::FlowLaws::period_names_are))]
+pub fn flow_tables_listed()
+    ensures rows { FLOW_ROWS ≡ flow_rows }
+    ensures names { map (λ n. n.now) FLOW_NAMES ≡ flow_names }
+    ensures period_rows { PERIOD_ROWS ≡ period_rows }
+    ensures period_names { map (λ n. n.now) PERIOD_NAMES ≡ period_names }
 {}
 
-/// The first rows of a calculation period are the elements from `calculationPeriod` to the end of the
-/// table of paths.
-pub fn period_rows_follow()
-    ensures { follows 134 PERIOD_ROWS (take 15 PERIOD_ROWS) (take 15 (map (λ n. n.now) PERIOD_NAMES)) (drop 134 PARENTS) (drop 134 (map (λ n. n.now) ELEMENT_NAMES)) ≡ true }
+/// The lines are the elements of the table of paths from behind `cashflows` to its end, in its order.
+#[tactic(auto, using(crate::proofs::FlowLaws::flow_lines_are, crate::proofs::FlowLaws::period_lines_are))]
+pub fn flow_lines_follow()
+    ensures flows { map (λ (l : Line). l.path) flow_table.lines ≡ flow_elements }
+    ensures periods { map (λ (l : Line). l.path) period_table.lines ≡ period_elements }
 {}
 
 /// The rows of `cashflows` are whole: each stands behind its parent, a choice is among the members of

@@ -25,8 +25,8 @@ pub use error::{FlowErr, ShapeKind};
 pub use flow_faults::first_in_flows;
 pub use flow_reader::read_flows;
 pub use flow_table::{
-    FLOW_NAMES, FLOW_ROWS, PERIOD_NAMES, PERIOD_ROWS, flow_rows_follow, flow_rows_whole,
-    period_rows_follow, period_rows_whole,
+    FLOW_NAMES, FLOW_ROWS, PERIOD_NAMES, PERIOD_ROWS, flow_lines_follow, flow_rows_whole,
+    flow_tables_listed, period_rows_whole,
 };
 pub use flows::{
     FlowExchange, FlowPayment, FlowPeriod, FlowReset, FlowStream, Flows, StatedFraction,

@@ -4,8 +4,8 @@
 //! notionals in units of 10^-4, rates in units of 10^-9.
 use crate::lines::Lines;
 use crate::values::{
-    adjustments_text, dated_text, frequency_text, given, given_day, given_frequency, given_stub,
-    offset_text, steps_text,
+    adjustments_text, dated_text, frequency_text, given, given_dated, given_day, given_frequency,
+    given_stub, offset_text, steps_text,
 };
 use anyhow::Result;
 use irs_terms::{
@@ -23,6 +23,10 @@ impl Lines {
         self.push(
             "calculationPeriodDatesAdjustments",
             &adjustments_text(alloc, &stream.period_adj)?,
+        )?;
+        self.push(
+            "firstPeriodStartDate",
+            &given_dated(alloc, &stream.first_start)?,
         )?;
         self.push(
             "firstRegularPeriodStartDate",
@@ -95,7 +99,11 @@ impl Lines {
         )?;
         self.push("spreadSchedule", &steps_text(alloc, &float.spread)?)?;
         self.push("initialRate", &given(alloc, &float.initial_rate)?)?;
-        self.push("finalRateRounding", &rounding)
+        self.push("finalRateRounding", &rounding)?;
+        self.push(
+            "negativeInterestRateTreatment",
+            &format!(in alloc; "{:?}", float.treatment)?,
+        )
     }
 
     fn push_amounts(&mut self, stream: &Stream) -> Result<()> {

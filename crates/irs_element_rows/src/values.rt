@@ -85,6 +85,14 @@ pub fn dated_text(alloc: Global, dated: &Dated) -> Result<String> {
     Ok(text)
 }
 
+/// A date with its adjustments that may be absent.
+pub fn given_dated(alloc: Global, dated: &Option<Dated>) -> Result<String> {
+    match dated {
+        Some(dated) => dated_text(alloc, dated),
+        None => absent(alloc),
+    }
+}
+
 /// The first value, then the day and the value of each step.
 pub fn steps_text(alloc: Global, values: &StepValues) -> Result<String> {
     let mut text = format!(in alloc; "{}", values.initial)?;

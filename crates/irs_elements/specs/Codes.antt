@@ -3,7 +3,7 @@ use Rattle.irs_base.specs.declared.day.DayName.TheVariants.{Mon, Tue, Wed, Thu, 
 use Rattle.irs_base.specs.declared.rounding.Direction.{Direction}
 use Rattle.irs_base.specs.declared.rounding.Direction.TheVariants.{Up, Down, Nearest as ToNearest}
 use Rattle.irs_terms.specs.declared.codes.CompCode.{CompCode}
-use Rattle.irs_terms.specs.declared.codes.CompCode.TheVariants.{Simple, Straight, Flat}
+use Rattle.irs_terms.specs.declared.codes.CompCode.TheVariants.{Simple, Straight, Flat, SpreadExclusive}
 use Rattle.irs_terms.specs.declared.codes.ConvCode.{ConvCode}
 use Rattle.irs_terms.specs.declared.codes.ConvCode.TheVariants.{Following, ModFollowing, Preceding, ModPreceding, Nearest, Unadjusted}
 use Rattle.irs_terms.specs.declared.codes.DayCountCode.{DayCountCode}
@@ -16,6 +16,8 @@ use Rattle.irs_terms.specs.declared.codes.RollCode.{RollCode}
 use Rattle.irs_terms.specs.declared.codes.RollCode.TheVariants.{Eom, Dom, Imm, OnWeekday, NoRoll}
 use Rattle.irs_terms.specs.declared.codes.StubKind.{StubKind}
 use Rattle.irs_terms.specs.declared.codes.StubKind.TheVariants.{ShortInitial, LongInitial, ShortFinal, LongFinal}
+use Rattle.irs_terms.specs.declared.codes.Treatment.{Treatment}
+use Rattle.irs_terms.specs.declared.codes.Treatment.TheVariants.{AsIs, ZeroFloor}
 use Rattle.irs_terms.specs.declared.frequency.Unit.{Unit as PeriodUnit}
 use Rattle.irs_terms.specs.declared.frequency.Unit.TheVariants.{D, W, M, Y, T}
 use Rattle.std.specs.Prelude.{ℕ, ◌+◌, ◌-◌, ◌*◌, nat_le, Bool, true, false, ◌&&◌, List, [], ◌∷◌, Option, Some, None, codes, if◌then◌else◌}
@@ -64,11 +66,11 @@ day_count_at = among ((codes "1/1", OneOne) ∷ (codes "ACT/ACT.ISDA", ActActIsd
 
 -- `compoundingMethod`
 abbrev pub compounding_at : List ℕ → Option CompCode
-compounding_at = among ((codes "None", Simple) ∷ (codes "Straight", Straight) ∷ (codes "Flat", Flat) ∷ [])
+compounding_at = among ((codes "None", Simple) ∷ (codes "Straight", Straight) ∷ (codes "Flat", Flat) ∷ (codes "SpreadExclusive", SpreadExclusive) ∷ [])
 
--- `negativeInterestRateTreatment`: the one method, which changes nothing
-abbrev pub treatment_at : List ℕ → Option Bool
-treatment_at = among ((codes "NegativeInterestRateMethod", true) ∷ [])
+-- `negativeInterestRateTreatment`
+abbrev pub treatment_at : List ℕ → Option Treatment
+treatment_at = among ((codes "NegativeInterestRateMethod", AsIs) ∷ (codes "ZeroInterestRateMethod", ZeroFloor) ∷ [])
 
 -- `roundingDirection`
 abbrev pub direction_at : List ℕ → Option Direction

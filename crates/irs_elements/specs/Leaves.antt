@@ -74,8 +74,8 @@ out_of_profile Roll = codes "FRN" ∷ codes "IMMCAD" ∷ codes "IMMAUD" ∷ code
 out_of_profile PayRelative = codes "ResetDate" ∷ codes "LastPricingDate" ∷ codes "ValuationDate" ∷ []
 out_of_profile ResetRelative = []
 out_of_profile DayCount = codes "ACT/ACT.ICMA" ∷ codes "ACT/ACT.ISMA" ∷ codes "ACT/ACT.AFB" ∷ codes "ACT/365L" ∷ codes "BUS/252" ∷ []
-out_of_profile Compounding = codes "SpreadExclusive" ∷ []
-out_of_profile Treatment = codes "ZeroInterestRateMethod" ∷ []
+out_of_profile Compounding = []
+out_of_profile Treatment = []
 out_of_profile Direction = []
 
 -- a text without a value is out of the profile or outside its grammar

@@ -4,7 +4,9 @@ ghost use Rattle.irs_elements.specs.Codes.{compounding_at, convention_at, day_co
 ghost use Rattle.std.specs.Prelude.{◌≡◌};
 
 use irs_base::{DayName, Direction};
-use irs_terms::{CompCode, ConvCode, DayCountCode, DayKind, Relative, RollCode, StubKind, Unit};
+use irs_terms::{
+    CompCode, ConvCode, DayCountCode, DayKind, Relative, RollCode, StubKind, Treatment, Unit,
+};
 
 /// A truth value: `true` or `1`, `false` or `0`.
 pub fn truth(text: &str) -> Option<bool>
@@ -159,17 +161,21 @@ pub fn compounding(text: &str) -> Option<CompCode>
         Some(CompCode::Straight)
     } else if text == "Flat" {
         Some(CompCode::Flat)
+    } else if text == "SpreadExclusive" {
+        Some(CompCode::SpreadExclusive)
     } else {
         None
     }
 }
 
-/// `negativeInterestRateTreatment`; the one method of the profile changes nothing.
-pub fn treatment(text: &str) -> Option<bool>
+/// `negativeInterestRateTreatment`.
+pub fn treatment(text: &str) -> Option<Treatment>
     ensures { result ≡ treatment_at text.now }
 {
     if text == "NegativeInterestRateMethod" {
-        Some(true)
+        Some(Treatment::AsIs)
+    } else if text == "ZeroInterestRateMethod" {
+        Some(Treatment::ZeroFloor)
     } else {
         None
     }

@@ -85,8 +85,8 @@ fn is_out_of_profile(kind: Leaf, text: &str) -> bool
             || text == "ACT/ACT.AFB"
             || text == "ACT/365L"
             || text == "BUS/252",
-        Leaf::Compounding => text == "SpreadExclusive",
-        Leaf::Treatment => text == "ZeroInterestRateMethod",
+        Leaf::Compounding => false,
+        Leaf::Treatment => false,
         Leaf::Direction => false,
     }
 }

@@ -6,7 +6,16 @@ ghost use Rattle.irs_elements.specs.Numbers.{amount_at, digits_of, has_no_point 
 ghost use Rattle.std.specs.Prelude.{◌≡◌, ◌^◌, ◌<◌, ◌≤◌, IfSome, length, unsigned_abs};
 ghost use Rattle.irs_base.specs.Days.{IsDay};
 
-use irs_base::{Day, read_date, read_dec};
+use irs_base::{Day, MOST_RATE, read_date, read_dec};
+
+// 10^13, in units of 10^-4.
+const MOST_NOTIONAL: i128 = 100_000_000_000_000_000;
+
+// The greatest multiplier of a frequency.
+const MOST_MULTIPLIER: i128 = 999;
+
+// The most days of an offset.
+const MOST_OFFSET: i128 = 60;
 
 /// A date: `YYYY-MM-DD` of a day in range, with or without a last `Z`.
 pub fn day(text: &[u8]) -> Option<Day>
@@ -43,21 +52,22 @@ fn within(low: i128, high: i128, n: Option<i128>) -> Option<i128>
 pub fn notional(text: &[u8]) -> Option<i128>
     ensures { result ≡ notional_at text.now }
 {
-    within(0, 100_000_000_000_000_000, decimal(text, 4))
+    within(0, MOST_NOTIONAL, decimal(text, 4))
 }
 
 /// A rate, a spread or a multiplier: a decimal of 9 places, at most 10 in size.
 pub fn rate(text: &[u8]) -> Option<i128>
     ensures { result ≡ rate_at text.now }
 {
-    within(-10_000_000_000, 10_000_000_000, decimal(text, 9))
+    let most = MOST_RATE as i128;
+    within(-most, most, decimal(text, 9))
 }
 
 /// The same in 64 bits.
 pub fn small_rate(text: &[u8]) -> Option<i64>
     ensures { result ≡ rate_at text.now }
 {
-    match within(-10_000_000_000, 10_000_000_000, decimal(text, 9)) {
+    match rate(text) {
         None => None,
         Some(n) => Some(n as i64),
     }
@@ -130,7 +140,7 @@ pub fn small_whole(text: &[u8]) -> Option<i64>
 pub fn multiplier(text: &[u8]) -> Option<u16>
     ensures { result ≡ multiplier_at text.now }
 {
-    match within(1, 999, whole(text)) {
+    match within(1, MOST_MULTIPLIER, whole(text)) {
         None => None,
         Some(n) => Some(n.unsigned_abs() as u16),
     }
@@ -140,7 +150,7 @@ pub fn multiplier(text: &[u8]) -> Option<u16>
 pub fn offset(text: &[u8]) -> Option<i16>
     ensures { result ≡ offset_at text.now }
 {
-    match within(-60, 60, whole(text)) {
+    match within(-MOST_OFFSET, MOST_OFFSET, whole(text)) {
         None => None,
         Some(n) => Some(n as i16),
     }

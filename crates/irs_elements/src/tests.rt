@@ -2,7 +2,9 @@
 use crate::{Leaf, codes, comes_before, earlier, fractions, leaf_rule, numbers, words};
 use irs_base::{Broken, Civil, DayName, Dec, Direction, Elem, Place, Rule, day_of};
 use irs_json::parse;
-use irs_terms::{CompCode, ConvCode, DayCountCode, DayKind, Relative, RollCode, StubKind, Unit};
+use irs_terms::{
+    CompCode, ConvCode, DayCountCode, DayKind, Relative, RollCode, StubKind, Treatment, Unit,
+};
 use std::test::Fail;
 
 #[test]
@@ -315,9 +317,18 @@ fn codes_of_amounts(rt: HostRuntime) {
         ("None", Some(CompCode::Simple)),
         ("Straight", Some(CompCode::Straight)),
         ("Flat", Some(CompCode::Flat)),
+        ("SpreadExclusive", Some(CompCode::SpreadExclusive)),
+        ("spreadExclusive", None),
         ("NONE", None),
     ] {
         assert_eq!(rt; codes::compounding(text), code, "{text}");
+    }
+    for (text, code) in [
+        ("NegativeInterestRateMethod", Some(Treatment::AsIs)),
+        ("ZeroInterestRateMethod", Some(Treatment::ZeroFloor)),
+        ("ZeroInterestRate", None),
+    ] {
+        assert_eq!(rt; codes::treatment(text), code, "{text}");
     }
     for (text, code) in [
         ("Up", Some(Direction::Up)),

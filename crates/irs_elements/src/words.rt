@@ -3,13 +3,14 @@ ghost use Rattle.irs_elements.specs.Words.{currency_at, is_capital, is_center_na
 ghost use Rattle.std.specs.List.{list_all};
 ghost use Rattle.std.specs.Prelude.{◌≡◌};
 
+use irs_base::{MOST_INDEX, MOST_NAME};
 use irs_terms::Currency;
 
 /// Whether the text may name a business centre: 1 to 32 bytes from `!` to `~`.
 pub fn is_center_name(text: &[u8]) -> bool
     ensures { result ≡ is_center_name_of text.now }
 {
-    0 < text.len() && text.len() <= 32 && are_visible(text)
+    0 < text.len() && text.len() <= MOST_NAME && are_visible(text)
 }
 
 fn are_visible(text: &[u8]) -> bool
@@ -22,7 +23,7 @@ fn are_visible(text: &[u8]) -> bool
 pub fn is_index_name(text: &[u8]) -> bool
     ensures { result ≡ is_index_name_of text.now }
 {
-    0 < text.len() && text.len() <= 128 && are_no_controls(text)
+    0 < text.len() && text.len() <= MOST_INDEX && are_no_controls(text)
 }
 
 fn are_no_controls(text: &[u8]) -> bool

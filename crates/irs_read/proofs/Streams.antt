@@ -10,7 +10,7 @@ use Rattle.irs_elements.specs.declared.table.Leaf.TheVariants.{CenterName, Index
 use Rattle.irs_read.proofs.Clean.{Clean, clean_leaf, clean_member, clean_once, clean_there, fine_values, is_child, leaf_at, most_at, required_at, some_value}
 use Rattle.irs_read.proofs.Ranges.{InScale, capitals, currency_range, day_range, first_is_day, multiplier_range, offset_range, or_in, precision_range, rate_range, roll_range, said_in, scale_range, tenor_unit_range, zero_range}
 use Rattle.irs_read.proofs.Words.{center_lawful, index_word}
-use Rattle.irs_read.specs.Meaning.{adjustments_in, centers_by, dated_in, day_in, fix_in, float_in, frequency_in, leg_by, named_centers, names_in, no_currency, number_in, offset_in, own_centers, pay_in, reset_in, said, scale_at, schedule_in, schedule_or, step_in, stream_in, stream_parts, stub_by, stub_in, stubs_in, tenor_in, word_in}
+use Rattle.irs_read.specs.Meaning.{adjustments_in, centers_by, dated_in, day_in, fix_in, float_in, frequency_in, leg_by, maybe_dated_in, named_centers, names_in, no_currency, number_in, offset_in, own_centers, pay_in, reset_in, said, scale_at, schedule_in, schedule_or, step_in, stream_in, stream_parts, stub_by, stub_in, stubs_in, tenor_in, word_in}
 use Rattle.irs_read.specs.References.{first_of, has_id, href_of, lists_in, lists_of, the_one}
 use Rattle.irs_read.proofs.TableLaws.{code_names as row_names}
 use Rattle.irs_read.specs.declared.leaf_values.Scale.{Scale}
@@ -138,13 +138,16 @@ termination_rows = record { child = refl; named = refl; names = record { child =
 period_rows : AdjustmentRows 16 19 20
 period_rows = record { child = refl; named = refl; names = record { child = refl; required = refl; most = refl; leaf = refl; named = refl } }
 
-payment_rows : AdjustmentRows 40 43 44
+first_rows : AdjustmentRows 23 26 27
+first_rows = record { child = refl; named = refl; names = record { child = refl; required = refl; most = refl; leaf = refl; named = refl } }
+
+payment_rows : AdjustmentRows 47 50 51
 payment_rows = record { child = refl; named = refl; names = record { child = refl; required = refl; most = refl; leaf = refl; named = refl } }
 
-fixing_rows : AdjustmentRows 48 54 55
+fixing_rows : AdjustmentRows 55 61 62
 fixing_rows = record { child = refl; named = refl; names = record { child = refl; required = refl; most = refl; leaf = refl; named = refl } }
 
-reset_rows : AdjustmentRows 60 63 64
+reset_rows : AdjustmentRows 67 70 71
 reset_rows = record { child = refl; named = refl; names = record { child = refl; required = refl; most = refl; leaf = refl; named = refl } }
 
 -- ---- the parts of a stream
@@ -167,21 +170,24 @@ termination_good dates clean = good_below 11 14 15 termination_rows _ (clean_mem
 period_good : (dates : Option Data) → AtMost 1 dates → GoodList (Centers (member (codes "calculationPeriodDatesAdjustments") dates))
 period_good dates clean = good_below 16 19 20 period_rows _ (clean_member ROWS row_names 1 16 dates refl clean)
 
-payment_good : (pay : Option Data) → AtMost 28 pay → GoodList (Centers (member (codes "paymentDatesAdjustments") pay))
-payment_good pay clean = good_below 40 43 44 payment_rows _ (clean_member ROWS row_names 28 40 pay refl clean)
+first_good : (dates : Option Data) → AtMost 1 dates → GoodList (Centers (member (codes "dateAdjustments") (member (codes "firstPeriodStartDate") dates)))
+first_good dates clean = good_below 23 26 27 first_rows _ (clean_member ROWS row_names 21 23 (member (codes "firstPeriodStartDate") dates) refl (clean_member ROWS row_names 1 21 dates refl clean))
 
-fixing_good : (resets : Option Data) → AtMost 45 resets → GoodList (Centers (member (codes "fixingDates") resets))
-fixing_good resets clean = good_below 48 54 55 fixing_rows _ (clean_member ROWS row_names 45 48 resets refl clean)
+payment_good : (pay : Option Data) → AtMost 35 pay → GoodList (Centers (member (codes "paymentDatesAdjustments") pay))
+payment_good pay clean = good_below 47 50 51 payment_rows _ (clean_member ROWS row_names 35 47 pay refl clean)
 
-reset_good : (resets : Option Data) → AtMost 45 resets → GoodList (Centers (member (codes "resetDatesAdjustments") resets))
-reset_good resets clean = good_below 60 63 64 reset_rows _ (clean_member ROWS row_names 45 60 resets refl clean)
+fixing_good : (resets : Option Data) → AtMost 52 resets → GoodList (Centers (member (codes "fixingDates") resets))
+fixing_good resets clean = good_below 55 61 62 fixing_rows _ (clean_member ROWS row_names 52 55 resets refl clean)
+
+reset_good : (resets : Option Data) → AtMost 52 resets → GoodList (Centers (member (codes "resetDatesAdjustments") resets))
+reset_good resets clean = good_below 67 70 71 reset_rows _ (clean_member ROWS row_names 52 67 resets refl clean)
 
 lists_good : (d : Data) → At 0 d → GoodLists (lists_in d)
 lists_good d clean =
     let dates = dates_clean d clean in
-    let pay : AtMost 28 (once (codes "paymentDates") d) = clean_once ROWS row_names 0 28 d refl clean in
-    let resets : AtMost 45 (once (codes "resetDates") d) = clean_once ROWS row_names 0 45 d refl clean in
-    (effective_good (Dates d) dates, (termination_good (Dates d) dates, (period_good (Dates d) dates, (payment_good (once (codes "paymentDates") d) pay, (fixing_good (once (codes "resetDates") d) resets, (reset_good (once (codes "resetDates") d) resets, tt))))))
+    let pay : AtMost 35 (once (codes "paymentDates") d) = clean_once ROWS row_names 0 35 d refl clean in
+    let resets : AtMost 52 (once (codes "resetDates") d) = clean_once ROWS row_names 0 52 d refl clean in
+    (effective_good (Dates d) dates, (termination_good (Dates d) dates, (period_good (Dates d) dates, (first_good (Dates d) dates, (payment_good (once (codes "paymentDates") d) pay, (fixing_good (once (codes "resetDates") d) resets, (reset_good (once (codes "resetDates") d) resets, tt)))))))
 
 good_append : (os ps : List (Option Data)) → GoodLists os → GoodLists ps → GoodLists (os ++ ps)
 good_append [] ps g h = h
@@ -222,7 +228,11 @@ centers_lawful lists o g h = by_lawful lists (member (codes "businessCentersRefe
 dated_lawful : (lists : List (Option Data)) (o : Option Data) → GoodLists lists → GoodList (Centers (member (codes "dateAdjustments") o)) → IsLawfulDated (dated_in lists o)
 dated_lawful lists o g h = (day_lawful (member (codes "unadjustedDate") o), centers_lawful lists (member (codes "dateAdjustments") o) g h)
 
-pay_lawful : (lists : List (Option Data)) (dates o : Option Data) → GoodLists lists → AtMost 28 o → IsLawfulPay (pay_in lists dates o)
+maybe_dated_lawful : (lists : List (Option Data)) (o : Option Data) → GoodLists lists → GoodList (Centers (member (codes "dateAdjustments") o)) → IfSome (maybe_dated_in lists o) IsLawfulDated
+maybe_dated_lawful lists None g h = tt
+maybe_dated_lawful lists (Some d) g h = dated_lawful lists (Some d) g h
+
+pay_lawful : (lists : List (Option Data)) (dates o : Option Data) → GoodLists lists → AtMost 35 o → IsLawfulPay (pay_in lists dates o)
 pay_lawful lists dates o g clean = record {
   freq = frequency_lawful (member (codes "paymentFrequency") o);
   first = maybe_day (member (codes "firstPaymentDate") o);
@@ -235,7 +245,7 @@ maybe_fix : (lists : List (Option Data)) (o : Option Data) → GoodLists lists �
 maybe_fix lists None g h = tt
 maybe_fix lists (Some d) g h = (offset_lawful (Some d), centers_lawful lists (Some d) g h)
 
-maybe_reset : (lists : List (Option Data)) (dates o : Option Data) → GoodLists lists → AtMost 45 o → IfSome (option_map (reset_in lists dates) o) IsLawfulReset
+maybe_reset : (lists : List (Option Data)) (dates o : Option Data) → GoodLists lists → AtMost 52 o → IfSome (option_map (reset_in lists dates) o) IsLawfulReset
 maybe_reset lists dates None g clean = tt
 maybe_reset lists dates (Some d) g clean = record {
   fixing = maybe_fix lists (once (codes "fixingDates") d) g (fixing_good (Some d) clean);
@@ -283,57 +293,58 @@ index_at r c at d clean =
     let (x, (e, inner)) = clean_there ROWS row_names r c d at.child at.required clean in
     subst (λ (n : List ℕ). IsLawfulIndex (word_in (once n d))) at.named (subst (λ (o : Option Data). IsLawfulIndex (word_in o)) (sym e) (index_word x (clean_leaf ROWS row_names c IndexName x at.leaf inner)))
 
-float_lawful : (d : Data) → At 79 d → IsLawfulFloat (float_in d)
+float_lawful : (d : Data) → At 86 d → IsLawfulFloat (float_in d)
 float_lawful d clean = record {
-  index = index_at 79 80 (record { child = refl; required = refl; leaf = refl; named = refl }) d clean;
+  index = index_at 86 87 (record { child = refl; required = refl; leaf = refl; named = refl }) d clean;
   tenor = maybe_tenor (once (codes "indexTenor") d);
-  multiplier = or_lawful (pos 1_000_000_000) (omega arith) 84 86 (record { child = refl; most = refl; named = refl }) (once (codes "floatingRateMultiplierSchedule") d) (clean_once ROWS row_names 79 84 d refl clean);
-  spread = or_lawful (pos 0) (omega arith) 89 91 (record { child = refl; most = refl; named = refl }) (once (codes "spreadSchedule") d) (clean_once ROWS row_names 79 89 d refl clean);
+  multiplier = or_lawful (pos 1_000_000_000) (omega arith) 91 93 (record { child = refl; most = refl; named = refl }) (once (codes "floatingRateMultiplierSchedule") d) (clean_once ROWS row_names 86 91 d refl clean);
+  spread = or_lawful (pos 0) (omega arith) 96 98 (record { child = refl; most = refl; named = refl }) (once (codes "spreadSchedule") d) (clean_once ROWS row_names 86 96 d refl clean);
   initial_rate = said_in IsRate rate_at rate_range (once (codes "initialRate") d);
   rounding = places_lawful (member (codes "precision") (once (codes "finalRateRounding") d));
 }
 
-leg_lawful : (float fixed : Option Data) → AtMost 79 float → AtMost 74 fixed → IsLawfulLeg (leg_by float fixed)
+leg_lawful : (float fixed : Option Data) → AtMost 86 float → AtMost 81 fixed → IsLawfulLeg (leg_by float fixed)
 leg_lawful (Some d) fixed clean other = float_lawful d clean
-leg_lawful None fixed clean other = schedule_lawful Rates 74 76 (record { child = refl; most = refl; named = refl }) fixed other
+leg_lawful None fixed clean other = schedule_lawful Rates 81 83 (record { child = refl; most = refl; named = refl }) fixed other
 
 stub_by_lawful : (f c : ℕ) → IndexRows f c → (float rate : Option Data) → AtMost f float → IsLawfulStubRate (stub_by float rate)
 stub_by_lawful f c at None rate clean = number_lawful Rates rate
 stub_by_lawful f c at (Some d) rate clean = (index_at f c at d clean, maybe_tenor (once (codes "indexTenor") d))
 
-maybe_initial : (o : Option Data) → AtMost 103 o → IfSome (option_map stub_in o) IsLawfulStubRate
+maybe_initial : (o : Option Data) → AtMost 110 o → IfSome (option_map stub_in o) IsLawfulStubRate
 maybe_initial None clean = tt
-maybe_initial (Some d) clean = stub_by_lawful 104 105 (record { child = refl; required = refl; leaf = refl; named = refl }) (once (codes "floatingRate") d) (once (codes "stubRate") d) (clean_once ROWS row_names 103 104 d refl clean)
+maybe_initial (Some d) clean = stub_by_lawful 111 112 (record { child = refl; required = refl; leaf = refl; named = refl }) (once (codes "floatingRate") d) (once (codes "stubRate") d) (clean_once ROWS row_names 110 111 d refl clean)
 
-maybe_last : (o : Option Data) → AtMost 110 o → IfSome (option_map stub_in o) IsLawfulStubRate
+maybe_last : (o : Option Data) → AtMost 117 o → IfSome (option_map stub_in o) IsLawfulStubRate
 maybe_last None clean = tt
-maybe_last (Some d) clean = stub_by_lawful 111 112 (record { child = refl; required = refl; leaf = refl; named = refl }) (once (codes "floatingRate") d) (once (codes "stubRate") d) (clean_once ROWS row_names 110 111 d refl clean)
+maybe_last (Some d) clean = stub_by_lawful 118 119 (record { child = refl; required = refl; leaf = refl; named = refl }) (once (codes "floatingRate") d) (once (codes "stubRate") d) (clean_once ROWS row_names 117 118 d refl clean)
 
-maybe_stubs : (dates o : Option Data) → AtMost 101 o → IfSome (option_map (stubs_in dates) o) IsLawfulStubs
+maybe_stubs : (dates o : Option Data) → AtMost 108 o → IfSome (option_map (stubs_in dates) o) IsLawfulStubs
 maybe_stubs dates None clean = tt
-maybe_stubs dates (Some d) clean = (maybe_initial (once (codes "initialStub") d) (clean_once ROWS row_names 101 103 d refl clean), maybe_last (once (codes "finalStub") d) (clean_once ROWS row_names 101 110 d refl clean))
+maybe_stubs dates (Some d) clean = (maybe_initial (once (codes "initialStub") d) (clean_once ROWS row_names 108 110 d refl clean), maybe_last (once (codes "finalStub") d) (clean_once ROWS row_names 108 117 d refl clean))
 
 -- ---- streams
 
-parts_lawful : (lists : List (Option Data)) (d : Data) (dates freq calc : Option Data) → GoodLists lists → At 0 d → AtMost 1 dates → AtMost 66 calc → IsLawfulStream (stream_parts lists d dates freq calc)
+parts_lawful : (lists : List (Option Data)) (d : Data) (dates freq calc : Option Data) → GoodLists lists → At 0 d → AtMost 1 dates → AtMost 73 calc → IsLawfulStream (stream_parts lists d dates freq calc)
 parts_lawful lists d dates freq calc g clean dated rates =
-    let notionals : AtMost 68 (member (codes "notionalStepSchedule") (member (codes "notionalSchedule") calc)) = clean_member ROWS row_names 67 68 (member (codes "notionalSchedule") calc) refl (clean_member ROWS row_names 66 67 calc refl rates) in
+    let notionals : AtMost 75 (member (codes "notionalStepSchedule") (member (codes "notionalSchedule") calc)) = clean_member ROWS row_names 74 75 (member (codes "notionalSchedule") calc) refl (clean_member ROWS row_names 73 74 calc refl rates) in
     record {
       effective = dated_lawful lists (member (codes "effectiveDate") dates) g (effective_good dates dated);
+      first_start = maybe_dated_lawful lists (member (codes "firstPeriodStartDate") dates) g (first_good dates dated);
       termination = dated_lawful lists (member (codes "terminationDate") dates) g (termination_good dates dated);
       centers = centers_lawful lists (member (codes "calculationPeriodDatesAdjustments") dates) g (period_good dates dated);
       first_regular = maybe_day (member (codes "firstRegularPeriodStartDate") dates);
       last_regular = maybe_day (member (codes "lastRegularPeriodEndDate") dates);
       freq = frequency_lawful freq;
       roll = roll_lawful (member (codes "rollConvention") freq);
-      pay = pay_lawful lists dates (once (codes "paymentDates") d) g (clean_once ROWS row_names 0 28 d refl clean);
-      reset = maybe_reset lists dates (once (codes "resetDates") d) g (clean_once ROWS row_names 0 45 d refl clean);
-      notional = schedule_lawful Notionals 68 70 (record { child = refl; most = refl; named = refl }) (member (codes "notionalStepSchedule") (member (codes "notionalSchedule") calc)) notionals;
+      pay = pay_lawful lists dates (once (codes "paymentDates") d) g (clean_once ROWS row_names 0 35 d refl clean);
+      reset = maybe_reset lists dates (once (codes "resetDates") d) g (clean_once ROWS row_names 0 52 d refl clean);
+      notional = schedule_lawful Notionals 75 77 (record { child = refl; most = refl; named = refl }) (member (codes "notionalStepSchedule") (member (codes "notionalSchedule") calc)) notionals;
       currency = currency_lawful (member (codes "currency") (member (codes "notionalStepSchedule") (member (codes "notionalSchedule") calc)));
-      leg = leg_lawful (member (codes "floatingRateCalculation") calc) (member (codes "fixedRateSchedule") calc) (clean_member ROWS row_names 66 79 calc refl rates) (clean_member ROWS row_names 66 74 calc refl rates);
-      stubs = maybe_stubs dates (once (codes "stubCalculationPeriodAmount") d) (clean_once ROWS row_names 0 101 d refl clean);
+      leg = leg_lawful (member (codes "floatingRateCalculation") calc) (member (codes "fixedRateSchedule") calc) (clean_member ROWS row_names 73 86 calc refl rates) (clean_member ROWS row_names 73 81 calc refl rates);
+      stubs = maybe_stubs dates (once (codes "stubCalculationPeriodAmount") d) (clean_once ROWS row_names 0 108 d refl clean);
     }
 
 pub stream_lawful : (lists : List (Option Data)) (d : Data) → GoodLists lists → At 0 d → IsLawfulStream (stream_in lists d)
 unfolding stream_in
-stream_lawful lists d g clean = parts_lawful lists d (Dates d) (member (codes "calculationPeriodFrequency") (Dates d)) (member (codes "calculation") (once (codes "calculationPeriodAmount") d)) g clean (dates_clean d clean) (clean_member ROWS row_names 65 66 (once (codes "calculationPeriodAmount") d) refl (clean_once ROWS row_names 0 65 d refl clean))
+stream_lawful lists d g clean = parts_lawful lists d (Dates d) (member (codes "calculationPeriodFrequency") (Dates d)) (member (codes "calculation") (once (codes "calculationPeriodAmount") d)) g clean (dates_clean d clean) (clean_member ROWS row_names 72 73 (once (codes "calculationPeriodAmount") d) refl (clean_once ROWS row_names 0 72 d refl clean))

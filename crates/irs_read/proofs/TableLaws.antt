@@ -4,8 +4,9 @@ use Rattle.irs_base.specs.declared.places.Broken.{Broken}
 use Rattle.irs_elements.specs.Elements.{FaultAt}
 use Rattle.irs_elements.specs.Order.{IsFirst}
 use Rattle.irs_elements.specs.declared.table.Kind.{Kind}
+use Rattle.irs_elements.specs.Lines.{Line}
 use Rattle.irs_elements.specs.declared.table.Row.{Row}
-use Rattle.irs_read.specs.StreamLines.{stream_names, stream_rows, stream_table, swap_names, swap_rows, swap_table}
+use Rattle.irs_read.specs.StreamLines.{stream_elements, stream_names, stream_rows, stream_table, swap_names, swap_rows, swap_table}
 use Rattle.irs_read.specs.declared.table.TheConstants.{NAMES, ROWS, SWAP_NAMES, SWAP_ROWS}
 use Rattle.serde_json.specs.Data.{Data}
 use Rattle.std.proofs.Common.{◌≡◌, ℕ, List, map, Option, refl, subst}
@@ -21,6 +22,10 @@ pub rows_are : ROWS ≡ stream_rows
 unfolding stream_rows stream_table printed paths
 rows_are = refl
 
+pub lines_are : map (λ (l : Line). l.path) stream_table.lines ≡ stream_elements
+unfolding stream_table stream_elements printed paths
+lines_are = refl
+
 pub names_are : code_names ≡ stream_names
 unfolding stream_names stream_table
 names_are = refl
@@ -33,8 +38,8 @@ pub swap_names_are : swap_code_names ≡ swap_names
 unfolding swap_names swap_table
 swap_names_are = refl
 
--- what holds of the code's tables holds of the specification's
-by_tables : (P : List Row → List (List ℕ) → Type 0) (rows rows' : List Row) (names names' : List (List ℕ)) → rows ≡ rows' → names ≡ names' → P rows names → P rows' names'
+-- what holds of a table holds of one that is equal to it, as of the specification's
+pub by_tables : (P : List Row → List (List ℕ) → Type 0) (rows rows' : List Row) (names names' : List (List ℕ)) → rows ≡ rows' → names ≡ names' → P rows names → P rows' names'
 by_tables P rows rows' names names' r n p = subst (λ (ns : List (List ℕ)). P rows' ns) n (subst (λ (rs : List Row). P rs names) r p)
 
 pub stream_fault : {s r i : ℕ} {k : Kind} {d : Data} {f : Broken} → FaultAt ROWS code_names s r k i d f → FaultAt stream_rows stream_names s r k i d f

@@ -1,4 +1,5 @@
 -- The texts of leaves that name a centre or an index are lawful.
+use Rattle.irs_base.specs.Limits.{most_index, most_name}
 use Rattle.irs_elements.specs.Leaves.{text_of}
 use Rattle.irs_elements.specs.Words.{is_center_name, is_index_name, is_no_control, is_visible}
 use Rattle.irs_elements.specs.declared.table.Leaf.TheVariants.{CenterName, IndexName}
@@ -164,13 +165,13 @@ split false b c e = cc
 
 name_lawful : (s : List ℕ) → is_center_name s ≡ true → IsLawfulName s
 name_lawful s e =
-    let (some, (few, all)) = split (nat_lt 0 (length s)) (nat_le (length s) 32) (list_all is_visible s) e in
-    (more (length s) some, less (length s) 32 few, λ k d lt. visible (slice_index_or s k d) (AllPass-from_list_all is_visible s all k d lt))
+    let (some, (few, all)) = split (nat_lt 0 (length s)) (nat_le (length s) most_name) (list_all is_visible s) e in
+    (more (length s) some, less (length s) most_name few, λ k d lt. visible (slice_index_or s k d) (AllPass-from_list_all is_visible s all k d lt))
 
 index_lawful : (s : List ℕ) → is_index_name s ≡ true → EndsWell s → IsLawfulIndex s
 index_lawful s e ends =
-    let (some, (few, all)) = split (nat_lt 0 (length s)) (nat_le (length s) 128) (list_all is_no_control s) e in
-    (more (length s) some, less (length s) 128 few, (λ k d lt. no_control (slice_index_or s k d) (AllPass-from_list_all is_no_control s all k d lt)), ends.0, ends.1)
+    let (some, (few, all)) = split (nat_lt 0 (length s)) (nat_le (length s) most_index) (list_all is_no_control s) e in
+    (more (length s) some, less (length s) most_index few, (λ k d lt. no_control (slice_index_or s k d) (AllPass-from_list_all is_no_control s all k d lt)), ends.0, ends.1)
 
 word_is : (d : Data) (l : Leaf) → leaf_of d ≡ Some l → word_in (Some d) ≡ text_of l
 word_is d l e = ap (λ (o : Option Leaf). unwrap_or (option_map text_of o) []) e

@@ -2,7 +2,7 @@
 -- where the leaf is absent.
 use Rattle.irs_base.specs.Days.{first_day}
 use Rattle.irs_base.specs.declared.rounding.Direction.TheVariants.{Nearest}
-use Rattle.irs_elements.specs.Codes.{compounding_at, convention_at, day_count_at, day_kind_at, direction_at, relative_at, roll_at, stub_kind_at, tenor_unit_at, truth_at, unit_at}
+use Rattle.irs_elements.specs.Codes.{compounding_at, convention_at, day_count_at, day_kind_at, direction_at, relative_at, roll_at, stub_kind_at, tenor_unit_at, treatment_at, truth_at, unit_at}
 use Rattle.irs_elements.specs.Dates.{day_at}
 use Rattle.irs_elements.specs.Find.{member, once, text_in, values_in}
 use Rattle.irs_elements.specs.Numbers.{multiplier_at, notional_at, offset_at, precision_at, rate_at}
@@ -30,6 +30,8 @@ use Rattle.irs_terms.specs.declared.codes.DayKind.TheVariants.{Unsaid}
 use Rattle.irs_terms.specs.declared.codes.Relative.{Relative}
 use Rattle.irs_terms.specs.declared.codes.Relative.TheVariants.{Start}
 use Rattle.irs_terms.specs.declared.codes.RollCode.TheVariants.{NoRoll}
+use Rattle.irs_terms.specs.declared.codes.Treatment.{Treatment}
+use Rattle.irs_terms.specs.declared.codes.Treatment.TheVariants.{AsIs}
 use Rattle.irs_terms.specs.declared.currency.Currency.{Currency}
 use Rattle.irs_terms.specs.declared.dates.FixTerms.{FixTerms}
 use Rattle.irs_terms.specs.declared.dates.PayTerms.{PayTerms}
@@ -70,6 +72,9 @@ truth_in o = unwrap_or (said truth_at o) false
 abbrev pub relative_in : Option Data → Relative
 relative_in o = unwrap_or (said relative_at o) Start
 
+abbrev pub treatment_in : Option Data → Treatment
+treatment_in o = unwrap_or (said treatment_at o) AsIs
+
 abbrev pub no_currency : Currency
 no_currency = record { letters = 88 ∷ 88 ∷ 88 ∷ [] }
 
@@ -107,6 +112,10 @@ adjustments_in lists o = record { code = unwrap_or (said convention_at (member (
 abbrev pub dated_in : List (Option Data) → Option Data → Dated
 dated_in lists o = record { day = day_in (member (codes "unadjustedDate") o); adj = adjustments_in lists (member (codes "dateAdjustments") o) }
 
+-- a date that may be absent
+abbrev pub maybe_dated_in : List (Option Data) → Option Data → Option Dated
+maybe_dated_in lists o = option_map (λ d. dated_in lists (Some d)) o
+
 abbrev pub step_in : Scale → Data → Step
 step_in scale d = record { day = day_in (once (codes "stepDate") d); value = number_in scale (once (codes "stepValue") d) }
 
@@ -131,6 +140,7 @@ float_in d = record {
   spread = schedule_or (pos 0) (once (codes "spreadSchedule") d);
   initial_rate = said rate_at (once (codes "initialRate") d);
   rounding = rounding_in (once (codes "finalRateRounding") d);
+  treatment = treatment_in (once (codes "negativeInterestRateTreatment") d);
 }
 
 abbrev pub leg_by : Option Data → Option Data → Leg
@@ -187,6 +197,7 @@ exchanges_in o = record {
 abbrev pub stream_parts : List (Option Data) → Data → Option Data → Option Data → Option Data → Stream
 stream_parts lists d dates freq calc = record {
   effective = dated_in lists (member (codes "effectiveDate") dates);
+  first_start = maybe_dated_in lists (member (codes "firstPeriodStartDate") dates);
   termination = dated_in lists (member (codes "terminationDate") dates);
   period_adj = adjustments_in lists (member (codes "calculationPeriodDatesAdjustments") dates);
   first_regular = said day_at (member (codes "firstRegularPeriodStartDate") dates);

@@ -47,6 +47,7 @@ lists_in d =
     member (codes "businessCenters") (member (codes "dateAdjustments") (member (codes "effectiveDate") dates))
     ∷ member (codes "businessCenters") (member (codes "dateAdjustments") (member (codes "terminationDate") dates))
     ∷ member (codes "businessCenters") (member (codes "calculationPeriodDatesAdjustments") dates)
+    ∷ member (codes "businessCenters") (member (codes "dateAdjustments") (member (codes "firstPeriodStartDate") dates))
     ∷ member (codes "businessCenters") (member (codes "paymentDatesAdjustments") (once (codes "paymentDates") d))
     ∷ member (codes "businessCenters") (member (codes "fixingDates") resets)
     ∷ member (codes "businessCenters") (member (codes "resetDatesAdjustments") resets)

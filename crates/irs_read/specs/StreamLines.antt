@@ -1,12 +1,14 @@
 -- The elements of a swap's streams (FpML's InterestRateStream), line by line: the path below the
 -- stream, what stands there, and how often. Which elements are in the profile, their counts and their
 -- order are this project's own.
+use Rattle.irs_base.specs.Elements.{calculation_period_dates, cashflows}
+use Rattle.irs_base.specs.Limits.{most_centers, most_steps}
 use Rattle.irs_base.specs.PathList.{printed}
 use Rattle.irs_elements.specs.Lines.{Line, Others, Table, at, at_most_one, exactly_one, leaf, line, names_of, object, reference, rows_of}
 use Rattle.irs_elements.specs.declared.table.Count.TheVariants.{One, Maybe, OneTo, UpTo}
 use Rattle.irs_elements.specs.declared.table.Leaf.TheVariants.{CenterName, Compounding, Convention, CurrencyName, Date, DayCount, DayType, Direction, IndexName, Multiplier, Notional, OffsetDays, OffsetUnit, PayRelative, PeriodUnit, Precision, Rate, ResetRelative, Roll, StubType, TenorUnit, Treatment, Truth}
 use Rattle.irs_elements.specs.declared.table.Row.{Row}
-use Rattle.std.specs.Prelude.{ℕ, List, [], ◌∷◌}
+use Rattle.std.specs.Prelude.{ℕ, ◌-◌, List, [], ◌∷◌, drop, take}
 
 abbrev lines : List Line
 lines =
@@ -17,19 +19,26 @@ lines =
     ∷ line "calculationPeriodDates/effectiveDate/dateAdjustments/businessDayConvention" (leaf Convention) One
     ∷ line "calculationPeriodDates/effectiveDate/dateAdjustments/businessCentersReference" reference Maybe
     ∷ line "calculationPeriodDates/effectiveDate/dateAdjustments/businessCenters" object Maybe
-    ∷ line "calculationPeriodDates/effectiveDate/dateAdjustments/businessCenters/businessCenter" (leaf CenterName) (OneTo 16)
+    ∷ line "calculationPeriodDates/effectiveDate/dateAdjustments/businessCenters/businessCenter" (leaf CenterName) (OneTo most_centers)
     ∷ line "calculationPeriodDates/terminationDate" object One
     ∷ line "calculationPeriodDates/terminationDate/unadjustedDate" (leaf Date) One
     ∷ line "calculationPeriodDates/terminationDate/dateAdjustments" (at_most_one "businessCentersReference" "businessCenters") One
     ∷ line "calculationPeriodDates/terminationDate/dateAdjustments/businessDayConvention" (leaf Convention) One
     ∷ line "calculationPeriodDates/terminationDate/dateAdjustments/businessCentersReference" reference Maybe
     ∷ line "calculationPeriodDates/terminationDate/dateAdjustments/businessCenters" object Maybe
-    ∷ line "calculationPeriodDates/terminationDate/dateAdjustments/businessCenters/businessCenter" (leaf CenterName) (OneTo 16)
+    ∷ line "calculationPeriodDates/terminationDate/dateAdjustments/businessCenters/businessCenter" (leaf CenterName) (OneTo most_centers)
     ∷ line "calculationPeriodDates/calculationPeriodDatesAdjustments" (at_most_one "businessCentersReference" "businessCenters") One
     ∷ line "calculationPeriodDates/calculationPeriodDatesAdjustments/businessDayConvention" (leaf Convention) One
     ∷ line "calculationPeriodDates/calculationPeriodDatesAdjustments/businessCentersReference" reference Maybe
     ∷ line "calculationPeriodDates/calculationPeriodDatesAdjustments/businessCenters" object Maybe
-    ∷ line "calculationPeriodDates/calculationPeriodDatesAdjustments/businessCenters/businessCenter" (leaf CenterName) (OneTo 16)
+    ∷ line "calculationPeriodDates/calculationPeriodDatesAdjustments/businessCenters/businessCenter" (leaf CenterName) (OneTo most_centers)
+    ∷ line "calculationPeriodDates/firstPeriodStartDate" object Maybe
+    ∷ line "calculationPeriodDates/firstPeriodStartDate/unadjustedDate" (leaf Date) One
+    ∷ line "calculationPeriodDates/firstPeriodStartDate/dateAdjustments" (at_most_one "businessCentersReference" "businessCenters") One
+    ∷ line "calculationPeriodDates/firstPeriodStartDate/dateAdjustments/businessDayConvention" (leaf Convention) One
+    ∷ line "calculationPeriodDates/firstPeriodStartDate/dateAdjustments/businessCentersReference" reference Maybe
+    ∷ line "calculationPeriodDates/firstPeriodStartDate/dateAdjustments/businessCenters" object Maybe
+    ∷ line "calculationPeriodDates/firstPeriodStartDate/dateAdjustments/businessCenters/businessCenter" (leaf CenterName) (OneTo most_centers)
     ∷ line "calculationPeriodDates/firstRegularPeriodStartDate" (leaf Date) Maybe
     ∷ line "calculationPeriodDates/lastRegularPeriodEndDate" (leaf Date) Maybe
     ∷ line "calculationPeriodDates/stubPeriodType" (leaf StubType) Maybe
@@ -53,7 +62,7 @@ lines =
     ∷ line "paymentDates/paymentDatesAdjustments/businessDayConvention" (leaf Convention) One
     ∷ line "paymentDates/paymentDatesAdjustments/businessCentersReference" reference Maybe
     ∷ line "paymentDates/paymentDatesAdjustments/businessCenters" object Maybe
-    ∷ line "paymentDates/paymentDatesAdjustments/businessCenters/businessCenter" (leaf CenterName) (OneTo 16)
+    ∷ line "paymentDates/paymentDatesAdjustments/businessCenters/businessCenter" (leaf CenterName) (OneTo most_centers)
     ∷ line "resetDates" object Maybe
     ∷ line "resetDates/calculationPeriodDatesReference" reference Maybe
     ∷ line "resetDates/resetRelativeTo" (leaf ResetRelative) Maybe
@@ -64,7 +73,7 @@ lines =
     ∷ line "resetDates/fixingDates/businessDayConvention" (leaf Convention) One
     ∷ line "resetDates/fixingDates/businessCentersReference" reference Maybe
     ∷ line "resetDates/fixingDates/businessCenters" object Maybe
-    ∷ line "resetDates/fixingDates/businessCenters/businessCenter" (leaf CenterName) (OneTo 16)
+    ∷ line "resetDates/fixingDates/businessCenters/businessCenter" (leaf CenterName) (OneTo most_centers)
     ∷ line "resetDates/fixingDates/dateRelativeTo" reference Maybe
     ∷ line "resetDates/resetFrequency" object One
     ∷ line "resetDates/resetFrequency/periodMultiplier" (leaf Multiplier) One
@@ -73,19 +82,19 @@ lines =
     ∷ line "resetDates/resetDatesAdjustments/businessDayConvention" (leaf Convention) One
     ∷ line "resetDates/resetDatesAdjustments/businessCentersReference" reference Maybe
     ∷ line "resetDates/resetDatesAdjustments/businessCenters" object Maybe
-    ∷ line "resetDates/resetDatesAdjustments/businessCenters/businessCenter" (leaf CenterName) (OneTo 16)
+    ∷ line "resetDates/resetDatesAdjustments/businessCenters/businessCenter" (leaf CenterName) (OneTo most_centers)
     ∷ line "calculationPeriodAmount" object One
     ∷ line "calculationPeriodAmount/calculation" (exactly_one "fixedRateSchedule" "floatingRateCalculation") One
     ∷ line "calculationPeriodAmount/calculation/notionalSchedule" object One
     ∷ line "calculationPeriodAmount/calculation/notionalSchedule/notionalStepSchedule" object One
     ∷ line "calculationPeriodAmount/calculation/notionalSchedule/notionalStepSchedule/initialValue" (leaf Notional) One
-    ∷ line "calculationPeriodAmount/calculation/notionalSchedule/notionalStepSchedule/step" object (UpTo 4000)
+    ∷ line "calculationPeriodAmount/calculation/notionalSchedule/notionalStepSchedule/step" object (UpTo most_steps)
     ∷ line "calculationPeriodAmount/calculation/notionalSchedule/notionalStepSchedule/step/stepDate" (leaf Date) One
     ∷ line "calculationPeriodAmount/calculation/notionalSchedule/notionalStepSchedule/step/stepValue" (leaf Notional) One
     ∷ line "calculationPeriodAmount/calculation/notionalSchedule/notionalStepSchedule/currency" (leaf CurrencyName) One
     ∷ line "calculationPeriodAmount/calculation/fixedRateSchedule" object Maybe
     ∷ line "calculationPeriodAmount/calculation/fixedRateSchedule/initialValue" (leaf Rate) One
-    ∷ line "calculationPeriodAmount/calculation/fixedRateSchedule/step" object (UpTo 4000)
+    ∷ line "calculationPeriodAmount/calculation/fixedRateSchedule/step" object (UpTo most_steps)
     ∷ line "calculationPeriodAmount/calculation/fixedRateSchedule/step/stepDate" (leaf Date) One
     ∷ line "calculationPeriodAmount/calculation/fixedRateSchedule/step/stepValue" (leaf Rate) One
     ∷ line "calculationPeriodAmount/calculation/floatingRateCalculation" object Maybe
@@ -95,12 +104,12 @@ lines =
     ∷ line "calculationPeriodAmount/calculation/floatingRateCalculation/indexTenor/period" (leaf TenorUnit) One
     ∷ line "calculationPeriodAmount/calculation/floatingRateCalculation/floatingRateMultiplierSchedule" object Maybe
     ∷ line "calculationPeriodAmount/calculation/floatingRateCalculation/floatingRateMultiplierSchedule/initialValue" (leaf Rate) One
-    ∷ line "calculationPeriodAmount/calculation/floatingRateCalculation/floatingRateMultiplierSchedule/step" object (UpTo 4000)
+    ∷ line "calculationPeriodAmount/calculation/floatingRateCalculation/floatingRateMultiplierSchedule/step" object (UpTo most_steps)
     ∷ line "calculationPeriodAmount/calculation/floatingRateCalculation/floatingRateMultiplierSchedule/step/stepDate" (leaf Date) One
     ∷ line "calculationPeriodAmount/calculation/floatingRateCalculation/floatingRateMultiplierSchedule/step/stepValue" (leaf Rate) One
     ∷ line "calculationPeriodAmount/calculation/floatingRateCalculation/spreadSchedule" object Maybe
     ∷ line "calculationPeriodAmount/calculation/floatingRateCalculation/spreadSchedule/initialValue" (leaf Rate) One
-    ∷ line "calculationPeriodAmount/calculation/floatingRateCalculation/spreadSchedule/step" object (UpTo 4000)
+    ∷ line "calculationPeriodAmount/calculation/floatingRateCalculation/spreadSchedule/step" object (UpTo most_steps)
     ∷ line "calculationPeriodAmount/calculation/floatingRateCalculation/spreadSchedule/step/stepDate" (leaf Date) One
     ∷ line "calculationPeriodAmount/calculation/floatingRateCalculation/spreadSchedule/step/stepValue" (leaf Rate) One
     ∷ line "calculationPeriodAmount/calculation/floatingRateCalculation/initialRate" (leaf Rate) Maybe
@@ -132,6 +141,11 @@ lines =
     ∷ line "principalExchanges/intermediateExchange" (leaf Truth) One
     ∷ []
 
+-- the elements of a stream in the table of paths: those up to the cash flows, but for
+-- `payerPartyReference`, which is passed over
+unfoldable pub stream_elements : List (List ℕ)
+stream_elements = take (cashflows - calculation_period_dates) (drop calculation_period_dates printed)
+
 -- the members that are passed over unread
 abbrev passed : List Others
 passed =
@@ -143,9 +157,10 @@ passed =
 abbrev refused : List Others
 refused =
     at "" ("settlementProvision" ∷ "formula" ∷ [])
-    ∷ at "calculationPeriodDates" ("relativeEffectiveDate" ∷ "relativeTerminationDate" ∷ "firstPeriodStartDate" ∷ "firstCompoundingPeriodEndDate" ∷ [])
+    ∷ at "calculationPeriodDates" ("relativeEffectiveDate" ∷ "relativeTerminationDate" ∷ "firstCompoundingPeriodEndDate" ∷ [])
     ∷ at "calculationPeriodDates/effectiveDate" ("adjustedDate" ∷ [])
     ∷ at "calculationPeriodDates/terminationDate" ("adjustedDate" ∷ [])
+    ∷ at "calculationPeriodDates/firstPeriodStartDate" ("adjustedDate" ∷ [])
     ∷ at "paymentDates" ("resetDatesReference" ∷ "valuationDatesReference" ∷ [])
     ∷ at "resetDates" ("initialFixingDate" ∷ "rateCutOffDaysOffset" ∷ [])
     ∷ at "calculationPeriodAmount" ("knownAmountSchedule" ∷ [])

@@ -6,14 +6,6 @@ use Rattle.irs_elements.specs.declared.table.Kind.{Kind}
 use Rattle.irs_elements.specs.declared.table.Kind.TheVariants.{Object, Leaf, Passed, Refused}
 use Rattle.irs_elements.specs.declared.table.Row.{Row}
 use Rattle.std.specs.Prelude.{ℕ, ◌+◌, nat_lt, Bool, true, false, ◌&&◌, ◌==◌, List, [], ◌∷◌, map, Option, Some, None, slice_get}
-use Rattle.std.specs.Str.{bytes_eq}
-
--- the rows from the place k on are the elements of the table of paths: each has its place, its
--- parent's place is that of the row of its parent, and its name is the element's
-abbrev pub follows : ℕ → List Row → List (List ℕ) → List ℕ → List (List ℕ) → Bool
-follows k [] [] [] [] = true
-follows k (row ∷ rows) (name ∷ names) (parent ∷ parents) (element ∷ elements) = (row.1 == k) && (row.0 + 2 == parent) && bytes_eq name element && follows (k + 1) rows names parents elements
-follows k rows names parents elements = false
 
 abbrev stands_below : ℕ → Option Row → Bool
 stands_below r None = false

@@ -1,6 +1,6 @@
 //! The blocks of a stream: frequencies, offsets, adjustments, schedules of values.
 ghost use Rattle.irs_elements.specs.Find.{seen, values_in};
-ghost use Rattle.irs_read.specs.Meaning.{adjustments_in, centers_by, dated_in, frequency_in, named_centers as named_centers_in, names_in, offset_in, own_centers as own_centers_in, schedule_in, schedule_or as schedule_or_in, step_in, tenor_in};
+ghost use Rattle.irs_read.specs.Meaning.{adjustments_in, centers_by, dated_in, frequency_in, maybe_dated_in, named_centers as named_centers_in, names_in, offset_in, own_centers as own_centers_in, schedule_in, schedule_or as schedule_or_in, step_in, tenor_in};
 ghost use Rattle.serde_json.specs.View.{view};
 ghost use Rattle.std.specs.Prelude.{◌≡◌, IfOk, Some, codes, map};
 
@@ -109,6 +109,20 @@ pub fn dated(alloc: Global, lists: &[Option<&Value>], v: Option<&Value>) -> Resu
     let day = day(member(v, "unadjustedDate"));
     let adj = adjustments(alloc, lists, member(v, "dateAdjustments"))?;
     Ok(Dated { day, adj })
+}
+
+/// A date with its adjustments, where it stands.
+pub fn maybe_dated(
+    alloc: Global,
+    lists: &[Option<&Value>],
+    v: Option<&Value>,
+) -> Result<Option<Dated>, Memory>
+    ensures { IfOk result (λ dated. dated ≡ maybe_dated_in (map seen lists.now) (seen v.entry)) }
+{
+    match v {
+        None => Ok(None),
+        Some(_) => Ok(Some(dated(alloc, lists, v)?)),
+    }
 }
 
 fn step(scale: Scale, v: &Value) -> Step

@@ -1,17 +1,18 @@
 //! The values of leaves, and their defaults.
-ghost use Rattle.irs_elements.specs.Codes.{compounding_at, convention_at, day_count_at, day_kind_at, direction_at, relative_at, roll_at, stub_kind_at, tenor_unit_at, truth_at, unit_at};
+ghost use Rattle.irs_elements.specs.Codes.{compounding_at, convention_at, day_count_at, day_kind_at, direction_at, relative_at, roll_at, stub_kind_at, tenor_unit_at, treatment_at, truth_at, unit_at};
 ghost use Rattle.irs_elements.specs.Dates.{day_at};
 ghost use Rattle.irs_elements.specs.Find.{seen};
 ghost use Rattle.irs_elements.specs.Numbers.{multiplier_at, offset_at, precision_at, rate_at};
 ghost use Rattle.irs_elements.specs.Words.{currency_at};
-ghost use Rattle.irs_read.specs.Meaning.{day_in, number_in, relative_in, said, scale_at, truth_in, word_in};
+ghost use Rattle.irs_read.specs.Meaning.{day_in, number_in, relative_in, said, scale_at, treatment_in, truth_in, word_in};
 ghost use Rattle.std.specs.Prelude.{◌≡◌, IfOk};
 
 use irs_base::{Day, Direction, Memory, Text};
 use irs_elements::{codes, leaf_text, numbers, words};
 use irs_json::Value;
 use irs_terms::{
-    CompCode, ConvCode, Currency, DayCountCode, DayKind, Relative, RollCode, StubKind, Unit,
+    CompCode, ConvCode, Currency, DayCountCode, DayKind, Relative, RollCode, StubKind, Treatment,
+    Unit,
 };
 use itoa::Buffer;
 use std::alloc::Global;
@@ -190,6 +191,17 @@ pub fn compounding(v: Option<&Value>) -> Option<CompCode>
     }
 }
 
+/// `negativeInterestRateTreatment`.
+pub fn maybe_treatment(v: Option<&Value>) -> Option<Treatment>
+    ensures { result ≡ said treatment_at (seen v.entry) }
+{
+    let mut digits = Buffer::new();
+    match leaf_text(v, &mut digits) {
+        None => None,
+        Some(text) => codes::treatment(text),
+    }
+}
+
 /// `roundingDirection`.
 pub fn direction(v: Option<&Value>) -> Option<Direction>
     ensures { result ≡ said direction_at (seen v.entry) }
@@ -239,6 +251,16 @@ pub fn relative(v: Option<&Value>) -> Relative
     match maybe_relative(v) {
         None => Relative::Start,
         Some(end) => end,
+    }
+}
+
+/// What becomes of a rate below 0; it stays as it is where nothing is said.
+pub fn treatment(v: Option<&Value>) -> Treatment
+    ensures { result ≡ treatment_in (seen v.entry) }
+{
+    match maybe_treatment(v) {
+        None => Treatment::AsIs,
+        Some(treatment) => treatment,
     }
 }
 

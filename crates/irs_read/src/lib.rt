@@ -16,5 +16,5 @@ mod tests;
 pub use document::{first_in_document, the_swap};
 pub use reader::{ReadErr, read_swap};
 pub use table::{
-    NAMES, ROWS, SWAP_NAMES, SWAP_ROWS, rows_follow, rows_whole, swap_rows_whole, tables_listed,
+    NAMES, ROWS, SWAP_NAMES, SWAP_ROWS, lines_follow, rows_whole, swap_rows_whole, tables_listed,
 };

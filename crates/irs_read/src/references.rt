@@ -1,9 +1,9 @@
 //! References by `@href`: a reference names the element that has its text as `@id`. What is in the
 //! profile are references to business centres of any stream of the swap, and to dates of the stream.
-ghost use Rattle.irs_elements.specs.Find.{seen};
+ghost use Rattle.irs_elements.specs.Find.{member as member_of, seen};
 ghost use Rattle.irs_read.specs.References.{attribute as attribute_of, first_of, has_id as has_id_of, href_of, lists_in, lists_of, reference_in, the_one};
 ghost use Rattle.serde_json.specs.View.{view};
-ghost use Rattle.std.specs.Prelude.{◌≡◌, ◌++◌, IfOk, count_by, find, map, option_map};
+ghost use Rattle.std.specs.Prelude.{◌≡◌, ◌++◌, IfOk, codes, count_by, find, map, option_map};
 
 use irs_base::Memory;
 use irs_elements::{member, once};
@@ -89,25 +89,27 @@ pub fn the_named<'a>(lists: &[Option<&'a Value>], reference: &Value) -> Option<&
     }
 }
 
+// The list of centres in the adjustments of that name.
+fn list_below<'a>(v: Option<&'a Value>, name: &str) -> Option<&'a Value>
+    ensures { seen result ≡ member_of (codes "businessCenters") (member_of name.now (seen v.entry)) }
+{
+    member(member(v, name), "businessCenters")
+}
+
 // Where a stream may have a list of centres.
-fn slots(stream: &Value) -> [Option<&Value>; 6]
+fn slots(stream: &Value) -> [Option<&Value>; 7]
     ensures { map seen result ≡ lists_in (view stream.now) }
 {
     let dates = once(stream, "calculationPeriodDates");
     let resets = once(stream, "resetDates");
-    let effective = member(member(dates, "effectiveDate"), "dateAdjustments");
-    let termination = member(member(dates, "terminationDate"), "dateAdjustments");
-    let periods = member(dates, "calculationPeriodDatesAdjustments");
-    let payments = member(once(stream, "paymentDates"), "paymentDatesAdjustments");
-    let fixings = member(resets, "fixingDates");
-    let adjusted = member(resets, "resetDatesAdjustments");
     [
-        member(effective, "businessCenters"),
-        member(termination, "businessCenters"),
-        member(periods, "businessCenters"),
-        member(payments, "businessCenters"),
-        member(fixings, "businessCenters"),
-        member(adjusted, "businessCenters"),
+        list_below(member(dates, "effectiveDate"), "dateAdjustments"),
+        list_below(member(dates, "terminationDate"), "dateAdjustments"),
+        list_below(dates, "calculationPeriodDatesAdjustments"),
+        list_below(member(dates, "firstPeriodStartDate"), "dateAdjustments"),
+        list_below(once(stream, "paymentDates"), "paymentDatesAdjustments"),
+        list_below(resets, "fixingDates"),
+        list_below(resets, "resetDatesAdjustments"),
     ]
 }
 

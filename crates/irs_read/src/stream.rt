@@ -5,10 +5,12 @@ ghost use Rattle.irs_read.specs.References.{lists_of};
 ghost use Rattle.serde_json.specs.View.{view};
 ghost use Rattle.std.specs.Prelude.{◌≡◌, IfOk, map, option_map};
 
-use crate::blocks::{adjustments, dated, frequency, offset, schedule, schedule_or, tenor};
+use crate::blocks::{
+    adjustments, dated, frequency, maybe_dated, offset, schedule, schedule_or, tenor,
+};
 use crate::leaf_values::{
     Scale, compounding, currency, day_count, direction, maybe_day, number, precision, relative,
-    roll, small_rate, stub_kind, truth, word,
+    roll, small_rate, stub_kind, treatment, truth, word,
 };
 use crate::references::{lists, reference};
 use irs_base::{Direction, Memory};
@@ -48,6 +50,7 @@ fn float_terms(alloc: Global, v: &Value) -> Result<FloatTerms, Memory>
     let spread = schedule_or(alloc, 0, once(v, "spreadSchedule"))?;
     let initial_rate = small_rate(once(v, "initialRate"));
     let rounding = rounding(once(v, "finalRateRounding"));
+    let treatment = treatment(once(v, "negativeInterestRateTreatment"));
     Ok(FloatTerms {
         index,
         tenor,
@@ -55,6 +58,7 @@ fn float_terms(alloc: Global, v: &Value) -> Result<FloatTerms, Memory>
         spread,
         initial_rate,
         rounding,
+        treatment,
     })
 }
 
@@ -244,8 +248,10 @@ fn stream_of(
 {
     let notionals = member(member(calc, "notionalSchedule"), "notionalStepSchedule");
     let periods = member(dates, "calculationPeriodDatesAdjustments");
+    let first = member(dates, "firstPeriodStartDate");
     let effective = dated(alloc, lists, member(dates, "effectiveDate"))?;
     let termination = dated(alloc, lists, member(dates, "terminationDate"))?;
+    let first_start = maybe_dated(alloc, lists, first)?;
     let period_adj = adjustments(alloc, lists, periods)?;
     let pay = pay_terms(alloc, lists, dates, once(v, "paymentDates"))?;
     let reset = maybe_reset_terms(alloc, lists, dates, once(v, "resetDates"))?;
@@ -255,6 +261,7 @@ fn stream_of(
     let stubs = maybe_stub_terms(alloc, dates, once(v, "stubCalculationPeriodAmount"))?;
     Ok(Stream {
         effective,
+        first_start,
         termination,
         period_adj,
         first_regular: maybe_day(member(dates, "firstRegularPeriodStartDate")),

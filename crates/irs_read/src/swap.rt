@@ -5,8 +5,8 @@ ghost use Rattle.irs_base.specs.Limits.{most_streams};
 ghost use Rattle.serde_json.specs.View.{view};
 ghost use Rattle.std.specs.Prelude.{◌≡◌, ◌≤◌, length, map};
 
-use crate::table::{MOST_STREAMS, NAMES, ROWS, STREAM, SWAP, SWAP_NAMES, SWAP_ROWS};
-use irs_base::{Broken, Elem, Place, Rule};
+use crate::table::{NAMES, ROWS, STREAM, SWAP, SWAP_NAMES, SWAP_ROWS};
+use irs_base::{Broken, Elem, MOST_STREAMS, Place, Rule};
 use irs_elements::{earlier, first_fault, values_at};
 use irs_json::{Value, members};
 

@@ -17,9 +17,10 @@ use Rattle.irs_schedule.proofs.AdjustedBoundaries.{adjusted_days}
 use Rattle.irs_schedule.proofs.BoundariesThere.{boundaries_days, boundaries_run}
 use Rattle.irs_schedule.proofs.PaymentsCover.{every_payments_cover}
 use Rattle.irs_schedule.proofs.StreamRanges.{AreInRange}
+use Rattle.irs_terms.specs.FirstDay.{first_day_of}
 
 module _ (cal : List Section) (sets : StreamSets) (s : Stream) (lawful : IsLawfulStream s) (terms : TermsKept cal s) (l : Layout) (is : IsLayout sets s l) where
-  pub layout_runs : RunsFromTo s.effective.day s.termination.day l.unadjusted
+  pub layout_runs : RunsFromTo (first_day_of s) s.termination.day l.unadjusted
   layout_runs = boundaries_run s l.span terms.dates is.regular is.kept l.unadjusted is.unadjusted
 
   pub layout_days : AreDays l.unadjusted

@@ -11,7 +11,8 @@ use Rattle.irs_terms.specs.declared.results.Span.{Span}
 use Rattle.irs_terms.specs.declared.stream.Stream.{Stream}
 use Rattle.irs_calendar.specs.declared.sections.Section.{Section}
 use Rattle.irs_periods.specs.Adjusting.{AdjustedBroken, AdjustedList, NoResult, NotAfter, boundary_element, boundary_index, last_of, rank}
-use Rattle.irs_periods.specs.Boundaries.{Boundaries, most_periods, too_many_periods}
+use Rattle.irs_periods.specs.Boundaries.{Boundaries, too_many_periods}
+use Rattle.irs_base.specs.Limits.{most_periods}
 use Rattle.irs_periods.specs.SpanRules.{SpanBroken, SpanKept, broken_at}
 use Rattle.irs_periods.specs.Spans.{Regular}
 use Rattle.irs_periods.proofs.AdjustedLemmas.{rising_of}

@@ -1,5 +1,6 @@
 use Rattle.irs_audit.proofs.flow_faults.are_few.Given as goal
-use Rattle.irs_audit.specs.FlowFaults.{most_rows, periods_of}
+use Rattle.irs_audit.specs.FlowFaults.{periods_of}
+use Rattle.irs_base.specs.Limits.{most_rows}
 use Rattle.serde_json.specs.View.{view}
 use Rattle.std.proofs.Common.{◌≡◌, ◌+◌, length, map, take}
 

@@ -1,7 +1,9 @@
+use Rattle.irs_audit.proofs.FlowLaws.{period_first}
 use Rattle.irs_audit.proofs.FlowSteps.{only_first}
 use Rattle.irs_audit.proofs.flow_faults.period_fault.Goals as goal
-use Rattle.irs_audit.specs.FlowFaults.{Only, PeriodFault, at, has_both_rates, period_names}
-use Rattle.irs_audit.specs.declared.flow_table.TheConstants.{PERIOD, PERIOD_ROWS}
+use Rattle.irs_audit.specs.FlowFaults.{Only, PeriodFault, at, has_both_rates}
+use Rattle.irs_audit.specs.FlowLines.{period_names, period_rows}
+use Rattle.irs_audit.specs.declared.flow_table.TheConstants.{PERIOD}
 use Rattle.irs_base.specs.Elements.{flow_period}
 use Rattle.irs_base.specs.declared.places.Rule.TheVariants.{K7}
 use Rattle.irs_elements.proofs.First.{first_is, first_or}
@@ -12,5 +14,5 @@ pub returns : goal.returns
 returns c =
     let d = view c.args.v.now in
     first_is (PeriodFault c.args.stream c.args.number d) _ c.earlier.result c.earlier.ensures
-    (first_or (FaultAt PERIOD_ROWS period_names c.args.stream 0 PERIOD c.args.number d) (Only (has_both_rates d) (at c.args.stream K7 flow_period)) c.first_fault-own.result c.both_rates_fault.result c.first_fault-own.ensures
+    (first_or (FaultAt period_rows period_names c.args.stream 0 PERIOD c.args.number d) (Only (has_both_rates d) (at c.args.stream K7 flow_period)) c.first_fault-own.result c.both_rates_fault.result (period_first _ _ _ _ _ _ c.first_fault-own.ensures)
     (only_first (has_both_rates d) (at c.args.stream K7 flow_period) c.both_rates_fault.result c.both_rates_fault.ensures))

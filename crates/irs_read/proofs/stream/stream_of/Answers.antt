@@ -4,7 +4,7 @@ use Rattle.irs_elements.specs.Find.{member, seen}
 use Rattle.irs_elements.specs.Words.{currency_at}
 use Rattle.irs_read.proofs.Parts.{both, same_stream}
 use Rattle.irs_read.proofs.stream.stream_of.Goals as goal
-use Rattle.irs_read.specs.Meaning.{adjustments_in, dated_in, exchanges_in, leg_by, no_currency, pay_in, reset_in, said, schedule_in, stubs_in}
+use Rattle.irs_read.specs.Meaning.{adjustments_in, dated_in, exchanges_in, leg_by, maybe_dated_in, no_currency, pay_in, reset_in, said, schedule_in, stubs_in}
 use Rattle.irs_read.specs.declared.leaf_values.Scale.TheVariants.{Notionals}
 use Rattle.irs_terms.specs.declared.codes.CompCode.TheVariants.{Simple}
 use Rattle.irs_terms.specs.declared.codes.DayCountCode.TheVariants.{OneOne}
@@ -19,6 +19,7 @@ returns c =
     let notionals = c.member-notionals.ensures ∙ ap (member (codes "notionalStepSchedule")) c.member.ensures in
     same_stream _ _ (record {
       effective = c.in_ok-effective.ensures ∙ ap (dated_in lists) c.member-2.ensures;
+      first_start = c.in_ok-first_start.ensures ∙ ap (maybe_dated_in lists) c.member-first.ensures;
       termination = c.in_ok-termination.ensures ∙ ap (dated_in lists) c.member-3.ensures;
       period_adj = c.in_ok-period_adj.ensures ∙ ap (adjustments_in lists) c.member-periods.ensures;
       first_regular = c.maybe_day.ensures ∙ ap (said day_at) c.member-5.ensures;
