@@ -18,7 +18,7 @@ const DOCUMENT: &str = r#"{"swap":{"swapStream":{
 "fixedRateSchedule":{"initialValue":"0.05"},"dayCountFraction":"ACT/360"}}}}}
 "#;
 
-const SCHEDULE: &str = "irs-schedule 1
+const SCHEDULE: &str = "irs-schedule 2
 stream 1 USD ACT/360 fixed
 p 1 1 2024-07-15 2024-07-15 1 1 25277.78
 c 1 1 2024-01-15 2024-07-15 2024-01-15 2024-07-15 182 182/360 1000000.0000 0.050000000
@@ -181,6 +181,9 @@ fn files_and_sinks_that_never_fail(rt: HostRuntime) -> Result<(), Fail> {
     let mut sure = SureSink::new();
     let asked = words(alloc, &["schedule", "B", "empty"])?;
     assert_eq!(rt; run(alloc, &asked, &mut files, &mut sure), 0);
+    let mut out = MemSink::with_room(alloc, 1000)?;
+    assert_eq!(rt; run(alloc, &asked, &mut files, &mut out), 0);
+    assert_eq!(rt; out.bytes(), SCHEDULE.as_bytes());
     Ok(())
 }
 
