@@ -63,7 +63,8 @@ IsFirstPaymentOut s first = (first ≤ℤ first_day_of s) ⊎ (s.termination.day
 -- (4) the last regular payment date isn't after the first day of the first period, is after the termination
 -- date, or is before the first payment date
 abbrev pub IsLastPaymentOut : Stream → ℤ → Type 0
-IsLastPaymentOut s last = (last ≤ℤ first_day_of s) ⊎ ((s.termination.day <ℤ last) ⊎ IsSomeAnd s.pay.first (λ first. last <ℤ first))
+IsLastPaymentOut s last =
+    (last ≤ℤ first_day_of s) ⊎ ((s.termination.day <ℤ last) ⊎ IsSomeAnd s.pay.first (λ first. last <ℤ first))
 
 -- (2) or (3) of a first payment date that is given
 abbrev pub IsFirstMisfit : Stream → ℤ → Type 0
