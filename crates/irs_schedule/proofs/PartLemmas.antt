@@ -1,5 +1,5 @@
 -- What a part keeps.
-use Rattle.std.proofs.Common.{◌≡◌, ℕ, ◌-◌, ◌≤◌, length, arith, IfSome, subst, sym, if◌then◌else◌}
+use Rattle.std.proofs.Common.{◌+◌, ◌≡◌, ℕ, ◌-◌, ◌≤◌, length, arith, IfSome, subst, sym, if◌then◌else◌}
 use Rattle.irs_base.specs.DayLists.{AreDays}
 use Rattle.irs_terms.specs.declared.results.Exchange.{Exchange}
 use Rattle.irs_terms.specs.declared.results.Reset.{Reset}
