@@ -29,8 +29,8 @@ use std::alloc::Global;
 /// `Broken` is the first rule broken: a boundary has no adjusted day (K33, in the order of the
 /// elements and then of the boundaries: effective date, termination date, the other boundaries,
 /// `firstPeriodStartDate`), or, where each has one, an adjusted day isn't after the one before it
-/// (K34). The place names stream 1. Both are decided whatever memory there is. Boundaries have at
-/// most one list of adjusted days, and one where K33 isn't broken.
+/// (K34). The place names stream 1. Boundaries have at most one list of adjusted days, and one where
+/// K33 isn't broken.
 pub fn adjusted<G: GoodDays>(
     alloc: Global,
     s: &Stream,

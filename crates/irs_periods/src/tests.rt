@@ -1,5 +1,5 @@
 //! Calculation periods whose boundaries, or whose first broken rule, are known from outside the code.
-ghost use Rattle.std.specs.Prelude.{◌≡◌, ◌≤◌, ◌<◌, ◌<ℤ◌, IfSome, IsTrue};
+ghost use Rattle.std.specs.Prelude.{◌≡◌, ◌≤◌, ◌<◌, ◌≤ℤ◌, ◌<ℤ◌, IfSome, IsTrue};
 ghost use Rattle.irs_base.specs.Days.{IsDay};
 ghost use Rattle.irs_terms.specs.Lawful.{IsLawfulCenters, IsLawfulFrequency, IsLawfulPay, IsLawfulRoll, IsLawfulStream, IsLawfulValues, IsNotional, IsRate};
 ghost use Rattle.irs_periods.specs.Terms.{DatesInOrder, FrequencySuits, given_or};
@@ -163,19 +163,27 @@ fn starts_before_effective(s: &Stream) -> bool
     }
 }
 
+fn are_in_order(begin: Day, termination: Day, first: Option<Day>, last: Option<Day>) -> bool
+    ensures first { IsTrue result → IfSome first (λ f. (begin ≤ℤ f) × (f ≤ℤ termination)) }
+    ensures last { IsTrue result → IfSome last (λ l. (given_or first begin ≤ℤ l) × (l ≤ℤ termination)) }
+{
+    let from = given(first, begin);
+    let to = given(last, termination);
+    begin <= from && from <= termination && from <= to && to <= termination
+}
+
 fn keeps_dates(s: &Stream) -> bool
     ensures { IsTrue result → DatesInOrder s.now }
 {
-    let begin = s.first_day();
-    let termination = s.termination.day;
-    let from = given(s.first_regular, begin);
-    let to = given(s.last_regular, termination);
-    s.effective.day < termination
-        && starts_before_effective(s)
-        && begin <= from
-        && from <= termination
-        && from <= to
-        && to <= termination
+    if s.effective.day >= s.termination.day || !starts_before_effective(s) {
+        return false;
+    }
+    are_in_order(
+        s.first_day(),
+        s.termination.day,
+        s.first_regular,
+        s.last_regular,
+    )
 }
 
 fn keeps_frequency(s: &Stream) -> bool
