@@ -46,17 +46,17 @@ module _ (sets : StreamSets) (s : Stream) (span : Span) (b : List ℤ) (listed :
   none_misses : (i : ℕ) → NoResult s sets.boundaries b i → ⊥
   none_misses = none_by_rank (boundary_element s (last_of b)) (NoResult s sets.boundaries b) (λ i misses lower_element.
       none_by_rank (boundary_index (last_of b)) (MissesAt (boundary_element s (last_of b) i)) (λ k at lower_index.
-          adjusting_kept (broken_at K33 (boundary_element s (last_of b) k) (boundary_index (last_of b) k)) (inl (record {
-            number = k;
-            first = record {
-              holds = at.0;
-              none_before = λ j named other. ⊎_elim
-                  (λ below. lower_element j (omega (arith, below, at.1)) other)
-                  (λ same. lower_index j same.1 (other, same.0 ∙ at.1))
-                  named;
-            };
-            is = refl;
-          }))) i (misses, refl))
+      adjusting_kept (broken_at K33 (boundary_element s (last_of b) k) (boundary_index (last_of b) k)) (inl (record {
+        number = k;
+        first = record {
+          holds = at.0;
+          none_before = λ j named other. ⊎_elim
+              (λ below. lower_element j (omega (arith, below, at.1)) other)
+              (λ same. lower_index j same.1 (other, same.0 ∙ at.1))
+              named;
+        };
+        is = refl;
+      }))) i (misses, refl))
 
   -- the adjusted days rise
   adjusted_rises : (a : List ℤ) → AdjustedList s sets.boundaries b a → IsRising a

@@ -1,5 +1,5 @@
 -- How large the rates of periods can be.
-use Rattle.std.proofs.Common.{◌≡◌, ℕ, ◌+◌, ◌-◌, ◌*◌, ◌^◌, ◌≤◌, ℤ, pos, negsuc, ◌+ℤ◌, ◌*ℤ◌, ◌≤ℤ◌, neg_ℤ, unsigned_abs, Option, Some, None, IfSome, arith, sym, ap, ◌∙◌, Bool, true, false, int_lt, if◌then◌else◌}
+use Rattle.std.proofs.Common.{◌≡◌, ℕ, ◌+◌, ◌-◌, ◌*◌, ◌^◌, ◌≤◌, ℤ, pos, negsuc, ◌+ℤ◌, ◌*ℤ◌, ◌≤ℤ◌, neg_ℤ, unsigned_abs, Option, Some, None, IfSome, arith, sym, ap, ◌∙◌, true, false, int_lt, if◌then◌else◌}
 use Rattle.std.proofs.lemmas.Nat.{pow-add}
 use Rattle.jiff_core.proofs.SignedLemmas.{signed_arith, product_within}
 use Rattle.irs_base.specs.Rounding.{rounded}
