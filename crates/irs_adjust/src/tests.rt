@@ -3,8 +3,8 @@
 ghost use Rattle.std.specs.Prelude.{◌≡◌};
 
 use crate::*;
-use irs_base::{Civil, Day, Names, Text, day_of};
-use irs_calendar::{Calendars, MOST_BYTES, RunSet};
+use irs_base::{Civil, Day, MOST_BYTES, Names, Text, day_of};
+use irs_calendar::{Calendars, RunSet};
 use irs_terms::{ConvCode, DayKind, Offset};
 use std::alloc::Global;
 use std::test::*;

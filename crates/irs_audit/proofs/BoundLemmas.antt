@@ -18,6 +18,7 @@ use Rattle.irs_schedule.specs.PeriodViews.{period_at, dated_period}
 use Rattle.irs_schedule.proofs.PlaceLemmas.{decimals_few}
 use Rattle.irs_schedule.proofs.WalkLemmas.{covers_within}
 use Rattle.irs_audit.specs.Comparisons.{IsSmall, IsPayment}
+use Rattle.irs_daycount.specs.Actual.{act_act_denominator}
 
 every_get : {X : Type 0} (P : X → Type 0) (xs : List X) (j : ℕ) (x : X) → Every P xs → slice_get xs j ≡ Some x → P x
 every_get P [] j x h e = absurd (cc)
@@ -55,7 +56,7 @@ covering_few a n (y ∷ ys) h = omega (arith, h.0, h.1, covering_few (y.last_per
 pub payments_few : (p : Part) → KeepsBounds p → length p.payments ≤ length p.periods
 payments_few p h = let few = covering_few 1 (length p.periods) p.payments h.covers in omega (arith, few)
 
-small_denominator : (code : DayCountCode) → (pos 0 <ℤ denominator_of code) × (denominator_of code ≤ℤ pos 133_590)
+small_denominator : (code : DayCountCode) → (pos 0 <ℤ denominator_of code) × (denominator_of code ≤ℤ pos act_act_denominator)
 small_denominator OneOne = (omega (arith, signed_arith), omega (arith, signed_arith))
 small_denominator ActActIsda = (omega (arith, signed_arith), omega (arith, signed_arith))
 small_denominator Act365Fixed = (omega (arith, signed_arith), omega (arith, signed_arith))
@@ -66,7 +67,7 @@ small_denominator ThirtyE360Isda = (omega (arith, signed_arith), omega (arith, s
 
 small_entry : (code : DayCountCode) (e : PeriodEntry) → IsEntry code e → IsSmall e.frac
 small_entry code e h =
-    let D : ℤ → Type 0 = λ d. (pos 0 <ℤ d) × (d ≤ℤ pos 133_590) in
+    let D : ℤ → Type 0 = λ d. (pos 0 <ℤ d) × (d ≤ℤ pos act_act_denominator) in
     record { numerator = h.numerator; denominator = subst D (sym h.denominator) (small_denominator code) }
 
 -- the fraction of a period

@@ -15,6 +15,8 @@ use Rattle.irs_base.proofs.RoundingLaws.{nearest_once}
 use Rattle.irs_terms.specs.declared.results.Frac.{Frac}
 use Rattle.irs_audit.specs.declared.flows.StatedFraction.{StatedFraction}
 use Rattle.irs_audit.specs.StatedValues.{IsNumber, IsFraction}
+use Rattle.irs_base.specs.Limits.{most_numerator}
+use Rattle.irs_audit.specs.Comparisons.{most_scaled}
 
 cancel : (a b p : ℕ) → 0 < p → a * p ≡ b * p → a ≡ b
 cancel a b p some e =
@@ -105,15 +107,15 @@ divides p q m some =
     (λ d. multiple_up p q m k r parts.0 d.0 d.1, λ f. multiple_down p q m k r some parts.0 parts.1 parts.2 f)
 
 -- the numerator of a fraction in units of 10^-12 and greater
-pub scaled_within : (num : ℤ) (n : ℕ) → n ≤ 12 → (pos 0 ≤ℤ num) × (num ≤ℤ pos 40_000_000) → (pos 0 ≤ℤ (num *ℤ pos (10 ^ n))) × ((num *ℤ pos (10 ^ n)) ≤ℤ pos 40_000_000_000_000_000_000)
+pub scaled_within : (num : ℤ) (n : ℕ) → n ≤ 12 → (pos 0 ≤ℤ num) × (num ≤ℤ pos most_numerator) → (pos 0 ≤ℤ (num *ℤ pos (10 ^ n))) × ((num *ℤ pos (10 ^ n)) ≤ℤ pos most_scaled)
 scaled_within (negsuc k) n h range = absurd (omega (arith, signed_arith, range))
 scaled_within (pos k) n h range =
-    let small : k ≤ 40_000_000 = omega (arith, signed_arith, range) in
+    let small : k ≤ most_numerator = omega (arith, signed_arith, range) in
     let power : 10 ^ n ≤ 10 ^ 12 = power_small n h in
-    let product : k * 10 ^ n ≤ 40_000_000 * 10 ^ 12 = mul-le-mul small power in
+    let product : k * 10 ^ n ≤ most_numerator * 10 ^ 12 = mul-le-mul small power in
     rw (pos-*ℤ-pos k (10 ^ n)) (omega (arith, signed_arith), omega (arith, signed_arith, product))
 
-pub scaled_fits : (num : ℤ) (n : ℕ) → n ≤ 12 → (pos 0 ≤ℤ num) × (num ≤ℤ pos 40_000_000) → FitsSigned w128 (num *ℤ pos (10 ^ n))
+pub scaled_fits : (num : ℤ) (n : ℕ) → n ≤ 12 → (pos 0 ≤ℤ num) × (num ≤ℤ pos most_numerator) → FitsSigned w128 (num *ℤ pos (10 ^ n))
 scaled_fits num n h range = let within = scaled_within num n h range in fits_between w128 (num *ℤ pos (10 ^ n)) (omega (arith, signed_arith, within))
 
 pub exact_fraction : (f : Frac) (s : StatedFraction) (r : Bool) → s.places < 4 → (IsTrue r ↔ ((s.units *ℤ f.den) ≡ (f.num *ℤ pos (10 ^ s.places)))) → (IsTrue r ↔ IsFraction f s)

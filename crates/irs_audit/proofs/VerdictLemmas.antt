@@ -12,6 +12,8 @@ use Rattle.irs_audit.specs.FlowParts.{FlowPart}
 use Rattle.irs_audit.specs.Verdicts.{IsVerdict, IsNo, stream_rows, stream_unfixed, row_count, unfixed_count}
 use Rattle.irs_audit.proofs.BoundLemmas.{payments_few}
 use Rattle.irs_audit.proofs.OrderLemmas.{first_is_one}
+use Rattle.irs_base.specs.Limits.{most_periods}
+use Rattle.irs_schedule.specs.RowsOf.{most_stream_rows}
 
 -- one verdict at most
 pub one_verdict : (f : List FlowPart) (s : List Part) (v w : Verdict) → IsVerdict f s v → IsVerdict f s w → v ≡ w
@@ -29,7 +31,7 @@ few_if : (b : Bool) (m n : ℕ) → m ≡ (if b then n else 0) → m ≤ n
 few_if true m n e = omega (arith, e)
 few_if false m n e = omega (arith, e)
 
-pub rows_few : (p : Part) → KeepsBounds p → stream_rows p ≤ 16_002
+pub rows_few : (p : Part) → KeepsBounds p → stream_rows p ≤ most_stream_rows
 rows_few p h =
     let payments = payments_few p h in
     let resets = few_if p.floating (length p.resets) (length p.periods) h.resets in
@@ -43,7 +45,7 @@ count_few : {X : Type 0} (test : X → Bool) (a : ℕ) (xs : List X) → fold (�
 count_few test a [] = omega arith
 count_few test a (x ∷ xs) = let rest = count_few test (a + cond (test x) 1 0) xs in let one = one_few (test x) in omega (arith, rest, one)
 
-pub unfixed_few : (p : Part) → KeepsBounds p → stream_unfixed p ≤ 4000
+pub unfixed_few : (p : Part) → KeepsBounds p → stream_unfixed p ≤ most_periods
 unfixed_few p h =
     let payments = payments_few p h in
     let count = count_few (λ (y : PaymentEntry). is_none y.amount) 0 p.payments in
@@ -54,7 +56,7 @@ sum_few f c a [] each h = omega arith
 sum_few f c a (p ∷ ps) each h = let rest = sum_few f c (a + f p) ps each h.1 in let one = each p h.0 in omega (arith, rest, one)
 
 pub row_count_fits : (s : List Part) → IsWithin s → row_count s < 2 ^ 32
-row_count_fits s h = let few = sum_few stream_rows 16_002 0 s rows_few h.each in omega (arith, few, h.few)
+row_count_fits s h = let few = sum_few stream_rows most_stream_rows 0 s rows_few h.each in omega (arith, few, h.few)
 
 pub unfixed_count_fits : (s : List Part) → IsWithin s → unfixed_count s < 2 ^ 32
-unfixed_count_fits s h = let few = sum_few stream_unfixed 4000 0 s unfixed_few h.each in omega (arith, few, h.few)
+unfixed_count_fits s h = let few = sum_few stream_unfixed most_periods 0 s unfixed_few h.each in omega (arith, few, h.few)

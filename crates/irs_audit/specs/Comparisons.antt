@@ -1,15 +1,21 @@
 -- What the comparisons of rows rest on: bounds that every schedule keeps.
-use Rattle.std.specs.Prelude.{◌≤◌, pos, ◌≤ℤ◌, ◌<ℤ◌, IfSome}
+use Rattle.std.specs.Prelude.{ℕ, ◌*◌, ◌^◌, ◌≤◌, pos, ◌≤ℤ◌, ◌<ℤ◌, IfSome}
 use Rattle.irs_terms.specs.declared.results.Frac.{Frac}
 use Rattle.irs_schedule.specs.declared.entries.PaymentEntry.{PaymentEntry}
+use Rattle.irs_base.specs.Limits.{most_numerator, most_periods}
+use Rattle.irs_daycount.specs.Actual.{act_act_denominator}
+
+-- the greatest numerator in units of 10^-12
+abbrev pub most_scaled : ℕ
+most_scaled = most_numerator * 10 ^ 12
 
 -- a fraction within the bounds of periods
 pub record IsSmall (f : Frac) : Type 0 where
-  pub numerator : (pos 0 ≤ℤ f.num) × (f.num ≤ℤ pos 40_000_000)
-  pub denominator : (pos 0 <ℤ f.den) × (f.den ≤ℤ pos 133_590)
+  pub numerator : (pos 0 ≤ℤ f.num) × (f.num ≤ℤ pos most_numerator)
+  pub denominator : (pos 0 <ℤ f.den) × (f.den ≤ℤ pos act_act_denominator)
 
 -- a payment that begins with its first period, and whose amount has few decimals
 pub record IsPayment (x : PaymentEntry) : Type 0 where
   pub order : x.first_period ≤ x.last_period
-  pub last : x.last_period ≤ 4000
+  pub last : x.last_period ≤ most_periods
   pub decimals : IfSome x.amount (λ v. v.places ≤ 12)

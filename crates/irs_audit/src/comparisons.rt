@@ -1,9 +1,10 @@
 //! Whether one field of cash flows departs. Amounts, notionals and rates are compared as numbers; those
 //! of flows are in units of 10^-12.
 ghost use Rattle.std.specs.Prelude.{◌≡◌, ◌^◌, ◌≤◌, pos, ◌*ℤ◌, ◌<ℤ◌, ◌≤ℤ◌, IsTrue, ◌↔◌};
+ghost use Rattle.irs_base.specs.Limits.{most_numerator};
 ghost use Rattle.std.specs.Int.{int_div_euclid, int_rem_euclid};
 ghost use Rattle.irs_audit.specs.StatedValues.{IsNumber, IsAmount, IsFraction, StatedWrongly, NotStatedRightly};
-ghost use Rattle.irs_audit.specs.Comparisons.{IsSmall};
+ghost use Rattle.irs_audit.specs.Comparisons.{IsSmall, most_scaled};
 
 use crate::StatedFraction;
 use irs_base::{Day, Dec, Direction, round};
@@ -52,9 +53,9 @@ fn is_number(units: i128, places: u8, stated: i128) -> bool
 // The numerator of a fraction in units of 10^-places.
 fn scaled(num: i64, places: u8) -> i128
     requires places { places ≤ 12 }
-    requires num { (pos 0 ≤ℤ num) × (num ≤ℤ pos 40_000_000) }
+    requires num { (pos 0 ≤ℤ num) × (num ≤ℤ pos most_numerator) }
     ensures value { result ≡ num *ℤ pos (10 ^ places) }
-    ensures size { (pos 0 ≤ℤ result) × (result ≤ℤ pos 40_000_000_000_000_000_000) }
+    ensures size { (pos 0 ≤ℤ result) × (result ≤ℤ pos most_scaled) }
 {
     i128::from(num) * power_of_ten(places)
 }

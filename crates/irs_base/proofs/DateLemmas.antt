@@ -1,5 +1,5 @@
 -- The day of a date, as a function.
-use Rattle.std.proofs.Common.{◌≡◌, ◌⊎◌, inl, inr, ℕ, ◌<◌, ◌≤◌, Bool, true, false, ◌&&◌, Option, Some, None, IfSome, IfNone, nat_le, arith, refl, sym, ap, subst, ℤ, pos, negsuc}
+use Rattle.std.proofs.Common.{◌≡◌, ◌⊎◌, inl, inr, ℕ, ◌<◌, ◌≤◌, Bool, true, false, ◌&&◌, Option, Some, None, IfSome, IfNone, nat_le, arith, refl, sym, ap, subst, ℤ, pos}
 use Rattle.std.specs.Ordering.{int_cmp, is_le}
 use Rattle.jiff_core.specs.Calendar.{IsCivilDate, days_in_month, days_from_civil}
 use Rattle.jiff_core.proofs.SignedLemmas.{signed_arith}

@@ -6,7 +6,7 @@ use Rattle.irs_calendar.specs.declared.sections.Section.{Section}
 use Rattle.irs_calendar.specs.declared.part.Part.{Part}
 use Rattle.irs_calendar.specs.declared.part.Part.TheVariants.{Between, Named, Covered, Open}
 use Rattle.irs_calendar.specs.declared.part.State.{State}
-use Rattle.irs_calendar.specs.declared.limits.TheConstants.{MOST_HOLIDAYS}
+use Rattle.irs_base.specs.Limits.{most_holidays}
 use Rattle.irs_calendar.specs.declared.machine.Fault.{Fault}
 use Rattle.irs_calendar.specs.declared.calendars.CalErr.{CalErr}
 use Rattle.irs_calendar.specs.Machine.{Said, Nothing, Center, Cover, Weekend, Holiday, Wrong, begun, after_center, after_cover, after_weekend, after_holiday, after_line, at_end, fits_section}
@@ -90,7 +90,7 @@ holiday_apart done (Covered m a b) d t h k e = absurd (cc e)
 holiday_apart done (Open s) d t h k e = elim (true_or_false (fits_section s d)) [
   | inl fits ↦
       let e' = rw fits at e in
-      elim (true_or_false (nat_le MOST_HOLIDAYS (length s.holidays))) [
+      elim (true_or_false (nat_le most_holidays (length s.holidays))) [
         | inl full ↦ absurd (let x = rw full at e' in cc x)
         | inr room ↦ subst Apart (same_state (rw room at e')) (record { done = h; part = k })
       ]

@@ -7,7 +7,7 @@ use Rattle.jiff_core.proofs.SignedLemmas.{signed_arith}
 use Rattle.irs_base.specs.Lines.{lines_of}
 use Rattle.irs_base.proofs.Orders.{le_true, true_le, lt_true, true_lt, both_true}
 use Rattle.irs_calendar.specs.declared.sections.Section.{Section}
-use Rattle.irs_calendar.specs.declared.limits.TheConstants.{MOST_HOLIDAYS}
+use Rattle.irs_base.specs.Limits.{most_holidays}
 use Rattle.irs_calendar.specs.declared.part.Part.{Part}
 use Rattle.irs_calendar.specs.declared.part.Part.TheVariants.{Between, Named, Covered, Open}
 use Rattle.irs_calendar.specs.declared.part.State.{State}
@@ -136,7 +136,7 @@ holiday_steps done (Covered m a b) d t lawful e = absurd (cc e)
 holiday_steps done (Open s) d t lawful e = elim (true_or_false (fits_section s d)) [
   | inl fits ↦
       let e' = rw fits at e in
-      elim (true_or_false (nat_le MOST_HOLIDAYS (length s.holidays))) [
+      elim (true_or_false (nat_le most_holidays (length s.holidays))) [
         | inl full ↦ absurd (let x = rw full at e' in cc x)
         | inr room ↦
             let from = both_true (is_le (int_cmp s.first d)) (is_le (int_cmp d s.last) && all_before d s.holidays) fits in
@@ -144,7 +144,7 @@ holiday_steps done (Open s) d t lawful e = elim (true_or_false (fits_section s d
             subst (λ (u : State). Steps (record { done = done; part = Open s }) u (Holiday d)) (same_state (rw room at e')) (record {
               lawful = record {
                 rise = rises_more s.first s.last d s.holidays lawful.rise (le_true s.first d from.0) (le_true d s.last to.0) to.1;
-                few = subst (λ (n : ℕ). n ≤ MOST_HOLIDAYS) (sym (length_push s.holidays d)) (at_most MOST_HOLIDAYS (length s.holidays) room);
+                few = subst (λ (n : ℕ). n ≤ most_holidays) (sym (length_push s.holidays d)) (at_most most_holidays (length s.holidays) room);
               };
               back = λ more ss go. record {
                 new = go.new;
@@ -360,8 +360,8 @@ holiday_open done s d more ss (x ∷ xs) is says lawful =
     let from : s.first ≤ℤ d = subst (λ (z : ℤ). z ≤ℤ d) (sym h.first) rise.0 in
     let to : d ≤ℤ s.last = subst (λ (z : ℤ). d ≤ℤ z) (sym h.last) rise.1 in
     let fits : fits_section s d ≡ true = rw (true_le s.first d from, true_le d s.last to, rise.2) refl in
-    let few : length (s.holidays ++ d ∷ ys.0) ≤ MOST_HOLIDAYS = subst (λ (l : List ℤ). length l ≤ MOST_HOLIDAYS) ys.1 lawful.0.few in
-    let room : nat_le MOST_HOLIDAYS (length s.holidays) ≡ false = not_full MOST_HOLIDAYS (length s.holidays) (omega (arith, few, length_front s.holidays d ys.0)) in
+    let few : length (s.holidays ++ d ∷ ys.0) ≤ most_holidays = subst (λ (l : List ℤ). length l ≤ most_holidays) ys.1 lawful.0.few in
+    let room : nat_le most_holidays (length s.holidays) ≡ false = not_full most_holidays (length s.holidays) (omega (arith, few, length_front s.holidays d ys.0)) in
     record {
       state = record { done = done; part = Open (record s { holidays = s.holidays ++ d ∷ [] }) };
       reads = rw (fits, room) refl;

@@ -2,7 +2,7 @@
 use Rattle.std.specs.Prelude.{◌≡◌, ℕ, ◌≤◌, List, [], ◌∷◌, ◌++◌, map, length, ℤ, pos, ◌+ℤ◌, ◌≤ℤ◌}
 use Rattle.irs_base.specs.Lines.{lines_of}
 use Rattle.irs_calendar.specs.declared.sections.Section.{Section}
-use Rattle.irs_calendar.specs.declared.limits.TheConstants.{MOST_HOLIDAYS}
+use Rattle.irs_base.specs.Limits.{most_holidays}
 use Rattle.irs_calendar.specs.Machine.{Said, Nothing, Center, Cover, Weekend, Holiday, Wrong}
 use Rattle.irs_calendar.specs.Words.{kind_of}
 use Rattle.irs_calendar.specs.Sections.{AreDistinct}
@@ -38,7 +38,7 @@ RisesWithin low last (d ∷ ds) = (low ≤ℤ d) × (d ≤ℤ last) × RisesWith
 -- the holidays rise strictly inside the cover, and are at most 20,000
 pub record IsLawful (s : Section) : Type 0 where
   pub rise : RisesWithin s.first s.last s.holidays
-  pub few : length s.holidays ≤ MOST_HOLIDAYS
+  pub few : length s.holidays ≤ most_holidays
 
 abbrev pub AreLawful : List Section → Type 0
 AreLawful [] = Unit {0}

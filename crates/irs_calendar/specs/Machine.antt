@@ -7,7 +7,7 @@ use Rattle.irs_calendar.specs.declared.part.Part.TheVariants.{Between, Named, Co
 use Rattle.irs_calendar.specs.declared.part.State.{State}
 use Rattle.irs_calendar.specs.declared.part.Said.{Said as Given}
 use Rattle.irs_calendar.specs.declared.part.Said.TheVariants as given
-use Rattle.irs_calendar.specs.declared.limits.TheConstants.{MOST_HOLIDAYS}
+use Rattle.irs_base.specs.Limits.{most_holidays}
 use Rattle.irs_calendar.specs.declared.machine.Fault.{Fault}
 use Rattle.irs_calendar.specs.declared.machine.Fault.TheVariants.{Syntax, Repeat, TooMany}
 use Rattle.irs_calendar.specs.Rising.{all_before}
@@ -60,7 +60,7 @@ abbrev pub after_holiday : List Section → Part → ℤ → Result State Fault
 after_holiday done Between d = Err Syntax
 after_holiday done (Named n) d = Err Syntax
 after_holiday done (Covered n a b) d = Err Syntax
-after_holiday done (Open s) d = if fits_section s d then (if nat_le MOST_HOLIDAYS (length s.holidays) then Err TooMany else Ok (record { done = done; part = Open (record s { holidays = s.holidays ++ d ∷ [] }) })) else Err Syntax
+after_holiday done (Open s) d = if fits_section s d then (if nat_le most_holidays (length s.holidays) then Err TooMany else Ok (record { done = done; part = Open (record s { holidays = s.holidays ++ d ∷ [] }) })) else Err Syntax
 
 -- what a line makes of what was read before it
 abbrev pub after_line : State → Said → Result State Fault

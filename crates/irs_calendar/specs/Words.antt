@@ -4,7 +4,7 @@ use Rattle.std.specs.List.{list_all}
 use Rattle.std.specs.Ordering.{int_cmp, is_le}
 use Rattle.std.specs.Str.{bytes_eq}
 use Rattle.irs_base.specs.Dates.{date_at}
-use Rattle.irs_calendar.specs.declared.limits.TheConstants.{MOST_NAME}
+use Rattle.irs_base.specs.Limits.{most_name}
 use Rattle.irs_base.specs.Fields.{begins_space, fields}
 use Rattle.irs_calendar.specs.Machine.{Said, Nothing, Center, Cover, Weekend, Holiday, Wrong}
 
@@ -13,7 +13,7 @@ abbrev pub is_plain : ℕ → Bool
 is_plain b = nat_le 33 b && nat_le b 126
 
 abbrev pub is_center_name : List ℕ → Bool
-is_center_name n = nat_le (length n) MOST_NAME && list_all is_plain n
+is_center_name n = nat_le (length n) most_name && list_all is_plain n
 
 abbrev pub said_center : List (List ℕ) → Said
 said_center [] = Wrong

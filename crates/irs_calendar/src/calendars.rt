@@ -5,6 +5,7 @@
 //! SUN, and then its holidays, which rise strictly inside the cover. The format is this project's own.
 ghost use Rattle.std.specs.Prelude.{◌≡◌, ℕ, ◌<◌, ◌≤◌, ◌^◌, List, [], length, map, Some, Ok, All, IsOk, IfOk, IfErr, IsSome, None, is_some};
 ghost use Rattle.std.specs.Option.{option_copied};
+ghost use Rattle.irs_base.specs.Limits.{most_bytes, most_centers, most_files};
 ghost use Rattle.irs_calendar.specs.Runs.{set_of_runs};
 ghost use Rattle.irs_calendar.specs.Files.{sections_of};
 ghost use Rattle.irs_calendar.specs.GoodDays.{SameDays};
@@ -18,7 +19,6 @@ ghost use Rattle.irs_calendar.specs.Grammar.{CalFiles};
 use crate::RunSet;
 use crate::chosen::chosen_days;
 use crate::files::{FileErr, read_file};
-use crate::limits::{MOST_BYTES, MOST_CENTERS, MOST_FILES};
 use crate::machine::Fault;
 use crate::section_list::SectionList;
 use crate::sections::Section;
@@ -100,7 +100,7 @@ fn read_one(
     file: &[u8],
     number: u32,
 ) -> Result<SectionList, CalErr>
-    requires { length file.now ≤ MOST_BYTES }
+    requires { length file.now ≤ most_bytes }
     ensures { GivesAll result (in_file number (sections_of done file.now)) }
 {
     match read_file(alloc, done, file) {
@@ -118,7 +118,7 @@ fn pick<'a>(
     sections: &'a SectionList,
     names: &[Text],
 ) -> Result<Vec<&'a Section>, SelErr>
-    requires few { length names.now ≤ MOST_CENTERS }
+    requires few { length names.now ≤ most_centers }
     requires distinct { AreDistinct sections.now }
     ensures found { IsOk result → first_missing sections.now 1 names.now ≡ None }
     ensures picked { IfOk result (λ v. map (λ s. s.now) v.items ≡ sections_named sections.now names.now) }
@@ -138,8 +138,8 @@ fn pick<'a>(
 
 /// The sections of the files, one after another.
 fn read_all(alloc: Global, files: &[Vec<u8>]) -> Result<SectionList, CalErr>
-    requires few { length files.now ≤ MOST_FILES }
-    requires short { All (λ f. length f.items ≤ MOST_BYTES) files.now }
+    requires few { length files.now ≤ most_files }
+    requires short { All (λ f. length f.items ≤ most_bytes) files.now }
     ensures { GivesAll result (calendars_in 1 [] (map (λ f. f.items) files.now)) }
 {
     let mut done = SectionList::new(alloc);
@@ -158,8 +158,8 @@ impl Calendars {
     /// the line from 1. A file that ends inside an unfinished section has its fault at the line after
     /// its last one.
     pub fn read(alloc: Global, files: &[Vec<u8>]) -> Result<Calendars, CalErr>
-        requires few { length files.now ≤ MOST_FILES }
-        requires short { All (λ f. length f.items ≤ MOST_BYTES) files.now }
+        requires few { length files.now ≤ most_files }
+        requires short { All (λ f. length f.items ≤ most_bytes) files.now }
         // What is read line after line: all sections, or the first fault.
         ensures lines { GivesAll result (calendars_in 1 [] (map (λ f. f.items) files.now)) }
         // The files spell the sections, by the grammar.
@@ -183,7 +183,7 @@ impl Calendars {
     /// is on no holiday list. `NoCenter` comes exactly with the first position, from 1, whose name
     /// is in no file.
     pub fn select(&self, alloc: Global, names: &Names) -> Result<RunSet, SelErr>
-        requires { length names.now ≤ MOST_CENTERS }
+        requires { length names.now ≤ most_centers }
         ensures found { IsOk result → first_missing self.now 1 names.now ≡ None }
         ensures days { IfOk result (λ s. SameDays (set_of_runs s) (day_set_of self.now names.now)) }
         ensures missing { IfErr result (λ e. SelFails e (first_missing self.now 1 names.now)) }

@@ -1,11 +1,11 @@
 //! Reading a calendar file line by line.
 ghost use Rattle.std.specs.Prelude.{◌≡◌, ℕ, ◌+◌, ◌<◌, ◌^◌, ◌≤◌, length};
+ghost use Rattle.irs_base.specs.Limits.{most_bytes};
 ghost use Rattle.irs_calendar.specs.Machine.{after_line, at_end};
 ghost use Rattle.irs_calendar.specs.Words.{kind_of};
 ghost use Rattle.irs_calendar.specs.Given.{Gives};
 ghost use Rattle.irs_calendar.specs.Files.{numbered, sections_of, GivesFile};
 
-use crate::limits::MOST_BYTES;
 use crate::machine::{Fault, StepErr, step};
 use crate::part::{Part, State};
 use crate::section_list::SectionList;
@@ -49,7 +49,7 @@ fn read_end(alloc: Global, state: State, number: u32) -> Result<SectionList, Fil
 
 /// The sections so far and those of a file, exactly as the definition reads it.
 pub fn read_file(alloc: Global, done: SectionList, bytes: &[u8]) -> Result<SectionList, FileErr>
-    requires { length bytes.now ≤ MOST_BYTES }
+    requires { length bytes.now ≤ most_bytes }
     ensures { GivesFile result (sections_of done bytes.now) }
 {
     let mut state = State {

@@ -6,7 +6,6 @@ mod chosen;
 mod files;
 mod good_days;
 mod holidays;
-mod limits;
 mod machine;
 mod marks;
 mod openings;
@@ -22,7 +21,6 @@ mod words;
 
 pub use calendars::{CalErr, Calendars, SelErr};
 pub use good_days::GoodDays;
-pub use limits::{MOST_BYTES, MOST_CENTERS, MOST_FILES, MOST_HOLIDAYS, MOST_NAME};
 pub use run_set::RunSet;
 pub use steps::Steps;
 

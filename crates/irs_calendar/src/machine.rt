@@ -9,11 +9,10 @@ ghost use Rattle.irs_calendar.specs.Given.{Gives};
 ghost use Rattle.irs_calendar.specs.declared.machine.StepErr.TheVariants.{Memory};
 
 use crate::holidays::Holidays;
-use crate::limits::MOST_HOLIDAYS;
 use crate::part::{Part, Said, State};
 use crate::section_list::SectionList;
 use crate::sections::Section;
-use irs_base::{Day, Memory, Text};
+use irs_base::{Day, MOST_HOLIDAYS, Memory, Text};
 use std::alloc::Global;
 
 /// What is wrong with a line.

@@ -4,7 +4,7 @@ ghost use Rattle.irs_base.specs.Days.{weekday_at};
 ghost use Rattle.irs_calendar.specs.Sections.{is_open, all_open};
 
 use crate::holidays::Holidays;
-use irs_base::{Day, Text};
+use irs_base::{Day, FIRST_DAY, Text};
 
 /// What a file says of one centre.
 #[derive(Drop)]
@@ -17,11 +17,14 @@ pub struct Section {
     pub holidays: Holidays,
 }
 
+// So many days before 1970-01-01 lies a Monday: the first day, 1901-01-01, is a Tuesday.
+const SINCE_A_MONDAY: i32 = 1 - FIRST_DAY;
+
 /// The place in the week, from Monday.
 pub fn weekday_place(d: Day) -> usize
     ensures place { result ≡ weekday_at d }
     ensures range { result < 7 }
 {
-    let days = d.number() + 25_203;
+    let days = d.number() + SINCE_A_MONDAY;
     days as usize % 7
 }

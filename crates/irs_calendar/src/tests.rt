@@ -2,7 +2,7 @@
 ghost use Rattle.std.specs.Prelude.{◌≡◌, ◌<◌, ◌-◌, ◌≤◌, length};
 
 use crate::*;
-use irs_base::{Civil, Day, Line, Names, Text, day_of, plus};
+use irs_base::{Civil, Day, Line, MOST_BYTES, MOST_CENTERS, Names, Text, day_of, plus};
 use std::alloc::Global;
 use std::marker::Brand;
 use std::sync::ledger::{Blank, Ledger};
@@ -48,7 +48,7 @@ fn names_of(alloc: Global, texts: &[&[u8]]) -> Result<Names, Fail> {
 
 fn select(alloc: Global, calendars: &Calendars, texts: &[&[u8]]) -> Result<RunSet, Fail> {
     let names = names_of(alloc, texts)?;
-    if names.len() > MOST_CENTERS {
+    if names.len() > MOST_CENTERS as usize {
         return Err("too many names")?;
     }
     match calendars.select(alloc, &names) {
@@ -89,7 +89,7 @@ fn names_the_first_missing_centre(rt: HostRuntime) -> Result<(), Fail> {
     let alloc = rt.alloc();
     let calendars = read_well(alloc, TEST, DEFR)?;
     let names = names_of(alloc, &[b"TEST", b"XXXX", b"YYYY"])?;
-    if names.len() > MOST_CENTERS {
+    if names.len() > MOST_CENTERS as usize {
         return Err("too many names")?;
     }
     assert_eq!(rt;

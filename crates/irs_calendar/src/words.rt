@@ -10,9 +10,8 @@ ghost use Rattle.irs_base.specs.Fields.{fields};
 ghost use Rattle.irs_calendar.specs.Machine.{said_of};
 ghost use Rattle.irs_calendar.specs.Words.{is_plain, is_center_name, said_center, said_cover, place_of, weekend_of, no_days, said_holiday, said_by, kind_of};
 
-use crate::limits::MOST_NAME;
 use crate::part::Said;
-use irs_base::{date, first_field, is_gap};
+use irs_base::{MOST_NAME, date, first_field, is_gap};
 
 /// All bytes are from `!` to `~`.
 fn are_plain(name: &[u8]) -> bool

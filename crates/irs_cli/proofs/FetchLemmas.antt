@@ -17,6 +17,7 @@ use Rattle.irs_cli.specs.declared.fetching.Unfetched.TheVariants.{NoFile, TooLon
 use Rattle.irs_cli.specs.Commands.{Words, texts, Asked, IsFileAt, TakesFlows, at_document, at_fixings, at_flows, at_calendar, first_calendar}
 use Rattle.irs_cli.specs.Given.{Told, Given, IsTold, EachOption, AreTold, IsWithin, too_many}
 use Rattle.irs_cli.specs.Fetching.{Holds, HoldsFiles, Placed, IsAlone, IsInRow, NoneLong, Stops, FetchesRow, FetchesAll}
+use Rattle.irs_base.specs.Limits.{most_bytes}
 
 -- ---- what a later call is told is what was told before it
 
@@ -274,7 +275,7 @@ front_long n (Some xs) b h long = elim (cases_lt (length xs) n) [
 
 -- ---- the limits of the files as the code keeps them
 
-pub all_small : (vs : List (Vec ℕ Global)) → All (λ bytes. length bytes < too_many) (map (λ v. v.items) vs) → All (λ v. length v.items ≤ 4_194_304) vs
+pub all_small : (vs : List (Vec ℕ Global)) → All (λ bytes. length bytes < too_many) (map (λ v. v.items) vs) → All (λ v. length v.items ≤ most_bytes) vs
 all_small vs h = λ k d below.
     let below' : k < length (map (λ (v : Vec ℕ Global). v.items) vs) = rw (length-map vs (λ (v : Vec ℕ Global). v.items)) below in
     let small : length (get_or (map (λ (v : Vec ℕ Global). v.items) vs) k d.items) < too_many = h k d.items below' in

@@ -7,7 +7,7 @@ use Rattle.std.proofs.lemmas.Option.{same_Some}
 use Rattle.irs_base.specs.Lines.{lines_of}
 use Rattle.irs_base.specs.Rules.{rule_number}
 use Rattle.irs_base.specs.declared.places.Rule.{Rule}
-use Rattle.irs_base.specs.declared.places.Rule.TheVariants.{K1, K2, K3, K4, K5, K6, K7, K10, K11, K12, K13, K14, K15, K16, K17, K18, K19, K20, K21, K30, K31, K32, K33, K34, K35, K36, K37, K38, K39}
+use Rattle.irs_base.specs.declared.places.Rule.TheVariants.{K1, K2, K3, K4, K5, K6, K7, K8, K10, K11, K12, K13, K14, K15, K16, K17, K18, K19, K20, K21, K30, K31, K32, K33, K34, K35, K36, K37, K38, K39, K40, K41, K42, K43, K44, K45, K46}
 use Rattle.irs_base.specs.declared.places.Broken.{Broken}
 use Rattle.irs_elements.specs.Order.{is_before, IsFirst}
 use Rattle.irs_resets.specs.FixingFiles.{IsFirstFault, IsBad, Repeats, IsFaulty, IsFixingFile}
@@ -21,7 +21,7 @@ use Rattle.irs_cli.specs.Due.{IsFixingFault, IsFixingsFault, AreFixings}
 
 -- the rules at their numbers
 abbrev rules : List Rule
-rules = K1 ∷ K1 ∷ K2 ∷ K3 ∷ K4 ∷ K5 ∷ K6 ∷ K7 ∷ K1 ∷ K1 ∷ K10 ∷ K11 ∷ K12 ∷ K13 ∷ K14 ∷ K15 ∷ K16 ∷ K17 ∷ K18 ∷ K19 ∷ K20 ∷ K21 ∷ K1 ∷ K1 ∷ K1 ∷ K1 ∷ K1 ∷ K1 ∷ K1 ∷ K1 ∷ K30 ∷ K31 ∷ K32 ∷ K33 ∷ K34 ∷ K35 ∷ K36 ∷ K37 ∷ K38 ∷ K39 ∷ []
+rules = K1 ∷ K1 ∷ K2 ∷ K3 ∷ K4 ∷ K5 ∷ K6 ∷ K7 ∷ K8 ∷ K1 ∷ K10 ∷ K11 ∷ K12 ∷ K13 ∷ K14 ∷ K15 ∷ K16 ∷ K17 ∷ K18 ∷ K19 ∷ K20 ∷ K21 ∷ K1 ∷ K1 ∷ K1 ∷ K1 ∷ K1 ∷ K1 ∷ K1 ∷ K1 ∷ K30 ∷ K31 ∷ K32 ∷ K33 ∷ K34 ∷ K35 ∷ K36 ∷ K37 ∷ K38 ∷ K39 ∷ K40 ∷ K41 ∷ K42 ∷ K43 ∷ K44 ∷ K45 ∷ K46 ∷ []
 
 at_number : (r : Rule) → slice_get rules (rule_number r) ≡ Some r
 at_number K1 = refl
@@ -31,6 +31,7 @@ at_number K4 = refl
 at_number K5 = refl
 at_number K6 = refl
 at_number K7 = refl
+at_number K8 = refl
 at_number K10 = refl
 at_number K11 = refl
 at_number K12 = refl
@@ -53,6 +54,13 @@ at_number K36 = refl
 at_number K37 = refl
 at_number K38 = refl
 at_number K39 = refl
+at_number K40 = refl
+at_number K41 = refl
+at_number K42 = refl
+at_number K43 = refl
+at_number K44 = refl
+at_number K45 = refl
+at_number K46 = refl
 
 same_rule : (r q : Rule) → rule_number r ≡ rule_number q → r ≡ q
 same_rule r q e = same_Some r q (sym (at_number r) ∙ ap (λ (n : ℕ). slice_get rules n) e ∙ at_number q)

@@ -2,6 +2,7 @@
 use Rattle.std.specs.Prelude.{◌≡◌, ◌≢◌, ℕ, ◌+◌, ◌≤◌, List, [], ◌∷◌, length, map, Option, Some, None, IsSome, option_map, unwrap_or, codes, slice_get, String, string_bytes, if◌then◌else◌}
 use Rattle.std.specs.Str.{bytes_eq}
 use Rattle.std.specs.declared.alloc.Global.{Global}
+use Rattle.irs_base.specs.Limits.{most_files}
 use Rattle.irs_cli.specs.declared.commands.Command.{Command}
 use Rattle.irs_cli.specs.declared.commands.Task.{Task}
 use Rattle.irs_cli.specs.declared.commands.Task.TheVariants.{Check, Schedule, Audit}
@@ -27,7 +28,7 @@ abbrev pub asked_by : Command → Asked
 asked_by c = record { task = c.task; document = c.document.now; fixings = option_map (λ name. name.now) c.fixings; flows = option_map (λ name. name.now) c.flows; calendars = texts c.calendars.now }
 
 abbrev pub most_calendars : ℕ
-most_calendars = 16
+most_calendars = most_files
 
 -- the file of fixings that a word names; `-` is none
 abbrev pub named : List ℕ → Option (List ℕ)

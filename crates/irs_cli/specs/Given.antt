@@ -1,7 +1,8 @@
 -- The bytes of the files that a command names.
-use Rattle.std.specs.Prelude.{◌≡◌, ℕ, ◌<◌, ◌≤◌, List, length, All, Option, Some, None, IfSome}
+use Rattle.std.specs.Prelude.{◌≡◌, ℕ, ◌+◌, ◌<◌, ◌≤◌, List, length, All, Option, Some, None, IfSome}
 use Rattle.irs_payments.specs.Numbered.{Pairs}
 use Rattle.irs_cli.specs.Commands.{Words, Asked, NamesFile, most_calendars}
+use Rattle.irs_base.specs.Limits.{most_bytes}
 
 -- what a source tells of each name
 abbrev pub Told : Type 0
@@ -9,7 +10,7 @@ Told = List ℕ → Option (List ℕ)
 
 -- one byte more than a file may have
 abbrev pub too_many : ℕ
-too_many = 4_194_305
+too_many = most_bytes + 1
 
 -- the files of a command
 pub record Given : Type 0 where

@@ -6,7 +6,7 @@
 ghost use Rattle.std.specs.Prelude.{◌≡◌, ◌↔◌, ◌≤◌, ◌∷◌, length, codes, option_map, IfSome, IfNone, IsTrue};
 ghost use Rattle.irs_cli.specs.Commands.{Asks, IsListed, asked_by, texts, named, first_calendar, most_calendars};
 
-use irs_calendar::MOST_FILES;
+use irs_base::MOST_FILES;
 
 /// What is asked for.
 #[derive(Clone, Copy, Debug, PartialEq, Eq)]

@@ -7,11 +7,11 @@ ghost use Rattle.irs_cli.specs.declared.fetching.Unfetched.TheVariants.{Memory a
 
 use crate::commands::Command;
 use crate::{FetchErr, Files};
-use irs_base::Memory;
+use irs_base::{MOST_BYTES, Memory};
 use std::alloc::{AllocFailed, Global};
 
 /// How many bytes of a file are asked for: one more than it may have.
-const MOST: usize = 4_194_305;
+const MOST: usize = MOST_BYTES + 1;
 
 /// The bytes of the files.
 #[derive(Drop)]

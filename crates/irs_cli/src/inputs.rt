@@ -1,7 +1,7 @@
 //! What the files of a command say: the swap of the document, the calendars and the fixings.
 ghost use Rattle.std.specs.Prelude.{◌≤◌, length, map, option_map, All, IfSome, IfOk, IfErr};
 ghost use Rattle.irs_terms.specs.Lawful.{IsLawful};
-ghost use Rattle.irs_calendar.specs.declared.limits.TheConstants.{MOST_BYTES as most_bytes, MOST_FILES as most_files};
+ghost use Rattle.irs_base.specs.Limits.{most_bytes, most_files};
 ghost use Rattle.irs_cli.specs.Due.{AreFixings, FilesSay, SpellsSwap};
 ghost use Rattle.irs_cli.specs.Fetching.{given_by};
 ghost use Rattle.irs_cli.specs.Outcomes.{Concludes, IfRefused, FixingsFail};

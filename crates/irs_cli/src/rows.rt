@@ -14,7 +14,7 @@ pub(crate) fn put_schedule<S: Sink>(out: &mut S, schedule: &Schedule) -> Result<
     ensures err { OnErr result (GrewByFront (S.written out.old) (S.written out.new) (text_of schedule.now)) }
     ensures rose { OnErr result (Rose (S.faults out.old) (S.faults out.new)) }
 {
-    out.put(b"irs-schedule 1\n")?;
+    out.put(b"irs-schedule 2\n")?;
     let mut line = Line::new();
     for row in schedule.rows() {
         row_text(&row, &mut line);

@@ -1,6 +1,7 @@
 // The program over files and sinks in memory. What it prints of documents at large is tested above.
-use crate::{Files, MemFiles, MemSink, SureFiles, SureSink, run};
+use crate::{Files, MemFiles, MemSink, RealFiles, SureFiles, SureSink, run};
 use std::alloc::{AllocError, Global};
+use std::fs;
 use std::process::Abort;
 use std::test::Fail;
 
@@ -18,7 +19,7 @@ const DOCUMENT: &str = r#"{"swap":{"swapStream":{
 "fixedRateSchedule":{"initialValue":"0.05"},"dayCountFraction":"ACT/360"}}}}}
 "#;
 
-const SCHEDULE: &str = "irs-schedule 1
+const SCHEDULE: &str = "irs-schedule 2
 stream 1 USD ACT/360 fixed
 p 1 1 2024-07-15 2024-07-15 1 1 25277.78
 c 1 1 2024-01-15 2024-07-15 2024-01-15 2024-07-15 182 182/360 1000000.0000 0.050000000
@@ -181,6 +182,34 @@ fn files_and_sinks_that_never_fail(rt: HostRuntime) -> Result<(), Fail> {
     let mut sure = SureSink::new();
     let asked = words(alloc, &["schedule", "B", "empty"])?;
     assert_eq!(rt; run(alloc, &asked, &mut files, &mut sure), 0);
+    let mut out = MemSink::with_room(alloc, 1000)?;
+    assert_eq!(rt; run(alloc, &asked, &mut files, &mut out), 0);
+    assert_eq!(rt; out.bytes(), SCHEDULE.as_bytes());
+    Ok(())
+}
+
+const SPACES: &str = "irs_cli_test_spaces";
+
+// A real file of as many bytes as a file may have, and one of a byte more.
+#[test]
+fn real_files_at_the_limit(rt: HostRuntime) -> Result<(), Fail> {
+    let alloc = rt.alloc();
+    let asked = words(alloc, &["check", SPACES])?;
+    for (length, status, text) in [
+        (4_194_304, 2, "refused K1 0 document 0\n"),
+        (4_194_305, 8, "too long 1\n"),
+    ] {
+        fs::write(&rt, SPACES, vec![in alloc; b' '; length]?.as_slice())?;
+        let mut files = RealFiles::new(&rt);
+        let mut out = MemSink::with_room(alloc, 1000)?;
+        assert_eq!(rt;
+            run(alloc, &asked, &mut files, &mut out),
+            status,
+            "at {length}"
+        );
+        assert_eq!(rt; out.bytes(), text.as_bytes(), "at {length}");
+    }
+    fs::remove_file(&rt, SPACES)?;
     Ok(())
 }
 

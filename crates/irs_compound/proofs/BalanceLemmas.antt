@@ -4,7 +4,7 @@ use Rattle.std.proofs.lemmas.List.{take_more, take_all}
 use Rattle.std.proofs.lemmas.List.Elements.{All-get_or}
 use Rattle.std.proofs.lemmas.Option.{slice_get-get_or}
 use Rattle.irs_terms.specs.declared.codes.CompCode.{CompCode}
-use Rattle.irs_terms.specs.declared.codes.CompCode.TheVariants.{Simple, Straight, Flat}
+use Rattle.irs_terms.specs.declared.codes.CompCode.TheVariants.{Simple, Straight, Flat, SpreadExclusive}
 use Rattle.irs_compound.specs.Amounts.{Pays, RoundedAt, IsTerm, StandsAt, Stands, Follows, SumsWithin, Within, Passes, PassesFirst, amount, total, kept_of, kept, denominator, most_exact}
 use Rattle.irs_compound.specs.Balances.{BalanceFits, Takes, Stops, Balances}
 use Rattle.irs_compound.specs.PartsLaws.{all_fractions, follows_more, not_passed, total-push, kept-push}
@@ -16,6 +16,7 @@ within_fits : (code : CompCode) (den : ℤ) (p : PeriodTerm) (c : Parts) (b : Ba
 within_fits Simple den p c b e h = subst (λ (d : ℤ). unsigned_abs b.sum ≤ most_exact * unsigned_abs d) e h
 within_fits Straight den p c b e h = (h.2, h.3)
 within_fits Flat den p c b e h = (h.2, h.3)
+within_fits SpreadExclusive den p c b e h = (h.2, h.3)
 
 -- the parts so far in the place of their balance
 stands_behind : (code : CompCode) (p : PeriodTerm) (b : Balance) (cs : List Parts) (c : Parts) → b.kept ≡ kept code cs → IsSomeAnd p.rates (λ r. StandsAt code p r b.kept c) → Stands code p cs c

@@ -11,7 +11,7 @@ use Rattle.irs_compound.specs.declared.periods.PeriodTerm.{PeriodTerm}
 use Rattle.irs_compound.specs.declared.periods.Rates.{Rates}
 use Rattle.irs_compound.specs.declared.periods.Parts.{Parts}
 use Rattle.irs_terms.specs.declared.codes.CompCode.{CompCode}
-use Rattle.irs_terms.specs.declared.codes.CompCode.TheVariants.{Simple, Straight, Flat}
+use Rattle.irs_terms.specs.declared.codes.CompCode.TheVariants.{Simple, Straight, Flat, SpreadExclusive}
 use Rattle.jiff_core.proofs.SignedLemmas.{signed_arith}
 
 denominator_above : (ps : List PeriodTerm) → AllFractions ps → pos 1 ≤ℤ denominator ps
@@ -22,11 +22,13 @@ rounded_sum_once : (code : CompCode) (ps : List PeriodTerm) (sum : ℤ) (k : ℕ
 rounded_sum_once Simple ps sum k m n f a b = nearest_once sum (denominator ps *ℤ pos (10 ^ (13 - k))) m n (scaled_above (denominator ps) (10 ^ (13 - k)) (denominator_above ps f) (ten_above (13 - k))) a b
 rounded_sum_once Straight ps sum k m n f a b = nearest_once sum (pos (10 ^ (6 - k))) m n (above (10 ^ (6 - k)) (ten_above (6 - k))) a b
 rounded_sum_once Flat ps sum k m n f a b = nearest_once sum (pos (10 ^ (6 - k))) m n (above (10 ^ (6 - k)) (ten_above (6 - k))) a b
+rounded_sum_once SpreadExclusive ps sum k m n f a b = nearest_once sum (pos (10 ^ (6 - k))) m n (above (10 ^ (6 - k)) (ten_above (6 - k))) a b
 
 rounded_sum_exists : (code : CompCode) (ps : List PeriodTerm) (sum : ℤ) (k : ℕ) → AllFractions ps → (m : ℤ) × RoundedAt code (denominator ps) sum k m
 rounded_sum_exists Simple ps sum k f = nearest_exists sum (denominator ps *ℤ pos (10 ^ (13 - k))) (scaled_above (denominator ps) (10 ^ (13 - k)) (denominator_above ps f) (ten_above (13 - k)))
 rounded_sum_exists Straight ps sum k f = nearest_exists sum (pos (10 ^ (6 - k))) (above (10 ^ (6 - k)) (ten_above (6 - k)))
 rounded_sum_exists Flat ps sum k f = nearest_exists sum (pos (10 ^ (6 - k))) (above (10 ^ (6 - k)) (ten_above (6 - k)))
+rounded_sum_exists SpreadExclusive ps sum k f = nearest_exists sum (pos (10 ^ (6 - k))) (above (10 ^ (6 - k)) (ten_above (6 - k)))
 
 pub pays_once : (code : CompCode) (ps : List PeriodTerm) (k : ℕ) (m n : ℤ) → AllFractions ps → Pays code ps k m → Pays code ps k n → m ≡ n
 pays_once code ps k m n f a b =

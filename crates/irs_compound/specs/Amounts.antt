@@ -1,23 +1,18 @@
--- Amounts of the periods of a payment, and of the payment: the 2006 ISDA Definitions, articles 5 and 6. Notionals are in units of 10^-4, rates in units of 10^-9.
-use Rattle.std.specs.Prelude.{◌≡◌, ℕ, ℤ, pos, ◌+◌, ◌-◌, ◌*◌, ◌^◌, ◌<◌, ◌≤◌, ◌+ℤ◌, ◌*ℤ◌, ◌≤ℤ◌, unsigned_abs, List, [], ◌∷◌, ◌++◌, length, All, IsSome, IsSomeAnd, Option, Some, None, slice_get, take}
+-- Amounts of the periods of a payment, and of the payment: the 2006 ISDA Definitions, articles 5 and 6. That flat compounding
+-- takes the base rate, and compounding with the spread exclusive, are this project's own. Notionals are in units of 10^-4,
+-- rates in units of 10^-9.
+use Rattle.std.specs.Prelude.{◌≡◌, ℕ, ℤ, pos, ◌+◌, ◌-◌, ◌*◌, ◌^◌, ◌<◌, ◌≤◌, ◌+ℤ◌, ◌-ℤ◌, ◌*ℤ◌, ◌≤ℤ◌, unsigned_abs, List, [], ◌∷◌, ◌++◌, length, All, IsSome, IsSomeAnd, Option, Some, None, slice_get, take}
+use Rattle.irs_base.specs.Limits.{most_notional, most_numerator, most_periods, most_rate}
 use Rattle.irs_base.specs.Rounding.{Rounded}
 use Rattle.irs_base.specs.declared.rounding.Direction.TheVariants.{Nearest}
 use Rattle.irs_terms.specs.Lawful.{IsNotional, IsRate}
 use Rattle.irs_terms.specs.declared.results.Frac.{Frac}
 use Rattle.irs_terms.specs.declared.codes.CompCode.{CompCode}
-use Rattle.irs_terms.specs.declared.codes.CompCode.TheVariants.{Simple, Straight, Flat}
+use Rattle.irs_terms.specs.declared.codes.CompCode.TheVariants.{Simple, Straight, Flat, SpreadExclusive}
 use Rattle.irs_daycount.specs.Actual.{act_act_denominator}
 use Rattle.irs_compound.specs.declared.periods.Rates.{Rates}
 use Rattle.irs_compound.specs.declared.periods.PeriodTerm.{PeriodTerm}
 use Rattle.irs_compound.specs.declared.periods.Parts.{Parts}
-
--- no numerator is greater: the range of dates has 109,207 days, and 366 times that is 39,969,762
-abbrev pub most_numerator : ℕ
-most_numerator = 4 * 10 ^ 7
-
--- the most periods of a payment
-abbrev pub most_periods : ℕ
-most_periods = 4000
 
 -- 10^14 units of currency, in units of 10^-6
 abbrev pub most_amount : ℕ
@@ -26,6 +21,14 @@ most_amount = 10 ^ 20
 -- 10^14 units of currency, in units of 10^-13
 abbrev pub most_exact : ℕ
 most_exact = 10 ^ 27
+
+-- the greatest balance that bears interest: the greatest notional and the greatest amount, in units of 10^-6
+abbrev pub most_balance : ℕ
+most_balance = 100 * most_notional + most_amount
+
+-- what the greatest balance earns at the greatest rate, before it is divided
+abbrev pub most_product : ℕ
+most_product = most_balance * most_rate * most_numerator
 
 -- the most decimals of a currency
 abbrev pub most_places : ℕ
@@ -69,11 +72,13 @@ abbrev pub total : List Parts → ℤ
 total [] = pos 0
 total (c ∷ cs) = amount c +ℤ total cs
 
--- what of the amount of a period bears interest in later periods: without compounding nothing, else all of it
+-- what of the amount of a period bears interest in later periods: without compounding nothing, with straight and flat
+-- compounding all of it, and with the spread exclusive its compounded part
 abbrev pub kept_of : CompCode → Parts → ℤ
 kept_of Simple c = pos 0
 kept_of Straight c = amount c
 kept_of Flat c = amount c
+kept_of SpreadExclusive c = c.main
 
 -- the sum of what bears interest later
 abbrev pub kept : CompCode → List Parts → ℤ
@@ -83,11 +88,14 @@ kept code (c ∷ cs) = kept_of code c +ℤ kept code cs
 -- the parts of a period, where `before` is what the earlier periods of the payment left to bear interest.
 -- Without compounding: notional times rate times fraction, exact, in units of 10^-13 over the denominator.
 -- Straight: the notional and all earlier amounts at the rate. Flat: the basic amount is the notional at the rate,
--- the additional one all earlier basic and additional amounts at the base rate. All to the nearest unit of 10^-6.
+-- the additional one all earlier basic and additional amounts at the base rate. Spread exclusive: the compounded part is
+-- the notional and all earlier compounded parts at the base rate, the spread part the notional at the rate less the base
+-- rate. All to the nearest unit of 10^-6.
 abbrev pub StandsAt : CompCode → PeriodTerm → Rates → ℤ → Parts → Type 0
 StandsAt Simple p r before c = (c.main ≡ p.notional *ℤ r.all_in *ℤ p.frac.num) × (c.extra ≡ pos 0)
 StandsAt Straight p r before c = Interest (pos 100 *ℤ p.notional +ℤ before) r.all_in p.frac c.main × (c.extra ≡ pos 0)
 StandsAt Flat p r before c = Interest (pos 100 *ℤ p.notional) r.all_in p.frac c.main × Interest before r.base p.frac c.extra
+StandsAt SpreadExclusive p r before c = Interest (pos 100 *ℤ p.notional +ℤ before) r.base p.frac c.main × Interest (pos 100 *ℤ p.notional) (r.all_in -ℤ r.base) p.frac c.extra
 
 -- the parts of a period whose rates are there, behind those of all earlier periods of the payment
 abbrev pub Stands : CompCode → PeriodTerm → List Parts → Parts → Type 0
@@ -112,12 +120,14 @@ RatesWithin r = IsRate r.base × IsRate r.all_in
 abbrev pub PartsWithin : Parts → ℤ → ℤ → Type 0
 PartsWithin c sum kept_sum = (unsigned_abs c.main ≤ most_amount) × (unsigned_abs c.extra ≤ most_amount) × (unsigned_abs sum ≤ most_amount) × (unsigned_abs kept_sum ≤ most_amount)
 
--- the amounts through a period: without compounding their exact sum alone is bounded; with straight and flat compounding
--- all of the sum bears interest later, and the two sums are one
+-- the amounts through a period: without compounding their exact sum alone is bounded; else the parts of the period, the sum
+-- of the amounts and the sum of what bears interest later. With straight and flat compounding the two sums are one; with
+-- the spread exclusive spread parts may cancel compounded ones, so that each of the two is bounded by itself
 abbrev pub SumsWithin : CompCode → PeriodTerm → Parts → ℤ → ℤ → Type 0
 SumsWithin Simple p c sum kept_sum = unsigned_abs sum ≤ most_exact * unsigned_abs p.frac.den
 SumsWithin Straight p c sum kept_sum = PartsWithin c sum kept_sum
 SumsWithin Flat p c sum kept_sum = PartsWithin c sum kept_sum
+SumsWithin SpreadExclusive p c sum kept_sum = PartsWithin c sum kept_sum
 
 -- a period leaves the range neither by its rates nor by its amounts
 abbrev pub Within : CompCode → PeriodTerm → Parts → ℤ → ℤ → Type 0
@@ -142,6 +152,7 @@ abbrev pub RoundedAt : CompCode → ℤ → ℤ → ℕ → ℤ → Type 0
 RoundedAt Simple den sum places m = Rounded Nearest sum (den *ℤ pos (10 ^ (13 - places))) m
 RoundedAt Straight den sum places m = Rounded Nearest sum (pos (10 ^ (6 - places))) m
 RoundedAt Flat den sum places m = Rounded Nearest sum (pos (10 ^ (6 - places))) m
+RoundedAt SpreadExclusive den sum places m = Rounded Nearest sum (pos (10 ^ (6 - places))) m
 
 -- m is what the periods pay: the sum of all their amounts, rounded once
 pub record Pays (code : CompCode) (ps : List PeriodTerm) (places : ℕ) (m : ℤ) : Type 0 where

@@ -1,7 +1,7 @@
 -- One step of the balance over the periods of a payment.
 use Rattle.std.specs.Prelude.{◌≡◌, ℕ, ℤ, List, take, ◌*◌, ◌<◌, ◌≤◌, ◌+ℤ◌, unsigned_abs, IsSomeAnd}
 use Rattle.irs_terms.specs.declared.codes.CompCode.{CompCode}
-use Rattle.irs_terms.specs.declared.codes.CompCode.TheVariants.{Simple, Straight, Flat}
+use Rattle.irs_terms.specs.declared.codes.CompCode.TheVariants.{Simple, Straight, Flat, SpreadExclusive}
 use Rattle.irs_compound.specs.declared.periods.PeriodTerm.{PeriodTerm}
 use Rattle.irs_compound.specs.declared.periods.Parts.{Parts}
 use Rattle.irs_compound.specs.declared.balances.Balance.{Balance}
@@ -12,6 +12,7 @@ abbrev pub BalanceFits : CompCode → ℤ → Balance → Type 0
 BalanceFits Simple den b = unsigned_abs b.sum ≤ most_exact * unsigned_abs den
 BalanceFits Straight den b = (unsigned_abs b.sum ≤ most_amount) × (unsigned_abs b.kept ≤ most_amount)
 BalanceFits Flat den b = (unsigned_abs b.sum ≤ most_amount) × (unsigned_abs b.kept ≤ most_amount)
+BalanceFits SpreadExclusive den b = (unsigned_abs b.sum ≤ most_amount) × (unsigned_abs b.kept ≤ most_amount)
 
 -- the balance with one more period
 abbrev pub after : CompCode → Balance → Parts → Balance

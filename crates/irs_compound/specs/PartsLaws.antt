@@ -1,5 +1,5 @@
 -- The parts of the periods of a payment: there is one list of them, and only one.
-use Rattle.std.proofs.Common.{◌≡◌, ℕ, ◌^◌, ℤ, pos, ◌+ℤ◌, ◌*ℤ◌, ◌≤ℤ◌, ◌<ℤ◌, arith, refl, sym, ap, subst, ◌∙◌, List, [], ◌∷◌, ◌++◌, take, append_assoc, Option, Some, None, IsSomeAnd, IsSome, All, slice_get}
+use Rattle.std.proofs.Common.{◌≡◌, ℕ, ◌^◌, ℤ, pos, ◌+ℤ◌, ◌-ℤ◌, ◌*ℤ◌, ◌≤ℤ◌, ◌<ℤ◌, arith, refl, sym, ap, subst, ◌∙◌, List, [], ◌∷◌, ◌++◌, take, append_assoc, Option, Some, None, IsSomeAnd, IsSome, All, slice_get}
 use Rattle.std.proofs.lemmas.List.{append-nil}
 use Rattle.std.proofs.lemmas.List.Elements.{All-head, All-tail, All-take, All-weaker}
 use Rattle.irs_base.proofs.RoundingLaws.{nearest_once, nearest_exists}
@@ -8,7 +8,7 @@ use Rattle.irs_compound.specs.declared.periods.Rates.{Rates}
 use Rattle.irs_compound.specs.declared.periods.PeriodTerm.{PeriodTerm}
 use Rattle.irs_compound.specs.declared.periods.Parts.{Parts}
 use Rattle.irs_terms.specs.declared.codes.CompCode.{CompCode}
-use Rattle.irs_terms.specs.declared.codes.CompCode.TheVariants.{Simple, Straight, Flat}
+use Rattle.irs_terms.specs.declared.codes.CompCode.TheVariants.{Simple, Straight, Flat, SpreadExclusive}
 use Rattle.jiff_core.proofs.SignedLemmas.{signed_arith}
 
 pub total-append : (xs ys : List Parts) → total (xs ++ ys) ≡ total xs +ℤ total ys
@@ -48,6 +48,7 @@ at_once : (code : CompCode) (p : PeriodTerm) (r : Rates) (before : ℤ) (c d : P
 at_once Simple p r before c d f h k = same_parts c d (h.0 ∙ sym k.0) (h.1 ∙ sym k.1)
 at_once Straight p r before c d f h k = same_parts c d (interest_once (pos 100 *ℤ p.notional +ℤ before) r.all_in p c.main d.main f h.0 k.0) (h.1 ∙ sym k.1)
 at_once Flat p r before c d f h k = same_parts c d (interest_once (pos 100 *ℤ p.notional) r.all_in p c.main d.main f h.0 k.0) (interest_once before r.base p c.extra d.extra f h.1 k.1)
+at_once SpreadExclusive p r before c d f h k = same_parts c d (interest_once (pos 100 *ℤ p.notional +ℤ before) r.base p c.main d.main f h.0 k.0) (interest_once (pos 100 *ℤ p.notional) (r.all_in -ℤ r.base) p c.extra d.extra f h.1 k.1)
 
 priced_once : (o : Option Rates) (code : CompCode) (p : PeriodTerm) (before : ℤ) (c d : Parts) → IsFraction p.frac → IsSomeAnd o (λ r. StandsAt code p r before c) → IsSomeAnd o (λ r. StandsAt code p r before d) → c ≡ d
 priced_once None code p before c d f h k = absurd h
@@ -77,6 +78,10 @@ at_exists Straight p r before f =
 at_exists Flat p r before f =
     let m = nearest_exists ((pos 100 *ℤ p.notional) *ℤ r.all_in *ℤ p.frac.num) (p.frac.den *ℤ pos (10 ^ 9)) (divisor_above p.frac.den f.2) in
     let n = nearest_exists (before *ℤ r.base *ℤ p.frac.num) (p.frac.den *ℤ pos (10 ^ 9)) (divisor_above p.frac.den f.2) in
+    (record { main = m.0; extra = n.0 }, (m.1, n.1))
+at_exists SpreadExclusive p r before f =
+    let m = nearest_exists ((pos 100 *ℤ p.notional +ℤ before) *ℤ r.base *ℤ p.frac.num) (p.frac.den *ℤ pos (10 ^ 9)) (divisor_above p.frac.den f.2) in
+    let n = nearest_exists (pos 100 *ℤ p.notional *ℤ (r.all_in -ℤ r.base) *ℤ p.frac.num) (p.frac.den *ℤ pos (10 ^ 9)) (divisor_above p.frac.den f.2) in
     (record { main = m.0; extra = n.0 }, (m.1, n.1))
 
 priced_exists : (o : Option Rates) (code : CompCode) (p : PeriodTerm) (before : ℤ) → IsFraction p.frac → IsSome o → (c : Parts) × IsSomeAnd o (λ r. StandsAt code p r before c)

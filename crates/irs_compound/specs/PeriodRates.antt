@@ -1,8 +1,11 @@
 -- The rates of a period.
-use Rattle.std.specs.Prelude.{◌≡◌, ◌-◌, ◌^◌, ℤ, pos, ◌+ℤ◌, ◌*ℤ◌}
+use Rattle.std.specs.Prelude.{◌≡◌, ℕ, ◌+◌, ◌-◌, ◌*◌, ◌^◌, ℤ, pos, ◌+ℤ◌, ◌*ℤ◌, ◌≤ℤ◌, ◌<ℤ◌, int_lt, if◌then◌else◌}
+use Rattle.irs_base.specs.Limits.{most_rate}
 use Rattle.irs_base.specs.Rounding.{Rounded, rounded}
 use Rattle.irs_terms.specs.declared.amounts.Rounding.{Rounding}
 use Rattle.irs_terms.specs.declared.amounts.FloatTerms.{FloatTerms}
+use Rattle.irs_terms.specs.declared.codes.Treatment.{Treatment}
+use Rattle.irs_terms.specs.declared.codes.Treatment.TheVariants.{AsIs, ZeroFloor}
 use Rattle.irs_terms.specs.declared.step_list.StepValues.{StepValues}
 use Rattle.irs_compound.specs.declared.periods.Rates.{Rates}
 use Rattle.irs_compound.specs.InForce.{InForce, value_in_force}
@@ -13,15 +16,23 @@ pub record RateAt (rounding : Rounding) (exact rate : ℤ) : Type 0 where
   pub rounds : Rounded rounding.dir exact (pos (10 ^ (18 - rounding.places))) whole
   pub scales : rate ≡ whole *ℤ pos (10 ^ (9 - rounding.places))
 
+-- what becomes of a rounded rate by its treatment: it stays, or is 0 where it is below 0 and the method is that of a rate of zero
+abbrev pub Treats : Treatment → ℤ → ℤ → Type 0
+Treats AsIs rounded_rate rate = rate ≡ rounded_rate
+Treats ZeroFloor rounded_rate rate = (pos 0 ≤ℤ rounded_rate → rate ≡ rounded_rate) × (rounded_rate <ℤ pos 0 → rate ≡ pos 0)
+
 -- multiplier and spread in force on the period's unadjusted start, and the observed rate, give the rates:
--- the base rate is multiplier times observed, the rate is that plus the spread, each rounded once from its exact value
+-- the base rate is multiplier times observed, the rate is that plus the spread, each rounded once from its exact value;
+-- the treatment of a rate below 0 is that of the rounded rate, and the base rate stays
 pub record RatesOf (f : FloatTerms) (start observed : ℤ) (rates : Rates) : Type 0 where
   pub multiplier : ℤ
   pub spread : ℤ
   pub multiplies : InForce f.multiplier start multiplier
   pub adds : InForce f.spread start spread
   pub base : RateAt f.rounding (multiplier *ℤ observed) rates.base
-  pub all_in : RateAt f.rounding (multiplier *ℤ observed +ℤ spread *ℤ pos (10 ^ 9)) rates.all_in
+  pub rounded_rate : ℤ
+  pub rounds : RateAt f.rounding (multiplier *ℤ observed +ℤ spread *ℤ pos (10 ^ 9)) rounded_rate
+  pub treats : Treats f.treatment rounded_rate rates.all_in
 
 -- on a fixed stream both are the fixed rate in force
 abbrev pub FixedRatesOf : StepValues → ℤ → Rates → Type 0
@@ -31,6 +42,11 @@ FixedRatesOf values start rates = InForce values start rates.base × (rates.all_
 abbrev pub rate_at : Rounding → ℤ → ℤ
 rate_at rounding exact = rounded rounding.dir exact (pos (10 ^ (18 - rounding.places))) *ℤ pos (10 ^ (9 - rounding.places))
 
+-- a rounded rate by its treatment as a function
+abbrev pub treated : Treatment → ℤ → ℤ
+treated AsIs rate = rate
+treated ZeroFloor rate = if int_lt rate (pos 0) then pos 0 else rate
+
 -- multiplier times observed, in units of 10^-18
 abbrev pub exact_base : FloatTerms → ℤ → ℤ → ℤ
 exact_base f start observed = value_in_force f.multiplier start *ℤ observed
@@ -39,9 +55,21 @@ exact_base f start observed = value_in_force f.multiplier start *ℤ observed
 unfoldable pub rates_of : FloatTerms → ℤ → ℤ → Rates
 rates_of f start observed = record {
   base = rate_at f.rounding (exact_base f start observed);
-  all_in = rate_at f.rounding (exact_base f start observed +ℤ value_in_force f.spread start *ℤ pos (10 ^ 9));
+  all_in = treated f.treatment (rate_at f.rounding (exact_base f start observed +ℤ value_in_force f.spread start *ℤ pos (10 ^ 9)));
 }
 
 -- the rates of a fixed stream as a function
 unfoldable pub fixed_rates_of : StepValues → ℤ → Rates
 fixed_rates_of values start = record { base = value_in_force values start; all_in = value_in_force values start }
+
+-- the size of an exact base rate, in units of 10^-18: the greatest multiplier times the greatest observed rate
+abbrev pub most_exact_base : ℕ
+most_exact_base = most_rate * most_rate
+
+-- the size of an exact rate, in units of 10^-18: that, and the greatest spread
+abbrev pub most_exact_rate : ℕ
+most_exact_rate = most_exact_base + most_rate * 10 ^ 9
+
+-- the size of a rounded rate, in units of 10^-9: ten times the greatest rate, and the greatest spread
+abbrev pub most_rounded_rate : ℕ
+most_rounded_rate = 10 * most_rate + most_rate

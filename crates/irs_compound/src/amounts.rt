@@ -77,5 +77,6 @@ fn rounded_sum(code: CompCode, balance: Balance, den: i64, places: u8) -> i128
         CompCode::Simple => round(Direction::Nearest, balance.sum, finer(den, 13 - places)),
         CompCode::Straight => round(Direction::Nearest, balance.sum, ten_to(6 - places)),
         CompCode::Flat => round(Direction::Nearest, balance.sum, ten_to(6 - places)),
+        CompCode::SpreadExclusive => round(Direction::Nearest, balance.sum, ten_to(6 - places)),
     }
 }

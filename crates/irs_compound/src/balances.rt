@@ -1,17 +1,20 @@
 //! The balance that is carried from period to period of a payment: the sum of the amounts so far,
 //! and the part of it that bears interest in later periods.
 //!
-//! An amount that leaves the range stops it: amounts are at most 10^14 units of currency in size,
-//! rates at most 10. Rates are looked at before they are multiplied, and parts before they are added.
-ghost use Rattle.std.specs.Prelude.{◌≡◌, ℕ, ℤ, ◌+◌, ◌*◌, ◌-◌, ◌<◌, ◌≤◌, ◌^◌, pos, ◌<ℤ◌, ◌≤ℤ◌, ◌+ℤ◌, ◌*ℤ◌, unsigned_abs, IfSome, IfNone, IfOk, IfErr, SomeIff, MatchBool, IsSome, IsSomeAnd, OnOk};
+//! An amount that leaves the range stops it: each part of an amount and each of the two sums is at
+//! most 10^14 units of currency in size, rates are at most 10. Rates are looked at before they are
+//! multiplied, and parts before they are added.
+ghost use Rattle.std.specs.Prelude.{◌≡◌, ℕ, ℤ, ◌+◌, ◌*◌, ◌-◌, ◌<◌, ◌≤◌, ◌^◌, pos, ◌<ℤ◌, ◌≤ℤ◌, ◌+ℤ◌, ◌-ℤ◌, ◌*ℤ◌, unsigned_abs, IfSome, IfNone, IfOk, IfErr, SomeIff, MatchBool, IsSome, IsSomeAnd, OnOk};
+ghost use Rattle.irs_base.specs.Limits.{most_notional, most_rate};
 ghost use Rattle.irs_terms.specs.Lawful.{IsNotional};
 ghost use Rattle.irs_daycount.specs.Actual.{act_act_denominator};
 ghost use Rattle.irs_compound.specs.declared.periods.Parts.{Parts};
-ghost use Rattle.irs_compound.specs.Amounts.{IsFraction, IsTerm, StandsAt, PartsWithin, RatesWithin, Within, amount, most_amount, most_exact};
-ghost use Rattle.irs_compound.specs.Balances.{BalanceFits, Takes, Stops};
+ghost use Rattle.irs_compound.specs.Amounts.{IsFraction, IsTerm, StandsAt, PartsWithin, RatesWithin, Within, amount, kept_of, most_amount, most_balance, most_exact, most_product};
+ghost use Rattle.irs_compound.specs.Balances.{BalanceFits, Takes, Stops, after};
 
 use crate::interest::{earned, interest};
 use crate::periods::{Parts, PeriodTerm, Rates};
+use irs_base::MOST_RATE;
 use irs_terms::CompCode;
 
 /// The greatest size of an amount: 10^14 units of currency, in units of 10^-6.
@@ -19,9 +22,6 @@ const MOST_AMOUNT: u128 = 100_000_000_000_000_000_000;
 
 /// The same in units of 10^-13.
 const MOST_EXACT: u128 = 1_000_000_000_000_000_000_000_000_000;
-
-/// The greatest size of a rate: 10, in units of 10^-9.
-const MOST_RATE: u64 = 10_000_000_000;
 
 /// What the periods so far make: without compounding exact, in units of 10^-13 over the
 /// denominator of the fractions, else in units of 10^-6.
@@ -48,8 +48,13 @@ pub fn next_balance(code: CompCode, p: &PeriodTerm, before: Balance) -> Option<B
     }
     match code {
         CompCode::Simple => add_exact(before, exact_parts(p, rates), p.frac.den),
-        CompCode::Straight => add_parts(before, straight_parts(p, rates, before.kept)),
-        CompCode::Flat => add_parts(before, flat_parts(p, rates, before.kept)),
+        CompCode::Straight => add_parts(code, before, straight_parts(p, rates, before.kept)),
+        CompCode::Flat => add_parts(code, before, flat_parts(p, rates, before.kept)),
+        CompCode::SpreadExclusive => add_parts(
+            code,
+            before,
+            exclusive_parts(p, rates, before.kept),
+        ),
     }
 }
 
@@ -64,7 +69,7 @@ fn exact_parts(p: &PeriodTerm, rates: Rates) -> Parts
     requires term { IsTerm p.now.frac.den p.now }
     requires rates_fit { RatesWithin rates }
     ensures parts { StandsAt CompCode.Simple p.now rates (pos 0) result }
-    ensures size { unsigned_abs result.main ≤ 44 * 10 ^ 36 }
+    ensures size { unsigned_abs result.main ≤ most_product }
 {
     Parts {
         main: earned(p.notional, rates.all_in, p.frac),
@@ -98,11 +103,34 @@ fn flat_parts(p: &PeriodTerm, rates: Rates, before: i128) -> Parts
     }
 }
 
+// Spread exclusive: the notional and all earlier compounded parts bear interest at the base rate, the
+// notional alone at what the rate is above it.
+fn exclusive_parts(p: &PeriodTerm, rates: Rates, before: i128) -> Parts
+    requires term { IsTerm p.now.frac.den p.now }
+    requires rates_fit { RatesWithin rates }
+    requires before_fits { unsigned_abs before ≤ most_amount }
+    ensures { StandsAt CompCode.SpreadExclusive p.now rates before result }
+{
+    Parts {
+        main: interest(grown_notional(p.notional, before), rates.base, p.frac),
+        extra: interest(fine_notional(p.notional), above_base(rates), p.frac),
+    }
+}
+
+// The rate less the base rate.
+fn above_base(rates: Rates) -> i64
+    requires { RatesWithin rates }
+    ensures value { result ≡ rates.all_in -ℤ rates.base }
+    ensures size { unsigned_abs result ≤ 2 * most_rate }
+{
+    rates.all_in - rates.base
+}
+
 // The notional in units of 10^-6.
 fn fine_notional(notional: i128) -> i128
     requires { IsNotional notional }
     ensures value { result ≡ pos 100 *ℤ notional }
-    ensures size { unsigned_abs result ≤ 10 ^ 19 }
+    ensures size { unsigned_abs result ≤ 100 * most_notional }
 {
     100 * notional
 }
@@ -112,7 +140,7 @@ fn grown_notional(notional: i128, before: i128) -> i128
     requires notional_fits { IsNotional notional }
     requires before_fits { unsigned_abs before ≤ most_amount }
     ensures value { result ≡ pos 100 *ℤ notional +ℤ before }
-    ensures size { unsigned_abs result ≤ 11 * 10 ^ 19 }
+    ensures size { unsigned_abs result ≤ most_balance }
 {
     fine_notional(notional) + before
 }
@@ -122,7 +150,7 @@ fn add_exact(before: Balance, parts: Parts, den: i64) -> Option<Balance>
     requires den_low { pos 1 ≤ℤ den }
     requires den_high { den ≤ℤ pos act_act_denominator }
     requires before_fits { unsigned_abs before.sum ≤ most_exact * unsigned_abs den }
-    requires main_fits { unsigned_abs parts.main ≤ 44 * 10 ^ 36 }
+    requires main_fits { unsigned_abs parts.main ≤ most_product }
     requires no_extra { parts.extra ≡ pos 0 }
     ensures { SomeIff result (unsigned_abs (before.sum +ℤ amount parts) ≤ most_exact * unsigned_abs den) (record { sum = before.sum +ℤ amount parts; kept = before.kept }) }
 {
@@ -139,7 +167,7 @@ fn exact_sum(before: i128, parts: Parts, den: i64) -> Option<i128>
     requires den_low { pos 1 ≤ℤ den }
     requires den_high { den ≤ℤ pos act_act_denominator }
     requires before_fits { unsigned_abs before ≤ most_exact * unsigned_abs den }
-    requires main_fits { unsigned_abs parts.main ≤ 44 * 10 ^ 36 }
+    requires main_fits { unsigned_abs parts.main ≤ most_product }
     requires no_extra { parts.extra ≡ pos 0 }
     ensures { SomeIff result (unsigned_abs (before +ℤ amount parts) ≤ most_exact * unsigned_abs den) (before +ℤ amount parts) }
 {
@@ -151,17 +179,31 @@ fn exact_sum(before: i128, parts: Parts, den: i64) -> Option<i128>
     }
 }
 
-// The balance with the parts of one more period, all of which bears interest.
-fn add_parts(before: Balance, parts: Parts) -> Option<Balance>
+// The compounded balance with the parts of one more period.
+fn add_parts(code: CompCode, before: Balance, parts: Parts) -> Option<Balance>
     requires sum_fits { unsigned_abs before.sum ≤ most_amount }
     requires kept_fits { unsigned_abs before.kept ≤ most_amount }
-    ensures { SomeIff result (PartsWithin parts (before.sum +ℤ amount parts) (before.kept +ℤ amount parts)) (record { sum = before.sum +ℤ amount parts; kept = before.kept +ℤ amount parts }) }
+    ensures { SomeIff result (PartsWithin parts (after code before parts).sum (after code before parts).kept) (after code before parts) }
 {
     if parts.main.unsigned_abs() > MOST_AMOUNT || parts.extra.unsigned_abs() > MOST_AMOUNT {
         return None;
     }
-    let amount = amount(parts);
-    add_amount(before, amount, amount)
+    add_amount(before, amount(parts), kept_of(code, parts))
+}
+
+// What of the parts of a period bears interest in later periods.
+fn kept_of(code: CompCode, parts: Parts) -> i128
+    requires main_fits { unsigned_abs parts.main ≤ most_amount }
+    requires extra_fits { unsigned_abs parts.extra ≤ most_amount }
+    ensures value { result ≡ kept_of code parts }
+    ensures size { unsigned_abs result ≤ 2 * most_amount }
+{
+    match code {
+        CompCode::Simple => 0,
+        CompCode::Straight => amount(parts),
+        CompCode::Flat => amount(parts),
+        CompCode::SpreadExclusive => parts.main,
+    }
 }
 
 // The amount of a period.

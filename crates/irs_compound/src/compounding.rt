@@ -27,10 +27,10 @@ pub trait Compounding {
     // The period at an index leaves the range.
     ghost passes: { Self → List PeriodTerm → ℕ → Type 0 };
 
-    /// The amount of a payment, in units of 10^-places: its periods are at least one and at most
-    /// 4,000, have one denominator and all their rates, notionals from 0 to 10^13 and numerators
-    /// from 0 to 4*10^7; places is at most 3. `OutOfRange` comes exactly with the first period at
-    /// which a rate or an amount leaves the range.
+    /// The amount of a payment, in units of 10^-places: its periods are at least one and at most as
+    /// many as a stream may have, with one denominator and all their rates, each with a lawful
+    /// notional and a fraction of one of the seven day counts; places is at most 3. `OutOfRange`
+    /// comes exactly with the first period at which a rate, an amount or a sum leaves the range.
     fn amount(&self, periods: &[PeriodTerm], places: u8) -> Result<i128, OutOfRange>
         requires payment { IsPayment periods.now }
         requires priced { AllPriced periods.now }
@@ -100,4 +100,24 @@ impl Compounding for Flat {
     ghost one_amount = { λ s ps. one_amount_of (code_for CompCode.Flat ps) ps };
 
     ghost some_amount = { λ s ps. some_amount_of (code_for CompCode.Flat ps) ps };
+}
+
+/// Compounding with the spread exclusive: the notional and all earlier compounded parts of the payment
+/// bear interest at the base rate, the notional alone at the rate less the base rate, each at 6
+/// decimals. The rule is this project's own.
+#[derive(Clone, Copy, Debug, PartialEq, Eq)]
+pub struct SpreadExclusive;
+
+impl Compounding for SpreadExclusive {
+    ghost pays = { λ s ps. Pays (code_for CompCode.SpreadExclusive ps) ps };
+
+    ghost passes = { λ s ps. Passes (code_for CompCode.SpreadExclusive ps) ps };
+
+    fn amount(&self, periods: &[PeriodTerm], places: u8) -> Result<i128, OutOfRange> {
+        amount_by(CompCode::SpreadExclusive, periods, places)
+    }
+
+    ghost one_amount = { λ s ps. one_amount_of (code_for CompCode.SpreadExclusive ps) ps };
+
+    ghost some_amount = { λ s ps. some_amount_of (code_for CompCode.SpreadExclusive ps) ps };
 }

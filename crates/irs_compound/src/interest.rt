@@ -1,6 +1,7 @@
 //! What a balance earns in a period: balance times rate times fraction.
 ghost use Rattle.std.specs.Prelude.{◌≡◌, ◌+◌, ◌*◌, ◌<◌, ◌≤◌, ◌^◌, pos, ◌<ℤ◌, ◌≤ℤ◌, ◌+ℤ◌, ◌*ℤ◌, unsigned_abs};
-ghost use Rattle.irs_compound.specs.Amounts.{IsFraction, Interest};
+ghost use Rattle.irs_base.specs.Limits.{most_rate};
+ghost use Rattle.irs_compound.specs.Amounts.{IsFraction, Interest, most_balance, most_product};
 
 use crate::products::product;
 use irs_base::{Direction, round};
@@ -8,19 +9,19 @@ use irs_terms::Frac;
 
 /// What a balance earns in a period, exactly, over the denominator of the fraction.
 pub fn earned(balance: i128, rate: i64, frac: Frac) -> i128
-    // 11 * 10^19 times 10^10; times a numerator of 4 * 10^7 and doubled, as rounding asks, it is
-    // 8.8 * 10^37, and 2^127 is above 1.7 * 10^38.
-    requires product_fits { unsigned_abs balance * unsigned_abs rate ≤ 11 * 10 ^ 29 }
+    // Times a numerator and doubled, as rounding asks, it is at most 1.32 * 10^38, and 2^127 is above
+    // 1.7 * 10^38.
+    requires product_fits { unsigned_abs balance * unsigned_abs rate ≤ most_balance * most_rate }
     requires fraction_fits { IsFraction frac }
     ensures value { result ≡ balance *ℤ rate *ℤ frac.num }
-    ensures size { unsigned_abs result ≤ 44 * 10 ^ 36 }
+    ensures size { unsigned_abs result ≤ most_product }
 {
     product(product(balance, i128::from(rate)), i128::from(frac.num))
 }
 
 /// What a balance earns in a period, to the nearest unit of the balance.
 pub fn interest(balance: i128, rate: i64, frac: Frac) -> i128
-    requires product_fits { unsigned_abs balance * unsigned_abs rate ≤ 11 * 10 ^ 29 }
+    requires product_fits { unsigned_abs balance * unsigned_abs rate ≤ most_balance * most_rate }
     requires fraction_fits { IsFraction frac }
     ensures { Interest balance rate frac result }
 {

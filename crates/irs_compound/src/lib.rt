@@ -12,7 +12,7 @@ mod products;
 mod rates;
 mod step_values;
 
-pub use compounding::{Compounding, Flat, OutOfRange, Simple, Straight};
+pub use compounding::{Compounding, Flat, OutOfRange, Simple, SpreadExclusive, Straight};
 pub use payments::payment_amount;
 pub use periods::{Parts, PeriodTerm, Rates};
 pub use rates::{fixed_rates, period_rates};

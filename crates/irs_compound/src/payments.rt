@@ -3,7 +3,7 @@ ghost use Rattle.std.specs.Prelude.{◌≡◌, ℕ, ℤ, ◌+◌, ◌-◌, ◌<�
 ghost use Rattle.irs_compound.specs.declared.periods.Parts.{Parts};
 ghost use Rattle.irs_compound.specs.Amounts.{IsPayment, AllPriced, SomeUnpriced, Passes, PassesFirst, Follows, Pays, AmountOf, code_for, most_places};
 
-use crate::compounding::{Compounding, Flat, OutOfRange, Simple, Straight};
+use crate::compounding::{Compounding, Flat, OutOfRange, Simple, SpreadExclusive, Straight};
 use crate::periods::PeriodTerm;
 use irs_terms::CompCode;
 
@@ -57,5 +57,6 @@ fn priced_amount(code: CompCode, periods: &[PeriodTerm], places: u8) -> Result<i
         CompCode::Simple => Simple.amount(periods, places),
         CompCode::Straight => Straight.amount(periods, places),
         CompCode::Flat => Flat.amount(periods, places),
+        CompCode::SpreadExclusive => SpreadExclusive.amount(periods, places),
     }
 }

@@ -7,7 +7,8 @@ use irs_terms::Frac;
 pub struct Rates {
     /// Multiplier times observed rate; the fixed rate on a fixed stream.
     pub base: i64,
-    /// The base rate with the spread; the fixed rate on a fixed stream.
+    /// The base rate with the spread, by the treatment of a rate below 0; the fixed rate on a fixed
+    /// stream.
     pub all_in: i64,
 }
 
@@ -24,7 +25,8 @@ pub struct PeriodTerm {
 
 /// What a period adds to its payment, in two parts that are rounded apart: without compounding one
 /// exact part, in units of 10^-13 over the fraction's denominator; with straight compounding one
-/// part; with flat compounding the basic and the additional amount, in units of 10^-6.
+/// part; with flat compounding the basic and the additional amount; with the spread exclusive the
+/// compounded and the spread part. All but the first in units of 10^-6.
 #[derive(Clone, Copy, Debug, PartialEq, Eq)]
 pub struct Parts {
     pub main: i128,

@@ -2,21 +2,22 @@
 //!
 //! The base rate is the multiplier times the observed rate, the rate is that plus the spread, with
 //! multiplier and spread in force on the period's unadjusted start. Each is rounded once from its
-//! exact value (2006 ISDA Definitions, article 8). That the base rate is rounded as the rate is,
-//! is this project's own.
+//! exact value (2006 ISDA Definitions, article 8). Under FpML's ZeroInterestRateMethod a rate below 0
+//! is then 0, and the base rate stays. That the base rate is rounded as the rate is, and what the
+//! treatment is of, are this project's own.
 ghost use Rattle.std.specs.Prelude.{◌≡◌, ℤ, ◌+◌, ◌-◌, ◌*◌, ◌≤◌, ◌^◌, pos, ◌+ℤ◌, ◌*ℤ◌, unsigned_abs};
 ghost use Rattle.irs_base.specs.Rounding.{rounded, Rounded};
 ghost use Rattle.irs_terms.specs.Lawful.{IsRate, IsLawfulValues, IsLawfulFloat};
 ghost use Rattle.irs_base.specs.Limits.{most_rate};
 ghost use Rattle.irs_compound.specs.declared.periods.Rates.{Rates};
 ghost use Rattle.irs_compound.specs.InForce.{StepsRise, value_in_force};
-ghost use Rattle.irs_compound.specs.PeriodRates.{RatesOf, FixedRatesOf, rate_at, rates_of, fixed_rates_of};
+ghost use Rattle.irs_compound.specs.PeriodRates.{RatesOf, FixedRatesOf, rate_at, treated, rates_of, fixed_rates_of, most_exact_base, most_exact_rate, most_rounded_rate};
 
 use crate::periods::Rates;
 use crate::products::{product, ten_to};
 use crate::step_values::in_force;
 use irs_base::{Day, round};
-use irs_terms::{FloatTerms, Rounding, StepValues};
+use irs_terms::{FloatTerms, Rounding, StepValues, Treatment};
 
 /// The rates of a period whose unadjusted start is `start` and whose observed rate is `observed`,
 /// which is at most 10 in size; rates are in units of 10^-9.
@@ -25,9 +26,8 @@ pub fn period_rates(f: &FloatTerms, start: Day, observed: i64) -> Rates
     requires observed_fits { unsigned_abs observed ≤ most_rate }
     ensures rates { RatesOf f.now start observed result }
     ensures value { result ≡ rates_of f.now start observed }
-    // 11 * 10 is more than the multiplier of 10 times a rate of 10, plus a spread of 10.
-    ensures base_fits { unsigned_abs result.base ≤ 11 * 10 ^ 10 }
-    ensures all_in_fits { unsigned_abs result.all_in ≤ 11 * 10 ^ 10 }
+    ensures base_fits { unsigned_abs result.base ≤ most_rounded_rate }
+    ensures all_in_fits { unsigned_abs result.all_in ≤ most_rounded_rate }
     // Where the steps rise there is one such pair of rates.
     ensures one { StepsRise f.now.multiplier.steps → StepsRise f.now.spread.steps → (a b : Rates) → RatesOf f.now start observed a → RatesOf f.now start observed b → a ≡ b }
 {
@@ -56,14 +56,28 @@ fn rates_on(f: &FloatTerms, start: Day, observed: i64) -> Rates
     requires terms { IsLawfulFloat f.now }
     requires observed_fits { unsigned_abs observed ≤ most_rate }
     ensures value { result ≡ rates_of f.now start observed }
-    ensures base_fits { unsigned_abs result.base ≤ 11 * 10 ^ 10 }
-    ensures all_in_fits { unsigned_abs result.all_in ≤ 11 * 10 ^ 10 }
+    ensures base_fits { unsigned_abs result.base ≤ most_rounded_rate }
+    ensures all_in_fits { unsigned_abs result.all_in ≤ most_rounded_rate }
 {
     let spread = rate_in_force(&f.spread, start);
     let exact = multiplied(rate_in_force(&f.multiplier, start), observed);
     Rates {
         base: rounded_rate(f.rounding, exact),
-        all_in: rounded_rate(f.rounding, with_spread(exact, spread)),
+        all_in: treated(
+            f.treatment,
+            rounded_rate(f.rounding, with_spread(exact, spread)),
+        ),
+    }
+}
+
+// A rounded rate by the treatment of one below 0.
+fn treated(treatment: Treatment, rate: i64) -> i64
+    ensures value { result ≡ treated treatment rate }
+    ensures size { unsigned_abs result ≤ unsigned_abs rate }
+{
+    match treatment {
+        Treatment::AsIs => rate,
+        Treatment::ZeroFloor => if rate < 0 { 0 } else { rate },
     }
 }
 
@@ -81,34 +95,34 @@ fn multiplied(multiplier: i128, observed: i64) -> i128
     requires multiplier_fits { unsigned_abs multiplier ≤ most_rate }
     requires observed_fits { unsigned_abs observed ≤ most_rate }
     ensures value { result ≡ multiplier *ℤ observed }
-    ensures size { unsigned_abs result ≤ 10 ^ 20 }
+    ensures size { unsigned_abs result ≤ most_exact_base }
 {
     product(multiplier, i128::from(observed))
 }
 
 // The exact rate, in units of 10^-18.
 fn with_spread(exact: i128, spread: i128) -> i128
-    requires exact_fits { unsigned_abs exact ≤ 10 ^ 20 }
+    requires exact_fits { unsigned_abs exact ≤ most_exact_base }
     requires spread_fits { unsigned_abs spread ≤ most_rate }
     ensures value { result ≡ exact +ℤ spread *ℤ pos (10 ^ 9) }
-    ensures size { unsigned_abs result ≤ 11 * 10 ^ 19 }
+    ensures size { unsigned_abs result ≤ most_exact_rate }
 {
     exact + spread * 1_000_000_000
 }
 
 // An exact rate in units of 10^-18, rounded, in units of 10^-9.
 fn rounded_rate(rounding: Rounding, exact: i128) -> i64
-    requires exact_fits { unsigned_abs exact ≤ 11 * 10 ^ 19 }
+    requires exact_fits { unsigned_abs exact ≤ most_exact_rate }
     requires places_fit { rounding.places ≤ 9 }
     ensures value { result ≡ rate_at rounding exact }
-    ensures size { unsigned_abs result ≤ 11 * 10 ^ 10 }
+    ensures size { unsigned_abs result ≤ most_rounded_rate }
 {
     scaled(rounded_whole(rounding, exact), rounding.places) as i64
 }
 
 // The rounded rate in units of its last place.
 fn rounded_whole(rounding: Rounding, exact: i128) -> i128
-    requires exact_fits { unsigned_abs exact ≤ 11 * 10 ^ 19 }
+    requires exact_fits { unsigned_abs exact ≤ most_exact_rate }
     requires places_fit { rounding.places ≤ 9 }
     ensures value { result ≡ rounded rounding.dir exact (pos (10 ^ (18 - rounding.places))) }
     ensures size { unsigned_abs result ≤ 11 * 10 ^ (rounding.places + 1) }
@@ -121,7 +135,7 @@ fn scaled(whole: i128, places: u8) -> i128
     requires places_fit { places ≤ 9 }
     requires whole_fits { unsigned_abs whole ≤ 11 * 10 ^ (places + 1) }
     ensures value { result ≡ whole *ℤ pos (10 ^ (9 - places)) }
-    ensures size { unsigned_abs result ≤ 11 * 10 ^ 10 }
+    ensures size { unsigned_abs result ≤ most_rounded_rate }
 {
     product(whole, ten_to(9 - places))
 }

@@ -3,8 +3,8 @@ ghost use Rattle.irs_terms.specs.Lawful.{IsLawfulFloat};
 ghost use Rattle.irs_compound.specs.Amounts.{IsPayment};
 
 use crate::*;
-use irs_base::{Civil, Day, Direction, Text, day_of};
-use irs_terms::{CompCode, FloatTerms, Frac, Rounding, Step, StepList, StepValues};
+use irs_base::{Civil, Day, Direction, MOST_PERIODS, MOST_RATE, Text, day_of};
+use irs_terms::{CompCode, FloatTerms, Frac, Rounding, Step, StepList, StepValues, Treatment};
 use std::alloc::Global;
 use std::test::Fail;
 
@@ -12,7 +12,7 @@ use std::test::Fail;
 fn is_payment(periods: &[PeriodTerm]) -> bool
     ensures { MatchBool result (IsPayment periods.now) (Unit {0}) }
 {
-    if periods.len() < 1 || periods.len() > 4_000 {
+    if periods.len() < 1 || periods.len() > MOST_PERIODS as usize {
         return false;
     }
     let den = periods[0].frac.den;
@@ -32,13 +32,17 @@ fn are_terms(den: i64, periods: &[PeriodTerm]) -> bool
 
 ghost use Rattle.irs_compound.specs.Amounts.{IsTerm};
 
+// The greatest notional, in units of currency.
+const MOST: i128 = 10_000_000_000_000;
+
+// No period of a test has a numerator above 366.
 fn is_term(den: i64, p: &PeriodTerm) -> bool
     ensures { MatchBool result (IsTerm den p.now) (Unit {0}) }
 {
     0 <= p.notional
-        && p.notional <= 100_000_000_000_000_000
+        && p.notional <= 10_000 * MOST
         && 0 <= p.frac.num
-        && p.frac.num <= 40_000_000
+        && p.frac.num <= 366
         && 1 <= p.frac.den
         && p.frac.den <= 133_590
         && p.frac.den == den
@@ -80,6 +84,11 @@ fn compounding_of_two_quarters(rt: HostRuntime) -> Result<(), Fail> {
     assert_eq!(rt; paid(CompCode::Simple, &two, 2)?, Ok(Some(3_250_000)));
     assert_eq!(rt; paid(CompCode::Straight, &two, 2)?, Ok(Some(3_276_250)));
     assert_eq!(rt; paid(CompCode::Flat, &two, 2)?, Ok(Some(3_272_500)));
+    // Compounded parts 12,500 and 15,187.50, spread parts 2,500 and 2,500.
+    assert_eq!(rt;
+        paid(CompCode::SpreadExclusive, &two, 2)?,
+        Ok(Some(3_268_750))
+    );
     let unfixed = [
         two[0],
         PeriodTerm {
@@ -102,7 +111,7 @@ fn amounts_of_one_rate(rt: HostRuntime) -> Result<(), Fail> {
         (period(5, -500_000_000, -500_000_000, 1, 1), 0, -2),
         (period(5, 500_000_000, 500_000_000, 1, 1), 3, 2_500),
         (
-            period(10_000_000_000_000, 10_000_000_000, 10_000_000_000, 1, 1),
+            period(MOST, 10_000_000_000, 10_000_000_000, 1, 1),
             2,
             10_000_000_000_000_000,
         ),
@@ -110,7 +119,12 @@ fn amounts_of_one_rate(rt: HostRuntime) -> Result<(), Fail> {
         (period(1, 9_999_999, 9_999_999, 180, 360), 2, 0),
     ];
     for (one, places, amount) in rows {
-        for code in [CompCode::Simple, CompCode::Straight, CompCode::Flat] {
+        for code in [
+            CompCode::Simple,
+            CompCode::Straight,
+            CompCode::Flat,
+            CompCode::SpreadExclusive,
+        ] {
             assert_eq!(rt;
                 paid(code, &[one], places)?,
                 Ok(Some(amount)),
@@ -129,7 +143,7 @@ fn amounts_of_one_rate(rt: HostRuntime) -> Result<(), Fail> {
 
 #[test]
 fn first_period_out_of_range(rt: HostRuntime) -> Result<(), Fail> {
-    let most = 10_000_000_000_000;
+    let most = MOST;
     let ten = 10_000_000_000;
     let plain = period(1, 0, 0, 1, 1);
     // Each row: code, two periods, the first position out of range.
@@ -169,9 +183,41 @@ fn first_period_out_of_range(rt: HostRuntime) -> Result<(), Fail> {
 }
 
 #[test]
-fn four_thousand_periods(rt: HostRuntime) -> Result<(), Fail> {
-    let many = [period(1, 1_000_000_000, 1_000_000_000, 1, 1); 4_000];
-    assert_eq!(rt; paid(CompCode::Simple, &many, 0)?, Ok(Some(4_000)));
+fn each_sum_of_its_own(rt: HostRuntime) -> Result<(), Fail> {
+    let ten = 10_000_000_000;
+    let plain = period(1, 0, 0, 1, 1);
+    // Each row: two periods with the spread exclusive, the first position out of range.
+    let rows = [
+        // The compounded parts are 5*10^13 and 6*10^13, whose sum passes 10^14, while the spread
+        // parts cancel them and the sum of amounts is 0.
+        (
+            [
+                period(MOST, 5_000_000_000, 0, 1, 1),
+                period(MOST, 1_000_000_000, -5_000_000_000, 1, 1),
+            ],
+            2,
+        ),
+        // A compounded part; a spread part, where both rates are in range.
+        ([period(MOST, ten, ten, 366, 1), plain], 1),
+        ([period(MOST, -ten, ten, 1, 1), plain], 1),
+    ];
+    for (two, first) in rows {
+        assert_eq!(rt;
+            paid(CompCode::SpreadExclusive, &two, 2)?,
+            Err(OutOfRange { period: first }),
+            "{two:?}"
+        );
+    }
+    Ok(())
+}
+
+#[test]
+fn as_many_periods_as_there_may_be(rt: HostRuntime) -> Result<(), Fail> {
+    let many = [period(1, 1_000_000_000, 1_000_000_000, 1, 1); MOST_PERIODS as usize];
+    assert_eq!(rt;
+        paid(CompCode::Simple, &many, 0)?,
+        Ok(Some(i128::from(MOST_PERIODS)))
+    );
     // Each balance is twice the one before: 2^47 - 1 is the first above 10^14.
     assert_eq!(rt;
         paid(CompCode::Straight, &many, 0)?,
@@ -181,10 +227,17 @@ fn four_thousand_periods(rt: HostRuntime) -> Result<(), Fail> {
 }
 
 ghost use Rattle.std.specs.Prelude.{◌≤◌, ◌^◌, unsigned_abs, IfOk};
+ghost use Rattle.irs_base.specs.Limits.{most_rate};
 
 // The terms of a rate with multiplier 1 and no steps.
-fn terms(alloc: Global, spread: i128, dir: Direction, places: u8) -> Result<FloatTerms, Fail>
-    requires spread_fits { unsigned_abs spread ≤ 10 ^ 10 }
+fn terms(
+    alloc: Global,
+    spread: i128,
+    dir: Direction,
+    places: u8,
+    treatment: Treatment,
+) -> Result<FloatTerms, Fail>
+    requires spread_fits { unsigned_abs spread ≤ most_rate }
     requires places_fit { places ≤ 9 }
     ensures { IfOk result IsLawfulFloat }
 {
@@ -205,6 +258,7 @@ fn terms(alloc: Global, spread: i128, dir: Direction, places: u8) -> Result<Floa
         spread,
         initial_rate: None,
         rounding,
+        treatment,
     })
 }
 
@@ -251,15 +305,69 @@ fn rates_are_rounded_once(rt: HostRuntime) -> Result<(), Fail> {
         (1, Direction::Nearest, 9, 7, 7, 8),
     ];
     for (spread, dir, places, observed, base, all_in) in rows {
-        if spread.unsigned_abs() <= 10_000_000_000
+        if spread.unsigned_abs() <= u128::from(MOST_RATE)
             && places <= 9
-            && observed.unsigned_abs() <= 10_000_000_000
+            && observed.unsigned_abs() <= MOST_RATE
         {
-            let f = terms(rt.alloc(), spread, dir, places)?;
+            let f = terms(rt.alloc(), spread, dir, places, Treatment::AsIs)?;
             assert_eq!(rt;
                 period_rates(&f, start, observed),
                 Rates { base, all_in },
                 "{observed}"
+            );
+        }
+    }
+    Ok(())
+}
+
+#[test]
+fn rates_below_zero(rt: HostRuntime) -> Result<(), Fail> {
+    let start = day_of(Civil {
+        year: 2024,
+        month: 1,
+        day: 15,
+    })
+    .ok_or("no such day")?;
+    // Each row: treatment, spread, observed rate, base rate, rate.
+    let rows: [(Treatment, i128, i64, i64, i64); 5] = [
+        (
+            Treatment::AsIs,
+            10_000_000,
+            -50_000_000,
+            -50_000_000,
+            -40_000_000,
+        ),
+        (
+            Treatment::ZeroFloor,
+            10_000_000,
+            -50_000_000,
+            -50_000_000,
+            0,
+        ),
+        (
+            Treatment::ZeroFloor,
+            10_000_000,
+            60_000_000,
+            60_000_000,
+            70_000_000,
+        ),
+        // The floor is that of the rate with its spread, and not of the base rate.
+        (
+            Treatment::ZeroFloor,
+            10_000_000,
+            -5_000_000,
+            -5_000_000,
+            5_000_000,
+        ),
+        (Treatment::ZeroFloor, -10_000_000, 5_000_000, 5_000_000, 0),
+    ];
+    for (treatment, spread, observed, base, all_in) in rows {
+        if spread.unsigned_abs() <= u128::from(MOST_RATE) && observed.unsigned_abs() <= MOST_RATE {
+            let f = terms(rt.alloc(), spread, Direction::Nearest, 9, treatment)?;
+            assert_eq!(rt;
+                period_rates(&f, start, observed),
+                Rates { base, all_in },
+                "{treatment:?} of {observed}"
             );
         }
     }

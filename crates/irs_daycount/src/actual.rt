@@ -5,10 +5,10 @@
 //! whole year has 133590 parts, and the numerator is the difference of two places: no year and no
 //! day in between is looked at.
 ghost use Rattle.std.specs.Prelude.{◌≡◌, ◌≤◌, pos, ◌<ℤ◌, ◌≤ℤ◌, ◌+ℤ◌, ◌-ℤ◌};
-ghost use Rattle.irs_base.specs.Days.{IsDay};
+ghost use Rattle.irs_base.specs.Days.{IsDay, last_year};
 ghost use Rattle.irs_base.specs.DateOf.{year_part};
 ghost use Rattle.irs_daycount.specs.Actual.{ActAct};
-ghost use Rattle.irs_daycount.specs.Places.{place_at, place_of};
+ghost use Rattle.irs_daycount.specs.Places.{most_place, place_at, place_of};
 
 use irs_base::{Civil, Day, civil_of, day_of};
 use irs_terms::Frac;
@@ -38,7 +38,7 @@ pub fn act_act(s: Day, e: Day) -> Frac
 // Where the day begins, in parts of years that are counted from the year 0.
 fn place(d: Day) -> u32
     ensures value { result ≡ place_of d }
-    ensures range { result ≤ 300_000_000 }
+    ensures range { result ≤ most_place }
     ensures day { IsDay d }
 {
     let _number = d.number();
@@ -46,10 +46,10 @@ fn place(d: Day) -> u32
 }
 
 fn place_at(year: u32, days: u32) -> u32
-    requires year_fits { year ≤ 2199 }
+    requires year_fits { year ≤ last_year }
     requires days_fit { days ≤ 365 }
     ensures value { result ≡ place_at year days }
-    ensures range { result ≤ 300_000_000 }
+    ensures range { result ≤ most_place }
 {
     if is_leap_year(year as i16) {
         ACT_ACT_DENOMINATOR * year + 365 * days
@@ -60,7 +60,7 @@ fn place_at(year: u32, days: u32) -> u32
 
 fn year(d: Day) -> u32
     ensures value { result ≡ (year_part d).0 }
-    ensures range { result ≤ 2199 }
+    ensures range { result ≤ last_year }
 {
     civil_of(d).year as u32
 }

@@ -3,8 +3,9 @@
 //! With date 1 the start and date 2 the end, Y, M and D their years, months and days, each
 //! counts 360 * (Y2 - Y1) + 30 * (M2 - M1) + (D2 - D1) days. The three differ in which D1 and D2
 //! they first move to 30.
-ghost use Rattle.std.specs.Prelude.{◌≡◌, ◌≤◌, pos, negsuc, ◌+ℤ◌, ◌*ℤ◌, ◌-ℤ◌};
+ghost use Rattle.std.specs.Prelude.{◌≡◌, ◌≤◌, pos, ◌+ℤ◌, ◌*ℤ◌, ◌-ℤ◌, ◌-◌, negsuc};
 ghost use Rattle.jiff_core.specs.Calendar.{IsBetween};
+ghost use Rattle.irs_base.specs.Days.{first_year, last_year};
 ghost use Rattle.irs_daycount.specs.Thirty.{date_of, is_february_end, by_months, bond_d1, bond_d2, bond_days, euro_day, euro_days, isda_d1, isda_d2, isda_days};
 
 use irs_base::{Civil, Day, civil_of};
@@ -38,7 +39,7 @@ pub fn isda_days(s: Day, e: Day, last: bool) -> i64
 // Year, month and day of the month.
 fn date(d: Day) -> Civil
     ensures exact { result ≡ date_of d }
-    ensures year { IsBetween (pos 1901) (pos 2199) result.year }
+    ensures year { IsBetween (pos first_year) (pos last_year) result.year }
     ensures month { result.month ≤ 12 }
 {
     civil_of(d)
@@ -67,7 +68,7 @@ fn euro_day(date: Civil) -> u8
 }
 
 fn isda_d1(date1: Civil) -> u8
-    requires { IsBetween (pos 1901) (pos 2199) date1.year }
+    requires { IsBetween (pos first_year) (pos last_year) date1.year }
     ensures { result ≡ isda_d1 date1 }
 {
     if date1.day == 31 || is_february_end(date1) {
@@ -78,7 +79,7 @@ fn isda_d1(date1: Civil) -> u8
 }
 
 fn isda_d2(date2: Civil, last: bool) -> u8
-    requires { IsBetween (pos 1901) (pos 2199) date2.year }
+    requires { IsBetween (pos first_year) (pos last_year) date2.year }
     ensures { result ≡ isda_d2 date2 last }
 {
     if date2.day == 31 || (is_february_end(date2) && !last) {
@@ -89,7 +90,7 @@ fn isda_d2(date2: Civil, last: bool) -> u8
 }
 
 fn is_february_end(date: Civil) -> bool
-    requires { IsBetween (pos 1901) (pos 2199) date.year }
+    requires { IsBetween (pos first_year) (pos last_year) date.year }
     ensures { result ≡ is_february_end date }
 {
     date.month == 2 && date.day == days_in_month(date.year as i16, date.month)
@@ -97,7 +98,8 @@ fn is_february_end(date: Civil) -> bool
 
 // The formula of all three, with D1 and D2 as they were moved.
 fn by_months(date1: Civil, date2: Civil, d1: u8, d2: u8) -> i64
-    requires years { IsBetween (pos 1901) (pos 2199) date1.year × IsBetween (pos 1901) (pos 2199) date2.year }
+    requires start { IsBetween (pos first_year) (pos last_year) date1.year }
+    requires end { IsBetween (pos first_year) (pos last_year) date2.year }
     ensures { result ≡ by_months date1 date2 d1 d2 }
 {
     in_days(
@@ -108,18 +110,18 @@ fn by_months(date1: Civil, date2: Civil, d1: u8, d2: u8) -> i64
 }
 
 fn apart(from: i64, to: i64) -> i64
-    requires from { IsBetween (pos 0) (pos 2199) from }
-    requires to { IsBetween (pos 0) (pos 2199) to }
+    requires from { IsBetween (pos 0) (pos last_year) from }
+    requires to { IsBetween (pos 0) (pos last_year) to }
     ensures value { result ≡ to -ℤ from }
-    ensures range { IsBetween (negsuc 2198) (pos 2199) result }
+    ensures range { IsBetween (negsuc (last_year - 1)) (pos last_year) result }
 {
     to - from
 }
 
 fn in_days(years: i64, months: i64, days: i64) -> i64
-    requires years { IsBetween (negsuc 2198) (pos 2199) years }
-    requires months { IsBetween (negsuc 2198) (pos 2199) months }
-    requires days { IsBetween (negsuc 2198) (pos 2199) days }
+    requires years { IsBetween (negsuc (last_year - 1)) (pos last_year) years }
+    requires months { IsBetween (negsuc (last_year - 1)) (pos last_year) months }
+    requires days { IsBetween (negsuc (last_year - 1)) (pos last_year) days }
     ensures { result ≡ pos 360 *ℤ years +ℤ pos 30 *ℤ months +ℤ days }
 {
     360 * years + 30 * months + days

@@ -4,6 +4,7 @@ use Rattle.std.proofs.lemmas.Bool.{cases_lt}
 use Rattle.jiff_core.proofs.SignedLemmas.{signed_arith}
 use Rattle.irs_base.specs.Listed.{Member, AllAfter, IsRising}
 use Rattle.irs_base.proofs.Rising.{member_old, member_new, rising_push, one_rising}
+use Rattle.irs_terms.specs.FirstDay.{first_day_of}
 use Rattle.irs_terms.specs.declared.stream.Stream.{Stream}
 use Rattle.irs_payments.specs.Numbered.{day_at}
 use Rattle.irs_payments.specs.Grouping.{pay_anchor, EndsPayment, RunsFromTo, IsPay, PayList}
@@ -115,15 +116,15 @@ two_boundaries e t b h r =
           absurd (omega (arith, signed_arith, h, first, t_is))
     ]
 
--- the payment boundaries at the places behind 0, with the effective date in front
-module _ (s : Stream) (b : List ℤ) (run : RunsFromTo s.effective.day s.termination.day b) (later : List ℕ) (rising : IsRising (days_at b later)) (sound : EachPlace (IsCut s b (length b)) later) (complete : (place : ℕ) → 1 ≤ place → place < length b → EndsAt s b place → Member (day_at b place) (days_at b later)) where
+-- the payment boundaries at the places behind 0, with the first day in front
+module _ (s : Stream) (b : List ℤ) (run : RunsFromTo (first_day_of s) s.termination.day b) (later : List ℕ) (rising : IsRising (days_at b later)) (sound : EachPlace (IsCut s b (length b)) later) (complete : (place : ℕ) → 1 ≤ place → place < length b → EndsAt s b place → Member (day_at b place) (days_at b later)) where
   abbrev pub pay_days : List ℤ
-  pay_days = s.effective.day ∷ days_at b later
+  pay_days = (first_day_of s) ∷ days_at b later
 
-  first : day_at b 0 ≡ s.effective.day
-  first = first_is s.effective.day s.termination.day b run
+  first : day_at b 0 ≡ (first_day_of s)
+  first = first_is (first_day_of s) s.termination.day b run
 
-  after_first : (d : ℤ) → Member d (days_at b later) → s.effective.day <ℤ d
+  after_first : (d : ℤ) → Member d (days_at b later) → (first_day_of s) <ℤ d
   after_first d m =
       let p = place_in (IsCut s b (length b)) b later d sound m in
       let less = rises_at b 0 p.0 run.rising (omega (arith, p.1.from_one)) p.1.below in
@@ -152,7 +153,7 @@ module _ (s : Stream) (b : List ℤ) (run : RunsFromTo s.effective.day s.termina
   pub pay_listed : PayList s b pay_days
   pay_listed = record {
     later = days_at b later;
-    from_effective = refl;
+    from_first_day = refl;
     listed = record { rising = rising; sound = is_pay; complete = has_pay };
   }
 
@@ -164,10 +165,10 @@ module _ (s : Stream) (b : List ℤ) (run : RunsFromTo s.effective.day s.termina
   length-pay = omega (arith, length-days_at b later)
 
   pay_rising : IsRising pay_days
-  pay_rising = (all_after s.effective.day (days_at b later) after_first, rising)
+  pay_rising = (all_after (first_day_of s) (days_at b later) after_first, rising)
 
   cut_within : (k : ℕ) → k < length (0 ∷ later) → cut_at (0 ∷ later) k < length b
-  cut_within zero l = let p = place_of s.effective.day b run.starts in omega (arith, p.1)
+  cut_within zero l = let p = place_of (first_day_of s) b run.starts in omega (arith, p.1)
   cut_within (suc k) l = (each_at (IsCut s b (length b)) later k sound (omega arith)).below
 
   cut_rises : (k : ℕ) → k + 1 < length (0 ∷ later) → cut_at (0 ∷ later) k < cut_at (0 ∷ later) (k + 1)
@@ -185,7 +186,7 @@ module _ (s : Stream) (b : List ℤ) (run : RunsFromTo s.effective.day s.termina
   cut_places = record { begins = refl; rise = cut_rises; within = cut_within }
 
   -- the last place is that of the termination date
-  pub cut_last : s.effective.day <ℤ s.termination.day → cut_at (0 ∷ later) (length (0 ∷ later) - 1) + 1 ≡ length b
+  pub cut_last : (first_day_of s) <ℤ s.termination.day → cut_at (0 ∷ later) (length (0 ∷ later) - 1) + 1 ≡ length b
   cut_last term =
       let pay : IsPay s b s.termination.day = record { boundary = run.ends; after = term; is = inl refl } in
       let m = has_pay s.termination.day pay in
@@ -201,10 +202,10 @@ module _ (s : Stream) (b : List ℤ) (run : RunsFromTo s.effective.day s.termina
         | inr end ↦ omega (arith, l)
       ] in
       let at : day_at b (cut_at (0 ∷ later) p.0) ≡ s.termination.day = sym (pay_at p.0 l) ∙ p.2 in
-      let is = last_is s.effective.day s.termination.day b (cut_at (0 ∷ later) p.0) run (cut_within p.0 l) at in
+      let is = last_is (first_day_of s) s.termination.day b (cut_at (0 ∷ later) p.0) run (cut_within p.0 l) at in
       subst (λ (k : ℕ). cut_at (0 ∷ later) k + 1 ≡ length b) last is
 
   pub one_pay : (pay : List ℤ) → PayList s b pay → pay ≡ pay_days
   one_pay pay h =
       let same = one_rising h.later (days_at b later) h.listed.rising rising (λ d m. has_pay d (h.listed.sound d m)) (λ d m. h.listed.complete d (is_pay d m)) in
-      h.from_effective ∙ ap (λ ds. s.effective.day ∷ ds) same
+      h.from_first_day ∙ ap (λ ds. (first_day_of s) ∷ ds) same

@@ -10,7 +10,7 @@ use Rattle.irs_base.specs.declared.rounding.Direction.TheVariants.{Nearest}
 use Rattle.irs_base.proofs.RoundingLaws.{rounded_once}
 use Rattle.irs_terms.specs.Currencies.{decimals_of}
 use Rattle.irs_terms.specs.Lawful.{IsLawfulStream, IsNotional}
-use Rattle.irs_base.specs.Limits.{most_notional}
+use Rattle.irs_base.specs.Limits.{most_exchanges, most_notional, most_steps}
 use Rattle.irs_terms.specs.declared.step_list.Step.{Step}
 use Rattle.irs_terms.specs.declared.results.Exchange.{Exchange}
 use Rattle.irs_terms.specs.declared.stream.Stream.{Stream}
@@ -111,13 +111,13 @@ few_part true ts = omega arith
 few_part false ts = omega arith
 
 -- the initial one, one a step, and the final one
-pub few_transfers : (s : Stream) → IsLawfulStream s → length (transfers_of s) ≤ 4_002
+pub few_transfers : (s : Stream) → IsLawfulStream s → length (transfers_of s) ≤ most_exchanges
 few_transfers s lawful =
     let a = few_part s.exchanges.initial (transfer s.effective.day (pos 0 -ℤ s.notional.initial) ∷ []) in
     let b = few_part s.exchanges.intermediate (changes s.notional.initial s.notional.steps) in
     let c = few_part s.exchanges.last (transfer s.termination.day (last_value s.notional.initial s.notional.steps) ∷ []) in
     let d = few_changes s.notional.initial s.notional.steps in
-    let e : length s.notional.steps ≤ 4_000 = lawful.notional.1 in
+    let e : length s.notional.steps ≤ most_steps = lawful.notional.1 in
     omega (arith, a, b, c, d, e, length-append (initial_of s ++ intermediate_of s) (final_of s), length-append (initial_of s) (intermediate_of s))
 
 pub fits_small : (z : ℤ) → unsigned_abs z ≤ most_notional → to_z w128 (of_z w128 z) ≡ z

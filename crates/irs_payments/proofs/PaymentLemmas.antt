@@ -10,6 +10,7 @@ use Rattle.irs_base.specs.declared.places.Broken.{Broken}
 use Rattle.irs_terms.specs.declared.codes.Relative.{Relative}
 use Rattle.irs_terms.specs.declared.codes.Relative.TheVariants.{Start, End}
 use Rattle.irs_terms.specs.declared.results.Payment.{Payment}
+use Rattle.irs_terms.specs.FirstDay.{first_day_of}
 use Rattle.irs_terms.specs.declared.stream.Stream.{Stream}
 use Rattle.irs_calendar.specs.GoodDays.{DaySet}
 use Rattle.irs_payments.specs.Faults.{broken_at, turn, ComesBefore, IsFirst}
@@ -67,19 +68,19 @@ k38_late e m n (inr r) = omega (arith, r.0)
 before_this : (x y z : Broken) → y ≡ z → ComesBefore y x → ComesBefore z x
 before_this x y z e h = subst (λ (w : Broken). ComesBefore w x) e h
 
-module _ (s : Stream) (set : DaySet) (b a : List ℤ) (run : RunsFromTo s.effective.day s.termination.day b) (later : List ℕ) (rising : IsRising (days_at b later)) (sound : EachPlace (IsCut s b (length b)) later) (complete : (place : ℕ) → 1 ≤ place → place < length b → EndsAt s b place → Member (day_at b place) (days_at b later)) where
+module _ (s : Stream) (set : DaySet) (b a : List ℤ) (run : RunsFromTo (first_day_of s) s.termination.day b) (later : List ℕ) (rising : IsRising (days_at b later)) (sound : EachPlace (IsCut s b (length b)) later) (complete : (place : ℕ) → 1 ≤ place → place < length b → EndsAt s b place → Member (day_at b place) (days_at b later)) where
   places : ArePlaces b (0 ∷ later)
   places = cut_places s b run later rising sound complete
 
-  pay_day : (k : ℕ) → k < length (0 ∷ later) → day_at (s.effective.day ∷ days_at b later) k ≡ day_at b (cut_at (0 ∷ later) k)
+  pay_day : (k : ℕ) → k < length (0 ∷ later) → day_at ((first_day_of s) ∷ days_at b later) k ≡ day_at b (cut_at (0 ∷ later) k)
   pay_day k l = pay_at s b run later rising sound complete k l
 
-  pay_length : length (s.effective.day ∷ days_at b later) ≡ length (0 ∷ later)
+  pay_length : length ((first_day_of s) ∷ days_at b later) ≡ length (0 ∷ later)
   pay_length = length-pay s b run later rising sound complete
 
-  is_payment : (j : ℕ) (p : Payment) → 1 ≤ j → j < length (0 ∷ later) → IsCutPayment s set b a (0 ∷ later) j p → IsPayment s set b a (s.effective.day ∷ days_at b later) j p
+  is_payment : (j : ℕ) (p : Payment) → 1 ≤ j → j < length (0 ∷ later) → IsCutPayment s set b a (0 ∷ later) j p → IsPayment s set b a ((first_day_of s) ∷ days_at b later) j p
   is_payment j p low high h =
-      let pay : List ℤ = s.effective.day ∷ days_at b later in
+      let pay : List ℤ = (first_day_of s) ∷ days_at b later in
       let c : ℕ = cut_at (0 ∷ later) (j - 1) in
       let d : ℕ = cut_at (0 ∷ later) j in
       let back : j - 1 + 1 ≡ j = omega arith in
@@ -102,10 +103,10 @@ module _ (s : Stream) (set : DaySet) (b a : List ℤ) (run : RunsFromTo s.effect
 
   are_payments : (ps : List Payment) → ArePaid s set b a (0 ∷ later) (length (0 ∷ later)) ps → ArePayments s set b a ps
   are_payments ps paid = record {
-    pay = s.effective.day ∷ days_at b later;
+    pay = (first_day_of s) ∷ days_at b later;
     listed = pay_listed s b run later rising sound complete;
     count = paid.count ∙ sym pay_length;
-    each = numbered_map (IsCutPayment s set b a (0 ∷ later)) (IsPayment s set b a (s.effective.day ∷ days_at b later)) 1 ps (λ n x low high h. is_payment n x low (omega (arith, high, paid.count)) h) paid.each;
+    each = numbered_map (IsCutPayment s set b a (0 ∷ later)) (IsPayment s set b a ((first_day_of s) ∷ days_at b later)) 1 ps (λ n x low high h. is_payment n x low (omega (arith, high, paid.count)) h) paid.each;
   }
 
   starts_at : (n : ℕ) → 1 ≤ n → n < length (0 ∷ later) → PaysFrom s b a n (day_at a (date_place s (0 ∷ later) n))
@@ -113,7 +114,7 @@ module _ (s : Stream) (set : DaySet) (b a : List ℤ) (run : RunsFromTo s.effect
       let k : ℕ = pay_place s.pay.relative n in
       let l : k < length (0 ∷ later) = omega (arith, place_low s.pay.relative n) in
       record {
-        pay = s.effective.day ∷ days_at b later;
+        pay = (first_day_of s) ∷ days_at b later;
         listed = pay_listed s b run later rising sound complete;
         from_one = low;
         within = omega (arith, pay_length);
@@ -181,27 +182,27 @@ module _ (s : Stream) (set : DaySet) (b a : List ℤ) (run : RunsFromTo s.effect
 
 -- the same from what the walk gives
 
-pub payments_are : (s : Stream) (set : DaySet) (b a : List ℤ) (cuts : List ℕ) → RunsFromTo s.effective.day s.termination.day b → AreCuts s b (length b) cuts → (ps : List Payment) → ArePaid s set b a cuts (length cuts) ps → ArePayments s set b a ps
+pub payments_are : (s : Stream) (set : DaySet) (b a : List ℤ) (cuts : List ℕ) → RunsFromTo (first_day_of s) s.termination.day b → AreCuts s b (length b) cuts → (ps : List Payment) → ArePaid s set b a cuts (length cuts) ps → ArePayments s set b a ps
 payments_are s set b a cuts run h ps paid = are_payments s set b a run h.later h.rising h.sound h.complete ps (subst (λ (cs : List ℕ). ArePaid s set b a cs (length cs) ps) h.from_zero paid)
 
-pub payments_cover : (s : Stream) (set : DaySet) (b a : List ℤ) (cuts : List ℕ) → s.effective.day <ℤ s.termination.day → RunsFromTo s.effective.day s.termination.day b → AreCuts s b (length b) cuts → (ps : List Payment) → ArePaid s set b a cuts (length cuts) ps → Covers 1 ps (length b - 1)
+pub payments_cover : (s : Stream) (set : DaySet) (b a : List ℤ) (cuts : List ℕ) → (first_day_of s) <ℤ s.termination.day → RunsFromTo (first_day_of s) s.termination.day b → AreCuts s b (length b) cuts → (ps : List Payment) → ArePaid s set b a cuts (length cuts) ps → Covers 1 ps (length b - 1)
 payments_cover s set b a cuts term run h ps paid =
     let last = cut_last s b run h.later h.rising h.sound h.complete term in
     let moved = subst (λ (cs : List ℕ). ArePaid s set b a cs (length cs) ps) h.from_zero paid in
     let same : cut_at (0 ∷ h.later) (length (0 ∷ h.later) - 1) ≡ length b - 1 = omega (arith, last) in
     subst (λ (n : ℕ). Covers 1 ps n) same moved.covers
 
-pub payments_unbroken : (s : Stream) (set : DaySet) (b a : List ℤ) (cuts : List ℕ) → RunsFromTo s.effective.day s.termination.day b → AreCuts s b (length b) cuts → NoneLacks s set a cuts (length cuts) → NoneLeaves s set a cuts (length cuts) → (x : Broken) → BreaksDates s set b a x → ⊥
+pub payments_unbroken : (s : Stream) (set : DaySet) (b a : List ℤ) (cuts : List ℕ) → RunsFromTo (first_day_of s) s.termination.day b → AreCuts s b (length b) cuts → NoneLacks s set a cuts (length cuts) → NoneLeaves s set a cuts (length cuts) → (x : Broken) → BreaksDates s set b a x → ⊥
 payments_unbroken s set b a cuts run h lacks leaves =
     no_fault s set b a run h.later h.rising h.sound h.complete
     (subst (λ (cs : List ℕ). NoneLacks s set a cs (length cs)) h.from_zero lacks)
     (subst (λ (cs : List ℕ). NoneLeaves s set a cs (length cs)) h.from_zero leaves)
 
-pub payments_first : (s : Stream) (set : DaySet) (b a : List ℤ) (cuts : List ℕ) → RunsFromTo s.effective.day s.termination.day b → AreCuts s b (length b) cuts → (n : ℕ) (x : Broken) → IsDateFault s set a cuts n x → IsFirst (BreaksDates s set b a) x
+pub payments_first : (s : Stream) (set : DaySet) (b a : List ℤ) (cuts : List ℕ) → RunsFromTo (first_day_of s) s.termination.day b → AreCuts s b (length b) cuts → (n : ℕ) (x : Broken) → IsDateFault s set a cuts n x → IsFirst (BreaksDates s set b a) x
 payments_first s set b a cuts run h n x fault =
     first_date_fault s set b a run h.later h.rising h.sound h.complete n x (subst (λ (cs : List ℕ). IsDateFault s set a cs n x) h.from_zero fault)
 
-pub cuts_places : (s : Stream) (b : List ℤ) (cuts : List ℕ) → RunsFromTo s.effective.day s.termination.day b → AreCuts s b (length b) cuts → ArePlaces b cuts
+pub cuts_places : (s : Stream) (b : List ℤ) (cuts : List ℕ) → RunsFromTo (first_day_of s) s.termination.day b → AreCuts s b (length b) cuts → ArePlaces b cuts
 cuts_places s b cuts run h = subst (ArePlaces b) (sym h.from_zero) (cut_places s b run h.later h.rising h.sound h.complete)
 
 pub some_cuts : (s : Stream) (b : List ℤ) (cuts : List ℕ) → AreCuts s b (length b) cuts → 0 < length cuts
@@ -260,6 +261,6 @@ one_payment s set b a pay rising j p q h k =
 pub one_payments : (s : Stream) (set : DaySet) (b a : List ℤ) → IsRising b → (ps qs : List Payment) → ArePayments s set b a ps → ArePayments s set b a qs → ps ≡ qs
 one_payments s set b a rising ps qs h k =
     let later = one_rising h.listed.later k.listed.later h.listed.listed.rising k.listed.listed.rising (λ d m. k.listed.listed.complete d (h.listed.listed.sound d m)) (λ d m. h.listed.listed.complete d (k.listed.listed.sound d m)) in
-    let pay : h.pay ≡ k.pay = h.listed.from_effective ∙ ap (λ ds. s.effective.day ∷ ds) later ∙ sym k.listed.from_effective in
+    let pay : h.pay ≡ k.pay = h.listed.from_first_day ∙ ap (λ ds. (first_day_of s) ∷ ds) later ∙ sym k.listed.from_first_day in
     let count : length ps ≡ length qs = omega (arith, h.count, k.count, ap length pay) in
     one_numbered (IsPayment s set b a k.pay) (one_payment s set b a k.pay rising) 1 ps qs count (subst (λ (q : List ℤ). EachNumbered (IsPayment s set b a q) 1 ps) pay h.each) k.each

@@ -2,7 +2,7 @@
 use Rattle.std.proofs.Common.{◌≡◌, ◌⊎◌, inl, inr, ℕ, zero, suc, ◌<◌, ◌≤◌, List, [], ◌∷◌, length, ℤ, pos, ◌+ℤ◌, ◌<ℤ◌, ◌≤ℤ◌, refl, sym, subst, arith}
 use Rattle.std.proofs.lemmas.Bool.{cases_lt}
 use Rattle.jiff_core.proofs.SignedLemmas.{signed_arith}
-use Rattle.irs_base.specs.Days.{IsDay}
+use Rattle.irs_base.specs.Days.{IsDay, all_days, last_day}
 use Rattle.irs_base.specs.DayLists.{AreDays}
 use Rattle.irs_base.specs.Listed.{Member, AllAfter, IsRising}
 use Rattle.irs_base.proofs.Rising.{member_after}
@@ -46,10 +46,10 @@ place_same xs i k r h l e = elim (cases_lt i k) [
 
 -- days of the range that rise are not many
 module _ where
-  few_after : (x : ℤ) (xs : List ℤ) → AllAfter x xs → IsRising xs → AreDays xs → IsDay x → (x +ℤ pos (length xs)) ≤ℤ pos 84_005
+  few_after : (x : ℤ) (xs : List ℤ) → AllAfter x xs → IsRising xs → AreDays xs → IsDay x → (x +ℤ pos (length xs)) ≤ℤ last_day
   few_after x [] a r d h = omega (arith, signed_arith, h)
   few_after x (y ∷ ys) a r d h = omega (arith, signed_arith, a.0, few_after y ys r.0 r.1 d.1 d.0)
 
-pub few_days : (xs : List ℤ) → IsRising xs → AreDays xs → length xs ≤ 109_208
+pub few_days : (xs : List ℤ) → IsRising xs → AreDays xs → length xs ≤ all_days
 few_days [] r d = omega arith
 few_days (x ∷ xs) r d = omega (arith, signed_arith, few_after x xs r.0 r.1 d.1 d.0, d.0)

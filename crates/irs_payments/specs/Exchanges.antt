@@ -17,7 +17,8 @@ use Rattle.irs_payments.specs.Transfers.{transfer}
 use Rattle.irs_payments.specs.Faults.{BreaksIn}
 use Rattle.irs_payments.specs.Numbered.{Pairs}
 
--- the initial exchange: at the effective date the payer receives the first notional
+-- the initial exchange: at the effective date, also where the first calculation period begins before
+-- it, the payer receives the first notional
 abbrev pub initial_of : Stream → List Transfer
 initial_of s = if s.exchanges.initial then transfer s.effective.day (pos 0 -ℤ s.notional.initial) ∷ [] else []
 

@@ -1,33 +1,35 @@
 -- How payments group calculation periods: the payment boundaries, and K35.
--- Boundaries are those of the calculation periods, numbered from 0.
+-- Boundaries are those of the calculation periods, numbered from 0. The first day is that of the first
+-- calculation period, which may begin before the effective date.
 use Rattle.std.specs.Prelude.{◌≡◌, ◌⊎◌, Bool, List, ◌∷◌, Option, Some, None, IfSome, if◌then◌else◌, ℤ, ◌≤ℤ◌, ◌<ℤ◌}
 use Rattle.irs_base.specs.Listed.{Member, IsRising, Lists}
 use Rattle.irs_base.specs.Elements.{first_payment_date, last_regular_payment_date}
 use Rattle.irs_base.specs.declared.places.Rule.TheVariants.{K35}
 use Rattle.irs_base.specs.declared.places.Broken.{Broken}
+use Rattle.irs_terms.specs.FirstDay.{first_day_of}
 use Rattle.irs_terms.specs.declared.stream.Stream.{Stream}
 use Rattle.irs_roll.specs.Rolls.{OnGrid}
 use Rattle.irs_payments.specs.Faults.{broken_at}
 use Rattle.irs_payments.specs.Frequencies.{same_length}
 use Rattle.irs_payments.specs.Numbered.{day_at}
 
--- the list rises strictly from the effective date to the termination date, as boundaries do
-pub record RunsFromTo (effective termination : ℤ) (boundaries : List ℤ) : Type 0 where
+-- the list rises strictly from the first day to the termination date, as boundaries do
+pub record RunsFromTo (first_day termination : ℤ) (boundaries : List ℤ) : Type 0 where
   pub rising : IsRising boundaries
-  pub starts : Member effective boundaries
+  pub starts : Member first_day boundaries
   pub ends : Member termination boundaries
-  pub from : (d : ℤ) → Member d boundaries → effective ≤ℤ d
+  pub from : (d : ℤ) → Member d boundaries → first_day ≤ℤ d
   pub to : (d : ℤ) → Member d boundaries → d ≤ℤ termination
 
 -- the first payment date where it is given; else boundary 1 where a payment is due for each period;
--- else the effective date
+-- else the first day
 abbrev pub anchor_by : Option ℤ → Bool → ℤ → ℤ → ℤ
-anchor_by (Some first) each one effective = first
-anchor_by None each one effective = if each then one else effective
+anchor_by (Some first) each one first_day = first
+anchor_by None each one first_day = if each then one else first_day
 
 -- the payment anchor; it need not be a roll day
 abbrev pub pay_anchor : Stream → List ℤ → ℤ
-pay_anchor s boundaries = anchor_by s.pay.first (same_length s.pay.freq s.freq) (day_at boundaries 1) s.effective.day
+pay_anchor s boundaries = anchor_by s.pay.first (same_length s.pay.freq s.freq) (day_at boundaries 1) (first_day_of s)
 
 -- the day is on the grid of the payment frequency and the stream's roll from the payment anchor, not
 -- before firstPaymentDate and not after lastRegularPaymentDate; the term has no grid
@@ -40,23 +42,23 @@ pub record IsRegularPay (s : Stream) (anchor d : ℤ) : Type 0 where
 abbrev pub EndsPayment : Stream → ℤ → ℤ → Type 0
 EndsPayment s anchor d = (d ≡ s.termination.day) ⊎ IsRegularPay s anchor d
 
--- a payment boundary: a boundary after the effective date that ends a payment period
+-- a payment boundary: a boundary after the first day that ends a payment period
 pub record IsPay (s : Stream) (boundaries : List ℤ) (d : ℤ) : Type 0 where
   pub boundary : Member d boundaries
-  pub after : s.effective.day <ℤ d
+  pub after : first_day_of s <ℤ d
   pub is : EndsPayment s (pay_anchor s boundaries) d
 
--- the payment boundaries in order, with the effective date in front as place 0
+-- the payment boundaries in order, with the first day in front as place 0
 pub record PayList (s : Stream) (boundaries pay : List ℤ) : Type 0 where
   pub later : List ℤ
-  pub from_effective : pay ≡ s.effective.day ∷ later
+  pub from_first_day : pay ≡ first_day_of s ∷ later
   pub listed : Lists (IsPay s boundaries) later
 
--- the given firstPaymentDate is no boundary after the effective date
+-- the given firstPaymentDate is no boundary after the first day
 pub record IsBadFirst (s : Stream) (boundaries : List ℤ) : Type 0 where
   pub first : ℤ
   pub given : s.pay.first ≡ Some first
-  pub off : Member first boundaries × (s.effective.day <ℤ first) → ⊥
+  pub off : Member first boundaries × (first_day_of s <ℤ first) → ⊥
 
 -- the given lastRegularPaymentDate isn't the termination date, and no boundary on the payment grid
 pub record IsBadLast (s : Stream) (boundaries : List ℤ) : Type 0 where

@@ -42,7 +42,7 @@ pub record IsPayment (s : Stream) (set : DaySet) (boundaries adjusted pay : List
   pub starts : StartsAt boundaries adjusted p.unadjusted start
   pub date : IsPaymentDate s.pay set start p.adjusted
 
--- the payments of the stream, one for each payment boundary after the effective date
+-- the payments of the stream, one for each payment boundary after the first day
 pub record ArePayments (s : Stream) (set : DaySet) (boundaries adjusted : List ℤ) (payments : List Payment) : Type 0 where
   pub pay : List ℤ
   pub listed : PayList s boundaries pay

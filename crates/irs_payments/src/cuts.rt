@@ -9,7 +9,7 @@ use irs_base::{Day, Memory};
 use irs_terms::Stream;
 use std::alloc::Global;
 
-/// Place 0, and then the places of the payment boundaries after the effective date.
+/// Place 0, and then the places of the payment boundaries after the first day.
 pub fn payment_places(alloc: Global, s: &Stream, boundaries: &[Day]) -> Result<Vec<usize>, Memory>
     requires lawful { IsLawfulStream s.now }
     requires rising { IsRising boundaries.now }

@@ -46,7 +46,7 @@ fn no_move(kind: DayKind) -> NoDate
     }
 }
 
-/// The place, among the payment boundaries from the effective date on, of the unadjusted date of
+/// The place, among the payment boundaries from the first day on, of the unadjusted date of
 /// payment j: that of the end of the payment period, or of its start.
 pub fn pay_place(relative: Relative, j: usize) -> usize
     requires { 0 < j }

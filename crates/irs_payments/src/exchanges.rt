@@ -1,7 +1,8 @@
 //! Principal exchanges: the notional changes hands at the start, where it changes, and at the end.
 //!
 //! At the start the payer receives the notional, at the end it pays it back (FpML
-//! `principalExchanges`). The dates of exchanges, and the sign where the notional changes at a step,
+//! `principalExchanges`). The start is the effective date, also where the first calculation period
+//! begins before it. The dates of exchanges, and the sign where the notional changes at a step,
 //! are rules of this project's own: the payer pays what the notional falls by, and receives what it
 //! rises by.
 ghost use Rattle.std.specs.Prelude.{◌≡◌, ◌-◌, ◌^◌, ◌<◌, ◌≤◌, ◌++◌, length, ℤ, pos, ◌<ℤ◌, ◌≤ℤ◌, List, IfOk, OnOk, OnErr, IsErrOf, unsigned_abs};
@@ -37,7 +38,7 @@ fn initial(alloc: Global, s: &Stream) -> Result<Vec<Transfer>, Memory>
     let mut transfers = Vec::new(alloc);
     if s.exchanges.initial {
         transfers.push(Transfer {
-            date: s.first_day(),
+            date: s.effective.day,
             amount: -s.notional.initial,
         })?;
     }

@@ -4,10 +4,12 @@
 //!
 //! The anchor of that grid is a rule of this project's own: the first payment date where it is
 //! given; else the end of the first calculation period where there is a payment for each period;
-//! else the effective date. The anchor need not be a roll day.
+//! else the first day of the first calculation period, which may be before the effective date. The
+//! anchor need not be a roll day.
 ghost use Rattle.std.specs.Prelude.{◌≡◌, ◌↔◌, ◌<◌, ◌≤◌, ℤ, ◌<ℤ◌, ◌≤ℤ◌, IsTrue, IfSome, IfOk, IfErr, Option, length};
 ghost use Rattle.irs_base.specs.Listed.{Member, IsRising};
 ghost use Rattle.irs_base.specs.declared.places.Broken.{Broken};
+ghost use Rattle.irs_terms.specs.FirstDay.{first_day_of};
 ghost use Rattle.irs_terms.specs.Lawful.{IsLawfulStream, IsLawfulFrequency, IsLawfulRoll};
 ghost use Rattle.irs_roll.specs.Rolls.{OnGrid};
 ghost use Rattle.irs_payments.specs.Faults.{IsFirst};
@@ -115,7 +117,7 @@ pub fn ends_payment(s: &Stream, anchor: Day, d: Day) -> bool
 
 fn is_boundary_after(s: &Stream, boundaries: &[Day], d: Day) -> bool
     requires { IsRising boundaries.now }
-    ensures { IsTrue result ↔ (Member d boundaries.now × (s.now.effective.day <ℤ d)) }
+    ensures { IsTrue result ↔ (Member d boundaries.now × (first_day_of s.now <ℤ d)) }
 {
     has_day(boundaries, d) && s.first_day() < d
 }
@@ -152,7 +154,7 @@ fn is_bad_last(s: &Stream, boundaries: &[Day]) -> bool
 }
 
 /// The first of the given payment dates that breaks K35: `firstPaymentDate` where it is no boundary
-/// after the effective date, then `lastRegularPaymentDate` where it isn't the termination date and
+/// after the first day, then `lastRegularPaymentDate` where it isn't the termination date and
 /// no boundary on the payment grid.
 pub fn check_grouping(s: &Stream, boundaries: &[Day]) -> Result<(), Broken>
     requires lawful { IsLawfulStream s.now }

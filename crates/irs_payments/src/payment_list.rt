@@ -4,6 +4,7 @@ ghost use Rattle.std.specs.Prelude.{◌≡◌, ℕ, ◌+◌, ◌-◌, ◌^◌, �
 ghost use Rattle.irs_base.specs.Elements.{payment_dates};
 ghost use Rattle.irs_base.specs.declared.places.Rule.TheVariants.{K33};
 ghost use Rattle.irs_base.specs.declared.places.Broken.{Broken};
+ghost use Rattle.irs_terms.specs.FirstDay.{first_day_of};
 ghost use Rattle.irs_terms.specs.Lawful.{IsLawfulStream};
 ghost use Rattle.irs_terms.specs.declared.results.Payment.{Payment};
 ghost use Rattle.irs_payments.specs.Faults.{broken_at, IsFirst};
@@ -128,9 +129,9 @@ fn payments_over<G: GoodDays>(
     days: &G,
 ) -> Result<Payments, PayErr>
     requires lawful { IsLawfulStream s.now }
-    requires term { s.now.effective.day <ℤ s.now.termination.day }
+    requires term { first_day_of s.now <ℤ s.now.termination.day }
     requires said { IsSaid s.now.pay }
-    requires boundaries { RunsFromTo s.now.effective.day s.now.termination.day unadjusted.now }
+    requires boundaries { RunsFromTo (first_day_of s.now) s.now.termination.day unadjusted.now }
     requires adjusted { length adjusted.now ≡ length unadjusted.now }
     requires few { length unadjusted.now < 2 ^ 32 }
     ensures payments { IfOk result (ArePayments s.now (G.days days.now) unadjusted.now adjusted.now) }
@@ -153,8 +154,9 @@ fn payments_over<G: GoodDays>(
 /// handed in.
 ///
 /// `Broken` is the first of K35, then K33 and then K38 of the payment dates. The conditions are those
-/// of the terms that make a list possible: the termination date is after the effective date (K13),
-/// and an offset other than 0 has a kind of days (K17).
+/// of the terms that make a list possible: the termination date is after the first day (K13: it is
+/// after the effective date, and a `firstPeriodStartDate` is before that), and an offset other than 0
+/// has a kind of days (K17). A payment may fall before the effective date.
 pub fn payments<G: GoodDays>(
     alloc: Global,
     s: &Stream,
@@ -164,9 +166,9 @@ pub fn payments<G: GoodDays>(
     days: &G,
 ) -> Result<Payments, PayErr>
     requires lawful { IsLawfulStream s.now }
-    requires term { s.now.effective.day <ℤ s.now.termination.day }
+    requires term { first_day_of s.now <ℤ s.now.termination.day }
     requires said { IsSaid s.now.pay }
-    requires boundaries { RunsFromTo s.now.effective.day s.now.termination.day unadjusted.now }
+    requires boundaries { RunsFromTo (first_day_of s.now) s.now.termination.day unadjusted.now }
     requires adjusted { length adjusted.now ≡ length unadjusted.now }
     ensures payments { IfOk result (ArePayments s.now (G.days days.now) unadjusted.now adjusted.now) }
     // The payments cover the calculation periods in order, without a gap.

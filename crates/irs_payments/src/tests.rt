@@ -130,7 +130,7 @@ pub fn outcome<G: GoodDays>(alloc: Global, row: &Paying<'_>, good: &G) -> Result
 #[derive(Clone, Copy)]
 struct Grouping(&'static [Change], &'static str, &'static str);
 
-const GROUPED: [Grouping; 51] = [
+const GROUPED: [Grouping; 55] = [
     // one payment for each period
     Grouping(
         &[],
@@ -429,9 +429,41 @@ const GROUPED: [Grouping; 51] = [
         "2024-04-15 2024-07-15 2024-10-15 2025-01-20",
         "2024-04-15 1-2, 2024-10-15 3-3",
     ),
+    // the first period begins before the effective date: a payment falls on that date or before it,
+    // and the payment grid is anchored at the first day
+    Grouping(
+        &[
+            EffectiveOn((2024, 1, 15)),
+            Every(6, Unit::M),
+            Paid(6, Unit::M),
+        ],
+        "2023-07-15 2024-01-15 2024-07-15 2025-01-15",
+        "2024-01-15 1-1, 2024-07-15 2-2, 2025-01-15 3-3",
+    ),
+    Grouping(
+        &[EffectiveOn((2024, 1, 15)), Paid(6, Unit::M)],
+        "2023-10-15 2024-01-15 2024-04-15 2024-07-15 2024-10-15 2025-01-15",
+        "2024-04-15 1-2, 2024-10-15 3-4, 2025-01-15 5-5",
+    ),
+    Grouping(
+        &[EffectiveOn((2024, 1, 15)), First((2023, 10, 15))],
+        "2023-07-15 2023-10-15 2024-01-15 2024-04-15",
+        "2023-10-15 1-1, 2024-01-15 2-2, 2024-04-15 3-3",
+    ),
+    Grouping(
+        &[EffectiveOn((2024, 1, 15)), PaidAt(Relative::Start)],
+        "2023-10-15 2024-01-15 2024-04-15",
+        "2023-10-15 1-1, 2024-01-15 2-2",
+    ),
 ];
 
-const OFF: [Grouping; 16] = [
+const OFF: [Grouping; 17] = [
+    // the first payment date is the first day
+    Grouping(
+        &[EffectiveOn((2024, 1, 15)), First((2023, 10, 15))],
+        "2023-10-15 2024-01-15 2024-04-15",
+        "K35 1 paymentDates/firstPaymentDate 0",
+    ),
     // the first payment date is no boundary
     Grouping(
         &[Paid(6, Unit::M), First((2024, 8, 15))],

@@ -120,23 +120,23 @@ const MOVED: [Moving; 93] = [
     Moving("2024-01-06", -1, Calendar, Following, LACKS),
     Moving("2024-07-02", -4, Calendar, Following, "2024-06-28"),
     // the range of dates ends
-    Moving("2199-12-01", 30, Calendar, Unadjusted, "2199-12-31"),
-    Moving("2199-12-01", 31, Calendar, Unadjusted, LEAVES),
-    Moving("2199-11-01", 60, Calendar, Unadjusted, "2199-12-31"),
-    Moving("2199-11-02", 60, Calendar, Unadjusted, LEAVES),
-    Moving("2199-12-31", 1, Calendar, Unadjusted, LEAVES),
-    Moving("2199-12-31", 1, Calendar, Following, LEAVES),
-    Moving("2199-12-31", 0, Calendar, Unadjusted, "2199-12-31"),
-    Moving("2199-12-31", -60, Calendar, Unadjusted, "2199-11-01"),
-    Moving("2199-12-31", 1, Business, Unadjusted, LACKS),
+    Moving("2299-12-01", 30, Calendar, Unadjusted, "2299-12-31"),
+    Moving("2299-12-01", 31, Calendar, Unadjusted, LEAVES),
+    Moving("2299-11-01", 60, Calendar, Unadjusted, "2299-12-31"),
+    Moving("2299-11-02", 60, Calendar, Unadjusted, LEAVES),
+    Moving("2299-12-31", 1, Calendar, Unadjusted, LEAVES),
+    Moving("2299-12-31", 1, Calendar, Following, LEAVES),
+    Moving("2299-12-31", 0, Calendar, Unadjusted, "2299-12-31"),
+    Moving("2299-12-31", -60, Calendar, Unadjusted, "2299-11-01"),
+    Moving("2299-12-31", 1, Business, Unadjusted, LACKS),
 ];
 
 /// Over all days.
 const MOVED_ON_ANY_DAY: [Moving; 7] = [
-    Moving("2199-12-31", 0, Unsaid, Following, "2199-12-31"),
-    Moving("2199-12-30", 1, Business, Following, "2199-12-31"),
-    Moving("2199-12-31", 1, Business, Unadjusted, LACKS),
-    Moving("2199-12-31", 1, Calendar, Following, LEAVES),
+    Moving("2299-12-31", 0, Unsaid, Following, "2299-12-31"),
+    Moving("2299-12-30", 1, Business, Following, "2299-12-31"),
+    Moving("2299-12-31", 1, Business, Unadjusted, LACKS),
+    Moving("2299-12-31", 1, Calendar, Following, LEAVES),
     Moving("2024-03-31", 0, Unsaid, Following, "2024-03-31"),
     Moving("2024-03-31", 60, Business, Following, "2024-05-30"),
     Moving("2024-03-31", -60, Business, Preceding, "2024-01-31"),
@@ -190,8 +190,8 @@ fn dates_of_one_payment(rt: HostRuntime) -> Result<(), Fail> {
 
 const MONTHS: &str = "2024-02-15 2024-03-15 2024-04-15 2024-05-15 2024-06-15 2024-07-15 2024-08-15";
 
-const YEAR_2199: &str =
-    "2199-01-31 2199-02-28 2199-03-31 2199-04-30 2199-05-31 2199-06-30 2199-07-31 2199-08-31 2199-09-30 2199-10-31 2199-11-30 2199-12-31";
+const YEAR_2299: &str =
+    "2299-01-31 2299-02-28 2299-03-31 2299-04-30 2299-05-31 2299-06-30 2299-07-31 2299-08-31 2299-09-30 2299-10-31 2299-11-30 2299-12-31";
 
 const START_OF_1901: &str = "1901-01-15 1901-04-15 1901-07-15";
 
@@ -360,7 +360,7 @@ const FAULTS: [Fault; 15] = [
             Paid(1, Unit::M),
             Moved(60, DayKind::Calendar),
         ],
-        YEAR_2199,
+        YEAR_2299,
         "K38 1 paymentDates 10",
     ),
     Fault(
@@ -371,7 +371,7 @@ const FAULTS: [Fault; 15] = [
             PaidAt(Relative::Start),
             Moved(60, DayKind::Calendar),
         ],
-        YEAR_2199,
+        YEAR_2299,
         "K38 1 paymentDates 11",
     ),
     Fault(
@@ -381,7 +381,7 @@ const FAULTS: [Fault; 15] = [
             Paid(3, Unit::M),
             Moved(1, DayKind::Calendar),
         ],
-        YEAR_2199,
+        YEAR_2299,
         "K38 1 paymentDates 4",
     ),
     Fault(
@@ -407,7 +407,7 @@ const FAULTS: [Fault; 15] = [
             Moved(60, DayKind::Calendar),
             Adjusted(ConvCode::Following),
         ],
-        YEAR_2199,
+        YEAR_2299,
         "K33 1 paymentDates 1",
     ),
     // K35 comes before both
@@ -416,10 +416,10 @@ const FAULTS: [Fault; 15] = [
             Every(1, Unit::M),
             Rolls(RollCode::Eom),
             Paid(1, Unit::M),
-            First((2199, 2, 27)),
+            First((2299, 2, 27)),
             Moved(60, DayKind::Calendar),
         ],
-        YEAR_2199,
+        YEAR_2299,
         "K35 1 paymentDates/firstPaymentDate 0",
     ),
     Fault(

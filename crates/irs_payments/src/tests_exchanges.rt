@@ -15,7 +15,7 @@ use std::alloc::Global;
 use std::process::Abort;
 use std::test::*;
 
-/// What is changed, the effective date and the termination date, the steps of the notional, and the
+/// What is changed, the first day and the termination date, the steps of the notional, and the
 /// exchanges or the rule that is broken.
 #[derive(Clone, Copy, Debug)]
 struct Row(
@@ -26,7 +26,14 @@ struct Row(
 );
 
 /// Notionals are in units of 10^-4.
-const AMOUNTS: [Row; 31] = [
+const AMOUNTS: [Row; 32] = [
+    // the initial exchange is at the effective date, also where the first period begins before it
+    Row(
+        &[Exchanged(true, true, true), EffectiveOn((2024, 1, 15))],
+        "2023-07-15 2024-01-15 2024-07-15 2025-01-15",
+        &[],
+        "2024-01-15 -1000000.00, 2025-01-15 1000000.00",
+    ),
     // each part alone, all and none
     Row(
         &[Exchanged(false, false, false)],

@@ -8,7 +8,7 @@ ghost use Rattle.irs_terms.specs.Lawful.{IsLawfulCenters, IsLawfulCurrency, IsLa
 ghost use Rattle.irs_payments.specs.Grouping.{RunsFromTo};
 
 use crate::steps::has_day;
-use irs_base::{Civil, Day, DayList, Direction, Text, day_of, read_date};
+use irs_base::{Civil, Day, DayList, Direction, MOST_RATE, MOST_STEPS, Text, day_of, read_date};
 use irs_calendar::{Calendars, RunSet};
 use irs_terms::*;
 use std::alloc::Global;
@@ -32,6 +32,8 @@ pub enum Change {
     Every(u16, Unit),
     Rolls(RollCode),
     HasStub(StubKind),
+    /// The effective date, where the first calculation period begins before it.
+    EffectiveOn(Date),
     Paid(u16, Unit),
     First(Date),
     Last(Date),
@@ -50,6 +52,7 @@ pub struct Terms {
     calc: (u16, Unit),
     roll: RollCode,
     stub: Option<StubKind>,
+    effective: Option<Date>,
     paid: (u16, Unit),
     first: Option<Date>,
     last: Option<Date>,
@@ -71,6 +74,7 @@ const PLAIN: Terms = Terms {
     calc: (3, Unit::M),
     roll: RollCode::Dom(15),
     stub: None,
+    effective: None,
     paid: (3, Unit::M),
     first: None,
     last: None,
@@ -91,6 +95,10 @@ fn with(t: Terms, change: Change) -> Terms {
         Change::Rolls(roll) => Terms { roll, ..t },
         Change::HasStub(stub) => Terms {
             stub: Some(stub),
+            ..t
+        },
+        Change::EffectiveOn(date) => Terms {
+            effective: Some(date),
             ..t
         },
         Change::Paid(count, unit) => Terms {
@@ -254,7 +262,10 @@ fn notional(alloc: Global, initial: i128, given: &[DatedValue]) -> Result<StepVa
     ensures { IfOk result (IsLawfulValues IsNotional) }
 {
     let steps = step_list(alloc, given)?;
-    if !is_notional(initial) || 4_000 < steps.len() || !are_notionals(steps.as_slice()) {
+    if !is_notional(initial)
+        || steps.len() > MOST_STEPS as usize
+        || !are_notionals(steps.as_slice())
+    {
         return Err("no notional")?;
     }
     Ok(StepValues { initial, steps })
@@ -267,7 +278,7 @@ fn are_rates(steps: &[Step]) -> bool
         [] => true,
         [first, rest @ ..] => {
             let _number = first.day.number();
-            first.value.unsigned_abs() <= 10_000_000_000 && are_rates(rest)
+            first.value.unsigned_abs() <= u128::from(MOST_RATE) && are_rates(rest)
         }
     }
 }
@@ -276,7 +287,7 @@ fn rates(alloc: Global, given: &[DatedValue]) -> Result<StepValues, Fail>
     ensures { IfOk result (IsLawfulValues IsRate) }
 {
     let steps = step_list(alloc, given)?;
-    if 4_000 < steps.len() || !are_rates(steps.as_slice()) {
+    if steps.len() > MOST_STEPS as usize || !are_rates(steps.as_slice()) {
         return Err("no rates")?;
     }
     Ok(StepValues { initial: 0, steps })
@@ -304,6 +315,7 @@ fn leg(alloc: Global, given: &RateSteps) -> Result<Leg, Fail>
             multiplier: rates(alloc, *multiplier)?,
             spread: rates(alloc, *spread)?,
             initial_rate: None,
+            treatment: Treatment::AsIs,
             rounding: Rounding {
                 dir: Direction::Nearest,
                 places: 9,
@@ -339,12 +351,12 @@ fn currency(letters: [u8; 3]) -> Result<Currency, Fail>
     }
 }
 
-// The effective date and the termination date.
+// The first day and the termination date.
 fn term(boundaries: &[Day]) -> Result<(Day, Day), Fail> {
-    let (Some(effective), Some(termination)) = (boundaries.first(), boundaries.last()) else {
+    let (Some(first), Some(termination)) = (boundaries.first(), boundaries.last()) else {
         return Err("no boundaries")?;
     };
-    Ok((*effective, *termination))
+    Ok((*first, *termination))
 }
 
 fn dated(day: Day) -> Dated
@@ -355,6 +367,17 @@ fn dated(day: Day) -> Dated
     Dated {
         day,
         adj: adjustments(ConvCode::Unadjusted),
+    }
+}
+
+// The effective date; and `firstPeriodStartDate`, where the effective date isn't the first day.
+fn start(effective: Option<Day>, first: Day) -> (Dated, Option<Dated>)
+    ensures effective { IsLawfulDated result.0 }
+    ensures first { IfSome result.1 IsLawfulDated }
+{
+    match effective {
+        Some(effective) => (dated(effective), Some(dated(first))),
+        None => (dated(first), None),
     }
 }
 
@@ -388,6 +411,7 @@ fn money_terms(
 
 fn assembled(
     t: &Terms,
+    effective: Option<Day>,
     term: (Day, Day),
     freq: Frequency,
     roll: RollCode,
@@ -404,8 +428,10 @@ fn assembled(
     requires reset { IfSome money.reset IsLawfulReset }
     ensures { IsLawfulStream result }
 {
+    let (effective, first_start) = start(effective, term.0);
     Stream {
-        effective: dated(term.0),
+        effective,
+        first_start,
         termination: dated(term.1),
         period_adj: adjustments(ConvCode::Unadjusted),
         first_regular: None,
@@ -436,12 +462,13 @@ pub fn stream(
     ensures { IfOk result IsLawfulStream }
 {
     let term = term(boundaries.as_slice())?;
+    let effective = given_day(t.effective)?;
     let freq = frequency(t.calc)?;
     let roll = roll(t.roll)?;
     let currency = currency(t.letters)?;
     let pay = pay_terms(t)?;
     let money = money_terms(alloc, t, steps, rate)?;
-    Ok(assembled(t, term, freq, roll, pay, currency, money))
+    Ok(assembled(t, effective, term, freq, roll, pay, currency, money))
 }
 
 fn is_before_all(d: Day, days: &[Day]) -> bool
@@ -487,18 +514,18 @@ pub fn span(t: &Terms, boundaries: &[Day]) -> Result<Span, Fail> {
     if count < 2 {
         return Err("too few boundaries")?;
     }
-    let (effective, termination) = (boundaries[0], boundaries[count - 1]);
+    let (first_day, termination) = (boundaries[0], boundaries[count - 1]);
     let (first, last, anchor) = match t.stub {
-        None => (effective, termination, effective),
+        None => (first_day, termination, first_day),
         Some(StubKind::ShortInitial | StubKind::LongInitial) => (
             boundaries[1],
             termination,
             termination,
         ),
         Some(StubKind::ShortFinal | StubKind::LongFinal) => (
-            effective,
+            first_day,
             boundaries[count - 2],
-            effective,
+            first_day,
         ),
     };
     Ok(Span {

@@ -2,13 +2,14 @@
 -- and they rise where none isn't after the one before it.
 use Rattle.std.proofs.Common.{◌≡◌, inl, inr, ℕ, zero, suc, ◌-◌, ◌<◌, ◌≤◌, List, [], ◌∷◌, length, arith, refl, sym, ◌∙◌, ap₂, subst, ℤ, pos, ◌+ℤ◌, ◌≤ℤ◌, ◌<ℤ◌}
 use Rattle.jiff_core.proofs.SignedLemmas.{signed_arith}
-use Rattle.irs_base.specs.Days.{last_day}
+use Rattle.irs_base.specs.Days.{last_day, all_days}
 use Rattle.irs_base.specs.DayLists.{AreDays}
 use Rattle.irs_base.specs.Listed.{Member, AllAfter, IsRising}
 use Rattle.irs_terms.specs.declared.stream.Stream.{Stream}
 use Rattle.irs_terms.specs.declared.results.Span.{Span}
 use Rattle.irs_adjust.proofs.CodeLaws.{one_adjusts}
-use Rattle.irs_periods.specs.Terms.{effective_of, termination_of}
+use Rattle.irs_terms.specs.FirstDay.{first_day_of}
+use Rattle.irs_periods.specs.Terms.{termination_of}
 use Rattle.irs_periods.specs.Boundaries.{Boundaries}
 use Rattle.irs_periods.specs.Adjusting.{BoundaryDays, AdjustedList, AdjustsAt, NotAfter, code_at, days_at, day_at, last_of}
 use Rattle.irs_periods.proofs.GridDays.{cases_ltz}
@@ -61,8 +62,8 @@ two_members x y (z ∷ []) h (inr none) my = absurd none
 two_members x y (z ∷ w ∷ ws) h mx my = omega arith
 
 -- the term has two ends at least
-pub two_boundaries : (s : Stream) (span : Span) (b : List ℤ) → effective_of s <ℤ termination_of s → Boundaries s span b → 2 ≤ length b
-two_boundaries s span b ends l = two_members (effective_of s) (termination_of s) b ends (l.complete (effective_of s) (inl refl)) (l.complete (termination_of s) (inr (inl refl)))
+pub two_boundaries : (s : Stream) (span : Span) (b : List ℤ) → first_day_of s <ℤ termination_of s → Boundaries s span b → 2 ≤ length b
+two_boundaries s span b ends l = two_members (first_day_of s) (termination_of s) b ends (l.complete (first_day_of s) (inl refl)) (l.complete (termination_of s) (inr (inl refl)))
 
 room : (x : ℤ) (xs : List ℤ) → IsRising (x ∷ xs) → AreDays (x ∷ xs) → (x +ℤ pos (length xs)) ≤ℤ last_day
 room x [] rising days = omega (arith, signed_arith, days.0)
@@ -71,7 +72,7 @@ room x (y ∷ ys) rising days =
     omega (arith, signed_arith, more, rising.0.0)
 
 -- so many days there are
-pub few_days : (xs : List ℤ) → IsRising xs → AreDays xs → length xs ≤ 109_208
+pub few_days : (xs : List ℤ) → IsRising xs → AreDays xs → length xs ≤ all_days
 few_days [] rising days = omega arith
 few_days (x ∷ xs) rising days = omega (arith, signed_arith, room x xs rising days, days.0)
 

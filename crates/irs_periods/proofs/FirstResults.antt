@@ -1,52 +1,148 @@
 -- Which boundary comes first among those without an adjusted day.
-use Rattle.std.proofs.Common.{◌≡◌, ◌⊎◌, inl, inr, ⊎_elim, ℕ, ◌<◌, ◌≤◌, List, length, arith, ℤ, subst}
+use Rattle.std.proofs.Common.{◌≡◌, ◌⊎◌, inl, inr, ⊎_elim, ℕ, ◌<◌, ◌≤◌, ◌==◌, if◌then◌else◌, List, length, Option, Some, None, arith, sym, ℤ, subst}
 use Rattle.std.proofs.lemmas.Bool.{cases_lt}
 use Rattle.std.proofs.lemmas.Bool.Decides.{nat_tests}
+use Rattle.irs_base.specs.Elements.{effective_date, termination_date, period_dates_adjustments, first_period_start_date}
+use Rattle.irs_terms.specs.declared.adjustments.Dated.{Dated}
 use Rattle.irs_terms.specs.declared.stream.Stream.{Stream}
-use Rattle.irs_periods.specs.Adjusting.{BoundaryDays, AdjustsAt, NoResult, FirstNoResult, day_at, last_of, rank}
+use Rattle.irs_periods.specs.Terms.{first_day_element, first_day_element_by}
+use Rattle.irs_periods.specs.Adjusting.{BoundaryDays, AdjustsAt, NoResult, FirstNoResult, FirstLaterNoResult, boundary_index, day_at, last_of}
 
--- what comes before another boundary in the order of the elements
-rank_cases : (last i j : ℕ) → 0 < i → i < last → rank last j < rank last i → (j ≡ 0) ⊎ ((j ≡ last) ⊎ (j < i))
-rank_cases last i j some inner h = grind (arith, nat_tests)
+-- the element by which a boundary is named, `start` being that of boundary 0
+abbrev element : ℕ → ℕ → ℕ → ℕ
+element start last i = if i == 0 then start else (if i == last then termination_date else period_dates_adjustments)
 
-pub first_inner : (s : Stream) (sets : BoundaryDays) (b : List ℤ) (i : ℕ) → 0 < i → i < last_of b → NoResult s sets b i →
-    ((r : ℤ) × AdjustsAt s sets (last_of b) 0 (day_at b 0) r) →
-    ((r : ℤ) × AdjustsAt s sets (last_of b) (last_of b) (day_at b (last_of b)) r) →
-    ((j : ℕ) → 1 ≤ j → j < i → (r : ℤ) × AdjustsAt s sets (last_of b) j (day_at b j) r) →
-    FirstNoResult s sets b i
-first_inner s sets b i some inner none at_first at_last before = record {
-  holds = none;
-  none_before = λ j less misses. ⊎_elim
-      (λ zeroth. let at_zero = subst (λ (k : ℕ). NoResult s sets b k) zeroth misses in at_zero.none at_first.0 at_first.1)
-      (λ rest. ⊎_elim
-      (λ lastly. let at_end = subst (λ (k : ℕ). NoResult s sets b k) lastly misses in at_end.none at_last.0 at_last.1)
-      (λ low. inner_place s sets b i j at_first before low misses)
-      rest)
-      (rank_cases (last_of b) i j some inner less);
-}
-  where
-    inner_place : (s : Stream) (sets : BoundaryDays) (b : List ℤ) (i j : ℕ) → ((r : ℤ) × AdjustsAt s sets (last_of b) 0 (day_at b 0) r) → ((k : ℕ) → 1 ≤ k → k < i → (r : ℤ) × AdjustsAt s sets (last_of b) k (day_at b k) r) → j < i → NoResult s sets b j → ⊥
-    inner_place s sets b i j at_first before low misses = elim (cases_lt 0 j) [
-      | inl some ↦ let r = before j (omega (arith, some)) low in misses.none r.0 r.1
-      | inr zeroth ↦
-          let e : j ≡ 0 = omega (arith, zeroth) in
-          let at_zero = subst (λ (k : ℕ). NoResult s sets b k) e misses in at_zero.none at_first.0 at_first.1
-    ]
+abbrev Named : ℕ → ℕ → ℕ → ℕ → Type 0
+Named start last j i =
+    (element start last j < element start last i)
+    ⊎ ((element start last j ≡ element start last i) × (boundary_index last j < boundary_index last i))
 
--- each boundary has an adjusted day where the ends and the inner ones have
-pub each_place : (s : Stream) (sets : BoundaryDays) (b : List ℤ) →
-    ((r : ℤ) × AdjustsAt s sets (last_of b) 0 (day_at b 0) r) →
-    ((r : ℤ) × AdjustsAt s sets (last_of b) (last_of b) (day_at b (last_of b)) r) →
-    ((j : ℕ) → 1 ≤ j → j < last_of b → (r : ℤ) × AdjustsAt s sets (last_of b) j (day_at b j) r) →
-    (i : ℕ) → i < length b → (r : ℤ) × AdjustsAt s sets (last_of b) i (day_at b i) r
-each_place s sets b at_first at_last inner i within = elim (cases_lt 0 i) [
-  | inr zeroth ↦
-      let e : 0 ≡ i = omega (arith, zeroth) in
-      subst (λ (k : ℕ). (r : ℤ) × AdjustsAt s sets (last_of b) k (day_at b k) r) e at_first
-  | inl some ↦ elim (cases_lt i (last_of b)) [
-    | inl low ↦ inner i (omega (arith, some)) low
-    | inr high ↦
-        let e : last_of b ≡ i = omega (arith, high, within) in
-        subst (λ (k : ℕ). (r : ℤ) × AdjustsAt s sets (last_of b) k (day_at b k) r) e at_last
-  ]
+-- behind boundary 0 the last one is named first
+none_before_last : (start last j : ℕ) → 0 < j → 0 < last → Named start last j last → ⊥
+none_before_last start last j later some (inl h) = grind (arith, nat_tests)
+none_before_last start last j later some (inr h) = let below = h.1 in grind (arith, nat_tests)
+
+-- and then the middle ones in their order
+before_inner : (start last i j : ℕ) → 0 < j → 0 < i → i < last → Named start last j i → (j ≡ last) ⊎ (j < i)
+before_inner start last i j later some inner (inl h) = grind (arith, nat_tests)
+before_inner start last i j later some inner (inr h) = let below = h.1 in grind (arith, nat_tests)
+
+-- the effective date is named before all
+none_before_effective : (last j : ℕ) → Named effective_date last j 0 → ⊥
+none_before_effective last j (inl h) = grind (arith, nat_tests)
+none_before_effective last j (inr h) = let below = h.1 in grind (arith, nat_tests)
+
+-- firstPeriodStartDate is named behind all
+start_behind : (last i : ℕ) → 0 < i → Named first_period_start_date last 0 i → ⊥
+start_behind last i later (inl h) = grind (arith, nat_tests)
+start_behind last i later (inr h) = let same = h.0 in grind (arith, nat_tests)
+
+not_before_itself : (start last i : ℕ) → Named start last i i → ⊥
+not_before_itself start last i (inl h) = omega (arith, h)
+not_before_itself start last i (inr h) = omega (arith, h.1)
+
+-- boundary 0, or another one
+at_place : (P : ℕ → Type 0) (i : ℕ) → P 0 → (0 < i → P i) → P i
+at_place P i zeroth later = elim (cases_lt 0 i) [
+  | inl some ↦ later some
+  | inr none ↦ let e : 0 ≡ i = omega (arith, none) in subst P e zeroth
 ]
+
+module _ (s : Stream) (sets : BoundaryDays) (b : List ℤ) where
+  abbrev Has : ℕ → Type 0
+  Has i = (r : ℤ) × AdjustsAt s sets (last_of b) i (day_at b i) r
+
+  pub first_last : 0 < last_of b → NoResult s sets b (last_of b) → FirstLaterNoResult s sets b (last_of b)
+  first_last some misses = record {
+    later = some;
+    holds = misses;
+    none_before = λ j later named _. none_before_last (first_day_element s) (last_of b) j later some named;
+  }
+
+  pub first_inner : (i : ℕ) → 0 < i → i < last_of b → NoResult s sets b i → Has (last_of b) → ((j : ℕ) → 1 ≤ j → j < i → Has j) → FirstLaterNoResult s sets b i
+  first_inner i some inner misses at_last before = record {
+    later = some;
+    holds = misses;
+    none_before = λ j later named other. ⊎_elim
+        (λ lastly. let at_end = subst (λ (k : ℕ). NoResult s sets b k) lastly other in at_end.none at_last.0 at_last.1)
+        (λ low. let r = before j (omega (arith, later)) low in other.none r.0 r.1)
+        (before_inner (first_day_element s) (last_of b) i j later some inner named);
+  }
+
+  -- each boundary behind boundary 0 has an adjusted day where the last one and the inner ones have
+  pub each_later : Has (last_of b) → ((j : ℕ) → 1 ≤ j → j < last_of b → Has j) → (i : ℕ) → 0 < i → i < length b → Has i
+  each_later at_last inner i some within = elim (cases_lt i (last_of b)) [
+    | inl low ↦ inner i (omega (arith, some)) low
+    | inr high ↦ let e : last_of b ≡ i = omega (arith, high, within) in subst Has e at_last
+  ]
+
+  pub each_place : Has 0 → ((i : ℕ) → 0 < i → i < length b → Has i) → (i : ℕ) → i < length b → Has i
+  each_place at_first later i within = at_place Has i at_first (λ some. later i some within)
+
+  -- boundary 0 has an adjusted day
+  pub first_behind : (i : ℕ) → Has 0 → FirstLaterNoResult s sets b i → FirstNoResult s sets b i
+  first_behind i at_first h = record {
+    holds = h.holds;
+    none_before = λ j named misses. at_place
+        (λ (k : ℕ). Named (first_day_element s) (last_of b) k i → NoResult s sets b k → ⊥) j
+        (λ _ zeroth. zeroth.none at_first.0 at_first.1)
+        (λ some. h.none_before j some)
+        named misses;
+  }
+
+  -- boundary 0 is named behind the others
+  pub first_before_start : (i : ℕ) (start : Dated) → s.first_start ≡ Some start → FirstLaterNoResult s sets b i → FirstNoResult s sets b i
+  first_before_start i start given h =
+      let behind = subst
+      (λ (o : Option Dated). Named (first_day_element_by o) (last_of b) 0 i → ⊥) (sym given)
+      (start_behind (last_of b) i h.later) in
+      record {
+        holds = h.holds;
+        none_before = λ j named misses. at_place
+            (λ (k : ℕ). Named (first_day_element s) (last_of b) k i → NoResult s sets b k → ⊥) j
+            (λ zeroth _. behind zeroth)
+            (λ some. h.none_before j some)
+            named misses;
+      }
+
+  -- the others have adjusted days
+  pub first_alone : NoResult s sets b 0 → ((i : ℕ) → 0 < i → i < length b → Has i) → FirstNoResult s sets b 0
+  first_alone misses later = record {
+    holds = misses;
+    none_before = λ j named other. at_place
+        (λ (k : ℕ). Named (first_day_element s) (last_of b) k 0 → NoResult s sets b k → ⊥) j
+        (λ itself _. not_before_itself (first_day_element s) (last_of b) 0 itself)
+        (λ some _ out. let r = later j some out.within in out.none r.0 r.1)
+        named other;
+  }
+
+  -- boundary 0 is named before the others
+  pub first_effective : s.first_start ≡ None → NoResult s sets b 0 → FirstNoResult s sets b 0
+  first_effective none misses = record {
+    holds = misses;
+    none_before = λ j named _. subst
+        (λ (o : Option Dated). Named (first_day_element_by o) (last_of b) j 0 → ⊥) (sym none)
+        (none_before_effective (last_of b) j) named;
+  }
+
+-- at most one boundary comes first
+
+tied : (a b : ℕ) → (a < b → ⊥) → (b < a → ⊥) → a ≡ b
+tied a b below above = elim (cases_lt a b) [
+  | inl h ↦ absurd (below h)
+  | inr h ↦ elim (cases_lt b a) [ inl k ↦ absurd (above k) | inr k ↦ omega (arith, h, k) ]
+]
+
+named_alike : (start : Option Dated) (last i j : ℕ) → element (first_day_element_by start) last i ≡ element (first_day_element_by start) last j → boundary_index last i ≡ boundary_index last j → i ≡ j
+named_alike None last i j e k = grind (arith, nat_tests)
+named_alike (Some start) last i j e k = grind (arith, nat_tests)
+
+pub one_first_number : (s : Stream) (sets : BoundaryDays) (b : List ℤ) (i j : ℕ) → FirstNoResult s sets b i → FirstNoResult s sets b j → i ≡ j
+one_first_number s sets b i j p q =
+    let start = first_day_element s in
+    let last = last_of b in
+    let elements : element start last i ≡ element start last j = tied (element start last i) (element start last j)
+    (λ below. q.none_before i (inl below) p.holds) (λ above. p.none_before j (inl above) q.holds) in
+    let indexes : boundary_index last i ≡ boundary_index last j = tied (boundary_index last i) (boundary_index last j)
+    (λ below. q.none_before i (inr (elements, below)) p.holds) (λ above. p.none_before j (inr (sym elements, above)) q.holds) in
+    named_alike s.first_start last i j elements indexes

@@ -1,7 +1,8 @@
 -- The numbers and the days of a grid, from its laws alone.
-use Rattle.std.proofs.Common.{◌≡◌, ◌⊎◌, inl, inr, ℕ, zero, suc, ℤ, pos, negsuc, ◌+ℤ◌, ◌<ℤ◌, ◌≤ℤ◌, subst, arith}
+use Rattle.std.proofs.Common.{◌≡◌, ◌⊎◌, inl, inr, ℕ, zero, suc, ℤ, pos, negsuc, neg_ℤ, ◌+ℤ◌, ◌<ℤ◌, ◌≤ℤ◌, subst, arith}
 use Rattle.jiff_core.proofs.SignedLemmas.{signed_arith}
-use Rattle.irs_base.specs.Days.{IsDay}
+use Rattle.jiff_core.specs.Calendar.{IsBetween}
+use Rattle.irs_base.specs.Days.{IsDay, all_days}
 
 pub cases_ltz : (a b : ℤ) → (a <ℤ b) ⊎ (b ≤ℤ a)
 cases_ltz a b = grind (arith, signed_arith)
@@ -28,7 +29,7 @@ module _ (f : ℤ → ℤ) (rises : (j k : ℤ) → j <ℤ k → f j <ℤ f k) w
   ]
 
   -- the number of a day in range, where the 0th day is in range
-  pub number_bounds : (k : ℤ) → IsDay (f (pos 0)) → IsDay (f k) → (negsuc 109_999 ≤ℤ k) × (k ≤ℤ pos 110_000)
+  pub number_bounds : (k : ℤ) → IsDay (f (pos 0)) → IsDay (f k) → IsBetween (neg_ℤ (pos all_days)) (pos all_days) k
   number_bounds (pos n) zeroth kth =
       let e : pos 0 +ℤ pos n ≡ pos n = omega (arith, signed_arith) in
       let more = subst (λ (z : ℤ). (f (pos 0) +ℤ pos n) ≤ℤ f z) e (grows n (pos 0)) in

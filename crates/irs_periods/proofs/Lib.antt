@@ -1,3 +1,4 @@
+pub mod TermOrder
 pub mod GridDays
 pub mod NearestLemmas
 pub mod WayLemmas

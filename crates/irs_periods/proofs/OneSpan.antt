@@ -7,7 +7,8 @@ use Rattle.irs_terms.specs.declared.stream.Stream.{Stream}
 use Rattle.irs_terms.specs.declared.results.Span.{Span}
 use Rattle.irs_roll.specs.Rolls.{OnGrid}
 use Rattle.irs_periods.specs.Nearest.{FirstFrom, FirstAfter, LastUpTo, LastBefore, LongFirst, LongLast}
-use Rattle.irs_periods.specs.Terms.{effective_of, termination_of}
+use Rattle.irs_terms.specs.FirstDay.{first_day_of}
+use Rattle.irs_periods.specs.Terms.{termination_of}
 use Rattle.irs_periods.specs.Spans.{StubSpan, SpanBy, Regular, is_term}
 
 module _ (on : ℤ → Type 0) where
@@ -80,7 +81,7 @@ module _ (on : ℤ → Type 0) where
 pub one_span : (s : Stream) (a b : Span) → Regular s a → Regular s b → a ≡ b
 one_span s a b p q =
     let anchors : a.anchor ≡ b.anchor = p.anchored ∙ sym q.anchored in
-    let moved = subst (λ (z : ℤ). SpanBy (is_term s.freq.unit) s.first_regular s.last_regular s.stub (OnGrid s.freq s.roll z) (effective_of s) (termination_of s) a.first a.last) anchors p.spans in
-    let ends = one_by (OnGrid s.freq s.roll b.anchor) (is_term s.freq.unit) s.first_regular s.last_regular s.stub (effective_of s) (termination_of s) a.first a.last b.first b.last moved q.spans in
+    let moved = subst (λ (z : ℤ). SpanBy (is_term s.freq.unit) s.first_regular s.last_regular s.stub (OnGrid s.freq s.roll z) (first_day_of s) (termination_of s) a.first a.last) anchors p.spans in
+    let ends = one_by (OnGrid s.freq s.roll b.anchor) (is_term s.freq.unit) s.first_regular s.last_regular s.stub (first_day_of s) (termination_of s) a.first a.last b.first b.last moved q.spans in
     let span : ℤ → ℤ → ℤ → Span = λ f l z. record { first = f; last = l; anchor = z } in
     ap (λ (f : ℤ). span f a.last a.anchor) ends.0 ∙ ap (λ (l : ℤ). span b.first l a.anchor) ends.1 ∙ ap (λ (z : ℤ). span b.first b.last z) anchors

@@ -1,7 +1,7 @@
 -- Steps from the anchor on either side: how far they lead, and which day stands next to a stub.
 use Rattle.std.proofs.Common.{◌≡◌, inl, inr, ℕ, ◌+◌, ◌-◌, ◌<◌, ◌≤◌, arith, refl, subst, ℤ, pos, ◌+ℤ◌, ◌-ℤ◌, ◌≤ℤ◌, ◌<ℤ◌}
 use Rattle.jiff_core.proofs.SignedLemmas.{signed_arith}
-use Rattle.irs_base.specs.Days.{IsDay}
+use Rattle.irs_base.specs.Days.{IsDay, all_days}
 use Rattle.irs_periods.specs.declared.nearest.Way.{Way}
 use Rattle.irs_periods.specs.declared.nearest.Way.TheVariants.{Back, Ahead}
 use Rattle.irs_periods.specs.Nearest.{FirstAfter, LastBefore}
@@ -25,7 +25,7 @@ module _ (f : ℤ → ℤ) (rises : (j k : ℤ) → j <ℤ k → f j <ℤ f k) w
       (omega (arith, signed_arith, le, zeroth), omega (arith, signed_arith, h, b))
 
   -- so many steps lead past every bound
-  pub too_many_steps : (way : Way) (n : ℕ) (bound : ℤ) → 109_208 ≤ n → IsDay (f (pos 0)) → IsDay bound → Within way bound (f (steps way n)) → ⊥
+  pub too_many_steps : (way : Way) (n : ℕ) (bound : ℤ) → all_days ≤ n → IsDay (f (pos 0)) → IsDay bound → Within way bound (f (steps way n)) → ⊥
   too_many_steps Back n bound many zeroth b h =
       let e : (pos 0 -ℤ pos n) +ℤ pos n ≡ pos 0 = omega (arith, signed_arith) in
       let more = subst (λ (z : ℤ). (f (pos 0 -ℤ pos n) +ℤ pos n) ≤ℤ f z) e (grows f rises n (pos 0 -ℤ pos n)) in

@@ -1,5 +1,6 @@
 -- The unadjusted boundaries of a stream's calculation periods (2006 ISDA Definitions, 4.13 and 4.10).
-use Rattle.std.specs.Prelude.{◌≡◌, ◌⊎◌, ℕ, ◌+◌, ◌<◌, List, length, ℤ, ◌≤ℤ◌}
+use Rattle.std.specs.Prelude.{◌≡◌, ◌⊎◌, ◌+◌, ◌<◌, List, length, ℤ, ◌≤ℤ◌}
+use Rattle.irs_base.specs.Limits.{most_periods}
 use Rattle.irs_base.specs.Listed.{Lists}
 use Rattle.irs_base.specs.Elements.{calculation_period_frequency}
 use Rattle.irs_base.specs.declared.places.Broken.{Broken}
@@ -8,27 +9,24 @@ use Rattle.irs_terms.specs.declared.stream.Stream.{Stream}
 use Rattle.irs_terms.specs.declared.results.Span.{Span}
 use Rattle.irs_roll.specs.Rolls.{OnGrid}
 use Rattle.irs_periods.specs.SpanRules.{broken_at}
-use Rattle.irs_periods.specs.Terms.{effective_of, termination_of}
+use Rattle.irs_terms.specs.FirstDay.{first_day_of}
+use Rattle.irs_periods.specs.Terms.{termination_of}
 
 -- the day lies from first to last and is on the grid
 abbrev pub OnSpan : (ℤ → Type 0) → ℤ → ℤ → ℤ → Type 0
 OnSpan on first last d = (first ≤ℤ d) × (d ≤ℤ last) × on d
 
--- the day is the effective date, the termination date, or a grid day of the regular span
+-- the day is the begin of the first period, the termination date, or a grid day of the regular span
 abbrev pub IsBoundaryBy : (ℤ → Type 0) → ℤ → ℤ → ℤ → ℤ → ℤ → Type 0
-IsBoundaryBy on effective termination first last d = (d ≡ effective) ⊎ ((d ≡ termination) ⊎ OnSpan on first last d)
+IsBoundaryBy on begin termination first last d = (d ≡ begin) ⊎ ((d ≡ termination) ⊎ OnSpan on first last d)
 
 -- the same for a stream and its span; the grid of the term has no day
 abbrev pub IsBoundary : Stream → Span → ℤ → Type 0
-IsBoundary s span d = IsBoundaryBy (OnGrid s.freq s.roll span.anchor) (effective_of s) (termination_of s) span.first span.last d
+IsBoundary s span d = IsBoundaryBy (OnGrid s.freq s.roll span.anchor) (first_day_of s) (termination_of s) span.first span.last d
 
 -- the boundaries in order: the strictly rising list that has exactly these days
 abbrev pub Boundaries : Stream → Span → List ℤ → Type 0
 Boundaries s span b = Lists (IsBoundary s span) b
-
--- the most calculation periods of a stream
-abbrev pub most_periods : ℕ
-most_periods = 4_000
 
 -- K32 at its element
 abbrev pub too_many_periods : Broken

@@ -4,34 +4,35 @@ use Rattle.std.specs.Prelude.{◌≡◌, ◌⊎◌, ℕ, Option, Some, None, ℤ
 use Rattle.irs_base.specs.declared.places.Rule.{Rule}
 use Rattle.irs_base.specs.declared.places.Rule.TheVariants.{K30, K31}
 use Rattle.irs_base.specs.declared.places.Broken.{Broken}
-use Rattle.irs_base.specs.Elements.{effective_date, termination_date, first_regular_period_start_date, last_regular_period_end_date}
+use Rattle.irs_base.specs.Elements.{termination_date, first_regular_period_start_date, last_regular_period_end_date}
 use Rattle.irs_terms.specs.declared.codes.StubKind.{StubKind}
 use Rattle.irs_terms.specs.declared.codes.StubKind.TheVariants.{ShortInitial, LongInitial, ShortFinal, LongFinal}
 use Rattle.irs_terms.specs.declared.stream.Stream.{Stream}
 use Rattle.irs_terms.specs.declared.results.Span.{Span}
 use Rattle.irs_roll.specs.Rolls.{Fits, IsTerm, OnGrid}
+use Rattle.irs_periods.specs.Terms.{first_day_element}
 use Rattle.irs_periods.specs.Spans.{anchor_of, Regular}
 
 -- a rule broken at an element of the stream
 abbrev pub broken_at : Rule → ℕ → ℕ → Broken
 broken_at rule elem index = record { rule = rule; place = record { stream = 1; elem = elem; index = index } }
 
--- the element of the anchor by the stub type alone
-abbrev pub stub_anchor_element : Option StubKind → ℕ
-stub_anchor_element None = effective_date
-stub_anchor_element (Some ShortInitial) = termination_date
-stub_anchor_element (Some LongInitial) = termination_date
-stub_anchor_element (Some ShortFinal) = effective_date
-stub_anchor_element (Some LongFinal) = effective_date
+-- the element of the anchor by the stub type alone, `start` being that of the first day
+abbrev pub stub_anchor_element : ℕ → Option StubKind → ℕ
+stub_anchor_element start None = start
+stub_anchor_element start (Some ShortInitial) = termination_date
+stub_anchor_element start (Some LongInitial) = termination_date
+stub_anchor_element start (Some ShortFinal) = start
+stub_anchor_element start (Some LongFinal) = start
 
--- the element of the anchor
-abbrev pub anchor_element_by : Option ℤ → Option ℤ → Option StubKind → ℕ
-anchor_element_by None None stub = stub_anchor_element stub
-anchor_element_by None (Some last) stub = effective_date
-anchor_element_by (Some first) last stub = first_regular_period_start_date
+-- the element of the anchor: where the first regular date is given that one, also where it is the first day
+abbrev pub anchor_element_by : ℕ → Option ℤ → Option ℤ → Option StubKind → ℕ
+anchor_element_by start None None stub = stub_anchor_element start stub
+anchor_element_by start None (Some last) stub = start
+anchor_element_by start (Some first) last stub = first_regular_period_start_date
 
 abbrev pub anchor_element : Stream → ℕ
-anchor_element s = anchor_element_by s.first_regular s.last_regular s.stub
+anchor_element s = anchor_element_by (first_day_element s) s.first_regular s.last_regular s.stub
 
 -- the element of the span's last day
 abbrev pub last_element_by : Option ℤ → ℕ

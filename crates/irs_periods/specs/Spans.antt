@@ -9,7 +9,8 @@ use Rattle.irs_terms.specs.declared.stream.Stream.{Stream}
 use Rattle.irs_terms.specs.declared.results.Span.{Span}
 use Rattle.irs_roll.specs.Rolls.{OnGrid}
 use Rattle.irs_periods.specs.Nearest.{FirstFrom, LastUpTo, LongFirst, LongLast}
-use Rattle.irs_periods.specs.Terms.{effective_of, termination_of, given_or}
+use Rattle.irs_terms.specs.FirstDay.{first_day_of}
+use Rattle.irs_periods.specs.Terms.{termination_of, given_or}
 
 -- the unit is the term
 abbrev pub is_term : FrequencyUnit → Bool
@@ -19,7 +20,7 @@ is_term M = false
 is_term Y = false
 is_term T = true
 
--- the anchor by the stub type alone: the termination date for an initial stub, else the effective date
+-- the anchor by the stub type alone: the termination date for an initial stub, else the first day
 abbrev pub stub_anchor : Option StubKind → ℤ → ℤ → ℤ
 stub_anchor None e t = e
 stub_anchor (Some ShortInitial) e t = t
@@ -27,7 +28,7 @@ stub_anchor (Some LongInitial) e t = t
 stub_anchor (Some ShortFinal) e t = e
 stub_anchor (Some LongFinal) e t = e
 
--- where a regular date is given the anchor is the first one, or the effective date; the stub type isn't used then
+-- where a regular date is given the anchor is the first one, or the first day; the stub type isn't used then
 abbrev pub given_anchor : Option ℤ → Option ℤ → Option StubKind → ℤ → ℤ → ℤ
 given_anchor None None stub e t = stub_anchor stub e t
 given_anchor None (Some last) stub e t = e
@@ -39,7 +40,7 @@ anchor_by false first last stub e t = given_anchor first last stub e t
 
 -- the anchor of a stream's grid
 abbrev pub anchor_of : Stream → ℤ
-anchor_of s = anchor_by (is_term s.freq.unit) s.first_regular s.last_regular s.stub (effective_of s) (termination_of s)
+anchor_of s = anchor_by (is_term s.freq.unit) s.first_regular s.last_regular s.stub (first_day_of s) (termination_of s)
 
 -- the span's first and last day by the stub type alone
 abbrev pub StubSpan : Option StubKind → (ℤ → Type 0) → ℤ → ℤ → ℤ → ℤ → Type 0
@@ -64,4 +65,4 @@ SpanBy false f l stub on e t first last = GivenSpan f l stub on e t first last
 -- the regular span of a stream, and the anchor of its grid
 pub record Regular (s : Stream) (span : Span) : Type 0 where
   pub anchored : span.anchor ≡ anchor_of s
-  pub spans : SpanBy (is_term s.freq.unit) s.first_regular s.last_regular s.stub (OnGrid s.freq s.roll span.anchor) (effective_of s) (termination_of s) span.first span.last
+  pub spans : SpanBy (is_term s.freq.unit) s.first_regular s.last_regular s.stub (OnGrid s.freq s.roll span.anchor) (first_day_of s) (termination_of s) span.first span.last

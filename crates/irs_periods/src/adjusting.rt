@@ -1,19 +1,20 @@
-//! The adjusted boundaries of a stream: the effective date by its own adjustments, the termination
-//! date by its own, and every other boundary by the period adjustments (FpML
-//! `calculationPeriodDatesAdjustments`; 2006 ISDA Definitions, 4.10 and 4.12). That they have to rise
-//! is this project's own rule.
+//! The adjusted boundaries of a stream: the begin of the first period by the adjustments of FpML
+//! `firstPeriodStartDate` where it is given, else of the effective date; the termination date by its
+//! own; and every other boundary by the period adjustments (FpML `calculationPeriodDatesAdjustments`;
+//! 2006 ISDA Definitions, 4.10 and 4.12). That they have to rise is this project's own rule.
 ghost use Rattle.std.specs.Prelude.{◌≡◌, ◌<◌, ◌≤◌, ◌-◌, ◌^◌, ℕ, ℤ, List, length, IfOk, IfSome, IfNone};
 ghost use Rattle.irs_base.specs.Listed.{IsRising};
 ghost use Rattle.irs_terms.specs.declared.results.Span.{Span};
 ghost use Rattle.irs_periods.specs.Terms.{DatesInOrder};
 ghost use Rattle.irs_periods.specs.Boundaries.{Boundaries};
 ghost use Rattle.irs_periods.specs.SpanRules.{broken_at};
-ghost use Rattle.irs_periods.specs.Adjusting.{AdjustedBroken, AdjustedList, AdjustsAt, FirstNoResult, FirstNotAfter, NoResult, NotAfter, boundary_element, boundary_index, day_at, days_by, last_of};
+ghost use Rattle.irs_periods.specs.Adjusting.{AdjustedBroken, AdjustedList, AdjustsAt, FirstLaterNoResult, FirstNoResult, FirstNotAfter, NoResult, NotAfter, boundary_element, boundary_index, day_at, days_by, last_of};
 ghost use Rattle.irs_periods.specs.PeriodErrors.{IfBroken};
 ghost use Rattle.irs_base.specs.declared.places.Rule.TheVariants.{K33, K34};
 ghost use Rattle.irs_base.specs.Elements.{calculation_period_dates};
 
 use crate::PerErr;
+use crate::span::first_day_elem;
 use irs_adjust::adjust_by;
 use irs_base::{Broken, Day, DayList, Elem, Place, Rule};
 use irs_calendar::GoodDays;
@@ -21,13 +22,15 @@ use irs_terms::Stream;
 use std::alloc::Global;
 
 /// The adjusted boundaries of a stream. The condition is that `unadjusted` are the stream's
-/// boundaries; `start`, `end` and `middle` are the good days of the effective date's, the
-/// termination date's and the period adjustments.
+/// boundaries; `start`, `end` and `middle` are the good days of the adjustments of the first day
+/// (`firstPeriodStartDate` where it is given, else the effective date), of the termination date and
+/// of the periods.
 ///
-/// `Broken` is the first rule broken: a boundary has no adjusted day (K33, in the order effective
-/// date, termination date, the other boundaries), or, where each has one, an adjusted day isn't
-/// after the one before it (K34). The place names stream 1. Both are decided whatever memory there
-/// is. Boundaries have at most one list of adjusted days, and one where K33 isn't broken.
+/// `Broken` is the first rule broken: a boundary has no adjusted day (K33, in the order of the
+/// elements and then of the boundaries: effective date, termination date, the other boundaries,
+/// `firstPeriodStartDate`), or, where each has one, an adjusted day isn't after the one before it
+/// (K34). The place names stream 1. Boundaries have at most one list of adjusted days, and one where
+/// K33 isn't broken.
 pub fn adjusted<G: GoodDays>(
     alloc: Global,
     s: &Stream,
@@ -46,7 +49,7 @@ pub fn adjusted<G: GoodDays>(
 {
     let days = unadjusted.as_slice();
     if let Some(number) = first_without(s, days, start, end, middle) {
-        return Err(no_result(days.len() - 1, number));
+        return Err(no_result(s, days.len() - 1, number));
     }
     let list = adjust_each(alloc, s, days, start, end, middle)?;
     match first_not_after(list.as_slice()) {
@@ -69,7 +72,7 @@ fn adjust_at<G: GoodDays>(
     ensures none { IfNone result ((r : ℤ) → AdjustsAt s.now (days_by (G.days start.now) (G.days end.now) (G.days middle.now)) last i d r → ⊥) }
 {
     if i == 0 {
-        adjust_by(s.effective.adj.code, start, d)
+        adjust_by(s.first_date().adj.code, start, d)
     } else if i == last {
         adjust_by(s.termination.adj.code, end, d)
     } else {
@@ -77,7 +80,8 @@ fn adjust_at<G: GoodDays>(
     }
 }
 
-// The first boundary, in the order of the elements, that has no adjusted day.
+// The first boundary, in the order of the elements, that has no adjusted day. Boundary 0 comes last
+// where it is `firstPeriodStartDate`, as that element stands behind those of the other boundaries.
 fn first_without<G: GoodDays>(
     s: &Stream,
     days: &[Day],
@@ -89,10 +93,30 @@ fn first_without<G: GoodDays>(
     ensures some { IfSome result (FirstNoResult s.now (days_by (G.days start.now) (G.days end.now) (G.days middle.now)) days.now) }
     ensures none { IfNone result ((i : ℕ) → i < length days.now → (r : ℤ) × AdjustsAt s.now (days_by (G.days start.now) (G.days end.now) (G.days middle.now)) (last_of days.now) i (day_at days.now i) r) }
 {
+    let later = later_without(s, days, start, end, middle);
+    if let Some(_first) = adjust_at(s, start, end, middle, days.len() - 1, 0, days[0]) {
+        return later;
+    }
+    match (&s.first_start, later) {
+        (Some(_), Some(number)) => Some(number),
+        (Some(_), None) => Some(0),
+        (None, _) => Some(0),
+    }
+}
+
+// The first boundary behind boundary 0, in the order of the elements, that has no adjusted day.
+fn later_without<G: GoodDays>(
+    s: &Stream,
+    days: &[Day],
+    start: &G,
+    end: &G,
+    middle: &G,
+) -> Option<usize>
+    requires { 2 ≤ length days.now }
+    ensures some { IfSome result (FirstLaterNoResult s.now (days_by (G.days start.now) (G.days end.now) (G.days middle.now)) days.now) }
+    ensures none { IfNone result ((i : ℕ) → 0 < i → i < length days.now → (r : ℤ) × AdjustsAt s.now (days_by (G.days start.now) (G.days end.now) (G.days middle.now)) (last_of days.now) i (day_at days.now i) r) }
+{
     let last = days.len() - 1;
-    let Some(_first) = adjust_at(s, start, end, middle, last, 0, days[0]) else {
-        return Some(0);
-    };
     let Some(_last) = adjust_at(s, start, end, middle, last, last, days[last]) else {
         return Some(last);
     };
@@ -143,12 +167,12 @@ fn first_not_after(days: &[Day]) -> Option<usize>
 }
 
 // Boundary `number` of the boundaries up to `last` has no adjusted day.
-fn no_result(last: usize, number: usize) -> PerErr
+fn no_result(s: &Stream, last: usize, number: usize) -> PerErr
     requires { number < 2 ^ 32 }
-    ensures { result ≡ PerErr.Broken (broken_at K33 (boundary_element last number) (boundary_index last number)) }
+    ensures { result ≡ PerErr.Broken (broken_at K33 (boundary_element s.now last number) (boundary_index last number)) }
 {
     if number == 0 {
-        broken(Rule::K33, Elem::EFFECTIVE_DATE, 0)
+        broken(Rule::K33, first_day_elem(s), 0)
     } else if number == last {
         broken(Rule::K33, Elem::TERMINATION_DATE, 0)
     } else {

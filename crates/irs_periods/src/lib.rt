@@ -12,5 +12,5 @@ mod tests;
 
 pub use adjusting::adjusted;
 pub use error::PerErr;
-pub use listing::{MOST_PERIODS, boundaries, boundaries_by};
+pub use listing::{boundaries, boundaries_by};
 pub use span::{is_whole_term, regular_span};

@@ -1,35 +1,35 @@
-//! The unadjusted boundaries of a stream's calculation periods: the effective date, the termination
-//! date, and every grid day of the regular span (2006 ISDA Definitions, 4.13: a Calculation Period
-//! runs from one period end date, included, to the next, excluded). The most periods are this
-//! project's own.
-ghost use Rattle.std.specs.Prelude.{◌≡◌, ◌↔◌, ◌<◌, ◌≤◌, ◌+◌, ◌++◌, ℕ, ℤ, List, length, pos, negsuc, ◌+ℤ◌, ◌≤ℤ◌, ◌<ℤ◌, true, IfOk};
-ghost use Rattle.irs_base.specs.Days.{IsDay};
+//! The unadjusted boundaries of a stream's calculation periods: the begin of the first one (FpML
+//! `firstPeriodStartDate`, else the effective date), the termination date, and every grid day of the
+//! regular span (2006 ISDA Definitions, 4.13: a Calculation Period runs from one period end date,
+//! included, to the next, excluded). The most periods are this project's own.
+ghost use Rattle.std.specs.Prelude.{◌≡◌, ◌↔◌, ◌<◌, ◌≤◌, ◌+◌, ◌++◌, ℕ, ℤ, List, length, pos, neg_ℤ, ◌+ℤ◌, ◌≤ℤ◌, ◌<ℤ◌, true, IfOk};
+ghost use Rattle.jiff_core.specs.Calendar.{IsBetween};
+ghost use Rattle.irs_base.specs.Days.{IsDay, all_days};
+ghost use Rattle.irs_base.specs.Limits.{most_periods};
 ghost use Rattle.irs_base.specs.Elements.{calculation_period_frequency};
 ghost use Rattle.irs_terms.specs.Lawful.{IsLawfulStream};
 ghost use Rattle.irs_roll.specs.Rolls.{IsTerm, OnGrid};
-ghost use Rattle.irs_periods.specs.Terms.{DatesInOrder, FrequencySuits, effective_of, termination_of};
+ghost use Rattle.irs_terms.specs.FirstDay.{first_day_of};
+ghost use Rattle.irs_periods.specs.Terms.{DatesInOrder, FrequencySuits, termination_of};
 ghost use Rattle.irs_periods.specs.Spans.{Regular, is_term};
 ghost use Rattle.irs_periods.specs.SpanRules.{SpanKept};
-ghost use Rattle.irs_periods.specs.Boundaries.{Boundaries, TooManyPeriods, most_periods, too_many_periods};
+ghost use Rattle.irs_periods.specs.Boundaries.{Boundaries, TooManyPeriods, too_many_periods};
 ghost use Rattle.irs_periods.specs.GridLists.{all_boundaries, days_from, where_before};
 ghost use Rattle.irs_periods.specs.PeriodErrors.{IfBroken};
 
 use crate::PerErr;
 use crate::span::is_whole_term;
-use irs_base::{Broken, Day, DayList, Elem, Place, Rule};
+use irs_base::{Broken, Day, DayList, Elem, MOST_PERIODS, Place, Rule};
 use irs_roll::{Grid, StreamGrid};
 use irs_terms::{Span, Stream};
 use std::alloc::Global;
-
-/// The most calculation periods of a stream.
-pub const MOST_PERIODS: u32 = 4_000;
 
 /// The unadjusted boundaries of a stream, in order: with n periods the n + 1 days at which they
 /// begin and end. The conditions are that the frequency isn't T, that the stream's dates are in
 /// order (K13), that the span is the stream's and breaks neither K30 nor K31, and that the grid is
 /// that of the stream's frequency and roll from the span's anchor.
 ///
-/// `Broken` comes exactly where there are more than 4,000 periods (K32); the place names stream 1.
+/// `Broken` comes exactly where there are more than `MOST_PERIODS` periods (K32); the place names stream 1.
 pub fn boundaries<G: Grid>(
     alloc: Global,
     s: &Stream,
@@ -49,13 +49,13 @@ pub fn boundaries<G: Grid>(
     ensures exists { (b : List ℤ) × Boundaries s.now span.now b }
 {
     let (start, steps) = regular_part(s, span, grid);
-    let effective = s.first_day();
+    let begin = s.first_day();
     let termination = s.termination.day;
-    let stubs = stub(effective, span.first) + stub(span.last, termination);
+    let stubs = stub(begin, span.first) + stub(span.last, termination);
     if steps > MOST_PERIODS - stubs {
         return Err(too_many());
     }
-    let list = front(alloc, effective, span.first)?;
+    let list = front(alloc, begin, span.first)?;
     let list = grid_days(list, grid, start, steps + 1)?;
     Ok(close(list, span.last, termination)?)
 }
@@ -69,9 +69,9 @@ fn regular_part<G: Grid>(s: &Stream, span: &Span, grid: &G) -> (i64, u32)
     requires kept { SpanKept s.now span.now }
     requires first { G.at grid.now (pos 0) ≡ span.now.anchor }
     requires on { (d : ℤ) → G.on grid.now d ↔ OnGrid s.now.freq s.now.roll span.now.anchor d }
-    ensures listed { Boundaries s.now span.now (all_boundaries (G.at grid.now) result.0 result.1 (effective_of s.now) (termination_of s.now) span.now.first span.now.last) }
+    ensures listed { Boundaries s.now span.now (all_boundaries (G.at grid.now) result.0 result.1 (first_day_of s.now) (termination_of s.now) span.now.first span.now.last) }
     ensures days { (j : ℕ) → j ≤ result.1 → IsDay (G.at grid.now (result.0 +ℤ pos j)) }
-    ensures near { (negsuc 109_999 ≤ℤ result.0) × (result.0 ≤ℤ pos 110_000) }
+    ensures near { IsBetween (neg_ℤ (pos all_days)) (pos all_days) result.0 }
 {
     let _in_range = (
         span.anchor.number(),
@@ -96,9 +96,9 @@ fn number_of<G: Grid>(grid: &G, d: Day) -> i64
 
 // How many steps lead from one number to another.
 fn steps_between(first: i64, last: i64) -> u32
-    requires low { negsuc 109_999 ≤ℤ first }
+    requires low { neg_ℤ (pos all_days) ≤ℤ first }
     requires order { first ≤ℤ last }
-    requires high { last ≤ℤ pos 110_000 }
+    requires high { last ≤ℤ pos all_days }
     ensures { first +ℤ pos result ≡ last }
 {
     (last - first) as u32
@@ -127,14 +127,14 @@ fn too_many() -> PerErr
     })
 }
 
-// The effective date alone where it comes before the regular span.
-fn front(alloc: Global, effective: Day, first: Day) -> Result<DayList, PerErr>
-    ensures ok { IfOk result (λ b. b ≡ where_before effective first effective) }
+// The begin of the first period alone where it comes before the regular span.
+fn front(alloc: Global, begin: Day, first: Day) -> Result<DayList, PerErr>
+    ensures ok { IfOk result (λ b. b ≡ where_before begin first begin) }
     ensures memory { IfBroken result (λ _. ⊥) }
 {
     let mut list = DayList::new(alloc);
-    if effective < first {
-        list.push(effective)?;
+    if begin < first {
+        list.push(begin)?;
     }
     Ok(list)
 }
@@ -146,7 +146,7 @@ fn grid_days<G: Grid>(
     start: i64,
     count: u32,
 ) -> Result<DayList, PerErr>
-    requires near { (negsuc 109_999 ≤ℤ start) × (start ≤ℤ pos 110_000) }
+    requires near { IsBetween (neg_ℤ (pos all_days)) (pos all_days) start }
     requires days { (j : ℕ) → j < count → IsDay (G.at grid.now (start +ℤ pos j)) }
     ensures ok { IfOk result (λ b. b ≡ list ++ days_from (G.at grid.now) start count) }
     ensures memory { IfBroken result (λ _. ⊥) }
@@ -172,11 +172,11 @@ fn close(mut list: DayList, last: Day, termination: Day) -> Result<DayList, PerE
 }
 
 /// The unadjusted boundaries of every stream, on the grid that its terms give. For frequency T they
-/// are the effective date and the termination date alone. The conditions are that the stream's dates
-/// are in order (K13), that its frequency and roll suit each other (K14), and that the span is the
+/// are the first day and the termination date alone. The conditions are that the stream's dates are
+/// in order (K13), that its frequency and roll suit each other (K14), and that the span is the
 /// stream's and breaks neither K30 nor K31.
 ///
-/// `Broken` comes exactly where there are more than 4,000 periods (K32); the place names stream 1.
+/// `Broken` comes exactly where there are more than `MOST_PERIODS` periods (K32); the place names stream 1.
 /// A stream has exactly one list of boundaries.
 pub fn boundaries_by(alloc: Global, s: &Stream, span: &Span) -> Result<DayList, PerErr>
     requires lawful { IsLawfulStream s.now }

@@ -1,10 +1,10 @@
 //! The end of the regular span next to a stub: the grid day nearest to the end of the term, found
 //! by halving the number of steps from the anchor.
 ghost use Rattle.std.specs.Prelude.{◌≡◌, ◌↔◌, ◌+◌, ◌≤◌, ℤ, pos, IsTrue, SomeIff};
-ghost use Rattle.irs_base.specs.Days.{IsDay};
+ghost use Rattle.irs_base.specs.Days.{IsDay, all_days};
 ghost use Rattle.irs_periods.specs.Ways.{steps, Within, ShortEnd, LongEnd};
 
-use irs_base::Day;
+use irs_base::{ALL_DAYS, Day};
 use irs_roll::Grid;
 
 /// The side of the anchor on which the stub stands.
@@ -12,12 +12,9 @@ use irs_roll::Grid;
 pub enum Way {
     /// Before it: the anchor is the termination date.
     Back,
-    /// After it: the anchor is the effective date.
+    /// After it: the anchor is the first day.
     Ahead,
 }
-
-/// So many steps of at least one day lead out of the range of dates.
-const MOST_STEPS: u32 = 109_208;
 
 // The grid day that lies n steps from the anchor; `None` exactly where it isn't in range.
 fn step_from<G: Grid>(grid: &G, way: Way, n: u32) -> Option<Day>
@@ -51,10 +48,11 @@ fn farthest<G: Grid>(grid: &G, way: Way, bound: Day) -> u32
     requires begins { Within way bound (G.at grid.now (pos 0)) }
     ensures within { Within way bound (G.at grid.now (steps way result)) }
     ensures last { Within way bound (G.at grid.now (steps way (result + 1))) → ⊥ }
-    ensures range { result ≤ 109_208 }
+    ensures range { result ≤ all_days }
 {
     let mut low = 0;
-    let mut high = MOST_STEPS;
+    // So many steps of at least one day lead out of the range of dates.
+    let mut high = ALL_DAYS;
     while high - low > 1 {
         let middle = low + (high - low) / 2;
         if is_within(grid, way, middle, bound) {

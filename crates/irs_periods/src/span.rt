@@ -2,20 +2,24 @@
 //! `lastRegularPeriodEndDate`, `stubPeriodType`). Where the stub stands if only its type is given is
 //! this project's own.
 //!
-//! | given | anchor | first day | last day |
+//! Here E is the day on which the first period begins (FpML `firstPeriodStartDate`, else the effective
+//! date), and T the termination date.
+//!
+//! | given | anchor | first day of the span | its last day |
 //! |---|---|---|---|
-//! | frequency T | effective date | effective date | termination date |
-//! | a regular date | first day | the first regular date, else the effective date | the last regular date, else the termination date |
-//! | nothing | effective date | effective date | termination date |
-//! | ShortInitial | termination date | the first grid day at or after the effective date | termination date |
-//! | LongInitial | termination date | that day if it is the effective date, else the next grid day if it isn't after the termination date, else the termination date | termination date |
-//! | ShortFinal | effective date | effective date | the last grid day at or before the termination date |
-//! | LongFinal | effective date | effective date | that day if it is the termination date, else the grid day before it if it isn't before the effective date, else the effective date |
+//! | frequency T | E | E | T |
+//! | a regular date | the span's first day | the first regular date, else E | the last regular date, else T |
+//! | nothing | E | E | T |
+//! | ShortInitial | T | the first grid day at or after E | T |
+//! | LongInitial | T | that day if it is E, else the next grid day if it isn't after T, else T | T |
+//! | ShortFinal | E | E | the last grid day at or before T |
+//! | LongFinal | E | E | that day if it is T, else the grid day before it if it isn't before E, else E |
 ghost use Rattle.std.specs.Prelude.{◌≡◌, ◌↔◌, ◌<◌, ℤ, false, true, pos, ◌<ℤ◌, IsTrue, IfOk, IfErr};
 ghost use Rattle.irs_base.specs.Days.{IsDay};
 ghost use Rattle.irs_terms.specs.Lawful.{IsLawfulStream};
 ghost use Rattle.irs_roll.specs.Rolls.{IsTerm};
-ghost use Rattle.irs_periods.specs.Terms.{DatesInOrder, FrequencySuits, effective_of, termination_of};
+ghost use Rattle.irs_terms.specs.FirstDay.{first_day_of};
+ghost use Rattle.irs_periods.specs.Terms.{DatesInOrder, FrequencySuits, first_day_element, termination_of};
 ghost use Rattle.irs_periods.specs.Spans.{GivenSpan, Regular, StubSpan, anchor_of, given_anchor, is_term, stub_anchor};
 ghost use Rattle.irs_periods.specs.SpanRules.{SpanBroken, SpanKept, anchor_element, broken_at, last_element};
 
@@ -59,11 +63,11 @@ fn whole_term(s: &Stream) -> Span
     requires { is_term s.now.freq.unit ≡ true }
     ensures { Regular s.now result }
 {
-    let effective = s.first_day();
+    let begin = s.first_day();
     Span {
-        first: effective,
+        first: begin,
         last: s.termination.day,
-        anchor: effective,
+        anchor: begin,
     }
 }
 
@@ -118,12 +122,12 @@ fn anchor(s: &Stream) -> Day
     }
 }
 
-fn anchor_by_stub(stub: Option<StubKind>, effective: Day, termination: Day) -> Day
-    ensures { result ≡ stub_anchor stub effective termination }
+fn anchor_by_stub(stub: Option<StubKind>, begin: Day, termination: Day) -> Day
+    ensures { result ≡ stub_anchor stub begin termination }
 {
     match stub {
         Some(StubKind::ShortInitial) | Some(StubKind::LongInitial) => termination,
-        None | Some(StubKind::ShortFinal) | Some(StubKind::LongFinal) => effective,
+        None | Some(StubKind::ShortFinal) | Some(StubKind::LongFinal) => begin,
     }
 }
 
@@ -134,7 +138,17 @@ fn anchor_elem(s: &Stream) -> Elem
         (Some(_), _, _) => Elem::FIRST_REGULAR_PERIOD_START_DATE,
         (None, None, Some(StubKind::ShortInitial) | Some(StubKind::LongInitial)) =>
             Elem::TERMINATION_DATE,
-        (None, _, _) => Elem::EFFECTIVE_DATE,
+        (None, _, _) => first_day_elem(s),
+    }
+}
+
+/// The element that gives the day on which the first period begins.
+pub fn first_day_elem(s: &Stream) -> Elem
+    ensures { result ≡ first_day_element s.now }
+{
+    match &s.first_start {
+        Some(_) => Elem::FIRST_PERIOD_START_DATE,
+        None => Elem::EFFECTIVE_DATE,
     }
 }
 
@@ -149,44 +163,33 @@ fn last_elem(s: &Stream) -> Elem
 
 // The first and the last day of the span, on the grid from the stream's anchor.
 fn ends<G: Grid>(s: &Stream, grid: &G) -> (Day, Day)
-    requires days { IsDay (effective_of s.now) × IsDay (termination_of s.now) }
-    requires order { effective_of s.now <ℤ termination_of s.now }
-    requires anchored { G.at grid.now (pos 0) ≡ given_anchor s.now.first_regular s.now.last_regular s.now.stub (effective_of s.now) (termination_of s.now) }
-    ensures { GivenSpan s.now.first_regular s.now.last_regular s.now.stub (G.on grid.now) (effective_of s.now) (termination_of s.now) result.0 result.1 }
+    requires days { IsDay (first_day_of s.now) × IsDay (termination_of s.now) }
+    requires order { first_day_of s.now <ℤ termination_of s.now }
+    requires anchored { G.at grid.now (pos 0) ≡ given_anchor s.now.first_regular s.now.last_regular s.now.stub (first_day_of s.now) (termination_of s.now) }
+    ensures { GivenSpan s.now.first_regular s.now.last_regular s.now.stub (G.on grid.now) (first_day_of s.now) (termination_of s.now) result.0 result.1 }
 {
-    let effective = s.first_day();
+    let begin = s.first_day();
     let termination = s.termination.day;
     match (s.first_regular, s.last_regular) {
         (Some(first), Some(last)) => (first, last),
         (Some(first), None) => (first, termination),
-        (None, Some(last)) => (effective, last),
-        (None, None) => stub_ends(s.stub, effective, termination, grid),
+        (None, Some(last)) => (begin, last),
+        (None, None) => stub_ends(s.stub, begin, termination, grid),
     }
 }
 
 // The same by the stub type alone.
-fn stub_ends<G: Grid>(
-    stub: Option<StubKind>,
-    effective: Day,
-    termination: Day,
-    grid: &G,
-) -> (Day, Day)
-    requires days { IsDay effective × IsDay termination }
-    requires order { effective <ℤ termination }
-    requires anchored { G.at grid.now (pos 0) ≡ stub_anchor stub effective termination }
-    ensures { StubSpan stub (G.on grid.now) effective termination result.0 result.1 }
+fn stub_ends<G: Grid>(stub: Option<StubKind>, begin: Day, termination: Day, grid: &G) -> (Day, Day)
+    requires days { IsDay begin × IsDay termination }
+    requires order { begin <ℤ termination }
+    requires anchored { G.at grid.now (pos 0) ≡ stub_anchor stub begin termination }
+    ensures { StubSpan stub (G.on grid.now) begin termination result.0 result.1 }
 {
     match stub {
-        None => (effective, termination),
-        Some(StubKind::ShortInitial) => (short_end(grid, Way::Back, effective), termination),
-        Some(StubKind::LongInitial) => (
-            long_end(grid, Way::Back, termination, effective),
-            termination,
-        ),
-        Some(StubKind::ShortFinal) => (effective, short_end(grid, Way::Ahead, termination)),
-        Some(StubKind::LongFinal) => (
-            effective,
-            long_end(grid, Way::Ahead, effective, termination),
-        ),
+        None => (begin, termination),
+        Some(StubKind::ShortInitial) => (short_end(grid, Way::Back, begin), termination),
+        Some(StubKind::LongInitial) => (long_end(grid, Way::Back, termination, begin), termination),
+        Some(StubKind::ShortFinal) => (begin, short_end(grid, Way::Ahead, termination)),
+        Some(StubKind::LongFinal) => (begin, long_end(grid, Way::Ahead, begin, termination)),
     }
 }

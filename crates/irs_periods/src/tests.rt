@@ -1,5 +1,5 @@
 //! Calculation periods whose boundaries, or whose first broken rule, are known from outside the code.
-ghost use Rattle.std.specs.Prelude.{◌≡◌, ◌≤◌, ◌<◌, IfSome, IsTrue};
+ghost use Rattle.std.specs.Prelude.{◌≡◌, ◌≤◌, ◌<◌, ◌≤ℤ◌, ◌<ℤ◌, IfSome, IsTrue};
 ghost use Rattle.irs_base.specs.Days.{IsDay};
 ghost use Rattle.irs_terms.specs.Lawful.{IsLawfulCenters, IsLawfulFrequency, IsLawfulPay, IsLawfulRoll, IsLawfulStream, IsLawfulValues, IsNotional, IsRate};
 ghost use Rattle.irs_periods.specs.Terms.{DatesInOrder, FrequencySuits, given_or};
@@ -12,7 +12,7 @@ use crate::*;
 use irs_base::{Broken, Day, DayList, Rule, read_date};
 use irs_roll::suits;
 use irs_terms::*;
-use rows::{By, GRIDS, LIMITS, NOT_MOVED, REGULAR, Row, STUBS, Want};
+use rows::{By, GRIDS, LIMITS, NOT_MOVED, REGULAR, Row, STARTS, STUBS, Want};
 use std::alloc::Global;
 use std::process::Abort;
 use std::test::*;
@@ -89,6 +89,25 @@ fn paid_each_period(freq: Frequency) -> PayTerms
     }
 }
 
+fn first_start(row: &Row) -> Option<Dated>
+    ensures { IfSome result (λ d. IsDay d.day × IsLawfulCenters d.adj.centers) }
+{
+    match row.first_start {
+        Some(text) => dated(text, row.start),
+        None => None,
+    }
+}
+
+// Where `firstPeriodStartDate` is given, the effective date's adjustments are used by no boundary.
+fn effective(row: &Row) -> Option<Dated>
+    ensures { IfSome result (λ d. IsDay d.day × IsLawfulCenters d.adj.centers) }
+{
+    match row.first_start {
+        Some(_) => dated(row.effective, NOT_MOVED),
+        None => dated(row.effective, row.start),
+    }
+}
+
 /// The stream of a row.
 pub fn stream(alloc: Global, row: &Row) -> Option<Stream>
     ensures { IfSome result IsLawfulStream }
@@ -101,7 +120,8 @@ pub fn stream(alloc: Global, row: &Row) -> Option<Stream>
         return None;
     }
     Some(Stream {
-        effective: dated(row.effective, row.start)?,
+        effective: effective(row)?,
+        first_start: first_start(row),
         termination: dated(row.termination, row.end)?,
         period_adj: adjustments(row.middle),
         first_regular: given_day(row.first),
@@ -134,18 +154,36 @@ fn given(d: Option<Day>, other: Day) -> Day
     }
 }
 
+fn starts_before_effective(s: &Stream) -> bool
+    ensures { IsTrue result → IfSome s.now.first_start (λ start. start.day <ℤ s.now.effective.day) }
+{
+    match &s.first_start {
+        Some(start) => start.day < s.effective.day,
+        None => true,
+    }
+}
+
+fn are_in_order(begin: Day, termination: Day, first: Option<Day>, last: Option<Day>) -> bool
+    ensures first { IsTrue result → IfSome first (λ f. (begin ≤ℤ f) × (f ≤ℤ termination)) }
+    ensures last { IsTrue result → IfSome last (λ l. (given_or first begin ≤ℤ l) × (l ≤ℤ termination)) }
+{
+    let from = given(first, begin);
+    let to = given(last, termination);
+    begin <= from && from <= termination && from <= to && to <= termination
+}
+
 fn keeps_dates(s: &Stream) -> bool
     ensures { IsTrue result → DatesInOrder s.now }
 {
-    let effective = s.first_day();
-    let termination = s.termination.day;
-    let from = given(s.first_regular, effective);
-    let to = given(s.last_regular, termination);
-    effective < termination
-        && effective <= from
-        && from <= termination
-        && from <= to
-        && to <= termination
+    if s.effective.day >= s.termination.day || !starts_before_effective(s) {
+        return false;
+    }
+    are_in_order(
+        s.first_day(),
+        s.termination.day,
+        s.first_regular,
+        s.last_regular,
+    )
 }
 
 fn keeps_frequency(s: &Stream) -> bool
@@ -221,6 +259,11 @@ fn each_kind_of_grid(rt: HostRuntime) -> Result<(), Fail> {
 #[test]
 fn first_and_last_regular_dates(rt: HostRuntime) -> Result<(), Fail> {
     each_is_listed(&rt, rt.alloc(), &REGULAR)
+}
+
+#[test]
+fn first_period_start_dates(rt: HostRuntime) -> Result<(), Fail> {
+    each_is_listed(&rt, rt.alloc(), &STARTS)
 }
 
 #[test]

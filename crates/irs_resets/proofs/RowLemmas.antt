@@ -1,10 +1,11 @@
 -- Lists of resets: one at most, and one where each period has its dates.
 use Rattle.std.proofs.Common.{◌≡◌, ◌⊎◌, inl, inr, ℕ, zero, suc, ◌+◌, ◌-◌, ◌<◌, ◌≤◌, List, [], ◌∷◌, ◌++◌, length, Option, Some, None, Result, ℤ, pos, ◌≤ℤ◌, ◌-ℤ◌, refl, sym, ap, ap₂, subst, ◌∙◌, arith}
 use Rattle.jiff_core.proofs.SignedLemmas.{signed_arith}
-use Rattle.irs_base.specs.Days.{first_day, last_day}
+use Rattle.irs_base.specs.Days.{all_days, first_day, last_day}
 use Rattle.irs_base.specs.DayLists.{AreDays}
 use Rattle.irs_base.specs.Listed.{AllAfter, IsRising}
 use Rattle.irs_base.specs.declared.places.Broken.{Broken}
+use Rattle.irs_terms.specs.FirstDay.{first_day_of}
 use Rattle.irs_terms.specs.declared.dates.ResetTerms.{ResetTerms}
 use Rattle.irs_terms.specs.declared.amounts.FloatTerms.{FloatTerms}
 use Rattle.irs_terms.specs.declared.amounts.Leg.{Leg}
@@ -60,7 +61,7 @@ some_list R (suc n) i h =
 pub one_row : (s : Stream) (f : FloatTerms) (t : ResetTerms) (span : Span) (a : List ℤ) (rs fs : DaySet) (rates : RateTable) (i : ℕ) (x y : Reset) → IsReset s f t span a rs fs rates i x → IsReset s f t span a rs fs rates i y → x ≡ y
 one_row s f t span a rs fs rates i x y p q =
     let same = one_dates t a rs fs i x.reset x.fixing y.reset y.fixing p.dates q.dates in
-    let e : x.observed ≡ y.observed = p.observed ∙ ap (λ (d : ℤ). observed_rate (kind_at s.effective.day s.termination.day span (length a - 1) i) f s.stubs rates d) same.1 ∙ sym q.observed in
+    let e : x.observed ≡ y.observed = p.observed ∙ ap (λ (d : ℤ). observed_rate (kind_at (first_day_of s) s.termination.day span (length a - 1) i) f s.stubs rates d) same.1 ∙ sym q.observed in
     let make : ℤ → ℤ → Option ℤ → Reset = λ r g o. record { reset = r; fixing = g; observed = o } in
     ap (λ r. make r x.fixing x.observed) same.0 ∙ ap₂ (λ g o. make y.reset g o) same.1 e
 
@@ -81,7 +82,7 @@ pub some_resets : (s : Stream) (f : FloatTerms) (t : ResetTerms) (span : Span) (
 some_resets s f t span a rs fs rates h =
     let row : (k : ℕ) → 1 ≤ k → k < 1 + (length a - 1) → (r : Reset) × IsReset s f t span a rs fs rates k r = λ k low high.
     let d = h k (low, omega (arith, low, high)) in
-    (record { reset = d.0; fixing = d.1; observed = observed_rate (kind_at s.effective.day s.termination.day span (length a - 1) k) f s.stubs rates d.1 }, record { dates = d.2; observed = refl }) in
+    (record { reset = d.0; fixing = d.1; observed = observed_rate (kind_at (first_day_of s) s.termination.day span (length a - 1) k) f s.stubs rates d.1 }, record { dates = d.2; observed = refl }) in
     let l = some_list (IsReset s f t span a rs fs rates) (length a - 1) 1 row in
     (l.0, record { many = l.1; each = l.2 })
 
@@ -102,7 +103,7 @@ after_few x (y ∷ ys) after rising days low high =
     let rest = after_few y ys rising.0 rising.1 days.1 days.0.0 days.0.1 in
     omega (arith, signed_arith, rest, after.0, low)
 
-pub few_days : (xs : List ℤ) → IsRising xs → AreDays xs → length xs < 200_000
+pub few_days : (xs : List ℤ) → IsRising xs → AreDays xs → length xs ≤ all_days
 few_days [] rising days = omega arith
 few_days (x ∷ xs) rising days =
     let rest = after_few x xs rising.0 rising.1 days.1 days.0.0 days.0.1 in

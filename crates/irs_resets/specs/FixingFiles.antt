@@ -6,10 +6,6 @@ use Rattle.irs_resets.specs.Words.{is_passed}
 use Rattle.irs_resets.specs.FixingLines.{Spells}
 use Rattle.irs_resets.specs.Rates.{RateTable, rate_at, Adds}
 
--- 4 MiB: the most bytes of a file
-abbrev pub most_bytes : ℕ
-most_bytes = 4_194_304
-
 -- the line is neither passed over nor spells a fixing
 pub record IsBadLine (line : List ℕ) : Type 0 where
   pub not_passed : is_passed line ≡ false

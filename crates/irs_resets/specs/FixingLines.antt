@@ -2,6 +2,7 @@
 use Rattle.std.specs.Prelude.{◌≡◌, ◌≢◌, ℕ, ◌≤◌, List, length, All, Some, ℤ}
 use Rattle.irs_base.specs.Dates.{date_at}
 use Rattle.irs_base.specs.Decimals.{DecText}
+use Rattle.irs_base.specs.Limits.{most_index}
 use Rattle.irs_terms.specs.Lawful.{IsRate}
 use Rattle.irs_resets.specs.declared.store.Slot.{Slot}
 use Rattle.irs_resets.specs.Words.{word, behind_gap, trimmed}
@@ -12,10 +13,10 @@ pub record IsRateText (text : List ℕ) (rate : ℤ) : Type 0 where
   pub decimal : DecText text 9 rate
   pub small : IsRate rate
 
--- 1 to 128 bytes, none of them a control byte
+-- 1 to most_index bytes, none of them a control byte
 pub record IsIndexText (index : List ℕ) : Type 0 where
   pub some : 1 ≤ length index
-  pub short : length index ≤ 128
+  pub short : length index ≤ most_index
   pub no_control : All (λ b. (32 ≤ b) × (b ≢ 127)) index
 
 -- the words of the line: the first, the second and the third, and what follows them

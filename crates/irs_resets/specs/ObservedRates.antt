@@ -14,12 +14,13 @@ use Rattle.irs_resets.specs.Rates.{RateTable, rate_at}
 abbrev pub is_before : ℤ → ℤ → Bool
 is_before a b = is_lt (int_cmp a b)
 
--- the number of the first regular period: it follows the initial stub, where there is one
+-- the number of the first regular period: it follows the initial stub, where there is one; the first
+-- calculation period begins on e
 abbrev pub first_regular : ℤ → Span → ℕ
 first_regular e span = if is_before e span.first then 2 else 1
 
--- what the period i of n is in a term from e to t: period 1 is the initial stub where the regular span begins
--- after e, and period n the final stub where it ends before t
+-- what the period i of n is, where the first begins on e and the last ends on t: period 1 is the initial
+-- stub where the regular span begins after e, and period n the final stub where it ends before t
 abbrev pub kind_at : ℤ → ℤ → Span → ℕ → ℕ → PeriodKind
 kind_at e t span n i =
     if is_before e span.first && (i == 1) then InitialStub

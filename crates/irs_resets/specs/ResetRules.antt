@@ -9,6 +9,7 @@ use Rattle.irs_base.specs.Elements.{reset_dates, fixing_dates, initial_stub, fin
 use Rattle.irs_terms.specs.declared.dates.ResetTerms.{ResetTerms}
 use Rattle.irs_terms.specs.declared.amounts.StubTerms.{StubTerms}
 use Rattle.irs_terms.specs.declared.stream.Stream.{Stream}
+use Rattle.irs_terms.specs.FirstDay.{first_day_of}
 use Rattle.irs_terms.specs.declared.results.Span.{Span}
 use Rattle.irs_calendar.specs.GoodDays.{DaySet}
 use Rattle.irs_resets.specs.declared.dates.DateFault.TheVariants.{NoReset, NoFixing, OutOfRange}
@@ -28,12 +29,13 @@ abbrev pub GivesFinal : Option StubTerms → Type 0
 GivesFinal None = ⊥
 GivesFinal (Some stubs) = IsSome stubs.last
 
--- K37: a rate is given for the initial stub, and the regular span doesn't begin after the term
+-- K37: a rate is given for the initial stub, and the first calculation period doesn't begin before the
+-- regular span
 pub record InitialUnmet (s : Stream) (span : Span) : Type 0 where
   pub given : GivesInitial s.stubs
-  pub no_stub : s.effective.day <ℤ span.first → ⊥
+  pub no_stub : first_day_of s <ℤ span.first → ⊥
 
--- K37: a rate is given for the final stub, and the regular span doesn't end before the term
+-- K37: a rate is given for the final stub, and the regular span doesn't end before the termination date
 pub record FinalUnmet (s : Stream) (span : Span) : Type 0 where
   pub given : GivesFinal s.stubs
   pub no_stub : span.last <ℤ s.termination.day → ⊥

@@ -8,6 +8,7 @@ use Rattle.irs_terms.specs.declared.amounts.StubTerms.{StubTerms}
 use Rattle.irs_terms.specs.declared.stream.Stream.{Stream}
 use Rattle.irs_terms.specs.declared.results.Span.{Span}
 use Rattle.irs_terms.specs.declared.results.Reset.{Reset}
+use Rattle.irs_terms.specs.FirstDay.{first_day_of}
 use Rattle.irs_terms.specs.Lawful.{IsRate}
 use Rattle.irs_calendar.specs.GoodDays.{DaySet}
 use Rattle.irs_resets.specs.ResetDates.{IsDates, IsSaid}
@@ -29,7 +30,7 @@ IsSaidReset s = IfSome s.reset (λ t. IsSaid t.fixing)
 -- the reset of period i: its dates by the terms t, and its observed rate
 pub record IsReset (s : Stream) (float : FloatTerms) (t : ResetTerms) (span : Span) (a : List ℤ) (reset_set fixing_set : DaySet) (rates : RateTable) (i : ℕ) (row : Reset) : Type 0 where
   pub dates : IsDates t a reset_set fixing_set i row.reset row.fixing
-  pub observed : row.observed ≡ observed_rate (kind_at s.effective.day s.termination.day span (length a - 1) i) float s.stubs rates row.fixing
+  pub observed : row.observed ≡ observed_rate (kind_at (first_day_of s) s.termination.day span (length a - 1) i) float s.stubs rates row.fixing
 
 -- each row stands in R to its number, the first of them to i
 abbrev pub AreRows : (ℕ → Reset → Type 0) → ℕ → List Reset → Type 0

@@ -1,8 +1,8 @@
 //! A line of a fixing file: DATE RATE TENOR INDEX.
 //!
 //! DATE is `YYYY-MM-DD` in range, RATE a decimal of 9 places and at most 10 in size, and TENOR `-`
-//! or a frequency other than the term. INDEX is the rest of the line, 1 to 128 bytes none of which
-//! is a control byte. The format is this project's own.
+//! or a frequency other than the term. INDEX is the rest of the line, at least one byte and at most
+//! [`MOST_INDEX`], none of them a control byte. The format is this project's own.
 ghost use Rattle.std.specs.Prelude.{◌≡◌, ◌≢◌, ◌↔◌, ◌≤◌, ℕ, ℤ, List, All, IsTrue, IfSome, IfNone, unsigned_abs};
 ghost use Rattle.irs_resets.specs.FixingLines.{IsRateText, IsIndexText, Spells};
 ghost use Rattle.irs_resets.specs.declared.store.Slot.{Slot as AtSlot};
@@ -10,13 +10,7 @@ ghost use Rattle.irs_resets.specs.declared.store.Slot.{Slot as AtSlot};
 use crate::store::Slot;
 use crate::tenors::tenor;
 use crate::words::{first_word, trim_end};
-use irs_base::{date, read_dec};
-
-/// The most bytes of an index.
-const MOST_INDEX: usize = 128;
-
-/// The greatest rate in size: 10, in units of 10^-9.
-const MOST_RATE: i128 = 10_000_000_000;
+use irs_base::{MOST_INDEX, MOST_RATE, date, read_dec};
 
 /// What a line says.
 #[derive(Clone, Copy)]
@@ -31,7 +25,8 @@ fn rate(text: &[u8]) -> Option<i64>
     ensures none { IfNone result ((v : ℤ) → IsRateText text.now v → ⊥) }
 {
     let units = read_dec(text, 9)?;
-    if units < -MOST_RATE || units > MOST_RATE {
+    let most = i128::from(MOST_RATE);
+    if units < -most || units > most {
         return None;
     }
     Some(units as i64)

@@ -4,10 +4,11 @@
 //! line whose first byte is `#` are passed over. Each other line gives the rate of an index at a date
 //! and tenor, and no two lines give the same index, date and tenor. The format is this project's own.
 ghost use Rattle.std.specs.Prelude.{◌≡◌, ◌≤◌, ℕ, ℤ, List, [], length, IfOk, IfSome, IsErrOf};
+ghost use Rattle.irs_base.specs.Limits.{most_bytes};
 ghost use Rattle.irs_base.specs.Lines.{lines_of};
 ghost use Rattle.irs_terms.specs.Lawful.{IsRate};
 ghost use Rattle.irs_resets.specs.Rates.{rate_at};
-ghost use Rattle.irs_resets.specs.FixingFiles.{most_bytes, ReadsLine, IsBadLine, StandsAlready, IsBad, Repeats, IsFirstFault, IsFixingFile};
+ghost use Rattle.irs_resets.specs.FixingFiles.{ReadsLine, IsBadLine, StandsAlready, IsBad, Repeats, IsFirstFault, IsFixingFile};
 ghost use Rattle.irs_resets.specs.declared.fixings.FixErr.TheVariants.{Memory as OfMemory};
 
 use crate::fixing_line::fixing_line;

@@ -5,6 +5,7 @@
 //! rate where one is given. Every other period has the stream's index. An index is looked up on the
 //! fixing date. That a stub's index doesn't fall back to the stream's is this project's own.
 ghost use Rattle.std.specs.Prelude.{◌≡◌, IfSome};
+ghost use Rattle.irs_terms.specs.FirstDay.{first_day_of};
 ghost use Rattle.irs_terms.specs.Lawful.{IsRate, IsLawfulFloat, IsLawfulStubs, IsLawfulStubRate};
 ghost use Rattle.irs_resets.specs.ObservedRates.{kind_at, index_rate, stub_rate, stub_or_index, initial_stub_rate, final_stub_rate, first_regular_rate, observed_rate};
 
@@ -15,9 +16,9 @@ use irs_terms::{FloatTerms, Span, Stream, StubRate, StubTerms};
 /// What a calculation period is, as far as its rate goes by it.
 #[derive(Clone, Copy, Debug, PartialEq, Eq)]
 pub enum PeriodKind {
-    /// The first period, where the regular span begins after the term.
+    /// The first period, where it begins before the regular span.
     InitialStub,
-    /// The last period, where the regular span ends before the term.
+    /// The last period, where it ends after the regular span.
     FinalStub,
     /// The first period of the regular span.
     FirstRegular,
@@ -27,9 +28,9 @@ pub enum PeriodKind {
 
 /// The kind of a period. Periods count from 1.
 pub fn period_kind(s: &Stream, span: &Span, count: usize, number: usize) -> PeriodKind
-    ensures { result ≡ kind_at s.now.effective.day s.now.termination.day span.now count number }
+    ensures { result ≡ kind_at (first_day_of s.now) s.now.termination.day span.now count number }
 {
-    let has_initial = s.effective.day < span.first;
+    let has_initial = s.first_day() < span.first;
     if has_initial && number == 1 {
         return PeriodKind::InitialStub;
     }

@@ -77,7 +77,7 @@ fn lacks_initial(s: &Stream, span: &Span) -> bool
     if !gives_initial(&s.stubs) {
         return false;
     }
-    span.first <= s.effective.day
+    span.first <= s.first_day()
 }
 
 fn lacks_final(s: &Stream, span: &Span) -> bool

@@ -12,7 +12,7 @@ mod files;
 mod rows;
 
 use crate::{Fixings, ResErr, resets};
-use irs_base::{Broken, Day, DayList, Direction, Names, Rule, Text, read_date};
+use irs_base::{Broken, Day, DayList, Direction, MOST_RATE, Names, Rule, Text, read_date};
 use irs_calendar::{Calendars, RunSet};
 use irs_terms::*;
 use rows::{By, DATES, Days, Fixing, Index, NOT_MOVED, RATES, Row, Stub, Want};
@@ -113,7 +113,7 @@ fn paid_quarterly() -> PayTerms
 fn is_rate(rate: i64) -> bool
     ensures { IsTrue result → IsRate rate }
 {
-    -10_000_000_000 <= rate && rate <= 10_000_000_000
+    rate.unsigned_abs() <= MOST_RATE
 }
 
 fn given_rate(rate: Option<i64>) -> Option<i64>
@@ -227,11 +227,24 @@ fn float_terms(alloc: Global, row: &Row) -> Option<FloatTerms>
         multiplier: values(alloc),
         spread: values(alloc),
         initial_rate: given_rate(row.initial_rate),
+        treatment: Treatment::AsIs,
         rounding: Rounding {
             dir: Direction::Nearest,
             places: 9,
         },
     })
+}
+
+// The effective date; and `firstPeriodStartDate`, where the effective date isn't the first boundary.
+fn start(row: &Row) -> Option<(Dated, Option<Dated>)>
+    ensures effective { IfSome result (λ d. IsLawfulDated d.0) }
+    ensures first { IfSome result (λ d. IfSome d.1 IsLawfulDated) }
+{
+    let first = dated(row.boundaries[0])?;
+    match row.effective {
+        Some(effective) => Some((dated(effective)?, Some(first))),
+        None => Some((first, None)),
+    }
 }
 
 fn stream(alloc: Global, row: &Row) -> Option<Stream>
@@ -242,8 +255,10 @@ fn stream(alloc: Global, row: &Row) -> Option<Stream>
     if row.roll < 1 || row.roll > 30 {
         return None;
     }
+    let (effective, first_start) = start(row)?;
     Some(Stream {
-        effective: dated(row.boundaries[0])?,
+        effective,
+        first_start,
         termination: dated(row.boundaries[2])?,
         period_adj: adjustments(ConvCode::Unadjusted),
         first_regular: day(row.first),

@@ -1,7 +1,7 @@
 -- Grids of months, for any one day that each month has.
 use Rattle.std.proofs.Common.{◌≡◌, ℕ, ◌*◌, ◌<◌, ◌≤◌, arith, refl, sym, ◌∙◌, ap, subst, FitsSigned, w32, w64, ℤ, pos, ◌+ℤ◌, ◌-ℤ◌, ◌*ℤ◌, ◌≤ℤ◌, ◌<ℤ◌}
 use Rattle.jiff_core.proofs.SignedLemmas.{signed_arith}
-use Rattle.irs_base.specs.Days.{IsDay}
+use Rattle.irs_base.specs.Days.{IsDay, first_month, last_month}
 use Rattle.irs_base.specs.Months.{InMonth, dim, month_start}
 use Rattle.irs_base.proofs.MonthLemmas.{month_start-later, same_month, month_range}
 use Rattle.irs_roll.specs.Grids.{IsMultiple, OnMonthsFrom, OnMonths, OnRollDay, kth}
@@ -13,7 +13,7 @@ module _ (day : ℤ → ℤ) (stays : (m : ℤ) → InMonth (day m) m) where
       let b = stays k in
       omega (arith, signed_arith, a.to, b.from, month_start-later j k below)
 
-  roll_range : (m : ℤ) → IsDay (day m) → (pos 22_812 ≤ℤ m) × (m ≤ℤ pos 26_399)
+  roll_range : (m : ℤ) → IsDay (day m) → (pos first_month ≤ℤ m) × (m ≤ℤ pos last_month)
   roll_range m r = month_range m (day m) r (stays m)
 
   pub roll_far_steps : (s : ℕ) (a k : ℤ) → FitsSigned w32 a → (FitsSigned w64 (k *ℤ pos s) → ⊥) → IsDay (day (kth a s k)) → ⊥

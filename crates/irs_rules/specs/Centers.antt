@@ -4,6 +4,7 @@ use Rattle.irs_base.specs.Elements as elements
 use Rattle.irs_calendar.specs.declared.sections.Section.{Section}
 use Rattle.irs_calendar.specs.Sections.{is_named}
 use Rattle.irs_terms.specs.declared.adjustments.Adjustments.{Adjustments}
+use Rattle.irs_terms.specs.declared.adjustments.Dated.{Dated}
 use Rattle.irs_terms.specs.declared.adjustments.Offset.{Offset}
 use Rattle.irs_terms.specs.declared.adjustments.Centers.{Centers}
 use Rattle.irs_terms.specs.declared.adjustments.Centers.TheVariants.{Absent, Listed, Dangling}
@@ -31,6 +32,10 @@ NeedsDaysWith o adj = NeedsDays adj ⊎ CountsGoodDays o
 abbrev pub HasNoCenters : Adjustments → Type 0
 HasNoCenters adj = adj.centers ≡ Absent
 
+-- a date whose adjustments need days and have no centres
+abbrev pub LacksCentersAt : Dated → Type 0
+LacksCentersAt date = NeedsDays date.adj × HasNoCenters date.adj
+
 -- fixing dates that need days, for their own convention or their own offset, and have no centres
 abbrev pub LacksCentersInFixing : FixTerms → Type 0
 LacksCentersInFixing f = NeedsDaysWith f.offset f.adj × HasNoCenters f.adj
@@ -41,14 +46,16 @@ LacksCentersInResets r at =
     At elements.fixing_dates (IsSomeAnd r.fixing LacksCentersInFixing) at
     ⊎ At elements.reset_dates_adjustments (NeedsDays r.adj × HasNoCenters r.adj) at
 
--- K11: an element needs days and has no centres; place: its adjustments
+-- K11: an element needs days and has no centres; place: its adjustments. The effective date's are asked also where no
+-- date is adjusted by them, as a firstPeriodStartDate is given
 abbrev pub BreaksK11 : Stream → Spot → Type 0
 BreaksK11 s at =
-    At elements.effective_date_adjustments (NeedsDays s.effective.adj × HasNoCenters s.effective.adj) at
-    ⊎ (At elements.termination_date_adjustments (NeedsDays s.termination.adj × HasNoCenters s.termination.adj) at
+    At elements.effective_date_adjustments (LacksCentersAt s.effective) at
+    ⊎ (At elements.termination_date_adjustments (LacksCentersAt s.termination) at
     ⊎ (At elements.period_dates_adjustments (NeedsDays s.period_adj × HasNoCenters s.period_adj) at
+    ⊎ (At elements.first_period_start_adjustments (IsSomeAnd s.first_start LacksCentersAt) at
     ⊎ (At elements.payment_dates_adjustments (NeedsDaysWith s.pay.offset s.pay.adj × HasNoCenters s.pay.adj) at
-    ⊎ IsSomeAnd s.reset (λ r. LacksCentersInResets r at))))
+    ⊎ IsSomeAnd s.reset (λ r. LacksCentersInResets r at)))))
 
 -- the i-th name, counted from 0, is that of no section of the calendar files
 abbrev pub IsUnlisted : List Section → List (List ℕ) → ℕ → Type 0
@@ -60,22 +67,35 @@ IsUnknown cal Absent i = ⊥
 IsUnknown cal (Listed names) i = IsUnlisted cal names i
 IsUnknown cal Dangling i = ⊥
 
+-- the i-th centre of adjustments that need days is in no calendar
+abbrev pub IsUnknownIn : List Section → Adjustments → ℕ → Type 0
+IsUnknownIn cal adj i = NeedsDays adj × IsUnknown cal adj.centers i
+
+-- the i-th centre of adjustments that need days, for themselves or for an offset, is in no calendar
+abbrev pub IsUnknownWith : List Section → Offset → Adjustments → ℕ → Type 0
+IsUnknownWith cal o adj i = NeedsDaysWith o adj × IsUnknown cal adj.centers i
+
+-- K12 at firstPeriodStartDate
+abbrev pub UnknownInFirstStart : List Section → Dated → Spot → Type 0
+UnknownInFirstStart cal date at = AtItem elements.first_period_start_adjustments (IsUnknownIn cal date.adj) at
+
 -- K12 at fixingDates
 abbrev pub UnknownInFixing : List Section → FixTerms → Spot → Type 0
-UnknownInFixing cal f at = AtItem elements.fixing_dates (λ i. NeedsDaysWith f.offset f.adj × IsUnknown cal f.adj.centers i) at
+UnknownInFixing cal f at = AtItem elements.fixing_dates (IsUnknownWith cal f.offset f.adj) at
 
 -- K12 below resetDates
 abbrev pub UnknownInResets : List Section → ResetTerms → Spot → Type 0
 UnknownInResets cal r at =
     IsSomeAnd r.fixing (λ f. UnknownInFixing cal f at)
-    ⊎ AtItem elements.reset_dates_adjustments (λ i. NeedsDays r.adj × IsUnknown cal r.adj.centers i) at
+    ⊎ AtItem elements.reset_dates_adjustments (IsUnknownIn cal r.adj) at
 
 -- K12: an element needs days and a centre of it is in no calendar; place: its adjustments, with the
--- centre's position
+-- centre's position. The effective date's are asked also where a firstPeriodStartDate is given
 abbrev pub BreaksK12 : List Section → Stream → Spot → Type 0
 BreaksK12 cal s at =
-    AtItem elements.effective_date_adjustments (λ i. NeedsDays s.effective.adj × IsUnknown cal s.effective.adj.centers i) at
-    ⊎ (AtItem elements.termination_date_adjustments (λ i. NeedsDays s.termination.adj × IsUnknown cal s.termination.adj.centers i) at
-    ⊎ (AtItem elements.period_dates_adjustments (λ i. NeedsDays s.period_adj × IsUnknown cal s.period_adj.centers i) at
-    ⊎ (AtItem elements.payment_dates_adjustments (λ i. NeedsDaysWith s.pay.offset s.pay.adj × IsUnknown cal s.pay.adj.centers i) at
-    ⊎ IsSomeAnd s.reset (λ r. UnknownInResets cal r at))))
+    AtItem elements.effective_date_adjustments (IsUnknownIn cal s.effective.adj) at
+    ⊎ (AtItem elements.termination_date_adjustments (IsUnknownIn cal s.termination.adj) at
+    ⊎ (AtItem elements.period_dates_adjustments (IsUnknownIn cal s.period_adj) at
+    ⊎ (IsSomeAnd s.first_start (λ date. UnknownInFirstStart cal date at)
+    ⊎ (AtItem elements.payment_dates_adjustments (IsUnknownWith cal s.pay.offset s.pay.adj) at
+    ⊎ IsSomeAnd s.reset (λ r. UnknownInResets cal r at)))))

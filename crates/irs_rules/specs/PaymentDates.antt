@@ -7,15 +7,16 @@ use Rattle.irs_terms.specs.declared.codes.StubKind.TheVariants.{ShortInitial, Lo
 use Rattle.irs_terms.specs.declared.codes.StubKind.{StubKind}
 use Rattle.irs_terms.specs.declared.dates.PayTerms.{PayTerms}
 use Rattle.irs_terms.specs.declared.stream.Stream.{Stream}
+use Rattle.irs_terms.specs.FirstDay.{first_day_of}
 use Rattle.irs_rules.specs.declared.lengths.Length.{Length}
 use Rattle.irs_rules.specs.declared.lengths.Length.TheVariants.{Days, Months, Term}
 use Rattle.irs_rules.specs.declared.spot.Spot.{Spot}
 use Rattle.irs_rules.specs.Lengths.{length_of, IsTimes}
 use Rattle.irs_rules.specs.Spots.{At}
 
--- a first regular date other than the effective date is given
+-- a first regular date other than the first day of the first period is given
 abbrev pub StartsLater : Stream → Type 0
-StartsLater s = IsSomeAnd s.first_regular (λ d. d ≢ s.effective.day)
+StartsLater s = IsSomeAnd s.first_regular (λ d. d ≢ first_day_of s)
 
 -- the stub type is ShortInitial or LongInitial
 abbrev pub IsInitial : Option StubKind → Type 0
@@ -55,14 +56,15 @@ LacksFirstPayment s = IsNone s.pay.first × GroupsPeriods (length_of s.pay.freq)
 abbrev pub HasNoRegularPayments : PayTerms → Type 0
 HasNoRegularPayments p = (p.relative ≡ Start) ⊎ (p.freq.unit ≡ T)
 
--- (3) the first payment date isn't after the effective date, or is after the termination date
+-- (3) the first payment date isn't after the first day of the first period, or is after the termination date
 abbrev pub IsFirstPaymentOut : Stream → ℤ → Type 0
-IsFirstPaymentOut s first = (first ≤ℤ s.effective.day) ⊎ (s.termination.day <ℤ first)
+IsFirstPaymentOut s first = (first ≤ℤ first_day_of s) ⊎ (s.termination.day <ℤ first)
 
--- (4) the last regular payment date isn't after the effective date, is after the termination date,
--- or is before the first payment date
+-- (4) the last regular payment date isn't after the first day of the first period, is after the termination
+-- date, or is before the first payment date
 abbrev pub IsLastPaymentOut : Stream → ℤ → Type 0
-IsLastPaymentOut s last = (last ≤ℤ s.effective.day) ⊎ ((s.termination.day <ℤ last) ⊎ IsSomeAnd s.pay.first (λ first. last <ℤ first))
+IsLastPaymentOut s last =
+    (last ≤ℤ first_day_of s) ⊎ ((s.termination.day <ℤ last) ⊎ IsSomeAnd s.pay.first (λ first. last <ℤ first))
 
 -- (2) or (3) of a first payment date that is given
 abbrev pub IsFirstMisfit : Stream → ℤ → Type 0

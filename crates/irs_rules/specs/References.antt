@@ -3,6 +3,7 @@ use Rattle.std.specs.Prelude.{◌≡◌, ◌⊎◌, IsSomeAnd}
 use Rattle.irs_base.specs.Elements as elements
 use Rattle.irs_terms.specs.declared.adjustments.Adjustments.{Adjustments}
 use Rattle.irs_terms.specs.declared.adjustments.Centers.TheVariants as centers
+use Rattle.irs_terms.specs.declared.adjustments.Dated.{Dated}
 use Rattle.irs_terms.specs.declared.codes.RefState.TheVariants as references
 use Rattle.irs_terms.specs.declared.dates.PayTerms.{PayTerms}
 use Rattle.irs_terms.specs.declared.dates.ResetTerms.{ResetTerms}
@@ -14,12 +15,18 @@ use Rattle.irs_rules.specs.Spots.{At}
 abbrev pub NamesNoList : Adjustments → Type 0
 NamesNoList adj = adj.centers ≡ centers.Dangling
 
--- below calculationPeriodDates
+-- the reference of a date's adjustments
+abbrev pub NamesNoListAt : Dated → Type 0
+NamesNoListAt date = NamesNoList date.adj
+
+-- below calculationPeriodDates; the effective date's reference is asked also where no date is adjusted by it, as a
+-- firstPeriodStartDate is given
 abbrev pub DanglesInPeriods : Stream → Spot → Type 0
 DanglesInPeriods s at =
     At elements.effective_date_centers_reference (NamesNoList s.effective.adj) at
     ⊎ (At elements.termination_date_centers_reference (NamesNoList s.termination.adj) at
-    ⊎ At elements.period_dates_centers_reference (NamesNoList s.period_adj) at)
+    ⊎ (At elements.period_dates_centers_reference (NamesNoList s.period_adj) at
+    ⊎ At elements.first_period_start_centers_reference (IsSomeAnd s.first_start NamesNoListAt) at))
 
 -- below paymentDates
 abbrev pub DanglesInPayments : PayTerms → Spot → Type 0

@@ -29,7 +29,8 @@ IsLegStepOut from to (Floating f) at =
     ⊎ AtItem elements.spread_step_date (IsStepOut from to f.spread.steps) at
 
 -- K18: a step's date isn't strictly after the one before it and strictly between the effective and
--- the termination date; place: the step's stepDate, with the step's position
+-- the termination date, also where the first period starts before the effective date; place: the step's
+-- stepDate, with the step's position
 abbrev pub BreaksK18 : Stream → Spot → Type 0
 BreaksK18 s at =
     AtItem elements.notional_step_date (IsStepOut s.effective.day s.termination.day s.notional.steps) at

@@ -3,19 +3,21 @@
 //!
 //! An element needs days where its convention isn't NONE; payment dates and fixing dates also where
 //! their offset is a Business offset other than 0. Reset dates are asked whether or not the stream
-//! floats.
+//! floats, and the effective date whether or not the first period starts before it.
 ghost use Rattle.std.specs.Prelude.{◌≤◌, ◌↔◌, IsTrue, IsSomeAnd, IfSome, length};
-ghost use Rattle.irs_terms.specs.Lawful.{IsLawfulCenters, IsLawfulReset, IsLawfulFix, IsLawfulStream};
+ghost use Rattle.irs_terms.specs.Lawful.{IsLawfulCenters, IsLawfulDated, IsLawfulReset, IsLawfulFix, IsLawfulStream};
 ghost use Rattle.irs_base.specs.Limits.{most_centers};
-ghost use Rattle.irs_base.specs.Elements.{fixing_dates};
+ghost use Rattle.irs_base.specs.Elements.{first_period_start_adjustments, fixing_dates};
 ghost use Rattle.irs_rules.specs.Order.{IsFirstSpot};
 ghost use Rattle.irs_rules.specs.Spots.{At, AtItem};
-ghost use Rattle.irs_rules.specs.Centers.{BreaksK11, BreaksK12, CountsGoodDays, HasNoCenters, IsUnknown, IsUnlisted, LacksCentersInFixing, LacksCentersInResets, NeedsDays, NeedsDaysWith, UnknownInFixing, UnknownInResets};
+ghost use Rattle.irs_rules.specs.Centers.{BreaksK11, BreaksK12, CountsGoodDays, HasNoCenters, IsUnknown, IsUnknownIn, IsUnknownWith, IsUnlisted, LacksCentersAt, LacksCentersInFixing, LacksCentersInResets, NeedsDays, NeedsDaysWith, UnknownInFirstStart, UnknownInFixing, UnknownInResets};
 
 use crate::spot::{Spot, earlier, spot_where};
 use irs_base::{Elem, Names};
 use irs_calendar::Calendars;
-use irs_terms::{Adjustments, Centers, ConvCode, DayKind, FixTerms, Offset, ResetTerms, Stream};
+use irs_terms::{
+    Adjustments, Centers, ConvCode, Dated, DayKind, FixTerms, Offset, ResetTerms, Stream,
+};
 
 /// K11: the first adjustments of a stream that need days and have no centres.
 pub(crate) fn element_without_centers(s: &Stream) -> Option<Spot>
@@ -24,10 +26,20 @@ pub(crate) fn element_without_centers(s: &Stream) -> Option<Spot>
     let effective = lacking(&s.effective.adj, Elem::EFFECTIVE_DATE_ADJUSTMENTS);
     let termination = lacking(&s.termination.adj, Elem::TERMINATION_DATE_ADJUSTMENTS);
     let periods = lacking(&s.period_adj, Elem::PERIOD_DATES_ADJUSTMENTS);
+    let first = lacking_in_first_start(&s.first_start);
     let payments = lacking_with(s.pay.offset, &s.pay.adj, Elem::PAYMENT_DATES_ADJUSTMENTS);
     let resets = lacking_in_given_resets(&s.reset);
-    let paid = earlier(payments, resets);
-    earlier(effective, earlier(termination, earlier(periods, paid)))
+    let behind = earlier(first, earlier(payments, resets));
+    earlier(effective, earlier(termination, earlier(periods, behind)))
+}
+
+fn lacking_in_first_start(first: &Option<Dated>) -> Option<Spot>
+    ensures { IsFirstSpot (At first_period_start_adjustments (IsSomeAnd first.now LacksCentersAt)) result }
+{
+    match first {
+        None => None,
+        Some(date) => lacking(&date.adj, Elem::FIRST_PERIOD_START_ADJUSTMENTS),
+    }
 }
 
 fn lacking_in_given_resets(reset: &Option<ResetTerms>) -> Option<Spot>
@@ -103,6 +115,7 @@ pub(crate) fn center_in_no_calendar(s: &Stream, cal: &Calendars) -> Option<Spot>
     let effective = unknown(cal, &s.effective.adj, Elem::EFFECTIVE_DATE_ADJUSTMENTS);
     let termination = unknown(cal, &s.termination.adj, Elem::TERMINATION_DATE_ADJUSTMENTS);
     let periods = unknown(cal, &s.period_adj, Elem::PERIOD_DATES_ADJUSTMENTS);
+    let first = unknown_in_first_start(cal, &s.first_start);
     let payments = unknown_with(
         cal,
         s.pay.offset,
@@ -110,8 +123,18 @@ pub(crate) fn center_in_no_calendar(s: &Stream, cal: &Calendars) -> Option<Spot>
         Elem::PAYMENT_DATES_ADJUSTMENTS,
     );
     let resets = unknown_in_given_resets(cal, &s.reset);
-    let paid = earlier(payments, resets);
-    earlier(effective, earlier(termination, earlier(periods, paid)))
+    let behind = earlier(first, earlier(payments, resets));
+    earlier(effective, earlier(termination, earlier(periods, behind)))
+}
+
+fn unknown_in_first_start(cal: &Calendars, first: &Option<Dated>) -> Option<Spot>
+    requires { IfSome first.now IsLawfulDated }
+    ensures { IsFirstSpot (λ at. IsSomeAnd first.now (λ date. UnknownInFirstStart cal.now date at)) result }
+{
+    match first {
+        None => None,
+        Some(date) => unknown(cal, &date.adj, Elem::FIRST_PERIOD_START_ADJUSTMENTS),
+    }
 }
 
 fn unknown_in_given_resets(cal: &Calendars, reset: &Option<ResetTerms>) -> Option<Spot>
@@ -145,7 +168,7 @@ fn unknown_in_fixing(cal: &Calendars, fixing: &Option<FixTerms>) -> Option<Spot>
 
 fn unknown(cal: &Calendars, adj: &Adjustments, elem: Elem) -> Option<Spot>
     requires { IsLawfulCenters adj.now.centers }
-    ensures { IsFirstSpot (AtItem elem (λ i. NeedsDays adj.now × IsUnknown cal.now adj.now.centers i)) result }
+    ensures { IsFirstSpot (AtItem elem (IsUnknownIn cal.now adj.now)) result }
 {
     if needs_days(adj) {
         first_unknown(cal, &adj.centers, elem)
@@ -156,7 +179,7 @@ fn unknown(cal: &Calendars, adj: &Adjustments, elem: Elem) -> Option<Spot>
 
 fn unknown_with(cal: &Calendars, offset: Offset, adj: &Adjustments, elem: Elem) -> Option<Spot>
     requires { IsLawfulCenters adj.now.centers }
-    ensures { IsFirstSpot (AtItem elem (λ i. NeedsDaysWith offset adj.now × IsUnknown cal.now adj.now.centers i)) result }
+    ensures { IsFirstSpot (AtItem elem (IsUnknownWith cal.now offset adj.now)) result }
 {
     if needs_days_with(offset, adj) {
         first_unknown(cal, &adj.centers, elem)

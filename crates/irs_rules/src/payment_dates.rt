@@ -60,7 +60,7 @@ fn starts_later(s: &Stream) -> bool
 {
     match s.first_regular {
         None => false,
-        Some(day) => day != s.effective.day,
+        Some(day) => day != s.first_day(),
     }
 }
 
@@ -106,13 +106,13 @@ fn has_no_regular_payments(pay: &PayTerms) -> bool
 fn is_first_out(s: &Stream, first: Day) -> bool
     ensures { IsTrue result ↔ IsFirstPaymentOut s.now first }
 {
-    first <= s.effective.day || s.termination.day < first
+    first <= s.first_day() || s.termination.day < first
 }
 
 fn is_last_out(s: &Stream, last: Day) -> bool
     ensures { IsTrue result ↔ IsLastPaymentOut s.now last }
 {
-    last <= s.effective.day || s.termination.day < last || precedes_first(s.pay.first, last)
+    last <= s.first_day() || s.termination.day < last || precedes_first(s.pay.first, last)
 }
 
 fn precedes_first(first: Option<Day>, last: Day) -> bool

@@ -1,16 +1,16 @@
 //! K10: a reference names its target, and a `businessCentersReference` exactly one list of centres
 //! of the swap. It is considered where no days are needed too.
 ghost use Rattle.std.specs.Prelude.{◌≡◌, ◌↔◌, IsTrue, IsSomeAnd};
-ghost use Rattle.irs_base.specs.Elements.{fixing_dates_centers_reference, stub_amount_reference};
+ghost use Rattle.irs_base.specs.Elements.{first_period_start_centers_reference, fixing_dates_centers_reference, stub_amount_reference};
 ghost use Rattle.irs_terms.specs.declared.codes.RefState.TheVariants.{Dangling as NamesNothing};
 ghost use Rattle.irs_rules.specs.Order.{IsFirstSpot};
 ghost use Rattle.irs_rules.specs.Spots.{At};
-ghost use Rattle.irs_rules.specs.References.{BreaksK10, DanglesInPeriods, DanglesInPayments, DanglesInResets, NamesNoList};
+ghost use Rattle.irs_rules.specs.References.{BreaksK10, DanglesInPeriods, DanglesInPayments, DanglesInResets, NamesNoList, NamesNoListAt};
 
 use crate::spot::{Spot, earlier, spot_where};
 use irs_base::Elem;
 use irs_terms::{
-    Adjustments, Centers, FixTerms, PayTerms, RefState, ResetTerms, Stream, StubTerms,
+    Adjustments, Centers, Dated, FixTerms, PayTerms, RefState, ResetTerms, Stream, StubTerms,
 };
 
 /// K10: the first reference of a stream that names no target, or more than one list of centres.
@@ -32,7 +32,17 @@ fn in_periods(s: &Stream) -> Option<Spot>
     let effective = list_of(&s.effective.adj, Elem::EFFECTIVE_DATE_CENTERS_REFERENCE);
     let termination = list_of(&s.termination.adj, Elem::TERMINATION_DATE_CENTERS_REFERENCE);
     let periods = list_of(&s.period_adj, Elem::PERIOD_DATES_CENTERS_REFERENCE);
-    earlier(effective, earlier(termination, periods))
+    let first = in_first_start(&s.first_start);
+    earlier(effective, earlier(termination, earlier(periods, first)))
+}
+
+fn in_first_start(first: &Option<Dated>) -> Option<Spot>
+    ensures { IsFirstSpot (At first_period_start_centers_reference (IsSomeAnd first.now NamesNoListAt)) result }
+{
+    match first {
+        None => None,
+        Some(date) => list_of(&date.adj, Elem::FIRST_PERIOD_START_CENTERS_REFERENCE),
+    }
 }
 
 fn in_payments(pay: &PayTerms) -> Option<Spot>

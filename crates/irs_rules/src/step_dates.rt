@@ -1,5 +1,5 @@
 //! K18: the steps of notionals, fixed rates, multipliers and spreads lie strictly in order and
-//! strictly between the effective and the termination date.
+//! strictly between the effective and the termination date, wherever the first period starts.
 ghost use Rattle.std.specs.Prelude.{◌<◌, ◌≤◌, ◌≤ℤ◌, ◌↔◌, IsTrue, IsSomeAnd, length};
 ghost use Rattle.irs_terms.specs.Lawful.{IsLawfulStream, IsLawfulLeg};
 ghost use Rattle.irs_base.specs.Limits.{most_steps};

@@ -10,7 +10,7 @@ use crate::centers::{center_in_no_calendar, element_without_centers};
 use crate::date_order::date_out_of_order;
 use crate::day_types::offset_without_day_type;
 use crate::frequencies::{payment_misfit, reset_misfit, roll_misfit};
-use crate::legs::{compounding_of_fixed, element_of_other_leg};
+use crate::legs::{compounding_misfit, element_of_other_leg};
 use crate::payment_dates::payment_date_misfit;
 use crate::references::dangling_reference;
 use crate::spot::Spot;
@@ -100,9 +100,8 @@ fn first_of_rule(rule: Rule, s: &Stream, cal: &Calendars) -> Option<Spot>
         Rule::K18 => step_out_of_order(s),
         Rule::K19 => element_of_other_leg(s),
         Rule::K20 => reset_misfit(s),
-        Rule::K21 => compounding_of_fixed(s),
-        Rule::K1 | Rule::K2 | Rule::K3 | Rule::K4 | Rule::K5 | Rule::K6 | Rule::K7 => None,
-        Rule::K30 | Rule::K31 | Rule::K32 | Rule::K33 | Rule::K34 => None,
-        Rule::K35 | Rule::K36 | Rule::K37 | Rule::K38 | Rule::K39 => None,
+        Rule::K21 => compounding_misfit(s),
+        // No other rule is one of the terms.
+        _ => None,
     }
 }

@@ -4,7 +4,7 @@
 //! 6 months and rolls on the 15th, with no adjustments.
 ghost use Rattle.std.specs.Prelude.{◌≡◌, ◌≤◌, ◌↔◌, IsTrue, IfOk, IfSome, All, length, pos};
 ghost use Rattle.irs_base.specs.Days.{IsDay};
-ghost use Rattle.irs_terms.specs.Lawful.{IsLawful, IsLawfulCenters, IsLawfulFrequency, IsLawfulLeg, IsLawfulNames, IsLawfulOffset, IsLawfulPay, IsLawfulReset, IsLawfulRoll, IsLawfulStream, IsLawfulStubs, IsLawfulValues, IsNotional, IsRate};
+ghost use Rattle.irs_terms.specs.Lawful.{IsLawful, IsLawfulCenters, IsLawfulDated, IsLawfulFrequency, IsLawfulLeg, IsLawfulNames, IsLawfulOffset, IsLawfulPay, IsLawfulReset, IsLawfulRoll, IsLawfulStream, IsLawfulStubs, IsLawfulValues, IsNotional, IsRate};
 
 use crate::check_terms;
 use irs_base::{Broken, Civil, Day, DayName, Direction, Elem, Names, Text, day_of};
@@ -41,6 +41,7 @@ enum Of {
     Effective,
     Termination,
     Periods,
+    FirstStart,
     Payments,
     Resets,
     Fixing,
@@ -93,6 +94,9 @@ enum Change {
     StepOn(Values, Date),
     HasStubs,
     Compounds(CompCode),
+    /// `firstPeriodStartDate`.
+    FirstStart(Date),
+    Treats(Treatment),
 }
 
 use Change::*;
@@ -101,6 +105,7 @@ use Change::*;
 #[derive(Clone, Copy)]
 struct Terms {
     from: Day,
+    first_start: Option<Day>,
     to: Day,
     first: Option<Day>,
     last: Option<Day>,
@@ -117,6 +122,7 @@ struct Terms {
     effective: Adj,
     termination: Adj,
     periods: Adj,
+    start: Adj,
     payments: Adj,
     resets: Adj,
     fixings: Adj,
@@ -132,6 +138,7 @@ struct Terms {
     multiplier: Steps,
     spread: Steps,
     compounding: CompCode,
+    treatment: Treatment,
 }
 
 /// Up to two steps.
@@ -167,6 +174,7 @@ fn base() -> Terms {
     };
     Terms {
         from: ymd((2024, 1, 15)),
+        first_start: None,
         to: ymd((2025, 1, 15)),
         first: None,
         last: None,
@@ -183,6 +191,7 @@ fn base() -> Terms {
         effective: NONE,
         termination: NONE,
         periods: NONE,
+        start: NONE,
         payments: NONE,
         resets: NONE,
         fixings: NONE,
@@ -198,6 +207,7 @@ fn base() -> Terms {
         multiplier: NO_STEPS,
         spread: NO_STEPS,
         compounding: CompCode::Simple,
+        treatment: Treatment::AsIs,
     }
 }
 
@@ -207,6 +217,7 @@ impl Terms {
             Of::Effective => self.effective = adj,
             Of::Termination => self.termination = adj,
             Of::Periods => self.periods = adj,
+            Of::FirstStart => self.start = adj,
             Of::Payments => self.payments = adj,
             Of::Resets => self.resets = adj,
             Of::Fixing => self.fixings = adj,
@@ -258,6 +269,8 @@ impl Terms {
             StepOn(values, date) => self.step(values, ymd(date)),
             HasStubs => self.has_stubs = true,
             Compounds(code) => self.compounding = code,
+            FirstStart(date) => self.first_start = Some(ymd(date)),
+            Treats(treatment) => self.treatment = treatment,
         }
     }
 }
@@ -360,13 +373,22 @@ fn adjustments(alloc: Global, adj: Adj) -> Result<Adjustments, Fail>
 }
 
 fn dated(alloc: Global, day: Day, adj: Adj) -> Result<Dated, Fail>
-    ensures { IfOk result (λ d. IsDay d.day × IsLawfulCenters d.adj.centers) }
+    ensures { IfOk result IsLawfulDated }
 {
     let _number = day.number();
     Ok(Dated {
         day,
         adj: adjustments(alloc, adj)?,
     })
+}
+
+fn first_start(alloc: Global, t: &Terms) -> Result<Option<Dated>, Fail>
+    ensures { IfOk result (λ d. IfSome d IsLawfulDated) }
+{
+    match t.first_start {
+        None => Ok(None),
+        Some(day) => Ok(Some(dated(alloc, day, t.start)?)),
+    }
 }
 
 fn step_on(day: Day) -> Step
@@ -419,6 +441,7 @@ fn leg(alloc: Global, t: &Terms) -> Result<Leg, Fail>
             dir: Direction::Nearest,
             places: 9,
         },
+        treatment: t.treatment,
     }))
 }
 
@@ -494,6 +517,7 @@ fn stream(alloc: Global, t: &Terms) -> Result<Stream, Fail>
 {
     Ok(Stream {
         effective: dated(alloc, t.from, t.effective)?,
+        first_start: first_start(alloc, t)?,
         termination: dated(alloc, t.to, t.termination)?,
         period_adj: adjustments(alloc, t.periods)?,
         first_regular: given_day(t.first),
@@ -549,7 +573,7 @@ fn calendars(alloc: Global) -> Result<Calendars, Fail> {
 #[derive(Clone, Copy)]
 struct Row(&'static [Change], u8, Elem, u32);
 
-const BROKEN: [Row; 78] = [
+const BROKEN: [Row; 97] = [
     // K10 each reference
     Row(
         &[Adjusted(Of::Effective, ConvCode::Unadjusted, Given::Dangling)],
@@ -615,6 +639,35 @@ const BROKEN: [Row; 78] = [
         &[Floats, HasStubs, Dangles(Ref::Stubs)],
         10,
         Elem::STUB_AMOUNT_REFERENCE,
+        0,
+    ),
+    Row(
+        &[
+            FirstStart((2023, 7, 15)),
+            Adjusted(Of::FirstStart, ConvCode::Unadjusted, Given::Dangling),
+        ],
+        10,
+        Elem::FIRST_PERIOD_START_CENTERS_REFERENCE,
+        0,
+    ),
+    Row(
+        &[
+            FirstStart((2023, 7, 15)),
+            Adjusted(Of::FirstStart, ConvCode::Unadjusted, Given::Dangling),
+            Adjusted(Of::Effective, ConvCode::Unadjusted, Given::Dangling),
+        ],
+        10,
+        Elem::EFFECTIVE_DATE_CENTERS_REFERENCE,
+        0,
+    ),
+    Row(
+        &[
+            FirstStart((2023, 7, 15)),
+            Adjusted(Of::FirstStart, ConvCode::Unadjusted, Given::Dangling),
+            Dangles(Ref::Payments),
+        ],
+        10,
+        Elem::FIRST_PERIOD_START_CENTERS_REFERENCE,
         0,
     ),
     // K11 and K12
@@ -722,6 +775,52 @@ const BROKEN: [Row; 78] = [
         Elem::RESET_DATES_ADJUSTMENTS,
         2,
     ),
+    Row(
+        &[
+            FirstStart((2023, 7, 15)),
+            Adjusted(Of::FirstStart, ConvCode::Following, Given::Absent),
+        ],
+        11,
+        Elem::FIRST_PERIOD_START_ADJUSTMENTS,
+        0,
+    ),
+    Row(
+        &[
+            FirstStart((2023, 7, 15)),
+            Adjusted(Of::Effective, ConvCode::Following, Given::Absent),
+        ],
+        11,
+        Elem::EFFECTIVE_DATE_ADJUSTMENTS,
+        0,
+    ),
+    Row(
+        &[
+            FirstStart((2023, 7, 15)),
+            Adjusted(Of::FirstStart, ConvCode::Nearest, Given::SecondUnknown),
+        ],
+        12,
+        Elem::FIRST_PERIOD_START_ADJUSTMENTS,
+        2,
+    ),
+    Row(
+        &[
+            FirstStart((2023, 7, 15)),
+            Adjusted(Of::FirstStart, ConvCode::Nearest, Given::SecondUnknown),
+            Adjusted(Of::Periods, ConvCode::Following, Given::SecondUnknown),
+        ],
+        12,
+        Elem::PERIOD_DATES_ADJUSTMENTS,
+        2,
+    ),
+    Row(
+        &[
+            FirstStart((2023, 7, 15)),
+            Adjusted(Of::Effective, ConvCode::Nearest, Given::SecondUnknown),
+        ],
+        12,
+        Elem::EFFECTIVE_DATE_ADJUSTMENTS,
+        2,
+    ),
     // K13
     Row(&[Ends((2024, 1, 15))], 13, Elem::TERMINATION_DATE, 0),
     Row(&[Ends((2023, 1, 15))], 13, Elem::TERMINATION_DATE, 0),
@@ -751,6 +850,42 @@ const BROKEN: [Row; 78] = [
     ),
     Row(
         &[FirstRegular((2024, 7, 15)), LastRegular((2024, 7, 14))],
+        13,
+        Elem::LAST_REGULAR_PERIOD_END_DATE,
+        0,
+    ),
+    Row(
+        &[FirstStart((2024, 1, 15))],
+        13,
+        Elem::FIRST_PERIOD_START_DATE,
+        0,
+    ),
+    Row(
+        &[FirstStart((2025, 7, 15))],
+        13,
+        Elem::FIRST_PERIOD_START_DATE,
+        0,
+    ),
+    Row(
+        &[FirstStart((2023, 7, 15)), Ends((2024, 1, 15))],
+        13,
+        Elem::TERMINATION_DATE,
+        0,
+    ),
+    Row(
+        &[FirstStart((2024, 1, 15)), FirstRegular((2025, 7, 15))],
+        13,
+        Elem::FIRST_PERIOD_START_DATE,
+        0,
+    ),
+    Row(
+        &[FirstStart((2023, 7, 15)), FirstRegular((2023, 7, 14))],
+        13,
+        Elem::FIRST_REGULAR_PERIOD_START_DATE,
+        0,
+    ),
+    Row(
+        &[FirstStart((2023, 7, 15)), LastRegular((2023, 7, 14))],
         13,
         Elem::LAST_REGULAR_PERIOD_END_DATE,
         0,
@@ -953,6 +1088,22 @@ const BROKEN: [Row; 78] = [
         Elem::LAST_REGULAR_PAYMENT_DATE,
         0,
     ),
+    Row(
+        &[
+            FirstStart((2023, 7, 15)),
+            FirstRegular((2024, 1, 15)),
+            Pay(1, Unit::Y),
+        ],
+        16,
+        Elem::FIRST_PAYMENT_DATE,
+        0,
+    ),
+    Row(
+        &[FirstStart((2023, 7, 15)), FirstPayment((2023, 7, 15))],
+        16,
+        Elem::FIRST_PAYMENT_DATE,
+        0,
+    ),
     // K17 and K18
     Row(
         &[PayOffset(2, DayKind::Unsaid)],
@@ -1012,6 +1163,15 @@ const BROKEN: [Row; 78] = [
         Elem::SPREAD_STEP_DATE,
         1,
     ),
+    Row(
+        &[
+            FirstStart((2023, 7, 15)),
+            StepOn(Values::Notional, (2024, 1, 15)),
+        ],
+        18,
+        Elem::NOTIONAL_STEP_DATE,
+        1,
+    ),
     // K19 to K21
     Row(&[HasResets], 19, Elem::RESET_DATES, 0),
     Row(&[HasStubs], 19, Elem::STUB_AMOUNT, 0),
@@ -1056,10 +1216,26 @@ const BROKEN: [Row; 78] = [
         Elem::COMPOUNDING_METHOD,
         0,
     ),
+    Row(
+        &[Compounds(CompCode::SpreadExclusive)],
+        21,
+        Elem::COMPOUNDING_METHOD,
+        0,
+    ),
+    Row(
+        &[
+            Floats,
+            Treats(Treatment::ZeroFloor),
+            Compounds(CompCode::SpreadExclusive),
+        ],
+        21,
+        Elem::COMPOUNDING_METHOD,
+        0,
+    ),
 ];
 
 /// Neighbours that break no rule.
-const SOUND: [&[Change]; 26] = [
+const SOUND: [&[Change]; 32] = [
     &[],
     &[
         Adjusted(Of::Payments, ConvCode::ModFollowing, Given::Known),
@@ -1127,6 +1303,27 @@ const SOUND: [&[Change]; 26] = [
         Pay(7, Unit::D),
         Roll(RollCode::NoRoll),
         ResetEvery(7, Unit::D),
+    ],
+    &[Floats, Compounds(CompCode::SpreadExclusive)],
+    &[Floats, Treats(Treatment::ZeroFloor)],
+    &[
+        FirstStart((2023, 7, 15)),
+        Adjusted(Of::FirstStart, ConvCode::Following, Given::Known),
+        Pay(1, Unit::Y),
+        FirstRegular((2023, 7, 15)),
+    ],
+    &[FirstStart((2024, 1, 14)), FirstRegular((2024, 1, 14))],
+    // a payment before the effective date
+    &[
+        FirstStart((2023, 7, 15)),
+        Pay(1, Unit::Y),
+        FirstPayment((2024, 1, 15)),
+        LastPayment((2024, 1, 15)),
+    ],
+    &[
+        FirstStart((2023, 7, 15)),
+        FirstPayment((2023, 7, 16)),
+        LastPayment((2023, 7, 16)),
     ],
 ];
 

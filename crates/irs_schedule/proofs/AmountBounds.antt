@@ -12,7 +12,7 @@ use Rattle.irs_base.specs.Rounding.{Rounded}
 use Rattle.irs_base.specs.declared.rounding.Direction.TheVariants.{Nearest}
 use Rattle.irs_base.proofs.RoundingLaws.{rounded_size}
 use Rattle.irs_terms.specs.declared.codes.CompCode.{CompCode}
-use Rattle.irs_terms.specs.declared.codes.CompCode.TheVariants.{Simple, Straight, Flat}
+use Rattle.irs_terms.specs.declared.codes.CompCode.TheVariants.{Simple, Straight, Flat, SpreadExclusive}
 use Rattle.irs_compound.proofs.Sizes.{positive_size}
 use Rattle.irs_compound.specs.Amounts.{IsFraction, IsTerm, IsPayment, AllPriced, Pays, RoundedAt, Follows, Stands, Within, Passes, amount, total, kept, kept_of, denominator, most_amount, most_exact, most_places}
 use Rattle.irs_compound.specs.PartsLaws.{AllFractions, all_fractions, follows_exists, follows_more, follows_once, stands_exists, total-push}
@@ -61,6 +61,7 @@ abbrev SumFits : CompCode → ℤ → ℤ → Type 0
 SumFits Simple den sum = unsigned_abs sum ≤ most_exact * unsigned_abs den
 SumFits Straight den sum = unsigned_abs sum ≤ most_amount
 SumFits Flat den sum = unsigned_abs sum ≤ most_amount
+SumFits SpreadExclusive den sum = unsigned_abs sum ≤ most_amount
 
 not_above : (m n : ℕ) → ((m ≤ n → ⊥) → ⊥) → m ≤ n
 not_above m n h = elim (cases_lt n m) [ inl more ↦ absurd (h (λ less. omega (arith, more, less))) | inr fits ↦ fits ]
@@ -69,6 +70,7 @@ sum_fits : (code : CompCode) (p : PeriodTerm) (c : Parts) (sum kept_sum : ℤ) �
 sum_fits Simple p c sum kept_sum h = not_above (unsigned_abs sum) (most_exact * unsigned_abs p.frac.den) (λ out. h (λ w. out w.1))
 sum_fits Straight p c sum kept_sum h = not_above (unsigned_abs sum) most_amount (λ out. h (λ w. out w.1.2))
 sum_fits Flat p c sum kept_sum h = not_above (unsigned_abs sum) most_amount (λ out. h (λ w. out w.1.2))
+sum_fits SpreadExclusive p c sum kept_sum h = not_above (unsigned_abs sum) most_amount (λ out. h (λ w. out w.1.2))
 
 -- powers of ten up to k and from there on
 tens : (k n : ℕ) → n ≤ k → 10 ^ (k - n) * 10 ^ n ≡ 10 ^ k
@@ -95,6 +97,7 @@ rounded_fits Simple den sum places m low few small rounds =
     simple_size (unsigned_abs den) sum m places some few small (subst (λ (d : ℤ). Rounded Nearest sum (d *ℤ pos (10 ^ (13 - places))) m) is rounds)
 rounded_fits Straight den sum places m low few small rounds = compound_size sum m places few small rounds
 rounded_fits Flat den sum places m low few small rounds = compound_size sum m places few small rounds
+rounded_fits SpreadExclusive den sum places m low few small rounds = compound_size sum m places few small rounds
 
 -- a payment of which no period leaves the range pays at most 10^14 currency units
 pub amount_bounded : (code : CompCode) (ps : List PeriodTerm) (places : ℕ) (m : ℤ) → IsPayment ps → places ≤ most_places → AllPriced ps → ((i : ℕ) → i < length ps → Passes code ps i → ⊥) → Pays code ps places m → unsigned_abs m ≤ 10 ^ 14 * 10 ^ places

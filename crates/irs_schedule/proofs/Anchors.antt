@@ -16,8 +16,10 @@ use Rattle.irs_terms.specs.declared.stream.Stream.{Stream}
 use Rattle.irs_roll.specs.Grids.{IsMultiple, OnMonths, OnRollDay}
 use Rattle.irs_roll.specs.Rolls.{Fits, FitsBy, FitsWeek, IsRollDay, IsTerm, OnGrid, OnGridBy}
 use Rattle.irs_periods.specs.Spans.{anchor_by, anchor_of, is_term, stub_anchor}
-use Rattle.irs_periods.specs.Terms.{effective_of, termination_of}
+use Rattle.irs_periods.specs.Terms.{termination_of}
 use Rattle.irs_schedule.proofs.Decided.{IsDecided, decides_on_grid}
+use Rattle.irs_terms.specs.FirstDay.{first_day_of}
+use Rattle.irs_schedule.proofs.FirstDays.{first_day_is_day}
 
 -- an anchor that the roll fits is on its own grid
 
@@ -101,4 +103,4 @@ anchor_by_day false None (Some l) stub e t given first last = first
 anchor_by_day false (Some f) l stub e t given first last = given
 
 pub anchor_day : (s : Stream) → IsLawfulStream s → IsDay (anchor_of s)
-anchor_day s lawful = anchor_by_day (is_term s.freq.unit) s.first_regular s.last_regular s.stub (effective_of s) (termination_of s) lawful.first_regular lawful.effective.0 lawful.termination.0
+anchor_day s lawful = anchor_by_day (is_term s.freq.unit) s.first_regular s.last_regular s.stub (first_day_of s) (termination_of s) lawful.first_regular (first_day_is_day s lawful) lawful.termination.0

@@ -1,5 +1,5 @@
 -- A stream with a regular span that is kept has boundaries; they are days, and run from the
--- effective date to the termination date.
+-- first day to the termination date.
 use Rattle.std.proofs.Common.{inl, inr, ⊎_elim, List, [], ◌∷◌, ℤ, ◌≤ℤ◌, refl, sym, subst, arith}
 use Rattle.jiff_core.proofs.SignedLemmas.{signed_arith}
 use Rattle.irs_base.specs.Days.{IsDay}
@@ -13,13 +13,15 @@ use Rattle.irs_payments.specs.Grouping.{RunsFromTo}
 use Rattle.irs_periods.specs.Boundaries.{Boundaries, IsBoundary, IsBoundaryBy, OnSpan}
 use Rattle.irs_periods.specs.SpanRules.{SpanKept}
 use Rattle.irs_periods.specs.Spans.{Regular}
-use Rattle.irs_periods.specs.Terms.{DatesInOrder, effective_of, termination_of}
+use Rattle.irs_periods.specs.Terms.{DatesInOrder, termination_of}
 use Rattle.irs_periods.proofs.Assembled.{lists_same}
 use Rattle.irs_schedule.proofs.Anchors.{anchor_day}
 use Rattle.irs_schedule.proofs.Decided.{IsDecided, decides_on_grid, decides_same}
 use Rattle.irs_schedule.proofs.FoundDays.{decides_le}
 use Rattle.irs_schedule.proofs.Ranges.{listed_between}
 use Rattle.irs_schedule.proofs.SpanThere.{LiesInTerm, lies_in_term, term_day}
+use Rattle.irs_terms.specs.FirstDay.{first_day_of}
+use Rattle.irs_periods.proofs.TermOrder.{begins_before_end}
 
 pub days_of_members : (b : List ℤ) → ((d : ℤ) → Member d b → IsDay d) → AreDays b
 days_of_members [] h = tt
@@ -53,16 +55,16 @@ module _ (s : Stream) (span : Span) (dates : DatesInOrder s) (regular : Regular 
   part = lies_in_term s span dates regular kept.fits
 
   -- each boundary lies in the term
-  pub boundary_in_term : (d : ℤ) → IsBoundary s span d → (effective_of s ≤ℤ d) × (d ≤ℤ termination_of s)
-  boundary_in_term d (inl is_e) = (omega (arith, signed_arith, is_e), omega (arith, signed_arith, is_e, dates.ends))
-  boundary_in_term d (inr (inl is_t)) = (omega (arith, signed_arith, is_t, dates.ends), omega (arith, signed_arith, is_t))
+  pub boundary_in_term : (d : ℤ) → IsBoundary s span d → (first_day_of s ≤ℤ d) × (d ≤ℤ termination_of s)
+  boundary_in_term d (inl is_e) = (omega (arith, signed_arith, is_e), omega (arith, signed_arith, is_e, begins_before_end s dates))
+  boundary_in_term d (inr (inl is_t)) = (omega (arith, signed_arith, is_t, begins_before_end s dates), omega (arith, signed_arith, is_t))
   boundary_in_term d (inr (inr on)) = (omega (arith, signed_arith, part.before, on.0), omega (arith, signed_arith, part.after, on.1))
 
-  -- the boundaries run from the effective date to the termination date
-  pub boundaries_run : (b : List ℤ) → Boundaries s span b → RunsFromTo s.effective.day s.termination.day b
+  -- the boundaries run from the first day to the termination date
+  pub boundaries_run : (b : List ℤ) → Boundaries s span b → RunsFromTo (first_day_of s) s.termination.day b
   boundaries_run b l = record {
     rising = l.rising;
-    starts = l.complete (effective_of s) (inl refl);
+    starts = l.complete (first_day_of s) (inl refl);
     ends = l.complete (termination_of s) (inr (inl refl));
     from = λ d m. (boundary_in_term d (l.sound d m)).0;
     to = λ d m. (boundary_in_term d (l.sound d m)).1;
@@ -75,15 +77,15 @@ module _ (s : Stream) (span : Span) (lawful : IsLawfulStream s) (dates : DatesIn
       let within = boundary_in_term s span dates regular kept d (l.sound d m) in
       term_day s lawful d within.0 within.1)
 
-  decides_boundary_of : (d : ℤ) → effective_of s ≤ℤ d → d ≤ℤ termination_of s → IsDecided (IsBoundary s span d)
+  decides_boundary_of : (d : ℤ) → first_day_of s ≤ℤ d → d ≤ℤ termination_of s → IsDecided (IsBoundary s span d)
   decides_boundary_of d low high =
       let is_anchor : IsDay span.anchor = subst IsDay (sym regular.anchored) (anchor_day s lawful) in
-      decides_boundary (OnGrid s.freq s.roll span.anchor) (effective_of s) (termination_of s) span.first span.last d
+      decides_boundary (OnGrid s.freq s.roll span.anchor) (first_day_of s) (termination_of s) span.first span.last d
       (decides_on_grid s.freq s.roll span.anchor d lawful.freq lawful.roll is_anchor (term_day s lawful d low high))
 
   -- there are boundaries
   pub boundaries_there : (b : List ℤ) × Boundaries s span b
   boundaries_there =
-      let found = listed_between (IsBoundary s span) (effective_of s) (termination_of s) decides_boundary_of in
+      let found = listed_between (IsBoundary s span) (first_day_of s) (termination_of s) decides_boundary_of in
       let within = boundary_in_term s span dates regular kept in
-      (found.0, lists_same (λ d. (effective_of s ≤ℤ d) × (d ≤ℤ termination_of s) × IsBoundary s span d) (IsBoundary s span) found.0 (λ d w. w.2) (λ d is. ((within d is).0, (within d is).1, is)) found.1)
+      (found.0, lists_same (λ d. (first_day_of s ≤ℤ d) × (d ≤ℤ termination_of s) × IsBoundary s span d) (IsBoundary s span) found.0 (λ d w. w.2) (λ d is. ((within d is).0, (within d is).1, is)) found.1)

@@ -21,6 +21,8 @@ use Rattle.irs_calendar.specs.Selected.{later, earlier, latest_first, earliest_l
 use Rattle.irs_schedule.specs.DaySets.{adjusts_days, counts_days, days_of_names, fixing_names, fixing_names_of, names_by, names_for, names_with, reset_names}
 use Rattle.irs_schedule.specs.CenterDays.{NamedCenters, centers_named, FoundCenters, CanFind, HasStream, Grows, HasMore, HasMoreOf}
 use Rattle.irs_schedule.specs.TermsKept.{TermsKept}
+use Rattle.irs_schedule.proofs.FirstDays.{first_date_lawful}
+use Rattle.irs_terms.specs.FirstDay.{first_date_of}
 
 -- the range
 
@@ -83,8 +85,10 @@ few_for_reset (Some terms) lawful = few_names (adjusts_days terms.adj.code) term
 
 -- the calendars have the centres of each element of a stream that keeps the terms
 
-pub finds_start : (cal : List Section) (s : Stream) → IsLawfulStream s → TermsKept cal s → CanFind cal (names_by s.effective.adj)
-finds_start cal s lawful kept = (few_names (adjusts_days s.effective.adj.code) s.effective.adj.centers lawful.effective.1, kept.start_found)
+pub finds_start : (cal : List Section) (s : Stream) → IsLawfulStream s → TermsKept cal s → CanFind cal (names_by (first_date_of s).adj)
+finds_start cal s lawful kept =
+    let adj = (first_date_of s).adj in
+    (few_names (adjusts_days adj.code) adj.centers (first_date_lawful s lawful).1, kept.start_found)
 
 pub finds_end : (cal : List Section) (s : Stream) → IsLawfulStream s → TermsKept cal s → CanFind cal (names_by s.termination.adj)
 finds_end cal s lawful kept = (few_names (adjusts_days s.termination.adj.code) s.termination.adj.centers lawful.termination.1, kept.end_found)
@@ -142,7 +146,7 @@ grows_on a b c once again = record { sections = again.sections ∙ once.sections
 -- a table that grows has the streams that it had
 stream_kept : (s : Stream) (old now : FoundCenters) → Grows old now → HasStream old s → HasStream now s
 stream_kept s old now grows has = record {
-  start = grows.kept (names_by s.effective.adj) has.start;
+  start = grows.kept (names_by (first_date_of s).adj) has.start;
   end = grows.kept (names_by s.termination.adj) has.end;
   middle = grows.kept (names_by s.period_adj) has.middle;
   payment = grows.kept (names_with s.pay.offset s.pay.adj) has.payment;
@@ -151,7 +155,7 @@ stream_kept s old now grows has = record {
 }
 
 -- a stream whose six lists were added one after another
-pub all_added : (s : Stream) (t0 t1 t2 t3 t4 t5 t6 : FoundCenters) → HasMore (names_by s.effective.adj) t0 t1 → HasMore (names_by s.termination.adj) t1 t2 → HasMore (names_by s.period_adj) t2 t3
+pub all_added : (s : Stream) (t0 t1 t2 t3 t4 t5 t6 : FoundCenters) → HasMore (names_by (first_date_of s).adj) t0 t1 → HasMore (names_by s.termination.adj) t1 t2 → HasMore (names_by s.period_adj) t2 t3
     → HasMore (names_with s.pay.offset s.pay.adj) t3 t4 → HasMore (reset_names s.reset) t4 t5 → HasMore (fixing_names s.reset) t5 t6 → HasMoreOf s t0 t6
 all_added s t0 t1 t2 t3 t4 t5 t6 start end middle payment reset fixing =
     let from5 = fixing.grows in
@@ -162,7 +166,7 @@ all_added s t0 t1 t2 t3 t4 t5 t6 start end middle payment reset fixing =
     record {
       grows = grows_on t0 t1 t6 start.grows from1;
       added = record {
-        start = from1.kept (names_by s.effective.adj) start.added;
+        start = from1.kept (names_by (first_date_of s).adj) start.added;
         end = from2.kept (names_by s.termination.adj) end.added;
         middle = from3.kept (names_by s.period_adj) middle.added;
         payment = from4.kept (names_with s.pay.offset s.pay.adj) payment.added;

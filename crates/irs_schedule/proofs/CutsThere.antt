@@ -20,6 +20,8 @@ use Rattle.irs_payments.proofs.DateLemmas.{dated_more, none_dated}
 use Rattle.irs_payments.proofs.PlaceLemmas.{place_of}
 use Rattle.irs_schedule.proofs.Decided.{IsDecided, decides_on_grid, decides_same}
 use Rattle.irs_schedule.proofs.FoundDays.{decides_le}
+use Rattle.irs_terms.specs.FirstDay.{first_day_of}
+use Rattle.irs_schedule.proofs.FirstDays.{first_day_is_day}
 
 -- each place of a list of days has a day, those past its end too
 pub day_at_day : (a : List ℤ) (i : ℕ) → AreDays a → IsDay (day_at a i)
@@ -33,7 +35,7 @@ anchor_by_day None true one e given is_one is_e = is_one
 anchor_by_day None false one e given is_one is_e = is_e
 
 pay_anchor_day : (s : Stream) (b : List ℤ) → IsLawfulStream s → AreDays b → IsDay (pay_anchor s b)
-pay_anchor_day s b lawful days = anchor_by_day s.pay.first (same_length s.pay.freq s.freq) (day_at b 1) s.effective.day lawful.pay.first (day_at_day b 1 days) lawful.effective.0
+pay_anchor_day s b lawful days = anchor_by_day s.pay.first (same_length s.pay.freq s.freq) (day_at b 1) (first_day_of s) lawful.pay.first (day_at_day b 1 days) (first_day_is_day s lawful)
 
 -- a day ends a payment period, or it doesn't
 
@@ -65,7 +67,7 @@ decides_ends s anchor d grid = elim (decides_same d s.termination.day) [
 ]
 
 -- the places at which payment periods end
-module _ (s : Stream) (b : List ℤ) (lawful : IsLawfulStream s) (run : RunsFromTo s.effective.day s.termination.day b) (days : AreDays b) where
+module _ (s : Stream) (b : List ℤ) (lawful : IsLawfulStream s) (run : RunsFromTo (first_day_of s) s.termination.day b) (days : AreDays b) where
   decides_ends_at : (i : ℕ) → IsDecided (EndsAt s b i)
   decides_ends_at i =
       decides_ends s (pay_anchor s b) (day_at b i)
@@ -83,7 +85,7 @@ module _ (s : Stream) (b : List ℤ) (lawful : IsLawfulStream s) (run : RunsFrom
 
   pub cuts_there : (cuts : List ℕ) × AreCuts s b (length b) cuts
   cuts_there =
-      let p = place_of s.effective.day b run.starts in
+      let p = place_of (first_day_of s) b run.starts in
       let all : suc (length b - 1) ≡ length b = omega (arith, p.1) in
       let found = cuts_below (length b - 1) (omega (arith, p.1)) in
       (found.0, subst (λ (k : ℕ). AreCuts s b k found.0) all found.1)

@@ -1,6 +1,7 @@
 -- The boundaries of a lawful stream that keeps its terms: they run over the term, they are days, and
 -- payments over them cover its periods.
 use Rattle.std.specs.Prelude.{◌-◌, ◌≤◌, List, length}
+use Rattle.irs_periods.proofs.TermOrder.{begins_before_end}
 use Rattle.irs_base.specs.DayLists.{AreDays}
 use Rattle.irs_terms.specs.Lawful.{IsLawfulStream}
 use Rattle.irs_terms.specs.declared.results.Payment.{Payment}
@@ -17,9 +18,10 @@ use Rattle.irs_schedule.proofs.AdjustedBoundaries.{adjusted_days}
 use Rattle.irs_schedule.proofs.BoundariesThere.{boundaries_days, boundaries_run}
 use Rattle.irs_schedule.proofs.PaymentsCover.{every_payments_cover}
 use Rattle.irs_schedule.proofs.StreamRanges.{AreInRange}
+use Rattle.irs_terms.specs.FirstDay.{first_day_of}
 
 module _ (cal : List Section) (sets : StreamSets) (s : Stream) (lawful : IsLawfulStream s) (terms : TermsKept cal s) (l : Layout) (is : IsLayout sets s l) where
-  pub layout_runs : RunsFromTo s.effective.day s.termination.day l.unadjusted
+  pub layout_runs : RunsFromTo (first_day_of s) s.termination.day l.unadjusted
   layout_runs = boundaries_run s l.span terms.dates is.regular is.kept l.unadjusted is.unadjusted
 
   pub layout_days : AreDays l.unadjusted
@@ -27,10 +29,10 @@ module _ (cal : List Section) (sets : StreamSets) (s : Stream) (lawful : IsLawfu
 
   -- there is one period at least
   pub layout_some : 2 ≤ length l.unadjusted
-  layout_some = two_boundaries s l.span l.unadjusted terms.dates.ends is.unadjusted
+  layout_some = two_boundaries s l.span l.unadjusted (begins_before_end s terms.dates) is.unadjusted
 
   pub layout_covers : (ps : List Payment) → ArePayments s sets.payment l.unadjusted l.adjusted ps → Covers 1 ps (length l.unadjusted - 1)
-  layout_covers ps are = every_payments_cover s sets.payment l.unadjusted l.adjusted lawful terms.dates.ends layout_runs layout_days ps are
+  layout_covers ps are = every_payments_cover s sets.payment l.unadjusted l.adjusted lawful (begins_before_end s terms.dates) layout_runs layout_days ps are
 
   -- where the good days are days in range, so are the adjusted boundaries
   pub layout_adjusted_days : AreInRange sets → AreDays l.adjusted

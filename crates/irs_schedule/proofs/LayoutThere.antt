@@ -1,5 +1,5 @@
 -- A lawful stream that keeps its terms, and breaks no rule of its span and its periods, has a layout.
-use Rattle.std.proofs.Common.{inl, inr, ℕ, ◌+◌, ◌<◌, ◌≤◌, List, length, ℤ, refl}
+use Rattle.std.proofs.Common.{◌≡◌, ◌∙◌, ⊎_elim, arith, inl, inr, ℕ, ◌+◌, ◌<◌, ◌≤◌, List, length, ℤ, refl}
 use Rattle.std.proofs.lemmas.Bool.{cases_lt}
 use Rattle.irs_base.specs.DayLists.{AreDays}
 use Rattle.irs_base.specs.Elements.{calculation_period_dates}
@@ -10,8 +10,9 @@ use Rattle.irs_terms.specs.Lawful.{IsLawfulStream}
 use Rattle.irs_terms.specs.declared.results.Span.{Span}
 use Rattle.irs_terms.specs.declared.stream.Stream.{Stream}
 use Rattle.irs_calendar.specs.declared.sections.Section.{Section}
-use Rattle.irs_periods.specs.Adjusting.{AdjustedBroken, AdjustedList, NoResult, NotAfter, boundary_element, boundary_index, last_of, rank}
-use Rattle.irs_periods.specs.Boundaries.{Boundaries, most_periods, too_many_periods}
+use Rattle.irs_periods.specs.Adjusting.{AdjustedBroken, AdjustedList, NoResult, NotAfter, boundary_element, boundary_index, last_of}
+use Rattle.irs_periods.specs.Boundaries.{Boundaries, too_many_periods}
+use Rattle.irs_base.specs.Limits.{most_periods}
 use Rattle.irs_periods.specs.SpanRules.{SpanBroken, SpanKept, broken_at}
 use Rattle.irs_periods.specs.Spans.{Regular}
 use Rattle.irs_periods.proofs.AdjustedLemmas.{rising_of}
@@ -37,10 +38,25 @@ module _ (sets : StreamSets) (s : Stream) (span : Span) (b : List ℤ) (listed :
   adjusting_kept : (x : Broken) → AdjustedBroken s sets.boundaries b x → ⊥
   adjusting_kept x broken = kept x (inr (b, listed, few_boundaries, broken))
 
+  -- a boundary of this element without an adjusted day
+  abbrev MissesAt : ℕ → ℕ → Type 0
+  MissesAt elem k = NoResult s sets.boundaries b k × (boundary_element s (last_of b) k ≡ elem)
+
   -- each has its adjusted day
   none_misses : (i : ℕ) → NoResult s sets.boundaries b i → ⊥
-  none_misses = none_by_rank (rank (last_of b)) (NoResult s sets.boundaries b) (λ i misses before.
-      adjusting_kept (broken_at K33 (boundary_element (last_of b) i) (boundary_index (last_of b) i)) (inl (record { number = i; first = record { holds = misses; none_before = before }; is = refl })))
+  none_misses = none_by_rank (boundary_element s (last_of b)) (NoResult s sets.boundaries b) (λ i misses lower_element.
+      none_by_rank (boundary_index (last_of b)) (MissesAt (boundary_element s (last_of b) i)) (λ k at lower_index.
+      adjusting_kept (broken_at K33 (boundary_element s (last_of b) k) (boundary_index (last_of b) k)) (inl (record {
+        number = k;
+        first = record {
+          holds = at.0;
+          none_before = λ j named other. ⊎_elim
+              (λ below. lower_element j (omega (arith, below, at.1)) other)
+              (λ same. lower_index j same.1 (other, same.0 ∙ at.1))
+              named;
+        };
+        is = refl;
+      }))) i (misses, refl))
 
   -- the adjusted days rise
   adjusted_rises : (a : List ℤ) → AdjustedList s sets.boundaries b a → IsRising a

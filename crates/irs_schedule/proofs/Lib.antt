@@ -1,3 +1,4 @@
+pub mod FirstDays
 pub mod RateLemmas
 pub mod PeriodLemmas
 pub mod PartLemmas

@@ -1,6 +1,5 @@
 -- A swap has at most one first broken rule of its dates and amounts.
 use Rattle.std.proofs.Common.{◌≡◌, ℕ, zero, suc, ◌+◌, ◌<◌, ◌⊎◌, inl, inr, List, length, Option, Some, None, slice_get, refl, sym, ap, subst, ◌∙◌, arith, ℤ}
-use Rattle.std.proofs.lemmas.Bool.Decides.{nat_tests}
 use Rattle.std.proofs.lemmas.Option.{same_Some}
 use Rattle.irs_base.specs.declared.places.Broken.{Broken}
 use Rattle.irs_base.specs.declared.places.Rule.{Rule}
@@ -19,7 +18,7 @@ use Rattle.irs_calendar.specs.GoodDays.{DaySet}
 use Rattle.irs_periods.proofs.AdjustedLemmas.{one_adjusted}
 use Rattle.irs_periods.proofs.Assembled.{one_list}
 use Rattle.irs_periods.proofs.OneSpan.{one_span}
-use Rattle.irs_periods.specs.Adjusting.{AdjustedBroken, BoundaryDays, DoesNotRise, FirstNotAfter, MissesResult, boundary_element, boundary_index, last_of, rank}
+use Rattle.irs_periods.specs.Adjusting.{AdjustedBroken, BoundaryDays, DoesNotRise, FirstNotAfter, MissesResult, NamedBefore, boundary_element, boundary_index, last_of}
 use Rattle.irs_periods.specs.Boundaries.{Boundaries, IsBoundary}
 use Rattle.irs_periods.specs.SpanRules.{SpanBroken, broken_at}
 use Rattle.irs_payments.proofs.PaymentLemmas.{one_payments}
@@ -155,17 +154,17 @@ one_span_rule s x y (inl h) (inr k) = absurd (k.0 h.0)
 one_span_rule s x y (inr h) (inl k) = absurd (h.0 k.0)
 one_span_rule s x y (inr h) (inr k) = h.2 ∙ sym k.2
 
--- boundaries of one rank are named alike
-same_rank : (last i j : ℕ) → rank last i ≡ rank last j → i ≡ j
-same_rank last i j e = grind (arith, nat_tests)
-
--- and so have adjusted boundaries
+-- where neither boundary is named before the other they are named alike
 one_missing : (s : Stream) (sets : BoundaryDays) (b : List ℤ) (x y : Broken) → MissesResult s sets b x → MissesResult s sets b y → x ≡ y
 one_missing s sets b x y h k =
-    let ranks : rank (last_of b) h.number ≡ rank (last_of b) k.number = tied (rank (last_of b) h.number) (rank (last_of b) k.number)
-    (λ below. k.first.none_before h.number below h.first.holds) (λ above. h.first.none_before k.number above k.first.holds) in
-    let numbers : h.number ≡ k.number = same_rank (last_of b) h.number k.number ranks in
-    h.is ∙ ap (λ (n : ℕ). broken_at K33 (boundary_element (last_of b) n) (boundary_index (last_of b) n)) numbers ∙ sym k.is
+    let last = last_of b in
+    let i = h.number in
+    let j = k.number in
+    let before : NamedBefore s last i j → ⊥ = λ named. k.first.none_before i named h.first.holds in
+    let after : NamedBefore s last j i → ⊥ = λ named. h.first.none_before j named k.first.holds in
+    let elems : boundary_element s last i ≡ boundary_element s last j = tied (boundary_element s last i) (boundary_element s last j) (λ below. before (inl below)) (λ above. after (inl above)) in
+    let indices : boundary_index last i ≡ boundary_index last j = tied (boundary_index last i) (boundary_index last j) (λ below. before (inr (elems, below))) (λ above. after (inr (sym elems, above))) in
+    h.is ∙ (λ n. broken_at K33 (elems n) (indices n)) ∙ sym k.is
 
 all_there : (s : Stream) (sets : BoundaryDays) (b : List ℤ) (x y : Broken) → MissesResult s sets b x → DoesNotRise s sets b y → ⊥
 all_there s sets b x y h k = h.first.holds.none _ (k.adjusted.each h.number h.first.holds.within)

@@ -1,5 +1,5 @@
 -- What a part keeps.
-use Rattle.std.proofs.Common.{◌≡◌, ℕ, ◌-◌, ◌≤◌, length, arith, IfSome, subst, sym, if◌then◌else◌}
+use Rattle.std.proofs.Common.{◌+◌, ◌≡◌, ℕ, ◌-◌, ◌≤◌, length, arith, IfSome, subst, sym, if◌then◌else◌}
 use Rattle.irs_base.specs.DayLists.{AreDays}
 use Rattle.irs_terms.specs.declared.results.Exchange.{Exchange}
 use Rattle.irs_terms.specs.declared.results.Reset.{Reset}
@@ -10,10 +10,11 @@ use Rattle.irs_schedule.specs.Keeping.{IsKept}
 use Rattle.irs_schedule.specs.Parts.{Rises, Covers, Every, HasAmount, IsAmount}
 use Rattle.irs_schedule.specs.Views.{part_of}
 use Rattle.irs_schedule.proofs.PeriodLemmas.{length_periods, entries_within}
+use Rattle.irs_base.specs.Limits.{most_exchanges, most_periods}
 
 -- what a part keeps, from what its fields are
-pub kept : (s : Inside) → IsLawfulValues IsNotional s.terms.notional → IsLawfulLeg s.terms.leg → 2 ≤ length s.unadjusted → length s.unadjusted ≤ 4001 → length s.adjusted ≡ length s.unadjusted → Rises s.unadjusted → Rises s.adjusted
-    → length s.exchanges ≤ 4002 → Every (λ (x : Exchange). IsAmount s.terms.currency x.amount) s.exchanges → Covers 1 s.payments.items (length s.unadjusted - 1) → Every (HasAmount s.terms.currency) s.payments.items
+pub kept : (s : Inside) → IsLawfulValues IsNotional s.terms.notional → IsLawfulLeg s.terms.leg → 2 ≤ length s.unadjusted → length s.unadjusted ≤ most_periods + 1 → length s.adjusted ≡ length s.unadjusted → Rises s.unadjusted → Rises s.adjusted
+    → length s.exchanges ≤ most_exchanges → Every (λ (x : Exchange). IsAmount s.terms.currency x.amount) s.exchanges → Covers 1 s.payments.items (length s.unadjusted - 1) → Every (HasAmount s.terms.currency) s.payments.items
     → length s.resets ≡ (if is_floating s.terms.leg then length s.unadjusted - 1 else 0) → Every (λ (r : Reset). IfSome r.observed IsRate) s.resets → AreDays s.adjusted → IsKept s
 kept s notional leg some few same rises adjusted_rises exchanges exchanged covers paid resets observed days =
     let count : length (part_of s).periods ≡ length s.unadjusted - 1 = rw (← same) (length_periods s.terms s.unadjusted s.adjusted s.resets) in

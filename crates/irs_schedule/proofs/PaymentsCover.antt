@@ -17,6 +17,7 @@ use Rattle.irs_payments.proofs.CutLemmas.{cut_places, length-pay, one_pay, pay_a
 use Rattle.irs_payments.proofs.PaymentLemmas.{cuts_places, one_payments, payments_are, payments_cover, place_low, some_cuts}
 use Rattle.irs_payments.proofs.PlaceLemmas.{place_same}
 use Rattle.irs_schedule.proofs.CutsThere.{cuts_there, paid_there}
+use Rattle.irs_terms.specs.FirstDay.{first_day_of}
 
 -- the member with that number
 numbered_at : {X : Type 0} (P : ℕ → X → Type 0) (n : ℕ) (xs : List X) (j : ℕ) → n ≤ j → j < n + length xs → EachNumbered P n xs → (x : X) × P j x
@@ -27,8 +28,8 @@ numbered_at P n (x ∷ xs) j low high h = elim (cases_lt n j) [
 ]
 
 -- each payment has a date from the start at its place
-module _ (s : Stream) (set : DaySet) (b a : List ℤ) (run : RunsFromTo s.effective.day s.termination.day b) (later : List ℕ) (rising : IsRising (days_at b later)) (sound : EachPlace (IsCut s b (length b)) later) (complete : (place : ℕ) → 1 ≤ place → place < length b → EndsAt s b place → Member (day_at b place) (days_at b later)) (ps : List Payment) (are : ArePayments s set b a ps) where
-  same_pay : are.pay ≡ s.effective.day ∷ days_at b later
+module _ (s : Stream) (set : DaySet) (b a : List ℤ) (run : RunsFromTo (first_day_of s) s.termination.day b) (later : List ℕ) (rising : IsRising (days_at b later)) (sound : EachPlace (IsCut s b (length b)) later) (complete : (place : ℕ) → 1 ≤ place → place < length b → EndsAt s b place → Member (day_at b place) (days_at b later)) (ps : List Payment) (are : ArePayments s set b a ps) where
+  same_pay : are.pay ≡ (first_day_of s) ∷ days_at b later
   same_pay = one_pay s b run later rising sound complete are.pay are.listed
 
   payment_of : (j : ℕ) → 1 ≤ j → j < length (0 ∷ later) → (p : Payment) × IsPayment s set b a are.pay j p
@@ -46,7 +47,7 @@ module _ (s : Stream) (set : DaySet) (b a : List ℤ) (run : RunsFromTo s.effect
       (p.0.adjusted, subst (λ (z : ℤ). IsPaymentDate s.pay set z p.0.adjusted) start p.1.date)
 
 -- the payments of a stream cover its periods from the first to the last
-pub every_payments_cover : (s : Stream) (set : DaySet) (b a : List ℤ) → IsLawfulStream s → s.effective.day <ℤ s.termination.day → RunsFromTo s.effective.day s.termination.day b → AreDays b → (ps : List Payment) → ArePayments s set b a ps → Covers 1 ps (length b - 1)
+pub every_payments_cover : (s : Stream) (set : DaySet) (b a : List ℤ) → IsLawfulStream s → (first_day_of s) <ℤ s.termination.day → RunsFromTo (first_day_of s) s.termination.day b → AreDays b → (ps : List Payment) → ArePayments s set b a ps → Covers 1 ps (length b - 1)
 every_payments_cover s set b a lawful term run days ps are =
     let cuts = cuts_there s b lawful run days in
     let h = cuts.1 in

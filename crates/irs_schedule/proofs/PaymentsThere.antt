@@ -23,9 +23,10 @@ use Rattle.irs_payments.proofs.PaymentLemmas.{cuts_places, payments_are, payment
 use Rattle.irs_schedule.proofs.FoundDays.{InRange, decides_adjusts}
 use Rattle.irs_schedule.proofs.MovedDays.{decides_moves, moves_day}
 use Rattle.irs_schedule.proofs.CutsThere.{cuts_there, day_at_day, paid_there}
+use Rattle.irs_terms.specs.FirstDay.{first_day_of}
 
 -- no payment lacks a result or leaves the range, since the first that did would break a rule
-module _ (s : Stream) (set : DaySet) (b a : List ℤ) (cuts : List ℕ) (run : RunsFromTo s.effective.day s.termination.day b) (are : AreCuts s b (length b) cuts) (kept : (x : Broken) → BreaksPayments s set b a x → ⊥) where
+module _ (s : Stream) (set : DaySet) (b a : List ℤ) (cuts : List ℕ) (run : RunsFromTo (first_day_of s) s.termination.day b) (are : AreCuts s b (length b) cuts) (kept : (x : Broken) → BreaksPayments s set b a x → ⊥) where
   none_lacks : (n : ℕ) → n ≤ length cuts → NoneLacks s set a cuts n
   none_lacks zero h j low high lacks = omega (arith, high)
   none_lacks (suc n) h j low high lacks =
@@ -72,7 +73,7 @@ date_there pay set start day range said lacks leaves = elim (decides_moves pay.o
 ]
 
 -- a stream whose payments break no rule has payments
-pub payments_there : (s : Stream) (set : DaySet) (b a : List ℤ) → IsLawfulStream s → IsSaid s.pay → RunsFromTo s.effective.day s.termination.day b → AreDays b → AreDays a → InRange set → ((x : Broken) → BreaksPayments s set b a x → ⊥) → (ps : List Payment) × ArePayments s set b a ps
+pub payments_there : (s : Stream) (set : DaySet) (b a : List ℤ) → IsLawfulStream s → IsSaid s.pay → RunsFromTo (first_day_of s) s.termination.day b → AreDays b → AreDays a → InRange set → ((x : Broken) → BreaksPayments s set b a x → ⊥) → (ps : List Payment) × ArePayments s set b a ps
 payments_there s set b a lawful said run days adjusted_days range kept =
     let cuts = cuts_there s b lawful run days in
     let lacks = none_lacks s set b a cuts.0 run cuts.1 kept (length cuts.0) (omega arith) in

@@ -17,6 +17,7 @@ use Rattle.irs_schedule.specs.Parts.{Rises, RisesFrom, Every, IsEntry, day_at}
 use Rattle.irs_schedule.specs.Periods.{count_of, start_of, observed_of, period_by, periods_by}
 use Rattle.irs_schedule.specs.RowsOf.{no_period}
 use Rattle.irs_schedule.proofs.RateLemmas.{value_within, rate_size}
+use Rattle.irs_base.specs.Limits.{most_numerator}
 
 -- periods are one fewer than boundaries
 pub length_periods : (terms : KeptTerms) (unadjusted adjusted : List ℤ) (resets : List Reset) → length (periods_by terms unadjusted adjusted resets) ≡ count_of adjusted
@@ -63,7 +64,7 @@ observed_small (r ∷ rs) zero h = h.0
 observed_small (r ∷ rs) (suc j) h = observed_small rs j h.1
 
 -- numerators of fractions
-numerator_small : (code : DayCountCode) (a b : ℤ) (last : Bool) → IsDay a → IsDay b → a <ℤ b → (pos 0 ≤ℤ (fraction_of code a b last).num) × ((fraction_of code a b last).num ≤ℤ pos 40_000_000)
+numerator_small : (code : DayCountCode) (a b : ℤ) (last : Bool) → IsDay a → IsDay b → a <ℤ b → (pos 0 ≤ℤ (fraction_of code a b last).num) × ((fraction_of code a b last).num ≤ℤ pos most_numerator)
 numerator_small code a b last h k order =
     let n = (fraction_of code a b last).num in
     let bounded = fraction_bounded code a b last (fraction_of code a b last) h k order (fraction_is code a b last order) in

@@ -14,12 +14,15 @@ use Rattle.irs_roll.specs.Rolls.{Fits, IsTerm, OnGrid}
 use Rattle.irs_periods.specs.Nearest.{FirstFrom, LastUpTo, LongFirst, LongLast}
 use Rattle.irs_periods.specs.SpanRules.{RollMisfits, SpanBroken, SpanKept, broken_at, anchor_element, last_element}
 use Rattle.irs_periods.specs.Spans.{GivenSpan, Regular, SpanBy, StubSpan, anchor_of, given_anchor, stub_anchor}
-use Rattle.irs_periods.specs.Terms.{DatesInOrder, effective_of, termination_of, given_or}
+use Rattle.irs_periods.specs.Terms.{DatesInOrder, termination_of, given_or}
 use Rattle.irs_periods.proofs.RegularPart.{timed_unit}
 use Rattle.irs_periods.proofs.SpanOrder.{given_in_term}
 use Rattle.irs_schedule.proofs.Anchors.{anchor_day, decides_fits, decides_term, own_grid}
 use Rattle.irs_schedule.proofs.Decided.{IsDecided, decides_on_grid, decides_same}
 use Rattle.irs_schedule.proofs.Ranges.{first_between, last_between, after_between, before_between}
+use Rattle.irs_terms.specs.FirstDay.{first_day_of}
+use Rattle.irs_schedule.proofs.FirstDays.{first_day_is_day}
+use Rattle.irs_periods.proofs.TermOrder.{begins_before_end}
 
 -- a span of the term from e to t on a grid that is decided there and has the anchor
 module _ (on : ℤ → Type 0) (e t : ℤ) (ends : e <ℤ t) (decides : (d : ℤ) → e ≤ℤ d → d ≤ℤ t → IsDecided (on d)) where
@@ -70,30 +73,30 @@ module _ (on : ℤ → Type 0) (e t : ℤ) (ends : e <ℤ t) (decides : (d : ℤ
   given_there (Some f) l stub is = (f, given_or l t, (refl, refl))
 
 -- a day between the ends of the term is a day
-pub term_day : (s : Stream) → IsLawfulStream s → (d : ℤ) → effective_of s ≤ℤ d → d ≤ℤ termination_of s → IsDay d
-term_day s lawful d low high = (omega (arith, signed_arith, low, lawful.effective.0), omega (arith, signed_arith, high, lawful.termination.0))
+pub term_day : (s : Stream) → IsLawfulStream s → (d : ℤ) → first_day_of s ≤ℤ d → d ≤ℤ termination_of s → IsDay d
+term_day s lawful d low high = (omega (arith, signed_arith, low, (first_day_is_day s lawful)), omega (arith, signed_arith, high, lawful.termination.0))
 
 -- the span lies in the term
 pub record LiesInTerm (s : Stream) (span : Span) : Type 0 where
-  pub before : effective_of s ≤ℤ span.first
+  pub before : first_day_of s ≤ℤ span.first
   pub order : span.first ≤ℤ span.last
   pub after : span.last ≤ℤ termination_of s
 
 whole_term : (s : Stream) (span : Span) → DatesInOrder s → IsTerm s.freq → Regular s span → LiesInTerm s span
 whole_term s span dates term regular =
-    let spans : (span.first ≡ effective_of s) × (span.last ≡ termination_of s) = rw term at regular.spans in
+    let spans : (span.first ≡ first_day_of s) × (span.last ≡ termination_of s) = rw term at regular.spans in
     record {
       before = omega (arith, signed_arith, spans.0);
-      order = omega (arith, signed_arith, spans.0, spans.1, dates.ends);
+      order = omega (arith, signed_arith, spans.0, spans.1, begins_before_end s dates);
       after = omega (arith, signed_arith, spans.1);
     }
 
 part_of_term : (s : Stream) (span : Span) → DatesInOrder s → (IsTerm s.freq → ⊥) → OnGrid s.freq s.roll span.anchor span.anchor → Regular s span → LiesInTerm s span
 part_of_term s span dates timed own regular =
     let unit = timed_unit s.freq.unit timed in
-    let spans : GivenSpan s.first_regular s.last_regular s.stub (OnGrid s.freq s.roll span.anchor) (effective_of s) (termination_of s) span.first span.last = rw unit at regular.spans in
-    let anchored : span.anchor ≡ given_anchor s.first_regular s.last_regular s.stub (effective_of s) (termination_of s) = rw unit at regular.anchored in
-    let part = given_in_term (OnGrid s.freq s.roll span.anchor) (effective_of s) (termination_of s) dates.ends s.first_regular s.last_regular s.stub span.first span.last dates.first dates.last (subst (λ (d : ℤ). OnGrid s.freq s.roll span.anchor d) anchored own) spans in
+    let spans : GivenSpan s.first_regular s.last_regular s.stub (OnGrid s.freq s.roll span.anchor) (first_day_of s) (termination_of s) span.first span.last = rw unit at regular.spans in
+    let anchored : span.anchor ≡ given_anchor s.first_regular s.last_regular s.stub (first_day_of s) (termination_of s) = rw unit at regular.anchored in
+    let part = given_in_term (OnGrid s.freq s.roll span.anchor) (first_day_of s) (termination_of s) (begins_before_end s dates) s.first_regular s.last_regular s.stub span.first span.last dates.first dates.last (subst (λ (d : ℤ). OnGrid s.freq s.roll span.anchor d) anchored own) spans in
     record { before = part.before; order = part.order; after = part.after }
 
 pub lies_in_term : (s : Stream) (span : Span) → DatesInOrder s → Regular s span → ((IsTerm s.freq → ⊥) → Fits s.roll s.freq span.anchor) → LiesInTerm s span
@@ -115,22 +118,22 @@ module _ (s : Stream) (lawful : IsLawfulStream s) (dates : DatesInOrder s) where
   timed_span kept timed =
       let unit = timed_unit s.freq.unit timed in
       let a : ℤ = anchor_of s in
-      let same : a ≡ given_anchor s.first_regular s.last_regular s.stub (effective_of s) (termination_of s) = rw unit refl in
+      let same : a ≡ given_anchor s.first_regular s.last_regular s.stub (first_day_of s) (termination_of s) = rw unit refl in
       let own = own_grid s.freq s.roll a timed (anchor_fits s lawful kept timed) in
-      let found = given_there (OnGrid s.freq s.roll a) (effective_of s) (termination_of s) dates.ends
+      let found = given_there (OnGrid s.freq s.roll a) (first_day_of s) (termination_of s) (begins_before_end s dates)
       (λ d low high. decides_on_grid s.freq s.roll a d lawful.freq lawful.roll (anchor_day s lawful) (term_day s lawful d low high))
       s.first_regular s.last_regular s.stub (subst (λ (d : ℤ). OnGrid s.freq s.roll a d) same own) in (
         record { first = found.0; last = found.1; anchor = a },
         record {
           anchored = refl;
-          spans = subst (λ (term : Bool). SpanBy term s.first_regular s.last_regular s.stub (OnGrid s.freq s.roll a) (effective_of s) (termination_of s) found.0 found.1) (sym unit) found.2;
+          spans = subst (λ (term : Bool). SpanBy term s.first_regular s.last_regular s.stub (OnGrid s.freq s.roll a) (first_day_of s) (termination_of s) found.0 found.1) (sym unit) found.2;
         },
       )
 
   -- a stream whose roll fits its anchor has a regular span
   pub span_there : (RollMisfits s → ⊥) → (span : Span) × Regular s span
   span_there kept = elim (decides_term s.freq.unit) [
-    | inl term ↦ (record { first = effective_of s; last = termination_of s; anchor = anchor_of s }, record { anchored = refl; spans = rw term (refl, refl) })
+    | inl term ↦ (record { first = first_day_of s; last = termination_of s; anchor = anchor_of s }, record { anchored = refl; spans = rw term (refl, refl) })
     | inr timed ↦ timed_span kept timed
   ]
 

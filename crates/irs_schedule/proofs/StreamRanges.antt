@@ -5,6 +5,7 @@ use Rattle.irs_calendar.specs.declared.sections.Section.{Section}
 use Rattle.irs_schedule.specs.DaySets.{StreamSets, fixing_names, names_by, names_with, reset_names, stream_sets}
 use Rattle.irs_schedule.proofs.CenterLemmas.{days_in_range}
 use Rattle.irs_schedule.proofs.FoundDays.{InRange}
+use Rattle.irs_terms.specs.FirstDay.{first_date_of}
 
 -- every good day of each kind of date is a day in range
 pub record AreInRange (sets : StreamSets) : Type 0 where
@@ -18,7 +19,7 @@ pub record AreInRange (sets : StreamSets) : Type 0 where
 -- those of the centres that the stream's elements name are
 pub sets_in_range : (cal : List Section) (s : Stream) → AreInRange (stream_sets cal s)
 sets_in_range cal s = record {
-  start = days_in_range cal (names_by s.effective.adj);
+  start = days_in_range cal (names_by (first_date_of s).adj);
   end = days_in_range cal (names_by s.termination.adj);
   middle = days_in_range cal (names_by s.period_adj);
   payment = days_in_range cal (names_with s.pay.offset s.pay.adj);

@@ -17,6 +17,8 @@ use Rattle.irs_terms.specs.declared.frequency.Unit.{Unit as FrequencyUnit}
 use Rattle.irs_terms.specs.declared.frequency.Unit.TheVariants.{D, W, M, Y, T}
 use Rattle.irs_terms.specs.declared.adjustments.Offset.{Offset}
 use Rattle.irs_terms.specs.declared.adjustments.Adjustments.{Adjustments}
+use Rattle.irs_terms.specs.declared.adjustments.Dated.{Dated}
+use Rattle.irs_terms.specs.FirstDay.{first_day_of}
 use Rattle.irs_terms.specs.declared.adjustments.Centers.{Centers}
 use Rattle.irs_terms.specs.declared.adjustments.Centers.TheVariants.{Absent, Listed, Dangling}
 use Rattle.irs_terms.specs.declared.amounts.Leg.{Leg}
@@ -37,14 +39,14 @@ use Rattle.irs_resets.specs.Resets.{FitsLeg}
 use Rattle.irs_roll.specs.Rolls.{RollsMonths, RollsWeeks, SuitsBy}
 use Rattle.irs_rules.specs.declared.spot.Spot.{Spot}
 use Rattle.irs_rules.specs.Spots.{At, AtItem}
-use Rattle.irs_rules.specs.Centers.{IsUnknown, IsUnlisted, NeedsDays, NeedsDaysWith, UnknownInFixing, UnknownInResets}
+use Rattle.irs_rules.specs.Centers.{IsUnknown, IsUnknownIn, IsUnlisted, NeedsDays, NeedsDaysWith, UnknownInFirstStart, UnknownInFixing, UnknownInResets}
 use Rattle.irs_rules.specs.DateOrder.{BreaksK13, IsOutside, regular_start}
 use Rattle.irs_rules.specs.Frequencies.{BreaksK14, MisfitsBy, RollsNoMonth, RollsNoWeek}
 use Rattle.irs_rules.specs.DayTypes.{LacksDayType}
 use Rattle.irs_rules.specs.StepDates.{IsLegStepOut, IsStepDayOut, IsStepOut}
 use Rattle.irs_rules.specs.Legs.{HasWrongResets, IsFixed}
 use Rattle.irs_rules.specs.TermsRules.{BreaksRule, BreaksTerms}
-use Rattle.irs_schedule.specs.DaySets.{adjusts_days, counts_days, fixing_names, fixing_names_of, is_business, names_for, reset_names}
+use Rattle.irs_schedule.specs.DaySets.{adjusts_days, counts_days, fixing_names, fixing_names_of, is_business, names_by, names_for, reset_names}
 use Rattle.irs_schedule.specs.TermsKept.{AreFound, LegStepsRise, TermsKept}
 
 -- what breaks the rule at an element isn't there
@@ -71,14 +73,20 @@ same_default : (day : Option ℤ) (d : ℤ) → unwrap_or day d ≡ given_or day
 same_default None d = refl
 same_default (Some given) d = refl
 
+starts_before : (start : Option Dated) (effective : ℤ) → (IsSomeAnd start (λ date. effective ≤ℤ date.day) → ⊥) → IfSome start (λ date. date.day <ℤ effective)
+starts_before None effective never = tt
+starts_before (Some date) effective never = is_after date.day effective never
+
 dates_in_order : (s : Stream) → ((at : Spot) → BreaksK13 s at → ⊥) → DatesInOrder s
 dates_in_order s never = record {
   ends = is_after s.effective.day s.termination.day (not_there elements.termination_date (s.termination.day ≤ℤ s.effective.day) (λ at h. never at (inl h)));
-  first = is_inside s.effective.day s.termination.day s.first_regular
-      (not_there elements.first_regular_period_start_date (IsSomeAnd s.first_regular (IsOutside s.effective.day s.termination.day)) (λ at h. never at (inr (inl h))));
-  last = subst (λ (start : ℤ). IfSome s.last_regular (λ l. (start ≤ℤ l) × (l ≤ℤ s.termination.day))) (same_default s.first_regular s.effective.day)
+  starts = starts_before s.first_start s.effective.day
+      (not_there elements.first_period_start_date (IsSomeAnd s.first_start (λ date. s.effective.day ≤ℤ date.day)) (λ at h. never at (inr (inl h))));
+  first = is_inside (first_day_of s) s.termination.day s.first_regular
+      (not_there elements.first_regular_period_start_date (IsSomeAnd s.first_regular (IsOutside (first_day_of s) s.termination.day)) (λ at h. never at (inr (inr (inl h)))));
+  last = subst (λ (start : ℤ). IfSome s.last_regular (λ l. (start ≤ℤ l) × (l ≤ℤ s.termination.day))) (same_default s.first_regular (first_day_of s))
       (is_inside (regular_start s) s.termination.day s.last_regular
-      (not_there elements.last_regular_period_end_date (IsSomeAnd s.last_regular (IsOutside (regular_start s) s.termination.day)) (λ at h. never at (inr (inr h)))));
+      (not_there elements.last_regular_period_end_date (IsSomeAnd s.last_regular (IsOutside (regular_start s) s.termination.day)) (λ at h. never at (inr (inr (inr h))))));
 }
 
 -- K14
@@ -228,6 +236,12 @@ found_with : (elem : ℕ) (cal : List Section) (offset : Offset) (adj : Adjustme
     → AreFound cal (names_for (adjusts_days adj.code || counts_days offset) adj.centers)
 found_with elem cal offset adj never = are_found (NeedsDaysWith offset adj) cal (adjusts_days adj.code || counts_days offset) adj.centers (needs_days_with offset adj) (no_item elem (λ i. NeedsDaysWith offset adj × IsUnknown cal adj.centers i) never)
 
+-- the first boundary's adjustments are those of firstPeriodStartDate, else of the effective date
+found_at_first : (cal : List Section) (start : Option Dated) (effective : Dated) → ((at : Spot) → IsSomeAnd start (λ date. UnknownInFirstStart cal date at) → ⊥)
+    → ((at : Spot) → AtItem elements.effective_date_adjustments (IsUnknownIn cal effective.adj) at → ⊥) → AreFound cal (names_by (unwrap_or start effective).adj)
+found_at_first cal None effective never_first never = found_by elements.effective_date_adjustments cal effective.adj never
+found_at_first cal (Some date) effective never_first never = found_by elements.first_period_start_adjustments cal date.adj never_first
+
 found_in_fixing : (cal : List Section) (fixing : Option FixTerms) → ((at : Spot) → IsSomeAnd fixing (λ f. UnknownInFixing cal f at) → ⊥) → AreFound cal (fixing_names_of fixing)
 found_in_fixing cal None never = tt
 found_in_fixing cal (Some fix) never = found_with elements.fixing_dates cal fix.offset fix.adj never
@@ -245,7 +259,7 @@ found_for_reset cal (Some terms) never = found_by elements.reset_dates_adjustmen
 -- a stream that breaks no rule of the terms
 stream_keeps : (cal : List Section) (s : Stream) → IsLawfulStream s → ((rule : Rule) (at : Spot) → BreaksRule cal s rule at → ⊥) → TermsKept cal s
 stream_keeps cal s lawful never =
-    let resets : (at : Spot) → IsSomeAnd s.reset (λ r. UnknownInResets cal r at) → ⊥ = λ at h. never K12 at (inr (inr (inr (inr h)))) in
+    let resets : (at : Spot) → IsSomeAnd s.reset (λ r. UnknownInResets cal r at) → ⊥ = λ at h. never K12 at (inr (inr (inr (inr (inr h))))) in
     record {
       dates = dates_in_order s (never K13);
       frequency = frequency_suits s lawful (never K14);
@@ -256,10 +270,10 @@ stream_keeps cal s lawful never =
           (not_there elements.stub_amount (IsFixed s.leg × IsSome s.stubs) (λ at h. never K19 at (inr h)));
       notional_rises = steps_rise elements.notional_step_date s.effective.day s.termination.day s.notional.steps (λ at h. never K18 at (inl h));
       leg_rises = leg_steps_rise s.effective.day s.termination.day s.leg (λ at h. never K18 at (inr h));
-      start_found = found_by elements.effective_date_adjustments cal s.effective.adj (λ at h. never K12 at (inl h));
+      start_found = found_at_first cal s.first_start s.effective (λ at h. never K12 at (inr (inr (inr (inl h))))) (λ at h. never K12 at (inl h));
       end_found = found_by elements.termination_date_adjustments cal s.termination.adj (λ at h. never K12 at (inr (inl h)));
       middle_found = found_by elements.period_dates_adjustments cal s.period_adj (λ at h. never K12 at (inr (inr (inl h))));
-      payment_found = found_with elements.payment_dates_adjustments cal s.pay.offset s.pay.adj (λ at h. never K12 at (inr (inr (inr (inl h)))));
+      payment_found = found_with elements.payment_dates_adjustments cal s.pay.offset s.pay.adj (λ at h. never K12 at (inr (inr (inr (inr (inl h))))));
       reset_found = found_for_reset cal s.reset resets;
       fixing_found = found_for_fixing cal s.reset resets;
     }

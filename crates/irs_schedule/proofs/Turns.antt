@@ -12,7 +12,8 @@ use Rattle.irs_periods.proofs.Assembled.{one_list}
 use Rattle.irs_periods.proofs.AdjustedLemmas.{one_adjusted}
 use Rattle.irs_periods.specs.Spans.{Regular}
 use Rattle.irs_periods.specs.SpanRules.{SpanKept}
-use Rattle.irs_periods.specs.Boundaries.{Boundaries, IsBoundary, most_periods}
+use Rattle.irs_periods.specs.Boundaries.{Boundaries, IsBoundary}
+use Rattle.irs_base.specs.Limits.{most_periods}
 use Rattle.irs_periods.specs.Adjusting.{AdjustedBroken, NotAfter, day_at}
 use Rattle.irs_payments.specs.Faults.{IsFirst}
 use Rattle.irs_payments.specs.Payments.{ArePayments, BreaksPayments}

@@ -7,6 +7,7 @@ use Rattle.irs_calendar.specs.declared.sections.Section.{Section}
 use Rattle.irs_calendar.specs.GoodDays.{DaySet}
 use Rattle.irs_schedule.specs.DaySets.{days_of_names, names_by, names_with, reset_names, fixing_names}
 use Rattle.irs_schedule.specs.TermsKept.{AreFound}
+use Rattle.irs_terms.specs.FirstDay.{first_date_of}
 
 -- the names of the centres of an element, or none where it needs no days, and the calendars
 pub record NamedCenters : Type 0 where
@@ -28,7 +29,7 @@ pub record FoundCenters : Type 0 where
 
 -- the names of each element of the stream are among the lists
 pub record HasStream (table : FoundCenters) (s : Stream) : Type 0 where
-  pub start : Contains table.lists (names_by s.effective.adj)
+  pub start : Contains table.lists (names_by (first_date_of s).adj)
   pub end : Contains table.lists (names_by s.termination.adj)
   pub middle : Contains table.lists (names_by s.period_adj)
   pub payment : Contains table.lists (names_with s.pay.offset s.pay.adj)

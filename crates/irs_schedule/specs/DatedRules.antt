@@ -11,7 +11,8 @@ use Rattle.irs_terms.specs.declared.stream_list.Swap.{Swap}
 use Rattle.irs_calendar.specs.declared.sections.Section.{Section}
 use Rattle.irs_periods.specs.Spans.{Regular}
 use Rattle.irs_periods.specs.SpanRules.{SpanKept, SpanBroken, broken_at}
-use Rattle.irs_periods.specs.Boundaries.{Boundaries, TooManyPeriods, too_many_periods, most_periods}
+use Rattle.irs_periods.specs.Boundaries.{Boundaries, TooManyPeriods, too_many_periods}
+use Rattle.irs_base.specs.Limits.{most_periods}
 use Rattle.irs_periods.specs.Adjusting.{AdjustedBroken}
 use Rattle.irs_payments.specs.Faults.{IsFirst}
 use Rattle.irs_payments.specs.Payments.{ArePayments, BreaksPayments}

@@ -17,6 +17,7 @@ use Rattle.irs_calendar.specs.declared.sections.Section.{Section}
 use Rattle.irs_calendar.specs.GoodDays.{DaySet}
 use Rattle.irs_calendar.specs.Selected.{day_set_of}
 use Rattle.irs_periods.specs.Adjusting.{BoundaryDays}
+use Rattle.irs_terms.specs.FirstDay.{first_date_of}
 
 -- the whole range of dates, and every day of it good
 abbrev pub whole_range : DaySet
@@ -74,10 +75,11 @@ abbrev pub fixing_names : Option ResetTerms → Option (List (List ℕ))
 fixing_names None = None
 fixing_names (Some terms) = fixing_names_of terms.fixing
 
--- the good days of the effective date, of the termination date, and of the other boundaries
+-- the good days of the first boundary (firstPeriodStartDate, else the effective date), of the
+-- termination date, and of the other boundaries
 abbrev pub boundary_days : List Section → Stream → BoundaryDays
 boundary_days cal s = record {
-  start = days_of_names cal (names_by s.effective.adj);
+  start = days_of_names cal (names_by (first_date_of s).adj);
   end = days_of_names cal (names_by s.termination.adj);
   middle = days_of_names cal (names_by s.period_adj);
 }

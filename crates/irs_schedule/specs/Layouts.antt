@@ -4,7 +4,8 @@ use Rattle.irs_base.specs.Listed.{IsRising}
 use Rattle.irs_terms.specs.declared.stream.Stream.{Stream}
 use Rattle.irs_periods.specs.Spans.{Regular}
 use Rattle.irs_periods.specs.SpanRules.{SpanKept}
-use Rattle.irs_periods.specs.Boundaries.{Boundaries, most_periods}
+use Rattle.irs_periods.specs.Boundaries.{Boundaries}
+use Rattle.irs_base.specs.Limits.{most_periods}
 use Rattle.irs_periods.specs.Adjusting.{AdjustedList}
 use Rattle.irs_schedule.specs.DaySets.{StreamSets}
 use Rattle.irs_schedule.specs.declared.layouts.Layout.{Layout}

@@ -8,8 +8,10 @@ use Rattle.irs_terms.specs.declared.codes.DayCountCode.{DayCountCode}
 use Rattle.irs_terms.specs.declared.results.Exchange.{Exchange}
 use Rattle.irs_terms.specs.declared.results.Reset.{Reset}
 use Rattle.irs_daycount.specs.Fractions.{denominator_of}
+use Rattle.irs_compound.specs.PeriodRates.{most_rounded_rate}
 use Rattle.irs_schedule.specs.declared.entries.PaymentEntry.{PaymentEntry}
 use Rattle.irs_schedule.specs.declared.entries.PeriodEntry.{PeriodEntry}
+use Rattle.irs_base.specs.Limits.{most_exchanges, most_numerator, most_periods, most_streams}
 
 -- one stream: period i goes from boundary i - 1 to boundary i, reset i is that of period i
 pub record Part : Type 0 where
@@ -54,23 +56,23 @@ pub record IsAmount (currency : Currency) (v : Dec) : Type 0 where
 abbrev pub HasAmount : Currency → PaymentEntry → Type 0
 HasAmount currency y = IfSome y.amount (IsAmount currency)
 
--- a period within the limits of amounts: its rate is at most a multiplier of 10 times an observed rate of 10, plus a spread of 10
+-- a period within the limits of amounts
 pub record IsEntry (code : DayCountCode) (e : PeriodEntry) : Type 0 where
   pub notional : IsNotional e.notional
-  pub numerator : (pos 0 ≤ℤ e.frac.num) × (e.frac.num ≤ℤ pos 40_000_000)
+  pub numerator : (pos 0 ≤ℤ e.frac.num) × (e.frac.num ≤ℤ pos most_numerator)
   pub denominator : e.frac.den ≡ denominator_of code
-  pub rate : IfSome e.rate (λ r. unsigned_abs r ≤ 110_000_000_000)
+  pub rate : IfSome e.rate (λ r. unsigned_abs r ≤ most_rounded_rate)
 
 -- what every part keeps
 pub record KeepsBounds (p : Part) : Type 0 where
   pub some : 0 < length p.periods
-  pub few : length p.periods ≤ 4000
+  pub few : length p.periods ≤ most_periods
   pub unadjusted : length p.unadjusted ≡ length p.periods + 1
   pub adjusted : length p.adjusted ≡ length p.periods + 1
   pub rises : Rises p.unadjusted
   pub adjusted_rises : Rises p.adjusted
   pub covers : Covers 1 p.payments (length p.periods)
-  pub exchanges : length p.exchanges ≤ 4002
+  pub exchanges : length p.exchanges ≤ most_exchanges
   pub exchanged : Every (λ x. IsAmount p.currency x.amount) p.exchanges
   pub paid : Every (HasAmount p.currency) p.payments
   pub entries : Every (IsEntry p.day_count) p.periods
@@ -80,5 +82,5 @@ pub record KeepsBounds (p : Part) : Type 0 where
 -- what every schedule keeps
 pub record IsWithin (parts : List Part) : Type 0 where
   pub some : 0 < length parts
-  pub few : length parts ≤ 8
+  pub few : length parts ≤ most_streams
   pub each : Every KeepsBounds parts

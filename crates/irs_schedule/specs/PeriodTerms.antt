@@ -18,7 +18,7 @@ use Rattle.irs_compound.specs.Amounts.{AllPriced, AmountOf, Passes, code_for}
 use Rattle.irs_compound.specs.declared.periods.Rates.{Rates}
 use Rattle.irs_compound.specs.declared.periods.PeriodTerm.{PeriodTerm}
 use Rattle.irs_payments.specs.Numbered.{EachNumbered}
-use Rattle.irs_periods.specs.Boundaries.{most_periods}
+use Rattle.irs_base.specs.Limits.{most_periods}
 use Rattle.irs_resets.specs.Resets.{HasSmallRate}
 use Rattle.irs_schedule.specs.declared.entries.PeriodEntry.{PeriodEntry}
 use Rattle.irs_schedule.specs.Parts.{day_at}

@@ -59,7 +59,7 @@ HasPlaces (Period k i start end adjusted_start adjusted_end days frac notional r
 HasPlaces (Reset k i reset fixing observed) = Unit {0}
 
 abbrev pub header : List ℕ
-header = codes "irs-schedule 1\n"
+header = codes "irs-schedule 2\n"
 
 abbrev pub footer : List ℕ
 footer = codes "end\n"

@@ -1,5 +1,5 @@
 -- The rows of a schedule, in the order of its text.
-use Rattle.std.specs.Prelude.{ℕ, ◌+◌, ◌-◌, List, [], ◌∷◌, ◌++◌, map, None, slice_index_or, if◌then◌else◌, pos}
+use Rattle.std.specs.Prelude.{ℕ, ◌+◌, ◌-◌, ◌*◌, List, [], ◌∷◌, ◌++◌, map, None, slice_index_or, if◌then◌else◌, pos}
 use Rattle.std.specs.List.{range_with_len, flat_map, enumerate_from}
 use Rattle.irs_terms.specs.declared.results.Exchange.{Exchange}
 use Rattle.irs_schedule.specs.declared.entries.PaymentEntry.{PaymentEntry}
@@ -8,6 +8,7 @@ use Rattle.irs_terms.specs.declared.results.Reset.{Reset}
 use Rattle.irs_schedule.specs.declared.row.Row.{Row}
 use Rattle.irs_schedule.specs.declared.row.Row.TheVariants.{Stream, Exchange as ExchangeRow, Payment, Period, Reset as ResetRow}
 use Rattle.irs_schedule.specs.Parts.{Part, day_at}
+use Rattle.irs_base.specs.Limits.{most_exchanges, most_periods, most_streams}
 
 -- what stands at a place where there is nothing
 abbrev pub no_period : PeriodEntry
@@ -45,6 +46,14 @@ stream_row k p = Stream k p.currency p.day_count p.floating
 -- a stream, then its exchanges, then its payments
 abbrev pub part_rows : ℕ × Part → List Row
 part_rows s = stream_row s.0 s.1 ∷ (map (exchange_row s.0) (enumerate_from 1 s.1.exchanges) ++ flat_map (payment_rows s.0 s.1) (enumerate_from 1 s.1.payments))
+
+-- a stream has its own row, one for each exchange, and of each period at most those of a payment, of
+-- the period itself and of its reset
+abbrev pub most_stream_rows : ℕ
+most_stream_rows = 1 + most_exchanges + 3 * most_periods
+
+abbrev pub most_schedule_rows : ℕ
+most_schedule_rows = most_stream_rows * most_streams
 
 unfoldable pub rows_of : List Part → List Row
 rows_of s = flat_map part_rows (enumerate_from 1 s)

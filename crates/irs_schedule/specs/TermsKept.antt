@@ -10,6 +10,7 @@ use Rattle.irs_payments.specs.PaymentDates.{IsSaid}
 use Rattle.irs_periods.specs.Terms.{DatesInOrder, FrequencySuits}
 use Rattle.irs_resets.specs.Resets.{HasResetTerms, IsSaidReset}
 use Rattle.irs_schedule.specs.DaySets.{names_by, names_with, reset_names, fixing_names}
+use Rattle.irs_terms.specs.FirstDay.{first_date_of}
 
 -- each of the names is that of a section
 abbrev pub AreFound : List Section → Option (List (List ℕ)) → Type 0
@@ -31,7 +32,7 @@ pub record TermsKept (cal : List Section) (s : Stream) : Type 0 where
   pub legs : HasResetTerms s
   pub notional_rises : StepsRise s.notional.steps
   pub leg_rises : LegStepsRise s.leg
-  pub start_found : AreFound cal (names_by s.effective.adj)
+  pub start_found : AreFound cal (names_by (first_date_of s).adj)
   pub end_found : AreFound cal (names_by s.termination.adj)
   pub middle_found : AreFound cal (names_by s.period_adj)
   pub payment_found : AreFound cal (names_with s.pay.offset s.pay.adj)

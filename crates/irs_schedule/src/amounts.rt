@@ -4,7 +4,8 @@ ghost use Rattle.std.specs.Prelude.{◌≡◌, ℕ, ◌+◌, ◌-◌, ◌<◌, �
 ghost use Rattle.irs_base.specs.Elements.{calculation_period_amount};
 ghost use Rattle.irs_base.specs.declared.places.Rule.TheVariants.{K39};
 ghost use Rattle.irs_terms.specs.Lawful.{IsLawfulStream, IsLawfulLeg, IsRate};
-ghost use Rattle.irs_compound.specs.Amounts.{AllPriced, IsPayment, PassesFirst, code_for, most_periods};
+ghost use Rattle.irs_compound.specs.Amounts.{AllPriced, IsPayment, PassesFirst, code_for};
+ghost use Rattle.irs_base.specs.Limits.{most_periods};
 ghost use Rattle.irs_payments.specs.Payments.{Covers};
 ghost use Rattle.irs_periods.specs.SpanRules.{broken_at};
 ghost use Rattle.irs_schedule.specs.DatedRules.{PassesFirst as FirstPassed};

@@ -37,7 +37,7 @@ impl<'cal, 'swap> Model for CenterTable<'cal, 'swap> {
 /// The good days of one stream's elements, out of a table.
 #[derive(Drop)]
 pub(crate) struct StreamDays<'a> {
-    /// Of the effective date.
+    /// Of the first boundary: of `firstPeriodStartDate`, else of the effective date.
     pub start: &'a CenterDays<'a, 'a>,
     /// Of the termination date.
     pub end: &'a CenterDays<'a, 'a>,
@@ -83,7 +83,7 @@ impl<'cal, 'swap> CenterTable<'cal, 'swap> {
         ensures fixing { days_of_centers result.fixing.now ≡ fixing_days self.now.sections s.now }
     {
         StreamDays {
-            start: self.days_of(names_by(&s.effective.adj)),
+            start: self.days_of(names_by(&s.first_date().adj)),
             end: self.days_of(names_by(&s.termination.adj)),
             middle: self.days_of(names_by(&s.period_adj)),
             payment: self.days_of(names_with(s.pay.offset, &s.pay.adj)),
@@ -98,7 +98,7 @@ impl<'cal, 'swap> CenterTable<'cal, 'swap> {
         requires kept { TermsKept self.old.sections s.now }
         ensures { OnOk result (HasMoreOf s.now self.old self.new) }
     {
-        self.add(alloc, names_by(&s.effective.adj))?;
+        self.add(alloc, names_by(&s.first_date().adj))?;
         self.add(alloc, names_by(&s.termination.adj))?;
         self.add(alloc, names_by(&s.period_adj))?;
         self.add(alloc, names_with(s.pay.offset, &s.pay.adj))?;

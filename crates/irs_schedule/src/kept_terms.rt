@@ -67,6 +67,7 @@ fn copy_of_floating(alloc: Global, terms: &FloatTerms) -> Result<FloatTerms, Mem
         spread: copy_of_values(alloc, &terms.spread)?,
         initial_rate: terms.initial_rate,
         rounding: terms.rounding,
+        treatment: terms.treatment,
     })
 }
 

@@ -2,7 +2,7 @@
 ghost use Rattle.std.specs.Prelude.{◌≡◌, ℕ, ◌+◌, ◌<◌, ◌≤◌, length};
 ghost use Rattle.std.specs.Iterator.{YieldsFirst, item_count};
 ghost use Rattle.irs_schedule.specs.Parts.{Every, KeepsBounds, IsWithin};
-ghost use Rattle.irs_schedule.specs.RowsOf.{rows_of};
+ghost use Rattle.irs_schedule.specs.RowsOf.{most_schedule_rows, rows_of};
 ghost use Rattle.irs_schedule.specs.RowTexts.{HasPlaces};
 
 use crate::Row;
@@ -56,7 +56,7 @@ impl Schedule {
     pub fn rows(&self) -> Rows<'_>
         ensures rows { result ≡ rows_of self.now }
         ensures places { Every HasPlaces result }
-        ensures count { length (rows_of self.now) ≤ 128_024 }
+        ensures count { length (rows_of self.now) ≤ most_schedule_rows }
         ensures bounds { IsWithin self.now }
     {
         Rows {
@@ -83,11 +83,12 @@ impl<'a> Model for Rows<'a> {
 
     ghost Value = { List Row };
 
+    ghost use Rattle.irs_base.specs.Limits.{most_streams};
     ghost use Rattle.irs_schedule.specs.AllWalks.{rows_left};
 
     ghost view = { rows_left };
 
-    ghost invariant = { λ s. s.stream + length s.parts.now ≤ 8 };
+    ghost invariant = { λ s. s.stream + length s.parts.now ≤ most_streams };
 }
 
 impl<'a> Iterator for Rows<'a> {

@@ -1,6 +1,6 @@
 //! One stream of a schedule. Its boundaries, payments, exchanges and resets are kept; days, fraction,
 //! notional and rate of a period are worked out when they are asked for.
-ghost use Rattle.std.specs.Prelude.{◌≡◌, ℕ, ◌-◌, ◌<◌, ◌≤◌, ℤ, List, length};
+ghost use Rattle.std.specs.Prelude.{◌≡◌, ℕ, ◌+◌, ◌-◌, ◌<◌, ◌≤◌, ℤ, List, length};
 
 use crate::kept_terms::KeptTerms;
 use crate::periods::{day_at, entry_by, observed_at};
@@ -35,6 +35,7 @@ impl Model for StreamPart {
     ghost invariant = { IsKept };
 }
 
+ghost use Rattle.irs_base.specs.Limits.{most_exchanges, most_periods};
 ghost use Rattle.std.specs.Prelude.{IsTrue, IfSome, slice_index_or, if◌then◌else◌};
 ghost use Rattle.irs_terms.specs.Lawful.{IsLawfulValues, IsLawfulLeg, IsNotional, IsRate};
 ghost use Rattle.irs_schedule.specs.KeptTerms.{is_floating};
@@ -55,11 +56,11 @@ impl StreamPart {
         requires notional { IsLawfulValues IsNotional terms.notional }
         requires leg { IsLawfulLeg terms.leg }
         requires some { 2 ≤ length unadjusted }
-        requires few { length unadjusted ≤ 4001 }
+        requires few { length unadjusted ≤ most_periods + 1 }
         requires same_count { length adjusted ≡ length unadjusted }
         requires rises { Rises unadjusted }
         requires adjusted_rises { Rises adjusted }
-        requires exchanges_few { length exchanges ≤ 4002 }
+        requires exchanges_few { length exchanges ≤ most_exchanges }
         requires exchanged { Every (λ x. IsAmount terms.currency x.amount) exchanges }
         requires covers { Covers 1 payments.items (length unadjusted - 1) }
         requires paid { Every (HasAmount terms.currency) payments.items }

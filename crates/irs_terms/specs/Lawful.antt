@@ -1,5 +1,5 @@
 -- Lawful terms: every value lies in the range that its element allows.
-use Rattle.std.specs.Prelude.{◌≡◌, ◌≢◌, ℕ, ◌-◌, ◌^◌, ◌≤◌, List, length, get_or, All, IfSome, ℤ, pos, ◌≤ℤ◌, unsigned_abs}
+use Rattle.std.specs.Prelude.{◌≡◌, ◌≢◌, ℕ, ◌-◌, ◌≤◌, List, length, get_or, All, IfSome, ℤ, pos, ◌≤ℤ◌, unsigned_abs}
 use Rattle.irs_base.specs.Days.{IsDay}
 use Rattle.irs_base.specs.Limits.{most_centers, most_index, most_multiplier, most_name, most_notional, most_offset, most_rate, most_steps, most_streams}
 use Rattle.irs_terms.specs.declared.frequency.Unit.TheVariants.{T}

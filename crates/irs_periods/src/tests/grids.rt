@@ -17,6 +17,7 @@ use std::test::*;
 
 /// A grid of months with an initial stub.
 const MONTHS: Row = Row {
+    first_start: None,
     effective: "2024-12-31",
     termination: "2025-04-30",
     count: 1,

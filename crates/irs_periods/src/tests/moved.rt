@@ -26,6 +26,7 @@ weekend SAT SUN
 
 /// Periods of a day.
 const DAILY: Row = Row {
+    first_start: None,
     effective: "2024-03-06",
     termination: "2024-03-08",
     count: 1,
@@ -49,7 +50,7 @@ const MONTHLY: Row = Row {
 
 /// Boundaries that are adjusted. The days that are not good are the weekends of 2024, and 29 March and
 /// 1 April in the wide centre.
-static MOVED: [Row; 37] = [
+static MOVED: [Row; 41] = [
     // each convention at all boundaries
     Row {
         effective: "2024-02-09",
@@ -374,6 +375,46 @@ static MOVED: [Row; 37] = [
             "calculationPeriodDates/calculationPeriodDatesAdjustments",
             7,
         ),
+        ..DAILY
+    },
+    // firstPeriodStartDate by its own adjustments, and behind the other boundaries in the order
+    Row {
+        first_start: Some("2024-03-09"),
+        effective: "2024-03-20",
+        termination: "2024-06-09",
+        start: By(ConvCode::Following, Center::Wide),
+        want: Want::Days("2024-03-11 2024-04-09 2024-05-09 2024-06-09"),
+        ..MONTHLY
+    },
+    Row {
+        first_start: Some("2024-03-10"),
+        effective: "2024-03-12",
+        termination: "2024-03-14",
+        start: By(ConvCode::Following, Center::Early),
+        want: Want::Breaks(Rule::K33, "calculationPeriodDates/firstPeriodStartDate", 0),
+        ..DAILY
+    },
+    Row {
+        first_start: Some("2024-03-10"),
+        effective: "2024-03-12",
+        termination: "2024-03-14",
+        start: By(ConvCode::Following, Center::Early),
+        middle: By(ConvCode::Following, Center::Early),
+        want: Want::Breaks(
+            Rule::K33,
+            "calculationPeriodDates/calculationPeriodDatesAdjustments",
+            1,
+        ),
+        ..DAILY
+    },
+    Row {
+        first_start: Some("2024-03-10"),
+        effective: "2024-03-12",
+        termination: "2024-03-14",
+        start: By(ConvCode::Following, Center::Early),
+        end: By(ConvCode::Following, Center::Early),
+        middle: By(ConvCode::Following, Center::Early),
+        want: Want::Breaks(Rule::K33, "calculationPeriodDates/terminationDate", 0),
         ..DAILY
     },
 ];

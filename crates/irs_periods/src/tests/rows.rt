@@ -33,6 +33,7 @@ pub enum Want {
 /// What a row says of a stream's periods; the other terms are the same in all.
 #[derive(Clone, Copy, Debug)]
 pub struct Row {
+    pub first_start: Option<&'static str>,
     pub effective: &'static str,
     pub termination: &'static str,
     pub count: u16,
@@ -49,6 +50,7 @@ pub struct Row {
 
 /// Periods of 3 months that roll on the 15th.
 const QUARTERS: Row = Row {
+    first_start: None,
     effective: "2024-01-15",
     termination: "2024-10-15",
     count: 3,
@@ -662,20 +664,72 @@ pub static REGULAR: [Row; 24] = [
     },
 ];
 
+/// Streams with a `firstPeriodStartDate`.
+pub static STARTS: [Row; 6] = [
+    // the first period begins before the effective date
+    Row {
+        first_start: Some("2024-01-15"),
+        effective: "2024-02-01",
+        want: Want::Days("2024-01-15 2024-04-15 2024-07-15 2024-10-15"),
+        ..QUARTERS
+    },
+    Row {
+        first_start: Some("2024-01-16"),
+        effective: "2024-04-15",
+        stub: Some(StubKind::ShortInitial),
+        want: Want::Days("2024-01-16 2024-04-15 2024-07-15 2024-10-15"),
+        ..QUARTERS
+    },
+    Row {
+        first_start: Some("2023-12-05"),
+        effective: "2024-01-15",
+        count: 1,
+        unit: Unit::T,
+        want: Want::Days("2023-12-05 2024-10-15"),
+        ..QUARTERS
+    },
+    // the anchor off the roll is named by it, but for a first regular date on the same day
+    Row {
+        first_start: Some("2024-01-16"),
+        effective: "2024-04-15",
+        want: Want::Breaks(Rule::K30, "calculationPeriodDates/firstPeriodStartDate", 0),
+        ..QUARTERS
+    },
+    Row {
+        first_start: Some("2024-01-10"),
+        effective: "2024-01-15",
+        termination: "2024-08-01",
+        last: Some("2024-07-15"),
+        want: Want::Breaks(Rule::K30, "calculationPeriodDates/firstPeriodStartDate", 0),
+        ..QUARTERS
+    },
+    Row {
+        first_start: Some("2024-01-16"),
+        effective: "2024-04-15",
+        first: Some("2024-01-16"),
+        want: Want::Breaks(
+            Rule::K30,
+            "calculationPeriodDates/firstRegularPeriodStartDate",
+            0,
+        ),
+        ..QUARTERS
+    },
+];
+
 /// As many periods as a stream may have, and one more.
 pub static LIMITS: [Row; 13] = [
     Row {
         effective: "2000-01-01",
-        termination: "2010-12-14",
+        termination: "2021-11-26",
         count: 1,
         unit: Unit::D,
         roll: RollCode::NoRoll,
-        want: Want::Periods(4_000),
+        want: Want::Periods(8_000),
         ..QUARTERS
     },
     Row {
         effective: "2000-01-01",
-        termination: "2010-12-15",
+        termination: "2021-11-27",
         count: 1,
         unit: Unit::D,
         roll: RollCode::NoRoll,
@@ -689,17 +743,17 @@ pub static LIMITS: [Row; 13] = [
     // an initial stub counts, and a final one
     Row {
         effective: "2000-01-01",
-        termination: "2010-12-15",
+        termination: "2021-11-27",
         count: 1,
         unit: Unit::D,
         roll: RollCode::NoRoll,
         first: Some("2000-01-03"),
-        want: Want::Periods(4_000),
+        want: Want::Periods(8_000),
         ..QUARTERS
     },
     Row {
         effective: "2000-01-01",
-        termination: "2010-12-16",
+        termination: "2021-11-28",
         count: 1,
         unit: Unit::D,
         roll: RollCode::NoRoll,
@@ -713,23 +767,23 @@ pub static LIMITS: [Row; 13] = [
     },
     Row {
         effective: "2000-01-01",
-        termination: "2010-12-19",
+        termination: "2021-12-01",
         count: 1,
         unit: Unit::D,
         roll: RollCode::NoRoll,
         first: Some("2000-01-03"),
-        last: Some("2010-12-14"),
-        want: Want::Periods(4_000),
+        last: Some("2021-11-26"),
+        want: Want::Periods(8_000),
         ..QUARTERS
     },
     Row {
         effective: "2000-01-01",
-        termination: "2010-12-19",
+        termination: "2021-12-01",
         count: 1,
         unit: Unit::D,
         roll: RollCode::NoRoll,
         first: Some("2000-01-03"),
-        last: Some("2010-12-15"),
+        last: Some("2021-11-27"),
         want: Want::Breaks(
             Rule::K32,
             "calculationPeriodDates/calculationPeriodFrequency",
@@ -739,17 +793,17 @@ pub static LIMITS: [Row; 13] = [
     },
     Row {
         effective: "1901-01-02",
-        termination: "1977-08-25",
+        termination: "2054-04-23",
         count: 1,
         unit: Unit::W,
         roll: RollCode::OnWeekday(DayName::Wed),
         stub: Some(StubKind::ShortFinal),
-        want: Want::Periods(4_000),
+        want: Want::Periods(8_000),
         ..QUARTERS
     },
     Row {
         effective: "1901-01-02",
-        termination: "1977-09-01",
+        termination: "2054-04-30",
         count: 1,
         unit: Unit::W,
         roll: RollCode::OnWeekday(DayName::Wed),
@@ -763,17 +817,17 @@ pub static LIMITS: [Row; 13] = [
     },
     Row {
         effective: "1901-01-02",
-        termination: "1977-09-01",
+        termination: "2054-04-30",
         count: 1,
         unit: Unit::W,
         roll: RollCode::OnWeekday(DayName::Wed),
         stub: Some(StubKind::LongFinal),
-        want: Want::Periods(4_000),
+        want: Want::Periods(8_000),
         ..QUARTERS
     },
     Row {
         effective: "1901-01-02",
-        termination: "1977-09-08",
+        termination: "2054-05-07",
         count: 1,
         unit: Unit::W,
         roll: RollCode::OnWeekday(DayName::Wed),
@@ -788,16 +842,16 @@ pub static LIMITS: [Row; 13] = [
     // the whole range of dates
     Row {
         effective: "1901-01-31",
-        termination: "2199-12-31",
+        termination: "2299-12-31",
         count: 1,
         unit: Unit::M,
         roll: RollCode::Eom,
-        want: Want::Periods(3_587),
+        want: Want::Periods(4_787),
         ..QUARTERS
     },
     Row {
         effective: "1901-01-01",
-        termination: "2199-12-31",
+        termination: "2299-12-31",
         count: 1,
         unit: Unit::T,
         roll: RollCode::NoRoll,
@@ -806,7 +860,7 @@ pub static LIMITS: [Row; 13] = [
     },
     Row {
         effective: "1901-01-01",
-        termination: "2199-12-31",
+        termination: "2299-12-31",
         count: 1,
         unit: Unit::D,
         roll: RollCode::NoRoll,

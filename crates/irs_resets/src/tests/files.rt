@@ -1,7 +1,7 @@
 //! Fixing files whose rates and faults are known from outside the code.
 use super::day;
 use crate::{FixErr, Fixings};
-use irs_base::Text;
+use irs_base::{MOST_BYTES, MOST_INDEX, Text};
 use irs_terms::{Frequency, Unit};
 use std::alloc::Global;
 use std::test::*;
@@ -189,7 +189,7 @@ fn tenor(given: Option<(u16, Unit)>) -> Option<Frequency> {
 }
 
 fn rate_of(alloc: Global, file: &File) -> Result<Result<Option<i64>, FixErr>, Fail> {
-    if file.bytes.len() > 4_194_304 {
+    if file.bytes.len() > MOST_BYTES {
         return Err("too long")?;
     }
     let index = Text::from_bytes(alloc, b"A")?;
@@ -215,16 +215,16 @@ fn with_index(alloc: Global, bytes: usize) -> Result<bool, Fail> {
     for _i in 0..bytes {
         file.push(b'A')?;
     }
-    if file.len() > 4_194_304 {
+    if file.len() > MOST_BYTES {
         return Err("too long")?;
     }
     Ok(Fixings::read(alloc, &file).is_ok())
 }
 
 #[test]
-fn reads_indexes_of_128_bytes(rt: HostRuntime) -> Result<(), Fail> {
-    assert!(rt; with_index(rt.alloc(), 128)?);
-    assert!(rt; !with_index(rt.alloc(), 129)?);
+fn reads_indexes_of_the_most_bytes(rt: HostRuntime) -> Result<(), Fail> {
+    assert!(rt; with_index(rt.alloc(), MOST_INDEX)?);
+    assert!(rt; !with_index(rt.alloc(), MOST_INDEX + 1)?);
     assert!(rt; !with_index(rt.alloc(), 0)?);
     Ok(())
 }

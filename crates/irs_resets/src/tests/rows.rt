@@ -58,6 +58,8 @@ pub enum Want {
 pub struct Row {
     /// The boundaries; none of them is moved.
     pub boundaries: [&'static str; 3],
+    /// The effective date, where the first period begins before it.
+    pub effective: Option<&'static str>,
     /// The day of the month on which the stream rolls.
     pub roll: u8,
     /// The first day of the regular span.
@@ -76,6 +78,7 @@ pub struct Row {
 /// Two periods of 3 months from Monday to Monday.
 const QUARTERS: Row = Row {
     boundaries: ["2024-01-15", "2024-04-15", "2024-07-15"],
+    effective: None,
     roll: 15,
     first: "2024-01-15",
     last: "2024-07-15",
@@ -117,10 +120,10 @@ const EARLIEST: Row = Row {
 
 /// The last day of the range of dates but one.
 const LATEST: Row = Row {
-    boundaries: ["2199-06-30", "2199-09-30", "2199-12-30"],
+    boundaries: ["2299-06-30", "2299-09-30", "2299-12-30"],
     roll: 30,
-    first: "2199-06-30",
-    last: "2199-12-30",
+    first: "2299-06-30",
+    last: "2299-12-30",
     ..QUARTERS
 };
 
@@ -294,7 +297,7 @@ pub static DATES: [Row; 33] = [
     Row {
         relative: Relative::End,
         fixing: Some(Fixing(1, DayKind::Calendar, NOT_MOVED)),
-        want: Want::Dates(("2199-09-30", "2199-10-01"), ("2199-12-30", "2199-12-31")),
+        want: Want::Dates(("2299-09-30", "2299-10-01"), ("2299-12-30", "2299-12-31")),
         ..LATEST
     },
     // reset dates come before fixing dates, and K33 before K38
@@ -318,7 +321,7 @@ pub static DATES: [Row; 33] = [
 ];
 
 /// Observed rates, and rates for stubs that are not there.
-pub static RATES: [Row; 30] = [
+pub static RATES: [Row; 32] = [
     // the index of the stream on the fixing date, or no line
     Row {
         want: Want::Rates(Some(50_000_000), Some(60_000_000)),
@@ -396,6 +399,21 @@ pub static RATES: [Row; 30] = [
         first: "2024-04-15",
         initial_stub: Some(Stub::Rate(0)),
         want: Want::Rates(Some(0), Some(60_000_000)),
+        ..QUARTERS
+    },
+    // an initial stub to the effective date, and the first regular period from there
+    Row {
+        effective: Some("2024-04-15"),
+        first: "2024-04-15",
+        initial_stub: Some(Stub::Rate(9)),
+        want: Want::Rates(Some(9), Some(60_000_000)),
+        ..QUARTERS
+    },
+    Row {
+        effective: Some("2024-04-15"),
+        first: "2024-04-15",
+        initial_rate: Some(7),
+        want: Want::Rates(Some(50_000_000), Some(7)),
         ..QUARTERS
     },
     // an index for each stub, with its line

@@ -1,19 +1,20 @@
 use Rattle.std.proofs.Common.{◌<◌, ◌≤◌, refl, arith, rules, length}
 use Rattle.irs_cli.proofs.FetchLemmas.{front_whole, front_long}
 use Rattle.irs_cli.proofs.fetching.fetch.Goals as goal
+use Rattle.irs_cli.specs.Given.{too_many}
 
 pub returns-in-Ok-clause-one : goal.returns-in-Ok-clause-one
 returns-in-Ok-clause-one g c =
-    let short : length c.in-Ok.bytes.items < 4_194_305 = search rules in
-    ((front_whole 4_194_305 (g.F.Files.told c.args.files.now c.args.name.now) c.in-Ok.bytes.items c.in-Ok.ensures.bytes short, short), (c.in-Ok.ensures.quiet (λ e. cc)).0)
+    let short : length c.in-Ok.bytes.items < too_many = search rules in
+    ((front_whole too_many (g.F.Files.told c.args.files.now c.args.name.now) c.in-Ok.bytes.items c.in-Ok.ensures.bytes short, short), (c.in-Ok.ensures.quiet (λ e. cc)).0)
 
 pub returns-in-Ok-2-clause-one : goal.returns-in-Ok-2-clause-one
 returns-in-Ok-2-clause-one g c =
-    let long : 4_194_305 ≤ length c.in-Ok.bytes.items = search rules in
+    let long : too_many ≤ length c.in-Ok.bytes.items = search rules in
     record {
       name = c.args.name.now;
       word = (refl, refl);
-      long = front_long 4_194_305 (g.F.Files.told c.args.files.now c.args.name.now) c.in-Ok.bytes.items c.in-Ok.ensures.bytes long;
+      long = front_long too_many (g.F.Files.told c.args.files.now c.args.name.now) c.in-Ok.bytes.items c.in-Ok.ensures.bytes long;
       quiet = (c.in-Ok.ensures.quiet (λ e. cc)).0;
       none_long = λ n other bytes below at is. absurd (omega (arith, at.0));
     }

@@ -1,7 +1,7 @@
 use Rattle.std.proofs.Common.{rules, FitsSigned}
 use Rattle.std.specs.Int.{w128}
 use Rattle.std.proofs.lemmas.Int.{to_z-of_z}
-use Rattle.irs_terms.specs.declared.codes.CompCode.TheVariants.{Flat}
+use Rattle.irs_terms.specs.declared.codes.CompCode.TheVariants.{Flat, SpreadExclusive}
 use Rattle.irs_compound.specs.PartsLaws.{at_exists}
 use Rattle.irs_compound.proofs.StepLemmas.{takes, stops, stops_at_rates}
 use Rattle.irs_compound.proofs.balances.next_balance.Goals as goal
@@ -18,11 +18,25 @@ returns-in-Flat-clause-some c =
     let p = c.args.p.now in
     let r = c.unwrap-rates.result in
     let fb : FitsSigned w128 c.args.before.kept = search rules in
-    rw c.in-Flat.is (takes c.add_parts-in-Flat.result Flat p r c.args.before c.flat_parts.result c.unwrap-rates.ensures c.if-not-are_within.ensures (simp to_z-of_z at c.flat_parts.ensures) c.add_parts-in-Flat.ensures)
+    rw c.in-Flat.is (takes c.add_parts-in-Flat.result Flat p r c.args.before c.flat_parts.result c.unwrap-rates.ensures c.if-not-are_within.ensures (simp to_z-of_z at c.flat_parts.ensures) (rw c.in-Flat.is at c.add_parts-in-Flat.ensures))
 
 pub returns-in-Flat-clause-none : goal.returns-in-Flat-clause-none
 returns-in-Flat-clause-none c =
     let p = c.args.p.now in
     let r = c.unwrap-rates.result in
     let fb : FitsSigned w128 c.args.before.kept = search rules in
-    rw c.in-Flat.is (stops c.add_parts-in-Flat.result Flat p r c.args.before c.flat_parts.result c.unwrap-rates.ensures (simp to_z-of_z at c.flat_parts.ensures) c.add_parts-in-Flat.ensures)
+    rw c.in-Flat.is (stops c.add_parts-in-Flat.result Flat p r c.args.before c.flat_parts.result c.unwrap-rates.ensures (simp to_z-of_z at c.flat_parts.ensures) (rw c.in-Flat.is at c.add_parts-in-Flat.ensures))
+
+pub returns-in-SpreadExclusive-clause-some : goal.returns-in-SpreadExclusive-clause-some
+returns-in-SpreadExclusive-clause-some c =
+    let p = c.args.p.now in
+    let r = c.unwrap-rates.result in
+    let fb : FitsSigned w128 c.args.before.kept = search rules in
+    rw c.in-SpreadExclusive.is (takes c.add_parts-in-SpreadExclusive.result SpreadExclusive p r c.args.before c.exclusive_parts.result c.unwrap-rates.ensures c.if-not-are_within.ensures (simp to_z-of_z at c.exclusive_parts.ensures) (rw c.in-SpreadExclusive.is at c.add_parts-in-SpreadExclusive.ensures))
+
+pub returns-in-SpreadExclusive-clause-none : goal.returns-in-SpreadExclusive-clause-none
+returns-in-SpreadExclusive-clause-none c =
+    let p = c.args.p.now in
+    let r = c.unwrap-rates.result in
+    let fb : FitsSigned w128 c.args.before.kept = search rules in
+    rw c.in-SpreadExclusive.is (stops c.add_parts-in-SpreadExclusive.result SpreadExclusive p r c.args.before c.exclusive_parts.result c.unwrap-rates.ensures (simp to_z-of_z at c.exclusive_parts.ensures) (rw c.in-SpreadExclusive.is at c.add_parts-in-SpreadExclusive.ensures))

@@ -17,3 +17,9 @@ returns-in-Flat-clause-within c = rw c.in-Flat.is c.amount-in-Flat.ensures.withi
 
 pub returns-in-Flat-clause-out : goal.returns-in-Flat-clause-out
 returns-in-Flat-clause-out c = rw c.in-Flat.is c.amount-in-Flat.ensures.out
+
+pub returns-in-SpreadExclusive-clause-within : goal.returns-in-SpreadExclusive-clause-within
+returns-in-SpreadExclusive-clause-within c = rw c.in-SpreadExclusive.is c.amount-in-SpreadExclusive.ensures.within
+
+pub returns-in-SpreadExclusive-clause-out : goal.returns-in-SpreadExclusive-clause-out
+returns-in-SpreadExclusive-clause-out c = rw c.in-SpreadExclusive.is c.amount-in-SpreadExclusive.ensures.out

@@ -2,7 +2,7 @@ use Rattle.std.proofs.Common.{rules, arith, ◌≡◌, pos, ◌≤◌, IfSome, F
 use Rattle.std.specs.Int.{w32}
 use Rattle.std.proofs.lemmas.Int.{to_z-of_z}
 use Rattle.jiff_core.proofs.SignedLemmas.{signed_arith}
-use Rattle.irs_base.specs.Days.{IsDay, HasDate}
+use Rattle.irs_base.specs.Days.{IsDay, HasDate, last_year}
 use Rattle.irs_base.specs.DateOf.{year_part}
 use Rattle.irs_base.proofs.DateWalks.{year_place}
 use Rattle.irs_daycount.proofs.Starts.{some_start, start_before, into_year_bound}
@@ -14,7 +14,7 @@ unwrap-requires c =
     let y = (year_part c.args.d).0 in
     let f : FitsSigned w32 c.civil_of-year.result.year = search rules in
     let e : c.civil_of-year.result.year ≡ pos y = c.civil_of-year.ensures.exact.0 in
-    let low : y ≤ 2199 = omega (arith, signed_arith, e, c.civil_of-year.ensures.range) in
+    let low : y ≤ last_year = omega (arith, signed_arith, e, c.civil_of-year.ensures.range) in
     some_start c.day_of.result c.args.d y (year_part c.args.d).1 day (year_place c.args.d day) low (rw e at (simp to_z-of_z at c.day_of.ensures.none))
 
 pub returns : goal.returns

@@ -1,5 +1,6 @@
 use Rattle.std.proofs.Common.{length, arith, sym, subst}
 use Rattle.std.proofs.lemmas.Result.{IfOk-weaker}
+use Rattle.irs_terms.specs.FirstDay.{first_day_of}
 use Rattle.irs_payments.specs.Grouping.{BreaksGrouping}
 use Rattle.irs_payments.specs.Cuts.{AreCuts}
 use Rattle.irs_payments.specs.Payments.{BreaksDates}
@@ -9,10 +10,10 @@ use Rattle.irs_payments.proofs.PaymentLemmas.{payments_are, payments_cover, paym
 use Rattle.irs_payments.proofs.payment_list.payments_over.Goals as goal
 
 pub check_grouping-requires-clause-some : goal.check_grouping-requires-clause-some
-check_grouping-requires-clause-some g c = two_boundaries c.args.s.now.effective.day c.args.s.now.termination.day c.args.unadjusted.now c.requires.term c.requires.boundaries
+check_grouping-requires-clause-some g c = two_boundaries (first_day_of c.args.s.now) c.args.s.now.termination.day c.args.unadjusted.now c.requires.term c.requires.boundaries
 
 pub payment_places-requires-clause-some : goal.payment_places-requires-clause-some
-payment_places-requires-clause-some g c = two_boundaries c.args.s.now.effective.day c.args.s.now.termination.day c.args.unadjusted.now c.requires.term c.requires.boundaries
+payment_places-requires-clause-some g c = two_boundaries (first_day_of c.args.s.now) c.args.s.now.termination.day c.args.unadjusted.now c.requires.term c.requires.boundaries
 
 pub payments_at-requires-clause-places : goal.payments_at-requires-clause-places
 payments_at-requires-clause-places g c =

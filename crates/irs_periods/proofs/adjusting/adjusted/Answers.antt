@@ -1,16 +1,17 @@
 use Rattle.std.proofs.Common.{List, length, ℤ, arith, ap, subst}
 use Rattle.irs_periods.specs.Adjusting.{AdjustedList, NoResult, days_by}
 use Rattle.irs_periods.proofs.AdjustedLemmas.{one_adjusted, adjusted_exists, two_boundaries, few_days, rising_of}
+use Rattle.irs_periods.proofs.TermOrder.{begins_before_end}
 use Rattle.irs_periods.proofs.adjusting.adjusted.Goals as goal
 
 pub first_without-requires : goal.first_without-requires
 first_without-requires g c =
-    let two = two_boundaries c.args.s.now c.requires.listed.0 c.args.unadjusted.now c.requires.dates.ends c.requires.listed.1 in
+    let two = two_boundaries c.args.s.now c.requires.listed.0 c.args.unadjusted.now (begins_before_end c.args.s.now c.requires.dates) c.requires.listed.1 in
     omega (arith, two, ap length c.as_slice-days.ensures.value)
 
 pub adjust_each-requires-clause-some : goal.adjust_each-requires-clause-some
 adjust_each-requires-clause-some g c =
-    let two = two_boundaries c.args.s.now c.requires.listed.0 c.args.unadjusted.now c.requires.dates.ends c.requires.listed.1 in
+    let two = two_boundaries c.args.s.now c.requires.listed.0 c.args.unadjusted.now (begins_before_end c.args.s.now c.requires.dates) c.requires.listed.1 in
     omega (arith, two, ap length c.as_slice-days.ensures.value)
 
 pub no_result-requires : goal.no_result-requires

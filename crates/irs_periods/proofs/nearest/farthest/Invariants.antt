@@ -1,11 +1,12 @@
 use Rattle.std.proofs.Common.{◌-◌, ◌<◌, ◌≤◌}
+use Rattle.irs_base.specs.Days.{all_days}
 use Rattle.irs_periods.specs.Ways.{steps, Within}
 use Rattle.irs_periods.proofs.nearest.farthest.Given as goal
 
 abbrev pub invariant-loop-high : goal.invariant-loop-high
 invariant-loop-high g l = record {
   order : l.low < l.high;
-  top : l.high ≤ 109_208;
+  top : l.high ≤ all_days;
   here : Within l.way l.bound (g.G.Grid.at l.grid (steps l.way l.low));
   past : Within l.way l.bound (g.G.Grid.at l.grid (steps l.way l.high)) → ⊥;
 }

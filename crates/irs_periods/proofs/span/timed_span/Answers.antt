@@ -2,9 +2,11 @@ use Rattle.std.proofs.Common.{ℕ, inr, ◌∙◌, ap, subst}
 use Rattle.irs_base.specs.declared.places.Rule.TheVariants.{K31}
 use Rattle.irs_terms.specs.declared.results.Span.{Span}
 use Rattle.irs_roll.specs.Rolls.{OnGrid, Fits, IsTerm}
-use Rattle.irs_periods.specs.Terms.{effective_of, termination_of}
+use Rattle.irs_terms.specs.FirstDay.{first_day_of}
+use Rattle.irs_periods.specs.Terms.{termination_of}
 use Rattle.irs_periods.specs.Spans.{Regular}
 use Rattle.irs_periods.specs.SpanRules.{broken_at}
+use Rattle.irs_periods.proofs.TermOrder.{begins_before_end}
 use Rattle.irs_periods.proofs.SpanLemmas.{given_span_same}
 use Rattle.irs_periods.proofs.span.timed_span.Goals as goal
 
@@ -13,7 +15,7 @@ returns-clause-ok c =
     let s = c.args.s.now in
     record {
       anchored = c.anchor-anchor.ensures;
-      spans = rw c.requires.timed (given_span_same _ (OnGrid s.freq s.roll c.anchor-anchor.result) c.new-grid.ensures.on s.first_regular s.last_regular s.stub (effective_of s) (termination_of s) c.ends-first.result.0 c.ends-first.result.1 c.ends-first.ensures);
+      spans = rw c.requires.timed (given_span_same _ (OnGrid s.freq s.roll c.anchor-anchor.result) c.new-grid.ensures.on s.first_regular s.last_regular s.stub (first_day_of s) (termination_of s) c.ends-first.result.0 c.ends-first.result.1 c.ends-first.ensures);
     }
 
 pub returns-then-not-on_grid-clause-broken : goal.returns-then-not-on_grid-clause-broken
@@ -25,7 +27,7 @@ returns-then-not-on_grid-clause-broken c =
     let timed : IsTerm s.freq → ⊥ = λ h. let same = rw h at c.requires.timed in cc in
     let regular : Regular s span = record {
       anchored = c.anchor-anchor.ensures;
-      spans = rw c.requires.timed (given_span_same _ (OnGrid s.freq s.roll anchor) c.new-grid.ensures.on s.first_regular s.last_regular s.stub (effective_of s) (termination_of s) c.ends-first.result.0 c.ends-first.result.1 c.ends-first.ensures);
+      spans = rw c.requires.timed (given_span_same _ (OnGrid s.freq s.roll anchor) c.new-grid.ensures.on s.first_regular s.last_regular s.stub (first_day_of s) (termination_of s) c.ends-first.result.0 c.ends-first.result.1 c.ends-first.ensures);
     } in
     let off : OnGrid s.freq s.roll anchor c.ends-first.result.1 → ⊥ = λ on.
     let is = c.on_grid.ensures.1 ((c.new-grid.ensures.on c.ends-first.result.1).1 on) in cc in
@@ -34,3 +36,6 @@ returns-then-not-on_grid-clause-broken c =
       record { timed = timed; span = span; regular = regular; off = off },
       c.broken-then-not-on_grid.ensures ∙ ap (λ (e : ℕ). broken_at K31 e 0) c.last_elem.ensures,
     )
+
+pub ends-first-requires-clause-order : goal.ends-first-requires-clause-order
+ends-first-requires-clause-order c = begins_before_end c.args.s.now c.requires.dates

@@ -1,4 +1,5 @@
 use Rattle.std.proofs.Common.{◌≡◌, ℕ, ◌-◌, length, List, subst, sym, ap, ◌∙◌, if◌then◌else◌}
+use Rattle.irs_periods.proofs.TermOrder.{begins_before_end}
 use Rattle.std.proofs.lemmas.Result.{err_from_is_err_and}
 use Rattle.irs_base.specs.Elements.{calculation_period_amount}
 use Rattle.irs_base.specs.declared.places.Broken.{Broken}
@@ -40,7 +41,7 @@ returns-in_err-entries-clause-broken c =
     c.in_err-entries.ensures.broken)
 
 pub new-requires-clause-some : goal.new-requires-clause-some
-new-requires-clause-some c = let l = c.in_ok-layout.layout in two_boundaries c.args.s.now l.span l.unadjusted c.requires.kept.1.dates.ends c.in_ok-layout.ensures.ok.unadjusted
+new-requires-clause-some c = let l = c.in_ok-layout.layout in two_boundaries c.args.s.now l.span l.unadjusted (begins_before_end c.args.s.now c.requires.kept.1.dates) c.in_ok-layout.ensures.ok.unadjusted
 
 pub new-requires-clause-rises : goal.new-requires-clause-rises
 new-requires-clause-rises c = rises_of c.in_ok-layout.layout.unadjusted c.in_ok-layout.ensures.ok.unadjusted.rising
@@ -82,7 +83,7 @@ returns-clause-ok c =
     let sets = sets_of c.args.days.now in
     let terms = c.in_ok-terms.ensures in
     let is = c.new.ensures in
-    let some = two_boundaries s l.span l.unadjusted c.requires.kept.1.dates.ends c.in_ok-layout.ensures.ok.unadjusted in
+    let some = two_boundaries s l.span l.unadjusted (begins_before_end c.args.s.now c.requires.kept.1.dates) c.in_ok-layout.ensures.ok.unadjusted in
     let kept : c.in_ok-terms.terms ≡ kept_of s = λ i. record { currency = terms.currency i; day_count = terms.day_count i; notional = terms.notional i; leg = terms.leg i } in
     let floating = is.floating ∙ ap is_floating terms.leg in
     let periods = is.periods ∙ ap (λ (t : KeptTerms). periods_by t l.unadjusted l.adjusted d.resets) kept in

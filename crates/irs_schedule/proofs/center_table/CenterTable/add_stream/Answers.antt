@@ -9,7 +9,7 @@ add-requires-6 c =
 pub returns : goal.returns
 returns c =
     all_added c.args.s.now c.args.self.now c.add.new.self c.add-2.new.self c.add-3.new.self c.add-4.new.self c.add-5.new.self c.add-6.new.self
-    (rw c.names_by.ensures at c.in_ok-add.ensures)
+    (rw (c.names_by.ensures, c.first_date.ensures) at c.in_ok-add.ensures)
     (rw c.names_by-2.ensures at c.in_ok-add-2.ensures)
     (rw c.names_by-3.ensures at c.in_ok-add-3.ensures)
     (rw c.names_with.ensures at c.in_ok-add-4.ensures)
