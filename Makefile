@@ -1,6 +1,7 @@
 # `make` proves and builds the program, leaves it as ./irs, and prints the schedule of the shipped
-# example. `make test` is the gate. Both need the kit's command `rt` and nothing else.
-.PHONY: all irs test clean
+# example. `make examples` runs it on every example and compares. `make test` is the gate. They need the
+# kit's command `rt` and nothing else.
+.PHONY: all irs examples test clean
 
 all: irs
 	./irs schedule examples/B.json -
@@ -9,6 +10,9 @@ irs:
 	mkdir -p crates/irs/out
 	cd crates/irs && rt run -- schedule ../../examples/B.json - > out/printed
 	cp crates/irs/out/irs irs
+
+examples: irs
+	examples/compare
 
 test:
 	.ci/run
