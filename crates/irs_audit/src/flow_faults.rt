@@ -11,7 +11,7 @@ ghost use Rattle.irs_json.specs.Carrier.{child_of};
 ghost use Rattle.irs_read.specs.Swaps.{Among};
 ghost use Rattle.irs_base.specs.Limits.{most_rows, most_streams};
 ghost use Rattle.serde_json.specs.View.{view};
-ghost use Rattle.std.specs.Prelude.{◌≡◌, ◌+◌, ◌<◌, ◌^◌, ◌≤◌, length, map, nat_le, not};
+ghost use Rattle.std.specs.Prelude.{◌≡◌, ◌+◌, ◌<◌, ◌^◌, ◌≤◌, length, map, nat_le};
 
 use crate::flow_table::{FLOW_NAMES, FLOW_ROWS, FLOWS, PERIOD, PERIOD_NAMES, PERIOD_ROWS};
 use irs_base::{Broken, Elem, MOST_ROWS, MOST_STREAMS, Place, Rule};

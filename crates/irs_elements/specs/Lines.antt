@@ -7,7 +7,7 @@ use Rattle.irs_elements.specs.declared.table.Kind.{Kind}
 use Rattle.irs_elements.specs.declared.table.Kind.TheVariants.{Object, Leaf, Passed, Refused}
 use Rattle.irs_elements.specs.declared.table.Leaf.{Leaf as LeafKind}
 use Rattle.irs_elements.specs.declared.table.Row.{Row}
-use Rattle.std.specs.Prelude.{ℕ, ◌+◌, ◌-◌, Bool, true, false, ◌==◌, List, [], ◌∷◌, ◌++◌, length, map, take, codes, if◌then◌else◌}
+use Rattle.std.specs.Prelude.{ℕ, ◌+◌, ◌-◌, true, false, ◌==◌, List, [], ◌∷◌, ◌++◌, length, map, take, codes, if◌then◌else◌}
 use Rattle.std.specs.Str.{bytes_eq}
 
 -- ---- what a table says

@@ -9,8 +9,8 @@ use crate::blocks::{
     adjustments, dated, frequency, maybe_dated, offset, schedule, schedule_or, tenor,
 };
 use crate::leaf_values::{
-    Scale, compounding, currency, day_count, direction, maybe_day, number, precision, relative,
-    roll, small_rate, stub_kind, treatment, truth, word,
+    Scale, compounding, currency, day_count, direction, maybe_day, precision, relative, roll,
+    small_rate, stub_kind, treatment, truth, word,
 };
 use crate::references::{lists, reference};
 use irs_base::{Direction, Memory};

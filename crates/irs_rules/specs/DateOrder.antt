@@ -24,6 +24,6 @@ BreaksK13 s at =
     At elements.termination_date (s.termination.day ≤ℤ s.effective.day) at
     ⊎ (At elements.first_period_start_date (IsSomeAnd s.first_start (λ date. s.effective.day ≤ℤ date.day)) at
     ⊎ (At elements.first_regular_period_start_date
-        (IsSomeAnd s.first_regular (IsOutside (first_day_of s) s.termination.day)) at
+    (IsSomeAnd s.first_regular (IsOutside (first_day_of s) s.termination.day)) at
     ⊎ At elements.last_regular_period_end_date
-        (IsSomeAnd s.last_regular (IsOutside (regular_start s) s.termination.day)) at))
+    (IsSomeAnd s.last_regular (IsOutside (regular_start s) s.termination.day)) at))
