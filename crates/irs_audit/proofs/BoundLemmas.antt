@@ -13,12 +13,13 @@ use Rattle.irs_daycount.specs.Fractions.{denominator_of}
 use Rattle.irs_schedule.specs.declared.entries.PaymentEntry.{PaymentEntry}
 use Rattle.irs_schedule.specs.declared.entries.PeriodEntry.{PeriodEntry}
 use Rattle.irs_schedule.specs.declared.views.CalculationPeriod.{CalculationPeriod}
-use Rattle.irs_schedule.specs.Parts.{Part, Every, Covers, KeepsBounds, IsAmount, HasAmount, IsEntry}
+use Rattle.irs_schedule.specs.Parts.{Part, Covers, KeepsBounds, IsAmount, HasAmount, IsEntry}
 use Rattle.irs_schedule.specs.PeriodViews.{period_at, dated_period}
 use Rattle.irs_schedule.proofs.PlaceLemmas.{decimals_few}
 use Rattle.irs_schedule.proofs.WalkLemmas.{covers_within}
 use Rattle.irs_audit.specs.Comparisons.{IsSmall, IsPayment}
 use Rattle.irs_daycount.specs.Actual.{act_act_denominator}
+use Rattle.irs_base.specs.Members.{Every}
 
 every_get : {X : Type 0} (P : X → Type 0) (xs : List X) (j : ℕ) (x : X) → Every P xs → slice_get xs j ≡ Some x → P x
 every_get P [] j x h e = absurd (cc)

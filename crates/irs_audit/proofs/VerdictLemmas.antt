@@ -2,7 +2,7 @@
 use Rattle.std.proofs.Common.{◌≡◌, ℕ, Bool, true, false, cond, ◌+◌, ◌*◌, ◌^◌, ◌<◌, ◌≤◌, List, [], ◌∷◌, length, sym, ◌∙◌, ap, arith, ◌↔◌}
 use Rattle.std.specs.Prelude.{is_none, if◌then◌else◌}
 use Rattle.std.specs.List.{fold}
-use Rattle.irs_schedule.specs.Parts.{Part, Every, KeepsBounds, IsWithin}
+use Rattle.irs_schedule.specs.Parts.{Part, KeepsBounds, IsWithin}
 use Rattle.irs_schedule.specs.declared.entries.PaymentEntry.{PaymentEntry}
 use Rattle.irs_audit.specs.declared.departures.Departure.{Departure}
 use Rattle.irs_audit.specs.declared.departures.Verdict.{Verdict}
@@ -14,6 +14,7 @@ use Rattle.irs_audit.proofs.BoundLemmas.{payments_few}
 use Rattle.irs_audit.proofs.OrderLemmas.{first_is_one}
 use Rattle.irs_base.specs.Limits.{most_periods}
 use Rattle.irs_schedule.specs.RowsOf.{most_stream_rows}
+use Rattle.irs_base.specs.Members.{Every}
 
 -- one verdict at most
 pub one_verdict : (f : List FlowPart) (s : List Part) (v w : Verdict) → IsVerdict f s v → IsVerdict f s w → v ≡ w

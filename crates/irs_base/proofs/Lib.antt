@@ -16,3 +16,8 @@ pub mod LineLemmas
 pub mod FieldLemmas
 pub mod DecimalLemmas
 pub mod Standards
+pub mod RuleNumbers
+pub mod Firsts
+pub mod FaultOrder
+pub mod MemberLemmas
+pub mod Decided

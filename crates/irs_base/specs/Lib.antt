@@ -4,6 +4,7 @@ pub mod Months
 pub mod DateOf
 pub mod DayLists
 pub mod Listed
+pub mod Members
 pub mod Rounding
 pub mod Decimals
 pub mod Texts
@@ -15,3 +16,5 @@ pub mod Elements
 pub mod PathList
 pub mod Paths
 pub mod Rules
+pub mod Faults
+pub mod Order

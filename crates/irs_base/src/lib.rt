@@ -17,6 +17,7 @@ mod names;
 mod places;
 mod reading;
 mod rounding;
+mod stopped;
 #[cfg(test)]
 mod tests;
 mod text;
@@ -36,7 +37,8 @@ pub use lines::split_line;
 pub use memory::Memory;
 pub use months::{month_day, month_index};
 pub use names::Names;
-pub use places::{Broken, Place, Rule};
+pub use places::{Broken, Fault, Place, Rule};
 pub use reading::read_date;
 pub use rounding::{Direction, round};
+pub use stopped::Stopped;
 pub use text::Text;

@@ -7,8 +7,6 @@ use Rattle.std.proofs.lemmas.Option.{slice_get-map, slice_get_read}
 use Rattle.std.proofs.lemmas.Bool.{cases_lt}
 use Rattle.std.proofs.lemmas.List.{take_all, length-take-le, length-map, map-append, get_or-map}
 use Rattle.std.proofs.lemmas.List.Elements.{All-nil, All-cons}
-use Rattle.irs_payments.specs.Numbered.{Pairs}
-use Rattle.irs_payments.proofs.NumberLemmas.{pairs_more}
 use Rattle.irs_cli.specs.declared.commands.Task.{Task}
 use Rattle.irs_cli.specs.declared.commands.Task.TheVariants.{Check, Schedule, Audit}
 use Rattle.irs_cli.specs.declared.fetching.Fetched.{Fetched}
@@ -18,6 +16,8 @@ use Rattle.irs_cli.specs.Commands.{Words, texts, Asked, IsFileAt, TakesFlows, at
 use Rattle.irs_cli.specs.Given.{Told, Given, IsTold, EachOption, AreTold, IsWithin, too_many}
 use Rattle.irs_cli.specs.Fetching.{Holds, HoldsFiles, Placed, IsAlone, IsInRow, NoneLong, Stops, FetchesRow, FetchesAll}
 use Rattle.irs_base.specs.Limits.{most_bytes}
+use Rattle.irs_base.specs.Members.{Pairs}
+use Rattle.irs_base.proofs.MemberLemmas.{pairs_more}
 
 -- ---- what a later call is told is what was told before it
 

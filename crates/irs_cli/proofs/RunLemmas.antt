@@ -2,7 +2,6 @@
 use Rattle.std.proofs.Common.{◌≡◌, inl, inr, ℕ, zero, suc, ◌+◌, ◌<◌, ◌≤◌, List, [], ◌∷◌, length, Option, Some, None, Result, refl, sym, ◌∙◌, ap, subst, arith}
 use Rattle.std.specs.Prelude.{IfSome, slice_get}
 use Rattle.std.proofs.lemmas.Bool.{cases_order}
-use Rattle.irs_payments.specs.Numbered.{Pairs}
 use Rattle.irs_cli.specs.declared.fetching.Unfetched.{Unfetched}
 use Rattle.irs_cli.specs.declared.fetching.Unfetched.TheVariants as fetching
 use Rattle.irs_cli.specs.declared.outcomes.Outcome.{Outcome}
@@ -17,6 +16,7 @@ use Rattle.irs_cli.specs.Run.{NoFile, Replies}
 use Rattle.irs_cli.proofs.CommandLemmas.{one_command, named_by}
 use Rattle.irs_cli.proofs.DueLemmas.{answered_more}
 use Rattle.irs_cli.proofs.FetchLemmas.{files_short, told_files}
+use Rattle.irs_base.specs.Members.{Pairs}
 
 -- ---- words that are no command
 

@@ -14,7 +14,6 @@ use Rattle.irs_terms.specs.declared.stream_list.Swap.{Swap}
 use Rattle.irs_base.specs.declared.places.Broken.{Broken}
 use Rattle.irs_calendar.specs.GoodDays.{DaySet}
 use Rattle.irs_calendar.specs.declared.sections.Section.{Section}
-use Rattle.irs_payments.specs.Numbered.{Pairs}
 use Rattle.irs_resets.specs.FixingFiles.{IsFixingFile}
 use Rattle.irs_resets.specs.ObservedRates.{index_rate, stub_rate, stub_or_index, initial_stub_rate, final_stub_rate, initial_or_index, observed_rate}
 use Rattle.irs_resets.specs.Rates.{RateTable, rate_at}
@@ -26,6 +25,7 @@ use Rattle.irs_schedule.specs.DatedRules.{DatedPart, in_span, in_periods, in_pay
 use Rattle.irs_schedule.specs.DaySets.{StreamSets, stream_sets}
 use Rattle.irs_schedule.specs.Parts.{Part}
 use Rattle.irs_schedule.specs.Schedules.{IsPart, IsSchedule}
+use Rattle.irs_base.specs.Members.{Pairs}
 
 -- two tables have the same rates
 abbrev pub SameRates : RateTable → RateTable → Type 0

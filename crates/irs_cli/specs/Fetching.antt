@@ -1,13 +1,13 @@
 -- What a fetch of files gives.
 use Rattle.std.specs.Prelude.{◌≡◌, ℕ, ◌+◌, ◌<◌, ◌≤◌, List, length, map, Option, Some, option_map, IfSome, Result, Ok, Err, slice_get, Vec}
 use Rattle.std.specs.declared.alloc.Global.{Global}
-use Rattle.irs_payments.specs.Numbered.{Pairs}
 use Rattle.irs_cli.specs.declared.fetching.Fetched.{Fetched}
 use Rattle.irs_cli.specs.declared.fetching.Unfetched.{Unfetched}
 use Rattle.irs_cli.specs.declared.fetching.Unfetched.TheVariants.{NoFile, TooLong, Memory}
 use Rattle.irs_cli.specs.Outside.{Rose}
 use Rattle.irs_cli.specs.Commands.{Words, Asked, IsFileAt}
 use Rattle.irs_cli.specs.Given.{Told, Given, EachOption, too_many}
+use Rattle.irs_base.specs.Members.{Pairs}
 
 -- the files as the code keeps them
 abbrev pub given_by : Fetched → Given

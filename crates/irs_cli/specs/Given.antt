@@ -1,8 +1,8 @@
 -- The bytes of the files that a command names.
 use Rattle.std.specs.Prelude.{◌≡◌, ℕ, ◌+◌, ◌<◌, ◌≤◌, List, length, All, Option, Some, None, IfSome}
-use Rattle.irs_payments.specs.Numbered.{Pairs}
 use Rattle.irs_cli.specs.Commands.{Words, Asked, NamesFile, most_calendars}
 use Rattle.irs_base.specs.Limits.{most_bytes}
+use Rattle.irs_base.specs.Members.{Pairs}
 
 -- what a source tells of each name
 abbrev pub Told : Type 0

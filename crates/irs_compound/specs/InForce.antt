@@ -19,12 +19,6 @@ pub record InForce (values : StepValues) (d v : ℤ) : Type 0 where
   pub last_is : LastOf values.steps d last
   pub value_is : v ≡ value_of last values.initial
 
--- each step is after the one before it
-abbrev pub StepsRise : List Step → Type 0
-StepsRise [] = Unit {0}
-StepsRise (s ∷ []) = Unit {0}
-StepsRise (s ∷ t ∷ ss) = (s.day <ℤ t.day) × StepsRise (t ∷ ss)
-
 -- the later of a step and another, the first of the two where they have one date
 abbrev pub later_step : Option Step → Step → Step
 later_step None step = step

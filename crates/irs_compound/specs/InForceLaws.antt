@@ -8,7 +8,8 @@ use Rattle.irs_terms.specs.declared.step_list.Step.{Step}
 use Rattle.irs_terms.specs.declared.step_list.StepValues.{StepValues}
 use Rattle.irs_base.specs.Days.{IsDay}
 use Rattle.irs_terms.specs.Lawful.{IsLawfulValues}
-use Rattle.irs_compound.specs.InForce.{LastOf, InForce, StepsRise, value_of, later_step, counted_step, last_from, value_in_force}
+use Rattle.irs_compound.specs.InForce.{LastOf, InForce, value_of, later_step, counted_step, last_from, value_in_force}
+use Rattle.irs_terms.specs.StepDates.{StepsRise}
 
 same_day : (a : ℤ) → a ≤ℤ a
 same_day a = omega (arith, signed_arith)

@@ -10,10 +10,11 @@ use Rattle.irs_terms.specs.declared.codes.Treatment.TheVariants.{AsIs, ZeroFloor
 use Rattle.irs_terms.specs.declared.amounts.FloatTerms.{FloatTerms}
 use Rattle.irs_terms.specs.declared.step_list.StepValues.{StepValues}
 use Rattle.irs_compound.specs.declared.periods.Rates.{Rates}
-use Rattle.irs_compound.specs.InForce.{StepsRise, value_in_force}
+use Rattle.irs_compound.specs.InForce.{value_in_force}
 use Rattle.irs_compound.specs.InForceLaws.{in_force_is, one_in_force}
 use Rattle.irs_compound.specs.Tens.{ten_positive}
 use Rattle.irs_compound.specs.PeriodRates.{RateAt, Treats, RatesOf, FixedRatesOf, rate_at, treated, exact_base, rates_of, fixed_rates_of}
+use Rattle.irs_terms.specs.StepDates.{StepsRise}
 
 same_rates : (a b : Rates) → a.base ≡ b.base → a.all_in ≡ b.all_in → a ≡ b
 same_rates a b h k =

@@ -10,8 +10,9 @@ ghost use Rattle.irs_base.specs.Rounding.{rounded, Rounded};
 ghost use Rattle.irs_terms.specs.Lawful.{IsRate, IsLawfulValues, IsLawfulFloat};
 ghost use Rattle.irs_base.specs.Limits.{most_rate};
 ghost use Rattle.irs_compound.specs.declared.periods.Rates.{Rates};
-ghost use Rattle.irs_compound.specs.InForce.{StepsRise, value_in_force};
+ghost use Rattle.irs_compound.specs.InForce.{value_in_force};
 ghost use Rattle.irs_compound.specs.PeriodRates.{RatesOf, FixedRatesOf, rate_at, treated, rates_of, fixed_rates_of, most_exact_base, most_exact_rate, most_rounded_rate};
+ghost use Rattle.irs_terms.specs.StepDates.{StepsRise};
 
 use crate::periods::Rates;
 use crate::products::{product, ten_to};

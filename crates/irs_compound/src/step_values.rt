@@ -1,7 +1,8 @@
 //! The value that a schedule of steps gives on a day: that of the last step whose date isn't after
 //! the day, else the initial value (FpML `Schedule`).
 ghost use Rattle.std.specs.Prelude.{◌≡◌, ℤ};
-ghost use Rattle.irs_compound.specs.InForce.{InForce, StepsRise, counted_step, last_from, value_in_force};
+ghost use Rattle.irs_compound.specs.InForce.{InForce, counted_step, last_from, value_in_force};
+ghost use Rattle.irs_terms.specs.StepDates.{StepsRise};
 
 use irs_base::Day;
 use irs_terms::{Step, StepValues};

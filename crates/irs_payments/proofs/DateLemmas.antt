@@ -13,13 +13,14 @@ use Rattle.irs_adjust.proofs.OffsetLaws.{one_moved}
 use Rattle.irs_payments.specs.declared.dating.NoDate.{NoDate}
 use Rattle.irs_payments.specs.declared.dating.NoDate.TheVariants.{NoResult, OutOfRange}
 use Rattle.irs_payments.specs.NoDates.{no_move_of}
-use Rattle.irs_payments.specs.Numbered.{day_at}
 use Rattle.irs_payments.specs.Cuts.{cut_at}
 use Rattle.irs_payments.specs.Places.{ArePlaces}
-use Rattle.irs_payments.specs.PaymentDates.{IsSaid, IsPaymentDate, MovesNowhere, LacksResult, LeavesRange}
+use Rattle.irs_payments.specs.PaymentDates.{IsPaymentDate, MovesNowhere, LacksResult, LeavesRange}
 use Rattle.irs_payments.specs.Payments.{Covers}
 use Rattle.irs_payments.specs.Dating.{date_place, IsCutPayment, NoneLacks, NoneLeaves, ArePaid, LeavesFirst, Dated, Settles, IsOutcome}
-use Rattle.irs_payments.proofs.NumberLemmas.{numbered_push}
+use Rattle.irs_base.specs.Members.{day_at}
+use Rattle.irs_terms.specs.DayTypes.{IsSaid}
+use Rattle.irs_base.proofs.MemberLemmas.{numbered_push}
 
 kind_leaves : (pay : PayTerms) (set : DaySet) (start : ℤ) (kind : DayKind) → pay.offset.kind ≡ kind → IsSaid pay → MovesNowhere pay set start → no_move_of kind ≡ OutOfRange → kind ≡ Calendar
 kind_leaves pay set start Business e said none h = absurd (cc)

@@ -19,7 +19,7 @@ use Rattle.irs_adjust.proofs.CodeLaws.{one_adjusts}
 use Rattle.irs_payments.specs.declared.exchanges.Transfer.{Transfer}
 use Rattle.irs_payments.specs.Transfers.{transfer}
 use Rattle.irs_payments.specs.Exchanges.{initial_of, change, changes, intermediate_of, last_value, final_of, transfers_of, IsExchange, AreExchanges}
-use Rattle.irs_payments.proofs.NumberLemmas.{one_paired}
+use Rattle.irs_base.proofs.MemberLemmas.{one_paired}
 
 -- a power of ten is above 0
 ten_power : (n : ℕ) → 0 < 10 ^ n

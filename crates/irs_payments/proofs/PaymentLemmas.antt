@@ -3,7 +3,7 @@ use Rattle.std.proofs.Common.{◌≡◌, inl, inr, ℕ, zero, suc, ◌+◌, ◌-
 use Rattle.std.proofs.lemmas.Bool.{cases_lt}
 use Rattle.jiff_core.proofs.SignedLemmas.{signed_arith}
 use Rattle.irs_base.specs.Elements.{payment_dates}
-use Rattle.irs_base.specs.Listed.{Member, IsRising}
+use Rattle.irs_base.specs.Listed.{Member, IsRising, RunsFromTo}
 use Rattle.irs_base.proofs.Rising.{one_rising}
 use Rattle.irs_base.specs.declared.places.Rule.TheVariants.{K33, K38}
 use Rattle.irs_base.specs.declared.places.Broken.{Broken}
@@ -14,18 +14,18 @@ use Rattle.irs_terms.specs.FirstDay.{first_day_of}
 use Rattle.irs_terms.specs.declared.stream.Stream.{Stream}
 use Rattle.irs_calendar.specs.GoodDays.{DaySet}
 use Rattle.irs_payments.specs.Faults.{broken_at, turn, ComesBefore, IsFirst}
-use Rattle.irs_payments.specs.Numbered.{day_at, EachNumbered}
-use Rattle.irs_payments.specs.Grouping.{RunsFromTo, BreaksGrouping}
+use Rattle.irs_payments.specs.Grouping.{BreaksGrouping}
 use Rattle.irs_payments.specs.Cuts.{days_at, EachPlace, EndsAt, IsCut, AreCuts, cut_at}
 use Rattle.irs_payments.specs.Places.{ArePlaces}
 use Rattle.irs_payments.specs.PaymentDates.{IsPaymentDate, LacksResult, LeavesRange}
 use Rattle.irs_payments.specs.Payments.{pay_place, CoversPeriods, IsPayment, ArePayments, Covers, PaysFrom, IsLacking, IsLeaving, BreaksDates}
 use Rattle.irs_payments.specs.Dating.{date_place, IsCutPayment, NoneLacks, NoneLeaves, ArePaid, LeavesFirst, LacksFirst, IsDateFault}
 use Rattle.irs_payments.proofs.PlaceLemmas.{rises_at, place_below, place_same}
-use Rattle.irs_payments.proofs.NumberLemmas.{numbered_map, one_numbered}
 use Rattle.irs_payments.proofs.FirstFaults.{before_index}
 use Rattle.irs_payments.proofs.DateLemmas.{one_date}
 use Rattle.irs_payments.proofs.CutLemmas.{pay_listed, pay_at, length-pay, cut_places, cut_last, one_pay}
+use Rattle.irs_base.specs.Members.{day_at, EachNumbered}
+use Rattle.irs_base.proofs.MemberLemmas.{numbered_map, one_numbered}
 
 -- the periods between two places
 

@@ -6,7 +6,7 @@ use Rattle.irs_base.specs.Days.{IsDay, all_days, last_day}
 use Rattle.irs_base.specs.DayLists.{AreDays}
 use Rattle.irs_base.specs.Listed.{Member, AllAfter, IsRising}
 use Rattle.irs_base.proofs.Rising.{member_after}
-use Rattle.irs_payments.specs.Numbered.{day_at}
+use Rattle.irs_base.specs.Members.{day_at}
 
 pub member_at : (xs : List ℤ) (i : ℕ) → i < length xs → Member (day_at xs i) xs
 member_at [] i h = absurd (omega arith)

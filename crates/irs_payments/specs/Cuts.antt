@@ -2,8 +2,8 @@
 use Rattle.std.specs.Prelude.{◌≡◌, ℕ, ◌<◌, ◌≤◌, List, [], ◌∷◌, slice_index_or, ℤ}
 use Rattle.irs_base.specs.Listed.{Member, IsRising}
 use Rattle.irs_terms.specs.declared.stream.Stream.{Stream}
-use Rattle.irs_payments.specs.Numbered.{day_at}
 use Rattle.irs_payments.specs.Grouping.{pay_anchor, EndsPayment}
+use Rattle.irs_base.specs.Members.{day_at}
 
 -- the days at these places
 abbrev pub days_at : List ℤ → List ℕ → List ℤ

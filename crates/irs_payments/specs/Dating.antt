@@ -9,10 +9,10 @@ use Rattle.irs_calendar.specs.GoodDays.{DaySet}
 use Rattle.irs_payments.specs.declared.dating.NoDate.{NoDate}
 use Rattle.irs_payments.specs.declared.dating.NoDate.TheVariants.{NoResult, OutOfRange}
 use Rattle.irs_payments.specs.Faults.{broken_at}
-use Rattle.irs_payments.specs.Numbered.{day_at, EachNumbered}
 use Rattle.irs_payments.specs.Cuts.{cut_at}
 use Rattle.irs_payments.specs.PaymentDates.{IsPaymentDate, LacksResult, LeavesRange}
 use Rattle.irs_payments.specs.Payments.{pay_place, Covers}
+use Rattle.irs_base.specs.Members.{day_at, EachNumbered}
 
 -- the place of the unadjusted date of payment j
 abbrev pub date_place : Stream → List ℕ → ℕ → ℕ

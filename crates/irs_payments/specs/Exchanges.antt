@@ -15,7 +15,7 @@ use Rattle.irs_adjust.specs.Codes.{Adjusts}
 use Rattle.irs_payments.specs.declared.exchanges.Transfer.{Transfer}
 use Rattle.irs_payments.specs.Transfers.{transfer}
 use Rattle.irs_payments.specs.Faults.{BreaksIn}
-use Rattle.irs_payments.specs.Numbered.{Pairs}
+use Rattle.irs_base.specs.Members.{Pairs}
 
 -- the initial exchange: at the effective date, also where the first calculation period begins before
 -- it, the payer receives the first notional

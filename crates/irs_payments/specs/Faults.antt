@@ -3,7 +3,7 @@ use Rattle.std.specs.Prelude.{◌≡◌, ◌⊎◌, ℕ, ◌<◌, List}
 use Rattle.irs_base.specs.declared.places.Rule.{Rule}
 use Rattle.irs_base.specs.declared.places.Rule.TheVariants.{K33, K38}
 use Rattle.irs_base.specs.declared.places.Broken.{Broken}
-use Rattle.irs_payments.specs.Numbered.{HoldsOf}
+use Rattle.irs_base.specs.Members.{HoldsOf}
 
 -- a rule that is broken at an element of the one stream; the index is that of a step, a payment or an exchange, else 0
 abbrev pub broken_at : Rule → ℕ → ℕ → Broken

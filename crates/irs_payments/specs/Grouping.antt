@@ -10,16 +10,8 @@ use Rattle.irs_terms.specs.FirstDay.{first_day_of}
 use Rattle.irs_terms.specs.declared.stream.Stream.{Stream}
 use Rattle.irs_roll.specs.Rolls.{OnGrid}
 use Rattle.irs_payments.specs.Faults.{broken_at}
-use Rattle.irs_payments.specs.Frequencies.{same_length}
-use Rattle.irs_payments.specs.Numbered.{day_at}
-
--- the list rises strictly from the first day to the termination date, as boundaries do
-pub record RunsFromTo (first_day termination : ℤ) (boundaries : List ℤ) : Type 0 where
-  pub rising : IsRising boundaries
-  pub starts : Member first_day boundaries
-  pub ends : Member termination boundaries
-  pub from : (d : ℤ) → Member d boundaries → first_day ≤ℤ d
-  pub to : (d : ℤ) → Member d boundaries → d ≤ℤ termination
+use Rattle.irs_terms.specs.Lengths.{same_length}
+use Rattle.irs_base.specs.Members.{day_at}
 
 -- the first payment date where it is given; else boundary 1 where a payment is due for each period;
 -- else the first day

@@ -1,5 +1,3 @@
-pub mod Numbered
-pub mod Frequencies
 pub mod Faults
 pub mod Steps
 pub mod Transfers

@@ -6,10 +6,6 @@ use Rattle.irs_calendar.specs.GoodDays.{DaySet}
 use Rattle.irs_adjust.specs.Codes.{Adjusts}
 use Rattle.irs_adjust.specs.Offsets.{Moves}
 
--- the offset is 0, or its kind of days is said
-abbrev pub IsSaid : PayTerms → Type 0
-IsSaid pay = (pay.offset.days ≡ pos 0) ⊎ (pay.offset.kind ≡ Unsaid → ⊥)
-
 -- r is the start moved by paymentDaysOffset, and then adjusted by paymentDatesAdjustments
 pub record IsPaymentDate (pay : PayTerms) (set : DaySet) (start r : ℤ) : Type 0 where
   pub moved : ℤ

@@ -9,9 +9,9 @@ use Rattle.irs_terms.specs.declared.results.Payment.{Payment}
 use Rattle.irs_terms.specs.declared.stream.Stream.{Stream}
 use Rattle.irs_calendar.specs.GoodDays.{DaySet}
 use Rattle.irs_payments.specs.Faults.{broken_at}
-use Rattle.irs_payments.specs.Numbered.{day_at, EachNumbered}
 use Rattle.irs_payments.specs.Grouping.{PayList, BreaksGrouping}
 use Rattle.irs_payments.specs.PaymentDates.{IsPaymentDate, LacksResult, LeavesRange}
+use Rattle.irs_base.specs.Members.{day_at, EachNumbered}
 
 -- the place among the payment boundaries of the unadjusted date of payment j: the payment period's
 -- end, or its start under CalculationPeriodStartDate

@@ -3,8 +3,9 @@
 //! again. This order of steps is this project's own.
 ghost use Rattle.std.specs.Prelude.{◌≡◌, ◌<◌, IfOk, IsErrOf};
 ghost use Rattle.irs_payments.specs.NoDates.{no_move_of};
-ghost use Rattle.irs_payments.specs.PaymentDates.{IsPaymentDate, LacksResult, LeavesRange, IsSaid};
+ghost use Rattle.irs_payments.specs.PaymentDates.{IsPaymentDate, LacksResult, LeavesRange};
 ghost use Rattle.irs_payments.specs.Payments.{pay_place};
+ghost use Rattle.irs_terms.specs.DayTypes.{IsSaid};
 
 use irs_adjust::{adjust_by, move_by};
 use irs_base::Day;

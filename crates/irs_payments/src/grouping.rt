@@ -13,8 +13,9 @@ ghost use Rattle.irs_terms.specs.FirstDay.{first_day_of};
 ghost use Rattle.irs_terms.specs.Lawful.{IsLawfulStream, IsLawfulFrequency, IsLawfulRoll};
 ghost use Rattle.irs_roll.specs.Rolls.{OnGrid};
 ghost use Rattle.irs_payments.specs.Faults.{IsFirst};
-ghost use Rattle.irs_payments.specs.Frequencies.{days_in, months_in, same_length};
+ghost use Rattle.irs_payments.specs.Frequencies.{days_in, months_in};
 ghost use Rattle.irs_payments.specs.Grouping.{pay_anchor, IsRegularPay, EndsPayment, IsBadFirst, IsBadLast, BreaksGrouping};
+ghost use Rattle.irs_terms.specs.Lengths.{same_length};
 
 use crate::faults::broken;
 use crate::steps::has_day;

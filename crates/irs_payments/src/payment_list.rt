@@ -8,11 +8,11 @@ ghost use Rattle.irs_terms.specs.FirstDay.{first_day_of};
 ghost use Rattle.irs_terms.specs.Lawful.{IsLawfulStream};
 ghost use Rattle.irs_terms.specs.declared.results.Payment.{Payment};
 ghost use Rattle.irs_payments.specs.Faults.{broken_at, IsFirst};
-ghost use Rattle.irs_payments.specs.Grouping.{RunsFromTo};
-ghost use Rattle.irs_payments.specs.PaymentDates.{IsSaid};
 ghost use Rattle.irs_payments.specs.Payments.{ArePayments, Covers, BreaksPayments};
 ghost use Rattle.irs_payments.specs.Dating.{IsOutcome, Settles, earliest, ArePaid, NoneLacks, IsDateFault};
 ghost use Rattle.irs_payments.specs.Places.{ArePlaces};
+ghost use Rattle.irs_terms.specs.DayTypes.{IsSaid};
+ghost use Rattle.irs_base.specs.Listed.{RunsFromTo};
 
 use crate::PayErr;
 use crate::cuts::payment_places;

@@ -2,7 +2,7 @@
 //! worked by hand from the terms.
 ghost use Rattle.std.specs.Prelude.{IsTrue};
 ghost use Rattle.irs_terms.specs.Lawful.{IsLawfulStream};
-ghost use Rattle.irs_payments.specs.PaymentDates.{IsSaid};
+ghost use Rattle.irs_terms.specs.DayTypes.{IsSaid};
 
 use crate::tests_terms::{
     Change, NO_RATE_STEPS, NO_STEPS, QUARTERS, changed, days, run_from_to, span, stream,

@@ -3,9 +3,8 @@
 //! calendar by which rows adjust.
 ghost use Rattle.std.specs.Prelude.{◌≡◌, ◌↔◌, ◌≤◌, ℤ, ◌≤ℤ◌, All, IfOk, IfSome, IsTrue, length, pos};
 ghost use Rattle.irs_base.specs.Days.{IsDay};
-ghost use Rattle.irs_base.specs.Listed.{AllAfter, IsRising, Member};
+ghost use Rattle.irs_base.specs.Listed.{AllAfter, IsRising, Member, RunsFromTo};
 ghost use Rattle.irs_terms.specs.Lawful.{IsLawfulCenters, IsLawfulCurrency, IsLawfulDated, IsLawfulFloat, IsLawfulFrequency, IsLawfulLeg, IsLawfulOffset, IsLawfulPay, IsLawfulReset, IsLawfulRoll, IsLawfulStream, IsLawfulValues, IsNotional, IsRate};
-ghost use Rattle.irs_payments.specs.Grouping.{RunsFromTo};
 
 use crate::steps::has_day;
 use irs_base::{Civil, Day, DayList, Direction, MOST_RATE, MOST_STEPS, Text, day_of, read_date};

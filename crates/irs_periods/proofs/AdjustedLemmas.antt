@@ -9,10 +9,11 @@ use Rattle.irs_terms.specs.declared.stream.Stream.{Stream}
 use Rattle.irs_terms.specs.declared.results.Span.{Span}
 use Rattle.irs_adjust.proofs.CodeLaws.{one_adjusts}
 use Rattle.irs_terms.specs.FirstDay.{first_day_of}
-use Rattle.irs_periods.specs.Terms.{termination_of}
 use Rattle.irs_periods.specs.Boundaries.{Boundaries}
-use Rattle.irs_periods.specs.Adjusting.{BoundaryDays, AdjustedList, AdjustsAt, NotAfter, code_at, days_at, day_at, last_of}
+use Rattle.irs_periods.specs.Adjusting.{BoundaryDays, AdjustedList, AdjustsAt, NotAfter, code_at, days_at, last_of}
 use Rattle.irs_periods.proofs.GridDays.{cases_ltz}
+use Rattle.irs_terms.specs.TermDates.{termination_of}
+use Rattle.irs_base.specs.Members.{day_at}
 
 same_days : (xs ys : List ℤ) → length xs ≡ length ys → ((i : ℕ) → i < length xs → day_at xs i ≡ day_at ys i) → xs ≡ ys
 same_days [] [] e h = refl

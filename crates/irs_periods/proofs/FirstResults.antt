@@ -5,8 +5,9 @@ use Rattle.std.proofs.lemmas.Bool.Decides.{nat_tests}
 use Rattle.irs_base.specs.Elements.{effective_date, termination_date, period_dates_adjustments, first_period_start_date}
 use Rattle.irs_terms.specs.declared.adjustments.Dated.{Dated}
 use Rattle.irs_terms.specs.declared.stream.Stream.{Stream}
-use Rattle.irs_periods.specs.Terms.{first_day_element, first_day_element_by}
-use Rattle.irs_periods.specs.Adjusting.{BoundaryDays, AdjustsAt, NoResult, FirstNoResult, FirstLaterNoResult, boundary_index, day_at, last_of}
+use Rattle.irs_periods.specs.Adjusting.{BoundaryDays, AdjustsAt, NoResult, FirstNoResult, FirstLaterNoResult, boundary_index, last_of}
+use Rattle.irs_terms.specs.TermDates.{first_day_element, first_day_element_by}
+use Rattle.irs_base.specs.Members.{day_at}
 
 -- the element by which a boundary is named, `start` being that of boundary 0
 abbrev element : ℕ → ℕ → ℕ → ℕ

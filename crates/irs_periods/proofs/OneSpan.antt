@@ -8,8 +8,8 @@ use Rattle.irs_terms.specs.declared.results.Span.{Span}
 use Rattle.irs_roll.specs.Rolls.{OnGrid}
 use Rattle.irs_periods.specs.Nearest.{FirstFrom, FirstAfter, LastUpTo, LastBefore, LongFirst, LongLast}
 use Rattle.irs_terms.specs.FirstDay.{first_day_of}
-use Rattle.irs_periods.specs.Terms.{termination_of}
 use Rattle.irs_periods.specs.Spans.{StubSpan, SpanBy, Regular, is_term}
+use Rattle.irs_terms.specs.TermDates.{termination_of}
 
 module _ (on : ℤ → Type 0) where
   one_from : (d r q : ℤ) → FirstFrom on d r → FirstFrom on d q → r ≡ q

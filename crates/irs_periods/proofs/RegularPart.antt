@@ -7,9 +7,8 @@ use Rattle.irs_terms.specs.declared.frequency.Unit.{Unit as FrequencyUnit}
 use Rattle.irs_terms.specs.declared.frequency.Unit.TheVariants.{D, W, M, Y, T}
 use Rattle.irs_terms.specs.declared.stream.Stream.{Stream}
 use Rattle.irs_terms.specs.declared.results.Span.{Span}
-use Rattle.irs_roll.specs.Rolls.{IsTerm, OnGrid}
+use Rattle.irs_roll.specs.Rolls.{OnGrid}
 use Rattle.irs_terms.specs.FirstDay.{first_day_of}
-use Rattle.irs_periods.specs.Terms.{DatesInOrder, termination_of}
 use Rattle.irs_periods.specs.Spans.{Regular, GivenSpan, given_anchor, is_term}
 use Rattle.irs_periods.specs.SpanRules.{SpanKept}
 use Rattle.irs_periods.specs.Boundaries.{Boundaries, OnSpan}
@@ -19,6 +18,8 @@ use Rattle.irs_periods.proofs.GridDays.{no_earlier, number_order}
 use Rattle.irs_periods.proofs.GridSpans.{span_days}
 use Rattle.irs_periods.proofs.SpanOrder.{InTerm, given_in_term}
 use Rattle.irs_periods.proofs.Assembled.{assembled, same_boundaries}
+use Rattle.irs_terms.specs.Suiting.{IsTerm}
+use Rattle.irs_terms.specs.TermDates.{DatesInOrder, termination_of}
 
 pub timed_unit : (unit : FrequencyUnit) → (unit ≡ T → ⊥) → is_term unit ≡ false
 timed_unit D h = refl

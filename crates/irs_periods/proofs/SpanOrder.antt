@@ -4,8 +4,8 @@ use Rattle.jiff_core.proofs.SignedLemmas.{signed_arith}
 use Rattle.irs_terms.specs.declared.codes.StubKind.{StubKind}
 use Rattle.irs_terms.specs.declared.codes.StubKind.TheVariants.{ShortInitial, LongInitial, ShortFinal, LongFinal}
 use Rattle.irs_periods.specs.Nearest.{LongFirst, LongLast}
-use Rattle.irs_periods.specs.Terms.{given_or}
 use Rattle.irs_periods.specs.Spans.{StubSpan, GivenSpan, stub_anchor, given_anchor}
+use Rattle.irs_terms.specs.TermDates.{given_or}
 
 pub record InTerm (on : ℤ → Type 0) (e t first last : ℤ) : Type 0 where
   pub before : e ≤ℤ first

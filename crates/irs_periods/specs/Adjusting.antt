@@ -9,8 +9,9 @@ use Rattle.irs_terms.specs.declared.stream.Stream.{Stream}
 use Rattle.irs_terms.specs.FirstDay.{first_date_of}
 use Rattle.irs_calendar.specs.GoodDays.{DaySet}
 use Rattle.irs_adjust.specs.Codes.{Adjusts}
-use Rattle.irs_periods.specs.Terms.{first_day_element}
 use Rattle.irs_periods.specs.SpanRules.{broken_at}
+use Rattle.irs_terms.specs.TermDates.{first_day_element}
+use Rattle.irs_base.specs.Members.{day_at}
 
 -- the good days by which the first, the last and every other boundary are adjusted
 pub record BoundaryDays : Type 0 where
@@ -20,10 +21,6 @@ pub record BoundaryDays : Type 0 where
 
 abbrev pub days_by : DaySet → DaySet → DaySet → BoundaryDays
 days_by start end middle = record { start = start; end = end; middle = middle }
-
--- the day with that number in a list
-abbrev pub day_at : List ℤ → ℕ → ℤ
-day_at b i = slice_index_or b i (pos 0)
 
 -- the number of the last boundary
 abbrev pub last_of : List ℤ → ℕ

@@ -10,7 +10,7 @@ use Rattle.irs_terms.specs.declared.results.Span.{Span}
 use Rattle.irs_roll.specs.Rolls.{OnGrid}
 use Rattle.irs_periods.specs.SpanRules.{broken_at}
 use Rattle.irs_terms.specs.FirstDay.{first_day_of}
-use Rattle.irs_periods.specs.Terms.{termination_of}
+use Rattle.irs_terms.specs.TermDates.{termination_of}
 
 -- the day lies from first to last and is on the grid
 abbrev pub OnSpan : (ℤ → Type 0) → ℤ → ℤ → ℤ → Type 0

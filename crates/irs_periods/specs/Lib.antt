@@ -1,6 +1,5 @@
 pub mod Nearest
 pub mod Ways
-pub mod Terms
 pub mod Spans
 pub mod SpanRules
 pub mod Boundaries

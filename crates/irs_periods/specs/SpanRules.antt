@@ -9,9 +9,10 @@ use Rattle.irs_terms.specs.declared.codes.StubKind.{StubKind}
 use Rattle.irs_terms.specs.declared.codes.StubKind.TheVariants.{ShortInitial, LongInitial, ShortFinal, LongFinal}
 use Rattle.irs_terms.specs.declared.stream.Stream.{Stream}
 use Rattle.irs_terms.specs.declared.results.Span.{Span}
-use Rattle.irs_roll.specs.Rolls.{Fits, IsTerm, OnGrid}
-use Rattle.irs_periods.specs.Terms.{first_day_element}
+use Rattle.irs_roll.specs.Rolls.{Fits, OnGrid}
 use Rattle.irs_periods.specs.Spans.{anchor_of, Regular}
+use Rattle.irs_terms.specs.Suiting.{IsTerm}
+use Rattle.irs_terms.specs.TermDates.{first_day_element}
 
 -- a rule broken at an element of the stream
 abbrev pub broken_at : Rule → ℕ → ℕ → Broken

@@ -10,7 +10,7 @@ use Rattle.irs_terms.specs.declared.results.Span.{Span}
 use Rattle.irs_roll.specs.Rolls.{OnGrid}
 use Rattle.irs_periods.specs.Nearest.{FirstFrom, LastUpTo, LongFirst, LongLast}
 use Rattle.irs_terms.specs.FirstDay.{first_day_of}
-use Rattle.irs_periods.specs.Terms.{termination_of, given_or}
+use Rattle.irs_terms.specs.TermDates.{termination_of, given_or}
 
 -- the unit is the term
 abbrev pub is_term : FrequencyUnit → Bool

@@ -5,13 +5,14 @@
 ghost use Rattle.std.specs.Prelude.{◌≡◌, ◌<◌, ◌≤◌, ◌-◌, ◌^◌, ℕ, ℤ, List, length, IfOk, IfSome, IfNone};
 ghost use Rattle.irs_base.specs.Listed.{IsRising};
 ghost use Rattle.irs_terms.specs.declared.results.Span.{Span};
-ghost use Rattle.irs_periods.specs.Terms.{DatesInOrder};
 ghost use Rattle.irs_periods.specs.Boundaries.{Boundaries};
 ghost use Rattle.irs_periods.specs.SpanRules.{broken_at};
-ghost use Rattle.irs_periods.specs.Adjusting.{AdjustedBroken, AdjustedList, AdjustsAt, FirstLaterNoResult, FirstNoResult, FirstNotAfter, NoResult, NotAfter, boundary_element, boundary_index, day_at, days_by, last_of};
+ghost use Rattle.irs_periods.specs.Adjusting.{AdjustedBroken, AdjustedList, AdjustsAt, FirstLaterNoResult, FirstNoResult, FirstNotAfter, NoResult, NotAfter, boundary_element, boundary_index, days_by, last_of};
 ghost use Rattle.irs_periods.specs.PeriodErrors.{IfBroken};
 ghost use Rattle.irs_base.specs.declared.places.Rule.TheVariants.{K33, K34};
 ghost use Rattle.irs_base.specs.Elements.{calculation_period_dates};
+ghost use Rattle.irs_terms.specs.TermDates.{DatesInOrder};
+ghost use Rattle.irs_base.specs.Members.{day_at};
 
 use crate::PerErr;
 use crate::span::first_day_elem;

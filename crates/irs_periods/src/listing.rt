@@ -8,14 +8,15 @@ ghost use Rattle.irs_base.specs.Days.{IsDay, all_days};
 ghost use Rattle.irs_base.specs.Limits.{most_periods};
 ghost use Rattle.irs_base.specs.Elements.{calculation_period_frequency};
 ghost use Rattle.irs_terms.specs.Lawful.{IsLawfulStream};
-ghost use Rattle.irs_roll.specs.Rolls.{IsTerm, OnGrid};
+ghost use Rattle.irs_roll.specs.Rolls.{OnGrid};
 ghost use Rattle.irs_terms.specs.FirstDay.{first_day_of};
-ghost use Rattle.irs_periods.specs.Terms.{DatesInOrder, FrequencySuits, termination_of};
 ghost use Rattle.irs_periods.specs.Spans.{Regular, is_term};
 ghost use Rattle.irs_periods.specs.SpanRules.{SpanKept};
 ghost use Rattle.irs_periods.specs.Boundaries.{Boundaries, TooManyPeriods, too_many_periods};
 ghost use Rattle.irs_periods.specs.GridLists.{all_boundaries, days_from, where_before};
 ghost use Rattle.irs_periods.specs.PeriodErrors.{IfBroken};
+ghost use Rattle.irs_terms.specs.Suiting.{IsTerm, FrequencySuits};
+ghost use Rattle.irs_terms.specs.TermDates.{DatesInOrder, termination_of};
 
 use crate::PerErr;
 use crate::span::is_whole_term;

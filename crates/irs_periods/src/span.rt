@@ -17,11 +17,11 @@
 ghost use Rattle.std.specs.Prelude.{◌≡◌, ◌↔◌, ◌<◌, ℤ, false, true, pos, ◌<ℤ◌, IsTrue, IfOk, IfErr};
 ghost use Rattle.irs_base.specs.Days.{IsDay};
 ghost use Rattle.irs_terms.specs.Lawful.{IsLawfulStream};
-ghost use Rattle.irs_roll.specs.Rolls.{IsTerm};
 ghost use Rattle.irs_terms.specs.FirstDay.{first_day_of};
-ghost use Rattle.irs_periods.specs.Terms.{DatesInOrder, FrequencySuits, first_day_element, termination_of};
 ghost use Rattle.irs_periods.specs.Spans.{GivenSpan, Regular, StubSpan, anchor_of, given_anchor, is_term, stub_anchor};
 ghost use Rattle.irs_periods.specs.SpanRules.{SpanBroken, SpanKept, anchor_element, broken_at, last_element};
+ghost use Rattle.irs_terms.specs.Suiting.{IsTerm, FrequencySuits};
+ghost use Rattle.irs_terms.specs.TermDates.{DatesInOrder, first_day_element, termination_of};
 
 use crate::nearest::{Way, long_end, short_end};
 use irs_base::{Broken, Day, Elem, Place, Rule};

@@ -2,7 +2,8 @@
 ghost use Rattle.std.specs.Prelude.{◌≡◌, ◌≤◌, ◌<◌, ◌≤ℤ◌, ◌<ℤ◌, IfSome, IsTrue};
 ghost use Rattle.irs_base.specs.Days.{IsDay};
 ghost use Rattle.irs_terms.specs.Lawful.{IsLawfulCenters, IsLawfulFrequency, IsLawfulPay, IsLawfulRoll, IsLawfulStream, IsLawfulValues, IsNotional, IsRate};
-ghost use Rattle.irs_periods.specs.Terms.{DatesInOrder, FrequencySuits, given_or};
+ghost use Rattle.irs_terms.specs.TermDates.{DatesInOrder, given_or};
+ghost use Rattle.irs_terms.specs.Suiting.{FrequencySuits};
 
 mod grids;
 mod moved;

@@ -11,7 +11,8 @@ use Rattle.irs_adjust.proofs.CodeLaws.{one_adjusts}
 use Rattle.irs_adjust.proofs.OffsetLaws.{one_moved}
 use Rattle.irs_resets.specs.declared.dates.DateFault.{DateFault}
 use Rattle.irs_resets.specs.declared.dates.DateFault.TheVariants.{NoReset, NoFixing, OutOfRange}
-use Rattle.irs_resets.specs.ResetDates.{base_day, ResetsOn, FixesBy, FixesOn, IsDates, FixFails, FixingFails, HasFixingFault, Fails, IsSaidOffset, unmoved_fault}
+use Rattle.irs_resets.specs.ResetDates.{base_day, ResetsOn, FixesBy, FixesOn, IsDates, FixFails, FixingFails, HasFixingFault, Fails, unmoved_fault}
+use Rattle.irs_terms.specs.DayTypes.{IsSaid}
 
 pub one_reset : (t : ResetTerms) (a : List ℤ) (set : DaySet) (i : ℕ) (r s : ℤ) → ResetsOn t a set i r → ResetsOn t a set i s → r ≡ s
 one_reset t a set i r s p q = one_adjusts t.adj.code set (base_day t.relative a i) r s p q
@@ -80,11 +81,11 @@ one_fault OutOfRange NoFixing t a s u i p q = absurd (apart t a s u i q p)
 one_fault OutOfRange OutOfRange t a s u i p q = refl
 
 -- a day that can't be moved is the fault that its kind of days gives
-unmoved_by : (kind : DayKind) (fix : FixTerms) (set : DaySet) (r : ℤ) → fix.offset.kind ≡ kind → IsSaidOffset fix.offset → ((x : ℤ) → Moves fix.offset set r x → ⊥) → FixFails (unmoved_fault kind) fix set r
+unmoved_by : (kind : DayKind) (fix : FixTerms) (set : DaySet) (r : ℤ) → fix.offset.kind ≡ kind → IsSaid fix.offset → ((x : ℤ) → Moves fix.offset set r x → ⊥) → FixFails (unmoved_fault kind) fix set r
 unmoved_by Business fix set r e said none = inl (e, none)
 unmoved_by Calendar fix set r e said none = (e, none)
 unmoved_by Unsaid fix set r e (inl zero) none = absurd (none r (inl (zero, refl)))
 unmoved_by Unsaid fix set r e (inr said) none = absurd (said e)
 
-pub unmoved_fails : (fix : FixTerms) (set : DaySet) (r : ℤ) → IsSaidOffset fix.offset → ((x : ℤ) → Moves fix.offset set r x → ⊥) → FixFails (unmoved_fault fix.offset.kind) fix set r
+pub unmoved_fails : (fix : FixTerms) (set : DaySet) (r : ℤ) → IsSaid fix.offset → ((x : ℤ) → Moves fix.offset set r x → ⊥) → FixFails (unmoved_fault fix.offset.kind) fix set r
 unmoved_fails fix set r said none = unmoved_by fix.offset.kind fix set r refl said none

@@ -27,14 +27,6 @@ abbrev pub base_day : Relative → List ℤ → ℕ → ℤ
 base_day Start a i = slice_index_or a (i - 1) (pos 0)
 base_day End a i = slice_index_or a i (pos 0)
 
--- the kind of days is said, unless there are none
-abbrev pub IsSaidOffset : Offset → Type 0
-IsSaidOffset off = (off.days ≡ pos 0) ⊎ (off.kind ≡ Unsaid → ⊥)
-
-abbrev pub IsSaid : Option FixTerms → Type 0
-IsSaid None = Unit {0}
-IsSaid (Some fix) = IsSaidOffset fix.offset
-
 -- r is the reset date of period i: the adjusted start or end, adjusted again
 abbrev pub ResetsOn : ResetTerms → List ℤ → DaySet → ℕ → ℤ → Type 0
 ResetsOn t a set i r = Adjusts t.adj.code set (base_day t.relative a i) r

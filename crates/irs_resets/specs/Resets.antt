@@ -11,21 +11,10 @@ use Rattle.irs_terms.specs.declared.results.Reset.{Reset}
 use Rattle.irs_terms.specs.FirstDay.{first_day_of}
 use Rattle.irs_terms.specs.Lawful.{IsRate}
 use Rattle.irs_calendar.specs.GoodDays.{DaySet}
-use Rattle.irs_resets.specs.ResetDates.{IsDates, IsSaid}
+use Rattle.irs_resets.specs.ResetDates.{IsDates}
 use Rattle.irs_resets.specs.ObservedRates.{kind_at, observed_rate}
 use Rattle.irs_resets.specs.Rates.{RateTable}
-
--- a floating stream has `resetDates`; a fixed one has neither these nor rates of stubs
-abbrev pub FitsLeg : Leg → Option ResetTerms → Option StubTerms → Type 0
-FitsLeg (Fixed rates) reset stubs = (reset ≡ None) × (stubs ≡ None)
-FitsLeg (Floating float) reset stubs = IsSome reset
-
-abbrev pub HasResetTerms : Stream → Type 0
-HasResetTerms s = FitsLeg s.leg s.reset s.stubs
-
--- an offset of fixing dates other than 0 has a kind of days
-abbrev pub IsSaidReset : Stream → Type 0
-IsSaidReset s = IfSome s.reset (λ t. IsSaid t.fixing)
+use Rattle.irs_terms.specs.DayTypes.{IsSaidFixing}
 
 -- the reset of period i: its dates by the terms t, and its observed rate
 pub record IsReset (s : Stream) (float : FloatTerms) (t : ResetTerms) (span : Span) (a : List ℤ) (reset_set fixing_set : DaySet) (rates : RateTable) (i : ℕ) (row : Reset) : Type 0 where

@@ -5,7 +5,8 @@
 //! itself. The order of these steps is this project's own.
 ghost use Rattle.std.specs.Prelude.{◌≡◌, ◌⊎◌, ◌↔◌, ◌<◌, ◌^◌, ℕ, ℤ, pos, length, IsTrue, IfOk, IfErr, IfSome, IfNone};
 ghost use Rattle.irs_terms.specs.declared.codes.DayKind.TheVariants.{Unsaid};
-ghost use Rattle.irs_resets.specs.ResetDates.{base_day, IsPeriod, IsFirst, IsSaid, IsSaidOffset, ResetsOn, FixesOn, FixesBy, IsDates, FixingFails, FixFails, Fails, Decided, unmoved_fault};
+ghost use Rattle.irs_resets.specs.ResetDates.{base_day, IsPeriod, IsFirst, ResetsOn, FixesOn, FixesBy, IsDates, FixingFails, FixFails, Fails, Decided, unmoved_fault};
+ghost use Rattle.irs_terms.specs.DayTypes.{IsSaidFixing, IsSaid};
 
 use irs_adjust::{adjust_by, move_by};
 use irs_base::Day;
@@ -53,7 +54,7 @@ fn unmoved(kind: DayKind) -> DateFault
 }
 
 fn fix_by<G: GoodDays>(fix: &FixTerms, days: &G, reset: Day) -> Result<Day, DateFault>
-    requires { IsSaidOffset fix.now.offset }
+    requires { IsSaid fix.now.offset }
     ensures ok { IfOk result (FixesBy fix.now (G.days days.now) reset) }
     ensures fault { IfErr result (λ e. FixFails e fix.now (G.days days.now) reset) }
 {
@@ -71,7 +72,7 @@ fn fixing_date<G: GoodDays>(
     days: &G,
     reset: Day,
 ) -> Result<Day, DateFault>
-    requires { IsSaid fixing.now }
+    requires { IsSaidFixing fixing.now }
     ensures ok { IfOk result (FixesOn fixing.now (G.days days.now) reset) }
     ensures fault { IfErr result (λ e. FixingFails e fixing.now (G.days days.now) reset) }
 {
@@ -90,7 +91,7 @@ pub fn period_dates<G: GoodDays>(
     fixing_days: &G,
 ) -> Result<Dates, DateFault>
     requires period { IsPeriod adjusted.now number }
-    requires offset { IsSaid terms.now.fixing }
+    requires offset { IsSaidFixing terms.now.fixing }
     ensures ok { IfOk result (λ d. IsDates terms.now adjusted.now (G.days reset_days.now) (G.days fixing_days.now) number d.reset d.fixing) }
     ensures fault { IfErr result (λ e. Fails e terms.now adjusted.now (G.days reset_days.now) (G.days fixing_days.now) number) }
 {
@@ -119,7 +120,7 @@ fn has_fault<G: GoodDays>(
     fixing_days: &G,
 ) -> bool
     requires period { IsPeriod adjusted.now number }
-    requires offset { IsSaid terms.now.fixing }
+    requires offset { IsSaidFixing terms.now.fixing }
     ensures fault { IsTrue result ↔ Fails fault terms.now adjusted.now (G.days reset_days.now) (G.days fixing_days.now) number }
     ensures decided { Decided terms.now adjusted.now (G.days reset_days.now) (G.days fixing_days.now) number }
 {
@@ -138,7 +139,7 @@ pub fn first_with<G: GoodDays>(
     fixing_days: &G,
 ) -> Option<u32>
     requires few { length adjusted.now < 2 ^ 32 }
-    requires offset { IsSaid terms.now.fixing }
+    requires offset { IsSaidFixing terms.now.fixing }
     ensures some { IfSome result (IsFirst (Fails fault terms.now adjusted.now (G.days reset_days.now) (G.days fixing_days.now))) }
     ensures none { IfNone result ((i : ℕ) → IsPeriod adjusted.now i → Fails fault terms.now adjusted.now (G.days reset_days.now) (G.days fixing_days.now) i → ⊥) }
     ensures decided { IfNone result ((i : ℕ) → IsPeriod adjusted.now i → Decided terms.now adjusted.now (G.days reset_days.now) (G.days fixing_days.now) i) }

@@ -6,10 +6,12 @@ ghost use Rattle.irs_base.specs.Listed.{IsRising};
 ghost use Rattle.irs_base.specs.declared.places.Broken.{Broken as BrokenRule};
 ghost use Rattle.irs_terms.specs.declared.results.Reset.{Reset as ResetRow};
 ghost use Rattle.irs_terms.specs.Lawful.{IsRate, IsLawfulFloat, IsLawfulStubs, IsLawfulStream};
-ghost use Rattle.irs_resets.specs.ResetDates.{IsPeriod, IsSaid, HasDates, IsDates};
-ghost use Rattle.irs_resets.specs.Resets.{HasResetTerms, IsSaidReset, HasSmallRate, HasResets, IsResets};
+ghost use Rattle.irs_resets.specs.ResetDates.{IsPeriod, HasDates, IsDates};
+ghost use Rattle.irs_resets.specs.Resets.{HasSmallRate, HasResets, IsResets};
 ghost use Rattle.irs_resets.specs.ResetRules.{broken_at, GivesInitial, GivesFinal, InitialUnmet, FinalUnmet, StubBroken, StubsMet, DatesBroken, FirstBroken, IfBroken};
 ghost use Rattle.irs_resets.specs.declared.rows.ResErr.TheVariants.{Memory as OfMemory};
+ghost use Rattle.irs_terms.specs.DayTypes.{IsSaidFixing, IsSaidReset};
+ghost use Rattle.irs_terms.specs.Legs.{FitsLeg};
 
 use crate::Fixings;
 use crate::dates::{DateFault, Dates, first_with, period_dates};
@@ -111,7 +113,7 @@ fn dates_broken<G: GoodDays>(
     fixing_days: &G,
 ) -> Option<Broken>
     requires few { length adjusted.now < 2 ^ 32 }
-    requires offset { IsSaid terms.now.fixing }
+    requires offset { IsSaidFixing terms.now.fixing }
     ensures some { IfSome result (DatesBroken terms.now adjusted.now (G.days reset_days.now) (G.days fixing_days.now)) }
     ensures none { IfNone result ((i : ℕ) → IsPeriod adjusted.now i → HasDates terms.now adjusted.now (G.days reset_days.now) (G.days fixing_days.now) i) }
 {
@@ -148,7 +150,7 @@ fn dates_of<G: GoodDays>(
     fixing_days: &G,
 ) -> Dates
     requires period { IsPeriod adjusted.now number }
-    requires offset { IsSaid terms.now.fixing }
+    requires offset { IsSaidFixing terms.now.fixing }
     requires has { HasDates terms.now adjusted.now (G.days reset_days.now) (G.days fixing_days.now) number }
     ensures { IsDates terms.now adjusted.now (G.days reset_days.now) (G.days fixing_days.now) number result.reset result.fixing }
 {
@@ -170,7 +172,7 @@ fn listed<G: GoodDays>(
     fixing_days: &G,
     fixings: &Fixings,
 ) -> Result<Resets, Memory>
-    requires offset { IsSaid terms.now.fixing }
+    requires offset { IsSaidFixing terms.now.fixing }
     requires float { IsLawfulFloat float.now }
     requires stubs { IfSome s.now.stubs IsLawfulStubs }
     requires has { (i : ℕ) → IsPeriod adjusted.now i → HasDates terms.now adjusted.now (G.days reset_days.now) (G.days fixing_days.now) i }
@@ -202,7 +204,7 @@ fn floating_resets<G: GoodDays>(
     fixing_days: &G,
     fixings: &Fixings,
 ) -> Result<Resets, ResErr>
-    requires offset { IsSaid terms.now.fixing }
+    requires offset { IsSaidFixing terms.now.fixing }
     requires float { IsLawfulFloat float.now }
     requires stubs { IfSome s.now.stubs IsLawfulStubs }
     requires rising { IsRising adjusted.now }
@@ -249,7 +251,7 @@ pub fn resets<G: GoodDays>(
     fixings: &Fixings,
 ) -> Result<Resets, ResErr>
     requires lawful { IsLawfulStream s.now }
-    requires legs { HasResetTerms s.now }
+    requires legs { FitsLeg s.now }
     requires offset { IsSaidReset s.now }
     requires rising { IsRising adjusted.now }
     // The rows are the resets of the definition, and K37 isn't broken.

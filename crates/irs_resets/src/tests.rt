@@ -5,8 +5,8 @@ ghost use Rattle.irs_base.specs.Days.{IsDay};
 ghost use Rattle.irs_base.specs.Listed.{IsRising};
 ghost use Rattle.irs_terms.specs.Lawful.{IsRate, IsLawfulDated, IsLawfulFix, IsLawfulFloat, IsLawfulFrequency, IsLawfulIndex, IsLawfulPay, IsLawfulReset, IsLawfulStubRate, IsLawfulStubs, IsLawfulStream, IsLawfulTenor};
 ghost use Rattle.irs_terms.specs.declared.frequency.Unit.TheVariants.{M};
-ghost use Rattle.irs_resets.specs.ResetDates.{IsSaid, IsSaidOffset};
-ghost use Rattle.irs_resets.specs.Resets.{HasResetTerms, IsSaidReset};
+ghost use Rattle.irs_terms.specs.DayTypes.{IsSaidFixing, IsSaid, IsSaidReset};
+ghost use Rattle.irs_terms.specs.Legs.{FitsLeg};
 
 mod files;
 mod rows;
@@ -181,7 +181,7 @@ fn stubs(alloc: Global, row: &Row) -> Option<StubTerms>
 }
 
 fn fix_terms(given: Fixing) -> Option<FixTerms>
-    ensures said { IfSome result (λ f. IsSaidOffset f.offset) }
+    ensures said { IfSome result (λ f. IsSaid f.offset) }
     ensures lawful { IfSome result IsLawfulFix }
 {
     let Fixing(days, kind, by) = given;
@@ -195,7 +195,7 @@ fn fix_terms(given: Fixing) -> Option<FixTerms>
 }
 
 fn given_fixing(given: Option<Fixing>) -> Option<FixTerms>
-    ensures said { IsSaid result }
+    ensures said { IsSaidFixing result }
     ensures lawful { IfSome result IsLawfulFix }
 {
     match given {
@@ -205,7 +205,7 @@ fn given_fixing(given: Option<Fixing>) -> Option<FixTerms>
 }
 
 fn reset_terms(row: &Row) -> ResetTerms
-    ensures said { IsSaid result.fixing }
+    ensures said { IsSaidFixing result.fixing }
     ensures lawful { IsLawfulReset result }
 {
     ResetTerms {
@@ -249,7 +249,7 @@ fn start(row: &Row) -> Option<(Dated, Option<Dated>)>
 
 fn stream(alloc: Global, row: &Row) -> Option<Stream>
     ensures lawful { IfSome result IsLawfulStream }
-    ensures legs { IfSome result HasResetTerms }
+    ensures legs { IfSome result FitsLeg }
     ensures said { IfSome result IsSaidReset }
 {
     if row.roll < 1 || row.roll > 30 {
@@ -285,7 +285,7 @@ fn stream(alloc: Global, row: &Row) -> Option<Stream>
 // The same with a fixed rate.
 fn fixed_stream(alloc: Global, row: &Row) -> Option<Stream>
     ensures lawful { IfSome result IsLawfulStream }
-    ensures legs { IfSome result HasResetTerms }
+    ensures legs { IfSome result FitsLeg }
     ensures said { IfSome result IsSaidReset }
 {
     let floating = stream(alloc, row)?;
@@ -374,7 +374,7 @@ fn resets_of(
     market: &Market,
 ) -> Option<Result<Resets, ResErr>>
     requires lawful { IsLawfulStream s.now }
-    requires legs { HasResetTerms s.now }
+    requires legs { FitsLeg s.now }
     requires said { IsSaidReset s.now }
 {
     let adjusted = boundaries(alloc, row)?;

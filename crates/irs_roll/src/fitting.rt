@@ -4,7 +4,8 @@
 ghost use Rattle.std.specs.Prelude.{◌≡◌, ◌↔◌, ◌<◌, ℤ, IsTrue};
 ghost use Rattle.irs_terms.specs.Lawful.{IsLawfulRoll};
 ghost use Rattle.irs_roll.specs.Grids.{OnDays, OnMonths, OnRollDay};
-ghost use Rattle.irs_roll.specs.Rolls.{Fits, FitsWeek, IsRollDay, IsTerm, OnGrid, RollsMonths, RollsWeeks, Suits};
+ghost use Rattle.irs_roll.specs.Rolls.{Fits, FitsWeek, IsRollDay, OnGrid};
+ghost use Rattle.irs_terms.specs.Suiting.{IsTerm, RollsMonths, RollsWeeks, Suits};
 
 use crate::month_grid::steps_to;
 use crate::rolls::{DayNumber, EndOfMonth, Imm, Roll};

@@ -2,7 +2,7 @@
 use Rattle.std.proofs.Common.{◌≡◌, ℕ, zero, suc, ◌*◌, ◌/◌, ◌%◌, ◌<◌, arith, ap, ◌∙◌}
 use Rattle.std.proofs.Math.Nat.{mul-mod_left}
 use Rattle.std.proofs.lemmas.Nat.{div-add-mod'}
-use Rattle.irs_rules.specs.Lengths.{IsTimes}
+use Rattle.irs_terms.specs.Lengths.{IsTimes}
 
 pub times_of : (whole part : ℕ) → whole % part ≡ 0 → (times : ℕ) × IsTimes whole part times
 times_of whole part e = (whole / part, omega (arith, div-add-mod' whole part))

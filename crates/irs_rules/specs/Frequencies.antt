@@ -9,8 +9,8 @@ use Rattle.irs_terms.specs.declared.stream.Stream.{Stream}
 use Rattle.irs_rules.specs.declared.lengths.Length.{Length}
 use Rattle.irs_rules.specs.declared.lengths.Length.TheVariants.{Days, Months, Term}
 use Rattle.irs_rules.specs.declared.spot.Spot.{Spot}
-use Rattle.irs_rules.specs.Lengths.{length_of, IsTimes}
 use Rattle.irs_rules.specs.Spots.{At}
+use Rattle.irs_terms.specs.Lengths.{length_of, IsTimes}
 
 -- months and years roll on EOM, on 1 to 30 or on IMM, and not on a weekday or NONE
 abbrev pub RollsNoMonth : RollCode → Type 0

@@ -1,6 +1,5 @@
 pub mod Order
 pub mod Spots
-pub mod Lengths
 pub mod References
 pub mod Centers
 pub mod DateOrder

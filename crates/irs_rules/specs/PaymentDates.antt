@@ -11,8 +11,8 @@ use Rattle.irs_terms.specs.FirstDay.{first_day_of}
 use Rattle.irs_rules.specs.declared.lengths.Length.{Length}
 use Rattle.irs_rules.specs.declared.lengths.Length.TheVariants.{Days, Months, Term}
 use Rattle.irs_rules.specs.declared.spot.Spot.{Spot}
-use Rattle.irs_rules.specs.Lengths.{length_of, IsTimes}
 use Rattle.irs_rules.specs.Spots.{At}
+use Rattle.irs_terms.specs.Lengths.{length_of, IsTimes}
 
 -- a first regular date other than the first day of the first period is given
 abbrev pub StartsLater : Stream → Type 0

@@ -3,8 +3,8 @@
 ghost use Rattle.std.specs.Prelude.{◌≢◌, ◌<◌, ◌↔◌, IsTrue, IsSomeAnd};
 ghost use Rattle.irs_terms.specs.Lawful.{IsLawfulStream};
 ghost use Rattle.irs_rules.specs.Order.{IsFirstSpot};
-ghost use Rattle.irs_rules.specs.Lengths.{length_of as length_in, IsPositive};
 ghost use Rattle.irs_rules.specs.Frequencies.{BreaksK14, BreaksK15, BreaksK20, MisfitsBy, MisfitsPeriods, RollsNoMonth, RollsNoWeek};
+ghost use Rattle.irs_terms.specs.Lengths.{length_of as length_in, IsPositive};
 
 use crate::lengths::{Length, is_multiple, length_of};
 use crate::spot::{Spot, spot_where};

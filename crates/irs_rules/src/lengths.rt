@@ -1,7 +1,7 @@
 //! How long a frequency is: a week is 7 days and a year 12 months, so that 7D and 1W are the same
 //! and 12M and 1Y are.
 ghost use Rattle.std.specs.Prelude.{◌≡◌, ℕ, ◌<◌, ◌↔◌, IsTrue};
-ghost use Rattle.irs_rules.specs.Lengths.{length_of as length_in, IsTimes};
+ghost use Rattle.irs_terms.specs.Lengths.{length_of as length_in, IsTimes};
 
 use irs_terms::{Frequency, Unit};
 

@@ -2,8 +2,8 @@
 ghost use Rattle.std.specs.Prelude.{◌⊎◌, ◌<ℤ◌, ◌↔◌, IsTrue, IsSomeAnd};
 ghost use Rattle.irs_terms.specs.Lawful.{IsLawfulStream};
 ghost use Rattle.irs_rules.specs.Order.{IsFirstSpot};
-ghost use Rattle.irs_rules.specs.Lengths.{IsPositive};
 ghost use Rattle.irs_rules.specs.PaymentDates.{AsksInitialStub, BreaksK16, GroupsPeriods, HasInitialKind, HasNoRegularPayments, IsFirstMisfit, IsFirstPaymentOut, IsInitial, IsLastMisfit, IsLastPaymentOut, LacksFirstPayment, StartsLater};
+ghost use Rattle.irs_terms.specs.Lengths.{IsPositive};
 
 use crate::lengths::{Length, is_larger_multiple, length_of};
 use crate::spot::{Spot, earlier, spot_where};

@@ -14,14 +14,14 @@ use Rattle.irs_daycount.specs.FractionLaws.{one_denominator}
 use Rattle.irs_compound.specs.Amounts.{IsFraction, IsTerm, IsPayment, AllPriced, AmountOf, Passes, PassesFirst, code_for, denominator, most_places}
 use Rattle.irs_compound.specs.InForceLaws.{in_force_within}
 use Rattle.irs_compound.specs.declared.periods.PeriodTerm.{PeriodTerm}
-use Rattle.irs_payments.specs.Numbered.{EachNumbered}
-use Rattle.irs_schedule.specs.Parts.{IsAmount, day_at}
+use Rattle.irs_schedule.specs.Parts.{IsAmount}
 use Rattle.irs_schedule.specs.PeriodTerms.{IsPeriodTerm, AreTerms, IsAmountBy, NonePasses, PassesIn, PassesFirstIn, IsTable, dec_of}
-use Rattle.irs_schedule.specs.StepsRising.{AllStepsRise}
 use Rattle.irs_schedule.proofs.AmountBounds.{amount_bounded}
 use Rattle.irs_schedule.proofs.PlaceLemmas.{decimals_few}
 use Rattle.irs_schedule.proofs.TermsThere.{terms_fit}
 use Rattle.irs_schedule.proofs.Unique.{one_terms}
+use Rattle.irs_base.specs.Members.{EachNumbered, day_at}
+use Rattle.irs_terms.specs.StepDates.{AllStepsRise}
 
 -- the amount in the decimals of the currency
 pub amount_by : (s : Stream) (ts : List PeriodTerm) (places : ℕ) (units : Option ℤ) → places ≡ decimals_of s.currency.letters → AmountOf s.compounding ts places units → IsAmountBy s ts (option_map (dec_of places) units)

@@ -14,12 +14,14 @@ use Rattle.irs_terms.specs.declared.frequency.Unit.{Unit as FrequencyUnit}
 use Rattle.irs_terms.specs.declared.frequency.Unit.TheVariants.{D, W, M, Y, T}
 use Rattle.irs_terms.specs.declared.stream.Stream.{Stream}
 use Rattle.irs_roll.specs.Grids.{IsMultiple, OnMonths, OnRollDay}
-use Rattle.irs_roll.specs.Rolls.{Fits, FitsBy, FitsWeek, IsRollDay, IsTerm, OnGrid, OnGridBy}
+use Rattle.irs_roll.specs.Rolls.{Fits, FitsBy, FitsWeek, IsRollDay, OnGrid, OnGridBy}
 use Rattle.irs_periods.specs.Spans.{anchor_by, anchor_of, is_term, stub_anchor}
-use Rattle.irs_periods.specs.Terms.{termination_of}
-use Rattle.irs_schedule.proofs.Decided.{IsDecided, decides_on_grid}
 use Rattle.irs_terms.specs.FirstDay.{first_day_of}
-use Rattle.irs_schedule.proofs.FirstDays.{first_day_is_day}
+use Rattle.irs_terms.specs.Suiting.{IsTerm}
+use Rattle.irs_terms.specs.TermDates.{termination_of}
+use Rattle.irs_base.specs.Order.{IsDecided}
+use Rattle.irs_roll.proofs.GridsDecided.{decides_on_grid}
+use Rattle.irs_terms.proofs.FirstDays.{first_day_is_day}
 
 -- an anchor that the roll fits is on its own grid
 

@@ -13,13 +13,13 @@ use Rattle.irs_terms.specs.declared.stream.Stream.{Stream}
 use Rattle.irs_calendar.specs.GoodDays.{DaySet}
 use Rattle.irs_payments.specs.declared.exchanges.Transfer.{Transfer}
 use Rattle.irs_payments.specs.Exchanges.{IsExchange, AreExchanges, transfers_of}
-use Rattle.irs_payments.specs.Numbered.{Pairs}
 use Rattle.irs_payments.specs.Payments.{Covers as CoversPeriods}
 use Rattle.irs_payments.proofs.ExchangeLemmas.{small_transfers, few_transfers}
 use Rattle.irs_schedule.specs.declared.entries.PaymentEntry.{PaymentEntry}
-use Rattle.irs_schedule.specs.Parts.{Every, Covers, Rises, RisesFrom, IsAmount}
+use Rattle.irs_schedule.specs.Parts.{Covers, Rises, RisesFrom, IsAmount}
 use Rattle.irs_schedule.specs.Schedules.{payment_of}
 use Rattle.irs_schedule.proofs.PlaceLemmas.{decimals_few}
+use Rattle.irs_base.specs.Members.{Pairs, Every}
 
 -- days that rise, each against the one before it
 rises_after : (d : ℤ) (xs : List ℤ) → AllAfter d xs → IsRising xs → RisesFrom d xs

@@ -10,18 +10,21 @@ use Rattle.irs_calendar.specs.GoodDays.{DaySet}
 use Rattle.irs_roll.specs.Rolls.{OnGrid}
 use Rattle.irs_payments.specs.Cuts.{AreCuts, EndsAt, cut_at}
 use Rattle.irs_payments.specs.Dating.{ArePaid, IsCutPayment, date_place}
-use Rattle.irs_payments.specs.Frequencies.{same_length}
-use Rattle.irs_payments.specs.Grouping.{EndsPayment, IsRegularPay, RunsFromTo, anchor_by, pay_anchor}
-use Rattle.irs_payments.specs.Numbered.{day_at}
+use Rattle.irs_payments.specs.Grouping.{EndsPayment, IsRegularPay, anchor_by, pay_anchor}
 use Rattle.irs_payments.specs.PaymentDates.{IsPaymentDate}
 use Rattle.irs_payments.specs.Places.{ArePlaces}
 use Rattle.irs_payments.proofs.CutLemmas.{no_cuts, pass_cut, take_cut}
 use Rattle.irs_payments.proofs.DateLemmas.{dated_more, none_dated}
 use Rattle.irs_payments.proofs.PlaceLemmas.{place_of}
-use Rattle.irs_schedule.proofs.Decided.{IsDecided, decides_on_grid, decides_same}
-use Rattle.irs_schedule.proofs.FoundDays.{decides_le}
+use Rattle.irs_adjust.proofs.FoundDays.{decides_le}
 use Rattle.irs_terms.specs.FirstDay.{first_day_of}
-use Rattle.irs_schedule.proofs.FirstDays.{first_day_is_day}
+use Rattle.irs_terms.specs.Lengths.{same_length}
+use Rattle.irs_base.specs.Members.{day_at}
+use Rattle.irs_base.specs.Order.{IsDecided}
+use Rattle.irs_roll.proofs.GridsDecided.{decides_on_grid}
+use Rattle.irs_base.proofs.Decided.{decides_same}
+use Rattle.irs_terms.proofs.FirstDays.{first_day_is_day}
+use Rattle.irs_base.specs.Listed.{RunsFromTo}
 
 -- each place of a list of days has a day, those past its end too
 pub day_at_day : (a : List ℤ) (i : ℕ) → AreDays a → IsDay (day_at a i)

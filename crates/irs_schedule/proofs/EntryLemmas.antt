@@ -14,12 +14,11 @@ use Rattle.irs_compound.specs.PeriodRates.{rates_of, fixed_rates_of}
 use Rattle.irs_compound.specs.RateLaws.{rates_are, fixed_rates_are}
 use Rattle.irs_compound.specs.declared.periods.PeriodTerm.{PeriodTerm}
 use Rattle.irs_compound.specs.declared.periods.Rates.{Rates}
-use Rattle.irs_payments.specs.Numbered.{EachNumbered}
 use Rattle.irs_payments.proofs.PlaceLemmas.{rises_at}
 use Rattle.irs_schedule.specs.declared.kept_terms.KeptTerms.{KeptTerms}
-use Rattle.irs_schedule.specs.Parts.{day_at}
 use Rattle.irs_schedule.specs.Periods.{count_of, observed_of, rate_by, period_by, periods_by}
 use Rattle.irs_schedule.specs.PeriodTerms.{AreRates, IsPeriodTerm, IsPeriodEntry}
+use Rattle.irs_base.specs.Members.{EachNumbered, day_at}
 
 -- the rates of a period as a function
 abbrev rates_by : Leg → ℤ → Option ℤ → Option Rates

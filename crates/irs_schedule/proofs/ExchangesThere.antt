@@ -20,9 +20,9 @@ use Rattle.irs_adjust.specs.Codes.{Adjusts}
 use Rattle.irs_payments.specs.declared.exchanges.Transfer.{Transfer}
 use Rattle.irs_payments.specs.Transfers.{transfer}
 use Rattle.irs_payments.specs.Faults.{broken_at}
-use Rattle.irs_payments.specs.Numbered.{Pairs}
 use Rattle.irs_payments.specs.Exchanges.{initial_of, change, changes, intermediate_of, last_value, final_of, transfers_of, IsExchange, AreExchanges, BreaksExchanges}
-use Rattle.irs_schedule.proofs.FoundDays.{InRange, IsFound, decides_adjusts}
+use Rattle.irs_adjust.proofs.FoundDays.{InRange, IsFound, decides_adjusts}
+use Rattle.irs_base.specs.Members.{Pairs}
 
 -- the dates of the exchanges are days
 

@@ -8,7 +8,6 @@ use Rattle.irs_terms.specs.declared.results.Payment.{Payment}
 use Rattle.irs_terms.specs.declared.stream.Stream.{Stream}
 use Rattle.irs_calendar.specs.declared.sections.Section.{Section}
 use Rattle.irs_periods.proofs.AdjustedLemmas.{two_boundaries}
-use Rattle.irs_payments.specs.Grouping.{RunsFromTo}
 use Rattle.irs_payments.specs.Payments.{ArePayments, Covers}
 use Rattle.irs_schedule.specs.DaySets.{StreamSets}
 use Rattle.irs_schedule.specs.declared.layouts.Layout.{Layout}
@@ -19,6 +18,7 @@ use Rattle.irs_schedule.proofs.BoundariesThere.{boundaries_days, boundaries_run}
 use Rattle.irs_schedule.proofs.PaymentsCover.{every_payments_cover}
 use Rattle.irs_schedule.proofs.StreamRanges.{AreInRange}
 use Rattle.irs_terms.specs.FirstDay.{first_day_of}
+use Rattle.irs_base.specs.Listed.{RunsFromTo}
 
 module _ (cal : List Section) (sets : StreamSets) (s : Stream) (lawful : IsLawfulStream s) (terms : TermsKept cal s) (l : Layout) (is : IsLayout sets s l) where
   pub layout_runs : RunsFromTo (first_day_of s) s.termination.day l.unadjusted

@@ -1,4 +1,3 @@
-pub mod FirstDays
 pub mod RateLemmas
 pub mod PeriodLemmas
 pub mod PartLemmas
@@ -7,9 +6,6 @@ pub mod TextLemmas
 pub mod PlaceLemmas
 pub mod PaymentLemmas
 pub mod CountLemmas
-pub mod Decided
-pub mod FoundDays
-pub mod MovedDays
 pub mod AdjustedBoundaries
 pub mod ExchangesThere
 pub mod ResetsThere

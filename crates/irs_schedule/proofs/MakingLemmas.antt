@@ -8,14 +8,14 @@ use Rattle.irs_terms.specs.Lawful.{IsLawful}
 use Rattle.irs_terms.specs.declared.stream.Stream.{Stream}
 use Rattle.irs_terms.specs.declared.stream_list.Swap.{Swap}
 use Rattle.irs_calendar.specs.declared.sections.Section.{Section}
-use Rattle.irs_payments.specs.Numbered.{Pairs}
-use Rattle.irs_payments.proofs.NumberLemmas.{pairs_more}
 use Rattle.irs_resets.specs.Rates.{RateTable}
 use Rattle.irs_schedule.specs.DaySets.{StreamSets, stream_sets}
 use Rattle.irs_schedule.specs.DatedRules.{StreamKept, StreamBroken, DatedKept, DatedBroken, in_stream}
-use Rattle.irs_schedule.specs.Parts.{Part, Every, KeepsBounds, IsWithin}
+use Rattle.irs_schedule.specs.Parts.{Part, KeepsBounds, IsWithin}
 use Rattle.irs_schedule.specs.Schedules.{IsPart, IsSchedule}
 use Rattle.irs_schedule.proofs.PaymentLemmas.{every_more}
+use Rattle.irs_base.specs.Members.{Pairs, Every}
+use Rattle.irs_base.proofs.MemberLemmas.{pairs_more}
 
 abbrev IsPartOf : List Section → RateTable → Stream → Part → Type 0
 IsPartOf cal fix s p = IsPart (stream_sets cal s) fix s p

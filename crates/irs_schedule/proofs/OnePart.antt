@@ -6,10 +6,8 @@ use Rattle.irs_terms.specs.declared.results.Reset.{Reset}
 use Rattle.irs_terms.specs.declared.stream.Stream.{Stream}
 use Rattle.irs_terms.specs.declared.stream_list.Swap.{Swap}
 use Rattle.irs_calendar.specs.declared.sections.Section.{Section}
-use Rattle.irs_payments.specs.Numbered.{EachNumbered, Pairs}
 use Rattle.irs_payments.specs.Payments.{ArePayments}
 use Rattle.irs_payments.proofs.ExchangeLemmas.{one_exchanges}
-use Rattle.irs_payments.proofs.NumberLemmas.{one_numbered}
 use Rattle.irs_payments.proofs.PaymentLemmas.{one_payments}
 use Rattle.irs_resets.proofs.RowLemmas.{one_resets}
 use Rattle.irs_resets.specs.Rates.{RateTable}
@@ -20,7 +18,7 @@ use Rattle.irs_schedule.specs.declared.entries.PaymentEntry.{PaymentEntry}
 use Rattle.irs_schedule.specs.declared.entries.PeriodEntry.{PeriodEntry}
 use Rattle.irs_schedule.specs.declared.layouts.Layout.{Layout}
 use Rattle.irs_schedule.specs.Layouts.{IsLayout}
-use Rattle.irs_schedule.specs.Parts.{Every, Part}
+use Rattle.irs_schedule.specs.Parts.{Part}
 use Rattle.irs_schedule.specs.PeriodTerms.{IsAmountFor, IsPeriodEntry}
 use Rattle.irs_schedule.specs.Schedules.{IsPart, IsSchedule, payment_of}
 use Rattle.irs_schedule.specs.TermsKept.{TermsKept}
@@ -28,6 +26,8 @@ use Rattle.irs_schedule.proofs.LayoutLemmas.{layout_adjusted_days, layout_covers
 use Rattle.irs_schedule.proofs.StreamRanges.{AreInRange, sets_in_range}
 use Rattle.irs_schedule.proofs.TermsLemmas.{lawful_stream, terms_kept}
 use Rattle.irs_schedule.proofs.Unique.{covers_each, one_entry, one_layout, one_paid}
+use Rattle.irs_base.specs.Members.{EachNumbered, Pairs, Every}
+use Rattle.irs_base.proofs.MemberLemmas.{one_numbered}
 
 -- the lists of a part stand in their relations over the layout
 record ListsOver (sets : StreamSets) (fix : RateTable) (s : Stream) (l : Layout) (p : Part) : Type 0 where

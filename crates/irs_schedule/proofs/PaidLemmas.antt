@@ -9,11 +9,12 @@ use Rattle.irs_terms.specs.declared.results.Reset.{Reset}
 use Rattle.irs_terms.specs.declared.stream.Stream.{Stream}
 use Rattle.irs_payments.specs.Payments.{Covers}
 use Rattle.irs_schedule.specs.DatedRules.{PassesFirst}
-use Rattle.irs_schedule.specs.Parts.{Every, HasAmount}
+use Rattle.irs_schedule.specs.Parts.{HasAmount}
 use Rattle.irs_schedule.specs.PeriodTerms.{IsAmountFor, PassesIn, PassesAt, PassesFirstIn}
 use Rattle.irs_schedule.specs.Schedules.{payment_of}
 use Rattle.irs_schedule.specs.declared.entries.PaymentEntry.{PaymentEntry}
 use Rattle.irs_schedule.proofs.PlaceLemmas.{every_both}
+use Rattle.irs_base.specs.Members.{Every}
 
 nothing_at : (j : ℕ) (q : Payment) → slice_get [] j ≡ Some q → ⊥
 nothing_at j q e = let inside = slice_get_within [] j q e in omega (arith, inside)

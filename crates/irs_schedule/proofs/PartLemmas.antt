@@ -7,10 +7,11 @@ use Rattle.irs_terms.specs.Lawful.{IsLawfulValues, IsLawfulLeg, IsNotional, IsRa
 use Rattle.irs_schedule.specs.declared.streams.StreamPart.TheInside.{Inside}
 use Rattle.irs_schedule.specs.KeptTerms.{is_floating}
 use Rattle.irs_schedule.specs.Keeping.{IsKept}
-use Rattle.irs_schedule.specs.Parts.{Rises, Covers, Every, HasAmount, IsAmount}
+use Rattle.irs_schedule.specs.Parts.{Rises, Covers, HasAmount, IsAmount}
 use Rattle.irs_schedule.specs.Views.{part_of}
 use Rattle.irs_schedule.proofs.PeriodLemmas.{length_periods, entries_within}
 use Rattle.irs_base.specs.Limits.{most_exchanges, most_periods}
+use Rattle.irs_base.specs.Members.{Every}
 
 -- what a part keeps, from what its fields are
 pub kept : (s : Inside) → IsLawfulValues IsNotional s.terms.notional → IsLawfulLeg s.terms.leg → 2 ≤ length s.unadjusted → length s.unadjusted ≤ most_periods + 1 → length s.adjusted ≡ length s.unadjusted → Rises s.unadjusted → Rises s.adjusted

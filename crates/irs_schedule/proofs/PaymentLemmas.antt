@@ -1,7 +1,8 @@
 -- Payments that are pushed one by one.
 use Rattle.std.proofs.Common.{subst, ◌∙◌, ◌≡◌, ℕ, ◌+◌, ◌≤◌, List, [], ◌∷◌, ◌++◌, arith}
 use Rattle.irs_schedule.specs.declared.entries.PaymentEntry.{PaymentEntry}
-use Rattle.irs_schedule.specs.Parts.{Covers, Every}
+use Rattle.irs_schedule.specs.Parts.{Covers}
+use Rattle.irs_base.specs.Members.{Every}
 
 -- one payment more covers the periods up to its last
 pub covers_more : (a n : ℕ) (ys : List PaymentEntry) (y : PaymentEntry) → Covers a ys n → y.first_period ≡ n + 1 → y.first_period ≤ y.last_period → Covers a (ys ++ y ∷ []) y.last_period

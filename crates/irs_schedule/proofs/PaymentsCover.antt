@@ -2,15 +2,13 @@
 use Rattle.std.proofs.Common.{◌≡◌, inl, inr, ℕ, ◌+◌, ◌-◌, ◌<◌, ◌≤◌, List, [], ◌∷◌, length, ℤ, ◌<ℤ◌, sym, ◌∙◌, ap, subst, arith}
 use Rattle.std.proofs.lemmas.Bool.{cases_lt}
 use Rattle.irs_base.specs.DayLists.{AreDays}
-use Rattle.irs_base.specs.Listed.{Member, IsRising}
+use Rattle.irs_base.specs.Listed.{Member, IsRising, RunsFromTo}
 use Rattle.irs_terms.specs.Lawful.{IsLawfulStream}
 use Rattle.irs_terms.specs.declared.results.Payment.{Payment}
 use Rattle.irs_terms.specs.declared.stream.Stream.{Stream}
 use Rattle.irs_calendar.specs.GoodDays.{DaySet}
 use Rattle.irs_payments.specs.Cuts.{EachPlace, EndsAt, IsCut, cut_at, days_at}
 use Rattle.irs_payments.specs.Dating.{date_place}
-use Rattle.irs_payments.specs.Grouping.{RunsFromTo}
-use Rattle.irs_payments.specs.Numbered.{day_at, EachNumbered}
 use Rattle.irs_payments.specs.PaymentDates.{IsPaymentDate}
 use Rattle.irs_payments.specs.Payments.{ArePayments, Covers, IsPayment, pay_place}
 use Rattle.irs_payments.proofs.CutLemmas.{cut_places, length-pay, one_pay, pay_at}
@@ -18,6 +16,7 @@ use Rattle.irs_payments.proofs.PaymentLemmas.{cuts_places, one_payments, payment
 use Rattle.irs_payments.proofs.PlaceLemmas.{place_same}
 use Rattle.irs_schedule.proofs.CutsThere.{cuts_there, paid_there}
 use Rattle.irs_terms.specs.FirstDay.{first_day_of}
+use Rattle.irs_base.specs.Members.{day_at, EachNumbered}
 
 -- the member with that number
 numbered_at : {X : Type 0} (P : ℕ → X → Type 0) (n : ℕ) (xs : List X) (j : ℕ) → n ≤ j → j < n + length xs → EachNumbered P n xs → (x : X) × P j x

@@ -15,15 +15,16 @@ use Rattle.irs_calendar.specs.GoodDays.{DaySet}
 use Rattle.irs_payments.specs.Cuts.{AreCuts}
 use Rattle.irs_payments.specs.Dating.{NoneLacks, NoneLeaves, date_place}
 use Rattle.irs_payments.specs.Faults.{broken_at}
-use Rattle.irs_payments.specs.Grouping.{RunsFromTo}
-use Rattle.irs_payments.specs.Numbered.{day_at}
-use Rattle.irs_payments.specs.PaymentDates.{IsPaymentDate, IsSaid, LacksResult, LeavesRange, MovesNowhere}
+use Rattle.irs_payments.specs.PaymentDates.{IsPaymentDate, LacksResult, LeavesRange, MovesNowhere}
 use Rattle.irs_payments.specs.Payments.{ArePayments, BreaksPayments}
 use Rattle.irs_payments.proofs.PaymentLemmas.{cuts_places, payments_are, payments_first, some_cuts}
-use Rattle.irs_schedule.proofs.FoundDays.{InRange, decides_adjusts}
-use Rattle.irs_schedule.proofs.MovedDays.{decides_moves, moves_day}
+use Rattle.irs_adjust.proofs.FoundDays.{InRange, decides_adjusts}
+use Rattle.irs_adjust.proofs.MovedDays.{decides_moves, moves_day}
 use Rattle.irs_schedule.proofs.CutsThere.{cuts_there, day_at_day, paid_there}
 use Rattle.irs_terms.specs.FirstDay.{first_day_of}
+use Rattle.irs_base.specs.Members.{day_at}
+use Rattle.irs_terms.specs.DayTypes.{IsSaid}
+use Rattle.irs_base.specs.Listed.{RunsFromTo}
 
 -- no payment lacks a result or leaves the range, since the first that did would break a rule
 module _ (s : Stream) (set : DaySet) (b a : List ℤ) (cuts : List ℕ) (run : RunsFromTo (first_day_of s) s.termination.day b) (are : AreCuts s b (length b) cuts) (kept : (x : Broken) → BreaksPayments s set b a x → ⊥) where

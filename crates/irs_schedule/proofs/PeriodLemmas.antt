@@ -13,11 +13,12 @@ use Rattle.irs_daycount.specs.FractionLaws.{fraction_is, one_denominator}
 use Rattle.irs_daycount.proofs.FractionBounds.{fraction_bounded}
 use Rattle.irs_schedule.specs.declared.entries.PeriodEntry.{PeriodEntry}
 use Rattle.irs_schedule.specs.declared.kept_terms.KeptTerms.{KeptTerms}
-use Rattle.irs_schedule.specs.Parts.{Rises, RisesFrom, Every, IsEntry, day_at}
+use Rattle.irs_schedule.specs.Parts.{Rises, RisesFrom, IsEntry}
 use Rattle.irs_schedule.specs.Periods.{count_of, start_of, observed_of, period_by, periods_by}
 use Rattle.irs_schedule.specs.RowsOf.{no_period}
 use Rattle.irs_schedule.proofs.RateLemmas.{value_within, rate_size}
 use Rattle.irs_base.specs.Limits.{most_numerator}
+use Rattle.irs_base.specs.Members.{Every, day_at}
 
 -- periods are one fewer than boundaries
 pub length_periods : (terms : KeptTerms) (unadjusted adjusted : List ℤ) (resets : List Reset) → length (periods_by terms unadjusted adjusted resets) ≡ count_of adjusted

@@ -8,9 +8,10 @@ use Rattle.irs_terms.specs.Currencies.{decimals_of, without_decimals, with_three
 use Rattle.irs_terms.specs.declared.currency.Currency.{Currency}
 use Rattle.irs_terms.specs.declared.results.Exchange.{Exchange}
 use Rattle.irs_schedule.specs.declared.entries.PaymentEntry.{PaymentEntry}
-use Rattle.irs_schedule.specs.Parts.{Part, Every, KeepsBounds, IsAmount, HasAmount, IsWithin}
+use Rattle.irs_schedule.specs.Parts.{Part, KeepsBounds, IsAmount, HasAmount, IsWithin}
 use Rattle.irs_schedule.specs.RowsOf.{reset_row, period_rows, exchange_row, payment_rows, part_rows, rows_of}
 use Rattle.irs_schedule.specs.RowTexts.{HasPlaces, IsFew}
+use Rattle.irs_base.specs.Members.{Every}
 
 pub every_both : {X : Type 0} (P : X → Type 0) (xs ys : List X) → Every P xs → Every P ys → Every P (xs ++ ys)
 every_both P [] ys h k = k

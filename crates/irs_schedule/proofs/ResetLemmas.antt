@@ -14,9 +14,10 @@ use Rattle.irs_resets.specs.declared.dates.DateFault.TheVariants.{NoReset, NoFix
 use Rattle.irs_resets.specs.Rates.{RateTable}
 use Rattle.irs_resets.specs.ResetDates.{IsPeriod, Fails}
 use Rattle.irs_resets.specs.ResetRules.{StubBroken, StubsMet, DatesBroken, DatesBrokenIn, FirstBroken}
-use Rattle.irs_resets.specs.Resets.{FitsLeg, HasResetTerms, IsReset, AreRows, HasResets, IsResetsOf, IsResets}
+use Rattle.irs_resets.specs.Resets.{FitsLeg, IsReset, AreRows, HasResets, IsResetsOf, IsResets}
 use Rattle.irs_resets.proofs.DateLemmas.{dates_stand}
 use Rattle.irs_schedule.specs.KeptTerms.{is_floating}
+use Rattle.irs_terms.specs.Legs.{FitsLeg}
 
 -- the row of a number
 row_of : (R : ℕ → Reset → Type 0) (n i : ℕ) (rows : List Reset) → AreRows R n rows → n ≤ i → i < n + length rows → (row : Reset) × R i row
@@ -64,7 +65,7 @@ unbroken_in (Fixed values) (Some t) s span a rs fs fix rows x fits has broken = 
 unbroken_in (Floating f) None s span a rs fs fix rows x fits has broken = broken
 unbroken_in (Floating f) (Some t) s span a rs fs fix rows x fits has broken = dates_unbroken s f t span a rs fs fix rows x has broken
 
-pub resets_unbroken : (s : Stream) (span : Span) (a : List ℤ) (rs fs : DaySet) (fix : RateTable) (rows : List Reset) → HasResetTerms s → StubsMet s span → IsResets s span a rs fs fix rows → (x : Broken) → FirstBroken s span a rs fs x → ⊥
+pub resets_unbroken : (s : Stream) (span : Span) (a : List ℤ) (rs fs : DaySet) (fix : RateTable) (rows : List Reset) → FitsLeg s → StubsMet s span → IsResets s span a rs fs fix rows → (x : Broken) → FirstBroken s span a rs fs x → ⊥
 resets_unbroken s span a rs fs fix rows legs met has x (inl stub) = stubs_unbroken s span x met stub
 resets_unbroken s span a rs fs fix rows legs met has x (inr dates) = unbroken_in s.leg s.reset s span a rs fs fix rows x legs has dates.1
 

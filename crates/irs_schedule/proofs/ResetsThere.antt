@@ -21,15 +21,17 @@ use Rattle.irs_adjust.specs.Codes.{Adjusts}
 use Rattle.irs_adjust.specs.Offsets.{Moves}
 use Rattle.irs_resets.specs.declared.dates.DateFault.{DateFault}
 use Rattle.irs_resets.specs.declared.dates.DateFault.TheVariants.{NoReset, NoFixing, OutOfRange}
-use Rattle.irs_resets.specs.ResetDates.{IsPeriod, IsFirst, base_day, IsSaid, IsSaidOffset, ResetsOn, FixesOn, FixingFails, Fails, HasDates, Decided, unmoved_fault}
+use Rattle.irs_resets.specs.ResetDates.{IsPeriod, IsFirst, base_day, ResetsOn, FixesOn, FixingFails, Fails, HasDates, Decided, unmoved_fault}
 use Rattle.irs_resets.specs.ResetRules.{broken_at, InitialUnmet, StubBroken, StubsMet, DatesBroken, DatesBrokenIn, FirstBroken}
 use Rattle.irs_resets.specs.Rates.{RateTable}
-use Rattle.irs_resets.specs.Resets.{FitsLeg, HasResetTerms, IsSaidReset, IsResetsOf, IsResets}
+use Rattle.irs_resets.specs.Resets.{FitsLeg, IsResetsOf, IsResets}
 use Rattle.irs_resets.proofs.DateLemmas.{unmoved_fails}
 use Rattle.irs_resets.proofs.RowLemmas.{some_resets, has_dates}
-use Rattle.irs_schedule.proofs.FoundDays.{InRange, IsFound, decides_adjusts, adjusts_day}
-use Rattle.irs_schedule.proofs.MovedDays.{decides_moves, moves_day}
+use Rattle.irs_adjust.proofs.FoundDays.{InRange, IsFound, decides_adjusts, adjusts_day}
+use Rattle.irs_adjust.proofs.MovedDays.{decides_moves, moves_day}
 use Rattle.irs_schedule.proofs.AdjustedBoundaries.{day_of_days}
+use Rattle.irs_terms.specs.DayTypes.{IsSaidFixing, IsSaid, IsSaidReset}
+use Rattle.irs_terms.specs.Legs.{FitsLeg}
 
 -- the dates of one period are there, or fail
 
@@ -41,11 +43,11 @@ fixes_moved : (fix : FixTerms) (set : DaySet) (r x : ℤ) → Moves fix.offset s
 fixes_moved fix set r x moves (inl found) = inl (found.0, record { moved = x; moves = moves; adjusts = found.1 })
 fixes_moved fix set r x moves (inr none) = inr (NoFixing, inr (x, moves, none))
 
-fixes_by : (fix : FixTerms) (set : DaySet) (r : ℤ) → IsSaidOffset fix.offset → IsDay r → InRange set → IsFound (Moves fix.offset set r) → FixingDecided (Some fix) set r
+fixes_by : (fix : FixTerms) (set : DaySet) (r : ℤ) → IsSaid fix.offset → IsDay r → InRange set → IsFound (Moves fix.offset set r) → FixingDecided (Some fix) set r
 fixes_by fix set r said day range (inl found) = fixes_moved fix set r found.0 found.1 (decides_adjusts fix.adj.code set found.0 (moves_day fix.offset set r found.0 day range found.1) range)
 fixes_by fix set r said day range (inr none) = inr (unmoved_fault fix.offset.kind, unmoved_fails fix set r said none)
 
-decides_fixing : (fixing : Option FixTerms) (set : DaySet) (r : ℤ) → IsSaid fixing → IsDay r → InRange set → FixingDecided fixing set r
+decides_fixing : (fixing : Option FixTerms) (set : DaySet) (r : ℤ) → IsSaidFixing fixing → IsDay r → InRange set → FixingDecided fixing set r
 decides_fixing None set r said day range = inl (r, refl)
 decides_fixing (Some fix) set r said day range = fixes_by fix set r said day range (decides_moves fix.offset set r)
 
@@ -67,7 +69,7 @@ module _ (t : ResetTerms) (a : List ℤ) (reset_set fixing_set : DaySet) where
   dates_on i r period resets (inl found) = inl (r, found.0, record { period = period; resets = resets; fixes = found.1 })
   dates_on i r period resets (inr fault) = inr (fault.0, fails_by fault.0 i r period resets fault.1)
 
-  module _ (said : IsSaid t.fixing) (days : AreDays a) (reset_range : InRange reset_set) (fixing_range : InRange fixing_set) where
+  module _ (said : IsSaidFixing t.fixing) (days : AreDays a) (reset_range : InRange reset_set) (fixing_range : InRange fixing_set) where
     dates_by : (i : ℕ) → IsPeriod a i → IsFound (ResetsOn t a reset_set i) → Decided t a reset_set fixing_set i
     dates_by i period (inl found) =
         let day = adjusts_day t.adj.code reset_set (base_day t.relative a i) found.0 (base_is_day t.relative a i days period) reset_range found.1 in
@@ -112,22 +114,22 @@ module _ (t : ResetTerms) (a : List ℤ) (reset_set fixing_set : DaySet) (meets 
       meets (broken_at K38 fixing_dates i) (inr (inr (record { resets = λ k period. no_reset_fails k; fixings = λ k period. no_fixing_fails k; number = i; first = first; is = refl }))))
 
   -- every period has its dates
-  pub dates_there : IsSaid t.fixing → AreDays a → InRange reset_set → InRange fixing_set → (i : ℕ) → IsPeriod a i → HasDates t a reset_set fixing_set i
+  pub dates_there : IsSaidFixing t.fixing → AreDays a → InRange reset_set → InRange fixing_set → (i : ℕ) → IsPeriod a i → HasDates t a reset_set fixing_set i
   dates_there said days reset_range fixing_range i period =
       has_dates t a reset_set fixing_set i (decides_dates t a reset_set fixing_set said days reset_range fixing_range i period) (no_reset_fails i) (no_fixing_fails i) (none_leaves i)
 
 module _ (s : Stream) (span : Span) (a : List ℤ) (reset_set fixing_set : DaySet) (rates : RateTable) where
   module _ (days : AreDays a) (reset_range : InRange reset_set) (fixing_range : InRange fixing_set) where
-    floating_there : (float : FloatTerms) (reset : Option ResetTerms) → IsSome reset → IfSome reset (λ t. IsSaid t.fixing) → ((x : Broken) → DatesBrokenIn reset a reset_set fixing_set x → ⊥) → (rows : List Reset) × IsResetsOf (Floating float) reset s span a reset_set fixing_set rates rows
+    floating_there : (float : FloatTerms) (reset : Option ResetTerms) → IsSome reset → IfSome reset (λ t. IsSaidFixing t.fixing) → ((x : Broken) → DatesBrokenIn reset a reset_set fixing_set x → ⊥) → (rows : List Reset) × IsResetsOf (Floating float) reset s span a reset_set fixing_set rates rows
     floating_there float None some said meets = absurd (search rules)
     floating_there float (Some t) some said meets = some_resets s float t span a reset_set fixing_set rates (dates_there t a reset_set fixing_set meets said days reset_range fixing_range)
 
-    resets_of : (leg : Leg) (reset : Option ResetTerms) → FitsLeg leg reset s.stubs → IfSome reset (λ t. IsSaid t.fixing) → ((x : Broken) → DatesBrokenIn reset a reset_set fixing_set x → ⊥) → (rows : List Reset) × IsResetsOf leg reset s span a reset_set fixing_set rates rows
+    resets_of : (leg : Leg) (reset : Option ResetTerms) → FitsLeg leg reset s.stubs → IfSome reset (λ t. IsSaidFixing t.fixing) → ((x : Broken) → DatesBrokenIn reset a reset_set fixing_set x → ⊥) → (rows : List Reset) × IsResetsOf leg reset s span a reset_set fixing_set rates rows
     resets_of (Fixed values) reset fits said meets = ([], refl)
     resets_of (Floating float) reset fits said meets = floating_there float reset fits said meets
 
   -- a fixed stream has no reset, and a floating one has one for each period
-  pub resets_there : HasResetTerms s → IsSaidReset s → AreDays a → InRange reset_set → InRange fixing_set → ((x : Broken) → FirstBroken s span a reset_set fixing_set x → ⊥) → (rows : List Reset) × IsResets s span a reset_set fixing_set rates rows
+  pub resets_there : FitsLeg s → IsSaidReset s → AreDays a → InRange reset_set → InRange fixing_set → ((x : Broken) → FirstBroken s span a reset_set fixing_set x → ⊥) → (rows : List Reset) × IsResets s span a reset_set fixing_set rates rows
   resets_there fits said days reset_range fixing_range meets =
       let stubs = stubs_met s span (λ x h. meets x (inl h)) in
       resets_of days reset_range fixing_range s.leg s.reset fits said (λ x h. meets x (inr (stubs, h)))

@@ -10,19 +10,22 @@ use Rattle.irs_terms.specs.declared.codes.StubKind.{StubKind}
 use Rattle.irs_terms.specs.declared.codes.StubKind.TheVariants.{ShortInitial, LongInitial, ShortFinal, LongFinal}
 use Rattle.irs_terms.specs.declared.results.Span.{Span}
 use Rattle.irs_terms.specs.declared.stream.Stream.{Stream}
-use Rattle.irs_roll.specs.Rolls.{Fits, IsTerm, OnGrid}
+use Rattle.irs_roll.specs.Rolls.{Fits, OnGrid}
 use Rattle.irs_periods.specs.Nearest.{FirstFrom, LastUpTo, LongFirst, LongLast}
 use Rattle.irs_periods.specs.SpanRules.{RollMisfits, SpanBroken, SpanKept, broken_at, anchor_element, last_element}
 use Rattle.irs_periods.specs.Spans.{GivenSpan, Regular, SpanBy, StubSpan, anchor_of, given_anchor, stub_anchor}
-use Rattle.irs_periods.specs.Terms.{DatesInOrder, termination_of, given_or}
 use Rattle.irs_periods.proofs.RegularPart.{timed_unit}
 use Rattle.irs_periods.proofs.SpanOrder.{given_in_term}
 use Rattle.irs_schedule.proofs.Anchors.{anchor_day, decides_fits, decides_term, own_grid}
-use Rattle.irs_schedule.proofs.Decided.{IsDecided, decides_on_grid, decides_same}
 use Rattle.irs_schedule.proofs.Ranges.{first_between, last_between, after_between, before_between}
 use Rattle.irs_terms.specs.FirstDay.{first_day_of}
-use Rattle.irs_schedule.proofs.FirstDays.{first_day_is_day}
 use Rattle.irs_periods.proofs.TermOrder.{begins_before_end}
+use Rattle.irs_terms.specs.Suiting.{IsTerm}
+use Rattle.irs_terms.specs.TermDates.{DatesInOrder, termination_of, given_or}
+use Rattle.irs_base.specs.Order.{IsDecided}
+use Rattle.irs_roll.proofs.GridsDecided.{decides_on_grid}
+use Rattle.irs_base.proofs.Decided.{decides_same}
+use Rattle.irs_terms.proofs.FirstDays.{first_day_is_day}
 
 -- a span of the term from e to t on a grid that is decided there and has the anchor
 module _ (on : ℤ → Type 0) (e t : ℤ) (ends : e <ℤ t) (decides : (d : ℤ) → e ≤ℤ d → d ≤ℤ t → IsDecided (on d)) where

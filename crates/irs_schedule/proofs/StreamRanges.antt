@@ -2,10 +2,11 @@
 use Rattle.std.specs.Prelude.{List}
 use Rattle.irs_terms.specs.declared.stream.Stream.{Stream}
 use Rattle.irs_calendar.specs.declared.sections.Section.{Section}
-use Rattle.irs_schedule.specs.DaySets.{StreamSets, fixing_names, names_by, names_with, reset_names, stream_sets}
+use Rattle.irs_schedule.specs.DaySets.{StreamSets, stream_sets}
 use Rattle.irs_schedule.proofs.CenterLemmas.{days_in_range}
-use Rattle.irs_schedule.proofs.FoundDays.{InRange}
+use Rattle.irs_adjust.proofs.FoundDays.{InRange}
 use Rattle.irs_terms.specs.FirstDay.{first_date_of}
+use Rattle.irs_terms.specs.Needs.{fixing_names, names_by, names_with, reset_names}
 
 -- every good day of each kind of date is a day in range
 pub record AreInRange (sets : StreamSets) : Type 0 where

@@ -32,11 +32,7 @@ use Rattle.irs_terms.specs.declared.stream_list.Swap.{Swap}
 use Rattle.irs_calendar.specs.declared.sections.Section.{Section}
 use Rattle.irs_calendar.specs.Sections.{is_named}
 use Rattle.irs_calendar.specs.Selected.{first_missing}
-use Rattle.irs_compound.specs.InForce.{StepsRise}
-use Rattle.irs_periods.specs.Terms.{DatesInOrder, FrequencySuits, given_or}
-use Rattle.irs_resets.specs.ResetDates.{IsSaidOffset, IsSaid as IsSaidFixing}
 use Rattle.irs_resets.specs.Resets.{FitsLeg}
-use Rattle.irs_roll.specs.Rolls.{RollsMonths, RollsWeeks, SuitsBy}
 use Rattle.irs_rules.specs.declared.spot.Spot.{Spot}
 use Rattle.irs_rules.specs.Spots.{At, AtItem}
 use Rattle.irs_rules.specs.Centers.{IsUnknown, IsUnknownIn, IsUnlisted, NeedsDays, NeedsDaysWith, UnknownInFirstStart, UnknownInFixing, UnknownInResets}
@@ -46,8 +42,12 @@ use Rattle.irs_rules.specs.DayTypes.{LacksDayType}
 use Rattle.irs_rules.specs.StepDates.{IsLegStepOut, IsStepDayOut, IsStepOut}
 use Rattle.irs_rules.specs.Legs.{HasWrongResets, IsFixed}
 use Rattle.irs_rules.specs.TermsRules.{BreaksRule, BreaksTerms}
-use Rattle.irs_schedule.specs.DaySets.{adjusts_days, counts_days, fixing_names, fixing_names_of, is_business, names_by, names_for, reset_names}
-use Rattle.irs_schedule.specs.TermsKept.{AreFound, LegStepsRise, TermsKept}
+use Rattle.irs_schedule.specs.TermsKept.{AreFound, TermsKept}
+use Rattle.irs_terms.specs.StepDates.{StepsRise, LegStepsRise}
+use Rattle.irs_terms.specs.TermDates.{DatesInOrder, given_or}
+use Rattle.irs_terms.specs.Suiting.{FrequencySuits, RollsMonths, RollsWeeks, SuitsBy}
+use Rattle.irs_terms.specs.DayTypes.{IsSaid, IsSaidFixing as IsSaidFixing}
+use Rattle.irs_terms.specs.Needs.{adjusts_days, counts_days, fixing_names, fixing_names_of, is_business, names_by, names_for, reset_names}
 
 -- what breaks the rule at an element isn't there
 not_there : (elem : ℕ) (C : Type 0) → ((at : Spot) → At elem C at → ⊥) → C → ⊥
@@ -147,7 +147,7 @@ zero_or_not (pos zero) = inl refl
 zero_or_not (pos (suc n)) = inr (λ e. cc)
 zero_or_not (negsuc n) = inr (λ e. cc)
 
-is_said : (offset : Offset) → (LacksDayType offset → ⊥) → IsSaidOffset offset
+is_said : (offset : Offset) → (LacksDayType offset → ⊥) → IsSaid offset
 is_said offset never = elim (zero_or_not offset.days) [ inl is ↦ inl is | inr other ↦ inr (λ unsaid. never (other, unsaid)) ]
 
 is_said_fixing : (fixing : Option FixTerms) → (IsSomeAnd fixing (λ f. LacksDayType f.offset) → ⊥) → IsSaidFixing fixing

@@ -24,16 +24,15 @@ use Rattle.irs_compound.specs.RateLaws.{rates_are, fixed_rates_are}
 use Rattle.irs_compound.specs.declared.periods.PeriodTerm.{PeriodTerm}
 use Rattle.irs_compound.specs.declared.periods.Rates.{Rates}
 use Rattle.irs_compound.proofs.FractionFits.{fraction_fits}
-use Rattle.irs_payments.specs.Numbered.{EachNumbered}
 use Rattle.irs_payments.specs.Payments.{Covers}
 use Rattle.irs_payments.proofs.PlaceLemmas.{rises_at}
 use Rattle.irs_schedule.specs.declared.entries.PaymentEntry.{PaymentEntry}
 use Rattle.irs_schedule.specs.declared.entries.PeriodEntry.{PeriodEntry}
-use Rattle.irs_schedule.specs.Parts.{Every, day_at}
 use Rattle.irs_schedule.specs.Periods.{observed_of}
 use Rattle.irs_schedule.specs.PeriodTerms.{AreRates, IsPeriodTerm, IsPeriodEntry, AreTerms, IsAmountBy, IsAmountFor}
 use Rattle.irs_schedule.specs.Schedules.{payment_of}
 use Rattle.irs_schedule.proofs.AdjustedBoundaries.{day_of_days}
+use Rattle.irs_base.specs.Members.{EachNumbered, Every, day_at}
 
 -- the rates by the leg; absent where a floating stream has no observed rate
 rates_there : (leg : Leg) (start : ℤ) (observed : Option ℤ) → (r : Option Rates) × AreRates leg start observed r

@@ -14,7 +14,7 @@ use Rattle.irs_periods.specs.Spans.{Regular}
 use Rattle.irs_periods.specs.SpanRules.{SpanKept}
 use Rattle.irs_periods.specs.Boundaries.{Boundaries, IsBoundary}
 use Rattle.irs_base.specs.Limits.{most_periods}
-use Rattle.irs_periods.specs.Adjusting.{AdjustedBroken, NotAfter, day_at}
+use Rattle.irs_periods.specs.Adjusting.{AdjustedBroken, NotAfter}
 use Rattle.irs_payments.specs.Faults.{IsFirst}
 use Rattle.irs_payments.specs.Payments.{ArePayments, BreaksPayments}
 use Rattle.irs_payments.specs.Steps.{BreaksSteps}
@@ -31,6 +31,7 @@ use Rattle.irs_schedule.specs.Layouts.{IsLayout}
 use Rattle.irs_schedule.specs.PeriodTerms.{PassesAt}
 use Rattle.irs_schedule.specs.DatedRules.{DatedPart, in_span, in_periods, in_payments, in_steps, in_exchanges, in_resets, in_amounts, turn_of, BoundariesBroken, PartBroken, KeptBefore, StreamKept, StreamBroken}
 use Rattle.irs_schedule.proofs.Unique.{one_layout}
+use Rattle.irs_base.specs.Members.{day_at}
 
 abbrev part_at : ℕ → DatedPart
 part_at zero = in_span

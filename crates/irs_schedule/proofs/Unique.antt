@@ -20,12 +20,9 @@ use Rattle.irs_compound.specs.AmountLaws.{amount_once}
 use Rattle.irs_compound.specs.Amounts.{IsFraction, AmountOf}
 use Rattle.irs_compound.specs.InForceLaws.{one_in_force}
 use Rattle.irs_compound.specs.RateLaws.{one_rates, one_fixed_rates}
-use Rattle.irs_compound.specs.InForce.{StepsRise}
 use Rattle.irs_compound.specs.PartsLaws.{AllFractions}
 use Rattle.irs_compound.specs.declared.periods.PeriodTerm.{PeriodTerm}
 use Rattle.irs_compound.specs.declared.periods.Rates.{Rates}
-use Rattle.irs_payments.specs.Numbered.{EachNumbered}
-use Rattle.irs_payments.proofs.NumberLemmas.{one_numbered}
 use Rattle.irs_payments.specs.Payments.{Covers}
 use Rattle.irs_payments.proofs.PlaceLemmas.{rises_at}
 use Rattle.irs_periods.proofs.OneSpan.{one_span}
@@ -38,12 +35,13 @@ use Rattle.irs_schedule.specs.declared.entries.PaymentEntry.{PaymentEntry}
 use Rattle.irs_schedule.specs.declared.entries.PeriodEntry.{PeriodEntry}
 use Rattle.irs_schedule.specs.declared.layouts.Layout.{Layout}
 use Rattle.irs_schedule.specs.Layouts.{IsLayout}
-use Rattle.irs_schedule.specs.Parts.{Every, day_at}
 use Rattle.irs_schedule.specs.PeriodTerms.{AreRates, IsPeriodTerm, IsPeriodEntry, AreTerms, IsAmountBy, IsAmountFor}
 use Rattle.irs_schedule.specs.Schedules.{payment_of}
 use Rattle.irs_schedule.specs.Periods.{observed_of}
-use Rattle.irs_schedule.specs.TermsKept.{LegStepsRise}
 use Rattle.irs_schedule.proofs.PeriodLemmas.{is_day_at}
+use Rattle.irs_terms.specs.StepDates.{StepsRise, LegStepsRise}
+use Rattle.irs_base.specs.Members.{EachNumbered, Every, day_at}
+use Rattle.irs_base.proofs.MemberLemmas.{one_numbered}
 
 -- a stream has one layout
 pub one_layout : (sets : StreamSets) (s : Stream) (l m : Layout) → IsLayout sets s l → IsLayout sets s m → l ≡ m

@@ -18,6 +18,7 @@ use Rattle.irs_calendar.specs.GoodDays.{DaySet}
 use Rattle.irs_calendar.specs.Selected.{day_set_of}
 use Rattle.irs_periods.specs.Adjusting.{BoundaryDays}
 use Rattle.irs_terms.specs.FirstDay.{first_date_of}
+use Rattle.irs_terms.specs.Needs.{names_by, names_with, reset_names, fixing_names}
 
 -- the whole range of dates, and every day of it good
 abbrev pub whole_range : DaySet
@@ -27,53 +28,6 @@ whole_range = record { first = first_day; last = last_day; test = λ _. true }
 abbrev pub days_of_names : List Section → Option (List (List ℕ)) → DaySet
 days_of_names cal None = whole_range
 days_of_names cal (Some names) = day_set_of cal names
-
--- the names of the centres that an element lists, or has by its reference
-abbrev pub listed_names : Centers → Option (List (List ℕ))
-listed_names Absent = None
-listed_names (Listed names) = Some names
-listed_names Dangling = None
-
--- an adjustment needs days where its convention isn't NONE
-abbrev pub adjusts_days : ConvCode → Bool
-adjusts_days Following = true
-adjusts_days ModFollowing = true
-adjusts_days Preceding = true
-adjusts_days ModPreceding = true
-adjusts_days Nearest = true
-adjusts_days Unadjusted = false
-
-abbrev pub is_business : DayKind → Bool
-is_business Business = true
-is_business Calendar = false
-is_business Unsaid = false
-
--- an offset needs days where it is a Business offset other than 0
-abbrev pub counts_days : Offset → Bool
-counts_days offset = is_business offset.kind && not (int_eq offset.days (pos 0))
-
--- the names by which an element has its good days; none where it needs none
-abbrev pub names_for : Bool → Centers → Option (List (List ℕ))
-names_for needed centers = if needed then listed_names centers else None
-
-abbrev pub names_by : Adjustments → Option (List (List ℕ))
-names_by adj = names_for (adjusts_days adj.code) adj.centers
-
--- payment dates and fixing dates also need days for their offset
-abbrev pub names_with : Offset → Adjustments → Option (List (List ℕ))
-names_with offset adj = names_for (adjusts_days adj.code || counts_days offset) adj.centers
-
-abbrev pub reset_names : Option ResetTerms → Option (List (List ℕ))
-reset_names None = None
-reset_names (Some terms) = names_by terms.adj
-
-abbrev pub fixing_names_of : Option FixTerms → Option (List (List ℕ))
-fixing_names_of None = None
-fixing_names_of (Some fixing) = names_with fixing.offset fixing.adj
-
-abbrev pub fixing_names : Option ResetTerms → Option (List (List ℕ))
-fixing_names None = None
-fixing_names (Some terms) = fixing_names_of terms.fixing
 
 -- the good days of the first boundary (firstPeriodStartDate, else the effective date), of the
 -- termination date, and of the other boundaries

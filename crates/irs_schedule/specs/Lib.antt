@@ -16,7 +16,6 @@ pub mod Schedules
 pub mod DatedRules
 pub mod TermsKept
 pub mod SchedErrors
-pub mod StepsRising
 pub mod CenterDays
 pub mod StageSets
 pub mod DatedLists

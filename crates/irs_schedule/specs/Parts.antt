@@ -12,6 +12,7 @@ use Rattle.irs_compound.specs.PeriodRates.{most_rounded_rate}
 use Rattle.irs_schedule.specs.declared.entries.PaymentEntry.{PaymentEntry}
 use Rattle.irs_schedule.specs.declared.entries.PeriodEntry.{PeriodEntry}
 use Rattle.irs_base.specs.Limits.{most_exchanges, most_numerator, most_periods, most_streams}
+use Rattle.irs_base.specs.Members.{Every}
 
 -- one stream: period i goes from boundary i - 1 to boundary i, reset i is that of period i
 pub record Part : Type 0 where
@@ -24,15 +25,6 @@ pub record Part : Type 0 where
   pub payments : List PaymentEntry
   pub periods : List PeriodEntry
   pub resets : List Reset
-
--- P holds of each member
-abbrev pub Every : {X : Type 0} → (X → Type 0) → List X → Type 0
-Every P [] = Unit {0}
-Every P (x ∷ xs) = P x × Every P xs
-
--- the day at a place of a list, from 0
-abbrev pub day_at : List ℤ → ℕ → ℤ
-day_at xs i = slice_index_or xs i (pos 0)
 
 -- each member is after the one before it
 abbrev pub RisesFrom : ℤ → List ℤ → Type 0

@@ -17,12 +17,11 @@ use Rattle.irs_compound.specs.PeriodRates.{RatesOf, FixedRatesOf}
 use Rattle.irs_compound.specs.Amounts.{AllPriced, AmountOf, Passes, code_for}
 use Rattle.irs_compound.specs.declared.periods.Rates.{Rates}
 use Rattle.irs_compound.specs.declared.periods.PeriodTerm.{PeriodTerm}
-use Rattle.irs_payments.specs.Numbered.{EachNumbered}
 use Rattle.irs_base.specs.Limits.{most_periods}
 use Rattle.irs_resets.specs.Resets.{HasSmallRate}
 use Rattle.irs_schedule.specs.declared.entries.PeriodEntry.{PeriodEntry}
-use Rattle.irs_schedule.specs.Parts.{day_at}
 use Rattle.irs_schedule.specs.Periods.{observed_of}
+use Rattle.irs_base.specs.Members.{EachNumbered, day_at}
 
 -- the rates of a period with this unadjusted start: on a fixed stream the fixed rate in force; on a
 -- floating one those of the observed rate, absent where it is

@@ -2,7 +2,8 @@
 use Rattle.std.specs.Prelude.{ℕ, ◌+◌, ◌-◌, Option, option_map, slice_get}
 use Rattle.irs_schedule.specs.declared.entries.PeriodEntry.{PeriodEntry}
 use Rattle.irs_schedule.specs.declared.views.CalculationPeriod.{CalculationPeriod}
-use Rattle.irs_schedule.specs.Parts.{Part, day_at}
+use Rattle.irs_schedule.specs.Parts.{Part}
+use Rattle.irs_base.specs.Members.{day_at}
 
 -- period i, from 1, runs from boundary i - 1 to boundary i
 abbrev pub dated_period : Part → ℕ → PeriodEntry → CalculationPeriod

@@ -9,7 +9,7 @@ use Rattle.irs_compound.specs.InForce.{value_in_force}
 use Rattle.irs_compound.specs.PeriodRates.{rates_of, fixed_rates_of}
 use Rattle.irs_schedule.specs.declared.entries.PeriodEntry.{PeriodEntry}
 use Rattle.irs_schedule.specs.declared.kept_terms.KeptTerms.{KeptTerms}
-use Rattle.irs_schedule.specs.Parts.{day_at}
+use Rattle.irs_base.specs.Members.{day_at}
 
 -- how many periods lie between boundaries
 abbrev pub count_of : List ℤ → ℕ

@@ -7,8 +7,9 @@ use Rattle.irs_schedule.specs.declared.entries.PeriodEntry.{PeriodEntry}
 use Rattle.irs_terms.specs.declared.results.Reset.{Reset}
 use Rattle.irs_schedule.specs.declared.row.Row.{Row}
 use Rattle.irs_schedule.specs.declared.row.Row.TheVariants.{Stream, Exchange as ExchangeRow, Payment, Period, Reset as ResetRow}
-use Rattle.irs_schedule.specs.Parts.{Part, day_at}
+use Rattle.irs_schedule.specs.Parts.{Part}
 use Rattle.irs_base.specs.Limits.{most_exchanges, most_periods, most_streams}
+use Rattle.irs_base.specs.Members.{day_at}
 
 -- what stands at a place where there is nothing
 abbrev pub no_period : PeriodEntry

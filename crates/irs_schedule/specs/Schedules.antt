@@ -4,18 +4,18 @@ use Rattle.irs_terms.specs.declared.results.Payment.{Payment}
 use Rattle.irs_terms.specs.declared.stream.Stream.{Stream}
 use Rattle.irs_terms.specs.declared.stream_list.Swap.{Swap}
 use Rattle.irs_calendar.specs.declared.sections.Section.{Section}
-use Rattle.irs_payments.specs.Numbered.{EachNumbered, Pairs}
 use Rattle.irs_payments.specs.Payments.{ArePayments}
 use Rattle.irs_payments.specs.Exchanges.{AreExchanges}
 use Rattle.irs_resets.specs.Rates.{RateTable}
 use Rattle.irs_resets.specs.Resets.{IsResets}
 use Rattle.irs_schedule.specs.declared.entries.PaymentEntry.{PaymentEntry}
 use Rattle.irs_schedule.specs.KeptTerms.{is_floating}
-use Rattle.irs_schedule.specs.Parts.{Part, Every}
+use Rattle.irs_schedule.specs.Parts.{Part}
 use Rattle.irs_schedule.specs.DaySets.{StreamSets, stream_sets}
 use Rattle.irs_schedule.specs.declared.layouts.Layout.{Layout}
 use Rattle.irs_schedule.specs.Layouts.{IsLayout}
 use Rattle.irs_schedule.specs.PeriodTerms.{IsPeriodEntry, IsAmountFor}
+use Rattle.irs_base.specs.Members.{EachNumbered, Pairs, Every}
 
 -- the payment without its amount
 abbrev pub payment_of : PaymentEntry → Payment

@@ -5,22 +5,18 @@ use Rattle.irs_terms.specs.declared.amounts.Leg.TheVariants.{Fixed, Floating}
 use Rattle.irs_terms.specs.declared.stream.Stream.{Stream}
 use Rattle.irs_calendar.specs.declared.sections.Section.{Section}
 use Rattle.irs_calendar.specs.Selected.{first_missing}
-use Rattle.irs_compound.specs.InForce.{StepsRise}
-use Rattle.irs_payments.specs.PaymentDates.{IsSaid}
-use Rattle.irs_periods.specs.Terms.{DatesInOrder, FrequencySuits}
-use Rattle.irs_resets.specs.Resets.{HasResetTerms, IsSaidReset}
-use Rattle.irs_schedule.specs.DaySets.{names_by, names_with, reset_names, fixing_names}
 use Rattle.irs_terms.specs.FirstDay.{first_date_of}
+use Rattle.irs_terms.specs.StepDates.{StepsRise, LegStepsRise}
+use Rattle.irs_terms.specs.DayTypes.{IsSaid, IsSaidReset}
+use Rattle.irs_terms.specs.TermDates.{DatesInOrder}
+use Rattle.irs_terms.specs.Suiting.{FrequencySuits}
+use Rattle.irs_terms.specs.Legs.{FitsLeg}
+use Rattle.irs_terms.specs.Needs.{names_by, names_with, reset_names, fixing_names}
 
 -- each of the names is that of a section
 abbrev pub AreFound : List Section → Option (List (List ℕ)) → Type 0
 AreFound cal None = Unit {0}
 AreFound cal (Some names) = first_missing cal 1 names ≡ None
-
--- the steps of a fixed rate rise, and so do those of the multiplier and of the spread
-abbrev pub LegStepsRise : Leg → Type 0
-LegStepsRise (Fixed values) = StepsRise values.steps
-LegStepsRise (Floating float) = StepsRise float.multiplier.steps × StepsRise float.spread.steps
 
 -- dates in order, a frequency that suits the roll, offsets that say their days, resets on a floating
 -- stream alone, steps that rise, and centres that the calendars have
@@ -29,7 +25,7 @@ pub record TermsKept (cal : List Section) (s : Stream) : Type 0 where
   pub frequency : FrequencySuits s
   pub said : IsSaid s.pay
   pub said_reset : IsSaidReset s
-  pub legs : HasResetTerms s
+  pub legs : FitsLeg s
   pub notional_rises : StepsRise s.notional.steps
   pub leg_rises : LegStepsRise s.leg
   pub start_found : AreFound cal (names_by (first_date_of s).adj)

@@ -9,11 +9,12 @@ ghost use Rattle.irs_base.specs.Limits.{most_periods};
 ghost use Rattle.irs_payments.specs.Payments.{Covers};
 ghost use Rattle.irs_periods.specs.SpanRules.{broken_at};
 ghost use Rattle.irs_schedule.specs.DatedRules.{PassesFirst as FirstPassed};
-ghost use Rattle.irs_schedule.specs.Parts.{Every, HasAmount, IsAmount};
+ghost use Rattle.irs_schedule.specs.Parts.{HasAmount, IsAmount};
 ghost use Rattle.irs_schedule.specs.PeriodTerms.{AreRates, IsPeriodTerm, AreTerms, IsAmountBy, IsAmountFor, NonePasses, PassesIn, PassesAt, PassesFirstIn, IsTable, dec_of};
 ghost use Rattle.irs_schedule.specs.SchedErrors.{IfBroken};
 ghost use Rattle.irs_schedule.specs.Schedules.{payment_of};
-ghost use Rattle.irs_schedule.specs.StepsRising.{AllStepsRise};
+ghost use Rattle.irs_base.specs.Members.{Every};
+ghost use Rattle.irs_terms.specs.StepDates.{AllStepsRise};
 
 use crate::periods::{day_at, observed_at};
 use crate::{PaymentEntry, SchedErr};

@@ -4,8 +4,8 @@
 ghost use Rattle.std.specs.Prelude.{◌≡◌, ℕ, ◌<◌, length, ◌<ℤ◌, IfSome, option_and_then, slice_get};
 ghost use Rattle.irs_terms.specs.Lawful.{IsLawfulFloat, IsLawfulLeg, IsRate};
 ghost use Rattle.irs_compound.specs.PeriodRates.{rates_of};
-ghost use Rattle.irs_schedule.specs.Parts.{Every, day_at};
 ghost use Rattle.irs_schedule.specs.Periods.{entry_by, rate_by};
+ghost use Rattle.irs_base.specs.Members.{Every, day_at};
 
 use crate::PeriodEntry;
 use crate::kept_terms::KeptTerms;

@@ -1,9 +1,10 @@
 //! A schedule and its rows.
 ghost use Rattle.std.specs.Prelude.{◌≡◌, ℕ, ◌+◌, ◌<◌, ◌≤◌, length};
 ghost use Rattle.std.specs.Iterator.{YieldsFirst, item_count};
-ghost use Rattle.irs_schedule.specs.Parts.{Every, KeepsBounds, IsWithin};
+ghost use Rattle.irs_schedule.specs.Parts.{KeepsBounds, IsWithin};
 ghost use Rattle.irs_schedule.specs.RowsOf.{most_schedule_rows, rows_of};
 ghost use Rattle.irs_schedule.specs.RowTexts.{HasPlaces};
+ghost use Rattle.irs_base.specs.Members.{Every};
 
 use crate::Row;
 use crate::streams::StreamPart;

@@ -39,9 +39,10 @@ ghost use Rattle.irs_base.specs.Limits.{most_exchanges, most_periods};
 ghost use Rattle.std.specs.Prelude.{IsTrue, IfSome, slice_index_or, if◌then◌else◌};
 ghost use Rattle.irs_terms.specs.Lawful.{IsLawfulValues, IsLawfulLeg, IsNotional, IsRate};
 ghost use Rattle.irs_schedule.specs.KeptTerms.{is_floating};
-ghost use Rattle.irs_schedule.specs.Parts.{KeepsBounds, Rises, Covers, Every, HasAmount, IsAmount};
+ghost use Rattle.irs_schedule.specs.Parts.{KeepsBounds, Rises, Covers, HasAmount, IsAmount};
 ghost use Rattle.irs_schedule.specs.Periods.{periods_by};
 ghost use Rattle.irs_schedule.specs.RowsOf.{no_period, no_reset, period_row, reset_row, stream_row};
+ghost use Rattle.irs_base.specs.Members.{Every};
 
 impl StreamPart {
     /// A stream of these parts, which lie within the limits.

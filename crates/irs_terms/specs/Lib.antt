@@ -1,3 +1,10 @@
 pub mod Currencies
 pub mod FirstDay
 pub mod Lawful
+pub mod TermDates
+pub mod Suiting
+pub mod Lengths
+pub mod DayTypes
+pub mod Legs
+pub mod StepDates
+pub mod Needs

@@ -4,7 +4,7 @@ ghost use Rattle.irs_terms.specs.Lawful.{IsLawfulStream};
 ghost use Rattle.irs_terms.specs.declared.frequency.Unit.TheVariants.{D, M};
 ghost use Rattle.irs_periods.specs.Spans.{Regular};
 ghost use Rattle.irs_periods.specs.SpanRules.{SpanKept};
-ghost use Rattle.irs_periods.specs.Terms.{DatesInOrder};
+ghost use Rattle.irs_terms.specs.TermDates.{DatesInOrder};
 
 use super::rows::{NOT_MOVED, Row, Want};
 use super::{agrees, keeps_dates, keeps_frequency, stream};

@@ -2,10 +2,10 @@ use Rattle.std.proofs.Common.{◌≡◌, ℕ, ◌∷◌, ◌++◌, ◌+◌, ◌�
 use Rattle.std.specs.Prelude.{map, slice_get}
 use Rattle.std.specs.declared.alloc.Global.{Global}
 use Rattle.std.proofs.lemmas.List.{length-map, take_all}
-use Rattle.irs_payments.specs.Numbered.{Pairs}
 use Rattle.irs_cli.specs.Commands.{Words, texts}
 use Rattle.irs_cli.specs.Fetching.{Holds, IsAlone, IsInRow}
 use Rattle.irs_cli.proofs.FetchLemmas.{ap_some, holds_before, stops_before, row_stops, row_by, row_more, word_at}
+use Rattle.irs_base.specs.Members.{Pairs}
 use Rattle.irs_cli.proofs.fetching.fetch_row.Goals as goal
 
 pub returns-in_err-fetch-clause-row : goal.returns-in_err-fetch-clause-row

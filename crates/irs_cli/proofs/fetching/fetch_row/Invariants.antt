@@ -1,8 +1,8 @@
 use Rattle.std.proofs.Common.{◌≡◌, ℕ, ◌+◌, List, take}
 use Rattle.std.specs.Prelude.{map}
-use Rattle.irs_payments.specs.Numbered.{Pairs}
 use Rattle.irs_cli.specs.Commands.{texts}
 use Rattle.irs_cli.specs.Fetching.{Holds}
+use Rattle.irs_base.specs.Members.{Pairs}
 use Rattle.irs_cli.proofs.fetching.fetch_row.Given as goal
 
 abbrev pub invariant-loop-name : goal.invariant-loop-name

@@ -10,8 +10,9 @@ use Rattle.irs_base.specs.declared.places.Broken.{Broken}
 use Rattle.irs_payments.specs.declared.exchanges.Transfer.{Transfer}
 use Rattle.irs_payments.specs.Faults.{IsFirst, BreaksIn, broken_at}
 use Rattle.irs_payments.specs.Exchanges.{IsExchange, LacksDay, transfers_of}
-use Rattle.irs_payments.proofs.NumberLemmas.{none_of_more, none_in, first_in, pairs_more}
+use Rattle.irs_payments.proofs.NumberLemmas.{none_in, first_in}
 use Rattle.irs_payments.proofs.ExchangeLemmas.{IsSmall, small_transfers, fits_small}
+use Rattle.irs_base.proofs.MemberLemmas.{none_of_more, pairs_more}
 use Rattle.irs_payments.proofs.exchanges.exchanges_of.Goals as goal
 
 pub returns-in_default-clause-broken : goal.returns-in_default-clause-broken

@@ -1,7 +1,7 @@
 use Rattle.std.proofs.Common.{take}
-use Rattle.irs_payments.specs.Numbered.{Pairs}
 use Rattle.irs_payments.specs.Exchanges.{IsExchange, LacksDay}
-use Rattle.irs_payments.proofs.NumberLemmas.{NoneOf}
+use Rattle.irs_base.specs.Members.{Pairs}
+use Rattle.irs_base.proofs.MemberLemmas.{NoneOf}
 use Rattle.irs_payments.proofs.exchanges.exchanges_of.Given as goal
 
 abbrev pub invariant-loop-i : goal.invariant-loop-i

@@ -1,5 +1,5 @@
 use Rattle.irs_payments.specs.Steps.{IsOff}
-use Rattle.irs_payments.proofs.NumberLemmas.{NoneOf}
+use Rattle.irs_base.proofs.MemberLemmas.{NoneOf}
 use Rattle.irs_payments.proofs.steps.check_list.Given as goal
 
 abbrev pub invariant-loop-i : goal.invariant-loop-i

@@ -1,5 +1,6 @@
 use Rattle.std.proofs.Common.{ℕ, ℤ, ◌<◌, ◌≤◌}
-use Rattle.irs_periods.specs.Adjusting.{AdjustsAt, day_at, days_by, last_of}
+use Rattle.irs_periods.specs.Adjusting.{AdjustsAt, days_by, last_of}
+use Rattle.irs_base.specs.Members.{day_at}
 use Rattle.irs_periods.proofs.adjusting.later_without.Given as goal
 
 abbrev pub invariant-loop-i : goal.invariant-loop-i

@@ -2,8 +2,8 @@ use Rattle.std.proofs.Common.{◌≡◌, ◌+◌, ◌++◌, length, ℤ, arith, 
 use Rattle.irs_periods.specs.Boundaries.{TooManyPeriods}
 use Rattle.irs_periods.specs.GridLists.{all_boundaries, days_from, where_before}
 use Rattle.irs_terms.specs.FirstDay.{first_day_of}
-use Rattle.irs_periods.specs.Terms.{termination_of}
 use Rattle.irs_periods.proofs.GridSpans.{length-all_boundaries, length-days_from}
+use Rattle.irs_terms.specs.TermDates.{termination_of}
 use Rattle.irs_periods.proofs.listing.boundaries.Goals as goal
 
 pub returns-then-steps-stubs-clause-broken : goal.returns-then-steps-stubs-clause-broken

@@ -1,8 +1,8 @@
 use Rattle.std.proofs.Common.{[], ◌∷◌}
 use Rattle.irs_terms.specs.FirstDay.{first_day_of}
-use Rattle.irs_periods.specs.Terms.{termination_of}
 use Rattle.irs_periods.proofs.TermList.{term_list}
 use Rattle.irs_periods.proofs.TermOrder.{begins_before_end}
+use Rattle.irs_terms.specs.TermDates.{termination_of}
 use Rattle.irs_periods.proofs.listing.whole_term.Goals as goal
 
 pub returns-in_err-push-clause-exists : goal.returns-in_err-push-clause-exists

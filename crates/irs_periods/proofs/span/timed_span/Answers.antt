@@ -1,13 +1,14 @@
 use Rattle.std.proofs.Common.{ℕ, inr, ◌∙◌, ap, subst}
 use Rattle.irs_base.specs.declared.places.Rule.TheVariants.{K31}
 use Rattle.irs_terms.specs.declared.results.Span.{Span}
-use Rattle.irs_roll.specs.Rolls.{OnGrid, Fits, IsTerm}
+use Rattle.irs_roll.specs.Rolls.{OnGrid, Fits}
 use Rattle.irs_terms.specs.FirstDay.{first_day_of}
-use Rattle.irs_periods.specs.Terms.{termination_of}
 use Rattle.irs_periods.specs.Spans.{Regular}
 use Rattle.irs_periods.specs.SpanRules.{broken_at}
 use Rattle.irs_periods.proofs.TermOrder.{begins_before_end}
 use Rattle.irs_periods.proofs.SpanLemmas.{given_span_same}
+use Rattle.irs_terms.specs.Suiting.{IsTerm}
+use Rattle.irs_terms.specs.TermDates.{termination_of}
 use Rattle.irs_periods.proofs.span.timed_span.Goals as goal
 
 pub returns-clause-ok : goal.returns-clause-ok

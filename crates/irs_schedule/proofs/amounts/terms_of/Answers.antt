@@ -1,6 +1,6 @@
 use Rattle.std.proofs.Common.{◌≡◌, ◌++◌, [], ◌∷◌, length, length-append, ap, arith}
-use Rattle.irs_payments.proofs.NumberLemmas.{numbered_push}
 use Rattle.irs_schedule.specs.PeriodTerms.{IsPeriodTerm}
+use Rattle.irs_base.proofs.MemberLemmas.{numbered_push}
 use Rattle.irs_schedule.proofs.amounts.terms_of.Goals as goal
 
 pub loop-number-preserved : goal.loop-number-preserved

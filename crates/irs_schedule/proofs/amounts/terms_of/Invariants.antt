@@ -1,6 +1,6 @@
 use Rattle.std.proofs.Common.{◌≡◌, ◌+◌, length}
-use Rattle.irs_payments.specs.Numbered.{EachNumbered}
 use Rattle.irs_schedule.specs.PeriodTerms.{IsPeriodTerm}
+use Rattle.irs_base.specs.Members.{EachNumbered}
 use Rattle.irs_schedule.proofs.amounts.terms_of.Given as goal
 
 abbrev pub invariant-loop-number : goal.invariant-loop-number

@@ -13,7 +13,7 @@ use Rattle.irs_terms.specs.declared.currency.Currency.{Currency}
 use Rattle.irs_terms.specs.declared.results.Payment.{Payment}
 use Rattle.irs_schedule.specs.DatedRules.{PassesFirst, StreamBroken, in_amounts}
 use Rattle.irs_schedule.specs.KeptTerms.{is_floating}
-use Rattle.irs_schedule.specs.Parts.{Part, Every, IsAmount}
+use Rattle.irs_schedule.specs.Parts.{Part, IsAmount}
 use Rattle.irs_schedule.specs.Periods.{periods_by}
 use Rattle.irs_schedule.specs.Schedules.{IsPart}
 use Rattle.irs_schedule.specs.StageSets.{sets_of}
@@ -24,6 +24,7 @@ use Rattle.irs_schedule.proofs.Handed.{handed_on}
 use Rattle.irs_schedule.proofs.PartMade.{part_made, part_stands}
 use Rattle.irs_schedule.proofs.ResetLemmas.{resets_count}
 use Rattle.irs_schedule.proofs.Turns.{stream_first, kept_all, kept_next, amounts_kept}
+use Rattle.irs_base.specs.Members.{Every}
 use Rattle.irs_schedule.proofs.stream.stream_part.Goals as goal
 
 pub returns-in_err-entries-clause-broken : goal.returns-in_err-entries-clause-broken

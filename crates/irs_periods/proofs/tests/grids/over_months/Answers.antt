@@ -4,7 +4,8 @@ use Rattle.irs_terms.specs.declared.frequency.Unit.{Unit as FrequencyUnit}
 use Rattle.irs_roll.specs.Grids.{OnMonths, OnRollDay}
 use Rattle.irs_roll.specs.MonthLaws.{rolls_in}
 use Rattle.irs_roll.specs.RollDays.{IsNumbered}
-use Rattle.irs_roll.specs.Rolls.{FitsBy, IsRollDay, IsTerm, OnGridBy}
+use Rattle.irs_roll.specs.Rolls.{FitsBy, IsRollDay, OnGridBy}
+use Rattle.irs_terms.specs.Suiting.{IsTerm}
 use Rattle.irs_periods.proofs.tests.grids.over_months.Goals as goal
 
 pub new-grid-requires-clause-fits : goal.new-grid-requires-clause-fits

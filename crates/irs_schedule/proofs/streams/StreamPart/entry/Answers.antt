@@ -1,7 +1,8 @@
 use Rattle.std.proofs.Common.{◌-◌, ◌≤◌, ◌<ℤ◌, length, subst, sym, ◌∙◌, arith, refl}
-use Rattle.irs_schedule.specs.Parts.{Part, day_at}
+use Rattle.irs_schedule.specs.Parts.{Part}
 use Rattle.irs_schedule.specs.Periods.{count_of}
 use Rattle.irs_schedule.proofs.PeriodLemmas.{entry_at, length_periods, next_day}
+use Rattle.irs_base.specs.Members.{day_at}
 use Rattle.irs_schedule.proofs.streams.StreamPart.entry.Goals as goal
 
 pub entry_by-requires-clause-order : goal.entry_by-requires-clause-order

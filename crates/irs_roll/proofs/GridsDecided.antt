@@ -5,6 +5,8 @@ use Rattle.jiff_core.proofs.SignedLemmas.{signed_arith}
 use Rattle.irs_base.specs.Days.{IsDay}
 use Rattle.irs_base.specs.Months.{InMonth, day_in_month}
 use Rattle.irs_base.proofs.MonthLemmas.{has_month, same_month}
+use Rattle.irs_base.specs.Order.{IsDecided}
+use Rattle.irs_base.proofs.Decided.{decides_same}
 use Rattle.irs_terms.specs.declared.codes.RollCode.{RollCode}
 use Rattle.irs_terms.specs.declared.codes.RollCode.TheVariants.{Eom, Dom, Imm, OnWeekday, NoRoll}
 use Rattle.irs_terms.specs.declared.frequency.Frequency.{Frequency}
@@ -16,24 +18,6 @@ use Rattle.irs_roll.specs.RollDayLaws.{last_day-is, last_day_only, numbered-is, 
 use Rattle.irs_roll.specs.Grids.{IsMultiple, OnMonths}
 use Rattle.irs_roll.specs.StepLaws.{no_whole_steps}
 use Rattle.irs_roll.specs.Rolls.{IsRollDay, OnGridBy, OnGrid}
-
--- the statement holds, or it doesn't
-abbrev pub IsDecided : Type 0 → Type 0
-IsDecided A = A ⊎ (A → ⊥)
-
--- which of two numbers is the lower
-pub order_of : (a b : ℤ) → (a <ℤ b) ⊎ ((b <ℤ a) ⊎ (a ≡ b))
-order_of a b = grind (arith, signed_arith)
-
--- two numbers are equal, or not
-pub decides_same : (a b : ℤ) → IsDecided (a ≡ b)
-decides_same a b = elim (order_of a b) [
-  | inl below ↦ inr (λ e. omega (arith, signed_arith, below, e))
-  | inr rest ↦ elim rest [
-    | inl above ↦ inr (λ e. omega (arith, signed_arith, above, e))
-    | inr same ↦ inl same
-  ]
-]
 
 -- a number is a whole multiple of the step, or its quotient leaves a rest
 pub decides_multiple : (step : ℕ) (z : ℤ) → 0 < step → IsDecided (IsMultiple step z)

@@ -10,8 +10,9 @@ use Rattle.irs_adjust.specs.declared.ways.Way.TheVariants.{Ahead, Back}
 use Rattle.irs_adjust.specs.Ways.{IsNextOn, MovesOn}
 use Rattle.irs_adjust.specs.Offsets.{MovesBusiness, MovesCalendar, MovesDays, Moves}
 use Rattle.irs_adjust.proofs.WayLemmas.{Reached, reached_none, reached_more, moved, none_moved}
-use Rattle.irs_schedule.proofs.Decided.{IsDecided, decides_same}
-use Rattle.irs_schedule.proofs.FoundDays.{InRange, IsFound, decides_le, decides_in_cover, decides_next, decides_prev}
+use Rattle.irs_adjust.proofs.FoundDays.{InRange, IsFound, decides_le, decides_in_cover, decides_next, decides_prev}
+use Rattle.irs_base.specs.Order.{IsDecided}
+use Rattle.irs_base.proofs.Decided.{decides_same}
 
 decides_next_on : (way : Way) (s : DaySet) (x : ℤ) → IsFound (IsNextOn way s x)
 decides_next_on Ahead s x = decides_next s (x +ℤ pos 1)

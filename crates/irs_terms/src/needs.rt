@@ -4,27 +4,27 @@
 //! An element needs days where its convention isn't NONE; payment dates and fixing dates also where
 //! their offset is a Business offset other than 0.
 ghost use Rattle.std.specs.Prelude.{◌≡◌, option_copied};
-ghost use Rattle.irs_schedule.specs.DaySets.{adjusts_days, counts_days, fixing_names, fixing_names_of, is_business, listed_names, names_by, names_for, names_with, reset_names};
+ghost use Rattle.irs_terms.specs.Needs.{adjusts_days, counts_days, fixing_names, fixing_names_of, is_business, listed_names, names_by, names_for, names_with, reset_names};
 
+use crate::{Adjustments, Centers, ConvCode, DayKind, FixTerms, Offset, ResetTerms};
 use irs_base::Names;
-use irs_terms::{Adjustments, Centers, ConvCode, DayKind, FixTerms, Offset, ResetTerms};
 
 /// Whose good days adjust a date; `None` where the convention is NONE.
-pub(crate) fn names_by(adj: &Adjustments) -> Option<&Names>
+pub fn names_by(adj: &Adjustments) -> Option<&Names>
     ensures { option_copied result ≡ names_by adj.now }
 {
     names_for(adjusts_days(adj.code), &adj.centers)
 }
 
 /// Whose good days move a date by an offset and adjust it; `None` where neither needs days.
-pub(crate) fn names_with(offset: Offset, adj: &Adjustments) -> Option<&Names>
+pub fn names_with(offset: Offset, adj: &Adjustments) -> Option<&Names>
     ensures { option_copied result ≡ names_with offset adj.now }
 {
     names_for(adjusts_days(adj.code) || counts_days(offset), &adj.centers)
 }
 
 /// Whose good days adjust reset dates; `None` where there are no reset dates.
-pub(crate) fn reset_names(reset: &Option<ResetTerms>) -> Option<&Names>
+pub fn reset_names(reset: &Option<ResetTerms>) -> Option<&Names>
     ensures { option_copied result ≡ reset_names reset.now }
 {
     match reset {
@@ -34,7 +34,7 @@ pub(crate) fn reset_names(reset: &Option<ResetTerms>) -> Option<&Names>
 }
 
 /// Whose good days move and adjust fixing dates; `None` where there are no fixing dates.
-pub(crate) fn fixing_names(reset: &Option<ResetTerms>) -> Option<&Names>
+pub fn fixing_names(reset: &Option<ResetTerms>) -> Option<&Names>
     ensures { option_copied result ≡ fixing_names reset.now }
 {
     match reset {
@@ -68,7 +68,8 @@ fn listed_names(centers: &Centers) -> Option<&Names>
     }
 }
 
-fn adjusts_days(code: ConvCode) -> bool
+/// Whether adjusting by the convention needs days: it isn't NONE.
+pub fn adjusts_days(code: ConvCode) -> bool
     ensures { result ≡ adjusts_days code }
 {
     match code {
@@ -81,7 +82,8 @@ fn adjusts_days(code: ConvCode) -> bool
     }
 }
 
-fn counts_days(offset: Offset) -> bool
+/// Whether moving by the offset needs days: it is a Business offset other than 0.
+pub fn counts_days(offset: Offset) -> bool
     ensures { result ≡ counts_days offset }
 {
     is_business(offset.kind) && offset.days != 0

@@ -1,9 +1,14 @@
--- Lists whose members have numbers from 1, and lists that go in pairs.
+-- Lists whose members have numbers or partners.
 use Rattle.std.specs.Prelude.{◌≡◌, ℕ, ◌+◌, ◌-◌, ◌≤◌, List, [], ◌∷◌, Some, slice_get, slice_index_or, ℤ, pos}
 
 -- the day at a place, counted from 0
 abbrev pub day_at : List ℤ → ℕ → ℤ
 day_at days i = slice_index_or days i (pos 0)
+
+-- P holds of each member
+abbrev pub Every : {X : Type 0} → (X → Type 0) → List X → Type 0
+Every P [] = Unit {0}
+Every P (x ∷ xs) = P x × Every P xs
 
 -- P holds of each member and its number, the first number being n
 abbrev pub EachNumbered : {X : Type 0} → (ℕ → X → Type 0) → ℕ → List X → Type 0

@@ -1,10 +1,10 @@
 -- The length of a frequency: days, months, or the whole term.
-use Rattle.std.specs.Prelude.{◌≡◌, ℕ, ◌*◌, ◌<◌}
+use Rattle.std.specs.Prelude.{◌≡◌, ℕ, ◌*◌, ◌<◌, ◌==◌, Bool, false}
 use Rattle.irs_terms.specs.declared.frequency.Unit.{Unit as FrequencyUnit}
 use Rattle.irs_terms.specs.declared.frequency.Unit.TheVariants.{D, W, M, Y, T}
 use Rattle.irs_terms.specs.declared.frequency.Frequency.{Frequency}
-use Rattle.irs_rules.specs.declared.lengths.Length.{Length}
-use Rattle.irs_rules.specs.declared.lengths.Length.TheVariants.{Days, Months, Term}
+use Rattle.irs_terms.specs.declared.lengths.Length.{Length}
+use Rattle.irs_terms.specs.declared.lengths.Length.TheVariants.{Days, Months, Term}
 
 -- a week is 7 days and a year 12 months; the term keeps its multiplier
 abbrev pub length_by : FrequencyUnit → ℕ → Length
@@ -16,6 +16,21 @@ length_by T count = Term count
 
 abbrev pub length_of : Frequency → Length
 length_of f = length_by f.unit f.count
+
+-- both are as long: 7D is 1W, 12M is 1Y, and the term is the term
+abbrev pub is_same_length : Length → Length → Bool
+is_same_length (Days a) (Days b) = a == b
+is_same_length (Days a) (Months b) = false
+is_same_length (Days a) (Term b) = false
+is_same_length (Months a) (Days b) = false
+is_same_length (Months a) (Months b) = a == b
+is_same_length (Months a) (Term b) = false
+is_same_length (Term a) (Days b) = false
+is_same_length (Term a) (Months b) = false
+is_same_length (Term a) (Term b) = a == b
+
+abbrev pub same_length : Frequency → Frequency → Bool
+same_length a b = is_same_length (length_of a) (length_of b)
 
 -- a whole multiple, with how many times it is
 abbrev pub IsTimes : ℕ → ℕ → ℕ → Type 0
