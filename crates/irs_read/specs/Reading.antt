@@ -1,6 +1,5 @@
 -- The swap that a document spells, and the first rule that it breaks.
 use Rattle.irs_base.specs.declared.places.Broken.{Broken}
-use Rattle.irs_elements.specs.Order.{IsFirst}
 use Rattle.irs_read.specs.Documents.{DocumentFault, the_swap}
 use Rattle.irs_read.specs.Meaning.{swap_in}
 use Rattle.irs_read.specs.declared.reader.ReadErr.{ReadErr}
@@ -8,6 +7,7 @@ use Rattle.irs_read.specs.declared.reader.ReadErr.TheVariants.{Broken as BrokenR
 use Rattle.irs_terms.specs.declared.stream_list.Swap.{Swap}
 use Rattle.serde_json.specs.Data.{Data}
 use Rattle.std.specs.Prelude.{◌≡◌, Some, Ok}
+use Rattle.irs_base.specs.Order.{IsFirstBroken}
 
 -- the document breaks no rule, and the swap is the one that its swap says
 pub record Means (d : Data) (s : Swap) : Type 0 where
@@ -18,5 +18,5 @@ pub record Means (d : Data) (s : Swap) : Type 0 where
 
 -- a refusal tells of the first broken rule, or of want of memory
 abbrev pub IsFirstBroken : Data → ReadErr → Type 0
-IsFirstBroken d (BrokenRule f) = IsFirst (DocumentFault d) (Some f)
+IsFirstBroken d (BrokenRule f) = IsFirstBroken (DocumentFault d) (Some f)
 IsFirstBroken d Memory = Unit {0}
