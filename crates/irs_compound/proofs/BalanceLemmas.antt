@@ -74,8 +74,7 @@ pub passes_first : (code : CompCode) (ps : List PeriodTerm) (i n : ℕ) (d : Per
 passes_first code ps i n d before e inside s t =
     let back : n + 1 - 1 ≡ i = omega (arith, e) in
     let there : slice_get ps (n + 1 - 1) ≡ Some (get_or ps i d) = rw back (slice_get-get_or ps i d inside) in
-    let so_far : Balances code ps (n + 1 - 1) before = rw back s in
-    (
+    let so_far : Balances code ps (n + 1 - 1) before = rw back s in (
       passes_here code ps (n + 1) (get_or ps i d) before (omega arith) there so_far t,
       λ m x. lt_false m (n + 1) (λ less. s.none_passes m (omega (arith, e, less)) x),
     )

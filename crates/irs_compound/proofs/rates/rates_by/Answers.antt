@@ -1,4 +1,4 @@
-use Rattle.std.proofs.Common.{◌≡◌, ◌≤◌, ℤ, Option, IfSome, sym, subst, unsigned_abs}
+use Rattle.std.proofs.Common.{◌≤◌, Option, IfSome, sym, subst, unsigned_abs}
 use Rattle.irs_compound.specs.PeriodRates.{AreRates, most_rounded_rate}
 use Rattle.irs_compound.specs.RateLaws.{rates_by_are, one_leg_rates}
 use Rattle.irs_compound.specs.declared.periods.Rates.{Rates}
