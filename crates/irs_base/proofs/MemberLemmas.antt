@@ -1,5 +1,5 @@
 -- Members of a list one after another, by their numbers or with their partners.
-use Rattle.std.proofs.Common.{◌≡◌, ℕ, ◌+◌, ◌-◌, ◌<◌, ◌≤◌, List, [], ◌∷◌, ◌++◌, length, take, arith, refl, sym, ◌∙◌, subst, ap, ap₂, inl, inr, Some}
+use Rattle.std.proofs.Common.{◌≡◌, ℕ, zero, suc, ◌+◌, ◌-◌, ◌<◌, ◌≤◌, List, [], ◌∷◌, ◌++◌, length, take, arith, refl, sym, ◌∙◌, subst, ap, ap₂, inl, inr, Some}
 use Rattle.std.specs.List.{slice_get}
 use Rattle.std.proofs.lemmas.Bool.{cases_lt}
 use Rattle.std.proofs.lemmas.List.{take_more}
@@ -55,3 +55,11 @@ one_numbered P one n (x ∷ xs) (y ∷ ys) e h k = ap₂ ◌∷◌ (one n x y h.
 pub numbered_map : {X : Type 0} (P Q : ℕ → X → Type 0) (n : ℕ) (xs : List X) → ((m : ℕ) (x : X) → n ≤ m → m < n + length xs → P m x → Q m x) → EachNumbered P n xs → EachNumbered Q n xs
 numbered_map P Q n [] f h = tt
 numbered_map P Q n (x ∷ xs) f h = (f n x (omega arith) (omega arith) h.0, numbered_map P Q (n + 1) xs (λ m y low high p. f m y (omega arith) (omega (arith, high)) p) h.1)
+
+-- m members from the number n on, where each of these numbers has one
+pub numbered_there : {X : Type 0} (P : ℕ → X → Type 0) (m n : ℕ) → ((k : ℕ) → n ≤ k → k < n + m → (x : X) × P k x) → (xs : List X) × (length xs ≡ m) × EachNumbered P n xs
+numbered_there P zero n member = ([], refl, tt)
+numbered_there P (suc m) n member =
+    let first = member n (omega arith) (omega arith) in
+    let rest = numbered_there P m (n + 1) (λ k low high. member k (omega (arith, low)) (omega (arith, high))) in
+    (first.0 ∷ rest.0, omega (arith, rest.1), (first.1, rest.2))

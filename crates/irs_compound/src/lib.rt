@@ -15,7 +15,7 @@ mod step_values;
 pub use compounding::{Compounding, Flat, OutOfRange, Simple, SpreadExclusive, Straight};
 pub use payments::payment_amount;
 pub use periods::{Parts, PeriodTerm, Rates};
-pub use rates::{fixed_rates, period_rates};
+pub use rates::{fixed_rates, period_rates, rates_by};
 pub use step_values::in_force;
 
 #[cfg(test)]

@@ -1,4 +1,3 @@
-pub mod RateLemmas
 pub mod PeriodLemmas
 pub mod PartLemmas
 pub mod WalkLemmas
@@ -33,7 +32,6 @@ pub mod LayoutThere
 pub mod PartThere
 pub mod OneBroken
 pub mod OnePart
-pub mod AmountBounds
 pub mod AmountLemmas
 pub mod PaidLemmas
 pub mod PartMade

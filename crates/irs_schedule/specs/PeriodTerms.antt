@@ -5,33 +5,20 @@ use Rattle.irs_base.specs.DayLists.{AreDays}
 use Rattle.irs_base.specs.Listed.{IsRising}
 use Rattle.irs_base.specs.declared.line.Dec.{Dec}
 use Rattle.irs_terms.specs.Currencies.{decimals_of}
-use Rattle.irs_terms.specs.declared.amounts.Leg.{Leg}
-use Rattle.irs_terms.specs.declared.amounts.Leg.TheVariants.{Fixed, Floating}
 use Rattle.irs_terms.specs.declared.codes.CompCode.{CompCode}
 use Rattle.irs_terms.specs.declared.results.Payment.{Payment}
 use Rattle.irs_terms.specs.declared.results.Reset.{Reset}
 use Rattle.irs_terms.specs.declared.stream.Stream.{Stream}
 use Rattle.irs_daycount.specs.Fractions.{Days, Fraction}
 use Rattle.irs_compound.specs.InForce.{InForce}
-use Rattle.irs_compound.specs.PeriodRates.{RatesOf, FixedRatesOf}
+use Rattle.irs_compound.specs.PeriodRates.{AreRates}
 use Rattle.irs_compound.specs.Amounts.{AllPriced, AmountOf, Passes, code_for}
-use Rattle.irs_compound.specs.declared.periods.Rates.{Rates}
 use Rattle.irs_compound.specs.declared.periods.PeriodTerm.{PeriodTerm}
 use Rattle.irs_base.specs.Limits.{most_periods}
 use Rattle.irs_resets.specs.Resets.{HasSmallRate}
 use Rattle.irs_schedule.specs.declared.entries.PeriodEntry.{PeriodEntry}
 use Rattle.irs_schedule.specs.Periods.{observed_of}
 use Rattle.irs_base.specs.Members.{EachNumbered, day_at}
-
--- the rates of a period with this unadjusted start: on a fixed stream the fixed rate in force; on a
--- floating one those of the observed rate, absent where it is
-abbrev pub AreRates : Leg → ℤ → Option ℤ → Option Rates → Type 0
-AreRates (Fixed values) start observed None = ⊥
-AreRates (Fixed values) start observed (Some rates) = FixedRatesOf values start rates
-AreRates (Floating float) start None None = Unit {0}
-AreRates (Floating float) start None (Some rates) = ⊥
-AreRates (Floating float) start (Some observed) None = ⊥
-AreRates (Floating float) start (Some observed) (Some rates) = RatesOf float start observed rates
 
 -- notional, rates and fraction of period i; the last period is the last of the stream
 pub record IsPeriodTerm (s : Stream) (b a : List ℤ) (rs : List Reset) (i : ℕ) (t : PeriodTerm) : Type 0 where

@@ -3,14 +3,14 @@
 ghost use Rattle.std.specs.Prelude.{◌≡◌, ℕ, ◌+◌, ◌-◌, ◌<◌, ◌≤◌, map, length, IfOk, IfSome, option_map};
 ghost use Rattle.irs_base.specs.Elements.{calculation_period_amount};
 ghost use Rattle.irs_base.specs.declared.places.Rule.TheVariants.{K39};
-ghost use Rattle.irs_terms.specs.Lawful.{IsLawfulStream, IsLawfulLeg, IsRate};
+ghost use Rattle.irs_terms.specs.Lawful.{IsLawfulStream};
 ghost use Rattle.irs_compound.specs.Amounts.{AllPriced, IsPayment, PassesFirst, code_for};
 ghost use Rattle.irs_base.specs.Limits.{most_periods};
 ghost use Rattle.irs_payments.specs.Payments.{Covers};
 ghost use Rattle.irs_periods.specs.SpanRules.{broken_at};
 ghost use Rattle.irs_schedule.specs.DatedRules.{PassesFirst as FirstPassed};
 ghost use Rattle.irs_schedule.specs.Parts.{HasAmount, IsAmount};
-ghost use Rattle.irs_schedule.specs.PeriodTerms.{AreRates, IsPeriodTerm, AreTerms, IsAmountBy, IsAmountFor, NonePasses, PassesIn, PassesAt, PassesFirstIn, IsTable, dec_of};
+ghost use Rattle.irs_schedule.specs.PeriodTerms.{IsPeriodTerm, AreTerms, IsAmountBy, IsAmountFor, NonePasses, PassesIn, PassesAt, PassesFirstIn, IsTable, dec_of};
 ghost use Rattle.irs_schedule.specs.SchedErrors.{IfBroken};
 ghost use Rattle.irs_schedule.specs.Schedules.{payment_of};
 ghost use Rattle.irs_base.specs.Members.{Every};
@@ -19,9 +19,9 @@ ghost use Rattle.irs_terms.specs.StepDates.{AllStepsRise};
 use crate::periods::{day_at, observed_at};
 use crate::{PaymentEntry, SchedErr};
 use irs_base::{Broken, Day, Dec, Elem, Memory, Place, Rule};
-use irs_compound::{PeriodTerm, Rates, fixed_rates, in_force, payment_amount, period_rates};
+use irs_compound::{PeriodTerm, in_force, payment_amount, rates_by};
 use irs_daycount::fraction_by;
-use irs_terms::{Leg, Payment, Reset, Stream};
+use irs_terms::{Payment, Reset, Stream};
 use std::alloc::Global;
 
 /// What the periods of a stream are worked out of: its unadjusted and adjusted boundaries, and its
@@ -168,24 +168,12 @@ fn period_term(s: &Stream, table: &PeriodTable<'_>, number: usize) -> PeriodTerm
     let start = day_at(table.unadjusted, number - 1);
     PeriodTerm {
         notional: in_force(&s.notional, start),
-        rates: rates_on(&s.leg, start, observed_at(table.resets, number - 1)),
+        rates: rates_by(&s.leg, start, observed_at(table.resets, number - 1)),
         frac: fraction_by(
             s.day_count,
             day_at(table.adjusted, number - 1),
             day_at(table.adjusted, number),
             number == table.adjusted.len() - 1,
         ),
-    }
-}
-
-// The rates of a period with this unadjusted start.
-fn rates_on(leg: &Leg, start: Day, observed: Option<i64>) -> Option<Rates>
-    requires lawful { IsLawfulLeg leg.now }
-    requires small { IfSome observed IsRate }
-    ensures { AreRates leg.now start observed result }
-{
-    match leg {
-        Leg::Fixed(values) => Some(fixed_rates(values, start)),
-        Leg::Floating(float) => Some(period_rates(float, start, observed?)),
     }
 }

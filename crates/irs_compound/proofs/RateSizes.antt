@@ -14,9 +14,8 @@ use Rattle.irs_terms.specs.declared.step_list.StepValues.{StepValues}
 use Rattle.irs_terms.specs.Lawful.{IsLawfulValues, IsLawfulFloat, IsLawfulLeg, IsRate}
 use Rattle.irs_compound.specs.InForce.{value_in_force}
 use Rattle.irs_compound.specs.InForceLaws.{in_force_is, in_force_within}
-use Rattle.irs_compound.specs.PeriodRates.{rate_at, exact_base, treated, rates_of, fixed_rates_of, most_exact_rate, most_rounded_rate}
+use Rattle.irs_compound.specs.PeriodRates.{rate_at, exact_base, treated, rates_of, fixed_rates_of, rates_by, most_exact_rate, most_rounded_rate}
 use Rattle.irs_compound.specs.Tens.{ten_above, ten_positive}
-use Rattle.irs_schedule.specs.Periods.{rate_by}
 
 -- a value in force is one of those that there are
 pub value_within : (Within : ℤ → Type 0) (values : StepValues) (d : ℤ) → IsLawfulValues Within values → Within (value_in_force values d)
@@ -73,8 +72,8 @@ pub fixed_size : (values : StepValues) (start : ℤ) → IsLawfulValues IsRate v
 unfolding fixed_rates_of
 fixed_size values start h = value_within IsRate values start h
 
--- the rate of a period
-pub rate_size : (leg : Leg) (start : ℤ) (observed : Option ℤ) → IsLawfulLeg leg → IfSome observed IsRate → IfSome (rate_by leg start observed) (λ r. unsigned_abs r ≤ most_rounded_rate)
+-- the rate of a period by its leg
+pub rate_size : (leg : Leg) (start : ℤ) (observed : Option ℤ) → IsLawfulLeg leg → IfSome observed IsRate → IfSome (rates_by leg start observed) (λ r. unsigned_abs r.all_in ≤ most_rounded_rate)
 rate_size (Fixed values) start observed h k = let small = fixed_size values start h in omega (arith, small)
 rate_size (Floating f) start None h k = tt
-rate_size (Floating f) start (Some o) h k = let small = floating_size f start o h k in omega (arith, small)
+rate_size (Floating f) start (Some o) h k = floating_size f start o h k

@@ -1,5 +1,5 @@
 -- The amount of a payment is at most 10^14 currency units in size, where no period leaves the range.
-use Rattle.std.proofs.Common.{◌≡◌, ℕ, ◌+◌, ◌-◌, ◌*◌, ◌^◌, ◌<◌, ◌≤◌, ℤ, pos, ◌+ℤ◌, ◌*ℤ◌, ◌≤ℤ◌, unsigned_abs, arith, sym, ap, subst, ◌∙◌, inl, inr, List, [], ◌∷◌, ◌++◌, length, take, get_or, Some, IsSome}
+use Rattle.std.proofs.Common.{◌≡◌, ℕ, ◌+◌, ◌-◌, ◌*◌, ◌^◌, ◌<◌, ◌≤◌, ℤ, pos, ◌+ℤ◌, ◌*ℤ◌, ◌≤ℤ◌, unsigned_abs, arith, sym, ap, subst, ◌∙◌, inl, inr, List, [], ◌∷◌, ◌++◌, length, take, get_or, Option, Some, None, IsSome, IfSome}
 use Rattle.std.specs.List.{slice_get}
 use Rattle.std.proofs.Math.Nat.{mul-le-mul}
 use Rattle.std.proofs.lemmas.Bool.{cases_lt}
@@ -14,7 +14,7 @@ use Rattle.irs_base.proofs.RoundingLaws.{rounded_size}
 use Rattle.irs_terms.specs.declared.codes.CompCode.{CompCode}
 use Rattle.irs_terms.specs.declared.codes.CompCode.TheVariants.{Simple, Straight, Flat, SpreadExclusive}
 use Rattle.irs_compound.proofs.Sizes.{positive_size}
-use Rattle.irs_compound.specs.Amounts.{IsFraction, IsTerm, IsPayment, AllPriced, Pays, RoundedAt, Follows, Stands, Within, Passes, amount, total, kept, kept_of, denominator, most_amount, most_exact, most_places}
+use Rattle.irs_compound.specs.Amounts.{IsFraction, IsTerm, IsPayment, AllPriced, AmountOf, IsOutOfRange, Pays, RoundedAt, Follows, Stands, Within, Passes, amount, total, kept, kept_of, denominator, code_for, most_amount, most_exact, most_places, most_units}
 use Rattle.irs_compound.specs.PartsLaws.{AllFractions, all_fractions, follows_exists, follows_more, follows_once, stands_exists, total-push}
 use Rattle.irs_compound.specs.Tens.{ten_above}
 use Rattle.irs_compound.specs.declared.periods.PeriodTerm.{PeriodTerm}
@@ -79,18 +79,18 @@ tens k n few = sym (pow-add 10 (k - n) n) ∙ ap (λ j. 10 ^ j) (omega (arith, f
 many_above : (m n : ℕ) → 1 ≤ m → 1 ≤ n → 0 < m * n
 many_above m n h k = let p : 1 * 1 ≤ m * n = mul-le-mul h k in omega (arith, p)
 
-simple_size : (n : ℕ) (sum m : ℤ) (places : ℕ) → 1 ≤ n → places ≤ most_places → unsigned_abs sum ≤ most_exact * n → Rounded Nearest sum (pos (n * 10 ^ (13 - places))) m → unsigned_abs m ≤ 10 ^ 14 * 10 ^ places
+simple_size : (n : ℕ) (sum m : ℤ) (places : ℕ) → 1 ≤ n → places ≤ most_places → unsigned_abs sum ≤ most_exact * n → Rounded Nearest sum (pos (n * 10 ^ (13 - places))) m → unsigned_abs m ≤ most_units places
 simple_size n sum m places some few small rounds =
     let ten = ten_above (13 - places) in
     let whole : n * (10 ^ (13 - places) * 10 ^ places) ≡ n * 10 ^ 13 = ap (λ j. n * j) (tens 13 places (omega (arith, few))) in
-    rounded_size Nearest sum m (n * 10 ^ (13 - places)) (10 ^ 14 * 10 ^ places) (many_above n (10 ^ (13 - places)) some (omega (arith, ten))) (omega (arith, small, whole)) rounds
+    rounded_size Nearest sum m (n * 10 ^ (13 - places)) (most_units places) (many_above n (10 ^ (13 - places)) some (omega (arith, ten))) (omega (arith, small, whole)) rounds
 
-compound_size : (sum m : ℤ) (places : ℕ) → places ≤ most_places → unsigned_abs sum ≤ most_amount → Rounded Nearest sum (pos (10 ^ (6 - places))) m → unsigned_abs m ≤ 10 ^ 14 * 10 ^ places
+compound_size : (sum m : ℤ) (places : ℕ) → places ≤ most_places → unsigned_abs sum ≤ most_amount → Rounded Nearest sum (pos (10 ^ (6 - places))) m → unsigned_abs m ≤ most_units places
 compound_size sum m places few small rounds =
     let whole : 10 ^ (6 - places) * 10 ^ places ≡ 10 ^ 6 = tens 6 places (omega (arith, few)) in
-    rounded_size Nearest sum m (10 ^ (6 - places)) (10 ^ 14 * 10 ^ places) (ten_above (6 - places)) (omega (arith, small, whole)) rounds
+    rounded_size Nearest sum m (10 ^ (6 - places)) (most_units places) (ten_above (6 - places)) (omega (arith, small, whole)) rounds
 
-rounded_fits : (code : CompCode) (den sum : ℤ) (places : ℕ) (m : ℤ) → pos 1 ≤ℤ den → places ≤ most_places → SumFits code den sum → RoundedAt code den sum places m → unsigned_abs m ≤ 10 ^ 14 * 10 ^ places
+rounded_fits : (code : CompCode) (den sum : ℤ) (places : ℕ) (m : ℤ) → pos 1 ≤ℤ den → places ≤ most_places → SumFits code den sum → RoundedAt code den sum places m → unsigned_abs m ≤ most_units places
 rounded_fits Simple den sum places m low few small rounds =
     let is : den ≡ pos (unsigned_abs den) = positive_size den (omega (arith, signed_arith, low)) in
     let some : 1 ≤ unsigned_abs den = omega (arith, signed_arith, low) in
@@ -100,7 +100,7 @@ rounded_fits Flat den sum places m low few small rounds = compound_size sum m pl
 rounded_fits SpreadExclusive den sum places m low few small rounds = compound_size sum m places few small rounds
 
 -- a payment of which no period leaves the range pays at most 10^14 currency units
-pub amount_bounded : (code : CompCode) (ps : List PeriodTerm) (places : ℕ) (m : ℤ) → IsPayment ps → places ≤ most_places → AllPriced ps → ((i : ℕ) → i < length ps → Passes code ps i → ⊥) → Pays code ps places m → unsigned_abs m ≤ 10 ^ 14 * 10 ^ places
+amount_bounded : (code : CompCode) (ps : List PeriodTerm) (places : ℕ) (m : ℤ) → IsPayment ps → places ≤ most_places → AllPriced ps → ((n : ℕ) → Passes code ps n → ⊥) → Pays code ps places m → unsigned_abs m ≤ most_units places
 amount_bounded code [] places m payment few priced none pays = absurd (omega (arith, payment.0))
 amount_bounded code (q ∷ qs) places m payment few priced none pays =
     let ps = q ∷ qs in
@@ -108,7 +108,8 @@ amount_bounded code (q ∷ qs) places m payment few priced none pays =
     let term = part.term in
     let sum = total part.earlier +ℤ amount part.last in
     let small : SumFits code part.period.frac.den sum =
-    sum_fits code part.period part.last sum (kept code part.earlier +ℤ kept_of code part.last) (λ passes. none (length ps - 1) (omega arith) (record {
+    sum_fits code part.period part.last sum (kept code part.earlier +ℤ kept_of code part.last) (λ passes. none (length ps) (record {
+      from_one = payment.0;
       earlier = part.earlier;
       period = part.period;
       parts = part.last;
@@ -119,3 +120,8 @@ amount_bounded code (q ∷ qs) places m payment few priced none pays =
     })) in
     let fits : SumFits code (denominator ps) (total pays.parts) = subst (λ (n : ℤ). SumFits code (denominator ps) n) (sym part.sum) (subst (λ (d : ℤ). SumFits code d sum) term.2 small) in
     rounded_fits code (denominator ps) (total pays.parts) places m (subst (λ (d : ℤ). pos 1 ≤ℤ d) term.2 term.1.2) few fits pays.rounds
+
+-- so an amount is at most that
+pub amount_small : (code : CompCode) (ps : List PeriodTerm) (places : ℕ) (m : Option ℤ) → IsPayment ps → places ≤ most_places → ((n : ℕ) → IsOutOfRange code ps n → ⊥) → AmountOf code ps places m → IfSome m (λ units. unsigned_abs units ≤ most_units places)
+amount_small code ps places None payment few none h = tt
+amount_small code ps places (Some m) payment few none h = amount_bounded (code_for code ps) ps places m payment few h.0 (λ n x. none n (h.0, x)) h.1
