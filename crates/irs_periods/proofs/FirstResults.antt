@@ -5,7 +5,8 @@ use Rattle.std.proofs.lemmas.Bool.Decides.{nat_tests}
 use Rattle.irs_base.specs.Elements.{effective_date, termination_date, period_dates_adjustments, first_period_start_date}
 use Rattle.irs_terms.specs.declared.adjustments.Dated.{Dated}
 use Rattle.irs_terms.specs.declared.stream.Stream.{Stream}
-use Rattle.irs_periods.specs.Adjusting.{BoundaryDays, AdjustsAt, NoResult, FirstNoResult, FirstLaterNoResult, boundary_index, last_of}
+use Rattle.irs_periods.specs.Adjusting.{BoundaryDays, AdjustsAt, NoResult, boundary_index, last_of}
+use Rattle.irs_periods.specs.FirstNumbers.{FirstNoResult, FirstLaterNoResult}
 use Rattle.irs_terms.specs.TermDates.{first_day_element, first_day_element_by}
 use Rattle.irs_base.specs.Members.{day_at}
 
@@ -125,25 +126,3 @@ module _ (s : Stream) (sets : BoundaryDays) (b : List ℤ) where
         (λ (o : Option Dated). Named (first_day_element_by o) (last_of b) j 0 → ⊥) (sym none)
         (none_before_effective (last_of b) j) named;
   }
-
--- at most one boundary comes first
-
-tied : (a b : ℕ) → (a < b → ⊥) → (b < a → ⊥) → a ≡ b
-tied a b below above = elim (cases_lt a b) [
-  | inl h ↦ absurd (below h)
-  | inr h ↦ elim (cases_lt b a) [ inl k ↦ absurd (above k) | inr k ↦ omega (arith, h, k) ]
-]
-
-named_alike : (start : Option Dated) (last i j : ℕ) → element (first_day_element_by start) last i ≡ element (first_day_element_by start) last j → boundary_index last i ≡ boundary_index last j → i ≡ j
-named_alike None last i j e k = grind (arith, nat_tests)
-named_alike (Some start) last i j e k = grind (arith, nat_tests)
-
-pub one_first_number : (s : Stream) (sets : BoundaryDays) (b : List ℤ) (i j : ℕ) → FirstNoResult s sets b i → FirstNoResult s sets b j → i ≡ j
-one_first_number s sets b i j p q =
-    let start = first_day_element s in
-    let last = last_of b in
-    let elements : element start last i ≡ element start last j = tied (element start last i) (element start last j)
-    (λ below. q.none_before i (inl below) p.holds) (λ above. p.none_before j (inl above) q.holds) in
-    let indexes : boundary_index last i ≡ boundary_index last j = tied (boundary_index last i) (boundary_index last j)
-    (λ below. q.none_before i (inr (elements, below)) p.holds) (λ above. p.none_before j (inr (sym elements, above)) q.holds) in
-    named_alike s.first_start last i j elements indexes

@@ -4,5 +4,6 @@ pub mod Spans
 pub mod SpanRules
 pub mod Boundaries
 pub mod GridLists
-pub mod PeriodErrors
 pub mod Adjusting
+pub mod FirstNumbers
+pub mod Answers

@@ -31,7 +31,7 @@ use Rattle.irs_schedule.specs.declared.entries.PeriodEntry.{PeriodEntry}
 use Rattle.irs_schedule.specs.Periods.{observed_of}
 use Rattle.irs_schedule.specs.PeriodTerms.{AreRates, IsPeriodTerm, IsPeriodEntry, AreTerms, IsAmountBy, IsAmountFor}
 use Rattle.irs_schedule.specs.Schedules.{payment_of}
-use Rattle.irs_schedule.proofs.AdjustedBoundaries.{day_of_days}
+use Rattle.irs_periods.proofs.AdjustedBoundaries.{day_of_days}
 use Rattle.irs_base.specs.Members.{EachNumbered, Every, day_at}
 
 -- the rates by the leg; absent where a floating stream has no observed rate
