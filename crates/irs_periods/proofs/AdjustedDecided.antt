@@ -4,17 +4,14 @@ use Rattle.jiff_core.proofs.SignedLemmas.{signed_arith}
 use Rattle.irs_base.specs.declared.stopped.Stopped.{Stopped}
 use Rattle.std.proofs.lemmas.Bool.{cases_lt}
 use Rattle.irs_base.specs.DayLists.{AreDays}
-use Rattle.irs_base.specs.Faults.{fault_at}
 use Rattle.irs_base.specs.Listed.{AllAfter, IsRising}
 use Rattle.irs_base.specs.Members.{day_at}
 use Rattle.irs_base.specs.Order.{First, IsDecided, comes_before}
 use Rattle.irs_base.specs.declared.places.Fault.{Fault}
 use Rattle.irs_base.proofs.FaultOrder.{one_fault}
-use Rattle.irs_base.proofs.Firsts.{false_lt, level_later, level_same, lt_false}
 use Rattle.irs_terms.specs.declared.stream.Stream.{Stream}
 use Rattle.irs_adjust.proofs.FoundDays.{InRange, IsFound, decides_adjusts, decides_le}
-use Rattle.irs_periods.specs.Adjusting.{AdjustedList, AdjustsAt, BoundaryDays, BreaksAdjusted, DoesNotRise, MissesResult, NoResult, NotAfter, boundary_element, boundary_index, code_at, days_at, last_of, no_result_at, not_after_at}
-use Rattle.irs_periods.specs.FirstNumbers.{FirstNoResult, FirstNotAfter, NamedBefore}
+use Rattle.irs_periods.specs.Adjusting.{AdjustedList, AdjustsAt, BoundaryDays, BreaksAdjusted, DoesNotRise, FirstNoResult, FirstNotAfter, MissesResult, NoResult, NotAfter, code_at, days_at, last_of, no_result_at, not_after_at}
 use Rattle.irs_periods.proofs.AdjustedBoundaries.{day_of_days, days_range, adjusted_there}
 use Rattle.irs_periods.proofs.AdjustedLemmas.{one_adjusted, rising_of}
 use Rattle.irs_periods.proofs.FirstAmong.{Among, first_among}
@@ -47,40 +44,27 @@ module _ (s : Stream) (sets : BoundaryDays) (b : List ℤ) where
     where
       later : (g : Fault) → DoesNotRise s sets b g → comes_before g f ≡ false
       later g h = subst (λ (x : Fault). comes_before g x ≡ false) (sym first.0.is) (subst (λ (x : Fault). comes_before x (no_result_at s (last_of b) first.0.number) ≡ false) (sym h.is) refl)
+
       none_before : (g : Fault) → BreaksAdjusted s sets b g → comes_before g f ≡ false
       none_before g (inl h) = first.1 g h
       none_before g (inr h) = later g h
 
   -- the boundary that is named first
-  not_named_before : (j i : ℕ) → (NamedBefore s (last_of b) j i → ⊥) → comes_before (no_result_at s (last_of b) j) (no_result_at s (last_of b) i) ≡ false
-  not_named_before j i none =
-      let last = last_of b in
-      elim (cases_lt (boundary_element s last i) (boundary_element s last j)) [
-        | inl later ↦ level_later (boundary_element s last j) (boundary_element s last i) _ later
-        | inr rest ↦ elim (cases_lt (boundary_element s last j) (boundary_element s last i)) [
-          | inl earlier ↦ absurd (none (inl earlier))
-          | inr level ↦
-              let same : boundary_element s last j ≡ boundary_element s last i = omega (arith, rest, level) in
-              level_same (boundary_element s last j) (boundary_element s last i) _ same (lt_false (boundary_index last j) (boundary_index last i) (λ below. none (inr (same, below))))
-        ]
-      ]
-
   pub first_no_result : (i : ℕ) → FirstNoResult s sets b i → First comes_before (BreaksAdjusted s sets b) (no_result_at s (last_of b) i)
-  first_no_result i first = first_of_results (no_result_at s (last_of b) i) (record { number = i; misses = first.holds; is = refl }, none_before)
+  first_no_result i first = first_of_results (no_result_at s (last_of b) i) (record { number = i; misses = first.0; is = refl }, none_before)
     where
       none_before : (g : Fault) → MissesResult s sets b g → comes_before g (no_result_at s (last_of b) i) ≡ false
-      none_before g h = subst (λ (x : Fault). comes_before x (no_result_at s (last_of b) i) ≡ false) (sym h.is)
-          (not_named_before h.number i (λ named. first.none_before h.number named h.misses))
+      none_before g h = subst (λ (x : Fault). comes_before x (no_result_at s (last_of b) i) ≡ false) (sym h.is) (first.1 h.number h.misses)
 
   -- the first adjusted day that isn't after the one before it
   pub first_not_after : (a : List ℤ) → AdjustedList s sets b a → (i : ℕ) → FirstNotAfter a i → First comes_before (BreaksAdjusted s sets b) (not_after_at i)
-  first_not_after a adjusted i first = (inr (record { list = a; adjusted = adjusted; number = i; flat = first.holds; is = refl }), none_before)
+  first_not_after a adjusted i first = (inr (record { list = a; adjusted = adjusted; number = i; flat = first.0; is = refl }), none_before)
     where
       none_before : (g : Fault) → BreaksAdjusted s sets b g → comes_before g (not_after_at i) ≡ false
       none_before g (inl h) = absurd (results_unbroken a adjusted g h)
       none_before g (inr h) =
           let flat : NotAfter a h.number = subst (λ (xs : List ℤ). NotAfter xs h.number) (one_adjusted s sets b h.list a h.adjusted adjusted) h.flat in
-          subst (λ (x : Fault). comes_before x (not_after_at i) ≡ false) (sym h.is) (lt_false h.number i (λ below. first.none_before h.number below flat))
+          subst (λ (x : Fault). comes_before x (not_after_at i) ≡ false) (sym h.is) (first.1 h.number flat)
 
 -- a day is after the one before it, or it isn't
 decides_not_after : (a : List ℤ) (i : ℕ) → i < length a → IsDecided (NotAfter a i)
@@ -112,6 +96,7 @@ module _ (s : Stream) (sets : BoundaryDays) (b : List ℤ) (days : AreDays b) (s
     where
       from_among : (f : Fault) → AmongResults f → MissesResult s sets b f
       from_among f h = record { number = h.number; misses = h.holds; is = h.is }
+
       to_among : (f : Fault) → MissesResult s sets b f → AmongResults f
       to_among f h = record { number = h.number; within = h.misses.within; holds = h.misses; is = h.is }
 
@@ -123,10 +108,12 @@ module _ (s : Stream) (sets : BoundaryDays) (b : List ℤ) (days : AreDays b) (s
     where
       from_among : (f : Fault) → Among not_after_at (NotAfter a) (length a) f → DoesNotRise s sets b f
       from_among f h = record { list = a; adjusted = adjusted; number = h.number; flat = h.holds; is = h.is }
+
       to_among : (f : Fault) → DoesNotRise s sets b f → Among not_after_at (NotAfter a) (length a) f
       to_among f h =
           let flat : NotAfter a h.number = subst (λ (xs : List ℤ). NotAfter xs h.number) (one_adjusted s sets b h.list a h.adjusted adjusted) h.flat in
           record { number = h.number; within = flat.within; holds = flat; is = h.is }
+
       none_before : (f : Fault) → First comes_before (Among not_after_at (NotAfter a) (length a)) f → (g : Fault) → BreaksAdjusted s sets b g → comes_before g f ≡ false
       none_before f first g (inl h) = absurd (results_unbroken s sets b a adjusted g h)
       none_before f first g (inr h) = first.1 g (to_among g h)

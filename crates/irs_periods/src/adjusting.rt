@@ -6,14 +6,12 @@ ghost use Rattle.std.specs.Prelude.{◌≡◌, ◌⊎◌, ◌<◌, ◌≤◌, �
 ghost use Rattle.irs_base.specs.Faults.{IfBroken, fault_at};
 ghost use Rattle.irs_base.specs.Listed.{IsRising};
 ghost use Rattle.irs_base.specs.declared.places.Rule.TheVariants.{K33};
-ghost use Rattle.irs_base.specs.Members.{day_at};
 ghost use Rattle.irs_base.specs.Order.{First, comes_before};
 ghost use Rattle.irs_terms.specs.TermDates.{DatesInOrder};
 ghost use Rattle.irs_terms.specs.declared.results.Span.{Span};
-ghost use Rattle.irs_periods.specs.Adjusting.{AdjustedList, AdjustsAt, BreaksAdjusted, MissesResult, NotAfter, days_by, last_of, no_result_at, not_after_at};
+ghost use Rattle.irs_periods.specs.Adjusting.{AdjustedList, AdjustsAt, BreaksAdjusted, FirstLaterNoResult, FirstNoResult, FirstNotAfter, HasResult, MissesResult, NotAfter, days_by, no_result_at, not_after_at};
 ghost use Rattle.irs_periods.specs.Answers.{IfMemory};
 ghost use Rattle.irs_periods.specs.Boundaries.{Boundaries};
-ghost use Rattle.irs_periods.specs.FirstNumbers.{FirstLaterNoResult, FirstNoResult, FirstNotAfter};
 
 use crate::PerErr;
 use crate::span::first_day_elem;
@@ -45,14 +43,24 @@ pub fn adjusted<G: GoodDays>(
     requires listed { (span : Span) × Boundaries s.now span unadjusted.now }
     ensures ok { IfOk result (AdjustedList s.now (days_by G.days start.now end.now middle.now) unadjusted.now) }
     ensures rising { IfOk result IsRising }
-    ensures unbroken { IfOk result (λ _. (f : Fault) → BreaksAdjusted s.now (days_by G.days start.now end.now middle.now) unadjusted.now f → ⊥) }
-    ensures memory { IfMemory result ((f : Fault) → MissesResult s.now (days_by G.days start.now end.now middle.now) unadjusted.now f → ⊥) }
-    ensures broken { IfBroken result (First comes_before (BreaksAdjusted s.now (days_by G.days start.now end.now middle.now) unadjusted.now)) }
-    ensures decided { let Breaks = BreaksAdjusted s.now (days_by G.days start.now end.now middle.now) unadjusted.now in ((f : Fault) × First comes_before Breaks f) ⊎ ((f : Fault) → Breaks f → ⊥) }
-    ensures exists { ((f : Fault) → MissesResult s.now (days_by G.days start.now end.now middle.now) unadjusted.now f → ⊥) → (a : List ℤ) × AdjustedList s.now (days_by G.days start.now end.now middle.now) unadjusted.now a }
-    ensures rises { ((f : Fault) → BreaksAdjusted s.now (days_by G.days start.now end.now middle.now) unadjusted.now f → ⊥) → (a : List ℤ) × AdjustedList s.now (days_by G.days start.now end.now middle.now) unadjusted.now a × IsRising a }
-    ensures one { (a b : List ℤ) → AdjustedList s.now (days_by G.days start.now end.now middle.now) unadjusted.now a → AdjustedList s.now (days_by G.days start.now end.now middle.now) unadjusted.now b → a ≡ b }
-    ensures one_broken { let IsFirstOf = First comes_before (BreaksAdjusted s.now (days_by G.days start.now end.now middle.now) unadjusted.now) in (f g : Fault) → IsFirstOf f → IsFirstOf g → f ≡ g }
+    ensures unbroken { let Breaks = BreaksAdjusted s.now (days_by G.days start.now end.now middle.now) unadjusted.now in
+        IfOk result (λ _. (f : Fault) → Breaks f → ⊥) }
+    ensures memory { let Misses = MissesResult s.now (days_by G.days start.now end.now middle.now) unadjusted.now in
+        IfMemory result ((f : Fault) → Misses f → ⊥) }
+    ensures broken { let Breaks = BreaksAdjusted s.now (days_by G.days start.now end.now middle.now) unadjusted.now in
+        IfBroken result (First comes_before Breaks) }
+    ensures decided { let Breaks = BreaksAdjusted s.now (days_by G.days start.now end.now middle.now) unadjusted.now in
+        ((f : Fault) × First comes_before Breaks f) ⊎ ((f : Fault) → Breaks f → ⊥) }
+    ensures exists { let sets = days_by G.days start.now end.now middle.now in
+        ((f : Fault) → MissesResult s.now sets unadjusted.now f → ⊥)
+        → (a : List ℤ) × AdjustedList s.now sets unadjusted.now a }
+    ensures rises { let sets = days_by G.days start.now end.now middle.now in
+        ((f : Fault) → BreaksAdjusted s.now sets unadjusted.now f → ⊥)
+        → (a : List ℤ) × AdjustedList s.now sets unadjusted.now a × IsRising a }
+    ensures one { let IsAdjusted = AdjustedList s.now (days_by G.days start.now end.now middle.now) unadjusted.now in
+        (a b : List ℤ) → IsAdjusted a → IsAdjusted b → a ≡ b }
+    ensures one_broken { let Breaks = BreaksAdjusted s.now (days_by G.days start.now end.now middle.now) unadjusted.now in
+        (f g : Fault) → First comes_before Breaks f → First comes_before Breaks g → f ≡ g }
 {
     // hands the prover the range of the good days and of the boundaries
     let _covers = (start.cover(), end.cover(), middle.cover());
@@ -73,8 +81,10 @@ fn each_adjusted<G: GoodDays>(
     requires listed { (span : Span) × Boundaries s.now span unadjusted.now }
     ensures ok { IfOk result (AdjustedList s.now (days_by G.days start.now end.now middle.now) unadjusted.now) }
     ensures rising { IfOk result IsRising }
-    ensures memory { IfMemory result ((f : Fault) → MissesResult s.now (days_by G.days start.now end.now middle.now) unadjusted.now f → ⊥) }
-    ensures broken { IfBroken result (First comes_before (BreaksAdjusted s.now (days_by G.days start.now end.now middle.now) unadjusted.now)) }
+    ensures memory { let Misses = MissesResult s.now (days_by G.days start.now end.now middle.now) unadjusted.now in
+        IfMemory result ((f : Fault) → Misses f → ⊥) }
+    ensures broken { let Breaks = BreaksAdjusted s.now (days_by G.days start.now end.now middle.now) unadjusted.now in
+        IfBroken result (First comes_before Breaks) }
 {
     let days = unadjusted.as_slice();
     if let Some(number) = first_without(s, days, start, end, middle) {
@@ -120,7 +130,7 @@ fn first_without<G: GoodDays>(
 ) -> Option<usize>
     requires { 2 ≤ length days.now }
     ensures some { IfSome result (FirstNoResult s.now (days_by G.days start.now end.now middle.now) days.now) }
-    ensures none { IfNone result ((i : ℕ) → i < length days.now → (r : ℤ) × AdjustsAt s.now (days_by G.days start.now end.now middle.now) (last_of days.now) i (day_at days.now i) r) }
+    ensures none { IfNone result ((i : ℕ) → i < length days.now → HasResult s.now (days_by G.days start.now end.now middle.now) days.now i) }
 {
     let later = later_without(s, days, start, end, middle);
     if let Some(_first) = adjust_at(s, start, end, middle, days.len() - 1, 0, days[0]) {
@@ -143,7 +153,7 @@ fn later_without<G: GoodDays>(
 ) -> Option<usize>
     requires { 2 ≤ length days.now }
     ensures some { IfSome result (FirstLaterNoResult s.now (days_by G.days start.now end.now middle.now) days.now) }
-    ensures none { IfNone result ((i : ℕ) → 0 < i → i < length days.now → (r : ℤ) × AdjustsAt s.now (days_by G.days start.now end.now middle.now) (last_of days.now) i (day_at days.now i) r) }
+    ensures none { IfNone result ((i : ℕ) → 0 < i → i < length days.now → HasResult s.now (days_by G.days start.now end.now middle.now) days.now i) }
 {
     let last = days.len() - 1;
     let Some(_last) = adjust_at(s, start, end, middle, last, last, days[last]) else {
@@ -167,7 +177,7 @@ fn adjust_each<G: GoodDays>(
     middle: &G,
 ) -> Result<DayList, PerErr>
     requires some { 0 < length days.now }
-    requires each { (i : ℕ) → i < length days.now → (r : ℤ) × AdjustsAt s.now (days_by G.days start.now end.now middle.now) (last_of days.now) i (day_at days.now i) r }
+    requires each { (i : ℕ) → i < length days.now → HasResult s.now (days_by G.days start.now end.now middle.now) days.now i }
     ensures ok { IfOk result (AdjustedList s.now (days_by G.days start.now end.now middle.now) days.now) }
     ensures memory { IfBroken result (λ _. ⊥) }
 {

@@ -52,22 +52,19 @@ pub fn boundaries<G: Grid>(
     ensures unbroken { IfOk result (λ _. (f : Fault) → BreaksPeriods s.now span.now f → ⊥) }
     ensures memory { IfMemory result ((f : Fault) → BreaksPeriods s.now span.now f → ⊥) }
     ensures broken { IfBroken result (First comes_before (BreaksPeriods s.now span.now)) }
-    ensures decided { ((f : Fault) × First comes_before (BreaksPeriods s.now span.now) f) ⊎ ((f : Fault) → BreaksPeriods s.now span.now f → ⊥) }
+    ensures decided { let Breaks = BreaksPeriods s.now span.now in
+        ((f : Fault) × First comes_before Breaks f) ⊎ ((f : Fault) → Breaks f → ⊥) }
     ensures exists { (b : List ℤ) × Boundaries s.now span.now b }
     ensures one { (a b : List ℤ) → Boundaries s.now span.now a → Boundaries s.now span.now b → a ≡ b }
-    ensures one_broken { (f g : Fault) → First comes_before (BreaksPeriods s.now span.now) f → First comes_before (BreaksPeriods s.now span.now) g → f ≡ g }
+    ensures one_broken { let Breaks = BreaksPeriods s.now span.now in
+        (f g : Fault) → First comes_before Breaks f → First comes_before Breaks g → f ≡ g }
     ensures regular { (b : List ℤ) → Boundaries s.now span.now b → RegularStart s.now span.now b }
 {
     over_grid(alloc, s, span, grid)
 }
 
 // The boundaries over the grid, where there are not too many.
-fn over_grid<G: Grid>(
-    alloc: Global,
-    s: &Stream,
-    span: &Span,
-    grid: &G,
-) -> Result<DayList, PerErr>
+fn over_grid<G: Grid>(alloc: Global, s: &Stream, span: &Span, grid: &G) -> Result<DayList, PerErr>
     requires lawful { IsLawfulStream s.now }
     requires dates { DatesInOrder s.now }
     requires timed { ¬ (IsTerm s.now.freq) }
@@ -235,10 +232,12 @@ pub fn boundaries_by(alloc: Global, s: &Stream, span: &Span) -> Result<DayList, 
     ensures unbroken { IfOk result (λ _. (f : Fault) → BreaksPeriods s.now span.now f → ⊥) }
     ensures memory { IfMemory result ((f : Fault) → BreaksPeriods s.now span.now f → ⊥) }
     ensures broken { IfBroken result (First comes_before (BreaksPeriods s.now span.now)) }
-    ensures decided { ((f : Fault) × First comes_before (BreaksPeriods s.now span.now) f) ⊎ ((f : Fault) → BreaksPeriods s.now span.now f → ⊥) }
+    ensures decided { let Breaks = BreaksPeriods s.now span.now in
+        ((f : Fault) × First comes_before Breaks f) ⊎ ((f : Fault) → Breaks f → ⊥) }
     ensures exists { (b : List ℤ) × Boundaries s.now span.now b }
     ensures one { (a b : List ℤ) → Boundaries s.now span.now a → Boundaries s.now span.now b → a ≡ b }
-    ensures one_broken { (f g : Fault) → First comes_before (BreaksPeriods s.now span.now) f → First comes_before (BreaksPeriods s.now span.now) g → f ≡ g }
+    ensures one_broken { let Breaks = BreaksPeriods s.now span.now in
+        (f g : Fault) → First comes_before Breaks f → First comes_before Breaks g → f ≡ g }
     ensures regular { (b : List ℤ) → Boundaries s.now span.now b → RegularStart s.now span.now b }
 {
     by_frequency(alloc, s, span)

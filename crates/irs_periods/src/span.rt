@@ -19,7 +19,7 @@ ghost use Rattle.irs_base.specs.Days.{IsDay};
 ghost use Rattle.irs_base.specs.Order.{First, comes_before};
 ghost use Rattle.irs_terms.specs.Lawful.{IsLawfulStream};
 ghost use Rattle.irs_terms.specs.FirstDay.{first_day_of};
-ghost use Rattle.irs_periods.specs.Spans.{GivenSpan, Regular, StubSpan, anchor_of, given_anchor, is_term, stub_anchor};
+ghost use Rattle.irs_periods.specs.Spans.{GivenSpanOf, Regular, StubSpan, anchor_of, given_anchor_of, is_term, stub_anchor};
 ghost use Rattle.irs_periods.specs.SpanRules.{BreaksSpan, SpanKept, anchor_element, last_element, last_off_grid, roll_misfits};
 ghost use Rattle.irs_terms.specs.Suiting.{IsTerm, FrequencySuits};
 ghost use Rattle.irs_terms.specs.TermDates.{DatesInOrder, first_day_element, termination_of};
@@ -46,7 +46,8 @@ pub fn regular_span(s: &Stream) -> Result<Span, Fault>
     ensures decided { ((f : Fault) × First comes_before (BreaksSpan s.now) f) ⊎ ((f : Fault) → BreaksSpan s.now f → ⊥) }
     ensures exists { ((f : Fault) → BreaksSpan s.now f → ⊥) → (span : Span) × Regular s.now span × SpanKept s.now span }
     ensures one { (a b : Span) → Regular s.now a → Regular s.now b → a ≡ b }
-    ensures one_broken { (f g : Fault) → First comes_before (BreaksSpan s.now) f → First comes_before (BreaksSpan s.now) g → f ≡ g }
+    ensures one_broken { let Breaks = BreaksSpan s.now in
+        (f g : Fault) → First comes_before Breaks f → First comes_before Breaks g → f ≡ g }
 {
     span_by_frequency(s)
 }
@@ -192,8 +193,8 @@ fn last_elem(s: &Stream) -> Elem
 fn ends<G: Grid>(s: &Stream, grid: &G) -> (Day, Day)
     requires days { IsDay (first_day_of s.now) × IsDay (termination_of s.now) }
     requires order { first_day_of s.now <ℤ termination_of s.now }
-    requires anchored { G.at grid.now (pos 0) ≡ given_anchor s.now.first_regular s.now.last_regular s.now.stub (first_day_of s.now) (termination_of s.now) }
-    ensures { GivenSpan s.now.first_regular s.now.last_regular s.now.stub (G.on grid.now) (first_day_of s.now) (termination_of s.now) result.0 result.1 }
+    requires anchored { G.at grid.now (pos 0) ≡ given_anchor_of s.now }
+    ensures { GivenSpanOf s.now (G.on grid.now) result.0 result.1 }
 {
     let begin = s.first_day();
     let termination = s.termination.day;

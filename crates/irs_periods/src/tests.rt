@@ -222,11 +222,13 @@ fn are_days(list: &[Day], want: &str) -> bool {
 
 fn is_broken(found: &PerErr, rule: Rule, path: &str, index: u32) -> bool {
     match found {
-        PerErr::Broken(Fault {
-            rule: other,
-            elem,
-            index: number,
-        }) => *other == rule && elem.path() == path && *number == index,
+        PerErr::Broken(
+            Fault {
+                rule: other,
+                elem,
+                index: number,
+            },
+        ) => *other == rule && elem.path() == path && *number == index,
         PerErr::Memory => false,
     }
 }

@@ -1,8 +1,7 @@
 use Rattle.std.proofs.Common.{◌≡◌, ◌-◌, ◌∙◌, List, length, ℕ, ℤ, arith, ap, sym, subst}
 use Rattle.irs_base.specs.Order.{First, comes_before}
 use Rattle.irs_base.specs.declared.places.Fault.{Fault}
-use Rattle.irs_periods.specs.Adjusting.{AdjustedList, BreaksAdjusted, MissesResult, days_by, last_of, no_result_at}
-use Rattle.irs_periods.specs.FirstNumbers.{FirstNoResult, FirstNotAfter}
+use Rattle.irs_periods.specs.Adjusting.{AdjustedList, BreaksAdjusted, FirstNoResult, FirstNotAfter, MissesResult, days_by, last_of, no_result_at}
 use Rattle.irs_periods.proofs.AdjustedDecided.{first_no_result, first_not_after, results_unbroken}
 use Rattle.irs_periods.proofs.MemoryAnswers.{if_memory}
 use Rattle.irs_periods.proofs.AdjustedLemmas.{one_adjusted, adjusted_exists, two_boundaries, few_days, rising_of}
@@ -22,12 +21,12 @@ adjust_each-requires-clause-some g c =
 pub no_result-requires : goal.no_result-requires
 no_result-requires g c =
     let few = few_days c.args.unadjusted.now c.requires.listed.1.rising c.as_slice-days.ensures.days in
-    omega (arith, few, ap length c.as_slice-days.ensures.value, c.in-Some.ensures.some.holds.within)
+    omega (arith, few, ap length c.as_slice-days.ensures.value, c.in-Some.ensures.some.0.within)
 
 pub not_after-requires : goal.not_after-requires
 not_after-requires g c =
     let few = few_days c.args.unadjusted.now c.requires.listed.1.rising c.as_slice-days.ensures.days in
-    omega (arith, few, ap length c.as_slice-days.ensures.value, ap length c.as_slice.ensures.value, c.in_ok-list.ensures.ok.same_length, c.in-Some-first_not_after.ensures.some.holds.within)
+    omega (arith, few, ap length c.as_slice-days.ensures.value, ap length c.as_slice.ensures.value, c.in_ok-list.ensures.ok.same_length, c.in-Some-first_not_after.ensures.some.0.within)
 
 pub returns-in-Some-clause-broken : goal.returns-in-Some-clause-broken
 returns-in-Some-clause-broken g c =
