@@ -10,7 +10,7 @@ mod moved;
 mod rows;
 
 use crate::*;
-use irs_base::{Broken, Day, DayList, Rule, read_date};
+use irs_base::{Day, DayList, Fault, Rule, read_date};
 use irs_roll::suits;
 use irs_terms::*;
 use rows::{By, GRIDS, LIMITS, NOT_MOVED, REGULAR, Row, STARTS, STUBS, Want};
@@ -222,9 +222,13 @@ fn are_days(list: &[Day], want: &str) -> bool {
 
 fn is_broken(found: &PerErr, rule: Rule, path: &str, index: u32) -> bool {
     match found {
-        PerErr::Broken(Broken { rule: other, place }) => {
-            *other == rule && place.stream == 1 && place.elem.path() == path && place.index == index
-        }
+        PerErr::Broken(
+            Fault {
+                rule: other,
+                elem,
+                index: number,
+            },
+        ) => *other == rule && elem.path() == path && *number == index,
         PerErr::Memory => false,
     }
 }

@@ -13,8 +13,8 @@ use Rattle.irs_schedule.specs.DaySets.{StreamSets}
 use Rattle.irs_schedule.specs.declared.layouts.Layout.{Layout}
 use Rattle.irs_schedule.specs.Layouts.{IsLayout}
 use Rattle.irs_schedule.specs.TermsKept.{TermsKept}
-use Rattle.irs_schedule.proofs.AdjustedBoundaries.{adjusted_days}
-use Rattle.irs_schedule.proofs.BoundariesThere.{boundaries_days, boundaries_run}
+use Rattle.irs_periods.proofs.AdjustedBoundaries.{adjusted_days}
+use Rattle.irs_periods.proofs.BoundariesThere.{boundaries_days, boundaries_run}
 use Rattle.irs_schedule.proofs.PaymentsCover.{every_payments_cover}
 use Rattle.irs_schedule.proofs.StreamRanges.{AreInRange}
 use Rattle.irs_terms.specs.FirstDay.{first_day_of}

@@ -5,13 +5,8 @@ pub mod TextLemmas
 pub mod PlaceLemmas
 pub mod PaymentLemmas
 pub mod CountLemmas
-pub mod AdjustedBoundaries
 pub mod ExchangesThere
 pub mod ResetsThere
-pub mod Ranges
-pub mod Anchors
-pub mod SpanThere
-pub mod BoundariesThere
 pub mod CutsThere
 pub mod PaymentsThere
 pub mod PaymentsCover

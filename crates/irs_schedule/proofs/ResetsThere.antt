@@ -29,7 +29,7 @@ use Rattle.irs_resets.proofs.DateLemmas.{unmoved_fails}
 use Rattle.irs_resets.proofs.RowLemmas.{some_resets, has_dates}
 use Rattle.irs_adjust.proofs.FoundDays.{InRange, IsFound, decides_adjusts, adjusts_day}
 use Rattle.irs_adjust.proofs.MovedDays.{decides_moves, moves_day}
-use Rattle.irs_schedule.proofs.AdjustedBoundaries.{day_of_days}
+use Rattle.irs_periods.proofs.AdjustedBoundaries.{day_of_days}
 use Rattle.irs_terms.specs.DayTypes.{IsSaidFixing, IsSaid, IsSaidReset}
 use Rattle.irs_terms.specs.Legs.{FitsLeg}
 

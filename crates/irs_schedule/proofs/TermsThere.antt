@@ -21,8 +21,8 @@ use Rattle.irs_schedule.specs.declared.entries.PeriodEntry.{PeriodEntry}
 use Rattle.irs_schedule.specs.Periods.{period_by}
 use Rattle.irs_schedule.specs.PeriodTerms.{IsPeriodTerm, IsPeriodEntry, AreTerms, IsAmountBy, IsAmountFor}
 use Rattle.irs_schedule.specs.Schedules.{payment_of}
-use Rattle.irs_schedule.proofs.AdjustedBoundaries.{day_of_days}
 use Rattle.irs_schedule.proofs.EntryLemmas.{term_by, term_stands, kept_of, entry_stands}
+use Rattle.irs_periods.proofs.AdjustedBoundaries.{day_of_days}
 use Rattle.irs_base.specs.Members.{EachNumbered, Every, day_at}
 use Rattle.irs_base.proofs.MemberLemmas.{numbered_there}
 

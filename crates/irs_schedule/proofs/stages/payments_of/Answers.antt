@@ -1,6 +1,6 @@
 use Rattle.std.proofs.Common.{Err, ap, ◌∙◌}
 use Rattle.irs_periods.proofs.TermOrder.{begins_before_end}
-use Rattle.irs_schedule.proofs.BoundariesThere.{boundaries_run}
+use Rattle.irs_periods.proofs.BoundariesThere.{boundaries_run}
 use Rattle.irs_schedule.proofs.stages.payments_of.Goals as goal
 
 pub payments-requires-clause-term : goal.payments-requires-clause-term

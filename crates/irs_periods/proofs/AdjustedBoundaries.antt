@@ -24,7 +24,7 @@ chosen_range true s t first second = first
 chosen_range false s t first second = second
 
 module _ (s : Stream) (sets : BoundaryDays) (b : List ℤ) (days : AreDays b) (start : InRange sets.start) (last : InRange sets.end) (middle : InRange sets.middle) where
-  days_range : (end i : ℕ) → InRange (days_at sets end i)
+  pub days_range : (end i : ℕ) → InRange (days_at sets end i)
   days_range end i =
       let rest = chosen_range (i == end) sets.end sets.middle last middle in
       chosen_range (i == 0) sets.start (if i == end then sets.end else sets.middle) start rest

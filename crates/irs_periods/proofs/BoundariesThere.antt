@@ -13,10 +13,10 @@ use Rattle.irs_periods.specs.Boundaries.{Boundaries, IsBoundary, IsBoundaryBy, O
 use Rattle.irs_periods.specs.SpanRules.{SpanKept}
 use Rattle.irs_periods.specs.Spans.{Regular}
 use Rattle.irs_periods.proofs.Assembled.{lists_same}
-use Rattle.irs_schedule.proofs.Anchors.{anchor_day}
+use Rattle.irs_periods.proofs.Anchors.{anchor_day}
 use Rattle.irs_adjust.proofs.FoundDays.{decides_le}
-use Rattle.irs_schedule.proofs.Ranges.{listed_between}
-use Rattle.irs_schedule.proofs.SpanThere.{LiesInTerm, lies_in_term, term_day}
+use Rattle.irs_periods.proofs.Ranges.{listed_between}
+use Rattle.irs_periods.proofs.SpanThere.{LiesInTerm, lies_in_term, term_day}
 use Rattle.irs_terms.specs.FirstDay.{first_day_of}
 use Rattle.irs_periods.proofs.TermOrder.{begins_before_end}
 use Rattle.irs_terms.specs.TermDates.{DatesInOrder, termination_of}

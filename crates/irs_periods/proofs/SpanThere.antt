@@ -3,8 +3,7 @@
 use Rattle.std.proofs.Common.{◌≡◌, inl, inr, Bool, Option, Some, None, ℤ, ◌≤ℤ◌, ◌<ℤ◌, refl, sym, subst, arith}
 use Rattle.jiff_core.proofs.SignedLemmas.{signed_arith}
 use Rattle.irs_base.specs.Days.{IsDay}
-use Rattle.irs_base.specs.declared.places.Broken.{Broken}
-use Rattle.irs_base.specs.declared.places.Rule.TheVariants.{K30, K31}
+use Rattle.irs_base.specs.declared.places.Fault.{Fault}
 use Rattle.irs_terms.specs.Lawful.{IsLawfulStream}
 use Rattle.irs_terms.specs.declared.codes.StubKind.{StubKind}
 use Rattle.irs_terms.specs.declared.codes.StubKind.TheVariants.{ShortInitial, LongInitial, ShortFinal, LongFinal}
@@ -12,12 +11,13 @@ use Rattle.irs_terms.specs.declared.results.Span.{Span}
 use Rattle.irs_terms.specs.declared.stream.Stream.{Stream}
 use Rattle.irs_roll.specs.Rolls.{Fits, OnGrid}
 use Rattle.irs_periods.specs.Nearest.{FirstFrom, LastUpTo, LongFirst, LongLast}
-use Rattle.irs_periods.specs.SpanRules.{RollMisfits, SpanBroken, SpanKept, broken_at, anchor_element, last_element}
+use Rattle.irs_periods.specs.SpanRules.{BreaksSpan, LastOffGrid, RollMisfits, SpanKept, roll_misfits, last_off_grid}
+use Rattle.irs_periods.specs.Boundaries.{IsBoundary}
 use Rattle.irs_periods.specs.Spans.{GivenSpan, Regular, SpanBy, StubSpan, anchor_of, given_anchor, stub_anchor}
 use Rattle.irs_periods.proofs.RegularPart.{timed_unit}
-use Rattle.irs_periods.proofs.SpanOrder.{given_in_term}
-use Rattle.irs_schedule.proofs.Anchors.{anchor_day, decides_fits, decides_term, own_grid}
-use Rattle.irs_schedule.proofs.Ranges.{first_between, last_between, after_between, before_between}
+use Rattle.irs_periods.proofs.SpanOrder.{InTerm, given_in_term}
+use Rattle.irs_periods.proofs.Anchors.{anchor_day, decides_fits, decides_term, own_grid}
+use Rattle.irs_periods.proofs.Ranges.{first_between, last_between, after_between, before_between}
 use Rattle.irs_terms.specs.FirstDay.{first_day_of}
 use Rattle.irs_periods.proofs.TermOrder.{begins_before_end}
 use Rattle.irs_terms.specs.Suiting.{IsTerm}
@@ -85,6 +85,9 @@ pub record LiesInTerm (s : Stream) (span : Span) : Type 0 where
   pub order : span.first ≤ℤ span.last
   pub after : span.last ≤ℤ termination_of s
 
+pub last_is_day : (s : Stream) (span : Span) → IsLawfulStream s → LiesInTerm s span → IsDay span.last
+last_is_day s span lawful part = term_day s lawful span.last (omega (arith, signed_arith, part.before, part.order)) part.after
+
 whole_term : (s : Stream) (span : Span) → DatesInOrder s → IsTerm s.freq → Regular s span → LiesInTerm s span
 whole_term s span dates term regular =
     let spans : (span.first ≡ first_day_of s) × (span.last ≡ termination_of s) = rw term at regular.spans in
@@ -94,18 +97,28 @@ whole_term s span dates term regular =
       after = omega (arith, signed_arith, spans.1);
     }
 
-part_of_term : (s : Stream) (span : Span) → DatesInOrder s → (IsTerm s.freq → ⊥) → OnGrid s.freq s.roll span.anchor span.anchor → Regular s span → LiesInTerm s span
+part_of_term : (s : Stream) (span : Span) → DatesInOrder s → (IsTerm s.freq → ⊥) → OnGrid s.freq s.roll span.anchor span.anchor → Regular s span → InTerm (OnGrid s.freq s.roll span.anchor) (first_day_of s) (termination_of s) span.first span.last
 part_of_term s span dates timed own regular =
     let unit = timed_unit s.freq.unit timed in
     let spans : GivenSpan s.first_regular s.last_regular s.stub (OnGrid s.freq s.roll span.anchor) (first_day_of s) (termination_of s) span.first span.last = rw unit at regular.spans in
     let anchored : span.anchor ≡ given_anchor s.first_regular s.last_regular s.stub (first_day_of s) (termination_of s) = rw unit at regular.anchored in
-    let part = given_in_term (OnGrid s.freq s.roll span.anchor) (first_day_of s) (termination_of s) (begins_before_end s dates) s.first_regular s.last_regular s.stub span.first span.last dates.first dates.last (subst (λ (d : ℤ). OnGrid s.freq s.roll span.anchor d) anchored own) spans in
-    record { before = part.before; order = part.order; after = part.after }
+    given_in_term (OnGrid s.freq s.roll span.anchor) (first_day_of s) (termination_of s) (begins_before_end s dates) s.first_regular s.last_regular s.stub span.first span.last dates.first dates.last (subst (λ (d : ℤ). OnGrid s.freq s.roll span.anchor d) anchored own) spans
+
+-- the span's first day is a boundary
+pub first_is_boundary : (s : Stream) (span : Span) → DatesInOrder s → Regular s span → ((IsTerm s.freq → ⊥) → Fits s.roll s.freq span.anchor) → IsBoundary s span span.first
+first_is_boundary s span dates regular fits = elim (decides_term s.freq.unit) [
+  | inl term ↦ let spans : (span.first ≡ first_day_of s) × (span.last ≡ termination_of s) = rw term at regular.spans in inl spans.0
+  | inr timed ↦
+      let part = part_of_term s span dates timed (own_grid s.freq s.roll span.anchor timed (fits timed)) regular in
+      inr (inr (omega (arith, signed_arith), part.order, part.on_first))
+]
 
 pub lies_in_term : (s : Stream) (span : Span) → DatesInOrder s → Regular s span → ((IsTerm s.freq → ⊥) → Fits s.roll s.freq span.anchor) → LiesInTerm s span
 lies_in_term s span dates regular fits = elim (decides_term s.freq.unit) [
   | inl term ↦ whole_term s span dates term regular
-  | inr timed ↦ part_of_term s span dates timed (own_grid s.freq s.roll span.anchor timed (fits timed)) regular
+  | inr timed ↦
+      let part = part_of_term s span dates timed (own_grid s.freq s.roll span.anchor timed (fits timed)) regular in
+      record { before = part.before; order = part.order; after = part.after }
 ]
 
 -- where K30 isn't broken the roll fits the anchor
@@ -134,32 +147,32 @@ module _ (s : Stream) (lawful : IsLawfulStream s) (dates : DatesInOrder s) where
       )
 
   -- a stream whose roll fits its anchor has a regular span
-  pub span_there : (RollMisfits s → ⊥) → (span : Span) × Regular s span
-  span_there kept = elim (decides_term s.freq.unit) [
+  pub regular_there : (RollMisfits s → ⊥) → (span : Span) × Regular s span
+  regular_there kept = elim (decides_term s.freq.unit) [
     | inl term ↦ (record { first = first_day_of s; last = termination_of s; anchor = anchor_of s }, record { anchored = refl; spans = rw term (refl, refl) })
     | inr timed ↦ timed_span kept timed
   ]
 
-  no_misfit : ((x : Broken) → SpanBroken s x → ⊥) → RollMisfits s → ⊥
-  no_misfit kept misfits = kept (broken_at K30 (anchor_element s) 0) (inl (misfits, refl))
+  no_misfit : ((f : Fault) → BreaksSpan s f → ⊥) → RollMisfits s → ⊥
+  no_misfit kept misfits = kept (roll_misfits s) (inl (misfits, refl))
 
   -- where neither K30 nor K31 is broken, a regular span is kept
-  pub regular_kept : ((x : Broken) → SpanBroken s x → ⊥) → (span : Span) → Regular s span → SpanKept s span
+  pub regular_kept : ((f : Fault) → BreaksSpan s f → ⊥) → (span : Span) → Regular s span → SpanKept s span
   regular_kept kept span regular =
       let fits : (IsTerm s.freq → ⊥) → Fits s.roll s.freq span.anchor = λ timed. subst (Fits s.roll s.freq) (sym regular.anchored) (anchor_fits s lawful (no_misfit kept) timed) in
       let part = lies_in_term s span dates regular fits in
       let is_anchor : IsDay span.anchor = subst IsDay (sym regular.anchored) (anchor_day s lawful) in
-      let is_last = term_day s lawful span.last (omega (arith, signed_arith, part.before, part.order)) part.after in
+      let is_last = last_is_day s span lawful part in
       record {
         fits = fits;
         on_last = λ timed. elim (decides_on_grid s.freq s.roll span.anchor span.last lawful.freq lawful.roll is_anchor is_last) [
           | inl on ↦ on
-          | inr off ↦ absurd (kept (broken_at K31 (last_element s) 0) (inr (no_misfit kept, record { timed = timed; span = span; regular = regular; off = off }, refl)))
+          | inr off ↦ absurd (kept (last_off_grid s) (inr (record { timed = timed; span = span; regular = regular; off = off }, refl)))
         ];
       }
 
   -- where neither is broken there is a regular span that is kept
-  pub span_kept : ((x : Broken) → SpanBroken s x → ⊥) → (span : Span) × Regular s span × SpanKept s span
-  span_kept kept =
-      let span = span_there (no_misfit kept) in
+  pub span_there : ((f : Fault) → BreaksSpan s f → ⊥) → (span : Span) × Regular s span × SpanKept s span
+  span_there kept =
+      let span = regular_there (no_misfit kept) in
       (span.0, span.1, regular_kept kept span.0 span.1)
