@@ -9,7 +9,7 @@ use crate::tests_terms::{
 };
 use crate::{PayErr, payments};
 use Change::*;
-use irs_base::{Broken, Day, DayList, DayName, Line};
+use irs_base::{Day, DayList, DayName, Fault, Line};
 use irs_calendar::{GoodDays, RunSet};
 use irs_terms::*;
 use std::alloc::Global;
@@ -26,7 +26,7 @@ pub struct Paying<'a> {
 
 // Whether the offset is 0, or its kind of days is said.
 fn is_said(pay: &PayTerms) -> bool
-    ensures { IsTrue result → IsSaid pay.now }
+    ensures { IsTrue result → IsSaid pay.now.offset }
 {
     match pay.offset.kind {
         DayKind::Business | DayKind::Calendar => true,
@@ -105,15 +105,10 @@ fn told(alloc: Global, list: &Payments) -> Result<String, Fail> {
     Ok(text)
 }
 
-/// A broken rule with the stream, element and index of its place.
-pub fn told_broken(alloc: Global, broken: Broken) -> Result<String, Fail> {
-    let rule = broken.rule.number();
-    let (stream, path, index) = (
-        broken.place.stream,
-        broken.place.elem.path(),
-        broken.place.index,
-    );
-    Ok(format!(in alloc; "K{rule} {stream} {path} {index}")?)
+/// A broken rule with its element and index, in stream 1.
+pub fn told_broken(alloc: Global, fault: Fault) -> Result<String, Fail> {
+    let (rule, path, index) = (fault.rule.number(), fault.elem.path(), fault.index);
+    Ok(format!(in alloc; "K{rule} 1 {path} {index}")?)
 }
 
 /// The payments of a row, or the rule that it breaks.

@@ -6,7 +6,7 @@ ghost use Rattle.irs_terms.specs.Lawful.{IsLawfulStream};
 use crate::check_steps;
 use crate::tests_terms::{DatedValue, QUARTERS, RateSteps, changed, days, is_rising, stream};
 use RateSteps::{Fixed, Floating};
-use irs_base::{Broken, Elem, Place, Rule};
+use irs_base::{Elem, Fault, Rule};
 use std::alloc::Global;
 use std::test::*;
 
@@ -228,7 +228,7 @@ fn outcome(
     alloc: Global,
     steps: &[DatedValue],
     rate: &RateSteps,
-) -> Result<Result<(), Broken>, Fail> {
+) -> Result<Result<(), Fault>, Fail> {
     let boundaries = days(alloc, QUARTERS)?;
     let s = stream(alloc, &changed(&[]), &boundaries, steps, rate)?;
     if !is_rising(boundaries.as_slice()) {
@@ -237,14 +237,11 @@ fn outcome(
     Ok(check_steps(&s, &boundaries))
 }
 
-fn broken(elem: Elem, index: u32) -> Broken {
-    Broken {
+fn broken(elem: Elem, index: u32) -> Fault {
+    Fault {
         rule: Rule::K36,
-        place: Place {
-            stream: 1,
-            elem,
-            index,
-        },
+        elem,
+        index,
     }
 }
 

@@ -14,7 +14,7 @@ use Rattle.irs_payments.specs.Payments.{ArePayments, Covers, IsPayment, pay_plac
 use Rattle.irs_payments.proofs.CutLemmas.{cut_places, length-pay, one_pay, pay_at}
 use Rattle.irs_payments.proofs.PaymentLemmas.{cuts_places, one_payments, payments_are, payments_cover, place_low, some_cuts}
 use Rattle.irs_payments.proofs.PlaceLemmas.{place_same}
-use Rattle.irs_schedule.proofs.CutsThere.{cuts_there, paid_there}
+use Rattle.irs_payments.proofs.CutsThere.{cuts_there, paid_there}
 use Rattle.irs_terms.specs.FirstDay.{first_day_of}
 use Rattle.irs_base.specs.Members.{day_at, EachNumbered}
 

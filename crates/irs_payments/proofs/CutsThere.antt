@@ -1,7 +1,7 @@
 -- The places at which payment periods end are there, and payments by them where each has a date.
 use Rattle.std.proofs.Common.{◌≡◌, inl, inr, ⊎_elim, ℕ, zero, suc, ◌+◌, ◌-◌, ◌<◌, ◌≤◌, Bool, true, false, List, [], ◌∷◌, ◌++◌, length, Option, Some, None, IfSome, Ok, ℤ, ◌≤ℤ◌, refl, subst, arith}
-use Rattle.jiff_core.proofs.SignedLemmas.{signed_arith}
 use Rattle.irs_base.specs.Days.{IsDay}
+use Rattle.irs_base.proofs.DayListLemmas.{day_at_day}
 use Rattle.irs_base.specs.DayLists.{AreDays}
 use Rattle.irs_terms.specs.Lawful.{IsLawfulStream}
 use Rattle.irs_terms.specs.declared.results.Payment.{Payment}
@@ -26,18 +26,12 @@ use Rattle.irs_base.proofs.Decided.{decides_same}
 use Rattle.irs_terms.proofs.FirstDays.{first_day_is_day}
 use Rattle.irs_base.specs.Listed.{RunsFromTo}
 
--- each place of a list of days has a day, those past its end too
-pub day_at_day : (a : List ℤ) (i : ℕ) → AreDays a → IsDay (day_at a i)
-day_at_day [] i h = (omega (arith, signed_arith), omega (arith, signed_arith))
-day_at_day (x ∷ xs) zero h = h.0
-day_at_day (x ∷ xs) (suc i) h = day_at_day xs i h.1
-
 anchor_by_day : (first : Option ℤ) (each : Bool) (one e : ℤ) → IfSome first IsDay → IsDay one → IsDay e → IsDay (anchor_by first each one e)
 anchor_by_day (Some first) each one e given is_one is_e = given
 anchor_by_day None true one e given is_one is_e = is_one
 anchor_by_day None false one e given is_one is_e = is_e
 
-pay_anchor_day : (s : Stream) (b : List ℤ) → IsLawfulStream s → AreDays b → IsDay (pay_anchor s b)
+pub pay_anchor_day : (s : Stream) (b : List ℤ) → IsLawfulStream s → AreDays b → IsDay (pay_anchor s b)
 pay_anchor_day s b lawful days = anchor_by_day s.pay.first (same_length s.pay.freq s.freq) (day_at b 1) (first_day_of s) lawful.pay.first (day_at_day b 1 days) (first_day_is_day s lawful)
 
 -- a day ends a payment period, or it doesn't

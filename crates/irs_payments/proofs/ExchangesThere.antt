@@ -1,4 +1,4 @@
--- Where no exchange lacks its adjusted day there is the list of exchanges.
+-- An exchange is the first that lacks its adjusted day, or none does and there is the list of exchanges.
 use Rattle.std.proofs.Common.{◌≡◌, inl, inr, ℕ, zero, suc, ◌+◌, ◌-◌, ◌^◌, ◌<◌, Bool, true, false, List, [], ◌∷◌, ◌++◌, Some, ℤ, pos, ◌-ℤ◌, ◌<ℤ◌, if◌then◌else◌, arith, refl, subst}
 use Rattle.std.specs.Prelude.{All, slice_get}
 use Rattle.std.specs.Ordering.{int_eq}
@@ -8,7 +8,7 @@ use Rattle.jiff_core.proofs.SignedLemmas.{signed_arith}
 use Rattle.irs_base.specs.Days.{IsDay}
 use Rattle.irs_base.specs.Elements.{principal_exchanges}
 use Rattle.irs_base.specs.declared.places.Rule.TheVariants.{K33}
-use Rattle.irs_base.specs.declared.places.Broken.{Broken}
+use Rattle.irs_base.specs.declared.places.Fault.{Fault}
 use Rattle.irs_base.proofs.RoundingLaws.{nearest_exists}
 use Rattle.irs_terms.specs.Currencies.{decimals_of}
 use Rattle.irs_terms.specs.Lawful.{IsLawfulStream}
@@ -19,10 +19,15 @@ use Rattle.irs_calendar.specs.GoodDays.{DaySet}
 use Rattle.irs_adjust.specs.Codes.{Adjusts}
 use Rattle.irs_payments.specs.declared.exchanges.Transfer.{Transfer}
 use Rattle.irs_payments.specs.Transfers.{transfer}
-use Rattle.irs_payments.specs.Faults.{broken_at}
-use Rattle.irs_payments.specs.Exchanges.{initial_of, change, changes, intermediate_of, last_value, final_of, transfers_of, IsExchange, AreExchanges, BreaksExchanges}
+use Rattle.irs_base.specs.Faults.{fault_at}
+use Rattle.irs_payments.specs.Exchanges.{initial_of, change, changes, intermediate_of, last_value, final_of, transfers_of, IsExchange, AreExchanges, LacksDay, BreaksExchanges}
 use Rattle.irs_adjust.proofs.FoundDays.{InRange, IsFound, decides_adjusts}
-use Rattle.irs_base.specs.Members.{Pairs}
+use Rattle.irs_base.specs.Order.{First, IsDecided, comes_before}
+use Rattle.irs_base.proofs.FaultOrder.{one_fault}
+use Rattle.irs_base.proofs.MemberLemmas.{pairs_there}
+use Rattle.irs_payments.proofs.ExchangeLemmas.{ten_power}
+use Rattle.irs_payments.proofs.FirstFaults.{FirstOrNone}
+use Rattle.irs_payments.proofs.NumberLemmas.{decides_in}
 
 -- the dates of the exchanges are days
 
@@ -58,19 +63,6 @@ dated_transfers s lawful =
     let c : All IsDated (final_of s) = dated_part s.exchanges.last _ (dated_one s.termination.day (last_value s.notional.initial s.notional.steps) lawful.termination.0) in
     All-append IsDated (initial_of s ++ intermediate_of s) (final_of s) (All-append IsDated (initial_of s) (intermediate_of s) a b) c
 
--- where each member has a partner there is the list of partners
-pub pairs_there : {X Y : Type 0} (R : X → Y → Type 0) (xs : List X) → ((i : ℕ) (x : X) → slice_get xs i ≡ Some x → (y : Y) × R x y) → (ys : List Y) × Pairs R xs ys
-pairs_there R [] partner = ([], tt)
-pairs_there R (x ∷ xs) partner =
-    let first = partner zero x refl in
-    let rest = pairs_there R xs (λ i z at. partner (suc i) z at) in
-    (first.0 ∷ rest.0, (first.1, rest.1))
-
--- a power of ten is above 0
-ten_power : (n : ℕ) → 0 < 10 ^ n
-ten_power zero = omega arith
-ten_power (suc n) = omega (arith, ten_power n)
-
 -- an exchange on an adjusted day; its amount can always be rounded
 exchange_on : (s : Stream) (set : DaySet) (t : Transfer) (r : ℤ) → Adjusts s.pay.adj.code set t.date r → (x : Exchange) × IsExchange s set t x
 exchange_on s set t r adjusts =
@@ -82,19 +74,39 @@ exchange_on s set t r adjusts =
     )
 
 -- the exchange with the number i + 1
-exchange_of : (s : Stream) (set : DaySet) (i : ℕ) (t : Transfer) → ((x : Broken) → BreaksExchanges s set x → ⊥) → slice_get (transfers_of s) i ≡ Some t → IsFound (Adjusts s.pay.adj.code set t.date) → (x : Exchange) × IsExchange s set t x
-exchange_of s set i t meets at (inl found) = exchange_on s set t found.0 found.1
-exchange_of s set i t meets at (inr none) =
+exchange_of : (s : Stream) (set : DaySet) (i : ℕ) (t : Transfer) → ((f : Fault) → BreaksExchanges s set f → ⊥) → slice_get (transfers_of s) i ≡ Some t → IsFound (Adjusts s.pay.adj.code set t.date) → (x : Exchange) × IsExchange s set t x
+exchange_of s set i t kept at (inl found) = exchange_on s set t found.0 found.1
+exchange_of s set i t kept at (inr none) =
     let place : i + 1 - 1 ≡ i = omega arith in
-    absurd (meets (broken_at K33 principal_exchanges (i + 1)) (record {
+    absurd (kept (fault_at K33 principal_exchanges (i + 1)) (record {
       number = i + 1;
       bad = record { from_one = omega arith; member = t; at = rw place at; holds = none };
       is = refl;
     }))
 
--- every exchange has its adjusted day and its rounded amount
-pub exchanges_there : (s : Stream) (set : DaySet) → IsLawfulStream s → InRange set → ((x : Broken) → BreaksExchanges s set x → ⊥) → (xs : List Exchange) × AreExchanges s set xs
-exchanges_there s set lawful range meets = pairs_there (IsExchange s set) (transfers_of s) (λ i t at.
-    let within = slice_get_within (transfers_of s) i t at in
-    let day : IsDay t.date = subst IsDated (get_or_from_slice_get (transfers_of s) i t t at) (dated_transfers s lawful i t within) in
-    exchange_of s set i t meets at (decides_adjusts s.pay.adj.code set t.date day range))
+module _ (s : Stream) (set : DaySet) (lawful : IsLawfulStream s) (range : InRange set) where
+  -- the date of each exchange has its adjusted day, or none
+  date_found : (i : ℕ) (t : Transfer) → slice_get (transfers_of s) i ≡ Some t → IsFound (Adjusts s.pay.adj.code set t.date)
+  date_found i t at =
+      let within = slice_get_within (transfers_of s) i t at in
+      let day : IsDay t.date = subst IsDated (get_or_from_slice_get (transfers_of s) i t t at) (dated_transfers s lawful i t within) in
+      decides_adjusts s.pay.adj.code set t.date day range
+
+  -- so the date lacks one, or it doesn't
+  decides_lacks : (i : ℕ) (t : Transfer) → slice_get (transfers_of s) i ≡ Some t → IsDecided (LacksDay s set t)
+  decides_lacks i t at = elim (date_found i t at) [
+    | inl found ↦ inr (λ lacks. lacks found.0 found.1)
+    | inr none ↦ inl none
+  ]
+
+  -- an exchange is the first without an adjusted day, or each has one
+  pub exchanges_decided : FirstOrNone (BreaksExchanges s set)
+  exchanges_decided = decides_in K33 principal_exchanges (LacksDay s set) (transfers_of s) decides_lacks
+
+  -- where each has one there are the exchanges
+  pub exchanges_there : ((f : Fault) → BreaksExchanges s set f → ⊥) → (xs : List Exchange) × AreExchanges s set xs
+  exchanges_there kept = pairs_there (IsExchange s set) (transfers_of s) (λ i t at. exchange_of s set i t kept at (date_found i t at))
+
+-- at most one exchange is the first without an adjusted day
+pub one_exchanges_rule : (s : Stream) (set : DaySet) (f g : Fault) → First comes_before (BreaksExchanges s set) f → First comes_before (BreaksExchanges s set) g → f ≡ g
+one_exchanges_rule s set = one_fault (BreaksExchanges s set)
