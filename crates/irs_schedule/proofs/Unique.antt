@@ -1,5 +1,4 @@
--- A stream has at most one layout, at most one list of periods, at most one amount for each payment,
--- and so at most one part.
+-- A stream has at most one list of periods, and at most one amount for each payment.
 use Rattle.std.proofs.Common.{◌≡◌, ℕ, ◌+◌, ◌-◌, ◌<◌, ◌≤◌, ◌==◌, List, [], ◌∷◌, length, map, Option, Some, None, option_map, refl, sym, ap, ap₂, subst, ◌∙◌, arith, ℤ, ◌<ℤ◌}
 use Rattle.std.proofs.lemmas.List.Elements.{All-nil, All-cons}
 use Rattle.irs_base.specs.declared.line.Dec.{Dec}
@@ -11,7 +10,6 @@ use Rattle.irs_terms.specs.declared.amounts.Leg.{Leg}
 use Rattle.irs_terms.specs.declared.amounts.Leg.TheVariants.{Fixed, Floating}
 use Rattle.irs_terms.specs.declared.results.Payment.{Payment}
 use Rattle.irs_terms.specs.declared.results.Reset.{Reset}
-use Rattle.irs_terms.specs.declared.results.Span.{Span}
 use Rattle.irs_terms.specs.declared.stream.Stream.{Stream}
 use Rattle.irs_daycount.specs.FractionLaws.{one_fraction, one_days, one_denominator}
 use Rattle.irs_daycount.proofs.FractionBounds.{fraction_bounded}
@@ -25,16 +23,8 @@ use Rattle.irs_compound.specs.declared.periods.PeriodTerm.{PeriodTerm}
 use Rattle.irs_compound.specs.declared.periods.Rates.{Rates}
 use Rattle.irs_payments.specs.Payments.{Covers}
 use Rattle.irs_payments.proofs.PlaceLemmas.{rises_at}
-use Rattle.irs_periods.proofs.OneSpan.{one_span}
-use Rattle.irs_periods.proofs.Assembled.{one_list}
-use Rattle.irs_periods.proofs.AdjustedLemmas.{one_adjusted}
-use Rattle.irs_periods.specs.Boundaries.{Boundaries, IsBoundary}
-use Rattle.irs_periods.specs.Adjusting.{AdjustedList}
-use Rattle.irs_schedule.specs.DaySets.{StreamSets}
 use Rattle.irs_schedule.specs.declared.entries.PaymentEntry.{PaymentEntry}
 use Rattle.irs_schedule.specs.declared.entries.PeriodEntry.{PeriodEntry}
-use Rattle.irs_schedule.specs.declared.layouts.Layout.{Layout}
-use Rattle.irs_schedule.specs.Layouts.{IsLayout}
 use Rattle.irs_schedule.specs.PeriodTerms.{IsPeriodTerm, IsPeriodEntry, AreTerms, IsAmountBy, IsAmountFor}
 use Rattle.irs_schedule.specs.Schedules.{payment_of}
 use Rattle.irs_schedule.specs.Periods.{observed_of}
@@ -42,16 +32,6 @@ use Rattle.irs_schedule.proofs.PeriodLemmas.{is_day_at}
 use Rattle.irs_terms.specs.StepDates.{StepsRise, LegStepsRise}
 use Rattle.irs_base.specs.Members.{EachNumbered, Every, day_at}
 use Rattle.irs_base.proofs.MemberLemmas.{one_numbered}
-
--- a stream has one layout
-pub one_layout : (sets : StreamSets) (s : Stream) (l m : Layout) → IsLayout sets s l → IsLayout sets s m → l ≡ m
-one_layout sets s l m h k =
-    let spans : l.span ≡ m.span = one_span s l.span m.span h.regular k.regular in
-    let moved : Boundaries s m.span l.unadjusted = subst (λ (x : Span). Boundaries s x l.unadjusted) spans h.unadjusted in
-    let lists : l.unadjusted ≡ m.unadjusted = one_list (IsBoundary s m.span) l.unadjusted m.unadjusted moved k.unadjusted in
-    let over : AdjustedList s sets.boundaries m.unadjusted l.adjusted = subst (λ (b : List ℤ). AdjustedList s sets.boundaries b l.adjusted) lists h.adjusted in
-    let adjusted : l.adjusted ≡ m.adjusted = one_adjusted s sets.boundaries m.unadjusted l.adjusted m.adjusted over k.adjusted in
-    λ i. record { span = spans i; unadjusted = lists i; adjusted = adjusted i }
 
 abbrev units_of : Option Dec → Option ℤ
 units_of None = None

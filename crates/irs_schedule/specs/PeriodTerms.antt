@@ -81,6 +81,11 @@ pub record PassesAt (s : Stream) (b a : List ℤ) (rs : List Reset) (ps : List P
   pub there : slice_get ps number ≡ Some payment
   pub within : PassesIn s b a rs payment i
 
+-- the first such period of all of them
+pub record PassesFirst (s : Stream) (b a : List ℤ) (rs : List Reset) (ps : List Payment) (i : ℕ) : Type 0 where
+  pub passes : PassesAt s b a rs ps i
+  pub none_before : (k : ℕ) → k < i → PassesAt s b a rs ps k → ⊥
+
 -- the lists that periods are worked out of: the adjusted boundaries are days that rise, one for each
 -- unadjusted boundary, and observed rates are small
 pub record IsTable (b a : List ℤ) (rs : List Reset) : Type 0 where
