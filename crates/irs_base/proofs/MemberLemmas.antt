@@ -1,5 +1,5 @@
 -- Members of a list one after another, by their numbers or with their partners.
-use Rattle.std.proofs.Common.{◌≡◌, ℕ, ◌+◌, ◌-◌, ◌<◌, ◌≤◌, List, [], ◌∷◌, ◌++◌, length, take, arith, refl, sym, ◌∙◌, subst, ap, ap₂, inl, inr, Some}
+use Rattle.std.proofs.Common.{◌≡◌, ℕ, zero, suc, ◌+◌, ◌-◌, ◌<◌, ◌≤◌, List, [], ◌∷◌, ◌++◌, length, take, arith, refl, sym, ◌∙◌, subst, ap, ap₂, inl, inr, Some}
 use Rattle.std.specs.List.{slice_get}
 use Rattle.std.proofs.lemmas.Bool.{cases_lt}
 use Rattle.std.proofs.lemmas.List.{take_more}
@@ -33,6 +33,14 @@ pairs_more R xs i ys x y at h r =
     let within = slice_get_within xs i x at in
     let longer : take (i + 1) xs ≡ take i xs ++ x ∷ [] = take_more xs i x within ∙ ap (λ z. take i xs ++ z ∷ []) (get_or_from_slice_get xs i x x at) in
     rw longer (pairs_push R (take i xs) ys x y h r)
+
+-- where each member has a partner there is the list of partners
+pub pairs_there : {X Y : Type 0} (R : X → Y → Type 0) (xs : List X) → ((i : ℕ) (x : X) → slice_get xs i ≡ Some x → (y : Y) × R x y) → (ys : List Y) × Pairs R xs ys
+pairs_there R [] partner = ([], tt)
+pairs_there R (x ∷ xs) partner =
+    let first = partner zero x refl in
+    let rest = pairs_there R xs (λ i z at. partner (suc i) z at) in
+    (first.0 ∷ rest.0, (first.1, rest.1))
 
 pub one_paired : {X Y : Type 0} (R : X → Y → Type 0) → ((x : X) (y z : Y) → R x y → R x z → y ≡ z) → (xs : List X) (ys zs : List Y) → Pairs R xs ys → Pairs R xs zs → ys ≡ zs
 one_paired R one [] [] [] h k = refl
