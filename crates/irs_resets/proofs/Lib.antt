@@ -4,3 +4,6 @@ pub mod WordLemmas
 pub mod FileLemmas
 pub mod DateLemmas
 pub mod RowLemmas
+pub mod FirstResets
+pub mod ResetsThere
+pub mod ResetLemmas

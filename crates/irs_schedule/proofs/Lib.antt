@@ -8,7 +8,6 @@ pub mod PaymentLemmas
 pub mod CountLemmas
 pub mod AdjustedBoundaries
 pub mod ExchangesThere
-pub mod ResetsThere
 pub mod Ranges
 pub mod Anchors
 pub mod SpanThere
@@ -23,7 +22,6 @@ pub mod Unique
 pub mod Turns
 pub mod EntryLemmas
 pub mod BoundLemmas
-pub mod ResetLemmas
 pub mod Handed
 pub mod MakingLemmas
 pub mod FirstFaults
