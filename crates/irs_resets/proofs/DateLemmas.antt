@@ -1,12 +1,11 @@
 -- A period has one reset date and one fixing date, and its dates fail in one way at most.
-use Rattle.std.proofs.Common.{◌≡◌, inl, inr, ℕ, List, Option, Some, None, ℤ, sym, subst, ◌∙◌, refl}
+use Rattle.std.proofs.Common.{◌≡◌, inl, inr, ℕ, Option, Some, None, ℤ, sym, subst, ◌∙◌, refl}
 use Rattle.irs_terms.specs.declared.codes.DayKind.{DayKind}
 use Rattle.irs_terms.specs.declared.codes.DayKind.TheVariants.{Business, Calendar, Unsaid}
 use Rattle.irs_terms.specs.declared.dates.FixTerms.{FixTerms}
 use Rattle.irs_terms.specs.declared.dates.ResetTerms.{ResetTerms}
 use Rattle.irs_calendar.specs.GoodDays.{DaySet}
 use Rattle.irs_adjust.specs.Codes.{Adjusts}
-use Rattle.irs_adjust.specs.Offsets.{Moves}
 use Rattle.irs_adjust.proofs.CodeLaws.{one_adjusts}
 use Rattle.irs_adjust.proofs.OffsetLaws.{one_moved}
 use Rattle.irs_resets.specs.declared.dates.DateFault.{DateFault}

@@ -1,6 +1,6 @@
 -- Which rule of resets is the first that is broken: those of stubs come before those of dates, and dates
 -- break rules by the way in which they fail, then by the period.
-use Rattle.std.proofs.Common.{◌≡◌, ◌⊎◌, inl, inr, ℕ, ◌<◌, Bool, false, Option, Some, None, refl, sym, subst, ◌∙◌, arith}
+use Rattle.std.proofs.Common.{◌≡◌, inl, inr, ℕ, ◌<◌, false, Option, Some, None, refl, sym, subst, ◌∙◌, arith}
 use Rattle.std.specs.Prelude.{nat_lt}
 use Rattle.std.proofs.lemmas.Bool.{cases_order}
 use Rattle.irs_base.specs.declared.places.Rule.TheVariants.{K37}

@@ -1,5 +1,5 @@
 -- Resets that stand in their relation break no rule of dates.
-use Rattle.std.proofs.Common.{◌≡◌, ◌⊎◌, inl, inr, ℕ, zero, suc, ◌+◌, ◌-◌, ◌<◌, ◌≤◌, List, [], ◌∷◌, length, Option, Some, None, ap, refl, subst, arith, ℤ}
+use Rattle.std.proofs.Common.{◌≡◌, ◌⊎◌, inl, inr, ℕ, zero, suc, ◌+◌, ◌<◌, ◌≤◌, List, [], ◌∷◌, length, Option, Some, None, ap, refl, subst, arith}
 use Rattle.irs_base.specs.declared.places.Fault.{Fault}
 use Rattle.irs_base.specs.Members.{EachNumbered}
 use Rattle.irs_terms.specs.declared.amounts.FloatTerms.{FloatTerms}

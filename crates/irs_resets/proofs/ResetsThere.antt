@@ -1,5 +1,5 @@
 -- A rule of resets is the first that is broken, or none is broken and there is the list of resets.
-use Rattle.std.proofs.Common.{◌≡◌, ◌⊎◌, inl, inr, ℕ, zero, suc, ◌-◌, ◌<◌, ◌≤◌, List, [], length, Option, Some, None, ℤ, ◌<ℤ◌, arith, rules, refl, ap, sym, subst, IsSome, IfSome}
+use Rattle.std.proofs.Common.{◌≡◌, ◌⊎◌, inl, inr, ℕ, zero, suc, ◌-◌, ◌<◌, List, [], length, Option, Some, None, ℤ, ◌<ℤ◌, arith, rules, refl, ap, subst, IsSome, IfSome}
 use Rattle.std.specs.Prelude.{nat_lt}
 use Rattle.std.proofs.lemmas.Bool.{cases_lt, cases_eq}
 use Rattle.jiff_core.proofs.SignedLemmas.{signed_arith}

@@ -1,7 +1,5 @@
 use Rattle.std.proofs.Common.{arith, inl, inr, subst, sym, ℕ}
-use Rattle.irs_base.proofs.Firsts.{lt_false}
 use Rattle.irs_resets.specs.ResetDates.{ResetDays, days_by, Fails, Decided}
-use Rattle.irs_resets.proofs.DateLemmas.{period_of}
 use Rattle.irs_resets.proofs.FileLemmas.{below}
 use Rattle.irs_resets.proofs.dates.first_with.Goals as goal
 

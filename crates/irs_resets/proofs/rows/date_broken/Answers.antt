@@ -1,5 +1,4 @@
 use Rattle.irs_resets.specs.ResetDates.{ResetDays, days_by}
-use Rattle.irs_resets.specs.ResetRules.{BreaksDates}
 use Rattle.irs_resets.proofs.FirstResets.{first_fixing, first_range, dates_unbroken}
 use Rattle.irs_resets.proofs.RowLemmas.{has_dates}
 use Rattle.irs_resets.proofs.rows.date_broken.Goals as goal

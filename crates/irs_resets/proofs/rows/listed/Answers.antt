@@ -1,4 +1,4 @@
-use Rattle.std.proofs.Common.{arith, ◌≡◌, ◌+◌, ℕ, sym, length-append, length, [], ◌∷◌, ◌∙◌, ap}
+use Rattle.std.proofs.Common.{arith, ◌≡◌, ◌+◌, ℕ, length-append, length, [], ◌∷◌, ◌∙◌, ap}
 use Rattle.irs_terms.specs.declared.results.Reset.{Reset}
 use Rattle.irs_base.proofs.MemberLemmas.{numbered_push}
 use Rattle.std.proofs.lemmas.List.Elements.{All-push}
