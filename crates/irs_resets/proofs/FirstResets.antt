@@ -105,16 +105,22 @@ module _ (t : ResetTerms) (days : ResetDays) where
 
 module _ (s : Stream) (span : Span) where
   pub first_initial : InitialUnmet s span → First comes_before (BreaksStubs s span) (fault_at K37 initial_stub 0)
-  first_initial unmet = (inl (unmet, refl), λ g b. elim b [
-    | inl initial ↦ subst (λ (h : Fault). comes_before h (fault_at K37 initial_stub 0) ≡ false) (sym initial.1) refl
-    | inr final ↦ subst (λ (h : Fault). comes_before h (fault_at K37 initial_stub 0) ≡ false) (sym final.1) refl
-  ])
+  first_initial unmet = (
+    inl (unmet, refl),
+    λ g b. elim b [
+      | inl initial ↦ subst (λ (h : Fault). comes_before h (fault_at K37 initial_stub 0) ≡ false) (sym initial.1) refl
+      | inr final ↦ subst (λ (h : Fault). comes_before h (fault_at K37 initial_stub 0) ≡ false) (sym final.1) refl
+    ],
+  )
 
   pub first_final : (InitialUnmet s span → ⊥) → FinalUnmet s span → First comes_before (BreaksStubs s span) (fault_at K37 final_stub 0)
-  first_final met unmet = (inr (unmet, refl), λ g b. elim b [
-    | inl initial ↦ absurd (met initial.0)
-    | inr final ↦ subst (λ (h : Fault). comes_before h (fault_at K37 final_stub 0) ≡ false) (sym final.1) refl
-  ])
+  first_final met unmet = (
+    inr (unmet, refl),
+    λ g b. elim b [
+      | inl initial ↦ absurd (met initial.0)
+      | inr final ↦ subst (λ (h : Fault). comes_before h (fault_at K37 final_stub 0) ≡ false) (sym final.1) refl
+    ],
+  )
 
   pub stubs_unbroken : (InitialUnmet s span → ⊥) → (FinalUnmet s span → ⊥) → (f : Fault) → BreaksStubs s span f → ⊥
   stubs_unbroken initial last f (inl h) = initial h.0
@@ -139,10 +145,13 @@ dates_later s span (Some t) days f g stub dates = subst (λ (x : Fault). comes_b
 module _ (source : ResetSource) where
   -- the first broken rule of stubs is the first of all
   pub first_of_stubs : (f : Fault) → First comes_before (BreaksStubs source.stream source.span) f → First comes_before (BreaksResets source) f
-  first_of_stubs f first = (inl first.0, λ g b. elim b [
-    | inl stub ↦ first.1 g stub
-    | inr date ↦ dates_later source.stream source.span source.stream.reset source.days f g first.0 date
-  ])
+  first_of_stubs f first = (
+    inl first.0,
+    λ g b. elim b [
+      | inl stub ↦ first.1 g stub
+      | inr date ↦ dates_later source.stream source.span source.stream.reset source.days f g first.0 date
+    ],
+  )
 
   -- where none of stubs is broken, the answer for dates is the answer for all
   pub first_of_dates : (answer : Option Fault) → ((f : Fault) → BreaksStubs source.stream source.span f → ⊥) → IsFirst comes_before (BreaksDatesIn source.stream.reset source.days) answer → IsFirst comes_before (BreaksResets source) answer

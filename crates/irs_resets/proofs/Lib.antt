@@ -3,6 +3,8 @@ pub mod KeyLemmas
 pub mod WordLemmas
 pub mod FileLemmas
 pub mod DateLemmas
+pub mod KindLaws
+pub mod ObservedLaws
 pub mod RowLemmas
 pub mod FirstResets
 pub mod ResetsThere

@@ -2,13 +2,11 @@
 use Rattle.std.proofs.Common.{◌≡◌, ◌⊎◌, inl, inr, ℕ, zero, suc, ◌-◌, ◌<◌, List, [], length, Option, Some, None, ℤ, ◌<ℤ◌, arith, rules, refl, ap, subst, IsSome, IfSome}
 use Rattle.std.specs.Prelude.{nat_lt}
 use Rattle.std.proofs.lemmas.Bool.{cases_lt, cases_eq}
-use Rattle.jiff_core.proofs.SignedLemmas.{signed_arith}
 use Rattle.irs_base.specs.Days.{IsDay}
 use Rattle.irs_base.specs.DayLists.{AreDays}
 use Rattle.irs_base.specs.Order.{First, IsDecided, comes_before}
 use Rattle.irs_base.specs.declared.places.Fault.{Fault}
 use Rattle.irs_base.proofs.DayListLemmas.{day_at_day}
-use Rattle.irs_base.proofs.Decided.{order_of}
 use Rattle.irs_base.proofs.Firsts.{lt_false}
 use Rattle.irs_terms.specs.declared.codes.Relative.{Relative}
 use Rattle.irs_terms.specs.declared.codes.Relative.TheVariants.{Start, End}
@@ -37,6 +35,7 @@ use Rattle.irs_resets.specs.Rates.{RateTable}
 use Rattle.irs_resets.specs.Resets.{ResetSource, IsResetsOf, IsResets}
 use Rattle.irs_resets.proofs.DateLemmas.{unmoved_fails, dates_stand, one_way, period_of}
 use Rattle.irs_resets.proofs.FirstResets.{rank, same_rank, NoneFails, first_reset, first_fixing, first_range, dates_unbroken, none_fails, first_initial, first_final, stubs_unbroken, first_of_stubs, first_of_dates}
+use Rattle.irs_resets.proofs.KindLaws.{decides_less}
 use Rattle.irs_resets.proofs.RowLemmas.{some_resets, has_dates}
 
 -- ---- the dates of one period are there, or fail
@@ -165,12 +164,6 @@ dates_decided_in None days said range = inr (λ f h. h)
 dates_decided_in (Some t) days said range = dates_decided t days said range
 
 -- ---- the rule of stubs
-
-decides_less : (a b : ℤ) → IsDecided (a <ℤ b)
-decides_less a b = elim (order_of a b) [
-  | inl below ↦ inl below
-  | inr rest ↦ inr (λ h. elim rest [ inl above ↦ omega (arith, signed_arith, above, h) | inr same ↦ omega (arith, signed_arith, same, h) ])
-]
 
 decides_some : {A : Type 0} (o : Option A) → IsDecided (IsSome o)
 decides_some None = inr (λ h. search rules)

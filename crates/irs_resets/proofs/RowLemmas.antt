@@ -5,7 +5,7 @@ use Rattle.irs_base.specs.Days.{all_days, first_day, last_day}
 use Rattle.irs_base.specs.DayLists.{AreDays}
 use Rattle.irs_base.specs.Listed.{AllAfter, IsRising}
 use Rattle.irs_base.specs.Members.{EachNumbered}
-use Rattle.irs_base.proofs.MemberLemmas.{one_numbered}
+use Rattle.irs_base.proofs.MemberLemmas.{one_numbered, numbered_map}
 use Rattle.irs_terms.specs.declared.dates.ResetTerms.{ResetTerms}
 use Rattle.irs_terms.specs.declared.amounts.FloatTerms.{FloatTerms}
 use Rattle.irs_terms.specs.declared.amounts.Leg.{Leg}
@@ -14,10 +14,14 @@ use Rattle.irs_terms.specs.declared.results.Reset.{Reset}
 use Rattle.irs_resets.specs.declared.dates.DateFault.{DateFault}
 use Rattle.irs_resets.specs.declared.dates.DateFault.TheVariants.{NoReset, NoFixing, OutOfRange}
 use Rattle.irs_resets.specs.ResetDates.{ResetDays, IsPeriod, HasDates, Decided, Fails}
-use Rattle.irs_resets.specs.ObservedRates.{observed_rate}
-use Rattle.irs_resets.specs.Rates.{RateTable}
-use Rattle.irs_resets.specs.Resets.{ResetSource, kind_of, count_of, IsReset, HasResets, IsResetsOf, IsResets}
+use Rattle.irs_resets.specs.ObservedRates.{IsObserved, observed_rate}
+use Rattle.irs_resets.specs.Rates.{RateTable, rate_at}
+use Rattle.irs_resets.specs.Resets.{ResetSource, count_of, IsReset, HasResets, IsResetsOf, IsResets}
+use Rattle.irs_resets.specs.declared.observed.PeriodKind.{PeriodKind}
+use Rattle.irs_resets.specs.declared.store.Slot.{Slot}
 use Rattle.irs_resets.proofs.DateLemmas.{one_dates}
+use Rattle.irs_resets.proofs.KindLaws.{kind_there, one_kind}
+use Rattle.irs_resets.proofs.ObservedLaws.{is_observed, one_observed, observed_same}
 
 -- how many rows there are when every period was walked
 pub many_rows : (rows number a : ℕ) → rows + 1 ≡ number → (1 < number → number ≤ a) → a ≤ number → rows ≡ a - 1
@@ -40,7 +44,10 @@ module _ (source : ResetSource) (rates : RateTable) where
     pub one_row : (i : ℕ) (x y : Reset) → IsReset source f t rates i x → IsReset source f t rates i y → x ≡ y
     one_row i x y p q =
         let same = one_dates t source.days i x.reset x.fixing y.reset y.fixing p.dates q.dates in
-        let e : x.observed ≡ y.observed = p.observed ∙ ap (λ (d : ℤ). observed_rate (kind_of source i) f source.stream.stubs rates d) same.1 ∙ sym q.observed in
+        let kinds : p.kind ≡ q.kind = one_kind source.stream source.span (count_of source) i p.kind q.kind p.is_kind q.is_kind in
+        let by_kind : IsObserved q.kind f source.stream.stubs rates x.fixing x.observed = subst (λ (k : PeriodKind). IsObserved k f source.stream.stubs rates x.fixing x.observed) kinds p.observed in
+        let by_day : IsObserved q.kind f source.stream.stubs rates y.fixing x.observed = subst (λ (d : ℤ). IsObserved q.kind f source.stream.stubs rates d x.observed) same.1 by_kind in
+        let e : x.observed ≡ y.observed = one_observed f q.kind source.stream.stubs rates y.fixing x.observed y.observed by_day q.observed in
         let make : ℤ → ℤ → Option ℤ → Reset = λ r g o. record { reset = r; fixing = g; observed = o } in
         ap (λ r. make r x.fixing x.observed) same.0 ∙ ap₂ (λ g o. make y.reset g o) same.1 e
 
@@ -52,7 +59,10 @@ module _ (source : ResetSource) (rates : RateTable) where
     some_resets h =
         let row : (k : ℕ) → 1 ≤ k → k < 1 + count_of source → (r : Reset) × IsReset source f t rates k r = λ k low high.
         let d = h k (low, omega (arith, low, high)) in
-        (record { reset = d.0; fixing = d.1; observed = observed_rate (kind_of source k) f source.stream.stubs rates d.1 }, record { dates = d.2; observed = refl }) in
+        let kind = kind_there source.stream source.span (count_of source) k in (
+          record { reset = d.0; fixing = d.1; observed = observed_rate kind.0 f source.stream.stubs rates d.1 },
+          record { dates = d.2; kind = kind.0; is_kind = kind.1; observed = is_observed f kind.0 source.stream.stubs rates d.1 },
+        ) in
         let l = some_list (IsReset source f t rates) (count_of source) 1 row in
         (l.0, record { many = l.1; each = l.2 })
 
@@ -70,6 +80,22 @@ module _ (source : ResetSource) (rates : RateTable) where
   resets_in f t rows d e h =
       let by_terms : IsResetsOf (Floating f) source.stream.reset source rates rows = subst (λ (o : Option ResetTerms). IsResetsOf (Floating f) o source rates rows) (sym e) h in
       subst (λ (l : Leg). IsResetsOf l source.stream.reset source rates rows) (sym d) by_terms
+
+-- tables with the same rates give the same resets
+module _ (source : ResetSource) (u v : RateTable) (same : (index : List ℕ) (slot : Slot) → rate_at u index slot ≡ rate_at v index slot) where
+  has_same : (f : FloatTerms) (t : ResetTerms) (rows : List Reset) → HasResets source f t u rows → HasResets source f t v rows
+  has_same f t rows h =
+      let row : (m : ℕ) (x : Reset) → IsReset source f t u m x → IsReset source f t v m x = λ m x r.
+      record { dates = r.dates; kind = r.kind; is_kind = r.is_kind; observed = observed_same u v same r.kind f source.stream.stubs x.fixing x.observed r.observed } in
+      record { many = h.many; each = numbered_map (IsReset source f t u) (IsReset source f t v) 1 rows (λ m x low high r. row m x r) h.each }
+
+  same_of : (leg : Leg) (reset : Option ResetTerms) (rows : List Reset) → IsResetsOf leg reset source u rows → IsResetsOf leg reset source v rows
+  same_of (Fixed values) reset rows h = h
+  same_of (Floating f) None rows h = absurd h
+  same_of (Floating f) (Some t) rows h = has_same f t rows h
+
+  pub resets_same : (rows : List Reset) → IsResets source u rows → IsResets source v rows
+  resets_same rows h = same_of source.stream.leg source.stream.reset rows h
 
 -- dates that fail in no way are there
 none_fails : (t : ResetTerms) (days : ResetDays) (i : ℕ) → (Fails NoReset t days i → ⊥) → (Fails NoFixing t days i → ⊥) → (Fails OutOfRange t days i → ⊥) → (why : DateFault) → Fails why t days i → ⊥

@@ -8,11 +8,10 @@ use Rattle.irs_terms.specs.declared.amounts.Leg.TheVariants.{Fixed, Floating}
 use Rattle.irs_terms.specs.declared.stream.Stream.{Stream}
 use Rattle.irs_terms.specs.declared.results.Span.{Span}
 use Rattle.irs_terms.specs.declared.results.Reset.{Reset}
-use Rattle.irs_terms.specs.FirstDay.{first_day_of}
 use Rattle.irs_terms.specs.Lawful.{IsRate}
 use Rattle.irs_calendar.specs.GoodDays.{DaySet}
 use Rattle.irs_resets.specs.ResetDates.{ResetDays, days_by, IsDates}
-use Rattle.irs_resets.specs.ObservedRates.{kind_at, observed_rate}
+use Rattle.irs_resets.specs.ObservedRates.{IsKind, IsObserved}
 use Rattle.irs_resets.specs.Rates.{RateTable}
 use Rattle.irs_resets.specs.declared.observed.PeriodKind.{PeriodKind}
 
@@ -30,14 +29,16 @@ source_of s span adjusted reset_set fixing_set = record { stream = s; span = spa
 abbrev pub count_of : ResetSource → ℕ
 count_of source = length source.days.adjusted - 1
 
--- the kind of period i
-abbrev pub kind_of : ResetSource → ℕ → PeriodKind
-kind_of source i = kind_at (first_day_of source.stream) source.stream.termination.day source.span (count_of source) i
+-- what period i is
+abbrev pub IsKindOf : ResetSource → ℕ → PeriodKind → Type 0
+IsKindOf source i kind = IsKind source.stream source.span (count_of source) i kind
 
 -- the reset of period i by the terms t of its dates: the dates, and the observed rate
 pub record IsReset (source : ResetSource) (float : FloatTerms) (t : ResetTerms) (rates : RateTable) (i : ℕ) (row : Reset) : Type 0 where
   pub dates : IsDates t source.days i row.reset row.fixing
-  pub observed : row.observed ≡ observed_rate (kind_of source i) float source.stream.stubs rates row.fixing
+  pub kind : PeriodKind
+  pub is_kind : IsKindOf source i kind
+  pub observed : IsObserved kind float source.stream.stubs rates row.fixing row.observed
 
 -- one reset for each period
 pub record HasResets (source : ResetSource) (float : FloatTerms) (t : ResetTerms) (rates : RateTable) (rows : List Reset) : Type 0 where
