@@ -12,7 +12,7 @@ mod files;
 mod rows;
 
 use crate::{Fixings, ResErr, resets};
-use irs_base::{Broken, Day, DayList, Direction, MOST_RATE, Names, Rule, Text, read_date};
+use irs_base::{Day, DayList, Direction, Fault, MOST_RATE, Names, Rule, Text, read_date};
 use irs_calendar::{Calendars, RunSet};
 use irs_terms::*;
 use rows::{By, DATES, Days, Fixing, Index, NOT_MOVED, RATES, Row, Stub, Want};
@@ -411,11 +411,8 @@ fn are(list: &[Reset], want: &Want) -> bool {
     }
 }
 
-fn is_at(found: &Broken, rule: Rule, path: &str, index: u32) -> bool {
-    found.rule == rule
-        && found.place.stream == 1
-        && found.place.elem.path() == path
-        && found.place.index == index
+fn is_at(found: &Fault, rule: Rule, path: &str, index: u32) -> bool {
+    found.rule == rule && found.elem.path() == path && found.index == index
 }
 
 fn is_broken(found: &ResErr, want: &Want) -> bool {
