@@ -12,13 +12,13 @@ use Rattle.irs_payments.specs.Payments.{ArePayments, Covers}
 use Rattle.irs_schedule.specs.DaySets.{StreamSets}
 use Rattle.irs_schedule.specs.declared.layouts.Layout.{Layout}
 use Rattle.irs_schedule.specs.Layouts.{IsLayout}
-use Rattle.irs_schedule.specs.TermsKept.{TermsKept}
 use Rattle.irs_schedule.proofs.AdjustedBoundaries.{adjusted_days}
 use Rattle.irs_schedule.proofs.BoundariesThere.{boundaries_days, boundaries_run}
 use Rattle.irs_schedule.proofs.PaymentsCover.{every_payments_cover}
 use Rattle.irs_schedule.proofs.StreamRanges.{AreInRange}
 use Rattle.irs_terms.specs.FirstDay.{first_day_of}
 use Rattle.irs_base.specs.Listed.{RunsFromTo}
+use Rattle.irs_rules.specs.TermsKept.{TermsKept}
 
 module _ (cal : List Section) (sets : StreamSets) (s : Stream) (lawful : IsLawfulStream s) (terms : TermsKept cal s) (l : Layout) (is : IsLayout sets s l) where
   pub layout_runs : RunsFromTo (first_day_of s) s.termination.day l.unadjusted

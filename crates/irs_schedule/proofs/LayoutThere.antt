@@ -20,12 +20,12 @@ use Rattle.irs_schedule.specs.DatedRules.{BoundariesBroken, PeriodsBroken}
 use Rattle.irs_schedule.specs.DaySets.{StreamSets}
 use Rattle.irs_schedule.specs.declared.layouts.Layout.{Layout}
 use Rattle.irs_schedule.specs.Layouts.{IsLayout}
-use Rattle.irs_schedule.specs.TermsKept.{TermsKept}
 use Rattle.irs_schedule.proofs.AdjustedBoundaries.{adjusted_there}
 use Rattle.irs_schedule.proofs.BoundariesThere.{boundaries_days, boundaries_there}
 use Rattle.irs_schedule.proofs.FirstFaults.{none_by_rank}
 use Rattle.irs_schedule.proofs.SpanThere.{span_kept}
 use Rattle.irs_schedule.proofs.StreamRanges.{AreInRange}
+use Rattle.irs_rules.specs.TermsKept.{TermsKept}
 
 not_more : (most n : ℕ) → (most < n → ⊥) → n ≤ most
 not_more most n never = elim (cases_lt most n) [ inl more ↦ absurd (never more) | inr few ↦ few ]

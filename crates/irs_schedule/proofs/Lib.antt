@@ -17,7 +17,6 @@ pub mod CutsThere
 pub mod PaymentsThere
 pub mod PaymentsCover
 pub mod TermsThere
-pub mod TermsLemmas
 pub mod CenterLemmas
 pub mod Unique
 pub mod Turns

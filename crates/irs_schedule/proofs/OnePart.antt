@@ -21,13 +21,13 @@ use Rattle.irs_schedule.specs.Layouts.{IsLayout}
 use Rattle.irs_schedule.specs.Parts.{Part}
 use Rattle.irs_schedule.specs.PeriodTerms.{IsAmountFor, IsPeriodEntry}
 use Rattle.irs_schedule.specs.Schedules.{IsPart, IsSchedule, payment_of}
-use Rattle.irs_schedule.specs.TermsKept.{TermsKept}
 use Rattle.irs_schedule.proofs.LayoutLemmas.{layout_adjusted_days, layout_covers, layout_some}
 use Rattle.irs_schedule.proofs.StreamRanges.{AreInRange, sets_in_range}
-use Rattle.irs_schedule.proofs.TermsLemmas.{lawful_stream, terms_kept}
 use Rattle.irs_schedule.proofs.Unique.{covers_each, one_entry, one_layout, one_paid}
 use Rattle.irs_base.specs.Members.{EachNumbered, Pairs, Every}
 use Rattle.irs_base.proofs.MemberLemmas.{one_numbered}
+use Rattle.irs_rules.specs.TermsKept.{TermsKept}
+use Rattle.irs_rules.proofs.Kept.{lawful_stream, terms_kept}
 
 -- the lists of a part stand in their relations over the layout
 record ListsOver (sets : StreamSets) (fix : RateTable) (s : Stream) (l : Layout) (p : Part) : Type 0 where

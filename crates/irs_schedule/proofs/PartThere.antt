@@ -20,7 +20,6 @@ use Rattle.irs_schedule.specs.declared.layouts.Layout.{Layout}
 use Rattle.irs_schedule.specs.Layouts.{IsLayout}
 use Rattle.irs_schedule.specs.Parts.{Part}
 use Rattle.irs_schedule.specs.Schedules.{IsPart, IsSchedule}
-use Rattle.irs_schedule.specs.TermsKept.{TermsKept}
 use Rattle.irs_schedule.proofs.ExchangesThere.{exchanges_there, pairs_there}
 use Rattle.irs_schedule.proofs.FirstFaults.{none_without_first}
 use Rattle.irs_schedule.proofs.LayoutLemmas.{layout_adjusted_days, layout_covers, layout_days, layout_runs, layout_some}
@@ -28,8 +27,9 @@ use Rattle.irs_schedule.proofs.LayoutThere.{layout_there}
 use Rattle.irs_schedule.proofs.PaymentsThere.{payments_there}
 use Rattle.irs_schedule.proofs.ResetsThere.{resets_there}
 use Rattle.irs_schedule.proofs.StreamRanges.{AreInRange, sets_in_range}
-use Rattle.irs_schedule.proofs.TermsLemmas.{lawful_stream, terms_kept}
 use Rattle.irs_schedule.proofs.TermsThere.{amounts_there, entries_there}
+use Rattle.irs_rules.specs.TermsKept.{TermsKept}
+use Rattle.irs_rules.proofs.Kept.{lawful_stream, terms_kept}
 
 module _ (cal : List Section) (sets : StreamSets) (fix : RateTable) (s : Stream) (lawful : IsLawfulStream s) (terms : TermsKept cal s) (ranges : AreInRange sets) (kept : StreamKept sets fix s) where
   exchanges_by : (xs : List Exchange) × AreExchanges s sets.payment xs

@@ -14,7 +14,6 @@ pub mod Layouts
 pub mod PeriodTerms
 pub mod Schedules
 pub mod DatedRules
-pub mod TermsKept
 pub mod SchedErrors
 pub mod CenterDays
 pub mod StageSets

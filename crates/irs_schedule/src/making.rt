@@ -159,6 +159,6 @@ ghost use Rattle.irs_schedule.specs.DatedRules.{StreamBroken, StreamKept, in_str
 ghost use Rattle.irs_schedule.specs.Parts.{KeepsBounds};
 ghost use Rattle.irs_schedule.specs.Schedules.{IsPart};
 ghost use Rattle.irs_schedule.specs.StageSets.{sets_of};
-ghost use Rattle.irs_schedule.specs.TermsKept.{TermsKept};
 ghost use Rattle.irs_terms.specs.Lawful.{IsLawfulStream};
 ghost use Rattle.irs_terms.specs.declared.stream.Stream.{Stream as StreamTerms};
+ghost use Rattle.irs_rules.specs.TermsKept.{TermsKept};

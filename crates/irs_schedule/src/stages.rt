@@ -17,7 +17,6 @@ ghost use Rattle.irs_schedule.specs.DatedRules.{BoundariesBroken, PeriodsBroken}
 ghost use Rattle.irs_schedule.specs.Layouts.{IsLayout};
 ghost use Rattle.irs_schedule.specs.SchedErrors.{IfBroken};
 ghost use Rattle.irs_schedule.specs.StageSets.{sets_of};
-ghost use Rattle.irs_schedule.specs.TermsKept.{TermsKept};
 ghost use Rattle.irs_terms.specs.Lawful.{IsLawfulStream};
 
 use crate::SchedErr;
@@ -201,3 +200,4 @@ pub(crate) fn resets_of(
 ghost use Rattle.irs_base.specs.Listed.{IsRising};
 ghost use Rattle.irs_periods.specs.Adjusting.{AdjustedList};
 ghost use Rattle.irs_schedule.specs.DaySets.{StreamSets};
+ghost use Rattle.irs_rules.specs.TermsKept.{TermsKept};

@@ -8,7 +8,6 @@ ghost use Rattle.irs_schedule.specs.Layouts.{IsLayout};
 ghost use Rattle.irs_schedule.specs.SchedErrors.{IfBroken};
 ghost use Rattle.irs_schedule.specs.Schedules.{IsPart};
 ghost use Rattle.irs_schedule.specs.StageSets.{sets_of};
-ghost use Rattle.irs_schedule.specs.TermsKept.{TermsKept};
 ghost use Rattle.irs_terms.specs.Lawful.{IsLawfulStream};
 
 use crate::amounts::{PeriodTable, paid};
@@ -127,3 +126,4 @@ ghost use Rattle.irs_schedule.specs.DatedRules.{PassesFirst};
 ghost use Rattle.irs_schedule.specs.DaySets.{StreamSets};
 ghost use Rattle.irs_schedule.specs.PaidEntries.{ArePaid};
 ghost use Rattle.irs_schedule.specs.Parts.{KeepsBounds};
+ghost use Rattle.irs_rules.specs.TermsKept.{TermsKept};
