@@ -7,8 +7,8 @@ use Rattle.irs_calendar.specs.declared.sections.Section.{Section}
 use Rattle.irs_terms.specs.declared.dates.PayTerms.{PayTerms}
 use Rattle.irs_terms.specs.declared.dates.ResetTerms.{ResetTerms}
 use Rattle.irs_terms.specs.declared.stream.Stream.{Stream}
-use Rattle.irs_terms.specs.References.{NamesTarget, NamesOneList}
-use Rattle.irs_terms.specs.Centers.{HasCentersBy, HasCentersWith}
+use Rattle.irs_terms.specs.References.{NamesTarget, NamesOneList, StartNamesOneList, FixingNamesOneList}
+use Rattle.irs_terms.specs.Centers.{HasCentersBy, HasCentersWith, StartHasCenters, FixingHasCenters}
 use Rattle.irs_terms.specs.Needs.{names_by, names_with, reset_names, fixing_names}
 use Rattle.irs_rules.specs.Breaks.{Breaks, BreaksItem}
 use Rattle.irs_rules.specs.Centers.{IsFoundAt, start_names}
@@ -20,7 +20,7 @@ BreaksK10InPeriods s f =
     Breaks K10 elements.effective_date_centers_reference (NamesOneList s.effective.adj.centers) f
     ⊎ (Breaks K10 elements.termination_date_centers_reference (NamesOneList s.termination.adj.centers) f
     ⊎ (Breaks K10 elements.period_dates_centers_reference (NamesOneList s.period_adj.centers) f
-    ⊎ Breaks K10 elements.first_period_start_centers_reference (IfSome s.first_start (λ date. NamesOneList date.adj.centers)) f))
+    ⊎ Breaks K10 elements.first_period_start_centers_reference (StartNamesOneList s.first_start) f))
 
 -- below paymentDates
 abbrev pub BreaksK10InPayments : PayTerms → Fault → Type 0
@@ -32,7 +32,7 @@ BreaksK10InPayments p f =
 abbrev pub BreaksK10InResets : ResetTerms → Fault → Type 0
 BreaksK10InResets r f =
     Breaks K10 elements.reset_dates_reference (NamesTarget r.calc_ref) f
-    ⊎ (Breaks K10 elements.fixing_dates_centers_reference (IfSome r.fixing (λ fixing. NamesOneList fixing.adj.centers)) f
+    ⊎ (Breaks K10 elements.fixing_dates_centers_reference (FixingNamesOneList r.fixing) f
     ⊎ (Breaks K10 elements.fixing_dates_relative_to (NamesTarget r.fixing_ref) f
     ⊎ Breaks K10 elements.reset_dates_centers_reference (NamesOneList r.adj.centers) f))
 
@@ -47,7 +47,7 @@ BreaksK10 s f =
 -- K11 below resetDates
 abbrev pub BreaksK11InResets : ResetTerms → Fault → Type 0
 BreaksK11InResets r f =
-    Breaks K11 elements.fixing_dates (IfSome r.fixing (λ fixing. HasCentersWith fixing.offset fixing.adj)) f
+    Breaks K11 elements.fixing_dates (FixingHasCenters r.fixing) f
     ⊎ Breaks K11 elements.reset_dates_adjustments (HasCentersBy r.adj) f
 
 -- K11: an element needs days and has no centres; place: its adjustments. The effective date's are asked also where no
@@ -57,7 +57,7 @@ BreaksK11 s f =
     Breaks K11 elements.effective_date_adjustments (HasCentersBy s.effective.adj) f
     ⊎ (Breaks K11 elements.termination_date_adjustments (HasCentersBy s.termination.adj) f
     ⊎ (Breaks K11 elements.period_dates_adjustments (HasCentersBy s.period_adj) f
-    ⊎ (Breaks K11 elements.first_period_start_adjustments (IfSome s.first_start (λ date. HasCentersBy date.adj)) f
+    ⊎ (Breaks K11 elements.first_period_start_adjustments (StartHasCenters s.first_start) f
     ⊎ (Breaks K11 elements.payment_dates_adjustments (HasCentersWith s.pay.offset s.pay.adj) f
     ⊎ IsSomeAnd s.reset (λ r. BreaksK11InResets r f)))))
 

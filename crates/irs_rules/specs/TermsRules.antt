@@ -1,8 +1,9 @@
 -- The rules of a swap's terms, K10 to K21, together.
-use Rattle.std.specs.Prelude.{◌≡◌, ◌⊎◌, ℕ, ◌+◌, List, Some, slice_get}
+use Rattle.std.specs.Prelude.{◌≡◌, ◌⊎◌, ℕ, ◌+◌, List, Option, Some, slice_get}
 use Rattle.irs_base.specs.declared.places.Broken.{Broken}
 use Rattle.irs_base.specs.declared.places.Fault.{Fault}
 use Rattle.irs_base.specs.Faults.{in_stream}
+use Rattle.irs_base.specs.Order.{First, IsFirst, is_before}
 use Rattle.irs_calendar.specs.declared.sections.Section.{Section}
 use Rattle.irs_terms.specs.declared.stream.Stream.{Stream}
 use Rattle.irs_terms.specs.declared.stream_list.Swap.{Swap}
@@ -34,3 +35,16 @@ pub record BreaksTerms (swap : Swap) (cal : List Section) (f : Broken) : Type 0 
   pub fault : Fault
   pub numbered : f ≡ in_stream (position + 1) fault
   pub breaks : BreaksStream cal stream fault
+
+-- the first rule of the terms that the swap breaks: of the lower stream, then the lower rule, then the earlier
+-- element, then the lower index
+abbrev pub IsFirstBroken : Swap → List Section → Broken → Type 0
+IsFirstBroken swap cal f = First is_before (BreaksTerms swap cal) f
+
+-- the swap breaks no rule of the terms
+abbrev pub BreaksNone : Swap → List Section → Type 0
+BreaksNone swap cal = (f : Broken) → BreaksTerms swap cal f → ⊥
+
+-- the answer is the first that is broken, and None where none is
+abbrev pub IsTermsAnswer : Swap → List Section → Option Broken → Type 0
+IsTermsAnswer swap cal answer = IsFirst is_before (BreaksTerms swap cal) answer

@@ -3,7 +3,7 @@
 ghost use Rattle.std.specs.Prelude.{◌↔◌, IsTrue, IfSome, IsSomeAnd};
 ghost use Rattle.irs_base.specs.Elements.{first_period_start_adjustments, fixing_dates};
 ghost use Rattle.irs_base.specs.declared.places.Rule.TheVariants.{K11};
-ghost use Rattle.irs_terms.specs.Centers.{HasCenters, HasCentersBy, HasCentersFor, HasCentersWith};
+ghost use Rattle.irs_terms.specs.Centers.{FixingHasCenters, HasCenters, HasCentersBy, HasCentersFor, HasCentersWith, StartHasCenters};
 ghost use Rattle.irs_rules.specs.Order.{IsFirstFault};
 ghost use Rattle.irs_rules.specs.Breaks.{Breaks};
 ghost use Rattle.irs_rules.specs.Names.{BreaksK11, BreaksK11InResets};
@@ -29,7 +29,7 @@ pub(crate) fn element_without_centers(s: &Stream) -> Option<Fault>
 }
 
 fn lacking_in_first_start(first: &Option<Dated>) -> Option<Fault>
-    ensures { IsFirstFault (Breaks K11 first_period_start_adjustments (IfSome first.now (λ date. HasCentersBy date.adj))) result }
+    ensures { IsFirstFault (Breaks K11 first_period_start_adjustments (StartHasCenters first.now)) result }
 {
     match first {
         None => None,
@@ -55,7 +55,7 @@ fn lacking_in_resets(reset: &ResetTerms) -> Option<Fault>
 }
 
 fn lacking_in_fixing(fixing: &Option<FixTerms>) -> Option<Fault>
-    ensures { IsFirstFault (Breaks K11 fixing_dates (IfSome fixing.now (λ f. HasCentersWith f.offset f.adj))) result }
+    ensures { IsFirstFault (Breaks K11 fixing_dates (FixingHasCenters fixing.now)) result }
 {
     match fixing {
         None => None,

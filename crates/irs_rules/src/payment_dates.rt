@@ -3,7 +3,7 @@ ghost use Rattle.std.specs.Prelude.{◌⊎◌, ◌≤ℤ◌, ◌↔◌, IsTrue, 
 ghost use Rattle.irs_terms.specs.Frequencies.{GroupsPeriods};
 ghost use Rattle.irs_terms.specs.Lawful.{IsLawfulStream};
 ghost use Rattle.irs_terms.specs.Lengths.{IsPositive};
-ghost use Rattle.irs_terms.specs.PaymentDates.{AsksInitialStub, FirstPaymentStands, HasInitialKind, HasRegularPayments, IsInitial, IsLastPayment, IsPaymentInside, LastPaymentStands, NeedsFirstPayment, StartsLater};
+ghost use Rattle.irs_terms.specs.PaymentDates.{AsksInitialStub, FirstPaymentStands, HasInitialKind, HasRegularPayments, IsFirstPayment, IsInitial, IsLastPayment, IsPaymentInside, LastPaymentStands, NeedsFirstPayment, StartsLater};
 ghost use Rattle.irs_rules.specs.Order.{IsFirstFault};
 ghost use Rattle.irs_rules.specs.Dates.{BreaksK16};
 
@@ -88,7 +88,7 @@ fn is_initial(stub: Option<StubKind>) -> bool
 }
 
 fn given_first_stands(s: &Stream) -> bool
-    ensures { IsTrue result ↔ IfSome s.now.pay.first (λ first. HasRegularPayments s.now.pay × IsPaymentInside s.now first) }
+    ensures { IsTrue result ↔ IfSome s.now.pay.first (IsFirstPayment s.now) }
 {
     match s.pay.first {
         None => true,

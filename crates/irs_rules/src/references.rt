@@ -3,7 +3,7 @@
 ghost use Rattle.std.specs.Prelude.{◌↔◌, IsTrue, IfSome, IsSomeAnd};
 ghost use Rattle.irs_base.specs.Elements.{first_period_start_centers_reference, fixing_dates_centers_reference, stub_amount_reference};
 ghost use Rattle.irs_base.specs.declared.places.Rule.TheVariants.{K10};
-ghost use Rattle.irs_terms.specs.References.{NamesTarget, NamesOneList};
+ghost use Rattle.irs_terms.specs.References.{FixingNamesOneList, NamesOneList, NamesTarget, StartNamesOneList};
 ghost use Rattle.irs_rules.specs.Order.{IsFirstFault};
 ghost use Rattle.irs_rules.specs.Breaks.{Breaks};
 ghost use Rattle.irs_rules.specs.Names.{BreaksK10, BreaksK10InPeriods, BreaksK10InPayments, BreaksK10InResets};
@@ -38,7 +38,7 @@ fn in_periods(s: &Stream) -> Option<Fault>
 }
 
 fn in_first_start(first: &Option<Dated>) -> Option<Fault>
-    ensures { IsFirstFault (Breaks K10 first_period_start_centers_reference (IfSome first.now (λ date. NamesOneList date.adj.centers))) result }
+    ensures { IsFirstFault (Breaks K10 first_period_start_centers_reference (StartNamesOneList first.now)) result }
 {
     match first {
         None => None,
@@ -74,7 +74,7 @@ fn in_resets(reset: &ResetTerms) -> Option<Fault>
 }
 
 fn in_fixing(fixing: &Option<FixTerms>) -> Option<Fault>
-    ensures { IsFirstFault (Breaks K10 fixing_dates_centers_reference (IfSome fixing.now (λ f. NamesOneList f.adj.centers))) result }
+    ensures { IsFirstFault (Breaks K10 fixing_dates_centers_reference (FixingNamesOneList fixing.now)) result }
 {
     match fixing {
         None => None,

@@ -1,12 +1,11 @@
 //! The first of K10 to K21 that the terms of a swap break: the lower stream first, then the lower
 //! rule, then the earlier element in the order of the table of elements, then the lower index.
 ghost use Rattle.std.specs.Prelude.{◌≡◌, ◌⊎◌, Option, None};
-ghost use Rattle.irs_base.specs.Order.{First, IsFirst, is_before};
 ghost use Rattle.irs_base.specs.declared.places.Broken.{Broken};
 ghost use Rattle.irs_terms.specs.Lawful.{IsLawful, IsLawfulStream};
 ghost use Rattle.irs_rules.specs.Order.{IsFirstFault};
 ghost use Rattle.irs_rules.specs.TermsKept.{AllKept};
-ghost use Rattle.irs_rules.specs.TermsRules.{BreaksAmounts, BreaksDates, BreaksNames, BreaksStream, BreaksTerms};
+ghost use Rattle.irs_rules.specs.TermsRules.{BreaksAmounts, BreaksDates, BreaksNames, BreaksNone, BreaksStream, IsFirstBroken, IsTermsAnswer};
 
 use crate::centers::element_without_centers;
 use crate::date_order::date_out_of_order;
@@ -26,13 +25,13 @@ use irs_terms::{Stream, Swap};
 /// calendars are asked for the centres of elements that need business days. No memory is taken.
 pub fn check_terms(swap: &Swap, cal: &Calendars) -> Option<Broken>
     requires { IsLawful swap.now }
-    ensures first { IsFirst is_before (BreaksTerms swap.now cal.now) result }
+    ensures first { IsTermsAnswer swap.now cal.now result }
     // No other answer is the first.
-    ensures one { (other : Option Broken) → IsFirst is_before (BreaksTerms swap.now cal.now) other → other ≡ result }
-    // What the streams of a swap keep that breaks none.
+    ensures one { (other : Option Broken) → IsTermsAnswer swap.now cal.now other → other ≡ result }
+    // What each stream of a swap keeps that breaks no rule of the terms.
     ensures kept { result ≡ None → AllKept swap.now cal.now }
     // A rule is the first that is broken, or none is broken.
-    ensures decided { ((f : Broken) × First is_before (BreaksTerms swap.now cal.now) f) ⊎ ((f : Broken) → BreaksTerms swap.now cal.now f → ⊥) }
+    ensures decided { ((f : Broken) × IsFirstBroken swap.now cal.now f) ⊎ BreaksNone swap.now cal.now }
 {
     first_in_swap(swap, cal)
 }
@@ -40,7 +39,7 @@ pub fn check_terms(swap: &Swap, cal: &Calendars) -> Option<Broken>
 /// The first that a stream of the swap breaks.
 fn first_in_swap(swap: &Swap, cal: &Calendars) -> Option<Broken>
     requires { IsLawful swap.now }
-    ensures { IsFirst is_before (BreaksTerms swap.now cal.now) result }
+    ensures { IsTermsAnswer swap.now cal.now result }
 {
     for (i, s) in swap.streams.as_slice().iter().enumerate() {
         if let Some(fault) = first_in_stream(s, cal) {
