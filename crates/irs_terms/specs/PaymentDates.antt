@@ -44,11 +44,15 @@ HasRegularPayments p = (p.relative ≡ End) × (IsTerm p.freq → ⊥)
 abbrev pub IsPaymentInside : Stream → ℤ → Type 0
 IsPaymentInside s d = (first_day_of s <ℤ d) × (d ≤ℤ termination_of s)
 
--- firstPaymentDate is given where it is needed; where it is given there are regular payments, and it
--- lies inside the term
+-- a given first payment date lies inside the term
+pub record IsFirstPayment (s : Stream) (first : ℤ) : Type 0 where
+  pub regular : HasRegularPayments s.pay
+  pub inside : IsPaymentInside s first
+
+-- firstPaymentDate is given where it is needed, and where it is given it can stand there
 pub record FirstPaymentStands (s : Stream) : Type 0 where
   pub needed : NeedsFirstPayment s → IsSome s.pay.first
-  pub given : IfSome s.pay.first (λ first. HasRegularPayments s.pay × IsPaymentInside s first)
+  pub given : IfSome s.pay.first (IsFirstPayment s)
 
 -- a given last regular payment date lies inside the term, and not before a given first payment date
 pub record IsLastPayment (s : Stream) (last : ℤ) : Type 0 where
