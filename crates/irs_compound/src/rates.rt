@@ -30,7 +30,8 @@ pub fn period_rates(f: &FloatTerms, start: Day, observed: i64) -> Rates
     ensures base_fits { unsigned_abs result.base ≤ most_rounded_rate }
     ensures all_in_fits { unsigned_abs result.all_in ≤ most_rounded_rate }
     // Where the steps rise there is one such pair of rates.
-    ensures one { StepsRise f.now.multiplier.steps → StepsRise f.now.spread.steps → (a b : Rates) → RatesOf f.now start observed a → RatesOf f.now start observed b → a ≡ b }
+    ensures one { StepsRise f.now.multiplier.steps → StepsRise f.now.spread.steps → (a b : Rates)
+        → RatesOf f.now start observed a → RatesOf f.now start observed b → a ≡ b }
 {
     rates_on(f, start, observed)
 }
@@ -44,7 +45,8 @@ pub fn fixed_rates(values: &StepValues, start: Day) -> Rates
     ensures base_fits { IsRate result.base }
     ensures all_in_fits { IsRate result.all_in }
     // Where the steps rise there is one such pair of rates.
-    ensures one { StepsRise values.now.steps → (a b : Rates) → FixedRatesOf values.now start a → FixedRatesOf values.now start b → a ≡ b }
+    ensures one { StepsRise values.now.steps → (a b : Rates)
+        → FixedRatesOf values.now start a → FixedRatesOf values.now start b → a ≡ b }
 {
     fixed_from(rate_in_force(values, start))
 }
@@ -59,7 +61,8 @@ pub fn rates_by(leg: &Leg, start: Day, observed: Option<i64>) -> Option<Rates>
     ensures value { result ≡ rates_by leg.now start observed }
     ensures size { IfSome result (λ r. unsigned_abs r.all_in ≤ most_rounded_rate) }
     // Where the steps rise there is one such pair of rates, or none.
-    ensures one { LegStepsRise leg.now → (x y : Option Rates) → AreRates leg.now start observed x → AreRates leg.now start observed y → x ≡ y }
+    ensures one { LegStepsRise leg.now → (x y : Option Rates)
+        → AreRates leg.now start observed x → AreRates leg.now start observed y → x ≡ y }
 {
     leg_rates(leg, start, observed)
 }
