@@ -5,3 +5,4 @@ pub mod FractionFits
 pub mod AmountTheorems
 pub mod AmountBounds
 pub mod RateSizes
+pub mod FoundSteps

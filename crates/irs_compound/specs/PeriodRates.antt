@@ -59,6 +59,10 @@ abbrev pub treated : Treatment → ℤ → ℤ
 treated AsIs rate = rate
 treated ZeroFloor rate = if int_lt rate (pos 0) then pos 0 else rate
 
+-- the rate of an exact one: rounded, and then by its treatment
+abbrev pub all_in_at : FloatTerms → ℤ → ℤ
+all_in_at f exact = treated f.treatment (rate_at f.rounding exact)
+
 -- multiplier times observed, in units of 10^-18
 abbrev pub exact_base : FloatTerms → ℤ → ℤ → ℤ
 exact_base f start observed = value_in_force f.multiplier start *ℤ observed

@@ -42,10 +42,12 @@ pub trait Compounding {
         ensures out { IfErr result (λ e. First nat_lt (passes self.now periods.now) e.period) };
 
     // Periods pay at most one amount.
-    ghost one_amount: { (s : Self) (ps : List PeriodTerm) (k : ℕ) (m n : ℤ) → IsPayment ps → pays s ps k m → pays s ps k n → m ≡ n };
+    ghost one_amount: { (s : Self) (ps : List PeriodTerm) (k : ℕ) (m n : ℤ)
+        → IsPayment ps → pays s ps k m → pays s ps k n → m ≡ n };
 
     // Where all rates are there, they pay one.
-    ghost some_amount: { (s : Self) (ps : List PeriodTerm) (k : ℕ) → IsPayment ps → AllPriced ps → (m : ℤ) × pays s ps k m };
+    ghost some_amount: { (s : Self) (ps : List PeriodTerm) (k : ℕ)
+        → IsPayment ps → AllPriced ps → (m : ℤ) × pays s ps k m };
 }
 
 /// No compounding: the sum of notional times rate times fraction, exact, rounded once.
