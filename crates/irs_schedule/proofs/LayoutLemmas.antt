@@ -15,7 +15,7 @@ use Rattle.irs_schedule.specs.Layouts.{IsLayout}
 use Rattle.irs_schedule.specs.TermsKept.{TermsKept}
 use Rattle.irs_schedule.proofs.AdjustedBoundaries.{adjusted_days}
 use Rattle.irs_schedule.proofs.BoundariesThere.{boundaries_days, boundaries_run}
-use Rattle.irs_schedule.proofs.PaymentsCover.{every_payments_cover}
+use Rattle.irs_payments.proofs.PaymentsCover.{every_payments_cover}
 use Rattle.irs_schedule.proofs.StreamRanges.{AreInRange}
 use Rattle.irs_terms.specs.FirstDay.{first_day_of}
 use Rattle.irs_base.specs.Listed.{RunsFromTo}

@@ -23,7 +23,7 @@ use Rattle.irs_schedule.specs.Layouts.{IsLayout}
 use Rattle.irs_schedule.specs.TermsKept.{TermsKept}
 use Rattle.irs_schedule.proofs.AdjustedBoundaries.{adjusted_there}
 use Rattle.irs_schedule.proofs.BoundariesThere.{boundaries_days, boundaries_there}
-use Rattle.irs_schedule.proofs.FirstFaults.{none_by_rank}
+use Rattle.irs_base.proofs.Firsts.{none_by_rank}
 use Rattle.irs_schedule.proofs.SpanThere.{span_kept}
 use Rattle.irs_schedule.proofs.StreamRanges.{AreInRange}
 

@@ -7,15 +7,11 @@ pub mod PlaceLemmas
 pub mod PaymentLemmas
 pub mod CountLemmas
 pub mod AdjustedBoundaries
-pub mod ExchangesThere
 pub mod ResetsThere
 pub mod Ranges
 pub mod Anchors
 pub mod SpanThere
 pub mod BoundariesThere
-pub mod CutsThere
-pub mod PaymentsThere
-pub mod PaymentsCover
 pub mod TermsThere
 pub mod TermsLemmas
 pub mod CenterLemmas
@@ -26,7 +22,6 @@ pub mod BoundLemmas
 pub mod ResetLemmas
 pub mod Handed
 pub mod MakingLemmas
-pub mod FirstFaults
 pub mod StreamRanges
 pub mod LayoutLemmas
 pub mod LayoutThere

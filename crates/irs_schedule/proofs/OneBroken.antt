@@ -5,8 +5,6 @@ use Rattle.irs_base.specs.declared.places.Broken.{Broken}
 use Rattle.irs_base.specs.declared.places.Rule.{Rule}
 use Rattle.irs_base.specs.declared.places.Rule.TheVariants.{K33, K34, K35, K36, K38, K39}
 use Rattle.irs_base.specs.Elements.{calculation_period_dates, calculation_period_amount, fixing_dates, reset_dates}
-use Rattle.irs_terms.specs.declared.amounts.Leg.{Leg}
-use Rattle.irs_terms.specs.declared.amounts.Leg.TheVariants.{Fixed, Floating}
 use Rattle.irs_terms.specs.declared.dates.ResetTerms.{ResetTerms}
 use Rattle.irs_terms.specs.declared.results.Payment.{Payment}
 use Rattle.irs_terms.specs.declared.results.Reset.{Reset}
@@ -22,10 +20,12 @@ use Rattle.irs_periods.specs.Adjusting.{AdjustedBroken, BoundaryDays, DoesNotRis
 use Rattle.irs_periods.specs.Boundaries.{Boundaries, IsBoundary}
 use Rattle.irs_periods.specs.SpanRules.{SpanBroken, broken_at}
 use Rattle.irs_payments.proofs.PaymentLemmas.{one_payments}
-use Rattle.irs_payments.specs.Exchanges.{BreaksExchanges}
-use Rattle.irs_payments.specs.Faults.{BreaksIn, IsFirst, turn}
+use Rattle.irs_base.specs.Order.{First, comes_before}
+use Rattle.irs_payments.proofs.StepLemmas.{one_steps_rule as one_of_steps}
+use Rattle.irs_payments.proofs.ExchangesThere.{one_exchanges_rule}
+use Rattle.irs_payments.proofs.PaymentsThere.{one_payments_rule as one_of_payments}
 use Rattle.irs_payments.specs.Payments.{ArePayments, BreaksPayments}
-use Rattle.irs_payments.specs.Steps.{BreaksRateSteps, BreaksSteps}
+use Rattle.irs_payments.specs.Steps.{BreaksSteps}
 use Rattle.irs_resets.proofs.RowLemmas.{one_resets}
 use Rattle.irs_resets.specs.Rates.{RateTable}
 use Rattle.irs_resets.specs.ResetDates.{Fails, IsFirst as IsFirstPeriod}
@@ -49,103 +49,6 @@ tied i k p q = elim (three_ways i k) [
   | inr (inl same) ↦ same
   | inr (inr above) ↦ absurd (q above)
 ]
-
--- a broken rule of a stream that is named as stream 1 is told by rule, element and index
-abbrev IsPlaced : Broken → Type 0
-IsPlaced x = x ≡ broken_at x.rule x.place.elem x.place.index
-
-placed : (x : Broken) (rule : Rule) (elem index : ℕ) → x ≡ broken_at rule elem index → IsPlaced x
-placed x rule elem index is = subst IsPlaced (sym is) refl
-
-same_placed : (x y : Broken) → IsPlaced x → IsPlaced y → x.rule ≡ y.rule → x.place.elem ≡ y.place.elem → x.place.index ≡ y.place.index → x ≡ y
-same_placed x y p q rules elems indices = p ∙ (λ i. broken_at (rules i) (elems i) (indices i)) ∙ sym q
-
--- faults whose turn tells their rule
-record AreTold (IsFault : Broken → Type 0) : Type 0 where
-  each : (x : Broken) → IsFault x → IsPlaced x
-  rules : (x y : Broken) → IsFault x → IsFault y → turn x.rule ≡ turn y.rule → x.rule ≡ y.rule
-
--- such faults have one first
-one_first : (IsFault : Broken → Type 0) → AreTold IsFault → (x y : Broken) → IsFirst IsFault x → IsFirst IsFault y → x ≡ y
-one_first IsFault told x y h k =
-    let turns : turn x.rule ≡ turn y.rule = tied (turn x.rule) (turn y.rule) (λ below. k.none_before x h.is_fault (inl below)) (λ above. h.none_before y k.is_fault (inl above)) in
-    let elems : x.place.elem ≡ y.place.elem = tied x.place.elem y.place.elem
-    (λ below. k.none_before x h.is_fault (inr (turns, inl below))) (λ above. h.none_before y k.is_fault (inr (sym turns, inl above))) in
-    let indices : x.place.index ≡ y.place.index = tied x.place.index y.place.index
-    (λ below. k.none_before x h.is_fault (inr (turns, inr (elems, below)))) (λ above. h.none_before y k.is_fault (inr (sym turns, inr (sym elems, above)))) in
-    same_placed x y (told.each x h.is_fault) (told.each y k.is_fault) (told.rules x y h.is_fault k.is_fault turns) elems indices
-
--- faults of one rule
-record AreOf (rule : Rule) (IsFault : Broken → Type 0) : Type 0 where
-  each : (x : Broken) → IsFault x → IsPlaced x × (x.rule ≡ rule)
-
-told_of : (rule : Rule) (IsFault : Broken → Type 0) → AreOf rule IsFault → AreTold IsFault
-told_of rule IsFault of = record {
-  each = λ x h. (of.each x h).0;
-  rules = λ x y h k turns. (of.each x h).1 ∙ sym (of.each y k).1;
-}
-
-rule_is : (x : Broken) (rule : Rule) (elem index : ℕ) → x ≡ broken_at rule elem index → IsPlaced x × (x.rule ≡ rule)
-rule_is x rule elem index is = (placed x rule elem index is, ap (λ (b : Broken). b.rule) is)
-
-in_list : {X : Type 0} (rule : Rule) (elem : ℕ) (Bad : X → Type 0) (xs : List X) → AreOf rule (BreaksIn rule elem Bad xs)
-in_list rule elem Bad xs = record { each = λ x h. rule_is x rule elem h.number h.is }
-
--- those of steps are of K36
-in_rates : (leg : Leg) (b : List ℤ) (x : Broken) → BreaksRateSteps leg b x → IsPlaced x × (x.rule ≡ K36)
-in_rates (Fixed rates) b x h = rule_is x K36 _ h.number h.is
-in_rates (Floating terms) b x (inl h) = rule_is x K36 _ h.number h.is
-in_rates (Floating terms) b x (inr h) = rule_is x K36 _ h.number h.is
-
-in_step : (s : Stream) (b : List ℤ) (x : Broken) → BreaksSteps s b x → IsPlaced x × (x.rule ≡ K36)
-in_step s b x (inl h) = rule_is x K36 _ h.number h.is
-in_step s b x (inr h) = in_rates s.leg b x h
-
-one_step : (s : Stream) (b : List ℤ) (x y : Broken) → IsFirst (BreaksSteps s b) x → IsFirst (BreaksSteps s b) y → x ≡ y
-one_step s b x y h k = one_first (BreaksSteps s b) (told_of K36 (BreaksSteps s b) (record { each = in_step s b })) x y h k
-
--- and those of exchanges of K33
-in_exchange : (s : Stream) (set : DaySet) (x : Broken) → BreaksExchanges s set x → IsPlaced x × (x.rule ≡ K33)
-in_exchange s set x h = rule_is x K33 _ h.number h.is
-
-one_exchange : (s : Stream) (set : DaySet) (x y : Broken) → IsFirst (BreaksExchanges s set) x → IsFirst (BreaksExchanges s set) y → x ≡ y
-one_exchange s set x y h k = one_first (BreaksExchanges s set) (told_of K33 (BreaksExchanges s set) (record { each = in_exchange s set })) x y h k
-
--- those of payments are of K35, K33 or K38
-data PaymentRule (x : Broken) : Type 0 where
-  grouping : IsPlaced x → x.rule ≡ K35 → PaymentRule x
-  result : IsPlaced x → x.rule ≡ K33 → PaymentRule x
-  range : IsPlaced x → x.rule ≡ K38 → PaymentRule x
-
-rule_of : (s : Stream) (set : DaySet) (b a : List ℤ) (x : Broken) → BreaksPayments s set b a x → PaymentRule x
-rule_of s set b a x (inl (inl h)) = let r = rule_is x K35 _ 0 h.1 in grouping r.0 r.1
-rule_of s set b a x (inl (inr h)) = let r = rule_is x K35 _ 0 h.1 in grouping r.0 r.1
-rule_of s set b a x (inr h) = elim h.breaks [
-  | inl lacks ↦ let r = rule_is x K33 _ h.number lacks.1 in result r.0 r.1
-  | inr leaves ↦ let r = rule_is x K38 _ h.number leaves.1 in range r.0 r.1
-]
-
-placed_by : (x : Broken) → PaymentRule x → IsPlaced x
-placed_by x (grouping p r) = p
-placed_by x (result p r) = p
-placed_by x (range p r) = p
-
-rules_by : (x y : Broken) → PaymentRule x → PaymentRule y → turn x.rule ≡ turn y.rule → x.rule ≡ y.rule
-rules_by x y (grouping p r) (grouping q u) turns = r ∙ sym u
-rules_by x y (grouping p r) (result q u) turns = let e : 0 ≡ 1 = sym (ap turn r) ∙ turns ∙ ap turn u in absurd (omega (arith, e))
-rules_by x y (grouping p r) (range q u) turns = let e : 0 ≡ 2 = sym (ap turn r) ∙ turns ∙ ap turn u in absurd (omega (arith, e))
-rules_by x y (result p r) (grouping q u) turns = let e : 1 ≡ 0 = sym (ap turn r) ∙ turns ∙ ap turn u in absurd (omega (arith, e))
-rules_by x y (result p r) (result q u) turns = r ∙ sym u
-rules_by x y (result p r) (range q u) turns = let e : 1 ≡ 2 = sym (ap turn r) ∙ turns ∙ ap turn u in absurd (omega (arith, e))
-rules_by x y (range p r) (grouping q u) turns = let e : 2 ≡ 0 = sym (ap turn r) ∙ turns ∙ ap turn u in absurd (omega (arith, e))
-rules_by x y (range p r) (result q u) turns = let e : 2 ≡ 1 = sym (ap turn r) ∙ turns ∙ ap turn u in absurd (omega (arith, e))
-rules_by x y (range p r) (range q u) turns = r ∙ sym u
-
-one_payment_rule : (s : Stream) (set : DaySet) (b a : List ℤ) (x y : Broken) → IsFirst (BreaksPayments s set b a) x → IsFirst (BreaksPayments s set b a) y → x ≡ y
-one_payment_rule s set b a x y h k = one_first (BreaksPayments s set b a) (record {
-  each = λ z p. placed_by z (rule_of s set b a z p);
-  rules = λ z w p q turns. rules_by z w (rule_of s set b a z p) (rule_of s set b a w q) turns;
-}) x y h k
 
 -- the span has one first broken rule
 one_span_rule : (s : Stream) (x y : Broken) → SpanBroken s x → SpanBroken s y → x ≡ y
@@ -255,13 +158,13 @@ one_reset_rule s span a rs fs x y (inr h) (inr k) = one_dates_rule s.reset a rs 
 module _ (sets : StreamSets) (s : Stream) (x y : Broken) where
   one_payments_rule : PaymentsBroken sets s x → PaymentsBroken sets s y → x ≡ y
   one_payments_rule h k =
-      let moved = subst (λ (l : Layout). IsFirst (BreaksPayments s sets.payment l.unadjusted l.adjusted) x) (one_layout sets s h.layout k.layout h.is_layout k.is_layout) h.first in
-      one_payment_rule s sets.payment k.layout.unadjusted k.layout.adjusted x y moved k.first
+      let moved = subst (λ (l : Layout). First comes_before (BreaksPayments s sets.payment l.unadjusted l.adjusted) x) (one_layout sets s h.layout k.layout h.is_layout k.is_layout) h.first in
+      one_of_payments s sets.payment k.layout.unadjusted k.layout.adjusted x y moved k.first
 
   one_steps_rule : StepsBroken sets s x → StepsBroken sets s y → x ≡ y
   one_steps_rule h k =
-      let moved = subst (λ (l : Layout). IsFirst (BreaksSteps s l.unadjusted) x) (one_layout sets s h.layout k.layout h.is_layout k.is_layout) h.first in
-      one_step s k.layout.unadjusted x y moved k.first
+      let moved = subst (λ (l : Layout). First comes_before (BreaksSteps s l.unadjusted) x) (one_layout sets s h.layout k.layout h.is_layout k.is_layout) h.first in
+      one_of_steps s k.layout.unadjusted x y moved k.first
 
   one_resets_rule : ResetsBroken sets s x → ResetsBroken sets s y → x ≡ y
   one_resets_rule h k =
@@ -301,7 +204,7 @@ one_part_rule sets fix s in_span x y h k = one_span_rule s x y h k
 one_part_rule sets fix s in_periods x y h k = one_periods_rule sets s x y h k
 one_part_rule sets fix s in_payments x y h k = one_payments_rule sets s x y h k
 one_part_rule sets fix s in_steps x y h k = one_steps_rule sets s x y h k
-one_part_rule sets fix s in_exchanges x y h k = one_exchange s sets.payment x y h k
+one_part_rule sets fix s in_exchanges x y h k = one_exchanges_rule s sets.payment x y h k
 one_part_rule sets fix s in_resets x y h k = one_resets_rule sets s x y h k
 one_part_rule sets fix s in_amounts x y h k = one_amounts_rule sets fix s x y h k
 

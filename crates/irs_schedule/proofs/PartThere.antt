@@ -21,11 +21,12 @@ use Rattle.irs_schedule.specs.Layouts.{IsLayout}
 use Rattle.irs_schedule.specs.Parts.{Part}
 use Rattle.irs_schedule.specs.Schedules.{IsPart, IsSchedule}
 use Rattle.irs_schedule.specs.TermsKept.{TermsKept}
-use Rattle.irs_schedule.proofs.ExchangesThere.{exchanges_there, pairs_there}
-use Rattle.irs_schedule.proofs.FirstFaults.{none_without_first}
+use Rattle.irs_base.proofs.MemberLemmas.{pairs_there}
+use Rattle.irs_payments.proofs.ExchangesThere.{exchanges_there}
+use Rattle.irs_base.proofs.FaultOrder.{none_broken}
 use Rattle.irs_schedule.proofs.LayoutLemmas.{layout_adjusted_days, layout_covers, layout_days, layout_runs, layout_some}
 use Rattle.irs_schedule.proofs.LayoutThere.{layout_there}
-use Rattle.irs_schedule.proofs.PaymentsThere.{payments_there}
+use Rattle.irs_payments.proofs.PaymentsThere.{payments_there}
 use Rattle.irs_schedule.proofs.ResetsThere.{resets_there}
 use Rattle.irs_schedule.proofs.StreamRanges.{AreInRange, sets_in_range}
 use Rattle.irs_schedule.proofs.TermsLemmas.{lawful_stream, terms_kept}
@@ -33,14 +34,20 @@ use Rattle.irs_schedule.proofs.TermsThere.{amounts_there, entries_there}
 
 module _ (cal : List Section) (sets : StreamSets) (fix : RateTable) (s : Stream) (lawful : IsLawfulStream s) (terms : TermsKept cal s) (ranges : AreInRange sets) (kept : StreamKept sets fix s) where
   exchanges_by : (xs : List Exchange) × AreExchanges s sets.payment xs
-  exchanges_by = exchanges_there s sets.payment lawful ranges.payment (none_without_first (BreaksExchanges s sets.payment) (kept in_exchanges))
+  exchanges_by = exchanges_there s sets.payment lawful ranges.payment (none_broken (BreaksExchanges s sets.payment) (kept in_exchanges))
 
   -- over a layout
   module _ (l : Layout) (is : IsLayout sets s l) where
     payments_by : (ps : List Payment) × ArePayments s sets.payment l.unadjusted l.adjusted ps
-    payments_by = payments_there s sets.payment l.unadjusted l.adjusted lawful terms.said (layout_runs cal sets s lawful terms l is) (layout_days cal sets s lawful terms l is)
-        (layout_adjusted_days cal sets s lawful terms l is ranges) ranges.payment
-        (none_without_first (BreaksPayments s sets.payment l.unadjusted l.adjusted) (λ x first. kept in_payments x (record { layout = l; is_layout = is; first = first })))
+    payments_by =
+        payments_there s sets.payment l.unadjusted l.adjusted (record {
+          lawful = lawful;
+          said = terms.said;
+          run = layout_runs cal sets s lawful terms l is;
+          days = layout_days cal sets s lawful terms l is;
+          adjusted = layout_adjusted_days cal sets s lawful terms l is ranges;
+          range = ranges.payment;
+        }) (none_broken (BreaksPayments s sets.payment l.unadjusted l.adjusted) (λ f first. kept in_payments f (record { layout = l; is_layout = is; first = first })))
 
     resets_by : (rs : List Reset) × IsResets s l.span l.adjusted sets.reset sets.fixing fix rs
     resets_by = resets_there s l.span l.adjusted sets.reset sets.fixing fix terms.legs terms.said_reset (layout_adjusted_days cal sets s lawful terms l is ranges) ranges.reset ranges.fixing
