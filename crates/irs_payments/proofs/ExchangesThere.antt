@@ -1,5 +1,5 @@
 -- An exchange is the first that lacks its adjusted day, or none does and there is the list of exchanges.
-use Rattle.std.proofs.Common.{◌≡◌, inl, inr, ℕ, zero, suc, ◌+◌, ◌-◌, ◌^◌, ◌<◌, Bool, true, false, List, [], ◌∷◌, ◌++◌, Some, ℤ, pos, ◌-ℤ◌, ◌<ℤ◌, if◌then◌else◌, arith, refl, subst}
+use Rattle.std.proofs.Common.{◌≡◌, inl, inr, ℕ, zero, suc, ◌+◌, ◌-◌, ◌^◌, Bool, true, false, List, [], ◌∷◌, ◌++◌, Some, ℤ, pos, ◌-ℤ◌, ◌<ℤ◌, if◌then◌else◌, arith, refl, subst}
 use Rattle.std.specs.Prelude.{All, slice_get}
 use Rattle.std.specs.Ordering.{int_eq}
 use Rattle.std.proofs.lemmas.List.Elements.{All-append, All-cons}

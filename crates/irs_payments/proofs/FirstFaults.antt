@@ -1,5 +1,5 @@
 -- The first of the faults of two sets, and which of two faults comes before the other.
-use Rattle.std.proofs.Common.{◌≡◌, ◌⊎◌, inl, inr, ℕ, ◌<◌, false, Result, Ok, Err, IfOk, refl, sym, ap, subst}
+use Rattle.std.proofs.Common.{◌≡◌, ◌⊎◌, inl, inr, ℕ, ◌<◌, false, Result, Ok, Err, IfOk, refl}
 use Rattle.irs_base.specs.Rules.{rule_number}
 use Rattle.irs_base.specs.Faults.{fault_at, IfBroken}
 use Rattle.irs_base.specs.Order.{First, comes_before, turn}

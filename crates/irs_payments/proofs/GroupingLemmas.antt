@@ -1,5 +1,5 @@
 -- K35: a given payment date is the first that can't stand, or none is.
-use Rattle.std.proofs.Common.{◌≡◌, ◌⊎◌, inl, inr, List, Option, Some, None, ℤ, ◌<ℤ◌, ◌≤ℤ◌, false, refl, sym, ◌∙◌, subst, arith}
+use Rattle.std.proofs.Common.{◌≡◌, inl, inr, List, Option, Some, None, ℤ, ◌<ℤ◌, false, refl, sym, ◌∙◌, subst, arith}
 use Rattle.jiff_core.proofs.SignedLemmas.{signed_arith}
 use Rattle.irs_base.specs.DayLists.{AreDays}
 use Rattle.irs_base.specs.Elements.{first_payment_date, last_regular_payment_date}
@@ -12,7 +12,7 @@ use Rattle.irs_base.proofs.Decided.{order_of, decides_same}
 use Rattle.irs_base.proofs.FaultOrder.{fault_order}
 use Rattle.irs_base.proofs.Firsts.{first_one}
 use Rattle.irs_terms.specs.FirstDay.{first_day_of}
-use Rattle.irs_terms.specs.Lawful.{IsLawfulStream, IsLawfulPay}
+use Rattle.irs_terms.specs.Lawful.{IsLawfulStream}
 use Rattle.irs_terms.specs.declared.stream.Stream.{Stream}
 use Rattle.irs_roll.specs.Rolls.{OnGrid}
 use Rattle.irs_roll.proofs.GridsDecided.{decides_on_grid}

@@ -3,7 +3,6 @@ use Rattle.std.proofs.Common.{◌≡◌, ◌⊎◌, ℕ, zero, suc, ◌+◌, ◌
 use Rattle.std.specs.List.{slice_get}
 use Rattle.std.proofs.lemmas.Option.{slice_get_within}
 use Rattle.irs_base.specs.Faults.{fault_at}
-use Rattle.irs_base.specs.Members.{HoldsOf}
 use Rattle.irs_base.specs.Order.{First, IsDecided, comes_before}
 use Rattle.irs_base.specs.declared.places.Rule.{Rule}
 use Rattle.irs_base.specs.declared.places.Fault.{Fault}
@@ -32,7 +31,7 @@ module _ {X : Type 0} (rule : Rule) (elem : ℕ) (P : X → Type 0) (xs : List X
           is = refl;
         },
         λ g h. told (fault_at rule elem (i + 1)) g (fault_at rule elem (i + 1)) (fault_at rule elem h.number) refl h.is
-        (not_before_index rule elem h.number (i + 1) (λ less. below h.number (omega (arith, less)) h.bad)),
+            (not_before_index rule elem h.number (i + 1) (λ less. below h.number (omega (arith, less)) h.bad)),
       )
 
   -- of the first i members one is the first that has P, or none has it

@@ -1,5 +1,5 @@
 -- Steps on boundaries: a step is the first that stands off them, or none does.
-use Rattle.std.proofs.Common.{◌≡◌, ℕ, ◌<◌, List, [], ◌∷◌, ℤ, false, refl, inl, inr, arith}
+use Rattle.std.proofs.Common.{◌≡◌, ℕ, ◌<◌, List, [], ◌∷◌, ℤ, false, inl, inr, arith}
 use Rattle.irs_base.specs.Elements.{notional_step_date, fixed_rate_step_date, multiplier_step_date, spread_step_date}
 use Rattle.irs_base.specs.Listed.{Member}
 use Rattle.irs_base.specs.Faults.{fault_at}

@@ -2,7 +2,7 @@
 -- Boundaries are those of the calculation periods, numbered from 0. The first day is that of the first
 -- calculation period, which may begin before the effective date.
 use Rattle.std.specs.Prelude.{◌≡◌, ◌⊎◌, Bool, List, ◌∷◌, Option, Some, None, IfSome, if◌then◌else◌, ℤ, ◌≤ℤ◌, ◌<ℤ◌}
-use Rattle.irs_base.specs.Listed.{Member, IsRising, Lists}
+use Rattle.irs_base.specs.Listed.{Member, Lists}
 use Rattle.irs_base.specs.Elements.{first_payment_date, last_regular_payment_date}
 use Rattle.irs_base.specs.declared.places.Rule.TheVariants.{K35}
 use Rattle.irs_base.specs.declared.places.Fault.{Fault}

@@ -208,25 +208,17 @@ pub fn principals<G: GoodDays>(alloc: Global, s: &Stream, days: &G) -> Result<Ex
     ensures unbroken { IfOk result (λ _. (f : Fault) → BreaksExchanges s.now (G.days days.now) f → ⊥) }
     ensures broken { IfBroken result (First comes_before (BreaksExchanges s.now (G.days days.now))) }
     // An exchange is the first without an adjusted day, or each has one.
-    ensures decided {
-        ((f : Fault) × First comes_before (BreaksExchanges s.now (G.days days.now)) f) ⊎
-        ((f : Fault) → BreaksExchanges s.now (G.days days.now) f → ⊥)
-    }
+    ensures decided { ((f : Fault) × First comes_before (BreaksExchanges s.now (G.days days.now)) f) ⊎
+        ((f : Fault) → BreaksExchanges s.now (G.days days.now) f → ⊥) }
     // Where each has one there is a list of exchanges.
-    ensures exists {
-        ((f : Fault) → BreaksExchanges s.now (G.days days.now) f → ⊥) →
-        (xs : List Exchange) × AreExchanges s.now (G.days days.now) xs
-    }
+    ensures exists { ((f : Fault) → BreaksExchanges s.now (G.days days.now) f → ⊥) →
+        (xs : List Exchange) × AreExchanges s.now (G.days days.now) xs }
     // A stream has at most one list of exchanges.
-    ensures one {
-        (xs ys : List Exchange) → AreExchanges s.now (G.days days.now) xs →
-        AreExchanges s.now (G.days days.now) ys → xs ≡ ys
-    }
+    ensures one { (xs ys : List Exchange) → AreExchanges s.now (G.days days.now) xs →
+        AreExchanges s.now (G.days days.now) ys → xs ≡ ys }
     // At most one exchange is the first without an adjusted day.
-    ensures one_broken {
-        (f g : Fault) → First comes_before (BreaksExchanges s.now (G.days days.now)) f →
-        First comes_before (BreaksExchanges s.now (G.days days.now)) g → f ≡ g
-    }
+    ensures one_broken { (f g : Fault) → First comes_before (BreaksExchanges s.now (G.days days.now)) f →
+        First comes_before (BreaksExchanges s.now (G.days days.now)) g → f ≡ g }
 {
     // hands the prover that the days of the cover are in the range of dates
     let _cover = days.cover();

@@ -84,11 +84,7 @@ fn settle(
             Ok(beyond)
         }
         Err(NoDate::OutOfRange) => Ok(earliest(beyond, number)),
-        Err(NoDate::NoResult) => Err(PayErr::Broken(fault(
-            Rule::K33,
-            Elem::PAYMENT_DATES,
-            number,
-        ))),
+        Err(NoDate::NoResult) => Err(PayErr::Broken(fault(Rule::K33, Elem::PAYMENT_DATES, number))),
     }
 }
 
@@ -139,12 +135,8 @@ fn payments_over<G: GoodDays>(
     requires few { length unadjusted.now < 2 ^ 32 }
     ensures ok { IfOk result (ArePayments s.now (G.days days.now) unadjusted.now adjusted.now) }
     ensures covers { IfOk result (λ ps. Covers 1 ps (length unadjusted.now - 1)) }
-    ensures unbroken {
-        IfOk result (λ _. (f : Fault) → BreaksPayments s.now (G.days days.now) unadjusted.now adjusted.now f → ⊥)
-    }
-    ensures broken {
-        IfBroken result (First comes_before (BreaksPayments s.now (G.days days.now) unadjusted.now adjusted.now))
-    }
+    ensures unbroken { IfOk result (λ _. (f : Fault) → BreaksPayments s.now (G.days days.now) unadjusted.now adjusted.now f → ⊥) }
+    ensures broken { IfBroken result (First comes_before (BreaksPayments s.now (G.days days.now) unadjusted.now adjusted.now)) }
     ensures memory { IsErrOf result OfMemory → (f : Fault) → BreaksGrouping s.now unadjusted.now f → ⊥ }
 {
     if let Err(grouping) = check_grouping(s, unadjusted) {
@@ -183,33 +175,21 @@ pub fn payments<G: GoodDays>(
     ensures ok { IfOk result (ArePayments s.now (G.days days.now) unadjusted.now adjusted.now) }
     // The payments cover the calculation periods in order, without a gap.
     ensures covers { IfOk result (λ ps. Covers 1 ps (length unadjusted.now - 1)) }
-    ensures unbroken {
-        IfOk result (λ _. (f : Fault) → BreaksPayments s.now (G.days days.now) unadjusted.now adjusted.now f → ⊥)
-    }
-    ensures broken {
-        IfBroken result (First comes_before (BreaksPayments s.now (G.days days.now) unadjusted.now adjusted.now))
-    }
+    ensures unbroken { IfOk result (λ _. (f : Fault) → BreaksPayments s.now (G.days days.now) unadjusted.now adjusted.now f → ⊥) }
+    ensures broken { IfBroken result (First comes_before (BreaksPayments s.now (G.days days.now) unadjusted.now adjusted.now)) }
     ensures memory { IsErrOf result OfMemory → (f : Fault) → BreaksGrouping s.now unadjusted.now f → ⊥ }
     // A rule is the first that is broken, or none is broken.
-    ensures decided {
-        ((f : Fault) × First comes_before (BreaksPayments s.now (G.days days.now) unadjusted.now adjusted.now) f) ⊎
-        ((f : Fault) → BreaksPayments s.now (G.days days.now) unadjusted.now adjusted.now f → ⊥)
-    }
+    ensures decided { ((f : Fault) × First comes_before (BreaksPayments s.now (G.days days.now) unadjusted.now adjusted.now) f) ⊎
+        ((f : Fault) → BreaksPayments s.now (G.days days.now) unadjusted.now adjusted.now f → ⊥) }
     // Where none is broken there is a list of payments.
-    ensures exists {
-        ((f : Fault) → BreaksPayments s.now (G.days days.now) unadjusted.now adjusted.now f → ⊥) →
-        (ps : List Payment) × ArePayments s.now (G.days days.now) unadjusted.now adjusted.now ps
-    }
+    ensures exists { ((f : Fault) → BreaksPayments s.now (G.days days.now) unadjusted.now adjusted.now f → ⊥) →
+        (ps : List Payment) × ArePayments s.now (G.days days.now) unadjusted.now adjusted.now ps }
     // Over the same boundaries there is at most one.
-    ensures one {
-        (ps qs : List Payment) → ArePayments s.now (G.days days.now) unadjusted.now adjusted.now ps →
-        ArePayments s.now (G.days days.now) unadjusted.now adjusted.now qs → ps ≡ qs
-    }
+    ensures one { (ps qs : List Payment) → ArePayments s.now (G.days days.now) unadjusted.now adjusted.now ps →
+        ArePayments s.now (G.days days.now) unadjusted.now adjusted.now qs → ps ≡ qs }
     // At most one rule is the first that is broken.
-    ensures one_broken {
-        (f g : Fault) → First comes_before (BreaksPayments s.now (G.days days.now) unadjusted.now adjusted.now) f →
-        First comes_before (BreaksPayments s.now (G.days days.now) unadjusted.now adjusted.now) g → f ≡ g
-    }
+    ensures one_broken { (f g : Fault) → First comes_before (BreaksPayments s.now (G.days days.now) unadjusted.now adjusted.now) f →
+        First comes_before (BreaksPayments s.now (G.days days.now) unadjusted.now adjusted.now) g → f ≡ g }
 {
     // hands the prover that the days of the cover are in the range of dates
     let _cover = days.cover();

@@ -70,12 +70,11 @@ fn check_all(s: &Stream, boundaries: &[Day]) -> Result<(), Fault>
     ensures unbroken { IfOk result (λ _. (f : Fault) → BreaksSteps s.now boundaries.now f → ⊥) }
     ensures broken { IfErr result (First comes_before (BreaksSteps s.now boundaries.now)) }
 {
-    check_list(
-        s.notional.steps.as_slice(),
-        Elem::NOTIONAL_STEP_DATE,
-        boundaries,
-    )?;
-    check_rate_steps(&s.leg, boundaries)
+    let steps = s.notional.steps.as_slice();
+    match check_list(steps, Elem::NOTIONAL_STEP_DATE, boundaries) {
+        Err(off) => Err(off),
+        Ok(()) => check_rate_steps(&s.leg, boundaries),
+    }
 }
 
 /// Whether the date of each step is an unadjusted boundary (K36). The answer is the first step whose
@@ -87,15 +86,11 @@ pub fn check_steps(s: &Stream, unadjusted: &DayList) -> Result<(), Fault>
     ensures unbroken { IfOk result (λ _. (f : Fault) → BreaksSteps s.now unadjusted.now f → ⊥) }
     ensures broken { IfErr result (First comes_before (BreaksSteps s.now unadjusted.now)) }
     // A step is the first that breaks K36, or none breaks it.
-    ensures decided {
-        ((f : Fault) × First comes_before (BreaksSteps s.now unadjusted.now) f) ⊎
-        ((f : Fault) → BreaksSteps s.now unadjusted.now f → ⊥)
-    }
+    ensures decided { ((f : Fault) × First comes_before (BreaksSteps s.now unadjusted.now) f) ⊎
+        ((f : Fault) → BreaksSteps s.now unadjusted.now f → ⊥) }
     // At most one is the first.
-    ensures one_broken {
-        (f g : Fault) → First comes_before (BreaksSteps s.now unadjusted.now) f →
-        First comes_before (BreaksSteps s.now unadjusted.now) g → f ≡ g
-    }
+    ensures one_broken { (f g : Fault) → First comes_before (BreaksSteps s.now unadjusted.now) f →
+        First comes_before (BreaksSteps s.now unadjusted.now) g → f ≡ g }
 {
     check_all(s, unadjusted.as_slice())
 }

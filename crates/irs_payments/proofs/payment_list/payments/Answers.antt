@@ -6,7 +6,7 @@ use Rattle.irs_payments.specs.Grouping.{BreaksGrouping}
 use Rattle.irs_payments.specs.Payments.{BreaksPayments}
 use Rattle.irs_payments.proofs.PlaceLemmas.{few_days}
 use Rattle.irs_payments.proofs.PaymentLemmas.{one_payments}
-use Rattle.irs_payments.proofs.PaymentsThere.{ArePayable, payments_decided, payments_there, one_payments_rule}
+use Rattle.irs_payments.proofs.PaymentsThere.{payments_decided, payments_there, one_payments_rule}
 use Rattle.irs_payments.proofs.payment_list.payments.Goals as goal
 
 pub payments_over-requires-clause-few : goal.payments_over-requires-clause-few
