@@ -38,31 +38,6 @@ module _ (sets : StreamSets) (s : Stream) (span : Span) (b : List ℤ) (listed :
   adjusting_kept : (x : Broken) → AdjustedBroken s sets.boundaries b x → ⊥
   adjusting_kept x broken = kept x (inr (b, listed, few_boundaries, broken))
 
-  -- a boundary of this element without an adjusted day
-  abbrev MissesAt : ℕ → ℕ → Type 0
-  MissesAt elem k = NoResult s sets.boundaries b k × (boundary_element s (last_of b) k ≡ elem)
-
-  -- each has its adjusted day
-  none_misses : (i : ℕ) → NoResult s sets.boundaries b i → ⊥
-  none_misses = none_by_rank (boundary_element s (last_of b)) (NoResult s sets.boundaries b) (λ i misses lower_element.
-      none_by_rank (boundary_index (last_of b)) (MissesAt (boundary_element s (last_of b) i)) (λ k at lower_index.
-      adjusting_kept (broken_at K33 (boundary_element s (last_of b) k) (boundary_index (last_of b) k)) (inl (record {
-        number = k;
-        first = record {
-          holds = at.0;
-          none_before = λ j named other. ⊎_elim
-              (λ below. lower_element j (omega (arith, below, at.1)) other)
-              (λ same. lower_index j same.1 (other, same.0 ∙ at.1))
-              named;
-        };
-        is = refl;
-      }))) i (misses, refl))
-
-  -- the adjusted days rise
-  adjusted_rises : (a : List ℤ) → AdjustedList s sets.boundaries b a → IsRising a
-  adjusted_rises a adjusted = rising_of a (none_by_rank (λ i. i) (NotAfter a) (λ i flat before.
-      adjusting_kept (broken_at K34 calculation_period_dates i) (inr (record { list = a; adjusted = adjusted; number = i; first = record { holds = flat; none_before = before }; is = refl }))))
-
   -- they are the layout
   laid_out : Regular s span → SpanKept s span → AreDays b → AreInRange sets → (l : Layout) × IsLayout sets s l
   laid_out regular span_rules days ranges =

@@ -15,10 +15,11 @@ use Rattle.irs_terms.specs.declared.stream.Stream.{Stream}
 use Rattle.irs_terms.specs.declared.stream_list.Swap.{Swap}
 use Rattle.irs_calendar.specs.declared.sections.Section.{Section}
 use Rattle.irs_calendar.specs.GoodDays.{DaySet}
-use Rattle.irs_periods.proofs.AdjustedLemmas.{one_adjusted}
+use Rattle.irs_periods.proofs.AdjustedDecided.{one_adjusted_rule}
+use Rattle.irs_periods.proofs.SpanDecided.{one_span_rule}
 use Rattle.irs_periods.proofs.Assembled.{one_list}
 use Rattle.irs_periods.proofs.OneSpan.{one_span}
-use Rattle.irs_periods.specs.Adjusting.{AdjustedBroken, BoundaryDays, DoesNotRise, FirstNotAfter, MissesResult, NamedBefore, boundary_element, boundary_index, last_of}
+use Rattle.irs_periods.specs.Adjusting.{BreaksAdjusted}
 use Rattle.irs_periods.specs.Boundaries.{Boundaries, IsBoundary}
 use Rattle.irs_periods.specs.SpanRules.{SpanBroken, broken_at}
 use Rattle.irs_payments.proofs.PaymentLemmas.{one_payments}
@@ -146,41 +147,6 @@ one_payment_rule s set b a x y h k = one_first (BreaksPayments s set b a) (recor
   each = λ z p. placed_by z (rule_of s set b a z p);
   rules = λ z w p q turns. rules_by z w (rule_of s set b a z p) (rule_of s set b a w q) turns;
 }) x y h k
-
--- the span has one first broken rule
-one_span_rule : (s : Stream) (x y : Broken) → SpanBroken s x → SpanBroken s y → x ≡ y
-one_span_rule s x y (inl h) (inl k) = h.1 ∙ sym k.1
-one_span_rule s x y (inl h) (inr k) = absurd (k.0 h.0)
-one_span_rule s x y (inr h) (inl k) = absurd (h.0 k.0)
-one_span_rule s x y (inr h) (inr k) = h.2 ∙ sym k.2
-
--- where neither boundary is named before the other they are named alike
-one_missing : (s : Stream) (sets : BoundaryDays) (b : List ℤ) (x y : Broken) → MissesResult s sets b x → MissesResult s sets b y → x ≡ y
-one_missing s sets b x y h k =
-    let last = last_of b in
-    let i = h.number in
-    let j = k.number in
-    let before : NamedBefore s last i j → ⊥ = λ named. k.first.none_before i named h.first.holds in
-    let after : NamedBefore s last j i → ⊥ = λ named. h.first.none_before j named k.first.holds in
-    let elems : boundary_element s last i ≡ boundary_element s last j = tied (boundary_element s last i) (boundary_element s last j) (λ below. before (inl below)) (λ above. after (inl above)) in
-    let indices : boundary_index last i ≡ boundary_index last j = tied (boundary_index last i) (boundary_index last j) (λ below. before (inr (elems, below))) (λ above. after (inr (sym elems, above))) in
-    h.is ∙ (λ n. broken_at K33 (elems n) (indices n)) ∙ sym k.is
-
-all_there : (s : Stream) (sets : BoundaryDays) (b : List ℤ) (x y : Broken) → MissesResult s sets b x → DoesNotRise s sets b y → ⊥
-all_there s sets b x y h k = h.first.holds.none _ (k.adjusted.each h.number h.first.holds.within)
-
-one_flat : (s : Stream) (sets : BoundaryDays) (b : List ℤ) (x y : Broken) → DoesNotRise s sets b x → DoesNotRise s sets b y → x ≡ y
-one_flat s sets b x y h k =
-    let lists : h.list ≡ k.list = one_adjusted s sets b h.list k.list h.adjusted k.adjusted in
-    let first : FirstNotAfter k.list h.number = subst (λ (a : List ℤ). FirstNotAfter a h.number) lists h.first in
-    let numbers : h.number ≡ k.number = tied h.number k.number (λ below. k.first.none_before h.number below first.holds) (λ above. first.none_before k.number above k.first.holds) in
-    h.is ∙ ap (λ (n : ℕ). broken_at K34 calculation_period_dates n) numbers ∙ sym k.is
-
-one_adjusted_rule : (s : Stream) (sets : BoundaryDays) (b : List ℤ) (x y : Broken) → AdjustedBroken s sets b x → AdjustedBroken s sets b y → x ≡ y
-one_adjusted_rule s sets b x y (inl h) (inl k) = one_missing s sets b x y h k
-one_adjusted_rule s sets b x y (inl h) (inr k) = absurd (all_there s sets b x y h k)
-one_adjusted_rule s sets b x y (inr h) (inl k) = absurd (all_there s sets b y x k h)
-one_adjusted_rule s sets b x y (inr h) (inr k) = one_flat s sets b x y h k
 
 -- and the periods
 module _ (sets : StreamSets) (s : Stream) (span : Span) (x y : Broken) where
