@@ -1,5 +1,5 @@
 -- K33 or K34 is the first rule that adjusted boundaries break, or they break none.
-use Rattle.std.proofs.Common.{◌≡◌, ◌⊎◌, inl, inr, ⊎_elim, ℕ, zero, suc, ◌-◌, ◌<◌, List, [], ◌∷◌, length, Result, Ok, Err, IfOk, ℤ, ◌≤ℤ◌, ◌<ℤ◌, false, refl, sym, ◌∙◌, subst, arith}
+use Rattle.std.proofs.Common.{◌≡◌, ◌⊎◌, inl, inr, ℕ, zero, suc, ◌-◌, ◌<◌, List, [], ◌∷◌, length, Result, Ok, Err, IfOk, ℤ, ◌≤ℤ◌, ◌<ℤ◌, false, refl, sym, subst, arith}
 use Rattle.jiff_core.proofs.SignedLemmas.{signed_arith}
 use Rattle.irs_base.specs.declared.stopped.Stopped.{Stopped}
 use Rattle.std.proofs.lemmas.Bool.{cases_lt}

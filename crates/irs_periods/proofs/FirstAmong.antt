@@ -1,5 +1,5 @@
 -- Of so many faults, each of which is decided, one is the first, or there is none.
-use Rattle.std.proofs.Common.{◌≡◌, ◌⊎◌, inl, inr, ⊎_elim, ℕ, zero, suc, ◌<◌, Option, Some, None, refl, subst, sym, arith}
+use Rattle.std.proofs.Common.{◌≡◌, ◌⊎◌, inl, inr, ℕ, zero, suc, ◌<◌, Option, Some, None, refl, subst, arith}
 use Rattle.std.proofs.lemmas.Bool.{cases_lt}
 use Rattle.irs_base.specs.Order.{First, IsDecided, IsFirst, comes_before, earlier}
 use Rattle.irs_base.specs.declared.places.Fault.{Fault}

@@ -1,5 +1,5 @@
 -- A stream has too many periods, or it breaks no rule of them.
-use Rattle.std.proofs.Common.{◌≡◌, ◌⊎◌, inl, inr, ◌+◌, ◌<◌, ◌≤◌, List, length, Result, Ok, Err, IfOk, ℤ, refl, ap, arith}
+use Rattle.std.proofs.Common.{◌≡◌, ◌⊎◌, inl, inr, ◌+◌, ◌≤◌, List, length, Result, Ok, Err, IfOk, ℤ, refl, ap, arith}
 use Rattle.std.proofs.lemmas.Bool.{cases_lt}
 use Rattle.irs_base.specs.Limits.{most_periods}
 use Rattle.irs_base.specs.Order.{First, comes_before}

@@ -1,11 +1,10 @@
 -- The first regular period starts at boundary 0, or at boundary 1 behind an initial stub.
-use Rattle.std.proofs.Common.{◌≡◌, inl, inr, List, [], ◌∷◌, ℤ, ◌≤ℤ◌, ◌<ℤ◌, refl, sym, ◌∙◌, subst, arith}
+use Rattle.std.proofs.Common.{◌≡◌, inl, inr, List, [], ◌∷◌, ℤ, ◌≤ℤ◌, ◌<ℤ◌, refl, sym, ◌∙◌, arith}
 use Rattle.jiff_core.proofs.SignedLemmas.{signed_arith}
 use Rattle.irs_base.specs.Listed.{Member, AllAfter, IsRising}
 use Rattle.irs_base.specs.Members.{day_at}
 use Rattle.irs_terms.specs.FirstDay.{first_day_of}
-use Rattle.irs_terms.specs.Lawful.{IsLawfulStream}
-use Rattle.irs_terms.specs.TermDates.{DatesInOrder, termination_of}
+use Rattle.irs_terms.specs.TermDates.{DatesInOrder}
 use Rattle.irs_terms.specs.declared.results.Span.{Span}
 use Rattle.irs_terms.specs.declared.stream.Stream.{Stream}
 use Rattle.irs_periods.specs.Boundaries.{Boundaries, IsBoundary, RegularStart}

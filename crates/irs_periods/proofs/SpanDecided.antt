@@ -15,7 +15,7 @@ use Rattle.irs_periods.specs.SpanRules.{BreaksSpan, LastOffGrid, RollMisfits, Sp
 use Rattle.irs_periods.specs.Spans.{Regular, anchor_of}
 use Rattle.irs_periods.proofs.Anchors.{anchor_day, decides_fits, decides_term}
 use Rattle.irs_periods.proofs.OneSpan.{one_span}
-use Rattle.irs_periods.proofs.SpanThere.{LiesInTerm, last_is_day, lies_in_term, regular_there}
+use Rattle.irs_periods.proofs.SpanThere.{last_is_day, lies_in_term, regular_there}
 
 -- K30 comes before K31
 pub first_misfit : (s : Stream) → RollMisfits s → First comes_before (BreaksSpan s) (roll_misfits s)

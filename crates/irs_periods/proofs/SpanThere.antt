@@ -11,7 +11,7 @@ use Rattle.irs_terms.specs.declared.results.Span.{Span}
 use Rattle.irs_terms.specs.declared.stream.Stream.{Stream}
 use Rattle.irs_roll.specs.Rolls.{Fits, OnGrid}
 use Rattle.irs_periods.specs.Nearest.{FirstFrom, LastUpTo, LongFirst, LongLast}
-use Rattle.irs_periods.specs.SpanRules.{BreaksSpan, LastOffGrid, RollMisfits, SpanKept, roll_misfits, last_off_grid}
+use Rattle.irs_periods.specs.SpanRules.{BreaksSpan, RollMisfits, SpanKept, roll_misfits, last_off_grid}
 use Rattle.irs_periods.specs.Boundaries.{IsBoundary}
 use Rattle.irs_periods.specs.Spans.{GivenSpan, Regular, SpanBy, StubSpan, anchor_of, given_anchor, stub_anchor}
 use Rattle.irs_periods.proofs.RegularPart.{timed_unit}

@@ -1,6 +1,4 @@
-use Rattle.irs_base.specs.DayLists.{AreDays}
-use Rattle.irs_adjust.proofs.FoundDays.{InRange}
-use Rattle.irs_periods.specs.Adjusting.{BoundaryDays, days_by}
+use Rattle.irs_periods.specs.Adjusting.{days_by}
 use Rattle.irs_periods.proofs.AdjustedBoundaries.{adjusted_there}
 use Rattle.irs_periods.proofs.AdjustedDecided.{adjusted_decided, answer_unbroken, none_misses, one_adjusted_rule, rising_there}
 use Rattle.irs_periods.proofs.AdjustedLemmas.{one_adjusted}

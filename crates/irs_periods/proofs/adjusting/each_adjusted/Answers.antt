@@ -4,7 +4,7 @@ use Rattle.irs_base.specs.declared.places.Fault.{Fault}
 use Rattle.irs_periods.specs.Adjusting.{AdjustedList, BreaksAdjusted, FirstNoResult, FirstNotAfter, MissesResult, days_by, last_of, no_result_at}
 use Rattle.irs_periods.proofs.AdjustedDecided.{first_no_result, first_not_after, results_unbroken}
 use Rattle.irs_periods.proofs.MemoryAnswers.{if_memory}
-use Rattle.irs_periods.proofs.AdjustedLemmas.{one_adjusted, adjusted_exists, two_boundaries, few_days, rising_of}
+use Rattle.irs_periods.proofs.AdjustedLemmas.{adjusted_exists, two_boundaries, few_days, rising_of}
 use Rattle.irs_periods.proofs.TermOrder.{begins_before_end}
 use Rattle.irs_periods.proofs.adjusting.each_adjusted.Goals as goal
 

@@ -1,5 +1,4 @@
-use Rattle.std.proofs.Common.{[], ◌∷◌, length, ◌+◌, ◌≤◌, arith}
-use Rattle.irs_base.specs.Limits.{most_periods}
+use Rattle.std.proofs.Common.{[], ◌∷◌, arith}
 use Rattle.irs_terms.specs.FirstDay.{first_day_of}
 use Rattle.irs_periods.proofs.MemoryAnswers.{if_memory}
 use Rattle.irs_periods.proofs.PeriodsDecided.{few_unbroken}

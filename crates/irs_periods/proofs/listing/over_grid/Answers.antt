@@ -1,4 +1,4 @@
-use Rattle.std.proofs.Common.{◌≡◌, ◌+◌, ◌≤◌, List, length, ℤ, to_z, of_z, w64, arith, subst}
+use Rattle.std.proofs.Common.{◌≡◌, ◌+◌, ◌≤◌, length, ℤ, to_z, of_z, w64, arith, subst}
 use Rattle.jiff_core.proofs.SignedLemmas.{signed_arith}
 use Rattle.irs_base.specs.Order.{First, comes_before}
 use Rattle.irs_base.specs.Limits.{most_periods}

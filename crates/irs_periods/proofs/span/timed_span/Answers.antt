@@ -3,8 +3,7 @@ use Rattle.irs_terms.specs.declared.results.Span.{Span}
 use Rattle.irs_roll.specs.Rolls.{OnGrid, Fits}
 use Rattle.irs_terms.specs.FirstDay.{first_day_of}
 use Rattle.irs_periods.specs.Spans.{Regular}
-use Rattle.irs_periods.specs.SpanRules.{RollMisfits, BreaksSpan}
-use Rattle.irs_base.specs.Order.{First, comes_before}
+use Rattle.irs_periods.specs.SpanRules.{RollMisfits}
 use Rattle.irs_periods.proofs.SpanDecided.{first_misfit, first_off_grid}
 use Rattle.irs_periods.proofs.TermOrder.{begins_before_end}
 use Rattle.irs_periods.proofs.SpanLemmas.{given_span_same}
