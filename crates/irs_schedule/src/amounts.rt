@@ -2,7 +2,7 @@
 //! rounded to the decimals of its currency (2006 ISDA Definitions, articles 5, 6 and 8).
 ghost use Rattle.std.specs.Prelude.{◌≡◌, ℕ, ◌+◌, ◌-◌, ◌<◌, ◌≤◌, map, length, IfOk, IfSome, option_map};
 ghost use Rattle.irs_terms.specs.Lawful.{IsLawfulStream};
-ghost use Rattle.irs_compound.specs.Amounts.{AllPriced, IsPayment, PassesFirst, code_for};
+ghost use Rattle.irs_compound.specs.Amounts.{IsFirstOut, IsPayment};
 ghost use Rattle.irs_base.specs.Limits.{most_periods};
 ghost use Rattle.irs_payments.specs.Payments.{Covers};
 ghost use Rattle.irs_schedule.specs.DatedRules.{passed_at};
@@ -104,7 +104,7 @@ fn amount_of(s: &Stream, terms: &[PeriodTerm], first_period: u32) -> Result<Opti
     ensures amount { IfOk result (IsAmountBy s.now terms.now) }
     ensures bound { IfOk result (λ v. IfSome v (IsAmount s.now.currency)) }
     ensures within { IfOk result (λ _. NonePasses s.now.compounding terms.now) }
-    ensures broken { IfBroken result (λ x. (n : ℕ) × AllPriced terms.now × PassesFirst (code_for s.now.compounding terms.now) terms.now n × (x ≡ passed_at (first_period + n - 1))) }
+    ensures broken { IfBroken result (λ f. (n : ℕ) × IsFirstOut s.now.compounding terms.now n × (f ≡ passed_at (first_period + n - 1))) }
 {
     let places = s.currency.places();
     match payment_amount(s.compounding, terms, places) {

@@ -123,4 +123,3 @@ ghost use Rattle.irs_schedule.specs.Schedules.{IsPart};
 ghost use Rattle.irs_schedule.specs.StageSets.{sets_of};
 ghost use Rattle.irs_terms.specs.Lawful.{IsLawfulStream};
 ghost use Rattle.irs_terms.specs.declared.stream.Stream.{Stream as StreamTerms};
-ghost use Rattle.irs_rules.specs.TermsKept.{TermsKept};
