@@ -27,11 +27,13 @@ pub record IsCutPayment (s : Stream) (set : DaySet) (boundaries adjusted : List 
 
 -- no payment before the limit lacks a result
 abbrev pub NoneLacks : Stream → DaySet → List ℤ → List ℕ → ℕ → Type 0
-NoneLacks s set adjusted cuts limit = (j : ℕ) → 1 ≤ j → j < limit → LacksResult s.pay set (day_at adjusted (date_place s cuts j)) → ⊥
+NoneLacks s set adjusted cuts limit =
+    (j : ℕ) → 1 ≤ j → j < limit → LacksResult s.pay set (day_at adjusted (date_place s cuts j)) → ⊥
 
 -- no payment before the limit leaves the range
 abbrev pub NoneLeaves : Stream → DaySet → List ℤ → List ℕ → ℕ → Type 0
-NoneLeaves s set adjusted cuts limit = (j : ℕ) → 1 ≤ j → j < limit → LeavesRange s.pay set (day_at adjusted (date_place s cuts j)) → ⊥
+NoneLeaves s set adjusted cuts limit =
+    (j : ℕ) → 1 ≤ j → j < limit → LeavesRange s.pay set (day_at adjusted (date_place s cuts j)) → ⊥
 
 -- the payments before the limit
 pub record ArePaid (s : Stream) (set : DaySet) (boundaries adjusted : List ℤ) (cuts : List ℕ) (limit : ℕ) (payments : List Payment) : Type 0 where
