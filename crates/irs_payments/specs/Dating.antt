@@ -68,8 +68,10 @@ Settles (Err NoResult) beyond n old new after = ⊥
 -- what is worked out for payment j
 abbrev pub IsOutcome : Stream → DaySet → List ℤ → List ℤ → List ℕ → ℕ → Result Payment NoDate → Type 0
 IsOutcome s set boundaries adjusted cuts j (Ok p) = IsCutPayment s set boundaries adjusted cuts j p
-IsOutcome s set boundaries adjusted cuts j (Err OutOfRange) = LeavesRange s.pay set (day_at adjusted (date_place s cuts j))
-IsOutcome s set boundaries adjusted cuts j (Err NoResult) = LacksResult s.pay set (day_at adjusted (date_place s cuts j))
+IsOutcome s set boundaries adjusted cuts j (Err OutOfRange) =
+    LeavesRange s.pay set (day_at adjusted (date_place s cuts j))
+IsOutcome s set boundaries adjusted cuts j (Err NoResult) =
+    LacksResult s.pay set (day_at adjusted (date_place s cuts j))
 
 -- payment n is the first that lacks a result
 pub record LacksFirst (s : Stream) (set : DaySet) (adjusted : List ℤ) (cuts : List ℕ) (n : ℕ) : Type 0 where

@@ -186,6 +186,7 @@ pub fn payments<G: GoodDays>(
         BreaksPayments s.now (G.days days.now) unadjusted.now adjusted.now f → ⊥) }
     ensures broken { IfBroken result (First comes_before
         (BreaksPayments s.now (G.days days.now) unadjusted.now adjusted.now)) }
+    // Want of memory hides no K35.
     ensures memory { IsErrOf result OfMemory → (f : Fault) → BreaksGrouping s.now unadjusted.now f → ⊥ }
     // A rule is the first that is broken, or none is broken.
     ensures decided { ((f : Fault) ×
