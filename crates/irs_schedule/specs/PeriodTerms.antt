@@ -5,14 +5,13 @@ use Rattle.irs_base.specs.DayLists.{AreDays}
 use Rattle.irs_base.specs.Listed.{IsRising}
 use Rattle.irs_base.specs.declared.line.Dec.{Dec}
 use Rattle.irs_terms.specs.Currencies.{decimals_of}
-use Rattle.irs_terms.specs.declared.codes.CompCode.{CompCode}
 use Rattle.irs_terms.specs.declared.results.Payment.{Payment}
 use Rattle.irs_terms.specs.declared.results.Reset.{Reset}
 use Rattle.irs_terms.specs.declared.stream.Stream.{Stream}
 use Rattle.irs_daycount.specs.Fractions.{Days, Fraction}
 use Rattle.irs_compound.specs.InForce.{InForce}
 use Rattle.irs_compound.specs.PeriodRates.{AreRates}
-use Rattle.irs_compound.specs.Amounts.{AllPriced, AmountOf, Passes, code_for}
+use Rattle.irs_compound.specs.Amounts.{AmountOf, IsOutOfRange}
 use Rattle.irs_compound.specs.declared.periods.PeriodTerm.{PeriodTerm}
 use Rattle.irs_base.specs.Limits.{most_periods}
 use Rattle.irs_resets.specs.Resets.{HasSmallRate}
@@ -55,18 +54,13 @@ pub record IsAmountFor (s : Stream) (b a : List ℤ) (rs : List Reset) (p : Paym
   pub are_terms : AreTerms s b a rs p terms
   pub is_amount : IsAmountBy s terms amount
 
--- no period leaves its range, if all have their rates
-abbrev pub NonePasses : CompCode → List PeriodTerm → Type 0
-NonePasses code terms = AllPriced terms → (i : ℕ) → i < length terms → Passes (code_for code terms) terms i → ⊥
-
 -- at period i of the payment, whose rates are all there, a rate or an amount leaves its range
 pub record PassesIn (s : Stream) (b a : List ℤ) (rs : List Reset) (payment : Payment) (i : ℕ) : Type 0 where
   pub terms : List PeriodTerm
   pub are_terms : AreTerms s b a rs payment terms
-  pub priced : AllPriced terms
-  pub place : ℕ
-  pub passes : Passes (code_for s.compounding terms) terms place
-  pub is : i ≡ payment.first_period + place
+  pub number : ℕ
+  pub out : IsOutOfRange s.compounding terms number
+  pub is : i + 1 ≡ payment.first_period + number
 
 -- the first such period of the payment
 pub record PassesFirstIn (s : Stream) (b a : List ℤ) (rs : List Reset) (payment : Payment) (i : ℕ) : Type 0 where

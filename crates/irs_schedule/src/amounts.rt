@@ -4,13 +4,13 @@ ghost use Rattle.std.specs.Prelude.{◌≡◌, ℕ, ◌+◌, ◌-◌, ◌<◌, �
 ghost use Rattle.irs_base.specs.Elements.{calculation_period_amount};
 ghost use Rattle.irs_base.specs.declared.places.Rule.TheVariants.{K39};
 ghost use Rattle.irs_terms.specs.Lawful.{IsLawfulStream};
-ghost use Rattle.irs_compound.specs.Amounts.{AllPriced, IsPayment, PassesFirst, code_for};
+ghost use Rattle.irs_compound.specs.Amounts.{IsPayment, IsOutOfRange, IsFirstOut};
 ghost use Rattle.irs_base.specs.Limits.{most_periods};
 ghost use Rattle.irs_payments.specs.Payments.{Covers};
 ghost use Rattle.irs_periods.specs.SpanRules.{broken_at};
 ghost use Rattle.irs_schedule.specs.DatedRules.{PassesFirst as FirstPassed};
 ghost use Rattle.irs_schedule.specs.Parts.{HasAmount, IsAmount};
-ghost use Rattle.irs_schedule.specs.PeriodTerms.{IsPeriodTerm, AreTerms, IsAmountBy, IsAmountFor, NonePasses, PassesIn, PassesAt, PassesFirstIn, IsTable, dec_of};
+ghost use Rattle.irs_schedule.specs.PeriodTerms.{IsPeriodTerm, AreTerms, IsAmountBy, IsAmountFor, PassesIn, PassesAt, PassesFirstIn, IsTable, dec_of};
 ghost use Rattle.irs_schedule.specs.SchedErrors.{IfBroken};
 ghost use Rattle.irs_schedule.specs.Schedules.{payment_of};
 ghost use Rattle.irs_base.specs.Members.{Every};
@@ -105,8 +105,8 @@ fn amount_of(s: &Stream, terms: &[PeriodTerm], first_period: u32) -> Result<Opti
     requires small { first_period ≤ most_periods }
     ensures amount { IfOk result (IsAmountBy s.now terms.now) }
     ensures bound { IfOk result (λ v. IfSome v (IsAmount s.now.currency)) }
-    ensures within { IfOk result (λ _. NonePasses s.now.compounding terms.now) }
-    ensures broken { IfBroken result (λ x. (n : ℕ) × AllPriced terms.now × PassesFirst (code_for s.now.compounding terms.now) terms.now n × (x ≡ broken_at K39 calculation_period_amount (first_period + n - 1))) }
+    ensures within { IfOk result (λ _. (n : ℕ) → IsOutOfRange s.now.compounding terms.now n → ⊥) }
+    ensures broken { IfBroken result (λ x. (n : ℕ) × IsFirstOut s.now.compounding terms.now n × (x ≡ broken_at K39 calculation_period_amount (first_period + n - 1))) }
 {
     let places = s.currency.places();
     match payment_amount(s.compounding, terms, places) {
