@@ -13,9 +13,8 @@ use Rattle.irs_resets.specs.FixingFiles.{IsFirstFault, IsBad, Repeats, IsFaulty,
 use Rattle.irs_resets.specs.Rates.{RateTable}
 use Rattle.irs_resets.specs.declared.fixings.FixErr.{FixErr}
 use Rattle.irs_resets.specs.declared.fixings.FixErr.TheVariants.{Syntax, Repeat, Memory}
-use Rattle.irs_rules.specs.Order.{level}
 use Rattle.irs_cli.specs.Due.{IsFixingFault, IsFixingsFault, AreFixings}
-use Rattle.irs_base.specs.Order.{is_before, IsFirstBroken}
+use Rattle.irs_base.specs.Order.{is_before, IsFirstBroken, level}
 
 -- ---- broken rules
 
