@@ -142,3 +142,7 @@ pub record Due (ws : Words) (told : Told) (status : ℕ) (text : List ℕ) : Typ
   pub given : (a : Asked) (g : Given) → Asks ws a → AreTold told a g → DueFor a.task g status text
   -- where every file is told, one of these applies
   pub case : TellsAll ws told → WordsCase ws told
+
+-- one status and one text are due
+abbrev pub IsOneAnswer : Words → Told → Type 0
+IsOneAnswer ws told = (s u : ℕ) (t v : List ℕ) → Due ws told s t → Due ws told u v → (s ≡ u) × (t ≡ v)
