@@ -34,7 +34,11 @@ fn edit_of(text: &str) -> Result<Edit> {
 }
 
 // The place above, and the name below it.
-fn above<'a>(alloc: Global, stream: &'a mut Value, place: &'a str) -> Result<(&'a mut Value, &'a str)> {
+fn above<'a>(
+    alloc: Global,
+    stream: &'a mut Value,
+    place: &'a str,
+) -> Result<(&'a mut Value, &'a str)> {
     match place.rsplit_once('/') {
         Some((way, name)) => {
             let pointer = format!(in alloc; "/{way}")?;

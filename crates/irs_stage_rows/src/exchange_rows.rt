@@ -1,33 +1,19 @@
 //! What is told of principal exchanges: of each its date, the adjusted one where it is another, and
 //! its amount with its sign; `none`; or the rule that is broken.
-ghost use Rattle.std.specs.Prelude.{◌≤◌};
 ghost use Rattle.irs_terms.specs.Lawful.{IsLawfulStream};
 
 use crate::good_days::days_of;
-use crate::texts::{dates_text, push_behind, stopped_text};
-use anyhow::{Result, bail};
-use irs_base::{Dec, Line};
+use crate::texts::{dates_text, dec_text, push_behind, stopped_text};
+use anyhow::Result;
 use irs_calendar::Calendars;
 use irs_payments::principals;
 use irs_terms::{Exchange, Exchanges, Stream};
 use std::alloc::Global;
 
-// The amount of an exchange, behind its dates.
-#[tactic(auto, using(irs_base::proofs::TextLengths::length_dec))]
-fn push_amount(text: &mut String, amount: Dec) -> Result<()> {
-    if 12 < amount.places {
-        bail!("too many places");
-    }
-    let mut line = Line::new();
-    line.push_dec(amount);
-    text.push_str(" ")?;
-    text.push_str(str::from_utf8(line.bytes())?)?;
-    Ok(())
-}
-
 fn exchange_text(alloc: Global, exchange: &Exchange) -> Result<String> {
-    let mut text = dates_text(alloc, exchange.unadjusted, exchange.adjusted)?;
-    push_amount(&mut text, exchange.amount)?;
+    let dates = dates_text(alloc, exchange.unadjusted, exchange.adjusted)?;
+    let amount = dec_text(alloc, exchange.amount)?;
+    let text = format!(in alloc; "{dates} {amount}")?;
     Ok(text)
 }
 

@@ -38,7 +38,9 @@ fn regular_part(stub: Option<StubKind>, days: &[Day]) -> Result<Span> {
     let first = *days.first().context("no boundaries")?;
     let last = *days.last().context("no boundaries")?;
     let second = *days.get(1).context("one boundary")?;
-    let last_but_one = *days.get(days.len().saturating_sub(2)).context("one boundary")?;
+    let last_but_one = *days
+        .get(days.len().saturating_sub(2))
+        .context("one boundary")?;
     match stub {
         None => Ok(span_of(first, last, first)),
         Some(StubKind::ShortInitial | StubKind::LongInitial) => Ok(span_of(second, last, last)),
@@ -70,7 +72,10 @@ pub fn payment_lines(
 ) -> Result<String>
     requires { IsLawfulStream s.now }
 {
-    let Boundaries { unadjusted, adjusted } = boundaries;
+    let Boundaries {
+        unadjusted,
+        adjusted,
+    } = boundaries;
     let (from, to) = (s.first_day(), s.termination.day);
     if !is_said(&s.pay.offset)
         || to <= from

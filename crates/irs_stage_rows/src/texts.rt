@@ -1,6 +1,6 @@
 //! The texts that are told: days, rates, broken rules.
 use anyhow::{Result, bail};
-use irs_base::{Day, Fault, Stopped, civil_of};
+use irs_base::{Day, Dec, Fault, Line, Stopped, civil_of};
 use std::alloc::Global;
 
 /// Appends a text behind those before it, with what stands between.
@@ -43,6 +43,17 @@ pub fn stopped_text(alloc: Global, stopped: Stopped<Fault>) -> Result<String> {
         Stopped::Broken(fault) => fault_text(alloc, fault),
         Stopped::Memory => bail!("no memory"),
     }
+}
+
+/// A number with its decimals.
+#[tactic(auto, using(irs_base::proofs::TextLengths::length_dec))]
+pub fn dec_text(alloc: Global, number: Dec) -> Result<String> {
+    if 12 < number.places {
+        bail!("too many places");
+    }
+    let mut line = Line::new();
+    line.push_dec(number);
+    Ok(String::from_str(alloc, str::from_utf8(line.bytes())?)?)
 }
 
 /// A rate in units of 10^-9, with nine decimals.

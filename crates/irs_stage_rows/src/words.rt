@@ -44,7 +44,11 @@ fn meaning<'a>(words: &'a str, word: &str, arguments: usize) -> Option<&'a str> 
 /// The edits for which a word with its arguments stands; the text itself where it is no word.
 pub fn meaning_of(alloc: Global, words: &str, text: &str) -> Result<String> {
     let (word, rest) = text.split_once(' ').unwrap_or((text, ""));
-    let arguments = if rest.is_empty() { 0 } else { rest.split(' ').count() };
+    let arguments = if rest.is_empty() {
+        0
+    } else {
+        rest.split(' ').count()
+    };
     let Some(meaning) = meaning(words, word, arguments) else {
         return Ok(String::from_str(alloc, text)?);
     };
