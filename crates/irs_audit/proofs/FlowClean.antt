@@ -8,7 +8,6 @@ use Rattle.irs_base.specs.Elements.{cashflows, flow_period, swap_stream}
 use Rattle.irs_base.specs.declared.places.Broken.{Broken}
 use Rattle.irs_base.specs.declared.places.Rule.TheVariants.{K7}
 use Rattle.irs_elements.specs.Find.{once, values_in, values_of}
-use Rattle.irs_elements.specs.Order.{IsFirst}
 use Rattle.irs_json.specs.Carrier.{child_of}
 use Rattle.irs_json.specs.Names.{names_of}
 use Rattle.irs_json.specs.Values.{items_of}
@@ -20,6 +19,7 @@ use Rattle.serde_json.specs.View.{view}
 use Rattle.serde_json.specs.declared.value.Value.{Value}
 use Rattle.std.proofs.Common.{◌≡◌, inl, inr, ℕ, ◌+◌, ◌<◌, ◌≤◌, true, List, [], ◌∷◌, length, Option, Some, None, Ok, option_and_then, option_map, map, slice_get, is_some, codes, refl, sym, ap, ◌∙◌, subst, arith}
 use Rattle.std.proofs.lemmas.Option.{slice_get_within, slice_get-map}
+use Rattle.irs_base.specs.Order.{IsFirstBroken}
 
 -- only an object has elements
 object_alone : (name : List ℕ) (d : Data) → 0 < length (values_in name (Some d)) → is_some (names_of d) ≡ true
@@ -93,5 +93,5 @@ few_at vs j v found h = h j (view v) (slice_get-map view vs j ∙ ap (option_map
 
 -- ---- what is told
 
-pub first_shape : (d : Data) (f : Broken) → IsFirst (FlowFault d) (Some f) → IsFirstFault d (Shape (kind_of f.rule) f.place)
+pub first_shape : (d : Data) (f : Broken) → IsFirstBroken (FlowFault d) (Some f) → IsFirstFault d (Shape (kind_of f.rule) f.place)
 first_shape d f p = record { fault = f; first = p; kind_is = refl; place_is = refl; read = told f.rule (of_flows d f p.0) }

@@ -5,11 +5,11 @@ use Rattle.irs_base.specs.PathList.{paths, printed}
 use Rattle.irs_base.specs.declared.places.Broken.{Broken}
 use Rattle.irs_elements.specs.Elements.{FaultAt}
 use Rattle.irs_elements.specs.Lines.{Line}
-use Rattle.irs_elements.specs.Order.{IsFirst}
 use Rattle.irs_elements.specs.declared.table.Kind.{Kind}
 use Rattle.irs_read.proofs.TableLaws.{by_tables}
 use Rattle.serde_json.specs.Data.{Data}
 use Rattle.std.proofs.Common.{◌≡◌, ℕ, List, map, Option, refl}
+use Rattle.irs_base.specs.Order.{IsFirstBroken}
 
 -- the names as the code has them
 abbrev pub flow_code_names : List (List ℕ)
@@ -43,8 +43,8 @@ unfolding period_table period_elements printed paths
 period_lines_are = refl
 
 -- what is first by the code's tables is first by the specification's
-pub flow_first : (s r : ℕ) (k : Kind) (i : ℕ) (d : Data) (a : Option Broken) → IsFirst (FaultAt FLOW_ROWS flow_code_names s r k i d) a → IsFirst (FaultAt flow_rows flow_names s r k i d) a
-flow_first s r k i d a p = by_tables (λ rows names. IsFirst (FaultAt rows names s r k i d) a) FLOW_ROWS flow_rows flow_code_names flow_names flow_rows_are flow_names_are p
+pub flow_first : (s r : ℕ) (k : Kind) (i : ℕ) (d : Data) (a : Option Broken) → IsFirstBroken (FaultAt FLOW_ROWS flow_code_names s r k i d) a → IsFirstBroken (FaultAt flow_rows flow_names s r k i d) a
+flow_first s r k i d a p = by_tables (λ rows names. IsFirstBroken (FaultAt rows names s r k i d) a) FLOW_ROWS flow_rows flow_code_names flow_names flow_rows_are flow_names_are p
 
-pub period_first : (s r : ℕ) (k : Kind) (i : ℕ) (d : Data) (a : Option Broken) → IsFirst (FaultAt PERIOD_ROWS period_code_names s r k i d) a → IsFirst (FaultAt period_rows period_names s r k i d) a
-period_first s r k i d a p = by_tables (λ rows names. IsFirst (FaultAt rows names s r k i d) a) PERIOD_ROWS period_rows period_code_names period_names period_rows_are period_names_are p
+pub period_first : (s r : ℕ) (k : Kind) (i : ℕ) (d : Data) (a : Option Broken) → IsFirstBroken (FaultAt PERIOD_ROWS period_code_names s r k i d) a → IsFirstBroken (FaultAt period_rows period_names s r k i d) a
+period_first s r k i d a p = by_tables (λ rows names. IsFirstBroken (FaultAt rows names s r k i d) a) PERIOD_ROWS period_rows period_code_names period_names period_rows_are period_names_are p

@@ -6,7 +6,6 @@ use Rattle.irs_base.specs.declared.places.Rule.TheVariants.{K2, K3, K7}
 use Rattle.irs_elements.proofs.First.{first_is, first_one, first_or, first_same}
 use Rattle.irs_elements.proofs.Steps.{first_if}
 use Rattle.irs_elements.specs.Elements.{fault_if}
-use Rattle.irs_elements.specs.Order.{IsFirst, earlier}
 use Rattle.irs_json.specs.Names.{names_of}
 use Rattle.irs_read.specs.Documents.{the_swap}
 use Rattle.irs_read.specs.Swaps.{Among}
@@ -21,13 +20,14 @@ use Rattle.std.proofs.lemmas.Grind.{flat_map-append}
 use Rattle.std.proofs.lemmas.List.{append-nil, length-append, length-map, map-append, take-append-drop, take_more}
 use Rattle.std.proofs.lemmas.Option.{slice_get_within}
 use Rattle.std.specs.Prelude.{slice_get, is_some, not}
+use Rattle.irs_base.specs.Order.{IsFirstBroken, earlier_broken}
 
 -- ---- one fault, where a test is true
 
-pub only_first : (b : Bool) (x : Broken) (a : Option Broken) → a ≡ fault_if b x → IsFirst (Only b x) a
+pub only_first : (b : Bool) (x : Broken) (a : Option Broken) → a ≡ fault_if b x → IsFirstBroken (Only b x) a
 only_first b x a e = first_is (Only b x) (fault_if b x) a e (first_if x b)
 
-pub alone : (x : Broken) (a : Option Broken) → a ≡ Some x → IsFirst (λ f. f ≡ x) a
+pub alone : (x : Broken) (a : Option Broken) → a ≡ Some x → IsFirstBroken (λ f. f ≡ x) a
 alone x a e = first_is (λ f. f ≡ x) (Some x) a e (first_one (λ f. f ≡ x) x refl (λ g h. h))
 
 -- ---- what an object's members break, beside what it breaks by itself
@@ -39,14 +39,14 @@ module _ (P Q : Broken → Type 0) where
   named : (o : Option (List (List ℕ))) (ns : List (List ℕ)) → o ≡ Some ns → is_some o ≡ true
   named o ns e = rw e refl
 
-  pub object_none : (d : Data) (a : Option Broken) → names_of d ≡ None → IsFirst P a → IsFirst (WithMembers d) a
+  pub object_none : (d : Data) (a : Option Broken) → names_of d ≡ None → IsFirstBroken P a → IsFirstBroken (WithMembers d) a
   object_none d a h p = first_same _ _ a (λ f q. inl q) (only d h) p
     where
       only : (d : Data) → names_of d ≡ None → (f : Broken) → WithMembers d f → P f
       only d h f (inl q) = q
       only d h f (inr (t, q)) = let e : is_some (names_of d) ≡ false = rw h refl in absurd (true≢false (sym t ∙ e))
 
-  pub object_some : (d : Data) (ns : List (List ℕ)) (a b s : Option Broken) → names_of d ≡ Some ns → s ≡ earlier a b → IsFirst P a → IsFirst Q b → IsFirst (WithMembers d) s
+  pub object_some : (d : Data) (ns : List (List ℕ)) (a b s : Option Broken) → names_of d ≡ Some ns → s ≡ earlier_broken a b → IsFirstBroken P a → IsFirstBroken Q b → IsFirstBroken (WithMembers d) s
   object_some d ns a b s h e p q =
       let there = named (names_of d) ns h in
       first_is _ _ s e (first_or P (λ f. (is_some (names_of d) ≡ true) × Q f) a b p (first_same _ _ b (λ f x. (there, x)) (λ f (t, x). x) q))
@@ -98,7 +98,7 @@ module _ (stream : ℕ) where
   to_both xs ys f (inr (k, (x, (e, h)))) = (length xs + k, (x, (get_right xs ys k ∙ e, subst (λ (i : ℕ). At i x f) (let q : length xs + k + 1 ≡ 0 + (length xs + k) + 1 = omega arith in q) h)))
 
   -- the first fault of more periods
-  pub periods_more : (xs ys : List Data) (a b : Option Broken) → IsFirst (PeriodsFrom stream 0 xs) a → IsFirst (PeriodsFrom stream (length xs) ys) b → IsFirst (PeriodsFrom stream 0 (xs ++ ys)) (earlier a b)
+  pub periods_more : (xs ys : List Data) (a b : Option Broken) → IsFirstBroken (PeriodsFrom stream 0 xs) a → IsFirstBroken (PeriodsFrom stream (length xs) ys) b → IsFirstBroken (PeriodsFrom stream 0 (xs ++ ys)) (earlier_broken a b)
   periods_more xs ys a b p q = first_same _ _ _ (to_both xs ys) (from_both xs ys) (first_or _ _ _ _ p q)
 
 -- the periods of one payment more
@@ -120,14 +120,14 @@ periods_fit vs i v h is =
 
 -- ---- all periods
 
-pub many_first : (stream : ℕ) (ds : List Data) (a : Option Broken) → most_rows < length ds → a ≡ Some (at stream K7 flow_period) → IsFirst (PeriodsFault stream ds) a
+pub many_first : (stream : ℕ) (ds : List Data) (a : Option Broken) → most_rows < length ds → a ≡ Some (at stream K7 flow_period) → IsFirstBroken (PeriodsFault stream ds) a
 many_first stream ds a h e = first_is _ _ a e (first_one _ _ (many_periods h) (only ds h))
   where
     only : (ds : List Data) → most_rows < length ds → (g : Broken) → PeriodsFault stream ds g → g ≡ at stream K7 flow_period
     only ds h g (many_periods e) = refl
     only ds h g (in_period _ le q) = absurd (omega arith)
 
-pub few_first : (stream : ℕ) (ds : List Data) (a : Option Broken) → length ds ≤ most_rows → IsFirst (PeriodsFrom stream 0 ds) a → IsFirst (PeriodsFault stream ds) a
+pub few_first : (stream : ℕ) (ds : List Data) (a : Option Broken) → length ds ≤ most_rows → IsFirstBroken (PeriodsFrom stream 0 ds) a → IsFirstBroken (PeriodsFault stream ds) a
 few_first stream ds a h p = first_same _ _ a (λ f q. in_period f h q) (inner ds h) p
   where
     inner : (ds : List Data) → length ds ≤ most_rows → (g : Broken) → PeriodsFault stream ds g → PeriodsFrom stream 0 ds g
@@ -148,7 +148,7 @@ many_is ds h = let k : nat_le (length ds) most_rows ≡ false = grind (arith, na
 
 -- ---- streams
 
-pub none_first : (ds : List Data) (a : Option Broken) → length ds ≡ 0 → a ≡ Some (at 0 K2 swap_stream) → IsFirst (StreamsFault ds) a
+pub none_first : (ds : List Data) (a : Option Broken) → length ds ≡ 0 → a ≡ Some (at 0 K2 swap_stream) → IsFirstBroken (StreamsFault ds) a
 none_first ds a h e = first_is _ _ a e (first_one _ _ (no_stream h) (only ds h))
   where
     only : (ds : List Data) → length ds ≡ 0 → (g : Broken) → StreamsFault ds g → g ≡ at 0 K2 swap_stream
@@ -156,7 +156,7 @@ none_first ds a h e = first_is _ _ a e (first_one _ _ (no_stream h) (only ds h))
     only ds h g (many_streams e) = absurd (omega arith)
     only ds h g (in_stream _ lo hi q) = absurd (omega arith)
 
-pub too_many_first : (ds : List Data) (a : Option Broken) → most_streams < length ds → a ≡ Some (at 0 K7 swap_stream) → IsFirst (StreamsFault ds) a
+pub too_many_first : (ds : List Data) (a : Option Broken) → most_streams < length ds → a ≡ Some (at 0 K7 swap_stream) → IsFirstBroken (StreamsFault ds) a
 too_many_first ds a h e = first_is _ _ a e (first_one _ _ (many_streams h) (only ds h))
   where
     only : (ds : List Data) → most_streams < length ds → (g : Broken) → StreamsFault ds g → g ≡ at 0 K7 swap_stream
@@ -164,7 +164,7 @@ too_many_first ds a h e = first_is _ _ a e (first_one _ _ (many_streams h) (only
     only ds h g (many_streams e) = refl
     only ds h g (in_stream _ lo hi q) = absurd (omega arith)
 
-pub each_first : (ds : List Data) (a : Option Broken) → 0 < length ds → length ds ≤ most_streams → IsFirst (Among (λ j. StreamFault (j + 1)) ds) a → IsFirst (StreamsFault ds) a
+pub each_first : (ds : List Data) (a : Option Broken) → 0 < length ds → length ds ≤ most_streams → IsFirstBroken (Among (λ j. StreamFault (j + 1)) ds) a → IsFirstBroken (StreamsFault ds) a
 each_first ds a lo hi p = first_same _ _ a (λ f q. in_stream f lo hi q) (inner ds lo hi) p
   where
     inner : (ds : List Data) → 0 < length ds → length ds ≤ most_streams → (g : Broken) → StreamsFault ds g → Among (λ j. StreamFault (j + 1)) ds g
@@ -174,14 +174,14 @@ each_first ds a lo hi p = first_same _ _ a (λ f q. in_stream f lo hi q) (inner 
 
 -- ---- the document
 
-pub ended_first : (d : Data) (f : Broken) → the_swap d ≡ Err f → IsFirst (FlowFault d) (Some f)
+pub ended_first : (d : Data) (f : Broken) → the_swap d ≡ Err f → IsFirstBroken (FlowFault d) (Some f)
 ended_first d f e = first_one _ f (ended f e) (only d f e)
   where
     only : (d : Data) (f : Broken) → the_swap d ≡ Err f → (g : Broken) → FlowFault d g → g ≡ f
     only d f e g (ended _ h) = cc
     only d f e g (below s _ h q) = cc
 
-pub below_first : (d s : Data) (a : Option Broken) → the_swap d ≡ Ok s → IsFirst (SwapFault s) a → IsFirst (FlowFault d) a
+pub below_first : (d s : Data) (a : Option Broken) → the_swap d ≡ Ok s → IsFirstBroken (SwapFault s) a → IsFirstBroken (FlowFault d) a
 below_first d s a e p = first_same _ _ a (λ f q. below s f e q) (only d s e) p
   where
     only : (d s : Data) → the_swap d ≡ Ok s → (g : Broken) → FlowFault d g → SwapFault s g
@@ -190,21 +190,21 @@ below_first d s a e p = first_same _ _ a (λ f q. below s f e q) (only d s e) p
 
 -- ---- steps of the loops
 
-pub own_none : (stream elem : ℕ) (d : Data) → is_sound d ≡ true → IsFirst (OwnFault stream elem d) None
+pub own_none : (stream elem : ℕ) (d : Data) → is_sound d ≡ true → IsFirstBroken (OwnFault stream elem d) None
 own_none stream elem d h = only_first (not (is_sound d)) (at stream K3 elem) None (rw h refl)
 
-pub own_some : (stream elem : ℕ) (d : Data) (a : Option Broken) → is_sound d ≡ false → a ≡ Some (at stream K3 elem) → IsFirst (OwnFault stream elem d) a
+pub own_some : (stream elem : ℕ) (d : Data) (a : Option Broken) → is_sound d ≡ false → a ≡ Some (at stream K3 elem) → IsFirstBroken (OwnFault stream elem d) a
 own_some stream elem d a h e = only_first (not (is_sound d)) (at stream K3 elem) a (rw h e)
 
 -- the first fault of the periods of one payment more
 pub payment_step : (stream : ℕ) (vs : List Value) (i : ℕ) (v : Value) (before : ℕ) (ds : List Data) (a b s : Option Broken) → i < length vs → v ≡ get_or vs i v → ds ≡ periods_in (view v)
-    → before ≡ length (periods_of (map view (take i vs))) → s ≡ earlier a b → IsFirst (PeriodsFrom stream 0 (periods_of (map view (take i vs)))) a → IsFirst (PeriodsFrom stream before ds) b
-    → IsFirst (PeriodsFrom stream 0 (periods_of (map view (take (i + 1) vs)))) s
+    → before ≡ length (periods_of (map view (take i vs))) → s ≡ earlier_broken a b → IsFirstBroken (PeriodsFrom stream 0 (periods_of (map view (take i vs)))) a → IsFirstBroken (PeriodsFrom stream before ds) b
+    → IsFirstBroken (PeriodsFrom stream 0 (periods_of (map view (take (i + 1) vs)))) s
 payment_step stream vs i v before ds a b s lt is these count e p q =
-    let shifted : IsFirst (PeriodsFrom stream (length (periods_of (map view (take i vs)))) (periods_in (view v))) b =
-    subst (λ (n : ℕ). IsFirst (PeriodsFrom stream n (periods_in (view v))) b) count (subst (λ (l : List Data). IsFirst (PeriodsFrom stream before l) b) these q) in
+    let shifted : IsFirstBroken (PeriodsFrom stream (length (periods_of (map view (take i vs)))) (periods_in (view v))) b =
+    subst (λ (n : ℕ). IsFirstBroken (PeriodsFrom stream n (periods_in (view v))) b) count (subst (λ (l : List Data). IsFirstBroken (PeriodsFrom stream before l) b) these q) in
     let both = periods_more stream (periods_of (map view (take i vs))) (periods_in (view v)) a b p shifted in
-    first_is _ _ s e (subst (λ (l : List Data). IsFirst (PeriodsFrom stream 0 l) (earlier a b)) (sym (periods_of_more vs i v lt is)) both)
+    first_is _ _ s e (subst (λ (l : List Data). IsFirstBroken (PeriodsFrom stream 0 l) (earlier_broken a b)) (sym (periods_of_more vs i v lt is)) both)
 
 -- how many periods there are with those of the next payment
 pub count_step : (vs : List Value) (i : ℕ) (v : Value) (list : List Value) → i < length vs → v ≡ get_or vs i v → map view list ≡ periods_in (view v)
@@ -225,7 +225,7 @@ pub many_test : (n : ℕ) → most_rows < n → false ≡ nat_le n most_rows
 many_test n h = let k : nat_le n most_rows ≡ false = grind (arith, nat_tests) in sym k
 
 -- two or more values of `cashflows`
-pub once_many : (stream : ℕ) (list : List Value) (x : Broken) → 2 ≤ length list → x ≡ at stream K7 cashflows → IsFirst (OnceFault stream (map view list)) (Some x)
+pub once_many : (stream : ℕ) (list : List Value) (x : Broken) → 2 ≤ length list → x ≡ at stream K7 cashflows → IsFirstBroken (OnceFault stream (map view list)) (Some x)
 once_many stream [] x h e = absurd (omega arith)
 once_many stream (a ∷ []) x h e = absurd (omega arith)
 once_many stream (a ∷ b ∷ rest) x h e = alone (at stream K7 cashflows) (Some x) (ap Some e)

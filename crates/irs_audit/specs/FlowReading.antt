@@ -10,10 +10,10 @@ use Rattle.irs_base.specs.declared.places.Broken.{Broken}
 use Rattle.irs_base.specs.declared.places.Place.{Place}
 use Rattle.irs_base.specs.declared.places.Rule.{Rule}
 use Rattle.irs_base.specs.declared.places.Rule.TheVariants.{K1, K2, K3, K4, K5, K6, K7}
-use Rattle.irs_elements.specs.Order.{IsFirst}
 use Rattle.irs_read.specs.Documents.{the_swap}
 use Rattle.serde_json.specs.Data.{Data}
 use Rattle.std.specs.Prelude.{◌≡◌, ◌≢◌, List, Some, Ok}
+use Rattle.irs_base.specs.Order.{IsFirstBroken}
 
 -- the document has no fault, and the flows are those that its swap states
 pub record FlowsOf (d : Data) (flows : List FlowPart) : Type 0 where
@@ -36,7 +36,7 @@ kind_of k = NotJson
 -- a refusal tells kind and place of the first fault, and never that there is no JSON
 pub record IsFirstShape (d : Data) (kind : ShapeKind) (place : Place) : Type 0 where
   pub fault : Broken
-  pub first : IsFirst (FlowFault d) (Some fault)
+  pub first : IsFirstBroken (FlowFault d) (Some fault)
   pub kind_is : kind ≡ kind_of fault.rule
   pub place_is : place ≡ fault.place
   pub read : kind ≢ NotJson

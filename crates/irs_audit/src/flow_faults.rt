@@ -6,12 +6,12 @@ ghost use Rattle.irs_audit.specs.FlowFaults.{CashflowsFault, FlowFault, OnceFaul
 ghost use Rattle.irs_base.specs.Elements.{flow_period};
 ghost use Rattle.irs_elements.specs.Elements.{fault_if, is_odd as is_odd_of};
 ghost use Rattle.irs_elements.specs.Find.{seen};
-ghost use Rattle.irs_elements.specs.Order.{IsFirst};
 ghost use Rattle.irs_json.specs.Carrier.{child_of};
 ghost use Rattle.irs_read.specs.Swaps.{Among};
 ghost use Rattle.irs_base.specs.Limits.{most_rows, most_streams};
 ghost use Rattle.serde_json.specs.View.{view};
 ghost use Rattle.std.specs.Prelude.{◌≡◌, ◌+◌, ◌<◌, ◌^◌, ◌≤◌, length, map, nat_le};
+ghost use Rattle.irs_base.specs.Order.{IsFirstBroken};
 
 use crate::flow_table::{FLOW_NAMES, FLOW_ROWS, FLOWS, PERIOD, PERIOD_NAMES, PERIOD_ROWS};
 use irs_base::{Broken, Elem, MOST_ROWS, MOST_STREAMS, Place, Rule};
@@ -53,7 +53,7 @@ fn is_sound(v: &Value) -> bool
 }
 
 fn own_fault(stream: u8, elem: Elem, v: &Value) -> Option<Broken>
-    ensures { IsFirst (OwnFault stream elem (view v.now)) result }
+    ensures { IsFirstBroken (OwnFault stream elem (view v.now)) result }
 {
     if is_sound(v) {
         None
@@ -104,7 +104,7 @@ fn both_rates_fault(stream: u8, v: &Value) -> Option<Broken>
 
 // The first fault of the calculation period with this number.
 fn period_fault(stream: u8, number: u32, v: &Value) -> Option<Broken>
-    ensures { IsFirst (PeriodFault stream number (view v.now)) result }
+    ensures { IsFirstBroken (PeriodFault stream number (view v.now)) result }
 {
     let own = first_fault(&PERIOD_ROWS, &PERIOD_NAMES, stream, 0, PERIOD, number, v);
     earlier(own, both_rates_fault(stream, v))
@@ -113,7 +113,7 @@ fn period_fault(stream: u8, number: u32, v: &Value) -> Option<Broken>
 // The first fault of calculation periods that come behind so many others.
 fn periods_behind(stream: u8, before: u32, list: &[Value]) -> Option<Broken>
     requires { before + length list.now < 2 ^ 32 }
-    ensures { IsFirst (PeriodsFrom stream before (map view list.now)) result }
+    ensures { IsFirstBroken (PeriodsFrom stream before (map view list.now)) result }
 {
     let mut first = None;
     for j in 0..list.len() {
@@ -126,7 +126,7 @@ fn periods_behind(stream: u8, before: u32, list: &[Value]) -> Option<Broken>
 // The first fault of the calculation periods of payments.
 fn each_period_fault(stream: u8, payments: &[Value]) -> Option<Broken>
     requires { length (periods_of (map view payments.now)) ≤ most_rows }
-    ensures { IsFirst (PeriodsFrom stream 0 (periods_of (map view payments.now))) result }
+    ensures { IsFirstBroken (PeriodsFrom stream 0 (periods_of (map view payments.now))) result }
 {
     let mut first = None;
     let mut before = 0;
@@ -154,7 +154,7 @@ fn are_few(payments: &[Value]) -> bool
 }
 
 fn periods_fault(stream: u8, payments: &[Value]) -> Option<Broken>
-    ensures { IsFirst (PeriodsFault stream (periods_of (map view payments.now))) result }
+    ensures { IsFirstBroken (PeriodsFault stream (periods_of (map view payments.now))) result }
 {
     if are_few(payments) {
         each_period_fault(stream, payments)
@@ -178,7 +178,7 @@ pub fn payments_of<'a>(v: Option<&'a Value>) -> &'a [Value]
 }
 
 fn cashflows_fault(stream: u8, v: &Value) -> Option<Broken>
-    ensures { IsFirst (CashflowsFault stream (view v.now)) result }
+    ensures { IsFirstBroken (CashflowsFault stream (view v.now)) result }
 {
     let own = first_fault(&FLOW_ROWS, &FLOW_NAMES, stream, 0, FLOWS, 0, v);
     earlier(own, periods_fault(stream, payments_of(Some(v))))
@@ -186,7 +186,7 @@ fn cashflows_fault(stream: u8, v: &Value) -> Option<Broken>
 
 // The first fault of the values of `cashflows`, which stands once.
 fn once_fault(stream: u8, list: &[Value]) -> Option<Broken>
-    ensures { IsFirst (OnceFault stream (map view list.now)) result }
+    ensures { IsFirstBroken (OnceFault stream (map view list.now)) result }
 {
     match list {
         [] => Some(at(stream, Rule::K2, Elem::CASHFLOWS)),
@@ -197,7 +197,7 @@ fn once_fault(stream: u8, list: &[Value]) -> Option<Broken>
 
 // The first fault of the stream with this number.
 fn stream_fault(number: u8, v: &Value) -> Option<Broken>
-    ensures { IsFirst (StreamFault number (view v.now)) result }
+    ensures { IsFirstBroken (StreamFault number (view v.now)) result }
 {
     let own = own_fault(number, Elem::SWAP_STREAM, v);
     match members(v) {
@@ -211,7 +211,7 @@ fn stream_fault(number: u8, v: &Value) -> Option<Broken>
 // The first fault of one to eight streams.
 fn each_stream_fault(list: &[Value]) -> Option<Broken>
     requires { length list.now ≤ most_streams }
-    ensures { IsFirst (Among (λ j. StreamFault (j + 1)) (map view list.now)) result }
+    ensures { IsFirstBroken (Among (λ j. StreamFault (j + 1)) (map view list.now)) result }
 {
     let mut first = None;
     for j in 0..list.len() {
@@ -223,7 +223,7 @@ fn each_stream_fault(list: &[Value]) -> Option<Broken>
 
 // The first fault of streams, and their count.
 fn streams_fault(list: &[Value]) -> Option<Broken>
-    ensures { IsFirst (StreamsFault (map view list.now)) result }
+    ensures { IsFirstBroken (StreamsFault (map view list.now)) result }
 {
     if list.len() == 0 {
         Some(at(0, Rule::K2, Elem::SWAP_STREAM))
@@ -235,7 +235,7 @@ fn streams_fault(list: &[Value]) -> Option<Broken>
 }
 
 fn swap_fault(v: &Value) -> Option<Broken>
-    ensures { IsFirst (SwapFault (view v.now)) result }
+    ensures { IsFirstBroken (SwapFault (view v.now)) result }
 {
     let own = own_fault(0, Elem::SWAP, v);
     match members(v) {
@@ -246,7 +246,7 @@ fn swap_fault(v: &Value) -> Option<Broken>
 
 /// The first fault of a document of cash flows; `None` exactly where it has none.
 pub fn first_in_flows(v: &Value) -> Option<Broken>
-    ensures { IsFirst (FlowFault (view v.now)) result }
+    ensures { IsFirstBroken (FlowFault (view v.now)) result }
 {
     match the_swap(v) {
         Ok(swap) => swap_fault(swap),

@@ -1,5 +1,5 @@
 -- Members of a list one after another, by their numbers or with their partners.
-use Rattle.std.proofs.Common.{◌≡◌, ℕ, ◌+◌, ◌-◌, ◌<◌, ◌≤◌, List, [], ◌∷◌, ◌++◌, length, take, arith, refl, sym, ◌∙◌, subst, ap, ap₂, inl, inr, Some}
+use Rattle.std.proofs.Common.{◌≡◌, ℕ, zero, suc, ◌+◌, ◌-◌, ◌<◌, ◌≤◌, List, [], ◌∷◌, ◌++◌, length, take, arith, refl, sym, ◌∙◌, subst, ap, ap₂, inl, inr, Some}
 use Rattle.std.specs.List.{slice_get}
 use Rattle.std.proofs.lemmas.Bool.{cases_lt}
 use Rattle.std.proofs.lemmas.List.{take_more}
@@ -34,6 +34,14 @@ pairs_more R xs i ys x y at h r =
     let longer : take (i + 1) xs ≡ take i xs ++ x ∷ [] = take_more xs i x within ∙ ap (λ z. take i xs ++ z ∷ []) (get_or_from_slice_get xs i x x at) in
     rw longer (pairs_push R (take i xs) ys x y h r)
 
+-- where each member has a partner there is the list of partners
+pub pairs_there : {X Y : Type 0} (R : X → Y → Type 0) (xs : List X) → ((i : ℕ) (x : X) → slice_get xs i ≡ Some x → (y : Y) × R x y) → (ys : List Y) × Pairs R xs ys
+pairs_there R [] partner = ([], tt)
+pairs_there R (x ∷ xs) partner =
+    let first = partner zero x refl in
+    let rest = pairs_there R xs (λ i z at. partner (suc i) z at) in
+    (first.0 ∷ rest.0, (first.1, rest.1))
+
 pub one_paired : {X Y : Type 0} (R : X → Y → Type 0) → ((x : X) (y z : Y) → R x y → R x z → y ≡ z) → (xs : List X) (ys zs : List Y) → Pairs R xs ys → Pairs R xs zs → ys ≡ zs
 one_paired R one [] [] [] h k = refl
 one_paired R one [] [] (z ∷ zs) h k = absurd k
@@ -55,3 +63,11 @@ one_numbered P one n (x ∷ xs) (y ∷ ys) e h k = ap₂ ◌∷◌ (one n x y h.
 pub numbered_map : {X : Type 0} (P Q : ℕ → X → Type 0) (n : ℕ) (xs : List X) → ((m : ℕ) (x : X) → n ≤ m → m < n + length xs → P m x → Q m x) → EachNumbered P n xs → EachNumbered Q n xs
 numbered_map P Q n [] f h = tt
 numbered_map P Q n (x ∷ xs) f h = (f n x (omega arith) (omega arith) h.0, numbered_map P Q (n + 1) xs (λ m y low high p. f m y (omega arith) (omega (arith, high)) p) h.1)
+
+-- m members from the number n on, where each of these numbers has one
+pub numbered_there : {X : Type 0} (P : ℕ → X → Type 0) (m n : ℕ) → ((k : ℕ) → n ≤ k → k < n + m → (x : X) × P k x) → (xs : List X) × (length xs ≡ m) × EachNumbered P n xs
+numbered_there P zero n member = ([], refl, tt)
+numbered_there P (suc m) n member =
+    let first = member n (omega arith) (omega arith) in
+    let rest = numbered_there P m (n + 1) (λ k low high. member k (omega (arith, low)) (omega (arith, high))) in
+    (first.0 ∷ rest.0, omega (arith, rest.1), (first.1, rest.2))

@@ -42,6 +42,14 @@ is_before_in f g = level (rule_number f.rule) (rule_number g.rule) (level f.plac
 abbrev pub is_before : Broken → Broken → Bool
 is_before f g = level f.place.stream g.place.stream (is_before_in f g)
 
+-- the first broken rule of a swap that meets P, and None where none does
+abbrev pub IsFirstBroken : (Broken → Type 0) → Option Broken → Type 0
+IsFirstBroken P answer = IsFirst is_before P answer
+
+-- the earlier of two answers
+abbrev pub earlier_broken : Option Broken → Option Broken → Option Broken
+earlier_broken a b = earlier is_before a b
+
 -- of the rules of one part of a stream's dates and amounts, those on where dates may stand (K30 to K32,
 -- K35 to K37) come before those on what is worked out of them (K33, K34, K38, K39)
 abbrev pub turn : Rule → ℕ

@@ -4,7 +4,6 @@ use Rattle.std.proofs.lemmas.Option.{same_Some}
 use Rattle.serde_json.specs.Data.{Data}
 use Rattle.irs_base.specs.declared.places.Broken.{Broken}
 use Rattle.irs_json.specs.Reading.{Reads}
-use Rattle.irs_elements.specs.Order.{IsFirst}
 use Rattle.irs_read.specs.Documents.{DocumentFault}
 use Rattle.irs_read.specs.Meaning.{swap_in}
 use Rattle.irs_read.specs.Reading.{Means}
@@ -45,6 +44,7 @@ use Rattle.irs_cli.specs.declared.refusals.Refusal.TheVariants.{Calendars, Fixin
 use Rattle.irs_cli.specs.Outcomes.{Answer, answer_of, of_json, of_read, of_making, FixingsFail, IfRefused, IfAnswered, IsUnscheduled, Concludes}
 use Rattle.irs_cli.proofs.FirstLemmas.{one_first, one_fixings_fault, no_fixings}
 use Rattle.irs_cli.proofs.SameRates.{SameRates, same_back, same_file, schedule_same, kept_same, first_same_table, not_kept}
+use Rattle.irs_base.specs.Order.{IsFirstBroken}
 
 -- ---- the files say one thing
 
@@ -91,14 +91,14 @@ spells_none bytes v b swap reads fault s =
     let e : s.0 ≡ v = one_reading bytes v s.0 reads s.1 in
     s.2.clean b (subst (λ (d : Data). DocumentFault d b) (sym e) fault)
 
-pub due_document : (task : Task) (g : Given) (v : Data) (b : Broken) → Reads g.document v → IsFirst (DocumentFault v) (Some b) → DueFor task g 2 (refused b)
+pub due_document : (task : Task) (g : Given) (v : Data) (b : Broken) → Reads g.document v → IsFirstBroken (DocumentFault v) (Some b) → DueFor task g 2 (refused b)
 due_document task g v b reads first =
     let none : (swap : Swap) → SpellsSwap g.document swap → ⊥ = λ swap s. spells_none g.document v b swap reads first.0 s in
     record {
       unread = λ n. absurd (n (v, reads));
       document = λ w k _.
           let e : w ≡ v = one_reading g.document v w reads k in
-          let f : IsFirst (DocumentFault w) (Some b) = subst (λ (d : Data). IsFirst (DocumentFault d) (Some b)) (sym e) first in
+          let f : IsFirstBroken (DocumentFault w) (Some b) = subst (λ (d : Data). IsFirstBroken (DocumentFault d) (Some b)) (sym e) first in
           (b, record { is = f; only = λ c h. one_first (DocumentFault w) b c f h }, (refl, refl));
       calendars = λ swap s _. absurd (none swap s);
       fixings = λ swap cal s _ _. absurd (none swap s);

@@ -9,13 +9,13 @@ use Rattle.irs_base.specs.Rules.{rule_number}
 use Rattle.irs_base.specs.declared.places.Rule.{Rule}
 use Rattle.irs_base.specs.declared.places.Rule.TheVariants.{K1, K2, K3, K4, K5, K6, K7, K8, K10, K11, K12, K13, K14, K15, K16, K17, K18, K19, K20, K21, K30, K31, K32, K33, K34, K35, K36, K37, K38, K39, K40, K41, K42, K43, K44, K45, K46}
 use Rattle.irs_base.specs.declared.places.Broken.{Broken}
-use Rattle.irs_elements.specs.Order.{is_before, IsFirst}
 use Rattle.irs_resets.specs.FixingFiles.{IsFirstFault, IsBad, Repeats, IsFaulty, IsFixingFile}
 use Rattle.irs_resets.specs.Rates.{RateTable}
 use Rattle.irs_resets.specs.declared.fixings.FixErr.{FixErr}
 use Rattle.irs_resets.specs.declared.fixings.FixErr.TheVariants.{Syntax, Repeat, Memory}
 use Rattle.irs_rules.specs.Order.{level}
 use Rattle.irs_cli.specs.Due.{IsFixingFault, IsFixingsFault, AreFixings}
+use Rattle.irs_base.specs.Order.{is_before, IsFirstBroken}
 
 -- ---- broken rules
 
@@ -90,7 +90,7 @@ same_broken f g p q =
     let index : f.place.index ≡ g.place.index = tied_last _ _ elements.1 elements.2 in
     same_whole f.rule g.rule _ _ _ _ _ _ (same_rule f.rule g.rule numbers.0) streams.0 elements.0 index
 
-pub one_first : (P : Broken → Type 0) (f g : Broken) → IsFirst P (Some f) → IsFirst P (Some g) → g ≡ f
+pub one_first : (P : Broken → Type 0) (f g : Broken) → IsFirstBroken P (Some f) → IsFirstBroken P (Some g) → g ≡ f
 one_first P f g h k = same_broken g f (h.1 g k.0) (k.1 f h.0)
 
 -- ---- lines of fixings

@@ -6,7 +6,6 @@ use Rattle.serde_json.specs.Data.{Data}
 use Rattle.irs_base.specs.declared.places.Broken.{Broken}
 use Rattle.irs_base.specs.declared.places.Place.{Place}
 use Rattle.irs_json.specs.Reading.{Reads}
-use Rattle.irs_elements.specs.Order.{IsFirst}
 use Rattle.irs_schedule.specs.Parts.{Part}
 use Rattle.irs_audit.specs.FlowFaults.{FlowFault}
 use Rattle.irs_audit.specs.FlowMeaning.{streams_in}
@@ -26,6 +25,7 @@ use Rattle.irs_cli.specs.FlowMessages.{bad_flows, whole_document, verdict_status
 use Rattle.irs_cli.specs.Outcomes.{ComesTo, FlowsFail, IfRefused, SpellsFlows}
 use Rattle.irs_cli.proofs.DueLemmas.{one_reading}
 use Rattle.irs_cli.proofs.FirstLemmas.{one_first}
+use Rattle.irs_base.specs.Order.{IsFirstBroken}
 
 due_unread : (bytes : List ℕ) (s : List Part) → (IsJson bytes → ⊥) → DueFlows bytes s 3 (bad_flows NotJson whole_document)
 due_unread bytes s h = record {
@@ -35,12 +35,12 @@ due_unread bytes s h = record {
   case = unread_flows h;
 }
 
-due_fault : (bytes : List ℕ) (s : List Part) (v : Data) (b : Broken) → Reads bytes v → IsFirst (FlowFault v) (Some b) → DueFlows bytes s 3 (bad_flows (kind_of b.rule) b.place)
+due_fault : (bytes : List ℕ) (s : List Part) (v : Data) (b : Broken) → Reads bytes v → IsFirstBroken (FlowFault v) (Some b) → DueFlows bytes s 3 (bad_flows (kind_of b.rule) b.place)
 due_fault bytes s v b reads first = record {
   unread = λ n. absurd (n (v, reads));
   fault = λ w k _.
       let e : w ≡ v = one_reading bytes v w reads k in
-      let f : IsFirst (FlowFault w) (Some b) = subst (λ (d : Data). IsFirst (FlowFault d) (Some b)) (sym e) first in
+      let f : IsFirstBroken (FlowFault w) (Some b) = subst (λ (d : Data). IsFirstBroken (FlowFault d) (Some b)) (sym e) first in
       (b, record { is = f; only = λ c h. one_first (FlowFault w) b c f h }, (refl, refl));
   verdict = λ w flows k of.
       let e : w ≡ v = one_reading bytes v w reads k in

@@ -4,7 +4,6 @@ use Rattle.serde_json.specs.Data.{Data}
 use Rattle.irs_base.specs.Lines.{lines_of}
 use Rattle.irs_base.specs.declared.places.Broken.{Broken}
 use Rattle.irs_json.specs.Reading.{Reads}
-use Rattle.irs_elements.specs.Order.{IsFirst}
 use Rattle.irs_read.specs.Documents.{DocumentFault}
 use Rattle.irs_read.specs.Reading.{Means}
 use Rattle.irs_terms.specs.declared.stream_list.Swap.{Swap}
@@ -33,6 +32,7 @@ use Rattle.irs_cli.specs.Commands.{Words, Asked, Asks, IsListed}
 use Rattle.irs_cli.specs.Given.{Told, Given, AreTold, IsFirstLong, TellsAll}
 use Rattle.irs_cli.specs.Messages.{bad_words, too_long, refused, unreadable, bad_calendar, bad_fixings, all_kept}
 use Rattle.irs_cli.specs.FlowMessages.{bad_flows, whole_document, verdict_status, verdict_text}
+use Rattle.irs_base.specs.Order.{IsFirstBroken}
 
 -- status and text
 abbrev pub Is : ℕ → List ℕ → ℕ → List ℕ → Type 0
@@ -91,7 +91,7 @@ pub record DueFlows (bytes : List ℕ) (s : List Part) (status : ℕ) (text : Li
   -- the flows have no JSON reading
   pub unread : ¬ (IsJson bytes) → Is 3 (bad_flows NotJson whole_document) status text
   -- their reading states no flows: its first fault
-  pub fault : (v : Data) → Reads bytes v → ¬ ((flows : List FlowPart) × FlowsOf v flows) → (b : Broken) × Only (λ f. IsFirst (FlowFault v) (Some f)) b × Is 3 (bad_flows (kind_of b.rule) b.place) status text
+  pub fault : (v : Data) → Reads bytes v → ¬ ((flows : List FlowPart) × FlowsOf v flows) → (b : Broken) × Only (λ f. IsFirstBroken (FlowFault v) (Some f)) b × Is 3 (bad_flows (kind_of b.rule) b.place) status text
   -- it states flows: the verdict on them
   pub verdict : (v : Data) (flows : List FlowPart) → Reads bytes v → FlowsOf v flows → (w : Verdict) × Only (IsVerdict flows s) w × Is (verdict_status w) (verdict_text w) status text
   -- one of these applies
@@ -118,7 +118,7 @@ pub record DueFor (task : Task) (g : Given) (status : ℕ) (text : List ℕ) : T
   -- K1: the document has no reading
   pub unread : ¬ (IsJson g.document) → Is 2 (refused unreadable) status text
   -- K2 to K7: its reading means no swap
-  pub document : (v : Data) → Reads g.document v → ¬ ((swap : Swap) × Means v swap) → (b : Broken) × Only (λ f. IsFirst (DocumentFault v) (Some f)) b × Is 2 (refused b) status text
+  pub document : (v : Data) → Reads g.document v → ¬ ((swap : Swap) × Means v swap) → (b : Broken) × Only (λ f. IsFirstBroken (DocumentFault v) (Some f)) b × Is 2 (refused b) status text
   -- the calendar files spell no sections
   pub calendars : (swap : Swap) → SpellsSwap g.document swap → ¬ ((cal : List Section) × CalFiles g.calendars cal) → (s : Spot) × (calendars_in 1 [] g.calendars ≡ Err s) × Is 3 (bad_calendar s) status text
   -- the file of fixings has a line at fault

@@ -1,12 +1,14 @@
 -- The fraction of a period whose days are in range is one of a payment.
-use Rattle.std.proofs.Common.{◌≡◌, ℤ, pos, ◌≤ℤ◌, arith, sym, subst}
+use Rattle.std.proofs.Common.{◌≡◌, Bool, ℤ, pos, ◌≤ℤ◌, ◌<ℤ◌, arith, sym, subst}
 use Rattle.jiff_core.proofs.SignedLemmas.{signed_arith}
 use Rattle.irs_base.specs.Days.{IsDay}
 use Rattle.irs_terms.specs.declared.results.Frac.{Frac}
 use Rattle.irs_terms.specs.declared.codes.DayCountCode.{DayCountCode}
 use Rattle.irs_terms.specs.declared.codes.DayCountCode.TheVariants.{OneOne, ActActIsda, Act365Fixed, Act360, Thirty360, ThirtyE360, ThirtyE360Isda}
 use Rattle.irs_daycount.specs.Actual.{act_act_denominator}
-use Rattle.irs_daycount.specs.Fractions.{IsNumerator, denominator_of}
+use Rattle.irs_daycount.specs.Fractions.{Fraction, IsNumerator, denominator_of}
+use Rattle.irs_daycount.specs.FractionLaws.{one_denominator}
+use Rattle.irs_daycount.proofs.FractionBounds.{fraction_bounded}
 use Rattle.irs_compound.specs.Amounts.{IsFraction}
 
 abbrev IsDenominator : ℤ → Type 0
@@ -25,3 +27,8 @@ pub fraction_fits : (code : DayCountCode) (s e : ℤ) (f : Frac) → IsDay s →
 fraction_fits code s e f a b n is =
     let d : IsDenominator f.den = subst IsDenominator (sym is) (denominators code) in
     (n.0, omega (arith, signed_arith, n.1, a, b), d.0, d.1)
+
+-- so the fraction by a day count is, of days in range of which the first is before the second
+pub fraction_is_fit : (code : DayCountCode) (s e : ℤ) (last : Bool) (f : Frac) → IsDay s → IsDay e → s <ℤ e → Fraction code s e last f → IsFraction f
+fraction_is_fit code s e last f start end order h =
+    fraction_fits code s e f start end (fraction_bounded code s e last f start end order h) (one_denominator code s e last f h)

@@ -41,7 +41,8 @@ pays_exists code ps k f h =
     let m = rounded_sum_exists code ps (total cs.0) k f in
     (m.0, record { parts = cs.0; follows = cs.1; rounds = m.1 })
 
-priced_or_not : (ps : List PeriodTerm) → AllPriced ps → SomeUnpriced ps → ⊥
+-- not both: each period has its rates, and some period has none
+pub priced_or_not : (ps : List PeriodTerm) → AllPriced ps → SomeUnpriced ps → ⊥
 priced_or_not ps h x =
     let s : IsSome (get_or ps x.0 x.1).rates = All-get_or (λ p. IsSome p.rates) ps x.0 x.1 (slice_get_within ps x.0 x.1 x.2) h in
     let e : get_or ps x.0 x.1 ≡ x.1 = get_or_from_slice_get ps x.0 x.1 x.1 x.2 in
@@ -49,20 +50,18 @@ priced_or_not ps h x =
     let u : IsSome {T = Rates} None = subst (λ (o : Option Rates). IsSome o) x.3 t in
     cc
 
-pub amount_once : (code : CompCode) (ps : List PeriodTerm) (k : ℕ) (m n : Option ℤ) → AllFractions ps → AmountOf code ps k m → AmountOf code ps k n → m ≡ n
-amount_once code ps k None None f a b = refl
-amount_once code ps k None (Some n) f a b = absurd (priced_or_not ps b.0 a)
-amount_once code ps k (Some m) None f a b = absurd (priced_or_not ps a.0 b)
-amount_once code ps k (Some m) (Some n) f a b = ap Some (pays_once (code_for code ps) ps k m n f a.1 b.1)
+-- a payment has at most one amount, present or absent
+pub one_amount : (code : CompCode) (ps : List PeriodTerm) (k : ℕ) (m n : Option ℤ) → AllFractions ps → AmountOf code ps k m → AmountOf code ps k n → m ≡ n
+one_amount code ps k None None f a b = refl
+one_amount code ps k None (Some n) f a b = absurd (priced_or_not ps b.0 a)
+one_amount code ps k (Some m) None f a b = absurd (priced_or_not ps a.0 b)
+one_amount code ps k (Some m) (Some n) f a b = ap Some (pays_once (code_for code ps) ps k m n f a.1 b.1)
 
 pub one_amount_of : (code : CompCode) (ps : List PeriodTerm) (k : ℕ) (m n : ℤ) → IsPayment ps → Pays code ps k m → Pays code ps k n → m ≡ n
 one_amount_of code ps k m n h a b = pays_once code ps k m n (all_fractions (denominator ps) ps h.2) a b
 
 pub some_amount_of : (code : CompCode) (ps : List PeriodTerm) (k : ℕ) → IsPayment ps → AllPriced ps → (m : ℤ) × Pays code ps k m
 some_amount_of code ps k h p = pays_exists code ps k (all_fractions (denominator ps) ps h.2) p
-
-pub one_payment : (code : CompCode) (ps : List PeriodTerm) (k : ℕ) (m n : Option ℤ) → IsPayment ps → AmountOf code ps k m → AmountOf code ps k n → m ≡ n
-one_payment code ps k m n h a b = amount_once code ps k m n (all_fractions (denominator ps) ps h.2) a b
 
 pub one_list : (code : CompCode) (ps : List PeriodTerm) (cs ds : List Parts) → IsPayment ps → Follows code ps cs → Follows code ps ds → cs ≡ ds
 one_list code ps cs ds h a b = follows_once code [] ps cs ds (all_fractions (denominator ps) ps h.2) a b

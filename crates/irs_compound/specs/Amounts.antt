@@ -1,8 +1,9 @@
 -- Amounts of the periods of a payment, and of the payment: the 2006 ISDA Definitions, articles 5 and 6. That flat compounding
 -- takes the base rate, and compounding with the spread exclusive, are this project's own. Notionals are in units of 10^-4,
 -- rates in units of 10^-9.
-use Rattle.std.specs.Prelude.{◌≡◌, ℕ, ℤ, pos, ◌+◌, ◌-◌, ◌*◌, ◌^◌, ◌<◌, ◌≤◌, ◌+ℤ◌, ◌-ℤ◌, ◌*ℤ◌, ◌≤ℤ◌, unsigned_abs, List, [], ◌∷◌, ◌++◌, length, All, IsSome, IsSomeAnd, Option, Some, None, slice_get, take}
+use Rattle.std.specs.Prelude.{◌≡◌, ℕ, ℤ, pos, ◌+◌, ◌-◌, ◌*◌, ◌^◌, ◌≤◌, ◌+ℤ◌, ◌-ℤ◌, ◌*ℤ◌, ◌≤ℤ◌, unsigned_abs, List, [], ◌∷◌, ◌++◌, length, All, IsSome, IsSomeAnd, Option, Some, None, slice_get, take, nat_lt}
 use Rattle.irs_base.specs.Limits.{most_notional, most_numerator, most_periods, most_rate}
+use Rattle.irs_base.specs.Order.{First}
 use Rattle.irs_base.specs.Rounding.{Rounded}
 use Rattle.irs_base.specs.declared.rounding.Direction.TheVariants.{Nearest}
 use Rattle.irs_terms.specs.Lawful.{IsNotional, IsRate}
@@ -29,6 +30,10 @@ most_balance = 100 * most_notional + most_amount
 -- what the greatest balance earns at the greatest rate, before it is divided
 abbrev pub most_product : ℕ
 most_product = most_balance * most_rate * most_numerator
+
+-- 10^14 units of currency, in units of 10^-places
+abbrev pub most_units : ℕ → ℕ
+most_units places = 10 ^ 14 * 10 ^ places
 
 -- the most decimals of a currency
 abbrev pub most_places : ℕ
@@ -133,19 +138,16 @@ SumsWithin SpreadExclusive p c sum kept_sum = PartsWithin c sum kept_sum
 abbrev pub Within : CompCode → PeriodTerm → Parts → ℤ → ℤ → Type 0
 Within code p c sum kept_sum = IsSomeAnd p.rates RatesWithin × SumsWithin code p c sum kept_sum
 
--- the period at index i leaves the range
-pub record Passes (code : CompCode) (ps : List PeriodTerm) (i : ℕ) : Type 0 where
+-- the period with that number, from 1, leaves the range
+pub record Passes (code : CompCode) (ps : List PeriodTerm) (number : ℕ) : Type 0 where
+  pub from_one : 1 ≤ number
   pub earlier : List Parts
   pub period : PeriodTerm
   pub parts : Parts
-  pub there : slice_get ps i ≡ Some period
-  pub follows : Follows code (take i ps) earlier
+  pub there : slice_get ps (number - 1) ≡ Some period
+  pub follows : Follows code (take (number - 1) ps) earlier
   pub stands : Stands code period earlier parts
   pub passes : Within code period parts (total earlier +ℤ amount parts) (kept code earlier +ℤ kept_of code parts) → ⊥
-
--- the first such position, counted from 1
-abbrev pub PassesFirst : CompCode → List PeriodTerm → ℕ → Type 0
-PassesFirst code ps n = (1 ≤ n) × Passes code ps (n - 1) × ((j : ℕ) → j + 1 < n → Passes code ps j → ⊥)
 
 -- a sum rounded to the decimals of the currency, in units of 10^-places
 abbrev pub RoundedAt : CompCode → ℤ → ℤ → ℕ → ℤ → Type 0
@@ -165,6 +167,14 @@ abbrev pub code_for : CompCode → List PeriodTerm → CompCode
 code_for code [] = code
 code_for code (p ∷ []) = Simple
 code_for code (p ∷ q ∷ ps) = code
+
+-- the period with that number, from 1, leaves the range, in a payment whose rates are all there
+abbrev pub IsOutOfRange : CompCode → List PeriodTerm → ℕ → Type 0
+IsOutOfRange code ps number = AllPriced ps × Passes (code_for code ps) ps number
+
+-- the first such period
+abbrev pub IsFirstOut : CompCode → List PeriodTerm → ℕ → Type 0
+IsFirstOut code ps number = First nat_lt (IsOutOfRange code ps) number
 
 -- the amount of a payment: absent where the rates of a period are
 abbrev pub AmountOf : CompCode → List PeriodTerm → ℕ → Option ℤ → Type 0

@@ -1,5 +1,5 @@
 -- One step of the balance over the periods of a payment.
-use Rattle.std.specs.Prelude.{◌≡◌, ℕ, ℤ, List, take, ◌*◌, ◌<◌, ◌≤◌, ◌+ℤ◌, unsigned_abs, IsSomeAnd}
+use Rattle.std.specs.Prelude.{◌≡◌, ℕ, ℤ, List, take, ◌*◌, ◌≤◌, ◌+ℤ◌, unsigned_abs, IsSomeAnd}
 use Rattle.irs_terms.specs.declared.codes.CompCode.{CompCode}
 use Rattle.irs_terms.specs.declared.codes.CompCode.TheVariants.{Simple, Straight, Flat, SpreadExclusive}
 use Rattle.irs_compound.specs.declared.periods.PeriodTerm.{PeriodTerm}
@@ -38,4 +38,4 @@ pub record Balances (code : CompCode) (ps : List PeriodTerm) (n : ℕ) (b : Bala
   pub sums : b.sum ≡ total parts
   pub keeps : b.kept ≡ kept code parts
   pub fits : BalanceFits code (denominator ps) b
-  pub none_passes : (j : ℕ) → j < n → Passes code ps j → ⊥
+  pub none_passes : (number : ℕ) → number ≤ n → Passes code ps number → ⊥

@@ -11,7 +11,7 @@ use Rattle.irs_terms.specs.Lawful.{IsLawfulValues}
 use Rattle.irs_compound.specs.InForce.{LastOf, InForce, value_of, later_step, counted_step, last_from, value_in_force}
 use Rattle.irs_terms.specs.StepDates.{StepsRise}
 
-same_day : (a : ℤ) → a ≤ℤ a
+pub same_day : (a : ℤ) → a ≤ℤ a
 same_day a = omega (arith, signed_arith)
 
 -- a step after the day at the end
@@ -56,13 +56,13 @@ last_from-push d last [] s = refl
 last_from-push d last (x ∷ xs) s = last_from-push d (counted_step d last x) xs s
 
 -- where steps rise, those behind the first are after it
-behind : (s : Step) (ss : List Step) → StepsRise (s ∷ ss) → All (λ t. s.day <ℤ t.day) ss
+pub behind : (s : Step) (ss : List Step) → StepsRise (s ∷ ss) → All (λ t. s.day <ℤ t.day) ss
 behind s [] h = All-nil (λ t. s.day <ℤ t.day)
 behind s (t ∷ ss) h =
     All-cons (λ u. s.day <ℤ u.day) t ss h.0
     (All-weaker (λ u. t.day <ℤ u.day) (λ u. s.day <ℤ u.day) (λ u k. omega (arith, signed_arith, k, h.0)) ss (behind t ss h.1))
 
-rest : (s : Step) (ss : List Step) → StepsRise (s ∷ ss) → StepsRise ss
+pub rest : (s : Step) (ss : List Step) → StepsRise (s ∷ ss) → StepsRise ss
 rest s [] h = tt
 rest s (t ∷ ss) h = h.1
 
@@ -95,6 +95,10 @@ one_last steps d (Some s) (Some t) r h k =
     let m : s.day ≤ℤ t.day = All-contains (λ u. u.day ≤ℤ d → u.day ≤ℤ t.day) steps s k.2 h.0 h.1 in
     let e : s.day ≡ t.day = omega (arith, signed_arith, l, m) in
     ap Some (All-contains (λ u. s.day ≡ u.day → s ≡ u) steps t (All-contains (IsAlone steps) steps s (alone steps r) h.0) k.0 e)
+
+-- where the steps rise, a last step is that of the function
+pub last_from_is : (steps : List Step) (d : ℤ) (last : Option Step) → StepsRise steps → LastOf steps d last → last ≡ last_from d None steps
+last_from_is steps d last r h = one_last steps d last (last_from d None steps) r h (more [] steps None d (All-nil (λ (t : Step). d <ℤ t.day)))
 
 -- where the steps rise, any two values in force on one day are equal
 pub one_in_force : (values : StepValues) (d v w : ℤ) → StepsRise values.steps → InForce values d v → InForce values d w → v ≡ w

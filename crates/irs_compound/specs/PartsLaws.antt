@@ -1,7 +1,8 @@
 -- The parts of the periods of a payment: there is one list of them, and only one.
-use Rattle.std.proofs.Common.{◌≡◌, ℕ, ◌^◌, ℤ, pos, ◌+ℤ◌, ◌-ℤ◌, ◌*ℤ◌, ◌≤ℤ◌, ◌<ℤ◌, arith, refl, sym, ap, subst, ◌∙◌, List, [], ◌∷◌, ◌++◌, take, append_assoc, Option, Some, None, IsSomeAnd, IsSome, All, slice_get}
+use Rattle.std.proofs.Common.{◌≡◌, ℕ, ◌≤◌, ◌-◌, ◌^◌, ℤ, pos, ◌+ℤ◌, ◌-ℤ◌, ◌*ℤ◌, ◌≤ℤ◌, ◌<ℤ◌, arith, refl, sym, ap, subst, ◌∙◌, List, [], ◌∷◌, ◌++◌, length, take, append_assoc, Option, Some, None, IsSomeAnd, IsSome, All, slice_get}
 use Rattle.std.proofs.lemmas.List.{append-nil}
 use Rattle.std.proofs.lemmas.List.Elements.{All-head, All-tail, All-take, All-weaker}
+use Rattle.std.proofs.lemmas.Option.{slice_get_within}
 use Rattle.irs_base.proofs.RoundingLaws.{nearest_once, nearest_exists}
 use Rattle.irs_compound.specs.Amounts.{IsFraction, IsTerm, Interest, amount, total, kept_of, kept, StandsAt, Stands, FollowsFrom, Follows, AllPriced, Within, Passes}
 use Rattle.irs_compound.specs.declared.periods.Rates.{Rates}
@@ -99,19 +100,26 @@ follows_exists code earlier (p ∷ ps) f h =
     (c.0 ∷ cs.0, (c.1, cs.1))
 
 -- the range of a period behind the parts of the earlier ones
-abbrev WithinAfter : CompCode → PeriodTerm → List Parts → Parts → Type 0
+abbrev pub WithinAfter : CompCode → PeriodTerm → List Parts → Parts → Type 0
 WithinAfter code p cs c = Within code p c (total cs +ℤ amount c) (kept code cs +ℤ kept_of code c)
 
 -- a period within the limits is not one that leaves the range
-pub not_passed : (code : CompCode) (ps : List PeriodTerm) (i : ℕ) (p : PeriodTerm) (cs : List Parts) (c : Parts) → All (λ q. IsFraction q.frac) ps → IsFraction p.frac → slice_get ps i ≡ Some p → Follows code (take i ps) cs → Stands code p cs c → WithinAfter code p cs c → Passes code ps i → ⊥
-not_passed code ps i p cs c f g there h k w x =
+pub not_passed : (code : CompCode) (ps : List PeriodTerm) (n : ℕ) (p : PeriodTerm) (cs : List Parts) (c : Parts) → All (λ q. IsFraction q.frac) ps → IsFraction p.frac → slice_get ps (n - 1) ≡ Some p → Follows code (take (n - 1) ps) cs → Stands code p cs c → WithinAfter code p cs c → Passes code ps n → ⊥
+not_passed code ps n p cs c f g there h k w x =
     let q : x.period ≡ p = (let e : Some x.period ≡ Some p = sym x.there ∙ there in cc) in
-    let e : x.earlier ≡ cs = follows_once code [] (take i ps) x.earlier cs (All-take (λ q. IsFraction q.frac) i ps f) x.follows h in
+    let e : x.earlier ≡ cs = follows_once code [] (take (n - 1) ps) x.earlier cs (All-take (λ q. IsFraction q.frac) (n - 1) ps f) x.follows h in
     let s : Stands code p cs x.parts = subst (λ (y : PeriodTerm). Stands code y cs x.parts) q (subst (λ (ds : List Parts). Stands code x.period ds x.parts) e x.stands) in
     let d : x.parts ≡ c = stands_once code p cs x.parts c g s k in
     let w1 : WithinAfter code x.period cs c = subst (λ (y : PeriodTerm). WithinAfter code y cs c) (sym q) w in
     let w2 : WithinAfter code x.period x.earlier c = subst (λ (ds : List Parts). WithinAfter code x.period ds c) (sym e) w1 in
     x.passes (subst (λ (y : Parts). WithinAfter code x.period x.earlier y) (sym d) w2)
+
+-- a period that leaves the range is one of the periods
+pub number_within : (code : CompCode) (ps : List PeriodTerm) (n : ℕ) → Passes code ps n → n ≤ length ps
+number_within code ps n x =
+    let inside = slice_get_within ps (n - 1) x.period x.there in
+    let low = x.from_one in
+    omega (arith, inside, low)
 
 abbrev pub AllFractions : List PeriodTerm → Type 0
 AllFractions ps = All (λ p. IsFraction p.frac) ps

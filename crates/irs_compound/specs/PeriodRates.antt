@@ -1,9 +1,11 @@
 -- The rates of a period.
-use Rattle.std.specs.Prelude.{◌≡◌, ℕ, ◌+◌, ◌-◌, ◌*◌, ◌^◌, ℤ, pos, ◌+ℤ◌, ◌*ℤ◌, ◌≤ℤ◌, ◌<ℤ◌, int_lt, if◌then◌else◌}
+use Rattle.std.specs.Prelude.{◌≡◌, ℕ, ◌+◌, ◌-◌, ◌*◌, ◌^◌, ℤ, pos, ◌+ℤ◌, ◌*ℤ◌, ◌≤ℤ◌, ◌<ℤ◌, int_lt, if◌then◌else◌, Option, Some, None, option_map}
 use Rattle.irs_base.specs.Limits.{most_rate}
 use Rattle.irs_base.specs.Rounding.{Rounded, rounded}
 use Rattle.irs_terms.specs.declared.amounts.Rounding.{Rounding}
 use Rattle.irs_terms.specs.declared.amounts.FloatTerms.{FloatTerms}
+use Rattle.irs_terms.specs.declared.amounts.Leg.{Leg}
+use Rattle.irs_terms.specs.declared.amounts.Leg.TheVariants.{Fixed, Floating}
 use Rattle.irs_terms.specs.declared.codes.Treatment.{Treatment}
 use Rattle.irs_terms.specs.declared.codes.Treatment.TheVariants.{AsIs, ZeroFloor}
 use Rattle.irs_terms.specs.declared.step_list.StepValues.{StepValues}
@@ -38,6 +40,16 @@ pub record RatesOf (f : FloatTerms) (start observed : ℤ) (rates : Rates) : Typ
 abbrev pub FixedRatesOf : StepValues → ℤ → Rates → Type 0
 FixedRatesOf values start rates = InForce values start rates.base × (rates.all_in ≡ rates.base)
 
+-- the rates of a period by the leg of its stream: on a fixed stream those of the rate in force; on a floating one
+-- those of the observed rate, absent where it is
+abbrev pub AreRates : Leg → ℤ → Option ℤ → Option Rates → Type 0
+AreRates (Fixed values) start observed None = ⊥
+AreRates (Fixed values) start observed (Some rates) = FixedRatesOf values start rates
+AreRates (Floating float) start None None = Unit {0}
+AreRates (Floating float) start None (Some rates) = ⊥
+AreRates (Floating float) start (Some observed) None = ⊥
+AreRates (Floating float) start (Some observed) (Some rates) = RatesOf float start observed rates
+
 -- a rounded rate as a function
 abbrev pub rate_at : Rounding → ℤ → ℤ
 rate_at rounding exact = rounded rounding.dir exact (pos (10 ^ (18 - rounding.places))) *ℤ pos (10 ^ (9 - rounding.places))
@@ -46,6 +58,10 @@ rate_at rounding exact = rounded rounding.dir exact (pos (10 ^ (18 - rounding.pl
 abbrev pub treated : Treatment → ℤ → ℤ
 treated AsIs rate = rate
 treated ZeroFloor rate = if int_lt rate (pos 0) then pos 0 else rate
+
+-- the rate of an exact one: rounded, and then by its treatment
+abbrev pub all_in_at : FloatTerms → ℤ → ℤ
+all_in_at f exact = treated f.treatment (rate_at f.rounding exact)
 
 -- multiplier times observed, in units of 10^-18
 abbrev pub exact_base : FloatTerms → ℤ → ℤ → ℤ
@@ -61,6 +77,11 @@ rates_of f start observed = record {
 -- the rates of a fixed stream as a function
 unfoldable pub fixed_rates_of : StepValues → ℤ → Rates
 fixed_rates_of values start = record { base = value_in_force values start; all_in = value_in_force values start }
+
+-- the rates by the leg as a function
+abbrev pub rates_by : Leg → ℤ → Option ℤ → Option Rates
+rates_by (Fixed values) start observed = Some (fixed_rates_of values start)
+rates_by (Floating float) start observed = option_map (rates_of float start) observed
 
 -- the size of an exact base rate, in units of 10^-18: the greatest multiplier times the greatest observed rate
 abbrev pub most_exact_base : ℕ

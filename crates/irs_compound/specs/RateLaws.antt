@@ -1,10 +1,12 @@
 -- A period has rates, and where the steps rise only one pair of them.
-use Rattle.std.proofs.Common.{◌≡◌, ◌-◌, ◌^◌, ℤ, pos, ◌+ℤ◌, ◌*ℤ◌, ◌≤ℤ◌, ◌<ℤ◌, refl, sym, ap, subst, ◌∙◌, arith, Bool, true, false, if◌then◌else◌}
+use Rattle.std.proofs.Common.{◌≡◌, ◌-◌, ◌^◌, ℤ, pos, ◌+ℤ◌, ◌*ℤ◌, ◌≤ℤ◌, ◌<ℤ◌, refl, sym, ap, subst, ◌∙◌, arith, Bool, true, false, if◌then◌else◌, Option, Some, None}
 use Rattle.std.specs.Prelude.{int_lt}
 use Rattle.jiff_core.proofs.SignedLemmas.{signed_arith}
 use Rattle.irs_base.specs.Rounding.{rounded}
 use Rattle.irs_base.proofs.RoundingLaws.{rounded_once, rounded_is}
 use Rattle.irs_terms.specs.declared.amounts.Rounding.{Rounding}
+use Rattle.irs_terms.specs.declared.amounts.Leg.{Leg}
+use Rattle.irs_terms.specs.declared.amounts.Leg.TheVariants.{Fixed, Floating}
 use Rattle.irs_terms.specs.declared.codes.Treatment.{Treatment}
 use Rattle.irs_terms.specs.declared.codes.Treatment.TheVariants.{AsIs, ZeroFloor}
 use Rattle.irs_terms.specs.declared.amounts.FloatTerms.{FloatTerms}
@@ -13,8 +15,8 @@ use Rattle.irs_compound.specs.declared.periods.Rates.{Rates}
 use Rattle.irs_compound.specs.InForce.{value_in_force}
 use Rattle.irs_compound.specs.InForceLaws.{in_force_is, one_in_force}
 use Rattle.irs_compound.specs.Tens.{ten_positive}
-use Rattle.irs_compound.specs.PeriodRates.{RateAt, Treats, RatesOf, FixedRatesOf, rate_at, treated, exact_base, rates_of, fixed_rates_of}
-use Rattle.irs_terms.specs.StepDates.{StepsRise}
+use Rattle.irs_compound.specs.PeriodRates.{RateAt, Treats, RatesOf, FixedRatesOf, AreRates, rate_at, treated, exact_base, rates_of, fixed_rates_of, rates_by}
+use Rattle.irs_terms.specs.StepDates.{StepsRise, LegStepsRise}
 
 same_rates : (a b : Rates) → a.base ≡ b.base → a.all_in ≡ b.all_in → a ≡ b
 same_rates a b h k =
@@ -100,3 +102,21 @@ one_fixed_rates values start a b r x y =
 pub fixed_rates_value : (values : StepValues) (start rate : ℤ) (rates : Rates) → rate ≡ value_in_force values start → rates.base ≡ rate → rates.all_in ≡ rate → rates ≡ fixed_rates_of values start
 unfolding fixed_rates_of
 fixed_rates_value values start rate rates e b a = same_rates rates (fixed_rates_of values start) (b ∙ e) (a ∙ e)
+
+-- the function gives the rates by the leg
+pub rates_by_are : (leg : Leg) (start : ℤ) (observed : Option ℤ) → AreRates leg start observed (rates_by leg start observed)
+rates_by_are (Fixed values) start observed = fixed_rates_are values start
+rates_by_are (Floating float) start None = tt
+rates_by_are (Floating float) start (Some o) = rates_are float start o
+
+-- where the steps rise, any two rates by the leg are equal
+pub one_leg_rates : (leg : Leg) (start : ℤ) (observed : Option ℤ) (x y : Option Rates) → LegStepsRise leg → AreRates leg start observed x → AreRates leg start observed y → x ≡ y
+one_leg_rates (Fixed values) start observed None y r h k = absurd h
+one_leg_rates (Fixed values) start observed (Some x) None r h k = absurd k
+one_leg_rates (Fixed values) start observed (Some x) (Some y) r h k = ap Some (one_fixed_rates values start x y r h k)
+one_leg_rates (Floating float) start None None None r h k = refl
+one_leg_rates (Floating float) start None None (Some y) r h k = absurd k
+one_leg_rates (Floating float) start None (Some x) y r h k = absurd h
+one_leg_rates (Floating float) start (Some o) None y r h k = absurd h
+one_leg_rates (Floating float) start (Some o) (Some x) None r h k = absurd k
+one_leg_rates (Floating float) start (Some o) (Some x) (Some y) r h k = ap Some (one_rates float start o x y r.0 r.1 h k)

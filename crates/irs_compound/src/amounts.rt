@@ -1,7 +1,8 @@
 //! The amount of a payment: the sum over its periods, rounded once to the decimals of its currency.
-ghost use Rattle.std.specs.Prelude.{◌≡◌, ℕ, ℤ, ◌+◌, ◌-◌, ◌*◌, ◌<◌, ◌≤◌, ◌^◌, IfOk, IfErr, OnOk, List, length, pos, ◌≤ℤ◌};
+ghost use Rattle.std.specs.Prelude.{◌≡◌, ℕ, ℤ, ◌-◌, ◌*◌, ◌≤◌, ◌^◌, IfOk, IfErr, OnOk, List, length, nat_lt, pos, ◌≤ℤ◌};
+ghost use Rattle.irs_base.specs.Order.{First};
 ghost use Rattle.irs_daycount.specs.Actual.{act_act_denominator};
-ghost use Rattle.irs_compound.specs.Amounts.{IsPayment, AllPriced, Passes, PassesFirst, Pays, RoundedAt, code_for, most_places};
+ghost use Rattle.irs_compound.specs.Amounts.{IsPayment, AllPriced, Passes, Pays, RoundedAt, code_for, most_places};
 ghost use Rattle.irs_compound.specs.Balances.{BalanceFits, Balances};
 
 use crate::balances::{Balance, next_balance};
@@ -18,8 +19,8 @@ pub fn amount_by(code: CompCode, periods: &[PeriodTerm], places: u8) -> Result<i
     requires priced { AllPriced periods.now }
     requires places_fit { places ≤ most_places }
     ensures amount { IfOk result (λ m. Pays (code_for code periods.now) periods.now places m) }
-    ensures within { OnOk result ((i : ℕ) → i < length periods.now → Passes (code_for code periods.now) periods.now i → ⊥) }
-    ensures out { IfErr result (λ e. PassesFirst (code_for code periods.now) periods.now e.period) }
+    ensures within { OnOk result ((n : ℕ) → Passes (code_for code periods.now) periods.now n → ⊥) }
+    ensures out { IfErr result (λ e. First nat_lt (Passes (code_for code periods.now) periods.now) e.period) }
 {
     compounded(code_for(code, periods), periods, places)
 }
@@ -39,8 +40,8 @@ fn compounded(code: CompCode, periods: &[PeriodTerm], places: u8) -> Result<i128
     requires priced { AllPriced periods.now }
     requires places_fit { places ≤ most_places }
     ensures amount { IfOk result (λ m. Pays code periods.now places m) }
-    ensures within { OnOk result ((i : ℕ) → i < length periods.now → Passes code periods.now i → ⊥) }
-    ensures out { IfErr result (λ e. PassesFirst code periods.now e.period) }
+    ensures within { OnOk result ((n : ℕ) → Passes code periods.now n → ⊥) }
+    ensures out { IfErr result (λ e. First nat_lt (Passes code periods.now) e.period) }
 {
     let balance = balance_of(code, periods)?;
     Ok(rounded_sum(code, balance, periods[0].frac.den, places))
@@ -51,7 +52,7 @@ fn balance_of(code: CompCode, periods: &[PeriodTerm]) -> Result<Balance, OutOfRa
     requires payment { IsPayment periods.now }
     requires priced { AllPriced periods.now }
     ensures ok { IfOk result (λ b. Balances code periods.now (length periods.now) b) }
-    ensures out { IfErr result (λ e. PassesFirst code periods.now e.period) }
+    ensures out { IfErr result (λ e. First nat_lt (Passes code periods.now) e.period) }
 {
     let mut balance = Balance { sum: 0, kept: 0 };
     let mut position: u32 = 0;

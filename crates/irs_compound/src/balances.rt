@@ -152,7 +152,8 @@ fn add_exact(before: Balance, parts: Parts, den: i64) -> Option<Balance>
     requires before_fits { unsigned_abs before.sum ≤ most_exact * unsigned_abs den }
     requires main_fits { unsigned_abs parts.main ≤ most_product }
     requires no_extra { parts.extra ≡ pos 0 }
-    ensures { SomeIff result (unsigned_abs (before.sum +ℤ amount parts) ≤ most_exact * unsigned_abs den) (record { sum = before.sum +ℤ amount parts; kept = before.kept }) }
+    ensures { SomeIff result (unsigned_abs (before.sum +ℤ amount parts) ≤ most_exact * unsigned_abs den)
+        (record { sum = before.sum +ℤ amount parts; kept = before.kept }) }
 {
     let Some(sum) = exact_sum(before.sum, parts, den) else {
         return None;
@@ -169,7 +170,8 @@ fn exact_sum(before: i128, parts: Parts, den: i64) -> Option<i128>
     requires before_fits { unsigned_abs before ≤ most_exact * unsigned_abs den }
     requires main_fits { unsigned_abs parts.main ≤ most_product }
     requires no_extra { parts.extra ≡ pos 0 }
-    ensures { SomeIff result (unsigned_abs (before +ℤ amount parts) ≤ most_exact * unsigned_abs den) (before +ℤ amount parts) }
+    ensures { SomeIff result (unsigned_abs (before +ℤ amount parts) ≤ most_exact * unsigned_abs den)
+        (before +ℤ amount parts) }
 {
     let sum = before + parts.main;
     if sum.unsigned_abs() <= MOST_EXACT * u128::from(den.unsigned_abs()) {
@@ -183,7 +185,8 @@ fn exact_sum(before: i128, parts: Parts, den: i64) -> Option<i128>
 fn add_parts(code: CompCode, before: Balance, parts: Parts) -> Option<Balance>
     requires sum_fits { unsigned_abs before.sum ≤ most_amount }
     requires kept_fits { unsigned_abs before.kept ≤ most_amount }
-    ensures { SomeIff result (PartsWithin parts (after code before parts).sum (after code before parts).kept) (after code before parts) }
+    ensures { SomeIff result (PartsWithin parts (after code before parts).sum (after code before parts).kept)
+        (after code before parts) }
 {
     if parts.main.unsigned_abs() > MOST_AMOUNT || parts.extra.unsigned_abs() > MOST_AMOUNT {
         return None;
@@ -222,7 +225,8 @@ fn add_amount(before: Balance, amount: i128, kept: i128) -> Option<Balance>
     requires kept_fits { unsigned_abs before.kept ≤ most_amount }
     requires amount_fits { unsigned_abs amount ≤ 2 * most_amount }
     requires part_fits { unsigned_abs kept ≤ 2 * most_amount }
-    ensures { SomeIff result ((unsigned_abs (before.sum +ℤ amount) ≤ most_amount) × (unsigned_abs (before.kept +ℤ kept) ≤ most_amount)) (record { sum = before.sum +ℤ amount; kept = before.kept +ℤ kept }) }
+    ensures { SomeIff result ((unsigned_abs (before.sum +ℤ amount) ≤ most_amount) × (unsigned_abs (before.kept +ℤ kept) ≤ most_amount))
+        (record { sum = before.sum +ℤ amount; kept = before.kept +ℤ kept }) }
 {
     let Some(sum) = add_within(before.sum, amount) else {
         return None;

@@ -1,5 +1,6 @@
 //! Compounding as types: one for each code, and a trait for what works with any of them.
-ghost use Rattle.std.specs.Prelude.{◌≡◌, ℕ, ℤ, ◌+◌, ◌-◌, ◌<◌, ◌≤◌, IfOk, IfErr, OnOk, List, length};
+ghost use Rattle.std.specs.Prelude.{◌≡◌, ℕ, ℤ, ◌≤◌, IfOk, IfErr, OnOk, List, nat_lt};
+ghost use Rattle.irs_base.specs.Order.{First};
 ghost use Rattle.irs_terms.specs.declared.codes.CompCode.{CompCode};
 ghost use Rattle.irs_compound.specs.declared.periods.PeriodTerm.{PeriodTerm};
 ghost use Rattle.irs_compound.specs.Amounts.{IsPayment, AllPriced, Passes, Pays, code_for, most_places};
@@ -16,6 +17,7 @@ use thiserror::Error;
 #[derive(Clone, Copy, Debug, PartialEq, Eq, Error)]
 #[error("period {period} of the payment is out of range")]
 pub struct OutOfRange {
+    /// The position of the period in its payment, from 1.
     pub period: u32,
 }
 
@@ -24,7 +26,7 @@ pub trait Compounding {
     // The amount that periods pay, in units of 10^-places.
     ghost pays: { Self → List PeriodTerm → ℕ → ℤ → Type 0 };
 
-    // The period at an index leaves the range.
+    // The period with that number, from 1, leaves the range.
     ghost passes: { Self → List PeriodTerm → ℕ → Type 0 };
 
     /// The amount of a payment, in units of 10^-places: its periods are at least one and at most as
@@ -36,14 +38,16 @@ pub trait Compounding {
         requires priced { AllPriced periods.now }
         requires places_fit { places ≤ most_places }
         ensures amount { IfOk result (λ m. pays self.now periods.now places m) }
-        ensures within { OnOk result ((i : ℕ) → i < length periods.now → passes self.now periods.now i → ⊥) }
-        ensures out { IfErr result (λ e. (1 ≤ e.period) × passes self.now periods.now (e.period - 1) × ((j : ℕ) → j + 1 < e.period → passes self.now periods.now j → ⊥)) };
+        ensures within { OnOk result ((n : ℕ) → passes self.now periods.now n → ⊥) }
+        ensures out { IfErr result (λ e. First nat_lt (passes self.now periods.now) e.period) };
 
     // Periods pay at most one amount.
-    ghost one_amount: { (s : Self) (ps : List PeriodTerm) (k : ℕ) (m n : ℤ) → IsPayment ps → pays s ps k m → pays s ps k n → m ≡ n };
+    ghost one_amount: { (s : Self) (ps : List PeriodTerm) (k : ℕ) (m n : ℤ)
+        → IsPayment ps → pays s ps k m → pays s ps k n → m ≡ n };
 
     // Where all rates are there, they pay one.
-    ghost some_amount: { (s : Self) (ps : List PeriodTerm) (k : ℕ) → IsPayment ps → AllPriced ps → (m : ℤ) × pays s ps k m };
+    ghost some_amount: { (s : Self) (ps : List PeriodTerm) (k : ℕ)
+        → IsPayment ps → AllPriced ps → (m : ℤ) × pays s ps k m };
 }
 
 /// No compounding: the sum of notional times rate times fraction, exact, rounded once.

@@ -1,16 +1,19 @@
-//! The amount of a payment by the code of its compounding, with or without all its rates.
-ghost use Rattle.std.specs.Prelude.{◌≡◌, ℕ, ℤ, ◌+◌, ◌-◌, ◌<◌, ◌≤◌, List, Option, length, IfOk, IfErr, OnOk, MatchBool};
+//! The amount of a payment by the code of its compounding, with or without all its rates: the 2006
+//! ISDA Definitions, articles 5 and 6.
+ghost use Rattle.std.specs.Prelude.{◌≡◌, ◌⊎◌, ℕ, ℤ, ◌≤◌, List, Option, IfOk, IfErr, IfSome, OnOk, MatchBool, unsigned_abs};
 ghost use Rattle.irs_compound.specs.declared.periods.Parts.{Parts};
-ghost use Rattle.irs_compound.specs.Amounts.{IsPayment, AllPriced, SomeUnpriced, Passes, PassesFirst, Follows, Pays, AmountOf, code_for, most_places};
+ghost use Rattle.irs_compound.specs.Amounts.{IsPayment, AllPriced, SomeUnpriced, IsOutOfRange, IsFirstOut, Follows, AmountOf, most_places, most_units};
 
-use crate::compounding::{Compounding, Flat, OutOfRange, Simple, SpreadExclusive, Straight};
+use crate::amounts::amount_by;
+use crate::compounding::OutOfRange;
 use crate::periods::PeriodTerm;
 use irs_terms::CompCode;
 
-/// The amount of a payment in units of 10^-places, by the code of its compounding; one period is
-/// never compounded. The conditions are those of `Compounding::amount`, but that rates may be absent:
-/// `Ok(None)` comes exactly where those of a period are, and `OutOfRange` exactly with the first
-/// period at which a rate or an amount leaves the range, where all are there.
+/// The amount of a payment in units of 10^-places, by the code of its compounding (FpML
+/// `compoundingMethod`); one period is never compounded. The conditions are those of
+/// `Compounding::amount`, but that rates may be absent: `Ok(None)` comes exactly where those of a
+/// period are, and `OutOfRange` exactly with the first period at which a rate or an amount leaves the
+/// range, where all are there. An amount is at most 10^14 units of currency in size.
 pub fn payment_amount(
     code: CompCode,
     periods: &[PeriodTerm],
@@ -18,17 +21,38 @@ pub fn payment_amount(
 ) -> Result<Option<i128>, OutOfRange>
     requires payment { IsPayment periods.now }
     requires places_fit { places ≤ most_places }
-    ensures amount { IfOk result (λ m. AmountOf code periods.now places m) }
-    ensures within { OnOk result (AllPriced periods.now → (i : ℕ) → i < length periods.now → Passes (code_for code periods.now) periods.now i → ⊥) }
-    ensures out { IfErr result (λ e. AllPriced periods.now × PassesFirst (code_for code periods.now) periods.now e.period) }
-    // Any two amounts of the periods are equal, and so are any two lists of the amounts of each.
-    ensures one_amount { (m n : Option ℤ) → AmountOf code periods.now places m → AmountOf code periods.now places n → m ≡ n }
+    ensures amount { IfOk result (AmountOf code periods.now places) }
+    ensures size { IfOk result (λ m. IfSome m (λ units. unsigned_abs units ≤ most_units places)) }
+    ensures within { OnOk result ((n : ℕ) → IsOutOfRange code periods.now n → ⊥) }
+    ensures out { IfErr result (λ e. IsFirstOut code periods.now e.period) }
+    // A period is the first that leaves the range, or none leaves it.
+    ensures decided { ((n : ℕ) × IsFirstOut code periods.now n) ⊎ ((n : ℕ) → IsOutOfRange code periods.now n → ⊥) }
+    // The periods have an amount, absent where the rates of one are; they have only one, and one list of
+    // what each of them adds; and only one period is the first that leaves the range.
+    ensures exists { (m : Option ℤ) × AmountOf code periods.now places m }
+    ensures one { (m n : Option ℤ) → AmountOf code periods.now places m → AmountOf code periods.now places n → m ≡ n }
     ensures one_list { (cs ds : List Parts) → Follows code periods.now cs → Follows code periods.now ds → cs ≡ ds }
+    ensures one_out { (m n : ℕ) → IsFirstOut code periods.now m → IsFirstOut code periods.now n → m ≡ n }
+{
+    amount_if_priced(code, periods, places)
+}
+
+fn amount_if_priced(
+    code: CompCode,
+    periods: &[PeriodTerm],
+    places: u8,
+) -> Result<Option<i128>, OutOfRange>
+    requires payment { IsPayment periods.now }
+    requires places_fit { places ≤ most_places }
+    ensures amount { IfOk result (AmountOf code periods.now places) }
+    ensures size { IfOk result (λ m. IfSome m (λ units. unsigned_abs units ≤ most_units places)) }
+    ensures within { OnOk result ((n : ℕ) → IsOutOfRange code periods.now n → ⊥) }
+    ensures out { IfErr result (λ e. IsFirstOut code periods.now e.period) }
 {
     if !all_priced(periods) {
         return Ok(None);
     }
-    match priced_amount(code, periods, places) {
+    match amount_by(code, periods, places) {
         Ok(amount) => Ok(Some(amount)),
         Err(out) => Err(out),
     }
@@ -43,20 +67,4 @@ fn all_priced(periods: &[PeriodTerm]) -> bool
         }
     }
     true
-}
-
-fn priced_amount(code: CompCode, periods: &[PeriodTerm], places: u8) -> Result<i128, OutOfRange>
-    requires payment { IsPayment periods.now }
-    requires priced { AllPriced periods.now }
-    requires places_fit { places ≤ most_places }
-    ensures amount { IfOk result (λ m. Pays (code_for code periods.now) periods.now places m) }
-    ensures within { OnOk result ((i : ℕ) → i < length periods.now → Passes (code_for code periods.now) periods.now i → ⊥) }
-    ensures out { IfErr result (λ e. PassesFirst (code_for code periods.now) periods.now e.period) }
-{
-    match code {
-        CompCode::Simple => Simple.amount(periods, places),
-        CompCode::Straight => Straight.amount(periods, places),
-        CompCode::Flat => Flat.amount(periods, places),
-        CompCode::SpreadExclusive => SpreadExclusive.amount(periods, places),
-    }
 }

@@ -29,6 +29,8 @@ pub struct PeriodTerm {
 /// compounded and the spread part. All but the first in units of 10^-6.
 #[derive(Clone, Copy, Debug, PartialEq, Eq)]
 pub struct Parts {
+    /// The exact amount; the amount; the basic amount; or the compounded part.
     pub main: i128,
+    /// The additional amount, or the spread part; 0 without compounding and with straight compounding.
     pub extra: i128,
 }

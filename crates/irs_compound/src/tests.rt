@@ -1,3 +1,4 @@
+//! Payments worked by hand, rates in each direction, and each way to leave the range.
 ghost use Rattle.std.specs.Prelude.{MatchBool, All};
 ghost use Rattle.irs_terms.specs.Lawful.{IsLawfulFloat};
 ghost use Rattle.irs_compound.specs.Amounts.{IsPayment};

@@ -41,6 +41,7 @@ fn place(d: Day) -> u32
     ensures range { result ≤ most_place }
     ensures day { IsDay d }
 {
+    // Hands the prover the range of the day.
     let _number = d.number();
     place_at(year(d), days_into_year(d))
 }
@@ -77,6 +78,7 @@ fn first_of_year(d: Day) -> Day
     ensures start { d ≡ result +ℤ pos (year_part d).1 }
     ensures range { (year_part d).1 ≤ 365 }
 {
+    // Hands the prover the range of the day.
     let _number = d.number();
     let year = civil_of(d).year;
     day_of(Civil {

@@ -30,7 +30,8 @@ pub trait DayCount {
         ensures denominator { result.den ≡ denominator_of (code self.now) };
 
     // A period has at most one fraction.
-    ghost at_most_one: { (x : Self) (s e : ℤ) (last : Bool) (f g : Frac) → Fraction (code x) s e last f → Fraction (code x) s e last g → f ≡ g };
+    ghost at_most_one: { (x : Self) (s e : ℤ) (last : Bool) (f g : Frac)
+        → Fraction (code x) s e last f → Fraction (code x) s e last g → f ≡ g };
 }
 
 /// 1/1: each period is one year. Its days are actual days by a rule of this project's own.

@@ -39,7 +39,7 @@ pub fn fraction_by(code: DayCountCode, s: Day, e: Day, last: bool) -> Frac
     // Any two fractions of the period are equal.
     ensures one { (f g : Frac) → Fraction code s e last f → Fraction code s e last g → f ≡ g }
 {
-    // Both days are in range, also where the code doesn't look at them.
+    // Hands the prover the range of both days, also where the code doesn't look at them.
     let (_start, _end) = (s.number(), e.number());
     fraction_of(code, s, e, last)
 }

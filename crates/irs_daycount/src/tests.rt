@@ -1,3 +1,4 @@
+//! Worked examples that ISDA published, and each call once.
 use crate::*;
 use irs_base::{Civil, Day, day_of};
 use irs_terms::{DayCountCode, Frac};

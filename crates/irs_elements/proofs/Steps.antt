@@ -17,16 +17,16 @@ use Rattle.irs_elements.specs.declared.table.Choice.{Choice}
 use Rattle.irs_elements.specs.declared.walk.Unmet.{Unmet}
 use Rattle.irs_base.specs.declared.places.Rule.{Rule}
 use Rattle.irs_base.specs.declared.places.Rule.TheVariants.{K2, K3, K4, K5, K7}
-use Rattle.irs_elements.specs.Order.{earlier, IsFirst}
 use Rattle.irs_elements.specs.Elements.{place, unmet_place, choice_unmet, fault_if, own_rule, name_at, is_unknown, is_element, is_refused, is_required, most, absent_index, index_in, IsMember, ShapeFault, unknown, unmet, odd, no_href, has_odd, lacks_href, FaultAt, own, shape, under, FaultUnder, missing, refused, too_many, inside, FaultAmong, MemberFault}
 use Rattle.irs_elements.proofs.First.{first_or, first_same, first_one, first_is, first_more, first_skip, Below}
+use Rattle.irs_base.specs.Order.{earlier_broken, IsFirstBroken}
 
 -- the faults that an optional rule makes
-pub first_of_rule : {A : Type 0} (at : A → Broken) (o : Option A) → IsFirst (λ f. (k : A) × ((o ≡ Some k) × (f ≡ at k))) (option_map at o)
+pub first_of_rule : {A : Type 0} (at : A → Broken) (o : Option A) → IsFirstBroken (λ f. (k : A) × ((o ≡ Some k) × (f ≡ at k))) (option_map at o)
 first_of_rule at None = λ f (k, (e, is)). cc
 first_of_rule at (Some k) = first_one _ (at k) (k, (refl, refl)) (λ g (j, (e, is)). cc)
 
-pub first_if : (f : Broken) (b : Bool) → IsFirst (λ g. (b ≡ true) × (g ≡ f)) (fault_if b f)
+pub first_if : (f : Broken) (b : Bool) → IsFirstBroken (λ g. (b ≡ true) × (g ≡ f)) (fault_if b f)
 first_if f true = first_one _ f (refl, refl) (λ g (t, is). is)
 first_if f false = λ g (t, is). cc
 
@@ -58,10 +58,10 @@ module _ (rows : List Row) (names : List (List ℕ)) (stream : ℕ) where
   to_shape r i ch d ns h f (inr (inr (e, is))) = rw is (no_href r i ch d e)
 
   abbrev pub shape_answer : ℕ → ℕ → Choice → Data → List (List ℕ) → Option Broken
-  shape_answer r i ch d ns = earlier (earlier (fault_if (list_any (is_unknown rows names r) ns) (place rows stream K4 r i)) (option_map (unmet_place rows stream r i) (choice_unmet names ch d)))
-      (earlier (fault_if (has_odd d) (place rows stream K3 r i)) (fault_if (lacks_href ch d) (place rows stream K2 r i)))
+  shape_answer r i ch d ns = earlier_broken (earlier_broken (fault_if (list_any (is_unknown rows names r) ns) (place rows stream K4 r i)) (option_map (unmet_place rows stream r i) (choice_unmet names ch d)))
+      (earlier_broken (fault_if (has_odd d) (place rows stream K3 r i)) (fault_if (lacks_href ch d) (place rows stream K2 r i)))
 
-  pub shape_first : (r i : ℕ) (ch : Choice) (d : Data) (ns : List (List ℕ)) → names_of d ≡ Some ns → IsFirst (ShapeFault rows names stream r ch i d) (shape_answer r i ch d ns)
+  pub shape_first : (r i : ℕ) (ch : Choice) (d : Data) (ns : List (List ℕ)) → names_of d ≡ Some ns → IsFirstBroken (ShapeFault rows names stream r ch i d) (shape_answer r i ch d ns)
   shape_first r i ch d ns h =
       first_same _ _ _ (to_shape r i ch d ns h) (from_shape r i ch d ns h)
       (first_or _ _ _ _
@@ -81,7 +81,7 @@ module _ (rows : List Row) (names : List (List ℕ)) (stream : ℕ) where
 
   -- a value that is no object or is not to be one
   pub own_first : (r i : ℕ) (kind : Kind) (d : Data) → ((ch : Choice) → kind ≡ Object ch → names_of d ≡ None)
-      → IsFirst (FaultAt rows names stream r kind i d) (option_map (λ k. place rows stream k r i) (own_rule kind d))
+      → IsFirstBroken (FaultAt rows names stream r kind i d) (option_map (λ k. place rows stream k r i) (own_rule kind d))
   own_first r i kind d h = first_same _ _ _ (to_own r i kind d) (from_own r i kind d h) (first_of_rule (λ k. place rows stream k r i) (own_rule kind d))
 
   -- ---- an object
@@ -98,7 +98,7 @@ module _ (rows : List Row) (names : List (List ℕ)) (stream : ℕ) where
   to_object r i ch d ns h f (inr (c, (row, (m, u)))) = under r i c ch d ns f row h m u
 
   pub object_first : (r i : ℕ) (ch : Choice) (d : Data) (ns : List (List ℕ)) (a b : Option Broken) → names_of d ≡ Some ns
-      → IsFirst (ShapeFault rows names stream r ch i d) a → IsFirst (MemberFault rows names stream r i d) b → IsFirst (FaultAt rows names stream r (Object ch) i d) (earlier a b)
+      → IsFirstBroken (ShapeFault rows names stream r ch i d) a → IsFirstBroken (MemberFault rows names stream r i d) b → IsFirstBroken (FaultAt rows names stream r (Object ch) i d) (earlier_broken a b)
   object_first r i ch d ns a b h p q = first_same _ _ _ (to_object r i ch d ns h) (from_object r i ch d ns h) (first_or _ _ _ _ p q)
 
   -- ---- the members of an object
@@ -113,7 +113,7 @@ module _ (rows : List Row) (names : List (List ℕ)) (stream : ℕ) where
   from_members : (r i : ℕ) (d : Data) (f : Broken) → MemberFault rows names stream r i d f → Below (RowFault r i d) (length rows) f
   from_members r i d f (c, (row, (m, u))) = (c, (slice_get_within rows c row m.found, (row, (m, u))))
 
-  pub members_first : (r i : ℕ) (d : Data) (a : Option Broken) → IsFirst (Below (RowFault r i d) (length rows)) a → IsFirst (MemberFault rows names stream r i d) a
+  pub members_first : (r i : ℕ) (d : Data) (a : Option Broken) → IsFirstBroken (Below (RowFault r i d) (length rows)) a → IsFirstBroken (MemberFault rows names stream r i d) a
   members_first r i d a p = first_same _ _ _ (to_members r i d) (from_members r i d) p
 
   one_row : (c : ℕ) (row row' : Row) → slice_get rows c ≡ Some row → slice_get rows c ≡ Some row' → row ≡ row'
@@ -122,13 +122,13 @@ module _ (rows : List Row) (names : List (List ℕ)) (stream : ℕ) where
   from_row : (r i c : ℕ) (d : Data) (row : Row) → IsMember rows names r c row → (f : Broken) → RowFault r i d c f → FaultUnder rows names stream c row i d f
   from_row r i c d row m f (row', (m', u)) = subst (λ (x : Row). FaultUnder rows names stream c x i d f) (one_row c row' row m'.found m.found) u
 
-  pub row_first : (r i c : ℕ) (d : Data) (row : Row) (a : Option Broken) → IsMember rows names r c row → IsFirst (FaultUnder rows names stream c row i d) a → IsFirst (RowFault r i d c) a
+  pub row_first : (r i c : ℕ) (d : Data) (row : Row) (a : Option Broken) → IsMember rows names r c row → IsFirstBroken (FaultUnder rows names stream c row i d) a → IsFirstBroken (RowFault r i d c) a
   row_first r i c d row a m p = first_same _ _ _ (λ f u. (row, (m, u))) (from_row r i c d row m) p
 
   -- ---- a member
 
   pub under_missing : (c i : ℕ) (row : Row) (d : Data) → is_element row.2 ≡ true → is_required row.3 ≡ true → child_of (name_at names c) d ≡ None
-      → IsFirst (FaultUnder rows names stream c row i d) (Some (place rows stream K2 c (absent_index row.3 i)))
+      → IsFirstBroken (FaultUnder rows names stream c row i d) (Some (place rows stream K2 c (absent_index row.3 i)))
   under_missing c i row d el rq ab = first_one _ _ (missing c i row d el rq ab) (only c i row d ab)
     where
       only : (c i : ℕ) (row : Row) (d : Data) → child_of (name_at names c) d ≡ None → (g : Broken) → FaultUnder rows names stream c row i d g → g ≡ place rows stream K2 c (absent_index row.3 i)
@@ -138,7 +138,7 @@ module _ (rows : List Row) (names : List (List ℕ)) (stream : ℕ) where
       only c i row d ab g (inside _ _ j _ _ m x _ el h le at f) = cc
 
   pub under_absent : (c i : ℕ) (row : Row) (d : Data) → ((is_element row.2 ≡ true) → is_required row.3 ≡ true → ⊥) → child_of (name_at names c) d ≡ None
-      → IsFirst (FaultUnder rows names stream c row i d) None
+      → IsFirstBroken (FaultUnder rows names stream c row i d) None
   under_absent c i row d free ab = none c i row d free ab
     where
       none : (c i : ℕ) (row : Row) (d : Data) → ((is_element row.2 ≡ true) → is_required row.3 ≡ true → ⊥) → child_of (name_at names c) d ≡ None → (g : Broken) → FaultUnder rows names stream c row i d g → ⊥
@@ -148,7 +148,7 @@ module _ (rows : List Row) (names : List (List ℕ)) (stream : ℕ) where
       none c i row d free ab g (inside _ _ j _ _ m x _ el h le at f) = cc
 
   pub under_refused : (c i : ℕ) (row : Row) (d m : Data) → is_refused row.2 ≡ true → child_of (name_at names c) d ≡ Some m
-      → IsFirst (FaultUnder rows names stream c row i d) (Some (place rows stream K5 row.0 i))
+      → IsFirstBroken (FaultUnder rows names stream c row i d) (Some (place rows stream K5 row.0 i))
   under_refused c i row d m rf h = first_one _ _ (refused c i row d m rf h) (only c i row d m (no_element row.2 rf) h)
     where
       only : (c i : ℕ) (row : Row) (d m : Data) → is_element row.2 ≡ false → child_of (name_at names c) d ≡ Some m → (g : Broken) → FaultUnder rows names stream c row i d g → g ≡ place rows stream K5 row.0 i
@@ -157,7 +157,7 @@ module _ (rows : List Row) (names : List (List ℕ)) (stream : ℕ) where
       only c i row d m nel ab g (too_many _ _ _ _ m' el h t) = cc
       only c i row d m nel ab g (inside _ _ j _ _ m' x _ el h le at f) = cc
 
-  pub under_passed : (c i : ℕ) (row : Row) (d : Data) → is_element row.2 ≡ false → is_refused row.2 ≡ false → IsFirst (FaultUnder rows names stream c row i d) None
+  pub under_passed : (c i : ℕ) (row : Row) (d : Data) → is_element row.2 ≡ false → is_refused row.2 ≡ false → IsFirstBroken (FaultUnder rows names stream c row i d) None
   under_passed c i row d nel nrf = none c i row d nel nrf
     where
       none : (c i : ℕ) (row : Row) (d : Data) → is_element row.2 ≡ false → is_refused row.2 ≡ false → (g : Broken) → FaultUnder rows names stream c row i d g → ⊥
@@ -167,7 +167,7 @@ module _ (rows : List Row) (names : List (List ℕ)) (stream : ℕ) where
       none c i row d nel nrf g (inside _ _ j _ _ m' x _ el h le at f) = cc
 
   pub under_many : (c i : ℕ) (row : Row) (d m : Data) → is_element row.2 ≡ true → is_refused row.2 ≡ false → child_of (name_at names c) d ≡ Some m
-      → most row.3 < length (items_of m) → IsFirst (FaultUnder rows names stream c row i d) (Some (place rows stream K7 c 0))
+      → most row.3 < length (items_of m) → IsFirstBroken (FaultUnder rows names stream c row i d) (Some (place rows stream K7 c 0))
   under_many c i row d m el nrf h t = first_one _ _ (too_many c i row d m el h t) (only c i row d m nrf h t)
     where
       only : (c i : ℕ) (row : Row) (d m : Data) → is_refused row.2 ≡ false → child_of (name_at names c) d ≡ Some m → most row.3 < length (items_of m)
@@ -178,7 +178,7 @@ module _ (rows : List Row) (names : List (List ℕ)) (stream : ℕ) where
       only c i row d m nrf h t g (inside _ _ j _ _ m' x _ el h' le at f) = let same : m' ≡ m = cc in let le' : length (items_of m) ≤ most row.3 = rw (sym same) le in absurd (omega arith)
 
   pub under_lawful : (c i : ℕ) (row : Row) (d m : Data) (a : Option Broken) → is_element row.2 ≡ true → is_refused row.2 ≡ false → child_of (name_at names c) d ≡ Some m
-      → length (items_of m) ≤ most row.3 → IsFirst (FaultAmong rows names stream c row.2 (index_in row.3 i) (items_of m)) a → IsFirst (FaultUnder rows names stream c row i d) a
+      → length (items_of m) ≤ most row.3 → IsFirstBroken (FaultAmong rows names stream c row.2 (index_in row.3 i) (items_of m)) a → IsFirstBroken (FaultUnder rows names stream c row i d) a
   under_lawful c i row d m a el nrf h le p = first_same _ _ a (λ f (j, (x, (at, f'))). inside c i j row d m x f el h le at f') (inner c i row d m nrf h le) p
     where
       inner : (c i : ℕ) (row : Row) (d m : Data) → is_refused row.2 ≡ false → child_of (name_at names c) d ≡ Some m → length (items_of m) ≤ most row.3
@@ -193,29 +193,29 @@ module _ (rows : List Row) (names : List (List ℕ)) (stream : ℕ) where
   abbrev pub ItemFault : ℕ → Kind → (ℕ → ℕ) → List Data → ℕ → Broken → Type 0
   ItemFault c kind at ds j f = (x : Data) × ((slice_get ds j ≡ Some x) × FaultAt rows names stream c kind (at j) x f)
 
-  pub among_first : (c : ℕ) (kind : Kind) (at : ℕ → ℕ) (ds : List Data) (a : Option Broken) → IsFirst (Below (ItemFault c kind at ds) (length ds)) a → IsFirst (FaultAmong rows names stream c kind at ds) a
+  pub among_first : (c : ℕ) (kind : Kind) (at : ℕ → ℕ) (ds : List Data) (a : Option Broken) → IsFirstBroken (Below (ItemFault c kind at ds) (length ds)) a → IsFirstBroken (FaultAmong rows names stream c kind at ds) a
   among_first c kind at ds a p = first_same _ _ a (λ f (j, (h, (x, (e, f')))). (j, (x, (e, f')))) (λ f (j, (x, (e, f'))). (j, (slice_get_within ds j x e, (x, (e, f'))))) p
 
   pub item_first : (c : ℕ) (kind : Kind) (at : ℕ → ℕ) (j : ℕ) (ds : List Data) (x : Data) (a : Option Broken) → slice_get ds j ≡ Some x
-      → IsFirst (FaultAt rows names stream c kind (at j) x) a → IsFirst (ItemFault c kind at ds j) a
+      → IsFirstBroken (FaultAt rows names stream c kind (at j) x) a → IsFirstBroken (ItemFault c kind at ds j) a
   item_first c kind at j ds x a e p = first_same _ _ a (λ f f'. (x, (e, f'))) (λ f (y, (e', f')). let same : y ≡ x = cc in subst (λ (z : Data). FaultAt rows names stream c kind (at j) z f) same f') p
 
   -- ---- steps of the two loops
 
   pub member_step : (r i c : ℕ) (d : Data) (row : Row) (a b s : Option Broken) → slice_get rows c ≡ Some row → row.0 ≡ r → r < c
-      → s ≡ earlier a b → IsFirst (Below (RowFault r i d) c) a → IsFirst (FaultUnder rows names stream c row i d) b → IsFirst (Below (RowFault r i d) (c + 1)) s
+      → s ≡ earlier_broken a b → IsFirstBroken (Below (RowFault r i d) c) a → IsFirstBroken (FaultUnder rows names stream c row i d) b → IsFirstBroken (Below (RowFault r i d) (c + 1)) s
   member_step r i c d row a b s found up later e p q =
       first_is _ _ s e (first_more (RowFault r i d) c a b p (row_first r i c d row b (record { found = found; parent = up; later = later }) q))
 
   pub other_step : (r i c : ℕ) (d : Data) (row : Row) (a s : Option Broken) → slice_get rows c ≡ Some row → (row.0 ≡ r → r < c → ⊥)
-      → s ≡ a → IsFirst (Below (RowFault r i d) c) a → IsFirst (Below (RowFault r i d) (c + 1)) s
+      → s ≡ a → IsFirstBroken (Below (RowFault r i d) c) a → IsFirstBroken (Below (RowFault r i d) (c + 1)) s
   other_step r i c d row a s found apart e p =
       first_is _ _ s e (first_skip (RowFault r i d) c a p (λ f (row', (m, u)). let same : row' ≡ row = one_row c row' row m.found found in apart (rw (sym same) m.parent) m.later))
 
   pub item_step : (c : ℕ) (kind : Kind) (at : ℕ → ℕ) (j i : ℕ) (vs : List Value) (v : Value) (a b s : Option Broken) → slice_get vs j ≡ Some v → i ≡ at j
-      → s ≡ earlier a b → IsFirst (Below (ItemFault c kind at (map view vs)) j) a → IsFirst (FaultAt rows names stream c kind i (view v)) b
-      → IsFirst (Below (ItemFault c kind at (map view vs)) (j + 1)) s
+      → s ≡ earlier_broken a b → IsFirstBroken (Below (ItemFault c kind at (map view vs)) j) a → IsFirstBroken (FaultAt rows names stream c kind i (view v)) b
+      → IsFirstBroken (Below (ItemFault c kind at (map view vs)) (j + 1)) s
   item_step c kind at j i vs v a b s found place e p q =
       let seen : slice_get (map view vs) j ≡ Some (view v) = slice_get-map view vs j ∙ ap (option_map view) found in
-      let q' : IsFirst (FaultAt rows names stream c kind (at j) (view v)) b = rw (sym place) q in
+      let q' : IsFirstBroken (FaultAt rows names stream c kind (at j) (view v)) b = rw (sym place) q in
       first_is _ _ s e (first_more (ItemFault c kind at (map view vs)) j a b p (item_first c kind at j (map view vs) (view v) b seen q'))

@@ -1,4 +1,3 @@
-pub mod Order
 pub mod Lines
 pub mod Decimals
 pub mod Dates

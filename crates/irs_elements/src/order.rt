@@ -1,7 +1,7 @@
 //! The order in which broken rules are told, this project's own: the lower stream first, then the
 //! lower rule, then the earlier element, then the lower index.
-ghost use Rattle.irs_elements.specs.Order.{earlier as earlier_of, is_before, is_before_in};
 ghost use Rattle.std.specs.Prelude.{◌≡◌};
+ghost use Rattle.irs_base.specs.Order.{earlier_broken as earlier_of, is_before, is_before_in};
 
 use irs_base::Broken;
 

@@ -3,12 +3,12 @@
 //! The walk goes down the table and not down the value: each row's members stand behind it. It keeps
 //! nothing on the way, each step answers the first broken rule of its part.
 ghost use Rattle.irs_elements.specs.Elements.{FaultAmong, FaultAt, FaultUnder, MemberFault, ShapeFault, absent_index as absent_index_of, choice_unmet as choice_unmet_of, elem_at, elem_of, fault_if, has_odd, index_in as index_in_of, is_element as is_element_of, is_known as is_known_in, is_odd as is_odd_of, is_refused as is_refused_of, is_required as is_required_of, is_unknown, lacks_href as lacks_href_of, most as most_of, name_at, own_rule as own_rule_of, place, stands as stands_of, texts, unmet_place};
-ghost use Rattle.irs_elements.specs.Order.{IsFirst};
 ghost use Rattle.irs_json.specs.Carrier.{child_of};
 ghost use Rattle.irs_json.specs.Names.{names_of};
 ghost use Rattle.serde_json.specs.View.{view};
 ghost use Rattle.std.specs.List.{list_any};
 ghost use Rattle.std.specs.Prelude.{◌≡◌, ◌+◌, ◌<◌, ◌≤◌, Some, length, map, option_map};
+ghost use Rattle.irs_base.specs.Order.{IsFirstBroken};
 
 use crate::leaves::leaf_rule;
 use crate::order::earlier;
@@ -306,7 +306,7 @@ fn shape_fault(
     listed: MemberIter<'_>,
 ) -> Option<Broken>
     requires { names_of (view v.now) ≡ Some listed }
-    ensures { IsFirst (ShapeFault rows.now (texts names.now) stream r choice index (view v.now)) result }
+    ensures { IsFirstBroken (ShapeFault rows.now (texts names.now) stream r choice index (view v.now)) result }
 {
     let unknown = unknown_fault(rows, names, stream, r, index, listed);
     let chosen = choice_fault(rows, names, stream, r, choice, index, v);
@@ -327,7 +327,7 @@ pub fn first_fault(
     index: u32,
     v: &Value,
 ) -> Option<Broken>
-    ensures { IsFirst (FaultAt rows.now (texts names.now) stream r kind index (view v.now)) result }
+    ensures { IsFirstBroken (FaultAt rows.now (texts names.now) stream r kind index (view v.now)) result }
 {
     match kind {
         Kind::Object(choice) => match members(v) {
@@ -353,7 +353,7 @@ fn members_fault(
     index: u32,
     v: &Value,
 ) -> Option<Broken>
-    ensures { IsFirst (MemberFault rows.now (texts names.now) stream r index (view v.now)) result }
+    ensures { IsFirstBroken (MemberFault rows.now (texts names.now) stream r index (view v.now)) result }
 {
     let mut first = None;
     for c in 0..rows.len() {
@@ -376,7 +376,7 @@ fn fault_under(
     index: u32,
     v: &Value,
 ) -> Option<Broken>
-    ensures { IsFirst (FaultUnder rows.now (texts names.now) stream c row index (view v.now)) result }
+    ensures { IsFirstBroken (FaultUnder rows.now (texts names.now) stream c row index (view v.now)) result }
 {
     match child(v, name_of(names, c)) {
         None => if is_element(row.2) && is_required(row.3) {
@@ -412,7 +412,7 @@ fn fault_among(
     list: &[Value],
 ) -> Option<Broken>
     requires { length list.now ≤ most_of row.3 }
-    ensures { IsFirst (FaultAmong rows.now (texts names.now) stream c row.2 (index_in_of row.3 index) (map view list.now)) result }
+    ensures { IsFirstBroken (FaultAmong rows.now (texts names.now) stream c row.2 (index_in_of row.3 index) (map view list.now)) result }
 {
     let mut first = None;
     for j in 0..list.len() {

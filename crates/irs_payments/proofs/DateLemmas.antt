@@ -22,24 +22,24 @@ use Rattle.irs_base.specs.Members.{day_at}
 use Rattle.irs_terms.specs.DayTypes.{IsSaid}
 use Rattle.irs_base.proofs.MemberLemmas.{numbered_push}
 
-kind_leaves : (pay : PayTerms) (set : DaySet) (start : ℤ) (kind : DayKind) → pay.offset.kind ≡ kind → IsSaid pay → MovesNowhere pay set start → no_move_of kind ≡ OutOfRange → kind ≡ Calendar
+kind_leaves : (pay : PayTerms) (set : DaySet) (start : ℤ) (kind : DayKind) → pay.offset.kind ≡ kind → IsSaid pay.offset → MovesNowhere pay set start → no_move_of kind ≡ OutOfRange → kind ≡ Calendar
 kind_leaves pay set start Business e said none h = absurd (cc)
 kind_leaves pay set start Calendar e said none h = refl
 kind_leaves pay set start Unsaid e said none h = elim said [ inl zero ↦ absurd (none start (inl (zero, refl))) | inr kind ↦ absurd (kind e) ]
 
-pub leaves_by : (pay : PayTerms) (set : DaySet) (start : ℤ) → IsSaid pay → MovesNowhere pay set start → no_move_of pay.offset.kind ≡ OutOfRange → pay.offset.kind ≡ Calendar
+pub leaves_by : (pay : PayTerms) (set : DaySet) (start : ℤ) → IsSaid pay.offset → MovesNowhere pay set start → no_move_of pay.offset.kind ≡ OutOfRange → pay.offset.kind ≡ Calendar
 leaves_by pay set start said none h = kind_leaves pay set start pay.offset.kind refl said none h
 
-paid_lacks : (pay : PayTerms) (set : DaySet) (start r : ℤ) → IsPaymentDate pay set start r → LacksResult pay set start → ⊥
+pub paid_lacks : (pay : PayTerms) (set : DaySet) (start r : ℤ) → IsPaymentDate pay set start r → LacksResult pay set start → ⊥
 paid_lacks pay set start r h (inl none) = none.1 h.moved h.moves
 paid_lacks pay set start r h (inr off) =
     let same = one_moved pay.offset set start h.moved off.moved h.moves off.moves in
     off.none r (subst (λ (x : ℤ). Adjusts pay.adj.code set x r) same h.adjusts)
 
-paid_leaves : (pay : PayTerms) (set : DaySet) (start r : ℤ) → IsPaymentDate pay set start r → LeavesRange pay set start → ⊥
+pub paid_leaves : (pay : PayTerms) (set : DaySet) (start r : ℤ) → IsPaymentDate pay set start r → LeavesRange pay set start → ⊥
 paid_leaves pay set start r h none = none.1 h.moved h.moves
 
-leaves_lacks : (pay : PayTerms) (set : DaySet) (start : ℤ) → LeavesRange pay set start → LacksResult pay set start → ⊥
+pub leaves_lacks : (pay : PayTerms) (set : DaySet) (start : ℤ) → LeavesRange pay set start → LacksResult pay set start → ⊥
 leaves_lacks pay set start h (inl none) = let kinds : Calendar ≡ Business = sym h.0 ∙ none.0 in absurd (cc)
 leaves_lacks pay set start h (inr off) = h.1 off.moved off.moves
 

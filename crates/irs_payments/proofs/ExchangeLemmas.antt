@@ -22,7 +22,7 @@ use Rattle.irs_payments.specs.Exchanges.{initial_of, change, changes, intermedia
 use Rattle.irs_base.proofs.MemberLemmas.{one_paired}
 
 -- a power of ten is above 0
-ten_power : (n : ℕ) → 0 < 10 ^ n
+pub ten_power : (n : ℕ) → 0 < 10 ^ n
 ten_power zero = omega arith
 ten_power (suc n) = omega (arith, ten_power n)
 

@@ -4,6 +4,11 @@ pub mod FirstFaults
 pub mod NumberLemmas
 pub mod StepLemmas
 pub mod ExchangeLemmas
+pub mod ExchangesThere
 pub mod DateLemmas
 pub mod CutLemmas
 pub mod PaymentLemmas
+pub mod CutsThere
+pub mod GroupingLemmas
+pub mod PaymentsThere
+pub mod PaymentsCover

@@ -1,27 +1,28 @@
 -- Payments by the places of the walk are the payments of the stream, and their faults its faults.
-use Rattle.std.proofs.Common.{◌≡◌, inl, inr, ℕ, zero, suc, ◌+◌, ◌-◌, ◌<◌, ◌≤◌, List, ◌∷◌, length, arith, refl, sym, ◌∙◌, subst, ap, ℤ, ◌<ℤ◌, ◌≤ℤ◌}
+use Rattle.std.proofs.Common.{◌≡◌, inl, inr, ℕ, zero, suc, ◌+◌, ◌-◌, ◌<◌, ◌≤◌, List, ◌∷◌, length, arith, refl, sym, ◌∙◌, subst, ap, false, ℤ, ◌<ℤ◌, ◌≤ℤ◌}
 use Rattle.std.proofs.lemmas.Bool.{cases_lt}
 use Rattle.jiff_core.proofs.SignedLemmas.{signed_arith}
-use Rattle.irs_base.specs.Elements.{payment_dates}
+use Rattle.irs_base.specs.Elements.{payment_dates, first_payment_date, last_regular_payment_date}
 use Rattle.irs_base.specs.Listed.{Member, IsRising, RunsFromTo}
 use Rattle.irs_base.proofs.Rising.{one_rising}
-use Rattle.irs_base.specs.declared.places.Rule.TheVariants.{K33, K38}
-use Rattle.irs_base.specs.declared.places.Broken.{Broken}
+use Rattle.irs_base.specs.declared.places.Rule.TheVariants.{K33, K35, K38}
+use Rattle.irs_base.specs.declared.places.Fault.{Fault}
 use Rattle.irs_terms.specs.declared.codes.Relative.{Relative}
 use Rattle.irs_terms.specs.declared.codes.Relative.TheVariants.{Start, End}
 use Rattle.irs_terms.specs.declared.results.Payment.{Payment}
 use Rattle.irs_terms.specs.FirstDay.{first_day_of}
 use Rattle.irs_terms.specs.declared.stream.Stream.{Stream}
 use Rattle.irs_calendar.specs.GoodDays.{DaySet}
-use Rattle.irs_payments.specs.Faults.{broken_at, turn, ComesBefore, IsFirst}
+use Rattle.irs_base.specs.Faults.{fault_at}
+use Rattle.irs_base.specs.Order.{First, comes_before}
 use Rattle.irs_payments.specs.Grouping.{BreaksGrouping}
 use Rattle.irs_payments.specs.Cuts.{days_at, EachPlace, EndsAt, IsCut, AreCuts, cut_at}
 use Rattle.irs_payments.specs.Places.{ArePlaces}
 use Rattle.irs_payments.specs.PaymentDates.{IsPaymentDate, LacksResult, LeavesRange}
 use Rattle.irs_payments.specs.Payments.{pay_place, CoversPeriods, IsPayment, ArePayments, Covers, PaysFrom, IsLacking, IsLeaving, BreaksDates}
-use Rattle.irs_payments.specs.Dating.{date_place, IsCutPayment, NoneLacks, NoneLeaves, ArePaid, LeavesFirst, LacksFirst, IsDateFault}
+use Rattle.irs_payments.specs.Dating.{date_place, IsCutPayment, NoneLacks, NoneLeaves, ArePaid, LacksFirst, OnlyLeaves, IsDateFault}
 use Rattle.irs_payments.proofs.PlaceLemmas.{rises_at, place_below, place_same}
-use Rattle.irs_payments.proofs.FirstFaults.{before_index}
+use Rattle.irs_payments.proofs.FirstFaults.{told, not_before_index, not_before_rule, not_before_turn}
 use Rattle.irs_payments.proofs.DateLemmas.{one_date}
 use Rattle.irs_payments.proofs.CutLemmas.{pay_listed, pay_at, length-pay, cut_places, cut_last, one_pay}
 use Rattle.irs_base.specs.Members.{day_at, EachNumbered}
@@ -60,13 +61,6 @@ place_low Start j = omega arith
 place_low End j = omega arith
 
 -- faults
-
-k38_late : (e m n : ℕ) → ComesBefore (broken_at K38 e m) (broken_at K33 e n) → ⊥
-k38_late e m n (inl l) = omega arith
-k38_late e m n (inr r) = omega (arith, r.0)
-
-before_this : (x y z : Broken) → y ≡ z → ComesBefore y x → ComesBefore z x
-before_this x y z e h = subst (λ (w : Broken). ComesBefore w x) e h
 
 module _ (s : Stream) (set : DaySet) (b a : List ℤ) (run : RunsFromTo (first_day_of s) s.termination.day b) (later : List ℕ) (rising : IsRising (days_at b later)) (sound : EachPlace (IsCut s b (length b)) later) (complete : (place : ℕ) → 1 ≤ place → place < length b → EndsAt s b place → Member (day_at b place) (days_at b later)) where
   places : ArePlaces b (0 ∷ later)
@@ -142,43 +136,45 @@ module _ (s : Stream) (set : DaySet) (b a : List ℤ) (run : RunsFromTo (first_d
   leaves_at : (j : ℕ) → IsLeaving s set b a j → LeavesRange s.pay set (day_at a (date_place s (0 ∷ later) j))
   leaves_at j h = subst (λ (z : ℤ). LeavesRange s.pay set z) (start_same j h.start h.pays) h.leaves
 
-  no_fault : NoneLacks s set a (0 ∷ later) (length (0 ∷ later)) → NoneLeaves s set a (0 ∷ later) (length (0 ∷ later)) → (x : Broken) → BreaksDates s set b a x → ⊥
-  no_fault lacks leaves x h = elim h.breaks [
+  no_fault : NoneLacks s set a (0 ∷ later) (length (0 ∷ later)) → NoneLeaves s set a (0 ∷ later) (length (0 ∷ later)) → (f : Fault) → BreaksDates s set b a f → ⊥
+  no_fault lacks leaves f h = elim h.breaks [
     | inl k ↦ lacks h.number k.0.pays.from_one (pays_within h.number k.0.start k.0.pays) (lacks_at h.number k.0)
     | inr k ↦ leaves h.number k.0.pays.from_one (pays_within h.number k.0.start k.0.pays) (leaves_at h.number k.0)
   ]
 
-  first_lacks : (n : ℕ) → LacksFirst s set a (0 ∷ later) n → IsFirst (BreaksDates s set b a) (broken_at K33 payment_dates n)
-  first_lacks n h = record {
-    is_fault = record {
+  first_lacks : (n : ℕ) → LacksFirst s set a (0 ∷ later) n → First comes_before (BreaksDates s set b a) (fault_at K33 payment_dates n)
+  first_lacks n h = (
+    record {
       number = n;
       breaks = inl (record { start = day_at a (date_place s (0 ∷ later) n); pays = starts_at n h.from_one h.below; lacks = h.lacks }, refl);
-    };
-    none_before = λ y k before. elim k.breaks [
-      | inl f ↦
-          let less = before_index K33 payment_dates k.number n (before_this (broken_at K33 payment_dates n) y (broken_at K33 payment_dates k.number) f.1 before) in
-          h.none_before k.number f.0.pays.from_one less (lacks_at k.number f.0)
-      | inr f ↦ k38_late payment_dates k.number n (before_this (broken_at K33 payment_dates n) y (broken_at K38 payment_dates k.number) f.1 before)
-    ];
-  }
+    },
+    λ g k. elim k.breaks [
+      | inl c ↦
+          told (fault_at K33 payment_dates n) g (fault_at K33 payment_dates n) (fault_at K33 payment_dates k.number) refl c.1
+          (not_before_index K33 payment_dates k.number n (λ less. h.none_before k.number c.0.pays.from_one less (lacks_at k.number c.0)))
+      | inr c ↦
+          told (fault_at K33 payment_dates n) g (fault_at K33 payment_dates n) (fault_at K38 payment_dates k.number) refl c.1
+          (not_before_rule K33 K38 payment_dates payment_dates k.number n refl (omega arith))
+    ],
+  )
 
-  first_leaves : (n : ℕ) → NoneLacks s set a (0 ∷ later) (length (0 ∷ later)) → LeavesFirst s set a (0 ∷ later) (length (0 ∷ later)) n → IsFirst (BreaksDates s set b a) (broken_at K38 payment_dates n)
-  first_leaves n none h = record {
-    is_fault = record {
+  first_leaves : (n : ℕ) → OnlyLeaves s set a (0 ∷ later) n → First comes_before (BreaksDates s set b a) (fault_at K38 payment_dates n)
+  first_leaves n h = (
+    record {
       number = n;
-      breaks = inr (record { start = day_at a (date_place s (0 ∷ later) n); pays = starts_at n h.from_one h.below; leaves = h.leaves }, refl);
-    };
-    none_before = λ y k before. elim k.breaks [
-      | inl f ↦ none k.number f.0.pays.from_one (pays_within k.number f.0.start f.0.pays) (lacks_at k.number f.0)
-      | inr f ↦
-          let less = before_index K38 payment_dates k.number n (before_this (broken_at K38 payment_dates n) y (broken_at K38 payment_dates k.number) f.1 before) in
-          h.none_before k.number f.0.pays.from_one less (leaves_at k.number f.0)
-    ];
-  }
+      breaks = inr (record { start = day_at a (date_place s (0 ∷ later) n); pays = starts_at n h.first.from_one h.first.below; leaves = h.first.leaves }, refl);
+    },
+    λ g k. elim k.breaks [
+      | inl c ↦ absurd (h.results k.number c.0.pays.from_one (pays_within k.number c.0.start c.0.pays) (lacks_at k.number c.0))
+      | inr c ↦
+          told (fault_at K38 payment_dates n) g (fault_at K38 payment_dates n) (fault_at K38 payment_dates k.number) refl c.1
+          (not_before_index K38 payment_dates k.number n (λ less. h.first.none_before k.number c.0.pays.from_one less (leaves_at k.number c.0)))
+    ],
+  )
 
-  first_date_fault : (n : ℕ) (x : Broken) → IsDateFault s set a (0 ∷ later) n x → IsFirst (BreaksDates s set b a) x
-  first_date_fault n x (inl h) = subst (IsFirst (BreaksDates s set b a)) (sym h.1) (first_lacks n h.0)
-  first_date_fault n x (inr h) = subst (IsFirst (BreaksDates s set b a)) (sym h.2) (first_leaves n h.0 h.1)
+  first_date_fault : (n : ℕ) (f : Fault) → IsDateFault s set a (0 ∷ later) n f → First comes_before (BreaksDates s set b a) f
+  first_date_fault n f (inl h) = subst (First comes_before (BreaksDates s set b a)) (sym h.1) (first_lacks n h.0)
+  first_date_fault n f (inr h) = subst (First comes_before (BreaksDates s set b a)) (sym h.1) (first_leaves n h.0)
 
 -- the same from what the walk gives
 
@@ -192,13 +188,13 @@ payments_cover s set b a cuts term run h ps paid =
     let same : cut_at (0 ∷ h.later) (length (0 ∷ h.later) - 1) ≡ length b - 1 = omega (arith, last) in
     subst (λ (n : ℕ). Covers 1 ps n) same moved.covers
 
-pub payments_unbroken : (s : Stream) (set : DaySet) (b a : List ℤ) (cuts : List ℕ) → RunsFromTo (first_day_of s) s.termination.day b → AreCuts s b (length b) cuts → NoneLacks s set a cuts (length cuts) → NoneLeaves s set a cuts (length cuts) → (x : Broken) → BreaksDates s set b a x → ⊥
+pub payments_unbroken : (s : Stream) (set : DaySet) (b a : List ℤ) (cuts : List ℕ) → RunsFromTo (first_day_of s) s.termination.day b → AreCuts s b (length b) cuts → NoneLacks s set a cuts (length cuts) → NoneLeaves s set a cuts (length cuts) → (x : Fault) → BreaksDates s set b a x → ⊥
 payments_unbroken s set b a cuts run h lacks leaves =
     no_fault s set b a run h.later h.rising h.sound h.complete
     (subst (λ (cs : List ℕ). NoneLacks s set a cs (length cs)) h.from_zero lacks)
     (subst (λ (cs : List ℕ). NoneLeaves s set a cs (length cs)) h.from_zero leaves)
 
-pub payments_first : (s : Stream) (set : DaySet) (b a : List ℤ) (cuts : List ℕ) → RunsFromTo (first_day_of s) s.termination.day b → AreCuts s b (length b) cuts → (n : ℕ) (x : Broken) → IsDateFault s set a cuts n x → IsFirst (BreaksDates s set b a) x
+pub payments_first : (s : Stream) (set : DaySet) (b a : List ℤ) (cuts : List ℕ) → RunsFromTo (first_day_of s) s.termination.day b → AreCuts s b (length b) cuts → (n : ℕ) (x : Fault) → IsDateFault s set a cuts n x → First comes_before (BreaksDates s set b a) x
 payments_first s set b a cuts run h n x fault =
     first_date_fault s set b a run h.later h.rising h.sound h.complete n x (subst (λ (cs : List ℕ). IsDateFault s set a cs n x) h.from_zero fault)
 
@@ -220,19 +216,15 @@ pub few_places : (b : List ℤ) (cuts : List ℕ) → ArePlaces b cuts → 0 < l
 few_places b cuts h some = omega (arith, place_high b cuts h (length cuts - 1) (omega arith), h.within (length cuts - 1) (omega arith))
 
 -- a date fault doesn't come before one of the grouping
-grouping_turn : (s : Stream) (b : List ℤ) (x : Broken) → BreaksGrouping s b x → turn x.rule ≡ 0
-grouping_turn s b x (inl g) = ap (λ (w : Broken). turn w.rule) g.1
-grouping_turn s b x (inr g) = ap (λ (w : Broken). turn w.rule) g.1
-
-dates_turn : (s : Stream) (set : DaySet) (b a : List ℤ) (y : Broken) → BreaksDates s set b a y → 1 ≤ turn y.rule
-dates_turn s set b a y d = elim d.breaks [
-  | inl f ↦ subst (λ (w : Broken). 1 ≤ turn w.rule) (sym f.1) (omega arith)
-  | inr f ↦ subst (λ (w : Broken). 1 ≤ turn w.rule) (sym f.1) (omega arith)
+late_date : (s : Stream) (set : DaySet) (b a : List ℤ) (elem : ℕ) (f g : Fault) → f ≡ fault_at K35 elem 0 → BreaksDates s set b a g → comes_before g f ≡ false
+late_date s set b a elem f g is d = elim d.breaks [
+  | inl c ↦ told f g (fault_at K35 elem 0) (fault_at K33 payment_dates d.number) is c.1 (not_before_turn K35 K33 elem payment_dates d.number 0 (omega arith))
+  | inr c ↦ told f g (fault_at K35 elem 0) (fault_at K38 payment_dates d.number) is c.1 (not_before_turn K35 K38 elem payment_dates d.number 0 (omega arith))
 ]
 
-pub dates_late : (s : Stream) (set : DaySet) (b a : List ℤ) (x y : Broken) → BreaksGrouping s b x → BreaksDates s set b a y → ComesBefore y x → ⊥
-dates_late s set b a x y g d (inl l) = omega (arith, l, grouping_turn s b x g, dates_turn s set b a y d)
-dates_late s set b a x y g d (inr r) = omega (arith, r.0, grouping_turn s b x g, dates_turn s set b a y d)
+pub dates_late : (s : Stream) (set : DaySet) (b a : List ℤ) (f g : Fault) → BreaksGrouping s b f → BreaksDates s set b a g → comes_before g f ≡ false
+dates_late s set b a f g (inl h) d = late_date s set b a first_payment_date f g h.1 d
+dates_late s set b a f g (inr h) d = late_date s set b a last_regular_payment_date f g h.1 d
 
 -- one list of payments
 

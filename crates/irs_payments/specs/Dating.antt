@@ -2,13 +2,13 @@
 use Rattle.std.specs.Prelude.{◌≡◌, ◌⊎◌, ℕ, ◌+◌, ◌-◌, ◌<◌, ◌≤◌, List, [], ◌∷◌, ◌++◌, length, Option, Some, None, Result, Ok, Err, ℤ}
 use Rattle.irs_base.specs.Elements.{payment_dates}
 use Rattle.irs_base.specs.declared.places.Rule.TheVariants.{K33, K38}
-use Rattle.irs_base.specs.declared.places.Broken.{Broken}
+use Rattle.irs_base.specs.declared.places.Fault.{Fault}
 use Rattle.irs_terms.specs.declared.results.Payment.{Payment}
 use Rattle.irs_terms.specs.declared.stream.Stream.{Stream}
 use Rattle.irs_calendar.specs.GoodDays.{DaySet}
 use Rattle.irs_payments.specs.declared.dating.NoDate.{NoDate}
 use Rattle.irs_payments.specs.declared.dating.NoDate.TheVariants.{NoResult, OutOfRange}
-use Rattle.irs_payments.specs.Faults.{broken_at}
+use Rattle.irs_base.specs.Faults.{fault_at}
 use Rattle.irs_payments.specs.Cuts.{cut_at}
 use Rattle.irs_payments.specs.PaymentDates.{IsPaymentDate, LacksResult, LeavesRange}
 use Rattle.irs_payments.specs.Payments.{pay_place, Covers}
@@ -69,12 +69,20 @@ IsOutcome s set boundaries adjusted cuts j (Ok p) = IsCutPayment s set boundarie
 IsOutcome s set boundaries adjusted cuts j (Err OutOfRange) = LeavesRange s.pay set (day_at adjusted (date_place s cuts j))
 IsOutcome s set boundaries adjusted cuts j (Err NoResult) = LacksResult s.pay set (day_at adjusted (date_place s cuts j))
 
--- K33 of the first payment that lacks a result; else K38 of the first one that leaves the range
+-- payment n is the first that lacks a result
 pub record LacksFirst (s : Stream) (set : DaySet) (adjusted : List ℤ) (cuts : List ℕ) (n : ℕ) : Type 0 where
   pub from_one : 1 ≤ n
   pub below : n < length cuts
   pub lacks : LacksResult s.pay set (day_at adjusted (date_place s cuts n))
   pub none_before : NoneLacks s set adjusted cuts n
 
-abbrev pub IsDateFault : Stream → DaySet → List ℤ → List ℕ → ℕ → Broken → Type 0
-IsDateFault s set adjusted cuts n x = (LacksFirst s set adjusted cuts n × (x ≡ broken_at K33 payment_dates n)) ⊎ (NoneLacks s set adjusted cuts (length cuts) × LeavesFirst s set adjusted cuts (length cuts) n × (x ≡ broken_at K38 payment_dates n))
+-- none lacks a result, and payment n is the first that leaves the range
+pub record OnlyLeaves (s : Stream) (set : DaySet) (adjusted : List ℤ) (cuts : List ℕ) (n : ℕ) : Type 0 where
+  pub results : NoneLacks s set adjusted cuts (length cuts)
+  pub first : LeavesFirst s set adjusted cuts (length cuts) n
+
+-- K33 of the first payment that lacks a result; else K38 of the first one that leaves the range
+abbrev pub IsDateFault : Stream → DaySet → List ℤ → List ℕ → ℕ → Fault → Type 0
+IsDateFault s set adjusted cuts n f =
+    (LacksFirst s set adjusted cuts n × (f ≡ fault_at K33 payment_dates n)) ⊎
+    (OnlyLeaves s set adjusted cuts n × (f ≡ fault_at K38 payment_dates n))

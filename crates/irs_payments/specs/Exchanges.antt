@@ -5,7 +5,7 @@ use Rattle.irs_base.specs.Rounding.{Rounded}
 use Rattle.irs_base.specs.Elements.{principal_exchanges}
 use Rattle.irs_base.specs.declared.rounding.Direction.TheVariants.{Nearest}
 use Rattle.irs_base.specs.declared.places.Rule.TheVariants.{K33}
-use Rattle.irs_base.specs.declared.places.Broken.{Broken}
+use Rattle.irs_base.specs.declared.places.Fault.{Fault}
 use Rattle.irs_terms.specs.Currencies.{decimals_of}
 use Rattle.irs_terms.specs.declared.step_list.Step.{Step}
 use Rattle.irs_terms.specs.declared.results.Exchange.{Exchange}
@@ -65,5 +65,5 @@ abbrev pub LacksDay : Stream → DaySet → Transfer → Type 0
 LacksDay s set t = (r : ℤ) → Adjusts s.pay.adj.code set t.date r → ⊥
 
 -- K33 of exchanges is broken: the date of one of them has no adjusted day
-abbrev pub BreaksExchanges : Stream → DaySet → Broken → Type 0
-BreaksExchanges s set x = BreaksIn K33 principal_exchanges (LacksDay s set) (transfers_of s) x
+abbrev pub BreaksExchanges : Stream → DaySet → Fault → Type 0
+BreaksExchanges s set f = BreaksIn K33 principal_exchanges (LacksDay s set) (transfers_of s) f

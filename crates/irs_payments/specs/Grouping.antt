@@ -2,14 +2,14 @@
 -- Boundaries are those of the calculation periods, numbered from 0. The first day is that of the first
 -- calculation period, which may begin before the effective date.
 use Rattle.std.specs.Prelude.{◌≡◌, ◌⊎◌, Bool, List, ◌∷◌, Option, Some, None, IfSome, if◌then◌else◌, ℤ, ◌≤ℤ◌, ◌<ℤ◌}
-use Rattle.irs_base.specs.Listed.{Member, IsRising, Lists}
+use Rattle.irs_base.specs.Listed.{Member, Lists}
 use Rattle.irs_base.specs.Elements.{first_payment_date, last_regular_payment_date}
 use Rattle.irs_base.specs.declared.places.Rule.TheVariants.{K35}
-use Rattle.irs_base.specs.declared.places.Broken.{Broken}
+use Rattle.irs_base.specs.declared.places.Fault.{Fault}
 use Rattle.irs_terms.specs.FirstDay.{first_day_of}
 use Rattle.irs_terms.specs.declared.stream.Stream.{Stream}
 use Rattle.irs_roll.specs.Rolls.{OnGrid}
-use Rattle.irs_payments.specs.Faults.{broken_at}
+use Rattle.irs_base.specs.Faults.{fault_at}
 use Rattle.irs_terms.specs.Lengths.{same_length}
 use Rattle.irs_base.specs.Members.{day_at}
 
@@ -59,6 +59,14 @@ pub record IsBadLast (s : Stream) (boundaries : List ℤ) : Type 0 where
   pub early : last ≡ s.termination.day → ⊥
   pub off : Member last boundaries × OnGrid s.pay.freq s.roll (pay_anchor s boundaries) last → ⊥
 
+-- K35 is broken at firstPaymentDate
+abbrev pub BreaksFirst : Stream → List ℤ → Fault → Type 0
+BreaksFirst s boundaries f = IsBadFirst s boundaries × (f ≡ fault_at K35 first_payment_date 0)
+
+-- K35 is broken at lastRegularPaymentDate
+abbrev pub BreaksLast : Stream → List ℤ → Fault → Type 0
+BreaksLast s boundaries f = IsBadLast s boundaries × (f ≡ fault_at K35 last_regular_payment_date 0)
+
 -- K35 is broken, at the element of that date
-abbrev pub BreaksGrouping : Stream → List ℤ → Broken → Type 0
-BreaksGrouping s boundaries x = (IsBadFirst s boundaries × (x ≡ broken_at K35 first_payment_date 0)) ⊎ (IsBadLast s boundaries × (x ≡ broken_at K35 last_regular_payment_date 0))
+abbrev pub BreaksGrouping : Stream → List ℤ → Fault → Type 0
+BreaksGrouping s boundaries f = BreaksFirst s boundaries f ⊎ BreaksLast s boundaries f

@@ -1,6 +1,6 @@
 -- Payment dates: a start moved by the offset and then adjusted, K33 and K38.
-use Rattle.std.specs.Prelude.{◌≡◌, ◌⊎◌, ℤ, pos}
-use Rattle.irs_terms.specs.declared.codes.DayKind.TheVariants.{Business, Calendar, Unsaid}
+use Rattle.std.specs.Prelude.{◌≡◌, ◌⊎◌, ℤ}
+use Rattle.irs_terms.specs.declared.codes.DayKind.TheVariants.{Business, Calendar}
 use Rattle.irs_terms.specs.declared.dates.PayTerms.{PayTerms}
 use Rattle.irs_calendar.specs.GoodDays.{DaySet}
 use Rattle.irs_adjust.specs.Codes.{Adjusts}

@@ -2,13 +2,13 @@
 use Rattle.std.specs.Prelude.{◌≡◌, ◌⊎◌, ◌↔◌, ℕ, ◌+◌, ◌-◌, ◌<◌, ◌≤◌, List, [], ◌∷◌, length, ℤ, ◌≤ℤ◌, ◌<ℤ◌}
 use Rattle.irs_base.specs.Elements.{payment_dates}
 use Rattle.irs_base.specs.declared.places.Rule.TheVariants.{K33, K38}
-use Rattle.irs_base.specs.declared.places.Broken.{Broken}
+use Rattle.irs_base.specs.declared.places.Fault.{Fault}
 use Rattle.irs_terms.specs.declared.codes.Relative.{Relative}
 use Rattle.irs_terms.specs.declared.codes.Relative.TheVariants.{Start, End}
 use Rattle.irs_terms.specs.declared.results.Payment.{Payment}
 use Rattle.irs_terms.specs.declared.stream.Stream.{Stream}
 use Rattle.irs_calendar.specs.GoodDays.{DaySet}
-use Rattle.irs_payments.specs.Faults.{broken_at}
+use Rattle.irs_base.specs.Faults.{fault_at}
 use Rattle.irs_payments.specs.Grouping.{PayList, BreaksGrouping}
 use Rattle.irs_payments.specs.PaymentDates.{IsPaymentDate, LacksResult, LeavesRange}
 use Rattle.irs_base.specs.Members.{day_at, EachNumbered}
@@ -74,11 +74,19 @@ pub record IsLeaving (s : Stream) (set : DaySet) (boundaries adjusted : List ℤ
   pub pays : PaysFrom s boundaries adjusted j start
   pub leaves : LeavesRange s.pay set start
 
+-- K33 of payment j is broken
+abbrev pub BreaksResult : Stream → DaySet → List ℤ → List ℤ → ℕ → Fault → Type 0
+BreaksResult s set boundaries adjusted j f = IsLacking s set boundaries adjusted j × (f ≡ fault_at K33 payment_dates j)
+
+-- K38 of payment j is broken
+abbrev pub BreaksRange : Stream → DaySet → List ℤ → List ℤ → ℕ → Fault → Type 0
+BreaksRange s set boundaries adjusted j f = IsLeaving s set boundaries adjusted j × (f ≡ fault_at K38 payment_dates j)
+
 -- K33 or K38 of a payment date is broken; the index is the payment's number
-pub record BreaksDates (s : Stream) (set : DaySet) (boundaries adjusted : List ℤ) (x : Broken) : Type 0 where
+pub record BreaksDates (s : Stream) (set : DaySet) (boundaries adjusted : List ℤ) (f : Fault) : Type 0 where
   pub number : ℕ
-  pub breaks : (IsLacking s set boundaries adjusted number × (x ≡ broken_at K33 payment_dates number)) ⊎ (IsLeaving s set boundaries adjusted number × (x ≡ broken_at K38 payment_dates number))
+  pub breaks : BreaksResult s set boundaries adjusted number f ⊎ BreaksRange s set boundaries adjusted number f
 
 -- the rules that the payments of a stream break: K35, K33 and K38
-abbrev pub BreaksPayments : Stream → DaySet → List ℤ → List ℤ → Broken → Type 0
-BreaksPayments s set boundaries adjusted x = BreaksGrouping s boundaries x ⊎ BreaksDates s set boundaries adjusted x
+abbrev pub BreaksPayments : Stream → DaySet → List ℤ → List ℤ → Fault → Type 0
+BreaksPayments s set boundaries adjusted f = BreaksGrouping s boundaries f ⊎ BreaksDates s set boundaries adjusted f

@@ -23,7 +23,7 @@ pub enum NoDate {
 
 /// The adjusted payment date that is worked out from an adjusted boundary.
 pub fn payment_date<G: GoodDays>(pay: &PayTerms, days: &G, start: Day) -> Result<Day, NoDate>
-    requires { IsSaid pay.now }
+    requires { IsSaid pay.now.offset }
     ensures date { IfOk result (IsPaymentDate pay.now (G.days days.now) start) }
     ensures lacks { IsErrOf result NoDate.NoResult → LacksResult pay.now (G.days days.now) start }
     ensures leaves { IsErrOf result NoDate.OutOfRange → LeavesRange pay.now (G.days days.now) start }

@@ -5,20 +5,21 @@
 //! begins before it. The dates of exchanges, and the sign where the notional changes at a step,
 //! are rules of this project's own: the payer pays what the notional falls by, and receives what it
 //! rises by.
-ghost use Rattle.std.specs.Prelude.{◌≡◌, ◌-◌, ◌^◌, ◌<◌, ◌≤◌, ◌++◌, length, ℤ, pos, ◌<ℤ◌, ◌≤ℤ◌, List, IfOk, OnOk, OnErr, IsErrOf, unsigned_abs};
+ghost use Rattle.std.specs.Prelude.{◌≡◌, ◌⊎◌, ◌-◌, ◌^◌, ◌<◌, ◌≤◌, ◌++◌, length, ℤ, pos, ◌<ℤ◌, ◌≤ℤ◌, List, IfOk, OnOk, OnErr, unsigned_abs};
 ghost use Rattle.irs_base.specs.Rounding.{Rounded};
 ghost use Rattle.irs_base.specs.declared.rounding.Direction.TheVariants.{Nearest};
-ghost use Rattle.irs_base.specs.declared.places.Broken.{Broken};
+ghost use Rattle.irs_base.specs.declared.places.Fault.{Fault};
+ghost use Rattle.irs_base.specs.Faults.{IfBroken};
+ghost use Rattle.irs_base.specs.Order.{First, comes_before};
 ghost use Rattle.irs_terms.specs.Lawful.{IsLawfulStream, IsLawfulValues, IsNotional};
 ghost use Rattle.irs_base.specs.Limits.{most_notional};
 ghost use Rattle.irs_terms.specs.declared.results.Exchange.{Exchange};
-ghost use Rattle.irs_payments.specs.Faults.{IsFirst};
 ghost use Rattle.irs_payments.specs.Exchanges.{initial_of, change, changes, intermediate_of, last_value, final_of, transfers_of, AreExchanges, BreaksExchanges};
 
 use crate::PayErr;
-use crate::faults::broken;
+use crate::faults::fault;
 use irs_adjust::adjust_by;
-use irs_base::{Broken, Day, Dec, Direction, Elem, Memory, Rule, round};
+use irs_base::{Day, Dec, Direction, Elem, Memory, Rule, round};
 use irs_calendar::GoodDays;
 use irs_terms::{Exchange, Exchanges, Step, StepValues, Stream};
 use std::alloc::Global;
@@ -164,15 +165,15 @@ fn exchanges_of<G: GoodDays>(
     requires lawful { IsLawfulStream s.now }
     requires transfers { transfers.now ≡ transfers_of s.now }
     requires few { length transfers.now < 2 ^ 32 }
-    ensures exchanges { IfOk result (AreExchanges s.now (G.days days.now)) }
-    ensures unbroken { IfOk result (λ _. (x : Broken) → BreaksExchanges s.now (G.days days.now) x → ⊥) }
-    ensures broken { (x : Broken) → IsErrOf result (PayErr.Broken x) → IsFirst (BreaksExchanges s.now (G.days days.now)) x }
+    ensures ok { IfOk result (AreExchanges s.now (G.days days.now)) }
+    ensures unbroken { IfOk result (λ _. (f : Fault) → BreaksExchanges s.now (G.days days.now) f → ⊥) }
+    ensures broken { IfBroken result (First comes_before (BreaksExchanges s.now (G.days days.now))) }
 {
     let places = s.currency.places();
     let mut list = Exchanges::new(alloc);
     for (i, transfer) in transfers.iter().enumerate() {
         let Some(adjusted) = adjust_by(s.pay.adj.code, days, transfer.date) else {
-            return Err(PayErr::Broken(broken(Rule::K33, Elem::PRINCIPAL_EXCHANGES, i + 1)));
+            return Err(PayErr::Broken(fault(Rule::K33, Elem::PRINCIPAL_EXCHANGES, i + 1)));
         };
         list.push(Exchange {
             unadjusted: transfer.date,
@@ -183,19 +184,43 @@ fn exchanges_of<G: GoodDays>(
     Ok(list)
 }
 
+// The exchanges of a stream.
+fn exchanges<G: GoodDays>(alloc: Global, s: &Stream, days: &G) -> Result<Exchanges, PayErr>
+    requires { IsLawfulStream s.now }
+    ensures ok { IfOk result (AreExchanges s.now (G.days days.now)) }
+    ensures unbroken { IfOk result (λ _. (f : Fault) → BreaksExchanges s.now (G.days days.now) f → ⊥) }
+    ensures broken { IfBroken result (First comes_before (BreaksExchanges s.now (G.days days.now))) }
+{
+    let transfers = transfers(alloc, s)?;
+    exchanges_of(alloc, s, &transfers, days)
+}
+
 /// The principal exchanges of a stream, in order: the initial one at the effective date, one at each
 /// step of the notional that changes it, and the final one at the termination date, each part where
 /// its flag is true. The adjusted date is the date adjusted by `paymentDatesAdjustments`, whose days
 /// are handed in; the amount, with its sign, is rounded Nearest to the decimals of the currency.
-/// `Broken` is K33 of the first exchange whose date has no adjusted day.
+///
+/// `Broken` is K33 of the first exchange whose date has no adjusted day, with its number from 1;
+/// `Memory` comes where memory ran out.
 pub fn principals<G: GoodDays>(alloc: Global, s: &Stream, days: &G) -> Result<Exchanges, PayErr>
     requires { IsLawfulStream s.now }
-    ensures exchanges { IfOk result (AreExchanges s.now (G.days days.now)) }
-    ensures unbroken { IfOk result (λ _. (x : Broken) → BreaksExchanges s.now (G.days days.now) x → ⊥) }
-    ensures broken { (x : Broken) → IsErrOf result (PayErr.Broken x) → IsFirst (BreaksExchanges s.now (G.days days.now)) x }
+    ensures ok { IfOk result (AreExchanges s.now (G.days days.now)) }
+    ensures unbroken { IfOk result (λ _. (f : Fault) → BreaksExchanges s.now (G.days days.now) f → ⊥) }
+    ensures broken { IfBroken result (First comes_before (BreaksExchanges s.now (G.days days.now))) }
+    // An exchange is the first without an adjusted day, or each has one.
+    ensures decided { ((f : Fault) × First comes_before (BreaksExchanges s.now (G.days days.now)) f) ⊎
+        ((f : Fault) → BreaksExchanges s.now (G.days days.now) f → ⊥) }
+    // Where each has one there is a list of exchanges.
+    ensures exists { ((f : Fault) → BreaksExchanges s.now (G.days days.now) f → ⊥) →
+        (xs : List Exchange) × AreExchanges s.now (G.days days.now) xs }
     // A stream has at most one list of exchanges.
-    ensures one { (xs ys : List Exchange) → AreExchanges s.now (G.days days.now) xs → AreExchanges s.now (G.days days.now) ys → xs ≡ ys }
+    ensures one { (xs ys : List Exchange) → AreExchanges s.now (G.days days.now) xs →
+        AreExchanges s.now (G.days days.now) ys → xs ≡ ys }
+    // At most one exchange is the first without an adjusted day.
+    ensures one_broken { (f g : Fault) → First comes_before (BreaksExchanges s.now (G.days days.now)) f →
+        First comes_before (BreaksExchanges s.now (G.days days.now)) g → f ≡ g }
 {
-    let transfers = transfers(alloc, s)?;
-    exchanges_of(alloc, s, &transfers, days)
+    // hands the prover that the days of the cover are in the range of dates
+    let _cover = days.cover();
+    exchanges(alloc, s, days)
 }

@@ -1,20 +1,17 @@
-//! Places of broken rules. A call that takes one stream names it as stream 1.
+//! Broken rules of a stream, with their elements and indices.
 ghost use Rattle.std.specs.Prelude.{◌≡◌, ◌<◌, ◌^◌};
-ghost use Rattle.irs_payments.specs.Faults.{broken_at};
+ghost use Rattle.irs_base.specs.Faults.{fault_at};
 
-use irs_base::{Broken, Elem, Place, Rule};
+use irs_base::{Elem, Fault, Rule};
 
 /// The rule is broken at the element; the index is that of a step, a payment or an exchange, else 0.
-pub fn broken(rule: Rule, elem: Elem, index: usize) -> Broken
+pub fn fault(rule: Rule, elem: Elem, index: usize) -> Fault
     requires { index < 2 ^ 32 }
-    ensures { result ≡ broken_at rule elem index }
+    ensures { result ≡ fault_at rule elem index }
 {
-    Broken {
+    Fault {
         rule,
-        place: Place {
-            stream: 1,
-            elem,
-            index: index as u32,
-        },
+        elem,
+        index: index as u32,
     }
 }

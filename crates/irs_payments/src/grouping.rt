@@ -8,51 +8,18 @@
 //! anchor need not be a roll day.
 ghost use Rattle.std.specs.Prelude.{◌≡◌, ◌↔◌, ◌<◌, ◌≤◌, ℤ, ◌<ℤ◌, ◌≤ℤ◌, IsTrue, IfSome, IfOk, IfErr, Option, length};
 ghost use Rattle.irs_base.specs.Listed.{Member, IsRising};
-ghost use Rattle.irs_base.specs.declared.places.Broken.{Broken};
+ghost use Rattle.irs_base.specs.declared.places.Fault.{Fault};
+ghost use Rattle.irs_base.specs.Order.{First, comes_before};
 ghost use Rattle.irs_terms.specs.FirstDay.{first_day_of};
 ghost use Rattle.irs_terms.specs.Lawful.{IsLawfulStream, IsLawfulFrequency, IsLawfulRoll};
 ghost use Rattle.irs_roll.specs.Rolls.{OnGrid};
-ghost use Rattle.irs_payments.specs.Faults.{IsFirst};
-ghost use Rattle.irs_payments.specs.Frequencies.{days_in, months_in};
 ghost use Rattle.irs_payments.specs.Grouping.{pay_anchor, IsRegularPay, EndsPayment, IsBadFirst, IsBadLast, BreaksGrouping};
-ghost use Rattle.irs_terms.specs.Lengths.{same_length};
 
-use crate::faults::broken;
+use crate::faults::fault;
 use crate::steps::has_day;
-use irs_base::{Broken, Day, Elem, Rule};
+use irs_base::{Day, Elem, Fault, Rule};
 use irs_roll::on_grid_of;
 use irs_terms::{Frequency, RollCode, Stream, Unit};
-
-// The days of days or weeks.
-fn days_in(freq: Frequency) -> u32
-    ensures { result ≡ days_in freq.unit freq.count }
-{
-    let count = u32::from(freq.count);
-    match freq.unit {
-        Unit::D => count,
-        Unit::W => 7 * count,
-        Unit::M | Unit::Y | Unit::T => 0,
-    }
-}
-
-// The months of months or years.
-fn months_in(freq: Frequency) -> u32
-    ensures { result ≡ months_in freq.unit freq.count }
-{
-    let count = u32::from(freq.count);
-    match freq.unit {
-        Unit::M => count,
-        Unit::Y => 12 * count,
-        Unit::D | Unit::W | Unit::T => 0,
-    }
-}
-
-// Whether both frequencies are as long.
-fn is_same_length(a: Frequency, b: Frequency) -> bool
-    ensures { result ≡ same_length a b }
-{
-    days_in(a) == days_in(b) && months_in(a) == months_in(b)
-}
 
 /// The anchor of the payment grid.
 pub fn payment_anchor(s: &Stream, boundaries: &[Day]) -> Day
@@ -61,7 +28,7 @@ pub fn payment_anchor(s: &Stream, boundaries: &[Day]) -> Day
 {
     match s.pay.first {
         Some(first) => first,
-        None => if is_same_length(s.pay.freq, s.freq) {
+        None => if s.pay.freq.is_as_long_as(s.freq) {
             boundaries[1]
         } else {
             s.first_day()
@@ -157,18 +124,18 @@ fn is_bad_last(s: &Stream, boundaries: &[Day]) -> bool
 /// The first of the given payment dates that breaks K35: `firstPaymentDate` where it is no boundary
 /// after the first day, then `lastRegularPaymentDate` where it isn't the termination date and
 /// no boundary on the payment grid.
-pub fn check_grouping(s: &Stream, boundaries: &[Day]) -> Result<(), Broken>
+pub fn check_grouping(s: &Stream, boundaries: &[Day]) -> Result<(), Fault>
     requires lawful { IsLawfulStream s.now }
     requires rising { IsRising boundaries.now }
     requires some { 1 < length boundaries.now }
-    ensures none { IfOk result (λ _. (x : Broken) → BreaksGrouping s.now boundaries.now x → ⊥) }
-    ensures first { IfErr result (IsFirst (BreaksGrouping s.now boundaries.now)) }
+    ensures unbroken { IfOk result (λ _. (f : Fault) → BreaksGrouping s.now boundaries.now f → ⊥) }
+    ensures broken { IfErr result (First comes_before (BreaksGrouping s.now boundaries.now)) }
 {
     if is_bad_first(s, boundaries) {
-        return Err(broken(Rule::K35, Elem::FIRST_PAYMENT_DATE, 0));
+        return Err(fault(Rule::K35, Elem::FIRST_PAYMENT_DATE, 0));
     }
     if is_bad_last(s, boundaries) {
-        return Err(broken(Rule::K35, Elem::LAST_REGULAR_PAYMENT_DATE, 0));
+        return Err(fault(Rule::K35, Elem::LAST_REGULAR_PAYMENT_DATE, 0));
     }
     Ok(())
 }

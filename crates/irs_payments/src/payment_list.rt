@@ -1,13 +1,16 @@
 //! The payments of a stream in order. A rule that is broken by any of them is K33 before K38, and
 //! under each the first payment.
-ghost use Rattle.std.specs.Prelude.{◌≡◌, ℕ, ◌+◌, ◌-◌, ◌^◌, ◌<◌, ℤ, ◌<ℤ◌, List, length, Option, IfOk, IsErrOf, Err};
+ghost use Rattle.std.specs.Prelude.{◌≡◌, ◌⊎◌, ℕ, ◌+◌, ◌-◌, ◌^◌, ◌<◌, ℤ, ◌<ℤ◌, List, length, Option, IfOk, IsErrOf, Err};
 ghost use Rattle.irs_base.specs.Elements.{payment_dates};
 ghost use Rattle.irs_base.specs.declared.places.Rule.TheVariants.{K33};
-ghost use Rattle.irs_base.specs.declared.places.Broken.{Broken};
+ghost use Rattle.irs_base.specs.declared.places.Fault.{Fault};
+ghost use Rattle.irs_base.specs.declared.stopped.Stopped.TheVariants.{Memory as OfMemory};
+ghost use Rattle.irs_base.specs.Faults.{fault_at, IfBroken};
+ghost use Rattle.irs_base.specs.Order.{First, comes_before};
 ghost use Rattle.irs_terms.specs.FirstDay.{first_day_of};
 ghost use Rattle.irs_terms.specs.Lawful.{IsLawfulStream};
 ghost use Rattle.irs_terms.specs.declared.results.Payment.{Payment};
-ghost use Rattle.irs_payments.specs.Faults.{broken_at, IsFirst};
+ghost use Rattle.irs_payments.specs.Grouping.{BreaksGrouping};
 ghost use Rattle.irs_payments.specs.Payments.{ArePayments, Covers, BreaksPayments};
 ghost use Rattle.irs_payments.specs.Dating.{IsOutcome, Settles, earliest, ArePaid, NoneLacks, IsDateFault};
 ghost use Rattle.irs_payments.specs.Places.{ArePlaces};
@@ -17,9 +20,9 @@ ghost use Rattle.irs_base.specs.Listed.{RunsFromTo};
 use crate::PayErr;
 use crate::cuts::payment_places;
 use crate::dating::{NoDate, pay_place, payment_date};
-use crate::faults::broken;
+use crate::faults::fault;
 use crate::grouping::check_grouping;
-use irs_base::{Broken, Day, DayList, Elem, Rule};
+use irs_base::{Day, DayList, Elem, Rule};
 use irs_calendar::GoodDays;
 use irs_terms::{Payment, Payments, Span, Stream};
 use std::alloc::Global;
@@ -33,7 +36,7 @@ fn payment<G: GoodDays>(
     j: usize,
     days: &G,
 ) -> Result<Payment, NoDate>
-    requires said { IsSaid s.now.pay }
+    requires said { IsSaid s.now.pay.offset }
     requires places { ArePlaces unadjusted.now places.now }
     requires adjusted { length adjusted.now ≡ length unadjusted.now }
     requires few { length unadjusted.now < 2 ^ 32 }
@@ -73,7 +76,7 @@ fn settle(
 ) -> Result<Option<usize>, PayErr>
     requires { number < 2 ^ 32 }
     ensures settles { IfOk result (Settles payment beyond number list.old list.new) }
-    ensures lacks { (x : Broken) → IsErrOf result (PayErr.Broken x) → (payment ≡ Err NoDate.NoResult) × (x ≡ broken_at K33 payment_dates number) }
+    ensures lacks { IfBroken result (λ f. (payment ≡ Err NoDate.NoResult) × (f ≡ fault_at K33 payment_dates number)) }
 {
     match payment {
         Ok(payment) => {
@@ -81,11 +84,7 @@ fn settle(
             Ok(beyond)
         }
         Err(NoDate::OutOfRange) => Ok(earliest(beyond, number)),
-        Err(NoDate::NoResult) => Err(PayErr::Broken(broken(
-            Rule::K33,
-            Elem::PAYMENT_DATES,
-            number,
-        ))),
+        Err(NoDate::NoResult) => Err(PayErr::Broken(fault(Rule::K33, Elem::PAYMENT_DATES, number))),
     }
 }
 
@@ -98,7 +97,7 @@ fn payments_at<G: GoodDays>(
     places: &[usize],
     days: &G,
 ) -> Result<Payments, PayErr>
-    requires said { IsSaid s.now.pay }
+    requires said { IsSaid s.now.pay.offset }
     requires places { ArePlaces unadjusted.now places.now }
     requires adjusted { length adjusted.now ≡ length unadjusted.now }
     requires few { length unadjusted.now < 2 ^ 32 }
@@ -106,7 +105,7 @@ fn payments_at<G: GoodDays>(
     requires short { length places.now < 2 ^ 32 }
     ensures paid { IfOk result (ArePaid s.now (G.days days.now) unadjusted.now adjusted.now places.now (length places.now)) }
     ensures unbroken { IfOk result (λ _. NoneLacks s.now (G.days days.now) adjusted.now places.now (length places.now)) }
-    ensures broken { (x : Broken) → IsErrOf result (PayErr.Broken x) → (n : ℕ) × IsDateFault s.now (G.days days.now) adjusted.now places.now n x }
+    ensures broken { IfBroken result (λ f. (n : ℕ) × IsDateFault s.now (G.days days.now) adjusted.now places.now n f) }
 {
     let mut list = Payments::new(alloc);
     let mut beyond = None;
@@ -115,7 +114,7 @@ fn payments_at<G: GoodDays>(
         beyond = settle(&mut list, beyond, j, payment)?;
     }
     match beyond {
-        Some(number) => Err(PayErr::Broken(broken(Rule::K38, Elem::PAYMENT_DATES, number))),
+        Some(number) => Err(PayErr::Broken(fault(Rule::K38, Elem::PAYMENT_DATES, number))),
         None => Ok(list),
     }
 }
@@ -130,16 +129,19 @@ fn payments_over<G: GoodDays>(
 ) -> Result<Payments, PayErr>
     requires lawful { IsLawfulStream s.now }
     requires term { first_day_of s.now <ℤ s.now.termination.day }
-    requires said { IsSaid s.now.pay }
+    requires said { IsSaid s.now.pay.offset }
     requires boundaries { RunsFromTo (first_day_of s.now) s.now.termination.day unadjusted.now }
     requires adjusted { length adjusted.now ≡ length unadjusted.now }
     requires few { length unadjusted.now < 2 ^ 32 }
-    ensures payments { IfOk result (ArePayments s.now (G.days days.now) unadjusted.now adjusted.now) }
+    ensures ok { IfOk result (ArePayments s.now (G.days days.now) unadjusted.now adjusted.now) }
     ensures covers { IfOk result (λ ps. Covers 1 ps (length unadjusted.now - 1)) }
-    ensures unbroken { IfOk result (λ _. (x : Broken) → BreaksPayments s.now (G.days days.now) unadjusted.now adjusted.now x → ⊥) }
-    ensures broken { (x : Broken) → IsErrOf result (PayErr.Broken x) → IsFirst (BreaksPayments s.now (G.days days.now) unadjusted.now adjusted.now) x }
+    ensures unbroken { IfOk result (λ _. (f : Fault) → BreaksPayments s.now (G.days days.now) unadjusted.now adjusted.now f → ⊥) }
+    ensures broken { IfBroken result (First comes_before (BreaksPayments s.now (G.days days.now) unadjusted.now adjusted.now)) }
+    ensures memory { IsErrOf result OfMemory → (f : Fault) → BreaksGrouping s.now unadjusted.now f → ⊥ }
 {
-    check_grouping(s, unadjusted)?;
+    if let Err(grouping) = check_grouping(s, unadjusted) {
+        return Err(PayErr::Broken(grouping));
+    }
     let places = payment_places(alloc, s, unadjusted)?;
     payments_at(alloc, s, unadjusted, adjusted, &places, days)
 }
@@ -167,16 +169,29 @@ pub fn payments<G: GoodDays>(
 ) -> Result<Payments, PayErr>
     requires lawful { IsLawfulStream s.now }
     requires term { first_day_of s.now <ℤ s.now.termination.day }
-    requires said { IsSaid s.now.pay }
+    requires said { IsSaid s.now.pay.offset }
     requires boundaries { RunsFromTo (first_day_of s.now) s.now.termination.day unadjusted.now }
     requires adjusted { length adjusted.now ≡ length unadjusted.now }
-    ensures payments { IfOk result (ArePayments s.now (G.days days.now) unadjusted.now adjusted.now) }
+    ensures ok { IfOk result (ArePayments s.now (G.days days.now) unadjusted.now adjusted.now) }
     // The payments cover the calculation periods in order, without a gap.
     ensures covers { IfOk result (λ ps. Covers 1 ps (length unadjusted.now - 1)) }
-    ensures unbroken { IfOk result (λ _. (x : Broken) → BreaksPayments s.now (G.days days.now) unadjusted.now adjusted.now x → ⊥) }
-    ensures broken { (x : Broken) → IsErrOf result (PayErr.Broken x) → IsFirst (BreaksPayments s.now (G.days days.now) unadjusted.now adjusted.now) x }
-    // Over the same boundaries there is at most one list of payments.
-    ensures one { (ps qs : List Payment) → ArePayments s.now (G.days days.now) unadjusted.now adjusted.now ps → ArePayments s.now (G.days days.now) unadjusted.now adjusted.now qs → ps ≡ qs }
+    ensures unbroken { IfOk result (λ _. (f : Fault) → BreaksPayments s.now (G.days days.now) unadjusted.now adjusted.now f → ⊥) }
+    ensures broken { IfBroken result (First comes_before (BreaksPayments s.now (G.days days.now) unadjusted.now adjusted.now)) }
+    ensures memory { IsErrOf result OfMemory → (f : Fault) → BreaksGrouping s.now unadjusted.now f → ⊥ }
+    // A rule is the first that is broken, or none is broken.
+    ensures decided { ((f : Fault) × First comes_before (BreaksPayments s.now (G.days days.now) unadjusted.now adjusted.now) f) ⊎
+        ((f : Fault) → BreaksPayments s.now (G.days days.now) unadjusted.now adjusted.now f → ⊥) }
+    // Where none is broken there is a list of payments.
+    ensures exists { ((f : Fault) → BreaksPayments s.now (G.days days.now) unadjusted.now adjusted.now f → ⊥) →
+        (ps : List Payment) × ArePayments s.now (G.days days.now) unadjusted.now adjusted.now ps }
+    // Over the same boundaries there is at most one.
+    ensures one { (ps qs : List Payment) → ArePayments s.now (G.days days.now) unadjusted.now adjusted.now ps →
+        ArePayments s.now (G.days days.now) unadjusted.now adjusted.now qs → ps ≡ qs }
+    // At most one rule is the first that is broken.
+    ensures one_broken { (f g : Fault) → First comes_before (BreaksPayments s.now (G.days days.now) unadjusted.now adjusted.now) f →
+        First comes_before (BreaksPayments s.now (G.days days.now) unadjusted.now adjusted.now) g → f ≡ g }
 {
+    // hands the prover that the days of the cover are in the range of dates
+    let _cover = days.cover();
     payments_over(alloc, s, unadjusted.as_slice(), adjusted.as_slice(), days)
 }

@@ -1,13 +1,13 @@
 -- Which boundary comes first among those without an adjusted day.
-use Rattle.std.proofs.Common.{◌≡◌, ◌⊎◌, inl, inr, ⊎_elim, ℕ, ◌<◌, ◌≤◌, ◌==◌, if◌then◌else◌, List, length, Option, Some, None, arith, sym, ℤ, subst}
+use Rattle.std.proofs.Common.{◌≡◌, ◌⊎◌, inl, inr, ⊎_elim, ℕ, ◌<◌, ◌≤◌, ◌==◌, if◌then◌else◌, List, length, Option, Some, None, false, arith, sym, ℤ, subst}
 use Rattle.std.proofs.lemmas.Bool.{cases_lt}
 use Rattle.std.proofs.lemmas.Bool.Decides.{nat_tests}
 use Rattle.irs_base.specs.Elements.{effective_date, termination_date, period_dates_adjustments, first_period_start_date}
 use Rattle.irs_terms.specs.declared.adjustments.Dated.{Dated}
 use Rattle.irs_terms.specs.declared.stream.Stream.{Stream}
-use Rattle.irs_periods.specs.Adjusting.{BoundaryDays, AdjustsAt, NoResult, FirstNoResult, FirstLaterNoResult, boundary_index, last_of}
+use Rattle.irs_base.proofs.Firsts.{level_later, level_same, lt_false}
+use Rattle.irs_periods.specs.Adjusting.{BoundaryDays, FirstLaterNoResult, FirstNoResult, FirstNotAfter, HasResult, NoResult, NotAfter, boundary_index, last_of, named_before}
 use Rattle.irs_terms.specs.TermDates.{first_day_element, first_day_element_by}
-use Rattle.irs_base.specs.Members.{day_at}
 
 -- the element by which a boundary is named, `start` being that of boundary 0
 abbrev element : ℕ → ℕ → ℕ → ℕ
@@ -49,26 +49,41 @@ at_place P i zeroth later = elim (cases_lt 0 i) [
   | inr none ↦ let e : 0 ≡ i = omega (arith, none) in subst P e zeroth
 ]
 
+-- what is not named before doesn't come before
+unnamed : (s : Stream) (last j i : ℕ) → (Named (first_day_element s) last j i → ⊥) → named_before s last j i ≡ false
+unnamed s last j i none =
+    let start = first_day_element s in
+    let of_j = element start last j in
+    let of_i = element start last i in
+    elim (cases_lt of_i of_j) [
+      | inl later ↦ level_later of_j of_i _ later
+      | inr rest ↦ elim (cases_lt of_j of_i) [
+        | inl earlier ↦ absurd (none (inl earlier))
+        | inr level ↦
+            let same : of_j ≡ of_i = omega (arith, rest, level) in
+            level_same of_j of_i _ same (lt_false (boundary_index last j) (boundary_index last i) (λ below. none (inr (same, below))))
+      ]
+    ]
+
 module _ (s : Stream) (sets : BoundaryDays) (b : List ℤ) where
   abbrev Has : ℕ → Type 0
-  Has i = (r : ℤ) × AdjustsAt s sets (last_of b) i (day_at b i) r
+  Has i = HasResult s sets b i
+
+  -- where boundary j has no adjusted day it isn't named before boundary i
+  abbrev NotBefore : ℕ → ℕ → Type 0
+  NotBefore i j = NoResult s sets b j → named_before s (last_of b) j i ≡ false
 
   pub first_last : 0 < last_of b → NoResult s sets b (last_of b) → FirstLaterNoResult s sets b (last_of b)
-  first_last some misses = record {
-    later = some;
-    holds = misses;
-    none_before = λ j later named _. none_before_last (first_day_element s) (last_of b) j later some named;
-  }
+  first_last some misses = ((some, misses), λ j h. unnamed s (last_of b) j (last_of b) (λ named. none_before_last (first_day_element s) (last_of b) j h.0 some named))
 
   pub first_inner : (i : ℕ) → 0 < i → i < last_of b → NoResult s sets b i → Has (last_of b) → ((j : ℕ) → 1 ≤ j → j < i → Has j) → FirstLaterNoResult s sets b i
-  first_inner i some inner misses at_last before = record {
-    later = some;
-    holds = misses;
-    none_before = λ j later named other. ⊎_elim
-        (λ lastly. let at_end = subst (λ (k : ℕ). NoResult s sets b k) lastly other in at_end.none at_last.0 at_last.1)
-        (λ low. let r = before j (omega (arith, later)) low in other.none r.0 r.1)
-        (before_inner (first_day_element s) (last_of b) i j later some inner named);
-  }
+  first_inner i some inner misses at_last before = (
+    (some, misses),
+    λ j h. unnamed s (last_of b) j i (λ named. ⊎_elim
+        (λ lastly. let at_end = subst (λ (k : ℕ). NoResult s sets b k) lastly h.1 in at_end.none at_last.0 at_last.1)
+        (λ low. let r = before j (let later = h.0 in omega (arith, later)) low in h.1.none r.0 r.1)
+        (before_inner (first_day_element s) (last_of b) i j h.0 some inner named)),
+  )
 
   -- each boundary behind boundary 0 has an adjusted day where the last one and the inner ones have
   pub each_later : Has (last_of b) → ((j : ℕ) → 1 ≤ j → j < last_of b → Has j) → (i : ℕ) → 0 < i → i < length b → Has i
@@ -82,68 +97,34 @@ module _ (s : Stream) (sets : BoundaryDays) (b : List ℤ) where
 
   -- boundary 0 has an adjusted day
   pub first_behind : (i : ℕ) → Has 0 → FirstLaterNoResult s sets b i → FirstNoResult s sets b i
-  first_behind i at_first h = record {
-    holds = h.holds;
-    none_before = λ j named misses. at_place
-        (λ (k : ℕ). Named (first_day_element s) (last_of b) k i → NoResult s sets b k → ⊥) j
-        (λ _ zeroth. zeroth.none at_first.0 at_first.1)
-        (λ some. h.none_before j some)
-        named misses;
-  }
+  first_behind i at_first h = (h.0.1, λ j. at_place (NotBefore i) j (λ zeroth. absurd (zeroth.none at_first.0 at_first.1)) (λ some misses. h.1 j (some, misses)))
 
   -- boundary 0 is named behind the others
   pub first_before_start : (i : ℕ) (start : Dated) → s.first_start ≡ Some start → FirstLaterNoResult s sets b i → FirstNoResult s sets b i
   first_before_start i start given h =
       let behind = subst
       (λ (o : Option Dated). Named (first_day_element_by o) (last_of b) 0 i → ⊥) (sym given)
-      (start_behind (last_of b) i h.later) in
-      record {
-        holds = h.holds;
-        none_before = λ j named misses. at_place
-            (λ (k : ℕ). Named (first_day_element s) (last_of b) k i → NoResult s sets b k → ⊥) j
-            (λ zeroth _. behind zeroth)
-            (λ some. h.none_before j some)
-            named misses;
-      }
+      (start_behind (last_of b) i h.0.0) in
+      (h.0.1, λ j. at_place (NotBefore i) j (λ _. unnamed s (last_of b) 0 i behind) (λ some misses. h.1 j (some, misses)))
 
   -- the others have adjusted days
   pub first_alone : NoResult s sets b 0 → ((i : ℕ) → 0 < i → i < length b → Has i) → FirstNoResult s sets b 0
-  first_alone misses later = record {
-    holds = misses;
-    none_before = λ j named other. at_place
-        (λ (k : ℕ). Named (first_day_element s) (last_of b) k 0 → NoResult s sets b k → ⊥) j
-        (λ itself _. not_before_itself (first_day_element s) (last_of b) 0 itself)
-        (λ some _ out. let r = later j some out.within in out.none r.0 r.1)
-        named other;
-  }
+  first_alone misses later = (
+    misses,
+    λ j. at_place (NotBefore 0) j
+        (λ _. unnamed s (last_of b) 0 0 (not_before_itself (first_day_element s) (last_of b) 0))
+        (λ some out. let r = later j some out.within in absurd (out.none r.0 r.1)),
+  )
 
   -- boundary 0 is named before the others
   pub first_effective : s.first_start ≡ None → NoResult s sets b 0 → FirstNoResult s sets b 0
-  first_effective none misses = record {
-    holds = misses;
-    none_before = λ j named _. subst
+  first_effective none misses = (
+    misses,
+    λ j _. unnamed s (last_of b) j 0 (subst
         (λ (o : Option Dated). Named (first_day_element_by o) (last_of b) j 0 → ⊥) (sym none)
-        (none_before_effective (last_of b) j) named;
-  }
+        (none_before_effective (last_of b) j)),
+  )
 
--- at most one boundary comes first
-
-tied : (a b : ℕ) → (a < b → ⊥) → (b < a → ⊥) → a ≡ b
-tied a b below above = elim (cases_lt a b) [
-  | inl h ↦ absurd (below h)
-  | inr h ↦ elim (cases_lt b a) [ inl k ↦ absurd (above k) | inr k ↦ omega (arith, h, k) ]
-]
-
-named_alike : (start : Option Dated) (last i j : ℕ) → element (first_day_element_by start) last i ≡ element (first_day_element_by start) last j → boundary_index last i ≡ boundary_index last j → i ≡ j
-named_alike None last i j e k = grind (arith, nat_tests)
-named_alike (Some start) last i j e k = grind (arith, nat_tests)
-
-pub one_first_number : (s : Stream) (sets : BoundaryDays) (b : List ℤ) (i j : ℕ) → FirstNoResult s sets b i → FirstNoResult s sets b j → i ≡ j
-one_first_number s sets b i j p q =
-    let start = first_day_element s in
-    let last = last_of b in
-    let elements : element start last i ≡ element start last j = tied (element start last i) (element start last j)
-    (λ below. q.none_before i (inl below) p.holds) (λ above. p.none_before j (inl above) q.holds) in
-    let indexes : boundary_index last i ≡ boundary_index last j = tied (boundary_index last i) (boundary_index last j)
-    (λ below. q.none_before i (inr (elements, below)) p.holds) (λ above. p.none_before j (inr (sym elements, above)) q.holds) in
-    named_alike s.first_start last i j elements indexes
+-- the first day that isn't after the one before it
+pub first_flat : (a : List ℤ) (i : ℕ) → NotAfter a i → ((j : ℕ) → j < i → NotAfter a j → ⊥) → FirstNotAfter a i
+first_flat a i flat before = (flat, λ j h. lt_false j i (λ below. before j below h))

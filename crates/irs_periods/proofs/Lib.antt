@@ -11,3 +11,14 @@ pub mod TermList
 pub mod AdjustedLemmas
 pub mod FirstResults
 pub mod OneSpan
+pub mod Ranges
+pub mod Anchors
+pub mod SpanThere
+pub mod SpanDecided
+pub mod BoundariesThere
+pub mod PeriodsDecided
+pub mod RegularStarts
+pub mod AdjustedBoundaries
+pub mod FirstAmong
+pub mod AdjustedDecided
+pub mod MemoryAnswers

@@ -1,15 +1,16 @@
 -- The adjusted boundaries of a stream, and the rules that they keep: each boundary has an adjusted day
 -- (K33), and the adjusted days rise (K34).
-use Rattle.std.specs.Prelude.{◌≡◌, ◌⊎◌, ℕ, ◌-◌, ◌<◌, ◌==◌, List, length, slice_index_or, ℤ, pos, ◌≤ℤ◌, if◌then◌else◌}
+use Rattle.std.specs.Prelude.{◌≡◌, ◌⊎◌, Bool, nat_lt, ℕ, ◌-◌, ◌<◌, ◌==◌, List, length, ℤ, ◌≤ℤ◌, if◌then◌else◌}
 use Rattle.irs_base.specs.Elements.{calculation_period_dates, termination_date, period_dates_adjustments}
-use Rattle.irs_base.specs.declared.places.Broken.{Broken}
+use Rattle.irs_base.specs.declared.places.Fault.{Fault}
+use Rattle.irs_base.specs.Faults.{fault_at}
+use Rattle.irs_base.specs.Order.{First, comes_before}
 use Rattle.irs_base.specs.declared.places.Rule.TheVariants.{K33, K34}
 use Rattle.irs_terms.specs.declared.codes.ConvCode.{ConvCode}
 use Rattle.irs_terms.specs.declared.stream.Stream.{Stream}
 use Rattle.irs_terms.specs.FirstDay.{first_date_of}
 use Rattle.irs_calendar.specs.GoodDays.{DaySet}
 use Rattle.irs_adjust.specs.Codes.{Adjusts}
-use Rattle.irs_periods.specs.SpanRules.{broken_at}
 use Rattle.irs_terms.specs.TermDates.{first_day_element}
 use Rattle.irs_base.specs.Members.{day_at}
 
@@ -19,8 +20,9 @@ pub record BoundaryDays : Type 0 where
   pub end : DaySet
   pub middle : DaySet
 
-abbrev pub days_by : DaySet → DaySet → DaySet → BoundaryDays
-days_by start end middle = record { start = start; end = end; middle = middle }
+-- the same of three sets of good days, `days` being what each says
+abbrev pub days_by : {G : Type 0} → (G → DaySet) → G → G → G → BoundaryDays
+days_by days start end middle = record { start = days start; end = days end; middle = days middle }
 
 -- the number of the last boundary
 abbrev pub last_of : List ℤ → ℕ
@@ -43,6 +45,10 @@ pub record AdjustedList (s : Stream) (sets : BoundaryDays) (b a : List ℤ) : Ty
   pub same_length : length a ≡ length b
   pub each : (i : ℕ) → i < length b → AdjustsAt s sets (last_of b) i (day_at b i) (day_at a i)
 
+-- the boundary with the number i has an adjusted day
+abbrev pub HasResult : Stream → BoundaryDays → List ℤ → ℕ → Type 0
+HasResult s sets b i = (r : ℤ) × AdjustsAt s sets (last_of b) i (day_at b i) r
+
 -- K33: the boundary with the number i has no adjusted day
 pub record NoResult (s : Stream) (sets : BoundaryDays) (b : List ℤ) (i : ℕ) : Type 0 where
   pub within : i < length b
@@ -61,43 +67,45 @@ boundary_element s last i = if i == 0 then first_day_element s else (if i == las
 abbrev pub boundary_index : ℕ → ℕ → ℕ
 boundary_index last i = if i == 0 then 0 else (if i == last then 0 else i)
 
--- boundary j is named before boundary i: its element stands earlier in the table of elements, or the
--- elements are the same and its index is lower
-abbrev pub NamedBefore : Stream → ℕ → ℕ → ℕ → Type 0
-NamedBefore s last j i =
-    (boundary_element s last j < boundary_element s last i)
-    ⊎ ((boundary_element s last j ≡ boundary_element s last i) × (boundary_index last j < boundary_index last i))
+abbrev pub no_result_at : Stream → ℕ → ℕ → Fault
+no_result_at s last i = fault_at K33 (boundary_element s last i) (boundary_index last i)
 
--- the first boundary, in the order of the names, that has no adjusted day
-pub record FirstNoResult (s : Stream) (sets : BoundaryDays) (b : List ℤ) (i : ℕ) : Type 0 where
-  pub holds : NoResult s sets b i
-  pub none_before : (j : ℕ) → NamedBefore s (last_of b) j i → NoResult s sets b j → ⊥
+abbrev pub not_after_at : ℕ → Fault
+not_after_at i = fault_at K34 calculation_period_dates i
 
--- the same among the boundaries behind boundary 0
-pub record FirstLaterNoResult (s : Stream) (sets : BoundaryDays) (b : List ℤ) (i : ℕ) : Type 0 where
-  pub later : 0 < i
-  pub holds : NoResult s sets b i
-  pub none_before : (j : ℕ) → 0 < j → NamedBefore s (last_of b) j i → NoResult s sets b j → ⊥
-
--- the first day that isn't after the one before it
-pub record FirstNotAfter (a : List ℤ) (i : ℕ) : Type 0 where
-  pub holds : NotAfter a i
-  pub none_before : (j : ℕ) → j < i → NotAfter a j → ⊥
-
--- K33 is broken first at that boundary
-pub record MissesResult (s : Stream) (sets : BoundaryDays) (b : List ℤ) (x : Broken) : Type 0 where
+-- K33 at a boundary without an adjusted day
+pub record MissesResult (s : Stream) (sets : BoundaryDays) (b : List ℤ) (f : Fault) : Type 0 where
   pub number : ℕ
-  pub first : FirstNoResult s sets b number
-  pub is : x ≡ broken_at K33 (boundary_element s (last_of b) number) (boundary_index (last_of b) number)
+  pub misses : NoResult s sets b number
+  pub is : f ≡ no_result_at s (last_of b) number
 
--- every boundary has its adjusted day, and K34 is broken first at that number
-pub record DoesNotRise (s : Stream) (sets : BoundaryDays) (b : List ℤ) (x : Broken) : Type 0 where
+-- K34 at an adjusted day that isn't after the one before it
+pub record DoesNotRise (s : Stream) (sets : BoundaryDays) (b : List ℤ) (f : Fault) : Type 0 where
   pub list : List ℤ
   pub adjusted : AdjustedList s sets b list
   pub number : ℕ
-  pub first : FirstNotAfter list number
-  pub is : x ≡ broken_at K34 calculation_period_dates number
+  pub flat : NotAfter list number
+  pub is : f ≡ not_after_at number
 
--- the first of K33 and K34 that is broken
-abbrev pub AdjustedBroken : Stream → BoundaryDays → List ℤ → Broken → Type 0
-AdjustedBroken s sets b x = MissesResult s sets b x ⊎ DoesNotRise s sets b x
+-- the rules that the adjusted boundaries break
+abbrev pub BreaksAdjusted : Stream → BoundaryDays → List ℤ → Fault → Type 0
+BreaksAdjusted s sets b f = MissesResult s sets b f ⊎ DoesNotRise s sets b f
+
+-- boundary j is named before boundary i
+abbrev pub named_before : Stream → ℕ → ℕ → ℕ → Bool
+named_before s last j i = comes_before (no_result_at s last j) (no_result_at s last i)
+
+-- the first boundary, in the order of the names, that has no adjusted day
+abbrev pub FirstNoResult : Stream → BoundaryDays → List ℤ → ℕ → Type 0
+FirstNoResult s sets b = First (named_before s (last_of b)) (NoResult s sets b)
+
+-- the same among the boundaries behind boundary 0
+abbrev pub LaterNoResult : Stream → BoundaryDays → List ℤ → ℕ → Type 0
+LaterNoResult s sets b i = (0 < i) × NoResult s sets b i
+
+abbrev pub FirstLaterNoResult : Stream → BoundaryDays → List ℤ → ℕ → Type 0
+FirstLaterNoResult s sets b = First (named_before s (last_of b)) (LaterNoResult s sets b)
+
+-- the first day that isn't after the one before it
+abbrev pub FirstNotAfter : List ℤ → ℕ → Type 0
+FirstNotAfter a = First nat_lt (NotAfter a)

@@ -1,14 +1,15 @@
 -- The unadjusted boundaries of a stream's calculation periods (2006 ISDA Definitions, 4.13 and 4.10).
-use Rattle.std.specs.Prelude.{◌≡◌, ◌⊎◌, ◌+◌, ◌<◌, List, length, ℤ, ◌≤ℤ◌}
+use Rattle.std.specs.Prelude.{◌≡◌, ◌⊎◌, ◌+◌, ◌<◌, List, length, ℤ, ◌<ℤ◌, ◌≤ℤ◌}
 use Rattle.irs_base.specs.Limits.{most_periods}
 use Rattle.irs_base.specs.Listed.{Lists}
 use Rattle.irs_base.specs.Elements.{calculation_period_frequency}
-use Rattle.irs_base.specs.declared.places.Broken.{Broken}
+use Rattle.irs_base.specs.declared.places.Fault.{Fault}
+use Rattle.irs_base.specs.Faults.{fault_at}
+use Rattle.irs_base.specs.Members.{day_at}
 use Rattle.irs_base.specs.declared.places.Rule.TheVariants.{K32}
 use Rattle.irs_terms.specs.declared.stream.Stream.{Stream}
 use Rattle.irs_terms.specs.declared.results.Span.{Span}
 use Rattle.irs_roll.specs.Rolls.{OnGrid}
-use Rattle.irs_periods.specs.SpanRules.{broken_at}
 use Rattle.irs_terms.specs.FirstDay.{first_day_of}
 use Rattle.irs_terms.specs.TermDates.{termination_of}
 
@@ -28,12 +29,22 @@ IsBoundary s span d = IsBoundaryBy (OnGrid s.freq s.roll span.anchor) (first_day
 abbrev pub Boundaries : Stream → Span → List ℤ → Type 0
 Boundaries s span b = Lists (IsBoundary s span) b
 
--- K32 at its element
-abbrev pub too_many_periods : Broken
-too_many_periods = broken_at K32 calculation_period_frequency 0
+-- where the regular periods begin: the span's first day is boundary 0 where it is the first day, with no
+-- initial stub, and boundary 1 behind an initial stub
+pub record RegularStart (s : Stream) (span : Span) (b : List ℤ) : Type 0 where
+  pub not_before : first_day_of s ≤ℤ span.first
+  pub no_stub : first_day_of s ≡ span.first → day_at b 0 ≡ span.first
+  pub behind_stub : first_day_of s <ℤ span.first → day_at b 1 ≡ span.first
 
 -- K32: there are more boundaries than the most periods have
 pub record TooManyPeriods (s : Stream) (span : Span) : Type 0 where
   pub list : List ℤ
   pub lists : Boundaries s span list
   pub many : most_periods + 1 < length list
+
+-- the rule that the number of periods breaks: K32 at the frequency
+abbrev pub too_many_periods : Fault
+too_many_periods = fault_at K32 calculation_period_frequency 0
+
+abbrev pub BreaksPeriods : Stream → Span → Fault → Type 0
+BreaksPeriods s span f = TooManyPeriods s span × (f ≡ too_many_periods)

@@ -1,6 +1,10 @@
 -- Days of a grid in the order of their numbers, as lists.
 use Rattle.std.specs.Prelude.{ℕ, zero, suc, ◌+◌, List, [], ◌∷◌, ◌++◌, ℤ, pos, ◌+ℤ◌, if◌then◌else◌}
 use Rattle.std.proofs.Common.{is_lt, int_cmp}
+use Rattle.irs_terms.specs.declared.results.Span.{Span}
+use Rattle.irs_terms.specs.declared.stream.Stream.{Stream}
+use Rattle.irs_terms.specs.FirstDay.{first_day_of}
+use Rattle.irs_terms.specs.TermDates.{termination_of}
 
 -- the n days of the grid f from the number `start` on
 abbrev pub days_from : (ℤ → ℤ) → ℤ → ℕ → List ℤ
@@ -16,3 +20,7 @@ where_before a b d = if is_lt (int_cmp a b) then d ∷ [] else []
 abbrev pub all_boundaries : (ℤ → ℤ) → ℤ → ℕ → ℤ → ℤ → ℤ → ℤ → List ℤ
 all_boundaries f start n begin termination first last =
     (where_before begin first begin ++ days_from f start (n + 1)) ++ where_before last termination termination
+
+-- the same for a stream and its span
+abbrev pub boundaries_on : (ℤ → ℤ) → ℤ → ℕ → Stream → Span → List ℤ
+boundaries_on f start n s span = all_boundaries f start n (first_day_of s) (termination_of s) span.first span.last

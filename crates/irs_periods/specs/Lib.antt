@@ -4,5 +4,5 @@ pub mod Spans
 pub mod SpanRules
 pub mod Boundaries
 pub mod GridLists
-pub mod PeriodErrors
 pub mod Adjusting
+pub mod Answers

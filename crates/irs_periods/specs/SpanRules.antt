@@ -1,9 +1,9 @@
 -- The rules of a stream's span: that the roll fits the anchor (K30), and that the last regular day is
--- on the grid (K31). A call that takes one stream names it as stream 1.
+-- on the grid (K31).
 use Rattle.std.specs.Prelude.{◌≡◌, ◌⊎◌, ℕ, Option, Some, None, ℤ}
-use Rattle.irs_base.specs.declared.places.Rule.{Rule}
 use Rattle.irs_base.specs.declared.places.Rule.TheVariants.{K30, K31}
-use Rattle.irs_base.specs.declared.places.Broken.{Broken}
+use Rattle.irs_base.specs.declared.places.Fault.{Fault}
+use Rattle.irs_base.specs.Faults.{fault_at}
 use Rattle.irs_base.specs.Elements.{termination_date, first_regular_period_start_date, last_regular_period_end_date}
 use Rattle.irs_terms.specs.declared.codes.StubKind.{StubKind}
 use Rattle.irs_terms.specs.declared.codes.StubKind.TheVariants.{ShortInitial, LongInitial, ShortFinal, LongFinal}
@@ -13,10 +13,6 @@ use Rattle.irs_roll.specs.Rolls.{Fits, OnGrid}
 use Rattle.irs_periods.specs.Spans.{anchor_of, Regular}
 use Rattle.irs_terms.specs.Suiting.{IsTerm}
 use Rattle.irs_terms.specs.TermDates.{first_day_element}
-
--- a rule broken at an element of the stream
-abbrev pub broken_at : Rule → ℕ → ℕ → Broken
-broken_at rule elem index = record { rule = rule; place = record { stream = 1; elem = elem; index = index } }
 
 -- the element of the anchor by the stub type alone, `start` being that of the first day
 abbrev pub stub_anchor_element : ℕ → Option StubKind → ℕ
@@ -55,9 +51,15 @@ pub record LastOffGrid (s : Stream) : Type 0 where
   pub regular : Regular s span
   pub off : OnGrid s.freq s.roll span.anchor span.last → ⊥
 
--- the first of K30 and K31 that is broken
-abbrev pub SpanBroken : Stream → Broken → Type 0
-SpanBroken s b = (RollMisfits s × (b ≡ broken_at K30 (anchor_element s) 0)) ⊎ ((RollMisfits s → ⊥) × LastOffGrid s × (b ≡ broken_at K31 (last_element s) 0))
+-- the rules that the span breaks: K30 at the element of its anchor, K31 at that of its last day
+abbrev pub roll_misfits : Stream → Fault
+roll_misfits s = fault_at K30 (anchor_element s) 0
+
+abbrev pub last_off_grid : Stream → Fault
+last_off_grid s = fault_at K31 (last_element s) 0
+
+abbrev pub BreaksSpan : Stream → Fault → Type 0
+BreaksSpan s f = (RollMisfits s × (f ≡ roll_misfits s)) ⊎ (LastOffGrid s × (f ≡ last_off_grid s))
 
 -- neither is broken: unless the frequency is the term, the roll fits the anchor, and the last day is on the grid
 pub record SpanKept (s : Stream) (span : Span) : Type 0 where

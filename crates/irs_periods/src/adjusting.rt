@@ -2,22 +2,21 @@
 //! `firstPeriodStartDate` where it is given, else of the effective date; the termination date by its
 //! own; and every other boundary by the period adjustments (FpML `calculationPeriodDatesAdjustments`;
 //! 2006 ISDA Definitions, 4.10 and 4.12). That they have to rise is this project's own rule.
-ghost use Rattle.std.specs.Prelude.{◌≡◌, ◌<◌, ◌≤◌, ◌-◌, ◌^◌, ℕ, ℤ, List, length, IfOk, IfSome, IfNone};
+ghost use Rattle.std.specs.Prelude.{◌≡◌, ◌⊎◌, ◌<◌, ◌≤◌, ◌^◌, ℕ, ℤ, List, length, IfOk, IfSome, IfNone};
+ghost use Rattle.irs_base.specs.Faults.{IfBroken, fault_at};
 ghost use Rattle.irs_base.specs.Listed.{IsRising};
-ghost use Rattle.irs_terms.specs.declared.results.Span.{Span};
-ghost use Rattle.irs_periods.specs.Boundaries.{Boundaries};
-ghost use Rattle.irs_periods.specs.SpanRules.{broken_at};
-ghost use Rattle.irs_periods.specs.Adjusting.{AdjustedBroken, AdjustedList, AdjustsAt, FirstLaterNoResult, FirstNoResult, FirstNotAfter, NoResult, NotAfter, boundary_element, boundary_index, days_by, last_of};
-ghost use Rattle.irs_periods.specs.PeriodErrors.{IfBroken};
-ghost use Rattle.irs_base.specs.declared.places.Rule.TheVariants.{K33, K34};
-ghost use Rattle.irs_base.specs.Elements.{calculation_period_dates};
+ghost use Rattle.irs_base.specs.declared.places.Rule.TheVariants.{K33};
+ghost use Rattle.irs_base.specs.Order.{First, comes_before};
 ghost use Rattle.irs_terms.specs.TermDates.{DatesInOrder};
-ghost use Rattle.irs_base.specs.Members.{day_at};
+ghost use Rattle.irs_terms.specs.declared.results.Span.{Span};
+ghost use Rattle.irs_periods.specs.Adjusting.{AdjustedList, AdjustsAt, BreaksAdjusted, FirstLaterNoResult, FirstNoResult, FirstNotAfter, HasResult, MissesResult, NotAfter, days_by, no_result_at, not_after_at};
+ghost use Rattle.irs_periods.specs.Answers.{IfMemory};
+ghost use Rattle.irs_periods.specs.Boundaries.{Boundaries};
 
 use crate::PerErr;
 use crate::span::first_day_elem;
 use irs_adjust::adjust_by;
-use irs_base::{Broken, Day, DayList, Elem, Place, Rule};
+use irs_base::{Day, DayList, Elem, Fault, Rule};
 use irs_calendar::GoodDays;
 use irs_terms::Stream;
 use std::alloc::Global;
@@ -30,8 +29,8 @@ use std::alloc::Global;
 /// `Broken` is the first rule broken: a boundary has no adjusted day (K33, in the order of the
 /// elements and then of the boundaries: effective date, termination date, the other boundaries,
 /// `firstPeriodStartDate`), or, where each has one, an adjusted day isn't after the one before it
-/// (K34). The place names stream 1. Boundaries have at most one list of adjusted days, and one where
-/// K33 isn't broken.
+/// (K34). K33 is told also where memory is short. Boundaries have at most one list of adjusted days,
+/// and one where K33 isn't broken, which rises where K34 isn't either.
 pub fn adjusted<G: GoodDays>(
     alloc: Global,
     s: &Stream,
@@ -42,19 +41,58 @@ pub fn adjusted<G: GoodDays>(
 ) -> Result<DayList, PerErr>
     requires dates { DatesInOrder s.now }
     requires listed { (span : Span) × Boundaries s.now span unadjusted.now }
-    ensures ok { IfOk result (AdjustedList s.now (days_by (G.days start.now) (G.days end.now) (G.days middle.now)) unadjusted.now) }
+    ensures ok { IfOk result (AdjustedList s.now (days_by G.days start.now end.now middle.now) unadjusted.now) }
     ensures rising { IfOk result IsRising }
-    ensures broken { IfBroken result (AdjustedBroken s.now (days_by (G.days start.now) (G.days end.now) (G.days middle.now)) unadjusted.now) }
-    ensures exists { ((i : ℕ) → NoResult s.now (days_by (G.days start.now) (G.days end.now) (G.days middle.now)) unadjusted.now i → ⊥) → (a : List ℤ) × AdjustedList s.now (days_by (G.days start.now) (G.days end.now) (G.days middle.now)) unadjusted.now a }
-    ensures one { (a b : List ℤ) → AdjustedList s.now (days_by (G.days start.now) (G.days end.now) (G.days middle.now)) unadjusted.now a → AdjustedList s.now (days_by (G.days start.now) (G.days end.now) (G.days middle.now)) unadjusted.now b → a ≡ b }
+    ensures unbroken { let Breaks = BreaksAdjusted s.now (days_by G.days start.now end.now middle.now) unadjusted.now in
+        IfOk result (λ _. (f : Fault) → Breaks f → ⊥) }
+    ensures memory { let Misses = MissesResult s.now (days_by G.days start.now end.now middle.now) unadjusted.now in
+        IfMemory result ((f : Fault) → Misses f → ⊥) }
+    ensures broken { let Breaks = BreaksAdjusted s.now (days_by G.days start.now end.now middle.now) unadjusted.now in
+        IfBroken result (First comes_before Breaks) }
+    ensures decided { let Breaks = BreaksAdjusted s.now (days_by G.days start.now end.now middle.now) unadjusted.now in
+        ((f : Fault) × First comes_before Breaks f) ⊎ ((f : Fault) → Breaks f → ⊥) }
+    ensures exists { let sets = days_by G.days start.now end.now middle.now in
+        ((f : Fault) → MissesResult s.now sets unadjusted.now f → ⊥)
+        → (a : List ℤ) × AdjustedList s.now sets unadjusted.now a }
+    ensures rises { let sets = days_by G.days start.now end.now middle.now in
+        ((f : Fault) → BreaksAdjusted s.now sets unadjusted.now f → ⊥)
+        → (a : List ℤ) × AdjustedList s.now sets unadjusted.now a × IsRising a }
+    ensures one { let IsAdjusted = AdjustedList s.now (days_by G.days start.now end.now middle.now) unadjusted.now in
+        (a b : List ℤ) → IsAdjusted a → IsAdjusted b → a ≡ b }
+    ensures one_broken { let Breaks = BreaksAdjusted s.now (days_by G.days start.now end.now middle.now) unadjusted.now in
+        (f g : Fault) → First comes_before Breaks f → First comes_before Breaks g → f ≡ g }
+{
+    // hands the prover the range of the good days and of the boundaries
+    let _covers = (start.cover(), end.cover(), middle.cover());
+    let _count = unadjusted.as_slice().len();
+    each_adjusted(alloc, s, unadjusted, start, end, middle)
+}
+
+// Each boundary adjusted, where each has an adjusted day and the adjusted days rise.
+fn each_adjusted<G: GoodDays>(
+    alloc: Global,
+    s: &Stream,
+    unadjusted: &DayList,
+    start: &G,
+    end: &G,
+    middle: &G,
+) -> Result<DayList, PerErr>
+    requires dates { DatesInOrder s.now }
+    requires listed { (span : Span) × Boundaries s.now span unadjusted.now }
+    ensures ok { IfOk result (AdjustedList s.now (days_by G.days start.now end.now middle.now) unadjusted.now) }
+    ensures rising { IfOk result IsRising }
+    ensures memory { let Misses = MissesResult s.now (days_by G.days start.now end.now middle.now) unadjusted.now in
+        IfMemory result ((f : Fault) → Misses f → ⊥) }
+    ensures broken { let Breaks = BreaksAdjusted s.now (days_by G.days start.now end.now middle.now) unadjusted.now in
+        IfBroken result (First comes_before Breaks) }
 {
     let days = unadjusted.as_slice();
     if let Some(number) = first_without(s, days, start, end, middle) {
-        return Err(no_result(s, days.len() - 1, number));
+        return Err(PerErr::Broken(no_result(s, days.len() - 1, number)));
     }
     let list = adjust_each(alloc, s, days, start, end, middle)?;
     match first_not_after(list.as_slice()) {
-        Some(number) => Err(not_after(number)),
+        Some(number) => Err(PerErr::Broken(not_after(number))),
         None => Ok(list),
     }
 }
@@ -69,8 +107,8 @@ fn adjust_at<G: GoodDays>(
     i: usize,
     d: Day,
 ) -> Option<Day>
-    ensures some { IfSome result (AdjustsAt s.now (days_by (G.days start.now) (G.days end.now) (G.days middle.now)) last i d) }
-    ensures none { IfNone result ((r : ℤ) → AdjustsAt s.now (days_by (G.days start.now) (G.days end.now) (G.days middle.now)) last i d r → ⊥) }
+    ensures some { IfSome result (AdjustsAt s.now (days_by G.days start.now end.now middle.now) last i d) }
+    ensures none { IfNone result ((r : ℤ) → AdjustsAt s.now (days_by G.days start.now end.now middle.now) last i d r → ⊥) }
 {
     if i == 0 {
         adjust_by(s.first_date().adj.code, start, d)
@@ -91,8 +129,8 @@ fn first_without<G: GoodDays>(
     middle: &G,
 ) -> Option<usize>
     requires { 2 ≤ length days.now }
-    ensures some { IfSome result (FirstNoResult s.now (days_by (G.days start.now) (G.days end.now) (G.days middle.now)) days.now) }
-    ensures none { IfNone result ((i : ℕ) → i < length days.now → (r : ℤ) × AdjustsAt s.now (days_by (G.days start.now) (G.days end.now) (G.days middle.now)) (last_of days.now) i (day_at days.now i) r) }
+    ensures some { IfSome result (FirstNoResult s.now (days_by G.days start.now end.now middle.now) days.now) }
+    ensures none { IfNone result ((i : ℕ) → i < length days.now → HasResult s.now (days_by G.days start.now end.now middle.now) days.now i) }
 {
     let later = later_without(s, days, start, end, middle);
     if let Some(_first) = adjust_at(s, start, end, middle, days.len() - 1, 0, days[0]) {
@@ -114,8 +152,8 @@ fn later_without<G: GoodDays>(
     middle: &G,
 ) -> Option<usize>
     requires { 2 ≤ length days.now }
-    ensures some { IfSome result (FirstLaterNoResult s.now (days_by (G.days start.now) (G.days end.now) (G.days middle.now)) days.now) }
-    ensures none { IfNone result ((i : ℕ) → 0 < i → i < length days.now → (r : ℤ) × AdjustsAt s.now (days_by (G.days start.now) (G.days end.now) (G.days middle.now)) (last_of days.now) i (day_at days.now i) r) }
+    ensures some { IfSome result (FirstLaterNoResult s.now (days_by G.days start.now end.now middle.now) days.now) }
+    ensures none { IfNone result ((i : ℕ) → 0 < i → i < length days.now → HasResult s.now (days_by G.days start.now end.now middle.now) days.now i) }
 {
     let last = days.len() - 1;
     let Some(_last) = adjust_at(s, start, end, middle, last, last, days[last]) else {
@@ -139,8 +177,8 @@ fn adjust_each<G: GoodDays>(
     middle: &G,
 ) -> Result<DayList, PerErr>
     requires some { 0 < length days.now }
-    requires each { (i : ℕ) → i < length days.now → (r : ℤ) × AdjustsAt s.now (days_by (G.days start.now) (G.days end.now) (G.days middle.now)) (last_of days.now) i (day_at days.now i) r }
-    ensures ok { IfOk result (AdjustedList s.now (days_by (G.days start.now) (G.days end.now) (G.days middle.now)) days.now) }
+    requires each { (i : ℕ) → i < length days.now → HasResult s.now (days_by G.days start.now end.now middle.now) days.now i }
+    ensures ok { IfOk result (AdjustedList s.now (days_by G.days start.now end.now middle.now) days.now) }
     ensures memory { IfBroken result (λ _. ⊥) }
 {
     let last = days.len() - 1;
@@ -168,37 +206,38 @@ fn first_not_after(days: &[Day]) -> Option<usize>
 }
 
 // Boundary `number` of the boundaries up to `last` has no adjusted day.
-fn no_result(s: &Stream, last: usize, number: usize) -> PerErr
+fn no_result(s: &Stream, last: usize, number: usize) -> Fault
     requires { number < 2 ^ 32 }
-    ensures { result ≡ PerErr.Broken (broken_at K33 (boundary_element s.now last number) (boundary_index last number)) }
+    ensures { result ≡ no_result_at s.now last number }
 {
     if number == 0 {
-        broken(Rule::K33, first_day_elem(s), 0)
+        missing(first_day_elem(s), 0)
     } else if number == last {
-        broken(Rule::K33, Elem::TERMINATION_DATE, 0)
+        missing(Elem::TERMINATION_DATE, 0)
     } else {
-        broken(Rule::K33, Elem::PERIOD_DATES_ADJUSTMENTS, number as u32)
+        missing(Elem::PERIOD_DATES_ADJUSTMENTS, number as u32)
+    }
+}
+
+// K33 at an element.
+fn missing(elem: Elem, index: u32) -> Fault
+    ensures { result ≡ fault_at K33 elem index }
+{
+    Fault {
+        rule: Rule::K33,
+        elem,
+        index,
     }
 }
 
 // Adjusted boundary `number` isn't after the one before it.
-fn not_after(number: usize) -> PerErr
+fn not_after(number: usize) -> Fault
     requires { number < 2 ^ 32 }
-    ensures { result ≡ PerErr.Broken (broken_at K34 calculation_period_dates number) }
+    ensures { result ≡ not_after_at number }
 {
-    broken(Rule::K34, Elem::CALCULATION_PERIOD_DATES, number as u32)
-}
-
-// A rule that stream 1 breaks.
-fn broken(rule: Rule, elem: Elem, index: u32) -> PerErr
-    ensures { result ≡ PerErr.Broken (broken_at rule elem index) }
-{
-    PerErr::Broken(Broken {
-        rule,
-        place: Place {
-            stream: 1,
-            elem,
-            index,
-        },
-    })
+    Fault {
+        rule: Rule::K34,
+        elem: Elem::CALCULATION_PERIOD_DATES,
+        index: number as u32,
+    }
 }

@@ -2,25 +2,26 @@
 //! `firstPeriodStartDate`, else the effective date), the termination date, and every grid day of the
 //! regular span (2006 ISDA Definitions, 4.13: a Calculation Period runs from one period end date,
 //! included, to the next, excluded). The most periods are this project's own.
-ghost use Rattle.std.specs.Prelude.{◌≡◌, ◌↔◌, ◌<◌, ◌≤◌, ◌+◌, ◌++◌, ℕ, ℤ, List, length, pos, neg_ℤ, ◌+ℤ◌, ◌≤ℤ◌, ◌<ℤ◌, true, IfOk};
+ghost use Rattle.std.specs.Prelude.{◌≡◌, ◌↔◌, ◌⊎◌, ◌<◌, ◌≤◌, ◌+◌, ◌++◌, ℕ, ℤ, List, length, pos, neg_ℤ, ◌+ℤ◌, ◌≤ℤ◌, IfOk};
 ghost use Rattle.jiff_core.specs.Calendar.{IsBetween};
 ghost use Rattle.irs_base.specs.Days.{IsDay, all_days};
+ghost use Rattle.irs_base.specs.Faults.{IfBroken};
 ghost use Rattle.irs_base.specs.Limits.{most_periods};
-ghost use Rattle.irs_base.specs.Elements.{calculation_period_frequency};
-ghost use Rattle.irs_terms.specs.Lawful.{IsLawfulStream};
-ghost use Rattle.irs_roll.specs.Rolls.{OnGrid};
+ghost use Rattle.irs_base.specs.Order.{First, comes_before};
 ghost use Rattle.irs_terms.specs.FirstDay.{first_day_of};
-ghost use Rattle.irs_periods.specs.Spans.{Regular, is_term};
-ghost use Rattle.irs_periods.specs.SpanRules.{SpanKept};
-ghost use Rattle.irs_periods.specs.Boundaries.{Boundaries, TooManyPeriods, too_many_periods};
-ghost use Rattle.irs_periods.specs.GridLists.{all_boundaries, days_from, where_before};
-ghost use Rattle.irs_periods.specs.PeriodErrors.{IfBroken};
-ghost use Rattle.irs_terms.specs.Suiting.{IsTerm, FrequencySuits};
+ghost use Rattle.irs_terms.specs.Lawful.{IsLawfulStream};
+ghost use Rattle.irs_terms.specs.Suiting.{FrequencySuits, IsTerm};
 ghost use Rattle.irs_terms.specs.TermDates.{DatesInOrder, termination_of};
+ghost use Rattle.irs_roll.specs.Rolls.{OnGrid};
+ghost use Rattle.irs_periods.specs.Answers.{IfMemory};
+ghost use Rattle.irs_periods.specs.Boundaries.{Boundaries, BreaksPeriods, RegularStart, too_many_periods};
+ghost use Rattle.irs_periods.specs.GridLists.{all_boundaries, boundaries_on, days_from, where_before};
+ghost use Rattle.irs_periods.specs.SpanRules.{SpanKept};
+ghost use Rattle.irs_periods.specs.Spans.{Regular};
 
 use crate::PerErr;
 use crate::span::is_whole_term;
-use irs_base::{Broken, Day, DayList, Elem, MOST_PERIODS, Place, Rule};
+use irs_base::{Day, DayList, Elem, Fault, MOST_PERIODS, Rule};
 use irs_roll::{Grid, StreamGrid};
 use irs_terms::{Span, Stream};
 use std::alloc::Global;
@@ -30,7 +31,9 @@ use std::alloc::Global;
 /// order (K13), that the span is the stream's and breaks neither K30 nor K31, and that the grid is
 /// that of the stream's frequency and roll from the span's anchor.
 ///
-/// `Broken` comes exactly where there are more than `MOST_PERIODS` periods (K32); the place names stream 1.
+/// `Broken` comes exactly where there are more than `MOST_PERIODS` periods (K32), also where memory
+/// is short. A stream has exactly one list of boundaries; the first regular period starts at boundary
+/// 0, or at boundary 1 behind an initial stub.
 pub fn boundaries<G: Grid>(
     alloc: Global,
     s: &Stream,
@@ -44,21 +47,62 @@ pub fn boundaries<G: Grid>(
     requires kept { SpanKept s.now span.now }
     requires first { G.at grid.now (pos 0) ≡ span.now.anchor }
     requires on { (d : ℤ) → G.on grid.now d ↔ OnGrid s.now.freq s.now.roll span.now.anchor d }
-    ensures listed { IfOk result (Boundaries s.now span.now) }
+    ensures ok { IfOk result (Boundaries s.now span.now) }
     ensures few { IfOk result (λ b. length b ≤ most_periods + 1) }
-    ensures broken { IfBroken result (λ b. TooManyPeriods s.now span.now × (b ≡ too_many_periods)) }
+    ensures unbroken { IfOk result (λ _. (f : Fault) → BreaksPeriods s.now span.now f → ⊥) }
+    ensures memory { IfMemory result ((f : Fault) → BreaksPeriods s.now span.now f → ⊥) }
+    ensures broken { IfBroken result (First comes_before (BreaksPeriods s.now span.now)) }
+    ensures decided { let Breaks = BreaksPeriods s.now span.now in
+        ((f : Fault) × First comes_before Breaks f) ⊎ ((f : Fault) → Breaks f → ⊥) }
     ensures exists { (b : List ℤ) × Boundaries s.now span.now b }
+    ensures one { (a b : List ℤ) → Boundaries s.now span.now a → Boundaries s.now span.now b → a ≡ b }
+    ensures one_broken { let Breaks = BreaksPeriods s.now span.now in
+        (f g : Fault) → First comes_before Breaks f → First comes_before Breaks g → f ≡ g }
+    ensures regular { (b : List ℤ) → Boundaries s.now span.now b → RegularStart s.now span.now b }
+{
+    over_grid(alloc, s, span, grid)
+}
+
+// The boundaries over the grid, where there are not too many.
+fn over_grid<G: Grid>(alloc: Global, s: &Stream, span: &Span, grid: &G) -> Result<DayList, PerErr>
+    requires lawful { IsLawfulStream s.now }
+    requires dates { DatesInOrder s.now }
+    requires timed { ¬ (IsTerm s.now.freq) }
+    requires span { Regular s.now span.now }
+    requires kept { SpanKept s.now span.now }
+    requires first { G.at grid.now (pos 0) ≡ span.now.anchor }
+    requires on { (d : ℤ) → G.on grid.now d ↔ OnGrid s.now.freq s.now.roll span.now.anchor d }
+    ensures ok { IfOk result (Boundaries s.now span.now) }
+    ensures few { IfOk result (λ b. length b ≤ most_periods + 1) }
+    ensures broken { IfBroken result (First comes_before (BreaksPeriods s.now span.now)) }
+    ensures memory { IfMemory result ((f : Fault) → BreaksPeriods s.now span.now f → ⊥) }
 {
     let (start, steps) = regular_part(s, span, grid);
-    let begin = s.first_day();
-    let termination = s.termination.day;
-    let stubs = stub(begin, span.first) + stub(span.last, termination);
+    let stubs = stub(s.first_day(), span.first) + stub(span.last, s.termination.day);
     if steps > MOST_PERIODS - stubs {
-        return Err(too_many());
+        return Err(PerErr::Broken(too_many()));
     }
-    let list = front(alloc, begin, span.first)?;
+    list_days(alloc, s, span, grid, start, steps)
+}
+
+// The first day, the grid days of the span from a number on, and the termination date.
+fn list_days<G: Grid>(
+    alloc: Global,
+    s: &Stream,
+    span: &Span,
+    grid: &G,
+    start: i64,
+    steps: u32,
+) -> Result<DayList, PerErr>
+    requires few { steps ≤ most_periods }
+    requires near { IsBetween (neg_ℤ (pos all_days)) (pos all_days) start }
+    requires days { (j : ℕ) → j ≤ steps → IsDay (G.at grid.now (start +ℤ pos j)) }
+    ensures ok { IfOk result (λ b. b ≡ boundaries_on (G.at grid.now) start steps s.now span.now) }
+    ensures memory { IfBroken result (λ _. ⊥) }
+{
+    let list = front(alloc, s.first_day(), span.first)?;
     let list = grid_days(list, grid, start, steps + 1)?;
-    Ok(close(list, span.last, termination)?)
+    close(list, span.last, s.termination.day)
 }
 
 // The number of the span's first day, and how many steps lead from it to the last day.
@@ -70,7 +114,7 @@ fn regular_part<G: Grid>(s: &Stream, span: &Span, grid: &G) -> (i64, u32)
     requires kept { SpanKept s.now span.now }
     requires first { G.at grid.now (pos 0) ≡ span.now.anchor }
     requires on { (d : ℤ) → G.on grid.now d ↔ OnGrid s.now.freq s.now.roll span.now.anchor d }
-    ensures listed { Boundaries s.now span.now (all_boundaries (G.at grid.now) result.0 result.1 (first_day_of s.now) (termination_of s.now) span.now.first span.now.last) }
+    ensures listed { Boundaries s.now span.now (boundaries_on (G.at grid.now) result.0 result.1 s.now span.now) }
     ensures days { (j : ℕ) → j ≤ result.1 → IsDay (G.at grid.now (result.0 +ℤ pos j)) }
     ensures near { IsBetween (neg_ℤ (pos all_days)) (pos all_days) result.0 }
 {
@@ -114,18 +158,15 @@ fn stub(from: Day, to: Day) -> u32
     if from < to { 1 } else { 0 }
 }
 
-// The rule on the number of periods, broken by stream 1.
-fn too_many() -> PerErr
-    ensures { result ≡ PerErr.Broken too_many_periods }
+// K32, broken.
+fn too_many() -> Fault
+    ensures { result ≡ too_many_periods }
 {
-    PerErr::Broken(Broken {
+    Fault {
         rule: Rule::K32,
-        place: Place {
-            stream: 1,
-            elem: Elem::CALCULATION_PERIOD_FREQUENCY,
-            index: 0,
-        },
-    })
+        elem: Elem::CALCULATION_PERIOD_FREQUENCY,
+        index: 0,
+    }
 }
 
 // The begin of the first period alone where it comes before the regular span.
@@ -177,24 +218,47 @@ fn close(mut list: DayList, last: Day, termination: Day) -> Result<DayList, PerE
 /// in order (K13), that its frequency and roll suit each other (K14), and that the span is the
 /// stream's and breaks neither K30 nor K31.
 ///
-/// `Broken` comes exactly where there are more than `MOST_PERIODS` periods (K32); the place names stream 1.
-/// A stream has exactly one list of boundaries.
+/// `Broken` comes exactly where there are more than `MOST_PERIODS` periods (K32), also where memory
+/// is short. A stream has exactly one list of boundaries; the first regular period starts at boundary
+/// 0, or at boundary 1 behind an initial stub.
 pub fn boundaries_by(alloc: Global, s: &Stream, span: &Span) -> Result<DayList, PerErr>
     requires lawful { IsLawfulStream s.now }
     requires dates { DatesInOrder s.now }
     requires frequency { FrequencySuits s.now }
     requires span { Regular s.now span.now }
     requires kept { SpanKept s.now span.now }
-    ensures listed { IfOk result (Boundaries s.now span.now) }
+    ensures ok { IfOk result (Boundaries s.now span.now) }
     ensures few { IfOk result (λ b. length b ≤ most_periods + 1) }
-    ensures broken { IfBroken result (λ b. TooManyPeriods s.now span.now × (b ≡ too_many_periods)) }
+    ensures unbroken { IfOk result (λ _. (f : Fault) → BreaksPeriods s.now span.now f → ⊥) }
+    ensures memory { IfMemory result ((f : Fault) → BreaksPeriods s.now span.now f → ⊥) }
+    ensures broken { IfBroken result (First comes_before (BreaksPeriods s.now span.now)) }
+    ensures decided { let Breaks = BreaksPeriods s.now span.now in
+        ((f : Fault) × First comes_before Breaks f) ⊎ ((f : Fault) → Breaks f → ⊥) }
     ensures exists { (b : List ℤ) × Boundaries s.now span.now b }
     ensures one { (a b : List ℤ) → Boundaries s.now span.now a → Boundaries s.now span.now b → a ≡ b }
+    ensures one_broken { let Breaks = BreaksPeriods s.now span.now in
+        (f g : Fault) → First comes_before Breaks f → First comes_before Breaks g → f ≡ g }
+    ensures regular { (b : List ℤ) → Boundaries s.now span.now b → RegularStart s.now span.now b }
+{
+    by_frequency(alloc, s, span)
+}
+
+// The boundaries by the frequency: the ends of the term, or those over the stream's grid.
+fn by_frequency(alloc: Global, s: &Stream, span: &Span) -> Result<DayList, PerErr>
+    requires lawful { IsLawfulStream s.now }
+    requires dates { DatesInOrder s.now }
+    requires frequency { FrequencySuits s.now }
+    requires span { Regular s.now span.now }
+    requires kept { SpanKept s.now span.now }
+    ensures ok { IfOk result (Boundaries s.now span.now) }
+    ensures few { IfOk result (λ b. length b ≤ most_periods + 1) }
+    ensures broken { IfBroken result (First comes_before (BreaksPeriods s.now span.now)) }
+    ensures memory { IfMemory result ((f : Fault) → BreaksPeriods s.now span.now f → ⊥) }
 {
     if is_whole_term(s.freq) {
         whole_term(alloc, s, span)
     } else {
-        boundaries(
+        over_grid(
             alloc,
             s,
             span,
@@ -207,10 +271,9 @@ pub fn boundaries_by(alloc: Global, s: &Stream, span: &Span) -> Result<DayList, 
 fn whole_term(alloc: Global, s: &Stream, span: &Span) -> Result<DayList, PerErr>
     requires dates { DatesInOrder s.now }
     requires term { IsTerm s.now.freq }
-    ensures listed { IfOk result (Boundaries s.now span.now) }
+    ensures ok { IfOk result (Boundaries s.now span.now) }
     ensures few { IfOk result (λ b. length b ≤ most_periods + 1) }
     ensures broken { IfBroken result (λ _. ⊥) }
-    ensures exists { (b : List ℤ) × Boundaries s.now span.now b }
 {
     let mut list = DayList::new(alloc);
     list.push(s.first_day())?;

@@ -14,17 +14,18 @@
 //! | LongInitial | T | that day if it is E, else the next grid day if it isn't after T, else T | T |
 //! | ShortFinal | E | E | the last grid day at or before T |
 //! | LongFinal | E | E | that day if it is T, else the grid day before it if it isn't before E, else E |
-ghost use Rattle.std.specs.Prelude.{◌≡◌, ◌↔◌, ◌<◌, ℤ, false, true, pos, ◌<ℤ◌, IsTrue, IfOk, IfErr};
+ghost use Rattle.std.specs.Prelude.{◌≡◌, ◌↔◌, ◌⊎◌, false, true, pos, ◌<ℤ◌, IsTrue, IfOk, IfErr};
 ghost use Rattle.irs_base.specs.Days.{IsDay};
+ghost use Rattle.irs_base.specs.Order.{First, comes_before};
 ghost use Rattle.irs_terms.specs.Lawful.{IsLawfulStream};
 ghost use Rattle.irs_terms.specs.FirstDay.{first_day_of};
-ghost use Rattle.irs_periods.specs.Spans.{GivenSpan, Regular, StubSpan, anchor_of, given_anchor, is_term, stub_anchor};
-ghost use Rattle.irs_periods.specs.SpanRules.{SpanBroken, SpanKept, anchor_element, broken_at, last_element};
+ghost use Rattle.irs_periods.specs.Spans.{GivenSpanOf, Regular, StubSpan, anchor_of, given_anchor_of, is_term, stub_anchor};
+ghost use Rattle.irs_periods.specs.SpanRules.{BreaksSpan, SpanKept, anchor_element, last_element, last_off_grid, roll_misfits};
 ghost use Rattle.irs_terms.specs.Suiting.{IsTerm, FrequencySuits};
 ghost use Rattle.irs_terms.specs.TermDates.{DatesInOrder, first_day_element, termination_of};
 
 use crate::nearest::{Way, long_end, short_end};
-use irs_base::{Broken, Day, Elem, Place, Rule};
+use irs_base::{Day, Elem, Fault, Rule};
 use irs_roll::{Grid, StreamGrid, fits};
 use irs_terms::{Frequency, Span, Stream, StubKind, Unit};
 
@@ -32,14 +33,33 @@ use irs_terms::{Frequency, Span, Stream, StubKind, Unit};
 /// frequency and roll suit each other (K14).
 ///
 /// An error is the first of K30 and K31 that is broken: the frequency isn't T, and the roll doesn't
-/// fit the anchor, or the last day of the span isn't on the grid. The place names stream 1.
-pub fn regular_span(s: &Stream) -> Result<Span, Broken>
+/// fit the anchor, or the last day of the span isn't on the grid. Where neither is broken there is
+/// exactly one regular span. No memory is taken.
+pub fn regular_span(s: &Stream) -> Result<Span, Fault>
     requires lawful { IsLawfulStream s.now }
     requires dates { DatesInOrder s.now }
     requires frequency { FrequencySuits s.now }
     ensures ok { IfOk result (Regular s.now) }
     ensures kept { IfOk result (SpanKept s.now) }
-    ensures broken { IfErr result (SpanBroken s.now) }
+    ensures unbroken { IfOk result (λ _. (f : Fault) → BreaksSpan s.now f → ⊥) }
+    ensures broken { IfErr result (First comes_before (BreaksSpan s.now)) }
+    ensures decided { ((f : Fault) × First comes_before (BreaksSpan s.now) f) ⊎ ((f : Fault) → BreaksSpan s.now f → ⊥) }
+    ensures exists { ((f : Fault) → BreaksSpan s.now f → ⊥) → (span : Span) × Regular s.now span × SpanKept s.now span }
+    ensures one { (a b : Span) → Regular s.now a → Regular s.now b → a ≡ b }
+    ensures one_broken { let Breaks = BreaksSpan s.now in
+        (f g : Fault) → First comes_before Breaks f → First comes_before Breaks g → f ≡ g }
+{
+    span_by_frequency(s)
+}
+
+// The span by the frequency: the whole term, or by the table.
+fn span_by_frequency(s: &Stream) -> Result<Span, Fault>
+    requires lawful { IsLawfulStream s.now }
+    requires dates { DatesInOrder s.now }
+    requires frequency { FrequencySuits s.now }
+    ensures ok { IfOk result (Regular s.now) }
+    ensures kept { IfOk result (SpanKept s.now) }
+    ensures broken { IfErr result (First comes_before (BreaksSpan s.now)) }
 {
     if is_whole_term(s.freq) {
         return Ok(whole_term(s));
@@ -72,23 +92,23 @@ fn whole_term(s: &Stream) -> Span
 }
 
 // The span of a stream whose frequency isn't the term.
-fn timed_span(s: &Stream) -> Result<Span, Broken>
+fn timed_span(s: &Stream) -> Result<Span, Fault>
     requires lawful { IsLawfulStream s.now }
     requires dates { DatesInOrder s.now }
     requires frequency { FrequencySuits s.now }
     requires timed { is_term s.now.freq.unit ≡ false }
     ensures ok { IfOk result (Regular s.now) }
     ensures kept { IfOk result (SpanKept s.now) }
-    ensures broken { IfErr result (SpanBroken s.now) }
+    ensures broken { IfErr result (First comes_before (BreaksSpan s.now)) }
 {
     let anchor = anchor(s);
     if !fits(s.roll, s.freq, anchor) {
-        return Err(broken(Rule::K30, anchor_elem(s)));
+        return Err(misfit(s));
     }
     let grid = StreamGrid::new(s.freq, s.roll, anchor);
     let (first, last) = ends(s, &grid);
     if !grid.on_grid(last) {
-        return Err(broken(Rule::K31, last_elem(s)));
+        return Err(off_grid(s));
     }
     Ok(Span {
         first,
@@ -97,17 +117,25 @@ fn timed_span(s: &Stream) -> Result<Span, Broken>
     })
 }
 
-// A rule that stream 1 breaks.
-fn broken(rule: Rule, elem: Elem) -> Broken
-    ensures { result ≡ broken_at rule elem 0 }
+// K30 at the element of the anchor.
+fn misfit(s: &Stream) -> Fault
+    ensures { result ≡ roll_misfits s.now }
 {
-    Broken {
-        rule,
-        place: Place {
-            stream: 1,
-            elem,
-            index: 0,
-        },
+    Fault {
+        rule: Rule::K30,
+        elem: anchor_elem(s),
+        index: 0,
+    }
+}
+
+// K31 at the element of the last day.
+fn off_grid(s: &Stream) -> Fault
+    ensures { result ≡ last_off_grid s.now }
+{
+    Fault {
+        rule: Rule::K31,
+        elem: last_elem(s),
+        index: 0,
     }
 }
 
@@ -165,8 +193,8 @@ fn last_elem(s: &Stream) -> Elem
 fn ends<G: Grid>(s: &Stream, grid: &G) -> (Day, Day)
     requires days { IsDay (first_day_of s.now) × IsDay (termination_of s.now) }
     requires order { first_day_of s.now <ℤ termination_of s.now }
-    requires anchored { G.at grid.now (pos 0) ≡ given_anchor s.now.first_regular s.now.last_regular s.now.stub (first_day_of s.now) (termination_of s.now) }
-    ensures { GivenSpan s.now.first_regular s.now.last_regular s.now.stub (G.on grid.now) (first_day_of s.now) (termination_of s.now) result.0 result.1 }
+    requires anchored { G.at grid.now (pos 0) ≡ given_anchor_of s.now }
+    ensures { GivenSpanOf s.now (G.on grid.now) result.0 result.1 }
 {
     let begin = s.first_day();
     let termination = s.termination.day;

@@ -2,7 +2,6 @@
 use Rattle.irs_base.specs.PathList.{paths, printed}
 use Rattle.irs_base.specs.declared.places.Broken.{Broken}
 use Rattle.irs_elements.specs.Elements.{FaultAt}
-use Rattle.irs_elements.specs.Order.{IsFirst}
 use Rattle.irs_elements.specs.declared.table.Kind.{Kind}
 use Rattle.irs_elements.specs.Lines.{Line}
 use Rattle.irs_elements.specs.declared.table.Row.{Row}
@@ -10,6 +9,7 @@ use Rattle.irs_read.specs.StreamLines.{stream_elements, stream_names, stream_row
 use Rattle.irs_read.specs.declared.table.TheConstants.{NAMES, ROWS, SWAP_NAMES, SWAP_ROWS}
 use Rattle.serde_json.specs.Data.{Data}
 use Rattle.std.proofs.Common.{◌≡◌, ℕ, List, map, Option, refl, subst}
+use Rattle.irs_base.specs.Order.{IsFirstBroken}
 
 -- the names as the code has them
 abbrev pub code_names : List (List ℕ)
@@ -45,8 +45,8 @@ by_tables P rows rows' names names' r n p = subst (λ (ns : List (List ℕ)). P 
 pub stream_fault : {s r i : ℕ} {k : Kind} {d : Data} {f : Broken} → FaultAt ROWS code_names s r k i d f → FaultAt stream_rows stream_names s r k i d f
 stream_fault {s = s} {r = r} {i = i} {k = k} {d = d} {f = f} q = by_tables (λ rows names. FaultAt rows names s r k i d f) ROWS stream_rows code_names stream_names rows_are names_are q
 
-pub stream_first : (s r : ℕ) (k : Kind) (i : ℕ) (d : Data) (a : Option Broken) → IsFirst (FaultAt ROWS code_names s r k i d) a → IsFirst (FaultAt stream_rows stream_names s r k i d) a
-stream_first s r k i d a p = by_tables (λ rows names. IsFirst (FaultAt rows names s r k i d) a) ROWS stream_rows code_names stream_names rows_are names_are p
+pub stream_first : (s r : ℕ) (k : Kind) (i : ℕ) (d : Data) (a : Option Broken) → IsFirstBroken (FaultAt ROWS code_names s r k i d) a → IsFirstBroken (FaultAt stream_rows stream_names s r k i d) a
+stream_first s r k i d a p = by_tables (λ rows names. IsFirstBroken (FaultAt rows names s r k i d) a) ROWS stream_rows code_names stream_names rows_are names_are p
 
-pub swap_first : (s r : ℕ) (k : Kind) (i : ℕ) (d : Data) (a : Option Broken) → IsFirst (FaultAt SWAP_ROWS swap_code_names s r k i d) a → IsFirst (FaultAt swap_rows swap_names s r k i d) a
-swap_first s r k i d a p = by_tables (λ rows names. IsFirst (FaultAt rows names s r k i d) a) SWAP_ROWS swap_rows swap_code_names swap_names swap_rows_are swap_names_are p
+pub swap_first : (s r : ℕ) (k : Kind) (i : ℕ) (d : Data) (a : Option Broken) → IsFirstBroken (FaultAt SWAP_ROWS swap_code_names s r k i d) a → IsFirstBroken (FaultAt swap_rows swap_names s r k i d) a
+swap_first s r k i d a p = by_tables (λ rows names. IsFirstBroken (FaultAt rows names s r k i d) a) SWAP_ROWS swap_rows swap_code_names swap_names swap_rows_are swap_names_are p

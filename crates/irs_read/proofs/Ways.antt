@@ -1,20 +1,20 @@
 -- The first rule that a document breaks, from where the way to its swap leads.
 use Rattle.irs_base.specs.declared.places.Broken.{Broken}
 use Rattle.irs_elements.proofs.First.{first_one, first_same}
-use Rattle.irs_elements.specs.Order.{IsFirst}
 use Rattle.irs_read.specs.Documents.{DocumentFault, below, ended, the_swap}
 use Rattle.irs_read.specs.Swaps.{SwapFault}
 use Rattle.serde_json.specs.Data.{Data}
 use Rattle.std.proofs.Common.{◌≡◌, Option, Some, Ok, Err, subst}
+use Rattle.irs_base.specs.Order.{IsFirstBroken}
 
-pub ended_first : (d : Data) (f : Broken) → the_swap d ≡ Err f → IsFirst (DocumentFault d) (Some f)
+pub ended_first : (d : Data) (f : Broken) → the_swap d ≡ Err f → IsFirstBroken (DocumentFault d) (Some f)
 ended_first d f e = first_one _ f (ended f e) (only d f e)
   where
     only : (d : Data) (f : Broken) → the_swap d ≡ Err f → (g : Broken) → DocumentFault d g → g ≡ f
     only d f e g (ended _ h) = cc
     only d f e g (below s _ h q) = cc
 
-pub below_first : (d s : Data) (a : Option Broken) → the_swap d ≡ Ok s → IsFirst (SwapFault s) a → IsFirst (DocumentFault d) a
+pub below_first : (d s : Data) (a : Option Broken) → the_swap d ≡ Ok s → IsFirstBroken (SwapFault s) a → IsFirstBroken (DocumentFault d) a
 below_first d s a e p = first_same _ _ a (λ f q. below s f e q) (only d s e) p
   where
     only : (d s : Data) → the_swap d ≡ Ok s → (g : Broken) → DocumentFault d g → SwapFault s g

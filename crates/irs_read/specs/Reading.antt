@@ -1,13 +1,10 @@
 -- The swap that a document spells, and the first rule that it breaks.
 use Rattle.irs_base.specs.declared.places.Broken.{Broken}
-use Rattle.irs_elements.specs.Order.{IsFirst}
 use Rattle.irs_read.specs.Documents.{DocumentFault, the_swap}
 use Rattle.irs_read.specs.Meaning.{swap_in}
-use Rattle.irs_read.specs.declared.reader.ReadErr.{ReadErr}
-use Rattle.irs_read.specs.declared.reader.ReadErr.TheVariants.{Broken as BrokenRule, Memory}
 use Rattle.irs_terms.specs.declared.stream_list.Swap.{Swap}
 use Rattle.serde_json.specs.Data.{Data}
-use Rattle.std.specs.Prelude.{◌≡◌, Some, Ok}
+use Rattle.std.specs.Prelude.{◌≡◌, Ok}
 
 -- the document breaks no rule, and the swap is the one that its swap says
 pub record Means (d : Data) (s : Swap) : Type 0 where
@@ -15,8 +12,3 @@ pub record Means (d : Data) (s : Swap) : Type 0 where
   pub at : Data
   pub found : the_swap d ≡ Ok at
   pub says : s ≡ swap_in at
-
--- a refusal tells of the first broken rule, or of want of memory
-abbrev pub IsFirstBroken : Data → ReadErr → Type 0
-IsFirstBroken d (BrokenRule f) = IsFirst (DocumentFault d) (Some f)
-IsFirstBroken d Memory = Unit {0}

@@ -1,9 +1,9 @@
 //! The first rule that a swap breaks: its own, and those of its one to eight streams.
-ghost use Rattle.irs_elements.specs.Order.{IsFirst};
 ghost use Rattle.irs_read.specs.Swaps.{Among, StreamFault, StreamsFault, SwapFault, outside as outside_of};
 ghost use Rattle.irs_base.specs.Limits.{most_streams};
 ghost use Rattle.serde_json.specs.View.{view};
 ghost use Rattle.std.specs.Prelude.{◌≡◌, ◌≤◌, length, map};
+ghost use Rattle.irs_base.specs.Order.{IsFirstBroken};
 
 use crate::table::{NAMES, ROWS, STREAM, SWAP, SWAP_NAMES, SWAP_ROWS};
 use irs_base::{Broken, Elem, MOST_STREAMS, Place, Rule};
@@ -27,7 +27,7 @@ pub fn outside(rule: Rule, elem: Elem) -> Broken
 // The first rule that one to eight streams break.
 fn each_stream_fault(list: &[Value]) -> Option<Broken>
     requires { length list.now ≤ most_streams }
-    ensures { IsFirst (Among StreamFault (map view list.now)) result }
+    ensures { IsFirstBroken (Among StreamFault (map view list.now)) result }
 {
     let mut first = None;
     for j in 0..list.len() {
@@ -42,7 +42,7 @@ fn each_stream_fault(list: &[Value]) -> Option<Broken>
 
 // The first rule that the streams of a swap break, and their count.
 fn streams_fault(list: &[Value]) -> Option<Broken>
-    ensures { IsFirst (StreamsFault (map view list.now)) result }
+    ensures { IsFirstBroken (StreamsFault (map view list.now)) result }
 {
     if list.len() == 0 {
         Some(outside(Rule::K2, Elem::SWAP_STREAM))
@@ -55,7 +55,7 @@ fn streams_fault(list: &[Value]) -> Option<Broken>
 
 /// The first rule that a swap breaks.
 pub fn first_in_swap(v: &Value) -> Option<Broken>
-    ensures { IsFirst (SwapFault (view v.now)) result }
+    ensures { IsFirstBroken (SwapFault (view v.now)) result }
 {
     let own = first_fault(&SWAP_ROWS, &SWAP_NAMES, 0, 0, SWAP, 0, v);
     match members(v) {

@@ -1,21 +1,20 @@
 -- A period has one reset date and one fixing date, and its dates fail in one way at most.
-use Rattle.std.proofs.Common.{◌≡◌, inl, inr, ℕ, List, Option, Some, None, ℤ, sym, subst, ◌∙◌, refl}
+use Rattle.std.proofs.Common.{◌≡◌, inl, inr, ℕ, Option, Some, None, ℤ, sym, subst, ◌∙◌, refl}
 use Rattle.irs_terms.specs.declared.codes.DayKind.{DayKind}
 use Rattle.irs_terms.specs.declared.codes.DayKind.TheVariants.{Business, Calendar, Unsaid}
 use Rattle.irs_terms.specs.declared.dates.FixTerms.{FixTerms}
 use Rattle.irs_terms.specs.declared.dates.ResetTerms.{ResetTerms}
 use Rattle.irs_calendar.specs.GoodDays.{DaySet}
 use Rattle.irs_adjust.specs.Codes.{Adjusts}
-use Rattle.irs_adjust.specs.Offsets.{Moves}
 use Rattle.irs_adjust.proofs.CodeLaws.{one_adjusts}
 use Rattle.irs_adjust.proofs.OffsetLaws.{one_moved}
 use Rattle.irs_resets.specs.declared.dates.DateFault.{DateFault}
 use Rattle.irs_resets.specs.declared.dates.DateFault.TheVariants.{NoReset, NoFixing, OutOfRange}
-use Rattle.irs_resets.specs.ResetDates.{base_day, ResetsOn, FixesBy, FixesOn, IsDates, FixFails, FixingFails, HasFixingFault, Fails, unmoved_fault}
+use Rattle.irs_resets.specs.ResetDates.{ResetDays, IsPeriod, base_day, ResetsOn, FixesBy, FixesOn, IsDates, FixFails, FixingFails, HasFixingFault, Fails, unmoved_fault, IsUnmoved}
 use Rattle.irs_terms.specs.DayTypes.{IsSaid}
 
-pub one_reset : (t : ResetTerms) (a : List ℤ) (set : DaySet) (i : ℕ) (r s : ℤ) → ResetsOn t a set i r → ResetsOn t a set i s → r ≡ s
-one_reset t a set i r s p q = one_adjusts t.adj.code set (base_day t.relative a i) r s p q
+pub one_reset : (t : ResetTerms) (days : ResetDays) (i : ℕ) (r s : ℤ) → ResetsOn t days i r → ResetsOn t days i s → r ≡ s
+one_reset t days i r s p q = one_adjusts t.adj.code days.reset_set (base_day t.relative days.adjusted i) r s p q
 
 one_fix : (fix : FixTerms) (set : DaySet) (r f g : ℤ) → FixesBy fix set r f → FixesBy fix set r g → f ≡ g
 one_fix fix set r f g p q =
@@ -26,10 +25,10 @@ pub one_fixing : (fixing : Option FixTerms) (set : DaySet) (r f g : ℤ) → Fix
 one_fixing None set r f g p q = p ∙ sym q
 one_fixing (Some fix) set r f g p q = one_fix fix set r f g p q
 
-pub one_dates : (t : ResetTerms) (a : List ℤ) (s u : DaySet) (i : ℕ) (r f x y : ℤ) → IsDates t a s u i r f → IsDates t a s u i x y → (r ≡ x) × (f ≡ y)
-one_dates t a s u i r f x y p q =
-    let same = one_reset t a s i r x p.resets q.resets in
-    (same, one_fixing t.fixing u x f y (subst (λ (z : ℤ). FixesOn t.fixing u z f) same p.fixes) q.fixes)
+pub one_dates : (t : ResetTerms) (days : ResetDays) (i : ℕ) (r f x y : ℤ) → IsDates t days i r f → IsDates t days i x y → (r ≡ x) × (f ≡ y)
+one_dates t days i r f x y p q =
+    let same = one_reset t days i r x p.resets q.resets in
+    (same, one_fixing t.fixing days.fixing_set x f y (subst (λ (z : ℤ). FixesOn t.fixing days.fixing_set z f) same p.fixes) q.fixes)
 
 -- a fixing date that there is doesn't fail
 fix_stands : (e : DateFault) (fix : FixTerms) (set : DaySet) (r f : ℤ) → FixesBy fix set r f → FixFails e fix set r → ⊥
@@ -44,16 +43,16 @@ fixing_stands : (e : DateFault) (fixing : Option FixTerms) (set : DaySet) (r f :
 fixing_stands e None set r f p h = h
 fixing_stands e (Some fix) set r f p h = fix_stands e fix set r f p h
 
-fault_stands : (e : DateFault) (t : ResetTerms) (a : List ℤ) (s u : DaySet) (i : ℕ) (r f : ℤ) → IsDates t a s u i r f → HasFixingFault e t a s u i → ⊥
-fault_stands e t a s u i r f p h =
-    let same = one_reset t a s i r h.reset p.resets h.resets in
-    fixing_stands e t.fixing u h.reset f (subst (λ (z : ℤ). FixesOn t.fixing u z f) same p.fixes) h.fails
+fault_stands : (e : DateFault) (t : ResetTerms) (days : ResetDays) (i : ℕ) (r f : ℤ) → IsDates t days i r f → HasFixingFault e t days i → ⊥
+fault_stands e t days i r f p h =
+    let same = one_reset t days i r h.reset p.resets h.resets in
+    fixing_stands e t.fixing days.fixing_set h.reset f (subst (λ (z : ℤ). FixesOn t.fixing days.fixing_set z f) same p.fixes) h.fails
 
 -- dates that there are don't fail
-pub dates_stand : (e : DateFault) (t : ResetTerms) (a : List ℤ) (s u : DaySet) (i : ℕ) (r f : ℤ) → IsDates t a s u i r f → Fails e t a s u i → ⊥
-dates_stand NoReset t a s u i r f p h = h.none r p.resets
-dates_stand NoFixing t a s u i r f p h = fault_stands NoFixing t a s u i r f p h
-dates_stand OutOfRange t a s u i r f p h = fault_stands OutOfRange t a s u i r f p h
+pub dates_stand : (e : DateFault) (t : ResetTerms) (days : ResetDays) (i : ℕ) (r f : ℤ) → IsDates t days i r f → Fails e t days i → ⊥
+dates_stand NoReset t days i r f p h = h.none r p.resets
+dates_stand NoFixing t days i r f p h = fault_stands NoFixing t days i r f p h
+dates_stand OutOfRange t days i r f p h = fault_stands OutOfRange t days i r f p h
 
 -- a fixing date fails in one way at most
 one_fix_fault : (fix : FixTerms) (set : DaySet) (r : ℤ) → FixFails NoFixing fix set r → FixFails OutOfRange fix set r → ⊥
@@ -64,28 +63,34 @@ one_fixing_fault : (fixing : Option FixTerms) (set : DaySet) (r : ℤ) → Fixin
 one_fixing_fault None set r p h = h
 one_fixing_fault (Some fix) set r p h = one_fix_fault fix set r p h
 
-apart : (t : ResetTerms) (a : List ℤ) (s u : DaySet) (i : ℕ) → HasFixingFault NoFixing t a s u i → HasFixingFault OutOfRange t a s u i → ⊥
-apart t a s u i p q =
-    let same = one_reset t a s i p.reset q.reset p.resets q.resets in
-    one_fixing_fault t.fixing u q.reset (subst (λ (z : ℤ). FixingFails NoFixing t.fixing u z) same p.fails) q.fails
+apart : (t : ResetTerms) (days : ResetDays) (i : ℕ) → HasFixingFault NoFixing t days i → HasFixingFault OutOfRange t days i → ⊥
+apart t days i p q =
+    let same = one_reset t days i p.reset q.reset p.resets q.resets in
+    one_fixing_fault t.fixing days.fixing_set q.reset (subst (λ (z : ℤ). FixingFails NoFixing t.fixing days.fixing_set z) same p.fails) q.fails
 
-pub one_fault : (d e : DateFault) (t : ResetTerms) (a : List ℤ) (s u : DaySet) (i : ℕ) → Fails d t a s u i → Fails e t a s u i → d ≡ e
-one_fault NoReset NoReset t a s u i p q = refl
-one_fault NoReset NoFixing t a s u i p q = absurd (p.none q.reset q.resets)
-one_fault NoReset OutOfRange t a s u i p q = absurd (p.none q.reset q.resets)
-one_fault NoFixing NoReset t a s u i p q = absurd (q.none p.reset p.resets)
-one_fault NoFixing NoFixing t a s u i p q = refl
-one_fault NoFixing OutOfRange t a s u i p q = absurd (apart t a s u i p q)
-one_fault OutOfRange NoReset t a s u i p q = absurd (q.none p.reset p.resets)
-one_fault OutOfRange NoFixing t a s u i p q = absurd (apart t a s u i q p)
-one_fault OutOfRange OutOfRange t a s u i p q = refl
+-- a period fails only where there is that period
+pub period_of : (t : ResetTerms) (days : ResetDays) (why : DateFault) (i : ℕ) → Fails why t days i → IsPeriod days.adjusted i
+period_of t days NoReset i h = h.period
+period_of t days NoFixing i h = h.period
+period_of t days OutOfRange i h = h.period
+
+pub one_way : (d e : DateFault) (t : ResetTerms) (days : ResetDays) (i : ℕ) → Fails d t days i → Fails e t days i → d ≡ e
+one_way NoReset NoReset t days i p q = refl
+one_way NoReset NoFixing t days i p q = absurd (p.none q.reset q.resets)
+one_way NoReset OutOfRange t days i p q = absurd (p.none q.reset q.resets)
+one_way NoFixing NoReset t days i p q = absurd (q.none p.reset p.resets)
+one_way NoFixing NoFixing t days i p q = refl
+one_way NoFixing OutOfRange t days i p q = absurd (apart t days i p q)
+one_way OutOfRange NoReset t days i p q = absurd (q.none p.reset p.resets)
+one_way OutOfRange NoFixing t days i p q = absurd (apart t days i q p)
+one_way OutOfRange OutOfRange t days i p q = refl
 
 -- a day that can't be moved is the fault that its kind of days gives
-unmoved_by : (kind : DayKind) (fix : FixTerms) (set : DaySet) (r : ℤ) → fix.offset.kind ≡ kind → IsSaid fix.offset → ((x : ℤ) → Moves fix.offset set r x → ⊥) → FixFails (unmoved_fault kind) fix set r
+unmoved_by : (kind : DayKind) (fix : FixTerms) (set : DaySet) (r : ℤ) → fix.offset.kind ≡ kind → IsSaid fix.offset → IsUnmoved fix set r → FixFails (unmoved_fault kind) fix set r
 unmoved_by Business fix set r e said none = inl (e, none)
 unmoved_by Calendar fix set r e said none = (e, none)
 unmoved_by Unsaid fix set r e (inl zero) none = absurd (none r (inl (zero, refl)))
 unmoved_by Unsaid fix set r e (inr said) none = absurd (said e)
 
-pub unmoved_fails : (fix : FixTerms) (set : DaySet) (r : ℤ) → IsSaid fix.offset → ((x : ℤ) → Moves fix.offset set r x → ⊥) → FixFails (unmoved_fault fix.offset.kind) fix set r
+pub unmoved_fails : (fix : FixTerms) (set : DaySet) (r : ℤ) → IsSaid fix.offset → IsUnmoved fix set r → FixFails (unmoved_fault fix.offset.kind) fix set r
 unmoved_fails fix set r said none = unmoved_by fix.offset.kind fix set r refl said none

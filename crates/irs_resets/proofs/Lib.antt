@@ -3,4 +3,9 @@ pub mod KeyLemmas
 pub mod WordLemmas
 pub mod FileLemmas
 pub mod DateLemmas
+pub mod KindLaws
+pub mod ObservedLaws
 pub mod RowLemmas
+pub mod FirstResets
+pub mod ResetsThere
+pub mod ResetLemmas

@@ -1,68 +1,109 @@
 -- The observed rate of a calculation period. Periods count from 1.
-use Rattle.std.specs.Prelude.{ℕ, Bool, ◌&&◌, ◌==◌, List, Option, Some, None, ℤ, if◌then◌else◌}
-use Rattle.std.specs.Ordering.{int_cmp, is_lt}
+use Rattle.std.specs.Prelude.{◌≡◌, ◌⊎◌, ℕ, List, Option, Some, None, ℤ, ◌<ℤ◌}
 use Rattle.irs_terms.specs.declared.frequency.Frequency.{Frequency}
 use Rattle.irs_terms.specs.declared.amounts.FloatTerms.{FloatTerms}
 use Rattle.irs_terms.specs.declared.amounts.StubRate.{StubRate}
 use Rattle.irs_terms.specs.declared.amounts.StubRate.TheVariants.{Index, Fixed}
 use Rattle.irs_terms.specs.declared.amounts.StubTerms.{StubTerms}
 use Rattle.irs_terms.specs.declared.results.Span.{Span}
+use Rattle.irs_terms.specs.declared.stream.Stream.{Stream}
+use Rattle.irs_terms.specs.FirstDay.{first_day_of}
 use Rattle.irs_resets.specs.declared.observed.PeriodKind.{PeriodKind}
 use Rattle.irs_resets.specs.declared.observed.PeriodKind.TheVariants.{InitialStub, FinalStub, FirstRegular, LaterRegular}
 use Rattle.irs_resets.specs.Rates.{RateTable, rate_at}
 
-abbrev pub is_before : ℤ → ℤ → Bool
-is_before a b = is_lt (int_cmp a b)
+-- ---- what a period is
 
--- the number of the first regular period: it follows the initial stub, where there is one; the first
--- calculation period begins on e
-abbrev pub first_regular : ℤ → Span → ℕ
-first_regular e span = if is_before e span.first then 2 else 1
+-- period i is the initial stub: the first one, where it begins before the regular span
+abbrev pub IsInitial : Stream → Span → ℕ → Type 0
+IsInitial s span i = (first_day_of s <ℤ span.first) × (i ≡ 1)
 
--- what the period i of n is, where the first begins on e and the last ends on t: period 1 is the initial
--- stub where the regular span begins after e, and period n the final stub where it ends before t
-abbrev pub kind_at : ℤ → ℤ → Span → ℕ → ℕ → PeriodKind
-kind_at e t span n i =
-    if is_before e span.first && (i == 1) then InitialStub
-    else (if is_before span.last t && (i == n) then FinalStub
-    else (if is_before span.first span.last && (i == first_regular e span) then FirstRegular else LaterRegular))
+-- period i of n is the final stub: the last one, where it ends after the regular span
+abbrev pub IsFinal : Stream → Span → ℕ → ℕ → Type 0
+IsFinal s span n i = (span.last <ℤ s.termination.day) × (i ≡ n)
 
--- the rate of the line for that index and tenor on the day
-abbrev pub line_rate : RateTable → List ℕ → Option Frequency → ℤ → Option ℤ
-line_rate rates index tenor d = rate_at rates index (record { date = d; tenor = tenor })
+-- i is the number of the period behind the initial stub, or 1 where there is none
+abbrev pub FollowsStub : Stream → Span → ℕ → Type 0
+FollowsStub s span i = ((first_day_of s <ℤ span.first) × (i ≡ 2)) ⊎ ((first_day_of s <ℤ span.first → ⊥) × (i ≡ 1))
 
--- the rate of the stream's index and tenor
-abbrev pub index_rate : FloatTerms → RateTable → ℤ → Option ℤ
-index_rate float rates d = line_rate rates float.index float.tenor d
+-- period i is the first of a regular span that isn't empty
+abbrev pub IsFirstRegular : Stream → Span → ℕ → Type 0
+IsFirstRegular s span i = (span.first <ℤ span.last) × FollowsStub s span i
 
--- a stub rate, or the rate of a stub's own index and tenor
-abbrev pub stub_rate : StubRate → RateTable → ℤ → Option ℤ
-stub_rate (Index index tenor) rates d = line_rate rates index tenor d
-stub_rate (Fixed rate) rates d = Some rate
+-- what period i of n is: a stub before all else
+abbrev pub IsKind : Stream → Span → ℕ → ℕ → PeriodKind → Type 0
+IsKind s span n i InitialStub = IsInitial s span i
+IsKind s span n i FinalStub = (IsInitial s span i → ⊥) × IsFinal s span n i
+IsKind s span n i FirstRegular = (IsInitial s span i → ⊥) × (IsFinal s span n i → ⊥) × IsFirstRegular s span i
+IsKind s span n i LaterRegular = (IsInitial s span i → ⊥) × (IsFinal s span n i → ⊥) × (IsFirstRegular s span i → ⊥)
 
-abbrev pub stub_or_index : Option StubRate → FloatTerms → RateTable → ℤ → Option ℤ
-stub_or_index None float rates d = index_rate float rates d
-stub_or_index (Some stub) float rates d = stub_rate stub rates d
+-- ---- where its rate comes from
 
-abbrev pub initial_stub_rate : Option StubTerms → FloatTerms → RateTable → ℤ → Option ℤ
-initial_stub_rate None float rates d = index_rate float rates d
-initial_stub_rate (Some stubs) float rates d = stub_or_index stubs.initial float rates d
+-- a rate that the terms state, or the line of an index and tenor
+pub data RateSource : Type 0 where
+  Stated : ℤ → RateSource
+  Line : List ℕ → Option Frequency → RateSource
 
-abbrev pub final_stub_rate : Option StubTerms → FloatTerms → RateTable → ℤ → Option ℤ
-final_stub_rate None float rates d = index_rate float rates d
-final_stub_rate (Some stubs) float rates d = stub_or_index stubs.last float rates d
+-- the rate or index that is given for the stub that the period is
+abbrev pub GivesStub : PeriodKind → Option StubTerms → StubRate → Type 0
+GivesStub kind None given = ⊥
+GivesStub kind (Some stubs) given = ((kind ≡ InitialStub) × (stubs.initial ≡ Some given)) ⊎ ((kind ≡ FinalStub) × (stubs.last ≡ Some given))
 
--- the initial rate where it is given
-abbrev pub initial_or_index : Option ℤ → FloatTerms → RateTable → ℤ → Option ℤ
-initial_or_index None float rates d = index_rate float rates d
-initial_or_index (Some rate) float rates d = Some rate
+-- where the rate of a period of that kind comes from
+pub data ComesFrom (kind : PeriodKind) (float : FloatTerms) (stubs : Option StubTerms) : RateSource → Type 0 where
+  -- a stub's own rate
+  own_rate : (rate : ℤ) → GivesStub kind stubs (Fixed rate) → ComesFrom kind float stubs (Stated rate)
+  -- a stub's own index, and no other where that has no line
+  own_index : (index : List ℕ) (tenor : Option Frequency) → GivesStub kind stubs (Index index tenor) → ComesFrom kind float stubs (Line index tenor)
+  -- the initial rate of the first regular period
+  initial_rate : (rate : ℤ) → kind ≡ FirstRegular → float.initial_rate ≡ Some rate → ComesFrom kind float stubs (Stated rate)
+  -- else the index of the stream
+  stream_index : ((given : StubRate) → GivesStub kind stubs given → ⊥) → (kind ≡ FirstRegular → float.initial_rate ≡ None) → ComesFrom kind float stubs (Line float.index float.tenor)
 
-abbrev pub first_regular_rate : FloatTerms → RateTable → ℤ → Option ℤ
-first_regular_rate float rates d = initial_or_index float.initial_rate float rates d
+-- the rate of that source on the fixing date d; a line that isn't there has none
+abbrev pub rate_from : RateSource → RateTable → ℤ → Option ℤ
+rate_from (Stated rate) rates d = Some rate
+rate_from (Line index tenor) rates d = rate_at rates index (record { date = d; tenor = tenor })
+
+-- the observed rate of a period of that kind with the fixing date d
+pub record IsObserved (kind : PeriodKind) (float : FloatTerms) (stubs : Option StubTerms) (rates : RateTable) (d : ℤ) (rate : Option ℤ) : Type 0 where
+  pub source : RateSource
+  pub comes_from : ComesFrom kind float stubs source
+  pub is : rate ≡ rate_from source rates d
+
+-- ---- the same by functions
+
+-- the source of a stub's own rate
+abbrev pub own_source : StubRate → RateSource
+own_source (Index index tenor) = Line index tenor
+own_source (Fixed rate) = Stated rate
+
+abbrev pub index_source : FloatTerms → RateSource
+index_source float = Line float.index float.tenor
+
+abbrev pub own_or_index : Option StubRate → FloatTerms → RateSource
+own_or_index None float = index_source float
+own_or_index (Some given) float = own_source given
+
+abbrev pub initial_stub_source : Option StubTerms → FloatTerms → RateSource
+initial_stub_source None float = index_source float
+initial_stub_source (Some stubs) float = own_or_index stubs.initial float
+
+abbrev pub final_stub_source : Option StubTerms → FloatTerms → RateSource
+final_stub_source None float = index_source float
+final_stub_source (Some stubs) float = own_or_index stubs.last float
+
+abbrev pub initial_or_index : Option ℤ → FloatTerms → RateSource
+initial_or_index None float = index_source float
+initial_or_index (Some rate) float = Stated rate
+
+-- the source of the rate of a period of that kind
+abbrev pub source_by : PeriodKind → FloatTerms → Option StubTerms → RateSource
+source_by InitialStub float stubs = initial_stub_source stubs float
+source_by FinalStub float stubs = final_stub_source stubs float
+source_by FirstRegular float stubs = initial_or_index float.initial_rate float
+source_by LaterRegular float stubs = index_source float
 
 -- the observed rate of a period of that kind with the fixing date d
 abbrev pub observed_rate : PeriodKind → FloatTerms → Option StubTerms → RateTable → ℤ → Option ℤ
-observed_rate InitialStub float stubs rates d = initial_stub_rate stubs float rates d
-observed_rate FinalStub float stubs rates d = final_stub_rate stubs float rates d
-observed_rate FirstRegular float stubs rates d = first_regular_rate float rates d
-observed_rate LaterRegular float stubs rates d = index_rate float rates d
+observed_rate kind float stubs rates d = rate_from (source_by kind float stubs) rates d

@@ -1,25 +1,19 @@
--- The rules of resets, and the first of them that is broken: that a stub is there for which a rate is given
--- (K37), that each date has a result (K33), and that an offset stays in the range of dates (K38). A call that
--- takes one stream names it as stream 1.
-use Rattle.std.specs.Prelude.{◌≡◌, ◌⊎◌, ℕ, List, Option, Some, None, IsSome, ℤ, ◌<ℤ◌, Result, Ok, Err}
-use Rattle.irs_base.specs.declared.places.Rule.{Rule}
+-- The rules of resets: that a stub is there for which a rate is given (K37), that each date has a result
+-- (K33), and that an offset stays in the range of dates (K38).
+use Rattle.std.specs.Prelude.{◌≡◌, ◌⊎◌, ℕ, Option, Some, None, IsSome, ◌<ℤ◌}
 use Rattle.irs_base.specs.declared.places.Rule.TheVariants.{K33, K37, K38}
-use Rattle.irs_base.specs.declared.places.Broken.{Broken}
+use Rattle.irs_base.specs.declared.places.Fault.{Fault}
 use Rattle.irs_base.specs.Elements.{reset_dates, fixing_dates, initial_stub, final_stub}
+use Rattle.irs_base.specs.Faults.{fault_at}
 use Rattle.irs_terms.specs.declared.dates.ResetTerms.{ResetTerms}
 use Rattle.irs_terms.specs.declared.amounts.StubTerms.{StubTerms}
 use Rattle.irs_terms.specs.declared.stream.Stream.{Stream}
-use Rattle.irs_terms.specs.FirstDay.{first_day_of}
 use Rattle.irs_terms.specs.declared.results.Span.{Span}
-use Rattle.irs_calendar.specs.GoodDays.{DaySet}
+use Rattle.irs_terms.specs.FirstDay.{first_day_of}
+use Rattle.irs_resets.specs.declared.dates.DateFault.{DateFault}
 use Rattle.irs_resets.specs.declared.dates.DateFault.TheVariants.{NoReset, NoFixing, OutOfRange}
-use Rattle.irs_resets.specs.declared.rows.ResErr.{ResErr}
-use Rattle.irs_resets.specs.declared.rows.ResErr.TheVariants.{Broken as OfBroken, Memory as OfMemory}
-use Rattle.irs_resets.specs.ResetDates.{IsPeriod, IsFirst, Fails}
-
--- a rule broken at an element of the stream
-abbrev pub broken_at : Rule → ℕ → ℕ → Broken
-broken_at rule elem index = record { rule = rule; place = record { stream = 1; elem = elem; index = index } }
+use Rattle.irs_resets.specs.ResetDates.{ResetDays, Fails}
+use Rattle.irs_resets.specs.Resets.{ResetSource}
 
 abbrev pub GivesInitial : Option StubTerms → Type 0
 GivesInitial None = ⊥
@@ -40,50 +34,30 @@ pub record FinalUnmet (s : Stream) (span : Span) : Type 0 where
   pub given : GivesFinal s.stubs
   pub no_stub : span.last <ℤ s.termination.day → ⊥
 
--- the first stub that breaks K37
-abbrev pub StubBroken : Stream → Span → Broken → Type 0
-StubBroken s span b = (InitialUnmet s span × (b ≡ broken_at K37 initial_stub 0)) ⊎ ((InitialUnmet s span → ⊥) × FinalUnmet s span × (b ≡ broken_at K37 final_stub 0))
+-- K37 is broken at the element of a stub
+abbrev pub BreaksStubs : Stream → Span → Fault → Type 0
+BreaksStubs s span f = (InitialUnmet s span × (f ≡ fault_at K37 initial_stub 0))
+    ⊎ (FinalUnmet s span × (f ≡ fault_at K37 final_stub 0))
 
--- K37 isn't broken
-pub record StubsMet (s : Stream) (span : Span) : Type 0 where
-  pub initial : InitialUnmet s span → ⊥
-  pub last : FinalUnmet s span → ⊥
+-- what the dates of a period break by failing so: K33 or K38, at the element of the date, with the number
+-- of the period
+abbrev pub date_fault : DateFault → ℕ → Fault
+date_fault NoReset i = fault_at K33 reset_dates i
+date_fault NoFixing i = fault_at K33 fixing_dates i
+date_fault OutOfRange i = fault_at K38 fixing_dates i
 
--- the first period without a reset date breaks K33
-pub record ResetBroken (t : ResetTerms) (a : List ℤ) (reset_set fixing_set : DaySet) (b : Broken) : Type 0 where
+-- the dates of a period break K33 or K38
+pub record BreaksDates (t : ResetTerms) (days : ResetDays) (f : Fault) : Type 0 where
   pub number : ℕ
-  pub first : IsFirst (Fails NoReset t a reset_set fixing_set) number
-  pub is : b ≡ broken_at K33 reset_dates number
+  pub why : DateFault
+  pub fails : Fails why t days number
+  pub is : f ≡ date_fault why number
 
--- else the first period whose Business offset or adjustment has no result breaks K33
-pub record FixingBroken (t : ResetTerms) (a : List ℤ) (reset_set fixing_set : DaySet) (b : Broken) : Type 0 where
-  pub resets : (i : ℕ) → IsPeriod a i → Fails NoReset t a reset_set fixing_set i → ⊥
-  pub number : ℕ
-  pub first : IsFirst (Fails NoFixing t a reset_set fixing_set) number
-  pub is : b ≡ broken_at K33 fixing_dates number
+-- where there are no terms of resets no date is asked for
+abbrev pub BreaksDatesIn : Option ResetTerms → ResetDays → Fault → Type 0
+BreaksDatesIn None days f = ⊥
+BreaksDatesIn (Some t) days f = BreaksDates t days f
 
--- else the first period whose Calendar offset leaves the range of dates breaks K38
-pub record RangeBroken (t : ResetTerms) (a : List ℤ) (reset_set fixing_set : DaySet) (b : Broken) : Type 0 where
-  pub resets : (i : ℕ) → IsPeriod a i → Fails NoReset t a reset_set fixing_set i → ⊥
-  pub fixings : (i : ℕ) → IsPeriod a i → Fails NoFixing t a reset_set fixing_set i → ⊥
-  pub number : ℕ
-  pub first : IsFirst (Fails OutOfRange t a reset_set fixing_set) number
-  pub is : b ≡ broken_at K38 fixing_dates number
-
--- the first rule that a date breaks
-abbrev pub DatesBroken : ResetTerms → List ℤ → DaySet → DaySet → Broken → Type 0
-DatesBroken t a reset_set fixing_set b = ResetBroken t a reset_set fixing_set b ⊎ (FixingBroken t a reset_set fixing_set b ⊎ RangeBroken t a reset_set fixing_set b)
-
-abbrev pub DatesBrokenIn : Option ResetTerms → List ℤ → DaySet → DaySet → Broken → Type 0
-DatesBrokenIn None a reset_set fixing_set b = ⊥
-DatesBrokenIn (Some t) a reset_set fixing_set b = DatesBroken t a reset_set fixing_set b
-
--- the first broken rule of resets: K37 comes before the others
-abbrev pub FirstBroken : Stream → Span → List ℤ → DaySet → DaySet → Broken → Type 0
-FirstBroken s span a reset_set fixing_set b = StubBroken s span b ⊎ (StubsMet s span × DatesBrokenIn s.reset a reset_set fixing_set b)
-
--- where the answer is a broken rule, P holds of it
-abbrev pub IfBroken : {A : Type 0} → Result A ResErr → (Broken → Type 0) → Type 0
-IfBroken (Ok x) P = Unit {0}
-IfBroken (Err (OfBroken b)) P = P b
-IfBroken (Err OfMemory) P = Unit {0}
+-- the rules of resets that are broken
+abbrev pub BreaksResets : ResetSource → Fault → Type 0
+BreaksResets source f = BreaksStubs source.stream source.span f ⊎ BreaksDatesIn source.stream.reset source.days f

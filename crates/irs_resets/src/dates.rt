@@ -3,9 +3,10 @@
 //! The reset date of a calculation period is its adjusted start or end, adjusted again. The fixing
 //! date is the reset date moved by the offset of `fixingDates` and then adjusted, or the reset date
 //! itself. The order of these steps is this project's own.
-ghost use Rattle.std.specs.Prelude.{◌≡◌, ◌⊎◌, ◌↔◌, ◌<◌, ◌^◌, ℕ, ℤ, pos, length, IsTrue, IfOk, IfErr, IfSome, IfNone};
+ghost use Rattle.std.specs.Prelude.{◌≡◌, ◌⊎◌, ◌↔◌, ◌<◌, ◌^◌, ℕ, ℤ, pos, length, IsTrue, IfOk, IfErr, IfNone, nat_lt};
 ghost use Rattle.irs_terms.specs.declared.codes.DayKind.TheVariants.{Unsaid};
-ghost use Rattle.irs_resets.specs.ResetDates.{base_day, IsPeriod, IsFirst, ResetsOn, FixesOn, FixesBy, IsDates, FixingFails, FixFails, Fails, Decided, unmoved_fault};
+ghost use Rattle.irs_base.specs.Order.{IsFirst};
+ghost use Rattle.irs_resets.specs.ResetDates.{days_by, base_day, IsPeriod, ResetsOn, FixesOn, FixesBy, IsDates, FixingFails, FixFails, Fails, Decided, unmoved_fault};
 ghost use Rattle.irs_terms.specs.DayTypes.{IsSaidFixing, IsSaid};
 
 use irs_adjust::{adjust_by, move_by};
@@ -16,7 +17,9 @@ use irs_terms::{DayKind, FixTerms, Relative, ResetTerms};
 /// The dates of a reset.
 #[derive(Clone, Copy, Debug, PartialEq, Eq)]
 pub struct Dates {
+    /// The day from which the rate holds.
     pub reset: Day,
+    /// The day on which the rate is observed.
     pub fixing: Day,
 }
 
@@ -82,7 +85,7 @@ fn fixing_date<G: GoodDays>(
     }
 }
 
-/// The dates of a period.
+/// The dates of a period, or the way in which they fail.
 pub fn period_dates<G: GoodDays>(
     terms: &ResetTerms,
     adjusted: &[Day],
@@ -92,8 +95,10 @@ pub fn period_dates<G: GoodDays>(
 ) -> Result<Dates, DateFault>
     requires period { IsPeriod adjusted.now number }
     requires offset { IsSaidFixing terms.now.fixing }
-    ensures ok { IfOk result (λ d. IsDates terms.now adjusted.now (G.days reset_days.now) (G.days fixing_days.now) number d.reset d.fixing) }
-    ensures fault { IfErr result (λ e. Fails e terms.now adjusted.now (G.days reset_days.now) (G.days fixing_days.now) number) }
+    ensures ok { let days = days_by adjusted.now (G.days reset_days.now) (G.days fixing_days.now) in
+        IfOk result (λ d. IsDates terms.now days number d.reset d.fixing) }
+    ensures fault { let days = days_by adjusted.now (G.days reset_days.now) (G.days fixing_days.now) in
+        IfErr result (λ why. Fails why terms.now days number) }
 {
     let day = base(terms.relative, adjusted, number);
     let Some(reset) = adjust_by(terms.adj.code, reset_days, day) else {
@@ -121,8 +126,10 @@ fn has_fault<G: GoodDays>(
 ) -> bool
     requires period { IsPeriod adjusted.now number }
     requires offset { IsSaidFixing terms.now.fixing }
-    ensures fault { IsTrue result ↔ Fails fault terms.now adjusted.now (G.days reset_days.now) (G.days fixing_days.now) number }
-    ensures decided { Decided terms.now adjusted.now (G.days reset_days.now) (G.days fixing_days.now) number }
+    ensures fault { let days = days_by adjusted.now (G.days reset_days.now) (G.days fixing_days.now) in
+        IsTrue result ↔ Fails fault terms.now days number }
+    ensures decided { let days = days_by adjusted.now (G.days reset_days.now) (G.days fixing_days.now) in
+        Decided terms.now days number }
 {
     match period_dates(terms, adjusted, number, reset_days, fixing_days) {
         Ok(_) => false,
@@ -130,7 +137,7 @@ fn has_fault<G: GoodDays>(
     }
 }
 
-/// The first period with that fault.
+/// The first period with that fault; `None` where no period has it.
 pub fn first_with<G: GoodDays>(
     fault: DateFault,
     terms: &ResetTerms,
@@ -140,9 +147,10 @@ pub fn first_with<G: GoodDays>(
 ) -> Option<u32>
     requires few { length adjusted.now < 2 ^ 32 }
     requires offset { IsSaidFixing terms.now.fixing }
-    ensures some { IfSome result (IsFirst (Fails fault terms.now adjusted.now (G.days reset_days.now) (G.days fixing_days.now))) }
-    ensures none { IfNone result ((i : ℕ) → IsPeriod adjusted.now i → Fails fault terms.now adjusted.now (G.days reset_days.now) (G.days fixing_days.now) i → ⊥) }
-    ensures decided { IfNone result ((i : ℕ) → IsPeriod adjusted.now i → Decided terms.now adjusted.now (G.days reset_days.now) (G.days fixing_days.now) i) }
+    ensures first { let days = days_by adjusted.now (G.days reset_days.now) (G.days fixing_days.now) in
+        IsFirst nat_lt (Fails fault terms.now days) result }
+    ensures decided { let days = days_by adjusted.now (G.days reset_days.now) (G.days fixing_days.now) in
+        IfNone result ((i : ℕ) → IsPeriod adjusted.now i → Decided terms.now days i) }
 {
     for number in 1..adjusted.len() {
         if has_fault(fault, terms, adjusted, number, reset_days, fixing_days) {

@@ -4,10 +4,9 @@
 //! A stub has the rate or the index that is given for it, and the first regular period the initial
 //! rate where one is given. Every other period has the stream's index. An index is looked up on the
 //! fixing date. That a stub's index doesn't fall back to the stream's is this project's own.
-ghost use Rattle.std.specs.Prelude.{◌≡◌, IfSome};
-ghost use Rattle.irs_terms.specs.FirstDay.{first_day_of};
+ghost use Rattle.std.specs.Prelude.{◌≡◌, ◌↔◌, IsTrue, IfSome};
 ghost use Rattle.irs_terms.specs.Lawful.{IsRate, IsLawfulFloat, IsLawfulStubs, IsLawfulStubRate};
-ghost use Rattle.irs_resets.specs.ObservedRates.{kind_at, index_rate, stub_rate, stub_or_index, initial_stub_rate, final_stub_rate, first_regular_rate, observed_rate};
+ghost use Rattle.irs_resets.specs.ObservedRates.{IsInitial, IsFinal, FollowsStub, IsFirstRegular, IsKind, rate_from, index_source, own_source, own_or_index, initial_stub_source, final_stub_source, initial_or_index, observed_rate};
 
 use crate::Fixings;
 use irs_base::Day;
@@ -26,26 +25,57 @@ pub enum PeriodKind {
     LaterRegular,
 }
 
+// The first period, where it begins before the regular span.
+fn is_initial(s: &Stream, span: &Span, number: usize) -> bool
+    ensures { IsTrue result ↔ IsInitial s.now span.now number }
+{
+    s.first_day() < span.first && number == 1
+}
+
+// The last period, where it ends after the regular span.
+fn is_final(s: &Stream, span: &Span, count: usize, number: usize) -> bool
+    ensures { IsTrue result ↔ IsFinal s.now span.now count number }
+{
+    span.last < s.termination.day && number == count
+}
+
+// The period behind the initial stub, or period 1 where there is none.
+fn follows_stub(s: &Stream, span: &Span, number: usize) -> bool
+    ensures { IsTrue result ↔ FollowsStub s.now span.now number }
+{
+    if s.first_day() < span.first {
+        return number == 2;
+    }
+    number == 1
+}
+
+fn is_first_regular(s: &Stream, span: &Span, number: usize) -> bool
+    ensures { IsTrue result ↔ IsFirstRegular s.now span.now number }
+{
+    if span.last <= span.first {
+        return false;
+    }
+    follows_stub(s, span, number)
+}
+
 /// The kind of a period. Periods count from 1.
 pub fn period_kind(s: &Stream, span: &Span, count: usize, number: usize) -> PeriodKind
-    ensures { result ≡ kind_at (first_day_of s.now) s.now.termination.day span.now count number }
+    ensures { IsKind s.now span.now count number result }
 {
-    let has_initial = s.first_day() < span.first;
-    if has_initial && number == 1 {
+    if is_initial(s, span, number) {
         return PeriodKind::InitialStub;
     }
-    if span.last < s.termination.day && number == count {
+    if is_final(s, span, count, number) {
         return PeriodKind::FinalStub;
     }
-    let first_regular = if has_initial { 2 } else { 1 };
-    if span.first < span.last && number == first_regular {
+    if is_first_regular(s, span, number) {
         return PeriodKind::FirstRegular;
     }
     PeriodKind::LaterRegular
 }
 
 fn on_index(float: &FloatTerms, fixings: &Fixings, d: Day) -> Option<i64>
-    ensures value { result ≡ index_rate float.now fixings.now d }
+    ensures value { result ≡ rate_from (index_source float.now) fixings.now d }
     ensures small { IfSome result IsRate }
 {
     fixings.rate_on(&float.index, float.tenor, d)
@@ -53,7 +83,7 @@ fn on_index(float: &FloatTerms, fixings: &Fixings, d: Day) -> Option<i64>
 
 fn on_stub(stub: &StubRate, fixings: &Fixings, d: Day) -> Option<i64>
     requires { IsLawfulStubRate stub.now }
-    ensures value { result ≡ stub_rate stub.now fixings.now d }
+    ensures value { result ≡ rate_from (own_source stub.now) fixings.now d }
     ensures small { IfSome result IsRate }
 {
     match stub {
@@ -69,7 +99,7 @@ fn on_stub_or_index(
     d: Day,
 ) -> Option<i64>
     requires { IfSome stub.now IsLawfulStubRate }
-    ensures value { result ≡ stub_or_index stub.now float.now fixings.now d }
+    ensures value { result ≡ rate_from (own_or_index stub.now float.now) fixings.now d }
     ensures small { IfSome result IsRate }
 {
     match stub {
@@ -85,7 +115,7 @@ fn of_initial_stub(
     d: Day,
 ) -> Option<i64>
     requires { IfSome stubs.now IsLawfulStubs }
-    ensures value { result ≡ initial_stub_rate stubs.now float.now fixings.now d }
+    ensures value { result ≡ rate_from (initial_stub_source stubs.now float.now) fixings.now d }
     ensures small { IfSome result IsRate }
 {
     match stubs {
@@ -101,7 +131,7 @@ fn of_final_stub(
     d: Day,
 ) -> Option<i64>
     requires { IfSome stubs.now IsLawfulStubs }
-    ensures value { result ≡ final_stub_rate stubs.now float.now fixings.now d }
+    ensures value { result ≡ rate_from (final_stub_source stubs.now float.now) fixings.now d }
     ensures small { IfSome result IsRate }
 {
     match stubs {
@@ -112,7 +142,7 @@ fn of_final_stub(
 
 fn of_first_regular(float: &FloatTerms, fixings: &Fixings, d: Day) -> Option<i64>
     requires { IsLawfulFloat float.now }
-    ensures value { result ≡ first_regular_rate float.now fixings.now d }
+    ensures value { result ≡ rate_from (initial_or_index float.now.initial_rate float.now) fixings.now d }
     ensures small { IfSome result IsRate }
 {
     match float.initial_rate {

@@ -1,59 +1,31 @@
 //! The resets of a floating stream, one for each calculation period (2006 ISDA Definitions, article
 //! 6; FpML `resetDates`).
-ghost use Rattle.std.specs.Prelude.{◌≡◌, ◌<◌, ◌^◌, ℕ, List, length, ◌-◌, ◌⊎◌, ◌↔◌, IsTrue, IfOk, IfSome, IfNone, All};
-ghost use Rattle.irs_base.specs.DayLists.{AreDays};
+ghost use Rattle.std.specs.Prelude.{◌≡◌, ◌<◌, ◌^◌, ◌⊎◌, ◌↔◌, ℕ, List, Some, length, IsTrue, IfOk, IfSome, IfNone, IsErrOf, All};
+ghost use Rattle.irs_base.specs.Faults.{IfBroken};
 ghost use Rattle.irs_base.specs.Listed.{IsRising};
-ghost use Rattle.irs_base.specs.declared.places.Broken.{Broken as BrokenRule};
+ghost use Rattle.irs_base.specs.Order.{First, IsFirst, comes_before};
+ghost use Rattle.irs_base.specs.declared.places.Fault.{Fault as BrokenRule};
+ghost use Rattle.irs_base.specs.declared.stopped.Stopped.TheVariants.{Memory as OfMemory};
+ghost use Rattle.irs_terms.specs.declared.amounts.Leg.TheVariants.{Floating as OfFloating};
 ghost use Rattle.irs_terms.specs.declared.results.Reset.{Reset as ResetRow};
-ghost use Rattle.irs_terms.specs.Lawful.{IsRate, IsLawfulFloat, IsLawfulStubs, IsLawfulStream};
-ghost use Rattle.irs_resets.specs.ResetDates.{IsPeriod, HasDates, IsDates};
-ghost use Rattle.irs_resets.specs.Resets.{HasSmallRate, HasResets, IsResets};
-ghost use Rattle.irs_resets.specs.ResetRules.{broken_at, GivesInitial, GivesFinal, InitialUnmet, FinalUnmet, StubBroken, StubsMet, DatesBroken, FirstBroken, IfBroken};
-ghost use Rattle.irs_resets.specs.declared.rows.ResErr.TheVariants.{Memory as OfMemory};
 ghost use Rattle.irs_terms.specs.DayTypes.{IsSaidFixing, IsSaidReset};
+ghost use Rattle.irs_terms.specs.Lawful.{IsLawfulFloat, IsLawfulStubs, IsLawfulStream};
 ghost use Rattle.irs_terms.specs.Legs.{FitsLeg};
+ghost use Rattle.irs_resets.specs.ResetDates.{days_by, IsPeriod, HasDates, IsDates};
+ghost use Rattle.irs_resets.specs.Resets.{source_of, HasSmallRate, HasResets, IsResets};
+ghost use Rattle.irs_resets.specs.ResetRules.{GivesInitial, GivesFinal, InitialUnmet, FinalUnmet, BreaksStubs, date_fault, BreaksDates, BreaksResets};
 
 use crate::Fixings;
 use crate::dates::{DateFault, Dates, first_with, period_dates};
 use crate::observed::{observed, period_kind};
-use irs_base::{Broken, Day, DayList, Elem, Memory, Place, Rule};
+use irs_base::{Day, DayList, Elem, Fault, Memory, Rule, Stopped};
 use irs_calendar::GoodDays;
 use irs_terms::{FloatTerms, Leg, Reset, ResetTerms, Resets, Span, Stream, StubTerms};
 use std::alloc::Global;
-use thiserror::Error;
 
-/// Why there are no resets.
-#[derive(Clone, Copy, Debug, PartialEq, Eq, Error)]
-pub enum ResErr {
-    /// The first broken rule of K37, K33 and K38.
-    #[error("a rule is broken")]
-    Broken(Broken),
-    /// Memory ran out.
-    #[error("out of memory")]
-    Memory,
-}
-
-impl From<Memory> for ResErr {
-    ghost from_gives = { λ _ e. e ≡ OfMemory };
-
-    fn from(_e: Memory) -> ResErr {
-        ResErr::Memory
-    }
-}
-
-// A rule that stream 1 breaks.
-fn broken(rule: Rule, elem: Elem, index: u32) -> Broken
-    ensures { result ≡ broken_at rule elem index }
-{
-    Broken {
-        rule,
-        place: Place {
-            stream: 1,
-            elem,
-            index,
-        },
-    }
-}
+/// Why there are no resets: the first broken rule of K37, K33 and K38, or want of memory. The index
+/// of a rule is the number of the period, 0 for a stub.
+pub type ResErr = Stopped<Fault>;
 
 fn gives_initial(stubs: &Option<StubTerms>) -> bool
     ensures { IsTrue result ↔ GivesInitial stubs.now }
@@ -92,53 +64,111 @@ fn lacks_final(s: &Stream, span: &Span) -> bool
 }
 
 // K37: a rate is given for a stub that isn't there.
-fn stub_broken(s: &Stream, span: &Span) -> Option<Broken>
-    ensures some { IfSome result (StubBroken s.now span.now) }
-    ensures none { IfNone result (StubsMet s.now span.now) }
+fn stub_fault(s: &Stream, span: &Span) -> Option<Fault>
+    ensures { IsFirst comes_before (BreaksStubs s.now span.now) result }
 {
     if lacks_initial(s, span) {
-        return Some(broken(Rule::K37, Elem::INITIAL_STUB, 0));
+        return Some(Fault {
+            rule: Rule::K37,
+            elem: Elem::INITIAL_STUB,
+            index: 0,
+        });
     }
     if lacks_final(s, span) {
-        return Some(broken(Rule::K37, Elem::FINAL_STUB, 0));
+        return Some(Fault {
+            rule: Rule::K37,
+            elem: Elem::FINAL_STUB,
+            index: 0,
+        });
     }
     None
 }
 
+// The rule that the dates of a period break.
+fn broken_by(why: DateFault, index: u32) -> Fault
+    ensures { result ≡ date_fault why index }
+{
+    match why {
+        DateFault::NoReset => Fault {
+            rule: Rule::K33,
+            elem: Elem::RESET_DATES,
+            index,
+        },
+        DateFault::NoFixing => Fault {
+            rule: Rule::K33,
+            elem: Elem::FIXING_DATES,
+            index,
+        },
+        DateFault::OutOfRange => Fault {
+            rule: Rule::K38,
+            elem: Elem::FIXING_DATES,
+            index,
+        },
+    }
+}
+
 // K33 of reset dates, then K33 of fixing dates, then K38 of fixing dates, each by the period.
-fn dates_broken<G: GoodDays>(
+fn date_broken<G: GoodDays>(
     terms: &ResetTerms,
     adjusted: &[Day],
     reset_days: &G,
     fixing_days: &G,
-) -> Option<Broken>
+) -> Option<Fault>
     requires few { length adjusted.now < 2 ^ 32 }
     requires offset { IsSaidFixing terms.now.fixing }
-    ensures some { IfSome result (DatesBroken terms.now adjusted.now (G.days reset_days.now) (G.days fixing_days.now)) }
-    ensures none { IfNone result ((i : ℕ) → IsPeriod adjusted.now i → HasDates terms.now adjusted.now (G.days reset_days.now) (G.days fixing_days.now) i) }
+    ensures first { let days = days_by adjusted.now (G.days reset_days.now) (G.days fixing_days.now) in
+        IsFirst comes_before (BreaksDates terms.now days) result }
+    ensures has { let days = days_by adjusted.now (G.days reset_days.now) (G.days fixing_days.now) in
+        IfNone result ((i : ℕ) → IsPeriod adjusted.now i → HasDates terms.now days i) }
 {
-    if let Some(i) = first_with(DateFault::NoReset, terms, adjusted, reset_days, fixing_days) {
-        return Some(broken(Rule::K33, Elem::RESET_DATES, i));
+    let without_reset = first_with(DateFault::NoReset, terms, adjusted, reset_days, fixing_days);
+    if let Some(i) = without_reset {
+        return Some(broken_by(DateFault::NoReset, i));
     }
-    if let Some(i) = first_with(
+    let without_fixing = first_with(
         DateFault::NoFixing,
         terms,
         adjusted,
         reset_days,
         fixing_days,
-    ) {
-        return Some(broken(Rule::K33, Elem::FIXING_DATES, i));
+    );
+    if let Some(i) = without_fixing {
+        return Some(broken_by(DateFault::NoFixing, i));
     }
-    if let Some(i) = first_with(
+    let out_of_range = first_with(
         DateFault::OutOfRange,
         terms,
         adjusted,
         reset_days,
         fixing_days,
-    ) {
-        return Some(broken(Rule::K38, Elem::FIXING_DATES, i));
+    );
+    if let Some(i) = out_of_range {
+        return Some(broken_by(DateFault::OutOfRange, i));
     }
     None
+}
+
+// The first broken rule of resets: K37, then those of dates.
+fn first_fault<G: GoodDays>(
+    s: &Stream,
+    terms: &ResetTerms,
+    span: &Span,
+    adjusted: &[Day],
+    reset_days: &G,
+    fixing_days: &G,
+) -> Option<Fault>
+    requires few { length adjusted.now < 2 ^ 32 }
+    requires offset { IsSaidFixing terms.now.fixing }
+    requires reset { s.now.reset ≡ Some terms.now }
+    ensures first { let source = source_of s.now span.now adjusted.now (G.days reset_days.now) (G.days fixing_days.now) in
+        IsFirst comes_before (BreaksResets source) result }
+    ensures has { let days = days_by adjusted.now (G.days reset_days.now) (G.days fixing_days.now) in
+        IfNone result ((i : ℕ) → IsPeriod adjusted.now i → HasDates terms.now days i) }
+{
+    if let Some(fault) = stub_fault(s, span) {
+        return Some(fault);
+    }
+    date_broken(terms, adjusted, reset_days, fixing_days)
 }
 
 // The dates of a period that has them.
@@ -151,8 +181,10 @@ fn dates_of<G: GoodDays>(
 ) -> Dates
     requires period { IsPeriod adjusted.now number }
     requires offset { IsSaidFixing terms.now.fixing }
-    requires has { HasDates terms.now adjusted.now (G.days reset_days.now) (G.days fixing_days.now) number }
-    ensures { IsDates terms.now adjusted.now (G.days reset_days.now) (G.days fixing_days.now) number result.reset result.fixing }
+    requires has { let days = days_by adjusted.now (G.days reset_days.now) (G.days fixing_days.now) in
+        HasDates terms.now days number }
+    ensures { let days = days_by adjusted.now (G.days reset_days.now) (G.days fixing_days.now) in
+        IsDates terms.now days number result.reset result.fixing }
 {
     match period_dates(terms, adjusted, number, reset_days, fixing_days) {
         Ok(dates) => dates,
@@ -175,8 +207,10 @@ fn listed<G: GoodDays>(
     requires offset { IsSaidFixing terms.now.fixing }
     requires float { IsLawfulFloat float.now }
     requires stubs { IfSome s.now.stubs IsLawfulStubs }
-    requires has { (i : ℕ) → IsPeriod adjusted.now i → HasDates terms.now adjusted.now (G.days reset_days.now) (G.days fixing_days.now) i }
-    ensures ok { IfOk result (HasResets s.now float.now terms.now span.now adjusted.now (G.days reset_days.now) (G.days fixing_days.now) fixings.now) }
+    requires has { let days = days_by adjusted.now (G.days reset_days.now) (G.days fixing_days.now) in
+        (i : ℕ) → IsPeriod adjusted.now i → HasDates terms.now days i }
+    ensures ok { let source = source_of s.now span.now adjusted.now (G.days reset_days.now) (G.days fixing_days.now) in
+        IfOk result (HasResets source float.now terms.now fixings.now) }
     ensures small { IfOk result (All HasSmallRate) }
 {
     let mut rows = Resets::new(alloc);
@@ -193,6 +227,7 @@ fn listed<G: GoodDays>(
     Ok(rows)
 }
 
+// The resets of a floating stream.
 fn floating_resets<G: GoodDays>(
     alloc: Global,
     s: &Stream,
@@ -204,22 +239,24 @@ fn floating_resets<G: GoodDays>(
     fixing_days: &G,
     fixings: &Fixings,
 ) -> Result<Resets, ResErr>
+    requires lawful { IsLawfulStream s.now }
+    requires leg { s.now.leg ≡ OfFloating float.now }
+    requires reset { s.now.reset ≡ Some terms.now }
     requires offset { IsSaidFixing terms.now.fixing }
-    requires float { IsLawfulFloat float.now }
-    requires stubs { IfSome s.now.stubs IsLawfulStubs }
     requires rising { IsRising adjusted.now }
-    ensures ok { IfOk result (HasResets s.now float.now terms.now span.now adjusted.now (G.days reset_days.now) (G.days fixing_days.now) fixings.now) }
-    ensures met { IfOk result (λ _. StubsMet s.now span.now) }
+    ensures ok { let source = source_of s.now span.now adjusted.now (G.days reset_days.now) (G.days fixing_days.now) in
+        IfOk result (IsResets source fixings.now) }
     ensures small { IfOk result (All HasSmallRate) }
-    ensures broken { IfBroken result (λ b. StubBroken s.now span.now b ⊎ (StubsMet s.now span.now × DatesBroken terms.now adjusted.now (G.days reset_days.now) (G.days fixing_days.now) b)) }
-    ensures exists { ((b : BrokenRule) → StubBroken s.now span.now b ⊎ (StubsMet s.now span.now × DatesBroken terms.now adjusted.now (G.days reset_days.now) (G.days fixing_days.now) b) → ⊥) → (rows : List ResetRow) × HasResets s.now float.now terms.now span.now adjusted.now (G.days reset_days.now) (G.days fixing_days.now) fixings.now rows }
+    ensures unbroken { let source = source_of s.now span.now adjusted.now (G.days reset_days.now) (G.days fixing_days.now) in
+        IfOk result (λ _. (f : BrokenRule) → BreaksResets source f → ⊥) }
+    ensures memory { let source = source_of s.now span.now adjusted.now (G.days reset_days.now) (G.days fixing_days.now) in
+        IsErrOf result OfMemory → (f : BrokenRule) → BreaksResets source f → ⊥ }
+    ensures broken { let source = source_of s.now span.now adjusted.now (G.days reset_days.now) (G.days fixing_days.now) in
+        IfBroken result (First comes_before (BreaksResets source)) }
 {
-    if let Some(b) = stub_broken(s, span) {
-        return Err(ResErr::Broken(b));
-    }
     let days = adjusted.as_slice();
-    if let Some(b) = dates_broken(terms, days, reset_days, fixing_days) {
-        return Err(ResErr::Broken(b));
+    if let Some(fault) = first_fault(s, terms, span, days, reset_days, fixing_days) {
+        return Err(ResErr::Broken(fault));
     }
     let rows = listed(
         alloc,
@@ -235,13 +272,8 @@ fn floating_resets<G: GoodDays>(
     Ok(rows)
 }
 
-/// The resets of a stream over its adjusted boundaries: for each calculation period of a floating
-/// stream its reset date, its fixing date and its observed rate. A fixed stream has none.
-///
-/// `Broken` is exactly the first broken rule of K37 (a rate for a stub that isn't there), K33 (a
-/// date without a result) and K38 (an offset that leaves the range of dates); the place names
-/// stream 1, and the index is the number of the period.
-pub fn resets<G: GoodDays>(
+// The resets by the leg: a fixed stream has none.
+fn leg_resets<G: GoodDays>(
     alloc: Global,
     s: &Stream,
     span: &Span,
@@ -254,14 +286,15 @@ pub fn resets<G: GoodDays>(
     requires legs { FitsLeg s.now }
     requires offset { IsSaidReset s.now }
     requires rising { IsRising adjusted.now }
-    // The rows are the resets of the definition, and K37 isn't broken.
-    ensures ok { IfOk result (IsResets s.now span.now adjusted.now (G.days reset_days.now) (G.days fixing_days.now) fixings.now) }
-    ensures met { IfOk result (λ _. StubsMet s.now span.now) }
+    ensures ok { let source = source_of s.now span.now adjusted.now (G.days reset_days.now) (G.days fixing_days.now) in
+        IfOk result (IsResets source fixings.now) }
     ensures small { IfOk result (All HasSmallRate) }
-    ensures broken { IfBroken result (FirstBroken s.now span.now adjusted.now (G.days reset_days.now) (G.days fixing_days.now)) }
-    // Where no rule is broken there are resets, also if memory ran out, and there is one list of them.
-    ensures exists { ((b : BrokenRule) → FirstBroken s.now span.now adjusted.now (G.days reset_days.now) (G.days fixing_days.now) b → ⊥) → (rows : List ResetRow) × IsResets s.now span.now adjusted.now (G.days reset_days.now) (G.days fixing_days.now) fixings.now rows }
-    ensures one { (rows others : List ResetRow) → IsResets s.now span.now adjusted.now (G.days reset_days.now) (G.days fixing_days.now) fixings.now rows → IsResets s.now span.now adjusted.now (G.days reset_days.now) (G.days fixing_days.now) fixings.now others → rows ≡ others }
+    ensures unbroken { let source = source_of s.now span.now adjusted.now (G.days reset_days.now) (G.days fixing_days.now) in
+        IfOk result (λ _. (f : BrokenRule) → BreaksResets source f → ⊥) }
+    ensures memory { let source = source_of s.now span.now adjusted.now (G.days reset_days.now) (G.days fixing_days.now) in
+        IsErrOf result OfMemory → (f : BrokenRule) → BreaksResets source f → ⊥ }
+    ensures broken { let source = source_of s.now span.now adjusted.now (G.days reset_days.now) (G.days fixing_days.now) in
+        IfBroken result (First comes_before (BreaksResets source)) }
 {
     match (&s.leg, &s.reset) {
         (Leg::Floating(float), Some(terms)) => floating_resets(
@@ -277,4 +310,58 @@ pub fn resets<G: GoodDays>(
         ),
         (Leg::Floating(_), None) | (Leg::Fixed(_), _) => Ok(Resets::new(alloc)),
     }
+}
+
+/// The resets of a stream over its adjusted boundaries: for each calculation period of a floating
+/// stream its reset date, its fixing date and its observed rate. A fixed stream has none.
+///
+/// `Broken` is exactly the first broken rule of K37 (a rate for a stub that isn't there), K33 (a
+/// date without a result) and K38 (an offset that leaves the range of dates): those of the stubs
+/// come first, then K33 of `resetDates`, K33 of `fixingDates` and K38 of `fixingDates`, each by the
+/// number of the period. `Memory` comes only where no rule is broken.
+pub fn resets<G: GoodDays>(
+    alloc: Global,
+    s: &Stream,
+    span: &Span,
+    adjusted: &DayList,
+    reset_days: &G,
+    fixing_days: &G,
+    fixings: &Fixings,
+) -> Result<Resets, ResErr>
+    requires lawful { IsLawfulStream s.now }
+    requires legs { FitsLeg s.now }
+    requires offset { IsSaidReset s.now }
+    requires rising { IsRising adjusted.now }
+    // The rows are the resets of the definition, each observed rate at most 10 in size, and no rule
+    // is broken.
+    ensures ok { let source = source_of s.now span.now adjusted.now (G.days reset_days.now) (G.days fixing_days.now) in
+        IfOk result (IsResets source fixings.now) }
+    ensures small { IfOk result (All HasSmallRate) }
+    ensures unbroken { let source = source_of s.now span.now adjusted.now (G.days reset_days.now) (G.days fixing_days.now) in
+        IfOk result (λ _. (f : BrokenRule) → BreaksResets source f → ⊥) }
+    // Want of memory hides no broken rule.
+    ensures memory { let source = source_of s.now span.now adjusted.now (G.days reset_days.now) (G.days fixing_days.now) in
+        IsErrOf result OfMemory → (f : BrokenRule) → BreaksResets source f → ⊥ }
+    // The first broken rule.
+    ensures broken { let source = source_of s.now span.now adjusted.now (G.days reset_days.now) (G.days fixing_days.now) in
+        IfBroken result (First comes_before (BreaksResets source)) }
+    // A rule is the first broken one, or none is broken.
+    ensures decided { let source = source_of s.now span.now adjusted.now (G.days reset_days.now) (G.days fixing_days.now) in
+        ((f : BrokenRule) × First comes_before (BreaksResets source) f) ⊎ ((f : BrokenRule) → BreaksResets source f → ⊥) }
+    // Where no rule is broken there are resets, also where memory ran out.
+    ensures exists { let source = source_of s.now span.now adjusted.now (G.days reset_days.now) (G.days fixing_days.now) in
+        ((f : BrokenRule) → BreaksResets source f → ⊥) → (rows : List ResetRow) × IsResets source fixings.now rows }
+    // There is one list of resets, and one first broken rule.
+    ensures one { let source = source_of s.now span.now adjusted.now (G.days reset_days.now) (G.days fixing_days.now) in
+        (rows others : List ResetRow) → IsResets source fixings.now rows → IsResets source fixings.now others → rows ≡ others }
+    ensures one_broken { let source = source_of s.now span.now adjusted.now (G.days reset_days.now) (G.days fixing_days.now) in
+        (f g : BrokenRule) → First comes_before (BreaksResets source) f → First comes_before (BreaksResets source) g → f ≡ g }
+{
+    // hands the prover the range of the boundaries
+    let _days = adjusted.as_slice();
+    // hands the prover the range of the good days
+    let _reset_cover = reset_days.cover();
+    // hands the prover the range of the good days
+    let _fixing_cover = fixing_days.cover();
+    leg_resets(alloc, s, span, adjusted, reset_days, fixing_days, fixings)
 }

@@ -1,54 +1,50 @@
--- The first place of a set of places.
-use Rattle.std.proofs.Common.{◌≡◌, ℕ, Bool, true, false, true≢false, ◌⊎◌, inl, inr, Option, Some, None, refl, sym, ◌∙◌, subst, arith}
-use Rattle.std.specs.Prelude.{if◌then◌else◌, ◌↔◌, IsTrue}
-use Rattle.std.proofs.lemmas.Bool.Decides.{nat_tests}
-use Rattle.irs_rules.specs.declared.spot.Spot.{Spot}
-use Rattle.irs_rules.specs.Order.{is_before_spot, earlier_spot, IsFirstSpot}
-use Rattle.irs_rules.specs.Spots.{At}
+-- The first rule of those that a stream breaks.
+use Rattle.std.proofs.Common.{◌≡◌, ℕ, ◌+◌, ◌<◌, Bool, false, ◌⊎◌, inl, inr, Option, Some, None, refl, sym, subst, arith}
+use Rattle.std.specs.Prelude.{◌↔◌, IsTrue, nat_lt}
+use Rattle.irs_base.specs.declared.places.Rule.{Rule}
+use Rattle.irs_base.specs.declared.places.Fault.{Fault}
+use Rattle.irs_base.specs.Rules.{rule_number}
+use Rattle.irs_base.specs.Faults.{fault_at}
+use Rattle.irs_base.specs.Order.{First, IsFirst, earlier, level}
+use Rattle.irs_base.proofs.Firsts.{IsOrder, rank_order, level_order, level_same, lt_false, first_or, first_same}
+use Rattle.irs_rules.specs.Order.{is_before_here, IsFirstFault}
+use Rattle.irs_rules.specs.Breaks.{Breaks, BreaksItem}
 
-pub before_itself : (f : Spot) → is_before_spot f f ≡ false
-before_itself f = grind (arith, nat_tests)
-
-before_trans : (h g f : Spot) → is_before_spot h g ≡ true → is_before_spot g f ≡ true → is_before_spot h f ≡ true
-before_trans h g f p q = grind (arith, nat_tests)
-
-before_split : (h g f : Spot) → is_before_spot h f ≡ true → is_before_spot h g ≡ false → is_before_spot g f ≡ true
-before_split h g f p q = grind (arith, nat_tests)
-
-not_before : (b : Bool) → (b ≡ true → ⊥) → b ≡ false
-not_before true never = absurd (never refl)
-not_before false never = refl
-
--- what is not before f is not before a place that is
-after_earlier : (h g f : Spot) → is_before_spot h f ≡ false → is_before_spot g f ≡ true → is_before_spot h g ≡ false
-after_earlier h g f p q = not_before (is_before_spot h g) (λ e. true≢false (sym (before_trans h g f e q) ∙ p))
-
--- what is not before g is not before one that g is not before
-after_kept : (h g f : Spot) → is_before_spot h g ≡ false → is_before_spot g f ≡ false → is_before_spot h f ≡ false
-after_kept h g f p q = not_before (is_before_spot h f) (λ e. true≢false (sym (before_split h g f e p) ∙ q))
-
-chosen : (P Q : Spot → Type 0) (f g : Spot) (b : Bool) → is_before_spot g f ≡ b → IsFirstSpot P (Some f) → IsFirstSpot Q (Some g)
-    → IsFirstSpot (λ h. P h ⊎ Q h) (if b then Some g else Some f)
-chosen P Q f g true e p q = (inr q.0, λ h x. elim x [ inl y ↦ after_earlier h g f (p.1 h y) e | inr y ↦ q.1 h y ])
-chosen P Q f g false e p q = (inl p.0, λ h x. elim x [ inl y ↦ p.1 h y | inr y ↦ after_kept h g f (q.1 h y) e ])
-
--- the earlier of the first of two sets is the first of both
-first_or : (P Q : Spot → Type 0) (a b : Option Spot) → IsFirstSpot P a → IsFirstSpot Q b → IsFirstSpot (λ f. P f ⊎ Q f) (earlier_spot a b)
-first_or P Q None None p q = λ f x. elim x [ inl y ↦ p f y | inr y ↦ q f y ]
-first_or P Q None (Some g) p q = (inr q.0, λ h x. elim x [ inl y ↦ absurd (p h y) | inr y ↦ q.1 h y ])
-first_or P Q (Some f) None p q = (inl p.0, λ h x. elim x [ inl y ↦ p.1 h y | inr y ↦ absurd (q h y) ])
-first_or P Q (Some f) (Some g) p q = chosen P Q f g (is_before_spot g f) refl p q
+pub order_here : IsOrder is_before_here
+order_here = level_order (λ (f : Fault). rule_number f.rule) _ (level_order (λ (f : Fault). f.elem) _ (rank_order (λ (f : Fault). f.index)))
 
 -- the answer of `earlier` is the first of both sets
-pub either : (P Q : Spot → Type 0) (a b r : Option Spot) → r ≡ earlier_spot a b → IsFirstSpot P a → IsFirstSpot Q b → IsFirstSpot (λ f. P f ⊎ Q f) r
-either P Q a b r e p q = subst (λ (o : Option Spot). IsFirstSpot (λ f. P f ⊎ Q f) o) (sym e) (first_or P Q a b p q)
-
--- two sets of the same places have the same first
-pub same_first : (P Q : Spot → Type 0) (a : Option Spot) → ((f : Spot) → P f → Q f) → ((f : Spot) → Q f → P f) → IsFirstSpot P a → IsFirstSpot Q a
-same_first P Q None to from p = λ f y. p f (from f y)
-same_first P Q (Some f) to from p = (to f p.0, λ g y. p.1 g (from g y))
+pub either : (P Q : Fault → Type 0) (a b r : Option Fault) → r ≡ earlier is_before_here a b → IsFirstFault P a → IsFirstFault Q b → IsFirstFault (λ f. P f ⊎ Q f) r
+either P Q a b r e p q = subst (λ (o : Option Fault). IsFirstFault (λ f. P f ⊎ Q f) o) (sym e) (first_or is_before_here order_here P Q a b p q)
 
 -- a test of an element that says what the definition says
-pub says : (elem : ℕ) (C : Type 0) (test : Bool) (a : Option Spot) → (IsTrue test ↔ C) → IsFirstSpot (At elem (IsTrue test)) a → IsFirstSpot (At elem C) a
-says elem C test a same p = same_first (At elem (IsTrue test)) (At elem C) a
-    (λ f x. record { place = x.place; breaks = same.0 x.breaks }) (λ f x. record { place = x.place; breaks = same.1 x.breaks }) p
+pub says : (rule : Rule) (elem : ℕ) (Kept : Type 0) (test : Bool) (a : Option Fault) → (IsTrue test ↔ Kept) → IsFirstFault (Breaks rule elem (IsTrue test)) a → IsFirstFault (Breaks rule elem Kept) a
+says rule elem Kept test a same p = first_same is_before_here (Breaks rule elem (IsTrue test)) (Breaks rule elem Kept) a
+    (λ f x. record { place = x.place; broken = λ kept. x.broken (same.1 kept) })
+    (λ f x. record { place = x.place; broken = λ test. x.broken (same.0 test) }) p
+
+-- where something is kept the rule isn't broken
+pub keeps : (rule : Rule) (elem : ℕ) (Kept : Type 0) → Kept → IsFirstFault (Breaks rule elem Kept) None
+keeps rule elem Kept kept = λ f x. x.broken kept
+
+later : (rule : Rule) (elem i j : ℕ) → (j < i → ⊥) → is_before_here (fault_at rule elem (j + 1)) (fault_at rule elem (i + 1)) ≡ false
+later rule elem i j h =
+    let index : nat_lt (j + 1) (i + 1) ≡ false = lt_false (j + 1) (i + 1) (λ less. h (omega (arith, less))) in
+    level_same (rule_number rule) (rule_number rule) (level elem elem (nat_lt (j + 1) (i + 1))) refl
+    (level_same elem elem (nat_lt (j + 1) (i + 1)) refl index)
+
+-- the item doesn't keep it, and each before it does
+pub item_first : (rule : Rule) (elem : ℕ) (Kept : ℕ → Type 0) (i : ℕ) → (Kept i → ⊥) → ((k : ℕ) → k < i → Kept k) → IsFirstFault (BreaksItem rule elem Kept) (Some (fault_at rule elem (i + 1)))
+item_first rule elem Kept i broken before = (
+  record { item = i; place = refl; broken = broken },
+  λ g y. subst (λ (h : Fault). is_before_here h (fault_at rule elem (i + 1)) ≡ false) (sym y.place) (later rule elem i y.item (λ h. y.broken (before y.item h))),
+)
+
+-- every item keeps it
+pub no_item : (rule : Rule) (elem : ℕ) (Kept : ℕ → Type 0) → ((k : ℕ) → Kept k) → IsFirstFault (BreaksItem rule elem Kept) None
+no_item rule elem Kept kept = λ f y. y.broken (kept y.item)
+
+-- an answer decides: one is the first, or there is none
+pub first_decided : {X : Type 0} (before : X → X → Bool) (P : X → Type 0) (a : Option X) → IsFirst before P a → ((x : X) × First before P x) ⊎ ((x : X) → P x → ⊥)
+first_decided before P None none = inr none
+first_decided before P (Some x) first = inl (x, first)

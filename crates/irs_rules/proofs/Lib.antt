@@ -1,5 +1,6 @@
 pub mod First
-pub mod Multiples
-pub mod Items
-pub mod Rules
-pub mod Unique
+pub mod MultipleLemmas
+pub mod Streams
+pub mod Decisions
+pub mod Names
+pub mod Kept

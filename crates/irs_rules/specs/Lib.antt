@@ -1,11 +1,8 @@
 pub mod Order
-pub mod Spots
-pub mod References
+pub mod Breaks
 pub mod Centers
-pub mod DateOrder
-pub mod Frequencies
-pub mod PaymentDates
-pub mod DayTypes
-pub mod StepDates
-pub mod Legs
+pub mod Names
+pub mod Dates
+pub mod Amounts
 pub mod TermsRules
+pub mod TermsKept

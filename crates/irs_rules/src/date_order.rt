@@ -1,60 +1,78 @@
 //! K13: the termination date is after the effective date, a given first period start date before it,
 //! the given regular dates lie from the first day of the first period to the termination date, and
 //! the last regular date isn't before the first.
-ghost use Rattle.std.specs.Prelude.{◌↔◌, ◌≤ℤ◌, IsTrue, IsSomeAnd};
+ghost use Rattle.std.specs.Prelude.{◌≡◌, ◌↔◌, ◌≤ℤ◌, IsTrue, IfSome};
 ghost use Rattle.irs_terms.specs.FirstDay.{first_day_of};
-ghost use Rattle.irs_rules.specs.Order.{IsFirstSpot};
-ghost use Rattle.irs_rules.specs.DateOrder.{BreaksK13, IsOutside, regular_start};
+ghost use Rattle.irs_terms.specs.TermDates.{EndsAfterStart, FirstRegularInside, LastRegularInside, StartsBefore, given_or};
+ghost use Rattle.irs_rules.specs.Order.{IsFirstFault};
+ghost use Rattle.irs_rules.specs.Dates.{BreaksK13};
 
-use crate::spot::{Spot, earlier, spot_where};
-use irs_base::{Day, Elem};
+use crate::faults::{earlier, fault_unless};
+use irs_base::{Day, Elem, Fault, Rule};
 use irs_terms::Stream;
 
 /// K13: the first date of a stream that is out of order.
-pub(crate) fn date_out_of_order(s: &Stream) -> Option<Spot>
-    ensures { IsFirstSpot (BreaksK13 s.now) result }
+pub(crate) fn date_out_of_order(s: &Stream) -> Option<Fault>
+    ensures { IsFirstFault (BreaksK13 s.now) result }
 {
-    let termination = spot_where(ends_too_early(s), Elem::TERMINATION_DATE);
-    let start = spot_where(starts_too_late(s), Elem::FIRST_PERIOD_START_DATE);
-    let first = spot_where(is_first_out(s), Elem::FIRST_REGULAR_PERIOD_START_DATE);
-    let last = spot_where(is_last_out(s), Elem::LAST_REGULAR_PERIOD_END_DATE);
+    let termination = fault_unless(ends_after_start(s), Rule::K13, Elem::TERMINATION_DATE);
+    let start = fault_unless(starts_before(s), Rule::K13, Elem::FIRST_PERIOD_START_DATE);
+    let first = fault_unless(
+        is_first_inside(s),
+        Rule::K13,
+        Elem::FIRST_REGULAR_PERIOD_START_DATE,
+    );
+    let last = fault_unless(
+        is_last_inside(s),
+        Rule::K13,
+        Elem::LAST_REGULAR_PERIOD_END_DATE,
+    );
     earlier(termination, earlier(start, earlier(first, last)))
 }
 
-fn ends_too_early(s: &Stream) -> bool
-    ensures { IsTrue result ↔ s.now.termination.day ≤ℤ s.now.effective.day }
+fn ends_after_start(s: &Stream) -> bool
+    ensures { IsTrue result ↔ EndsAfterStart s.now }
 {
-    s.termination.day <= s.effective.day
+    s.effective.day < s.termination.day
 }
 
-fn starts_too_late(s: &Stream) -> bool
-    ensures { IsTrue result ↔ IsSomeAnd s.now.first_start (λ date. s.now.effective.day ≤ℤ date.day) }
+fn starts_before(s: &Stream) -> bool
+    ensures { IsTrue result ↔ StartsBefore s.now }
 {
     match &s.first_start {
-        None => false,
-        Some(date) => s.effective.day <= date.day,
+        None => true,
+        Some(start) => start.day < s.effective.day,
     }
 }
 
-fn is_first_out(s: &Stream) -> bool
-    ensures { IsTrue result ↔ IsSomeAnd s.now.first_regular (IsOutside (first_day_of s.now) s.now.termination.day) }
+fn is_first_inside(s: &Stream) -> bool
+    ensures { IsTrue result ↔ FirstRegularInside s.now }
 {
-    is_outside(s.first_regular, s.first_day(), s.termination.day)
+    is_inside(s.first_regular, s.first_day(), s.termination.day)
 }
 
-fn is_last_out(s: &Stream) -> bool
-    ensures { IsTrue result ↔ IsSomeAnd s.now.last_regular (IsOutside (regular_start s.now) s.now.termination.day) }
+fn is_last_inside(s: &Stream) -> bool
+    ensures { IsTrue result ↔ LastRegularInside s.now }
 {
-    let start = s.first_regular.unwrap_or(s.first_day());
-    is_outside(s.last_regular, start, s.termination.day)
+    let start = given_or(s.first_regular, s.first_day());
+    is_inside(s.last_regular, start, s.termination.day)
 }
 
-/// Whether the date is given and lies before the first of two days or after the second.
-fn is_outside(date: Option<Day>, from: Day, to: Day) -> bool
-    ensures { IsTrue result ↔ IsSomeAnd date (IsOutside from to) }
+fn given_or(given: Option<Day>, day: Day) -> Day
+    ensures { result ≡ given_or given day }
+{
+    match given {
+        None => day,
+        Some(given) => given,
+    }
+}
+
+/// Whether the date, where it is given, lies from the first of two days to the second.
+fn is_inside(date: Option<Day>, from: Day, to: Day) -> bool
+    ensures { IsTrue result ↔ IfSome date (λ d. (from ≤ℤ d) × (d ≤ℤ to)) }
 {
     match date {
-        None => false,
-        Some(day) => day < from || to < day,
+        None => true,
+        Some(day) => from <= day && day <= to,
     }
 }

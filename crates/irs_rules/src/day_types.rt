@@ -1,35 +1,43 @@
 //! K17: an offset other than 0 says by `dayType` which days it counts.
-ghost use Rattle.std.specs.Prelude.{◌↔◌, IsTrue, IsSomeAnd};
-ghost use Rattle.irs_rules.specs.Order.{IsFirstSpot};
-ghost use Rattle.irs_rules.specs.DayTypes.{BreaksK17, LacksDayType};
+ghost use Rattle.std.specs.Prelude.{◌≡◌, ◌↔◌, IsTrue};
+ghost use Rattle.irs_terms.specs.DayTypes.{IsSaid, IsSaidFixing, IsSaidReset};
+ghost use Rattle.irs_terms.specs.declared.codes.DayKind.TheVariants.{Unsaid};
+ghost use Rattle.irs_rules.specs.Order.{IsFirstFault};
+ghost use Rattle.irs_rules.specs.Amounts.{BreaksK17};
 
-use crate::spot::{Spot, earlier, spot_where};
-use irs_base::Elem;
-use irs_terms::{DayKind, Offset, ResetTerms, Stream};
+use crate::faults::{earlier, fault_unless};
+use irs_base::{Elem, Fault, Rule};
+use irs_terms::{DayKind, FixTerms, Offset, Stream};
 
 /// K17: the first offset of a stream that isn't 0 and has no `dayType`.
-pub(crate) fn offset_without_day_type(s: &Stream) -> Option<Spot>
-    ensures { IsFirstSpot (BreaksK17 s.now) result }
+pub(crate) fn offset_without_day_type(s: &Stream) -> Option<Fault>
+    ensures { IsFirstFault (BreaksK17 s.now) result }
 {
-    let payment = spot_where(lacks_day_type(s.pay.offset), Elem::PAYMENT_DAYS_OFFSET);
-    let fixing = spot_where(fixing_lacks_day_type(&s.reset), Elem::FIXING_DATES);
+    let payment = fault_unless(is_said(s.pay.offset), Rule::K17, Elem::PAYMENT_DAYS_OFFSET);
+    let fixing = fault_unless(is_said_reset(s), Rule::K17, Elem::FIXING_DATES);
     earlier(payment, fixing)
 }
 
-fn fixing_lacks_day_type(reset: &Option<ResetTerms>) -> bool
-    ensures { IsTrue result ↔ IsSomeAnd reset.now (λ r. IsSomeAnd r.fixing (λ f. LacksDayType f.offset)) }
+fn is_said_reset(s: &Stream) -> bool
+    ensures { IsTrue result ↔ IsSaidReset s.now }
 {
-    match reset {
-        None => false,
-        Some(reset) => match &reset.fixing {
-            None => false,
-            Some(fixing) => lacks_day_type(fixing.offset),
-        },
+    match &s.reset {
+        None => true,
+        Some(reset) => is_said_fixing(&reset.fixing),
     }
 }
 
-fn lacks_day_type(offset: Offset) -> bool
-    ensures { IsTrue result ↔ LacksDayType offset }
+fn is_said_fixing(fixing: &Option<FixTerms>) -> bool
+    ensures { IsTrue result ↔ IsSaidFixing fixing.now }
 {
-    offset.days != 0 && offset.kind == DayKind::Unsaid
+    match fixing {
+        None => true,
+        Some(fixing) => is_said(fixing.offset),
+    }
+}
+
+fn is_said(offset: Offset) -> bool
+    ensures { IsTrue result ↔ IsSaid offset }
+{
+    offset.days == 0 || offset.kind != DayKind::Unsaid
 }

@@ -1,87 +1,129 @@
-//! K14, K15 and K20: the roll fits the calculation frequency, the payment frequency is a whole
-//! multiple of it, and the reset frequency is as long.
-ghost use Rattle.std.specs.Prelude.{◌≢◌, ◌<◌, ◌↔◌, IsTrue, IsSomeAnd};
-ghost use Rattle.irs_terms.specs.Lawful.{IsLawfulStream};
-ghost use Rattle.irs_rules.specs.Order.{IsFirstSpot};
-ghost use Rattle.irs_rules.specs.Frequencies.{BreaksK14, BreaksK15, BreaksK20, MisfitsBy, MisfitsPeriods, RollsNoMonth, RollsNoWeek};
-ghost use Rattle.irs_terms.specs.Lengths.{length_of as length_in, IsPositive};
+//! K14, K15 and K20: the roll suits the calculation frequency, a payment has whole calculation
+//! periods, and the reset frequency is as long as the calculation frequency.
+ghost use Rattle.std.specs.Prelude.{◌↔◌, IsTrue};
+ghost use Rattle.irs_terms.specs.Frequencies.{HasWholePeriods, PaymentSuits, ResetSuits};
+ghost use Rattle.irs_terms.specs.Lawful.{IsLawfulRoll, IsLawfulStream};
+ghost use Rattle.irs_terms.specs.Lengths.{IsPositive};
+ghost use Rattle.irs_terms.specs.Suiting.{FrequencySuits, IsTerm, RollsMonths, RollsWeeks, SuitsBy};
+ghost use Rattle.irs_rules.specs.Order.{IsFirstFault};
+ghost use Rattle.irs_rules.specs.Dates.{BreaksK14, BreaksK15, IsTermAlone};
+ghost use Rattle.irs_rules.specs.Amounts.{BreaksK20};
 
-use crate::lengths::{Length, is_multiple, length_of};
-use crate::spot::{Spot, spot_where};
-use irs_base::Elem;
-use irs_terms::{ResetTerms, RollCode, Stream, Unit};
+use crate::faults::fault_unless;
+use crate::multiples::is_multiple;
+use irs_base::{Elem, Fault, Rule};
+use irs_terms::{Length, RollCode, Stream, Unit};
 
-/// K14: the calculation frequency, where the roll doesn't fit it.
-pub(crate) fn roll_misfit(s: &Stream) -> Option<Spot>
-    ensures { IsFirstSpot (BreaksK14 s.now) result }
-{
-    spot_where(misfits_roll(s), Elem::CALCULATION_PERIOD_FREQUENCY)
-}
-
-fn misfits_roll(s: &Stream) -> bool
-    ensures { IsTrue result ↔ MisfitsBy s.now.freq.unit s.now }
-{
-    match s.freq.unit {
-        Unit::D => s.roll != RollCode::NoRoll,
-        Unit::W => rolls_no_week(s.roll),
-        Unit::M | Unit::Y => rolls_no_month(s.roll),
-        Unit::T => s.freq.count != 1 || s.first_regular.is_some() || s.last_regular.is_some(),
-    }
-}
-
-fn rolls_no_month(roll: RollCode) -> bool
-    ensures { IsTrue result ↔ RollsNoMonth roll }
-{
-    match roll {
-        RollCode::Eom | RollCode::Dom(_) | RollCode::Imm => false,
-        RollCode::OnWeekday(_) | RollCode::NoRoll => true,
-    }
-}
-
-fn rolls_no_week(roll: RollCode) -> bool
-    ensures { IsTrue result ↔ RollsNoWeek roll }
-{
-    match roll {
-        RollCode::Eom | RollCode::Dom(_) | RollCode::Imm => true,
-        RollCode::OnWeekday(_) | RollCode::NoRoll => false,
-    }
-}
-
-/// K15: the payment frequency, where it doesn't fit the calculation frequency.
-pub(crate) fn payment_misfit(s: &Stream) -> Option<Spot>
+/// K14: the calculation frequency, where the roll doesn't suit it.
+pub(crate) fn roll_misfit(s: &Stream) -> Option<Fault>
     requires { IsLawfulStream s.now }
-    ensures { IsFirstSpot (BreaksK15 s.now) result }
+    ensures { IsFirstFault (BreaksK14 s.now) result }
 {
-    let misfits = misfits_periods(length_of(s.pay.freq), length_of(s.freq));
-    spot_where(misfits, Elem::PAYMENT_FREQUENCY)
+    fault_unless(
+        frequency_suits(s),
+        Rule::K14,
+        Elem::CALCULATION_PERIOD_FREQUENCY,
+    )
 }
 
-fn misfits_periods(pay: Length, calc: Length) -> bool
+fn frequency_suits(s: &Stream) -> bool
+    requires { IsLawfulStream s.now }
+    ensures { IsTrue result ↔ FrequencySuits s.now }
+{
+    suits(s.freq.unit, s.roll) && fits_term(s)
+}
+
+/// Whether the term, where it is the calculation frequency, stands once and alone.
+fn fits_term(s: &Stream) -> bool
+    ensures { IsTrue result ↔ (IsTerm s.now.freq → IsTermAlone s.now) }
+{
+    s.freq.unit != Unit::T || is_term_alone(s)
+}
+
+fn is_term_alone(s: &Stream) -> bool
+    ensures { IsTrue result ↔ IsTermAlone s.now }
+{
+    s.freq.count == 1 && s.first_regular.is_none() && s.last_regular.is_none()
+}
+
+fn suits(unit: Unit, roll: RollCode) -> bool
+    requires { IsLawfulRoll roll }
+    ensures { IsTrue result ↔ SuitsBy unit roll }
+{
+    match unit {
+        Unit::D => roll == RollCode::NoRoll,
+        Unit::W => rolls_weeks(roll),
+        Unit::M => rolls_months(roll),
+        Unit::Y => rolls_months(roll),
+        Unit::T => true,
+    }
+}
+
+fn rolls_months(roll: RollCode) -> bool
+    requires { IsLawfulRoll roll }
+    ensures { IsTrue result ↔ RollsMonths roll }
+{
+    match roll {
+        RollCode::Eom => true,
+        RollCode::Dom(_) => true,
+        RollCode::Imm => true,
+        RollCode::OnWeekday(_) => false,
+        RollCode::NoRoll => false,
+    }
+}
+
+fn rolls_weeks(roll: RollCode) -> bool
+    ensures { IsTrue result ↔ RollsWeeks roll }
+{
+    match roll {
+        RollCode::Eom => false,
+        RollCode::Dom(_) => false,
+        RollCode::Imm => false,
+        RollCode::OnWeekday(_) => true,
+        RollCode::NoRoll => true,
+    }
+}
+
+/// K15: the payment frequency, where a payment doesn't have whole calculation periods.
+pub(crate) fn payment_misfit(s: &Stream) -> Option<Fault>
+    requires { IsLawfulStream s.now }
+    ensures { IsFirstFault (BreaksK15 s.now) result }
+{
+    fault_unless(payment_suits(s), Rule::K15, Elem::PAYMENT_FREQUENCY)
+}
+
+fn payment_suits(s: &Stream) -> bool
+    requires { IsLawfulStream s.now }
+    ensures { IsTrue result ↔ PaymentSuits s.now }
+{
+    has_whole_periods(s.pay.freq.length(), s.freq.length())
+}
+
+fn has_whole_periods(pay: Length, calc: Length) -> bool
     requires { IsPositive calc }
-    ensures { IsTrue result ↔ MisfitsPeriods pay calc }
+    ensures { IsTrue result ↔ HasWholePeriods pay calc }
 {
     match (pay, calc) {
-        (Length::Days(pay), Length::Days(calc)) => !is_multiple(pay, calc),
-        (Length::Months(pay), Length::Months(calc)) => !is_multiple(pay, calc),
-        (Length::Days(_), Length::Months(_) | Length::Term(_)) => true,
-        (Length::Months(_), Length::Days(_) | Length::Term(_)) => true,
-        (Length::Term(multiplier), _) => multiplier != 1,
+        (Length::Days(pay), Length::Days(calc)) => is_multiple(pay, calc),
+        (Length::Months(pay), Length::Months(calc)) => is_multiple(pay, calc),
+        (Length::Days(_), Length::Months(_) | Length::Term(_)) => false,
+        (Length::Months(_), Length::Days(_) | Length::Term(_)) => false,
+        (Length::Term(multiplier), _) => multiplier == 1,
     }
 }
 
 /// K20: the reset frequency, where it isn't as long as the calculation frequency.
-pub(crate) fn reset_misfit(s: &Stream) -> Option<Spot>
-    ensures { IsFirstSpot (BreaksK20 s.now) result }
+pub(crate) fn reset_misfit(s: &Stream) -> Option<Fault>
+    ensures { IsFirstFault (BreaksK20 s.now) result }
 {
-    let calc = length_of(s.freq);
-    spot_where(resets_otherwise(&s.reset, calc), Elem::RESET_FREQUENCY)
+    fault_unless(reset_suits(s), Rule::K20, Elem::RESET_FREQUENCY)
 }
 
-fn resets_otherwise(reset: &Option<ResetTerms>, calc: Length) -> bool
-    ensures { IsTrue result ↔ IsSomeAnd reset.now (λ r. length_in r.freq ≢ calc) }
+fn reset_suits(s: &Stream) -> bool
+    ensures { IsTrue result ↔ ResetSuits s.now }
 {
-    match reset {
-        None => false,
-        Some(reset) => length_of(reset.freq) != calc,
+    match &s.reset {
+        None => true,
+        Some(reset) => reset.freq.is_as_long_as(s.freq),
     }
 }

@@ -4,17 +4,16 @@
 mod centers;
 mod date_order;
 mod day_types;
+mod faults;
 mod frequencies;
+mod known_centers;
 mod legs;
-mod lengths;
+mod multiples;
 mod payment_dates;
 mod references;
-mod spot;
 mod step_dates;
 mod terms;
 #[cfg(test)]
 mod tests;
 
-pub use lengths::Length;
-pub use spot::Spot;
 pub use terms::check_terms;

@@ -1,39 +1,47 @@
 //! K16: where the first and the last regular payment date stand, and when a first one is needed.
-ghost use Rattle.std.specs.Prelude.{◌⊎◌, ◌<ℤ◌, ◌↔◌, IsTrue, IsSomeAnd};
+ghost use Rattle.std.specs.Prelude.{◌⊎◌, ◌≤ℤ◌, ◌↔◌, IsTrue, IsSome, IfSome, IsSomeAnd};
+ghost use Rattle.irs_terms.specs.Frequencies.{GroupsPeriods};
 ghost use Rattle.irs_terms.specs.Lawful.{IsLawfulStream};
-ghost use Rattle.irs_rules.specs.Order.{IsFirstSpot};
-ghost use Rattle.irs_rules.specs.PaymentDates.{AsksInitialStub, BreaksK16, GroupsPeriods, HasInitialKind, HasNoRegularPayments, IsFirstMisfit, IsFirstPaymentOut, IsInitial, IsLastMisfit, IsLastPaymentOut, LacksFirstPayment, StartsLater};
 ghost use Rattle.irs_terms.specs.Lengths.{IsPositive};
+ghost use Rattle.irs_terms.specs.PaymentDates.{AsksInitialStub, FirstPaymentStands, HasInitialKind, HasRegularPayments, IsFirstPayment, IsInitial, IsLastPayment, IsPaymentInside, LastPaymentStands, NeedsFirstPayment, StartsLater};
+ghost use Rattle.irs_rules.specs.Order.{IsFirstFault};
+ghost use Rattle.irs_rules.specs.Dates.{BreaksK16};
 
-use crate::lengths::{Length, is_larger_multiple, length_of};
-use crate::spot::{Spot, earlier, spot_where};
-use irs_base::{Day, Elem};
-use irs_terms::{PayTerms, Relative, Stream, StubKind, Unit};
+use crate::faults::{earlier, fault_unless};
+use crate::multiples::is_larger_multiple;
+use irs_base::{Day, Elem, Fault, Rule};
+use irs_terms::{Length, PayTerms, Relative, Stream, StubKind, Unit};
 
 /// K16: the first of the two regular payment dates that can't stand there, or the first one where
 /// it is needed and absent.
-pub(crate) fn payment_date_misfit(s: &Stream) -> Option<Spot>
+pub(crate) fn payment_date_misfit(s: &Stream) -> Option<Fault>
     requires { IsLawfulStream s.now }
-    ensures { IsFirstSpot (BreaksK16 s.now) result }
+    ensures { IsFirstFault (BreaksK16 s.now) result }
 {
-    let first = spot_where(is_first_broken(s), Elem::FIRST_PAYMENT_DATE);
-    let last = spot_where(is_last_misfit(s), Elem::LAST_REGULAR_PAYMENT_DATE);
+    let first = fault_unless(first_stands(s), Rule::K16, Elem::FIRST_PAYMENT_DATE);
+    let last = fault_unless(last_stands(s), Rule::K16, Elem::LAST_REGULAR_PAYMENT_DATE);
     earlier(first, last)
 }
 
-fn is_first_broken(s: &Stream) -> bool
+fn first_stands(s: &Stream) -> bool
     requires { IsLawfulStream s.now }
-    ensures { IsTrue result ↔ (LacksFirstPayment s.now ⊎ IsSomeAnd s.now.pay.first (IsFirstMisfit s.now)) }
+    ensures { IsTrue result ↔ FirstPaymentStands s.now }
 {
-    lacks_first_payment(s) || is_first_misfit(s)
+    has_needed_first(s) && given_first_stands(s)
 }
 
-fn lacks_first_payment(s: &Stream) -> bool
+fn has_needed_first(s: &Stream) -> bool
     requires { IsLawfulStream s.now }
-    ensures { IsTrue result ↔ LacksFirstPayment s.now }
+    ensures { IsTrue result ↔ (NeedsFirstPayment s.now → IsSome s.now.pay.first) }
 {
-    let groups = groups_periods(length_of(s.pay.freq), length_of(s.freq));
-    s.pay.first.is_none() && groups && asks_initial_stub(s)
+    s.pay.first.is_some() || !needs_first(s)
+}
+
+fn needs_first(s: &Stream) -> bool
+    requires { IsLawfulStream s.now }
+    ensures { IsTrue result ↔ NeedsFirstPayment s.now }
+{
+    groups_periods(s.pay.freq.length(), s.freq.length()) && asks_initial_stub(s)
 }
 
 fn groups_periods(pay: Length, calc: Length) -> bool
@@ -79,47 +87,48 @@ fn is_initial(stub: Option<StubKind>) -> bool
     }
 }
 
-fn is_first_misfit(s: &Stream) -> bool
-    ensures { IsTrue result ↔ IsSomeAnd s.now.pay.first (IsFirstMisfit s.now) }
+fn given_first_stands(s: &Stream) -> bool
+    ensures { IsTrue result ↔ IfSome s.now.pay.first (IsFirstPayment s.now) }
 {
     match s.pay.first {
-        None => false,
-        Some(first) => has_no_regular_payments(&s.pay) || is_first_out(s, first),
+        None => true,
+        Some(first) => has_regular_payments(&s.pay) && is_payment_inside(s, first),
     }
 }
 
-fn is_last_misfit(s: &Stream) -> bool
-    ensures { IsTrue result ↔ IsSomeAnd s.now.pay.last (IsLastMisfit s.now) }
+fn last_stands(s: &Stream) -> bool
+    ensures { IsTrue result ↔ LastPaymentStands s.now }
 {
     match s.pay.last {
-        None => false,
-        Some(last) => has_no_regular_payments(&s.pay) || is_last_out(s, last),
+        None => true,
+        Some(last) => is_last_payment(s, last),
     }
 }
 
-fn has_no_regular_payments(pay: &PayTerms) -> bool
-    ensures { IsTrue result ↔ HasNoRegularPayments pay.now }
+fn is_last_payment(s: &Stream, last: Day) -> bool
+    ensures { IsTrue result ↔ IsLastPayment s.now last }
 {
-    pay.relative == Relative::Start || pay.freq.unit == Unit::T
+    has_regular_payments(&s.pay) && is_payment_inside(s, last) && is_behind(s.pay.first, last)
 }
 
-fn is_first_out(s: &Stream, first: Day) -> bool
-    ensures { IsTrue result ↔ IsFirstPaymentOut s.now first }
+fn has_regular_payments(pay: &PayTerms) -> bool
+    ensures { IsTrue result ↔ HasRegularPayments pay.now }
 {
-    first <= s.first_day() || s.termination.day < first
+    pay.relative == Relative::End && pay.freq.unit != Unit::T
 }
 
-fn is_last_out(s: &Stream, last: Day) -> bool
-    ensures { IsTrue result ↔ IsLastPaymentOut s.now last }
+fn is_payment_inside(s: &Stream, day: Day) -> bool
+    ensures { IsTrue result ↔ IsPaymentInside s.now day }
 {
-    last <= s.first_day() || s.termination.day < last || precedes_first(s.pay.first, last)
+    s.first_day() < day && day <= s.termination.day
 }
 
-fn precedes_first(first: Option<Day>, last: Day) -> bool
-    ensures { IsTrue result ↔ IsSomeAnd first (λ d. last <ℤ d) }
+/// Whether the last date isn't before the first, where there is one.
+fn is_behind(first: Option<Day>, last: Day) -> bool
+    ensures { IsTrue result ↔ IfSome first (λ d. d ≤ℤ last) }
 {
     match first {
-        None => false,
-        Some(first) => last < first,
+        None => true,
+        Some(first) => first <= last,
     }
 }

@@ -1,21 +1,22 @@
 //! K10: a reference names its target, and a `businessCentersReference` exactly one list of centres
 //! of the swap. It is considered where no days are needed too.
-ghost use Rattle.std.specs.Prelude.{◌≡◌, ◌↔◌, IsTrue, IsSomeAnd};
+ghost use Rattle.std.specs.Prelude.{◌↔◌, IsTrue, IfSome, IsSomeAnd};
 ghost use Rattle.irs_base.specs.Elements.{first_period_start_centers_reference, fixing_dates_centers_reference, stub_amount_reference};
-ghost use Rattle.irs_terms.specs.declared.codes.RefState.TheVariants.{Dangling as NamesNothing};
-ghost use Rattle.irs_rules.specs.Order.{IsFirstSpot};
-ghost use Rattle.irs_rules.specs.Spots.{At};
-ghost use Rattle.irs_rules.specs.References.{BreaksK10, DanglesInPeriods, DanglesInPayments, DanglesInResets, NamesNoList, NamesNoListAt};
+ghost use Rattle.irs_base.specs.declared.places.Rule.TheVariants.{K10};
+ghost use Rattle.irs_terms.specs.References.{FixingNamesOneList, NamesOneList, NamesTarget, StartNamesOneList};
+ghost use Rattle.irs_rules.specs.Order.{IsFirstFault};
+ghost use Rattle.irs_rules.specs.Breaks.{Breaks};
+ghost use Rattle.irs_rules.specs.Names.{BreaksK10, BreaksK10InPeriods, BreaksK10InPayments, BreaksK10InResets};
 
-use crate::spot::{Spot, earlier, spot_where};
-use irs_base::Elem;
+use crate::faults::{earlier, fault_unless};
+use irs_base::{Elem, Fault, Rule};
 use irs_terms::{
     Adjustments, Centers, Dated, FixTerms, PayTerms, RefState, ResetTerms, Stream, StubTerms,
 };
 
 /// K10: the first reference of a stream that names no target, or more than one list of centres.
-pub(crate) fn dangling_reference(s: &Stream) -> Option<Spot>
-    ensures { IsFirstSpot (BreaksK10 s.now) result }
+pub(crate) fn dangling_reference(s: &Stream) -> Option<Fault>
+    ensures { IsFirstFault (BreaksK10 s.now) result }
 {
     earlier(
         in_periods(s),
@@ -26,8 +27,8 @@ pub(crate) fn dangling_reference(s: &Stream) -> Option<Spot>
     )
 }
 
-fn in_periods(s: &Stream) -> Option<Spot>
-    ensures { IsFirstSpot (DanglesInPeriods s.now) result }
+fn in_periods(s: &Stream) -> Option<Fault>
+    ensures { IsFirstFault (BreaksK10InPeriods s.now) result }
 {
     let effective = list_of(&s.effective.adj, Elem::EFFECTIVE_DATE_CENTERS_REFERENCE);
     let termination = list_of(&s.termination.adj, Elem::TERMINATION_DATE_CENTERS_REFERENCE);
@@ -36,8 +37,8 @@ fn in_periods(s: &Stream) -> Option<Spot>
     earlier(effective, earlier(termination, earlier(periods, first)))
 }
 
-fn in_first_start(first: &Option<Dated>) -> Option<Spot>
-    ensures { IsFirstSpot (At first_period_start_centers_reference (IsSomeAnd first.now NamesNoListAt)) result }
+fn in_first_start(first: &Option<Dated>) -> Option<Fault>
+    ensures { IsFirstFault (Breaks K10 first_period_start_centers_reference (StartNamesOneList first.now)) result }
 {
     match first {
         None => None,
@@ -45,16 +46,16 @@ fn in_first_start(first: &Option<Dated>) -> Option<Spot>
     }
 }
 
-fn in_payments(pay: &PayTerms) -> Option<Spot>
-    ensures { IsFirstSpot (DanglesInPayments pay.now) result }
+fn in_payments(pay: &PayTerms) -> Option<Fault>
+    ensures { IsFirstFault (BreaksK10InPayments pay.now) result }
 {
     let periods = target_of(pay.calc_ref, Elem::PAYMENT_DATES_REFERENCE);
     let centers = list_of(&pay.adj, Elem::PAYMENT_DATES_CENTERS_REFERENCE);
     earlier(periods, centers)
 }
 
-fn in_given_resets(reset: &Option<ResetTerms>) -> Option<Spot>
-    ensures { IsFirstSpot (λ at. IsSomeAnd reset.now (λ r. DanglesInResets r at)) result }
+fn in_given_resets(reset: &Option<ResetTerms>) -> Option<Fault>
+    ensures { IsFirstFault (λ f. IsSomeAnd reset.now (λ r. BreaksK10InResets r f)) result }
 {
     match reset {
         None => None,
@@ -62,8 +63,8 @@ fn in_given_resets(reset: &Option<ResetTerms>) -> Option<Spot>
     }
 }
 
-fn in_resets(reset: &ResetTerms) -> Option<Spot>
-    ensures { IsFirstSpot (DanglesInResets reset.now) result }
+fn in_resets(reset: &ResetTerms) -> Option<Fault>
+    ensures { IsFirstFault (BreaksK10InResets reset.now) result }
 {
     let periods = target_of(reset.calc_ref, Elem::RESET_DATES_REFERENCE);
     let fixing = in_fixing(&reset.fixing);
@@ -72,8 +73,8 @@ fn in_resets(reset: &ResetTerms) -> Option<Spot>
     earlier(periods, earlier(fixing, earlier(relative, centers)))
 }
 
-fn in_fixing(fixing: &Option<FixTerms>) -> Option<Spot>
-    ensures { IsFirstSpot (At fixing_dates_centers_reference (IsSomeAnd fixing.now (λ f. NamesNoList f.adj))) result }
+fn in_fixing(fixing: &Option<FixTerms>) -> Option<Fault>
+    ensures { IsFirstFault (Breaks K10 fixing_dates_centers_reference (FixingNamesOneList fixing.now)) result }
 {
     match fixing {
         None => None,
@@ -81,8 +82,8 @@ fn in_fixing(fixing: &Option<FixTerms>) -> Option<Spot>
     }
 }
 
-fn in_stubs(stubs: &Option<StubTerms>) -> Option<Spot>
-    ensures { IsFirstSpot (At stub_amount_reference (IsSomeAnd stubs.now (λ t. t.calc_ref ≡ NamesNothing))) result }
+fn in_stubs(stubs: &Option<StubTerms>) -> Option<Fault>
+    ensures { IsFirstFault (Breaks K10 stub_amount_reference (IfSome stubs.now (λ t. NamesTarget t.calc_ref))) result }
 {
     match stubs {
         None => None,
@@ -91,24 +92,35 @@ fn in_stubs(stubs: &Option<StubTerms>) -> Option<Spot>
 }
 
 /// The reference to a list of centres, where it names none or more than one.
-fn list_of(adj: &Adjustments, reference: Elem) -> Option<Spot>
-    ensures { IsFirstSpot (At reference (NamesNoList adj.now)) result }
+fn list_of(adj: &Adjustments, reference: Elem) -> Option<Fault>
+    ensures { IsFirstFault (Breaks K10 reference (NamesOneList adj.now.centers)) result }
 {
-    spot_where(names_no_list(adj), reference)
+    fault_unless(names_one_list(&adj.centers), Rule::K10, reference)
 }
 
-fn names_no_list(adj: &Adjustments) -> bool
-    ensures { IsTrue result ↔ NamesNoList adj.now }
+fn names_one_list(centers: &Centers) -> bool
+    ensures { IsTrue result ↔ NamesOneList centers.now }
 {
-    match &adj.centers {
-        Centers::Absent | Centers::Listed(_) => false,
-        Centers::Dangling => true,
+    match centers {
+        Centers::Absent => true,
+        Centers::Listed(_) => true,
+        Centers::Dangling => false,
     }
 }
 
 /// The reference, where it names no target.
-fn target_of(state: RefState, reference: Elem) -> Option<Spot>
-    ensures { IsFirstSpot (At reference (state ≡ NamesNothing)) result }
+fn target_of(state: RefState, reference: Elem) -> Option<Fault>
+    ensures { IsFirstFault (Breaks K10 reference (NamesTarget state)) result }
 {
-    spot_where(state == RefState::Dangling, reference)
+    fault_unless(names_target(state), Rule::K10, reference)
+}
+
+fn names_target(state: RefState) -> bool
+    ensures { IsTrue result ↔ NamesTarget state }
+{
+    match state {
+        RefState::Absent => true,
+        RefState::Good => true,
+        RefState::Dangling => false,
+    }
 }

@@ -1,23 +1,22 @@
 -- The terms of a payment's periods, its amount, and the first of its periods that leaves the range.
 use Rattle.std.proofs.Common.{◌≡◌, ℕ, ◌+◌, ◌-◌, ◌<◌, ◌≤◌, ◌==◌, List, [], ◌∷◌, length, Option, Some, None, option_map, IfSome, sym, subst, arith, ℤ, All}
 use Rattle.std.proofs.lemmas.List.Elements.{All-nil, All-cons, All-head}
+use Rattle.std.specs.Prelude.{unsigned_abs}
 use Rattle.std.proofs.lemmas.Option.{slice_get_within}
 use Rattle.irs_terms.specs.Currencies.{decimals_of}
 use Rattle.irs_terms.specs.Lawful.{IsLawfulStream, IsNotional}
-use Rattle.irs_terms.specs.declared.codes.CompCode.{CompCode}
 use Rattle.irs_terms.specs.declared.currency.Currency.{Currency}
 use Rattle.irs_terms.specs.declared.results.Payment.{Payment}
 use Rattle.irs_terms.specs.declared.results.Reset.{Reset}
 use Rattle.irs_terms.specs.declared.stream.Stream.{Stream}
 use Rattle.irs_daycount.specs.Fractions.{denominator_of}
 use Rattle.irs_daycount.specs.FractionLaws.{one_denominator}
-use Rattle.irs_compound.specs.Amounts.{IsFraction, IsTerm, IsPayment, AllPriced, AmountOf, Passes, PassesFirst, code_for, denominator, most_places}
+use Rattle.irs_compound.specs.Amounts.{IsFraction, IsTerm, IsPayment, AmountOf, IsOutOfRange, IsFirstOut, most_units, denominator}
 use Rattle.irs_compound.specs.InForceLaws.{in_force_within}
 use Rattle.irs_compound.specs.declared.periods.PeriodTerm.{PeriodTerm}
 use Rattle.irs_schedule.specs.Parts.{IsAmount}
 use Rattle.irs_schedule.specs.PeriodTerms.{IsPeriodTerm, AreTerms, IsAmountBy, NonePasses, PassesIn, PassesFirstIn, IsTable, dec_of}
-use Rattle.irs_schedule.proofs.AmountBounds.{amount_bounded}
-use Rattle.irs_schedule.proofs.PlaceLemmas.{decimals_few}
+use Rattle.irs_base.proofs.Firsts.{false_lt}
 use Rattle.irs_schedule.proofs.TermsThere.{terms_fit}
 use Rattle.irs_schedule.proofs.Unique.{one_terms}
 use Rattle.irs_base.specs.Members.{EachNumbered, day_at}
@@ -28,19 +27,10 @@ pub amount_by : (s : Stream) (ts : List PeriodTerm) (places : ℕ) (units : Opti
 amount_by s ts places None e h = h
 amount_by s ts places (Some m) e h = (e, subst (λ (k : ℕ). AmountOf s.compounding ts k (Some m)) e h)
 
--- where no period leaves the range the amount is within its bound
-pub amount_fits : (code : CompCode) (currency : Currency) (ts : List PeriodTerm) (places : ℕ) (units : Option ℤ) → places ≡ decimals_of currency.letters → IsPayment ts → NonePasses code ts → AmountOf code ts places units → IfSome (option_map (dec_of places) units) (IsAmount currency)
-amount_fits code currency ts places None e payment none h = tt
-amount_fits code currency ts places (Some m) e payment none h =
-    let few : places ≤ most_places = omega (arith, e, decimals_few currency.letters) in
-    record { places = e; size = amount_bounded (code_for code ts) ts places m payment few h.0 (none h.0) h.1 }
-
--- the first position that leaves the range is one of the positions
-pub place_within : (code : CompCode) (ts : List PeriodTerm) (n : ℕ) → PassesFirst code ts n → n ≤ length ts
-place_within code ts n h =
-    let passes = h.1 in
-    let inside = slice_get_within ts (n - 1) passes.period passes.there in
-    omega (arith, inside)
+-- an amount within its bound is one of the currency
+pub amount_fits : (currency : Currency) (places : ℕ) (units : Option ℤ) → places ≡ decimals_of currency.letters → IfSome units (λ m. unsigned_abs m ≤ most_units places) → IfSome (option_map (dec_of places) units) (IsAmount currency)
+amount_fits currency places None e h = tt
+amount_fits currency places (Some m) e h = record { places = e; size = h }
 
 -- periods with one denominator have that of the first
 one_denominator_of : (den : ℤ) (ts : List PeriodTerm) → 1 ≤ length ts → All (IsTerm den) ts → All (IsTerm (denominator ts)) ts
@@ -79,24 +69,26 @@ module _ (s : Stream) (b a : List ℤ) (rs : List Reset) (rises : AllStepsRise s
   same_terms : (us : List PeriodTerm) → AreTerms s b a rs p us → us ≡ ts
   same_terms us h = one_terms s b a rs rises.0 rises.1 p us ts h are
 
-  same_passes : (i : ℕ) (x : PassesIn s b a rs p i) → Passes (code_for s.compounding ts) ts x.place
-  same_passes i x = subst (λ (us : List PeriodTerm). Passes (code_for s.compounding us) us x.place) (same_terms x.terms x.are_terms) x.passes
+  same_out : (i : ℕ) (x : PassesIn s b a rs p i) → IsOutOfRange s.compounding ts x.number
+  same_out i x = subst (λ (us : List PeriodTerm). IsOutOfRange s.compounding us x.number) (same_terms x.terms x.are_terms) x.out
 
   -- none of its periods leaves the range
   pub none_in : NonePasses s.compounding ts → (i : ℕ) → PassesIn s b a rs p i → ⊥
-  none_in none i x =
-      let priced : AllPriced ts = subst AllPriced (same_terms x.terms x.are_terms) x.priced in
-      let passes = same_passes i x in
-      none priced x.place (slice_get_within ts x.place passes.period passes.there) passes
+  none_in none i x = none x.number (same_out i x)
 
   -- the first of its periods that leaves the range
-  pub first_in : (n : ℕ) → AllPriced ts → PassesFirst (code_for s.compounding ts) ts n → PassesFirstIn s b a rs p (p.first_period + n - 1)
-  first_in n priced first =
-      let low = first.0 in
-      let inside = place_within (code_for s.compounding ts) ts n first in
+  pub first_in : (n : ℕ) → IsFirstOut s.compounding ts n → PassesFirstIn s b a rs p (p.first_period + n - 1)
+  first_in n first =
+      let passes = first.0.1 in
+      let low = passes.from_one in
+      let inside = slice_get_within ts (n - 1) passes.period passes.there in
       let count = are.count in
       record {
-        passes = record { terms = ts; are_terms = are; priced = priced; place = n - 1; passes = first.1; is = omega (arith, low) };
-        none_before = λ k less x. let at = x.is in first.2 x.place (omega (arith, at, less)) (same_passes k x);
+        passes = record { terms = ts; are_terms = are; number = n; out = first.0; is = omega (arith, low) };
+        none_before = λ k less x.
+            let at = x.is in
+            let out = same_out k x in
+            let some = out.1.from_one in
+            false_lt x.number n (first.1 x.number out) (omega (arith, at, less, low, some));
         to_end = omega (arith, count, inside, low);
       }

@@ -20,7 +20,7 @@ use Rattle.irs_calendar.specs.GoodDays.{InCover}
 use Rattle.irs_calendar.specs.Selected.{later, earlier, latest_first, earliest_last, sections_named}
 use Rattle.irs_schedule.specs.DaySets.{days_of_names}
 use Rattle.irs_schedule.specs.CenterDays.{NamedCenters, centers_named, FoundCenters, CanFind, HasStream, Grows, HasMore, HasMoreOf}
-use Rattle.irs_schedule.specs.TermsKept.{TermsKept}
+use Rattle.irs_rules.specs.TermsKept.{TermsKept}
 use Rattle.irs_terms.specs.FirstDay.{first_date_of}
 use Rattle.irs_terms.specs.Needs.{adjusts_days, counts_days, fixing_names, fixing_names_of, names_by, names_for, names_with, reset_names}
 use Rattle.irs_terms.proofs.FirstDays.{first_date_lawful}

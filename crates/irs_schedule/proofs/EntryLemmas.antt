@@ -1,39 +1,21 @@
 -- What a part works out for its periods stands in the relations.
-use Rattle.std.proofs.Common.{◌≡◌, ℕ, zero, suc, ◌+◌, ◌-◌, ◌<◌, ◌≤◌, ◌==◌, List, length, map, Option, Some, None, option_map, refl, sym, subst, arith, ℤ}
+use Rattle.std.proofs.Common.{◌≡◌, ℕ, zero, suc, ◌+◌, ◌-◌, ◌<◌, ◌≤◌, ◌==◌, List, length, map, refl, sym, subst, arith, ℤ}
 use Rattle.std.specs.List.{range_with_len}
 use Rattle.irs_base.specs.Listed.{IsRising}
-use Rattle.irs_terms.specs.declared.amounts.Leg.{Leg}
-use Rattle.irs_terms.specs.declared.amounts.Leg.TheVariants.{Fixed, Floating}
 use Rattle.irs_terms.specs.declared.results.Reset.{Reset}
 use Rattle.irs_terms.specs.declared.stream.Stream.{Stream}
 use Rattle.irs_daycount.specs.Fractions.{fraction_of}
 use Rattle.irs_daycount.specs.FractionLaws.{fraction_is, days_is}
 use Rattle.irs_compound.specs.InForce.{value_in_force}
 use Rattle.irs_compound.specs.InForceLaws.{in_force_is}
-use Rattle.irs_compound.specs.PeriodRates.{rates_of, fixed_rates_of}
-use Rattle.irs_compound.specs.RateLaws.{rates_are, fixed_rates_are}
+use Rattle.irs_compound.specs.PeriodRates.{rates_by}
+use Rattle.irs_compound.specs.RateLaws.{rates_by_are}
 use Rattle.irs_compound.specs.declared.periods.PeriodTerm.{PeriodTerm}
-use Rattle.irs_compound.specs.declared.periods.Rates.{Rates}
 use Rattle.irs_payments.proofs.PlaceLemmas.{rises_at}
 use Rattle.irs_schedule.specs.declared.kept_terms.KeptTerms.{KeptTerms}
-use Rattle.irs_schedule.specs.Periods.{count_of, observed_of, rate_by, period_by, periods_by}
-use Rattle.irs_schedule.specs.PeriodTerms.{AreRates, IsPeriodTerm, IsPeriodEntry}
+use Rattle.irs_schedule.specs.Periods.{count_of, observed_of, period_by, periods_by}
+use Rattle.irs_schedule.specs.PeriodTerms.{IsPeriodTerm, IsPeriodEntry}
 use Rattle.irs_base.specs.Members.{EachNumbered, day_at}
-
--- the rates of a period as a function
-abbrev rates_by : Leg → ℤ → Option ℤ → Option Rates
-rates_by (Fixed values) start observed = Some (fixed_rates_of values start)
-rates_by (Floating float) start observed = option_map (rates_of float start) observed
-
-rates_stand : (leg : Leg) (start : ℤ) (observed : Option ℤ) → AreRates leg start observed (rates_by leg start observed)
-rates_stand (Fixed values) start observed = fixed_rates_are values start
-rates_stand (Floating float) start None = tt
-rates_stand (Floating float) start (Some o) = rates_are float start o
-
-rate_is : (leg : Leg) (start : ℤ) (observed : Option ℤ) → rate_by leg start observed ≡ option_map (λ r. r.all_in) (rates_by leg start observed)
-rate_is (Fixed values) start observed = refl
-rate_is (Floating float) start None = refl
-rate_is (Floating float) start (Some o) = refl
 
 -- the terms of period i as a function
 abbrev pub term_by : Stream → List ℤ → List ℤ → List Reset → ℕ → PeriodTerm
@@ -46,7 +28,7 @@ term_by s b a rs i = record {
 pub term_stands : (s : Stream) (b a : List ℤ) (rs : List Reset) (i : ℕ) → IsRising a → 1 ≤ i → i < length a → IsPeriodTerm s b a rs i (term_by s b a rs i)
 term_stands s b a rs i rising low high = record {
   notional = in_force_is s.notional (day_at b (i - 1));
-  rates = rates_stand s.leg (day_at b (i - 1)) (observed_of rs i);
+  rates = rates_by_are s.leg (day_at b (i - 1)) (observed_of rs i);
   frac = fraction_is s.day_count (day_at a (i - 1)) (day_at a i) (i == length a - 1) (rises_at a (i - 1) i rising (omega (arith, low)) high);
 }
 
@@ -61,7 +43,7 @@ entry_stands s b a rs i rising low high = record {
   days = days_is s.day_count (day_at a (i - 1)) (day_at a i) (i == length a - 1);
   frac = refl;
   notional = refl;
-  rate = rate_is s.leg (day_at b (i - 1)) (observed_of rs i);
+  rate = refl;
 }
 
 -- a list made of a function of the number

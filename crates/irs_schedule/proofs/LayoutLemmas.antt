@@ -11,16 +11,16 @@ use Rattle.irs_periods.proofs.AdjustedLemmas.{two_boundaries}
 use Rattle.irs_payments.specs.Payments.{ArePayments, Covers}
 use Rattle.irs_schedule.specs.DaySets.{StreamSets}
 use Rattle.irs_schedule.specs.declared.layouts.Layout.{Layout}
-use Rattle.irs_schedule.specs.Layouts.{IsLayout}
-use Rattle.irs_schedule.specs.TermsKept.{TermsKept}
-use Rattle.irs_schedule.proofs.AdjustedBoundaries.{adjusted_days}
-use Rattle.irs_schedule.proofs.BoundariesThere.{boundaries_days, boundaries_run}
-use Rattle.irs_schedule.proofs.PaymentsCover.{every_payments_cover}
+use Rattle.irs_schedule.specs.Layouts.{IsKeptLayout}
+use Rattle.irs_rules.specs.TermsKept.{TermsKept}
+use Rattle.irs_periods.proofs.AdjustedBoundaries.{adjusted_days}
+use Rattle.irs_periods.proofs.BoundariesThere.{boundaries_days, boundaries_run}
+use Rattle.irs_payments.proofs.PaymentsCover.{every_payments_cover}
 use Rattle.irs_schedule.proofs.StreamRanges.{AreInRange}
 use Rattle.irs_terms.specs.FirstDay.{first_day_of}
 use Rattle.irs_base.specs.Listed.{RunsFromTo}
 
-module _ (cal : List Section) (sets : StreamSets) (s : Stream) (lawful : IsLawfulStream s) (terms : TermsKept cal s) (l : Layout) (is : IsLayout sets s l) where
+module _ (cal : List Section) (sets : StreamSets) (s : Stream) (lawful : IsLawfulStream s) (terms : TermsKept cal s) (l : Layout) (is : IsKeptLayout sets s l) where
   pub layout_runs : RunsFromTo (first_day_of s) s.termination.day l.unadjusted
   layout_runs = boundaries_run s l.span terms.dates is.regular is.kept l.unadjusted is.unadjusted
 

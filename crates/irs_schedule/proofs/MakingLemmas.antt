@@ -10,7 +10,9 @@ use Rattle.irs_terms.specs.declared.stream_list.Swap.{Swap}
 use Rattle.irs_calendar.specs.declared.sections.Section.{Section}
 use Rattle.irs_resets.specs.Rates.{RateTable}
 use Rattle.irs_schedule.specs.DaySets.{StreamSets, stream_sets}
-use Rattle.irs_schedule.specs.DatedRules.{StreamKept, StreamBroken, DatedKept, DatedBroken, in_stream}
+use Rattle.irs_schedule.specs.DatedRules.{StreamKept, StreamBroken, DatedKept, DatedBroken}
+use Rattle.irs_base.specs.Faults.{in_stream}
+use Rattle.irs_base.specs.declared.places.Fault.{Fault}
 use Rattle.irs_schedule.specs.Parts.{Part, KeepsBounds, IsWithin}
 use Rattle.irs_schedule.specs.Schedules.{IsPart, IsSchedule}
 use Rattle.irs_schedule.proofs.PaymentLemmas.{every_more}
@@ -53,8 +55,8 @@ module _ (swap : Swap) (cal : List Section) (fix : RateTable) (i : ℕ) (parts :
   }
 
   -- a rule broken by the stream at the place i
-  pub made_broken : (x y : Broken) → StreamBroken (stream_sets cal s) fix s y → x ≡ in_stream (i + 1) y → DatedBroken swap cal fix x
-  made_broken x y breaks is = record { position = i; stream = s; there = at; broken = y; breaks = breaks; kept_before = made.kept; is = is }
+  pub made_broken : (x : Broken) (f : Fault) → StreamBroken (stream_sets cal s) fix s f → x ≡ in_stream (i + 1) f → DatedBroken swap cal fix x
+  made_broken x f breaks is = record { position = i; stream = s; there = at; fault = f; breaks = breaks; kept_before = made.kept; is = is }
 
 module _ (swap : Swap) (cal : List Section) (fix : RateTable) (i : ℕ) (parts : List Part) (all : length swap.streams ≤ i) (made : Made swap cal fix i parts) where
   pub made_schedule : IsSchedule swap cal fix parts

@@ -17,15 +17,17 @@ use Rattle.irs_schedule.specs.DaySets.{StreamSets, stream_sets}
 use Rattle.irs_schedule.specs.declared.entries.PaymentEntry.{PaymentEntry}
 use Rattle.irs_schedule.specs.declared.entries.PeriodEntry.{PeriodEntry}
 use Rattle.irs_schedule.specs.declared.layouts.Layout.{Layout}
-use Rattle.irs_schedule.specs.Layouts.{IsLayout}
+use Rattle.irs_schedule.specs.Layouts.{IsKeptLayout}
 use Rattle.irs_schedule.specs.Parts.{Part}
 use Rattle.irs_schedule.specs.PeriodTerms.{IsAmountFor, IsPeriodEntry}
 use Rattle.irs_schedule.specs.Schedules.{IsPart, IsSchedule, payment_of}
-use Rattle.irs_schedule.specs.TermsKept.{TermsKept}
+use Rattle.irs_rules.specs.TermsKept.{TermsKept}
 use Rattle.irs_schedule.proofs.LayoutLemmas.{layout_adjusted_days, layout_covers, layout_some}
+use Rattle.irs_schedule.proofs.LayoutRules.{layout_kept, one_layout}
+use Rattle.irs_schedule.specs.DatedRules.{DatedKept, StreamKept, in_periods, in_span, resets_over}
 use Rattle.irs_schedule.proofs.StreamRanges.{AreInRange, sets_in_range}
-use Rattle.irs_schedule.proofs.TermsLemmas.{lawful_stream, terms_kept}
-use Rattle.irs_schedule.proofs.Unique.{covers_each, one_entry, one_layout, one_paid}
+use Rattle.irs_rules.proofs.Kept.{lawful_stream, terms_kept}
+use Rattle.irs_schedule.proofs.Unique.{covers_each, one_entry, one_paid}
 use Rattle.irs_base.specs.Members.{EachNumbered, Pairs, Every}
 use Rattle.irs_base.proofs.MemberLemmas.{one_numbered}
 
@@ -37,7 +39,7 @@ record ListsOver (sets : StreamSets) (fix : RateTable) (s : Stream) (l : Layout)
   amounts : Every (λ y. IsAmountFor s l.unadjusted l.adjusted p.resets (payment_of y) y.amount) p.payments
   count : length p.periods + 1 ≡ length l.unadjusted
   periods : EachNumbered (IsPeriodEntry s l.unadjusted l.adjusted p.resets) 1 p.periods
-  resets : IsResets s l.span l.adjusted sets.reset sets.fixing fix p.resets
+  resets : IsResets (resets_over sets s l) fix p.resets
 
 -- those of a part stand in them over its own layout
 lists_over : (sets : StreamSets) (fix : RateTable) (s : Stream) (p : Part) (h : IsPart sets fix s p) → ListsOver sets fix s h.layout p
@@ -48,7 +50,7 @@ lists_over sets fix s p h =
 
 -- over one layout the lists of two parts are the same
 
-module _ (cal : List Section) (sets : StreamSets) (s : Stream) (lawful : IsLawfulStream s) (terms : TermsKept cal s) (ranges : AreInRange sets) (l : Layout) (is : IsLayout sets s l) where
+module _ (cal : List Section) (sets : StreamSets) (s : Stream) (lawful : IsLawfulStream s) (terms : TermsKept cal s) (ranges : AreInRange sets) (l : Layout) (is : IsKeptLayout sets s l) where
   -- payments have one list of amounts by the same resets
   one_amounts : (rs : List Reset) (xs ys : List PaymentEntry) → ArePayments s sets.payment l.unadjusted l.adjusted (map payment_of xs) → ArePayments s sets.payment l.unadjusted l.adjusted (map payment_of ys)
       → Every (λ y. IsAmountFor s l.unadjusted l.adjusted rs (payment_of y) y.amount) xs → Every (λ y. IsAmountFor s l.unadjusted l.adjusted rs (payment_of y) y.amount) ys → xs ≡ ys
@@ -68,7 +70,7 @@ module _ (cal : List Section) (sets : StreamSets) (s : Stream) (lawful : IsLawfu
   -- two parts over the layout
   module _ (fix : RateTable) (p q : Part) (over_p : ListsOver sets fix s l p) (over_q : ListsOver sets fix s l q) where
     same_resets : p.resets ≡ q.resets
-    same_resets = one_resets s l.span l.adjusted sets.reset sets.fixing fix p.resets q.resets over_p.resets over_q.resets
+    same_resets = one_resets (resets_over sets s l) fix p.resets q.resets over_p.resets over_q.resets
 
     same_payments : p.payments ≡ q.payments
     same_payments = one_amounts p.resets p.payments q.payments over_p.payments over_q.payments over_p.amounts
@@ -78,10 +80,11 @@ module _ (cal : List Section) (sets : StreamSets) (s : Stream) (lawful : IsLawfu
     same_periods = one_entries p.resets p.periods q.periods over_p.count over_q.count over_p.periods
         (subst (λ (rs : List Reset). EachNumbered (IsPeriodEntry s l.unadjusted l.adjusted rs) 1 q.periods) (sym same_resets) over_q.periods)
 
--- a stream has one part by good days that are days in range
-part_by : (cal : List Section) (sets : StreamSets) (fix : RateTable) (s : Stream) → IsLawfulStream s → TermsKept cal s → AreInRange sets → (p q : Part) → IsPart sets fix s p → IsPart sets fix s q → p ≡ q
-part_by cal sets fix s lawful terms ranges p q h k =
+-- a stream that breaks no rule has one part by good days that are days in range
+part_by : (cal : List Section) (sets : StreamSets) (fix : RateTable) (s : Stream) → IsLawfulStream s → TermsKept cal s → AreInRange sets → StreamKept sets fix s → (p q : Part) → IsPart sets fix s p → IsPart sets fix s q → p ≡ q
+part_by cal sets fix s lawful terms ranges kept p q h k =
     let l = h.layout in
+    let is = layout_kept sets s l lawful terms.dates (kept in_span) (kept in_periods) h.is_layout in
     let over_p = lists_over sets fix s p h in
     let over_q : ListsOver sets fix s l q = subst (λ (m : Layout). ListsOver sets fix s m q) (one_layout sets s k.layout l k.is_layout h.is_layout) (lists_over sets fix s q k) in
     let currency : p.currency ≡ q.currency = h.currency ∙ sym k.currency in
@@ -90,9 +93,9 @@ part_by cal sets fix s lawful terms ranges p q h k =
     let unadjusted : p.unadjusted ≡ q.unadjusted = over_p.unadjusted ∙ sym over_q.unadjusted in
     let adjusted : p.adjusted ≡ q.adjusted = over_p.adjusted ∙ sym over_q.adjusted in
     let exchanges : p.exchanges ≡ q.exchanges = one_exchanges s sets.payment p.exchanges q.exchanges h.exchanges k.exchanges in
-    let payments = same_payments cal sets s lawful terms ranges l h.is_layout fix p q over_p over_q in
-    let periods = same_periods cal sets s lawful terms ranges l h.is_layout fix p q over_p over_q in
-    let resets = same_resets cal sets s lawful terms ranges l h.is_layout fix p q over_p over_q in
+    let payments = same_payments cal sets s lawful terms ranges l is fix p q over_p over_q in
+    let periods = same_periods cal sets s lawful terms ranges l is fix p q over_p over_q in
+    let resets = same_resets cal sets s lawful terms ranges l is fix p q over_p over_q in
     λ i. record {
       currency = currency i;
       day_count = day_count i;
@@ -105,9 +108,9 @@ part_by cal sets fix s lawful terms ranges p q h k =
       resets = resets i;
     }
 
--- a lawful stream that keeps its terms has one part by the good days of its centres
-pub one_part : (cal : List Section) (fix : RateTable) (s : Stream) → IsLawfulStream s → TermsKept cal s → (p q : Part) → IsPart (stream_sets cal s) fix s p → IsPart (stream_sets cal s) fix s q → p ≡ q
-one_part cal fix s lawful terms p q h k = part_by cal (stream_sets cal s) fix s lawful terms (sets_in_range cal s) p q h k
+-- a lawful stream that keeps its terms and breaks no rule has one part by the good days of its centres
+pub one_part : (cal : List Section) (fix : RateTable) (s : Stream) → IsLawfulStream s → TermsKept cal s → StreamKept (stream_sets cal s) fix s → (p q : Part) → IsPart (stream_sets cal s) fix s p → IsPart (stream_sets cal s) fix s q → p ≡ q
+one_part cal fix s lawful terms kept p q h k = part_by cal (stream_sets cal s) fix s lawful terms (sets_in_range cal s) kept p q h k
 
 -- where each member has at most one partner there is one list of partners
 one_partners : {X Y : Type 0} (R : X → Y → Type 0) (xs : List X) → ((i : ℕ) (x : X) → slice_get xs i ≡ Some x → (y z : Y) → R x y → R x z → y ≡ z) → (ys zs : List Y) → Pairs R xs ys → Pairs R xs zs → ys ≡ zs
@@ -118,7 +121,9 @@ one_partners R (x ∷ xs) one [] zs h k = absurd h
 one_partners R (x ∷ xs) one (y ∷ ys) [] h k = absurd k
 one_partners R (x ∷ xs) one (y ∷ ys) (z ∷ zs) h k = ap₂ ◌∷◌ (one zero x refl y z h.0 k.0) (one_partners R xs (λ i w at. one (suc i) w at) ys zs h.1 k.1)
 
--- a lawful swap that breaks no rule of its terms has at most one schedule
-pub one_schedule : (swap : Swap) (cal : List Section) (fix : RateTable) → IsLawful swap → ((f : Broken) → BreaksTerms swap cal f → ⊥) → (xs ys : List Part) → IsSchedule swap cal fix xs → IsSchedule swap cal fix ys → xs ≡ ys
-one_schedule swap cal fix lawful unbroken xs ys h k =
-    one_partners (λ s p. IsPart (stream_sets cal s) fix s p) swap.streams (λ i s there p q hp hq. one_part cal fix s (lawful_stream swap lawful i s there) (terms_kept swap cal lawful unbroken i s there) p q hp hq) xs ys h k
+-- a lawful swap that breaks no rule has at most one schedule
+pub one_schedule : (swap : Swap) (cal : List Section) (fix : RateTable) → IsLawful swap → ((f : Broken) → BreaksTerms swap cal f → ⊥) → DatedKept swap cal fix
+    → (xs ys : List Part) → IsSchedule swap cal fix xs → IsSchedule swap cal fix ys → xs ≡ ys
+one_schedule swap cal fix lawful unbroken kept xs ys h k =
+    one_partners (λ s p. IsPart (stream_sets cal s) fix s p) swap.streams
+    (λ i s there p q hp hq. one_part cal fix s (lawful_stream swap lawful i s there) (terms_kept swap cal lawful unbroken i s there) (kept i s there) p q hp hq) xs ys h k

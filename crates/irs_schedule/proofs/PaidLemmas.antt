@@ -8,9 +8,8 @@ use Rattle.irs_terms.specs.declared.results.Payment.{Payment}
 use Rattle.irs_terms.specs.declared.results.Reset.{Reset}
 use Rattle.irs_terms.specs.declared.stream.Stream.{Stream}
 use Rattle.irs_payments.specs.Payments.{Covers}
-use Rattle.irs_schedule.specs.DatedRules.{PassesFirst}
 use Rattle.irs_schedule.specs.Parts.{HasAmount}
-use Rattle.irs_schedule.specs.PeriodTerms.{IsAmountFor, PassesIn, PassesAt, PassesFirstIn}
+use Rattle.irs_schedule.specs.PeriodTerms.{IsAmountFor, PassesIn, PassesAt, PassesFirst, PassesFirstIn}
 use Rattle.irs_schedule.specs.Schedules.{payment_of}
 use Rattle.irs_schedule.specs.declared.entries.PaymentEntry.{PaymentEntry}
 use Rattle.irs_schedule.proofs.PlaceLemmas.{every_both}

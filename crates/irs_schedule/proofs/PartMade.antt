@@ -7,7 +7,7 @@ use Rattle.irs_resets.specs.Rates.{RateTable}
 use Rattle.irs_schedule.specs.DatedLists.{AreDated}
 use Rattle.irs_schedule.specs.DaySets.{StreamSets}
 use Rattle.irs_schedule.specs.KeptTerms.{is_floating}
-use Rattle.irs_schedule.specs.Layouts.{IsLayout}
+use Rattle.irs_schedule.specs.Layouts.{IsKeptLayout}
 use Rattle.irs_schedule.specs.PaidEntries.{ArePaid}
 use Rattle.irs_schedule.specs.Parts.{Part}
 use Rattle.irs_schedule.specs.Periods.{periods_by}
@@ -16,6 +16,7 @@ use Rattle.irs_schedule.specs.declared.entries.PaymentEntry.{PaymentEntry}
 use Rattle.irs_schedule.specs.declared.layouts.Layout.{Layout}
 use Rattle.irs_schedule.specs.declared.stream.Dated.{Dated}
 use Rattle.irs_schedule.proofs.EntryLemmas.{kept_of, entries_stand}
+use Rattle.irs_schedule.proofs.LayoutRules.{layout_is}
 use Rattle.irs_schedule.proofs.PeriodLemmas.{length_periods}
 
 abbrev pub part_made : Stream → Layout → Dated → List PaymentEntry → Part
@@ -31,14 +32,14 @@ part_made s l dated es = record {
   resets = dated.resets;
 }
 
-pub part_stands : (sets : StreamSets) (fix : RateTable) (s : Stream) (l : Layout) (dated : Dated) (es : List PaymentEntry) → 2 ≤ length l.unadjusted → IsLayout sets s l → AreDated sets fix s l dated
+pub part_stands : (sets : StreamSets) (fix : RateTable) (s : Stream) (l : Layout) (dated : Dated) (es : List PaymentEntry) → 2 ≤ length l.unadjusted → IsKeptLayout sets s l → AreDated sets fix s l dated
     → ArePaid s l.unadjusted l.adjusted dated.resets dated.payments es → IsPart sets fix s (part_made s l dated es)
 part_stands sets fix s l dated es some h d paid = record {
   currency = refl;
   day_count = refl;
   floating = refl;
   layout = l;
-  is_layout = h;
+  is_layout = layout_is sets s l h;
   unadjusted = refl;
   adjusted = refl;
   exchanges = d.exchanges;

@@ -8,46 +8,53 @@ use Rattle.irs_terms.specs.declared.results.Reset.{Reset}
 use Rattle.irs_terms.specs.declared.stream.Stream.{Stream}
 use Rattle.irs_terms.specs.declared.stream_list.Swap.{Swap}
 use Rattle.irs_calendar.specs.declared.sections.Section.{Section}
-use Rattle.irs_payments.specs.Exchanges.{AreExchanges, BreaksExchanges}
-use Rattle.irs_payments.specs.Payments.{ArePayments, BreaksPayments}
+use Rattle.irs_payments.specs.Exchanges.{AreExchanges}
+use Rattle.irs_payments.specs.Payments.{ArePayments}
 use Rattle.irs_resets.specs.Rates.{RateTable}
 use Rattle.irs_resets.specs.Resets.{IsResets}
 use Rattle.irs_rules.specs.TermsRules.{BreaksTerms}
-use Rattle.irs_schedule.specs.DatedRules.{DatedKept, StreamKept, in_exchanges, in_payments, in_periods, in_resets, in_span}
+use Rattle.irs_schedule.specs.DatedRules.{DatedKept, StreamKept, in_exchanges, in_payments, in_periods, in_resets, in_span, resets_over}
 use Rattle.irs_schedule.specs.DaySets.{StreamSets, stream_sets}
 use Rattle.irs_schedule.specs.KeptTerms.{is_floating}
 use Rattle.irs_schedule.specs.declared.layouts.Layout.{Layout}
-use Rattle.irs_schedule.specs.Layouts.{IsLayout}
+use Rattle.irs_schedule.specs.Layouts.{IsKeptLayout}
 use Rattle.irs_schedule.specs.Parts.{Part}
 use Rattle.irs_schedule.specs.Schedules.{IsPart, IsSchedule}
-use Rattle.irs_schedule.specs.TermsKept.{TermsKept}
-use Rattle.irs_schedule.proofs.ExchangesThere.{exchanges_there, pairs_there}
-use Rattle.irs_schedule.proofs.FirstFaults.{none_without_first}
+use Rattle.irs_rules.specs.TermsKept.{TermsKept}
+use Rattle.irs_base.proofs.MemberLemmas.{pairs_there}
+use Rattle.irs_payments.proofs.ExchangesThere.{exchanges_there}
+use Rattle.irs_payments.proofs.PaymentsThere.{payments_there}
+use Rattle.irs_resets.proofs.ResetsThere.{resets_there}
+use Rattle.irs_schedule.proofs.LayoutRules.{layout_is}
 use Rattle.irs_schedule.proofs.LayoutLemmas.{layout_adjusted_days, layout_covers, layout_days, layout_runs, layout_some}
 use Rattle.irs_schedule.proofs.LayoutThere.{layout_there}
-use Rattle.irs_schedule.proofs.PaymentsThere.{payments_there}
-use Rattle.irs_schedule.proofs.ResetsThere.{resets_there}
 use Rattle.irs_schedule.proofs.StreamRanges.{AreInRange, sets_in_range}
-use Rattle.irs_schedule.proofs.TermsLemmas.{lawful_stream, terms_kept}
+use Rattle.irs_rules.proofs.Kept.{lawful_stream, terms_kept}
 use Rattle.irs_schedule.proofs.TermsThere.{amounts_there, entries_there}
 
 module _ (cal : List Section) (sets : StreamSets) (fix : RateTable) (s : Stream) (lawful : IsLawfulStream s) (terms : TermsKept cal s) (ranges : AreInRange sets) (kept : StreamKept sets fix s) where
   exchanges_by : (xs : List Exchange) × AreExchanges s sets.payment xs
-  exchanges_by = exchanges_there s sets.payment lawful ranges.payment (none_without_first (BreaksExchanges s sets.payment) (kept in_exchanges))
+  exchanges_by = exchanges_there s sets.payment lawful ranges.payment (kept in_exchanges)
 
   -- over a layout
-  module _ (l : Layout) (is : IsLayout sets s l) where
+  module _ (l : Layout) (is : IsKeptLayout sets s l) where
     payments_by : (ps : List Payment) × ArePayments s sets.payment l.unadjusted l.adjusted ps
-    payments_by = payments_there s sets.payment l.unadjusted l.adjusted lawful terms.said (layout_runs cal sets s lawful terms l is) (layout_days cal sets s lawful terms l is)
-        (layout_adjusted_days cal sets s lawful terms l is ranges) ranges.payment
-        (none_without_first (BreaksPayments s sets.payment l.unadjusted l.adjusted) (λ x first. kept in_payments x (record { layout = l; is_layout = is; first = first })))
+    payments_by = payments_there s sets.payment l.unadjusted l.adjusted (record {
+      lawful = lawful;
+      said = terms.said;
+      run = layout_runs cal sets s lawful terms l is;
+      days = layout_days cal sets s lawful terms l is;
+      adjusted = layout_adjusted_days cal sets s lawful terms l is ranges;
+      range = ranges.payment;
+    }) (λ f breaks. kept in_payments f (record { layout = l; is_layout = layout_is sets s l is; breaks = breaks }))
 
-    resets_by : (rs : List Reset) × IsResets s l.span l.adjusted sets.reset sets.fixing fix rs
-    resets_by = resets_there s l.span l.adjusted sets.reset sets.fixing fix terms.legs terms.said_reset (layout_adjusted_days cal sets s lawful terms l is ranges) ranges.reset ranges.fixing
-        (λ x first. kept in_resets x (record { layout = l; is_layout = is; first = first }))
+    resets_by : (rs : List Reset) × IsResets (resets_over sets s l) fix rs
+    resets_by = resets_there (resets_over sets s l) fix
+        (record { adjusted = layout_adjusted_days cal sets s lawful terms l is ranges; reset_set = ranges.reset; fixing_set = ranges.fixing })
+        terms.legs terms.said_reset (λ f breaks. kept in_resets f (record { layout = l; is_layout = layout_is sets s l is; breaks = breaks }))
 
     -- the part with these payments, resets and exchanges
-    part_over : (ps : List Payment) → ArePayments s sets.payment l.unadjusted l.adjusted ps → (rs : List Reset) → IsResets s l.span l.adjusted sets.reset sets.fixing fix rs
+    part_over : (ps : List Payment) → ArePayments s sets.payment l.unadjusted l.adjusted ps → (rs : List Reset) → IsResets (resets_over sets s l) fix rs
         → (xs : List Exchange) → AreExchanges s sets.payment xs → (p : Part) × IsPart sets fix s p
     part_over ps are_payments rs are_resets xs are_exchanges =
         let some = layout_some cal sets s lawful terms l is in
@@ -71,7 +78,7 @@ module _ (cal : List Section) (sets : StreamSets) (fix : RateTable) (s : Stream)
             day_count = refl;
             floating = refl;
             layout = l;
-            is_layout = is;
+            is_layout = layout_is sets s l is;
             unadjusted = refl;
             adjusted = refl;
             exchanges = are_exchanges;
@@ -93,7 +100,7 @@ module _ (cal : List Section) (sets : StreamSets) (fix : RateTable) (s : Stream)
   -- a stream that breaks no rule by good days that are days in range has a part
   part_by : (p : Part) × IsPart sets fix s p
   part_by =
-      let l = layout_there cal sets s lawful terms ranges (kept in_span) (kept in_periods) in
+      let l = layout_there sets s lawful terms.dates ranges (kept in_span) (kept in_periods) in
       part_on l.0 l.1
 
 -- a lawful stream that keeps its terms and breaks no rule of dates and amounts has its part

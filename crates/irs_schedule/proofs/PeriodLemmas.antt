@@ -16,7 +16,7 @@ use Rattle.irs_schedule.specs.declared.kept_terms.KeptTerms.{KeptTerms}
 use Rattle.irs_schedule.specs.Parts.{Rises, RisesFrom, IsEntry}
 use Rattle.irs_schedule.specs.Periods.{count_of, start_of, observed_of, period_by, periods_by}
 use Rattle.irs_schedule.specs.RowsOf.{no_period}
-use Rattle.irs_schedule.proofs.RateLemmas.{value_within, rate_size}
+use Rattle.irs_compound.proofs.RateSizes.{value_within, rate_size}
 use Rattle.irs_base.specs.Limits.{most_numerator}
 use Rattle.irs_base.specs.Members.{Every, day_at}
 

@@ -6,66 +6,30 @@ use Rattle.irs_base.specs.Days.{IsDay}
 use Rattle.irs_base.specs.DayLists.{AreDays}
 use Rattle.irs_base.specs.Listed.{IsRising}
 use Rattle.irs_terms.specs.Currencies.{decimals_of}
-use Rattle.irs_terms.specs.declared.amounts.Leg.{Leg}
-use Rattle.irs_terms.specs.declared.amounts.Leg.TheVariants.{Fixed, Floating}
 use Rattle.irs_terms.specs.declared.results.Payment.{Payment}
 use Rattle.irs_terms.specs.declared.results.Reset.{Reset}
 use Rattle.irs_terms.specs.declared.stream.Stream.{Stream}
-use Rattle.irs_daycount.specs.Fractions.{days_of, fraction_of}
-use Rattle.irs_daycount.specs.FractionLaws.{days_is, fraction_is, one_denominator}
-use Rattle.irs_daycount.proofs.FractionBounds.{fraction_bounded}
-use Rattle.irs_compound.specs.Amounts.{IsFraction, AllPriced, SomeUnpriced, code_for}
-use Rattle.irs_compound.specs.AmountLaws.{pays_exists}
-use Rattle.irs_compound.specs.InForce.{value_in_force}
-use Rattle.irs_compound.specs.InForceLaws.{in_force_is}
+use Rattle.irs_compound.specs.Amounts.{IsFraction, AmountOf}
 use Rattle.irs_compound.specs.PartsLaws.{AllFractions}
-use Rattle.irs_compound.specs.PeriodRates.{rates_of, fixed_rates_of}
-use Rattle.irs_compound.specs.RateLaws.{rates_are, fixed_rates_are}
 use Rattle.irs_compound.specs.declared.periods.PeriodTerm.{PeriodTerm}
-use Rattle.irs_compound.specs.declared.periods.Rates.{Rates}
-use Rattle.irs_compound.proofs.FractionFits.{fraction_fits}
+use Rattle.irs_compound.proofs.AmountTheorems.{amount_there as amount_there_of}
+use Rattle.irs_compound.proofs.FractionFits.{fraction_is_fit}
 use Rattle.irs_payments.specs.Payments.{Covers}
 use Rattle.irs_payments.proofs.PlaceLemmas.{rises_at}
 use Rattle.irs_schedule.specs.declared.entries.PaymentEntry.{PaymentEntry}
 use Rattle.irs_schedule.specs.declared.entries.PeriodEntry.{PeriodEntry}
-use Rattle.irs_schedule.specs.Periods.{observed_of}
-use Rattle.irs_schedule.specs.PeriodTerms.{AreRates, IsPeriodTerm, IsPeriodEntry, AreTerms, IsAmountBy, IsAmountFor}
+use Rattle.irs_schedule.specs.Periods.{period_by}
+use Rattle.irs_schedule.specs.PeriodTerms.{IsPeriodTerm, IsPeriodEntry, AreTerms, IsAmountBy, IsAmountFor}
 use Rattle.irs_schedule.specs.Schedules.{payment_of}
-use Rattle.irs_schedule.proofs.AdjustedBoundaries.{day_of_days}
+use Rattle.irs_schedule.proofs.EntryLemmas.{term_by, term_stands, kept_of, entry_stands}
+use Rattle.irs_periods.proofs.AdjustedBoundaries.{day_of_days}
 use Rattle.irs_base.specs.Members.{EachNumbered, Every, day_at}
-
--- the rates by the leg; absent where a floating stream has no observed rate
-rates_there : (leg : Leg) (start : ℤ) (observed : Option ℤ) → (r : Option Rates) × AreRates leg start observed r
-rates_there (Fixed values) start observed = (Some (fixed_rates_of values start), fixed_rates_are values start)
-rates_there (Floating float) start None = (None, tt)
-rates_there (Floating float) start (Some observed) = (Some (rates_of float start observed), rates_are float start observed)
-
--- m members from the number n on, where each of these numbers has one
-pub numbered_there : {X : Type 0} (P : ℕ → X → Type 0) (m n : ℕ) → ((k : ℕ) → n ≤ k → k < n + m → (x : X) × P k x) → (xs : List X) × (length xs ≡ m) × EachNumbered P n xs
-numbered_there P zero n member = ([], refl, tt)
-numbered_there P (suc m) n member =
-    let first = member n (omega arith) (omega arith) in
-    let rest = numbered_there P m (n + 1) (λ k low high. member k (omega (arith, low)) (omega (arith, high))) in
-    (first.0 ∷ rest.0, omega (arith, rest.1), (first.1, rest.2))
-
--- every period has its rates, or some period has none
-priced_first : (t : PeriodTerm) (ts : List PeriodTerm) (rates : Option Rates) → t.rates ≡ rates → AllPriced ts ⊎ SomeUnpriced ts → AllPriced (t ∷ ts) ⊎ SomeUnpriced (t ∷ ts)
-priced_first t ts None absent rest = inr (0, t, refl, absent)
-priced_first t ts (Some rates) there (inl priced) =
-    let some : IsSome t.rates = rw there (search rules) in
-    inl (All-cons (λ (u : PeriodTerm). IsSome u.rates) t ts some priced)
-priced_first t ts (Some rates) there (inr unpriced) = inr (suc unpriced.0, unpriced.1, unpriced.2, unpriced.3)
-
-pub decides_priced : (ts : List PeriodTerm) → AllPriced ts ⊎ SomeUnpriced ts
-decides_priced [] = inl (All-nil (λ (t : PeriodTerm). IsSome t.rates))
-decides_priced (t ∷ ts) = priced_first t ts t.rates refl (decides_priced ts)
+use Rattle.irs_base.proofs.MemberLemmas.{numbered_there}
 
 -- periods with fractions of day counts have an amount, which is absent where the rate of one of them is
-amount_by : (s : Stream) (ts : List PeriodTerm) → AllFractions ts → AllPriced ts ⊎ SomeUnpriced ts → (x : Option Dec) × IsAmountBy s ts x
-amount_by s ts fits (inl priced) =
-    let pays = pays_exists (code_for s.compounding ts) ts (decimals_of s.currency.letters) fits priced in
-    (Some (record { units = pays.0; places = decimals_of s.currency.letters }), (refl, (priced, pays.1)))
-amount_by s ts fits (inr unpriced) = (None, unpriced)
+amount_by : (s : Stream) (ts : List PeriodTerm) (m : Option ℤ) → AmountOf s.compounding ts (decimals_of s.currency.letters) m → (x : Option Dec) × IsAmountBy s ts x
+amount_by s ts None absent = (None, absent)
+amount_by s ts (Some units) pays = (Some (record { units = units; places = decimals_of s.currency.letters }), (refl, pays))
 
 covers_on : (n last : ℕ) (ps : List Payment) → Covers n ps last → n ≤ last + 1
 covers_on n last [] h = omega (arith, h)
@@ -80,39 +44,11 @@ module _ (s : Stream) (b a : List ℤ) (rs : List Reset) (rising : IsRising a) w
 
   -- the value in force, the rates and the fraction of a period
   pub term_there : (i : ℕ) → 1 ≤ i → i < length a → (t : PeriodTerm) × IsPeriodTerm s b a rs i t
-  term_there i low high =
-      let rates = rates_there s.leg (day_at b (i - 1)) (observed_of rs i) in (
-        record {
-          notional = value_in_force s.notional (day_at b (i - 1));
-          rates = rates.0;
-          frac = fraction_of s.day_count (day_at a (i - 1)) (day_at a i) (i == length a - 1);
-        },
-        record {
-          notional = in_force_is s.notional (day_at b (i - 1));
-          rates = rates.1;
-          frac = fraction_is s.day_count (day_at a (i - 1)) (day_at a i) (i == length a - 1) (in_order i low high);
-        },
-      )
+  term_there i low high = (term_by s b a rs i, term_stands s b a rs i rising low high)
 
   -- what a schedule says of a period
   pub entry_there : (i : ℕ) → 1 ≤ i → i < length a → (e : PeriodEntry) × IsPeriodEntry s b a rs i e
-  entry_there i low high =
-      let t = term_there i low high in (
-        record {
-          days = days_of s.day_count (day_at a (i - 1)) (day_at a i) (i == length a - 1);
-          frac = t.0.frac;
-          notional = t.0.notional;
-          rate = option_map (λ (r : Rates). r.all_in) t.0.rates;
-        },
-        record {
-          term = t.0;
-          is_term = t.1;
-          days = days_is s.day_count (day_at a (i - 1)) (day_at a i) (i == length a - 1);
-          frac = refl;
-          notional = refl;
-          rate = refl;
-        },
-      )
+  entry_there i low high = (period_by (kept_of s) b a rs i, entry_stands s b a rs i rising low high)
 
   -- what a schedule says of all the periods
   pub entries_there : 1 ≤ length a → (es : List PeriodEntry) × (length es + 1 ≡ length a) × EachNumbered (IsPeriodEntry s b a rs) 1 es
@@ -129,10 +65,7 @@ module _ (s : Stream) (b a : List ℤ) (rs : List Reset) (rising : IsRising a) w
   module _ (days : AreDays a) where
     term_fits : (i : ℕ) (t : PeriodTerm) → 1 ≤ i → i < length a → IsPeriodTerm s b a rs i t → IsFraction t.frac
     term_fits i t low high h =
-        let start : IsDay (day_at a (i - 1)) = day_of_days a (i - 1) days (omega (arith, high)) in
-        let end : IsDay (day_at a i) = day_of_days a i days high in
-        let bounded = fraction_bounded s.day_count (day_at a (i - 1)) (day_at a i) (i == length a - 1) t.frac start end (in_order i low high) h.frac in
-        fraction_fits s.day_count (day_at a (i - 1)) (day_at a i) t.frac start end bounded (one_denominator s.day_count (day_at a (i - 1)) (day_at a i) (i == length a - 1) t.frac h.frac)
+        fraction_is_fit s.day_count (day_at a (i - 1)) (day_at a i) (i == length a - 1) t.frac (day_of_days a (i - 1) days (omega (arith, high))) (day_of_days a i days high) (in_order i low high) h.frac
 
     -- the fractions of periods between days that rise are those of a day count
     pub terms_fit : (n : ℕ) (ts : List PeriodTerm) → 1 ≤ n → n + length ts ≤ length a → EachNumbered (IsPeriodTerm s b a rs) n ts → AllFractions ts
@@ -145,7 +78,8 @@ module _ (s : Stream) (b a : List ℤ) (rs : List Reset) (rising : IsRising a) w
     amount_there p low order high =
         let ts = terms_there p low order high in
         let fits = terms_fit p.first_period ts.0 low (let count = ts.1.count in omega (arith, count, high)) ts.1.each in
-        let x = amount_by s ts.0 fits (decides_priced ts.0) in
+        let m = amount_there_of s.compounding ts.0 (decimals_of s.currency.letters) fits in
+        let x = amount_by s ts.0 m.0 m.1 in
         (x.0, record { terms = ts.0; are_terms = ts.1; is_amount = x.1 })
 
     -- payments that cover the periods from n on, each with its amount

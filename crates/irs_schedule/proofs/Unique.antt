@@ -1,5 +1,4 @@
--- A stream has at most one layout, at most one list of periods, at most one amount for each payment,
--- and so at most one part.
+-- A stream has at most one list of periods, and at most one amount for each payment.
 use Rattle.std.proofs.Common.{◌≡◌, ℕ, ◌+◌, ◌-◌, ◌<◌, ◌≤◌, ◌==◌, List, [], ◌∷◌, length, map, Option, Some, None, option_map, refl, sym, ap, ap₂, subst, ◌∙◌, arith, ℤ, ◌<ℤ◌}
 use Rattle.std.proofs.lemmas.List.Elements.{All-nil, All-cons}
 use Rattle.irs_base.specs.declared.line.Dec.{Dec}
@@ -11,59 +10,28 @@ use Rattle.irs_terms.specs.declared.amounts.Leg.{Leg}
 use Rattle.irs_terms.specs.declared.amounts.Leg.TheVariants.{Fixed, Floating}
 use Rattle.irs_terms.specs.declared.results.Payment.{Payment}
 use Rattle.irs_terms.specs.declared.results.Reset.{Reset}
-use Rattle.irs_terms.specs.declared.results.Span.{Span}
 use Rattle.irs_terms.specs.declared.stream.Stream.{Stream}
 use Rattle.irs_daycount.specs.FractionLaws.{one_fraction, one_days, one_denominator}
 use Rattle.irs_daycount.proofs.FractionBounds.{fraction_bounded}
 use Rattle.irs_compound.proofs.FractionFits.{fraction_fits}
-use Rattle.irs_compound.specs.AmountLaws.{amount_once}
+use Rattle.irs_compound.specs.AmountLaws.{one_amount}
 use Rattle.irs_compound.specs.Amounts.{IsFraction, AmountOf}
 use Rattle.irs_compound.specs.InForceLaws.{one_in_force}
-use Rattle.irs_compound.specs.RateLaws.{one_rates, one_fixed_rates}
+use Rattle.irs_compound.specs.RateLaws.{one_leg_rates}
 use Rattle.irs_compound.specs.PartsLaws.{AllFractions}
 use Rattle.irs_compound.specs.declared.periods.PeriodTerm.{PeriodTerm}
 use Rattle.irs_compound.specs.declared.periods.Rates.{Rates}
 use Rattle.irs_payments.specs.Payments.{Covers}
 use Rattle.irs_payments.proofs.PlaceLemmas.{rises_at}
-use Rattle.irs_periods.proofs.OneSpan.{one_span}
-use Rattle.irs_periods.proofs.Assembled.{one_list}
-use Rattle.irs_periods.proofs.AdjustedLemmas.{one_adjusted}
-use Rattle.irs_periods.specs.Boundaries.{Boundaries, IsBoundary}
-use Rattle.irs_periods.specs.Adjusting.{AdjustedList}
-use Rattle.irs_schedule.specs.DaySets.{StreamSets}
 use Rattle.irs_schedule.specs.declared.entries.PaymentEntry.{PaymentEntry}
 use Rattle.irs_schedule.specs.declared.entries.PeriodEntry.{PeriodEntry}
-use Rattle.irs_schedule.specs.declared.layouts.Layout.{Layout}
-use Rattle.irs_schedule.specs.Layouts.{IsLayout}
-use Rattle.irs_schedule.specs.PeriodTerms.{AreRates, IsPeriodTerm, IsPeriodEntry, AreTerms, IsAmountBy, IsAmountFor}
+use Rattle.irs_schedule.specs.PeriodTerms.{IsPeriodTerm, IsPeriodEntry, AreTerms, IsAmountBy, IsAmountFor}
 use Rattle.irs_schedule.specs.Schedules.{payment_of}
 use Rattle.irs_schedule.specs.Periods.{observed_of}
 use Rattle.irs_schedule.proofs.PeriodLemmas.{is_day_at}
 use Rattle.irs_terms.specs.StepDates.{StepsRise, LegStepsRise}
 use Rattle.irs_base.specs.Members.{EachNumbered, Every, day_at}
 use Rattle.irs_base.proofs.MemberLemmas.{one_numbered}
-
--- a stream has one layout
-pub one_layout : (sets : StreamSets) (s : Stream) (l m : Layout) → IsLayout sets s l → IsLayout sets s m → l ≡ m
-one_layout sets s l m h k =
-    let spans : l.span ≡ m.span = one_span s l.span m.span h.regular k.regular in
-    let moved : Boundaries s m.span l.unadjusted = subst (λ (x : Span). Boundaries s x l.unadjusted) spans h.unadjusted in
-    let lists : l.unadjusted ≡ m.unadjusted = one_list (IsBoundary s m.span) l.unadjusted m.unadjusted moved k.unadjusted in
-    let over : AdjustedList s sets.boundaries m.unadjusted l.adjusted = subst (λ (b : List ℤ). AdjustedList s sets.boundaries b l.adjusted) lists h.adjusted in
-    let adjusted : l.adjusted ≡ m.adjusted = one_adjusted s sets.boundaries m.unadjusted l.adjusted m.adjusted over k.adjusted in
-    λ i. record { span = spans i; unadjusted = lists i; adjusted = adjusted i }
-
--- the rates of a period are one
-one_leg_rates : (leg : Leg) (start : ℤ) (observed : Option ℤ) (x y : Option Rates) → LegStepsRise leg → AreRates leg start observed x → AreRates leg start observed y → x ≡ y
-one_leg_rates (Fixed values) start observed None y r h k = absurd h
-one_leg_rates (Fixed values) start observed (Some x) None r h k = absurd k
-one_leg_rates (Fixed values) start observed (Some x) (Some y) r h k = ap Some (one_fixed_rates values start x y r h k)
-one_leg_rates (Floating float) start None None None r h k = refl
-one_leg_rates (Floating float) start None None (Some y) r h k = absurd k
-one_leg_rates (Floating float) start None (Some x) y r h k = absurd h
-one_leg_rates (Floating float) start (Some o) None y r h k = absurd h
-one_leg_rates (Floating float) start (Some o) (Some x) None r h k = absurd k
-one_leg_rates (Floating float) start (Some o) (Some x) (Some y) r h k = ap Some (one_rates float start o x y r.0 r.1 h k)
 
 abbrev units_of : Option Dec → Option ℤ
 units_of None = None
@@ -133,7 +101,7 @@ module _ (s : Stream) (b a : List ℤ) (rs : List Reset) (rises : StepsRise s.no
       let same : k.terms ≡ h.terms = one_terms p k.terms h.terms k.are_terms h.are_terms in
       let moved : IsAmountBy s h.terms y = subst (λ (ts : List PeriodTerm). IsAmountBy s ts y) same k.is_amount in
       let fits : AllFractions h.terms = fractions_fit p.first_period h.terms days rising low (let c = h.are_terms.count in omega (arith, c, high)) h.are_terms.each in
-      same_amount h.terms x y h.is_amount moved (amount_once s.compounding h.terms (decimals_of s.currency.letters) (units_of x) (units_of y) fits (amount_units h.terms x h.is_amount) (amount_units h.terms y moved))
+      same_amount h.terms x y h.is_amount moved (one_amount s.compounding h.terms (decimals_of s.currency.letters) (units_of x) (units_of y) fits (amount_units h.terms x h.is_amount) (amount_units h.terms y moved))
 
 -- the periods of a payment lie among those of the stream
 abbrev InPeriods : ℕ → Payment → Type 0

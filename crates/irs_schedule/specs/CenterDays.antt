@@ -6,7 +6,7 @@ use Rattle.irs_terms.specs.declared.stream_list.Swap.{Swap}
 use Rattle.irs_calendar.specs.declared.sections.Section.{Section}
 use Rattle.irs_calendar.specs.GoodDays.{DaySet}
 use Rattle.irs_schedule.specs.DaySets.{days_of_names}
-use Rattle.irs_schedule.specs.TermsKept.{AreFound}
+use Rattle.irs_rules.specs.TermsKept.{AreFound}
 use Rattle.irs_terms.specs.FirstDay.{first_date_of}
 use Rattle.irs_terms.specs.Needs.{names_by, names_with, reset_names, fixing_names}
 

@@ -5,7 +5,7 @@ use Rattle.irs_payments.specs.Exchanges.{AreExchanges}
 use Rattle.irs_payments.specs.Payments.{ArePayments, Covers}
 use Rattle.irs_resets.specs.Rates.{RateTable}
 use Rattle.irs_resets.specs.Resets.{IsResets, HasSmallRate}
-use Rattle.irs_schedule.specs.DatedRules.{KeptBefore}
+use Rattle.irs_schedule.specs.DatedRules.{KeptBefore, resets_over}
 use Rattle.irs_schedule.specs.DaySets.{StreamSets}
 use Rattle.irs_schedule.specs.declared.layouts.Layout.{Layout}
 use Rattle.irs_schedule.specs.declared.stream.Dated.{Dated}
@@ -15,6 +15,6 @@ pub record AreDated (sets : StreamSets) (fix : RateTable) (s : Stream) (layout :
   pub payments : ArePayments s sets.payment layout.unadjusted layout.adjusted dated.payments
   pub covers : Covers 1 dated.payments (length layout.unadjusted - 1)
   pub exchanges : AreExchanges s sets.payment dated.exchanges
-  pub resets : IsResets s layout.span layout.adjusted sets.reset sets.fixing fix dated.resets
+  pub resets : IsResets (resets_over sets s layout) fix dated.resets
   pub small : All HasSmallRate dated.resets
   pub kept : KeptBefore sets fix s 6

@@ -1,7 +1,10 @@
 -- The rules of a swap's dates and amounts, K30 to K39, and the first of them that is broken.
-use Rattle.std.specs.Prelude.{◌≡◌, ◌⊎◌, ℕ, ◌+◌, ◌<◌, ◌≤◌, List, length, Some, slice_get, ℤ}
+use Rattle.std.specs.Prelude.{◌≡◌, ◌⊎◌, ℕ, ◌+◌, ◌<◌, List, Some, slice_get, ℤ}
 use Rattle.irs_base.specs.Elements.{calculation_period_amount}
+use Rattle.irs_base.specs.Faults.{fault_at, in_stream}
+use Rattle.irs_base.specs.Order.{First, comes_before}
 use Rattle.irs_base.specs.declared.places.Broken.{Broken}
+use Rattle.irs_base.specs.declared.places.Fault.{Fault}
 use Rattle.irs_base.specs.declared.places.Rule.TheVariants.{K39}
 use Rattle.irs_terms.specs.declared.results.Payment.{Payment}
 use Rattle.irs_terms.specs.declared.results.Reset.{Reset}
@@ -9,22 +12,20 @@ use Rattle.irs_terms.specs.declared.results.Span.{Span}
 use Rattle.irs_terms.specs.declared.stream.Stream.{Stream}
 use Rattle.irs_terms.specs.declared.stream_list.Swap.{Swap}
 use Rattle.irs_calendar.specs.declared.sections.Section.{Section}
+use Rattle.irs_periods.specs.Adjusting.{BreaksAdjusted}
+use Rattle.irs_periods.specs.Boundaries.{Boundaries, BreaksPeriods}
+use Rattle.irs_periods.specs.SpanRules.{BreaksSpan}
 use Rattle.irs_periods.specs.Spans.{Regular}
-use Rattle.irs_periods.specs.SpanRules.{SpanKept, SpanBroken, broken_at}
-use Rattle.irs_periods.specs.Boundaries.{Boundaries, TooManyPeriods, too_many_periods}
-use Rattle.irs_base.specs.Limits.{most_periods}
-use Rattle.irs_periods.specs.Adjusting.{AdjustedBroken}
-use Rattle.irs_payments.specs.Faults.{IsFirst}
+use Rattle.irs_payments.specs.Exchanges.{BreaksExchanges}
 use Rattle.irs_payments.specs.Payments.{ArePayments, BreaksPayments}
 use Rattle.irs_payments.specs.Steps.{BreaksSteps}
-use Rattle.irs_payments.specs.Exchanges.{BreaksExchanges}
 use Rattle.irs_resets.specs.Rates.{RateTable}
-use Rattle.irs_resets.specs.Resets.{IsResets}
-use Rattle.irs_resets.specs.ResetRules.{FirstBroken}
+use Rattle.irs_resets.specs.ResetRules.{BreaksResets}
+use Rattle.irs_resets.specs.Resets.{IsResets, ResetSource, source_of}
 use Rattle.irs_schedule.specs.DaySets.{StreamSets, stream_sets}
-use Rattle.irs_schedule.specs.declared.layouts.Layout.{Layout}
 use Rattle.irs_schedule.specs.Layouts.{IsLayout}
 use Rattle.irs_schedule.specs.PeriodTerms.{PassesAt}
+use Rattle.irs_schedule.specs.declared.layouts.Layout.{Layout}
 
 -- the parts in which the dates and amounts of a stream are worked out, in their order
 pub data DatedPart : Type 0 where
@@ -52,83 +53,69 @@ turn_of in_exchanges = 4
 turn_of in_resets = 5
 turn_of in_amounts = 6
 
--- K32 is broken; or it isn't, and x is the first of K33 and K34 at the boundaries
-abbrev pub BoundariesBroken : StreamSets → Stream → Span → Broken → Type 0
-BoundariesBroken sets s span x = (TooManyPeriods s span × (x ≡ too_many_periods)) ⊎ ((b : List ℤ) × Boundaries s span b × (length b ≤ most_periods + 1) × AdjustedBroken s sets.boundaries b x)
+-- K33 or K34 at the adjusted boundaries over the span
+pub record BreaksBoundaries (sets : StreamSets) (s : Stream) (span : Span) (f : Fault) : Type 0 where
+  pub boundaries : List ℤ
+  pub listed : Boundaries s span boundaries
+  pub breaks : BreaksAdjusted s sets.boundaries boundaries f
 
--- x is the first broken rule of the periods over a span that breaks none
-pub record PeriodsBroken (sets : StreamSets) (s : Stream) (x : Broken) : Type 0 where
+-- K32, K33 or K34 over the stream's regular span
+pub record BreaksLayout (sets : StreamSets) (s : Stream) (f : Fault) : Type 0 where
   pub span : Span
   pub regular : Regular s span
-  pub kept : SpanKept s span
-  pub breaks : BoundariesBroken sets s span x
+  pub breaks : BreaksPeriods s span f ⊎ BreaksBoundaries sets s span f
 
--- x is the first broken rule of the payments over the boundaries
-pub record PaymentsBroken (sets : StreamSets) (s : Stream) (x : Broken) : Type 0 where
+-- a rule of what is worked out over the stream's boundaries
+pub record BreaksOver (sets : StreamSets) (s : Stream) (Breaks : Layout → Fault → Type 0) (f : Fault) : Type 0 where
   pub layout : Layout
   pub is_layout : IsLayout sets s layout
-  pub first : IsFirst (BreaksPayments s sets.payment layout.unadjusted layout.adjusted) x
+  pub breaks : Breaks layout f
 
--- x is the first broken rule of the steps over the boundaries
-pub record StepsBroken (sets : StreamSets) (s : Stream) (x : Broken) : Type 0 where
-  pub layout : Layout
-  pub is_layout : IsLayout sets s layout
-  pub first : IsFirst (BreaksSteps s layout.unadjusted) x
+-- what the resets over a layout are worked out from
+abbrev pub resets_over : StreamSets → Stream → Layout → ResetSource
+resets_over sets s l = source_of s l.span l.adjusted sets.reset sets.fixing
 
--- x is the first broken rule of the resets over the boundaries
-pub record ResetsBroken (sets : StreamSets) (s : Stream) (x : Broken) : Type 0 where
-  pub layout : Layout
-  pub is_layout : IsLayout sets s layout
-  pub first : FirstBroken s layout.span layout.adjusted sets.reset sets.fixing x
+-- K39 at a period
+abbrev pub passed_at : ℕ → Fault
+passed_at period = fault_at K39 calculation_period_amount period
 
--- the first period at which a rate or an amount leaves its range
-pub record PassesFirst (s : Stream) (b a : List ℤ) (rs : List Reset) (ps : List Payment) (i : ℕ) : Type 0 where
-  pub passes : PassesAt s b a rs ps i
-  pub none_before : (k : ℕ) → k < i → PassesAt s b a rs ps k → ⊥
-
--- K39 is broken over the payments and the resets, and x names the first such period
-pub record AmountsBroken (sets : StreamSets) (fix : RateTable) (s : Stream) (x : Broken) : Type 0 where
-  pub layout : Layout
-  pub is_layout : IsLayout sets s layout
+-- K39 at a period of the payments over a layout, at which a rate or an amount leaves its range
+pub record BreaksAmounts (sets : StreamSets) (fix : RateTable) (s : Stream) (l : Layout) (f : Fault) : Type 0 where
   pub payments : List Payment
-  pub are_payments : ArePayments s sets.payment layout.unadjusted layout.adjusted payments
+  pub are_payments : ArePayments s sets.payment l.unadjusted l.adjusted payments
   pub resets : List Reset
-  pub are_resets : IsResets s layout.span layout.adjusted sets.reset sets.fixing fix resets
+  pub are_resets : IsResets (resets_over sets s l) fix resets
   pub period : ℕ
-  pub first : PassesFirst s layout.unadjusted layout.adjusted resets payments period
-  pub is : x ≡ broken_at K39 calculation_period_amount period
+  pub passes : PassesAt s l.unadjusted l.adjusted resets payments period
+  pub is : f ≡ passed_at period
 
--- x is the first broken rule of the part
-abbrev pub PartBroken : StreamSets → RateTable → Stream → DatedPart → Broken → Type 0
-PartBroken sets fix s in_span x = SpanBroken s x
-PartBroken sets fix s in_periods x = PeriodsBroken sets s x
-PartBroken sets fix s in_payments x = PaymentsBroken sets s x
-PartBroken sets fix s in_steps x = StepsBroken sets s x
-PartBroken sets fix s in_exchanges x = IsFirst (BreaksExchanges s sets.payment) x
-PartBroken sets fix s in_resets x = ResetsBroken sets s x
-PartBroken sets fix s in_amounts x = AmountsBroken sets fix s x
+-- the rules that a part of the stream breaks
+abbrev pub BreaksPart : StreamSets → RateTable → Stream → DatedPart → Fault → Type 0
+BreaksPart sets fix s in_span f = BreaksSpan s f
+BreaksPart sets fix s in_periods f = BreaksLayout sets s f
+BreaksPart sets fix s in_payments f = BreaksOver sets s (λ l. BreaksPayments s sets.payment l.unadjusted l.adjusted) f
+BreaksPart sets fix s in_steps f = BreaksOver sets s (λ l. BreaksSteps s l.unadjusted) f
+BreaksPart sets fix s in_exchanges f = BreaksExchanges s sets.payment f
+BreaksPart sets fix s in_resets f = BreaksOver sets s (λ l. BreaksResets (resets_over sets s l)) f
+BreaksPart sets fix s in_amounts f = BreaksOver sets s (BreaksAmounts sets fix s) f
 
 -- no rule of a part before this turn is broken
 abbrev pub KeptBefore : StreamSets → RateTable → Stream → ℕ → Type 0
-KeptBefore sets fix s turn = (part : DatedPart) (x : Broken) → turn_of part < turn → PartBroken sets fix s part x → ⊥
+KeptBefore sets fix s turn = (part : DatedPart) (f : Fault) → turn_of part < turn → BreaksPart sets fix s part f → ⊥
 
 -- no rule of the stream is broken
 abbrev pub StreamKept : StreamSets → RateTable → Stream → Type 0
-StreamKept sets fix s = (part : DatedPart) (x : Broken) → PartBroken sets fix s part x → ⊥
+StreamKept sets fix s = (part : DatedPart) (f : Fault) → BreaksPart sets fix s part f → ⊥
 
--- x is the first broken rule of the stream, named as stream 1: that of the first part that breaks one
-pub record StreamBroken (sets : StreamSets) (fix : RateTable) (s : Stream) (x : Broken) : Type 0 where
+-- f is the first broken rule of the stream: the first of the first part that breaks one
+pub record StreamBroken (sets : StreamSets) (fix : RateTable) (s : Stream) (f : Fault) : Type 0 where
   pub part : DatedPart
-  pub broken : PartBroken sets fix s part x
+  pub first : First comes_before (BreaksPart sets fix s part) f
   pub kept_before : KeptBefore sets fix s (turn_of part)
 
 -- no rule of the swap is broken
 abbrev pub DatedKept : Swap → List Section → RateTable → Type 0
 DatedKept swap cal fix = (i : ℕ) (s : Stream) → slice_get swap.streams i ≡ Some s → StreamKept (stream_sets cal s) fix s
-
--- the broken rule in the stream with this number
-abbrev pub in_stream : ℕ → Broken → Broken
-in_stream number x = record { rule = x.rule; place = record { stream = number; elem = x.place.elem; index = x.place.index } }
 
 -- x is the first broken rule of the swap: that of the first stream that breaks one. Streams are
 -- numbered from 1
@@ -136,7 +123,7 @@ pub record DatedBroken (swap : Swap) (cal : List Section) (fix : RateTable) (x :
   pub position : ℕ
   pub stream : Stream
   pub there : slice_get swap.streams position ≡ Some stream
-  pub broken : Broken
-  pub breaks : StreamBroken (stream_sets cal stream) fix stream broken
+  pub fault : Fault
+  pub breaks : StreamBroken (stream_sets cal stream) fix stream fault
   pub kept_before : (i : ℕ) (s : Stream) → i < position → slice_get swap.streams i ≡ Some s → StreamKept (stream_sets cal s) fix s
-  pub is : x ≡ in_stream (position + 1) broken
+  pub is : x ≡ in_stream (position + 1) fault

@@ -1,18 +1,24 @@
 -- The boundaries of a stream's calculation periods, unadjusted and adjusted, over its regular span.
 use Rattle.std.specs.Prelude.{◌+◌, ◌≤◌, length}
+use Rattle.irs_base.specs.Limits.{most_periods}
 use Rattle.irs_base.specs.Listed.{IsRising}
 use Rattle.irs_terms.specs.declared.stream.Stream.{Stream}
-use Rattle.irs_periods.specs.Spans.{Regular}
-use Rattle.irs_periods.specs.SpanRules.{SpanKept}
-use Rattle.irs_periods.specs.Boundaries.{Boundaries}
-use Rattle.irs_base.specs.Limits.{most_periods}
 use Rattle.irs_periods.specs.Adjusting.{AdjustedList}
+use Rattle.irs_periods.specs.Boundaries.{Boundaries}
+use Rattle.irs_periods.specs.SpanRules.{SpanKept}
+use Rattle.irs_periods.specs.Spans.{Regular}
 use Rattle.irs_schedule.specs.DaySets.{StreamSets}
 use Rattle.irs_schedule.specs.declared.layouts.Layout.{Layout}
 
--- the span is the stream's regular one, the lists are its boundaries, and no rule of the span or of
--- the periods is broken
+-- the span is the stream's regular one, and the lists are its boundaries and these adjusted
 pub record IsLayout (sets : StreamSets) (s : Stream) (l : Layout) : Type 0 where
+  pub regular : Regular s l.span
+  pub unadjusted : Boundaries s l.span l.unadjusted
+  pub adjusted : AdjustedList s sets.boundaries l.unadjusted l.adjusted
+
+-- the same where no rule of the span or of the boundaries is broken: the roll fits, there aren't too many
+-- periods, and the adjusted boundaries rise
+pub record IsKeptLayout (sets : StreamSets) (s : Stream) (l : Layout) : Type 0 where
   pub regular : Regular s l.span
   pub kept : SpanKept s l.span
   pub unadjusted : Boundaries s l.span l.unadjusted

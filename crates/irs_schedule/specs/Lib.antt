@@ -14,8 +14,7 @@ pub mod Layouts
 pub mod PeriodTerms
 pub mod Schedules
 pub mod DatedRules
-pub mod TermsKept
-pub mod SchedErrors
+pub mod FirstPassed
 pub mod CenterDays
 pub mod StageSets
 pub mod DatedLists

@@ -5,33 +5,20 @@ use Rattle.irs_base.specs.DayLists.{AreDays}
 use Rattle.irs_base.specs.Listed.{IsRising}
 use Rattle.irs_base.specs.declared.line.Dec.{Dec}
 use Rattle.irs_terms.specs.Currencies.{decimals_of}
-use Rattle.irs_terms.specs.declared.amounts.Leg.{Leg}
-use Rattle.irs_terms.specs.declared.amounts.Leg.TheVariants.{Fixed, Floating}
 use Rattle.irs_terms.specs.declared.codes.CompCode.{CompCode}
 use Rattle.irs_terms.specs.declared.results.Payment.{Payment}
 use Rattle.irs_terms.specs.declared.results.Reset.{Reset}
 use Rattle.irs_terms.specs.declared.stream.Stream.{Stream}
 use Rattle.irs_daycount.specs.Fractions.{Days, Fraction}
 use Rattle.irs_compound.specs.InForce.{InForce}
-use Rattle.irs_compound.specs.PeriodRates.{RatesOf, FixedRatesOf}
-use Rattle.irs_compound.specs.Amounts.{AllPriced, AmountOf, Passes, code_for}
-use Rattle.irs_compound.specs.declared.periods.Rates.{Rates}
+use Rattle.irs_compound.specs.PeriodRates.{AreRates}
+use Rattle.irs_compound.specs.Amounts.{AmountOf, IsOutOfRange}
 use Rattle.irs_compound.specs.declared.periods.PeriodTerm.{PeriodTerm}
 use Rattle.irs_base.specs.Limits.{most_periods}
 use Rattle.irs_resets.specs.Resets.{HasSmallRate}
 use Rattle.irs_schedule.specs.declared.entries.PeriodEntry.{PeriodEntry}
 use Rattle.irs_schedule.specs.Periods.{observed_of}
 use Rattle.irs_base.specs.Members.{EachNumbered, day_at}
-
--- the rates of a period with this unadjusted start: on a fixed stream the fixed rate in force; on a
--- floating one those of the observed rate, absent where it is
-abbrev pub AreRates : Leg → ℤ → Option ℤ → Option Rates → Type 0
-AreRates (Fixed values) start observed None = ⊥
-AreRates (Fixed values) start observed (Some rates) = FixedRatesOf values start rates
-AreRates (Floating float) start None None = Unit {0}
-AreRates (Floating float) start None (Some rates) = ⊥
-AreRates (Floating float) start (Some observed) None = ⊥
-AreRates (Floating float) start (Some observed) (Some rates) = RatesOf float start observed rates
 
 -- notional, rates and fraction of period i; the last period is the last of the stream
 pub record IsPeriodTerm (s : Stream) (b a : List ℤ) (rs : List Reset) (i : ℕ) (t : PeriodTerm) : Type 0 where
@@ -68,18 +55,17 @@ pub record IsAmountFor (s : Stream) (b a : List ℤ) (rs : List Reset) (p : Paym
   pub are_terms : AreTerms s b a rs p terms
   pub is_amount : IsAmountBy s terms amount
 
--- no period leaves its range, if all have their rates
+-- no period leaves its range in a payment whose rates are all there
 abbrev pub NonePasses : CompCode → List PeriodTerm → Type 0
-NonePasses code terms = AllPriced terms → (i : ℕ) → i < length terms → Passes (code_for code terms) terms i → ⊥
+NonePasses code terms = (number : ℕ) → IsOutOfRange code terms number → ⊥
 
 -- at period i of the payment, whose rates are all there, a rate or an amount leaves its range
 pub record PassesIn (s : Stream) (b a : List ℤ) (rs : List Reset) (payment : Payment) (i : ℕ) : Type 0 where
   pub terms : List PeriodTerm
   pub are_terms : AreTerms s b a rs payment terms
-  pub priced : AllPriced terms
-  pub place : ℕ
-  pub passes : Passes (code_for s.compounding terms) terms place
-  pub is : i ≡ payment.first_period + place
+  pub number : ℕ
+  pub out : IsOutOfRange s.compounding terms number
+  pub is : i + 1 ≡ payment.first_period + number
 
 -- the first such period of the payment
 pub record PassesFirstIn (s : Stream) (b a : List ℤ) (rs : List Reset) (payment : Payment) (i : ℕ) : Type 0 where
@@ -93,6 +79,11 @@ pub record PassesAt (s : Stream) (b a : List ℤ) (rs : List Reset) (ps : List P
   pub payment : Payment
   pub there : slice_get ps number ≡ Some payment
   pub within : PassesIn s b a rs payment i
+
+-- the first such period of all of them
+pub record PassesFirst (s : Stream) (b a : List ℤ) (rs : List Reset) (ps : List Payment) (i : ℕ) : Type 0 where
+  pub passes : PassesAt s b a rs ps i
+  pub none_before : (k : ℕ) → k < i → PassesAt s b a rs ps k → ⊥
 
 -- the lists that periods are worked out of: the adjusted boundaries are days that rise, one for each
 -- unadjusted boundary, and observed rates are small

@@ -1,12 +1,10 @@
 -- What is worked out for a calculation period, counted from 1.
-use Rattle.std.specs.Prelude.{ℕ, ◌-◌, ◌==◌, Bool, ℤ, List, length, map, Option, Some, option_map, option_and_then, slice_get}
+use Rattle.std.specs.Prelude.{ℕ, ◌-◌, ◌==◌, Bool, ℤ, List, length, map, Option, option_map, option_and_then, slice_get}
 use Rattle.std.specs.List.{range_with_len}
-use Rattle.irs_terms.specs.declared.amounts.Leg.{Leg}
-use Rattle.irs_terms.specs.declared.amounts.Leg.TheVariants.{Fixed, Floating}
 use Rattle.irs_terms.specs.declared.results.Reset.{Reset}
 use Rattle.irs_daycount.specs.Fractions.{days_of, fraction_of}
 use Rattle.irs_compound.specs.InForce.{value_in_force}
-use Rattle.irs_compound.specs.PeriodRates.{rates_of, fixed_rates_of}
+use Rattle.irs_compound.specs.PeriodRates.{rates_by}
 use Rattle.irs_schedule.specs.declared.entries.PeriodEntry.{PeriodEntry}
 use Rattle.irs_schedule.specs.declared.kept_terms.KeptTerms.{KeptTerms}
 use Rattle.irs_base.specs.Members.{day_at}
@@ -23,18 +21,13 @@ start_of boundaries i = day_at boundaries (i - 1)
 abbrev pub observed_of : List Reset → ℕ → Option ℤ
 observed_of resets i = option_and_then (λ r. r.observed) (slice_get resets (i - 1))
 
--- the rate by the unadjusted start of a period: the fixed rate in force, or that which the observed rate gives
-abbrev pub rate_by : Leg → ℤ → Option ℤ → Option ℤ
-rate_by (Fixed values) start observed = Some (fixed_rates_of values start).all_in
-rate_by (Floating float) start observed = option_map (λ o. (rates_of float start o).all_in) observed
-
 -- a period from its adjusted start to its adjusted end, by whether it is the last one, its unadjusted start and its observed rate
 abbrev pub entry_by : KeptTerms → ℤ → ℤ → Bool → ℤ → Option ℤ → PeriodEntry
 entry_by terms from to last start observed = record {
   days = days_of terms.day_count from to last;
   frac = fraction_of terms.day_count from to last;
   notional = value_in_force terms.notional start;
-  rate = rate_by terms.leg start observed;
+  rate = option_map (λ r. r.all_in) (rates_by terms.leg start observed);
 }
 
 -- period i runs from adjusted boundary i - 1 to adjusted boundary i; notional and rate are those on its unadjusted start

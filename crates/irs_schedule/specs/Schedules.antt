@@ -7,7 +7,7 @@ use Rattle.irs_calendar.specs.declared.sections.Section.{Section}
 use Rattle.irs_payments.specs.Payments.{ArePayments}
 use Rattle.irs_payments.specs.Exchanges.{AreExchanges}
 use Rattle.irs_resets.specs.Rates.{RateTable}
-use Rattle.irs_resets.specs.Resets.{IsResets}
+use Rattle.irs_resets.specs.Resets.{IsResets, source_of}
 use Rattle.irs_schedule.specs.declared.entries.PaymentEntry.{PaymentEntry}
 use Rattle.irs_schedule.specs.KeptTerms.{is_floating}
 use Rattle.irs_schedule.specs.Parts.{Part}
@@ -35,7 +35,7 @@ pub record IsPart (sets : StreamSets) (fix : RateTable) (s : Stream) (p : Part) 
   pub amounts : Every (λ y. IsAmountFor s p.unadjusted p.adjusted p.resets (payment_of y) y.amount) p.payments
   pub count : length p.periods + 1 ≡ length p.unadjusted
   pub periods : EachNumbered (IsPeriodEntry s p.unadjusted p.adjusted p.resets) 1 p.periods
-  pub resets : IsResets s layout.span p.adjusted sets.reset sets.fixing fix p.resets
+  pub resets : IsResets (source_of s layout.span p.adjusted sets.reset sets.fixing) fix p.resets
 
 -- one part for each stream of the swap, in order
 abbrev pub IsSchedule : Swap → List Section → RateTable → List Part → Type 0

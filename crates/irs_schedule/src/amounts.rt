@@ -1,27 +1,25 @@
 //! The amounts of a stream's payments: what their calculation periods pay by the stream's compounding,
 //! rounded to the decimals of its currency (2006 ISDA Definitions, articles 5, 6 and 8).
 ghost use Rattle.std.specs.Prelude.{◌≡◌, ℕ, ◌+◌, ◌-◌, ◌<◌, ◌≤◌, map, length, IfOk, IfSome, option_map};
-ghost use Rattle.irs_base.specs.Elements.{calculation_period_amount};
-ghost use Rattle.irs_base.specs.declared.places.Rule.TheVariants.{K39};
-ghost use Rattle.irs_terms.specs.Lawful.{IsLawfulStream, IsLawfulLeg, IsRate};
-ghost use Rattle.irs_compound.specs.Amounts.{AllPriced, IsPayment, PassesFirst, code_for};
+ghost use Rattle.irs_terms.specs.Lawful.{IsLawfulStream};
+ghost use Rattle.irs_compound.specs.Amounts.{IsFirstOut, IsPayment};
 ghost use Rattle.irs_base.specs.Limits.{most_periods};
 ghost use Rattle.irs_payments.specs.Payments.{Covers};
-ghost use Rattle.irs_periods.specs.SpanRules.{broken_at};
-ghost use Rattle.irs_schedule.specs.DatedRules.{PassesFirst as FirstPassed};
+ghost use Rattle.irs_schedule.specs.DatedRules.{passed_at};
+ghost use Rattle.irs_schedule.specs.FirstPassed.{IsFirstPassed};
 ghost use Rattle.irs_schedule.specs.Parts.{HasAmount, IsAmount};
-ghost use Rattle.irs_schedule.specs.PeriodTerms.{AreRates, IsPeriodTerm, AreTerms, IsAmountBy, IsAmountFor, NonePasses, PassesIn, PassesAt, PassesFirstIn, IsTable, dec_of};
-ghost use Rattle.irs_schedule.specs.SchedErrors.{IfBroken};
+ghost use Rattle.irs_schedule.specs.PeriodTerms.{IsPeriodTerm, AreTerms, IsAmountBy, IsAmountFor, NonePasses, PassesIn, PassesAt, PassesFirstIn, IsTable, dec_of};
+ghost use Rattle.irs_base.specs.Faults.{IfBroken};
 ghost use Rattle.irs_schedule.specs.Schedules.{payment_of};
 ghost use Rattle.irs_base.specs.Members.{Every};
 ghost use Rattle.irs_terms.specs.StepDates.{AllStepsRise};
 
 use crate::periods::{day_at, observed_at};
-use crate::{PaymentEntry, SchedErr};
-use irs_base::{Broken, Day, Dec, Elem, Memory, Place, Rule};
-use irs_compound::{PeriodTerm, Rates, fixed_rates, in_force, payment_amount, period_rates};
+use crate::PaymentEntry;
+use irs_base::{Day, Dec, Elem, Fault, Memory, Rule, Stopped};
+use irs_compound::{PeriodTerm, in_force, payment_amount, rates_by};
 use irs_daycount::fraction_by;
-use irs_terms::{Leg, Payment, Reset, Stream};
+use irs_terms::{Payment, Reset, Stream};
 use std::alloc::Global;
 
 /// What the periods of a stream are worked out of: its unadjusted and adjusted boundaries, and its
@@ -42,7 +40,7 @@ pub(crate) fn paid(
     s: &Stream,
     table: &PeriodTable<'_>,
     payments: &[Payment],
-) -> Result<Vec<PaymentEntry>, SchedErr>
+) -> Result<Vec<PaymentEntry>, Stopped<Fault>>
     requires lawful { IsLawfulStream s.now }
     requires rises { AllStepsRise s.now }
     requires table { IsTable table.now.unadjusted.now table.now.adjusted.now table.now.resets.now }
@@ -51,7 +49,7 @@ pub(crate) fn paid(
     ensures amounts { IfOk result (λ es. Every (λ y. IsAmountFor s.now table.now.unadjusted.now table.now.adjusted.now table.now.resets.now (payment_of y) y.amount) es.items) }
     ensures bounds { IfOk result (λ es. Every (HasAmount s.now.currency) es.items) }
     ensures within { IfOk result (λ _. (i : ℕ) → PassesAt s.now table.now.unadjusted.now table.now.adjusted.now table.now.resets.now payments.now i → ⊥) }
-    ensures broken { IfBroken result (λ x. (i : ℕ) × FirstPassed s.now table.now.unadjusted.now table.now.adjusted.now table.now.resets.now payments.now i × (x ≡ broken_at K39 calculation_period_amount i)) }
+    ensures broken { IfBroken result (IsFirstPassed s.now table.now.unadjusted.now table.now.adjusted.now table.now.resets.now payments.now) }
 {
     let mut entries = Vec::new(alloc);
     for payment in payments {
@@ -67,7 +65,7 @@ fn paid_by(
     s: &Stream,
     table: &PeriodTable<'_>,
     payment: &Payment,
-) -> Result<PaymentEntry, SchedErr>
+) -> Result<PaymentEntry, Stopped<Fault>>
     requires lawful { IsLawfulStream s.now }
     requires rises { AllStepsRise s.now }
     requires table { IsTable table.now.unadjusted.now table.now.adjusted.now table.now.resets.now }
@@ -78,7 +76,7 @@ fn paid_by(
     ensures amount { IfOk result (λ y. IsAmountFor s.now table.now.unadjusted.now table.now.adjusted.now table.now.resets.now payment.now y.amount) }
     ensures bound { IfOk result (HasAmount s.now.currency) }
     ensures within { IfOk result (λ _. (i : ℕ) → PassesIn s.now table.now.unadjusted.now table.now.adjusted.now table.now.resets.now payment.now i → ⊥) }
-    ensures broken { IfBroken result (λ x. (i : ℕ) × PassesFirstIn s.now table.now.unadjusted.now table.now.adjusted.now table.now.resets.now payment.now i × (x ≡ broken_at K39 calculation_period_amount i)) }
+    ensures broken { IfBroken result (λ x. (i : ℕ) × PassesFirstIn s.now table.now.unadjusted.now table.now.adjusted.now table.now.resets.now payment.now i × (x ≡ passed_at i)) }
 {
     let terms = terms_of(alloc, s, table, payment)?;
     let amount = amount_of(s, &terms, payment.first_period)?;
@@ -100,18 +98,18 @@ fn entry_of(payment: Payment, amount: Option<Dec>) -> PaymentEntry
 }
 
 // What periods pay from this one on, or K39 at the first of them that breaks it.
-fn amount_of(s: &Stream, terms: &[PeriodTerm], first_period: u32) -> Result<Option<Dec>, SchedErr>
+fn amount_of(s: &Stream, terms: &[PeriodTerm], first_period: u32) -> Result<Option<Dec>, Stopped<Fault>>
     requires payment { IsPayment terms.now }
     requires small { first_period ≤ most_periods }
     ensures amount { IfOk result (IsAmountBy s.now terms.now) }
     ensures bound { IfOk result (λ v. IfSome v (IsAmount s.now.currency)) }
     ensures within { IfOk result (λ _. NonePasses s.now.compounding terms.now) }
-    ensures broken { IfBroken result (λ x. (n : ℕ) × AllPriced terms.now × PassesFirst (code_for s.now.compounding terms.now) terms.now n × (x ≡ broken_at K39 calculation_period_amount (first_period + n - 1))) }
+    ensures broken { IfBroken result (λ f. (n : ℕ) × IsFirstOut s.now.compounding terms.now n × (f ≡ passed_at (first_period + n - 1))) }
 {
     let places = s.currency.places();
     match payment_amount(s.compounding, terms, places) {
         Ok(units) => Ok(decimal(units, places)),
-        Err(out) => Err(passed_at(first_period + out.period - 1)),
+        Err(out) => Err(Stopped::Broken(passed_at(first_period + out.period - 1))),
     }
 }
 
@@ -123,17 +121,14 @@ fn decimal(units: Option<i128>, places: u8) -> Option<Dec>
 }
 
 // K39 at a period.
-fn passed_at(period: u32) -> SchedErr
-    ensures { result ≡ SchedErr.Broken (broken_at K39 calculation_period_amount period) }
+fn passed_at(period: u32) -> Fault
+    ensures { result ≡ passed_at period }
 {
-    SchedErr::Broken(Broken {
+    Fault {
         rule: Rule::K39,
-        place: Place {
-            stream: 1,
-            elem: Elem::CALCULATION_PERIOD_AMOUNT,
-            index: period,
-        },
-    })
+        elem: Elem::CALCULATION_PERIOD_AMOUNT,
+        index: period,
+    }
 }
 
 // The terms of a payment's periods.
@@ -168,24 +163,12 @@ fn period_term(s: &Stream, table: &PeriodTable<'_>, number: usize) -> PeriodTerm
     let start = day_at(table.unadjusted, number - 1);
     PeriodTerm {
         notional: in_force(&s.notional, start),
-        rates: rates_on(&s.leg, start, observed_at(table.resets, number - 1)),
+        rates: rates_by(&s.leg, start, observed_at(table.resets, number - 1)),
         frac: fraction_by(
             s.day_count,
             day_at(table.adjusted, number - 1),
             day_at(table.adjusted, number),
             number == table.adjusted.len() - 1,
         ),
-    }
-}
-
-// The rates of a period with this unadjusted start.
-fn rates_on(leg: &Leg, start: Day, observed: Option<i64>) -> Option<Rates>
-    requires lawful { IsLawfulLeg leg.now }
-    requires small { IfSome observed IsRate }
-    ensures { AreRates leg.now start observed result }
-{
-    match leg {
-        Leg::Fixed(values) => Some(fixed_rates(values, start)),
-        Leg::Floating(float) => Some(period_rates(float, start, observed?)),
     }
 }

@@ -5,13 +5,12 @@ ghost use Rattle.irs_terms.specs.Lawful.{IsLawful, IsLawfulStream};
 ghost use Rattle.irs_terms.specs.declared.stream.Stream.{Stream as StreamTerms};
 ghost use Rattle.irs_schedule.specs.DaySets.{boundary_days, payment_days, reset_days, fixing_days};
 ghost use Rattle.irs_schedule.specs.CenterDays.{CanFind, HasMore, HasMoreOf, HasStream, HasSwap, centers_named, days_of_centers};
-ghost use Rattle.irs_schedule.specs.TermsKept.{TermsKept};
+ghost use Rattle.irs_rules.specs.TermsKept.{TermsKept};
 
 use crate::center_days::CenterDays;
-use crate::center_names::{fixing_names, names_by, names_with, reset_names};
 use irs_base::{Memory, Names};
 use irs_calendar::Calendars;
-use irs_terms::{Stream, Swap};
+use irs_terms::{Stream, Swap, fixing_names, names_by, names_with, reset_names};
 use std::alloc::Global;
 use std::marker::Model;
 

@@ -4,7 +4,6 @@
 
 mod amounts;
 mod center_days;
-mod center_names;
 mod center_table;
 mod entries;
 mod kept_terms;
@@ -13,7 +12,6 @@ mod making;
 mod periods;
 mod row;
 mod schedule;
-mod stages;
 mod stream;
 mod streams;
 mod texts;

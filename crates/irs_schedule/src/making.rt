@@ -6,48 +6,24 @@ ghost use Rattle.irs_terms.specs.Lawful.{IsLawful};
 ghost use Rattle.irs_rules.specs.TermsRules.{BreaksTerms};
 ghost use Rattle.irs_schedule.specs.DatedRules.{DatedBroken, DatedKept};
 ghost use Rattle.irs_schedule.specs.Parts.{Part};
-ghost use Rattle.irs_schedule.specs.SchedErrors.{IfBroken};
+ghost use Rattle.irs_base.specs.Faults.{IfBroken, in_stream};
+ghost use Rattle.irs_base.specs.declared.places.Fault.{Fault as FaultRecord};
 ghost use Rattle.irs_schedule.specs.Schedules.{IsSchedule};
-ghost use Rattle.irs_schedule.specs.declared.making.SchedErr.TheVariants.{Broken as OfBroken, Memory as OfMemory};
 
 use crate::Schedule;
 use crate::center_table::{CenterTable, StreamDays};
 use crate::stream::stream_part;
 use crate::streams::StreamPart;
-use irs_base::{Broken, Memory, Place};
+use irs_base::{Broken, Stopped};
 use irs_calendar::Calendars;
 use irs_resets::Fixings;
 use irs_terms::{Stream, Swap};
-use std::alloc::{AllocFailed, Global};
-use thiserror::Error;
+use std::alloc::Global;
 
-/// Why there is no schedule.
-#[derive(Clone, Copy, Debug, PartialEq, Eq, Error)]
-pub enum SchedErr {
-    /// The first broken rule of K30 to K39: that of the first stream that breaks one, and there of the
-    /// span, the periods, the payments, the steps, the exchanges, the resets or the amounts, in order.
-    #[error("a rule of dates or amounts is broken")]
-    Broken(Broken),
-    /// Memory ran out.
-    #[error("out of memory")]
-    Memory,
-}
-
-impl From<Memory> for SchedErr {
-    ghost from_gives = { λ _ e. e ≡ OfMemory };
-
-    fn from(_e: Memory) -> SchedErr {
-        SchedErr::Memory
-    }
-}
-
-impl<T: Drop> From<AllocFailed<T>> for SchedErr {
-    ghost from_gives = { λ _ e. e ≡ OfMemory };
-
-    fn from(_e: AllocFailed<T>) -> SchedErr {
-        SchedErr::Memory
-    }
-}
+/// Why there is no schedule: the first broken rule of K30 to K39, that of the first stream that breaks
+/// one, and there of the span, the periods, the payments, the steps, the exchanges, the resets or the
+/// amounts, in order; or memory ran out.
+pub type SchedErr = Stopped<Broken>;
 
 /// The schedule of a lawful swap that breaks no rule of its terms, with the good days of the calendars
 /// and the observed rates of the fixings.
@@ -66,9 +42,9 @@ pub fn make_schedule(
     ensures ok { IfOk result (IsSchedule swap.now cal.now fix.now) }
     ensures unbroken { IfOk result (λ _. DatedKept swap.now cal.now fix.now) }
     ensures broken { IfBroken result (DatedBroken swap.now cal.now fix.now) }
-    // At every exit: where no rule is broken there is a schedule, and there is at most one.
+    // At every exit: where no rule is broken there is a schedule, and only one.
     ensures exists { DatedKept swap.now cal.now fix.now → (s : List Part) × IsSchedule swap.now cal.now fix.now s }
-    ensures one { (s t : List Part) → IsSchedule swap.now cal.now fix.now s → IsSchedule swap.now cal.now fix.now t → s ≡ t }
+    ensures one { DatedKept swap.now cal.now fix.now → (s t : List Part) → IsSchedule swap.now cal.now fix.now s → IsSchedule swap.now cal.now fix.now t → s ≡ t }
     // And at most one broken rule comes first.
     ensures one_broken { (x y : BrokenRule) → DatedBroken swap.now cal.now fix.now x → DatedBroken swap.now cal.now fix.now y → x ≡ y }
 {
@@ -128,37 +104,22 @@ fn numbered_part(
     ensures ok { IfOk result (IsPart (sets_of days.now) fix.now s.now) }
     ensures bounds { IfOk result KeepsBounds }
     ensures unbroken { IfOk result (λ _. StreamKept (sets_of days.now) fix.now s.now) }
-    ensures broken { IfBroken result (λ x. (y : BrokenRule) × StreamBroken (sets_of days.now) fix.now s.now y × (x ≡ in_stream number y)) }
+    ensures broken { IfBroken result (λ x. (f : FaultRecord) × StreamBroken (sets_of days.now) fix.now s.now f × (x ≡ in_stream number f)) }
 {
     match stream_part(alloc, s, days, fix) {
         Ok(part) => Ok(part),
-        Err(SchedErr::Broken(broken)) => Err(SchedErr::Broken(in_stream(number, broken))),
-        Err(SchedErr::Memory) => Err(SchedErr::Memory),
-    }
-}
-
-// The broken rule in the stream with that number.
-fn in_stream(number: u8, broken: Broken) -> Broken
-    ensures { result ≡ in_stream number broken }
-{
-    let place = broken.place;
-    Broken {
-        rule: broken.rule,
-        place: Place {
-            stream: number,
-            elem: place.elem,
-            index: place.index,
-        },
+        Err(Stopped::Broken(fault)) => Err(Stopped::Broken(fault.in_stream(number))),
+        Err(Stopped::Memory) => Err(Stopped::Memory),
     }
 }
 
 ghost use Rattle.std.specs.Prelude.{ℕ, Some, slice_get, ◌+◌};
 ghost use Rattle.irs_calendar.specs.declared.sections.Section.{Section};
+ghost use Rattle.irs_rules.specs.TermsKept.{TermsKept};
 ghost use Rattle.irs_schedule.specs.CenterDays.{HasSwap};
-ghost use Rattle.irs_schedule.specs.DatedRules.{StreamBroken, StreamKept, in_stream};
+ghost use Rattle.irs_schedule.specs.DatedRules.{StreamBroken, StreamKept};
 ghost use Rattle.irs_schedule.specs.Parts.{KeepsBounds};
 ghost use Rattle.irs_schedule.specs.Schedules.{IsPart};
 ghost use Rattle.irs_schedule.specs.StageSets.{sets_of};
-ghost use Rattle.irs_schedule.specs.TermsKept.{TermsKept};
 ghost use Rattle.irs_terms.specs.Lawful.{IsLawfulStream};
 ghost use Rattle.irs_terms.specs.declared.stream.Stream.{Stream as StreamTerms};

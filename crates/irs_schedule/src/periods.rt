@@ -1,18 +1,18 @@
 //! Days, fraction, notional and rate of a calculation period (2006 ISDA Definitions, section 4.16
 //! and articles 5, 6 and 8). The days run from its adjusted start to its adjusted end; notional and
 //! rate are those in force on its unadjusted start.
-ghost use Rattle.std.specs.Prelude.{◌≡◌, ℕ, ◌<◌, length, ◌<ℤ◌, IfSome, option_and_then, slice_get};
-ghost use Rattle.irs_terms.specs.Lawful.{IsLawfulFloat, IsLawfulLeg, IsRate};
-ghost use Rattle.irs_compound.specs.PeriodRates.{rates_of};
-ghost use Rattle.irs_schedule.specs.Periods.{entry_by, rate_by};
+ghost use Rattle.std.specs.Prelude.{◌≡◌, ℕ, ◌<◌, length, ◌<ℤ◌, IfSome, option_and_then, option_map, slice_get};
+ghost use Rattle.irs_terms.specs.Lawful.{IsLawfulLeg, IsRate};
+ghost use Rattle.irs_compound.specs.PeriodRates.{rates_by};
+ghost use Rattle.irs_schedule.specs.Periods.{entry_by};
 ghost use Rattle.irs_base.specs.Members.{Every, day_at};
 
 use crate::PeriodEntry;
 use crate::kept_terms::KeptTerms;
 use irs_base::Day;
-use irs_compound::{fixed_rates, in_force, period_rates};
+use irs_compound::{in_force, rates_by};
 use irs_daycount::{days_by, fraction_by};
-use irs_terms::{FloatTerms, Leg, Reset};
+use irs_terms::{Leg, Reset};
 
 /// A period by its adjusted start and end, by whether it is its stream's last, and by its unadjusted
 /// start and its observed rate.
@@ -41,21 +41,9 @@ pub(crate) fn entry_by(
 fn rate_by(leg: &Leg, start: Day, observed: Option<i64>) -> Option<i64>
     requires leg { IsLawfulLeg leg.now }
     requires observed { IfSome observed IsRate }
-    ensures { result ≡ rate_by leg.now start observed }
+    ensures { result ≡ option_map (λ r. r.all_in) (rates_by leg.now start observed) }
 {
-    match leg {
-        Leg::Fixed(values) => Some(fixed_rates(values, start).all_in),
-        Leg::Floating(terms) => Some(floating_rate(terms, start, observed?)),
-    }
-}
-
-// Multiplier times observed rate, plus spread.
-fn floating_rate(terms: &FloatTerms, start: Day, observed: i64) -> i64
-    requires terms { IsLawfulFloat terms.now }
-    requires observed { IsRate observed }
-    ensures { result ≡ (rates_of terms.now start observed).all_in }
-{
-    period_rates(terms, start, observed).all_in
+    rates_by(leg, start, observed).map(|rates| rates.all_in)
 }
 
 /// The observed rate of a reset, by its place in the list.

@@ -4,21 +4,23 @@ ghost use Rattle.irs_calendar.specs.declared.sections.Section.{Section};
 ghost use Rattle.irs_resets.specs.Rates.{RateTable};
 ghost use Rattle.irs_schedule.specs.DatedRules.{StreamBroken, StreamKept};
 ghost use Rattle.irs_schedule.specs.DatedLists.{AreDated};
-ghost use Rattle.irs_schedule.specs.Layouts.{IsLayout};
-ghost use Rattle.irs_schedule.specs.SchedErrors.{IfBroken};
+ghost use Rattle.irs_schedule.specs.Layouts.{IsKeptLayout};
+ghost use Rattle.irs_base.specs.Faults.{IfBroken};
 ghost use Rattle.irs_schedule.specs.Schedules.{IsPart};
 ghost use Rattle.irs_schedule.specs.StageSets.{sets_of};
-ghost use Rattle.irs_schedule.specs.TermsKept.{TermsKept};
+ghost use Rattle.irs_rules.specs.TermsKept.{TermsKept};
 ghost use Rattle.irs_terms.specs.Lawful.{IsLawfulStream};
 
 use crate::amounts::{PeriodTable, paid};
 use crate::center_table::StreamDays;
 use crate::kept_terms::kept_terms;
 use crate::layouts::Layout;
-use crate::stages::{exchanges_of, layout_of, payments_of, resets_of, span_of, steps_on};
 use crate::streams::StreamPart;
-use crate::{PaymentEntry, SchedErr};
-use irs_resets::Fixings;
+use crate::PaymentEntry;
+use irs_base::{Fault, Stopped};
+use irs_payments::{check_steps, payments, principals};
+use irs_periods::{adjusted, boundaries_by, regular_span};
+use irs_resets::{Fixings, resets};
 use irs_terms::{Exchanges, Payments, Resets, Stream};
 use std::alloc::Global;
 
@@ -30,13 +32,14 @@ pub(crate) struct Dated {
     pub(crate) resets: Resets,
 }
 
-/// The part of a stream. `Broken` is the first broken rule of the stream, which is named as stream 1.
+/// The part of a stream. `Broken` is the first broken rule of the stream, and
+/// `Memory` comes where memory ran out.
 pub(crate) fn stream_part(
     alloc: Global,
     s: &Stream,
     days: &StreamDays<'_>,
     fix: &Fixings,
-) -> Result<StreamPart, SchedErr>
+) -> Result<StreamPart, Stopped<Fault>>
     requires lawful { IsLawfulStream s.now }
     requires kept { (cal : List Section) × TermsKept cal s.now }
     ensures ok { IfOk result (IsPart (sets_of days.now) fix.now s.now) }
@@ -64,14 +67,14 @@ fn entries_of(
     s: &Stream,
     layout: &Layout,
     dated: &Dated,
-) -> Result<Vec<PaymentEntry>, SchedErr>
+) -> Result<Vec<PaymentEntry>, Stopped<Fault>>
     requires lawful { IsLawfulStream s.now }
     requires kept { (cal : List Section) × TermsKept cal s.now }
-    requires laid { (sets : StreamSets) × IsLayout sets s.now layout.now }
+    requires laid { (sets : StreamSets) × IsKeptLayout sets s.now layout.now }
     requires covers { Covers 1 dated.now.payments (length layout.now.unadjusted - 1) }
     requires small { All HasSmallRate dated.now.resets }
     ensures entries { IfOk result (λ es. ArePaid s.now layout.now.unadjusted layout.now.adjusted dated.now.resets dated.now.payments es.items) }
-    ensures broken { IfBroken result (λ x. (i : ℕ) × PassesFirst s.now layout.now.unadjusted layout.now.adjusted dated.now.resets dated.now.payments i × (x ≡ broken_at K39 calculation_period_amount i)) }
+    ensures broken { IfBroken result (IsFirstPassed s.now layout.now.unadjusted layout.now.adjusted dated.now.resets dated.now.payments) }
 {
     let table = PeriodTable {
         unadjusted: layout.unadjusted.as_slice(),
@@ -81,35 +84,43 @@ fn entries_of(
     paid(alloc, s, &table, dated.payments.as_slice())
 }
 
-// The boundaries over the regular span.
-fn laid_out(alloc: Global, s: &Stream, days: &StreamDays<'_>) -> Result<Layout, SchedErr>
+// The boundaries over the regular span. `Broken` is the first of K30 to K34.
+fn laid_out(alloc: Global, s: &Stream, days: &StreamDays<'_>) -> Result<Layout, Stopped<Fault>>
     requires lawful { IsLawfulStream s.now }
     requires kept { (cal : List Section) × TermsKept cal s.now }
-    ensures ok { IfOk result (IsLayout (sets_of days.now) s.now) }
+    ensures ok { IfOk result (IsKeptLayout (sets_of days.now) s.now) }
     ensures broken { (fix : RateTable) → IfBroken result (StreamBroken (sets_of days.now) fix s.now) }
 {
-    let span = span_of(s)?;
-    layout_of(alloc, s, span, days)
+    let span = regular_span(s)?;
+    let unadjusted = boundaries_by(alloc, s, &span)?;
+    let moved = adjusted(alloc, s, &unadjusted, days.start, days.end, days.middle)?;
+    Ok(Layout {
+        span,
+        unadjusted,
+        adjusted: moved,
+    })
 }
 
-// What is dated over the boundaries.
+// What is dated over the boundaries. `Broken` is the first of the rules of payments, steps, exchanges
+// and resets, in this order.
 fn dated_over(
     alloc: Global,
     s: &Stream,
     layout: &Layout,
     days: &StreamDays<'_>,
     fix: &Fixings,
-) -> Result<Dated, SchedErr>
+) -> Result<Dated, Stopped<Fault>>
     requires lawful { IsLawfulStream s.now }
     requires kept { (cal : List Section) × TermsKept cal s.now }
-    requires layout { IsLayout (sets_of days.now) s.now layout.now }
+    requires layout { IsKeptLayout (sets_of days.now) s.now layout.now }
     ensures ok { IfOk result (AreDated (sets_of days.now) fix.now s.now layout.now) }
     ensures broken { IfBroken result (StreamBroken (sets_of days.now) fix.now s.now) }
 {
-    let payments = payments_of(alloc, s, layout, days)?;
-    steps_on(s, layout)?;
-    let exchanges = exchanges_of(alloc, s, days)?;
-    let resets = resets_of(alloc, s, layout, days, fix)?;
+    let (boundaries, moved) = (&layout.unadjusted, &layout.adjusted);
+    let payments = payments(alloc, s, &layout.span, boundaries, moved, days.payment)?;
+    check_steps(s, boundaries)?;
+    let exchanges = principals(alloc, s, days.payment)?;
+    let resets = resets(alloc, s, &layout.span, moved, days.reset, days.fixing, fix)?;
     Ok(Dated {
         payments,
         exchanges,
@@ -117,13 +128,10 @@ fn dated_over(
     })
 }
 
-ghost use Rattle.std.specs.Prelude.{◌≡◌, ℕ, All};
-ghost use Rattle.irs_base.specs.Elements.{calculation_period_amount};
-ghost use Rattle.irs_base.specs.declared.places.Rule.TheVariants.{K39};
 ghost use Rattle.irs_payments.specs.Payments.{Covers};
-ghost use Rattle.irs_periods.specs.SpanRules.{broken_at};
 ghost use Rattle.irs_resets.specs.Resets.{HasSmallRate};
-ghost use Rattle.irs_schedule.specs.DatedRules.{PassesFirst};
 ghost use Rattle.irs_schedule.specs.DaySets.{StreamSets};
+ghost use Rattle.irs_schedule.specs.FirstPassed.{IsFirstPassed};
 ghost use Rattle.irs_schedule.specs.PaidEntries.{ArePaid};
 ghost use Rattle.irs_schedule.specs.Parts.{KeepsBounds};
+ghost use Rattle.std.specs.Prelude.{All};

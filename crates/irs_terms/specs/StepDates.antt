@@ -1,5 +1,5 @@
--- The order of steps.
-use Rattle.std.specs.Prelude.{List, [], ◌∷◌, ◌<ℤ◌}
+-- The order of steps, and that they lie inside the term (FpML stepDate).
+use Rattle.std.specs.Prelude.{ℕ, zero, suc, List, [], ◌∷◌, Option, None, IfSome, slice_get, ℤ, ◌<ℤ◌}
 use Rattle.irs_terms.specs.declared.amounts.Leg.{Leg}
 use Rattle.irs_terms.specs.declared.amounts.Leg.TheVariants.{Fixed, Floating}
 use Rattle.irs_terms.specs.declared.step_list.Step.{Step}
@@ -19,3 +19,18 @@ LegStepsRise (Floating float) = StepsRise float.multiplier.steps × StepsRise fl
 -- all steps of a stream rise
 abbrev pub AllStepsRise : Stream → Type 0
 AllStepsRise s = StepsRise s.notional.steps × LegStepsRise s.leg
+
+-- the step before the one at this position, counted from 0
+abbrev pub step_before : List Step → ℕ → Option Step
+step_before steps zero = None
+step_before steps (suc i) = slice_get steps i
+
+-- a step strictly between two days, and strictly after the step before the position
+pub record IsStepInside (from to : ℤ) (steps : List Step) (i : ℕ) (step : Step) : Type 0 where
+  pub after_start : from <ℤ step.day
+  pub before_end : step.day <ℤ to
+  pub in_order : IfSome (step_before steps i) (λ before. before.day <ℤ step.day)
+
+-- the step at the position, where there is one, lies inside
+abbrev pub StepStands : ℤ → ℤ → List Step → ℕ → Type 0
+StepStands from to steps i = IfSome (slice_get steps i) (IsStepInside from to steps i)

@@ -1,8 +1,8 @@
 use Rattle.irs_audit.proofs.flow_faults.each_period_fault.Given as goal
 use Rattle.irs_audit.specs.FlowFaults.{PeriodsFrom, periods_of}
-use Rattle.irs_elements.specs.Order.{IsFirst}
 use Rattle.serde_json.specs.View.{view}
 use Rattle.std.proofs.Common.{◌≡◌, length, map, take}
+use Rattle.irs_base.specs.Order.{IsFirstBroken}
 
 abbrev pub invariant-loop-p : goal.invariant-loop-p
-invariant-loop-p l = (IsFirst (PeriodsFrom l.stream 0 (periods_of (map view (take l.p l.payments)))) l.first) × (l.before ≡ length (periods_of (map view (take l.p l.payments))))
+invariant-loop-p l = (IsFirstBroken (PeriodsFrom l.stream 0 (periods_of (map view (take l.p l.payments)))) l.first) × (l.before ≡ length (periods_of (map view (take l.p l.payments))))

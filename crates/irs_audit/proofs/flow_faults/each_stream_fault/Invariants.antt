@@ -1,10 +1,10 @@
 use Rattle.irs_audit.proofs.flow_faults.each_stream_fault.Given as goal
 use Rattle.irs_audit.specs.FlowFaults.{StreamFault}
 use Rattle.irs_elements.proofs.First.{Below}
-use Rattle.irs_elements.specs.Order.{IsFirst}
 use Rattle.irs_read.proofs.Each.{Each}
 use Rattle.serde_json.specs.View.{view}
 use Rattle.std.proofs.Common.{◌+◌, map}
+use Rattle.irs_base.specs.Order.{IsFirstBroken}
 
 abbrev pub invariant-loop-j : goal.invariant-loop-j
-invariant-loop-j l = IsFirst (Below (Each (λ j. StreamFault (j + 1)) (map view l.list)) l.j) l.first
+invariant-loop-j l = IsFirstBroken (Below (Each (λ j. StreamFault (j + 1)) (map view l.list)) l.j) l.first

@@ -1,23 +1,20 @@
-use Rattle.std.proofs.Common.{rules, ℤ, refl, sym, subst, FitsSigned}
-use Rattle.std.specs.Int.{w64, w128}
+use Rattle.std.proofs.Common.{rules, ◌≡◌, sym, subst, FitsSigned}
+use Rattle.std.specs.Int.{w128}
 use Rattle.std.proofs.lemmas.Int.{to_z-of_z}
-use Rattle.irs_compound.specs.InForce.{InForce}
-use Rattle.irs_compound.specs.InForceLaws.{in_force_is}
-use Rattle.irs_compound.specs.RateLaws.{fixed_rates_value, one_fixed_rates}
+use Rattle.irs_compound.specs.PeriodRates.{FixedRatesOf}
+use Rattle.irs_compound.specs.RateLaws.{fixed_rates_are, fixed_rates_value, one_fixed_rates}
 use Rattle.irs_compound.proofs.rates.fixed_rates.Goals as goal
-
-pub returns-clause-rates : goal.returns-clause-rates
-returns-clause-rates c =
-    let f : FitsSigned w128 c.rate_in_force-rate.result = search rules in
-    let g : FitsSigned w64 c.rate_in_force-rate.result = search rules in
-    let i : InForce c.args.values.now c.args.start c.rate_in_force-rate.result = subst (λ (v : ℤ). InForce c.args.values.now c.args.start v) (sym c.rate_in_force-rate.ensures.value) (in_force_is c.args.values.now c.args.start) in
-    simp to_z-of_z (i, refl)
 
 pub returns-clause-value : goal.returns-clause-value
 returns-clause-value c =
-    let f : FitsSigned w128 c.rate_in_force-rate.result = search rules in
-    let g : FitsSigned w64 c.rate_in_force-rate.result = search rules in
-    simp to_z-of_z (fixed_rates_value c.args.values.now c.args.start c.rate_in_force-rate.result (record { base = c.rate_in_force-rate.result; all_in = c.rate_in_force-rate.result }) c.rate_in_force-rate.ensures.value refl refl)
+    let rate = c.rate_in_force.result in
+    let fits : FitsSigned w128 rate = search rules in
+    let base : c.fixed_from.result.base ≡ rate = simp to_z-of_z at c.fixed_from.ensures.base in
+    let all_in : c.fixed_from.result.all_in ≡ rate = simp to_z-of_z at c.fixed_from.ensures.all_in in
+    fixed_rates_value c.args.values.now c.args.start rate c.fixed_from.result c.rate_in_force.ensures.value base all_in
+
+pub returns-clause-rates : goal.returns-clause-rates
+returns-clause-rates c = subst (FixedRatesOf c.args.values.now c.args.start) (sym (returns-clause-value c)) (fixed_rates_are c.args.values.now c.args.start)
 
 pub returns-clause-one : goal.returns-clause-one
 returns-clause-one c = λ r a b x y. one_fixed_rates c.args.values.now c.args.start a b r x y

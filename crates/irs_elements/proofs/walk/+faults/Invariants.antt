@@ -1,16 +1,16 @@
 use Rattle.std.proofs.Common.{◌+◌, ◌-◌, ◌*◌, length, map}
 use Rattle.serde_json.specs.View.{view}
-use Rattle.irs_elements.specs.Order.{IsFirst}
 use Rattle.irs_elements.specs.Elements.{texts, index_in}
 use Rattle.irs_elements.proofs.First.{Below}
 use Rattle.irs_elements.proofs.Steps.{RowFault, ItemFault}
+use Rattle.irs_base.specs.Order.{IsFirstBroken}
 use Rattle.irs_elements.proofs.walk.+faults.Given as goal
 
 abbrev pub invariant-members_fault-loop-c : goal.invariant-members_fault-loop-c
-invariant-members_fault-loop-c l = IsFirst (Below (RowFault l.rows (texts l.names) l.stream l.r l.index (view l.v)) l.c) l.first
+invariant-members_fault-loop-c l = IsFirstBroken (Below (RowFault l.rows (texts l.names) l.stream l.r l.index (view l.v)) l.c) l.first
 
 abbrev pub invariant-fault_among-loop-j : goal.invariant-fault_among-loop-j
-invariant-fault_among-loop-j l = IsFirst (Below (ItemFault l.rows (texts l.names) l.stream l.c l.row.2 (index_in l.row.3 l.index) (map view l.list)) l.j) l.first
+invariant-fault_among-loop-j l = IsFirstBroken (Below (ItemFault l.rows (texts l.names) l.stream l.c l.row.2 (index_in l.row.3 l.index) (map view l.list)) l.j) l.first
 
 abbrev pub decreases-first_fault : goal.decreases-first_fault
 decreases-first_fault l = 4 * (length l.rows.now - l.r) + 1

@@ -6,9 +6,11 @@ use Rattle.irs_base.specs.declared.rounding.Direction.TheVariants.{Nearest}
 use Rattle.irs_terms.specs.Currencies.{decimals_of}
 use Rattle.irs_base.specs.Elements.{principal_exchanges}
 use Rattle.irs_base.specs.declared.places.Rule.TheVariants.{K33}
-use Rattle.irs_base.specs.declared.places.Broken.{Broken}
+use Rattle.irs_base.specs.declared.places.Fault.{Fault}
 use Rattle.irs_payments.specs.declared.exchanges.Transfer.{Transfer}
-use Rattle.irs_payments.specs.Faults.{IsFirst, BreaksIn, broken_at}
+use Rattle.irs_base.specs.Faults.{fault_at}
+use Rattle.irs_base.specs.Order.{First, comes_before}
+use Rattle.irs_payments.specs.Faults.{BreaksIn}
 use Rattle.irs_payments.specs.Exchanges.{IsExchange, LacksDay, transfers_of}
 use Rattle.irs_payments.proofs.NumberLemmas.{none_in, first_in}
 use Rattle.irs_payments.proofs.ExchangeLemmas.{IsSmall, small_transfers, fits_small}
@@ -16,7 +18,7 @@ use Rattle.irs_base.proofs.MemberLemmas.{none_of_more, pairs_more}
 use Rattle.irs_payments.proofs.exchanges.exchanges_of.Goals as goal
 
 pub returns-in_default-clause-broken : goal.returns-in_default-clause-broken
-returns-in_default-clause-broken g c = λ x e.
+returns-in_default-clause-broken g c =
     let s = c.args.s.now in
     let set = g.G.GoodDays.days c.args.days.now in
     let ts = c.args.transfers.now in
@@ -25,9 +27,8 @@ returns-in_default-clause-broken g c = λ x e.
     let at : slice_get ts i ≡ Some t = slice_get-get_or ts i t c.loop-i-test.true ∙ ap Some (sym c.index-transfers-i.is) in
     let lacks : LacksDay s set t = c.in_default.ensures.none in
     let first = first_in K33 principal_exchanges (LacksDay s set) ts i t at lacks c.loop-i.invariant.none in
-    let same : c.broken.result ≡ x = cc in
-    subst (IsFirst (BreaksIn K33 principal_exchanges (LacksDay s set) (transfers_of s))) (sym c.broken.ensures ∙ same)
-    (subst (λ (xs : List Transfer). IsFirst (BreaksIn K33 principal_exchanges (LacksDay s set) xs) (broken_at K33 principal_exchanges (i + 1))) c.requires.transfers first)
+    subst (First comes_before (BreaksIn K33 principal_exchanges (LacksDay s set) (transfers_of s))) (sym c.fault.ensures)
+    (subst (λ (xs : List Transfer). First comes_before (BreaksIn K33 principal_exchanges (LacksDay s set) xs) (fault_at K33 principal_exchanges (i + 1))) c.requires.transfers first)
 
 pub rounded_amount-requires-clause-small : goal.rounded_amount-requires-clause-small
 rounded_amount-requires-clause-small g c =
@@ -69,5 +70,5 @@ pub returns-clause-unbroken : goal.returns-clause-unbroken
 returns-clause-unbroken g c =
     let s = c.args.s.now in
     let set = g.G.GoodDays.days c.args.days.now in
-    subst (λ (xs : List Transfer). (y : Broken) → BreaksIn K33 principal_exchanges (LacksDay s set) xs y → ⊥) c.requires.transfers
+    subst (λ (xs : List Transfer). (f : Fault) → BreaksIn K33 principal_exchanges (LacksDay s set) xs f → ⊥) c.requires.transfers
     (none_in K33 principal_exchanges (LacksDay s set) c.args.transfers.now c.loop-i.i c.loop-i-test.false c.loop-i.invariant.none)

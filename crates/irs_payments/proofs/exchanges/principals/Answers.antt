@@ -1,15 +1,15 @@
-use Rattle.std.proofs.Common.{◌≡◌, arith, length, ap, ◌∙◌}
-use Rattle.irs_payments.specs.Exchanges.{transfers_of}
-use Rattle.irs_payments.proofs.ExchangeLemmas.{one_exchanges, few_transfers}
+use Rattle.irs_payments.proofs.ExchangeLemmas.{one_exchanges}
+use Rattle.irs_payments.proofs.ExchangesThere.{exchanges_decided, exchanges_there, one_exchanges_rule}
 use Rattle.irs_payments.proofs.exchanges.principals.Goals as goal
 
-pub returns-in_err-transfers-clause-one : goal.returns-in_err-transfers-clause-one
-returns-in_err-transfers-clause-one g c = one_exchanges c.args.s.now (g.G.GoodDays.days c.args.days.now)
+pub returns-clause-decided : goal.returns-clause-decided
+returns-clause-decided g c = exchanges_decided c.args.s.now (g.G.GoodDays.days c.args.days.now) c.requires c.cover-cover.ensures.range
 
-pub exchanges_of-requires-clause-few : goal.exchanges_of-requires-clause-few
-exchanges_of-requires-clause-few g c =
-    let same : c.deref.result.now ≡ transfers_of c.args.s.now = c.deref.ensures.value ∙ c.in_ok-transfers.ensures {u = tt} in
-    omega (arith, ap length same, few_transfers c.args.s.now c.requires)
+pub returns-clause-exists : goal.returns-clause-exists
+returns-clause-exists g c = exchanges_there c.args.s.now (g.G.GoodDays.days c.args.days.now) c.requires c.cover-cover.ensures.range
 
 pub returns-clause-one : goal.returns-clause-one
 returns-clause-one g c = one_exchanges c.args.s.now (g.G.GoodDays.days c.args.days.now)
+
+pub returns-clause-one_broken : goal.returns-clause-one_broken
+returns-clause-one_broken g c = one_exchanges_rule c.args.s.now (g.G.GoodDays.days c.args.days.now)

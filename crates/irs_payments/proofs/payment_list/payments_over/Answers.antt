@@ -4,7 +4,7 @@ use Rattle.irs_terms.specs.FirstDay.{first_day_of}
 use Rattle.irs_payments.specs.Grouping.{BreaksGrouping}
 use Rattle.irs_payments.specs.Cuts.{AreCuts}
 use Rattle.irs_payments.specs.Payments.{BreaksDates}
-use Rattle.irs_payments.proofs.FirstFaults.{first_right, none_of_both, ok_both}
+use Rattle.irs_payments.proofs.FirstFaults.{first_right, none_of_both, ok_both, broken_weaker}
 use Rattle.irs_payments.proofs.CutLemmas.{two_boundaries}
 use Rattle.irs_payments.proofs.PaymentLemmas.{payments_are, payments_cover, payments_unbroken, payments_first, cuts_places, some_cuts, few_places}
 use Rattle.irs_payments.proofs.payment_list.payments_over.Goals as goal
@@ -36,8 +36,8 @@ payments_at-requires-clause-short g c =
     let h : AreCuts s b (length b) c.deref.result.now = subst (AreCuts s b (length b)) (sym c.deref.ensures.value) (c.in_ok-places.ensures {u = tt}) in
     omega (arith, few_places b c.deref.result.now (cuts_places s b c.deref.result.now c.requires.boundaries h) (some_cuts s b c.deref.result.now h), c.requires.few)
 
-pub returns-clause-payments : goal.returns-clause-payments
-returns-clause-payments g c =
+pub returns-clause-ok : goal.returns-clause-ok
+returns-clause-ok g c =
     let s = c.args.s.now in
     let set = g.G.GoodDays.days c.args.days.now in
     let b = c.args.unadjusted.now in
@@ -61,17 +61,16 @@ returns-clause-unbroken g c =
     let b = c.args.unadjusted.now in
     let a = c.args.adjusted.now in
     let h : AreCuts s b (length b) c.deref.result.now = subst (AreCuts s b (length b)) (sym c.deref.ensures.value) (c.in_ok-places.ensures {u = tt}) in
-    let none = (c.in_ok-check_grouping.ensures {u = tt}).none in
+    let none = c.in_default.ensures.unbroken in
     ok_both c.payments_at.result _ _ _ c.payments_at.ensures.paid c.payments_at.ensures.unbroken (λ ps paid lacks.
     none_of_both (BreaksGrouping s b) (BreaksDates s set b a) none (payments_unbroken s set b a c.deref.result.now c.requires.boundaries h lacks paid.in_range))
 
 pub returns-clause-broken : goal.returns-clause-broken
-returns-clause-broken g c = λ x e.
+returns-clause-broken g c =
     let s = c.args.s.now in
     let set = g.G.GoodDays.days c.args.days.now in
     let b = c.args.unadjusted.now in
     let a = c.args.adjusted.now in
     let h : AreCuts s b (length b) c.deref.result.now = subst (AreCuts s b (length b)) (sym c.deref.ensures.value) (c.in_ok-places.ensures {u = tt}) in
-    let none = (c.in_ok-check_grouping.ensures {u = tt}).none in
-    let fault = c.payments_at.ensures.broken x e in
-    first_right (BreaksGrouping s b) (BreaksDates s set b a) x none (payments_first s set b a c.deref.result.now c.requires.boundaries h fault.0 x fault.1)
+    let none = c.in_default.ensures.unbroken in
+    broken_weaker c.payments_at.result _ _ (λ f fault. first_right (BreaksGrouping s b) (BreaksDates s set b a) f none (payments_first s set b a c.deref.result.now c.requires.boundaries h fault.0 f fault.1)) c.payments_at.ensures.broken

@@ -7,7 +7,7 @@ pub unreachable-requires : goal.unreachable-requires
 unreachable-requires g c =
     let b = c.args.days.now in
     let days = g.G.GoodDays.days in
-    let sets = days_by (days c.args.start.now) (days c.args.end.now) (days c.args.middle.now) in
+    let sets = days_by days c.args.start.now c.args.end.now c.args.middle.now in
     let i = c.loop-i.i in
     let within : i < length b = c.loop-i-test.true in
     let here = get_or_read b i c.index-days-i.result within c.index-days-i.is (pos 0) in

@@ -1,9 +1,22 @@
-use Rattle.irs_periods.specs.Boundaries.{IsBoundary}
-use Rattle.irs_periods.proofs.Assembled.{one_list}
+use Rattle.irs_periods.proofs.BoundariesThere.{boundaries_there}
+use Rattle.irs_periods.proofs.PeriodsDecided.{answer_unbroken, boundaries_decided, one_boundaries, one_boundaries_rule}
+use Rattle.irs_periods.proofs.RegularStarts.{regular_start}
 use Rattle.irs_periods.proofs.listing.boundaries_by.Goals as goal
 
-pub returns-then-is_whole_term-clause-one : goal.returns-then-is_whole_term-clause-one
-returns-then-is_whole_term-clause-one c = λ a b la lb. one_list (IsBoundary c.args.s.now c.args.span.now) a b la lb
+pub returns-clause-unbroken : goal.returns-clause-unbroken
+returns-clause-unbroken c = answer_unbroken c.args.s.now c.args.span.now c.by_frequency.result c.by_frequency.ensures.ok c.by_frequency.ensures.few
 
-pub returns-else-is_whole_term-clause-one : goal.returns-else-is_whole_term-clause-one
-returns-else-is_whole_term-clause-one c = λ a b la lb. one_list (IsBoundary c.args.s.now c.args.span.now) a b la lb
+pub returns-clause-decided : goal.returns-clause-decided
+returns-clause-decided c = boundaries_decided c.args.s.now c.args.span.now c.requires.lawful c.requires.dates c.requires.span c.requires.kept
+
+pub returns-clause-exists : goal.returns-clause-exists
+returns-clause-exists c = boundaries_there c.args.s.now c.args.span.now c.requires.lawful c.requires.dates c.requires.span c.requires.kept
+
+pub returns-clause-one : goal.returns-clause-one
+returns-clause-one c = one_boundaries c.args.s.now c.args.span.now
+
+pub returns-clause-one_broken : goal.returns-clause-one_broken
+returns-clause-one_broken c = one_boundaries_rule c.args.s.now c.args.span.now
+
+pub returns-clause-regular : goal.returns-clause-regular
+returns-clause-regular c = regular_start c.args.s.now c.args.span.now c.requires.dates c.requires.span c.requires.kept

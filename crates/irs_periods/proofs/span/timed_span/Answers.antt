@@ -1,10 +1,10 @@
-use Rattle.std.proofs.Common.{ℕ, inr, ◌∙◌, ap, subst}
-use Rattle.irs_base.specs.declared.places.Rule.TheVariants.{K31}
+use Rattle.std.proofs.Common.{sym, subst}
 use Rattle.irs_terms.specs.declared.results.Span.{Span}
 use Rattle.irs_roll.specs.Rolls.{OnGrid, Fits}
 use Rattle.irs_terms.specs.FirstDay.{first_day_of}
 use Rattle.irs_periods.specs.Spans.{Regular}
-use Rattle.irs_periods.specs.SpanRules.{broken_at}
+use Rattle.irs_periods.specs.SpanRules.{RollMisfits}
+use Rattle.irs_periods.proofs.SpanDecided.{first_misfit, first_off_grid}
 use Rattle.irs_periods.proofs.TermOrder.{begins_before_end}
 use Rattle.irs_periods.proofs.SpanLemmas.{given_span_same}
 use Rattle.irs_terms.specs.Suiting.{IsTerm}
@@ -32,11 +32,14 @@ returns-then-not-on_grid-clause-broken c =
     } in
     let off : OnGrid s.freq s.roll anchor c.ends-first.result.1 → ⊥ = λ on.
     let is = c.on_grid.ensures.1 ((c.new-grid.ensures.on c.ends-first.result.1).1 on) in cc in
-    inr (
-      (λ k30. k30.misfits (subst (Fits s.roll s.freq) c.anchor-anchor.ensures fit)),
-      record { timed = timed; span = span; regular = regular; off = off },
-      c.broken-then-not-on_grid.ensures ∙ ap (λ (e : ℕ). broken_at K31 e 0) c.last_elem.ensures,
-    )
+    rw c.off_grid.ensures (first_off_grid s (λ k30. k30.misfits (subst (Fits s.roll s.freq) c.anchor-anchor.ensures fit)) (record { timed = timed; span = span; regular = regular; off = off }))
+
+pub returns-then-not-fits-clause-broken : goal.returns-then-not-fits-clause-broken
+returns-then-not-fits-clause-broken c =
+    let s = c.args.s.now in
+    let timed : IsTerm s.freq → ⊥ = λ h. let same = rw h at c.requires.timed in cc in
+    let misfits : RollMisfits s = record { timed = timed; misfits = λ k. let is = c.fits.ensures.1 (subst (Fits s.roll s.freq) (sym c.anchor-anchor.ensures) k) in cc } in
+    rw c.misfit.ensures (first_misfit s misfits)
 
 pub ends-first-requires-clause-order : goal.ends-first-requires-clause-order
 ends-first-requires-clause-order c = begins_before_end c.args.s.now c.requires.dates

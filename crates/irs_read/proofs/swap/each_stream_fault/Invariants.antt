@@ -1,10 +1,10 @@
 use Rattle.irs_elements.proofs.First.{Below}
-use Rattle.irs_elements.specs.Order.{IsFirst}
 use Rattle.irs_read.proofs.Each.{Each}
 use Rattle.irs_read.proofs.swap.each_stream_fault.Given as goal
 use Rattle.irs_read.specs.Swaps.{StreamFault}
 use Rattle.serde_json.specs.View.{view}
 use Rattle.std.proofs.Common.{map}
+use Rattle.irs_base.specs.Order.{IsFirstBroken}
 
 abbrev pub invariant-loop-j : goal.invariant-loop-j
-invariant-loop-j l = IsFirst (Below (Each StreamFault (map view l.list)) l.j) l.first
+invariant-loop-j l = IsFirstBroken (Below (Each StreamFault (map view l.list)) l.j) l.first

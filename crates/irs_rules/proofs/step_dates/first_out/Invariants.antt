@@ -1,6 +1,6 @@
 use Rattle.std.proofs.Common.{ℕ, ◌<◌}
-use Rattle.irs_rules.specs.StepDates.{IsStepOut}
+use Rattle.irs_terms.specs.StepDates.{StepStands}
 use Rattle.irs_rules.proofs.step_dates.first_out.Given as goal
 
 abbrev pub invariant-loop-i : goal.invariant-loop-i
-invariant-loop-i l = (k : ℕ) → k < l.i → IsStepOut l.from l.to l.steps k → ⊥
+invariant-loop-i l = (k : ℕ) → k < l.i → StepStands l.from l.to l.steps k

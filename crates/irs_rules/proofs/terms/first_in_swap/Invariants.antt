@@ -1,4 +1,4 @@
-use Rattle.irs_rules.proofs.Rules.{NoStreamBelow}
+use Rattle.irs_rules.proofs.Streams.{NoStreamBelow}
 use Rattle.irs_rules.proofs.terms.first_in_swap.Given as goal
 
 abbrev pub invariant-loop-i : goal.invariant-loop-i

@@ -9,9 +9,10 @@ returns-in-Ok c =
     let places = c.places-places.result in
     let there = (c.in-Ok.ensures {u = tt}).amount in
     let none = (c.in-Ok.ensures {u = tt}).within in
+    let size = (c.in-Ok.ensures {u = tt}).size in
     rw c.decimal.ensures (record {
       amount = amount_by s ts places c.in-Ok.units c.places-places.ensures there;
-      bound = amount_fits s.compounding s.currency ts places c.in-Ok.units c.places-places.ensures c.requires.payment none there;
+      bound = amount_fits s.currency places c.in-Ok.units c.places-places.ensures size;
       within = none;
       broken = tt;
     })
@@ -19,4 +20,4 @@ returns-in-Ok c =
 pub returns-in-Err : goal.returns-in-Err
 returns-in-Err c =
     let out = (c.in-Err.ensures {u = tt}).out in
-    record { amount = tt; bound = tt; within = tt; broken = rw c.passed_at.ensures (c.in-Err.out.period, out.0, out.1, refl) }
+    record { amount = tt; bound = tt; within = tt; broken = rw c.passed_at.ensures (c.in-Err.out.period, out, refl) }

@@ -2,11 +2,9 @@ use Rattle.std.proofs.Common.{◌≡◌, ◌-◌, ℕ, arith, length, ap, sym, �
 use Rattle.std.specs.List.{slice_get}
 use Rattle.std.proofs.lemmas.Option.{slice_get-get_or}
 use Rattle.std.proofs.lemmas.Result.{err_from_is_err_and}
-use Rattle.irs_base.specs.Elements.{calculation_period_amount}
-use Rattle.irs_base.specs.declared.places.Broken.{Broken}
-use Rattle.irs_base.specs.declared.places.Rule.TheVariants.{K39}
-use Rattle.irs_periods.specs.SpanRules.{broken_at}
-use Rattle.irs_schedule.specs.DatedRules.{PassesFirst}
+use Rattle.irs_base.specs.declared.places.Fault.{Fault}
+use Rattle.irs_schedule.specs.DatedRules.{passed_at}
+use Rattle.irs_schedule.specs.PeriodTerms.{PassesFirst}
 use Rattle.irs_schedule.specs.PeriodTerms.{PassesFirstIn}
 use Rattle.irs_schedule.proofs.Handed.{handed_on}
 use Rattle.irs_schedule.proofs.PaidLemmas.{none_paid, one_more_paid, all_paid, none_passes, first_of_all, covers_at, LiesFrom}
@@ -68,8 +66,8 @@ returns-in_err-entry c =
     let i = c.loop-payment.payment-index in
     let p = c.payment-item.result in
     let there : slice_get ps i ≡ Some p = slice_get-get_or ps i p c.loop-payment-test.true ∙ ap Some (sym c.payment-item.is) in
-    let Stops : Broken → Type 0 = λ x. (k : ℕ) × PassesFirstIn s b a rs p k × (x ≡ broken_at K39 calculation_period_amount k) in
-    let Breaks : Broken → Type 0 = λ x. (k : ℕ) × PassesFirst s b a rs ps k × (x ≡ broken_at K39 calculation_period_amount k) in
+    let Stops : Fault → Type 0 = λ x. (k : ℕ) × PassesFirstIn s b a rs p k × (x ≡ passed_at k) in
+    let Breaks : Fault → Type 0 = λ x. (k : ℕ) × PassesFirst s b a rs ps k × (x ≡ passed_at k) in
     let from = err_from_is_err_and c.from_residual.result c.from_residual.ensures.1 in
     rw (from.1, from.2) (record {
       payments = tt;

@@ -1,10 +1,8 @@
 use Rattle.std.proofs.Common.{◌≡◌, ◌+◌, ◌-◌, ℕ, arith}
 use Rattle.std.proofs.lemmas.Result.{err_from_is_err_and}
-use Rattle.irs_base.specs.Elements.{calculation_period_amount}
-use Rattle.irs_base.specs.declared.places.Broken.{Broken}
-use Rattle.irs_base.specs.declared.places.Rule.TheVariants.{K39}
-use Rattle.irs_periods.specs.SpanRules.{broken_at}
-use Rattle.irs_compound.specs.Amounts.{AllPriced, PassesFirst, code_for}
+use Rattle.irs_base.specs.declared.places.Fault.{Fault}
+use Rattle.irs_schedule.specs.DatedRules.{passed_at}
+use Rattle.irs_compound.specs.Amounts.{IsFirstOut}
 use Rattle.irs_schedule.specs.PeriodTerms.{AreTerms, PassesFirstIn}
 use Rattle.irs_schedule.proofs.AmountLemmas.{is_payment, none_in, first_in}
 use Rattle.irs_schedule.proofs.Handed.{handed_on}
@@ -47,13 +45,13 @@ returns-in_err-amount c =
     let p = c.args.payment.now in
     let ts = c.deref.result.now in
     let are : AreTerms s b a rs p ts = rw c.deref.ensures.value (c.in_ok-terms.ensures {u = tt}) in
-    let Stops : Broken → Type 0 = λ x. (n : ℕ) × AllPriced ts × PassesFirst (code_for s.compounding ts) ts n × (x ≡ broken_at K39 calculation_period_amount (p.first_period + n - 1)) in
-    let Breaks : Broken → Type 0 = λ x. (i : ℕ) × PassesFirstIn s b a rs p i × (x ≡ broken_at K39 calculation_period_amount i) in
+    let Stops : Fault → Type 0 = λ x. (n : ℕ) × IsFirstOut s.compounding ts n × (x ≡ passed_at (p.first_period + n - 1)) in
+    let Breaks : Fault → Type 0 = λ x. (i : ℕ) × PassesFirstIn s b a rs p i × (x ≡ passed_at i) in
     let from = err_from_is_err_and c.from_residual-in_err-amount.result c.from_residual-in_err-amount.ensures.1 in
     rw (from.1, from.2) (record {
       payment = tt;
       amount = tt;
       bound = tt;
       within = tt;
-      broken = handed_on c.in_err-amount.field-0.0 Stops Breaks (λ x h. (p.first_period + h.0 - 1, first_in s b a rs c.requires.rises p ts are h.0 h.1 h.2, h.3)) (c.in_err-amount.ensures {u = tt}).broken;
+      broken = handed_on c.in_err-amount.field-0.0 Stops Breaks (λ x h. (p.first_period + h.0 - 1, first_in s b a rs c.requires.rises p ts are h.0 h.1, h.2)) (c.in_err-amount.ensures {u = tt}).broken;
     })

@@ -1,7 +1,7 @@
 use Rattle.irs_schedule.proofs.OneBroken.{one_broken}
 use Rattle.irs_schedule.proofs.OnePart.{one_schedule}
 use Rattle.irs_schedule.proofs.PartThere.{schedule_there}
-use Rattle.irs_schedule.proofs.TermsLemmas.{terms_kept}
+use Rattle.irs_rules.proofs.Kept.{terms_kept}
 use Rattle.irs_schedule.proofs.making.make_schedule.Goals as goal
 
 pub schedule_of-requires-clause-kept : goal.schedule_of-requires-clause-kept

@@ -3,7 +3,9 @@ use Rattle.std.specs.Prelude.{slice_get}
 use Rattle.std.proofs.lemmas.Option.{slice_get_read}
 use Rattle.std.proofs.lemmas.Result.{err_from_is_err_and}
 use Rattle.irs_base.specs.declared.places.Broken.{Broken}
-use Rattle.irs_schedule.specs.DatedRules.{StreamBroken, StreamKept, DatedBroken, in_stream}
+use Rattle.irs_base.specs.Faults.{in_stream}
+use Rattle.irs_base.specs.declared.places.Fault.{Fault}
+use Rattle.irs_schedule.specs.DatedRules.{StreamBroken, StreamKept, DatedBroken}
 use Rattle.irs_schedule.specs.DaySets.{StreamSets, stream_sets}
 use Rattle.irs_schedule.specs.Parts.{Part}
 use Rattle.irs_schedule.specs.Schedules.{IsPart}
@@ -36,7 +38,7 @@ returns-in_err-part-clause-broken c =
     let days = c.stream_days-days.ensures in
     let sets = sets_of c.stream_days-days.result in
     let same : sets ≡ stream_sets cal s = sets_same sets (stream_sets cal s) days.start days.end days.middle days.payment days.reset days.fixing in
-    let P : Broken → Type 0 = λ x. (y : Broken) × StreamBroken sets fix s y × (x ≡ in_stream (i + 1) y) in
+    let P : Broken → Type 0 = λ x. (f : Fault) × StreamBroken sets fix s f × (x ≡ in_stream (i + 1) f) in
     rw (p.1, p.2) (handed_on c.in_err-part.field-0.0 P (DatedBroken c.args.swap.now cal fix)
     (λ x h. made_broken c.args.swap.now cal fix i c.loop-i.parts.items s found c.loop-i.invariant x h.0 (subst (λ (u : StreamSets). StreamBroken u fix s h.0) same h.1) h.2)
     c.in_err-part.ensures.broken)

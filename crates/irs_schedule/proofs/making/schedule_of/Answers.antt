@@ -1,6 +1,6 @@
 use Rattle.std.proofs.Common.{List, subst, sym}
 use Rattle.irs_calendar.specs.declared.sections.Section.{Section}
-use Rattle.irs_schedule.specs.TermsKept.{TermsKept}
+use Rattle.irs_rules.specs.TermsKept.{TermsKept}
 use Rattle.irs_schedule.proofs.making.schedule_of.Goals as goal
 
 pub schedule_by-requires-clause-kept : goal.schedule_by-requires-clause-kept

@@ -1,17 +1,14 @@
 use Rattle.std.proofs.Common.{◌≡◌, ℕ, ◌-◌, length, List, subst, sym, ap, ◌∙◌, if◌then◌else◌}
 use Rattle.irs_periods.proofs.TermOrder.{begins_before_end}
 use Rattle.std.proofs.lemmas.Result.{err_from_is_err_and}
-use Rattle.irs_base.specs.Elements.{calculation_period_amount}
-use Rattle.irs_base.specs.declared.places.Broken.{Broken}
-use Rattle.irs_base.specs.declared.places.Rule.TheVariants.{K39}
 use Rattle.irs_payments.specs.Payments.{Covers}
 use Rattle.irs_periods.proofs.AdjustedLemmas.{two_boundaries}
-use Rattle.irs_periods.specs.SpanRules.{broken_at}
 use Rattle.irs_resets.specs.Resets.{HasSmallRate}
 use Rattle.irs_terms.specs.declared.amounts.Leg.{Leg}
 use Rattle.irs_terms.specs.declared.currency.Currency.{Currency}
 use Rattle.irs_terms.specs.declared.results.Payment.{Payment}
-use Rattle.irs_schedule.specs.DatedRules.{PassesFirst, StreamBroken, in_amounts}
+use Rattle.irs_schedule.specs.DatedRules.{StreamBroken}
+use Rattle.irs_schedule.specs.FirstPassed.{IsFirstPassed}
 use Rattle.irs_schedule.specs.KeptTerms.{is_floating}
 use Rattle.irs_schedule.specs.Parts.{Part, IsAmount}
 use Rattle.irs_schedule.specs.Periods.{periods_by}
@@ -22,8 +19,8 @@ use Rattle.irs_schedule.proofs.BoundLemmas.{rises_of, every_all, covers_paid, ex
 use Rattle.irs_schedule.proofs.EntryLemmas.{kept_of}
 use Rattle.irs_schedule.proofs.Handed.{handed_on}
 use Rattle.irs_schedule.proofs.PartMade.{part_made, part_stands}
-use Rattle.irs_schedule.proofs.ResetLemmas.{resets_count}
-use Rattle.irs_schedule.proofs.Turns.{stream_first, kept_all, kept_next, amounts_kept}
+use Rattle.irs_schedule.proofs.ResetCounts.{resets_by_leg}
+use Rattle.irs_schedule.proofs.Turns.{amounts_first, kept_amounts}
 use Rattle.irs_base.specs.Members.{Every}
 use Rattle.irs_schedule.proofs.stream.stream_part.Goals as goal
 
@@ -36,9 +33,8 @@ returns-in_err-entries-clause-broken c =
     let l = c.in_ok-layout.layout in
     let d = c.in_ok-dated.dated in
     let dated = c.in_ok-dated.ensures.ok in
-    let P : Broken → Type 0 = λ x. (i : ℕ) × PassesFirst s l.unadjusted l.adjusted d.resets d.payments i × (x ≡ broken_at K39 calculation_period_amount i) in
-    rw (p.1, p.2) (handed_on c.in_err-entries.field-0.0 P (StreamBroken sets fix s)
-    (λ x h. stream_first sets fix s in_amounts dated.kept x (record { layout = l; is_layout = c.in_ok-layout.ensures.ok; payments = d.payments; are_payments = dated.payments; resets = d.resets; are_resets = dated.resets; period = h.0; first = h.1; is = h.2 }))
+    rw (p.1, p.2) (handed_on c.in_err-entries.field-0.0 (IsFirstPassed s l.unadjusted l.adjusted d.resets d.payments) (StreamBroken sets fix s)
+    (amounts_first sets fix s l c.in_ok-layout.ensures.ok d.payments d.resets dated.payments dated.resets dated.kept)
     c.in_err-entries.ensures.broken)
 
 pub new-requires-clause-some : goal.new-requires-clause-some
@@ -69,7 +65,7 @@ new-requires-clause-resets_count c =
     let l = c.in_ok-layout.layout in
     let sets = sets_of c.args.days.now in
     let rows = c.in_ok-dated.dated.resets in
-    let count = resets_count s l.span l.adjusted sets.reset sets.fixing c.args.fix.now rows c.in_ok-dated.ensures.ok.resets in
+    let count = resets_by_leg sets s l c.args.fix.now rows c.in_ok-dated.ensures.ok.resets in
     let over = subst (λ (n : ℕ). length rows ≡ (if is_floating s.leg then n - 1 else 0)) c.in_ok-layout.ensures.ok.adjusted.same_length count in
     subst (λ (leg : Leg). length rows ≡ (if is_floating leg then length l.unadjusted - 1 else 0)) (sym c.in_ok-terms.ensures.leg) over
 
@@ -111,4 +107,4 @@ returns-clause-unbroken c =
     let d = c.in_ok-dated.dated in
     let dated = c.in_ok-dated.ensures.ok in
     let sets = sets_of c.args.days.now in
-    kept_all sets fix s (kept_next sets fix s in_amounts dated.kept (amounts_kept sets fix s l d.payments d.resets c.in_ok-layout.ensures.ok dated.payments dated.resets c.in_ok-entries.ensures.entries.within))
+    kept_amounts sets fix s l c.in_ok-layout.ensures.ok d.payments d.resets dated.payments dated.resets dated.kept c.in_ok-entries.ensures.entries.within

@@ -1,0 +1,73 @@
+//! The rates of a calculation period where the steps rise: what is in force is found by halves.
+ghost use Rattle.std.specs.Prelude.{◌≡◌, ◌≤◌, unsigned_abs, Option, IfSome};
+ghost use Rattle.irs_base.specs.Limits.{most_rate};
+ghost use Rattle.irs_terms.specs.Lawful.{IsRate, IsLawfulValues, IsLawfulFloat, IsLawfulLeg};
+ghost use Rattle.irs_terms.specs.StepDates.{StepsRise, LegStepsRise};
+ghost use Rattle.irs_compound.specs.declared.periods.Rates.{Rates};
+ghost use Rattle.irs_compound.specs.InForce.{value_in_force};
+ghost use Rattle.irs_compound.specs.PeriodRates.{AreRates, rates_of, fixed_rates_of, rates_by, most_rounded_rate};
+
+use crate::periods::Rates;
+use crate::rates::{fixed_from, rates_from};
+use crate::rising_steps::in_force_of_rising;
+use irs_base::Day;
+use irs_terms::{FloatTerms, Leg, StepValues};
+
+/// The rates of a period by the leg of its stream, of which the days of the steps rise, as the rules of
+/// the terms ask. They are those of `rates_by`, which looks at each step: `None` comes exactly where a
+/// floating leg has no observed rate. `start` is the period's unadjusted start; rates are in units of
+/// 10^-9.
+pub fn rates_of_rising(leg: &Leg, start: Day, observed: Option<i64>) -> Option<Rates>
+    requires leg { IsLawfulLeg leg.now }
+    requires rises { LegStepsRise leg.now }
+    requires observed_fits { IfSome observed IsRate }
+    ensures rates { AreRates leg.now start observed result }
+    ensures value { result ≡ rates_by leg.now start observed }
+    ensures size { IfSome result (λ r. unsigned_abs r.all_in ≤ most_rounded_rate) }
+    // There is one such pair of rates, or none.
+    ensures one { (x y : Option Rates) → AreRates leg.now start observed x → AreRates leg.now start observed y → x ≡ y }
+{
+    rates_by_halves(leg, start, observed)
+}
+
+fn rates_by_halves(leg: &Leg, start: Day, observed: Option<i64>) -> Option<Rates>
+    requires leg { IsLawfulLeg leg.now }
+    requires rises { LegStepsRise leg.now }
+    requires observed_fits { IfSome observed IsRate }
+    ensures { result ≡ rates_by leg.now start observed }
+{
+    match leg {
+        Leg::Fixed(values) => Some(fixed_by_halves(values, start)),
+        Leg::Floating(float) => Some(floating_by_halves(float, start, observed?)),
+    }
+}
+
+fn fixed_by_halves(values: &StepValues, start: Day) -> Rates
+    requires lawful { IsLawfulValues IsRate values.now }
+    requires rises { StepsRise values.now.steps }
+    ensures { result ≡ fixed_rates_of values.now start }
+{
+    fixed_from(rate_by_halves(values, start))
+}
+
+fn floating_by_halves(f: &FloatTerms, start: Day, observed: i64) -> Rates
+    requires terms { IsLawfulFloat f.now }
+    requires multiplier_rises { StepsRise f.now.multiplier.steps }
+    requires spread_rises { StepsRise f.now.spread.steps }
+    requires observed_fits { unsigned_abs observed ≤ most_rate }
+    ensures { result ≡ rates_of f.now start observed }
+{
+    let multiplier = rate_by_halves(&f.multiplier, start);
+    let spread = rate_by_halves(&f.spread, start);
+    rates_from(f, multiplier, spread, observed)
+}
+
+// A rate, spread or multiplier in force; it is at most 10 in size.
+fn rate_by_halves(values: &StepValues, d: Day) -> i128
+    requires lawful { IsLawfulValues IsRate values.now }
+    requires rises { StepsRise values.now.steps }
+    ensures value { result ≡ value_in_force values.now d }
+    ensures size { IsRate result }
+{
+    in_force_of_rising(values, d)
+}

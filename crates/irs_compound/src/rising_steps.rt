@@ -1,0 +1,54 @@
+//! The value in force where the steps rise: it is found by halves.
+ghost use Rattle.std.specs.Prelude.{◌≡◌, ◌≤◌, ℤ, ◌≤ℤ◌, ◌<ℤ◌, length};
+ghost use Rattle.std.specs.List.Sorted.{IsPartitionPoint};
+ghost use Rattle.irs_terms.specs.StepDates.{StepsRise};
+ghost use Rattle.irs_compound.specs.InForce.{InForce, last_from, value_in_force};
+
+use irs_base::Day;
+use irs_terms::{Step, StepValues};
+
+/// The value in force on day `d` of steps whose days rise, as the rules of the terms ask: that of the
+/// step with the greatest date not after `d`, or the initial value where there is none (FpML
+/// `Schedule`). It is that of `in_force`, which looks at each step.
+pub fn in_force_of_rising(values: &StepValues, d: Day) -> i128
+    requires rises { StepsRise values.now.steps }
+    ensures relation { InForce values.now d result }
+    ensures value { result ≡ value_in_force values.now d }
+    // There is one such value.
+    ensures one { (v w : ℤ) → InForce values.now d v → InForce values.now d w → v ≡ w }
+{
+    value_by_halves(values, d)
+}
+
+fn value_by_halves(values: &StepValues, d: Day) -> i128
+    requires { StepsRise values.now.steps }
+    ensures { result ≡ value_in_force values.now d }
+{
+    match last_by_halves(values.steps.as_slice(), d) {
+        None => values.initial,
+        Some(step) => step.value,
+    }
+}
+
+// The last of the steps that aren't after the day.
+#[tactic(auto, using(crate::proofs::FoundSteps::found_none, crate::proofs::FoundSteps::found_some))]
+fn last_by_halves(steps: &[Step], d: Day) -> Option<Step>
+    requires { StepsRise steps.now }
+    ensures { result ≡ last_from d None steps.now }
+{
+    let count = count_to(steps, d);
+    if count == 0 {
+        None
+    } else {
+        Some(steps[count - 1])
+    }
+}
+
+// How many steps aren't after the day; they stand before those that are.
+fn count_to(steps: &[Step], d: Day) -> usize
+    requires { StepsRise steps.now }
+    ensures bound { result ≤ length steps.now }
+    ensures count { IsPartitionPoint (λ s. s.day ≤ℤ d) (λ s. d <ℤ s.day) steps.now result }
+{
+    steps.partition_point(|step| step.day <= d)
+}

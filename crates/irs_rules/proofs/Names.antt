@@ -1,0 +1,33 @@
+-- The names of the centres that an element of lawful terms asks.
+use Rattle.std.proofs.Common.{◌≡◌, ℕ, Bool, true, false, List, Option, Some, None, IfSome, subst}
+use Rattle.irs_base.specs.declared.places.Rule.TheVariants.{K12}
+use Rattle.irs_calendar.specs.declared.sections.Section.{Section}
+use Rattle.irs_terms.specs.declared.adjustments.Centers.{Centers}
+use Rattle.irs_terms.specs.declared.adjustments.Centers.TheVariants.{Absent, Listed, Dangling}
+use Rattle.irs_terms.specs.declared.dates.FixTerms.{FixTerms}
+use Rattle.irs_base.specs.declared.places.Fault.{Fault}
+use Rattle.irs_terms.specs.declared.dates.ResetTerms.{ResetTerms}
+use Rattle.irs_terms.specs.Lawful.{IsLawfulCenters, IsLawfulFix, IsLawfulNames, IsLawfulReset}
+use Rattle.irs_terms.specs.Needs.{adjusts_days, counts_days, fixing_names, fixing_names_of, names_for}
+use Rattle.irs_rules.specs.Breaks.{BreaksItem}
+use Rattle.irs_rules.specs.Centers.{IsFoundAt}
+use Rattle.irs_rules.specs.Order.{IsFirstFault}
+
+pub names_lawful : (needed : Bool) (centers : Centers) → IsLawfulCenters centers → IfSome (names_for needed centers) IsLawfulNames
+names_lawful false centers lawful = tt
+names_lawful true Absent lawful = tt
+names_lawful true (Listed names) lawful = lawful
+names_lawful true Dangling lawful = tt
+
+fixing_of_lawful : (fixing : Option FixTerms) → IfSome fixing IsLawfulFix → IfSome (fixing_names_of fixing) IsLawfulNames
+fixing_of_lawful None lawful = tt
+fixing_of_lawful (Some fixing) lawful = names_lawful _ fixing.adj.centers lawful.1
+
+pub fixing_lawful : (reset : Option ResetTerms) → IfSome reset IsLawfulReset → IfSome (fixing_names reset) IsLawfulNames
+fixing_lawful None lawful = tt
+fixing_lawful (Some terms) lawful = fixing_of_lawful terms.fixing lawful.fixing
+
+-- the first that isn't found, of names that are equal
+pub same_names : (elem : ℕ) (cal : List Section) (names others : Option (List (List ℕ))) (a : Option Fault) → names ≡ others
+    → IsFirstFault (BreaksItem K12 elem (IsFoundAt cal names)) a → IsFirstFault (BreaksItem K12 elem (IsFoundAt cal others)) a
+same_names elem cal names others a same first = subst (λ (o : Option (List (List ℕ))). IsFirstFault (BreaksItem K12 elem (IsFoundAt cal o)) a) same first

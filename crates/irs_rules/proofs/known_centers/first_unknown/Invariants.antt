@@ -1,0 +1,6 @@
+use Rattle.std.proofs.Common.{ℕ, ◌<◌, Some}
+use Rattle.irs_rules.specs.Centers.{IsFoundAt}
+use Rattle.irs_rules.proofs.known_centers.first_unknown.Given as goal
+
+abbrev pub invariant-loop-i : goal.invariant-loop-i
+invariant-loop-i l = (k : ℕ) → k < l.i → IsFoundAt l.cal (Some l.names) k

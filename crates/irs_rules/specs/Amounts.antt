@@ -1,0 +1,50 @@
+-- K17 to K21: offsets say which days they count, steps lie in order inside the term, and what goes with
+-- the rate of a stream.
+use Rattle.std.specs.Prelude.{◌⊎◌, ℤ}
+use Rattle.irs_base.specs.Elements as elements
+use Rattle.irs_base.specs.declared.places.Fault.{Fault}
+use Rattle.irs_base.specs.declared.places.Rule.TheVariants.{K17, K18, K19, K20, K21}
+use Rattle.irs_terms.specs.declared.amounts.Leg.{Leg}
+use Rattle.irs_terms.specs.declared.amounts.Leg.TheVariants.{Fixed, Floating}
+use Rattle.irs_terms.specs.declared.stream.Stream.{Stream}
+use Rattle.irs_terms.specs.DayTypes.{IsSaid, IsSaidReset}
+use Rattle.irs_terms.specs.StepDates.{StepStands}
+use Rattle.irs_terms.specs.TermDates.{termination_of}
+use Rattle.irs_terms.specs.Legs.{FitsResets, FitsStubs, FitsCompounding}
+use Rattle.irs_terms.specs.Frequencies.{ResetSuits}
+use Rattle.irs_rules.specs.Breaks.{Breaks, BreaksItem}
+
+-- K17: an offset other than 0 has no dayType; place: the offset
+abbrev pub BreaksK17 : Stream → Fault → Type 0
+BreaksK17 s f =
+    Breaks K17 elements.payment_days_offset (IsSaid s.pay.offset) f
+    ⊎ Breaks K17 elements.fixing_dates (IsSaidReset s) f
+
+-- K18 for the steps of the rate of a stream
+abbrev pub BreaksK18InLeg : ℤ → ℤ → Leg → Fault → Type 0
+BreaksK18InLeg from to (Fixed rates) f = BreaksItem K18 elements.fixed_rate_step_date (StepStands from to rates.steps) f
+BreaksK18InLeg from to (Floating float) f =
+    BreaksItem K18 elements.multiplier_step_date (StepStands from to float.multiplier.steps) f
+    ⊎ BreaksItem K18 elements.spread_step_date (StepStands from to float.spread.steps) f
+
+-- K18: a step's date isn't strictly after the one before it and strictly between the effective and the termination
+-- date, also where the first period starts before the effective date; place: stepDate, with the step's position
+abbrev pub BreaksK18 : Stream → Fault → Type 0
+BreaksK18 s f =
+    BreaksItem K18 elements.notional_step_date (StepStands s.effective.day (termination_of s) s.notional.steps) f
+    ⊎ BreaksK18InLeg s.effective.day (termination_of s) s.leg f
+
+-- K19: a fixed stream has resetDates or stubCalculationPeriodAmount, or a floating one has no resetDates; place:
+-- that element
+abbrev pub BreaksK19 : Stream → Fault → Type 0
+BreaksK19 s f =
+    Breaks K19 elements.reset_dates (FitsResets s.leg s.reset) f
+    ⊎ Breaks K19 elements.stub_amount (FitsStubs s.leg s.stubs) f
+
+-- K20: the reset frequency isn't as long as the calculation frequency; place: resetFrequency
+abbrev pub BreaksK20 : Stream → Fault → Type 0
+BreaksK20 s f = Breaks K20 elements.reset_frequency (ResetSuits s) f
+
+-- K21: amounts compound at a rate that may not; place: compoundingMethod
+abbrev pub BreaksK21 : Stream → Fault → Type 0
+BreaksK21 s f = Breaks K21 elements.compounding_method (FitsCompounding s) f
