@@ -141,7 +141,10 @@ fn two_quarters(rt: HostRuntime) -> Result<(), Fail> {
     let want = [paid_on(middle, 1), paid_on(to, 2)];
     assert_eq!(rt; list.as_slice(), want.as_slice());
     let list = principals(alloc, &s, &RunSet::all())?;
-    let want = [exchanged_on(from, -100_000_000), exchanged_on(to, 100_000_000)];
+    let want = [
+        exchanged_on(from, -100_000_000),
+        exchanged_on(to, 100_000_000),
+    ];
     assert_eq!(rt; list.as_slice(), want.as_slice());
     Ok(())
 }
