@@ -6,7 +6,7 @@ ghost use Rattle.irs_terms.specs.DayTypes.{IsSaid};
 ghost use Rattle.irs_terms.specs.FirstDay.{first_day_of};
 ghost use Rattle.irs_terms.specs.Lawful.{IsLawfulCenters, IsLawfulDated, IsLawfulStream};
 
-use crate::{check_steps, payments, principals};
+use crate::{PayErr, check_steps, payments, principals};
 use irs_base::{Day, DayList, Dec, Memory, read_date};
 use irs_calendar::RunSet;
 use irs_terms::*;
@@ -103,6 +103,21 @@ fn boundaries(alloc: Global, from: Day, middle: Day, to: Day) -> Result<DayList,
     Ok(list)
 }
 
+fn paid(alloc: Global, s: &Stream, span: &Span, days: &DayList) -> Result<Payments, PayErr>
+    requires lawful { IsLawfulStream s.now }
+    requires term { first_day_of s.now <ℤ s.now.termination.day }
+    requires said { IsSaid s.now.pay.offset }
+    requires boundaries { RunsFromTo (first_day_of s.now) s.now.termination.day days.now }
+{
+    payments(alloc, s, span, days, days, &RunSet::all())
+}
+
+fn exchanged(alloc: Global, s: &Stream) -> Result<Exchanges, PayErr>
+    requires { IsLawfulStream s.now }
+{
+    principals(alloc, s, &RunSet::all())
+}
+
 fn paid_on(date: Day, period: u32) -> Payment {
     Payment {
         unadjusted: date,
@@ -137,10 +152,10 @@ fn two_quarters(rt: HostRuntime) -> Result<(), Fail> {
         anchor: from,
     };
     assert_eq!(rt; check_steps(&s, &days), Ok(()));
-    let list = payments(alloc, &s, &span, &days, &days, &RunSet::all())?;
+    let list = paid(alloc, &s, &span, &days)?;
     let want = [paid_on(middle, 1), paid_on(to, 2)];
     assert_eq!(rt; list.as_slice(), want.as_slice());
-    let list = principals(alloc, &s, &RunSet::all())?;
+    let list = exchanged(alloc, &s)?;
     let want = [
         exchanged_on(from, -100_000_000),
         exchanged_on(to, 100_000_000),

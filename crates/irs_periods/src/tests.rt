@@ -1,13 +1,15 @@
 //! One call each over a stream of two quarters; the tables of periods are the rows of
 //! irs_stage_rows.
 ghost use Rattle.std.specs.Prelude.{◌≡◌, ◌<ℤ◌, []};
+ghost use Rattle.irs_periods.specs.SpanRules.{SpanKept};
+ghost use Rattle.irs_periods.specs.Spans.{Regular};
 ghost use Rattle.irs_terms.specs.Lawful.{IsLawfulCenters, IsLawfulDated, IsLawfulStream};
 ghost use Rattle.irs_terms.specs.declared.frequency.Unit.TheVariants.{D};
 ghost use Rattle.irs_terms.specs.Suiting.{FrequencySuits};
 ghost use Rattle.irs_terms.specs.TermDates.{DatesInOrder};
 
-use crate::{adjusted, boundaries, boundaries_by, regular_span};
-use irs_base::{Day, read_date};
+use crate::{PerErr, adjusted, boundaries, boundaries_by, regular_span};
+use irs_base::{Day, DayList, read_date};
 use irs_calendar::RunSet;
 use irs_roll::EveryDays;
 use irs_terms::*;
@@ -94,6 +96,30 @@ fn stream(alloc: Global, from: Day, to: Day) -> Stream
     }
 }
 
+// The boundaries over a grid that is handed in.
+fn over_days(alloc: Global, s: &Stream, span: &Span) -> Result<DayList, PerErr>
+    requires lawful { IsLawfulStream s.now }
+    requires dates { DatesInOrder s.now }
+    requires unit { s.now.freq.unit ≡ D }
+    requires span { Regular s.now span.now }
+    requires kept { SpanKept s.now span.now }
+{
+    let grid = EveryDays::new(span.anchor, u32::from(s.freq.count));
+    boundaries(alloc, s, span, &grid)
+}
+
+fn adjusted_days(alloc: Global, s: &Stream, span: &Span) -> Result<DayList, PerErr>
+    requires lawful { IsLawfulStream s.now }
+    requires dates { DatesInOrder s.now }
+    requires frequency { FrequencySuits s.now }
+    requires span { Regular s.now span.now }
+    requires kept { SpanKept s.now span.now }
+{
+    let list = boundaries_by(alloc, s, span)?;
+    let all = RunSet::all();
+    adjusted(alloc, s, &list, &all, &all, &all)
+}
+
 #[test]
 fn two_periods(rt: HostRuntime) -> Result<(), Fail> {
     let alloc = rt.alloc();
@@ -109,13 +135,9 @@ fn two_periods(rt: HostRuntime) -> Result<(), Fail> {
     };
     assert_eq!(rt; (span.first, span.last, span.anchor), (from, to, from));
     let want = [from, middle, to];
-    let list = boundaries_by(alloc, &s, &span)?;
+    let list = over_days(alloc, &s, &span)?;
     assert_eq!(rt; list.as_slice(), want.as_slice());
-    let all = RunSet::all();
-    let days = adjusted(alloc, &s, &list, &all, &all, &all)?;
-    assert_eq!(rt; days.as_slice(), want.as_slice());
-    let grid = EveryDays::new(span.anchor, u32::from(s.freq.count));
-    let list = boundaries(alloc, &s, &span, &grid)?;
+    let list = adjusted_days(alloc, &s, &span)?;
     assert_eq!(rt; list.as_slice(), want.as_slice());
     Ok(())
 }

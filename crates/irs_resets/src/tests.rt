@@ -6,7 +6,7 @@ ghost use Rattle.irs_terms.specs.DayTypes.{IsSaidReset};
 ghost use Rattle.irs_terms.specs.Lawful.{IsLawfulCenters, IsLawfulDated, IsLawfulFloat, IsLawfulStream};
 ghost use Rattle.irs_terms.specs.Legs.{FitsLeg};
 
-use crate::{Fixings, resets};
+use crate::{FixErr, Fixings, ResErr, resets};
 use irs_base::{Day, DayList, Direction, Memory, Text, read_date};
 use irs_calendar::RunSet;
 use irs_terms::*;
@@ -127,6 +127,26 @@ fn boundaries(alloc: Global, from: Day, middle: Day, to: Day) -> Result<DayList,
     Ok(list)
 }
 
+fn fixings(alloc: Global) -> Result<Fixings, FixErr> {
+    Fixings::read(alloc, b"2024-01-15 0.05 3M A\n")
+}
+
+fn resets_on_all_days(
+    alloc: Global,
+    s: &Stream,
+    span: &Span,
+    days: &DayList,
+    fixings: &Fixings,
+) -> Result<Resets, ResErr>
+    requires lawful { IsLawfulStream s.now }
+    requires leg { FitsLeg s.now }
+    requires said { IsSaidReset s.now }
+    requires rising { IsRising days.now }
+{
+    let all = RunSet::all();
+    resets(alloc, s, span, days, &all, &all, fixings)
+}
+
 fn reset_on(date: Day, observed: Option<i64>) -> Reset {
     Reset {
         reset: date,
@@ -151,9 +171,8 @@ fn two_quarters(rt: HostRuntime) -> Result<(), Fail> {
         last: to,
         anchor: from,
     };
-    let fixings = Fixings::read(alloc, b"2024-01-15 0.05 3M A\n")?;
-    let all = RunSet::all();
-    let list = resets(alloc, &s, &span, &days, &all, &all, &fixings)?;
+    let fixings = fixings(alloc)?;
+    let list = resets_on_all_days(alloc, &s, &span, &days, &fixings)?;
     let want = [reset_on(from, Some(50_000_000)), reset_on(middle, None)];
     assert_eq!(rt; list.as_slice(), want.as_slice());
     Ok(())
