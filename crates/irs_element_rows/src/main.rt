@@ -5,20 +5,24 @@
 //! project's own.
 #![tactic(auto)]
 
+use leaf_rows::run_leaves;
 use rows::run_rows;
 use told::Reader;
 
 mod edits;
 mod flow_lines;
+mod leaf_rows;
 mod lines;
 mod rows;
 mod swap_lines;
 mod table_lines;
+mod tally;
 mod told;
 mod values;
 
 fn main(rt: HostRuntime) -> anyhow::Result<()> {
     table_lines::print_tables(&rt)?;
     run_rows(&rt, Reader::Terms, "rows")?;
-    run_rows(&rt, Reader::Flows, "flow_rows")
+    run_rows(&rt, Reader::Flows, "flow_rows")?;
+    run_leaves(&rt, "leaf_rows")
 }

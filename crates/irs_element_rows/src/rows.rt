@@ -1,6 +1,7 @@
 //! The rows: each names a document, edits of it, and a line that has to be told of the document
 //! behind the edits.
 use crate::edits::make_edits;
+use crate::tally::Tally;
 use crate::told::{Reader, told};
 use anyhow::{Context, Result};
 use irs_json::{Value, parse};
@@ -26,32 +27,6 @@ fn row_of(text: &str) -> Result<Row> {
         edits,
         line,
     })
-}
-
-/// How many rows were run since the last remark, and of how many the line was told.
-#[derive(Clone, Copy, Debug)]
-struct Tally {
-    rows: u32,
-    told: u32,
-}
-
-impl Tally {
-    const NONE: Tally = Tally { rows: 0, told: 0 };
-
-    // One row more.
-    fn with(self, is_told: bool) -> Tally {
-        Tally {
-            rows: self.rows.saturating_add(1),
-            told: self.told.saturating_add(u32::from(is_told)),
-        }
-    }
-
-    fn print(self, rt: &HostRuntime) -> Result<()> {
-        if self.rows > 0 {
-            println!(rt; "{} of {} rows", self.told, self.rows)?;
-        }
-        Ok(())
-    }
 }
 
 // The document of a file.

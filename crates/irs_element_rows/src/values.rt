@@ -1,7 +1,7 @@
 //! The texts of the values of swaps and cash flows.
 use anyhow::Result;
 use irs_audit::StatedFraction;
-use irs_base::{Day, civil_of};
+use irs_base::{Day, Dec, civil_of};
 use irs_terms::{Adjustments, Centers, Currency, Dated, Frequency, Offset, StepValues, StubRate};
 use std::alloc::Global;
 use std::fmt::Debug;
@@ -125,6 +125,17 @@ pub fn given_stub(alloc: Global, stub: &Option<StubRate>) -> Result<String> {
 pub fn given_currency(alloc: Global, currency: Option<Currency>) -> Result<String> {
     match currency {
         Some(currency) => Ok(String::from_str(alloc, str::from_utf8(&currency.letters)?)?),
+        None => absent(alloc),
+    }
+}
+
+/// A decimal that may be absent: its units, and the number of its decimals.
+pub fn given_dec(alloc: Global, number: Option<Dec>) -> Result<String> {
+    match number {
+        Some(number) => {
+            let text = format!(in alloc; "{} of {} decimals", number.units, number.places)?;
+            Ok(text)
+        }
         None => absent(alloc),
     }
 }

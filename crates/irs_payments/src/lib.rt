@@ -11,14 +11,6 @@ mod payment_list;
 mod steps;
 #[cfg(test)]
 mod tests;
-#[cfg(test)]
-mod tests_dates;
-#[cfg(test)]
-mod tests_exchanges;
-#[cfg(test)]
-mod tests_steps;
-#[cfg(test)]
-mod tests_terms;
 
 pub use error::PayErr;
 pub use exchanges::principals;

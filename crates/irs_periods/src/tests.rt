@@ -1,140 +1,90 @@
-//! Calculation periods whose boundaries, or whose first broken rule, are known from outside the code.
-ghost use Rattle.std.specs.Prelude.{◌≡◌, ◌≤◌, ◌<◌, ◌≤ℤ◌, ◌<ℤ◌, IfSome, IsTrue};
-ghost use Rattle.irs_base.specs.Days.{IsDay};
-ghost use Rattle.irs_terms.specs.Lawful.{IsLawfulCenters, IsLawfulFrequency, IsLawfulPay, IsLawfulRoll, IsLawfulStream, IsLawfulValues, IsNotional, IsRate};
-ghost use Rattle.irs_terms.specs.TermDates.{DatesInOrder, given_or};
+//! One call each over a stream of two quarters; the tables of periods are the rows of
+//! irs_stage_rows.
+ghost use Rattle.std.specs.Prelude.{◌≡◌, ◌<ℤ◌, []};
+ghost use Rattle.irs_periods.specs.SpanRules.{SpanKept};
+ghost use Rattle.irs_periods.specs.Spans.{Regular};
+ghost use Rattle.irs_terms.specs.Lawful.{IsLawfulCenters, IsLawfulDated, IsLawfulStream};
+ghost use Rattle.irs_terms.specs.declared.frequency.Unit.TheVariants.{D};
 ghost use Rattle.irs_terms.specs.Suiting.{FrequencySuits};
+ghost use Rattle.irs_terms.specs.TermDates.{DatesInOrder};
 
-mod grids;
-mod moved;
-mod rows;
-
-use crate::*;
-use irs_base::{Day, DayList, Fault, Rule, read_date};
-use irs_roll::suits;
+use crate::{PerErr, adjusted, boundaries, boundaries_by, regular_span};
+use irs_base::{Day, DayList, read_date};
+use irs_calendar::RunSet;
+use irs_roll::EveryDays;
 use irs_terms::*;
-use rows::{By, GRIDS, LIMITS, NOT_MOVED, REGULAR, Row, STARTS, STUBS, Want};
 use std::alloc::Global;
-use std::process::Abort;
 use std::test::*;
 
-fn day(text: &str) -> Option<Day>
-    ensures { IfSome result IsDay }
-{
-    let day = read_date(text.as_bytes())?;
-    let _number = day.number();
-    Some(day)
-}
-
-fn given_day(text: Option<&'static str>) -> Option<Day>
-    ensures { IfSome result IsDay }
-{
-    match text {
-        Some(text) => day(text),
-        None => None,
-    }
-}
-
-fn adjustments(by: By) -> Adjustments
+fn not_adjusted() -> Adjustments
     ensures { IsLawfulCenters result.centers }
 {
     Adjustments {
-        code: by.0,
+        code: ConvCode::Unadjusted,
         centers: Centers::Absent,
     }
 }
 
-fn dated(text: &str, by: By) -> Option<Dated>
-    ensures { IfSome result (λ d. IsDay d.day × IsLawfulCenters d.adj.centers) }
+fn dated(day: Day) -> Dated
+    ensures lawful { IsLawfulDated result }
+    ensures day { result.day ≡ day }
 {
-    Some(Dated {
-        day: day(text)?,
-        adj: adjustments(by),
-    })
-}
-
-fn is_lawful(roll: RollCode) -> bool
-    ensures { IsTrue result → IsLawfulRoll roll }
-{
-    match roll {
-        RollCode::Dom(number) => 1 <= number && number <= 30,
-        RollCode::Eom | RollCode::Imm | RollCode::OnWeekday(_) | RollCode::NoRoll => true,
+    // hands the prover the range of the day
+    let _number = day.number();
+    Dated {
+        day,
+        adj: not_adjusted(),
     }
 }
 
-fn zero(alloc: Global) -> StepValues
-    ensures notional { IsLawfulValues IsNotional result }
-    ensures rate { IsLawfulValues IsRate result }
+// The values of a schedule without steps.
+fn constant(alloc: Global, initial: i128) -> StepValues
+    ensures { result ≡ record { initial = initial; steps = [] } }
 {
     StepValues {
-        initial: 0,
+        initial,
         steps: StepList::new(alloc),
     }
 }
 
-fn paid_each_period(freq: Frequency) -> PayTerms
-    ensures freq { result.freq ≡ freq }
-    ensures lawful { IsLawfulFrequency freq → IsLawfulPay result }
-{
-    PayTerms {
-        calc_ref: RefState::Absent,
-        freq,
-        first: None,
-        last: None,
-        relative: Relative::End,
-        offset: Offset {
-            days: 0,
-            kind: DayKind::Unsaid,
-        },
-        adj: adjustments(NOT_MOVED),
-    }
-}
-
-fn first_start(row: &Row) -> Option<Dated>
-    ensures { IfSome result (λ d. IsDay d.day × IsLawfulCenters d.adj.centers) }
-{
-    match row.first_start {
-        Some(text) => dated(text, row.start),
-        None => None,
-    }
-}
-
-// Where `firstPeriodStartDate` is given, the effective date's adjustments are used by no boundary.
-fn effective(row: &Row) -> Option<Dated>
-    ensures { IfSome result (λ d. IsDay d.day × IsLawfulCenters d.adj.centers) }
-{
-    match row.first_start {
-        Some(_) => dated(row.effective, NOT_MOVED),
-        None => dated(row.effective, row.start),
-    }
-}
-
-/// The stream of a row.
-pub fn stream(alloc: Global, row: &Row) -> Option<Stream>
-    ensures { IfSome result IsLawfulStream }
+// Periods of 91 days at a fixed rate, paid each.
+fn stream(alloc: Global, from: Day, to: Day) -> Stream
+    requires { from <ℤ to }
+    ensures lawful { IsLawfulStream result }
+    ensures dates { DatesInOrder result }
+    ensures frequency { FrequencySuits result }
+    ensures unit { result.freq.unit ≡ D }
 {
     let freq = Frequency {
-        count: row.count,
-        unit: row.unit,
+        count: 91,
+        unit: Unit::D,
     };
-    if freq.count < 1 || freq.count > 999 || !is_lawful(row.roll) {
-        return None;
-    }
-    Some(Stream {
-        effective: effective(row)?,
-        first_start: first_start(row),
-        termination: dated(row.termination, row.end)?,
-        period_adj: adjustments(row.middle),
-        first_regular: given_day(row.first),
-        last_regular: given_day(row.last),
-        stub: row.stub,
+    Stream {
+        effective: dated(from),
+        first_start: None,
+        termination: dated(to),
+        period_adj: not_adjusted(),
+        first_regular: None,
+        last_regular: None,
+        stub: None,
         freq,
-        roll: row.roll,
-        pay: paid_each_period(freq),
+        roll: RollCode::NoRoll,
+        pay: PayTerms {
+            calc_ref: RefState::Absent,
+            freq,
+            first: None,
+            last: None,
+            relative: Relative::End,
+            offset: Offset {
+                days: 0,
+                kind: DayKind::Unsaid,
+            },
+            adj: not_adjusted(),
+        },
         reset: None,
-        notional: zero(alloc),
+        notional: constant(alloc, 10_000_000_000),
         currency: Currency { letters: *b"EUR" },
-        leg: Leg::Fixed(zero(alloc)),
+        leg: Leg::Fixed(constant(alloc, 50_000_000)),
         day_count: DayCountCode::Act360,
         compounding: CompCode::Simple,
         stubs: None,
@@ -143,135 +93,51 @@ pub fn stream(alloc: Global, row: &Row) -> Option<Stream>
             intermediate: false,
             last: false,
         },
-    })
+    }
 }
 
-fn given(d: Option<Day>, other: Day) -> Day
-    ensures { result ≡ given_or d other }
+// The boundaries over a grid that is handed in.
+fn over_days(alloc: Global, s: &Stream, span: &Span) -> Result<DayList, PerErr>
+    requires lawful { IsLawfulStream s.now }
+    requires dates { DatesInOrder s.now }
+    requires unit { s.now.freq.unit ≡ D }
+    requires span { Regular s.now span.now }
+    requires kept { SpanKept s.now span.now }
 {
-    match d {
-        Some(given) => given,
-        None => other,
-    }
+    let grid = EveryDays::new(span.anchor, u32::from(s.freq.count));
+    boundaries(alloc, s, span, &grid)
 }
 
-fn starts_before_effective(s: &Stream) -> bool
-    ensures { IsTrue result → IfSome s.now.first_start (λ start. start.day <ℤ s.now.effective.day) }
+fn adjusted_days(alloc: Global, s: &Stream, span: &Span) -> Result<DayList, PerErr>
+    requires lawful { IsLawfulStream s.now }
+    requires dates { DatesInOrder s.now }
+    requires frequency { FrequencySuits s.now }
+    requires span { Regular s.now span.now }
+    requires kept { SpanKept s.now span.now }
 {
-    match &s.first_start {
-        Some(start) => start.day < s.effective.day,
-        None => true,
-    }
+    let list = boundaries_by(alloc, s, span)?;
+    let all = RunSet::all();
+    adjusted(alloc, s, &list, &all, &all, &all)
 }
 
-fn are_in_order(begin: Day, termination: Day, first: Option<Day>, last: Option<Day>) -> bool
-    ensures first { IsTrue result → IfSome first (λ f. (begin ≤ℤ f) × (f ≤ℤ termination)) }
-    ensures last { IsTrue result → IfSome last (λ l. (given_or first begin ≤ℤ l) × (l ≤ℤ termination)) }
-{
-    let from = given(first, begin);
-    let to = given(last, termination);
-    begin <= from && from <= termination && from <= to && to <= termination
-}
-
-fn keeps_dates(s: &Stream) -> bool
-    ensures { IsTrue result → DatesInOrder s.now }
-{
-    if s.effective.day >= s.termination.day || !starts_before_effective(s) {
-        return false;
+#[test]
+fn two_periods(rt: HostRuntime) -> Result<(), Fail> {
+    let alloc = rt.alloc();
+    let from = read_date(b"2024-01-15").ok_or("no such day")?;
+    let middle = read_date(b"2024-04-15").ok_or("no such day")?;
+    let to = read_date(b"2024-07-15").ok_or("no such day")?;
+    if to <= from {
+        return Err("no term")?;
     }
-    are_in_order(
-        s.first_day(),
-        s.termination.day,
-        s.first_regular,
-        s.last_regular,
-    )
-}
-
-fn keeps_frequency(s: &Stream) -> bool
-    ensures { IsTrue result → FrequencySuits s.now }
-{
-    if s.freq.unit == Unit::T
-        && (s.freq.count != 1 || s.first_regular.is_some() || s.last_regular.is_some())
-    {
-        return false;
-    }
-    suits(s.freq, s.roll)
-}
-
-fn listed(alloc: Global, s: &Stream) -> Result<DayList, PerErr>
-    requires { IsLawfulStream s.now }
-{
-    if !keeps_dates(s) || !keeps_frequency(s) {
-        return Err(PerErr::Memory);
-    }
-    match regular_span(s) {
-        Ok(span) => boundaries_by(alloc, s, &span),
-        Err(broken) => Err(PerErr::Broken(broken)),
-    }
-}
-
-fn are_days(list: &[Day], want: &str) -> bool {
-    let mut found = list.iter();
-    for text in want.split_whitespace() {
-        if found.next().copied() != day(text) {
-            return false;
-        }
-    }
-    found.next().is_none()
-}
-
-fn is_broken(found: &PerErr, rule: Rule, path: &str, index: u32) -> bool {
-    match found {
-        PerErr::Broken(
-            Fault {
-                rule: other,
-                elem,
-                index: number,
-            },
-        ) => *other == rule && elem.path() == path && *number == index,
-        PerErr::Memory => false,
-    }
-}
-
-/// Whether the answer is what the row says.
-pub fn agrees(answer: &Result<DayList, PerErr>, want: &Want) -> bool {
-    match (answer, want) {
-        (Ok(list), Want::Days(days)) => are_days(list.as_slice(), days),
-        (Ok(list), Want::Periods(count)) => count.checked_add(1) == Some(list.len()),
-        (Err(found), Want::Breaks(rule, path, index)) => is_broken(found, *rule, path, *index),
-        (Ok(_), Want::Breaks(..)) | (Err(_), Want::Days(_) | Want::Periods(_)) => false,
-    }
-}
-
-fn each_is_listed<R: Abort>(rt: &R, alloc: Global, rows: &[Row]) -> Result<(), Fail> {
-    for row in rows {
-        let s = stream(alloc, row).ok_or("no such stream")?;
-        assert!(rt; agrees(&listed(alloc, &s), &row.want), "{row:?}");
-    }
+    let s = stream(alloc, from, to);
+    let Ok(span) = regular_span(&s) else {
+        return Err("no regular span")?;
+    };
+    assert_eq!(rt; (span.first, span.last, span.anchor), (from, to, from));
+    let want = [from, middle, to];
+    let list = over_days(alloc, &s, &span)?;
+    assert_eq!(rt; list.as_slice(), want.as_slice());
+    let list = adjusted_days(alloc, &s, &span)?;
+    assert_eq!(rt; list.as_slice(), want.as_slice());
     Ok(())
-}
-
-#[test]
-fn each_stub_kind_on_and_beside_the_grid(rt: HostRuntime) -> Result<(), Fail> {
-    each_is_listed(&rt, rt.alloc(), &STUBS)
-}
-
-#[test]
-fn each_kind_of_grid(rt: HostRuntime) -> Result<(), Fail> {
-    each_is_listed(&rt, rt.alloc(), &GRIDS)
-}
-
-#[test]
-fn first_and_last_regular_dates(rt: HostRuntime) -> Result<(), Fail> {
-    each_is_listed(&rt, rt.alloc(), &REGULAR)
-}
-
-#[test]
-fn first_period_start_dates(rt: HostRuntime) -> Result<(), Fail> {
-    each_is_listed(&rt, rt.alloc(), &STARTS)
-}
-
-#[test]
-fn most_periods_and_one_more(rt: HostRuntime) -> Result<(), Fail> {
-    each_is_listed(&rt, rt.alloc(), &LIMITS)
 }

@@ -1,232 +1,63 @@
-//! Resets of floating streams whose dates, rates and first broken rule are known from outside the code.
-ghost use Rattle.std.specs.Prelude.{◌≡◌, ◌≤◌, length, pos, [], IsTrue, IfOk, IfSome};
-ghost use Rattle.irs_terms.specs.declared.adjustments.Centers.TheVariants.{Absent};
-ghost use Rattle.irs_base.specs.Days.{IsDay};
+//! One call each over a floating stream of two quarters; the tables of resets and of fixing files are
+//! the rows of irs_stage_rows.
+ghost use Rattle.std.specs.Prelude.{◌≡◌, ◌<ℤ◌, [], IfOk};
 ghost use Rattle.irs_base.specs.Listed.{IsRising};
-ghost use Rattle.irs_terms.specs.Lawful.{IsRate, IsLawfulDated, IsLawfulFix, IsLawfulFloat, IsLawfulFrequency, IsLawfulIndex, IsLawfulPay, IsLawfulReset, IsLawfulStubRate, IsLawfulStubs, IsLawfulStream, IsLawfulTenor};
-ghost use Rattle.irs_terms.specs.declared.frequency.Unit.TheVariants.{M};
-ghost use Rattle.irs_terms.specs.DayTypes.{IsSaidFixing, IsSaid, IsSaidReset};
+ghost use Rattle.irs_terms.specs.DayTypes.{IsSaidReset};
+ghost use Rattle.irs_terms.specs.Lawful.{IsLawfulCenters, IsLawfulDated, IsLawfulFloat, IsLawfulStream};
 ghost use Rattle.irs_terms.specs.Legs.{FitsLeg};
 
-mod files;
-mod rows;
-
-use crate::{Fixings, ResErr, resets};
-use irs_base::{Day, DayList, Direction, Fault, MOST_RATE, Names, Rule, Text, read_date};
-use irs_calendar::{Calendars, RunSet};
+use crate::{FixErr, Fixings, ResErr, resets};
+use irs_base::{Day, DayList, Direction, Memory, Text, read_date};
+use irs_calendar::RunSet;
 use irs_terms::*;
-use rows::{By, DATES, Days, Fixing, Index, NOT_MOVED, RATES, Row, Stub, Want};
 use std::alloc::Global;
-use std::process::Abort;
 use std::test::*;
 
-/// The centres by whose days dates go.
-const CALENDAR: &[u8] = b"center WIDE
-cover 2023-01-01 2024-12-31
-weekend SAT SUN
-2024-03-29
-2024-04-01
-center EARLY
-cover 2023-01-01 2024-04-14
-weekend SAT SUN
-center LATE
-cover 2024-01-12 2024-12-31
-weekend SAT SUN
-center EDGE
-cover 2024-01-11 2024-12-31
-weekend SAT SUN
-";
-
-/// The rates that were observed.
-const FIXINGS: &[u8] = b"2024-01-15 0.05 3M A
-2024-04-15 0.06 3M A
-2024-01-13 0.01 3M A
-2024-04-13 0.02 3M A
-2024-01-15 0.03 1M A
-2024-04-15 0.04 1M B
-2024-01-15 0.08 - B
-2024-01-13 0.09 - B
-";
-
-/// A day that is written as `YYYY-MM-DD`.
-pub fn day(text: &str) -> Option<Day>
-    ensures { IfSome result IsDay }
-{
-    let day = read_date(text.as_bytes())?;
-    let _number = day.number();
-    Some(day)
-}
-
-fn adjustments(code: ConvCode) -> Adjustments
-    ensures { result ≡ record { code = code; centers = Absent } }
+fn not_adjusted() -> Adjustments
+    ensures { IsLawfulCenters result.centers }
 {
     Adjustments {
-        code,
+        code: ConvCode::Unadjusted,
         centers: Centers::Absent,
     }
 }
 
-fn dated(text: &str) -> Option<Dated>
-    ensures { IfSome result IsLawfulDated }
+fn dated(day: Day) -> Dated
+    ensures { IsLawfulDated result }
 {
-    Some(Dated {
-        day: day(text)?,
-        adj: adjustments(ConvCode::Unadjusted),
-    })
+    // hands the prover the range of the day
+    let _number = day.number();
+    Dated {
+        day,
+        adj: not_adjusted(),
+    }
 }
 
-fn values(alloc: Global) -> StepValues
-    ensures { result ≡ record { initial = pos 0; steps = [] } }
+// The values of a schedule without steps.
+fn constant(alloc: Global, initial: i128) -> StepValues
+    ensures { result ≡ record { initial = initial; steps = [] } }
 {
     StepValues {
-        initial: 0,
+        initial,
         steps: StepList::new(alloc),
     }
 }
 
-fn quarterly() -> Frequency
-    ensures { result ≡ record { count = 3; unit = M } }
-{
-    Frequency {
-        count: 3,
-        unit: Unit::M,
-    }
-}
+const QUARTERLY: Frequency = Frequency {
+    count: 3,
+    unit: Unit::M,
+};
 
-fn paid_quarterly() -> PayTerms
-    ensures { IsLawfulPay result }
+// The index A for 3 months, with no spread.
+fn floating(alloc: Global) -> Result<FloatTerms, Memory>
+    ensures { IfOk result IsLawfulFloat }
 {
-    PayTerms {
-        calc_ref: RefState::Absent,
-        freq: quarterly(),
-        first: None,
-        last: None,
-        relative: Relative::End,
-        offset: Offset {
-            days: 0,
-            kind: DayKind::Unsaid,
-        },
-        adj: adjustments(ConvCode::Unadjusted),
-    }
-}
-
-fn is_rate(rate: i64) -> bool
-    ensures { IsTrue result → IsRate rate }
-{
-    rate.unsigned_abs() <= MOST_RATE
-}
-
-fn given_rate(rate: Option<i64>) -> Option<i64>
-    ensures { IfSome result IsRate }
-{
-    match rate {
-        Some(rate) if is_rate(rate) => Some(rate),
-        Some(_) | None => None,
-    }
-}
-
-fn index_text(alloc: Global, name: Index) -> Option<Text>
-    ensures { IfSome result IsLawfulIndex }
-{
-    match name {
-        Index::A => Text::from_bytes(alloc, b"A").ok(),
-        Index::B => Text::from_bytes(alloc, b"B").ok(),
-    }
-}
-
-fn tenor(months: Option<u16>) -> Option<Frequency>
-    ensures { IfSome result IsLawfulTenor }
-{
-    match months {
-        Some(count) if 1 <= count && count <= 999 => Some(Frequency {
-            count,
-            unit: Unit::M,
-        }),
-        Some(_) | None => None,
-    }
-}
-
-fn stub_rate(alloc: Global, stub: Stub) -> Option<StubRate>
-    ensures { IfSome result IsLawfulStubRate }
-{
-    match stub {
-        Stub::Rate(rate) if is_rate(rate) => Some(StubRate::Fixed(rate)),
-        Stub::Rate(_) => None,
-        Stub::Line(name, months) => Some(StubRate::Index(index_text(alloc, name)?, tenor(months))),
-    }
-}
-
-fn given_stub(alloc: Global, stub: Option<Stub>) -> Option<StubRate>
-    ensures { IfSome result IsLawfulStubRate }
-{
-    match stub {
-        Some(stub) => stub_rate(alloc, stub),
-        None => None,
-    }
-}
-
-fn stubs(alloc: Global, row: &Row) -> Option<StubTerms>
-    ensures { IfSome result IsLawfulStubs }
-{
-    let initial = given_stub(alloc, row.initial_stub);
-    let last = given_stub(alloc, row.final_stub);
-    if initial.is_none() && last.is_none() {
-        return None;
-    }
-    Some(StubTerms {
-        calc_ref: RefState::Absent,
-        initial,
-        last,
-    })
-}
-
-fn fix_terms(given: Fixing) -> Option<FixTerms>
-    ensures said { IfSome result (λ f. IsSaid f.offset) }
-    ensures lawful { IfSome result IsLawfulFix }
-{
-    let Fixing(days, kind, by) = given;
-    if days < -60 || days > 60 || (days != 0 && kind == DayKind::Unsaid) {
-        return None;
-    }
-    Some(FixTerms {
-        offset: Offset { days, kind },
-        adj: adjustments(by.0),
-    })
-}
-
-fn given_fixing(given: Option<Fixing>) -> Option<FixTerms>
-    ensures said { IsSaidFixing result }
-    ensures lawful { IfSome result IsLawfulFix }
-{
-    match given {
-        Some(given) => fix_terms(given),
-        None => None,
-    }
-}
-
-fn reset_terms(row: &Row) -> ResetTerms
-    ensures said { IsSaidFixing result.fixing }
-    ensures lawful { IsLawfulReset result }
-{
-    ResetTerms {
-        calc_ref: RefState::Absent,
-        fixing_ref: RefState::Absent,
-        relative: row.relative,
-        fixing: given_fixing(row.fixing),
-        freq: quarterly(),
-        adj: adjustments(row.resets.0),
-    }
-}
-
-fn float_terms(alloc: Global, row: &Row) -> Option<FloatTerms>
-    ensures { IfSome result IsLawfulFloat }
-{
-    Some(FloatTerms {
-        index: index_text(alloc, Index::A)?,
-        tenor: tenor(Some(3)),
-        multiplier: values(alloc),
-        spread: values(alloc),
-        initial_rate: given_rate(row.initial_rate),
+    Ok(FloatTerms {
+        index: Text::from_bytes(alloc, b"A")?,
+        tenor: Some(QUARTERLY),
+        multiplier: constant(alloc, 1_000_000_000),
+        spread: constant(alloc, 0),
+        initial_rate: None,
         treatment: Treatment::AsIs,
         rounding: Rounding {
             dir: Direction::Nearest,
@@ -235,45 +66,48 @@ fn float_terms(alloc: Global, row: &Row) -> Option<FloatTerms>
     })
 }
 
-// The effective date; and `firstPeriodStartDate`, where the effective date isn't the first boundary.
-fn start(row: &Row) -> Option<(Dated, Option<Dated>)>
-    ensures effective { IfSome result (λ d. IsLawfulDated d.0) }
-    ensures first { IfSome result (λ d. IfSome d.1 IsLawfulDated) }
+// Periods of 3 months that roll on the 15th, reset at their start.
+fn stream(alloc: Global, from: Day, to: Day) -> Result<Stream, Memory>
+    ensures lawful { IfOk result IsLawfulStream }
+    ensures leg { IfOk result FitsLeg }
+    ensures said { IfOk result IsSaidReset }
 {
-    let first = dated(row.boundaries[0])?;
-    match row.effective {
-        Some(effective) => Some((dated(effective)?, Some(first))),
-        None => Some((first, None)),
-    }
-}
-
-fn stream(alloc: Global, row: &Row) -> Option<Stream>
-    ensures lawful { IfSome result IsLawfulStream }
-    ensures legs { IfSome result FitsLeg }
-    ensures said { IfSome result IsSaidReset }
-{
-    if row.roll < 1 || row.roll > 30 {
-        return None;
-    }
-    let (effective, first_start) = start(row)?;
-    Some(Stream {
-        effective,
-        first_start,
-        termination: dated(row.boundaries[2])?,
-        period_adj: adjustments(ConvCode::Unadjusted),
-        first_regular: day(row.first),
-        last_regular: day(row.last),
+    Ok(Stream {
+        effective: dated(from),
+        first_start: None,
+        termination: dated(to),
+        period_adj: not_adjusted(),
+        first_regular: None,
+        last_regular: None,
         stub: None,
-        freq: quarterly(),
-        roll: RollCode::Dom(row.roll),
-        pay: paid_quarterly(),
-        reset: Some(reset_terms(row)),
-        notional: values(alloc),
+        freq: QUARTERLY,
+        roll: RollCode::Dom(15),
+        pay: PayTerms {
+            calc_ref: RefState::Absent,
+            freq: QUARTERLY,
+            first: None,
+            last: None,
+            relative: Relative::End,
+            offset: Offset {
+                days: 0,
+                kind: DayKind::Unsaid,
+            },
+            adj: not_adjusted(),
+        },
+        reset: Some(ResetTerms {
+            calc_ref: RefState::Absent,
+            fixing_ref: RefState::Absent,
+            relative: Relative::Start,
+            fixing: None,
+            freq: QUARTERLY,
+            adj: not_adjusted(),
+        }),
+        notional: constant(alloc, 10_000_000_000),
         currency: Currency { letters: *b"EUR" },
-        leg: Leg::Floating(float_terms(alloc, row)?),
+        leg: Leg::Floating(floating(alloc)?),
         day_count: DayCountCode::Act360,
         compounding: CompCode::Simple,
-        stubs: stubs(alloc, row),
+        stubs: None,
         exchanges: ExchangeFlags {
             initial: false,
             intermediate: false,
@@ -282,182 +116,72 @@ fn stream(alloc: Global, row: &Row) -> Option<Stream>
     })
 }
 
-// The same with a fixed rate.
-fn fixed_stream(alloc: Global, row: &Row) -> Option<Stream>
-    ensures lawful { IfSome result IsLawfulStream }
-    ensures legs { IfSome result FitsLeg }
-    ensures said { IfSome result IsSaidReset }
+fn boundaries(alloc: Global, from: Day, middle: Day, to: Day) -> Result<DayList, Memory>
+    requires { (from <ℤ middle) × (middle <ℤ to) }
+    ensures { IfOk result IsRising }
 {
-    let floating = stream(alloc, row)?;
-    Some(Stream {
-        leg: Leg::Fixed(values(alloc)),
-        reset: None,
-        stubs: None,
-        ..floating
-    })
-}
-
-fn boundaries(alloc: Global, row: &Row) -> Option<DayList>
-    ensures { IfSome result IsRising }
-{
-    let a = day(row.boundaries[0])?;
-    let b = day(row.boundaries[1])?;
-    let c = day(row.boundaries[2])?;
-    if b <= a || c <= b {
-        return None;
-    }
     let mut list = DayList::new(alloc);
-    list.push(a).ok()?;
-    list.push(b).ok()?;
-    list.push(c).ok()?;
-    Some(list)
+    list.push(from)?;
+    list.push(middle)?;
+    list.push(to)?;
+    Ok(list)
 }
 
-/// The good days of each kind, and the fixings.
-#[derive(Drop)]
-struct Market {
-    wide: RunSet,
-    early: RunSet,
-    late: RunSet,
-    edge: RunSet,
-    fixings: Fixings,
+fn fixings(alloc: Global) -> Result<Fixings, FixErr> {
+    Fixings::read(alloc, b"2024-01-15 0.05 3M A\n")
 }
 
-impl Market {
-    fn days(&self, days: Days) -> &RunSet {
-        match days {
-            Days::Wide => &self.wide,
-            Days::Early => &self.early,
-            Days::Late => &self.late,
-            Days::Edge => &self.edge,
-        }
-    }
-}
-
-fn good_days(alloc: Global, calendars: &Calendars, name: &[u8]) -> Result<RunSet, Fail> {
-    let mut names = Names::new(alloc);
-    names.push(Text::from_bytes(alloc, name)?)?;
-    match calendars.select(alloc, &names) {
-        Ok(days) => Ok(days),
-        Err(_) => Err("not selected")?,
-    }
-}
-
-fn read_market(alloc: Global) -> Result<Market, Fail> {
-    let files = [Vec::from_slice(alloc, CALENDAR)?];
-    let Ok(calendars) = Calendars::read(alloc, &files) else {
-        return Err("no calendars")?;
-    };
-    let Ok(fixings) = Fixings::read(alloc, FIXINGS) else {
-        return Err("no fixings")?;
-    };
-    Ok(Market {
-        wide: good_days(alloc, &calendars, b"WIDE")?,
-        early: good_days(alloc, &calendars, b"EARLY")?,
-        late: good_days(alloc, &calendars, b"LATE")?,
-        edge: good_days(alloc, &calendars, b"EDGE")?,
-        fixings,
-    })
-}
-
-fn fixing_days(row: &Row) -> Days {
-    match row.fixing {
-        Some(Fixing(_, _, by)) => by.1,
-        None => NOT_MOVED.1,
-    }
-}
-
-fn resets_of(
+fn resets_on_all_days(
     alloc: Global,
     s: &Stream,
-    row: &Row,
-    market: &Market,
-) -> Option<Result<Resets, ResErr>>
+    span: &Span,
+    days: &DayList,
+    fixings: &Fixings,
+) -> Result<Resets, ResErr>
     requires lawful { IsLawfulStream s.now }
-    requires legs { FitsLeg s.now }
+    requires leg { FitsLeg s.now }
     requires said { IsSaidReset s.now }
+    requires rising { IsRising days.now }
 {
-    let adjusted = boundaries(alloc, row)?;
+    let all = RunSet::all();
+    resets(alloc, s, span, days, &all, &all, fixings)
+}
+
+fn reset_on(date: Day, observed: Option<i64>) -> Reset {
+    Reset {
+        reset: date,
+        fixing: date,
+        observed,
+    }
+}
+
+#[test]
+fn two_quarters(rt: HostRuntime) -> Result<(), Fail> {
+    let alloc = rt.alloc();
+    let from = read_date(b"2024-01-15").ok_or("no such day")?;
+    let middle = read_date(b"2024-04-15").ok_or("no such day")?;
+    let to = read_date(b"2024-07-15").ok_or("no such day")?;
+    if middle <= from || to <= middle {
+        return Err("no quarters")?;
+    }
+    let s = stream(alloc, from, to)?;
+    let days = boundaries(alloc, from, middle, to)?;
     let span = Span {
-        first: day(row.first)?,
-        last: day(row.last)?,
-        anchor: day(row.first)?,
+        first: from,
+        last: to,
+        anchor: from,
     };
-    let reset_days = market.days(row.resets.1);
-    let fixing_days = market.days(fixing_days(row));
-    Some(resets(
-        alloc,
-        s,
-        &span,
-        &adjusted,
-        reset_days,
-        fixing_days,
-        &market.fixings,
-    ))
-}
-
-fn is_dated(found: &Reset, reset: &str, fixing: &str) -> bool {
-    Some(found.reset) == day(reset) && Some(found.fixing) == day(fixing)
-}
-
-fn are(list: &[Reset], want: &Want) -> bool {
-    let [first, second] = list else {
-        return false;
-    };
-    match want {
-        Want::Dates(a, b) => is_dated(first, a.0, a.1) && is_dated(second, b.0, b.1),
-        Want::Rates(a, b) => first.observed == *a && second.observed == *b,
-        Want::Breaks(..) => false,
-    }
-}
-
-fn is_at(found: &Fault, rule: Rule, path: &str, index: u32) -> bool {
-    found.rule == rule && found.elem.path() == path && found.index == index
-}
-
-fn is_broken(found: &ResErr, want: &Want) -> bool {
-    let ResErr::Broken(broken) = found else {
-        return false;
-    };
-    match want {
-        Want::Breaks(rule, path, index) => is_at(broken, *rule, path, *index),
-        Want::Dates(..) | Want::Rates(..) => false,
-    }
-}
-
-fn each_agrees<R: Abort>(rt: &R, alloc: Global, rows: &[Row]) -> Result<(), Fail> {
-    let market = read_market(alloc)?;
-    for row in rows {
-        let s = stream(alloc, row).ok_or("no such stream")?;
-        let holds = match resets_of(alloc, &s, row, &market).ok_or("no such dates")? {
-            Ok(list) => are(list.as_slice(), &row.want),
-            Err(found) => is_broken(&found, &row.want),
-        };
-        assert!(rt; holds, "{row:?}");
-    }
+    let fixings = fixings(alloc)?;
+    let list = resets_on_all_days(alloc, &s, &span, &days, &fixings)?;
+    let want = [reset_on(from, Some(50_000_000)), reset_on(middle, None)];
+    assert_eq!(rt; list.as_slice(), want.as_slice());
     Ok(())
 }
 
 #[test]
-fn reset_and_fixing_dates(rt: HostRuntime) -> Result<(), Fail> {
-    each_agrees(&rt, rt.alloc(), &DATES)
-}
-
-#[test]
-fn observed_rates(rt: HostRuntime) -> Result<(), Fail> {
-    each_agrees(&rt, rt.alloc(), &RATES)
-}
-
-#[test]
-fn a_fixed_stream_has_none(rt: HostRuntime) -> Result<(), Fail> {
-    let alloc = rt.alloc();
-    let market = read_market(alloc)?;
-    for row in &DATES {
-        let s = fixed_stream(alloc, row).ok_or("no such stream")?;
-        match resets_of(alloc, &s, row, &market).ok_or("no such dates")? {
-            Ok(list) => assert!(rt; list.as_slice().is_empty(), "{row:?}"),
-            Err(found) => assert!(rt; false, "{found:?} for {row:?}"),
-        }
-    }
+fn no_fixings_have_no_rate(rt: HostRuntime) -> Result<(), Fail> {
+    let index = Text::from_bytes(rt.alloc(), b"A")?;
+    let date = read_date(b"2024-01-15").ok_or("no such day")?;
+    assert_eq!(rt; Fixings::none().rate_on(&index, None, date), None);
     Ok(())
 }

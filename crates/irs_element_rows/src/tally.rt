@@ -1,0 +1,30 @@
+//! How many rows were run, and how many of them were met.
+use anyhow::Result;
+
+/// How many rows were run since the last remark, and of how many the line was told.
+#[derive(Clone, Copy, Debug)]
+pub struct Tally {
+    rows: u32,
+    told: u32,
+}
+
+impl Tally {
+    /// No rows.
+    pub const NONE: Tally = Tally { rows: 0, told: 0 };
+
+    /// One row more.
+    pub fn with(self, is_told: bool) -> Tally {
+        Tally {
+            rows: self.rows.saturating_add(1),
+            told: self.told.saturating_add(u32::from(is_told)),
+        }
+    }
+
+    /// Prints the numbers, where there were rows.
+    pub fn print(self, rt: &HostRuntime) -> Result<()> {
+        if self.rows > 0 {
+            println!(rt; "{} of {} rows", self.told, self.rows)?;
+        }
+        Ok(())
+    }
+}

@@ -1,6 +1,0 @@
-use Rattle.std.proofs.Common.{length}
-use Rattle.irs_payments.proofs.tests_terms.+is_before_all.Given as goal
-
--- the rest of a slice is shorter than the slice
-abbrev pub decreases-is_before_all : goal.decreases-is_before_all
-decreases-is_before_all l = length l.days.now

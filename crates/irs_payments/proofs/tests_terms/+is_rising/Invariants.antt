@@ -1,6 +1,0 @@
-use Rattle.std.proofs.Common.{length}
-use Rattle.irs_payments.proofs.tests_terms.+is_rising.Given as goal
-
--- the rest of a slice is shorter than the slice
-abbrev pub decreases-is_rising : goal.decreases-is_rising
-decreases-is_rising l = length l.days.now

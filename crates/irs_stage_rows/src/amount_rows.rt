@@ -1,0 +1,135 @@
+//! What is told of the amount of a payment: the amount, `unknown`, or the first period that is out of
+//! range.
+//!
+//! A row gives the compounding method, then the periods with `;` between them, then how many decimals
+//! the amount has. A period is its notional, its base rate and its rate, or `unknown`, and its day
+//! count fraction; `8000 * ` before it stands for so many of it.
+ghost use Rattle.std.specs.Prelude.{IsTrue, All};
+ghost use Rattle.irs_compound.specs.Amounts.{IsPayment, IsTerm};
+
+use crate::texts::dec_text;
+use anyhow::{Context, Result, bail};
+use irs_base::{Dec, MOST_PERIODS, read_dec};
+use irs_compound::{OutOfRange, PeriodTerm, Rates, payment_amount};
+use irs_elements::codes::compounding;
+use irs_terms::{CompCode, Frac};
+use std::alloc::Global;
+
+/// The greatest notional, in units of 10^-4.
+const MOST_NOTIONAL: i128 = 100_000_000_000_000_000;
+
+// A row has no numerator above that of a leap year.
+fn is_term(den: i64, p: &PeriodTerm) -> bool
+    ensures { IsTrue result → IsTerm den p.now }
+{
+    0 <= p.notional
+        && p.notional <= MOST_NOTIONAL
+        && 0 <= p.frac.num
+        && p.frac.num <= 366
+        && 1 <= p.frac.den
+        && p.frac.den <= 133_590
+        && p.frac.den == den
+}
+
+fn are_terms(den: i64, periods: &[PeriodTerm]) -> bool
+    ensures { IsTrue result → All (IsTerm den) periods.now }
+{
+    match periods {
+        [] => true,
+        [first, rest @ ..] => is_term(den, first) && are_terms(den, rest),
+    }
+}
+
+// Whether there is a period, there are not too many, and all have one denominator.
+fn is_payment(periods: &[PeriodTerm]) -> bool
+    ensures { IsTrue result → IsPayment periods.now }
+{
+    match periods {
+        [] => false,
+        [first, ..] => {
+            periods.len() <= MOST_PERIODS as usize && are_terms(first.frac.den, periods)
+        }
+    }
+}
+
+fn notional_of(text: &str) -> Result<i128> {
+    read_dec(text.as_bytes(), 4).context("no notional")
+}
+
+// A rate in units of 10^-9; it may be out of range.
+fn rate_of(text: &str) -> Result<i64> {
+    let rate = read_dec(text.as_bytes(), 9).context("no rate")?;
+    Ok(i64::try_from(rate)?)
+}
+
+fn fraction_of(text: &str) -> Result<Frac> {
+    let (num, den) = text.split_once('/').context("no fraction")?;
+    Ok(Frac {
+        num: num.parse::<i64>()?,
+        den: den.parse::<i64>()?,
+    })
+}
+
+fn rates_of(text: &str) -> Result<Option<Rates>> {
+    if text == "unknown" {
+        return Ok(None);
+    }
+    let (base, all_in) = text.split_once(' ').context("two rates")?;
+    Ok(Some(Rates {
+        base: rate_of(base)?,
+        all_in: rate_of(all_in)?,
+    }))
+}
+
+fn period_of(text: &str) -> Result<PeriodTerm> {
+    let (notional, rest) = text.split_once(' ').context("a period has rates")?;
+    let (rates, fraction) = rest.rsplit_once(' ').context("a period has a fraction")?;
+    Ok(PeriodTerm {
+        notional: notional_of(notional)?,
+        rates: rates_of(rates)?,
+        frac: fraction_of(fraction)?,
+    })
+}
+
+fn push_periods(periods: &mut Vec<PeriodTerm>, text: &str) -> Result<()> {
+    let (count, text) = text.split_once(" * ").unwrap_or(("1", text));
+    let period = period_of(text)?;
+    for _ in 0..count.parse::<u32>()? {
+        periods.push(period)?;
+    }
+    Ok(())
+}
+
+fn answer_told(
+    alloc: Global,
+    answer: Result<Option<i128>, OutOfRange>,
+    places: u8,
+) -> Result<String> {
+    match answer {
+        Ok(Some(units)) => dec_text(alloc, Dec { units, places }),
+        Ok(None) => Ok(String::from_str(alloc, "unknown")?),
+        Err(out) => {
+            let text = format!(in alloc; "out of range in period {}", out.period)?;
+            Ok(text)
+        }
+    }
+}
+
+fn amount_told(alloc: Global, code: CompCode, text: &str, places: u8) -> Result<String> {
+    let mut periods = Vec::new(alloc);
+    for each in text.split(" ; ") {
+        push_periods(&mut periods, each)?;
+    }
+    if places > 3 || !is_payment(&periods) {
+        bail!("no payment");
+    }
+    answer_told(alloc, payment_amount(code, &periods, places), places)
+}
+
+/// The amount of a payment.
+pub fn amount_lines(alloc: Global, row: &str) -> Result<String> {
+    let (method, rest) = row.split_once(" | ").context("a row has periods")?;
+    let (periods, places) = rest.split_once(" | ").context("a row has decimals")?;
+    let code = compounding(method).context("no compounding method")?;
+    amount_told(alloc, code, periods, places.parse::<u8>()?)
+}

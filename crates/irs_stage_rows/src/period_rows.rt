@@ -1,0 +1,141 @@
+//! What is told of calculation periods: their boundaries, the number of periods where there are many,
+//! or the rule that is broken.
+ghost use Rattle.std.specs.Prelude.{◌≡◌, ◌≤ℤ◌, ◌<ℤ◌, IfSome, IsTrue};
+ghost use Rattle.irs_terms.specs.Lawful.{IsLawfulStream};
+ghost use Rattle.irs_terms.specs.TermDates.{DatesInOrder, given_or};
+ghost use Rattle.irs_terms.specs.Suiting.{FrequencySuits};
+
+use crate::good_days::days_of;
+use crate::texts::{day_text, fault_text, push_behind, stopped_text};
+use anyhow::{Result, bail};
+use irs_base::{Day, DayList};
+use irs_calendar::Calendars;
+use irs_periods::{PerErr, adjusted, boundaries_by, regular_span};
+use irs_roll::suits;
+use irs_terms::{Stream, Unit};
+use std::alloc::Global;
+
+/// The most boundaries that are told a day each.
+const FEW: usize = 100;
+
+fn given(d: Option<Day>, other: Day) -> Day
+    ensures { result ≡ given_or d other }
+{
+    match d {
+        Some(given) => given,
+        None => other,
+    }
+}
+
+fn starts_before_effective(s: &Stream) -> bool
+    ensures { IsTrue result → IfSome s.now.first_start (λ start. start.day <ℤ s.now.effective.day) }
+{
+    match &s.first_start {
+        Some(start) => start.day < s.effective.day,
+        None => true,
+    }
+}
+
+fn are_in_order(begin: Day, termination: Day, first: Option<Day>, last: Option<Day>) -> bool
+    ensures first { IsTrue result → IfSome first (λ f. (begin ≤ℤ f) × (f ≤ℤ termination)) }
+    ensures last { IsTrue result → IfSome last (λ l. (given_or first begin ≤ℤ l) × (l ≤ℤ termination)) }
+{
+    let from = given(first, begin);
+    let to = given(last, termination);
+    begin <= from && from <= termination && from <= to && to <= termination
+}
+
+// Whether the dates of the term are in order.
+fn keeps_dates(s: &Stream) -> bool
+    ensures { IsTrue result → DatesInOrder s.now }
+{
+    if s.effective.day >= s.termination.day || !starts_before_effective(s) {
+        return false;
+    }
+    are_in_order(
+        s.first_day(),
+        s.termination.day,
+        s.first_regular,
+        s.last_regular,
+    )
+}
+
+// Whether the frequency and the roll suit each other.
+fn keeps_frequency(s: &Stream) -> bool
+    ensures { IsTrue result → FrequencySuits s.now }
+{
+    if s.freq.unit == Unit::T
+        && (s.freq.count != 1 || s.first_regular.is_some() || s.last_regular.is_some())
+    {
+        return false;
+    }
+    suits(s.freq, s.roll)
+}
+
+fn days_told(alloc: Global, days: &[Day]) -> Result<String> {
+    let mut text = String::new(alloc);
+    if days.len() > FEW {
+        let count = format!(in alloc; "{} periods", days.len() - 1)?;
+        return Ok(count);
+    }
+    for day in days {
+        push_behind(&mut text, " ", &day_text(alloc, *day)?)?;
+    }
+    Ok(text)
+}
+
+fn list_told(alloc: Global, answer: Result<DayList, PerErr>) -> Result<String> {
+    match answer {
+        Ok(list) => days_told(alloc, list.as_slice()),
+        Err(stopped) => stopped_text(alloc, stopped),
+    }
+}
+
+/// The unadjusted boundaries of a stream.
+pub fn period_lines(alloc: Global, s: &Stream) -> Result<String>
+    requires { IsLawfulStream s.now }
+{
+    if !keeps_dates(s) || !keeps_frequency(s) {
+        bail!("no such periods");
+    }
+    match regular_span(s) {
+        Ok(span) => list_told(alloc, boundaries_by(alloc, s, &span)),
+        Err(fault) => fault_text(alloc, fault),
+    }
+}
+
+// The boundaries, each adjusted by the days of the centres that go with it.
+fn adjusted_boundaries(
+    alloc: Global,
+    calendars: &Calendars,
+    s: &Stream,
+    list: &DayList,
+) -> Result<String>
+    requires dates { DatesInOrder s.now }
+    requires listed { (span : Span) × Boundaries s.now span list.now }
+{
+    let start = days_of(alloc, calendars, &s.first_date().adj.centers)?;
+    let end = days_of(alloc, calendars, &s.termination.adj.centers)?;
+    let middle = days_of(alloc, calendars, &s.period_adj.centers)?;
+    list_told(alloc, adjusted(alloc, s, list, &start, &end, &middle))
+}
+
+/// The adjusted boundaries of a stream.
+pub fn adjusted_lines(alloc: Global, calendars: &Calendars, s: &Stream) -> Result<String>
+    requires { IsLawfulStream s.now }
+{
+    if !keeps_dates(s) || !keeps_frequency(s) {
+        bail!("no such periods");
+    }
+    let span = match regular_span(s) {
+        Ok(span) => span,
+        Err(fault) => return fault_text(alloc, fault),
+    };
+    match boundaries_by(alloc, s, &span) {
+        Ok(list) => adjusted_boundaries(alloc, calendars, s, &list),
+        Err(stopped) => stopped_text(alloc, stopped),
+    }
+}
+
+ghost use Rattle.irs_terms.specs.declared.results.Span.{Span};
+ghost use Rattle.irs_periods.specs.Boundaries.{Boundaries};

@@ -1,0 +1,127 @@
+//! What is told of resets: a line of the reset date and the fixing date of each period, and a line of
+//! its observed rate; `none` where there are no resets; or the rule that is broken.
+//!
+//! The regular span of a row is from its first regular date to its last.
+ghost use Rattle.std.specs.Prelude.{IsTrue};
+ghost use Rattle.irs_terms.specs.Lawful.{IsLawfulStream};
+ghost use Rattle.irs_terms.specs.DayTypes.{IsSaid, IsSaidFixing, IsSaidReset};
+ghost use Rattle.irs_terms.specs.Legs.{FitsLeg};
+
+use crate::boundaries::{Boundaries, is_rising};
+use crate::good_days::days_of;
+use crate::sources::Sources;
+use crate::texts::{day_text, given_rate, push_behind, stopped_text};
+use anyhow::{Context, Result, bail};
+use irs_calendar::RunSet;
+use irs_resets::resets;
+use irs_terms::{DayKind, FixTerms, Leg, Offset, Reset, Resets, Span, Stream};
+use std::alloc::Global;
+
+fn is_said(offset: &Offset) -> bool
+    ensures { IsTrue result → IsSaid offset.now }
+{
+    match offset.kind {
+        DayKind::Business | DayKind::Calendar => true,
+        DayKind::Unsaid => offset.days == 0,
+    }
+}
+
+fn is_said_fixing(fixing: &Option<FixTerms>) -> bool
+    ensures { IsTrue result → IsSaidFixing fixing.now }
+{
+    match fixing {
+        Some(fixing) => is_said(&fixing.offset),
+        None => true,
+    }
+}
+
+// Whether the offset of the fixing dates says which days it counts.
+fn is_said_reset(s: &Stream) -> bool
+    ensures { IsTrue result → IsSaidReset s.now }
+{
+    match &s.reset {
+        Some(reset) => is_said_fixing(&reset.fixing),
+        None => true,
+    }
+}
+
+// Whether there are reset dates with a floating rate alone, and stubs' rates with it alone.
+fn fits_leg(s: &Stream) -> bool
+    ensures { IsTrue result → FitsLeg s.now }
+{
+    match &s.leg {
+        Leg::Fixed(_) => s.reset.is_none() && s.stubs.is_none(),
+        Leg::Floating(_) => s.reset.is_some(),
+    }
+}
+
+fn regular_part(s: &Stream) -> Result<Span> {
+    let first = s.first_regular.context("a first regular date")?;
+    let last = s.last_regular.context("a last regular date")?;
+    Ok(Span {
+        first,
+        last,
+        anchor: first,
+    })
+}
+
+// The good days of the reset dates; all days where there are none.
+fn reset_days(alloc: Global, sources: &Sources, s: &Stream) -> Result<RunSet> {
+    match &s.reset {
+        Some(reset) => days_of(alloc, &sources.calendars, &reset.adj.centers),
+        None => Ok(RunSet::all()),
+    }
+}
+
+// The good days of the fixing dates; all days where there are none.
+fn fixing_days(alloc: Global, sources: &Sources, s: &Stream) -> Result<RunSet> {
+    let Some(reset) = &s.reset else {
+        return Ok(RunSet::all());
+    };
+    match &reset.fixing {
+        Some(fixing) => days_of(alloc, &sources.calendars, &fixing.adj.centers),
+        None => Ok(RunSet::all()),
+    }
+}
+
+fn dates_text(alloc: Global, reset: &Reset) -> Result<String> {
+    let first = day_text(alloc, reset.reset)?;
+    let second = day_text(alloc, reset.fixing)?;
+    let text = format!(in alloc; "{first} fixed {second}")?;
+    Ok(text)
+}
+
+fn list_told(alloc: Global, list: &Resets) -> Result<String> {
+    let (mut dates, mut rates) = (String::new(alloc), String::new(alloc));
+    for reset in list.as_slice() {
+        push_behind(&mut dates, ", ", &dates_text(alloc, reset)?)?;
+        push_behind(&mut rates, " ", &given_rate(alloc, reset.observed)?)?;
+    }
+    if dates.is_empty() {
+        return Ok(String::from_str(alloc, "none")?);
+    }
+    let lines = format!(in alloc; "{dates}\n{rates}")?;
+    Ok(lines)
+}
+
+/// The resets of a stream over boundaries.
+pub fn reset_lines(
+    alloc: Global,
+    sources: &Sources,
+    s: &Stream,
+    boundaries: &Boundaries,
+) -> Result<String>
+    requires { IsLawfulStream s.now }
+{
+    let list = &boundaries.adjusted;
+    if !fits_leg(s) || !is_said_reset(s) || !is_rising(list.as_slice()) {
+        bail!("no such resets");
+    }
+    let span = regular_part(s)?;
+    let days = reset_days(alloc, sources, s)?;
+    let fixing_days = fixing_days(alloc, sources, s)?;
+    match resets(alloc, s, &span, list, &days, &fixing_days, &sources.fixings) {
+        Ok(list) => list_told(alloc, &list),
+        Err(stopped) => stopped_text(alloc, stopped),
+    }
+}
