@@ -10,7 +10,7 @@ ghost use Rattle.irs_calendar.specs.Runs.{set_of_runs};
 ghost use Rattle.irs_calendar.specs.Files.{sections_of};
 ghost use Rattle.irs_calendar.specs.GoodDays.{SameDays};
 ghost use Rattle.irs_calendar.specs.Sections.{is_named, section_named, AreDistinct};
-ghost use Rattle.irs_calendar.specs.Selected.{sections_named, day_set_of, first_missing};
+ghost use Rattle.irs_calendar.specs.Selected.{sections_named, day_set_of, first_missing, CoversCommon};
 ghost use Rattle.irs_calendar.specs.declared.sections.Section.{Section};
 ghost use Rattle.irs_calendar.specs.declared.calendars.SelErr.TheVariants.{Memory as NoMemory};
 ghost use Rattle.irs_calendar.specs.Calendars.{calendars_in, in_file, spot_of, GivesAll, SelFails};
@@ -186,6 +186,8 @@ impl Calendars {
         requires { length names.now ≤ most_centers }
         ensures found { IsOk result → first_missing self.now 1 names.now ≡ None }
         ensures days { IfOk result (λ s. SameDays (set_of_runs s) (day_set_of self.now names.now)) }
+        // A day is in the cover exactly where each named section's cover has it.
+        ensures cover { IfOk result (λ s. CoversCommon (sections_named self.now names.now) (set_of_runs s)) }
         ensures missing { IfErr result (λ e. SelFails e (first_missing self.now 1 names.now)) }
     {
         let picked = pick(alloc, &self.sections, names.as_slice())?;
