@@ -538,3 +538,180 @@ fault_behind : (f : Fault) (files lines rest : List (List ℕ)) (earlier : List 
 fault_behind f files lines [] earlier t c r e =
     (end_syntax t.done t.part f e, (λ before own s. end_differs (sym e ∙ ends_with files lines earlier before own t c r s)))
 fault_behind f files lines (l ∷ ls) earlier t c r e = (goes_no_further files lines earlier t l f c r e, line_kind f files lines earlier t l c r e)
+
+-- over the files in order
+
+spot_at : Fault → ℕ → ℕ → Spot
+spot_at f k n = record { fault = f; file = k; line = n }
+
+first_in_file : (before after : List (List ℕ)) (file : List ℕ) (earlier : List Section) (p : Place) → CalFiles before earlier → sections_of earlier file ≡ Err p → IsFirstFault (before ++ file ∷ after) (record { fault = p.0; file = 1 + length before; line = p.1 })
+first_in_file before after file earlier p c e =
+    let st = stop 1 p.1 (fresh earlier) (lines_of file) p.0 e in
+    record {
+      before = before;
+      file = file;
+      after = after;
+      lines = st.front;
+      rest = st.rest;
+      files_are = refl;
+      lines_are = st.split;
+      file_number = refl;
+      line_number = st.place;
+      goes_on = can_go_on before st.front earlier st.at c st.reaches;
+      behind = fault_behind p.0 before st.front st.rest earlier st.at c st.reaches st.fails;
+    }
+
+then_file_err : {A B : Type 0} (r : Result A Spot) (f : A → Result B Spot) (s : Spot) → then_file r f ≡ Err s → (r ≡ Err s) ⊎ ((x : A) × (r ≡ Ok x) × (f x ≡ Err s))
+then_file_err (Ok x) f s e = inr (x, refl, e)
+then_file_err (Err p) f s e = inl (same_error e)
+  where
+    same_error : {X Y : Type 0} {p q : Spot} → ◌≡◌ {A = Result X Spot} (Err p) (Err q) → ◌≡◌ {A = Result Y Spot} (Err p) (Err q)
+    same_error e = cc e
+
+in_file_err : {A : Type 0} (k : ℕ) (r : Result A Place) (s : Spot) → in_file k r ≡ Err s → (p : Place) × (r ≡ Err p) × (s ≡ record { fault = p.0; file = k; line = p.1 })
+in_file_err k (Ok x) s e = absurd (cc e)
+in_file_err k (Err p) s e = (p, refl, sym (same_spot e))
+  where
+    same_spot : {X : Type 0} {p q : Spot} → ◌≡◌ {A = Result X Spot} (Err p) (Err q) → p ≡ q
+    same_spot e = cc e
+
+one_file_more : (k : ℕ) (d done next : List Section) (before : List (List ℕ)) (f : List ℕ) → calendars_in k d before ≡ Ok done → sections_of done f ≡ Ok next → calendars_in k d (before ++ f ∷ []) ≡ Ok next
+unfolding calendars_in
+one_file_more k d done next [] f e h = rw (subst (λ (x : List Section). sections_of x f ≡ Ok next) (sym (same_sections e)) h) refl
+one_file_more k d done next (g ∷ gs) f e h =
+    let p = then_file_ok (in_file k (sections_of d g)) (λ x. calendars_in (k + 1) x gs) done e in
+    rw (file_ok k (sections_of d g) p.0 p.1) (one_file_more (k + 1) p.0 done next gs f p.2 h)
+
+length_one_more : (before : List (List ℕ)) (f : List ℕ) → length (before ++ f ∷ []) ≡ suc (length before)
+length_one_more [] f = refl
+length_one_more (g ∷ gs) f = ap suc (length_one_more gs f)
+
+next_file : (k n m : ℕ) → k ≡ 1 + n → m ≡ suc n → k + 1 ≡ 1 + m
+next_file k n m h g = omega (arith, h, g)
+
+first_from : (before fs : List (List ℕ)) (done : List Section) (k : ℕ) (s : Spot) → calendars_in 1 [] before ≡ Ok done → k ≡ 1 + length before → calendars_in k done fs ≡ Err s → IsFirstFault (before ++ fs) s
+unfolding calendars_in
+first_from before [] done k s read number e = absurd (cc e)
+first_from before (f ∷ fs) done k s read number e = elim (then_file_err (in_file k (sections_of done f)) (λ d. calendars_in (k + 1) d fs) s e) [
+  | inl fails ↦
+      let p = in_file_err k (sections_of done f) s fails in
+      let c = read_is_spelt before done (calendars_apart 1 [] before done tt read) read in
+      let spot : s ≡ record { fault = p.0.0; file = 1 + length before; line = p.0.1 } = subst (λ (n : ℕ). s ≡ record { fault = p.0.0; file = n; line = p.0.1 }) number p.2 in
+      subst (IsFirstFault (before ++ f ∷ fs)) (sym spot) (first_in_file before fs f done p.0 c p.1)
+  | inr goes ↦
+      let here' = file_ok k (sections_of done f) goes.0 goes.1 in
+      subst (λ (x : List (List ℕ)). IsFirstFault x s) (append_assoc before (f ∷ []) fs)
+        (first_from (before ++ f ∷ []) fs goes.0 (k + 1) s (one_file_more 1 [] done goes.0 before f read here') (next_file k (length before) (length (before ++ f ∷ [])) number (length_one_more before f)) goes.2)
+]
+
+nothing_read : calendars_in 1 [] [] ≡ Ok []
+unfolding calendars_in
+nothing_read = refl
+
+-- reading fails at the first fault alone
+pub fault_is_first : (files : List (List ℕ)) (s : Spot) → calendars_in 1 [] files ≡ Err s → IsFirstFault files s
+fault_is_first files s e = first_from [] files [] 1 s nothing_read refl e
+
+-- and the first fault is where reading fails
+
+walk : (n : ℕ) (s : State) (ls more : List (List ℕ)) (ss : List Section) → sections_in n s (ls ++ more) ≡ Ok ss → (t : State) × Reaches s t ls
+unfolding sections_in
+walk n s [] more ss e = (s, reaches_none s)
+walk n s (l ∷ ls) more ss e =
+    let p = then_ok (numbered n (after_line s (kind_of l))) (λ t. sections_in (n + 1) t (ls ++ more)) ss e in
+    let step = numbered_ok n (after_line s (kind_of l)) p.0 p.1 in
+    let r = walk (n + 1) p.0 ls more ss p.2 in
+    (r.0, reaches_more s p.0 r.0 l ls step r.1)
+
+either : {A E : Type 0} (r : Result A E) → ((x : A) × (r ≡ Ok x)) ⊎ ((e : E) × (r ≡ Err e))
+either (Ok x) = inl (x, refl)
+either (Err e) = inr (e, refl)
+
+center_or_holiday : (s : Said) (n : List ℕ) (d : ℤ) → s ≡ Center n → s ≡ Holiday d → ⊥
+center_or_holiday s n d a b = cc (a, b)
+
+one_kind : (f g : Fault) (files lines : List (List ℕ)) (l : List ℕ) → IsKind f files lines l → IsKind g files lines l → f ≡ g
+one_kind Syntax Syntax files lines l a b = refl
+one_kind Syntax Repeat files lines l a b = absurd (a.0 b)
+one_kind Syntax TooMany files lines l a b = absurd (a.1 b)
+one_kind Repeat Syntax files lines l a b = absurd (b.0 a)
+one_kind Repeat Repeat files lines l a b = refl
+one_kind Repeat TooMany files lines l a b = absurd (center_or_holiday (kind_of l) a.name b.day a.says b.says)
+one_kind TooMany Syntax files lines l a b = absurd (b.1 a)
+one_kind TooMany Repeat files lines l a b = absurd (center_or_holiday (kind_of l) b.name a.day b.says a.says)
+one_kind TooMany TooMany files lines l a b = refl
+
+end_fails : (f : Fault) (files lines : List (List ℕ)) (earlier : List Section) (t : State) → CalFiles files earlier → Reaches (fresh earlier) t lines → IsFaultBehind f files lines [] → at_end t.done t.part ≡ Err f
+end_fails f files lines earlier t c r b = elim (either (at_end t.done t.part)) [
+  | inl ends ↦
+      let s = reads_spell 1 files lines earlier ends.0 c (lines_end earlier t lines r ∙ ap (λ (x : Result (List Section) Fault). numbered (1 + length lines) x) ends.1) in
+      absurd (b.1 earlier s.0 s.2)
+  | inr fails ↦ fails.1 ∙ ap (λ (g : Fault). Err g) (end_syntax t.done t.part fails.0 fails.1 ∙ sym b.0)
+]
+
+line_fails : (f : Fault) (files lines ls : List (List ℕ)) (l : List ℕ) (earlier : List Section) (t : State) → CalFiles files earlier → Reaches (fresh earlier) t lines → IsFaultBehind f files lines (l ∷ ls) → after_line t (kind_of l) ≡ Err f
+line_fails f files lines ls l earlier t c r b = elim (either (after_line t (kind_of l))) [
+  | inl goes ↦
+      let u = goes.0 in
+      let end = can_end ((1 + length lines) + 1) u.done u.part in
+      let read = r.reads 1 (l ∷ end.0) ∙ read_one (1 + length lines) t u l end.0 goes.1 ∙ end.2 in
+      let s = reads_spell 1 files (lines ++ l ∷ end.0) earlier end.1 c read in
+      let behind' = subst (λ (x : List (List ℕ)). Spells files x earlier s.0) (sym (append_assoc lines (l ∷ []) end.0)) s.2 in
+      absurd (b.0 (record { more = end.0; earlier = earlier; own = s.0; spells = behind' }))
+  | inr fails ↦ fails.1 ∙ ap (λ (g : Fault). Err g) (one_kind fails.0 f files lines l (line_kind fails.0 files lines earlier t l c r fails.1) b.1)
+]
+
+end_err : (n : ℕ) (t : State) (f : Fault) → at_end t.done t.part ≡ Err f → sections_in n t [] ≡ Err (f, n)
+unfolding sections_in
+end_err n t f e = rw e refl
+
+behind_fails : (f : Fault) (files lines rest : List (List ℕ)) (earlier : List Section) (t : State) → CalFiles files earlier → Reaches (fresh earlier) t lines → IsFaultBehind f files lines rest → sections_in 1 (fresh earlier) (lines ++ rest) ≡ Err (f, 1 + length lines)
+behind_fails f files lines [] earlier t c r b = r.reads 1 [] ∙ end_err (1 + length lines) t f (end_fails f files lines earlier t c r b)
+behind_fails f files lines (l ∷ ls) earlier t c r b = r.reads 1 (l ∷ ls) ∙ reads_err (1 + length lines) t l ls f (line_fails f files lines ls l earlier t c r b)
+
+files_behind : (k : ℕ) (d done : List Section) (before fs : List (List ℕ)) → calendars_in k d before ≡ Ok done → calendars_in k d (before ++ fs) ≡ calendars_in (k + length before) done fs
+unfolding calendars_in
+files_behind k d done [] fs e = subst (λ (x : List Section). calendars_in k d fs ≡ calendars_in (k + 0) x fs) (same_sections e) (ap (λ (n : ℕ). calendars_in n d fs) (plus_none k))
+files_behind k d done (g ∷ gs) fs e =
+    let p = then_file_ok (in_file k (sections_of d g)) (λ x. calendars_in (k + 1) x gs) done e in
+    rw (file_ok k (sections_of d g) p.0 p.1) (files_behind (k + 1) p.0 done gs fs p.2 ∙ ap (λ (n : ℕ). calendars_in n done fs) (plus_one k (length gs)))
+  where
+    plus_one : (n k : ℕ) → (n + 1) + k ≡ n + suc k
+    plus_one n k = omega arith
+
+file_fails : (k : ℕ) (done : List Section) (file : List ℕ) (fs : List (List ℕ)) (p : Place) → sections_of done file ≡ Err p → calendars_in k done (file ∷ fs) ≡ Err (record { fault = p.0; file = k; line = p.1 })
+unfolding calendars_in
+file_fails k done file fs p e = rw e refl
+
+-- the first fault of the files is what reading them gives
+pub first_is_fault : (files : List (List ℕ)) (s : Spot) → IsFirstFault files s → calendars_in 1 [] files ≡ Err s
+first_is_fault files s x =
+    let go = x.goes_on in
+    let c = go.spells.before in
+    let w = walk 1 (fresh go.earlier) x.lines go.more (go.earlier ++ go.own) (spelt_reads 1 x.before (x.lines ++ go.more) go.earlier go.own go.spells) in
+    let fails = behind_fails s.fault x.before x.lines x.rest go.earlier w.0 c w.1 x.behind in
+    let file_errs = subst (λ (ls : List (List ℕ)). sections_in 1 (fresh go.earlier) ls ≡ Err (s.fault, 1 + length x.lines)) (sym x.lines_are) fails in
+    let whole = files_behind 1 [] go.earlier x.before (x.file ∷ x.after) (spelt_is_read x.before go.earlier c) ∙ file_fails (1 + length x.before) go.earlier x.file x.after (s.fault, 1 + length x.lines) file_errs in
+    let here' = subst (λ (fs : List (List ℕ)). calendars_in 1 [] fs ≡ Err (record { fault = s.fault; file = 1 + length x.before; line = 1 + length x.lines })) (sym x.files_are) whole in
+    here' ∙ ap (λ (k : ℕ). Err (record { fault = s.fault; file = k; line = 1 + length x.lines })) (sym x.file_number) ∙ ap (λ (n : ℕ). Err (record { fault = s.fault; file = s.file; line = n })) (sym x.line_number)
+
+same_spots : {A : Type 0} {p q : Spot} → ◌≡◌ {A = Result A Spot} (Err p) (Err q) → p ≡ q
+same_spots e = cc e
+
+apart_spots : {A : Type 0} {p : Spot} {x : A} → ◌≡◌ {A = Result A Spot} (Err p) (Ok x) → ⊥
+apart_spots e = cc e
+
+-- at most one fault is the first
+pub one_first_fault : (files : List (List ℕ)) (s t : Spot) → IsFirstFault files s → IsFirstFault files t → s ≡ t
+one_first_fault files s t a b = same_spots (sym (first_is_fault files s a) ∙ first_is_fault files t b)
+
+-- files with a fault spell no sections
+pub faulty_spell_none : (files : List (List ℕ)) (s : Spot) (ss : List Section) → IsFirstFault files s → CalFiles files ss → ⊥
+faulty_spell_none files s ss a c = apart_spots (sym (first_is_fault files s a) ∙ spelt_is_read files ss c)
+
+-- files spell sections, or have a first fault
+pub spelt_or_faulty : (files : List (List ℕ)) → ((ss : List Section) × CalFiles files ss) ⊎ ((s : Spot) × IsFirstFault files s)
+spelt_or_faulty files = elim (either (calendars_in 1 [] files)) [
+  | inl read ↦ inl (read.0, read_is_spelt files read.0 (calendars_apart 1 [] files read.0 tt read.1) read.1)
+  | inr fails ↦ inr (fails.0, fault_is_first files fails.0 fails.1)
+]

@@ -1,5 +1,5 @@
 -- The first faulty line of calendar files: what stands before it can go on to lawful files, and with it nothing can.
-use Rattle.std.specs.Prelude.{◌≡◌, ℕ, ◌+◌, true, List, [], ◌∷◌, ◌++◌, length, ℤ}
+use Rattle.std.specs.Prelude.{◌≡◌, ◌⊎◌, ℕ, ◌+◌, true, List, [], ◌∷◌, ◌++◌, length, ℤ}
 use Rattle.irs_base.specs.Limits.{most_holidays}
 use Rattle.irs_base.specs.Lines.{lines_of}
 use Rattle.irs_calendar.specs.declared.sections.Section.{Section}
@@ -69,3 +69,11 @@ pub record IsFirstFault (files : List (List ℕ)) (s : Spot) : Type 0 where
   pub line_number : s.line ≡ 1 + length lines
   pub goes_on : CanGoOn before lines
   pub behind : IsFaultBehind s.fault before lines rest
+
+-- at most one fault is the first
+abbrev pub HaveOneFirstFault : List (List ℕ) → Type 0
+HaveOneFirstFault files = (s t : Spot) → IsFirstFault files s → IsFirstFault files t → s ≡ t
+
+-- the files spell sections, or have a first fault
+abbrev pub AreSpeltOrFaulty : List (List ℕ) → Type 0
+AreSpeltOrFaulty files = ((ss : List Section) × CalFiles files ss) ⊎ ((s : Spot) × IsFirstFault files s)
