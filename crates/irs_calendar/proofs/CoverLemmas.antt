@@ -1,12 +1,10 @@
 -- What covers have in common.
-use Rattle.std.proofs.Common.{◌≡◌, ◌↔◌, ℕ, suc, ◌+◌, ◌<◌, ◌≤◌, Bool, true, false, List, [], ◌∷◌, map, drop, length, get_or, arith, refl, sym, ◌∙◌, ap, subst, ℤ, ◌≤ℤ◌, Bor, Result, Ok, Err, IfOk}
+use Rattle.std.proofs.Common.{◌≡◌, ℕ, suc, ◌+◌, ◌<◌, ◌≤◌, Bool, true, false, List, [], ◌∷◌, map, drop, length, get_or, arith, refl, sym, ◌∙◌, ap, subst, ℤ, ◌≤ℤ◌, Bor}
 use Rattle.std.proofs.Math.Seq.{drop-cons}
 use Rattle.irs_calendar.specs.declared.sections.Section.{Section}
-use Rattle.std.specs.Ordering.{int_cmp, is_lt}
 use Rattle.jiff_core.proofs.SignedLemmas.{signed_arith}
-use Rattle.irs_base.specs.Days.{first_day, last_day, IsDay}
-use Rattle.irs_base.proofs.Orders.{lt_true, lt_false}
-use Rattle.irs_calendar.specs.GoodDays.{DaySet, SameDays, InCover}
+use Rattle.irs_base.specs.Days.{first_day, last_day}
+use Rattle.irs_calendar.specs.GoodDays.{DaySet, SameDays}
 use Rattle.irs_calendar.specs.Runs.{CoveredRuns, set_of_runs}
 use Rattle.irs_calendar.specs.Represents.{Represents}
 use Rattle.irs_calendar.specs.Selected.{later, earlier, latest_first, earliest_last, set_of_sections, AllCover, CoversCommon}

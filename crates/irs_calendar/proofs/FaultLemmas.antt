@@ -1,5 +1,5 @@
 -- Reading line by line stops exactly at the first faulty line.
-use Rattle.std.proofs.Common.{◌≡◌, ◌⊎◌, inl, inr, ℕ, suc, ◌+◌, ◌≤◌, Bool, true, false, ◌&&◌, List, [], ◌∷◌, ◌++◌, length, Result, Ok, Err, nat_le, append_assoc, arith, refl, sym, ◌∙◌, ap, subst, ℤ, ◌≤ℤ◌}
+use Rattle.std.proofs.Common.{◌≡◌, ◌⊎◌, inl, inr, ℕ, suc, ◌+◌, ◌≤◌, Bool, true, ◌&&◌, List, [], ◌∷◌, ◌++◌, length, Result, Ok, Err, nat_le, append_assoc, arith, refl, sym, ◌∙◌, ap, subst, ℤ}
 use Rattle.std.specs.Ordering.{int_cmp, is_le}
 use Rattle.std.proofs.lemmas.List.{append-nil}
 use Rattle.jiff_core.specs.Calendar.{days_from_civil, day_count, days_of_years, days_of_months}
@@ -18,10 +18,10 @@ use Rattle.irs_calendar.specs.Machine.{Said, Nothing, Center, Cover, Weekend, Ho
 use Rattle.irs_calendar.specs.Words.{kind_of, no_days}
 use Rattle.irs_calendar.specs.Files.{Place, numbered, then_read, sections_in, sections_of}
 use Rattle.irs_calendar.specs.Calendars.{Spot, in_file, then_file, calendars_in}
-use Rattle.irs_calendar.specs.Grammar.{said_lines, spelt, RisesWithin, IsLawful, AreLawful, CalFiles}
+use Rattle.irs_calendar.specs.Grammar.{RisesWithin, CalFiles}
 use Rattle.irs_calendar.specs.FirstFaults.{Spells, CanGoOn, IsRepeat, IsOneTooMany, IsKind, IsFaultBehind, IsFirstFault}
 use Rattle.irs_calendar.proofs.DistinctLemmas.{same_state, then_ok, numbered_ok, then_file_ok, file_ok, calendars_apart, sections_apart}
-use Rattle.irs_calendar.proofs.GrammarLemmas.{true_or_false, reads_continue, Continues, IsLawfulPart, lines_read, rises_more, rises_to, lawful_back, read_is_spelt, spelt_is_read}
+use Rattle.irs_calendar.proofs.GrammarLemmas.{true_or_false, reads_continue, lines_read, rises_more, rises_to, lawful_back, read_is_spelt, spelt_is_read}
 
 -- a file's beginning
 abbrev fresh : List Section → State
@@ -601,7 +601,7 @@ first_from before (f ∷ fs) done k s read number e = elim (then_file_err (in_fi
   | inr goes ↦
       let here' = file_ok k (sections_of done f) goes.0 goes.1 in
       subst (λ (x : List (List ℕ)). IsFirstFault x s) (append_assoc before (f ∷ []) fs)
-        (first_from (before ++ f ∷ []) fs goes.0 (k + 1) s (one_file_more 1 [] done goes.0 before f read here') (next_file k (length before) (length (before ++ f ∷ [])) number (length_one_more before f)) goes.2)
+      (first_from (before ++ f ∷ []) fs goes.0 (k + 1) s (one_file_more 1 [] done goes.0 before f read here') (next_file k (length before) (length (before ++ f ∷ [])) number (length_one_more before f)) goes.2)
 ]
 
 nothing_read : calendars_in 1 [] [] ≡ Ok []

@@ -18,6 +18,10 @@ pub record Spells (files lines : List (List ℕ)) (earlier own : List Section) :
   pub distinct : AreDistinct (earlier ++ own)
   pub lawful : AreLawful own
 
+-- the lines of the one file more spell no sections
+abbrev pub SpellNone : List (List ℕ) → List (List ℕ) → Type 0
+SpellNone files lines = (earlier own : List Section) → Spells files lines earlier own → ⊥
+
 -- some lines, put behind those of one more file, make it spell sections
 pub record CanGoOn (files lines : List (List ℕ)) : Type 0 where
   pub more : List (List ℕ)
@@ -53,8 +57,8 @@ IsKind TooMany files lines line = IsOneTooMany files lines line
 
 -- what comes behind the lines is at fault: the next line, or the file's end, where no sections are spelt
 abbrev pub IsFaultBehind : Fault → List (List ℕ) → List (List ℕ) → List (List ℕ) → Type 0
-IsFaultBehind fault files lines [] = (fault ≡ Syntax) × ((earlier own : List Section) → Spells files lines earlier own → ⊥)
-IsFaultBehind fault files lines (l ∷ ls) = (CanGoOn files (lines ++ l ∷ []) → ⊥) × IsKind fault files lines l
+IsFaultBehind fault files lines [] = (fault ≡ Syntax) × SpellNone files lines
+IsFaultBehind fault files lines (line ∷ rest) = (CanGoOn files (lines ++ line ∷ []) → ⊥) × IsKind fault files lines line
 
 -- the first fault of the files, with the position of its file and of its line, both from 1
 pub record IsFirstFault (files : List (List ℕ)) (s : Spot) : Type 0 where

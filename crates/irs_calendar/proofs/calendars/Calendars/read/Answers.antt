@@ -47,7 +47,7 @@ pub returns-clause-faultless : goal.returns-clause-faultless
 returns-clause-faultless c = λ s first.
     let apart = calendars_apart 1 [] (texts c.args.files.now) c.in_ok-sections.sections tt c.in_ok-sections.ensures in
     faulty_spell_none (texts c.args.files.now) s c.in_ok-sections.sections first
-        (read_is_spelt (texts c.args.files.now) c.in_ok-sections.sections apart c.in_ok-sections.ensures)
+    (read_is_spelt (texts c.args.files.now) c.in_ok-sections.sections apart c.in_ok-sections.ensures)
 
 pub returns-in_err-sections-clause-decided : goal.returns-in_err-sections-clause-decided
 returns-in_err-sections-clause-decided c = spelt_or_faulty (texts c.args.files.now)

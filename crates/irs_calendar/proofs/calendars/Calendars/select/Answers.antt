@@ -1,9 +1,6 @@
-use Rattle.std.proofs.Common.{rules, ◌≡◌, ℕ, List, map, Some, Ok, IfOk, None, Bor, subst}
-use Rattle.irs_base.specs.Limits.{most_centers}
+use Rattle.std.proofs.Common.{rules}
 use Rattle.irs_calendar.specs.Runs.{set_of_runs}
-use Rattle.irs_calendar.specs.GoodDays.{SameDays}
-use Rattle.irs_calendar.specs.Selected.{sections_named, day_set_of, CoversCommon}
-use Rattle.irs_calendar.specs.declared.sections.Section.{Section}
+use Rattle.irs_calendar.specs.Selected.{sections_named}
 use Rattle.irs_calendar.proofs.CoverLemmas.{covers_common}
 use Rattle.irs_calendar.proofs.calendars.Calendars.select.Goals as goal
 
