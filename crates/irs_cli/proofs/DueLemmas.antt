@@ -8,7 +8,9 @@ use Rattle.irs_read.specs.Documents.{DocumentFault}
 use Rattle.irs_read.specs.Meaning.{swap_in}
 use Rattle.irs_read.specs.Reading.{Means}
 use Rattle.irs_terms.specs.declared.stream_list.Swap.{Swap}
-use Rattle.irs_calendar.specs.Calendars.{Spot, calendars_in}
+use Rattle.irs_calendar.specs.Calendars.{Spot}
+use Rattle.irs_calendar.specs.FirstFaults.{IsFirstFault as IsFirstCalendarFault}
+use Rattle.irs_calendar.proofs.FaultLemmas.{faulty_spell_none, one_first_fault}
 use Rattle.irs_calendar.specs.Grammar.{CalFiles}
 use Rattle.irs_calendar.specs.declared.sections.Section.{Section}
 use Rattle.irs_calendar.proofs.GrammarLemmas.{spelt_is_read}
@@ -30,7 +32,7 @@ use Rattle.irs_json.specs.declared.reading.JsonErr.{JsonErr}
 use Rattle.irs_json.specs.declared.reading.JsonErr.TheVariants as json
 use Rattle.irs_base.specs.declared.stopped.Stopped.{Stopped}
 use Rattle.irs_base.specs.declared.stopped.Stopped.TheVariants as stopped
-use Rattle.irs_calendar.specs.Calendars.{SpotFails, spot_of}
+use Rattle.irs_calendar.specs.Calendars.{spot_of}
 use Rattle.irs_calendar.specs.declared.calendars.CalErr.{CalErr}
 use Rattle.irs_calendar.specs.declared.calendars.CalErr.TheVariants as calendar
 use Rattle.irs_resets.specs.declared.fixings.FixErr.TheVariants as fixing
@@ -105,17 +107,13 @@ due_document task g v b reads first =
       case = no_swap v reads (λ k. none k.0 (v, reads, k.1));
     }
 
--- files with a faulty line spell no sections
-no_sections : (files : List (List ℕ)) (s : Spot) (cal : List Section) → calendars_in 1 [] files ≡ Err s → CalFiles files cal → ⊥
-no_sections files s cal e h = let k : calendars_in 1 [] files ≡ Ok cal = spelt_is_read files cal h in cc
-
-pub due_calendars : (task : Task) (g : Given) (swap : Swap) (s : Spot) → SpellsSwap g.document swap → calendars_in 1 [] g.calendars ≡ Err s → DueFor task g 3 (bad_calendar s)
+pub due_calendars : (task : Task) (g : Given) (swap : Swap) (s : Spot) → SpellsSwap g.document swap → IsFirstCalendarFault g.calendars s → DueFor task g 3 (bad_calendar s)
 due_calendars task g swap s spells e =
-    let none : (cal : List Section) → CalFiles g.calendars cal → ⊥ = λ cal h. no_sections g.calendars s cal e h in
+    let none : (cal : List Section) → CalFiles g.calendars cal → ⊥ = λ cal h. faulty_spell_none g.calendars s cal e h in
     record {
       unread = λ n. absurd (n (spells.0, spells.1));
       document = λ v reads n. absurd (n (swap, subst (λ (d : Data). Means d swap) (one_reading g.document v spells.0 reads spells.1) spells.2));
-      calendars = λ _ _ _. (s, e, (refl, refl));
+      calendars = λ _ _ _. (s, record { is = e; only = λ t h. one_first_fault g.calendars t s h e }, (refl, refl));
       fixings = λ _ cal _ h _. absurd (none cal h);
       terms = λ _ cal table h _. absurd (none cal h.calendars);
       dated = λ _ cal table h _ _. absurd (none cal h.calendars);
@@ -258,7 +256,7 @@ refuse_read bytes v stopped.Memory reads first = tt
 pub refuse_document : (g : Given) (bytes : List ℕ) (r : Refusal) → g.document ≡ bytes → IfRefused r (DueWith bytes) → IfRefused r (λ status text. (task : Task) → Concludes task g status text)
 refuse_document g bytes r same h = some_more (answer_of r) (DueWith bytes) (λ status text. (task : Task) → Concludes task g status text) (λ status text k. λ task. k task g same) h
 
-pub refuse_calendars : (g : Given) (swap : Swap) (e : CalErr) → SpellsSwap g.document swap → SpotFails (spot_of e) (calendars_in 1 [] g.calendars) → IfRefused (Calendars e) (λ status text. (task : Task) → Concludes task g status text)
+pub refuse_calendars : (g : Given) (swap : Swap) (e : CalErr) → SpellsSwap g.document swap → IfSome (spot_of e) (IsFirstCalendarFault g.calendars) → IfRefused (Calendars e) (λ status text. (task : Task) → Concludes task g status text)
 refuse_calendars g swap (calendar.Syntax file line) spells h = λ task. record { due = due_calendars task g swap _ spells h; verdict = omega arith }
 refuse_calendars g swap (calendar.Repeat file line) spells h = λ task. record { due = due_calendars task g swap _ spells h; verdict = omega arith }
 refuse_calendars g swap (calendar.TooMany file line) spells h = λ task. record { due = due_calendars task g swap _ spells h; verdict = omega arith }

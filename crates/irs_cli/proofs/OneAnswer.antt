@@ -1,5 +1,5 @@
 -- Where the source tells every file that the words name, one status and one text are due.
-use Rattle.std.proofs.Common.{◌≡◌, ℕ, List, Option, Err, sym, ◌∙◌, subst}
+use Rattle.std.proofs.Common.{◌≡◌, ℕ, List, sym, ◌∙◌, subst}
 use Rattle.irs_base.specs.Order.{First, Only, is_before}
 use Rattle.irs_base.specs.declared.places.Broken.{Broken}
 use Rattle.irs_audit.specs.FlowFaults.{FlowFault}
@@ -7,7 +7,7 @@ use Rattle.irs_audit.specs.FlowReading.{kind_of}
 use Rattle.irs_audit.specs.Verdicts.{IsVerdict}
 use Rattle.irs_audit.specs.declared.departures.Verdict.{Verdict}
 use Rattle.irs_calendar.specs.declared.sections.Section.{Section}
-use Rattle.irs_calendar.specs.Calendars.{Spot}
+use Rattle.irs_calendar.specs.FirstFaults.{IsFirstFault as IsFirstCalendarFault}
 use Rattle.irs_read.specs.Documents.{DocumentFault}
 use Rattle.irs_resets.specs.Rates.{RateTable}
 use Rattle.irs_resets.specs.declared.fixings.FixErr.{FixErr}
@@ -36,9 +36,6 @@ module _ (s u : ℕ) (t v : List ℕ) where
   -- two that the one value gives
   by_one : {X : Type 0} (P : X → Type 0) (status : X → ℕ) (text : X → List ℕ) (x y : X) → Only P x → Only P y → Is (status x) (text x) s t → Is (status y) (text y) u v → Same
   by_one P status text x y h k p q = both (status x) (text x) p (subst (λ (z : _). Is (status z) (text z) u v) (h.only y k.is) q)
-
-  same_spot : (a b : Spot) (r : _) → r ≡ Err a → r ≡ Err b → b ≡ a
-  same_spot a b r h k = search rules
 
   module _ (bytes : List ℕ) (p : List Part) (h : DueFlows bytes p s t) (k : DueFlows bytes p u v) where
     flows_by : FlowsCase bytes → Same
@@ -70,7 +67,7 @@ module _ (s u : ℕ) (t v : List ℕ) where
     files_by (no_calendars swap spells never) =
         let a = h.calendars swap spells never in
         let b = k.calendars swap spells never in
-        both 3 (bad_calendar a.0) a.2 (subst (λ (x : Spot). Is 3 (bad_calendar x) u v) (same_spot a.0 b.0 _ a.1 b.1) b.2)
+        by_one (IsFirstCalendarFault g.calendars) (λ _. 3) bad_calendar a.0 b.0 a.1 b.1 a.2 b.2
     files_by (no_rates swap cal spells files never) =
         let a = h.fixings swap cal spells files never in
         let b = k.fixings swap cal spells files never in

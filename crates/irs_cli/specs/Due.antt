@@ -7,7 +7,8 @@ use Rattle.irs_json.specs.Reading.{Reads}
 use Rattle.irs_read.specs.Documents.{DocumentFault}
 use Rattle.irs_read.specs.Reading.{Means}
 use Rattle.irs_terms.specs.declared.stream_list.Swap.{Swap}
-use Rattle.irs_calendar.specs.Calendars.{Spot, calendars_in}
+use Rattle.irs_calendar.specs.Calendars.{Spot}
+use Rattle.irs_calendar.specs.FirstFaults.{IsFirstFault as IsFirstCalendarFault}
 use Rattle.irs_calendar.specs.Grammar.{CalFiles}
 use Rattle.irs_calendar.specs.declared.sections.Section.{Section}
 use Rattle.irs_resets.specs.FixingFiles.{IsFixingFile, IsFirstFault, IsBad, Repeats}
@@ -114,7 +115,7 @@ pub record DueFor (task : Task) (g : Given) (status : ℕ) (text : List ℕ) : T
   -- K2 to K7: its reading means no swap
   pub document : (v : Data) → Reads g.document v → ¬ ((swap : Swap) × Means v swap) → (b : Broken) × Only (First is_before (DocumentFault v)) b × Is 2 (refused b) status text
   -- the calendar files spell no sections
-  pub calendars : (swap : Swap) → SpellsSwap g.document swap → ¬ ((cal : List Section) × CalFiles g.calendars cal) → (s : Spot) × (calendars_in 1 [] g.calendars ≡ Err s) × Is 3 (bad_calendar s) status text
+  pub calendars : (swap : Swap) → SpellsSwap g.document swap → ¬ ((cal : List Section) × CalFiles g.calendars cal) → (s : Spot) × Only (IsFirstCalendarFault g.calendars) s × Is 3 (bad_calendar s) status text
   -- the file of fixings has a line at fault
   pub fixings : (swap : Swap) (cal : List Section) → SpellsSwap g.document swap → CalFiles g.calendars cal → ¬ ((table : RateTable) × AreFixings g.fixings table) → (f : FixErr) × Only (IsFixingsFault g.fixings) f × Is 3 (bad_fixings f) status text
   -- K10 to K21
