@@ -21,3 +21,4 @@ pub mod Firsts
 pub mod FaultOrder
 pub mod MemberLemmas
 pub mod Decided
+pub mod HandedAnswers

@@ -4,14 +4,13 @@ use Rattle.irs_terms.specs.declared.stream.Stream.{Stream}
 use Rattle.irs_terms.specs.declared.stream_list.Swap.{Swap}
 use Rattle.irs_base.specs.declared.places.Broken.{Broken}
 use Rattle.irs_base.specs.declared.places.Fault.{Fault}
-use Rattle.irs_schedule.specs.declared.layouts.Layout.{Layout}
 use Rattle.irs_calendar.specs.declared.sections.Section.{Section}
 use Rattle.irs_resets.specs.FixingFiles.{IsFixingFile}
 use Rattle.irs_resets.specs.Rates.{RateTable, rate_at}
 use Rattle.irs_resets.proofs.RowLemmas.{resets_same}
 use Rattle.irs_resets.specs.Resets.{source_of}
 use Rattle.irs_resets.specs.declared.store.Slot.{Slot}
-use Rattle.irs_schedule.specs.DatedRules.{DatedPart, in_span, in_periods, in_payments, in_steps, in_exchanges, in_resets, in_amounts, BreaksAmounts, BreaksPart, resets_over, StreamKept, StreamBroken, DatedKept, DatedBroken}
+use Rattle.irs_schedule.specs.DatedRules.{DatedPart, in_span, in_periods, in_payments, in_steps, in_exchanges, in_resets, in_amounts, BreaksPart, resets_over, StreamKept, StreamBroken, DatedKept, DatedBroken}
 use Rattle.irs_schedule.specs.DaySets.{StreamSets, stream_sets}
 use Rattle.irs_schedule.specs.Parts.{Part}
 use Rattle.irs_schedule.specs.Schedules.{IsPart, IsSchedule}
@@ -67,17 +66,6 @@ module _ (t u : RateTable) (e : SameRates t u) where
 
   -- ---- the rules of dates and amounts
 
-  amounts_same : (sets : StreamSets) (s : Stream) (l : Layout) (f : Fault) → BreaksAmounts sets t s l f → BreaksAmounts sets u s l f
-  amounts_same sets s l f h = record {
-    payments = h.payments;
-    are_payments = h.are_payments;
-    resets = h.resets;
-    are_resets = resets_same (resets_over sets s l) t u e h.resets h.are_resets;
-    period = h.period;
-    passes = h.passes;
-    is = h.is;
-  }
-
   breaks_same : (sets : StreamSets) (s : Stream) (part : DatedPart) (f : Fault) → BreaksPart sets t s part f → BreaksPart sets u s part f
   breaks_same sets s in_span f h = h
   breaks_same sets s in_periods f h = h
@@ -85,7 +73,21 @@ module _ (t u : RateTable) (e : SameRates t u) where
   breaks_same sets s in_steps f h = h
   breaks_same sets s in_exchanges f h = h
   breaks_same sets s in_resets f h = h
-  breaks_same sets s in_amounts f h = record { layout = h.layout; is_layout = h.is_layout; breaks = amounts_same sets s h.layout f h.breaks }
+  breaks_same sets s in_amounts f h =
+      let b = h.breaks in
+      record {
+        layout = h.layout;
+        is_layout = h.is_layout;
+        breaks = record {
+          payments = b.payments;
+          are_payments = b.are_payments;
+          resets = b.resets;
+          are_resets = resets_same (resets_over sets s h.layout) t u e b.resets b.are_resets;
+          period = b.period;
+          passes = b.passes;
+          is = b.is;
+        };
+      }
 
 stream_kept : (t u : RateTable) → SameRates t u → (sets : StreamSets) (s : Stream) → StreamKept sets t s → StreamKept sets u s
 stream_kept t u e sets s h part f b = h part f (breaks_same u t (same_back t u e) sets s part f b)

@@ -21,7 +21,7 @@ pub type ReadErr = Stopped<Broken>;
 
 /// The swap that a document spells. Its terms are lawful; what must stand in the document stands
 /// there, and each leaf has a value of its kind, so no default stands in for what must be said.
-/// `Broken` comes exactly where a rule of K2 to K7 is broken, and tells the first.
+/// `Broken` tells the first broken rule of K2 to K7; no swap is answered where one is broken.
 pub fn read_swap(alloc: Global, v: &Value) -> Result<Swap, ReadErr>
     ensures means { IfOk result (λ swap. Means (view v.now) swap) }
     ensures lawful { IfOk result (λ swap. IsLawful swap) }

@@ -1,7 +1,6 @@
 pub mod PeriodLemmas
 pub mod PartLemmas
 pub mod WalkLemmas
-pub mod TextLemmas
 pub mod PlaceLemmas
 pub mod PaymentLemmas
 pub mod CountLemmas
@@ -13,7 +12,6 @@ pub mod Turns
 pub mod ResetCounts
 pub mod EntryLemmas
 pub mod BoundLemmas
-pub mod Handed
 pub mod MakingLemmas
 pub mod StreamRanges
 pub mod LayoutLemmas

@@ -12,7 +12,7 @@ use irs_base::{Day, Dec, Line};
 use irs_terms::{DayCountCode, Frac};
 
 // Each of these puts a space and a field.
-#[tactic(auto, using(crate::proofs::TextLemmas::appended))]
+#[tactic(auto, using(irs_base::proofs::TextLemmas::appended))]
 fn put_field(line: &mut Line, bytes: &[u8])
     requires { length line.old + length bytes.now < 512 }
     ensures text { line.new ≡ line.old ++ 32 ∷ bytes.now }
@@ -22,7 +22,7 @@ fn put_field(line: &mut Line, bytes: &[u8])
     line.push(bytes);
 }
 
-#[tactic(auto, using(crate::proofs::TextLemmas::appended, irs_base::proofs::TextLengths::length_signed))]
+#[tactic(auto, using(irs_base::proofs::TextLemmas::appended, irs_base::proofs::TextLengths::length_signed))]
 fn put_whole(line: &mut Line, mark: u8, n: i128)
     requires { length line.old + 41 ≤ 512 }
     ensures text { line.new ≡ line.old ++ mark ∷ signed_decimal n }
@@ -32,7 +32,7 @@ fn put_whole(line: &mut Line, mark: u8, n: i128)
     line.push_whole(n);
 }
 
-#[tactic(auto, using(crate::proofs::TextLemmas::appended, irs_base::proofs::TextLengths::length_day))]
+#[tactic(auto, using(irs_base::proofs::TextLemmas::appended, irs_base::proofs::TextLengths::length_day))]
 fn put_day(line: &mut Line, d: Day)
     requires { length line.old + 11 ≤ 512 }
     ensures text { line.new ≡ line.old ++ 32 ∷ day_text d }
@@ -42,7 +42,7 @@ fn put_day(line: &mut Line, d: Day)
     line.push_day(d);
 }
 
-#[tactic(auto, using(crate::proofs::TextLemmas::appended, irs_base::proofs::TextLengths::length_dec))]
+#[tactic(auto, using(irs_base::proofs::TextLemmas::appended, irs_base::proofs::TextLengths::length_dec))]
 fn put_dec(line: &mut Line, v: Dec)
     requires places { v.places ≤ 12 }
     requires room { length line.old + 54 ≤ 512 }

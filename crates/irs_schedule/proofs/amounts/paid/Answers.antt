@@ -6,7 +6,7 @@ use Rattle.irs_base.specs.declared.places.Fault.{Fault}
 use Rattle.irs_schedule.specs.DatedRules.{passed_at}
 use Rattle.irs_schedule.specs.PeriodTerms.{PassesFirst}
 use Rattle.irs_schedule.specs.PeriodTerms.{PassesFirstIn}
-use Rattle.irs_schedule.proofs.Handed.{handed_on}
+use Rattle.irs_base.proofs.HandedAnswers.{handed_on}
 use Rattle.irs_schedule.proofs.PaidLemmas.{none_paid, one_more_paid, all_paid, none_passes, first_of_all, covers_at, LiesFrom}
 use Rattle.irs_schedule.proofs.amounts.paid.Goals as goal
 

@@ -5,7 +5,7 @@ use Rattle.irs_schedule.specs.DatedRules.{passed_at}
 use Rattle.irs_compound.specs.Amounts.{IsFirstOut}
 use Rattle.irs_schedule.specs.PeriodTerms.{AreTerms, PassesFirstIn}
 use Rattle.irs_schedule.proofs.AmountLemmas.{is_payment, none_in, first_in}
-use Rattle.irs_schedule.proofs.Handed.{handed_on}
+use Rattle.irs_base.proofs.HandedAnswers.{handed_on}
 use Rattle.irs_schedule.proofs.amounts.paid_by.Goals as goal
 
 pub amount_of-requires : goal.amount_of-requires

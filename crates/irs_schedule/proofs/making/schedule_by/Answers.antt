@@ -10,7 +10,7 @@ use Rattle.irs_schedule.specs.DaySets.{StreamSets, stream_sets}
 use Rattle.irs_schedule.specs.Parts.{Part}
 use Rattle.irs_schedule.specs.Schedules.{IsPart}
 use Rattle.irs_schedule.specs.StageSets.{sets_of}
-use Rattle.irs_schedule.proofs.Handed.{handed_on}
+use Rattle.irs_base.proofs.HandedAnswers.{handed_on}
 use Rattle.irs_schedule.proofs.MakingLemmas.{Made, made_more, made_broken, made_kept, sets_same}
 use Rattle.irs_schedule.proofs.making.schedule_by.Goals as goal
 

@@ -6,7 +6,7 @@ use Rattle.irs_resets.specs.ResetRules.{BreaksResets}
 use Rattle.irs_schedule.specs.DatedRules.{StreamBroken, resets_over}
 use Rattle.irs_schedule.specs.StageSets.{sets_of}
 use Rattle.irs_periods.proofs.TermOrder.{begins_before_end}
-use Rattle.irs_schedule.proofs.Handed.{handed_on}
+use Rattle.irs_base.proofs.HandedAnswers.{handed_on}
 use Rattle.irs_schedule.proofs.LayoutLemmas.{layout_runs}
 use Rattle.irs_schedule.proofs.Turns.{exchanges_first, kept_resets, payments_first, resets_first, steps_first}
 use Rattle.irs_schedule.proofs.stream.dated_over.Goals as goal

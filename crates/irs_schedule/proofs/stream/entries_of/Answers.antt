@@ -2,7 +2,7 @@ use Rattle.std.proofs.Common.{List, ℤ, IfOk, subst}
 use Rattle.irs_terms.specs.declared.results.Payment.{Payment}
 use Rattle.irs_terms.specs.declared.results.Reset.{Reset}
 use Rattle.irs_schedule.specs.PaidEntries.{ArePaid}
-use Rattle.irs_schedule.proofs.Handed.{ok_four}
+use Rattle.irs_base.proofs.HandedAnswers.{ok_four}
 use Rattle.irs_schedule.proofs.stream.entries_of.Goals as goal
 
 pub returns-clause-entries : goal.returns-clause-entries

@@ -4,7 +4,7 @@ use Rattle.irs_periods.specs.Adjusting.{BreaksAdjusted}
 use Rattle.irs_periods.specs.Boundaries.{BreaksPeriods}
 use Rattle.irs_schedule.specs.DatedRules.{StreamBroken, in_periods, in_span}
 use Rattle.irs_schedule.specs.StageSets.{sets_of}
-use Rattle.irs_schedule.proofs.Handed.{handed_on}
+use Rattle.irs_base.proofs.HandedAnswers.{handed_on}
 use Rattle.irs_schedule.proofs.LayoutRules.{adjusted_first, periods_first}
 use Rattle.irs_schedule.proofs.Turns.{kept_none, kept_span, stream_first}
 use Rattle.irs_schedule.proofs.stream.laid_out.Goals as goal

@@ -17,7 +17,7 @@ use Rattle.irs_schedule.specs.StageSets.{sets_of}
 use Rattle.irs_schedule.specs.declared.kept_terms.KeptTerms.{KeptTerms}
 use Rattle.irs_schedule.proofs.BoundLemmas.{rises_of, every_all, covers_paid, exchanges_bounded, exchanges_few}
 use Rattle.irs_schedule.proofs.EntryLemmas.{kept_of}
-use Rattle.irs_schedule.proofs.Handed.{handed_on}
+use Rattle.irs_base.proofs.HandedAnswers.{handed_on}
 use Rattle.irs_schedule.proofs.PartMade.{part_made, part_stands}
 use Rattle.irs_schedule.proofs.ResetCounts.{resets_by_leg}
 use Rattle.irs_schedule.proofs.Turns.{amounts_first, kept_amounts}

@@ -1,4 +1,4 @@
--- A broken rule that is handed on.
+-- Answers that are handed on.
 use Rattle.std.proofs.Common.{Result, Ok, Err, IfOk}
 use Rattle.irs_base.specs.declared.stopped.Stopped.{Stopped}
 use Rattle.irs_base.specs.declared.stopped.Stopped.TheVariants.{Broken as OfBroken, Memory as OfMemory}
