@@ -145,8 +145,11 @@ rank_founded rank P no_first = none_by_rank rank P (λ x h lower. no_first x (h,
 
 pub level_founded : {X : Type 0} (rank : X → ℕ) (next : X → X → Bool) → IsFounded next → IsFounded (λ (f g : X). level (rank f) (rank g) (next f g))
 level_founded {X} rank next founded P no_first = none_by_rank rank P (λ x h lower.
-    founded (λ (y : X). P y × (rank y ≡ rank x)) (λ y first. no_first y (first.0.0, λ z p. elim (cases_order (rank z) (rank y)) [
-      | inl same ↦ level_same (rank z) (rank y) (next z y) same (first.1 z (p, same ∙ first.0.1))
-      | inr (inl less) ↦ absurd (let e = first.0.1 in lower z (omega (arith, less, e)) p)
-      | inr (inr more) ↦ level_later (rank z) (rank y) (next z y) more
-    ])) x (h, refl))
+    founded (λ (y : X). P y × (rank y ≡ rank x)) (λ y first. no_first y (
+      first.0.0,
+      λ z p. elim (cases_order (rank z) (rank y)) [
+        | inl same ↦ level_same (rank z) (rank y) (next z y) same (first.1 z (p, same ∙ first.0.1))
+        | inr (inl less) ↦ absurd (let e = first.0.1 in lower z (omega (arith, less, e)) p)
+        | inr (inr more) ↦ level_later (rank z) (rank y) (next z y) more
+      ],
+    )) x (h, refl))

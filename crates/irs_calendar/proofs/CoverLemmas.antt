@@ -1,11 +1,13 @@
 -- What covers have in common.
-use Rattle.std.proofs.Common.{◌≡◌, ℕ, suc, ◌+◌, ◌<◌, ◌≤◌, Bool, true, false, List, ◌∷◌, map, drop, length, get_or, arith, refl, sym, ◌∙◌, ap, subst, ℤ, Bor}
+use Rattle.std.proofs.Common.{◌≡◌, ℕ, suc, ◌+◌, ◌<◌, ◌≤◌, Bool, true, false, List, [], ◌∷◌, map, drop, length, get_or, arith, refl, sym, ◌∙◌, ap, subst, ℤ, ◌≤ℤ◌, Bor}
 use Rattle.std.proofs.Math.Seq.{drop-cons}
 use Rattle.irs_calendar.specs.declared.sections.Section.{Section}
+use Rattle.jiff_core.proofs.SignedLemmas.{signed_arith}
+use Rattle.irs_base.specs.Days.{first_day, last_day}
 use Rattle.irs_calendar.specs.GoodDays.{DaySet, SameDays}
 use Rattle.irs_calendar.specs.Runs.{CoveredRuns, set_of_runs}
 use Rattle.irs_calendar.specs.Represents.{Represents}
-use Rattle.irs_calendar.specs.Selected.{later, earlier, latest_first, earliest_last}
+use Rattle.irs_calendar.specs.Selected.{later, earlier, latest_first, earliest_last, set_of_sections, AllCover, CoversCommon}
 use Rattle.irs_calendar.proofs.CalendarLemmas.{drop_all}
 
 abbrev pub sections_at : List (Bor Section) → List Section
@@ -43,3 +45,40 @@ same_days t c first last represents = record {
       (λ passes. ((represents.good d).0 (record { inside = inside; passes = passes })).1)
       (λ passes. ((represents.good d).1 (inside, passes)).passes);
 }
+
+-- the cover in common is an intersection
+
+later_is : (a b d : ℤ) → later a b ≤ℤ d → (a ≤ℤ d) × (b ≤ℤ d)
+later_is a b d h = grind (arith, signed_arith)
+
+is_later : (a b d : ℤ) → a ≤ℤ d → b ≤ℤ d → later a b ≤ℤ d
+is_later a b d h k = grind (arith, signed_arith)
+
+earlier_is : (a b d : ℤ) → d ≤ℤ earlier a b → (d ≤ℤ a) × (d ≤ℤ b)
+earlier_is a b d h = grind (arith, signed_arith)
+
+is_earlier : (a b d : ℤ) → d ≤ℤ a → d ≤ℤ b → d ≤ℤ earlier a b
+is_earlier a b d h k = grind (arith, signed_arith)
+
+all_within : (ss : List Section) (a b d : ℤ) → latest_first a ss ≤ℤ d → d ≤ℤ earliest_last b ss → (a ≤ℤ d) × (d ≤ℤ b) × AllCover ss d
+all_within [] a b d from to = (from, to, tt)
+all_within (s ∷ ss) a b d from to =
+    let r = all_within ss (later a s.first) (earlier b s.last) d from to in
+    let low = later_is a s.first d r.0 in
+    let high = earlier_is b s.last d r.1 in
+    (low.0, high.0, (low.1, high.1, r.2))
+
+within_all : (ss : List Section) (a b d : ℤ) → a ≤ℤ d → d ≤ℤ b → AllCover ss d → (latest_first a ss ≤ℤ d) × (d ≤ℤ earliest_last b ss)
+within_all [] a b d low high all = (low, high)
+within_all (s ∷ ss) a b d low high all =
+    within_all ss (later a s.first) (earlier b s.last) d (is_later a s.first d low all.0) (is_earlier b s.last d high all.1) all.2
+
+pub covers_common : (ss : List Section) (t : DaySet) → SameDays t (set_of_sections ss) → CoversCommon ss t
+covers_common ss t same d = (
+  (λ inside.
+      let r = all_within ss first_day last_day d (subst (λ (x : ℤ). x ≤ℤ d) same.first inside.from) (subst (λ (x : ℤ). d ≤ℤ x) same.last inside.to) in
+      ((r.0, r.1), r.2)),
+  (λ p.
+      let r = within_all ss first_day last_day d p.0.0 p.0.1 p.1 in
+      record { from = subst (λ (x : ℤ). x ≤ℤ d) (sym same.first) r.0; to = subst (λ (x : ℤ). d ≤ℤ x) (sym same.last) r.1 }),
+)

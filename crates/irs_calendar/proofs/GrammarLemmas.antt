@@ -21,20 +21,20 @@ use Rattle.irs_calendar.specs.Calendars.{in_file, calendars_in}
 use Rattle.irs_calendar.specs.Grammar.{with_said, said_lines, section_lines, spelt, RisesWithin, IsLawful, AreLawful, AreSpelt, joined, CalFiles}
 use Rattle.irs_calendar.proofs.DistinctLemmas.{numbered_ok, then_ok, file_ok, then_file_ok, same_state, or_false, turned}
 
-true_or_false : (b : Bool) → (b ≡ true) ⊎ (b ≡ false)
+pub true_or_false : (b : Bool) → (b ≡ true) ⊎ (b ≡ false)
 true_or_false true = inl refl
 true_or_false false = inr refl
 
 -- holidays that rise
 
-rises_more : (low last d : ℤ) (hs : List ℤ) → RisesWithin low last hs → low ≤ℤ d → d ≤ℤ last → all_before d hs ≡ true → RisesWithin low last (hs ++ d ∷ [])
+pub rises_more : (low last d : ℤ) (hs : List ℤ) → RisesWithin low last hs → low ≤ℤ d → d ≤ℤ last → all_before d hs ≡ true → RisesWithin low last (hs ++ d ∷ [])
 rises_more low last d [] rise from to before = (from, to, tt)
 rises_more low last d (h ∷ hs) rise from to before =
     let b = both_true (is_lt (int_cmp h d)) (all_before d hs) before in
     let later = lt_true h d b.0 in
     (rise.0, rise.1, rises_more (h +ℤ pos 1) last d hs rise.2 (omega (arith, signed_arith, later)) to b.1)
 
-rises_to : (low last d : ℤ) (hs ys : List ℤ) → RisesWithin low last (hs ++ d ∷ ys) → (low ≤ℤ d) × (d ≤ℤ last) × (all_before d hs ≡ true)
+pub rises_to : (low last d : ℤ) (hs ys : List ℤ) → RisesWithin low last (hs ++ d ∷ ys) → (low ≤ℤ d) × (d ≤ℤ last) × (all_before d hs ≡ true)
 rises_to low last d [] ys rise = (rise.0, rise.1, refl)
 rises_to low last d (h ∷ hs) ys rise =
     let rest = rises_to (h +ℤ pos 1) last d hs ys rise.2 in
@@ -62,18 +62,18 @@ said_part (Named n) = Center n ∷ []
 said_part (Covered n a b) = Center n ∷ Cover a b ∷ []
 said_part (Open s) = section_lines s
 
-abbrev IsLawfulPart : Part → Type 0
+abbrev pub IsLawfulPart : Part → Type 0
 IsLawfulPart Between = Unit {0}
 IsLawfulPart (Named n) = Unit {0}
 IsLawfulPart (Covered n a b) = Unit {0}
 IsLawfulPart (Open s) = IsLawful s
 
 -- the sections are those that are done, and new ones that the part at hand and the lines to come spell
-record Continues (s : State) (more : List Said) (ss : List Section) : Type 0 where
-  new : List Section
-  is : ss ≡ s.done ++ new
-  says : said_part s.part ++ more ≡ spelt new
-  lawful : AreLawful new
+pub record Continues (s : State) (more : List Said) (ss : List Section) : Type 0 where
+  pub new : List Section
+  pub is : ss ≡ s.done ++ new
+  pub says : said_part s.part ++ more ≡ spelt new
+  pub lawful : AreLawful new
 
 -- a state that goes on does so with the line in front
 record Steps (s t : State) (said : Said) : Type 0 where
@@ -174,7 +174,7 @@ end_continues done (Named m) ss lawful e = absurd (cc e)
 end_continues done (Covered m a b) ss lawful e = absurd (cc e)
 end_continues done (Open s) ss lawful e = record { new = s ∷ []; is = sym (same_list e); says = refl; lawful = (lawful, tt) }
 
-reads_continue : (n : ℕ) (s : State) (ls : List (List ℕ)) (ss : List Section) → IsLawfulPart s.part → sections_in n s ls ≡ Ok ss → Continues s (said_lines ls) ss
+pub reads_continue : (n : ℕ) (s : State) (ls : List (List ℕ)) (ss : List Section) → IsLawfulPart s.part → sections_in n s ls ≡ Ok ss → Continues s (said_lines ls) ss
 unfolding sections_in
 reads_continue n s [] ss lawful e = end_continues s.done s.part ss lawful (numbered_ok n (at_end s.done s.part) ss e)
 reads_continue n s (l ∷ ls) ss lawful e =
@@ -446,18 +446,18 @@ ends done (Named m) ss go = absurd (named_ends m go.new go.says)
 ends done (Covered m a b) ss go = absurd (covered_ends m a b go.new go.says)
 ends done (Open s) ss go = end_open done s ss go.new go.is go.says
 
-lines_read : (n : ℕ) (s : State) (ls : List (List ℕ)) (ss : List Section) → Continues s (said_lines ls) ss → AreDistinct ss → sections_in n s ls ≡ Ok ss
+pub lines_read : (n : ℕ) (s : State) (ls : List (List ℕ)) (ss : List Section) → Continues s (said_lines ls) ss → AreDistinct ss → sections_in n s ls ≡ Ok ss
 unfolding sections_in
 lines_read n s [] ss go distinct = rw (ends s.done s.part ss go) refl
 lines_read n s (l ∷ ls) ss go distinct =
     let next = next_line s (kind_of l) (said_lines ls) ss go distinct in
     rw next.reads (lines_read (n + 1) next.state ls ss next.goes distinct)
 
-lawful_front : (a b : List Section) → AreLawful (a ++ b) → AreLawful a
+pub lawful_front : (a b : List Section) → AreLawful (a ++ b) → AreLawful a
 lawful_front [] b h = tt
 lawful_front (s ∷ a) b h = (h.0, lawful_front a b h.1)
 
-lawful_back : (a b : List Section) → AreLawful (a ++ b) → AreLawful b
+pub lawful_back : (a b : List Section) → AreLawful (a ++ b) → AreLawful b
 lawful_back [] b h = h
 lawful_back (s ∷ a) b h = lawful_back a b h.1
 

@@ -10,3 +10,4 @@ pub mod CalendarLemmas
 pub mod DistinctLemmas
 pub mod GrammarLemmas
 pub mod PlaceLemmas
+pub mod FaultLemmas

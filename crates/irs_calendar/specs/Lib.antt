@@ -16,3 +16,4 @@ pub mod Given
 pub mod Files
 pub mod Calendars
 pub mod Grammar
+pub mod FirstFaults

@@ -1,10 +1,10 @@
 -- The good days of a list of centres.
-use Rattle.std.specs.Prelude.{ℕ, ◌+◌, Bool, ◌&&◌, List, [], ◌∷◌, Option, Some, None, ℤ, if◌then◌else◌}
+use Rattle.std.specs.Prelude.{ℕ, ◌+◌, Bool, ◌&&◌, List, [], ◌∷◌, Option, Some, None, ℤ, ◌≤ℤ◌, ◌↔◌, if◌then◌else◌}
 use Rattle.std.specs.List.{list_all}
 use Rattle.std.specs.Ordering.{int_cmp, is_le, is_lt}
-use Rattle.irs_base.specs.Days.{first_day, last_day}
+use Rattle.irs_base.specs.Days.{first_day, last_day, IsDay}
 use Rattle.irs_calendar.specs.declared.sections.Section.{Section}
-use Rattle.irs_calendar.specs.GoodDays.{DaySet}
+use Rattle.irs_calendar.specs.GoodDays.{DaySet, InCover}
 use Rattle.irs_calendar.specs.Sections.{is_named, section_named, all_open}
 
 abbrev pub later : ℤ → ℤ → ℤ
@@ -48,3 +48,12 @@ day_set_of ss names = set_of_sections (sections_named ss names)
 abbrev pub first_missing : List Section → ℕ → List (List ℕ) → Option ℕ
 first_missing ss k [] = None
 first_missing ss k (n ∷ ns) = if is_named n ss then first_missing ss (k + 1) ns else Some k
+
+-- the day lies in the cover of each of the sections
+abbrev pub AllCover : List Section → ℤ → Type 0
+AllCover [] d = Unit {0}
+AllCover (s ∷ ss) d = (s.first ≤ℤ d) × (d ≤ℤ s.last) × AllCover ss d
+
+-- the set's cover is the intersection of those of the sections, in the range of dates
+abbrev pub CoversCommon : List Section → DaySet → Type 0
+CoversCommon ss set = (d : ℤ) → InCover set d ↔ (IsDay d × AllCover ss d)

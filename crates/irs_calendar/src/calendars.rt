@@ -3,18 +3,19 @@
 //! A file is a list of sections, none at all included. A section has, each on a line of its own and
 //! in this order, `center NAME`, `cover DATE DATE`, `weekend` with 0 to 7 different names of MON to
 //! SUN, and then its holidays, which rise strictly inside the cover. The format is this project's own.
-ghost use Rattle.std.specs.Prelude.{◌≡◌, ℕ, ◌<◌, ◌≤◌, ◌^◌, List, [], length, map, Some, Ok, All, IsOk, IfOk, IfErr, IsSome, None, is_some};
+ghost use Rattle.std.specs.Prelude.{◌≡◌, ℕ, ◌<◌, ◌≤◌, ◌^◌, List, [], length, map, Some, Ok, All, IsOk, IfOk, IfErr, IfSome, IsSome, None, is_some};
 ghost use Rattle.std.specs.Option.{option_copied};
 ghost use Rattle.irs_base.specs.Limits.{most_bytes, most_centers, most_files};
 ghost use Rattle.irs_calendar.specs.Runs.{set_of_runs};
 ghost use Rattle.irs_calendar.specs.Files.{sections_of};
 ghost use Rattle.irs_calendar.specs.GoodDays.{SameDays};
 ghost use Rattle.irs_calendar.specs.Sections.{is_named, section_named, AreDistinct};
-ghost use Rattle.irs_calendar.specs.Selected.{sections_named, day_set_of, first_missing};
+ghost use Rattle.irs_calendar.specs.Selected.{sections_named, day_set_of, first_missing, CoversCommon};
 ghost use Rattle.irs_calendar.specs.declared.sections.Section.{Section};
 ghost use Rattle.irs_calendar.specs.declared.calendars.SelErr.TheVariants.{Memory as NoMemory};
-ghost use Rattle.irs_calendar.specs.Calendars.{calendars_in, in_file, spot_of, GivesAll, SelFails};
+ghost use Rattle.irs_calendar.specs.Calendars.{Spot, calendars_in, in_file, spot_of, GivesAll, SelFails};
 ghost use Rattle.irs_calendar.specs.Grammar.{CalFiles};
+ghost use Rattle.irs_calendar.specs.FirstFaults.{IsFirstFault, HaveOneFirstFault, AreSpeltOrFaulty};
 
 use crate::RunSet;
 use crate::chosen::chosen_days;
@@ -166,6 +167,14 @@ impl Calendars {
         ensures spelt { IfOk result (λ c. CalFiles (map (λ f. f.items) files.now) c) }
         // Files with a faulty line spell no sections.
         ensures refused { IfErr result (λ e. IsSome (spot_of e) → (ss : List Section) → CalFiles (map (λ f. f.items) files.now) ss → ⊥) }
+        // An error is at the first fault: what stands before can go on, and with the line nothing can.
+        ensures first { IfErr result (λ e. IfSome (spot_of e) (IsFirstFault (map (λ f. f.items) files.now))) }
+        // Where sections are read there is no fault.
+        ensures faultless { IfOk result (λ c. (s : Spot) → IsFirstFault (map (λ f. f.items) files.now) s → ⊥) }
+        // Files spell sections or have a first fault, whatever the memory.
+        ensures decided { AreSpeltOrFaulty (map (λ f. f.items) files.now) }
+        // At most one fault is the first.
+        ensures one_first { HaveOneFirstFault (map (λ f. f.items) files.now) }
     {
         let sections = read_all(alloc, files)?;
         Ok(Calendars { sections })
@@ -186,6 +195,8 @@ impl Calendars {
         requires { length names.now ≤ most_centers }
         ensures found { IsOk result → first_missing self.now 1 names.now ≡ None }
         ensures days { IfOk result (λ s. SameDays (set_of_runs s) (day_set_of self.now names.now)) }
+        // A day is in the cover exactly where each named section's cover has it.
+        ensures cover { IfOk result (λ s. CoversCommon (sections_named self.now names.now) (set_of_runs s)) }
         ensures missing { IfErr result (λ e. SelFails e (first_missing self.now 1 names.now)) }
     {
         let picked = pick(alloc, &self.sections, names.as_slice())?;

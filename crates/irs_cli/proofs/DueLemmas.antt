@@ -8,7 +8,9 @@ use Rattle.irs_read.specs.Documents.{DocumentFault}
 use Rattle.irs_read.specs.Meaning.{swap_in}
 use Rattle.irs_read.specs.Reading.{Means}
 use Rattle.irs_terms.specs.declared.stream_list.Swap.{Swap}
-use Rattle.irs_calendar.specs.Calendars.{Spot, calendars_in}
+use Rattle.irs_calendar.specs.Calendars.{Spot}
+use Rattle.irs_calendar.specs.FirstFaults.{IsFirstFault as IsFirstCalendarFault}
+use Rattle.irs_calendar.proofs.FaultLemmas.{faulty_spell_none, one_first_fault}
 use Rattle.irs_calendar.specs.Grammar.{CalFiles}
 use Rattle.irs_calendar.specs.declared.sections.Section.{Section}
 use Rattle.irs_calendar.proofs.GrammarLemmas.{spelt_is_read}
@@ -22,29 +24,26 @@ use Rattle.irs_cli.specs.declared.commands.Task.{Task}
 use Rattle.irs_cli.specs.declared.commands.Task.TheVariants.{Check, Schedule, Audit}
 use Rattle.irs_cli.specs.Given.{Given}
 use Rattle.irs_cli.specs.Messages.{refused, unreadable, bad_calendar, bad_fixings}
-use Rattle.irs_cli.specs.Due.{Only, IsJson, SpellsSwap, AreFixings, IsFixingsFault, KeepsTerms, FilesSay, DueUnbroken, DueFor, flow_bytes, unread_document, no_swap, no_calendars, no_rates, broken_terms, broken_dates, none_broken}
+use Rattle.irs_cli.specs.Due.{IsJson, SpellsSwap, AreFixings, IsFixingsFault, KeepsTerms, FilesSay, DueUnbroken, DueFor, flow_bytes, unread_document, no_swap, no_calendars, no_rates, broken_terms, broken_dates, none_broken}
 use Rattle.irs_cli.specs.Outcomes.{ComesTo, DueOf, IsScheduled, IsTermsFirst, IsRuleFirst, outcome_status, outcome_text}
 use Rattle.std.specs.Prelude.{IfSome, IfErr, IsErr}
 use Rattle.std.specs.Result.{IsErrAnd}
 use Rattle.irs_json.specs.declared.reading.JsonErr.{JsonErr}
 use Rattle.irs_json.specs.declared.reading.JsonErr.TheVariants as json
-use Rattle.irs_read.specs.Reading.{IsFirstBroken}
-use Rattle.irs_read.specs.declared.reader.ReadErr.{ReadErr}
-use Rattle.irs_read.specs.declared.reader.ReadErr.TheVariants as reading
-use Rattle.irs_calendar.specs.Calendars.{SpotFails, spot_of}
+use Rattle.irs_base.specs.declared.stopped.Stopped.{Stopped}
+use Rattle.irs_base.specs.declared.stopped.Stopped.TheVariants as stopped
+use Rattle.irs_calendar.specs.Calendars.{spot_of}
 use Rattle.irs_calendar.specs.declared.calendars.CalErr.{CalErr}
 use Rattle.irs_calendar.specs.declared.calendars.CalErr.TheVariants as calendar
 use Rattle.irs_resets.specs.declared.fixings.FixErr.TheVariants as fixing
-use Rattle.irs_schedule.specs.SchedErrors.{IfBroken}
-use Rattle.irs_schedule.specs.declared.making.SchedErr.{SchedErr}
-use Rattle.irs_schedule.specs.declared.making.SchedErr.TheVariants as making
+use Rattle.irs_base.specs.Faults.{IfStopped}
 use Rattle.irs_cli.specs.declared.outcomes.Outcome.{Outcome}
 use Rattle.irs_cli.specs.declared.refusals.Refusal.{Refusal}
 use Rattle.irs_cli.specs.declared.refusals.Refusal.TheVariants.{Calendars, Fixings}
-use Rattle.irs_cli.specs.Outcomes.{Answer, answer_of, of_json, of_read, of_making, FixingsFail, IfRefused, IfAnswered, IsUnscheduled, Concludes}
+use Rattle.irs_cli.specs.Outcomes.{Answer, answer_of, of_json, of_stopped, FixingsFail, IfRefused, IfAnswered, IsUnscheduled, Concludes}
 use Rattle.irs_cli.proofs.FirstLemmas.{one_first, one_fixings_fault, no_fixings}
 use Rattle.irs_cli.proofs.SameRates.{SameRates, same_back, same_file, schedule_same, kept_same, first_same_table, not_kept}
-use Rattle.irs_base.specs.Order.{IsFirstBroken}
+use Rattle.irs_base.specs.Order.{First, Only, is_before}
 
 -- ---- the files say one thing
 
@@ -91,14 +90,14 @@ spells_none bytes v b swap reads fault s =
     let e : s.0 ≡ v = one_reading bytes v s.0 reads s.1 in
     s.2.clean b (subst (λ (d : Data). DocumentFault d b) (sym e) fault)
 
-pub due_document : (task : Task) (g : Given) (v : Data) (b : Broken) → Reads g.document v → IsFirstBroken (DocumentFault v) (Some b) → DueFor task g 2 (refused b)
+pub due_document : (task : Task) (g : Given) (v : Data) (b : Broken) → Reads g.document v → First is_before (DocumentFault v) b → DueFor task g 2 (refused b)
 due_document task g v b reads first =
     let none : (swap : Swap) → SpellsSwap g.document swap → ⊥ = λ swap s. spells_none g.document v b swap reads first.0 s in
     record {
       unread = λ n. absurd (n (v, reads));
       document = λ w k _.
           let e : w ≡ v = one_reading g.document v w reads k in
-          let f : IsFirstBroken (DocumentFault w) (Some b) = subst (λ (d : Data). IsFirstBroken (DocumentFault d) (Some b)) (sym e) first in
+          let f : First is_before (DocumentFault w) b = subst (λ (d : Data). First is_before (DocumentFault d) b) (sym e) first in
           (b, record { is = f; only = λ c h. one_first (DocumentFault w) b c f h }, (refl, refl));
       calendars = λ swap s _. absurd (none swap s);
       fixings = λ swap cal s _ _. absurd (none swap s);
@@ -108,17 +107,13 @@ due_document task g v b reads first =
       case = no_swap v reads (λ k. none k.0 (v, reads, k.1));
     }
 
--- files with a faulty line spell no sections
-no_sections : (files : List (List ℕ)) (s : Spot) (cal : List Section) → calendars_in 1 [] files ≡ Err s → CalFiles files cal → ⊥
-no_sections files s cal e h = let k : calendars_in 1 [] files ≡ Ok cal = spelt_is_read files cal h in cc
-
-pub due_calendars : (task : Task) (g : Given) (swap : Swap) (s : Spot) → SpellsSwap g.document swap → calendars_in 1 [] g.calendars ≡ Err s → DueFor task g 3 (bad_calendar s)
+pub due_calendars : (task : Task) (g : Given) (swap : Swap) (s : Spot) → SpellsSwap g.document swap → IsFirstCalendarFault g.calendars s → DueFor task g 3 (bad_calendar s)
 due_calendars task g swap s spells e =
-    let none : (cal : List Section) → CalFiles g.calendars cal → ⊥ = λ cal h. no_sections g.calendars s cal e h in
+    let none : (cal : List Section) → CalFiles g.calendars cal → ⊥ = λ cal h. faulty_spell_none g.calendars s cal e h in
     record {
       unread = λ n. absurd (n (spells.0, spells.1));
       document = λ v reads n. absurd (n (swap, subst (λ (d : Data). Means d swap) (one_reading g.document v spells.0 reads spells.1) spells.2));
-      calendars = λ _ _ _. (s, e, (refl, refl));
+      calendars = λ _ _ _. (s, record { is = e; only = λ t h. one_first_fault g.calendars t s h e }, (refl, refl));
       fixings = λ _ cal _ h _. absurd (none cal h);
       terms = λ _ cal table h _. absurd (none cal h.calendars);
       dated = λ _ cal table h _ _. absurd (none cal h.calendars);
@@ -254,14 +249,14 @@ pub refuse_json : (bytes : List ℕ) (e : JsonErr) → (e ≡ json.NotJson → (
 refuse_json bytes json.NotJson h = λ task g same. record { due = due_unread task g (λ k. h refl k.0 (subst (λ (l : List ℕ). Reads l k.0) same k.1)); verdict = omega arith }
 refuse_json bytes json.Memory h = tt
 
-pub refuse_read : (bytes : List ℕ) (v : Data) (e : ReadErr) → Reads bytes v → IsFirstBroken v e → IfRefused (of_read e) (DueWith bytes)
-refuse_read bytes v (reading.Broken b) reads first = λ task g same. record { due = due_document task g v b (subst (λ (l : List ℕ). Reads l v) (sym same) reads) first; verdict = omega arith }
-refuse_read bytes v reading.Memory reads first = tt
+pub refuse_read : (bytes : List ℕ) (v : Data) (e : Stopped Broken) → Reads bytes v → IfStopped e (First is_before (DocumentFault v)) → IfRefused (of_stopped e) (DueWith bytes)
+refuse_read bytes v (stopped.Broken b) reads first = λ task g same. record { due = due_document task g v b (subst (λ (l : List ℕ). Reads l v) (sym same) reads) first; verdict = omega arith }
+refuse_read bytes v stopped.Memory reads first = tt
 
 pub refuse_document : (g : Given) (bytes : List ℕ) (r : Refusal) → g.document ≡ bytes → IfRefused r (DueWith bytes) → IfRefused r (λ status text. (task : Task) → Concludes task g status text)
 refuse_document g bytes r same h = some_more (answer_of r) (DueWith bytes) (λ status text. (task : Task) → Concludes task g status text) (λ status text k. λ task. k task g same) h
 
-pub refuse_calendars : (g : Given) (swap : Swap) (e : CalErr) → SpellsSwap g.document swap → SpotFails (spot_of e) (calendars_in 1 [] g.calendars) → IfRefused (Calendars e) (λ status text. (task : Task) → Concludes task g status text)
+pub refuse_calendars : (g : Given) (swap : Swap) (e : CalErr) → SpellsSwap g.document swap → IfSome (spot_of e) (IsFirstCalendarFault g.calendars) → IfRefused (Calendars e) (λ status text. (task : Task) → Concludes task g status text)
 refuse_calendars g swap (calendar.Syntax file line) spells h = λ task. record { due = due_calendars task g swap _ spells h; verdict = omega arith }
 refuse_calendars g swap (calendar.Repeat file line) spells h = λ task. record { due = due_calendars task g swap _ spells h; verdict = omega arith }
 refuse_calendars g swap (calendar.TooMany file line) spells h = λ task. record { due = due_calendars task g swap _ spells h; verdict = omega arith }
@@ -272,6 +267,6 @@ refuse_fixings g swap cal (fixing.Syntax line) spells files h = λ task. record 
 refuse_fixings g swap cal (fixing.Repeat line) spells files h = λ task. record { due = due_fixings task g swap cal (fixing.Repeat line) spells files h; verdict = omega arith }
 refuse_fixings g swap cal fixing.Memory spells files h = tt
 
-pub refuse_making : (swap : Swap) (cal : List Section) (table : RateTable) (e : SchedErr) → KeepsTerms swap cal → (let r : Result (Unit {0}) SchedErr = Err e in IfBroken r (DatedBroken swap cal table)) → IfRefused (of_making e) (IsUnscheduled swap cal table)
-refuse_making swap cal table (making.Broken b) kept h = (b, inr (kept, h), (refl, refl))
-refuse_making swap cal table making.Memory kept h = tt
+pub refuse_making : (swap : Swap) (cal : List Section) (table : RateTable) (e : Stopped Broken) → KeepsTerms swap cal → IfStopped e (DatedBroken swap cal table) → IfRefused (of_stopped e) (IsUnscheduled swap cal table)
+refuse_making swap cal table (stopped.Broken b) kept h = (b, inr (kept, h), (refl, refl))
+refuse_making swap cal table stopped.Memory kept h = tt

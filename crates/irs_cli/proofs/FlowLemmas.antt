@@ -20,12 +20,12 @@ use Rattle.irs_audit.specs.declared.error.ShapeKind.{ShapeKind}
 use Rattle.irs_audit.specs.declared.error.ShapeKind.TheVariants.{NotJson}
 use Rattle.irs_cli.specs.declared.commands.Task.TheVariants.{Audit}
 use Rattle.irs_cli.specs.declared.refusals.Refusal.TheVariants.{Flows}
-use Rattle.irs_cli.specs.Due.{IsJson, Only, DueFlows, unread_flows, no_flows, some_flows}
+use Rattle.irs_cli.specs.Due.{IsJson, DueFlows, unread_flows, no_flows, some_flows}
 use Rattle.irs_cli.specs.FlowMessages.{bad_flows, whole_document, verdict_status, verdict_text}
 use Rattle.irs_cli.specs.Outcomes.{ComesTo, FlowsFail, IfRefused, SpellsFlows}
 use Rattle.irs_cli.proofs.DueLemmas.{one_reading}
 use Rattle.irs_cli.proofs.FirstLemmas.{one_first}
-use Rattle.irs_base.specs.Order.{IsFirstBroken}
+use Rattle.irs_base.specs.Order.{First, Only, is_before}
 
 due_unread : (bytes : List ℕ) (s : List Part) → (IsJson bytes → ⊥) → DueFlows bytes s 3 (bad_flows NotJson whole_document)
 due_unread bytes s h = record {
@@ -35,12 +35,12 @@ due_unread bytes s h = record {
   case = unread_flows h;
 }
 
-due_fault : (bytes : List ℕ) (s : List Part) (v : Data) (b : Broken) → Reads bytes v → IsFirstBroken (FlowFault v) (Some b) → DueFlows bytes s 3 (bad_flows (kind_of b.rule) b.place)
+due_fault : (bytes : List ℕ) (s : List Part) (v : Data) (b : Broken) → Reads bytes v → First is_before (FlowFault v) b → DueFlows bytes s 3 (bad_flows (kind_of b.rule) b.place)
 due_fault bytes s v b reads first = record {
   unread = λ n. absurd (n (v, reads));
   fault = λ w k _.
       let e : w ≡ v = one_reading bytes v w reads k in
-      let f : IsFirstBroken (FlowFault w) (Some b) = subst (λ (d : Data). IsFirstBroken (FlowFault d) (Some b)) (sym e) first in
+      let f : First is_before (FlowFault w) b = subst (λ (d : Data). First is_before (FlowFault d) b) (sym e) first in
       (b, record { is = f; only = λ c h. one_first (FlowFault w) b c f h }, (refl, refl));
   verdict = λ w flows k of.
       let e : w ≡ v = one_reading bytes v w reads k in

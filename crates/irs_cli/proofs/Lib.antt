@@ -8,3 +8,4 @@ pub mod DueLemmas
 pub mod FlowLemmas
 pub mod RunLemmas
 pub mod MessageLemmas
+pub mod OneAnswer

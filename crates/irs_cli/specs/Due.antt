@@ -7,15 +7,15 @@ use Rattle.irs_json.specs.Reading.{Reads}
 use Rattle.irs_read.specs.Documents.{DocumentFault}
 use Rattle.irs_read.specs.Reading.{Means}
 use Rattle.irs_terms.specs.declared.stream_list.Swap.{Swap}
-use Rattle.irs_calendar.specs.Calendars.{Spot, calendars_in}
+use Rattle.irs_calendar.specs.Calendars.{Spot}
+use Rattle.irs_calendar.specs.FirstFaults.{IsFirstFault as IsFirstCalendarFault}
 use Rattle.irs_calendar.specs.Grammar.{CalFiles}
 use Rattle.irs_calendar.specs.declared.sections.Section.{Section}
 use Rattle.irs_resets.specs.FixingFiles.{IsFixingFile, IsFirstFault, IsBad, Repeats}
 use Rattle.irs_resets.specs.Rates.{RateTable}
 use Rattle.irs_resets.specs.declared.fixings.FixErr.{FixErr}
 use Rattle.irs_resets.specs.declared.fixings.FixErr.TheVariants as fault
-use Rattle.irs_rules.specs.Order.{IsFirst as IsFirstOfTerms}
-use Rattle.irs_rules.specs.TermsRules.{BreaksTerms}
+use Rattle.irs_rules.specs.TermsRules.{BreaksTerms, IsFirstBroken as IsFirstOfTerms}
 use Rattle.irs_schedule.specs.DatedRules.{DatedKept, DatedBroken}
 use Rattle.irs_schedule.specs.Parts.{Part}
 use Rattle.irs_schedule.specs.RowTexts.{text_of}
@@ -32,16 +32,11 @@ use Rattle.irs_cli.specs.Commands.{Words, Asked, Asks, IsListed}
 use Rattle.irs_cli.specs.Given.{Told, Given, AreTold, IsFirstLong, TellsAll}
 use Rattle.irs_cli.specs.Messages.{bad_words, too_long, refused, unreadable, bad_calendar, bad_fixings, all_kept}
 use Rattle.irs_cli.specs.FlowMessages.{bad_flows, whole_document, verdict_status, verdict_text}
-use Rattle.irs_base.specs.Order.{IsFirstBroken}
+use Rattle.irs_base.specs.Order.{First, Only, is_before}
 
 -- status and text
 abbrev pub Is : ℕ → List ℕ → ℕ → List ℕ → Type 0
 Is s t status text = (status ≡ s) × (text ≡ t)
-
--- x meets P, and nothing else does
-pub record Only {X : Type 0} (P : X → Type 0) (x : X) : Type 0 where
-  pub is : P x
-  pub only : (y : X) → P y → y ≡ x
 
 -- the bytes have a JSON reading
 abbrev pub IsJson : List ℕ → Type 0
@@ -91,7 +86,7 @@ pub record DueFlows (bytes : List ℕ) (s : List Part) (status : ℕ) (text : Li
   -- the flows have no JSON reading
   pub unread : ¬ (IsJson bytes) → Is 3 (bad_flows NotJson whole_document) status text
   -- their reading states no flows: its first fault
-  pub fault : (v : Data) → Reads bytes v → ¬ ((flows : List FlowPart) × FlowsOf v flows) → (b : Broken) × Only (λ f. IsFirstBroken (FlowFault v) (Some f)) b × Is 3 (bad_flows (kind_of b.rule) b.place) status text
+  pub fault : (v : Data) → Reads bytes v → ¬ ((flows : List FlowPart) × FlowsOf v flows) → (b : Broken) × Only (First is_before (FlowFault v)) b × Is 3 (bad_flows (kind_of b.rule) b.place) status text
   -- it states flows: the verdict on them
   pub verdict : (v : Data) (flows : List FlowPart) → Reads bytes v → FlowsOf v flows → (w : Verdict) × Only (IsVerdict flows s) w × Is (verdict_status w) (verdict_text w) status text
   -- one of these applies
@@ -118,13 +113,13 @@ pub record DueFor (task : Task) (g : Given) (status : ℕ) (text : List ℕ) : T
   -- K1: the document has no reading
   pub unread : ¬ (IsJson g.document) → Is 2 (refused unreadable) status text
   -- K2 to K7: its reading means no swap
-  pub document : (v : Data) → Reads g.document v → ¬ ((swap : Swap) × Means v swap) → (b : Broken) × Only (λ f. IsFirstBroken (DocumentFault v) (Some f)) b × Is 2 (refused b) status text
+  pub document : (v : Data) → Reads g.document v → ¬ ((swap : Swap) × Means v swap) → (b : Broken) × Only (First is_before (DocumentFault v)) b × Is 2 (refused b) status text
   -- the calendar files spell no sections
-  pub calendars : (swap : Swap) → SpellsSwap g.document swap → ¬ ((cal : List Section) × CalFiles g.calendars cal) → (s : Spot) × (calendars_in 1 [] g.calendars ≡ Err s) × Is 3 (bad_calendar s) status text
+  pub calendars : (swap : Swap) → SpellsSwap g.document swap → ¬ ((cal : List Section) × CalFiles g.calendars cal) → (s : Spot) × Only (IsFirstCalendarFault g.calendars) s × Is 3 (bad_calendar s) status text
   -- the file of fixings has a line at fault
   pub fixings : (swap : Swap) (cal : List Section) → SpellsSwap g.document swap → CalFiles g.calendars cal → ¬ ((table : RateTable) × AreFixings g.fixings table) → (f : FixErr) × Only (IsFixingsFault g.fixings) f × Is 3 (bad_fixings f) status text
   -- K10 to K21
-  pub terms : (swap : Swap) (cal : List Section) (table : RateTable) → FilesSay g swap cal table → ¬ (KeepsTerms swap cal) → (b : Broken) × Only (λ f. IsFirstOfTerms (BreaksTerms swap cal) (Some f)) b × Is 2 (refused b) status text
+  pub terms : (swap : Swap) (cal : List Section) (table : RateTable) → FilesSay g swap cal table → ¬ (KeepsTerms swap cal) → (b : Broken) × Only (IsFirstOfTerms swap cal) b × Is 2 (refused b) status text
   -- K30 to K39
   pub dated : (swap : Swap) (cal : List Section) (table : RateTable) → FilesSay g swap cal table → KeepsTerms swap cal → ¬ (DatedKept swap cal table) → (b : Broken) × Only (DatedBroken swap cal table) b × Is 2 (refused b) status text
   -- no rule is broken
@@ -148,3 +143,7 @@ pub record Due (ws : Words) (told : Told) (status : ℕ) (text : List ℕ) : Typ
   pub given : (a : Asked) (g : Given) → Asks ws a → AreTold told a g → DueFor a.task g status text
   -- where every file is told, one of these applies
   pub case : TellsAll ws told → WordsCase ws told
+
+-- one status and one text are due
+abbrev pub IsOneAnswer : Words → Told → Type 0
+IsOneAnswer ws told = (s u : ℕ) (t v : List ℕ) → Due ws told s t → Due ws told u v → (s ≡ u) × (t ≡ v)

@@ -1,24 +1,22 @@
 -- What a command comes to: an outcome, or a refusal.
 use Rattle.std.specs.Prelude.{◌≡◌, ◌⊎◌, ℕ, ◌<◌, List, Option, Some, None, IfSome, option_map, Result, Ok, Err}
 use Rattle.irs_base.specs.declared.places.Broken.{Broken}
+use Rattle.irs_base.specs.Order.{Only}
+use Rattle.irs_base.specs.declared.stopped.Stopped.{Stopped}
+use Rattle.irs_base.specs.declared.stopped.Stopped.TheVariants as stopped
 use Rattle.irs_json.specs.declared.JsonErr.{JsonErr}
 use Rattle.irs_json.specs.declared.JsonErr.TheVariants as json
-use Rattle.irs_read.specs.declared.reader.ReadErr.{ReadErr}
-use Rattle.irs_read.specs.declared.reader.ReadErr.TheVariants as reading
 use Rattle.irs_calendar.specs.Calendars.{spot_of}
 use Rattle.irs_calendar.specs.declared.calendars.CalErr.{CalErr}
 use Rattle.irs_calendar.specs.declared.sections.Section.{Section}
 use Rattle.irs_resets.specs.Rates.{RateTable}
 use Rattle.irs_resets.specs.declared.fixings.FixErr.{FixErr}
 use Rattle.irs_resets.specs.declared.fixings.FixErr.TheVariants as fixing
-use Rattle.irs_rules.specs.Order.{IsFirst as IsFirstOfTerms}
-use Rattle.irs_rules.specs.TermsRules.{BreaksTerms}
+use Rattle.irs_rules.specs.TermsRules.{IsFirstBroken as IsFirstOfTerms}
 use Rattle.irs_schedule.specs.DatedRules.{DatedKept, DatedBroken}
 use Rattle.irs_schedule.specs.Parts.{Part}
 use Rattle.irs_schedule.specs.RowTexts.{text_of}
 use Rattle.irs_schedule.specs.Schedules.{IsSchedule}
-use Rattle.irs_schedule.specs.declared.making.SchedErr.{SchedErr}
-use Rattle.irs_schedule.specs.declared.making.SchedErr.TheVariants as making
 use Rattle.irs_terms.specs.declared.stream_list.Swap.{Swap}
 use Rattle.irs_json.specs.Reading.{Reads}
 use Rattle.serde_json.specs.Data.{Data}
@@ -38,7 +36,7 @@ use Rattle.irs_cli.specs.declared.refusals.Refusal.TheVariants.{BadWords, NoFile
 use Rattle.irs_cli.specs.Messages.{bad_words, no_file, too_long, refused, unreadable, bad_calendar, bad_fixings, all_kept}
 use Rattle.irs_cli.specs.FlowMessages.{bad_flows, whole_document, verdict_status, verdict_text}
 use Rattle.irs_cli.specs.Given.{Given}
-use Rattle.irs_cli.specs.Due.{Is, Only, IsJson, KeepsTerms, IsFixingsFault, DueFlows, DueFor}
+use Rattle.irs_cli.specs.Due.{Is, IsJson, KeepsTerms, IsFixingsFault, DueFlows, DueFor}
 
 -- the refusals that errors of the calls below become
 abbrev pub of_fetch : Unfetched → Refusal
@@ -50,13 +48,10 @@ abbrev pub of_json : JsonErr → Refusal
 of_json json.NotJson = Rule unreadable
 of_json json.Memory = Memory
 
-abbrev pub of_read : ReadErr → Refusal
-of_read (reading.Broken b) = Rule b
-of_read reading.Memory = Memory
-
-abbrev pub of_making : SchedErr → Refusal
-of_making (making.Broken b) = Rule b
-of_making making.Memory = Memory
+-- a document or a swap that breaks a rule, and want of memory there
+abbrev pub of_stopped : Stopped Broken → Refusal
+of_stopped (stopped.Broken b) = Rule b
+of_stopped stopped.Memory = Memory
 
 -- a status and a text
 abbrev pub Answer : Type 0
@@ -132,7 +127,7 @@ pub record IsScheduled (swap : Swap) (cal : List Section) (table : RateTable) (s
 
 -- b is the first broken rule of the terms
 abbrev pub IsTermsFirst : Swap → List Section → Broken → Type 0
-IsTermsFirst swap cal b = Only (λ f. IsFirstOfTerms (BreaksTerms swap cal) (Some f)) b
+IsTermsFirst swap cal b = Only (IsFirstOfTerms swap cal) b
 
 -- b is the first broken rule of the swap
 abbrev pub IsRuleFirst : Swap → List Section → RateTable → Broken → Type 0

@@ -3,7 +3,8 @@
 //! Words, texts and statuses are this project's own. All memory is taken before the first put.
 ghost use Rattle.std.specs.Prelude.{◌≡◌, ◌≢◌, ◌⊎◌, ℕ, ◌<◌, List, IfOk};
 ghost use Rattle.irs_cli.specs.Commands.{texts, IsListed};
-ghost use Rattle.irs_cli.specs.Due.{Due};
+ghost use Rattle.irs_cli.specs.Due.{Due, IsOneAnswer};
+ghost use Rattle.irs_cli.specs.Given.{TellsAll};
 ghost use Rattle.irs_cli.specs.Outcomes.{IfAnswered};
 ghost use Rattle.irs_cli.specs.Outside.{Rose, Grew, GrewByFront};
 ghost use Rattle.irs_cli.specs.Replying.{reply_status, reply_text};
@@ -43,6 +44,9 @@ pub fn run<F: Files, S: Sink>(alloc: Global, words: &[String], files: &mut F, ou
     ensures due { result ≢ 5 → result ≢ 6 → result ≢ 7 → (text : List ℕ)
         × Due (texts words.now) (F.told files.old) result text
         × Grew (S.written out.old) (S.written out.new) text }
+
+    // Where the source tells every file that the words name, one status and one text are due.
+    ensures one { TellsAll (texts words.now) (F.told files.old) → IsOneAnswer (texts words.now) (F.told files.old) }
 
     // 4 comes for words that are no listed command, and always for them.
     ensures only_unlisted { result ≡ 4 → IsListed (texts words.now) → ⊥ }

@@ -1,17 +1,15 @@
 //! Why a command isn't carried out.
 ghost use Rattle.std.specs.Prelude.{◌≡◌};
 ghost use Rattle.irs_cli.specs.Messages.{unreadable};
-ghost use Rattle.irs_cli.specs.Outcomes.{of_fetch, of_json, of_read, of_making};
+ghost use Rattle.irs_cli.specs.Outcomes.{of_fetch, of_json, of_stopped};
 ghost use Rattle.irs_cli.specs.declared.refusals.Refusal.TheVariants.{Calendars as OfCalendars, Fixings as OfFixings, Flows as OfFlows};
 
 use crate::fetching::Unfetched;
 use irs_audit::FlowErr;
-use irs_base::{Broken, Elem, Place, Rule};
+use irs_base::{Broken, Elem, Place, Rule, Stopped};
 use irs_calendar::CalErr;
 use irs_json::JsonErr;
-use irs_read::ReadErr;
 use irs_resets::FixErr;
-use irs_schedule::SchedErr;
 
 /// Why a command isn't carried out.
 #[derive(Clone, Copy, Debug, PartialEq, Eq)]
@@ -57,13 +55,14 @@ impl From<JsonErr> for Refusal {
     }
 }
 
-impl From<ReadErr> for Refusal {
-    ghost from_gives = { λ e r. r ≡ of_read e };
+// What `read_swap` and `make_schedule` answer.
+impl From<Stopped<Broken>> for Refusal {
+    ghost from_gives = { λ e r. r ≡ of_stopped e };
 
-    fn from(e: ReadErr) -> Refusal {
+    fn from(e: Stopped<Broken>) -> Refusal {
         match e {
-            ReadErr::Broken(broken) => Refusal::Rule(broken),
-            ReadErr::Memory => Refusal::Memory,
+            Stopped::Broken(broken) => Refusal::Rule(broken),
+            Stopped::Memory => Refusal::Memory,
         }
     }
 }
@@ -89,17 +88,6 @@ impl From<FlowErr> for Refusal {
 
     fn from(e: FlowErr) -> Refusal {
         Refusal::Flows(e)
-    }
-}
-
-impl From<SchedErr> for Refusal {
-    ghost from_gives = { λ e r. r ≡ of_making e };
-
-    fn from(e: SchedErr) -> Refusal {
-        match e {
-            SchedErr::Broken(broken) => Refusal::Rule(broken),
-            SchedErr::Memory => Refusal::Memory,
-        }
     }
 }
 

@@ -225,7 +225,8 @@ fn add_amount(before: Balance, amount: i128, kept: i128) -> Option<Balance>
     requires kept_fits { unsigned_abs before.kept ≤ most_amount }
     requires amount_fits { unsigned_abs amount ≤ 2 * most_amount }
     requires part_fits { unsigned_abs kept ≤ 2 * most_amount }
-    ensures { SomeIff result ((unsigned_abs (before.sum +ℤ amount) ≤ most_amount) × (unsigned_abs (before.kept +ℤ kept) ≤ most_amount))
+    ensures { SomeIff result
+        ((unsigned_abs (before.sum +ℤ amount) ≤ most_amount) × (unsigned_abs (before.kept +ℤ kept) ≤ most_amount))
         (record { sum = before.sum +ℤ amount; kept = before.kept +ℤ kept }) }
 {
     let Some(sum) = add_within(before.sum, amount) else {

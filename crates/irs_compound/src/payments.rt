@@ -1,6 +1,6 @@
 //! The amount of a payment by the code of its compounding, with or without all its rates: the 2006
 //! ISDA Definitions, articles 5 and 6.
-ghost use Rattle.std.specs.Prelude.{◌≡◌, ◌⊎◌, ℕ, ℤ, ◌≤◌, List, Option, IfOk, IfErr, IfSome, OnOk, MatchBool, unsigned_abs};
+ghost use Rattle.std.specs.Prelude.{◌≡◌, ◌⊎◌, ℕ, ℤ, ◌≤◌, List, length, Option, IfOk, IfErr, IfSome, OnOk, MatchBool, unsigned_abs};
 ghost use Rattle.irs_compound.specs.declared.periods.Parts.{Parts};
 ghost use Rattle.irs_compound.specs.Amounts.{IsPayment, AllPriced, SomeUnpriced, IsOutOfRange, IsFirstOut, Follows, AmountOf, most_places, most_units};
 
@@ -25,6 +25,7 @@ pub fn payment_amount(
     ensures size { IfOk result (λ m. IfSome m (λ units. unsigned_abs units ≤ most_units places)) }
     ensures within { OnOk result ((n : ℕ) → IsOutOfRange code periods.now n → ⊥) }
     ensures out { IfErr result (λ e. IsFirstOut code periods.now e.period) }
+    ensures position { IfErr result (λ e. (1 ≤ e.period) × (e.period ≤ length periods.now)) }
     // A period is the first that leaves the range, or none leaves it.
     ensures decided { ((n : ℕ) × IsFirstOut code periods.now n) ⊎ ((n : ℕ) → IsOutOfRange code periods.now n → ⊥) }
     // The periods have an amount, absent where the rates of one are; they have only one, and one list of
@@ -48,6 +49,7 @@ fn amount_if_priced(
     ensures size { IfOk result (λ m. IfSome m (λ units. unsigned_abs units ≤ most_units places)) }
     ensures within { OnOk result ((n : ℕ) → IsOutOfRange code periods.now n → ⊥) }
     ensures out { IfErr result (λ e. IsFirstOut code periods.now e.period) }
+    ensures position { IfErr result (λ e. (1 ≤ e.period) × (e.period ≤ length periods.now)) }
 {
     if !all_priced(periods) {
         return Ok(None);

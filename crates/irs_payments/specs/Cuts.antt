@@ -31,7 +31,8 @@ pub record AreCuts (s : Stream) (boundaries : List ℤ) (limit : ℕ) (cuts : Li
   pub from_zero : cuts ≡ 0 ∷ later
   pub rising : IsRising (days_at boundaries later)
   pub sound : EachPlace (IsCut s boundaries limit) later
-  pub complete : (place : ℕ) → 1 ≤ place → place < limit → EndsAt s boundaries place → Member (day_at boundaries place) (days_at boundaries later)
+  pub complete : (place : ℕ) → 1 ≤ place → place < limit → EndsAt s boundaries place →
+      Member (day_at boundaries place) (days_at boundaries later)
 
 -- the place of cut j
 abbrev pub cut_at : List ℕ → ℕ → ℕ

@@ -27,11 +27,13 @@ pub record IsCutPayment (s : Stream) (set : DaySet) (boundaries adjusted : List 
 
 -- no payment before the limit lacks a result
 abbrev pub NoneLacks : Stream → DaySet → List ℤ → List ℕ → ℕ → Type 0
-NoneLacks s set adjusted cuts limit = (j : ℕ) → 1 ≤ j → j < limit → LacksResult s.pay set (day_at adjusted (date_place s cuts j)) → ⊥
+NoneLacks s set adjusted cuts limit =
+    (j : ℕ) → 1 ≤ j → j < limit → LacksResult s.pay set (day_at adjusted (date_place s cuts j)) → ⊥
 
 -- no payment before the limit leaves the range
 abbrev pub NoneLeaves : Stream → DaySet → List ℤ → List ℕ → ℕ → Type 0
-NoneLeaves s set adjusted cuts limit = (j : ℕ) → 1 ≤ j → j < limit → LeavesRange s.pay set (day_at adjusted (date_place s cuts j)) → ⊥
+NoneLeaves s set adjusted cuts limit =
+    (j : ℕ) → 1 ≤ j → j < limit → LeavesRange s.pay set (day_at adjusted (date_place s cuts j)) → ⊥
 
 -- the payments before the limit
 pub record ArePaid (s : Stream) (set : DaySet) (boundaries adjusted : List ℤ) (cuts : List ℕ) (limit : ℕ) (payments : List Payment) : Type 0 where
@@ -66,8 +68,10 @@ Settles (Err NoResult) beyond n old new after = ⊥
 -- what is worked out for payment j
 abbrev pub IsOutcome : Stream → DaySet → List ℤ → List ℤ → List ℕ → ℕ → Result Payment NoDate → Type 0
 IsOutcome s set boundaries adjusted cuts j (Ok p) = IsCutPayment s set boundaries adjusted cuts j p
-IsOutcome s set boundaries adjusted cuts j (Err OutOfRange) = LeavesRange s.pay set (day_at adjusted (date_place s cuts j))
-IsOutcome s set boundaries adjusted cuts j (Err NoResult) = LacksResult s.pay set (day_at adjusted (date_place s cuts j))
+IsOutcome s set boundaries adjusted cuts j (Err OutOfRange) =
+    LeavesRange s.pay set (day_at adjusted (date_place s cuts j))
+IsOutcome s set boundaries adjusted cuts j (Err NoResult) =
+    LacksResult s.pay set (day_at adjusted (date_place s cuts j))
 
 -- payment n is the first that lacks a result
 pub record LacksFirst (s : Stream) (set : DaySet) (adjusted : List ℤ) (cuts : List ℕ) (n : ℕ) : Type 0 where

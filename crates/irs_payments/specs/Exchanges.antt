@@ -42,7 +42,8 @@ last_value initial (step ∷ steps) = last_value step.value steps
 
 -- the final exchange: at the termination date the payer pays the last notional
 abbrev pub final_of : Stream → List Transfer
-final_of s = if s.exchanges.last then transfer s.termination.day (last_value s.notional.initial s.notional.steps) ∷ [] else []
+final_of s =
+    if s.exchanges.last then transfer s.termination.day (last_value s.notional.initial s.notional.steps) ∷ [] else []
 
 -- the exchanges of a stream in order, each part where its flag is true
 abbrev pub transfers_of : Stream → List Transfer

@@ -25,7 +25,8 @@ pub record CoversPeriods (boundaries : List ℤ) (before own : ℤ) (first last 
   pub from_one : 1 ≤ first
   pub some : first ≤ last
   pub to_end : last < length boundaries
-  pub each : (i : ℕ) → 1 ≤ i → i < length boundaries → ((first ≤ i) × (i ≤ last)) ↔ ((before <ℤ day_at boundaries i) × (day_at boundaries i ≤ℤ own))
+  pub each : (i : ℕ) → 1 ≤ i → i < length boundaries →
+      ((first ≤ i) × (i ≤ last)) ↔ ((before <ℤ day_at boundaries i) × (day_at boundaries i ≤ℤ own))
 
 -- the adjusted boundary at the place of this boundary is the start
 pub record StartsAt (boundaries adjusted : List ℤ) (d start : ℤ) : Type 0 where
@@ -52,7 +53,8 @@ pub record ArePayments (s : Stream) (set : DaySet) (boundaries adjusted : List �
 -- the payments cover the periods from `next` to `last`, one behind the other, each at least one
 abbrev pub Covers : ℕ → List Payment → ℕ → Type 0
 Covers next [] last = next ≡ last + 1
-Covers next (p ∷ ps) last = (p.first_period ≡ next) × (p.first_period ≤ p.last_period) × Covers (p.last_period + 1) ps last
+Covers next (p ∷ ps) last =
+    (p.first_period ≡ next) × (p.first_period ≤ p.last_period) × Covers (p.last_period + 1) ps last
 
 -- the date of payment j is to be worked out from this start
 pub record PaysFrom (s : Stream) (boundaries adjusted : List ℤ) (j : ℕ) (start : ℤ) : Type 0 where

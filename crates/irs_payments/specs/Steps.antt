@@ -21,8 +21,11 @@ BreaksUnder boundaries elem steps f = BreaksIn K36 elem (IsOff boundaries) steps
 -- K36 is broken in the steps of a fixed rate, or in those of the multiplier or of the spread
 abbrev pub BreaksRateSteps : Leg → List ℤ → Fault → Type 0
 BreaksRateSteps (Fixed rates) boundaries f = BreaksUnder boundaries fixed_rate_step_date rates.steps f
-BreaksRateSteps (Floating terms) boundaries f = BreaksUnder boundaries multiplier_step_date terms.multiplier.steps f ⊎ BreaksUnder boundaries spread_step_date terms.spread.steps f
+BreaksRateSteps (Floating terms) boundaries f =
+    BreaksUnder boundaries multiplier_step_date terms.multiplier.steps f ⊎
+    BreaksUnder boundaries spread_step_date terms.spread.steps f
 
 -- K36 is broken in the steps of the notional, or in those of the leg
 abbrev pub BreaksSteps : Stream → List ℤ → Fault → Type 0
-BreaksSteps s boundaries f = BreaksUnder boundaries notional_step_date s.notional.steps f ⊎ BreaksRateSteps s.leg boundaries f
+BreaksSteps s boundaries f =
+    BreaksUnder boundaries notional_step_date s.notional.steps f ⊎ BreaksRateSteps s.leg boundaries f

@@ -27,7 +27,9 @@ use std::alloc::Global;
 /// What the payer pays on a date, in units of 10^-4 of the currency; negative where it receives.
 #[derive(Clone, Copy, Debug, PartialEq, Eq)]
 pub struct Transfer {
+    /// Before it is adjusted.
     pub date: Day,
+    /// In units of 10^-4, before it is rounded.
     pub amount: i128,
 }
 
@@ -64,7 +66,8 @@ fn add_change(transfers: &mut Vec<Transfer>, before: i128, step: &Step) -> Resul
 // The exchanges at the steps of the notional.
 fn add_changes(transfers: &mut Vec<Transfer>, notional: &StepValues) -> Result<(), Memory>
     requires { IsLawfulValues IsNotional notional.now }
-    ensures { OnOk result (transfers.new.items ≡ transfers.old.items ++ changes notional.now.initial notional.now.steps) }
+    ensures { OnOk result
+        (transfers.new.items ≡ transfers.old.items ++ changes notional.now.initial notional.now.steps) }
 {
     let mut before = notional.initial;
     let steps = notional.steps.as_slice();

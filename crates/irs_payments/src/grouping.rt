@@ -94,7 +94,8 @@ fn is_grid_boundary(s: &Stream, boundaries: &[Day], d: Day) -> bool
     requires lawful { IsLawfulStream s.now }
     requires rising { IsRising boundaries.now }
     requires some { 1 < length boundaries.now }
-    ensures { IsTrue result ↔ (Member d boundaries.now × OnGrid s.now.pay.freq s.now.roll (pay_anchor s.now boundaries.now) d) }
+    ensures { IsTrue result ↔ (Member d boundaries.now ×
+        OnGrid s.now.pay.freq s.now.roll (pay_anchor s.now boundaries.now) d) }
 {
     has_day(boundaries, d) && is_on_grid(s.pay.freq, s.roll, payment_anchor(s, boundaries), d)
 }

@@ -103,8 +103,10 @@ fn payments_at<G: GoodDays>(
     requires few { length unadjusted.now < 2 ^ 32 }
     requires some { 0 < length places.now }
     requires short { length places.now < 2 ^ 32 }
-    ensures paid { IfOk result (ArePaid s.now (G.days days.now) unadjusted.now adjusted.now places.now (length places.now)) }
-    ensures unbroken { IfOk result (λ _. NoneLacks s.now (G.days days.now) adjusted.now places.now (length places.now)) }
+    ensures paid { IfOk result
+        (ArePaid s.now (G.days days.now) unadjusted.now adjusted.now places.now (length places.now)) }
+    ensures unbroken { IfOk result (λ _.
+        NoneLacks s.now (G.days days.now) adjusted.now places.now (length places.now)) }
     ensures broken { IfBroken result (λ f. (n : ℕ) × IsDateFault s.now (G.days days.now) adjusted.now places.now n f) }
 {
     let mut list = Payments::new(alloc);
@@ -135,8 +137,10 @@ fn payments_over<G: GoodDays>(
     requires few { length unadjusted.now < 2 ^ 32 }
     ensures ok { IfOk result (ArePayments s.now (G.days days.now) unadjusted.now adjusted.now) }
     ensures covers { IfOk result (λ ps. Covers 1 ps (length unadjusted.now - 1)) }
-    ensures unbroken { IfOk result (λ _. (f : Fault) → BreaksPayments s.now (G.days days.now) unadjusted.now adjusted.now f → ⊥) }
-    ensures broken { IfBroken result (First comes_before (BreaksPayments s.now (G.days days.now) unadjusted.now adjusted.now)) }
+    ensures unbroken { IfOk result (λ _. (f : Fault) →
+        BreaksPayments s.now (G.days days.now) unadjusted.now adjusted.now f → ⊥) }
+    ensures broken { IfBroken result (First comes_before
+        (BreaksPayments s.now (G.days days.now) unadjusted.now adjusted.now)) }
     ensures memory { IsErrOf result OfMemory → (f : Fault) → BreaksGrouping s.now unadjusted.now f → ⊥ }
 {
     if let Err(grouping) = check_grouping(s, unadjusted) {
@@ -155,10 +159,13 @@ fn payments_over<G: GoodDays>(
 /// place, moved by `paymentDaysOffset` and then adjusted by `paymentDatesAdjustments`, whose days are
 /// handed in.
 ///
-/// `Broken` is the first of K35, then K33 and then K38 of the payment dates. The conditions are those
-/// of the terms that make a list possible: the termination date is after the first day (K13: it is
-/// after the effective date, and a `firstPeriodStartDate` is before that), and an offset other than 0
-/// has a kind of days (K17). A payment may fall before the effective date.
+/// `Broken` is the first of K35 (`firstPaymentDate`, then `lastRegularPaymentDate`), then K33 and then
+/// K38 of the payment dates, whose index is the payment's number from 1. `Memory` comes where memory
+/// ran out, and then K35 isn't broken, since it is decided before memory is taken.
+///
+/// The conditions are those of the terms that make a list possible: the termination date is after the
+/// first day (K13: it is after the effective date, and a `firstPeriodStartDate` is before that), and
+/// an offset other than 0 has a kind of days (K17). A payment may fall before the effective date.
 pub fn payments<G: GoodDays>(
     alloc: Global,
     s: &Stream,
@@ -175,11 +182,15 @@ pub fn payments<G: GoodDays>(
     ensures ok { IfOk result (ArePayments s.now (G.days days.now) unadjusted.now adjusted.now) }
     // The payments cover the calculation periods in order, without a gap.
     ensures covers { IfOk result (λ ps. Covers 1 ps (length unadjusted.now - 1)) }
-    ensures unbroken { IfOk result (λ _. (f : Fault) → BreaksPayments s.now (G.days days.now) unadjusted.now adjusted.now f → ⊥) }
-    ensures broken { IfBroken result (First comes_before (BreaksPayments s.now (G.days days.now) unadjusted.now adjusted.now)) }
+    ensures unbroken { IfOk result (λ _. (f : Fault) →
+        BreaksPayments s.now (G.days days.now) unadjusted.now adjusted.now f → ⊥) }
+    ensures broken { IfBroken result (First comes_before
+        (BreaksPayments s.now (G.days days.now) unadjusted.now adjusted.now)) }
+    // Want of memory hides no K35.
     ensures memory { IsErrOf result OfMemory → (f : Fault) → BreaksGrouping s.now unadjusted.now f → ⊥ }
     // A rule is the first that is broken, or none is broken.
-    ensures decided { ((f : Fault) × First comes_before (BreaksPayments s.now (G.days days.now) unadjusted.now adjusted.now) f) ⊎
+    ensures decided { ((f : Fault) ×
+        First comes_before (BreaksPayments s.now (G.days days.now) unadjusted.now adjusted.now) f) ⊎
         ((f : Fault) → BreaksPayments s.now (G.days days.now) unadjusted.now adjusted.now f → ⊥) }
     // Where none is broken there is a list of payments.
     ensures exists { ((f : Fault) → BreaksPayments s.now (G.days days.now) unadjusted.now adjusted.now f → ⊥) →
@@ -188,7 +199,8 @@ pub fn payments<G: GoodDays>(
     ensures one { (ps qs : List Payment) → ArePayments s.now (G.days days.now) unadjusted.now adjusted.now ps →
         ArePayments s.now (G.days days.now) unadjusted.now adjusted.now qs → ps ≡ qs }
     // At most one rule is the first that is broken.
-    ensures one_broken { (f g : Fault) → First comes_before (BreaksPayments s.now (G.days days.now) unadjusted.now adjusted.now) f →
+    ensures one_broken { (f g : Fault) →
+        First comes_before (BreaksPayments s.now (G.days days.now) unadjusted.now adjusted.now) f →
         First comes_before (BreaksPayments s.now (G.days days.now) unadjusted.now adjusted.now) g → f ≡ g }
 {
     // hands the prover that the days of the cover are in the range of dates

@@ -31,7 +31,8 @@ last_of b = length b - 1
 -- boundary 0 is adjusted by firstPeriodStartDate's adjustments where it is given, else as the effective
 -- date; the last one as the termination date; the others by the period adjustments
 abbrev pub code_at : Stream → ℕ → ℕ → ConvCode
-code_at s last i = if i == 0 then (first_date_of s).adj.code else (if i == last then s.termination.adj.code else s.period_adj.code)
+code_at s last i =
+    if i == 0 then (first_date_of s).adj.code else (if i == last then s.termination.adj.code else s.period_adj.code)
 
 abbrev pub days_at : BoundaryDays → ℕ → ℕ → DaySet
 days_at sets last i = if i == 0 then sets.start else (if i == last then sets.end else sets.middle)
@@ -45,9 +46,16 @@ pub record AdjustedList (s : Stream) (sets : BoundaryDays) (b a : List ℤ) : Ty
   pub same_length : length a ≡ length b
   pub each : (i : ℕ) → i < length b → AdjustsAt s sets (last_of b) i (day_at b i) (day_at a i)
 
--- the boundary with the number i has an adjusted day
+-- the boundary with the number i has an adjusted day, and each boundary has one
 abbrev pub HasResult : Stream → BoundaryDays → List ℤ → ℕ → Type 0
 HasResult s sets b i = (r : ℤ) × AdjustsAt s sets (last_of b) i (day_at b i) r
+
+abbrev pub EachHasResult : Stream → BoundaryDays → List ℤ → Type 0
+EachHasResult s sets b = (i : ℕ) → i < length b → HasResult s sets b i
+
+-- each boundary behind boundary 0 has one
+abbrev pub EachLaterHasResult : Stream → BoundaryDays → List ℤ → Type 0
+EachLaterHasResult s sets b = (i : ℕ) → 0 < i → i < length b → HasResult s sets b i
 
 -- K33: the boundary with the number i has no adjusted day
 pub record NoResult (s : Stream) (sets : BoundaryDays) (b : List ℤ) (i : ℕ) : Type 0 where
@@ -62,7 +70,8 @@ pub record NotAfter (a : List ℤ) (i : ℕ) : Type 0 where
 
 -- the element and the index by which a boundary is named
 abbrev pub boundary_element : Stream → ℕ → ℕ → ℕ
-boundary_element s last i = if i == 0 then first_day_element s else (if i == last then termination_date else period_dates_adjustments)
+boundary_element s last i =
+    if i == 0 then first_day_element s else (if i == last then termination_date else period_dates_adjustments)
 
 abbrev pub boundary_index : ℕ → ℕ → ℕ
 boundary_index last i = if i == 0 then 0 else (if i == last then 0 else i)

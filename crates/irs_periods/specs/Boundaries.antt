@@ -23,7 +23,8 @@ IsBoundaryBy on begin termination first last d = (d ≡ begin) ⊎ ((d ≡ termi
 
 -- the same for a stream and its span; the grid of the term has no day
 abbrev pub IsBoundary : Stream → Span → ℤ → Type 0
-IsBoundary s span d = IsBoundaryBy (OnGrid s.freq s.roll span.anchor) (first_day_of s) (termination_of s) span.first span.last d
+IsBoundary s span d =
+    IsBoundaryBy (OnGrid s.freq s.roll span.anchor) (first_day_of s) (termination_of s) span.first span.last d
 
 -- the boundaries in order: the strictly rising list that has exactly these days
 abbrev pub Boundaries : Stream → Span → List ℤ → Type 0

@@ -9,7 +9,7 @@ ghost use Rattle.irs_base.specs.declared.places.Rule.TheVariants.{K33};
 ghost use Rattle.irs_base.specs.Order.{First, comes_before};
 ghost use Rattle.irs_terms.specs.TermDates.{DatesInOrder};
 ghost use Rattle.irs_terms.specs.declared.results.Span.{Span};
-ghost use Rattle.irs_periods.specs.Adjusting.{AdjustedList, AdjustsAt, BreaksAdjusted, FirstLaterNoResult, FirstNoResult, FirstNotAfter, HasResult, MissesResult, NotAfter, days_by, no_result_at, not_after_at};
+ghost use Rattle.irs_periods.specs.Adjusting.{AdjustedList, AdjustsAt, BreaksAdjusted, FirstLaterNoResult, FirstNoResult, FirstNotAfter, EachHasResult, EachLaterHasResult, MissesResult, NotAfter, days_by, no_result_at, not_after_at};
 ghost use Rattle.irs_periods.specs.Answers.{IfMemory};
 ghost use Rattle.irs_periods.specs.Boundaries.{Boundaries};
 
@@ -59,7 +59,8 @@ pub fn adjusted<G: GoodDays>(
         → (a : List ℤ) × AdjustedList s.now sets unadjusted.now a × IsRising a }
     ensures one { let IsAdjusted = AdjustedList s.now (days_by G.days start.now end.now middle.now) unadjusted.now in
         (a b : List ℤ) → IsAdjusted a → IsAdjusted b → a ≡ b }
-    ensures one_broken { let Breaks = BreaksAdjusted s.now (days_by G.days start.now end.now middle.now) unadjusted.now in
+    ensures one_broken { let sets = days_by G.days start.now end.now middle.now in
+        let Breaks = BreaksAdjusted s.now sets unadjusted.now in
         (f g : Fault) → First comes_before Breaks f → First comes_before Breaks g → f ≡ g }
 {
     // hands the prover the range of the good days and of the boundaries
@@ -108,7 +109,8 @@ fn adjust_at<G: GoodDays>(
     d: Day,
 ) -> Option<Day>
     ensures some { IfSome result (AdjustsAt s.now (days_by G.days start.now end.now middle.now) last i d) }
-    ensures none { IfNone result ((r : ℤ) → AdjustsAt s.now (days_by G.days start.now end.now middle.now) last i d r → ⊥) }
+    ensures none { let Adjusts = AdjustsAt s.now (days_by G.days start.now end.now middle.now) last i d in
+        IfNone result ((r : ℤ) → Adjusts r → ⊥) }
 {
     if i == 0 {
         adjust_by(s.first_date().adj.code, start, d)
@@ -130,7 +132,7 @@ fn first_without<G: GoodDays>(
 ) -> Option<usize>
     requires { 2 ≤ length days.now }
     ensures some { IfSome result (FirstNoResult s.now (days_by G.days start.now end.now middle.now) days.now) }
-    ensures none { IfNone result ((i : ℕ) → i < length days.now → HasResult s.now (days_by G.days start.now end.now middle.now) days.now i) }
+    ensures none { IfNone result (EachHasResult s.now (days_by G.days start.now end.now middle.now) days.now) }
 {
     let later = later_without(s, days, start, end, middle);
     if let Some(_first) = adjust_at(s, start, end, middle, days.len() - 1, 0, days[0]) {
@@ -153,7 +155,7 @@ fn later_without<G: GoodDays>(
 ) -> Option<usize>
     requires { 2 ≤ length days.now }
     ensures some { IfSome result (FirstLaterNoResult s.now (days_by G.days start.now end.now middle.now) days.now) }
-    ensures none { IfNone result ((i : ℕ) → 0 < i → i < length days.now → HasResult s.now (days_by G.days start.now end.now middle.now) days.now i) }
+    ensures none { IfNone result (EachLaterHasResult s.now (days_by G.days start.now end.now middle.now) days.now) }
 {
     let last = days.len() - 1;
     let Some(_last) = adjust_at(s, start, end, middle, last, last, days[last]) else {
@@ -177,7 +179,7 @@ fn adjust_each<G: GoodDays>(
     middle: &G,
 ) -> Result<DayList, PerErr>
     requires some { 0 < length days.now }
-    requires each { (i : ℕ) → i < length days.now → HasResult s.now (days_by G.days start.now end.now middle.now) days.now i }
+    requires each { EachHasResult s.now (days_by G.days start.now end.now middle.now) days.now }
     ensures ok { IfOk result (AdjustedList s.now (days_by G.days start.now end.now middle.now) days.now) }
     ensures memory { IfBroken result (λ _. ⊥) }
 {

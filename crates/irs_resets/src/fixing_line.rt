@@ -15,8 +15,11 @@ use irs_base::{MOST_INDEX, MOST_RATE, date, read_dec};
 /// What a line says.
 #[derive(Clone, Copy)]
 pub struct FixingLine<'a> {
+    /// INDEX, by its bytes.
     pub index: &'a [u8],
+    /// DATE and TENOR.
     pub slot: Slot,
+    /// RATE, in units of 10^-9.
     pub rate: i64,
 }
 
@@ -44,7 +47,7 @@ fn is_index(bytes: &[u8]) -> bool
     !bytes.is_empty() && bytes.len() <= MOST_INDEX && has_no_control(bytes)
 }
 
-/// What the line spells; `None` exactly where it spells nothing.
+/// What the line spells; `None` exactly where it spells no fixing.
 pub fn fixing_line(line: &[u8]) -> Option<FixingLine<'_>>
     ensures some { IfSome result (λ f. Spells line.now f.index.now f.slot f.rate) }
     ensures none { IfNone result ((index : List ℕ) (slot : AtSlot) (rate : ℤ) → Spells line.now index slot rate → ⊥) }

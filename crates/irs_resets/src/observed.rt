@@ -58,7 +58,7 @@ fn is_first_regular(s: &Stream, span: &Span, number: usize) -> bool
     follows_stub(s, span, number)
 }
 
-/// The kind of a period. Periods count from 1.
+/// What a period is. Periods count from 1, and there are `count` of them.
 pub fn period_kind(s: &Stream, span: &Span, count: usize, number: usize) -> PeriodKind
     ensures { IsKind s.now span.now count number result }
 {

@@ -15,7 +15,9 @@ use std::marker::Model;
 /// A date and a tenor.
 #[derive(Clone, Copy, Debug, PartialEq, Eq, PartialOrd, Ord)]
 pub struct Slot {
+    /// The day on which the rate was observed.
     pub date: Day,
+    /// The tenor of the index; `None` where it has none.
     pub tenor: Option<Frequency>,
 }
 
@@ -90,7 +92,7 @@ impl Table {
         }
     }
 
-    /// The rate of an index at a date and tenor.
+    /// The rate of an index at a date and tenor, in units of 10^-9; `None` exactly where there is none.
     pub fn rate(&self, index: &[u8], slot: Slot) -> Option<i64>
         ensures { result ≡ rate_at self.now index.now slot }
     {

@@ -1,5 +1,5 @@
 -- What the rules of the terms ask is decided, so what isn't broken is kept.
-use Rattle.std.proofs.Common.{◌≡◌, ◌⊎◌, inl, inr, ℕ, zero, suc, Bool, true, false, true≢false, List, Option, Some, None, IsSome, IfSome, slice_get, ℤ, pos, negsuc, ◌≤ℤ◌, ◌<ℤ◌, refl, sym, arith}
+use Rattle.std.proofs.Common.{◌≡◌, inl, inr, ℕ, zero, suc, Bool, true, false, List, Option, Some, None, IfSome, slice_get, ℤ, pos, ◌≤ℤ◌, ◌<ℤ◌, refl, arith}
 use Rattle.std.specs.Prelude.{IsTrue}
 use Rattle.jiff_core.proofs.SignedLemmas.{signed_arith}
 use Rattle.irs_base.specs.Order.{IsDecided}
@@ -24,7 +24,7 @@ use Rattle.irs_terms.specs.DayTypes.{IsSaid, IsSaidFixing}
 use Rattle.irs_terms.specs.Lawful.{IsLawfulRoll}
 use Rattle.irs_terms.specs.Legs.{FitsResets, FitsStubs}
 use Rattle.irs_terms.specs.StepDates.{IsStepInside, StepStands, step_before}
-use Rattle.irs_terms.specs.Suiting.{FrequencySuits, IsTerm, RollsMonths, RollsWeeks, SuitsBy}
+use Rattle.irs_terms.specs.Suiting.{FrequencySuits, RollsMonths, RollsWeeks, SuitsBy}
 use Rattle.irs_rules.specs.Centers.{IsFoundAt}
 
 -- what can't fail to hold holds, where it is decided

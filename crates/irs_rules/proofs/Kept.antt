@@ -1,5 +1,5 @@
 -- A stream that breaks no rule of the terms keeps what the calls of a schedule ask of it.
-use Rattle.std.proofs.Common.{◌≡◌, inl, inr, ℕ, zero, suc, ◌+◌, ◌≤ℤ◌, ◌<ℤ◌, List, [], ◌∷◌, Option, Some, None, IfSome, slice_get, unwrap_or, ℤ, refl, sym, subst}
+use Rattle.std.proofs.Common.{◌≡◌, inl, inr, ℕ, zero, suc, ◌+◌, ◌≤ℤ◌, ◌<ℤ◌, List, [], ◌∷◌, Option, Some, None, IfSome, slice_get, unwrap_or, ℤ, refl, subst}
 use Rattle.std.proofs.lemmas.Option.{slice_get_within, get_or_from_slice_get}
 use Rattle.irs_base.specs.declared.places.Rule.{Rule}
 use Rattle.irs_base.specs.declared.places.Rule.TheVariants.{K12, K13, K14, K17, K18, K19}
@@ -9,7 +9,6 @@ use Rattle.irs_base.specs.Elements as elements
 use Rattle.irs_base.specs.Faults.{fault_at, in_stream}
 use Rattle.irs_base.specs.Order.{IsDecided}
 use Rattle.irs_calendar.specs.declared.sections.Section.{Section}
-use Rattle.irs_calendar.specs.Sections.{is_named}
 use Rattle.irs_calendar.specs.Selected.{first_missing}
 use Rattle.irs_terms.specs.declared.adjustments.Dated.{Dated}
 use Rattle.irs_terms.specs.declared.amounts.Leg.{Leg}
@@ -22,7 +21,7 @@ use Rattle.irs_terms.specs.FirstDay.{first_day_of}
 use Rattle.irs_terms.specs.Lawful.{IsLawful, IsLawfulStream}
 use Rattle.irs_terms.specs.Legs.{FitsLeg, FitsResets, FitsStubs}
 use Rattle.irs_terms.specs.Needs.{names_by, names_with, reset_names, fixing_names}
-use Rattle.irs_terms.specs.StepDates.{StepsRise, LegStepsRise, StepStands, IsStepInside, step_before}
+use Rattle.irs_terms.specs.StepDates.{StepsRise, LegStepsRise, StepStands, IsStepInside}
 use Rattle.irs_terms.specs.Suiting.{FrequencySuits}
 use Rattle.irs_terms.specs.TermDates.{DatesInOrder, EndsAfterStart, StartsBefore, FirstRegularInside, LastRegularInside, given_or, termination_of}
 use Rattle.irs_rules.specs.Breaks.{Breaks, BreaksItem}

@@ -8,7 +8,7 @@ use Rattle.irs_terms.specs.declared.dates.FixTerms.{FixTerms}
 use Rattle.irs_base.specs.declared.places.Fault.{Fault}
 use Rattle.irs_terms.specs.declared.dates.ResetTerms.{ResetTerms}
 use Rattle.irs_terms.specs.Lawful.{IsLawfulCenters, IsLawfulFix, IsLawfulNames, IsLawfulReset}
-use Rattle.irs_terms.specs.Needs.{adjusts_days, counts_days, fixing_names, fixing_names_of, names_for}
+use Rattle.irs_terms.specs.Needs.{fixing_names, fixing_names_of, names_for}
 use Rattle.irs_rules.specs.Breaks.{BreaksItem}
 use Rattle.irs_rules.specs.Centers.{IsFoundAt}
 use Rattle.irs_rules.specs.Order.{IsFirstFault}

@@ -1,5 +1,5 @@
 -- The first rule that the streams of a swap break: that of the first stream that breaks one.
-use Rattle.std.proofs.Common.{◌≡◌, ℕ, ◌+◌, ◌<◌, ◌≤◌, false, List, length, Some, None, refl, sym, ◌∙◌, ap, subst, arith, inl, inr, ◌⊎◌}
+use Rattle.std.proofs.Common.{◌≡◌, ℕ, ◌+◌, ◌<◌, ◌≤◌, false, List, length, Some, None, refl, sym, ◌∙◌, ap, subst, arith, inl, inr}
 use Rattle.std.specs.Prelude.{slice_get}
 use Rattle.std.proofs.lemmas.Bool.{cases_order, cases_lt}
 use Rattle.std.proofs.lemmas.Option.{slice_get_within, same_Some}
@@ -7,12 +7,13 @@ use Rattle.irs_base.specs.declared.places.Broken.{Broken}
 use Rattle.irs_base.specs.declared.places.Fault.{Fault}
 use Rattle.irs_base.specs.Faults.{in_stream}
 use Rattle.irs_base.specs.Order.{First, IsFirst, is_before}
-use Rattle.irs_base.proofs.Firsts.{level_same, level_later}
+use Rattle.irs_base.proofs.Firsts.{level_same, level_later, one_first}
+use Rattle.irs_base.proofs.FaultOrder.{broken_ties}
 use Rattle.irs_calendar.specs.declared.sections.Section.{Section}
 use Rattle.irs_terms.specs.declared.stream.Stream.{Stream}
 use Rattle.irs_terms.specs.declared.stream_list.Swap.{Swap}
 use Rattle.irs_rules.specs.Order.{is_before_here, IsFirstFault}
-use Rattle.irs_rules.specs.TermsRules.{BreaksStream, BreaksTerms}
+use Rattle.irs_rules.specs.TermsRules.{BreaksStream, BreaksTerms, IsFirstBroken}
 
 -- none of the first n streams breaks a rule
 abbrev pub NoStreamBelow : List Stream → List Section → ℕ → Type 0
@@ -56,3 +57,7 @@ no_stream_more streams cal n s found before never k less t there f breaks = elim
       let here : t ≡ s = same_stream streams n k s t found there same in
       never f (subst (λ (u : Stream). BreaksStream cal u f) here breaks)
 ]
+
+-- at most one rule is the first that a swap breaks
+pub one_first_broken : (swap : Swap) (cal : List Section) (f g : Broken) → IsFirstBroken swap cal f → IsFirstBroken swap cal g → f ≡ g
+one_first_broken swap cal f g p q = one_first is_before broken_ties (BreaksTerms swap cal) f g p q

@@ -1,6 +1,6 @@
 //! K11: an element that needs business days has centres. Reset dates are asked whether or not the
 //! stream floats, and the effective date whether or not the first period starts before it.
-ghost use Rattle.std.specs.Prelude.{◌↔◌, IsTrue, IfSome, IsSomeAnd};
+ghost use Rattle.std.specs.Prelude.{◌↔◌, IsTrue, IsSomeAnd};
 ghost use Rattle.irs_base.specs.Elements.{first_period_start_adjustments, fixing_dates};
 ghost use Rattle.irs_base.specs.declared.places.Rule.TheVariants.{K11};
 ghost use Rattle.irs_terms.specs.Centers.{FixingHasCenters, HasCenters, HasCentersBy, HasCentersFor, HasCentersWith, StartHasCenters};

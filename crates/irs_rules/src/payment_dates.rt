@@ -1,5 +1,5 @@
 //! K16: where the first and the last regular payment date stand, and when a first one is needed.
-ghost use Rattle.std.specs.Prelude.{◌⊎◌, ◌≤ℤ◌, ◌↔◌, IsTrue, IsSome, IfSome, IsSomeAnd};
+ghost use Rattle.std.specs.Prelude.{◌≤ℤ◌, ◌↔◌, IsTrue, IsSome, IfSome};
 ghost use Rattle.irs_terms.specs.Frequencies.{GroupsPeriods};
 ghost use Rattle.irs_terms.specs.Lawful.{IsLawfulStream};
 ghost use Rattle.irs_terms.specs.Lengths.{IsPositive};

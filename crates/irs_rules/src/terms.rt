@@ -22,7 +22,9 @@ use irs_calendar::Calendars;
 use irs_terms::{Stream, Swap};
 
 /// The first of K10 to K21 that a lawful swap breaks, `None` exactly where it breaks none. The
-/// calendars are asked for the centres of elements that need business days. No memory is taken.
+/// rules are this project's own, on the elements of FpML's InterestRateStream: references and
+/// centres (K10 to K12), dates and frequencies (K13 to K16), offsets, steps and rates (K17 to K21).
+/// The calendars are asked for the centres of elements that need business days. No memory is taken.
 pub fn check_terms(swap: &Swap, cal: &Calendars) -> Option<Broken>
     requires { IsLawful swap.now }
     ensures first { IsTermsAnswer swap.now cal.now result }

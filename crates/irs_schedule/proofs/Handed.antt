@@ -5,7 +5,7 @@ use Rattle.irs_base.specs.declared.stopped.Stopped.TheVariants.{Broken as OfBrok
 use Rattle.irs_base.specs.Faults.{IfBroken, IfStopped}
 
 -- at the exit of a `?`
-pub handed_on : {F G : Type 0} (e : Stopped F) (P Q : F → Type 0) → ((f : F) → P f → Q f) → IfStopped e P → IfStopped e Q
+pub handed_on : {F : Type 0} (e : Stopped F) (P Q : F → Type 0) → ((f : F) → P f → Q f) → IfStopped e P → IfStopped e Q
 handed_on (OfBroken f) P Q g h = g f h
 handed_on OfMemory P Q g h = tt
 

@@ -1,5 +1,6 @@
 -- What the rules of a part say over the one layout of a stream.
-use Rattle.std.proofs.Common.{◌≡◌, ◌⊎◌, inl, inr, ℕ, ◌<◌, List, length, Ok, subst, sym, arith, ℤ}
+use Rattle.std.proofs.Common.{◌≡◌, ◌⊎◌, inl, inr, ℕ, ◌<◌, List, length, Ok, false, subst, sym, arith, ℤ}
+use Rattle.irs_base.specs.Elements.{calculation_period_dates, calculation_period_frequency}
 use Rattle.irs_base.specs.Order.{First, comes_before}
 use Rattle.irs_base.specs.declared.places.Fault.{Fault}
 use Rattle.irs_base.specs.declared.places.Rule.TheVariants.{K32, K33, K34}
@@ -7,7 +8,7 @@ use Rattle.irs_terms.specs.Lawful.{IsLawfulStream}
 use Rattle.irs_terms.specs.TermDates.{DatesInOrder}
 use Rattle.irs_terms.specs.declared.results.Span.{Span}
 use Rattle.irs_terms.specs.declared.stream.Stream.{Stream}
-use Rattle.irs_periods.specs.Adjusting.{AdjustedList, BreaksAdjusted, no_result_at, not_after_at}
+use Rattle.irs_periods.specs.Adjusting.{AdjustedList, BreaksAdjusted, boundary_element, boundary_index, last_of, no_result_at, not_after_at}
 use Rattle.irs_periods.specs.Boundaries.{Boundaries, BreaksPeriods, too_many_periods}
 use Rattle.irs_periods.specs.SpanRules.{BreaksSpan, SpanKept}
 use Rattle.irs_periods.specs.Spans.{Regular}
@@ -45,10 +46,16 @@ module _ (sets : StreamSets) (s : Stream) (span : Span) (regular : Regular s spa
 
   -- K33 and K34 come behind K32
   boundaries_late : (f g : Fault) → BreaksPeriods s span f → BreaksBoundaries sets s span g → comes_before g f ≡ false
-  boundaries_late f g h k = elim k.breaks [
-    | inl misses ↦ told f g too_many_periods _ h.1 misses.is (not_before_turn K32 K33 _ _ _ _ (omega arith))
-    | inr flat ↦ told f g too_many_periods _ h.1 flat.is (not_before_turn K32 K34 _ _ _ _ (omega arith))
-  ]
+  boundaries_late f g h k =
+      let last = last_of k.boundaries in
+      elim k.breaks [
+        | inl misses ↦
+            let at = misses.number in
+            told f g too_many_periods (no_result_at s last at) h.1 misses.is
+            (not_before_turn K32 K33 calculation_period_frequency (boundary_element s last at) (boundary_index last at) 0 (omega arith))
+        | inr flat ↦ told f g too_many_periods (not_after_at flat.number) h.1 flat.is
+            (not_before_turn K32 K34 calculation_period_frequency calculation_period_dates flat.number 0 (omega arith))
+      ]
 
   -- too many periods are the first broken rule
   pub periods_first : (f : Fault) → First comes_before (BreaksPeriods s span) f → First comes_before (BreaksLayout sets s) f

@@ -21,7 +21,7 @@ layout_there sets s lawful dates ranges span_unbroken unbroken =
     let b = boundaries_there s span.0 lawful dates span.1 span.2 in
     let days = boundaries_days s span.0 lawful dates span.1 span.2 b.0 b.1 in
     let a = rising_there s sets.boundaries b.0 days ranges.start ranges.end ranges.middle
-        (λ f breaks. unbroken f (record { span = span.0; regular = span.1; breaks = inr (record { boundaries = b.0; listed = b.1; breaks = breaks }) })) in (
+    (λ f breaks. unbroken f (record { span = span.0; regular = span.1; breaks = inr (record { boundaries = b.0; listed = b.1; breaks = breaks }) })) in (
       record { span = span.0; unadjusted = b.0; adjusted = a.0 },
       record {
         regular = span.1;

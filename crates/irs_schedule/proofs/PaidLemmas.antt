@@ -7,6 +7,7 @@ use Rattle.std.proofs.lemmas.Option.{slice_get_within, get_or_from_slice_get, sa
 use Rattle.irs_terms.specs.declared.results.Payment.{Payment}
 use Rattle.irs_terms.specs.declared.results.Reset.{Reset}
 use Rattle.irs_terms.specs.declared.stream.Stream.{Stream}
+use Rattle.irs_compound.proofs.AmountTheorems.{out_from_one}
 use Rattle.irs_payments.specs.Payments.{Covers}
 use Rattle.irs_schedule.specs.Parts.{HasAmount}
 use Rattle.irs_schedule.specs.PeriodTerms.{IsAmountFor, PassesIn, PassesAt, PassesFirst, PassesFirstIn}
@@ -121,7 +122,8 @@ module _ (s : Stream) (b a : List ℤ) (rs : List Reset) where
             let order = covers_in_order 1 last ps i x.number p x.payment covers behind there x.there in
             let at = x.within.is in
             let end = first.to_end in
-            omega (arith, order, at, end, less)
+            let low = out_from_one s.compounding x.within.terms x.within.number x.within.out in
+            omega (arith, order, at, end, less, low)
         | inr to ↦
             let at : x.number ≡ i = omega (arith, from, to) in
             let same : x.payment ≡ p = same_Some x.payment p (sym x.there ∙ ap (slice_get ps) at ∙ there) in

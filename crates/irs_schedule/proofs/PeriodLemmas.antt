@@ -1,5 +1,6 @@
 -- Periods that are worked out.
-use Rattle.std.proofs.Common.{◌≡◌, ℕ, ◌+◌, ◌-◌, ◌<◌, ◌≤◌, ◌==◌, length, slice_index_or, arith, List, [], ◌∷◌, ℤ, pos, ◌<ℤ◌, ◌≤ℤ◌, IfSome, map, zero, suc, Bool, option_and_then, slice_get, subst, sym}
+use Rattle.std.proofs.Common.{◌≡◌, ℕ, ◌+◌, ◌-◌, ◌<◌, ◌≤◌, ◌==◌, length, slice_index_or, arith, List, [], ◌∷◌, ℤ, pos, ◌<ℤ◌, ◌≤ℤ◌, IfSome, map, zero, suc, Bool, option_and_then, slice_get, subst, sym, Option, Some, None, option_map}
+use Rattle.std.specs.Prelude.{unsigned_abs}
 use Rattle.std.proofs.lemmas.List.FromFn.{get_or-map-range_with_len, length-map-range_with_len}
 use Rattle.std.specs.List.{range_with_len}
 use Rattle.jiff_core.proofs.SignedLemmas.{signed_arith}
@@ -17,6 +18,8 @@ use Rattle.irs_schedule.specs.Parts.{Rises, RisesFrom, IsEntry}
 use Rattle.irs_schedule.specs.Periods.{count_of, start_of, observed_of, period_by, periods_by}
 use Rattle.irs_schedule.specs.RowsOf.{no_period}
 use Rattle.irs_compound.proofs.RateSizes.{value_within, rate_size}
+use Rattle.irs_compound.specs.PeriodRates.{most_rounded_rate, rates_by}
+use Rattle.irs_compound.specs.declared.periods.Rates.{Rates}
 use Rattle.irs_base.specs.Limits.{most_numerator}
 use Rattle.irs_base.specs.Members.{Every, day_at}
 
@@ -75,6 +78,11 @@ every_computed : {X : Type 0} (P : X → Type 0) (f : ℕ → X) (a n : ℕ) →
 every_computed P f a zero each = tt
 every_computed P f a (suc n) each = (each a (omega arith) (omega arith), every_computed P f (a + 1) n (λ i low high. each i (omega (arith, low)) (omega (arith, high))))
 
+-- the whole rate of rates within their limit
+all_in_small : (rates : Option Rates) → IfSome rates (λ r. unsigned_abs r.all_in ≤ most_rounded_rate) → IfSome (option_map (λ (r : Rates). r.all_in) rates) (λ (r : ℤ). unsigned_abs r ≤ most_rounded_rate)
+all_in_small None h = tt
+all_in_small (Some r) h = h
+
 -- periods that are worked out lie within their limits
 pub entries_within : (terms : KeptTerms) (unadjusted adjusted : List ℤ) (resets : List Reset)
     → IsLawfulValues IsNotional terms.notional → IsLawfulLeg terms.leg → Every (λ (r : Reset). IfSome r.observed IsRate) resets → AreDays adjusted → Rises adjusted
@@ -90,5 +98,5 @@ entries_within terms unadjusted adjusted resets notional leg observed days rises
       notional = value_within IsNotional terms.notional (start_of unadjusted i) notional;
       numerator = numerator_small code a b last (is_day_at adjusted (i - 1) days (omega (arith, low, high))) (is_day_at adjusted i days (omega (arith, low, high))) order;
       denominator = one_denominator code a b last (fraction_of code a b last) (fraction_is code a b last order);
-      rate = rate_size terms.leg (start_of unadjusted i) (observed_of resets i) leg (observed_small resets (i - 1) observed);
+      rate = all_in_small (rates_by terms.leg (start_of unadjusted i) (observed_of resets i)) (rate_size terms.leg (start_of unadjusted i) (observed_of resets i) leg (observed_small resets (i - 1) observed));
     })

@@ -2,6 +2,7 @@
 use Rattle.std.proofs.Common.{◌≡◌, ◌⊎◌, inl, inr, ℕ, zero, suc, ◌+◌, ◌<◌, List, refl, sym, ap, subst, ◌∙◌, arith}
 use Rattle.irs_base.specs.Order.{First, comes_before}
 use Rattle.irs_base.specs.declared.places.Fault.{Fault}
+use Rattle.irs_base.specs.Elements.{calculation_period_amount}
 use Rattle.irs_base.specs.declared.places.Rule.TheVariants.{K39}
 use Rattle.irs_terms.specs.declared.results.Payment.{Payment}
 use Rattle.irs_terms.specs.declared.results.Reset.{Reset}
@@ -138,7 +139,7 @@ module _ (sets : StreamSets) (fix : RateTable) (s : Stream) where
       passed_first : (f : Fault) → IsFirstPassed s l.unadjusted l.adjusted rs ps f → First comes_before (BreaksAmounts sets fix s l) f
       passed_first f h = (
         record { payments = ps; are_payments = are_payments; resets = rs; are_resets = are_resets; period = h.0; passes = h.1.passes; is = h.2 },
-        λ g k. told f g (passed_at h.0) (passed_at k.period) h.2 k.is (not_before_index K39 _ k.period h.0 (λ less. h.1.none_before k.period less (passes_here g k))),
+        λ g k. told f g (passed_at h.0) (passed_at k.period) h.2 k.is (not_before_index K39 calculation_period_amount k.period h.0 (λ less. h.1.none_before k.period less (passes_here g k))),
       )
 
       pub amounts_first : KeptBefore sets fix s 6 → (f : Fault) → IsFirstPassed s l.unadjusted l.adjusted rs ps f → StreamBroken sets fix s f

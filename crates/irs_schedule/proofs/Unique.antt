@@ -14,7 +14,7 @@ use Rattle.irs_terms.specs.declared.stream.Stream.{Stream}
 use Rattle.irs_daycount.specs.FractionLaws.{one_fraction, one_days, one_denominator}
 use Rattle.irs_daycount.proofs.FractionBounds.{fraction_bounded}
 use Rattle.irs_compound.proofs.FractionFits.{fraction_fits}
-use Rattle.irs_compound.specs.AmountLaws.{one_amount}
+use Rattle.irs_compound.specs.AmountLaws.{one_amount as one_units}
 use Rattle.irs_compound.specs.Amounts.{IsFraction, AmountOf}
 use Rattle.irs_compound.specs.InForceLaws.{one_in_force}
 use Rattle.irs_compound.specs.RateLaws.{one_leg_rates}
@@ -101,7 +101,7 @@ module _ (s : Stream) (b a : List ℤ) (rs : List Reset) (rises : StepsRise s.no
       let same : k.terms ≡ h.terms = one_terms p k.terms h.terms k.are_terms h.are_terms in
       let moved : IsAmountBy s h.terms y = subst (λ (ts : List PeriodTerm). IsAmountBy s ts y) same k.is_amount in
       let fits : AllFractions h.terms = fractions_fit p.first_period h.terms days rising low (let c = h.are_terms.count in omega (arith, c, high)) h.are_terms.each in
-      same_amount h.terms x y h.is_amount moved (one_amount s.compounding h.terms (decimals_of s.currency.letters) (units_of x) (units_of y) fits (amount_units h.terms x h.is_amount) (amount_units h.terms y moved))
+      same_amount h.terms x y h.is_amount moved (one_units s.compounding h.terms (decimals_of s.currency.letters) (units_of x) (units_of y) fits (amount_units h.terms x h.is_amount) (amount_units h.terms y moved))
 
 -- the periods of a payment lie among those of the stream
 abbrev InPeriods : ℕ → Payment → Type 0

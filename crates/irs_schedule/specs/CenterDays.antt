@@ -6,9 +6,9 @@ use Rattle.irs_terms.specs.declared.stream_list.Swap.{Swap}
 use Rattle.irs_calendar.specs.declared.sections.Section.{Section}
 use Rattle.irs_calendar.specs.GoodDays.{DaySet}
 use Rattle.irs_schedule.specs.DaySets.{days_of_names}
-use Rattle.irs_rules.specs.TermsKept.{AreFound}
 use Rattle.irs_terms.specs.FirstDay.{first_date_of}
 use Rattle.irs_terms.specs.Needs.{names_by, names_with, reset_names, fixing_names}
+use Rattle.irs_rules.specs.Centers.{AreFound}
 
 -- the names of the centres of an element, or none where it needs no days, and the calendars
 pub record NamedCenters : Type 0 where

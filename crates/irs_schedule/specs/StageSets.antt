@@ -1,12 +1,11 @@
 -- The good days by which a stream is worked out.
-use Rattle.irs_periods.specs.Adjusting.{days_by}
 use Rattle.irs_schedule.specs.CenterDays.{days_of_centers}
 use Rattle.irs_schedule.specs.DaySets.{StreamSets}
 use Rattle.irs_schedule.specs.declared.center_table.StreamDays.{StreamDays}
 
 abbrev pub sets_of : StreamDays → StreamSets
 sets_of days = record {
-  boundaries = days_by (days_of_centers days.start.now) (days_of_centers days.end.now) (days_of_centers days.middle.now);
+  boundaries = record { start = days_of_centers days.start.now; end = days_of_centers days.end.now; middle = days_of_centers days.middle.now };
   payment = days_of_centers days.payment.now;
   reset = days_of_centers days.reset.now;
   fixing = days_of_centers days.fixing.now;

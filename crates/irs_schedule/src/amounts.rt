@@ -14,8 +14,8 @@ ghost use Rattle.irs_schedule.specs.Schedules.{payment_of};
 ghost use Rattle.irs_base.specs.Members.{Every};
 ghost use Rattle.irs_terms.specs.StepDates.{AllStepsRise};
 
-use crate::periods::{day_at, observed_at};
 use crate::PaymentEntry;
+use crate::periods::{day_at, observed_at};
 use irs_base::{Day, Dec, Elem, Fault, Memory, Rule, Stopped};
 use irs_compound::{PeriodTerm, in_force, payment_amount, rates_by};
 use irs_daycount::fraction_by;
@@ -98,7 +98,11 @@ fn entry_of(payment: Payment, amount: Option<Dec>) -> PaymentEntry
 }
 
 // What periods pay from this one on, or K39 at the first of them that breaks it.
-fn amount_of(s: &Stream, terms: &[PeriodTerm], first_period: u32) -> Result<Option<Dec>, Stopped<Fault>>
+fn amount_of(
+    s: &Stream,
+    terms: &[PeriodTerm],
+    first_period: u32,
+) -> Result<Option<Dec>, Stopped<Fault>>
     requires payment { IsPayment terms.now }
     requires small { first_period ≤ most_periods }
     ensures amount { IfOk result (IsAmountBy s.now terms.now) }

@@ -11,12 +11,12 @@ ghost use Rattle.irs_schedule.specs.StageSets.{sets_of};
 ghost use Rattle.irs_rules.specs.TermsKept.{TermsKept};
 ghost use Rattle.irs_terms.specs.Lawful.{IsLawfulStream};
 
+use crate::PaymentEntry;
 use crate::amounts::{PeriodTable, paid};
 use crate::center_table::StreamDays;
 use crate::kept_terms::kept_terms;
 use crate::layouts::Layout;
 use crate::streams::StreamPart;
-use crate::PaymentEntry;
 use irs_base::{Fault, Stopped};
 use irs_payments::{check_steps, payments, principals};
 use irs_periods::{adjusted, boundaries_by, regular_span};

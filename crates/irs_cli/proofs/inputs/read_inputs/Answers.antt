@@ -1,7 +1,9 @@
 use Rattle.std.proofs.Common.{ℕ, List, [], sym, subst, Vec}
 use Rattle.std.specs.Prelude.{map}
 use Rattle.std.specs.declared.alloc.Global.{Global}
-use Rattle.irs_calendar.specs.Calendars.{SpotFails, spot_of, calendars_in}
+use Rattle.irs_calendar.specs.Calendars.{spot_of}
+use Rattle.irs_calendar.specs.FirstFaults.{IsFirstFault}
+use Rattle.std.specs.Prelude.{IfSome}
 use Rattle.irs_calendar.specs.Grammar.{CalFiles}
 use Rattle.irs_cli.specs.Due.{SpellsSwap}
 use Rattle.irs_cli.specs.Outcomes.{IfRefused, Concludes}
@@ -27,7 +29,7 @@ returns-in_err-calendars-clause-refused c =
     let made = c.from_residual-in_err-calendars in
     let g = given_by c.args.fetched.now in
     let swap = c.in_ok-swap.swap in
-    refused_by made.result (Calendars e) (λ r. IfRefused r (λ status text. (task : Task) → Concludes task g status text)) made.ensures.0 made.ensures.1 (refuse_calendars g swap e (subst (λ (l : List ℕ). SpellsSwap l swap) c.deref.ensures.value c.in_ok-swap.ensures.spells) (subst (λ (l : List (Vec ℕ Global)). SpotFails (spot_of e) (calendars_in 1 [] (map (λ v. v.items) l))) c.deref-2.ensures.value c.in_err-calendars.ensures.lines))
+    refused_by made.result (Calendars e) (λ r. IfRefused r (λ status text. (task : Task) → Concludes task g status text)) made.ensures.0 made.ensures.1 (refuse_calendars g swap e (subst (λ (l : List ℕ). SpellsSwap l swap) c.deref.ensures.value c.in_ok-swap.ensures.spells) (subst (λ (l : List (Vec ℕ Global)). IfSome (spot_of e) (IsFirstFault (map (λ v. v.items) l))) c.deref-2.ensures.value c.in_err-calendars.ensures.first))
 
 pub returns-in_err-fixings-clause-refused : goal.returns-in_err-fixings-clause-refused
 returns-in_err-fixings-clause-refused c =

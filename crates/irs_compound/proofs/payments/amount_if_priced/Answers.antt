@@ -2,6 +2,8 @@ use Rattle.std.proofs.Common.{rules, Some, FitsSigned}
 use Rattle.std.specs.Int.{w128}
 use Rattle.std.proofs.lemmas.Int.{to_z-of_z}
 use Rattle.irs_compound.specs.AmountLaws.{priced_or_not}
+use Rattle.irs_compound.specs.Amounts.{code_for}
+use Rattle.irs_compound.specs.PartsLaws.{number_within}
 use Rattle.irs_compound.proofs.AmountBounds.{amount_small}
 use Rattle.irs_compound.proofs.payments.amount_if_priced.Goals as goal
 
@@ -18,6 +20,11 @@ returns-in-Ok-clause-size c =
     let pays = (c.in-Ok.ensures {u = tt}).amount in
     let none = (c.in-Ok.ensures {u = tt}).within in
     simp to_z-of_z (amount_small c.args.code c.args.periods.now c.args.places (Some c.in-Ok.amount) c.requires.payment c.requires.places_fit (λ n out. none n out.1) (priced, pays))
+
+pub returns-in-Err-clause-position : goal.returns-in-Err-clause-position
+returns-in-Err-clause-position c =
+    let passes = (c.in-Err.ensures {u = tt}).out.0 in
+    (passes.from_one, number_within (code_for c.args.code c.args.periods.now) c.args.periods.now c.in-Err.out.period passes)
 
 pub returns-in-Err-clause-out : goal.returns-in-Err-clause-out
 returns-in-Err-clause-out c =

@@ -1,4 +1,4 @@
-use Rattle.std.proofs.Common.{sym, subst, Option, None}
+use Rattle.std.proofs.Common.{subst, Option}
 use Rattle.irs_base.specs.declared.places.Broken.{Broken}
 use Rattle.irs_base.specs.Order.{IsFirst, is_before}
 use Rattle.irs_base.proofs.Firsts.{one_answer}
