@@ -5,7 +5,8 @@
 //! the amount has. A period is its notional, its base rate and its rate, or `unknown`, and its day
 //! count fraction; `8000 * ` before it stands for so many of it.
 ghost use Rattle.std.specs.Prelude.{IsTrue, All};
-ghost use Rattle.irs_compound.specs.Amounts.{IsPayment, IsTerm};
+ghost use Rattle.irs_compound.specs.Amounts.{IsFraction, IsPayment, IsTerm};
+ghost use Rattle.irs_terms.specs.Lawful.{IsNotional};
 
 use crate::texts::dec_text;
 use anyhow::{Context, Result, bail};
@@ -18,17 +19,23 @@ use std::alloc::Global;
 /// The greatest notional, in units of 10^-4.
 const MOST_NOTIONAL: i128 = 100_000_000_000_000_000;
 
+fn is_notional(value: i128) -> bool
+    ensures { IsTrue result → IsNotional value }
+{
+    0 <= value && value <= MOST_NOTIONAL
+}
+
 // A row has no numerator above that of a leap year.
+fn is_fraction(frac: Frac) -> bool
+    ensures { IsTrue result → IsFraction frac }
+{
+    0 <= frac.num && frac.num <= 366 && 1 <= frac.den && frac.den <= 133_590
+}
+
 fn is_term(den: i64, p: &PeriodTerm) -> bool
     ensures { IsTrue result → IsTerm den p.now }
 {
-    0 <= p.notional
-        && p.notional <= MOST_NOTIONAL
-        && 0 <= p.frac.num
-        && p.frac.num <= 366
-        && 1 <= p.frac.den
-        && p.frac.den <= 133_590
-        && p.frac.den == den
+    is_notional(p.notional) && is_fraction(p.frac) && p.frac.den == den
 }
 
 fn are_terms(den: i64, periods: &[PeriodTerm]) -> bool
