@@ -6,18 +6,21 @@ ghost use Rattle.irs_base.specs.Limits.{most_centers};
 ghost use Rattle.irs_calendar.specs.GoodDays.{SameDays};
 ghost use Rattle.irs_calendar.specs.Runs.{set_of_runs};
 ghost use Rattle.irs_calendar.specs.Selected.{day_set_of, first_missing};
-ghost use Rattle.irs_schedule.specs.DaySets.{days_of_names};
+ghost use Rattle.irs_schedule.specs.DaySets.{days_of_names, reset_days};
+ghost use Rattle.irs_rules.specs.TermsKept.{TermsKept};
+ghost use Rattle.irs_terms.specs.Lawful.{IsLawfulStream};
 ghost use Rattle.irs_schedule.specs.CenterDays.{CanFind, centers_named, days_of_centers};
 
 use irs_base::{Day, Memory, Names, Text};
 use irs_calendar::{Calendars, GoodDays, RunSet, SelErr};
+use irs_terms::{Stream, reset_names};
 use std::alloc::Global;
 use std::marker::Model;
 
 /// The good days of an element: those of the centres that it names, or every day of the range.
 /// Contracts see the sections of the calendars and the names.
 #[derive(Drop)]
-pub(crate) struct CenterDays<'cal, 'swap> {
+pub struct CenterDays<'cal, 'swap> {
     cal: &'cal Calendars,
     names: Option<&'swap Names>,
     runs: RunSet,
@@ -85,6 +88,22 @@ impl<'cal, 'swap> GoodDays for CenterDays<'cal, 'swap> {
     fn prev_good(&self, d: Day) -> Option<Day> {
         self.runs.prev_good(d)
     }
+}
+
+/// The good days by which the reset dates of a stream are adjusted: those of the centres of its
+/// `resetDatesAdjustments`, whose names all stand in the calendars, or every day of the range where
+/// these adjustments need no days. It answers `Memory` where memory ran out, and else these days.
+#[tactic(auto, using(crate::proofs::CenterLemmas::finds_reset))]
+pub fn reset_days<'cal, 'swap>(
+    alloc: Global,
+    cal: &'cal Calendars,
+    s: &'swap Stream,
+) -> Result<CenterDays<'cal, 'swap>, Memory>
+    requires lawful { IsLawfulStream s.now }
+    requires kept { TermsKept cal.now s.now }
+    ensures { IfOk result (λ days. days_of_centers days ≡ reset_days cal.now s.now) }
+{
+    CenterDays::find(alloc, cal, reset_names(&s.reset))
 }
 
 // The runs of good days of the centres with these names; without names the whole range.

@@ -18,6 +18,7 @@ mod texts;
 mod views;
 mod walking;
 
+pub use center_days::{CenterDays, reset_days};
 pub use entries::{PaymentEntry, PeriodEntry};
 pub use making::{SchedErr, make_schedule};
 pub use row::Row;

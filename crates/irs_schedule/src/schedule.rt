@@ -52,6 +52,14 @@ impl Schedule {
         &self.parts
     }
 
+    /// How many streams it has, 1 to 8; it takes no memory.
+    pub fn stream_count(&self) -> u8
+        ensures count { result ≡ length self.now }
+        ensures bounds { IsWithin self.now }
+    {
+        self.parts.len() as u8
+    }
+
     /// Its rows, in the order of its text; they take no memory.
     #[tactic(auto, using(crate::proofs::PlaceLemmas::rows_few, crate::proofs::CountLemmas::rows_count), unfolding(crate::specs::RowsOf::rows_of))]
     pub fn rows(&self) -> Rows<'_>

@@ -6,7 +6,7 @@ use crate::kept_terms::KeptTerms;
 use crate::periods::{day_at, entry_by, observed_at};
 use crate::{PaymentEntry, PeriodEntry, Row};
 use irs_base::{Day, DayList};
-use irs_terms::{Currency, Exchange, Exchanges, Reset, Resets};
+use irs_terms::{Currency, DayCountCode, Exchange, Exchanges, Reset, Resets};
 use std::marker::Model;
 
 /// One stream of a schedule. Contracts see a record of its currency, its boundaries, exchanges,
@@ -97,7 +97,8 @@ impl StreamPart {
         self.adjusted.len() - 1
     }
 
-    pub(crate) fn is_floating(&self) -> bool
+    /// Whether it pays a floating rate.
+    pub fn is_floating(&self) -> bool
         ensures { result ≡ self.now.floating }
     {
         self.terms.is_floating()
@@ -134,16 +135,25 @@ impl StreamPart {
         self.terms.currency
     }
 
-    /// The boundaries of its periods, unadjusted.
-    pub(crate) fn unadjusted(&self) -> &[Day]
-        ensures { result.now ≡ self.now.unadjusted }
+    /// The day count of its periods.
+    pub fn day_count(&self) -> DayCountCode
+        ensures { result ≡ self.now.day_count }
+    {
+        self.terms.day_count
+    }
+
+    /// The boundaries of its periods, unadjusted: period i, from 1, starts on the one at place i - 1.
+    pub fn unadjusted(&self) -> &[Day]
+        ensures value { result.now ≡ self.now.unadjusted }
+        ensures bounds { KeepsBounds self.now }
     {
         self.unadjusted.as_slice()
     }
 
-    /// The boundaries of its periods, adjusted.
-    pub(crate) fn adjusted(&self) -> &[Day]
-        ensures { result.now ≡ self.now.adjusted }
+    /// The boundaries of its periods, adjusted, at the same places.
+    pub fn adjusted(&self) -> &[Day]
+        ensures value { result.now ≡ self.now.adjusted }
+        ensures bounds { KeepsBounds self.now }
     {
         self.adjusted.as_slice()
     }
