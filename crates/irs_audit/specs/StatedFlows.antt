@@ -1,0 +1,87 @@
+-- The cash flows that state each row of a schedule, and each field of it that the schedule knows.
+use Rattle.std.specs.Prelude.{ℕ, ◌+◌, ◌-◌, ◌^◌, ℤ, pos, ◌*ℤ◌, List, [], ◌∷◌, map, Option, Some, option_map, slice_get}
+use Rattle.irs_base.specs.Rounding.{rounded}
+use Rattle.irs_base.specs.declared.line.Dec.{Dec}
+use Rattle.irs_base.specs.declared.rounding.Direction.TheVariants.{Nearest}
+use Rattle.irs_terms.specs.declared.currency.Currency.{Currency}
+use Rattle.irs_terms.specs.declared.results.Exchange.{Exchange}
+use Rattle.irs_terms.specs.declared.results.Frac.{Frac}
+use Rattle.irs_terms.specs.declared.results.Reset.{Reset}
+use Rattle.irs_schedule.specs.Parts.{Part}
+use Rattle.irs_schedule.specs.PeriodViews.{dated_period}
+use Rattle.irs_schedule.specs.declared.entries.PaymentEntry.{PaymentEntry}
+use Rattle.irs_schedule.specs.declared.entries.PeriodEntry.{PeriodEntry}
+use Rattle.irs_schedule.specs.declared.views.CalculationPeriod.{CalculationPeriod}
+use Rattle.irs_audit.specs.FlowParts.{FlowPart}
+use Rattle.irs_audit.specs.declared.flows.FlowExchange.{FlowExchange}
+use Rattle.irs_audit.specs.declared.flows.FlowPayment.{FlowPayment}
+use Rattle.irs_audit.specs.declared.flows.FlowPeriod.{FlowPeriod}
+use Rattle.irs_audit.specs.declared.flows.FlowReset.{FlowReset}
+use Rattle.irs_audit.specs.declared.flows.StatedFraction.{StatedFraction}
+
+-- units of 10^-places in units of 10^-12, where there are at most 12 places
+abbrev pub stated_number : ℤ → ℕ → ℤ
+stated_number units places = units *ℤ pos (10 ^ (12 - places))
+
+abbrev pub stated_amount : Dec → ℤ
+stated_amount v = stated_number v.units v.places
+
+-- a fraction is stated with 10 decimals, rounded to the nearest
+abbrev pub stated_fraction : Frac → StatedFraction
+stated_fraction f = record { units = rounded Nearest (f.num *ℤ pos (10 ^ 10)) f.den; places = 10 }
+
+abbrev pub stated_exchange : Exchange → FlowExchange
+stated_exchange x = record {
+  unadjusted = Some x.unadjusted;
+  adjusted = Some x.adjusted;
+  amount = Some (stated_amount x.amount);
+}
+
+-- a payment in the currency of its stream; an amount that isn't known isn't stated
+abbrev pub stated_payment : Currency → PaymentEntry → FlowPayment
+stated_payment currency y = record {
+  unadjusted = Some y.unadjusted;
+  adjusted = Some y.adjusted;
+  periods = y.last_period + 1 - y.first_period;
+  currency = Some currency;
+  amount = option_map stated_amount y.amount;
+}
+
+-- the observation of a reset; a rate that isn't known isn't stated
+abbrev pub stated_reset : Reset → FlowReset
+stated_reset r = record {
+  reset = Some r.reset;
+  fixing = Some r.fixing;
+  observed = option_map (λ rate. stated_number rate 9) r.observed;
+}
+
+-- a calculation period, with its reset on a floating stream
+abbrev pub stated_period : CalculationPeriod → Option Reset → FlowPeriod
+stated_period x reset = record {
+  start = Some x.start;
+  «end» = Some x.«end»;
+  adjusted_start = Some x.adjusted_start;
+  adjusted_end = Some x.adjusted_end;
+  days = Some x.days;
+  notional = Some (stated_number x.notional 4);
+  rate = option_map (λ r. stated_number r 9) x.rate;
+  fraction = Some (stated_fraction x.frac);
+  reset = option_map stated_reset reset;
+}
+
+-- the periods of a part, the first of these at a place, from 0
+abbrev pub stated_periods_from : Part → ℕ → List PeriodEntry → List FlowPeriod
+stated_periods_from p j [] = []
+stated_periods_from p j (e ∷ es) = stated_period (dated_period p (j + 1) e) (slice_get p.resets j) ∷ stated_periods_from p (j + 1) es
+
+-- the flows of a stream
+abbrev pub stated_part : Part → FlowPart
+stated_part p = record {
+  exchanges = map stated_exchange p.exchanges;
+  payments = map (stated_payment p.currency) p.payments;
+  periods = stated_periods_from p 0 p.periods;
+}
+
+-- the flows of a schedule: a row for each of its rows
+abbrev pub stated_flows : List Part → List FlowPart
+stated_flows s = map stated_part s
