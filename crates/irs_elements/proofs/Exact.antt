@@ -16,6 +16,15 @@ pub exact_of : {A : Type 0} (P : A → Type 0) (r : Option A) → IfSome r P →
 exact_of P None some none = none
 exact_of P (Some v) some none = some
 
+-- the two sides apart
+pub exact_some : {A : Type 0} (P : A → Type 0) (r : Option A) → Exact P r → IfSome r P
+exact_some P None h = tt
+exact_some P (Some v) h = h
+
+pub exact_none : {A : Type 0} (P : A → Type 0) (r : Option A) → Exact P r → IfNone r ((v : A) → P v → ⊥)
+exact_none P None h = h
+exact_none P (Some v) h = tt
+
 pub both_true : (a b : Bool) → a && b ≡ true → (a ≡ true) × (b ≡ true)
 both_true true true e = (refl, refl)
 both_true true false e = cc

@@ -3,8 +3,9 @@
 //! own.
 ghost use Rattle.irs_base.specs.Decimals.{AreDigits, IsCut, is_digit, number_after};
 ghost use Rattle.irs_base.specs.Texts.{most_places};
+ghost use Rattle.irs_base.specs.declared.line.Dec.{Dec as DecRecord};
 ghost use Rattle.irs_elements.specs.Decimals.{are_parts as are_parts_of, before_point, behind_point};
-ghost use Rattle.irs_elements.specs.Fractions.{IsFirstDigit, carried, fraction_at, fraction_of as fraction_by};
+ghost use Rattle.irs_elements.specs.Fractions.{IsFirstDigit, IsFraction, carried, fraction_at, fraction_of as fraction_by};
 ghost use Rattle.std.specs.List.{list_all};
 ghost use Rattle.std.specs.Prelude.{◌≡◌, ◌+◌, ◌*◌, ◌^◌, ◌<◌, ◌≤◌, [], IfNone, IfSome, drop, length, nat_lt, take};
 
@@ -141,6 +142,15 @@ fn fraction_of(whole: &[u8], decimals: &[u8]) -> Dec
 /// rounded to 12, a half upwards. `None` exactly where the text is no decimal, has a sign, or has more
 /// than 18 digits before its point.
 pub fn fraction(text: &[u8]) -> Option<Dec>
+    ensures some { IfSome result (IsFraction text.now) }
+    ensures none { IfNone result ((v : DecRecord) → IsFraction text.now v → ⊥) }
+    ensures one { (v w : DecRecord) → IsFraction text.now v → IsFraction text.now w → v ≡ w }
+    ensures value { result ≡ fraction_at text.now }
+{
+    stated(text)
+}
+
+fn stated(text: &[u8]) -> Option<Dec>
     ensures { result ≡ fraction_at text.now }
 {
     let (whole, decimals) = cut_at_point(text);

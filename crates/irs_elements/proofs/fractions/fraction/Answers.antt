@@ -1,21 +1,19 @@
-use Rattle.irs_elements.proofs.FractionsAt.{parts_of, stated_is}
+use Rattle.irs_base.specs.declared.line.Dec.{Dec}
+use Rattle.irs_elements.proofs.Exact.{exact_none, exact_some}
+use Rattle.irs_elements.proofs.FractionsAt.{fraction_exact, one_fraction}
 use Rattle.irs_elements.proofs.fractions.fraction.Goals as goal
-use Rattle.std.proofs.Common.{◌∙◌, Some, ap, false, sym, true}
+use Rattle.irs_elements.specs.Fractions.{IsFraction, fraction_at}
+use Rattle.std.proofs.Common.{IfNone, IfSome, Option, subst, sym}
 
-pub fraction_of-requires-clause-whole : goal.fraction_of-requires-clause-whole
-fraction_of-requires-clause-whole c = (parts_of c.cut_at_point.result.0.now c.cut_at_point.result.1.now c.are_parts.result c.are_parts.ensures c.if-are_parts.true).0
+pub returns-clause-some : goal.returns-clause-some
+returns-clause-some c =
+    let s = c.args.text.now in
+    subst (λ (r : Option Dec). IfSome r (IsFraction s)) (sym c.stated.ensures) (exact_some (IsFraction s) (fraction_at s) (fraction_exact s))
 
-pub fraction_of-requires-clause-decimals : goal.fraction_of-requires-clause-decimals
-fraction_of-requires-clause-decimals c = (parts_of c.cut_at_point.result.0.now c.cut_at_point.result.1.now c.are_parts.result c.are_parts.ensures c.if-are_parts.true).1
+pub returns-clause-none : goal.returns-clause-none
+returns-clause-none c =
+    let s = c.args.text.now in
+    subst (λ (r : Option Dec). IfNone r ((v : Dec) → IsFraction s v → ⊥)) (sym c.stated.ensures) (exact_none (IsFraction s) (fraction_at s) (fraction_exact s))
 
-pub fraction_of-requires-clause-short : goal.fraction_of-requires-clause-short
-fraction_of-requires-clause-short c = (parts_of c.cut_at_point.result.0.now c.cut_at_point.result.1.now c.are_parts.result c.are_parts.ensures c.if-are_parts.true).3
-
-pub returns-then-are_parts : goal.returns-then-are_parts
-returns-then-are_parts c =
-    ap Some c.fraction_of.ensures
-    ∙ stated_is c.args.text.now c.cut_at_point.result.0.now c.cut_at_point.result.1.now true c.cut_at_point.ensures.whole c.cut_at_point.ensures.decimals (sym c.if-are_parts.true ∙ c.are_parts.ensures)
-
-pub returns-else-are_parts : goal.returns-else-are_parts
-returns-else-are_parts c =
-    stated_is c.args.text.now c.cut_at_point.result.0.now c.cut_at_point.result.1.now false c.cut_at_point.ensures.whole c.cut_at_point.ensures.decimals (sym c.if-are_parts.false ∙ c.are_parts.ensures)
+pub returns-clause-one : goal.returns-clause-one
+returns-clause-one c = one_fraction c.args.text.now
