@@ -1,4 +1,5 @@
 pub mod FlowLaws
+pub mod FlowStated
 pub mod FlowSteps
 pub mod FlowRules
 pub mod FlowClean

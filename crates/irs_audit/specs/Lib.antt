@@ -3,6 +3,7 @@ pub mod FlowLines
 pub mod FlowFaults
 pub mod FlowMeaning
 pub mod FlowReading
+pub mod FlowsStated
 pub mod StatedFlows
 pub mod StatedValues
 pub mod FieldDepartures

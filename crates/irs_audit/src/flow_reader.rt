@@ -2,6 +2,7 @@
 ghost use Rattle.irs_elements.specs.Find.{values_in};
 ghost use Rattle.irs_audit.specs.FlowMeaning.{AllHaveFewPeriods, stream_in, streams_in};
 ghost use Rattle.irs_audit.specs.FlowReading.{FlowsOf, IsFirstFault, kind_of as kind_by};
+ghost use Rattle.irs_audit.specs.FlowsStated.{EachFlowStated};
 ghost use Rattle.irs_audit.specs.declared.error.FlowErr.TheVariants.{Shape};
 ghost use Rattle.serde_json.specs.View.{view};
 ghost use Rattle.std.specs.Prelude.{◌≡◌, IfErr, IfOk, Some, codes, map};
@@ -64,6 +65,8 @@ fn flows_of(alloc: Global, v: &Value) -> Result<Flows, Memory>
 /// 10^-12.
 pub fn read_flows(alloc: Global, v: &Value) -> Result<Flows, FlowErr>
     ensures flows { IfOk result (λ flows. FlowsOf (view v.now) flows) }
+    // No field is passed over: each leaf that stands has a value of its kind.
+    ensures stated { IfOk result (λ _. EachFlowStated (view v.now)) }
     ensures fault { IfErr result (λ e. IsFirstFault (view v.now) e) }
 {
     if let Some(fault) = first_in_flows(v) {

@@ -8,4 +8,4 @@ pub mod Ranges
 pub mod Words
 pub mod Streams
 pub mod LawfulSwaps
-pub mod StatedStreams
+pub mod StatedTables

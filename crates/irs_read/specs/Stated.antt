@@ -1,5 +1,5 @@
--- What stands in a stream by the table of its elements, and that nothing is wanting there: what must
--- stand stands, and each leaf has a value of its kind. So no default stands in for a required leaf.
+-- What stands in a value by a table of elements, and that nothing is wanting there: what must stand
+-- stands, and each leaf has a value of its kind. So no default stands in for a required leaf.
 use Rattle.irs_elements.specs.Elements.{IsMember, is_element, is_required, name_at}
 use Rattle.irs_elements.specs.Find.{once, text_in}
 use Rattle.irs_elements.specs.Leaves.{has_value}
@@ -17,27 +17,30 @@ use Rattle.irs_read.specs.StreamLines.{stream_names, stream_rows}
 use Rattle.serde_json.specs.Data.{Data}
 use Rattle.std.specs.Prelude.{◌≡◌, ℕ, Bool, true, false, List, Option, Some, None, is_some, slice_get, Ok}
 
--- x stands in the stream d, at a row of the table and with its kind
-pub data Stands (d : Data) : ℕ → Kind → Data → Type 0 where
-  -- the stream itself
-  stream : Stands d 0 (Object Free) d
+-- x stands in d, at a row of the table and with its kind
+pub data Stands (rows : List Row) (names : List (List ℕ)) (d : Data) : ℕ → Kind → Data → Type 0 where
+  -- d itself
+  whole : Stands rows names d 0 (Object Free) d
   -- an element of an object that stands there
-  element : (r c j : ℕ) (choice : Choice) (row : Row) (y m x : Data) → Stands d r (Object choice) y → IsMember stream_rows stream_names r c row → is_element row.2 ≡ true
-      → child_of (name_at stream_names c) y ≡ Some m → slice_get (items_of m) j ≡ Some x → Stands d c row.2 x
+  element : (r c j : ℕ) (choice : Choice) (row : Row) (y m x : Data) → Stands rows names d r (Object choice) y
+      → IsMember rows names r c row → is_element row.2 ≡ true
+      → child_of (name_at names c) y ≡ Some m → slice_get (items_of m) j ≡ Some x → Stands rows names d c row.2 x
 
 -- whether a text has a value of the kind
 abbrev pub has_said : LeafKind → Option (List ℕ) → Bool
 has_said leaf None = false
 has_said leaf (Some s) = has_value leaf s
 
--- nothing is wanting in the stream d
-pub record IsStated (d : Data) : Type 0 where
+-- nothing is wanting in d
+pub record IsStated (rows : List Row) (names : List (List ℕ)) (d : Data) : Type 0 where
   -- what must stand in an object stands there
-  pub there : (r c : ℕ) (choice : Choice) (row : Row) (y : Data) → Stands d r (Object choice) y → IsMember stream_rows stream_names r c row → is_element row.2 ≡ true → is_required row.3 ≡ true
-      → is_some (once (name_at stream_names c) y) ≡ true
+  pub there : (r c : ℕ) (choice : Choice) (row : Row) (y : Data) → Stands rows names d r (Object choice) y
+      → IsMember rows names r c row → is_element row.2 ≡ true → is_required row.3 ≡ true
+      → is_some (once (name_at names c) y) ≡ true
   -- each leaf has a value of its kind
-  pub said : (r : ℕ) (leaf : LeafKind) (x : Data) → Stands d r (Leaf leaf) x → has_said leaf (text_in (Some x)) ≡ true
+  pub said : (r : ℕ) (leaf : LeafKind) (x : Data) → Stands rows names d r (Leaf leaf) x → has_said leaf (text_in (Some x)) ≡ true
 
 -- nothing is wanting in the streams of a document
 abbrev pub EachStated : Data → Type 0
-EachStated d = (at : Data) → the_swap d ≡ Ok at → (j : ℕ) (x : Data) → slice_get (streams_in at) j ≡ Some x → IsStated x
+EachStated d = (at : Data) → the_swap d ≡ Ok at → (j : ℕ) (x : Data) → slice_get (streams_in at) j ≡ Some x
+    → IsStated stream_rows stream_names x

@@ -1,4 +1,5 @@
 use Rattle.irs_audit.proofs.FlowClean.{first_shape, flows_few}
+use Rattle.irs_audit.proofs.FlowStated.{flows_stated}
 use Rattle.irs_audit.proofs.flow_reader.read_flows.Goals as goal
 use Rattle.irs_audit.specs.FlowFaults.{ended}
 use Rattle.irs_audit.specs.FlowReading.{IsFirstFault}
@@ -14,3 +15,6 @@ flows_of-requires c = flows_few (view c.args.v.now) (view c.in-Ok.found.now) (sy
 
 pub returns-in-Err-clause-fault : goal.returns-in-Err-clause-fault
 returns-in-Err-clause-fault c = absurd (c.in_default.ensures c.in-Err.fault (ended c.in-Err.fault (sym c.in-Err.ensures)))
+
+pub returns-in_ok-flows_of-in-Ok-clause-stated : goal.returns-in_ok-flows_of-in-Ok-clause-stated
+returns-in_ok-flows_of-in-Ok-clause-stated c = flows_stated (view c.args.v.now) c.in_default.ensures
