@@ -30,33 +30,33 @@ abbrev pub conventions : List (List ℕ)
 conventions = codes "NONE" ∷ codes "FOLLOWING" ∷ codes "MODFOLLOWING" ∷ codes "PRECEDING" ∷ codes "MODPRECEDING" ∷ codes "NEAREST" ∷ []
 
 -- the convention of document k; a plain document has NONE in its place
-abbrev pub convention_text : Bool → ℕ → List ℕ
+unfoldable pub convention_text : Bool → ℕ → List ℕ
 convention_text plain k = if plain then codes "NONE" else slice_index_or conventions ((k - 1) % 6) []
 
-abbrev pub notional_text : ℕ → List ℕ
+unfoldable pub notional_text : ℕ → List ℕ
 notional_text k = decimal (1000000 + 1000 * k)
 
 -- k in four digits behind the point
-abbrev pub rate_text : ℕ → List ℕ
+unfoldable pub rate_text : ℕ → List ℕ
 rate_text k = codes "0." ++ two_digits (k / 100) ++ two_digits (k % 100)
 
 -- the day counts, which the documents have in turn
 abbrev pub day_counts : List (List ℕ)
 day_counts = codes "1/1" ∷ codes "ACT/ACT.ISDA" ∷ codes "ACT/365.FIXED" ∷ codes "ACT/360" ∷ codes "30/360" ∷ codes "30E/360" ∷ codes "30E/360.ISDA" ∷ []
 
-abbrev pub day_count_text : ℕ → List ℕ
+unfoldable pub day_count_text : ℕ → List ℕ
 day_count_text k = slice_index_or day_counts ((k - 1) % 7) []
 
 -- the members of an adjustments element: a convention, on the one centre BULK
-abbrev pub adjustments_text : List ℕ → List ℕ
+unfoldable pub adjustments_text : List ℕ → List ℕ
 adjustments_text convention = codes "\"businessDayConvention\":\"" ++ convention ++ codes "\",\"businessCenters\":{\"businessCenter\":\"BULK\"}"
 
 -- an adjustable date
-abbrev pub date_element : List ℕ → List ℕ → List ℕ
+unfoldable pub date_element : List ℕ → List ℕ → List ℕ
 date_element date adjustments = codes "{\"unadjustedDate\":\"" ++ date ++ codes "\",\"dateAdjustments\":{" ++ adjustments ++ codes "}}"
 
 -- when the periods of document k begin and end
-abbrev pub dates_text : List ℕ → ℕ → List ℕ
+unfoldable pub dates_text : List ℕ → ℕ → List ℕ
 dates_text adjustments k =
     codes "\"calculationPeriodDates\":{\"@id\":\"cpd\",\n\"effectiveDate\":" ++ date_element (effective_text k) adjustments
     ++ codes ",\n\"terminationDate\":" ++ date_element (termination_text k) adjustments
@@ -64,12 +64,12 @@ dates_text adjustments k =
     ++ codes "},\n\"calculationPeriodFrequency\":{\"periodMultiplier\":\"1\",\"period\":\"M\",\"rollConvention\":\"" ++ decimal (roll_of k) ++ codes "\"}},\n"
 
 -- when it pays
-abbrev pub payments_text : List ℕ → List ℕ
+unfoldable pub payments_text : List ℕ → List ℕ
 payments_text adjustments =
     codes "\"paymentDates\":{\"paymentFrequency\":{\"periodMultiplier\":\"1\",\"period\":\"M\"},\n\"payRelativeTo\":\"CalculationPeriodEndDate\",\n\"paymentDatesAdjustments\":{" ++ adjustments ++ codes "}},\n"
 
 -- what it pays
-abbrev pub amounts_text : ℕ → List ℕ
+unfoldable pub amounts_text : ℕ → List ℕ
 amounts_text k =
     codes "\"calculationPeriodAmount\":{\"calculation\":{\n\"notionalSchedule\":{\"notionalStepSchedule\":{\"initialValue\":\"" ++ notional_text k
     ++ codes "\",\"currency\":\"USD\"}},\n\"fixedRateSchedule\":{\"initialValue\":\"" ++ rate_text k

@@ -31,12 +31,7 @@ pub(crate) fn put_two_digits(bytes: &mut Vec<u8>, n: u32) -> Result<(), Memory>
 }
 
 /// Appends a date, YYYY-MM-DD.
-pub(crate) fn put_date(
-    bytes: &mut Vec<u8>,
-    year: u32,
-    month: u32,
-    day: u32,
-) -> Result<(), Memory>
+pub(crate) fn put_date(bytes: &mut Vec<u8>, year: u32, month: u32, day: u32) -> Result<(), Memory>
     requires year { year < 10_000 }
     requires month { month < 100 }
     requires day { day < 100 }

@@ -1,7 +1,7 @@
 //! The documents of `bulk`: one fixed stream of monthly periods over twenty years each.
-ghost use Rattle.std.specs.Prelude.{◌≡◌, ℕ, ◌+◌, ◌<◌, ◌≤◌, List, [], IfOk, length, map, slice_index_or};
+ghost use Rattle.std.specs.Prelude.{◌≡◌, ◌+◌, ◌<◌, ◌≤◌, [], ◌++◌, IfOk, OnOk, length, map, slice_index_or};
 ghost use Rattle.irs_base.specs.Texts.{date_text};
-ghost use Rattle.irs_bulk.specs.Documents.{adjustments_text, amounts_text, convention_text, date_element, dates_text, day_count_text, document_text, document_with, month_of, most_bulk, payments_text, rate_text, roll_of};
+ghost use Rattle.irs_bulk.specs.Documents.{adjustments_text, amounts_text, convention_text, date_element, dates_text, day_count_text, document_text, document_with, month_of, most_bulk, notional_text, payments_text, rate_text, roll_of};
 
 use crate::digits::{put, put_date, put_number, put_two_digits};
 use irs_base::Memory;
@@ -41,6 +41,7 @@ fn name_at(names: &[&'static str], place: usize) -> &'static str
     names[place]
 }
 
+#[tactic(auto, unfolding(crate::specs::Documents::convention_text))]
 fn convention(k: u32, plain: bool) -> &'static str
     requires { 0 < k }
     ensures { result.now ≡ convention_text plain k }
@@ -52,14 +53,8 @@ fn convention(k: u32, plain: bool) -> &'static str
     }
 }
 
-fn day_count(k: u32) -> &'static str
-    requires { 0 < k }
-    ensures { result.now ≡ day_count_text k }
-{
-    name_at(&DAY_COUNTS, (k as usize - 1) % 7)
-}
-
 // The members of an adjustments element.
+#[tactic(auto, unfolding(crate::specs::Documents::adjustments_text))]
 fn adjustments(alloc: Global, convention: &str) -> Result<Vec<u8>, Memory>
     ensures { IfOk result (λ t. t.items ≡ adjustments_text convention.now) }
 {
@@ -73,6 +68,7 @@ fn adjustments(alloc: Global, convention: &str) -> Result<Vec<u8>, Memory>
 }
 
 // The date of document k in a year, with its adjustments.
+#[tactic(auto, unfolding(crate::specs::Documents::date_element))]
 fn date(alloc: Global, k: u32, year: u32, adjustments: &[u8]) -> Result<Vec<u8>, Memory>
     requires { year < 10_000 }
     ensures { IfOk result (λ t. t.items ≡ date_element (date_text year (month_of k) (roll_of k)) adjustments.now) }
@@ -91,6 +87,7 @@ fn roll(k: u32) -> u32
     1 + k % 28
 }
 
+#[tactic(auto, unfolding(crate::specs::Documents::dates_text))]
 fn dates(alloc: Global, k: u32, adjustments: &[u8]) -> Result<Vec<u8>, Memory>
     requires { k ≤ most_bulk }
     ensures { IfOk result (λ t. t.items ≡ dates_text adjustments.now k) }
@@ -114,6 +111,7 @@ fn dates(alloc: Global, k: u32, adjustments: &[u8]) -> Result<Vec<u8>, Memory>
     Ok(text)
 }
 
+#[tactic(auto, unfolding(crate::specs::Documents::payments_text))]
 fn payments(alloc: Global, adjustments: &[u8]) -> Result<Vec<u8>, Memory>
     ensures { IfOk result (λ t. t.items ≡ payments_text adjustments.now) }
 {
@@ -126,17 +124,41 @@ fn payments(alloc: Global, adjustments: &[u8]) -> Result<Vec<u8>, Memory>
     Ok(text)
 }
 
-// `0.` and k in four digits.
-fn rate(alloc: Global, k: u32) -> Result<Vec<u8>, Memory>
+#[tactic(auto, unfolding(crate::specs::Documents::notional_text))]
+fn put_notional(text: &mut Vec<u8>, k: u32) -> Result<(), Memory>
     requires { k ≤ most_bulk }
-    ensures { IfOk result (λ t. t.items ≡ rate_text k) }
+    ensures { OnOk result (text.new.items ≡ text.old.items ++ notional_text k) }
 {
-    let mut text = Vec::from_slice(alloc, b"0.")?;
-    put_two_digits(&mut text, k / 100)?;
-    put_two_digits(&mut text, k % 100)?;
-    Ok(text)
+    put_number(text, 1_000_000 + 1_000 * k)
 }
 
+// `0.` and k in four digits.
+#[tactic(auto, unfolding(crate::specs::Documents::rate_text))]
+fn put_rate(text: &mut Vec<u8>, k: u32) -> Result<(), Memory>
+    requires { k ≤ most_bulk }
+    ensures { OnOk result (text.new.items ≡ text.old.items ++ rate_text k) }
+{
+    put(text, "0.")?;
+    put_two_digits(text, k / 100)?;
+    put_two_digits(text, k % 100)
+}
+
+#[tactic(auto, unfolding(crate::specs::Documents::day_count_text))]
+fn day_count(k: u32) -> &'static str
+    requires { 0 < k }
+    ensures { result.now ≡ day_count_text k }
+{
+    name_at(&DAY_COUNTS, (k as usize - 1) % 7)
+}
+
+fn put_day_count(text: &mut Vec<u8>, k: u32) -> Result<(), Memory>
+    requires { 0 < k }
+    ensures { OnOk result (text.new.items ≡ text.old.items ++ day_count_text k) }
+{
+    put(text, day_count(k))
+}
+
+#[tactic(auto, unfolding(crate::specs::Documents::amounts_text))]
 fn amounts(alloc: Global, k: u32) -> Result<Vec<u8>, Memory>
     requires low { 0 < k }
     requires high { k ≤ most_bulk }
@@ -146,14 +168,14 @@ fn amounts(alloc: Global, k: u32) -> Result<Vec<u8>, Memory>
         alloc,
         b"\"calculationPeriodAmount\":{\"calculation\":{\n\"notionalSchedule\":{\"notionalStepSchedule\":{\"initialValue\":\"",
     )?;
-    put_number(&mut text, 1_000_000 + 1_000 * k)?;
+    put_notional(&mut text, k)?;
     put(
         &mut text,
         "\",\"currency\":\"USD\"}},\n\"fixedRateSchedule\":{\"initialValue\":\"",
     )?;
-    text.extend_from_slice(&rate(alloc, k)?)?;
+    put_rate(&mut text, k)?;
     put(&mut text, "\"},\"dayCountFraction\":\"")?;
-    put(&mut text, day_count(k))?;
+    put_day_count(&mut text, k)?;
     put(&mut text, "\"}}}}}\n")?;
     Ok(text)
 }

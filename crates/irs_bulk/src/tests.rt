@@ -19,7 +19,10 @@ const FIRST: &str = r#"{"swap":{"swapStream":{
 
 #[test]
 fn the_first_document(rt: HostRuntime) -> Result<(), Fail> {
-    assert_eq!(rt; bulk_doc(rt.alloc(), 1, false)?.as_slice(), FIRST.as_bytes());
+    assert_eq!(rt;
+        bulk_doc(rt.alloc(), 1, false)?.as_slice(),
+        FIRST.as_bytes()
+    );
     assert_eq!(rt; bulk_doc(rt.alloc(), 1, true)?.as_slice(), FIRST.as_bytes());
     Ok(())
 }
@@ -27,7 +30,8 @@ fn the_first_document(rt: HostRuntime) -> Result<(), Fail> {
 #[test]
 fn the_calendar(rt: HostRuntime) -> Result<(), Fail> {
     let text = bulk_calendar(rt.alloc())?;
-    let begin = "center BULK\ncover 1949-01-01 2012-12-31\nweekend SAT SUN\n1949-01-01\n1949-12-25\n1950-01-01\n";
+    let begin =
+        "center BULK\ncover 1949-01-01 2012-12-31\nweekend SAT SUN\n1949-01-01\n1949-12-25\n1950-01-01\n";
     assert!(rt; text.starts_with(begin.as_bytes()));
     assert!(rt; text.ends_with(b"\n2012-01-01\n2012-12-25\n"));
     assert_eq!(rt; text.len(), 56 + 64 * 22);
