@@ -1,5 +1,6 @@
 -- What the comparisons of rows rest on: bounds that every schedule keeps.
-use Rattle.std.specs.Prelude.{ℕ, ◌*◌, ◌^◌, ◌≤◌, pos, ◌≤ℤ◌, ◌<ℤ◌, IfSome}
+use Rattle.std.specs.Prelude.{ℕ, ◌*◌, ◌^◌, ◌≤◌, ℤ, pos, unsigned_abs, ◌≤ℤ◌, ◌<ℤ◌, IfSome}
+use Rattle.irs_base.specs.declared.line.Dec.{Dec}
 use Rattle.irs_terms.specs.declared.results.Frac.{Frac}
 use Rattle.irs_schedule.specs.declared.entries.PaymentEntry.{PaymentEntry}
 use Rattle.irs_base.specs.Limits.{most_numerator, most_periods}
@@ -19,3 +20,14 @@ pub record IsPayment (x : PaymentEntry) : Type 0 where
   pub order : x.first_period ≤ x.last_period
   pub last : x.last_period ≤ most_periods
   pub decimals : IfSome x.amount (λ v. v.places ≤ 12)
+
+-- a number of units of 10^-places that can be stated in units of 10^-12: at most 10^14 in size
+pub record IsStatable (units : ℤ) (places : ℕ) : Type 0 where
+  pub decimals : places ≤ 12
+  pub size : unsigned_abs units ≤ 10 ^ 14 * 10 ^ places
+
+abbrev pub IsStatableDec : Dec → Type 0
+IsStatableDec v = IsStatable v.units v.places
+
+abbrev pub IsStatableRate : ℤ → Type 0
+IsStatableRate rate = IsStatable rate 9
