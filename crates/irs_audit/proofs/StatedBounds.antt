@@ -6,7 +6,6 @@ use Rattle.std.proofs.Math.Nat.{mul-le-mul}
 use Rattle.jiff_core.proofs.SignedLemmas.{signed_arith}
 use Rattle.irs_base.specs.declared.line.Dec.{Dec}
 use Rattle.irs_base.specs.Limits.{most_notional, most_rate}
-use Rattle.irs_compound.specs.PeriodRates.{most_rounded_rate}
 use Rattle.irs_terms.specs.Lawful.{IsNotional, IsRate}
 use Rattle.irs_terms.specs.declared.currency.Currency.{Currency}
 use Rattle.irs_terms.specs.declared.results.Exchange.{Exchange}
@@ -17,7 +16,7 @@ use Rattle.irs_schedule.specs.declared.entries.PeriodEntry.{PeriodEntry}
 use Rattle.irs_schedule.specs.declared.views.CalculationPeriod.{CalculationPeriod}
 use Rattle.irs_schedule.specs.Parts.{Part, KeepsBounds, IsAmount, HasAmount, IsEntry}
 use Rattle.irs_schedule.specs.PeriodViews.{period_at, dated_period}
-use Rattle.irs_audit.specs.Comparisons.{IsStatable, IsStatableDec, IsStatableRate}
+use Rattle.irs_audit.specs.Comparisons.{IsStatable, IsStatableDec, IsStatablePeriod, IsStatableRate}
 use Rattle.irs_audit.proofs.BoundLemmas.{every_get}
 use Rattle.irs_audit.proofs.ValueLemmas.{both_powers}
 
@@ -36,7 +35,7 @@ notional_statable (pos n) h = record { decimals = omega arith; size = omega (ari
 notional_statable (negsuc n) h = absurd (omega (arith, signed_arith, h))
 
 -- a rate that isn't too great
-pub rate_statable : (r : ℤ) → unsigned_abs r ≤ most_rounded_rate → IsStatableRate r
+pub rate_statable : (r : ℤ) → unsigned_abs r ≤ 10 * most_rate + most_rate → IsStatableRate r
 rate_statable r h = record { decimals = omega arith; size = omega (arith, h) }
 
 observed_statable : (r : ℤ) → IsRate r → IsStatableRate r
@@ -50,11 +49,6 @@ payment_statable p j y h e = IfSome_then y.amount (every_get (HasAmount p.curren
 
 pub reset_statable : (p : Part) (j : ℕ) (r : Reset) → KeepsBounds p → slice_get p.resets j ≡ Some r → IfSome r.observed IsStatableRate
 reset_statable p j r h e = IfSome_then r.observed (every_get (λ (y : Reset). IfSome y.observed IsRate) p.resets j r h.observed e) observed_statable
-
--- the notional and the rate of a period
-pub record IsStatablePeriod (x : CalculationPeriod) : Type 0 where
-  pub notional : IsStatable x.notional 4
-  pub rate : IfSome x.rate IsStatableRate
 
 entry_statable : (p : Part) (j : ℕ) (e : PeriodEntry) → IsEntry p.day_count e → IsStatablePeriod (dated_period p (j + 1) e)
 entry_statable p j e h = record { notional = notional_statable e.notional h.notional; rate = IfSome_then e.rate h.rate rate_statable }

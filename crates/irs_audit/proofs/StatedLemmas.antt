@@ -1,6 +1,7 @@
 -- The flows that state a schedule agree with it.
-use Rattle.std.proofs.Common.{◌≡◌, ℕ, zero, suc, ◌+◌, ◌-◌, ◌^◌, ◌<◌, ◌≤◌, List, [], ◌∷◌, map, Option, Some, None, ℤ, pos, ◌*ℤ◌, ◌<ℤ◌, refl, sym, ◌∙◌, ap, subst, arith, inl, inr}
-use Rattle.std.specs.Prelude.{slice_get, option_map, option_and_then, IfSome}
+use Rattle.std.proofs.Common.{◌≡◌, ℕ, zero, suc, ◌+◌, ◌-◌, ◌^◌, ◌<◌, ◌≤◌, List, [], ◌∷◌, ◌++◌, length, drop, map, append_assoc, Option, Some, None, ℤ, pos, ◌*ℤ◌, ◌<ℤ◌, refl, sym, ◌∙◌, ap, subst, arith, inl, inr}
+use Rattle.std.specs.Prelude.{slice_get, option_map, option_and_then, unwrap_or, IfSome}
+use Rattle.std.proofs.lemmas.List.{drop_more}
 use Rattle.std.proofs.lemmas.Option.{slice_get-map, slice_get_past, slice_get_cases}
 use Rattle.irs_base.specs.declared.line.Dec.{Dec}
 use Rattle.irs_base.specs.declared.rounding.Direction.TheVariants.{Nearest}
@@ -30,7 +31,7 @@ use Rattle.irs_audit.specs.Agreement.{RowDeparts, KindDeparts, StreamDeparts, Ag
 use Rattle.irs_audit.specs.Comparisons.{IsSmall}
 use Rattle.irs_audit.specs.FieldDepartures.{ExchangeDeparts, PaymentDeparts, PeriodDeparts, ResetDeparts}
 use Rattle.irs_audit.specs.FlowParts.{FlowPart}
-use Rattle.irs_audit.specs.StatedFlows.{stated_number, stated_amount, stated_fraction, stated_exchange, stated_payment, stated_reset, stated_period, stated_periods_from, stated_part, stated_flows}
+use Rattle.irs_audit.specs.StatedFlows.{stated_number, stated_amount, stated_fraction, stated_exchange, stated_payment, stated_reset, period_with, stated_period, stated_periods_from, stated_part, stated_flows}
 use Rattle.irs_audit.specs.StatedValues.{IsNumber, IsAmount, IsFraction, StatedWrongly, NotStatedRightly, WhereKnown}
 use Rattle.irs_audit.proofs.BoundLemmas.{every_get, exchange_decimals, payment_kept, period_small}
 use Rattle.irs_audit.proofs.RowLemmas.{resets_few}
@@ -162,3 +163,24 @@ flows_agree s h d m =
     let k = d.stream - 1 in
     let D : Option FlowPart → Type 0 = λ o. StreamDeparts (slice_get s k) o d.kind d.row d.field in
     stream_agrees (slice_get s k) d.kind d.row d.field (λ p e. every_get KeepsBounds s k p h.each e) (subst D (slice_get-map stated_part s k) m.1)
+
+-- one period more is stated, and those behind it are left
+pub one_period_more : (p : Part) (j : ℕ) (x : CalculationPeriod) (before : List FlowPeriod) → period_at p j ≡ Some x
+    → (before ++ period_with x (option_map stated_reset (slice_get p.resets j)) ∷ []) ++ stated_periods_from p (j + 1) (drop (j + 1) p.periods) ≡ before ++ stated_periods_from p j (drop j p.periods)
+one_period_more p j x before h = elim (slice_get_cases p.periods j).1 [
+  | inl w ↦
+      let there = w.2 in
+      let same : Some (dated_period p (j + 1) w.0) ≡ Some x = rw there at h in
+      let is : dated_period p (j + 1) w.0 ≡ x = ap (λ (o : Option CalculationPeriod). unwrap_or o x) same in
+      let rest : drop j p.periods ≡ w.0 ∷ drop (j + 1) p.periods = drop_more p.periods j w.0 w.1 ∙ ap (λ (e : PeriodEntry). e ∷ drop (j + 1) p.periods) w.3 in
+      let Q : CalculationPeriod → Type 0 = λ y. (before ++ period_with y (option_map stated_reset (slice_get p.resets j)) ∷ []) ++ stated_periods_from p (j + 1) (drop (j + 1) p.periods) ≡ before ++ stated_periods_from p j (drop j p.periods) in
+      subst Q is (rw rest (append_assoc before (stated_at p j w.0 ∷ []) (stated_periods_from p (j + 1) (drop (j + 1) p.periods))))
+  | inr w ↦ absurd (let none = w.1 in let bad = rw none at h in cc)
+]
+
+-- each place below the number of periods has one
+pub period_there : (p : Part) (j : ℕ) → j < length p.periods → period_at p j ≡ None → ⊥
+period_there p j low h = elim (slice_get_cases p.periods j).1 [
+  | inl w ↦ let there = w.2 in let bad = rw there at h in cc
+  | inr w ↦ let past = w.0 in omega (arith, low, past)
+]

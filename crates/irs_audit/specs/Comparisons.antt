@@ -3,6 +3,7 @@ use Rattle.std.specs.Prelude.{ℕ, ◌*◌, ◌^◌, ◌≤◌, ℤ, pos, unsign
 use Rattle.irs_base.specs.declared.line.Dec.{Dec}
 use Rattle.irs_terms.specs.declared.results.Frac.{Frac}
 use Rattle.irs_schedule.specs.declared.entries.PaymentEntry.{PaymentEntry}
+use Rattle.irs_schedule.specs.declared.views.CalculationPeriod.{CalculationPeriod}
 use Rattle.irs_base.specs.Limits.{most_numerator, most_periods}
 use Rattle.irs_daycount.specs.Actual.{act_act_denominator}
 
@@ -31,3 +32,8 @@ IsStatableDec v = IsStatable v.units v.places
 
 abbrev pub IsStatableRate : ℤ → Type 0
 IsStatableRate rate = IsStatable rate 9
+
+-- the notional and the rate of a period
+pub record IsStatablePeriod (x : CalculationPeriod) : Type 0 where
+  pub notional : IsStatable x.notional 4
+  pub rate : IfSome x.rate IsStatableRate

@@ -1,19 +1,18 @@
 //! The cash flows that state a schedule: a row for each of its rows, with each field that it knows.
 //! That they state every field, and fractions with ten decimals, is this project's own.
-ghost use Rattle.std.specs.Prelude.{◌≡◌, ◌<◌, ◌≤◌, ◌*◌, ◌^◌, ◌*ℤ◌, pos, unsigned_abs, length, map, option_map, slice_get, IfOk, IfSome};
-ghost use Rattle.irs_schedule.specs.PeriodViews.{period_at};
+ghost use Rattle.std.specs.Prelude.{◌≡◌, ◌+◌, ◌-◌, ◌<◌, ◌≤◌, ◌*◌, ◌^◌, ◌*ℤ◌, pos, unsigned_abs, length, map, option_map, slice_get, IfOk, IfSome};
 ghost use Rattle.irs_audit.specs.Agreement.{Agrees};
-ghost use Rattle.irs_audit.specs.Comparisons.{IsPayment, IsSmall, IsStatable, IsStatableDec, IsStatableRate};
-ghost use Rattle.irs_audit.specs.StatedFlows.{period_with, stated_amount, stated_exchange, stated_flows, stated_fraction, stated_number, stated_part, stated_payment, stated_period, stated_periods_from, stated_reset};
+ghost use Rattle.irs_audit.specs.Comparisons.{IsPayment, IsSmall, IsStatable, IsStatableDec, IsStatablePeriod, IsStatableRate};
+ghost use Rattle.irs_audit.specs.StatedFlows.{period_with, stated_amount, stated_exchange, stated_flows, stated_fraction, stated_number, stated_part, stated_payment, stated_periods_from, stated_reset};
 
 use crate::comparisons::{power_of_ten, scaled};
 use crate::rows::item;
 use crate::{
     FlowExchange, FlowPayment, FlowPeriod, FlowReset, FlowStream, Flows, StatedFraction,
 };
-use irs_base::{Dec, Direction, Memory, round};
+use irs_base::{Day, Dec, Direction, Memory, round};
 use irs_schedule::{CalculationPeriod, PaymentEntry, Schedule, StreamPart};
-use irs_terms::{Currency, Exchange, Frac, Reset};
+use irs_terms::{Frac, Reset};
 use std::alloc::Global;
 
 // The decimals with which a fraction is stated.
@@ -72,29 +71,12 @@ fn fraction(frac: Frac) -> StatedFraction
     }
 }
 
-fn exchange(x: &Exchange) -> FlowExchange
-    requires { IsStatableDec x.now.amount }
-    ensures { result ≡ stated_exchange x.now }
+// How many calculation periods a payment has.
+fn period_count(y: &PaymentEntry) -> u32
+    requires { IsPayment y.now }
+    ensures { result ≡ y.now.last_period + 1 - y.now.first_period }
 {
-    FlowExchange {
-        unadjusted: Some(x.unadjusted),
-        adjusted: Some(x.adjusted),
-        amount: Some(amount(x.amount)),
-    }
-}
-
-fn payment(currency: Currency, y: &PaymentEntry) -> FlowPayment
-    requires payment { IsPayment y.now }
-    requires amount { IfSome y.now.amount IsStatableDec }
-    ensures { result ≡ stated_payment currency y.now }
-{
-    FlowPayment {
-        unadjusted: Some(y.unadjusted),
-        adjusted: Some(y.adjusted),
-        periods: y.last_period + 1 - y.first_period,
-        currency: Some(currency),
-        amount: known_amount(y.amount),
-    }
+    y.last_period + 1 - y.first_period
 }
 
 fn reset(r: &Reset) -> FlowReset
@@ -118,15 +100,15 @@ fn reset_at(part: &StreamPart, place: usize) -> Option<FlowReset>
     }
 }
 
-// The period with its reset, where it has one.
-fn period(x: &CalculationPeriod, reset: Option<FlowReset>) -> FlowPeriod
+// The period that starts on a day, with its reset, where it has one.
+fn period(start: Day, x: &CalculationPeriod, reset: Option<FlowReset>) -> FlowPeriod
+    requires start { start ≡ x.now.start }
     requires fraction { IsSmall x.now.frac }
-    requires notional { IsStatable x.now.notional 4 }
-    requires rate { IfSome x.now.rate IsStatableRate }
+    requires statable { IsStatablePeriod x.now }
     ensures { result ≡ period_with x.now reset }
 {
     FlowPeriod {
-        start: Some(x.start),
+        start: Some(start),
         end: Some(x.end),
         adjusted_start: Some(x.adjusted_start),
         adjusted_end: Some(x.adjusted_end),
@@ -138,21 +120,19 @@ fn period(x: &CalculationPeriod, reset: Option<FlowReset>) -> FlowPeriod
     }
 }
 
-fn period_at(part: &StreamPart, place: usize) -> Option<FlowPeriod>
-    ensures { result ≡ option_map (λ x. stated_period x (slice_get part.now.resets place)) (period_at part.now place) }
-{
-    match part.period(place) {
-        Some(x) => Some(period(&x, reset_at(part, place))),
-        None => None,
-    }
-}
-
 fn exchanges(alloc: Global, part: &StreamPart) -> Result<Vec<FlowExchange>, Memory>
     ensures { IfOk result (λ list. list.items ≡ map stated_exchange part.now.exchanges) }
 {
     let mut list = Vec::new(alloc);
     for x in part.exchanges() {
-        list.push(exchange(x))?;
+        let unadjusted = Some(x.unadjusted);
+        let adjusted = Some(x.adjusted);
+        let amount = Some(amount(x.amount));
+        list.push(FlowExchange {
+            unadjusted,
+            adjusted,
+            amount,
+        })?;
     }
     Ok(list)
 }
@@ -163,7 +143,16 @@ fn payments(alloc: Global, part: &StreamPart) -> Result<Vec<FlowPayment>, Memory
     let currency = part.currency();
     let mut list = Vec::new(alloc);
     for y in part.payments() {
-        list.push(payment(currency, y))?;
+        let unadjusted = Some(y.unadjusted);
+        let adjusted = Some(y.adjusted);
+        let amount = known_amount(y.amount);
+        list.push(FlowPayment {
+            unadjusted,
+            adjusted,
+            periods: period_count(y),
+            currency: Some(currency),
+            amount,
+        })?;
     }
     Ok(list)
 }
@@ -173,8 +162,9 @@ fn periods(alloc: Global, part: &StreamPart) -> Result<Vec<FlowPeriod>, Memory>
 {
     let mut list = Vec::new(alloc);
     for place in 0..part.periods() {
-        if let Some(x) = period_at(part, place) {
-            list.push(x)?;
+        if let Some(x) = part.period(place) {
+            let start = x.start;
+            list.push(period(start, &x, reset_at(part, place)))?;
         }
     }
     Ok(list)
