@@ -1,4 +1,4 @@
-use Rattle.std.proofs.Common.{◌≡◌, Some, refl, sym, ◌∙◌}
+use Rattle.std.proofs.Common.{◌≡◌, ◌<◌, length, Some, refl, sym, ◌∙◌}
 use Rattle.irs_schedule.specs.PeriodViews.{period_at}
 use Rattle.irs_audit.proofs.BoundLemmas.{period_small}
 use Rattle.irs_audit.proofs.StatedBounds.{period_statable}
@@ -17,6 +17,11 @@ period-requires-in-Some c =
 
 pub loop-place-preserved : goal.loop-place-preserved
 loop-place-preserved c = elim c.match-period.branch [
-  | in-Some+in_ok-push w ↦ let h = w.push in let i = w.period-in-Some in ?
-  | in_default w ↦ let h = w.in_default in ?
+  | in-Some+in_ok-push w ↦
+      let there : period_at c.args.part.now c.loop-place.place ≡ Some w.in-Some.x = sym c.period.ensures.value ∙ w.in-Some.is in
+      rw (w.list-is, w.in_ok-push.ensures.items, w.period-in-Some.ensures, w.reset_at.ensures)
+      (one_period_more c.args.part.now c.loop-place.place w.in-Some.x c.loop-place.list.items there ∙ c.loop-place.invariant)
+  | in_default w ↦
+      let low : c.loop-place.place < length c.args.part.now.periods = rw (← c.periods-place-end.ensures.count) c.loop-place-test.true in
+      absurd (period_there c.args.part.now c.loop-place.place low (sym c.period.ensures.value ∙ w.in_default.is))
 ]
