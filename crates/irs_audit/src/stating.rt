@@ -7,9 +7,7 @@ ghost use Rattle.irs_audit.specs.StatedFlows.{period_with, stated_amount, stated
 
 use crate::comparisons::{power_of_ten, scaled};
 use crate::rows::item;
-use crate::{
-    FlowExchange, FlowPayment, FlowPeriod, FlowReset, FlowStream, Flows, StatedFraction,
-};
+use crate::{FlowExchange, FlowPayment, FlowPeriod, FlowReset, FlowStream, Flows, StatedFraction};
 use irs_base::{Day, Dec, Direction, Memory, round};
 use irs_schedule::{CalculationPeriod, PaymentEntry, Schedule, StreamPart};
 use irs_terms::{Frac, Reset};

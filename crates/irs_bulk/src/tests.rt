@@ -41,6 +41,7 @@ fn the_calendar(rt: HostRuntime) -> Result<(), Fail> {
 #[test]
 fn the_line(rt: HostRuntime) {
     let totals = Totals {
+        documents: 1,
         rows: 480,
         total: 24_024_000_000_000_000,
         days: 7305,
@@ -48,6 +49,6 @@ fn the_line(rt: HostRuntime) {
         first: 0,
     };
     let mut line = Line::new();
-    bulk_text(1, &totals, &mut line);
+    bulk_text(&totals, &mut line);
     assert_eq!(rt; line.bytes(), "bulk 1 480 24024.00 7305 1 0\n".as_bytes());
 }
