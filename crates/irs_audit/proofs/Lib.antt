@@ -11,3 +11,5 @@ pub mod BoundLemmas
 pub mod RowLemmas
 pub mod StreamLemmas
 pub mod VerdictLemmas
+pub mod StatedLemmas
+pub mod StatedBounds

@@ -146,7 +146,8 @@ few_if : (b : Bool) (m n : ℕ) → m ≡ (if b then n else 0) → m ≤ n
 few_if true m n e = omega (arith, e)
 few_if false m n e = omega (arith, e)
 
-resets_few : (p : Part) → KeepsBounds p → length p.resets ≤ length p.periods
+-- at most one reset a period
+pub resets_few : (p : Part) → KeepsBounds p → length p.resets ≤ length p.periods
 resets_few p h = few_if p.floating (length p.resets) (length p.periods) h.resets
 
 within_periods : (k : ℕ) (p : Part) (g : FlowPart) (o : Option Departure) → KeepsBounds p → ((j : ℕ) (f : Field) → KindDeparts Period p g j f → ⊥)

@@ -60,11 +60,11 @@ some_power n = let l = one-le-pow n 10 (omega arith) in omega (arith, l)
 pub power_positive : (n : ℕ) → pos 0 <ℤ pos (10 ^ n)
 power_positive n = let l = some_power n in omega (arith, signed_arith, l)
 
-both_powers : (p : ℕ) → p ≤ 12 → 10 ^ (12 - p) * 10 ^ p ≡ 10 ^ 12
+pub both_powers : (p : ℕ) → p ≤ 12 → 10 ^ (12 - p) * 10 ^ p ≡ 10 ^ 12
 both_powers p h = sym (pow-add 10 (12 - p) p) ∙ ap (λ (n : ℕ). 10 ^ n) (sub-add_cancel h)
 
 -- as many units of 10^-12 as there are
-scaled_up : (u s : ℤ) (p : ℕ) → p ≤ 12 → (u *ℤ pos (10 ^ (12 - p))) ≡ s → IsNumber u p s
+pub scaled_up : (u s : ℤ) (p : ℕ) → p ≤ 12 → (u *ℤ pos (10 ^ (12 - p))) ≡ s → IsNumber u p s
 scaled_up u s p h e = ap (λ (z : ℤ). z *ℤ pos (10 ^ p)) (sym e) ∙ twice u (10 ^ (12 - p)) (10 ^ p) ∙ ap (λ (n : ℕ). u *ℤ pos n) (both_powers p h)
 
 scaled_down : (u s : ℤ) (p : ℕ) → p ≤ 12 → IsNumber u p s → (u *ℤ pos (10 ^ (12 - p))) ≡ s

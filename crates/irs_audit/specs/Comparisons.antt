@@ -1,7 +1,9 @@
 -- What the comparisons of rows rest on: bounds that every schedule keeps.
-use Rattle.std.specs.Prelude.{ℕ, ◌*◌, ◌^◌, ◌≤◌, pos, ◌≤ℤ◌, ◌<ℤ◌, IfSome}
+use Rattle.std.specs.Prelude.{ℕ, ◌*◌, ◌^◌, ◌≤◌, ℤ, pos, unsigned_abs, ◌≤ℤ◌, ◌<ℤ◌, IfSome}
+use Rattle.irs_base.specs.declared.line.Dec.{Dec}
 use Rattle.irs_terms.specs.declared.results.Frac.{Frac}
 use Rattle.irs_schedule.specs.declared.entries.PaymentEntry.{PaymentEntry}
+use Rattle.irs_schedule.specs.declared.views.CalculationPeriod.{CalculationPeriod}
 use Rattle.irs_base.specs.Limits.{most_numerator, most_periods}
 use Rattle.irs_daycount.specs.Actual.{act_act_denominator}
 
@@ -19,3 +21,19 @@ pub record IsPayment (x : PaymentEntry) : Type 0 where
   pub order : x.first_period ≤ x.last_period
   pub last : x.last_period ≤ most_periods
   pub decimals : IfSome x.amount (λ v. v.places ≤ 12)
+
+-- a number of units of 10^-places that can be stated in units of 10^-12: at most 10^14 in size
+pub record IsStatable (units : ℤ) (places : ℕ) : Type 0 where
+  pub decimals : places ≤ 12
+  pub size : unsigned_abs units ≤ 10 ^ 14 * 10 ^ places
+
+abbrev pub IsStatableDec : Dec → Type 0
+IsStatableDec v = IsStatable v.units v.places
+
+abbrev pub IsStatableRate : ℤ → Type 0
+IsStatableRate rate = IsStatable rate 9
+
+-- the notional and the rate of a period
+pub record IsStatablePeriod (x : CalculationPeriod) : Type 0 where
+  pub notional : IsStatable x.notional 4
+  pub rate : IfSome x.rate IsStatableRate

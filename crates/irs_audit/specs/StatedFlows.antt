@@ -55,19 +55,23 @@ stated_reset r = record {
   observed = option_map (λ rate. stated_number rate 9) r.observed;
 }
 
--- a calculation period, with its reset on a floating stream
-abbrev pub stated_period : CalculationPeriod → Option Reset → FlowPeriod
-stated_period x reset = record {
+-- a calculation period with what is stated of its reset
+abbrev pub period_with : CalculationPeriod → Option FlowReset → FlowPeriod
+period_with x reset = record {
   start = Some x.start;
-  «end» = Some x.«end»;
+  end = Some x.end;
   adjusted_start = Some x.adjusted_start;
   adjusted_end = Some x.adjusted_end;
   days = Some x.days;
   notional = Some (stated_number x.notional 4);
   rate = option_map (λ r. stated_number r 9) x.rate;
   fraction = Some (stated_fraction x.frac);
-  reset = option_map stated_reset reset;
+  reset = reset;
 }
+
+-- a calculation period, with its reset on a floating stream
+abbrev pub stated_period : CalculationPeriod → Option Reset → FlowPeriod
+stated_period x reset = period_with x (option_map stated_reset reset)
 
 -- the periods of a part, the first of these at a place, from 0
 abbrev pub stated_periods_from : Part → ℕ → List PeriodEntry → List FlowPeriod

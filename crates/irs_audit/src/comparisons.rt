@@ -35,7 +35,8 @@ fn is_multiple(p: i128, q: i128, m: i128) -> bool
     rest(p, q) == 0 && quotient(p, q) == m
 }
 
-fn power_of_ten(n: u8) -> i128
+/// A power of ten, up to the twelfth.
+pub(crate) fn power_of_ten(n: u8) -> i128
     requires { n ≤ 12 }
     ensures { result ≡ pos (10 ^ n) }
 {
@@ -50,8 +51,8 @@ fn is_number(units: i128, places: u8, stated: i128) -> bool
     is_multiple(stated, power_of_ten(12 - places), units)
 }
 
-// The numerator of a fraction in units of 10^-places.
-fn scaled(num: i64, places: u8) -> i128
+/// The numerator of a fraction in units of 10^-places.
+pub(crate) fn scaled(num: i64, places: u8) -> i128
     requires places { places ≤ 12 }
     requires num { (pos 0 ≤ℤ num) × (num ≤ℤ pos most_numerator) }
     ensures value { result ≡ num *ℤ pos (10 ^ places) }

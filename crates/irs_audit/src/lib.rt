@@ -14,6 +14,7 @@ mod flow_table;
 mod flows;
 mod row_fields;
 mod rows;
+mod stating;
 #[cfg(test)]
 mod tests;
 #[cfg(test)]
@@ -31,3 +32,4 @@ pub use flow_table::{
 pub use flows::{
     FlowExchange, FlowPayment, FlowPeriod, FlowReset, FlowStream, Flows, StatedFraction,
 };
+pub use stating::flows_of;

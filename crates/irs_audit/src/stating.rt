@@ -1,0 +1,201 @@
+//! The cash flows that state a schedule: a row for each of its rows, with each field that it knows.
+//! That they state every field, and fractions with ten decimals, is this project's own.
+ghost use Rattle.std.specs.Prelude.{◌≡◌, ◌+◌, ◌-◌, ◌<◌, ◌≤◌, ◌*◌, ◌^◌, ◌*ℤ◌, pos, unsigned_abs, length, map, option_map, slice_get, IfOk, IfSome};
+ghost use Rattle.irs_audit.specs.Agreement.{Agrees};
+ghost use Rattle.irs_audit.specs.Comparisons.{IsPayment, IsSmall, IsStatable, IsStatableDec, IsStatablePeriod, IsStatableRate};
+ghost use Rattle.irs_audit.specs.StatedFlows.{period_with, stated_amount, stated_exchange, stated_flows, stated_fraction, stated_number, stated_part, stated_payment, stated_periods_from, stated_reset};
+
+use crate::comparisons::{power_of_ten, scaled};
+use crate::rows::item;
+use crate::{FlowExchange, FlowPayment, FlowPeriod, FlowReset, FlowStream, Flows, StatedFraction};
+use irs_base::{Day, Dec, Direction, Memory, round};
+use irs_schedule::{CalculationPeriod, PaymentEntry, Schedule, StreamPart};
+use irs_terms::{Frac, Reset};
+use std::alloc::Global;
+
+// The decimals with which a fraction is stated.
+const STATED_PLACES: u8 = 10;
+
+fn product(a: i128, b: i128) -> i128
+    requires { unsigned_abs a * unsigned_abs b < 2 ^ 127 }
+    ensures { result ≡ a *ℤ b }
+{
+    a * b
+}
+
+// Units of 10^-places in units of 10^-12.
+fn number(units: i128, places: u8) -> i128
+    requires { IsStatable units places }
+    ensures { result ≡ stated_number units places }
+{
+    product(units, power_of_ten(12 - places))
+}
+
+fn amount(v: Dec) -> i128
+    requires { IsStatableDec v }
+    ensures { result ≡ stated_amount v }
+{
+    number(v.units, v.places)
+}
+
+fn known_amount(amount_of: Option<Dec>) -> Option<i128>
+    requires { IfSome amount_of IsStatableDec }
+    ensures { result ≡ option_map stated_amount amount_of }
+{
+    match amount_of {
+        Some(v) => Some(amount(v)),
+        None => None,
+    }
+}
+
+fn known_rate(rate: Option<i64>) -> Option<i128>
+    requires { IfSome rate IsStatableRate }
+    ensures { result ≡ option_map (λ r. stated_number r 9) rate }
+{
+    match rate {
+        Some(r) => Some(number(i128::from(r), 9)),
+        None => None,
+    }
+}
+
+fn fraction(frac: Frac) -> StatedFraction
+    requires { IsSmall frac }
+    ensures { result ≡ stated_fraction frac }
+{
+    let num = scaled(frac.num, STATED_PLACES);
+    StatedFraction {
+        units: round(Direction::Nearest, num, i128::from(frac.den)),
+        places: STATED_PLACES,
+    }
+}
+
+// How many calculation periods a payment has.
+fn period_count(y: &PaymentEntry) -> u32
+    requires { IsPayment y.now }
+    ensures { result ≡ y.now.last_period + 1 - y.now.first_period }
+{
+    y.last_period + 1 - y.first_period
+}
+
+fn reset(r: &Reset) -> FlowReset
+    requires { IfSome r.now.observed IsStatableRate }
+    ensures { result ≡ stated_reset r.now }
+{
+    FlowReset {
+        reset: Some(r.reset),
+        fixing: Some(r.fixing),
+        observed: known_rate(r.observed),
+    }
+}
+
+// The reset of the period at a place.
+fn reset_at(part: &StreamPart, place: usize) -> Option<FlowReset>
+    ensures { result ≡ option_map stated_reset (slice_get part.now.resets place) }
+{
+    match item(part.resets(), place) {
+        Some(r) => Some(reset(r)),
+        None => None,
+    }
+}
+
+// The period that starts on a day, with its reset, where it has one.
+fn period(start: Day, x: &CalculationPeriod, reset: Option<FlowReset>) -> FlowPeriod
+    requires start { start ≡ x.now.start }
+    requires fraction { IsSmall x.now.frac }
+    requires statable { IsStatablePeriod x.now }
+    ensures { result ≡ period_with x.now reset }
+{
+    FlowPeriod {
+        start: Some(start),
+        end: Some(x.end),
+        adjusted_start: Some(x.adjusted_start),
+        adjusted_end: Some(x.adjusted_end),
+        days: Some(x.days),
+        notional: Some(number(x.notional, 4)),
+        rate: known_rate(x.rate),
+        fraction: Some(fraction(x.frac)),
+        reset,
+    }
+}
+
+fn exchanges(alloc: Global, part: &StreamPart) -> Result<Vec<FlowExchange>, Memory>
+    ensures { IfOk result (λ list. list.items ≡ map stated_exchange part.now.exchanges) }
+{
+    let mut list = Vec::new(alloc);
+    for x in part.exchanges() {
+        let unadjusted = Some(x.unadjusted);
+        let adjusted = Some(x.adjusted);
+        let amount = Some(amount(x.amount));
+        list.push(FlowExchange {
+            unadjusted,
+            adjusted,
+            amount,
+        })?;
+    }
+    Ok(list)
+}
+
+fn payments(alloc: Global, part: &StreamPart) -> Result<Vec<FlowPayment>, Memory>
+    ensures { IfOk result (λ list. list.items ≡ map (stated_payment part.now.currency) part.now.payments) }
+{
+    let currency = part.currency();
+    let mut list = Vec::new(alloc);
+    for y in part.payments() {
+        let unadjusted = Some(y.unadjusted);
+        let adjusted = Some(y.adjusted);
+        let amount = known_amount(y.amount);
+        list.push(FlowPayment {
+            unadjusted,
+            adjusted,
+            periods: period_count(y),
+            currency: Some(currency),
+            amount,
+        })?;
+    }
+    Ok(list)
+}
+
+fn periods(alloc: Global, part: &StreamPart) -> Result<Vec<FlowPeriod>, Memory>
+    ensures { IfOk result (λ list. list.items ≡ stated_periods_from part.now 0 part.now.periods) }
+{
+    let mut list = Vec::new(alloc);
+    for place in 0..part.periods() {
+        if let Some(x) = part.period(place) {
+            let start = x.start;
+            list.push(period(start, &x, reset_at(part, place)))?;
+        }
+    }
+    Ok(list)
+}
+
+fn stream(alloc: Global, part: &StreamPart) -> Result<FlowStream, Memory>
+    ensures { IfOk result (λ flows. flows ≡ stated_part part.now) }
+{
+    let exchanges = exchanges(alloc, part)?;
+    let payments = payments(alloc, part)?;
+    let periods = periods(alloc, part)?;
+    Ok(FlowStream::new(exchanges, payments, periods))
+}
+
+fn flows(alloc: Global, s: &Schedule) -> Result<Flows, Memory>
+    ensures { IfOk result (λ f. f ≡ stated_flows s.now) }
+{
+    let mut streams = Vec::new(alloc);
+    for part in s.streams() {
+        streams.push(stream(alloc, part)?)?;
+    }
+    Ok(Flows::new(streams))
+}
+
+/// The cash flows that state a schedule (FpML 5, `cashflows` of an InterestRateStream; which fields are
+/// stated is this project's own): a row for each of its rows, with every field that is compared. Amounts,
+/// notionals and rates are stated as they are, in units of 10^-12, and a fraction with ten decimals,
+/// rounded to the nearest; what the schedule doesn't know isn't stated. These flows agree with the
+/// schedule, so `audit` says yes to them. `Memory` comes only for want of memory.
+pub fn flows_of(alloc: Global, s: &Schedule) -> Result<Flows, Memory>
+    ensures value { IfOk result (λ f. f ≡ stated_flows s.now) }
+    ensures agrees { Agrees (stated_flows s.now) s.now }
+{
+    s.bounds();
+    flows(alloc, s)
+}

@@ -1,0 +1,6 @@
+use Rattle.irs_bulk.specs.Documents.{document_text}
+use Rattle.irs_bulk.proofs.documents.bulk_doc.Goals as goal
+
+pub returns : goal.returns
+unfolding document_text
+returns c = rw (← c.convention.ensures) c.document.ensures

@@ -1,0 +1,14 @@
+//! The input of `bulk` and its line: documents that differ in dates, convention, notional, rate and day
+//! count, the calendar of their centre, and the sums that a run prints. All of it is this project's own.
+#![tactic(auto)]
+
+mod digits;
+mod documents;
+mod holidays;
+#[cfg(test)]
+mod tests;
+mod totals;
+
+pub use documents::{MOST_BULK, bulk_doc, bulk_limit};
+pub use holidays::bulk_calendar;
+pub use totals::{Totals, bulk_text};

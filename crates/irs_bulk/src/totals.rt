@@ -1,0 +1,120 @@
+//! What a run of `bulk` prints of its schedules.
+ghost use Rattle.std.specs.Prelude.{◌≡◌, ◌+◌, ◌*◌, ◌<◌, ◌≤◌, ◌++◌, ◌∷◌, length, unsigned_abs, decimal, pos, ◌+ℤ◌, ◌^◌};
+ghost use Rattle.std.specs.Fmt.{signed_decimal};
+ghost use Rattle.irs_base.specs.Rounding.{rounded};
+ghost use Rattle.irs_base.specs.Texts.{dec_text};
+ghost use Rattle.irs_base.specs.declared.rounding.Direction.TheVariants.{Nearest};
+ghost use Rattle.irs_bulk.specs.BulkLines.{IsRun, both_totals, line_text, most_sum, no_totals};
+ghost use Rattle.irs_bulk.specs.Documents.{most_bulk};
+
+use irs_base::{Dec, Direction, Line, round};
+
+/// Sums over the schedules of a run.
+#[derive(Clone, Copy, Debug, PartialEq, Eq)]
+pub struct Totals {
+    /// How many documents they are of.
+    pub documents: u32,
+    /// Payments and calculation periods.
+    pub rows: u64,
+    /// The amounts of the payments, in units of 10^-12.
+    pub total: i128,
+    /// The days of the calculation periods.
+    pub days: i128,
+    /// How many schedules agree with the flows that state their plain schedule.
+    pub agree: u32,
+    /// Of the others, the numbers of the first rows that depart.
+    pub first: u64,
+}
+
+fn sum(a: i128, b: i128) -> i128
+    requires { unsigned_abs a + unsigned_abs b < 2 ^ 127 }
+    ensures { result ≡ a +ℤ b }
+{
+    a + b
+}
+
+impl Totals {
+    /// The sums of no document.
+    pub fn none() -> Totals
+        ensures value { result ≡ no_totals }
+        ensures run { IsRun result }
+    {
+        Totals {
+            documents: 0,
+            rows: 0,
+            total: 0,
+            days: 0,
+            agree: 0,
+            first: 0,
+        }
+    }
+
+    /// The sums of these documents and of more, up to 500 in all.
+    pub fn with(self, more: Totals) -> Totals
+        requires run { IsRun self }
+        requires more { IsRun more }
+        requires few { self.documents + more.documents ≤ most_bulk }
+        ensures value { result ≡ both_totals self more }
+        ensures run { IsRun result }
+    {
+        Totals {
+            documents: self.documents + more.documents,
+            rows: self.rows + more.rows,
+            total: sum(self.total, more.total),
+            days: sum(self.days, more.days),
+            agree: self.agree + more.agree,
+            first: self.first + more.first,
+        }
+    }
+}
+
+// A space and a whole number.
+#[tactic(auto, using(irs_base::proofs::TextLemmas::appended, irs_base::proofs::TextLengths::length_signed))]
+fn put_whole(line: &mut Line, n: i128)
+    requires { length line.old + 41 ≤ 512 }
+    ensures text { line.new ≡ line.old ++ 32 ∷ signed_decimal n }
+    ensures grows { length line.new ≤ length line.old + 41 }
+{
+    line.push(b" ");
+    line.push_whole(n);
+}
+
+// A space and a number that counts.
+fn put_count(line: &mut Line, n: u64)
+    requires { length line.old + 41 ≤ 512 }
+    ensures text { line.new ≡ line.old ++ 32 ∷ decimal n }
+    ensures grows { length line.new ≤ length line.old + 41 }
+{
+    put_whole(line, i128::from(n));
+}
+
+// A space and an amount in units of 10^-12, rounded to two decimals.
+#[tactic(auto, using(irs_base::proofs::TextLemmas::appended, irs_base::proofs::TextLengths::length_dec))]
+fn put_total(line: &mut Line, total: i128)
+    requires size { unsigned_abs total ≤ most_bulk * most_sum }
+    requires room { length line.old + 44 ≤ 512 }
+    ensures text { line.new ≡ line.old ++ 32 ∷ dec_text (rounded Nearest total (pos (10 ^ 10))) 2 }
+    ensures grows { length line.new ≤ length line.old + 44 }
+{
+    let units = round(Direction::Nearest, total, 10_000_000_000);
+    line.push(b" ");
+    line.push_dec(Dec { units, places: 2 });
+}
+
+/// Puts the line of a run, `bulk N ROWS TOTAL DAYS AGREE FIRST`, with its line feed, in the place of what
+/// the line holds. TOTAL has two decimals, to which the sum is rounded.
+#[tactic(auto, unfolding(crate::specs::BulkLines::line_text))]
+pub fn bulk_text(totals: &Totals, line: &mut Line)
+    requires { IsRun totals.now }
+    ensures { line.new ≡ line_text totals.now }
+{
+    line.clear();
+    line.push(b"bulk");
+    put_count(line, u64::from(totals.documents));
+    put_count(line, totals.rows);
+    put_total(line, totals.total);
+    put_whole(line, totals.days);
+    put_count(line, u64::from(totals.agree));
+    put_count(line, totals.first);
+    line.push(b"\n");
+}
