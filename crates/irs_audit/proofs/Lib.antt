@@ -12,3 +12,4 @@ pub mod StreamLemmas
 pub mod VerdictLemmas
 pub mod StatedLemmas
 pub mod StatedBounds
+pub mod SumLemmas

@@ -4,6 +4,7 @@ pub mod FlowFaults
 pub mod FlowMeaning
 pub mod FlowReading
 pub mod StatedFlows
+pub mod Sums
 pub mod StatedValues
 pub mod FieldDepartures
 pub mod Agreement

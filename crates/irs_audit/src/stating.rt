@@ -31,7 +31,8 @@ fn number(units: i128, places: u8) -> i128
     product(units, power_of_ten(12 - places))
 }
 
-fn amount(v: Dec) -> i128
+/// An amount in units of 10^-12.
+pub(crate) fn amount(v: Dec) -> i128
     requires { IsStatableDec v }
     ensures { result ≡ stated_amount v }
 {
