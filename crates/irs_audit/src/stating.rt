@@ -144,13 +144,13 @@ fn payments(alloc: Global, part: &StreamPart) -> Result<Vec<FlowPayment>, Memory
     for y in part.payments() {
         let unadjusted = Some(y.unadjusted);
         let adjusted = Some(y.adjusted);
-        let amount = known_amount(y.amount);
+        let forecast = known_amount(y.amount);
         list.push(FlowPayment {
             unadjusted,
             adjusted,
             periods: period_count(y),
             currency: Some(currency),
-            amount,
+            amount: forecast,
         })?;
     }
     Ok(list)
