@@ -13,3 +13,4 @@ pub mod StreamLemmas
 pub mod VerdictLemmas
 pub mod StatedLemmas
 pub mod StatedBounds
+pub mod SumLemmas

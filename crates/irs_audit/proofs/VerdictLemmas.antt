@@ -52,7 +52,7 @@ unfixed_few p h =
     let count = count_few (λ (y : PaymentEntry). is_none y.amount) 0 p.payments in
     omega (arith, h.few, payments, count)
 
-sum_few : (f : Part → ℕ) (c a : ℕ) (ps : List Part) → ((p : Part) → KeepsBounds p → f p ≤ c) → Every KeepsBounds ps → fold (λ n p. n + f p) a ps ≤ a + c * length ps
+pub sum_few : (f : Part → ℕ) (c a : ℕ) (ps : List Part) → ((p : Part) → KeepsBounds p → f p ≤ c) → Every KeepsBounds ps → fold (λ n p. n + f p) a ps ≤ a + c * length ps
 sum_few f c a [] each h = omega arith
 sum_few f c a (p ∷ ps) each h = let rest = sum_few f c (a + f p) ps each h.1 in let one = each p h.0 in omega (arith, rest, one)
 

@@ -5,6 +5,7 @@ pub mod FlowMeaning
 pub mod FlowReading
 pub mod FlowsStated
 pub mod StatedFlows
+pub mod Sums
 pub mod StatedValues
 pub mod FieldDepartures
 pub mod Agreement

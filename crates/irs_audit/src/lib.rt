@@ -15,6 +15,7 @@ mod flows;
 mod row_fields;
 mod rows;
 mod stating;
+mod summing;
 #[cfg(test)]
 mod tests;
 #[cfg(test)]
@@ -33,3 +34,4 @@ pub use flows::{
     FlowExchange, FlowPayment, FlowPeriod, FlowReset, FlowStream, Flows, StatedFraction,
 };
 pub use stating::flows_of;
+pub use summing::{Sums, sums_of};

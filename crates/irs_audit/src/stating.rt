@@ -31,7 +31,8 @@ fn number(units: i128, places: u8) -> i128
     product(units, power_of_ten(12 - places))
 }
 
-fn amount(v: Dec) -> i128
+/// An amount in units of 10^-12.
+pub(crate) fn amount(v: Dec) -> i128
     requires { IsStatableDec v }
     ensures { result ≡ stated_amount v }
 {
@@ -143,13 +144,13 @@ fn payments(alloc: Global, part: &StreamPart) -> Result<Vec<FlowPayment>, Memory
     for y in part.payments() {
         let unadjusted = Some(y.unadjusted);
         let adjusted = Some(y.adjusted);
-        let amount = known_amount(y.amount);
+        let forecast = known_amount(y.amount);
         list.push(FlowPayment {
             unadjusted,
             adjusted,
             periods: period_count(y),
             currency: Some(currency),
-            amount,
+            amount: forecast,
         })?;
     }
     Ok(list)

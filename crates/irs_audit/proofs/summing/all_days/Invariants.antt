@@ -1,0 +1,9 @@
+use Rattle.std.proofs.Common.{◌≡◌, ◌*◌, ◌≤◌, drop, pos, unsigned_abs}
+use Rattle.irs_audit.specs.Sums.{all_days_from, most_of_stream}
+use Rattle.irs_audit.proofs.summing.all_days.Given as goal
+
+abbrev pub invariant-loop-part : goal.invariant-loop-part
+invariant-loop-part l = record {
+  rest : all_days_from l.days (drop l.part-index l.parts) ≡ all_days_from (pos 0) l.parts;
+  size : unsigned_abs l.days ≤ l.part-index * most_of_stream;
+}

@@ -1,0 +1,9 @@
+use Rattle.std.proofs.Common.{◌≡◌, ◌*◌, ◌≤◌, drop, pos, unsigned_abs}
+use Rattle.irs_audit.specs.Sums.{most_of_stream, total_from}
+use Rattle.irs_audit.proofs.summing.total.Given as goal
+
+abbrev pub invariant-loop-part : goal.invariant-loop-part
+invariant-loop-part l = record {
+  rest : total_from l.total (drop l.part-index l.parts) ≡ total_from (pos 0) l.parts;
+  size : unsigned_abs l.total ≤ l.part-index * most_of_stream;
+}
