@@ -1,11 +1,15 @@
 -- Factors: there is one behind each number of observations, and how a loop reaches it.
-use Rattle.std.proofs.Common.{◌≡◌, ◌⊎◌, inl, inr, ℕ, zero, suc, ◌+◌, ◌*◌, ◌^◌, ◌<◌, ◌≤◌, List, [], ◌∷◌, ◌++◌, length, take, Some, None, ℤ, pos, ◌<ℤ◌, ◌*ℤ◌, ◌-ℤ◌, refl, sym, subst, ◌∙◌, ap, arith, lit≤}
+use Rattle.std.proofs.Common.{◌≡◌, ◌⊎◌, inl, inr, ℕ, zero, suc, ◌+◌, ◌*◌, ◌^◌, ◌<◌, ◌≤◌, List, [], ◌∷◌, ◌++◌, length, take, Option, Some, None, IfSome, IfNone, ℤ, pos, ◌<ℤ◌, ◌*ℤ◌, ◌-ℤ◌, ◌+ℤ◌, refl, sym, subst, ◌∙◌, ap, arith, lit≤}
 use Rattle.std.specs.Prelude.{get_or, unsigned_abs}
 use Rattle.std.proofs.lemmas.Bool.{cases_lt}
 use Rattle.std.proofs.lemmas.List.{take_more, take_all}
 use Rattle.jiff_core.proofs.SignedLemmas.{signed_arith}
 use Rattle.irs_base.specs.Limits.{most_rate}
+use Rattle.irs_base.specs.Rounding.{Rounded}
+use Rattle.irs_base.specs.declared.rounding.Direction.TheVariants.{Nearest}
 use Rattle.irs_base.proofs.RoundingLaws.{nearest_once}
+use Rattle.irs_terms.specs.Lawful.{IsRate}
+use Rattle.irs_overnight.specs.Observations.{first_absent}
 use Rattle.irs_overnight.specs.Factors.{FactorPasses, Grows, GrowsBy, IsCompounded, PassesLimit, RatePasses, Reaches, most_factor, one_factor, year_of}
 use Rattle.irs_overnight.specs.declared.observations.Observation.{Observation}
 
@@ -25,7 +29,7 @@ module _ (basis : ℕ) (some : 1 ≤ basis) where
   one_growth o f g h p q =
       let same : p.rate ≡ q.rate = some_is p.rate q.rate (sym p.observed ∙ q.observed) in
       let moved : GrowsBy basis o f g = record { rate = q.rate; observed = q.observed; rounded = rw (sym same) p.rounded } in
-      nearest_once _ (year_of basis) g h (above basis some) moved.rounded q.rounded
+      nearest_once (f *ℤ (year_of basis +ℤ q.rate *ℤ o.weight)) (year_of basis) g h (above basis some) moved.rounded q.rounded
 
   -- there is one factor behind the observations
   pub one_grown : (os : List Observation) (f g h : ℤ) → Grows basis os f g → Grows basis os f h → g ≡ h
@@ -88,3 +92,28 @@ module _ (basis : ℕ) (some : 1 ≤ basis) where
   one_compounded days os x y positive p q =
       let same : p.factor ≡ q.factor = one_grown os one_factor p.factor q.factor p.grows q.grows in
       nearest_once ((q.factor -ℤ one_factor) *ℤ pos basis) (pos (10 ^ 6) *ℤ days) x y positive (rw (sym same) p.rounded) q.rounded
+
+  -- the answer that is a factor's rate where that is small
+  module _ (days : ℤ) (os : List Observation) (f r : ℤ) (positive : pos 0 <ℤ (pos (10 ^ 6) *ℤ days)) (grows : Grows basis os one_factor f) (rounded : Rounded Nearest ((f -ℤ one_factor) *ℤ pos basis) (pos (10 ^ 6) *ℤ days) r) where
+    compounded_so : IsCompounded basis days os r
+    compounded_so = record { factor = f; grows = grows; rounded = rounded }
+
+    pub rate_some : (answer : Option ℤ) → IfSome answer (λ x. x ≡ r) → IfSome answer (IsCompounded basis days os)
+    rate_some None e = tt
+    rate_some (Some x) e = rw e compounded_so
+
+    pub rate_kept : (answer : Option ℤ) → (FactorPasses basis os → ⊥) → IfSome answer (λ x. x ≡ r) → IfSome answer IsRate → IfSome answer (λ _. PassesLimit basis days os → ⊥)
+    rate_kept None none e small = tt
+    rate_kept (Some x) none e small = λ h. elim h.passes [
+      | inl factor ↦ none factor
+      | inr rate ↦
+          let same = one_compounded days os rate.rate r positive rate.is_compounded compounded_so in
+          let passes = rate.passes in
+          let within : unsigned_abs r ≤ most_rate = rw (sym e) small in
+          let passed : most_rate < unsigned_abs r = rw (sym same) passes in
+          omega (arith, within, passed)
+    ]
+
+    pub rate_none : (answer : Option ℤ) → first_absent os ≡ None → IfNone answer (most_rate < unsigned_abs r) → IfNone answer (PassesLimit basis days os)
+    rate_none None known passes = record { known = known; passes = inr (record { rate = r; is_compounded = compounded_so; passes = passes }) }
+    rate_none (Some x) known passes = tt

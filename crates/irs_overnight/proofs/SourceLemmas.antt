@@ -1,6 +1,7 @@
 -- What the daily rates of a stream are compounded from is one thing, and the schedule of the swap has it.
-use Rattle.std.proofs.Common.{◌≡◌, ℕ, zero, suc, ◌+◌, ◌-◌, ◌<◌, ◌≤◌, List, [], ◌∷◌, length, Some, IsTrue, refl, sym, subst, ◌∙◌, ap, arith}
-use Rattle.std.specs.Prelude.{slice_get}
+use Rattle.std.proofs.Common.{◌≡◌, ℕ, zero, suc, ◌+◌, ◌-◌, ◌<◌, ◌≤◌, List, [], ◌∷◌, length, Option, Some, None, IsTrue, refl, sym, subst, ◌∙◌, ap, arith}
+use Rattle.std.specs.Prelude.{get_or, slice_get}
+use Rattle.std.proofs.lemmas.Option.{slice_get_within, slice_get-get_or}
 use Rattle.irs_base.specs.Members.{Every, Pairs}
 use Rattle.irs_base.specs.Order.{First}
 use Rattle.irs_base.specs.Faults.{in_stream}
@@ -14,7 +15,7 @@ use Rattle.irs_terms.specs.declared.stream.Stream.{Stream}
 use Rattle.irs_terms.specs.declared.stream_list.Swap.{Swap}
 use Rattle.irs_schedule.specs.DaySets.{stream_sets}
 use Rattle.irs_schedule.specs.KeptTerms.{is_floating}
-use Rattle.irs_schedule.specs.Parts.{KeepsBounds, Part}
+use Rattle.irs_schedule.specs.Parts.{KeepsBounds, Part, Rises}
 use Rattle.irs_schedule.specs.Schedules.{IsPart}
 use Rattle.irs_overnight.specs.DerivedRows.{AreDerived}
 use Rattle.irs_overnight.specs.DerivedRules.{BreaksDerived, derived_before}
@@ -25,8 +26,8 @@ use Rattle.irs_overnight.specs.declared.derived.DerivedRow.{DerivedRow}
 use Rattle.irs_overnight.proofs.DerivedOrder.{derived_ties}
 use Rattle.irs_overnight.proofs.RowLemmas.{one_derived}
 
-some_stream : (x y : Stream) → Some x ≡ Some y → x ≡ y
-some_stream x y e = cc
+pub same_stream : (x y : Stream) → Some x ≡ Some y → x ≡ y
+same_stream x y e = cc
 
 pub some_part : (x y : Part) → Some x ≡ Some y → x ≡ y
 some_part x y e = cc
@@ -37,7 +38,7 @@ some_float x y e = cc
 -- a stream pays one floating rate
 pub one_pays : (swap : Swap) (number : ℕ) (f g : FloatTerms) → PaysFloating swap number f → PaysFloating swap number g → f ≡ g
 one_pays swap number f g p q =
-    let same = some_stream p.stream q.stream (sym p.at ∙ q.at) in
+    let same = same_stream p.stream q.stream (sym p.at ∙ q.at) in
     some_float f g (sym p.pays ∙ ap (λ (s : Stream). s.leg) same ∙ q.pays)
 
 -- there is one source
@@ -54,7 +55,7 @@ partner : (R : Stream → Part → Type 0) (ss : List Stream) (ps : List Part) (
 partner R [] [] i s pairs at = absurd (cc)
 partner R [] (p ∷ ps) i s pairs at = absurd pairs
 partner R (x ∷ ss) [] i s pairs at = absurd pairs
-partner R (x ∷ ss) (p ∷ ps) zero s pairs at = (p, refl, subst (λ (y : Stream). R y p) (some_stream x s at) pairs.0)
+partner R (x ∷ ss) (p ∷ ps) zero s pairs at = (p, refl, subst (λ (y : Stream). R y p) (same_stream x s at) pairs.0)
 partner R (x ∷ ss) (p ∷ ps) (suc i) s pairs at = partner R ss ps i s pairs.1 at
 
 -- the part of the stream, which floats
@@ -63,7 +64,7 @@ asked_part a h =
     let pays = h.floats.1 in
     let found = partner (λ s p. IsPart (stream_sets h.calendars s) [] s p) a.swap.streams a.parts (a.number - 1) pays.stream h.schedule pays.at in
     let floats : found.0.floating ≡ is_floating (Floating h.floats.0) = found.2.floating ∙ ap is_floating pays.pays in
-    (found.0, found.1, rw floats tt)
+    (found.0, found.1, floats)
 
 every_at : (P : Part → Type 0) (ps : List Part) (i : ℕ) (p : Part) → Every P ps → slice_get ps i ≡ Some p → P p
 every_at P [] i p each at = absurd (cc)
@@ -93,7 +94,7 @@ one_overnight a bounds xs ys p q =
     let same = one_source a p.source q.source p.has q.has in
     let part = every_at KeepsBounds a.parts (a.number - 1) q.has.part bounds q.has.at in
     let is = q.has.is in
-    let rises = rw is part.adjusted_rises in
+    let rises : Rises q.source.adjusted = rw is part.adjusted_rises in
     one_derived q.source rises xs ys (subst (λ (s : DailySource). AreDerived s xs) same p.derived) q.derived
 
 -- and one first rule that is broken
@@ -101,3 +102,25 @@ pub one_broken : (a : Asked) (x y : Broken) → IsFirstDerived a x → IsFirstDe
 one_broken a x y p q =
     let same : p.fault ≡ q.fault = one_first derived_before derived_ties (BreaksOvernight a) p.fault q.fault p.first q.first in
     p.is ∙ ap (in_stream a.number) same ∙ sym q.is
+
+pub lacks : (o : Option Stream) (s : Stream) → o ≡ None → o ≡ Some s → ⊥
+lacks o s p q = cc
+
+-- parts stand at the places of the list alone
+pub asked_place : (a : Asked) → IsAsked a → (1 ≤ a.number) × (a.number - 1 < length a.parts)
+asked_place a h = let found = asked_part a h in (h.floats.1.from_one, slice_get_within a.parts (a.number - 1) found.0 found.1)
+
+-- the part that is read there has the source
+pub has_source : (a : Asked) → (h : IsAsked a) → (float : FloatTerms) → PaysFloating a.swap a.number float → (p : Part) → slice_get a.parts (a.number - 1) ≡ Some p → HasSource a (daily_source p float.index a.days a.rates)
+has_source a h float pays p at = record { float = float; pays = pays; part = p; at = at; is = refl }
+
+pub part_floats : (a : Asked) → IsAsked a → (p : Part) → slice_get a.parts (a.number - 1) ≡ Some p → IsTrue p.floating
+part_floats a h p at =
+    let found = asked_part a h in
+    subst (λ (x : Part). IsTrue x.floating) (some_part found.0 p (sym found.1 ∙ at)) found.2
+
+-- a part that is read at its place
+pub part_read : (ps qs : List Part) (place : ℕ) (p : Part) → qs ≡ ps → place < length ps → p ≡ get_or qs place p → slice_get ps place ≡ Some p
+part_read ps qs place p same low is =
+    let here : p ≡ get_or ps place p = rw same at is in
+    slice_get-get_or ps place p low ∙ ap (λ (x : Part). Some x) (sym here)

@@ -1,11 +1,14 @@
 -- The days from which daily rates hold, found day by day.
-use Rattle.std.proofs.Common.{◌≡◌, ◌⊎◌, inl, inr, ℕ, ◌+◌, ◌<◌, ◌≤◌, List, [], ◌∷◌, ◌++◌, ℤ, pos, ◌+ℤ◌, ◌<ℤ◌, ◌≤ℤ◌, refl, sym, subst, arith}
+use Rattle.std.proofs.Common.{◌≡◌, ◌⊎◌, inl, inr, ℕ, ◌+◌, ◌<◌, ◌≤◌, List, [], ◌∷◌, ◌++◌, ℤ, pos, ◌+ℤ◌, ◌-ℤ◌, ◌<ℤ◌, ◌≤ℤ◌, refl, sym, subst, arith, Bool, false, IsTrue}
 use Rattle.jiff_core.proofs.SignedLemmas.{signed_arith}
 use Rattle.irs_base.specs.Listed.{Member, Lists}
 use Rattle.irs_base.proofs.Decided.{order_of}
 use Rattle.irs_base.proofs.Rising.{member_cases, member_new, member_old, one_rising, rising_push}
 use Rattle.irs_calendar.specs.GoodDays.{DaySet, IsGood}
-use Rattle.irs_overnight.specs.Starts.{Starts, AreStarts}
+use Rattle.irs_overnight.specs.Starts.{Starts, AreStarts, LeavesCover}
+
+pub is_not : (b : Bool) → b ≡ false → IsTrue b → ⊥
+is_not b p q = cc (p, q)
 
 -- there is one list of starts
 pub one_starts : (set : DaySet) (s e : ℤ) (u v : List ℤ) → AreStarts set s e u → AreStarts set s e v → u ≡ v
@@ -69,3 +72,30 @@ module _ (set : DaySet) (s : ℤ) (k : ℕ) (u : List ℤ) (some : 1 ≤ k) (are
           ]
         ];
       }
+
+-- ---- the cover
+
+module _ (set : DaySet) (s e : ℤ) (order : s <ℤ e) where
+  -- the period starts before the cover
+  pub leaves_before : s <ℤ set.first → LeavesCover set s e
+  leaves_before low = record { day = s; from = omega (arith, signed_arith); to = order; outside = λ h. let from = h.from in omega (arith, signed_arith, from, low) }
+
+  -- it ends behind the cover
+  pub leaves_past : (set.last +ℤ pos 1) <ℤ e → LeavesCover set s e
+  leaves_past high = record {
+    day = e -ℤ pos 1;
+    from = omega (arith, signed_arith, order);
+    to = omega (arith, signed_arith);
+    outside = λ h. let to = h.to in omega (arith, signed_arith, to, high);
+  }
+
+  -- a period that starts in the cover and leaves it ends behind it
+  pub past_if : set.first ≤ℤ s → LeavesCover set s e → (set.last +ℤ pos 1) <ℤ e
+  past_if first h =
+      let from = h.from in
+      let to = h.to in
+      elim (order_of (set.last +ℤ pos 1) e) [
+        | inl past ↦ past
+        | inr (inl inside) ↦ absurd (h.outside (record { from = omega (arith, signed_arith, first, from); to = omega (arith, signed_arith, to, inside) }))
+        | inr (inr last) ↦ absurd (h.outside (record { from = omega (arith, signed_arith, first, from); to = omega (arith, signed_arith, to, last) }))
+      ]

@@ -1,6 +1,6 @@
 -- The bounds that observations keep, so that products fit.
 use Rattle.std.specs.Prelude.{◌<◌, IfSome, unsigned_abs}
-use Rattle.irs_base.specs.Limits.{all_days}
+use Rattle.irs_base.specs.Days.{all_days}
 use Rattle.irs_terms.specs.Lawful.{IsRate}
 use Rattle.irs_overnight.specs.declared.observations.Observation.{Observation}
 

@@ -55,6 +55,8 @@ pub fn overnight<G: GoodDays>(
     ensures one_broken { let a = asked swap.now stream s.now (G.days days.now) daily.now in
         (x y : BrokenRule) → IsFirstDerived a x → IsFirstDerived a y → x ≡ y }
 {
+    // hands the prover the bounds of the schedule
+    s.bounds();
     numbered_rows(alloc, s, swap, stream, days, daily)
 }
 

@@ -1,7 +1,8 @@
 //! Daily rates compounded: each factor is the one before it times 1 and the rate times its days over
 //! the days of a year. The product and its rounding at 15 decimals are this project's own.
 ghost use Rattle.std.specs.Prelude.{◌≡◌, ◌+◌, ◌*◌, ◌^◌, ◌<◌, ◌≤◌, All, IfSome, IfNone, None, pos, ◌<ℤ◌, ◌≤ℤ◌, ◌+ℤ◌, ◌-ℤ◌, ◌*ℤ◌, unsigned_abs};
-ghost use Rattle.irs_base.specs.Limits.{all_days};
+ghost use Rattle.irs_base.specs.Days.{all_days};
+ghost use Rattle.irs_base.specs.Limits.{most_rate};
 ghost use Rattle.irs_terms.specs.Lawful.{IsRate};
 ghost use Rattle.irs_overnight.specs.Bounds.{IsSmall};
 ghost use Rattle.irs_overnight.specs.Factors.{FactorPasses, Grows, GrowsBy, IsCompounded, PassesLimit, most_factor, one_factor, year_of};
@@ -69,6 +70,19 @@ fn grown_factor(factor: i128, grown: i128) -> i128
     product(factor, grown)
 }
 
+// The factor behind another by a rate over a number of days.
+fn next_factor(basis: u16, factor: i128, rate: i64, weight: i64) -> i128
+    requires range { (1 ≤ basis) × (basis ≤ 365) }
+    requires factor { unsigned_abs factor ≤ most_factor }
+    requires rate { IsRate rate }
+    requires weight { unsigned_abs weight < all_days }
+    ensures { Rounded Nearest (factor *ℤ (year_of basis +ℤ rate *ℤ weight)) (year_of basis) result }
+{
+    let year = year_of(basis);
+    let grown = grown_year(year, interest(rate, weight));
+    round(Direction::Nearest, grown_factor(factor, grown), year)
+}
+
 // The factor behind an observation whose rate is there.
 fn grown_by(basis: u16, factor: i128, o: Observation) -> i128
     requires range { (1 ≤ basis) × (basis ≤ 365) }
@@ -78,9 +92,7 @@ fn grown_by(basis: u16, factor: i128, o: Observation) -> i128
     ensures { GrowsBy basis o factor result }
 {
     let Some(rate) = o.rate else { unreachable!() };
-    let year = year_of(basis);
-    let grown = grown_year(year, interest(rate, o.weight));
-    round(Direction::Nearest, grown_factor(factor, grown), year)
+    next_factor(basis, factor, rate, o.weight)
 }
 
 // The last factor; `None` exactly where one passes its limit.
@@ -133,6 +145,34 @@ fn rate_of(basis: u16, days: i64, factor: i128) -> i128
     round(Direction::Nearest, growth, days_by_millions(days))
 }
 
+// A rate of at most 10 in size.
+fn small_rate(rate: i128) -> Option<i64>
+    ensures some { IfSome result (λ x. x ≡ rate) }
+    ensures small { IfSome result IsRate }
+    ensures none { IfNone result (most_rate < unsigned_abs rate) }
+{
+    let most = i128::from(MOST_RATE);
+    if rate < -most || rate > most {
+        return None;
+    }
+    Some(rate as i64)
+}
+
+// The rate of a period whose daily rates are all there; `None` exactly where a factor or the rate
+// passes its limit.
+fn known_rate(basis: u16, days: i64, observations: &[Observation]) -> Option<i64>
+    requires range { (1 ≤ basis) × (basis ≤ 365) }
+    requires days { (pos 0 <ℤ days) × (unsigned_abs days < all_days) }
+    requires small { All IsSmall observations.now }
+    requires known { first_absent observations.now ≡ None }
+    ensures some { IfSome result (IsCompounded basis days observations.now) }
+    ensures kept { IfSome result (λ _. PassesLimit basis days observations.now → ⊥) }
+    ensures none { IfNone result (PassesLimit basis days observations.now) }
+{
+    let factor = compounded(basis, observations)?;
+    small_rate(rate_of(basis, days, factor))
+}
+
 /// The rate of a period, or its first day without a daily rate; `None` exactly where each daily rate
 /// is there, and a factor or the rate passes its limit.
 pub(crate) fn compounded_rate(basis: u16, days: i64, observations: &[Observation]) -> Option<Found>
@@ -146,12 +186,10 @@ pub(crate) fn compounded_rate(basis: u16, days: i64, observations: &[Observation
     if let Some(day) = first_absent(observations) {
         return Some(Found::Missing(day));
     }
-    let factor = compounded(basis, observations)?;
-    let rate = rate_of(basis, days, factor);
-    if rate.unsigned_abs() > u128::from(MOST_RATE) {
-        return None;
+    match known_rate(basis, days, observations) {
+        Some(rate) => Some(Found::Rate(rate)),
+        None => None,
     }
-    Some(Found::Rate(rate as i64))
 }
 
 ghost use Rattle.std.specs.Prelude.{IsSome};

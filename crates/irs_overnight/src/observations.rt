@@ -1,10 +1,10 @@
 //! The observations of a calculation period: each daily rate with the days for which it holds.
 ghost use Rattle.std.specs.Prelude.{◌≡◌, ◌<◌, ◌≤◌, length, IfOk, IfSome, All, ◌<ℤ◌, unsigned_abs};
-ghost use Rattle.irs_base.specs.Limits.{all_days};
+ghost use Rattle.irs_base.specs.Days.{all_days};
 ghost use Rattle.irs_base.specs.Members.{day_at};
 ghost use Rattle.irs_terms.specs.Lawful.{IsRate};
 ghost use Rattle.irs_overnight.specs.Bounds.{IsSmall};
-ghost use Rattle.irs_overnight.specs.Observations.{AreObservations, AreObserved, first_absent, next_start, observed_on};
+ghost use Rattle.irs_overnight.specs.Observations.{AreObservations, AreObserved, IsObservation, first_absent, next_start, observed_on};
 ghost use Rattle.irs_overnight.specs.Sources.{daily_lines, one_day, rate_by};
 ghost use Rattle.irs_overnight.specs.Starts.{LacksDays};
 
@@ -57,6 +57,35 @@ fn daily_rate(daily: &Fixings, index: &Text, d: Day) -> Option<i64>
     daily.rate_on(index, Some(ONE_DAY), d)
 }
 
+// The start at a place.
+fn start_at(starts: &[Day], place: usize) -> Day
+    requires { place < length starts.now }
+    ensures { result ≡ day_at starts.now place }
+{
+    starts[place]
+}
+
+// The observation of the start at a place.
+fn observation_at(
+    starts: &[Day],
+    place: usize,
+    first: Day,
+    end: Day,
+    daily: &Fixings,
+    index: &Text,
+) -> Observation
+    requires { place < length starts.now }
+    ensures is { IsObservation (daily_lines daily.now index.now) first starts.now end place result }
+    ensures small { IsSmall result }
+{
+    let day = observed_on(first, starts, place);
+    Observation {
+        day,
+        weight: days_between(start_at(starts, place), next_start(starts, end, place)),
+        rate: daily_rate(daily, index, day),
+    }
+}
+
 // One observation for each start.
 fn observed(
     alloc: Global,
@@ -71,12 +100,7 @@ fn observed(
 {
     let mut all = Vec::new(alloc);
     for place in 0..starts.len() {
-        let day = observed_on(first, starts, place);
-        all.push(Observation {
-            day,
-            weight: days_between(starts[place], next_start(starts, end, place)),
-            rate: daily_rate(daily, index, day),
-        })?;
+        all.push(observation_at(starts, place, first, end, daily, index))?;
     }
     Ok(all)
 }

@@ -1,12 +1,14 @@
 //! The rate of a calculation period by its daily rates.
-ghost use Rattle.std.specs.Prelude.{◌≡◌, ◌<◌, ◌≤◌, ◌^◌, Some, IfOk, IsTrue, ◌<ℤ◌, length};
+ghost use Rattle.std.specs.Prelude.{◌≡◌, ◌<◌, ◌≤◌, ◌^◌, All, Some, IfOk, IfSome, IfNone, IsTrue, ◌<ℤ◌, ◌-ℤ◌, length};
 ghost use Rattle.irs_base.specs.Faults.{IfBroken};
 ghost use Rattle.irs_base.specs.Order.{First};
 ghost use Rattle.irs_resets.specs.ResetDates.{IsPeriod};
 ghost use Rattle.irs_overnight.specs.DailyPeriods.{period_at};
 ghost use Rattle.irs_overnight.specs.DerivedRows.{AreDerived, IsDerivedRow};
 ghost use Rattle.irs_overnight.specs.DerivedRules.{BreaksPeriod, derived_before, period_fault};
-ghost use Rattle.irs_overnight.specs.FoundRates.{FindsRate, PeriodFails};
+ghost use Rattle.irs_overnight.specs.Bounds.{IsSmall};
+ghost use Rattle.irs_overnight.specs.Factors.{PassesLimit};
+ghost use Rattle.irs_overnight.specs.FoundRates.{FindsRate, IsFound, PeriodFails};
 ghost use Rattle.irs_overnight.specs.PeriodTurns.{FirstWay, NoneFails};
 ghost use Rattle.irs_overnight.specs.DailySources.{daily_source};
 ghost use Rattle.irs_overnight.specs.Sources.{basis_of, daily_lines};
@@ -15,7 +17,7 @@ ghost use Rattle.irs_overnight.specs.declared.periods.PeriodFault.{PeriodFault a
 
 use crate::derived::{Derived, DerivedRow, Found};
 use crate::factors::compounded_rate;
-use crate::observations::observations;
+use crate::observations::{Observation, observations};
 use crate::starts::days_between;
 use irs_base::{Day, Elem, Fault, Rule, Stopped, Text};
 use irs_calendar::GoodDays;
@@ -30,6 +32,18 @@ pub(crate) enum PeriodFault {
     NoDays,
     /// A factor or the rate passes its limit.
     OutOfRange,
+}
+
+// What the observations of a period give.
+fn period_found(basis: u16, start: Day, end: Day, observations: &[Observation]) -> Option<Found>
+    requires order { start <ℤ end }
+    requires range { (1 ≤ basis) × (basis ≤ 365) }
+    requires small { All IsSmall observations.now }
+    ensures some { IfSome result (IsFound basis (end -ℤ start) observations.now) }
+    ensures kept { IfSome result (λ _. PassesLimit basis (end -ℤ start) observations.now → ⊥) }
+    ensures none { IfNone result (PassesLimit basis (end -ℤ start) observations.now) }
+{
+    compounded_rate(basis, days_between(start, end), observations)
 }
 
 // The rate of a period, or its first day without a daily rate.
@@ -54,7 +68,7 @@ fn period_rate<G: GoodDays>(
     let Some(observations) = observations(alloc, days, start, end, daily, index)? else {
         return Err(Stopped::Broken(PeriodFault::NoDays));
     };
-    match compounded_rate(basis, days_between(start, end), &observations) {
+    match period_found(basis, start, end, &observations) {
         Some(found) => Ok(found),
         None => Err(Stopped::Broken(PeriodFault::OutOfRange)),
     }

@@ -1,7 +1,7 @@
 //! The days from which daily rates hold: the first day of a calculation period, and each good day
 //! after it in the period.
 ghost use Rattle.std.specs.Prelude.{◌≡◌, ◌↔◌, ◌<◌, ◌-◌, IsTrue, IfOk, pos, ◌<ℤ◌, ◌≤ℤ◌, ◌-ℤ◌, ◌+ℤ◌, unsigned_abs};
-ghost use Rattle.irs_base.specs.Limits.{all_days};
+ghost use Rattle.irs_base.specs.Days.{all_days};
 ghost use Rattle.irs_overnight.specs.Starts.{AreStarts, LeavesCover};
 
 use irs_base::{Day, DayList, Memory, ahead};
@@ -24,13 +24,23 @@ fn days_ahead(start: Day, end: Day) -> u32
     (end.number() - start.number()) as u32
 }
 
+// Whether the day before the end lies behind the last day of a cover.
+fn ends_past(last: Day, end: Day) -> bool
+    ensures { IsTrue result ↔ (last +ℤ pos 1) <ℤ end }
+{
+    days_between(last, end) > 1
+}
+
 /// Whether a day of the period lies outside the cover.
 pub(crate) fn leaves_cover<G: GoodDays>(days: &G, start: Day, end: Day) -> bool
     requires order { start <ℤ end }
     ensures { IsTrue result ↔ LeavesCover (G.days days.now) start end }
 {
     let (first, last) = days.cover();
-    start < first || days_between(last, end) > 1
+    if start < first {
+        return true;
+    }
+    ends_past(last, end)
 }
 
 /// The days from which daily rates hold.

@@ -1,5 +1,5 @@
 //! The floating stream of a swap that is asked for by its number.
-ghost use Rattle.std.specs.Prelude.{◌≡◌, ◌↔◌, IsTrue, IfSome, IfNone, SomeIff};
+ghost use Rattle.std.specs.Prelude.{◌≡◌, ◌↔◌, ◌-◌, ◌≤◌, slice_get, Some, None, IsTrue, IfSome, IfNone, SomeIff};
 ghost use Rattle.irs_terms.specs.declared.amounts.FloatTerms.{FloatTerms as Float};
 ghost use Rattle.irs_overnight.specs.DerivedRules.{no_floating_stream};
 ghost use Rattle.irs_overnight.specs.Sources.{Floats, PaysFloating};
@@ -8,7 +8,10 @@ use irs_base::{Broken, Elem, Fault, Rule};
 use irs_terms::{FloatTerms, Leg, Stream, Swap};
 
 // The stream with that number, from 1.
-fn stream_at(swap: &Swap, number: u8) -> Option<&Stream> {
+fn stream_at(swap: &Swap, number: u8) -> Option<&Stream>
+    ensures some { IfSome result (λ s. (1 ≤ number) × (slice_get swap.now.streams (number - 1) ≡ Some s.now)) }
+    ensures none { IfNone result (1 ≤ number → slice_get swap.now.streams (number - 1) ≡ None) }
+{
     if number == 0 {
         return None;
     }
@@ -31,7 +34,10 @@ pub(crate) fn floating_at(swap: &Swap, number: u8) -> Option<&FloatTerms>
 fn floats(swap: &Swap, number: u8) -> bool
     ensures { IsTrue result ↔ Floats swap.now number }
 {
-    floating_at(swap, number).is_some()
+    match floating_at(swap, number) {
+        Some(_) => true,
+        None => false,
+    }
 }
 
 /// Whether rates can be derived for the stream with that number, from 1 (FpML `swapStream`): K40

@@ -1,7 +1,7 @@
 //! The lines of a fixing file that derived rates print: DATE RATE TENOR INDEX, or a comment for a rate
 //! that is missing. The format is this project's own.
 ghost use Rattle.std.specs.Prelude.{◌≡◌, ◌+◌, ◌<◌, ◌≤◌, List, [], ◌∷◌, ◌++◌, length};
-ghost use Rattle.std.specs.Fmt.{decimal};
+ghost use Rattle.std.specs.Fmt.{decimal, signed_decimal};
 ghost use Rattle.irs_base.specs.Limits.{most_index};
 ghost use Rattle.irs_base.specs.Texts.{day_text, dec_text};
 ghost use Rattle.irs_overnight.specs.Texts.{derived_text_of, fields_of, tenor_text, unit_text};
@@ -24,12 +24,20 @@ fn unit_text(unit: Unit) -> &'static str
 }
 
 // Each of these puts a text behind what the line holds.
+fn put_whole(line: &mut Line, n: i128)
+    requires { length line.old + 40 ≤ 512 }
+    ensures text { line.new ≡ line.old ++ signed_decimal n }
+    ensures grows { length line.new ≤ length line.old + 40 }
+{
+    line.push_whole(n);
+}
+
 fn put_number(line: &mut Line, n: u32)
     requires { length line.old + 40 ≤ 512 }
     ensures text { line.new ≡ line.old ++ decimal n }
     ensures grows { length line.new ≤ length line.old + 40 }
 {
-    line.push_whole(i128::from(n));
+    put_whole(line, i128::from(n));
 }
 
 #[tactic(auto, using(irs_base::proofs::TextLengths::length_dec))]
