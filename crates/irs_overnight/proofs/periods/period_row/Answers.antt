@@ -4,6 +4,7 @@ use Rattle.irs_base.specs.Members.{day_at}
 use Rattle.irs_overnight.specs.DailySources.{DailySource, daily_source}
 use Rattle.irs_overnight.specs.DailyPeriods.{period_at}
 use Rattle.irs_overnight.specs.FoundRates.{DailyPeriod, daily_period}
+use Rattle.irs_overnight.specs.DerivedRules.{period_fault}
 use Rattle.irs_overnight.specs.PeriodTurns.{FirstWay}
 use Rattle.irs_overnight.specs.declared.periods.PeriodFault.{PeriodFault}
 use Rattle.irs_overnight.proofs.RowLemmas.{day_read, in_order}
@@ -28,4 +29,5 @@ returns-in-Err-Broken-clause-broken g c =
     let same : period_at source c.args.basis c.args.number ≡ daily_period c.args.basis source.lines source.days c.index-adjusted-number.result c.index-adjusted-number-2.result =
     (λ t. daily_period c.args.basis source.lines source.days (start t) (end t)) in
     let first : FirstWay (daily_period c.args.basis source.lines source.days c.index-adjusted-number.result c.index-adjusted-number-2.result) c.in-Err-Broken.why = rw c.in-Err-Broken.field-0-is at c.in-Err-Broken.ensures.broken in
-    (c.in-Err-Broken.why, subst (λ (p : DailyPeriod). FirstWay p c.in-Err-Broken.why) (sym same) first, c.broken_by.ensures)
+    let named : c.broken_by.result ≡ period_fault c.in-Err-Broken.why c.args.number = (let is = c.in-Err-Broken.why-is in let e = c.broken_by.ensures in cc (is, e)) in
+    (c.in-Err-Broken.why, subst (λ (p : DailyPeriod). FirstWay p c.in-Err-Broken.why) (sym same) first, named)
