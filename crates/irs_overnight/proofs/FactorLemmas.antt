@@ -13,7 +13,7 @@ use Rattle.irs_overnight.specs.Observations.{first_absent}
 use Rattle.irs_overnight.specs.Factors.{FactorPasses, Grows, GrowsBy, IsCompounded, PassesLimit, RatePasses, Reaches, most_factor, one_factor, year_of}
 use Rattle.irs_overnight.specs.declared.observations.Observation.{Observation}
 
-above : (basis : ℕ) → 1 ≤ basis → pos 0 <ℤ year_of basis
+pub above : (basis : ℕ) → 1 ≤ basis → pos 0 <ℤ year_of basis
 above basis some = let e : 0 < 10 ^ 9 * basis = omega (arith, some) in omega (arith, signed_arith, e)
 
 some_is : (a b : ℤ) → Some a ≡ Some b → a ≡ b

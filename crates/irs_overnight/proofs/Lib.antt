@@ -5,3 +5,4 @@ pub mod PeriodLemmas
 pub mod DerivedOrder
 pub mod RowLemmas
 pub mod SourceLemmas
+pub mod ThereLemmas

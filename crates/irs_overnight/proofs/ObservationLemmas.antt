@@ -22,7 +22,7 @@ one_observations lines set s e os ps a b =
     let by_starts : AreObserved lines a.first b.starts e os = subst (λ (u : List ℤ). AreObserved lines a.first u e os) starts a.observed in
     one_observed lines b.first b.starts e os ps (subst (λ (q : ℤ). AreObserved lines q b.starts e os) first by_starts) b.observed
 
-known_or : (rate : Option ℤ) (d : ℤ) (later : Option ℤ) → absent_or rate d later ≡ None → IsSome rate × (later ≡ None)
+pub known_or : (rate : Option ℤ) (d : ℤ) (later : Option ℤ) → absent_or rate d later ≡ None → IsSome rate × (later ≡ None)
 known_or None d later h = absurd (cc)
 known_or (Some r) d later h = (refl, h)
 

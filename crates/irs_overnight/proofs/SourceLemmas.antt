@@ -66,7 +66,7 @@ asked_part a h =
     let floats : found.0.floating ≡ is_floating (Floating h.floats.0) = found.2.floating ∙ ap is_floating pays.pays in
     (found.0, found.1, floats)
 
-every_at : (P : Part → Type 0) (ps : List Part) (i : ℕ) (p : Part) → Every P ps → slice_get ps i ≡ Some p → P p
+pub every_at : (P : Part → Type 0) (ps : List Part) (i : ℕ) (p : Part) → Every P ps → slice_get ps i ≡ Some p → P p
 every_at P [] i p each at = absurd (cc)
 every_at P (x ∷ ps) zero p each at = subst P (some_part x p at) each.0
 every_at P (x ∷ ps) (suc i) p each at = every_at P ps i p each.1 at

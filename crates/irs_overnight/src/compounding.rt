@@ -49,7 +49,10 @@ pub fn overnight<G: GoodDays>(
     ensures ok { let a = asked swap.now stream s.now (G.days days.now) daily.now in IfOk result (IsOvernight a) }
     ensures kept { let a = asked swap.now stream s.now (G.days days.now) daily.now in IfOk result (λ _. OvernightKept a) }
     ensures broken { let a = asked swap.now stream s.now (G.days days.now) daily.now in IfBroken result (IsFirstDerived a) }
-    // At every exit: there is at most one list of rates, and one rule that is broken first.
+    // At every exit: where no rule is broken there is a list of rates; there is at most one, and one rule
+    // that is broken first.
+    ensures exists { let a = asked swap.now stream s.now (G.days days.now) daily.now in
+        OvernightKept a → (rows : List Row) × IsOvernight a rows }
     ensures one { let a = asked swap.now stream s.now (G.days days.now) daily.now in
         (rows others : List Row) → IsOvernight a rows → IsOvernight a others → rows ≡ others }
     ensures one_broken { let a = asked swap.now stream s.now (G.days days.now) daily.now in
