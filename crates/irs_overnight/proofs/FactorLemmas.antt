@@ -1,0 +1,119 @@
+-- Factors: there is one behind each number of observations, and how a loop reaches it.
+use Rattle.std.proofs.Common.{◌≡◌, ◌⊎◌, inl, inr, ℕ, zero, suc, ◌+◌, ◌*◌, ◌^◌, ◌<◌, ◌≤◌, List, [], ◌∷◌, ◌++◌, length, take, Option, Some, None, IfSome, IfNone, ℤ, pos, ◌<ℤ◌, ◌*ℤ◌, ◌-ℤ◌, ◌+ℤ◌, refl, sym, subst, ◌∙◌, ap, arith, lit≤}
+use Rattle.std.specs.Prelude.{get_or, unsigned_abs}
+use Rattle.std.proofs.lemmas.Bool.{cases_lt}
+use Rattle.std.proofs.lemmas.List.{take_more, take_all}
+use Rattle.jiff_core.proofs.SignedLemmas.{signed_arith}
+use Rattle.irs_base.specs.Limits.{most_rate}
+use Rattle.irs_base.specs.Rounding.{Rounded}
+use Rattle.irs_base.specs.declared.rounding.Direction.TheVariants.{Nearest}
+use Rattle.irs_base.proofs.RoundingLaws.{nearest_once}
+use Rattle.irs_terms.specs.Lawful.{IsRate}
+use Rattle.irs_overnight.specs.Observations.{first_absent}
+use Rattle.irs_overnight.specs.Factors.{FactorPasses, Grows, GrowsBy, IsCompounded, PassesLimit, RatePasses, Reaches, most_factor, one_factor, year_of}
+use Rattle.irs_overnight.specs.declared.observations.Observation.{Observation}
+
+pub above : (basis : ℕ) → 1 ≤ basis → pos 0 <ℤ year_of basis
+above basis some = let e : 0 < 10 ^ 9 * basis = omega (arith, some) in omega (arith, signed_arith, e)
+
+some_is : (a b : ℤ) → Some a ≡ Some b → a ≡ b
+some_is a b e = cc
+
+-- the factor behind the first observations, and none up to it passes its limit
+pub record Compounds (basis : ℕ) (os : List Observation) (k : ℕ) (f : ℤ) : Type 0 where
+  pub reaches : Reaches basis os k f
+  pub small : (j : ℕ) (g : ℤ) → j ≤ k → Reaches basis os j g → unsigned_abs g ≤ most_factor
+
+module _ (basis : ℕ) (some : 1 ≤ basis) where
+  one_growth : (o : Observation) (f g h : ℤ) → GrowsBy basis o f g → GrowsBy basis o f h → g ≡ h
+  one_growth o f g h p q =
+      let same : p.rate ≡ q.rate = some_is p.rate q.rate (sym p.observed ∙ q.observed) in
+      let moved : GrowsBy basis o f g = record { rate = q.rate; observed = q.observed; rounded = rw (sym same) p.rounded } in
+      nearest_once (f *ℤ (year_of basis +ℤ q.rate *ℤ o.weight)) (year_of basis) g h (above basis some) moved.rounded q.rounded
+
+  -- there is one factor behind the observations
+  pub one_grown : (os : List Observation) (f g h : ℤ) → Grows basis os f g → Grows basis os f h → g ≡ h
+  one_grown [] f g h p q = p ∙ sym q
+  one_grown (o ∷ os) f g h p q =
+      let same = one_growth o f p.0 q.0 p.1 q.1 in
+      one_grown os q.0 g h (subst (λ (x : ℤ). Grows basis os x g) same p.2) q.2
+
+  grows_push : (os : List Observation) (o : Observation) (f g h : ℤ) → Grows basis os f g → GrowsBy basis o g h → Grows basis (os ++ o ∷ []) f h
+  grows_push [] o f g h p by = (h, subst (λ (x : ℤ). GrowsBy basis o x h) p by, refl)
+  grows_push (x ∷ xs) o f g h p by = (p.0, p.1, grows_push xs o p.0 g h p.2 by)
+
+  module _ (os : List Observation) (k : ℕ) (f g : ℤ) (o : Observation) (low : k < length os) (is : get_or os k o ≡ o) (by : GrowsBy basis o f g) where
+    pub reaches_more : Reaches basis os k f → Reaches basis os (k + 1) g
+    reaches_more r =
+        let longer : take (k + 1) os ≡ take k os ++ o ∷ [] = take_more os k o low ∙ ap (λ z. take k os ++ z ∷ []) is in
+        subst (λ (xs : List Observation). Grows basis xs one_factor g) (sym longer) (grows_push (take k os) o one_factor f g r by)
+
+    pub compounds_more : Compounds basis os k f → unsigned_abs g ≤ most_factor → Compounds basis os (k + 1) g
+    compounds_more c within =
+        let reached = reaches_more c.reaches in
+        record {
+          reaches = reached;
+          small = λ j h le r. elim (cases_lt j (k + 1)) [
+            | inl less ↦ c.small j h (omega (arith, less)) r
+            | inr more ↦
+                let e : j ≡ k + 1 = omega (arith, le, more) in
+                let there : Reaches basis os (k + 1) h = subst (λ (n : ℕ). Reaches basis os n h) e r in
+                let same : h ≡ g = one_grown (take (k + 1) os) one_factor h g there reached in
+                rw same within
+          ];
+        }
+
+  -- behind all of them
+  module _ (os : List Observation) (k : ℕ) (f : ℤ) (all : length os ≤ k) (c : Compounds basis os k f) where
+    pub grows_all : Grows basis os one_factor f
+    grows_all = subst (λ (xs : List Observation). Grows basis xs one_factor f) (take_all k os all) c.reaches
+
+    pub none_passes : FactorPasses basis os → ⊥
+    none_passes p =
+        let within = p.within in
+        let small = c.small p.count p.factor (omega (arith, within, all)) p.reaches in
+        let passes = p.passes in
+        omega (arith, small, passes)
+
+  small_one : (f : ℤ) → f ≡ one_factor → unsigned_abs f ≤ most_factor
+  small_one f e = rw e (lit≤ tt)
+
+  pub compounds_none : (os : List Observation) → Compounds basis os 0 one_factor
+  compounds_none os = record {
+    reaches = refl;
+    small = λ j g le r.
+        let e : j ≡ 0 = omega (arith, le) in
+        let there : Reaches basis os 0 g = subst (λ (n : ℕ). Reaches basis os n g) e r in
+        small_one g there;
+  }
+
+  -- there is one rate
+  pub one_compounded : (days : ℤ) (os : List Observation) (x y : ℤ) → pos 0 <ℤ (pos (10 ^ 6) *ℤ days) → IsCompounded basis days os x → IsCompounded basis days os y → x ≡ y
+  one_compounded days os x y positive p q =
+      let same : p.factor ≡ q.factor = one_grown os one_factor p.factor q.factor p.grows q.grows in
+      nearest_once ((q.factor -ℤ one_factor) *ℤ pos basis) (pos (10 ^ 6) *ℤ days) x y positive (rw (sym same) p.rounded) q.rounded
+
+  -- the answer that is a factor's rate where that is small
+  module _ (days : ℤ) (os : List Observation) (f r : ℤ) (positive : pos 0 <ℤ (pos (10 ^ 6) *ℤ days)) (grows : Grows basis os one_factor f) (rounded : Rounded Nearest ((f -ℤ one_factor) *ℤ pos basis) (pos (10 ^ 6) *ℤ days) r) where
+    compounded_so : IsCompounded basis days os r
+    compounded_so = record { factor = f; grows = grows; rounded = rounded }
+
+    pub rate_some : (answer : Option ℤ) → IfSome answer (λ x. x ≡ r) → IfSome answer (IsCompounded basis days os)
+    rate_some None e = tt
+    rate_some (Some x) e = rw e compounded_so
+
+    pub rate_kept : (answer : Option ℤ) → (FactorPasses basis os → ⊥) → IfSome answer (λ x. x ≡ r) → IfSome answer IsRate → IfSome answer (λ _. PassesLimit basis days os → ⊥)
+    rate_kept None none e small = tt
+    rate_kept (Some x) none e small = λ h. elim h.passes [
+      | inl factor ↦ none factor
+      | inr rate ↦
+          let same = one_compounded days os rate.rate r positive rate.is_compounded compounded_so in
+          let passes = rate.passes in
+          let within : unsigned_abs r ≤ most_rate = rw (sym e) small in
+          let passed : most_rate < unsigned_abs r = rw (sym same) passes in
+          omega (arith, within, passed)
+    ]
+
+    pub rate_none : (answer : Option ℤ) → first_absent os ≡ None → IfNone answer (most_rate < unsigned_abs r) → IfNone answer (PassesLimit basis days os)
+    rate_none None known passes = record { known = known; passes = inr (record { rate = r; is_compounded = compounded_so; passes = passes }) }
+    rate_none (Some x) known passes = tt

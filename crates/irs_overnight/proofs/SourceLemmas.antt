@@ -1,0 +1,126 @@
+-- What the daily rates of a stream are compounded from is one thing, and the schedule of the swap has it.
+use Rattle.std.proofs.Common.{◌≡◌, ℕ, zero, suc, ◌+◌, ◌-◌, ◌<◌, ◌≤◌, List, [], ◌∷◌, length, Option, Some, None, IsTrue, refl, sym, subst, ◌∙◌, ap, arith}
+use Rattle.std.specs.Prelude.{get_or, slice_get}
+use Rattle.std.proofs.lemmas.Option.{slice_get_within, slice_get-get_or}
+use Rattle.irs_base.specs.Members.{Every, Pairs}
+use Rattle.irs_base.specs.Order.{First}
+use Rattle.irs_base.specs.Faults.{in_stream}
+use Rattle.irs_base.specs.declared.places.Broken.{Broken}
+use Rattle.irs_base.specs.declared.places.Fault.{Fault}
+use Rattle.irs_base.proofs.Firsts.{one_first}
+use Rattle.irs_terms.specs.declared.amounts.FloatTerms.{FloatTerms}
+use Rattle.irs_terms.specs.declared.amounts.Leg.{Leg}
+use Rattle.irs_terms.specs.declared.amounts.Leg.TheVariants.{Floating}
+use Rattle.irs_terms.specs.declared.stream.Stream.{Stream}
+use Rattle.irs_terms.specs.declared.stream_list.Swap.{Swap}
+use Rattle.irs_schedule.specs.DaySets.{stream_sets}
+use Rattle.irs_schedule.specs.KeptTerms.{is_floating}
+use Rattle.irs_schedule.specs.Parts.{KeepsBounds, Part, Rises}
+use Rattle.irs_schedule.specs.Schedules.{IsPart}
+use Rattle.irs_overnight.specs.DerivedRows.{AreDerived}
+use Rattle.irs_overnight.specs.DerivedRules.{BreaksDerived, derived_before}
+use Rattle.irs_overnight.specs.Overnight.{Asked, BreaksOvernight, HasSource, IsAsked, IsFirstDerived, IsOvernight, OvernightKept}
+use Rattle.irs_overnight.specs.DailySources.{DailySource, daily_source}
+use Rattle.irs_overnight.specs.Sources.{PaysFloating}
+use Rattle.irs_overnight.specs.declared.derived.DerivedRow.{DerivedRow}
+use Rattle.irs_overnight.proofs.DerivedOrder.{derived_ties}
+use Rattle.irs_overnight.proofs.RowLemmas.{one_derived}
+
+pub same_stream : (x y : Stream) → Some x ≡ Some y → x ≡ y
+same_stream x y e = cc
+
+pub some_part : (x y : Part) → Some x ≡ Some y → x ≡ y
+some_part x y e = cc
+
+some_float : (x y : FloatTerms) → Floating x ≡ Floating y → x ≡ y
+some_float x y e = cc
+
+-- a stream pays one floating rate
+pub one_pays : (swap : Swap) (number : ℕ) (f g : FloatTerms) → PaysFloating swap number f → PaysFloating swap number g → f ≡ g
+one_pays swap number f g p q =
+    let same = same_stream p.stream q.stream (sym p.at ∙ q.at) in
+    some_float f g (sym p.pays ∙ ap (λ (s : Stream). s.leg) same ∙ q.pays)
+
+-- there is one source
+pub one_source : (a : Asked) (x y : DailySource) → HasSource a x → HasSource a y → x ≡ y
+one_source a x y p q =
+    let floats = one_pays a.swap a.number p.float q.float p.pays q.pays in
+    let parts = some_part p.part q.part (sym p.at ∙ q.at) in
+    let same : daily_source p.part p.float.index a.days a.rates ≡ daily_source q.part q.float.index a.days a.rates =
+    (λ t. daily_source (parts t) (floats t).index a.days a.rates) in
+    p.is ∙ same ∙ sym q.is
+
+-- the partner of a member
+partner : (R : Stream → Part → Type 0) (ss : List Stream) (ps : List Part) (i : ℕ) (s : Stream) → Pairs R ss ps → slice_get ss i ≡ Some s → (p : Part) × (slice_get ps i ≡ Some p) × R s p
+partner R [] [] i s pairs at = absurd (cc)
+partner R [] (p ∷ ps) i s pairs at = absurd pairs
+partner R (x ∷ ss) [] i s pairs at = absurd pairs
+partner R (x ∷ ss) (p ∷ ps) zero s pairs at = (p, refl, subst (λ (y : Stream). R y p) (same_stream x s at) pairs.0)
+partner R (x ∷ ss) (p ∷ ps) (suc i) s pairs at = partner R ss ps i s pairs.1 at
+
+-- the part of the stream, which floats
+pub asked_part : (a : Asked) → IsAsked a → (p : Part) × (slice_get a.parts (a.number - 1) ≡ Some p) × IsTrue p.floating
+asked_part a h =
+    let pays = h.floats.1 in
+    let found = partner (λ s p. IsPart (stream_sets h.calendars s) [] s p) a.swap.streams a.parts (a.number - 1) pays.stream h.schedule pays.at in
+    let floats : found.0.floating ≡ is_floating (Floating h.floats.0) = found.2.floating ∙ ap is_floating pays.pays in
+    (found.0, found.1, floats)
+
+pub every_at : (P : Part → Type 0) (ps : List Part) (i : ℕ) (p : Part) → Every P ps → slice_get ps i ≡ Some p → P p
+every_at P [] i p each at = absurd (cc)
+every_at P (x ∷ ps) zero p each at = subst P (some_part x p at) each.0
+every_at P (x ∷ ps) (suc i) p each at = every_at P ps i p each.1 at
+
+module _ (a : Asked) (source : DailySource) (has : HasSource a source) where
+  pub overnight_rows : (rows : List DerivedRow) → AreDerived source rows → IsOvernight a rows
+  overnight_rows rows derived = record { source = source; has = has; derived = derived }
+
+  breaks_source : (f : Fault) → BreaksOvernight a f → BreaksDerived source f
+  breaks_source f b = subst (λ (s : DailySource). BreaksDerived s f) (one_source a b.source source b.has has) b.breaks
+
+  pub overnight_kept : ((f : Fault) → BreaksDerived source f → ⊥) → OvernightKept a
+  overnight_kept kept f b = kept f (breaks_source f b)
+
+  pub overnight_broken : (f : Fault) (x : Broken) → First derived_before (BreaksDerived source) f → x ≡ in_stream a.number f → IsFirstDerived a x
+  overnight_broken f x first is = record {
+    fault = f;
+    first = (record { source = source; has = has; breaks = first.0 }, λ g b. first.1 g (breaks_source g b));
+    is = is;
+  }
+
+-- there is one list of rates
+pub one_overnight : (a : Asked) → Every KeepsBounds a.parts → (xs ys : List DerivedRow) → IsOvernight a xs → IsOvernight a ys → xs ≡ ys
+one_overnight a bounds xs ys p q =
+    let same = one_source a p.source q.source p.has q.has in
+    let part = every_at KeepsBounds a.parts (a.number - 1) q.has.part bounds q.has.at in
+    let is = q.has.is in
+    let rises : Rises q.source.adjusted = rw is part.adjusted_rises in
+    one_derived q.source rises xs ys (subst (λ (s : DailySource). AreDerived s xs) same p.derived) q.derived
+
+-- and one first rule that is broken
+pub one_broken : (a : Asked) (x y : Broken) → IsFirstDerived a x → IsFirstDerived a y → x ≡ y
+one_broken a x y p q =
+    let same : p.fault ≡ q.fault = one_first derived_before derived_ties (BreaksOvernight a) p.fault q.fault p.first q.first in
+    p.is ∙ ap (in_stream a.number) same ∙ sym q.is
+
+pub lacks : (o : Option Stream) (s : Stream) → o ≡ None → o ≡ Some s → ⊥
+lacks o s p q = cc
+
+-- parts stand at the places of the list alone
+pub asked_place : (a : Asked) → IsAsked a → (1 ≤ a.number) × (a.number - 1 < length a.parts)
+asked_place a h = let found = asked_part a h in (h.floats.1.from_one, slice_get_within a.parts (a.number - 1) found.0 found.1)
+
+-- the part that is read there has the source
+pub has_source : (a : Asked) → (h : IsAsked a) → (float : FloatTerms) → PaysFloating a.swap a.number float → (p : Part) → slice_get a.parts (a.number - 1) ≡ Some p → HasSource a (daily_source p float.index a.days a.rates)
+has_source a h float pays p at = record { float = float; pays = pays; part = p; at = at; is = refl }
+
+pub part_floats : (a : Asked) → IsAsked a → (p : Part) → slice_get a.parts (a.number - 1) ≡ Some p → IsTrue p.floating
+part_floats a h p at =
+    let found = asked_part a h in
+    subst (λ (x : Part). IsTrue x.floating) (some_part found.0 p (sym found.1 ∙ at)) found.2
+
+-- a part that is read at its place
+pub part_read : (ps qs : List Part) (place : ℕ) (p : Part) → qs ≡ ps → place < length ps → p ≡ get_or qs place p → slice_get ps place ≡ Some p
+part_read ps qs place p same low is =
+    let here : p ≡ get_or ps place p = rw same at is in
+    slice_get-get_or ps place p low ∙ ap (λ (x : Part). Some x) (sym here)

@@ -1,0 +1,19 @@
+use Rattle.irs_overnight.specs.Overnight.{Asked, asked}
+use Rattle.irs_overnight.proofs.SourceLemmas.{one_broken, one_overnight}
+use Rattle.irs_overnight.proofs.ThereLemmas.{overnight_there}
+use Rattle.irs_overnight.proofs.compounding.overnight.Goals as goal
+
+pub returns-clause-exists : goal.returns-clause-exists
+returns-clause-exists g c =
+    let a : Asked = asked c.args.swap.now c.args.stream c.args.s.now (g.G.GoodDays.days c.args.days.now) c.args.daily.now in
+    overnight_there a c.requires c.bounds.ensures.each
+
+pub returns-clause-one : goal.returns-clause-one
+returns-clause-one g c =
+    let a : Asked = asked c.args.swap.now c.args.stream c.args.s.now (g.G.GoodDays.days c.args.days.now) c.args.daily.now in
+    one_overnight a c.bounds.ensures.each
+
+pub returns-clause-one_broken : goal.returns-clause-one_broken
+returns-clause-one_broken g c =
+    let a : Asked = asked c.args.swap.now c.args.stream c.args.s.now (g.G.GoodDays.days c.args.days.now) c.args.daily.now in
+    one_broken a

@@ -1,0 +1,79 @@
+-- The rules of daily compounding, K40 to K44.
+use Rattle.std.specs.Prelude.{◌≡◌, ◌⊎◌, ℕ, ◌-◌, ◌≤◌, Bool, List, length, Some, None, ◌≤ℤ◌, nat_lt}
+use Rattle.irs_base.specs.Elements.{swap_stream, reset_dates, calculation_period_amount}
+use Rattle.irs_base.specs.Faults.{fault_at, in_stream}
+use Rattle.irs_base.specs.Order.{level}
+use Rattle.irs_base.specs.Rules.{rule_number}
+use Rattle.irs_base.specs.declared.places.Broken.{Broken}
+use Rattle.irs_base.specs.declared.places.Fault.{Fault}
+use Rattle.irs_base.specs.declared.places.Rule.{Rule}
+use Rattle.irs_base.specs.declared.places.Rule.TheVariants.{K40, K41, K42, K43, K44}
+use Rattle.irs_terms.specs.declared.results.Reset.{Reset}
+use Rattle.irs_resets.specs.ResetDates.{IsPeriod}
+use Rattle.irs_overnight.specs.DailyPeriods.{period_at}
+use Rattle.irs_overnight.specs.FoundRates.{PeriodFails}
+use Rattle.irs_overnight.specs.DailySources.{DailySource, fixing_at}
+use Rattle.irs_overnight.specs.Sources.{basis_of}
+use Rattle.irs_overnight.specs.declared.periods.PeriodFault.{PeriodFault}
+use Rattle.irs_overnight.specs.declared.periods.PeriodFault.TheVariants.{NoDays, OutOfRange}
+
+-- K40: there is no such stream, or it is fixed
+abbrev pub no_floating_stream : ℕ → Broken
+no_floating_stream number = in_stream number (fault_at K40 swap_stream 0)
+
+-- the place of calculationPeriodAmount/calculation/dayCountFraction in the table of elements
+abbrev pub day_count_fraction : ℕ
+day_count_fraction = 109
+
+-- K42: the day count is neither ACT/360 nor ACT/365.FIXED
+abbrev pub no_basis : Fault
+no_basis = fault_at K42 day_count_fraction 0
+
+abbrev pub BreaksBasis : DailySource → Fault → Type 0
+BreaksBasis source f = (basis_of source.day_count ≡ None) × (f ≡ no_basis)
+
+-- the fixing date of the period isn't after that of the period before it
+pub record NotAfter (resets : List Reset) (number : ℕ) : Type 0 where
+  pub second : 2 ≤ number
+  pub within : number ≤ length resets
+  pub not_after : fixing_at resets number ≤ℤ fixing_at resets (number - 1)
+
+-- K41
+abbrev pub not_after_at : ℕ → Fault
+not_after_at number = fault_at K41 reset_dates number
+
+pub record BreaksFixing (source : DailySource) (f : Fault) : Type 0 where
+  pub number : ℕ
+  pub not_after : NotAfter source.resets number
+  pub is : f ≡ not_after_at number
+
+-- what a period breaks by failing so: K43 or K44, with the number of the period
+abbrev pub period_fault : PeriodFault → ℕ → Fault
+period_fault NoDays i = fault_at K43 reset_dates i
+period_fault OutOfRange i = fault_at K44 calculation_period_amount i
+
+-- K43: the observations of a period lack a day; K44: its rates pass a limit. Where there is no basis no
+-- period is considered
+pub record BreaksPeriod (source : DailySource) (f : Fault) : Type 0 where
+  pub basis : ℕ
+  pub is_basis : basis_of source.day_count ≡ Some basis
+  pub number : ℕ
+  pub period : IsPeriod source.adjusted number
+  pub why : PeriodFault
+  pub fails : PeriodFails why (period_at source basis number)
+  pub is : f ≡ period_fault why number
+
+-- the rules that are broken, K41 to K44
+abbrev pub BreaksDerived : DailySource → Fault → Type 0
+BreaksDerived source f = BreaksBasis source f ⊎ (BreaksFixing source f ⊎ BreaksPeriod source f)
+
+-- K42 comes first, then K41, then the others
+abbrev pub derived_turn : Rule → ℕ
+derived_turn K42 = 0
+derived_turn K41 = 1
+derived_turn _ = 2
+
+-- by the turn, then by the period, then by the rule
+abbrev pub derived_before : Fault → Fault → Bool
+derived_before f g =
+    level (derived_turn f.rule) (derived_turn g.rule) (level f.index g.index (level (rule_number f.rule) (rule_number g.rule) (nat_lt f.elem g.elem)))

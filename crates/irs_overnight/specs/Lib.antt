@@ -1,0 +1,13 @@
+pub mod Sources
+pub mod DailySources
+pub mod Starts
+pub mod Observations
+pub mod Bounds
+pub mod Factors
+pub mod FoundRates
+pub mod DailyPeriods
+pub mod PeriodTurns
+pub mod DerivedRules
+pub mod DerivedRows
+pub mod Overnight
+pub mod Texts

@@ -1,0 +1,89 @@
+//! Daily rates of a stream's index compounded into one rate for each calculation period (2006 ISDA
+//! Definitions, section 7.1, on compounded overnight rates). The product and its rounding are this
+//! project's own.
+ghost use Rattle.std.specs.Prelude.{◌≡◌, List, IfOk};
+ghost use Rattle.irs_base.specs.Faults.{IfBroken};
+ghost use Rattle.irs_base.specs.declared.places.Broken.{Broken as BrokenRule};
+ghost use Rattle.irs_overnight.specs.Overnight.{IsAsked, IsFirstDerived, IsOvernight, OvernightKept, asked};
+ghost use Rattle.irs_overnight.specs.declared.derived.DerivedRow.{DerivedRow as Row};
+
+use crate::derived::Derived;
+use crate::rules::derived_rows;
+use crate::streams::floating_at;
+use irs_base::{Broken, Stopped, Text};
+use irs_calendar::GoodDays;
+use irs_resets::Fixings;
+use irs_schedule::{Schedule, StreamPart};
+use irs_terms::{FloatTerms, Swap};
+use std::alloc::Global;
+
+/// Why no rates are derived: the first broken rule, with the stream's number in its place, or memory
+/// ran out.
+pub type DerErr = Stopped<Broken>;
+
+/// For each calculation period of a floating stream, from its adjusted start to its adjusted end, the
+/// rate that the daily rates of the stream's index give, in units of 10^-9, with the fixing date of
+/// the period; or the first day whose daily rate has no line of tenor 1D. `stream` counts from 1, `s`
+/// is the schedule of the swap without fixings, and `days` are the good days of the stream's reset
+/// dates.
+///
+/// A daily rate holds from the start of the period and from each good day in it to the next of these
+/// days, or to the end. It is observed on that day, the first on the last good day at or before the
+/// start. Factors are rounded at 15 decimals, a half up.
+///
+/// `Broken` is exactly the first of: K42, the day count is neither ACT/360 nor ACT/365.FIXED; the
+/// lowest period with K41, its fixing date isn't after that of the period before it; the lowest period
+/// with K43, a day of it lies outside the cover or no good day comes before its start, or K44, all its
+/// daily rates are there and a factor passes 10^20 units of 10^-15 or the rate 10 in size. `Memory`
+/// comes where memory ran out.
+pub fn overnight<G: GoodDays>(
+    alloc: Global,
+    s: &Schedule,
+    swap: &Swap,
+    stream: u8,
+    days: &G,
+    daily: &Fixings,
+) -> Result<Derived, DerErr>
+    // `check_stream` finds nothing, and schedule and good days are those of the swap.
+    requires { IsAsked (asked swap.now stream s.now (G.days days.now) daily.now) }
+    ensures ok { let a = asked swap.now stream s.now (G.days days.now) daily.now in IfOk result (IsOvernight a) }
+    ensures kept { let a = asked swap.now stream s.now (G.days days.now) daily.now in IfOk result (λ _. OvernightKept a) }
+    ensures broken { let a = asked swap.now stream s.now (G.days days.now) daily.now in IfBroken result (IsFirstDerived a) }
+    // At every exit: where no rule is broken there is a list of rates; there is at most one, and one rule
+    // that is broken first.
+    ensures exists { let a = asked swap.now stream s.now (G.days days.now) daily.now in
+        OvernightKept a → (rows : List Row) × IsOvernight a rows }
+    ensures one { let a = asked swap.now stream s.now (G.days days.now) daily.now in
+        (rows others : List Row) → IsOvernight a rows → IsOvernight a others → rows ≡ others }
+    ensures one_broken { let a = asked swap.now stream s.now (G.days days.now) daily.now in
+        (x y : BrokenRule) → IsFirstDerived a x → IsFirstDerived a y → x ≡ y }
+{
+    // hands the prover the bounds of the schedule
+    s.bounds();
+    numbered_rows(alloc, s, swap, stream, days, daily)
+}
+
+// The same; a broken rule is named by the number of the stream.
+fn numbered_rows<G: GoodDays>(
+    alloc: Global,
+    s: &Schedule,
+    swap: &Swap,
+    stream: u8,
+    days: &G,
+    daily: &Fixings,
+) -> Result<Derived, DerErr>
+    requires { IsAsked (asked swap.now stream s.now (G.days days.now) daily.now) }
+    ensures ok { let a = asked swap.now stream s.now (G.days days.now) daily.now in IfOk result (IsOvernight a) }
+    ensures kept { let a = asked swap.now stream s.now (G.days days.now) daily.now in IfOk result (λ _. OvernightKept a) }
+    ensures broken { let a = asked swap.now stream s.now (G.days days.now) daily.now in IfBroken result (IsFirstDerived a) }
+{
+    let Some(float) = floating_at(swap, stream) else {
+        unreachable!()
+    };
+    let part = &s.streams()[stream as usize - 1];
+    match derived_rows(alloc, part, days, daily, &float.index) {
+        Ok(rows) => Ok(rows),
+        Err(Stopped::Broken(fault)) => Err(Stopped::Broken(fault.in_stream(stream))),
+        Err(Stopped::Memory) => Err(Stopped::Memory),
+    }
+}

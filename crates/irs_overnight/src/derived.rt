@@ -1,0 +1,23 @@
+//! Rates that are derived from a fixing file, one for each calculation period.
+use irs_base::Day;
+use irs_terms::Listed;
+
+/// What is found for a calculation period.
+#[derive(Clone, Copy, Debug, PartialEq, Eq)]
+pub enum Found {
+    /// The rate, in units of 10^-9.
+    Rate(i64),
+    /// The first day on which a rate is asked for and has no line.
+    Missing(Day),
+}
+
+/// The rate of a calculation period, counted from 1, with its fixing date.
+#[derive(Clone, Copy, Debug, PartialEq, Eq)]
+pub struct DerivedRow {
+    pub period: u32,
+    pub fixing: Day,
+    pub found: Found,
+}
+
+/// Derived rates in order, one for each calculation period.
+pub type Derived = Listed<DerivedRow>;

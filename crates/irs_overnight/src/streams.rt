@@ -1,0 +1,58 @@
+//! The floating stream of a swap that is asked for by its number.
+ghost use Rattle.std.specs.Prelude.{◌≡◌, ◌↔◌, ◌-◌, ◌≤◌, slice_get, Some, None, IsTrue, IfSome, IfNone, SomeIff};
+ghost use Rattle.irs_terms.specs.declared.amounts.FloatTerms.{FloatTerms as Float};
+ghost use Rattle.irs_overnight.specs.DerivedRules.{no_floating_stream};
+ghost use Rattle.irs_overnight.specs.Sources.{Floats, PaysFloating};
+
+use irs_base::{Broken, Elem, Fault, Rule};
+use irs_terms::{FloatTerms, Leg, Stream, Swap};
+
+// The stream with that number, from 1.
+fn stream_at(swap: &Swap, number: u8) -> Option<&Stream>
+    ensures some { IfSome result (λ s. (1 ≤ number) × (slice_get swap.now.streams (number - 1) ≡ Some s.now)) }
+    ensures none { IfNone result (1 ≤ number → slice_get swap.now.streams (number - 1) ≡ None) }
+{
+    if number == 0 {
+        return None;
+    }
+    swap.streams.as_slice().get(number as usize - 1)
+}
+
+/// What the stream with that number, from 1, pays floating; `None` exactly where the swap has no
+/// such stream, or it is fixed.
+pub(crate) fn floating_at(swap: &Swap, number: u8) -> Option<&FloatTerms>
+    ensures some { IfSome result (λ f. PaysFloating swap.now number f.now) }
+    ensures none { IfNone result ((f : Float) → PaysFloating swap.now number f → ⊥) }
+{
+    let stream = stream_at(swap, number)?;
+    match &stream.leg {
+        Leg::Floating(float) => Some(float),
+        Leg::Fixed(_) => None,
+    }
+}
+
+fn floats(swap: &Swap, number: u8) -> bool
+    ensures { IsTrue result ↔ Floats swap.now number }
+{
+    match floating_at(swap, number) {
+        Some(_) => true,
+        None => false,
+    }
+}
+
+/// Whether rates can be derived for the stream with that number, from 1 (FpML `swapStream`): K40
+/// exactly where the swap has no such stream, or it is fixed, with that number in its place. The
+/// rule is this project's own. No memory is taken.
+pub fn check_stream(swap: &Swap, stream: u8) -> Option<Broken>
+    ensures { SomeIff result (Floats swap.now stream → ⊥) (no_floating_stream stream) }
+{
+    if floats(swap, stream) {
+        return None;
+    }
+    let fault = Fault {
+        rule: Rule::K40,
+        elem: Elem::SWAP_STREAM,
+        index: 0,
+    };
+    Some(fault.in_stream(stream))
+}

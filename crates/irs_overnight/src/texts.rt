@@ -1,0 +1,131 @@
+//! The lines of a fixing file that derived rates print: DATE RATE TENOR INDEX, or a comment for a rate
+//! that is missing. The format is this project's own.
+ghost use Rattle.std.specs.Prelude.{◌≡◌, ◌+◌, ◌<◌, ◌≤◌, List, [], ◌∷◌, ◌++◌, length};
+ghost use Rattle.std.specs.Fmt.{decimal, signed_decimal};
+ghost use Rattle.irs_base.specs.Limits.{most_index};
+ghost use Rattle.irs_base.specs.Texts.{day_text, dec_text};
+ghost use Rattle.irs_overnight.specs.Texts.{derived_text_of, fields_of, tenor_text, unit_text};
+
+use crate::derived::{DerivedRow, Found};
+use irs_base::{Day, Dec, Line, Text};
+use irs_terms::{Frequency, Unit};
+
+fn unit_text(unit: Unit) -> &'static str
+    ensures text { result.now ≡ unit_text unit }
+    ensures short { length result.now ≡ 1 }
+{
+    match unit {
+        Unit::D => "D",
+        Unit::W => "W",
+        Unit::M => "M",
+        Unit::Y => "Y",
+        Unit::T => "T",
+    }
+}
+
+// Each of these puts a text behind what the line holds.
+fn put_whole(line: &mut Line, n: i128)
+    requires { length line.old + 40 ≤ 512 }
+    ensures text { line.new ≡ line.old ++ signed_decimal n }
+    ensures grows { length line.new ≤ length line.old + 40 }
+{
+    line.push_whole(n);
+}
+
+fn put_number(line: &mut Line, n: u32)
+    requires { length line.old + 40 ≤ 512 }
+    ensures text { line.new ≡ line.old ++ decimal n }
+    ensures grows { length line.new ≤ length line.old + 40 }
+{
+    put_whole(line, i128::from(n));
+}
+
+#[tactic(auto, using(irs_base::proofs::TextLengths::length_dec))]
+fn put_rate(line: &mut Line, rate: i64)
+    requires { length line.old + 50 ≤ 512 }
+    ensures text { line.new ≡ line.old ++ dec_text rate 9 }
+    ensures grows { length line.new ≤ length line.old + 50 }
+{
+    line.push_dec(Dec {
+        units: i128::from(rate),
+        places: 9,
+    });
+}
+
+fn put_frequency(line: &mut Line, f: Frequency)
+    requires { length line.old + 41 ≤ 512 }
+    ensures text { line.new ≡ line.old ++ (decimal f.count ++ unit_text f.unit) }
+    ensures grows { length line.new ≤ length line.old + 41 }
+{
+    put_number(line, u32::from(f.count));
+    line.push(unit_text(f.unit).as_bytes());
+}
+
+fn put_tenor(line: &mut Line, tenor: Option<Frequency>)
+    requires { length line.old + 41 ≤ 512 }
+    ensures text { line.new ≡ line.old ++ tenor_text tenor }
+    ensures grows { length line.new ≤ length line.old + 41 }
+{
+    match tenor {
+        Some(f) => put_frequency(line, f),
+        None => line.push(b"-"),
+    }
+}
+
+// DATE RATE TENOR INDEX
+#[tactic(auto, using(irs_base::proofs::TextLemmas::appended))]
+fn put_fixing(line: &mut Line, d: Day, rate: i64, tenor: Option<Frequency>, index: &Text)
+    requires empty { line.old ≡ [] }
+    requires index { length index.now ≤ most_index }
+    ensures text { line.new ≡ day_text d ++ 32 ∷ dec_text rate 9 ++ 32 ∷ tenor_text tenor ++ 32 ∷ index.now }
+    ensures fits { length line.new < 512 }
+{
+    line.push_day(d);
+    line.push(b" ");
+    put_rate(line, rate);
+    line.push(b" ");
+    put_tenor(line, tenor);
+    line.push(b" ");
+    line.push(index.as_slice());
+}
+
+// # missing PERIOD DATE
+#[tactic(auto, using(irs_base::proofs::TextLemmas::appended))]
+fn put_missing(line: &mut Line, period: u32, d: Day)
+    requires empty { line.old ≡ [] }
+    ensures text { line.new ≡ codes "# missing" ++ 32 ∷ decimal period ++ 32 ∷ day_text d }
+    ensures fits { length line.new < 512 }
+{
+    line.push(b"# missing");
+    line.push(b" ");
+    put_number(line, period);
+    line.push(b" ");
+    line.push_day(d);
+}
+
+fn put_fields(row: &DerivedRow, tenor: Option<Frequency>, index: &Text, line: &mut Line)
+    requires empty { line.old ≡ [] }
+    requires index { length index.now ≤ most_index }
+    ensures text { line.new ≡ fields_of row.now row.now.found tenor index.now }
+    ensures fits { length line.new < 512 }
+{
+    match row.found {
+        Found::Rate(rate) => put_fixing(line, row.fixing, rate, tenor, index),
+        Found::Missing(day) => put_missing(line, row.period, day),
+    }
+}
+
+/// Puts the line of a fixing file that a derived rate prints, with its line feed, in the place of what
+/// the line holds: `DATE RATE TENOR INDEX`, the rate with 9 decimals and the tenor `-` where there is
+/// none, or `# missing PERIOD DATE`. No memory is taken.
+#[tactic(auto, unfolding(crate::specs::Texts::derived_text_of))]
+pub fn derived_text(row: &DerivedRow, tenor: Option<Frequency>, index: &Text, line: &mut Line)
+    requires { length index.now ≤ most_index }
+    ensures { line.new ≡ derived_text_of row.now tenor index.now }
+{
+    line.clear();
+    put_fields(row, tenor, index, line);
+    line.push(b"\n");
+}
+
+ghost use Rattle.std.specs.Prelude.{codes};
