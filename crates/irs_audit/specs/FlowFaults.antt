@@ -80,6 +80,7 @@ pub data PeriodsFault (stream : ℕ) (ds : List Data) : Broken → Type 0 where
 abbrev pub few : List Data → List Data
 few ds = if nat_le (length ds) most_rows then ds else []
 
+-- the payments of a `cashflows` that may be absent; none of them is looked into where there are too many
 abbrev pub payments_in : Option Data → List Data
 payments_in o = few (values_in (codes "paymentCalculationPeriod") o)
 

@@ -72,6 +72,7 @@ period_table = record {
 unfoldable pub flow_elements : List (List ℕ)
 flow_elements = take (flow_period - (cashflows + 1)) (drop (cashflows + 1) printed)
 
+-- the elements below a calculation period
 unfoldable pub period_elements : List (List ℕ)
 period_elements = drop (flow_period + 1) printed
 
@@ -79,11 +80,14 @@ period_elements = drop (flow_period + 1) printed
 unfoldable pub flow_rows : List Row
 flow_rows = rows_of printed flow_table
 
+-- the names and rows that the lines of the two tables give
 unfoldable pub flow_names : List (List ℕ)
 flow_names = names_of flow_table
 
+-- those of the table of calculation periods
 unfoldable pub period_rows : List Row
 period_rows = rows_of printed period_table
 
+-- and its names
 unfoldable pub period_names : List (List ℕ)
 period_names = names_of period_table

@@ -67,6 +67,7 @@ period_with first fraction reset d = record {
   reset = reset;
 }
 
+-- the fields of a calculation period
 abbrev pub period_in : Data → FlowPeriod
 period_in d = period_with (said day_at (once (codes "unadjustedStartDate") d)) (option_map stated (said fraction_at (once (codes "dayCountYearFraction") d))) (reset_at d) d
 

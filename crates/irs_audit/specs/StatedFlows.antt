@@ -23,6 +23,7 @@ use Rattle.irs_audit.specs.declared.flows.StatedFraction.{StatedFraction}
 abbrev pub stated_number : ℤ → ℕ → ℤ
 stated_number units places = units *ℤ pos (10 ^ (12 - places))
 
+-- the same of an amount
 abbrev pub stated_amount : Dec → ℤ
 stated_amount v = stated_number v.units v.places
 
@@ -30,6 +31,7 @@ stated_amount v = stated_number v.units v.places
 abbrev pub stated_fraction : Frac → StatedFraction
 stated_fraction f = record { units = rounded Nearest (f.num *ℤ pos (10 ^ 10)) f.den; places = 10 }
 
+-- a principal exchange, with its sign
 abbrev pub stated_exchange : Exchange → FlowExchange
 stated_exchange x = record {
   unadjusted = Some x.unadjusted;

@@ -20,6 +20,7 @@ stream_unfixed p = count_by (λ (y : PaymentEntry). is_none y.amount) p.payments
 abbrev pub row_count : List Part → ℕ
 row_count s = sum_by stream_rows s
 
+-- how many payments of a schedule have no amount
 abbrev pub unfixed_count : List Part → ℕ
 unfixed_count s = sum_by stream_unfixed s
 
@@ -28,6 +29,7 @@ abbrev pub IsVerdict : List FlowPart → List Part → Verdict → Type 0
 IsVerdict f s (Yes rows unfixed) = Agrees f s × (rows ≡ row_count s) × (unfixed ≡ unfixed_count s)
 IsVerdict f s (No d) = IsFirst (Departs f s) (Some d)
 
+-- the verdict is that the flows depart
 abbrev pub IsNo : Verdict → Type 0
 IsNo (Yes rows unfixed) = ⊥
 IsNo (No d) = Unit {0}

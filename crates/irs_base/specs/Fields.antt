@@ -6,10 +6,12 @@ use Rattle.irs_base.specs.Lines.{with_byte}
 abbrev pub is_space : ℕ → Bool
 is_space b = (b == 32) || (b == 9)
 
+-- the text begins with a space or a tab
 abbrev pub begins_space : List ℕ → Bool
 begins_space [] = false
 begins_space (b ∷ bs) = is_space b
 
+-- a field ends before this rest of a line
 abbrev pub ends_field : List ℕ → Bool
 ends_field [] = true
 ends_field (b ∷ bs) = is_space b

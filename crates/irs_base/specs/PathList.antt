@@ -2,6 +2,7 @@
 use Rattle.std.specs.Prelude.{ℕ, List, [], ◌∷◌, map, codes}
 use Prim.Native.String.{String}
 
+-- the path of each element, by its place
 unfoldable pub paths : List String
 paths =
     "document"

@@ -21,6 +21,7 @@ impl Model for DayList {
 }
 
 impl DayList {
+    /// The empty list; it takes no memory.
     pub fn new(alloc: Global) -> DayList
         ensures { result ≡ [] }
     {
@@ -29,22 +30,26 @@ impl DayList {
         }
     }
 
+    /// Puts a day behind the others; where memory ran out the list is as it was.
     #[tactic(auto, using(crate::proofs::DayListLemmas::are_days_more))]
     pub fn push(&mut self, x: Day) -> Result<(), Memory>
         ensures ok { OnOk result (self.new ≡ self.old ++ x ∷ []) }
         ensures err { OnErr result (self.new ≡ self.old) }
     {
+        // hands the prover the range of the day
         let _number = x.number();
         self.days.push(x)?;
         Ok(())
     }
 
+    /// How many days there are.
     pub fn len(&self) -> usize
         ensures { result ≡ length self.now }
     {
         self.days.len()
     }
 
+    /// The days in order.
     pub fn as_slice(&self) -> &[Day]
         ensures value { result.now ≡ self.now }
         ensures days { AreDays self.now }
@@ -52,6 +57,7 @@ impl DayList {
         &self.days
     }
 
+    /// An equal list; `Memory` where memory ran out.
     pub fn copy(&self, alloc: Global) -> Result<DayList, Memory>
         ensures { IfOk result (λ t. t ≡ self.now) }
     {

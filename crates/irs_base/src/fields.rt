@@ -1,6 +1,8 @@
+//! The fields of a line of a file, parted by spaces and tabs (this project's own).
 ghost use Rattle.std.specs.Prelude.{◌≡◌, ◌<◌, ◌≤◌, ◌∷◌, [], false, length, MatchOption};
 ghost use Rattle.irs_base.specs.Fields.{is_space, begins_space, fields};
 
+/// Whether a byte parts fields: a space or a tab.
 pub fn is_gap(b: u8) -> bool
     ensures { result ≡ is_space b }
 {

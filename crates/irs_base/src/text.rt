@@ -18,6 +18,7 @@ impl Model for Text {
 }
 
 impl Text {
+    /// The empty list; it takes no memory.
     pub fn new(alloc: Global) -> Text
         ensures { result ≡ [] }
     {
@@ -26,6 +27,7 @@ impl Text {
         }
     }
 
+    /// The text of these bytes; `Memory` where memory ran out.
     pub fn from_bytes(alloc: Global, bytes: &[u8]) -> Result<Text, Memory>
         ensures { IfOk result (λ t. t ≡ bytes.now) }
     {
@@ -34,6 +36,7 @@ impl Text {
         })
     }
 
+    /// Puts a byte behind the others; where memory ran out the text is as it was.
     pub fn push(&mut self, x: u8) -> Result<(), Memory>
         ensures ok { OnOk result (self.new ≡ self.old ++ x ∷ []) }
         ensures err { OnErr result (self.new ≡ self.old) }
@@ -42,18 +45,21 @@ impl Text {
         Ok(())
     }
 
+    /// How many bytes there are.
     pub fn len(&self) -> usize
         ensures { result ≡ length self.now }
     {
         self.bytes.len()
     }
 
+    /// The bytes in order.
     pub fn as_slice(&self) -> &[u8]
         ensures { result.now ≡ self.now }
     {
         &self.bytes
     }
 
+    /// An equal list; `Memory` where memory ran out.
     pub fn copy(&self, alloc: Global) -> Result<Text, Memory>
         ensures { IfOk result (λ t. t ≡ self.now) }
     {

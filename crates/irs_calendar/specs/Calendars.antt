@@ -15,10 +15,12 @@ pub record Spot : Type 0 where
   pub file : ℕ
   pub line : ℕ
 
+-- what reading gives for the file of that number
 abbrev pub in_file : {A : Type 0} → ℕ → Result A Place → Result A Spot
 in_file k (Ok x) = Ok x
 in_file k (Err e) = Err (record { fault = e.0; file = k; line = e.1 })
 
+-- one file read behind another: the first fault ends it
 abbrev pub then_file : {A B : Type 0} → Result A Spot → (A → Result B Spot) → Result B Spot
 then_file (Ok x) f = f x
 then_file (Err e) f = Err e
@@ -35,10 +37,12 @@ spot_of (errors.Repeat k n) = Some (record { fault = Repeat; file = k; line = n 
 spot_of (errors.TooMany k n) = Some (record { fault = TooMany; file = k; line = n })
 spot_of errors.Memory = None
 
+-- reading fails at the spot, where there is one
 abbrev pub SpotFails : {Y : Type 0} → Option Spot → Result Y Spot → Type 0
 SpotFails None read = Unit {0}
 SpotFails (Some s) read = read ≡ Err s
 
+-- what a reader of files returned is what reading gives, unless memory ran out
 abbrev pub GivesAll : {X : Type 0} → Result X CalErr → Result X Spot → Type 0
 GivesAll (Ok x) read = read ≡ Ok x
 GivesAll (Err e) read = SpotFails (spot_of e) read

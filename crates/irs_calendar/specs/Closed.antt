@@ -5,6 +5,7 @@ use Rattle.std.specs.Int.{bit_at}
 use Rattle.irs_calendar.specs.declared.sections.Section.{Section}
 use Rattle.irs_calendar.specs.Rising.{is_listed}
 
+-- the day is a holiday of one of these centres
 abbrev pub any_listed : List Section → ℤ → Bool
 any_listed ss d = list_any (λ s. is_listed d s.holidays) ss
 

@@ -14,10 +14,12 @@ use Rattle.irs_base.specs.Lines.{lines_of}
 abbrev pub Place : Type 0
 Place = Fault × ℕ
 
+-- what reading gives for the line of that number
 abbrev pub numbered : {A : Type 0} → ℕ → Result A Fault → Result A Place
 numbered n (Ok x) = Ok x
 numbered n (Err f) = Err (f, n)
 
+-- one line read behind another: the first fault ends it
 abbrev pub then_read : {A B : Type 0} → Result A Place → (A → Result B Place) → Result B Place
 then_read (Ok x) f = f x
 then_read (Err e) f = Err e
@@ -36,6 +38,7 @@ abbrev pub FileFails : {Y : Type 0} → FileErr → Result Y Place → Type 0
 FileFails errors.Memory read = Unit {0}
 FileFails (errors.Fault f n) read = read ≡ Err (f, n)
 
+-- what a reader of a file returned is what reading gives, unless memory ran out
 abbrev pub GivesFile : {X : Type 0} → Result X FileErr → Result X Place → Type 0
 GivesFile (Ok x) read = read ≡ Ok x
 GivesFile (Err e) read = FileFails e read

@@ -40,6 +40,7 @@ pub record IsLawful (s : Section) : Type 0 where
   pub rise : RisesWithin s.first s.last s.holidays
   pub few : length s.holidays ≤ most_holidays
 
+-- each section is lawful
 abbrev pub AreLawful : List Section → Type 0
 AreLawful [] = Unit {0}
 AreLawful (s ∷ ss) = IsLawful s × AreLawful ss

@@ -7,9 +7,11 @@ use Rattle.irs_calendar.specs.declared.sections.Section.{Section}
 use Rattle.irs_calendar.specs.GoodDays.{DaySet, InCover}
 use Rattle.irs_calendar.specs.Sections.{is_named, section_named, all_open}
 
+-- the later of two days
 abbrev pub later : ℤ → ℤ → ℤ
 later a b = if is_lt (int_cmp a b) then b else a
 
+-- the earlier of two days
 abbrev pub earlier : ℤ → ℤ → ℤ
 earlier a b = if is_lt (int_cmp b a) then b else a
 
@@ -31,6 +33,7 @@ all_cover ss d = list_all (λ s. is_le (int_cmp s.first d) && is_le (int_cmp d s
 abbrev pub set_of_sections : List Section → DaySet
 set_of_sections ss = record { first = latest_first first_day ss; last = earliest_last last_day ss; test = all_open ss }
 
+-- the sections with one that was found in front
 abbrev pub with_found : Option Section → List Section → List Section
 with_found None rest = rest
 with_found (Some s) rest = s ∷ rest

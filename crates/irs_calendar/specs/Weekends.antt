@@ -10,6 +10,7 @@ use Rattle.irs_calendar.specs.declared.weekends.Week.{Week}
 abbrev pub off_on : List Section → ℕ → Bool
 off_on ss p = list_any (λ s. slice_index_or s.weekend p false) ss
 
+-- the day is on the weekend list of one of these centres
 abbrev pub any_off : List Section → ℤ → Bool
 any_off ss d = off_on ss (weekday_at d)
 
@@ -31,6 +32,7 @@ AreNext off shut next = (p : ℕ) → p < 7 → (slice_index_or shut p 0 ≤ sli
 abbrev pub ArePlaces : List ℕ → List ℕ → Type 0
 ArePlaces next places = (p : ℕ) → p < 7 → slice_index_or places p 0 ≡ (p + slice_index_or next p 0) % 7
 
+-- how long each day of the week stays closed, by the days that are off
 pub record IsWeek (off : ℕ → Bool) (week : Week) : Type 0 where
   pub shut : AreShut off week.shut
   pub next : AreNext off week.shut week.next

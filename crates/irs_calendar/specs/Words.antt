@@ -12,19 +12,23 @@ use Rattle.irs_calendar.specs.Machine.{Said, Nothing, Center, Cover, Weekend, Ho
 abbrev pub is_plain : ℕ → Bool
 is_plain b = nat_le 33 b && nat_le b 126
 
+-- 1 to 32 bytes from `!` to `~`; a field is never empty
 abbrev pub is_center_name : List ℕ → Bool
 is_center_name n = nat_le (length n) most_name && list_all is_plain n
 
+-- what `center` and the fields behind it say
 abbrev pub said_center : List (List ℕ) → Said
 said_center [] = Wrong
 said_center (n ∷ []) = if is_center_name n then Center n else Wrong
 said_center (n ∷ m ∷ ms) = Wrong
 
+-- a cover's first day isn't after its last
 abbrev pub cover_of : Option ℤ → Option ℤ → Said
 cover_of None b = Wrong
 cover_of (Some a) None = Wrong
 cover_of (Some a) (Some b) = if is_le (int_cmp a b) then Cover a b else Wrong
 
+-- what `cover` and the fields behind it say
 abbrev pub said_cover : List (List ℕ) → Said
 said_cover [] = Wrong
 said_cover (a ∷ []) = Wrong
@@ -48,22 +52,27 @@ abbrev pub marked : Option ℕ → List Bool → Option (List Bool)
 marked None days = None
 marked (Some p) days = if slice_index_or days p false then None else Some (slice_set days p true)
 
+-- the days of the week that names mark, each at most once
 abbrev pub weekend_of : Option (List Bool) → List (List ℕ) → Said
 weekend_of None ns = Wrong
 weekend_of (Some days) [] = Weekend days
 weekend_of (Some days) (n ∷ ns) = weekend_of (marked (place_of n) days) ns
 
+-- a holiday where it is a date
 abbrev pub holiday_of : Option ℤ → Said
 holiday_of None = Wrong
 holiday_of (Some d) = Holiday d
 
+-- a line of one date
 abbrev pub said_holiday : List ℕ → List (List ℕ) → Said
 said_holiday w [] = holiday_of (date_at w)
 said_holiday w (x ∷ xs) = Wrong
 
+-- none of the seven days, Monday first
 abbrev pub no_days : List Bool
 no_days = false ∷ false ∷ false ∷ false ∷ false ∷ false ∷ false ∷ []
 
+-- what a line says by its first field: center, cover, weekend, else a date
 abbrev pub said_by : List ℕ → List (List ℕ) → Said
 said_by w ws =
     if bytes_eq w (99 ∷ 101 ∷ 110 ∷ 116 ∷ 101 ∷ 114 ∷ []) then said_center ws
@@ -71,6 +80,7 @@ said_by w ws =
     else (if bytes_eq w (119 ∷ 101 ∷ 101 ∷ 107 ∷ 101 ∷ 110 ∷ 100 ∷ []) then weekend_of (Some no_days) ws
     else said_holiday w ws))
 
+-- the line begins with `#`
 abbrev pub is_comment : List ℕ → Bool
 is_comment [] = false
 is_comment (b ∷ bs) = b == 35
@@ -81,5 +91,6 @@ said_in_place gap [] = Nothing
 said_in_place true (w ∷ ws) = Wrong
 said_in_place false (w ∷ ws) = said_by w ws
 
+-- what a line says
 abbrev pub kind_of : List ℕ → Said
 kind_of line = if is_comment line then Nothing else said_in_place (begins_space line) (fields line)

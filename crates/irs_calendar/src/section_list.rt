@@ -33,6 +33,7 @@ impl Model for SectionList {
 }
 
 impl SectionList {
+    /// No sections; it takes no memory.
     pub fn new(alloc: Global) -> SectionList
         ensures { result ≡ [] }
     {

@@ -121,6 +121,7 @@ number_within code ps n x =
     let low = x.from_one in
     omega (arith, inside, low)
 
+-- each period has a fraction
 abbrev pub AllFractions : List PeriodTerm → Type 0
 AllFractions ps = All (λ p. IsFraction p.frac) ps
 

@@ -36,6 +36,7 @@ days_by_code Thirty360 s e last = bond_days (date_of s) (date_of e)
 days_by_code ThirtyE360 s e last = euro_days (date_of s) (date_of e)
 days_by_code ThirtyE360Isda s e last = isda_days (date_of s) (date_of e) last
 
+-- the number of days of a period, as a function
 unfoldable pub days_of : DayCountCode → ℤ → ℤ → Bool → ℤ
 days_of code s e last = days_by_code code s e last
 

@@ -102,5 +102,6 @@ abbrev pub either : {A : Type 0} → Option A → Option A → Option A
 either None b = b
 either (Some a) b = Some a
 
+-- the roll that a text names, or its day of the month
 abbrev pub roll_at : List ℕ → Option RollCode
 roll_at s = either (named_roll_at s) (day_roll_at s)

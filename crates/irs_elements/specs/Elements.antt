@@ -70,6 +70,7 @@ is_element (Leaf k) = true
 is_element Passed = false
 is_element Refused = false
 
+-- the row is of a name out of profile
 abbrev pub is_refused : Kind → Bool
 is_refused (Object c) = false
 is_refused (Leaf k) = false
@@ -100,6 +101,7 @@ lacks_href Reference d = is_none (child_of (codes "@href") d)
 abbrev pub elem_of : ℕ → ℕ
 elem_of place = if nat_lt place count then place else 0
 
+-- the place of a row's element
 abbrev pub elem_in : Option Row → ℕ
 elem_in None = 0
 elem_in (Some row) = elem_of row.1
@@ -127,6 +129,7 @@ unmet_place rows stream r i Neither = place rows stream K2 r i
 abbrev pub texts : List (Bor (List ℕ)) → List (List ℕ)
 texts names = map (λ n. n.now) names
 
+-- a name, where there is one
 abbrev pub name_in : Option (List ℕ) → List ℕ
 name_in None = []
 name_in (Some name) = name

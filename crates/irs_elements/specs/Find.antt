@@ -21,6 +21,7 @@ once name d = option_and_then (λ m. slice_get (items_of m) 0) (child_of name d)
 abbrev pub member : List ℕ → Option Data → Option Data
 member name o = option_and_then (once name) o
 
+-- the values that a member stands for: its items where it is an array
 abbrev pub values_of : Option Data → List Data
 values_of None = []
 values_of (Some m) = items_of m

@@ -38,5 +38,6 @@ fraction_of whole fraction = record {
   places = length (take most_places fraction);
 }
 
+-- the fraction of a text, with its decimals
 unfoldable pub fraction_at : List ℕ → Option Dec
 fraction_at s = if are_parts (before_point s) (behind_point s) then Some (fraction_of (before_point s) (behind_point s)) else None

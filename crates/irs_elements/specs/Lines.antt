@@ -53,9 +53,11 @@ abbrev last_name_in : List ℕ → List ℕ → List ℕ
 last_name_in name [] = name
 last_name_in name (c ∷ p) = last_name_in (if c == 47 then p else name) p
 
+-- the part of a path behind its last `/`
 abbrev pub last_name : List ℕ → List ℕ
 last_name p = last_name_in p p
 
+-- the path before that
 abbrev pub path_above : List ℕ → List ℕ
 path_above p = take (length p - length (last_name p) - 1) p
 
@@ -108,6 +110,7 @@ module _ (places rows : List (List ℕ)) where
   other_rows place kind [] = []
   other_rows place kind (o ∷ os) = map (λ (name : String). record { 0 = place_of rows (codes o.above); 1 = place; 2 = kind; 3 = Maybe }) o.names ++ other_rows place kind os
 
+-- the names of members that are passed over or out of profile
 abbrev pub other_names : List Others → List (List ℕ)
 other_names [] = []
 other_names (o ∷ os) = map codes o.names ++ other_names os
@@ -116,6 +119,7 @@ other_names (o ∷ os) = map codes o.names ++ other_names os
 abbrev pub first_row : ℕ → Row
 first_row place = record { 0 = 0; 1 = place; 2 = Object Free; 3 = One }
 
+-- the rows of a table: its first, one for each line, then one for each other name
 abbrev pub rows_of : List (List ℕ) → Table → List Row
 rows_of places t =
     let whole : ℕ = place_of places (codes t.whole) in

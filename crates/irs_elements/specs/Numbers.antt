@@ -26,9 +26,11 @@ abbrev pub digits_of : List ℕ → List ℕ
 digits_of [] = []
 digits_of (c ∷ cs) = if c == 43 || c == 45 then cs else c ∷ cs
 
+-- the text has no decimal point
 abbrev pub has_no_point : List ℕ → Bool
 has_no_point s = list_all (λ b. not (b == 46)) s
 
+-- at most nine digits behind a sign, without a point
 abbrev pub is_whole : List ℕ → Bool
 is_whole s = nat_le (length (digits_of s)) 9 && has_no_point s
 

@@ -28,5 +28,6 @@ is_capital b = nat_le 65 b && nat_le b 90
 abbrev pub is_currency : List ℕ → Bool
 is_currency s = (length s == 3) && list_all is_capital s
 
+-- a currency: three capital letters
 abbrev pub currency_at : List ℕ → Option Currency
 currency_at s = if is_currency s then Some (record { letters = s }) else None

@@ -23,6 +23,7 @@ pub fn day(text: &[u8]) -> Option<Day>
     match read_date(text) {
         None => None,
         Some(day) => {
+            // hands the prover the range of the day
             let _number = day.number();
             Some(day)
         },

@@ -34,6 +34,7 @@ abbrev pub code_at : Stream → ℕ → ℕ → ConvCode
 code_at s last i =
     if i == 0 then (first_date_of s).adj.code else (if i == last then s.termination.adj.code else s.period_adj.code)
 
+-- the good days of boundary i: those of the first, of the last, or of the others
 abbrev pub days_at : BoundaryDays → ℕ → ℕ → DaySet
 days_at sets last i = if i == 0 then sets.start else (if i == last then sets.end else sets.middle)
 
@@ -50,6 +51,7 @@ pub record AdjustedList (s : Stream) (sets : BoundaryDays) (b a : List ℤ) : Ty
 abbrev pub HasResult : Stream → BoundaryDays → List ℤ → ℕ → Type 0
 HasResult s sets b i = (r : ℤ) × AdjustsAt s sets (last_of b) i (day_at b i) r
 
+-- each boundary has an adjusted day
 abbrev pub EachHasResult : Stream → BoundaryDays → List ℤ → Type 0
 EachHasResult s sets b = (i : ℕ) → i < length b → HasResult s sets b i
 
@@ -73,12 +75,15 @@ abbrev pub boundary_element : Stream → ℕ → ℕ → ℕ
 boundary_element s last i =
     if i == 0 then first_day_element s else (if i == last then termination_date else period_dates_adjustments)
 
+-- the index that a fault names: none for the first and the last boundary
 abbrev pub boundary_index : ℕ → ℕ → ℕ
 boundary_index last i = if i == 0 then 0 else (if i == last then 0 else i)
 
+-- K33 at boundary i
 abbrev pub no_result_at : Stream → ℕ → ℕ → Fault
 no_result_at s last i = fault_at K33 (boundary_element s last i) (boundary_index last i)
 
+-- K34 at boundary i
 abbrev pub not_after_at : ℕ → Fault
 not_after_at i = fault_at K34 calculation_period_dates i
 
@@ -112,6 +117,7 @@ FirstNoResult s sets b = First (named_before s (last_of b)) (NoResult s sets b)
 abbrev pub LaterNoResult : Stream → BoundaryDays → List ℤ → ℕ → Type 0
 LaterNoResult s sets b i = (0 < i) × NoResult s sets b i
 
+-- the first boundary without an adjusted day, in the order in which elements are named
 abbrev pub FirstLaterNoResult : Stream → BoundaryDays → List ℤ → ℕ → Type 0
 FirstLaterNoResult s sets b = First (named_before s (last_of b)) (LaterNoResult s sets b)
 

@@ -47,5 +47,6 @@ pub record TooManyPeriods (s : Stream) (span : Span) : Type 0 where
 abbrev pub too_many_periods : Fault
 too_many_periods = fault_at K32 calculation_period_frequency 0
 
+-- the fault is K32, which is broken
 abbrev pub BreaksPeriods : Stream → Span → Fault → Type 0
 BreaksPeriods s span f = TooManyPeriods s span × (f ≡ too_many_periods)

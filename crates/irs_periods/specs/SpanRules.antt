@@ -28,6 +28,7 @@ anchor_element_by start None None stub = stub_anchor_element start stub
 anchor_element_by start None (Some last) stub = start
 anchor_element_by start (Some first) last stub = first_regular_period_start_date
 
+-- the element whose day is the anchor
 abbrev pub anchor_element : Stream → ℕ
 anchor_element s = anchor_element_by (first_day_element s) s.first_regular s.last_regular s.stub
 
@@ -36,6 +37,7 @@ abbrev pub last_element_by : Option ℤ → ℕ
 last_element_by None = termination_date
 last_element_by (Some last) = last_regular_period_end_date
 
+-- the element whose day is the last regular one
 abbrev pub last_element : Stream → ℕ
 last_element s = last_element_by s.last_regular
 
@@ -55,9 +57,11 @@ pub record LastOffGrid (s : Stream) : Type 0 where
 abbrev pub roll_misfits : Stream → Fault
 roll_misfits s = fault_at K30 (anchor_element s) 0
 
+-- K31
 abbrev pub last_off_grid : Stream → Fault
 last_off_grid s = fault_at K31 (last_element s) 0
 
+-- the fault is K30 or K31, which is broken
 abbrev pub BreaksSpan : Stream → Fault → Type 0
 BreaksSpan s f = (RollMisfits s × (f ≡ roll_misfits s)) ⊎ (LastOffGrid s × (f ≡ last_off_grid s))
 

@@ -118,6 +118,7 @@ fn regular_part<G: Grid>(s: &Stream, span: &Span, grid: &G) -> (i64, u32)
     ensures days { (j : ℕ) → j ≤ result.1 → IsDay (G.at grid.now (result.0 +ℤ pos j)) }
     ensures near { IsBetween (neg_ℤ (pos all_days)) (pos all_days) result.0 }
 {
+    // hands the prover the range of the days
     let _in_range = (
         span.anchor.number(),
         span.first.number(),

@@ -21,6 +21,7 @@ abbrev pub way_seen : Result (Bor Value) Broken → Way
 way_seen (Ok v) = Ok (view v.now)
 way_seen (Err f) = Err f
 
+-- one step further down, unless a fault was met
 abbrev pub onward : Way → (Data → Way) → Way
 onward (Ok d) go = go d
 onward (Err f) go = Err f
@@ -41,9 +42,11 @@ one_swap (x ∷ y ∷ rest) = Err (outside K7 swap)
 abbrev pub swap_below : Data → Way
 swap_below d = one_swap (values_in (codes "swap") (Some d))
 
+-- the way from what holds `trade`
 abbrev pub trade_below : Data → Way
 trade_below d = onward (one_object (values_in (codes "trade") (Some d))) swap_below
 
+-- the way from what holds `dataDocument`
 abbrev pub document_below : Data → Way
 document_below d = onward (one_object (values_in (codes "dataDocument") (Some d))) trade_below
 

@@ -55,6 +55,7 @@ said at o = option_and_then at (text_in o)
 abbrev pub word_in : Option Data → List ℕ
 word_in o = unwrap_or (text_in o) []
 
+-- a day
 abbrev pub day_in : Option Data → ℤ
 day_in o = unwrap_or (said day_at o) first_day
 
@@ -63,29 +64,37 @@ abbrev pub scale_at : Scale → List ℕ → Option ℤ
 scale_at Notionals = notional_at
 scale_at Rates = rate_at
 
+-- a number in the units of its scale
 abbrev pub number_in : Scale → Option Data → ℤ
 number_in scale o = unwrap_or (said (scale_at scale) o) (pos 0)
 
+-- a truth value; absent is false
 abbrev pub truth_in : Option Data → Bool
 truth_in o = unwrap_or (said truth_at o) false
 
+-- start or end; absent is the start
 abbrev pub relative_in : Option Data → Relative
 relative_in o = unwrap_or (said relative_at o) Start
 
+-- the treatment of negative rates; absent is none
 abbrev pub treatment_in : Option Data → Treatment
 treatment_in o = unwrap_or (said treatment_at o) AsIs
 
+-- what stands where there is no currency
 abbrev pub no_currency : Currency
 no_currency = record { letters = 88 ∷ 88 ∷ 88 ∷ [] }
 
 -- ---- blocks
 
+-- a frequency
 abbrev pub frequency_in : Option Data → Frequency
 frequency_in o = record { count = unwrap_or (said multiplier_at (member (codes "periodMultiplier") o)) 1; unit = unwrap_or (said unit_at (member (codes "period") o)) D }
 
+-- the tenor of an index
 abbrev pub tenor_in : Data → Frequency
 tenor_in d = record { count = unwrap_or (said multiplier_at (once (codes "periodMultiplier") d)) 1; unit = unwrap_or (said tenor_unit_at (once (codes "period") d)) D }
 
+-- an offset; absent is 0 days
 abbrev pub offset_in : Option Data → Offset
 offset_in o = record { days = unwrap_or (said offset_at (member (codes "periodMultiplier") o)) (pos 0); kind = unwrap_or (said day_kind_at (member (codes "dayType") o)) Unsaid }
 
@@ -93,10 +102,12 @@ offset_in o = record { days = unwrap_or (said offset_at (member (codes "periodMu
 abbrev pub names_in : Data → List (List ℕ)
 names_in d = map (λ x. word_in (Some x)) (values_in (codes "businessCenter") (Some d))
 
+-- the centres of the list that a reference names, if it names one
 abbrev pub named_centers : Option Data → Centers
 named_centers None = Dangling
 named_centers (Some d) = Listed (names_in d)
 
+-- the centres that are listed, if they are
 abbrev pub own_centers : Option Data → Centers
 own_centers None = Absent
 own_centers (Some d) = Listed (names_in d)
@@ -106,9 +117,11 @@ abbrev pub centers_by : List (Option Data) → Option Data → Option Data → C
 centers_by lists (Some reference) own = named_centers (the_one (href_of reference) lists)
 centers_by lists None own = own_centers own
 
+-- business day adjustments; absent is NONE without centres
 abbrev pub adjustments_in : List (Option Data) → Option Data → Adjustments
 adjustments_in lists o = record { code = unwrap_or (said convention_at (member (codes "businessDayConvention") o)) Unadjusted; centers = centers_by lists (member (codes "businessCentersReference") o) (member (codes "businessCenters") o) }
 
+-- a date with its adjustments
 abbrev pub dated_in : List (Option Data) → Option Data → Dated
 dated_in lists o = record { day = day_in (member (codes "unadjustedDate") o); adj = adjustments_in lists (member (codes "dateAdjustments") o) }
 
@@ -116,9 +129,11 @@ dated_in lists o = record { day = day_in (member (codes "unadjustedDate") o); ad
 abbrev pub maybe_dated_in : List (Option Data) → Option Data → Option Dated
 maybe_dated_in lists o = option_map (λ d. dated_in lists (Some d)) o
 
+-- a step
 abbrev pub step_in : Scale → Data → Step
 step_in scale d = record { day = day_in (once (codes "stepDate") d); value = number_in scale (once (codes "stepValue") d) }
 
+-- an initial value with its steps
 abbrev pub schedule_in : Scale → Option Data → StepValues
 schedule_in scale o = record { initial = number_in scale (member (codes "initialValue") o); steps = map (step_in scale) (values_in (codes "step") o) }
 
@@ -129,9 +144,11 @@ schedule_or v (Some d) = schedule_in Rates (Some d)
 
 -- ---- parts of a stream
 
+-- the rounding of a rate; absent is to 9 decimals, to the nearest
 abbrev pub rounding_in : Option Data → Rounding
 rounding_in o = record { dir = unwrap_or (said direction_at (member (codes "roundingDirection") o)) Nearest; places = unwrap_or (said precision_at (member (codes "precision") o)) 9 }
 
+-- the terms of a floating rate
 abbrev pub float_in : Data → FloatTerms
 float_in d = record {
   index = word_in (once (codes "floatingRateIndex") d);
@@ -143,10 +160,12 @@ float_in d = record {
   treatment = treatment_in (once (codes "negativeInterestRateTreatment") d);
 }
 
+-- a floating leg where there is one, else a fixed one
 abbrev pub leg_by : Option Data → Option Data → Leg
 leg_by (Some float) fixed = Floating (float_in float)
 leg_by None fixed = Fixed (schedule_in Rates fixed)
 
+-- the terms of payments
 abbrev pub pay_in : List (Option Data) → Option Data → Option Data → PayTerms
 pay_in lists dates o = record {
   calc_ref = reference_in dates (member (codes "calculationPeriodDatesReference") o);
@@ -158,9 +177,11 @@ pay_in lists dates o = record {
   adj = adjustments_in lists (member (codes "paymentDatesAdjustments") o);
 }
 
+-- the terms of fixing dates
 abbrev pub fix_in : List (Option Data) → Data → FixTerms
 fix_in lists d = record { offset = offset_in (Some d); adj = adjustments_in lists (Some d) }
 
+-- the terms of resets
 abbrev pub reset_in : List (Option Data) → Option Data → Data → ResetTerms
 reset_in lists dates d = record {
   calc_ref = reference_in dates (once (codes "calculationPeriodDatesReference") d);
@@ -171,13 +192,16 @@ reset_in lists dates d = record {
   adj = adjustments_in lists (once (codes "resetDatesAdjustments") d);
 }
 
+-- the rate of a stub: of an index where there is one, else stated
 abbrev pub stub_by : Option Data → Option Data → StubRate
 stub_by (Some float) rate = Index (word_in (once (codes "floatingRateIndex") float)) (option_map tenor_in (once (codes "indexTenor") float))
 stub_by None rate = FixedStub (number_in Rates rate)
 
+-- the rate of a stub
 abbrev pub stub_in : Data → StubRate
 stub_in d = stub_by (once (codes "floatingRate") d) (once (codes "stubRate") d)
 
+-- the rates of both stubs
 abbrev pub stubs_in : Option Data → Data → StubTerms
 stubs_in dates d = record {
   calc_ref = reference_in dates (once (codes "calculationPeriodDatesReference") d);
@@ -185,6 +209,7 @@ stubs_in dates d = record {
   last = option_map stub_in (once (codes "finalStub") d);
 }
 
+-- which principal exchanges there are; absent is none
 abbrev pub exchanges_in : Option Data → ExchangeFlags
 exchanges_in o = record {
   initial = truth_in (member (codes "initialExchange") o);
@@ -194,6 +219,7 @@ exchanges_in o = record {
 
 -- ---- streams
 
+-- a stream, by the objects that hold its dates, its frequency and its calculation
 abbrev pub stream_parts : List (Option Data) → Data → Option Data → Option Data → Option Data → Stream
 stream_parts lists d dates freq calc = record {
   effective = dated_in lists (member (codes "effectiveDate") dates);
@@ -224,5 +250,6 @@ stream_in lists d = stream_parts lists d (once (codes "calculationPeriodDates") 
 abbrev pub streams_in : Data → List Data
 streams_in d = values_in (codes "swapStream") (Some d)
 
+-- the swap
 abbrev pub swap_in : Data → Swap
 swap_in d = record { streams = map (stream_in (lists_of (streams_in d))) (streams_in d) }

@@ -13,6 +13,7 @@ use Rattle.std.specs.Str.{bytes_eq}
 abbrev pub attribute : List ℕ → Option Data → Option (List ℕ)
 attribute name o = option_and_then as_str (option_and_then (child_of name) o)
 
+-- the text is there, and is this one
 abbrev pub is_text : List ℕ → Option (List ℕ) → Bool
 is_text id None = false
 is_text id (Some s) = bytes_eq s id

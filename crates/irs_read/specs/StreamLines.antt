@@ -191,11 +191,14 @@ swap_table = record {
 unfoldable pub stream_rows : List Row
 stream_rows = rows_of printed stream_table
 
+-- the names and rows that the lines of the tables give
 unfoldable pub stream_names : List (List ℕ)
 stream_names = names_of stream_table
 
+-- those of the table of the swap
 unfoldable pub swap_rows : List Row
 swap_rows = rows_of printed swap_table
 
+-- and its names
 unfoldable pub swap_names : List (List ℕ)
 swap_names = names_of swap_table

@@ -40,6 +40,7 @@ pub record Repeats (lines : List (List ℕ)) (n : ℕ) : Type 0 where
   pub old_rate : ℤ
   pub there : Fixes lines earlier index slot old_rate
 
+-- line n is none of the grammar, or repeats one before it
 abbrev pub IsFaulty : List (List ℕ) → ℕ → Type 0
 IsFaulty lines n = IsBad lines n ⊎ Repeats lines n
 
@@ -62,6 +63,7 @@ pub record TakesLine (old : RateTable) (line : List ℕ) (new : RateTable) : Typ
   pub absent : rate_at old index slot ≡ None
   pub adds : Adds old index slot rate new
 
+-- a line is passed over, or it is one of the grammar and its rate is taken
 abbrev pub ReadsLine : RateTable → List ℕ → RateTable → Type 0
 ReadsLine old line new = (IsTrue (is_passed line) × (new ≡ old)) ⊎ TakesLine old line new
 

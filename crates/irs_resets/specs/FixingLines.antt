@@ -23,9 +23,11 @@ pub record IsIndexText (index : List ℕ) : Type 0 where
 abbrev pub first_text : List ℕ → List ℕ
 first_text line = word line
 
+-- the text of the rate
 abbrev pub second_text : List ℕ → List ℕ
 second_text line = word (behind_gap line)
 
+-- the text of the tenor
 abbrev pub third_text : List ℕ → List ℕ
 third_text line = word (behind_gap (behind_gap line))
 

@@ -78,21 +78,26 @@ abbrev pub own_source : StubRate → RateSource
 own_source (Index index tenor) = Line index tenor
 own_source (Fixed rate) = Stated rate
 
+-- the fixing of the stream's own index and tenor
 abbrev pub index_source : FloatTerms → RateSource
 index_source float = Line float.index float.tenor
 
+-- the rate that a stub is given, else that of the stream's index
 abbrev pub own_or_index : Option StubRate → FloatTerms → RateSource
 own_or_index None float = index_source float
 own_or_index (Some given) float = own_source given
 
+-- the rate of the initial stub
 abbrev pub initial_stub_source : Option StubTerms → FloatTerms → RateSource
 initial_stub_source None float = index_source float
 initial_stub_source (Some stubs) float = own_or_index stubs.initial float
 
+-- the rate of the final stub
 abbrev pub final_stub_source : Option StubTerms → FloatTerms → RateSource
 final_stub_source None float = index_source float
 final_stub_source (Some stubs) float = own_or_index stubs.last float
 
+-- the initial rate where it is given, else that of the stream's index
 abbrev pub initial_or_index : Option ℤ → FloatTerms → RateSource
 initial_or_index None float = index_source float
 initial_or_index (Some rate) float = Stated rate

@@ -10,6 +10,7 @@ use Rattle.irs_terms.specs.Lawful.{IsRate}
 use Rattle.irs_terms.specs.declared.frequency.Frequency.{Frequency}
 use Rattle.irs_resets.specs.declared.store.Slot.{Slot}
 
+-- the units are the same; 12M isn't 1Y
 abbrev pub is_unit : FrequencyUnit → FrequencyUnit → Bool
 is_unit D D = true
 is_unit W W = true
@@ -37,6 +38,7 @@ SlotRates = List (Slot × ℤ)
 abbrev pub RateTable : Type 0
 RateTable = List (List ℕ × SlotRates)
 
+-- the rate of a tenor and a date among those of an index
 abbrev pub rate_of : Option SlotRates → Slot → Option ℤ
 rate_of None slot = None
 rate_of (Some rates) slot = lookup (is_slot slot) rates
@@ -49,6 +51,7 @@ rate_at table index slot = rate_of (lookup (bytes_eq index) table) slot
 abbrev pub AddsTo : SlotRates → Slot → ℤ → SlotRates → Type 0
 AddsTo old slot rate new = (q : Slot) → lookup (is_slot q) new ≡ (if is_slot slot q then Some rate else lookup (is_slot q) old)
 
+-- the table has this rate too, and else what it had
 abbrev pub Adds : RateTable → List ℕ → Slot → ℤ → RateTable → Type 0
 Adds old index slot rate new = (i : List ℕ) (q : Slot) → rate_at new i q ≡ (if bytes_eq index i && is_slot slot q then Some rate else rate_at old i q)
 

@@ -20,6 +20,7 @@ pub record ResetDays : Type 0 where
   pub reset_set : DaySet
   pub fixing_set : DaySet
 
+-- the adjusted boundaries and the good days by which reset and fixing dates are worked out
 abbrev pub days_by : List ℤ → DaySet → DaySet → ResetDays
 days_by adjusted reset_set fixing_set = record { adjusted = adjusted; reset_set = reset_set; fixing_set = fixing_set }
 
@@ -75,6 +76,7 @@ FixFails NoReset fix set r = ⊥
 FixFails NoFixing fix set r = IsUnfixed fix set r
 FixFails OutOfRange fix set r = LeavesRange fix set r
 
+-- a fixing date has no result
 abbrev pub FixingFails : DateFault → Option FixTerms → DaySet → ℤ → Type 0
 FixingFails e None set r = ⊥
 FixingFails e (Some fix) set r = FixFails e fix set r

@@ -15,10 +15,12 @@ use Rattle.irs_resets.specs.declared.dates.DateFault.TheVariants.{NoReset, NoFix
 use Rattle.irs_resets.specs.ResetDates.{ResetDays, Fails}
 use Rattle.irs_resets.specs.Resets.{ResetSource}
 
+-- a rate is given for an initial stub
 abbrev pub GivesInitial : Option StubTerms → Type 0
 GivesInitial None = ⊥
 GivesInitial (Some stubs) = IsSome stubs.initial
 
+-- a rate is given for a final stub
 abbrev pub GivesFinal : Option StubTerms → Type 0
 GivesFinal None = ⊥
 GivesFinal (Some stubs) = IsSome stubs.last

@@ -22,6 +22,7 @@ pub record ResetSource : Type 0 where
   pub span : Span
   pub days : ResetDays
 
+-- what the resets of a stream are worked out from
 abbrev pub source_of : Stream → Span → List ℤ → DaySet → DaySet → ResetSource
 source_of s span adjusted reset_set fixing_set = record { stream = s; span = span; days = days_by adjusted reset_set fixing_set }
 
@@ -45,6 +46,7 @@ pub record HasResets (source : ResetSource) (float : FloatTerms) (t : ResetTerms
   pub many : length rows ≡ count_of source
   pub each : EachNumbered (IsReset source float t rates) 1 rows
 
+-- the resets by the leg: none of a fixed stream, one a period of a floating one
 abbrev pub IsResetsOf : Leg → Option ResetTerms → ResetSource → RateTable → List Reset → Type 0
 IsResetsOf (Fixed values) reset source rates rows = rows ≡ []
 IsResetsOf (Floating float) None source rates rows = ⊥

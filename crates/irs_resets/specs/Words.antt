@@ -31,6 +31,7 @@ abbrev pub trimmed : List ℕ → List ℕ
 trimmed [] = []
 trimmed (b ∷ bs) = if is_blank (b ∷ bs) then [] else b ∷ trimmed bs
 
+-- the line begins with `#`
 abbrev pub begins_hash : List ℕ → Bool
 begins_hash [] = false
 begins_hash (b ∷ bs) = b == 35

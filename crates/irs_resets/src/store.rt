@@ -84,6 +84,7 @@ impl Model for Table {
 }
 
 impl Table {
+    /// No rates; it takes no memory.
     pub fn new(alloc: Global) -> Table
         ensures { result ≡ [] }
     {

@@ -25,6 +25,7 @@ impl EveryDays {
         ensures first { ⟦<EveryDays as Grid>⟧.at result (pos 0) ≡ anchor }
         ensures on { (d : ℤ) → ⟦<EveryDays as Grid>⟧.on result d ↔ OnDays days anchor d }
     {
+        // hands the prover the range of the day
         let _in_range = anchor.number();
         EveryDays { anchor, days }
     }

@@ -116,7 +116,8 @@ impl<R: Roll> Grid for MonthGrid<R> {
     ghost misses_none = { λ g d h. roll_misses_none (R.rolls g.roll) (R.day g.roll) (R.is g.roll) (R.only g.roll) (R.stays g.roll) g.months g.anchor g.start d g.begins h };
 }
 
-// How many steps of months lie between the month `start` and a roll day; `None` exactly off the grid.
+/// How many steps of months lie between the month `start`, counted from January of the year 0, and a
+/// roll day; `None` exactly off the grid.
 pub fn steps_to<R: Roll>(roll: &R, months: u32, start: i32, d: Day) -> Option<i64>
     requires step { 0 < months }
     ensures some { IfSome result (λ k. R.day roll.now (kth start months k) ≡ d) }

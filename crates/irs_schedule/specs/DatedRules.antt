@@ -44,6 +44,7 @@ pub data DatedPart : Type 0 where
   -- its amounts: K39
   in_amounts : DatedPart
 
+-- the turn of each part
 abbrev pub turn_of : DatedPart → ℕ
 turn_of in_span = 0
 turn_of in_periods = 1

@@ -46,6 +46,7 @@ payment_days cal s = days_of_names cal (names_with s.pay.offset s.pay.adj)
 abbrev pub reset_days : List Section → Stream → DaySet
 reset_days cal s = days_of_names cal (reset_names s.reset)
 
+-- and of fixing dates
 abbrev pub fixing_days : List Section → Stream → DaySet
 fixing_days cal s = days_of_names cal (fixing_names s.reset)
 

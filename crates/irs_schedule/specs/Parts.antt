@@ -31,6 +31,7 @@ abbrev pub RisesFrom : ℤ → List ℤ → Type 0
 RisesFrom d [] = Unit {0}
 RisesFrom d (x ∷ xs) = (d <ℤ x) × RisesFrom x xs
 
+-- the list rises strictly
 abbrev pub Rises : List ℤ → Type 0
 Rises [] = Unit {0}
 Rises (x ∷ xs) = RisesFrom x xs
@@ -45,6 +46,7 @@ pub record IsAmount (currency : Currency) (v : Dec) : Type 0 where
   pub places : v.places ≡ decimals_of currency.letters
   pub size : unsigned_abs v.units ≤ 10 ^ 14 * 10 ^ v.places
 
+-- the amount of a payment, where it is known, is one of the currency
 abbrev pub HasAmount : Currency → PaymentEntry → Type 0
 HasAmount currency y = IfSome y.amount (IsAmount currency)
 

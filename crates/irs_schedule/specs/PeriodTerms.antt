@@ -50,6 +50,7 @@ abbrev pub IsAmountBy : Stream → List PeriodTerm → Option Dec → Type 0
 IsAmountBy s terms None = AmountOf s.compounding terms (decimals_of s.currency.letters) None
 IsAmountBy s terms (Some v) = (v.places ≡ decimals_of s.currency.letters) × AmountOf s.compounding terms (decimals_of s.currency.letters) (Some v.units)
 
+-- the amount of a payment, by the terms of its periods
 pub record IsAmountFor (s : Stream) (b a : List ℤ) (rs : List Reset) (p : Payment) (amount : Option Dec) : Type 0 where
   pub terms : List PeriodTerm
   pub are_terms : AreTerms s b a rs p terms

@@ -21,6 +21,7 @@ code_text Thirty360 = codes "30/360"
 code_text ThirtyE360 = codes "30E/360"
 code_text ThirtyE360Isda = codes "30E/360.ISDA"
 
+-- whether a stream floats, as text
 abbrev pub kind_text : Bool → List ℕ
 kind_text floating = if floating then codes "float" else codes "fixed"
 
@@ -44,9 +45,11 @@ fields_of (Period k i start end adjusted_start adjusted_end days frac notional r
     ++ 32 ∷ signed_decimal days ++ 32 ∷ signed_decimal frac.num ++ 47 ∷ signed_decimal frac.den ++ 32 ∷ dec_text notional 4 ++ 32 ∷ rate_or_dash rate
 fields_of (Reset k i reset fixing observed) = codes "r" ++ 32 ∷ decimal k ++ 32 ∷ decimal i ++ 32 ∷ day_text reset ++ 32 ∷ day_text fixing ++ 32 ∷ rate_or_dash observed
 
+-- the line of a row, with its LF
 unfoldable pub row_text_of : Row → List ℕ
 row_text_of row = fields_of row ++ codes "\n"
 
+-- at most 12 decimals
 abbrev pub IsFew : Dec → Type 0
 IsFew v = v.places ≤ 12
 
@@ -58,9 +61,11 @@ HasPlaces (Payment k j unadjusted adjusted first last amount) = IfSome amount Is
 HasPlaces (Period k i start end adjusted_start adjusted_end days frac notional rate) = Unit {0}
 HasPlaces (Reset k i reset fixing observed) = Unit {0}
 
+-- the first line
 abbrev pub header : List ℕ
 header = codes "irs-schedule 2\n"
 
+-- the last line
 abbrev pub footer : List ℕ
 footer = codes "end\n"
 
@@ -68,5 +73,6 @@ footer = codes "end\n"
 abbrev pub text_from : List Row → List ℕ
 text_from rows = flat_map row_text_of rows ++ footer
 
+-- the text of a schedule
 abbrev pub text_of : List Part → List ℕ
 text_of s = header ++ text_from (rows_of s)

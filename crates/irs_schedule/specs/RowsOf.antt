@@ -15,6 +15,7 @@ use Rattle.irs_base.specs.Members.{day_at}
 abbrev pub no_period : PeriodEntry
 no_period = record { days = pos 0; frac = record { num = pos 0; den = pos 1 }; notional = pos 0; rate = None }
 
+-- the same of a reset
 abbrev pub no_reset : Reset
 no_reset = record { reset = pos 0; fixing = pos 0; observed = None }
 
@@ -24,6 +25,7 @@ period_row k p i =
     let e = slice_index_or p.periods (i - 1) no_period in
     Period k i (day_at p.unadjusted (i - 1)) (day_at p.unadjusted i) (day_at p.adjusted (i - 1)) (day_at p.adjusted i) e.days e.frac e.notional e.rate
 
+-- the reset of period i
 abbrev pub reset_row : ℕ → Part → ℕ → Row
 reset_row k p i = let r = slice_index_or p.resets (i - 1) no_reset in ResetRow k i r.reset r.fixing r.observed
 
@@ -31,6 +33,7 @@ reset_row k p i = let r = slice_index_or p.resets (i - 1) no_reset in ResetRow k
 abbrev pub period_rows : ℕ → Part → ℕ → List Row
 period_rows k p i = period_row k p i ∷ (if p.floating then reset_row k p i ∷ [] else [])
 
+-- payment j
 abbrev pub payment_row : ℕ → ℕ → PaymentEntry → Row
 payment_row k j y = Payment k j y.unadjusted y.adjusted y.first_period y.last_period y.amount
 
@@ -38,9 +41,11 @@ payment_row k j y = Payment k j y.unadjusted y.adjusted y.first_period y.last_pe
 abbrev pub payment_rows : ℕ → Part → ℕ × PaymentEntry → List Row
 payment_rows k p y = payment_row k y.0 y.1 ∷ flat_map (period_rows k p) (range_with_len y.1.first_period (y.1.last_period + 1 - y.1.first_period))
 
+-- an exchange with its number
 abbrev pub exchange_row : ℕ → ℕ × Exchange → Row
 exchange_row k x = ExchangeRow k x.0 x.1.unadjusted x.1.adjusted x.1.amount
 
+-- the row that begins stream k
 abbrev pub stream_row : ℕ → Part → Row
 stream_row k p = Stream k p.currency p.day_count p.floating
 
@@ -53,8 +58,10 @@ part_rows s = stream_row s.0 s.1 ∷ (map (exchange_row s.0) (enumerate_from 1 s
 abbrev pub most_stream_rows : ℕ
 most_stream_rows = 1 + most_exchanges + 3 * most_periods
 
+-- the most rows that a schedule has
 abbrev pub most_schedule_rows : ℕ
 most_schedule_rows = most_stream_rows * most_streams
 
+-- the rows of a schedule: stream after stream
 unfoldable pub rows_of : List Part → List Row
 rows_of s = flat_map part_rows (enumerate_from 1 s)

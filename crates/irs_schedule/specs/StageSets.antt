@@ -3,6 +3,7 @@ use Rattle.irs_schedule.specs.CenterDays.{days_of_centers}
 use Rattle.irs_schedule.specs.DaySets.{StreamSets}
 use Rattle.irs_schedule.specs.declared.center_table.StreamDays.{StreamDays}
 
+-- the good days that a table hands out for a stream
 abbrev pub sets_of : StreamDays → StreamSets
 sets_of days = record {
   boundaries = record { start = days_of_centers days.start.now; end = days_of_centers days.end.now; middle = days_of_centers days.middle.now };

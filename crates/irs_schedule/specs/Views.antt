@@ -4,6 +4,7 @@ use Rattle.irs_schedule.specs.KeptTerms.{is_floating}
 use Rattle.irs_schedule.specs.Parts.{Part}
 use Rattle.irs_schedule.specs.Periods.{periods_by}
 
+-- the part, with its periods worked out
 abbrev pub part_of : Inside → Part
 part_of s = record {
   currency = s.terms.currency;

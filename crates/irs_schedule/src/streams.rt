@@ -81,6 +81,7 @@ impl StreamPart {
         ensures resets { result.resets ≡ resets }
         ensures bounds { KeepsBounds result }
     {
+        // hands the prover that the boundaries are days
         let _days = adjusted.as_slice();
         StreamPart {
             terms,

@@ -30,6 +30,7 @@ fn dated_period(part: &StreamPart, number: u32) -> CalculationPeriod
     ensures { result ≡ dated_period part.now number (slice_index_or part.now.periods (number - 1) no_period) }
 {
     let end = number as usize;
+    // hands the prover the bounds of the part
     let _periods = part.periods();
     let entry = part.entry(number);
     CalculationPeriod {

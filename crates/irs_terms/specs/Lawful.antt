@@ -52,11 +52,13 @@ IsLawfulName name = (1 ≤ length name) × (length name ≤ most_name) × All (�
 abbrev pub IsLawfulNames : List (List ℕ) → Type 0
 IsLawfulNames names = (1 ≤ length names) × (length names ≤ most_centers) × All IsLawfulName names
 
+-- at most 16 names of centres
 abbrev pub IsLawfulCenters : Centers → Type 0
 IsLawfulCenters Absent = Unit {0}
 IsLawfulCenters (Listed names) = IsLawfulNames names
 IsLawfulCenters Dangling = Unit {0}
 
+-- a day of the range, with lawful centres
 abbrev pub IsLawfulDated : Dated → Type 0
 IsLawfulDated d = IsDay d.day × IsLawfulCenters d.adj.centers
 
@@ -64,9 +66,11 @@ IsLawfulDated d = IsDay d.day × IsLawfulCenters d.adj.centers
 abbrev pub IsLawfulIndex : List ℕ → Type 0
 IsLawfulIndex index = (1 ≤ length index) × (length index ≤ most_index) × All (λ b. (32 ≤ b) × (b ≢ 127)) index × (get_or index 0 0 ≢ 32) × (get_or index (length index - 1) 0 ≢ 32)
 
+-- 0 to 10^13, in units of 10^-4
 abbrev pub IsNotional : ℤ → Type 0
 IsNotional v = (pos 0 ≤ℤ v) × (v ≤ℤ pos most_notional)
 
+-- at most 10 in size, in units of 10^-9
 abbrev pub IsRate : ℤ → Type 0
 IsRate v = unsigned_abs v ≤ most_rate
 
@@ -74,6 +78,7 @@ IsRate v = unsigned_abs v ≤ most_rate
 abbrev pub IsLawfulValues : (ℤ → Type 0) → StepValues → Type 0
 IsLawfulValues InRange values = InRange values.initial × (length values.steps ≤ most_steps) × All (λ s. IsDay s.day × InRange s.value) values.steps
 
+-- payment terms whose values lie in their ranges
 pub record IsLawfulPay (p : PayTerms) : Type 0 where
   pub freq : IsLawfulFrequency p.freq
   pub first : IfSome p.first IsDay
@@ -81,14 +86,17 @@ pub record IsLawfulPay (p : PayTerms) : Type 0 where
   pub offset : IsLawfulOffset p.offset
   pub centers : IsLawfulCenters p.adj.centers
 
+-- terms of fixing dates whose values lie in their ranges
 abbrev pub IsLawfulFix : FixTerms → Type 0
 IsLawfulFix f = IsLawfulOffset f.offset × IsLawfulCenters f.adj.centers
 
+-- terms of resets whose values lie in their ranges
 pub record IsLawfulReset (r : ResetTerms) : Type 0 where
   pub fixing : IfSome r.fixing IsLawfulFix
   pub freq : IsLawfulFrequency r.freq
   pub centers : IsLawfulCenters r.adj.centers
 
+-- floating terms whose values lie in their ranges; a rate is rounded to at most 9 decimals
 pub record IsLawfulFloat (f : FloatTerms) : Type 0 where
   pub index : IsLawfulIndex f.index
   pub tenor : IfSome f.tenor IsLawfulTenor
@@ -97,14 +105,17 @@ pub record IsLawfulFloat (f : FloatTerms) : Type 0 where
   pub initial_rate : IfSome f.initial_rate IsRate
   pub rounding : f.rounding.places ≤ 9
 
+-- a leg whose rates lie in their range
 abbrev pub IsLawfulLeg : Leg → Type 0
 IsLawfulLeg (Fixed values) = IsLawfulValues IsRate values
 IsLawfulLeg (Floating f) = IsLawfulFloat f
 
+-- the rate of a stub: a lawful index and tenor, or a rate in its range
 abbrev pub IsLawfulStubRate : StubRate → Type 0
 IsLawfulStubRate (Index index tenor) = IsLawfulIndex index × IfSome tenor IsLawfulTenor
 IsLawfulStubRate (FixedStub rate) = IsRate rate
 
+-- lawful rates of both stubs, where they are given
 abbrev pub IsLawfulStubs : StubTerms → Type 0
 IsLawfulStubs s = IfSome s.initial IsLawfulStubRate × IfSome s.last IsLawfulStubRate
 
@@ -112,6 +123,7 @@ IsLawfulStubs s = IfSome s.initial IsLawfulStubRate × IfSome s.last IsLawfulStu
 abbrev pub IsLawfulCurrency : Currency → Type 0
 IsLawfulCurrency c = All (λ b. (65 ≤ b) × (b ≤ 90)) c.letters
 
+-- a stream whose values lie in their ranges
 pub record IsLawfulStream (s : Stream) : Type 0 where
   pub effective : IsLawfulDated s.effective
   pub first_start : IfSome s.first_start IsLawfulDated

@@ -14,6 +14,7 @@ length_by M count = Months count
 length_by Y count = Months (12 * count)
 length_by T count = Term count
 
+-- the length of a frequency
 abbrev pub length_of : Frequency → Length
 length_of f = length_by f.unit f.count
 
@@ -29,6 +30,7 @@ is_same_length (Term a) (Days b) = false
 is_same_length (Term a) (Months b) = false
 is_same_length (Term a) (Term b) = a == b
 
+-- frequencies of the same length: 12M and 1Y, 7D and 1W
 abbrev pub same_length : Frequency → Frequency → Bool
 same_length a b = is_same_length (length_of a) (length_of b)
 

@@ -28,6 +28,7 @@ adjusts_days ModPreceding = true
 adjusts_days Nearest = true
 adjusts_days Unadjusted = false
 
+-- the offset counts business days
 abbrev pub is_business : DayKind → Bool
 is_business Business = true
 is_business Calendar = false
@@ -41,6 +42,7 @@ counts_days offset = is_business offset.kind && not (int_eq offset.days (pos 0))
 abbrev pub names_for : Bool → Centers → Option (List (List ℕ))
 names_for needed centers = if needed then listed_names centers else None
 
+-- the centres that adjustments ask: none where they need no days
 abbrev pub names_by : Adjustments → Option (List (List ℕ))
 names_by adj = names_for (adjusts_days adj.code) adj.centers
 
@@ -48,14 +50,17 @@ names_by adj = names_for (adjusts_days adj.code) adj.centers
 abbrev pub names_with : Offset → Adjustments → Option (List (List ℕ))
 names_with offset adj = names_for (adjusts_days adj.code || counts_days offset) adj.centers
 
+-- the centres that reset dates ask
 abbrev pub reset_names : Option ResetTerms → Option (List (List ℕ))
 reset_names None = None
 reset_names (Some terms) = names_by terms.adj
 
+-- the centres that terms of fixing dates ask, where there are any
 abbrev pub fixing_names_of : Option FixTerms → Option (List (List ℕ))
 fixing_names_of None = None
 fixing_names_of (Some fixing) = names_with fixing.offset fixing.adj
 
+-- the centres that fixing dates ask
 abbrev pub fixing_names : Option ResetTerms → Option (List (List ℕ))
 fixing_names None = None
 fixing_names (Some terms) = fixing_names_of terms.fixing

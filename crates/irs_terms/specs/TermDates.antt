@@ -11,6 +11,7 @@ abbrev pub first_day_element_by : Option Dated → ℕ
 first_day_element_by None = effective_date
 first_day_element_by (Some start) = first_period_start_date
 
+-- the element of the stream's first day
 abbrev pub first_day_element : Stream → ℕ
 first_day_element s = first_day_element_by s.first_start
 

@@ -1,0 +1,54 @@
+"""Documents, calendars, fixings and flows of any size, for tools/hostile and tools/bench."""
+from datetime import date, timedelta
+
+
+def adjustments(convention, centers):
+    listed = ",".join('"C%d"' % c for c in centers)
+    names = ',"businessCenters":{"businessCenter":[%s]}' % listed if centers else ""
+    return '{"businessDayConvention":"%s"%s}' % (convention, names)
+
+
+def steps(first, count, value):
+    days = (first + timedelta(days=n + 1) for n in range(count))
+    return "".join('{"stepDate":"%s","stepValue":"%s"},' % (d, value) for d in days).rstrip(",")
+
+
+def stream(periods, count, convention="NONE", centers=()):
+    """A fixed stream of daily periods with that many steps of notional and of rate."""
+    first = date(2000, 1, 1)
+    last = first + timedelta(days=periods)
+    moved = adjustments(convention, centers)
+    notional = ',"step":[%s]' % steps(first, count, "1000") if count else ""
+    rate = ',"step":[%s]' % steps(first, count, "0.05") if count else ""
+    return (
+        '{"calculationPeriodDates":{"effectiveDate":{"unadjustedDate":"%s","dateAdjustments":%s},'
+        '"terminationDate":{"unadjustedDate":"%s","dateAdjustments":%s},'
+        '"calculationPeriodDatesAdjustments":%s,'
+        '"calculationPeriodFrequency":{"periodMultiplier":"1","period":"D","rollConvention":"NONE"}},'
+        '"paymentDates":{"paymentFrequency":{"periodMultiplier":"1","period":"D"},'
+        '"payRelativeTo":"CalculationPeriodEndDate","paymentDatesAdjustments":%s},'
+        '"calculationPeriodAmount":{"calculation":{"notionalSchedule":{"notionalStepSchedule":'
+        '{"initialValue":"1000"%s,"currency":"USD"}},"fixedRateSchedule":{"initialValue":"0.05"%s},'
+        '"dayCountFraction":"ACT/360"}}}'
+    ) % (first, moved, last, moved, moved, moved, notional, rate)
+
+
+def swap(streams):
+    return '{"swap":{"swapStream":[%s]}}' % ",".join(streams)
+
+
+def calendar(name, holidays):
+    first = date(1901, 1, 1)
+    days = "".join("%s\n" % (first + timedelta(days=5 * n)) for n in range(holidays))
+    return "center %s\ncover 1901-01-01 2299-12-31\nweekend SAT SUN\n%s" % (name, days)
+
+
+def fixings(lines):
+    first = date(1950, 1, 1)
+    return "".join("%s 0.05 3M USD-TEST-INDEX\n" % (first + timedelta(days=n)) for n in range(lines))
+
+
+def flows(rows):
+    payment = '{"adjustedPaymentDate":"2024-07-15","calculationPeriod":{"adjustedStartDate":"2024-01-15"}}'
+    one = '{"cashflows":{"paymentCalculationPeriod":[%s]}}' % ",".join([payment] * rows)
+    return '{"swap":{"swapStream":[%s]}}' % ",".join([one] * 8)
