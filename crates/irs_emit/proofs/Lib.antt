@@ -1,0 +1,3 @@
+pub mod LeafTexts
+pub mod ReadBack
+pub mod Bounds

@@ -1,0 +1,3 @@
+pub mod Leaves
+pub mod Emitted
+pub mod Paid
