@@ -14,8 +14,8 @@ use Rattle.irs_terms.specs.declared.codes.DayCountCode.TheVariants.{OneOne, ActA
 use Rattle.irs_terms.specs.declared.currency.Currency.{Currency}
 use Rattle.irs_terms.specs.declared.results.Exchange.{Exchange}
 use Rattle.jiff_core.proofs.SignedLemmas.{signed_arith}
-use Rattle.std.proofs.Common.{◌≡◌, ℕ, zero, suc, ◌+◌, ◌≤◌, List, [], ◌∷◌, length, Option, Some, ℤ, pos, ◌<ℤ◌, inl, inr, sym, ap, subst, arith}
-use Rattle.std.proofs.lemmas.Option.{slice_get_cases, IfSome_then}
+use Rattle.std.proofs.Common.{◌≡◌, ℕ, zero, suc, ◌+◌, ◌<◌, ◌≤◌, List, [], ◌∷◌, length, get_or, Option, Some, ℤ, pos, ◌<ℤ◌, inl, inr, sym, ap, ◌∙◌, subst, arith}
+use Rattle.std.proofs.lemmas.Option.{slice_get_cases, slice_get-get_or, IfSome_then}
 use Rattle.std.specs.Prelude.{slice_get, unwrap_or}
 
 every_get : {X : Type 0} (P : X → Type 0) (xs : List X) (j : ℕ) (x : X) → Every P xs → slice_get xs j ≡ Some x → P x
@@ -58,3 +58,7 @@ period_above p j x h e = elim (slice_get_cases p.periods j).1 [
       subst (λ (d : ℤ). pos 0 <ℤ d) (ap (λ (o : Option CalculationPeriod). (unwrap_or o x).frac.den) same) (entry_above p.day_count w.0 (every_get (IsEntry p.day_count) p.periods j w.0 h.entries there))
   | inr w ↦ absurd (let none = w.1 in let bad = rw none at e in cc)
 ]
+
+-- a payment by its index
+pub paid_at : (p : Part) (rows : List PaymentEntry) (j : ℕ) (y : PaymentEntry) → KeepsBounds p → rows ≡ p.payments → j < length rows → y ≡ get_or rows j y → IsPaid y
+paid_at p rows j y h same l e = payment_kept p j y h (ap (λ ys. slice_get ys j) (sym same) ∙ slice_get-get_or rows j y l ∙ ap Some (sym e))

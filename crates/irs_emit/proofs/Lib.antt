@@ -1,3 +1,5 @@
 pub mod LeafTexts
 pub mod ReadBack
 pub mod Bounds
+pub mod Values
+pub mod Built

@@ -1,14 +1,13 @@
 -- A text whose leaves are strings reads back as its value, with a line feed behind it too.
-use Rattle.json.specs.Token.{Token, begin_object, end_object, begin_array, end_array, string as text_token}
-use Rattle.json.specs.Lex.{Lexeme, token, comma, colon, string_token, lex, between, fresh, punctuate, tokens}
+use Rattle.json.specs.Token.{begin_object, end_object, begin_array, end_array, string as text_token}
+use Rattle.json.specs.Lex.{Lexeme, token, comma, colon, string_token, lex, between, fresh, punctuate}
 use Rattle.json.specs.Print.{escape, quoted}
 use Rattle.json.proofs.Printed.Strings.{content-escape, lex-escape}
 use Rattle.json.specs.Json as json
-use Rattle.serde_json.specs.Data.{Num, Data, null, boolean, number, string, array, object, Items, no_items, item, Members, no_members, member, put, depth, items_depth, members_depth}
+use Rattle.serde_json.specs.Data.{Data, null, boolean, number, string, array, object, Items, no_items, item, Members, no_members, member, put, depth, items_depth, members_depth}
 use Rattle.serde_json.specs.Read.{of_json, max_depth, read}
-use Rattle.serde_json.specs.View.{items_of}
 use Rattle.serde_json.specs.Written.{comma_if, compact_text, has_float, items_have_float, items_text, members_have_float, members_text}
-use Rattle.std.proofs.Common.{◌≡◌, ℕ, zero, suc, ◌-◌, ◌<◌, ◌≤◌, List, [], ◌∷◌, ◌++◌, Bool, true, false, ◌||◌, Option, Ordering, Less, Equal, Greater, nat_cmp, refl, sym, ap, ap₂, ◌∙◌, append_assoc, append-nil, arith}
+use Rattle.std.proofs.Common.{◌≡◌, ℕ, ◌-◌, ◌<◌, ◌≤◌, List, [], ◌∷◌, ◌++◌, Bool, true, false, ◌||◌, Ordering, Less, Equal, Greater, nat_cmp, refl, sym, ap, ap₂, ◌∙◌, append_assoc, append-nil, arith}
 use Rattle.std.specs.Cmp.Lexicographic.{slice_cmp}
 use Rattle.std.specs.Ordering.{match_ordering}
 use Rattle.std.specs.Prelude.{max, option_and_then}

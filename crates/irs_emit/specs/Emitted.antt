@@ -1,6 +1,5 @@
 -- The cash flows of a schedule as a JSON value, in FpML's elements: a row for each row of the schedule,
 -- each field of it that is known, and no other. Members stand in the byte order of their names.
-use Rattle.std.specs.List.{flat_map}
 use Rattle.std.specs.Prelude.{ℕ, zero, suc, ◌+◌, ◌-◌, List, [], ◌∷◌, ◌++◌, map, Option, Some, None, option_map, slice_get, codes}
 use Rattle.irs_terms.specs.declared.currency.Currency.{Currency}
 use Rattle.irs_terms.specs.declared.results.Exchange.{Exchange}
@@ -69,14 +68,27 @@ period_members x =
   (put (codes "unadjustedStartDate") (day_leaf x.start)
   no_members))))))
 
--- a calculation period: one with a reset has `floatingRateDefinition`, another its `fixedRate`
-unfoldable pub period_value : CalculationPeriod → Option Reset → Data
-period_value x None = object (put_known (codes "fixedRate") (option_map rate_leaf x.rate) (period_members x))
-period_value x (Some r) = object (put (codes "floatingRateDefinition") (definition_value x r) (period_members x))
+-- a calculation period without a reset has its `fixedRate`
+unfoldable pub fixed_value : CalculationPeriod → Data
+fixed_value x = object (put_known (codes "fixedRate") (option_map rate_leaf x.rate) (period_members x))
+
+-- one with a reset has `floatingRateDefinition`
+unfoldable pub floating_value : CalculationPeriod → Reset → Data
+floating_value x r = object (put (codes "floatingRateDefinition") (definition_value x r) (period_members x))
+
+-- a calculation period, with its reset if it has one
+abbrev pub period_value : CalculationPeriod → Option Reset → Data
+period_value x None = fixed_value x
+period_value x (Some r) = floating_value x r
+
+-- a period that may be absent
+abbrev pub listed_period : Option Reset → Option CalculationPeriod → List Data
+listed_period reset None = []
+listed_period reset (Some x) = period_value x reset ∷ []
 
 -- the period at a place, counted from 0, if there is one
 abbrev pub one_period : Part → ℕ → List Data
-one_period p j = elim (period_at p j) [ Some x ↦ period_value x (slice_get p.resets j) ∷ [] | None ↦ [] ]
+one_period p j = listed_period (slice_get p.resets j) (period_at p j)
 
 -- so many periods from that place on
 abbrev pub period_values : Part → ℕ → ℕ → List Data

@@ -1,11 +1,11 @@
 //! The document: the streams of a schedule with their cash flows.
-ghost use Rattle.std.specs.Prelude.{◌≡◌, ◌+◌, ◌-◌, ◌++◌, ◌∷◌, [], IfOk, option_map, map};
+ghost use Rattle.std.specs.Prelude.{◌≡◌, ◌+◌, ◌-◌, ◌<◌, ◌^◌, ◌++◌, ◌∷◌, [], IfOk, OnOk, option_map, map};
 ghost use Rattle.serde_json.specs.Data.{object};
 ghost use Rattle.serde_json.specs.View.{members_view, view};
 ghost use Rattle.serde_json.specs.Written.{compact_text};
 ghost use Rattle.irs_json.specs.Reading.{Reads};
 ghost use Rattle.irs_emit.specs.Paid.{IsPaid};
-ghost use Rattle.irs_emit.specs.Emitted.{array_of, cashflows_value, emit_text, emit_value, exchange_value, known_exchanges, object_with, payment_value, period_values, stream_value};
+ghost use Rattle.irs_emit.specs.Emitted.{array_of, cashflows_value, emit_text, emit_value, exchange_value, known_exchanges, object_with, one_period, payment_value, period_values, stream_value};
 
 use crate::leaves;
 use crate::rows::{exchange, forecast, period, put_known};
@@ -38,15 +38,35 @@ fn exchanges(alloc: Global, part: &StreamPart) -> Result<Option<Value>, Memory>
     Ok(Some(Value::Array(list)))
 }
 
+// Puts the calculation period at a place, counted from 0, behind the others, if there is one.
+#[tactic(auto, using(crate::proofs::Values::listed_here, crate::proofs::Bounds::period_above))]
+fn push_period(
+    alloc: Global,
+    list: &mut Vec<Value>,
+    part: &StreamPart,
+    place: usize,
+) -> Result<(), Memory>
+    ensures { OnOk result (map view list.new.items ≡ map view list.old.items ++ one_period part.now place) }
+{
+    match part.period(place) {
+        None => Ok(()),
+        Some(x) => {
+            let row = period(alloc, &x, part.resets().get(place))?;
+            list.push(row)?;
+            Ok(())
+        },
+    }
+}
+
 // So many calculation periods, from that place on, counted from 0.
+#[tactic(auto, using(crate::proofs::Values::next_period, crate::proofs::Values::listed))]
 fn periods(alloc: Global, part: &StreamPart, first: usize, count: usize) -> Result<Value, Memory>
+    requires { first + count < 2 ^ 63 }
     ensures { IfOk result (λ v. view v ≡ array_of (period_values part.now first count)) }
 {
     let mut list = Vec::new(alloc);
     for j in 0..count {
-        if let Some(x) = part.period(first + j) {
-            list.push(period(alloc, &x, part.resets().get(first + j))?)?;
-        }
+        push_period(alloc, &mut list, part, first + j)?;
     }
     Ok(Value::Array(list))
 }
@@ -69,6 +89,7 @@ fn payment(alloc: Global, part: &StreamPart, y: &PaymentEntry) -> Result<Value, 
     Ok(Value::Object(members))
 }
 
+#[tactic(auto, using(crate::proofs::Values::mapped, crate::proofs::Bounds::paid_at))]
 fn payments(alloc: Global, part: &StreamPart) -> Result<Value, Memory>
     ensures { IfOk result (λ v. view v ≡ array_of (map (payment_value part.now) part.now.payments)) }
 {
@@ -120,7 +141,7 @@ fn document(alloc: Global, s: &Schedule) -> Result<Value, Memory>
 /// fraction with 10, rounded to the nearest. The text is the compact one that `serde_json` writes,
 /// members in the byte order of their names, with a line feed behind it. `Memory` comes where memory
 /// runs out. The layout is this project's own.
-#[tactic(auto, unfolding(crate::specs::Emitted::emit_text))]
+#[tactic(auto, using(crate::proofs::Built::text_is, crate::proofs::Built::text_reads))]
 pub fn emit_flows(alloc: Global, s: &Schedule) -> Result<Vec<u8>, Memory>
     ensures text { IfOk result (λ bytes. bytes.items ≡ emit_text s.now) }
     ensures reads { IfOk result (λ bytes. Reads bytes.items (emit_value s.now)) }

@@ -3,7 +3,7 @@
 ghost use Rattle.std.specs.Prelude.{◌≡◌, ◌≤◌, IfOk, IfSome, OnOk, pos, ◌<ℤ◌, option_map};
 ghost use Rattle.serde_json.specs.View.{members_view, view};
 ghost use Rattle.irs_schedule.specs.RowTexts.{IsFew};
-ghost use Rattle.irs_emit.specs.Emitted.{definition_value, exchange_value, forecast_value, observation_value, period_members, period_value, put_known};
+ghost use Rattle.irs_emit.specs.Emitted.{definition_value, exchange_value, fixed_value, floating_value, forecast_value, observation_value, period_members, period_value, put_known};
 ghost use Rattle.irs_emit.specs.Leaves.{amount_leaf, rate_leaf};
 
 use crate::leaves;
@@ -114,20 +114,39 @@ fn period_members(alloc: Global, x: &CalculationPeriod) -> Result<Members, Memor
     Ok(members)
 }
 
+// A calculation period of a fixed stream.
+#[tactic(auto, unfolding(crate::specs::Emitted::fixed_value))]
+fn fixed(alloc: Global, x: &CalculationPeriod) -> Result<Value, Memory>
+    requires { pos 0 <ℤ x.now.frac.den }
+    ensures { IfOk result (λ v. view v ≡ fixed_value x.now) }
+{
+    let mut members = period_members(alloc, x)?;
+    put_known(&mut members, alloc, "fixedRate", known_rate(alloc, x.rate)?)?;
+    Ok(Value::Object(members))
+}
+
+// One of a floating stream, with its reset.
+#[tactic(auto, unfolding(crate::specs::Emitted::floating_value))]
+fn floating(alloc: Global, x: &CalculationPeriod, r: &Reset) -> Result<Value, Memory>
+    requires { pos 0 <ℤ x.now.frac.den }
+    ensures { IfOk result (λ v. view v ≡ floating_value x.now r.now) }
+{
+    let mut members = period_members(alloc, x)?;
+    put(&mut members, alloc, "floatingRateDefinition", definition(alloc, x, r)?)?;
+    Ok(Value::Object(members))
+}
+
 /// A calculation period, with its reset on a floating stream.
-#[tactic(auto, unfolding(crate::specs::Emitted::period_value))]
 pub(crate) fn period(
     alloc: Global,
     x: &CalculationPeriod,
     reset: Option<&Reset>,
 ) -> Result<Value, Memory>
     requires { pos 0 <ℤ x.now.frac.den }
-    ensures { IfOk result (λ v. view v ≡ period_value x.now (option_map (λ r. r.now) reset)) }
+    ensures { IfOk result (λ v. view v ≡ period_value x.now (option_map (λ r. r.now) reset.entry)) }
 {
-    let mut members = period_members(alloc, x)?;
     match reset {
-        Some(r) => put(&mut members, alloc, "floatingRateDefinition", definition(alloc, x, r)?)?,
-        None => put_known(&mut members, alloc, "fixedRate", known_rate(alloc, x.rate)?)?,
+        Some(r) => floating(alloc, x, r),
+        None => fixed(alloc, x),
     }
-    Ok(Value::Object(members))
 }
