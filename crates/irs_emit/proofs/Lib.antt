@@ -3,3 +3,5 @@ pub mod ReadBack
 pub mod Bounds
 pub mod Values
 pub mod Built
+pub mod LeafTextsRead
+pub mod LeavesRead

@@ -98,9 +98,12 @@ nothing = ([], λ r. refl)
 
 lexes_quoted : (s : List ℕ) → Lexes (quoted s)
 unfolding lex
-lexes_quoted s = (token (text_token s) ∷ [], λ r.
-    let e = append_assoc (escape s) (34 ∷ []) r in
-    ap (λ l. lex between (34 ∷ l)) e ∙ ap₂ (λ o l. token (string_token o) ∷ l) (content-escape s r) (lex-escape s r))
+lexes_quoted s = (
+  token (text_token s) ∷ [],
+  λ r.
+      let e = append_assoc (escape s) (34 ∷ []) r in
+      ap (λ l. lex between (34 ∷ l)) e ∙ ap₂ (λ o l. token (string_token o) ∷ l) (content-escape s r) (lex-escape s r),
+)
 
 open_brace : (t : List ℕ) → Lexes t → Lexes (123 ∷ t)
 unfolding lex

@@ -29,44 +29,44 @@ array_of ds = array (items_of ds)
 -- a principal exchange
 unfoldable pub exchange_value : Exchange → Data
 exchange_value x = object (
-  put (codes "adjustedPrincipalExchangeDate") (day_leaf x.adjusted)
-  (put (codes "principalExchangeAmount") (amount_leaf x.amount)
-  (put (codes "unadjustedPrincipalExchangeDate") (day_leaf x.unadjusted)
-  no_members)))
+    put (codes "adjustedPrincipalExchangeDate") (day_leaf x.adjusted)
+    (put (codes "principalExchangeAmount") (amount_leaf x.amount)
+    (put (codes "unadjustedPrincipalExchangeDate") (day_leaf x.unadjusted)
+    no_members)))
 
 -- the amount of a payment; the currency stands also where the amount isn't known
 unfoldable pub forecast_value : Currency → PaymentEntry → Data
 forecast_value currency y = object (
-  put_known (codes "amount") (option_map amount_leaf y.amount)
-  (put (codes "currency") (currency_leaf currency)
-  no_members))
+    put_known (codes "amount") (option_map amount_leaf y.amount)
+    (put (codes "currency") (currency_leaf currency)
+    no_members))
 
 -- a reset, with its rate where that is known
 unfoldable pub observation_value : Reset → Data
 observation_value r = object (
-  put_known (codes "observedRate") (option_map rate_leaf r.observed)
-  (put (codes "adjustedFixingDate") (day_leaf r.fixing)
-  (put (codes "resetDate") (day_leaf r.reset)
-  no_members)))
+    put_known (codes "observedRate") (option_map rate_leaf r.observed)
+    (put (codes "adjustedFixingDate") (day_leaf r.fixing)
+    (put (codes "resetDate") (day_leaf r.reset)
+    no_members)))
 
 -- the rate of a period and its reset
 unfoldable pub definition_value : CalculationPeriod → Reset → Data
 definition_value x r = object (
-  put_known (codes "calculatedRate") (option_map rate_leaf x.rate)
-  (put (codes "rateObservation") (observation_value r)
-  no_members))
+    put_known (codes "calculatedRate") (option_map rate_leaf x.rate)
+    (put (codes "rateObservation") (observation_value r)
+    no_members))
 
 -- the members of each calculation period
 unfoldable pub period_members : CalculationPeriod → Members
 period_members x =
-  put (codes "adjustedEndDate") (day_leaf x.adjusted_end)
-  (put (codes "adjustedStartDate") (day_leaf x.adjusted_start)
-  (put (codes "calculationPeriodNumberOfDays") (count_leaf x.days)
-  (put (codes "dayCountYearFraction") (fraction_leaf x.frac)
-  (put (codes "notionalAmount") (notional_leaf x.notional)
-  (put (codes "unadjustedEndDate") (day_leaf x.«end»)
-  (put (codes "unadjustedStartDate") (day_leaf x.start)
-  no_members))))))
+    put (codes "adjustedEndDate") (day_leaf x.adjusted_end)
+    (put (codes "adjustedStartDate") (day_leaf x.adjusted_start)
+    (put (codes "calculationPeriodNumberOfDays") (count_leaf x.days)
+    (put (codes "dayCountYearFraction") (fraction_leaf x.frac)
+    (put (codes "notionalAmount") (notional_leaf x.notional)
+    (put (codes "unadjustedEndDate") (day_leaf x.«end»)
+    (put (codes "unadjustedStartDate") (day_leaf x.start)
+    no_members))))))
 
 -- a calculation period without a reset has its `fixedRate`
 unfoldable pub fixed_value : CalculationPeriod → Data
@@ -98,11 +98,11 @@ period_values p j (suc n) = period_values p j n ++ one_period p (j + n)
 -- a payment, with the calculation periods that it pays
 unfoldable pub payment_value : Part → PaymentEntry → Data
 payment_value p y = object (
-  put (codes "adjustedPaymentDate") (day_leaf y.adjusted)
-  (put (codes "calculationPeriod") (array_of (period_values p (y.first_period - 1) (y.last_period + 1 - y.first_period)))
-  (put (codes "forecastPaymentAmount") (forecast_value p.currency y)
-  (put (codes "unadjustedPaymentDate") (day_leaf y.unadjusted)
-  no_members))))
+    put (codes "adjustedPaymentDate") (day_leaf y.adjusted)
+    (put (codes "calculationPeriod") (array_of (period_values p (y.first_period - 1) (y.last_period + 1 - y.first_period)))
+    (put (codes "forecastPaymentAmount") (forecast_value p.currency y)
+    (put (codes "unadjustedPaymentDate") (day_leaf y.unadjusted)
+    no_members))))
 
 -- the exchanges, where there are any
 abbrev pub known_exchanges : List Exchange → Option Data
@@ -112,10 +112,10 @@ known_exchanges (x ∷ xs) = Some (array_of (map exchange_value (x ∷ xs)))
 -- FpML's `cashflows` of a stream
 unfoldable pub cashflows_value : Part → Data
 cashflows_value p = object (
-  put_known (codes "principalExchange") (known_exchanges p.exchanges)
-  (put (codes "cashflowsMatchParameters") (string (codes "true"))
-  (put (codes "paymentCalculationPeriod") (array_of (map (payment_value p) p.payments))
-  no_members)))
+    put_known (codes "principalExchange") (known_exchanges p.exchanges)
+    (put (codes "cashflowsMatchParameters") (string (codes "true"))
+    (put (codes "paymentCalculationPeriod") (array_of (map (payment_value p) p.payments))
+    no_members)))
 
 -- a stream has its cash flows alone
 abbrev pub stream_value : Part → Data

@@ -1,3 +1,4 @@
 pub mod Leaves
 pub mod Emitted
 pub mod Paid
+pub mod LeafLaws

@@ -80,12 +80,22 @@ fn payment(alloc: Global, part: &StreamPart, y: &PaymentEntry) -> Result<Value, 
     let first = y.first_period as usize - 1;
     let last = y.last_period as usize;
     let mut members = Map::new(alloc);
-    put(&mut members, alloc, "unadjustedPaymentDate", leaves::day(alloc, y.unadjusted)?)?;
+    put(
+        &mut members,
+        alloc,
+        "unadjustedPaymentDate",
+        leaves::day(alloc, y.unadjusted)?,
+    )?;
     let forecast = forecast(alloc, part.currency(), y)?;
     put(&mut members, alloc, "forecastPaymentAmount", forecast)?;
     let periods = periods(alloc, part, first, last - first)?;
     put(&mut members, alloc, "calculationPeriod", periods)?;
-    put(&mut members, alloc, "adjustedPaymentDate", leaves::day(alloc, y.adjusted)?)?;
+    put(
+        &mut members,
+        alloc,
+        "adjustedPaymentDate",
+        leaves::day(alloc, y.adjusted)?,
+    )?;
     Ok(Value::Object(members))
 }
 
@@ -93,10 +103,10 @@ fn payment(alloc: Global, part: &StreamPart, y: &PaymentEntry) -> Result<Value, 
 fn payments(alloc: Global, part: &StreamPart) -> Result<Value, Memory>
     ensures { IfOk result (λ v. view v ≡ array_of (map (payment_value part.now) part.now.payments)) }
 {
-    let rows = part.payments();
+    let paid = part.payments();
     let mut list = Vec::new(alloc);
-    for j in 0..rows.len() {
-        list.push(payment(alloc, part, &rows[j])?)?;
+    for j in 0..paid.len() {
+        list.push(payment(alloc, part, &paid[j])?)?;
     }
     Ok(Value::Array(list))
 }
@@ -107,10 +117,20 @@ fn cashflows(alloc: Global, part: &StreamPart) -> Result<Value, Memory>
     ensures { IfOk result (λ v. view v ≡ cashflows_value part.now) }
 {
     let mut members = Map::new(alloc);
-    put(&mut members, alloc, "paymentCalculationPeriod", payments(alloc, part)?)?;
+    put(
+        &mut members,
+        alloc,
+        "paymentCalculationPeriod",
+        payments(alloc, part)?,
+    )?;
     let matches = Value::try_from_str(alloc, "true")?;
     put(&mut members, alloc, "cashflowsMatchParameters", matches)?;
-    put_known(&mut members, alloc, "principalExchange", exchanges(alloc, part)?)?;
+    put_known(
+        &mut members,
+        alloc,
+        "principalExchange",
+        exchanges(alloc, part)?,
+    )?;
     Ok(Value::Object(members))
 }
 

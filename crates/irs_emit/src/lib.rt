@@ -3,7 +3,11 @@
 #![tactic(auto)]
 
 mod emitting;
+mod leaf_laws;
 mod leaves;
 mod rows;
+#[cfg(test)]
+mod tests;
 
 pub use emitting::emit_flows;
+pub use leaf_laws::leaves_read_back;

@@ -59,9 +59,24 @@ pub(crate) fn exchange(alloc: Global, x: &Exchange) -> Result<Value, Memory>
 {
     let mut members = Map::new(alloc);
     let unadjusted = leaves::day(alloc, x.unadjusted)?;
-    put(&mut members, alloc, "unadjustedPrincipalExchangeDate", unadjusted)?;
-    put(&mut members, alloc, "principalExchangeAmount", leaves::amount(alloc, x.amount)?)?;
-    put(&mut members, alloc, "adjustedPrincipalExchangeDate", leaves::day(alloc, x.adjusted)?)?;
+    put(
+        &mut members,
+        alloc,
+        "unadjustedPrincipalExchangeDate",
+        unadjusted,
+    )?;
+    put(
+        &mut members,
+        alloc,
+        "principalExchangeAmount",
+        leaves::amount(alloc, x.amount)?,
+    )?;
+    put(
+        &mut members,
+        alloc,
+        "adjustedPrincipalExchangeDate",
+        leaves::day(alloc, x.adjusted)?,
+    )?;
     Ok(Value::Object(members))
 }
 
@@ -72,8 +87,18 @@ pub(crate) fn forecast(alloc: Global, of: Currency, y: &PaymentEntry) -> Result<
     ensures { IfOk result (λ v. view v ≡ forecast_value of y.now) }
 {
     let mut members = Map::new(alloc);
-    put(&mut members, alloc, "currency", leaves::currency(alloc, of)?)?;
-    put_known(&mut members, alloc, "amount", known_amount(alloc, y.amount)?)?;
+    put(
+        &mut members,
+        alloc,
+        "currency",
+        leaves::currency(alloc, of)?,
+    )?;
+    put_known(
+        &mut members,
+        alloc,
+        "amount",
+        known_amount(alloc, y.amount)?,
+    )?;
     Ok(Value::Object(members))
 }
 
@@ -82,9 +107,24 @@ fn observation(alloc: Global, r: &Reset) -> Result<Value, Memory>
     ensures { IfOk result (λ v. view v ≡ observation_value r.now) }
 {
     let mut members = Map::new(alloc);
-    put(&mut members, alloc, "resetDate", leaves::day(alloc, r.reset)?)?;
-    put(&mut members, alloc, "adjustedFixingDate", leaves::day(alloc, r.fixing)?)?;
-    put_known(&mut members, alloc, "observedRate", known_rate(alloc, r.observed)?)?;
+    put(
+        &mut members,
+        alloc,
+        "resetDate",
+        leaves::day(alloc, r.reset)?,
+    )?;
+    put(
+        &mut members,
+        alloc,
+        "adjustedFixingDate",
+        leaves::day(alloc, r.fixing)?,
+    )?;
+    put_known(
+        &mut members,
+        alloc,
+        "observedRate",
+        known_rate(alloc, r.observed)?,
+    )?;
     Ok(Value::Object(members))
 }
 
@@ -93,8 +133,18 @@ fn definition(alloc: Global, x: &CalculationPeriod, r: &Reset) -> Result<Value, 
     ensures { IfOk result (λ v. view v ≡ definition_value x.now r.now) }
 {
     let mut members = Map::new(alloc);
-    put(&mut members, alloc, "rateObservation", observation(alloc, r)?)?;
-    put_known(&mut members, alloc, "calculatedRate", known_rate(alloc, x.rate)?)?;
+    put(
+        &mut members,
+        alloc,
+        "rateObservation",
+        observation(alloc, r)?,
+    )?;
+    put_known(
+        &mut members,
+        alloc,
+        "calculatedRate",
+        known_rate(alloc, x.rate)?,
+    )?;
     Ok(Value::Object(members))
 }
 
@@ -104,13 +154,48 @@ fn period_members(alloc: Global, x: &CalculationPeriod) -> Result<Members, Memor
     ensures { IfOk result (λ members. members_view members.entries ≡ period_members x.now) }
 {
     let mut members = Map::new(alloc);
-    put(&mut members, alloc, "unadjustedStartDate", leaves::day(alloc, x.start)?)?;
-    put(&mut members, alloc, "unadjustedEndDate", leaves::day(alloc, x.end)?)?;
-    put(&mut members, alloc, "notionalAmount", leaves::notional(alloc, x.notional)?)?;
-    put(&mut members, alloc, "dayCountYearFraction", leaves::fraction(alloc, x.frac)?)?;
-    put(&mut members, alloc, "calculationPeriodNumberOfDays", leaves::count(alloc, x.days)?)?;
-    put(&mut members, alloc, "adjustedStartDate", leaves::day(alloc, x.adjusted_start)?)?;
-    put(&mut members, alloc, "adjustedEndDate", leaves::day(alloc, x.adjusted_end)?)?;
+    put(
+        &mut members,
+        alloc,
+        "unadjustedStartDate",
+        leaves::day(alloc, x.start)?,
+    )?;
+    put(
+        &mut members,
+        alloc,
+        "unadjustedEndDate",
+        leaves::day(alloc, x.end)?,
+    )?;
+    put(
+        &mut members,
+        alloc,
+        "notionalAmount",
+        leaves::notional(alloc, x.notional)?,
+    )?;
+    put(
+        &mut members,
+        alloc,
+        "dayCountYearFraction",
+        leaves::fraction(alloc, x.frac)?,
+    )?;
+    put(
+        &mut members,
+        alloc,
+        "calculationPeriodNumberOfDays",
+        leaves::count(alloc, x.days)?,
+    )?;
+    put(
+        &mut members,
+        alloc,
+        "adjustedStartDate",
+        leaves::day(alloc, x.adjusted_start)?,
+    )?;
+    put(
+        &mut members,
+        alloc,
+        "adjustedEndDate",
+        leaves::day(alloc, x.adjusted_end)?,
+    )?;
     Ok(members)
 }
 
@@ -132,7 +217,12 @@ fn floating(alloc: Global, x: &CalculationPeriod, r: &Reset) -> Result<Value, Me
     ensures { IfOk result (λ v. view v ≡ floating_value x.now r.now) }
 {
     let mut members = period_members(alloc, x)?;
-    put(&mut members, alloc, "floatingRateDefinition", definition(alloc, x, r)?)?;
+    put(
+        &mut members,
+        alloc,
+        "floatingRateDefinition",
+        definition(alloc, x, r)?,
+    )?;
     Ok(Value::Object(members))
 }
 

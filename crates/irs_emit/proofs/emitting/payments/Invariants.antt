@@ -4,4 +4,4 @@ use Rattle.serde_json.specs.View.{view}
 use Rattle.std.proofs.Common.{◌≡◌, map, take}
 
 abbrev pub invariant-loop-j : goal.invariant-loop-j
-invariant-loop-j l = map view l.list.items ≡ map (payment_value l.part) (take l.j l.rows)
+invariant-loop-j l = map view l.list.items ≡ map (payment_value l.part) (take l.j l.paid)

@@ -1,0 +1,15 @@
+//! That each leaf reads back as its value.
+ghost use Rattle.irs_emit.specs.LeafLaws.{AmountReadsBack, CountReadsBack, CurrencyReadsBack, DayReadsBack, FractionReadsBack, NotionalReadsBack, RateReadsBack};
+
+/// By the rules of cash flows each leaf reads back as the value that it was written for: a date, an
+/// amount, a notional, a rate, a number of days, a fraction and a currency. It does nothing but to say so.
+#[tactic(auto, using(crate::proofs::LeavesRead::day_reads, crate::proofs::LeavesRead::amount_reads, crate::proofs::LeavesRead::notional_reads, crate::proofs::LeavesRead::rate_reads, crate::proofs::LeavesRead::count_reads, crate::proofs::LeavesRead::fraction_reads, crate::proofs::LeavesRead::currency_reads))]
+pub fn leaves_read_back()
+    ensures days { DayReadsBack }
+    ensures amounts { AmountReadsBack }
+    ensures notionals { NotionalReadsBack }
+    ensures rates { RateReadsBack }
+    ensures counts { CountReadsBack }
+    ensures fractions { FractionReadsBack }
+    ensures currencies { CurrencyReadsBack }
+{}
