@@ -5,3 +5,4 @@ pub mod Values
 pub mod Built
 pub mod LeafTextsRead
 pub mod LeavesRead
+pub mod RowsRead

@@ -2,3 +2,4 @@ pub mod Leaves
 pub mod Emitted
 pub mod Paid
 pub mod LeafLaws
+pub mod RowLaws
