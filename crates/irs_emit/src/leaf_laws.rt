@@ -19,8 +19,10 @@ ghost use Rattle.irs_emit.specs.RowLaws.{ExchangeReadsBack, PaymentReadsBack, Pe
 /// By the meaning of cash flows each object reads back as the flow that states its row, where its dates
 /// are days and its numbers have few digits: an exchange, a reset, a calculation period with its reset, and
 /// a payment with the number of its periods. It does nothing but to say so.
-#[tactic(auto, using(crate::proofs::RowsRead::exchange_reads, crate::proofs::RowsRead::reset_reads))]
+#[tactic(auto, using(crate::proofs::RowsRead::exchange_reads, crate::proofs::RowsRead::reset_reads, crate::proofs::RowsRead::period_reads, crate::proofs::RowsRead::payment_reads))]
 pub fn rows_read_back()
     ensures exchanges { ExchangeReadsBack }
     ensures resets { ResetReadsBack }
+    ensures periods { PeriodReadsBack }
+    ensures payments { PaymentReadsBack }
 {}
