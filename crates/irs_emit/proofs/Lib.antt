@@ -6,3 +6,5 @@ pub mod Built
 pub mod LeafTextsRead
 pub mod LeavesRead
 pub mod RowsRead
+pub mod PartsRead
+pub mod Clean

@@ -3,3 +3,4 @@ pub mod Emitted
 pub mod Paid
 pub mod LeafLaws
 pub mod RowLaws
+pub mod PartLaws

@@ -26,3 +26,14 @@ pub fn rows_read_back()
     ensures periods { PeriodReadsBack }
     ensures payments { PaymentReadsBack }
 {}
+
+ghost use Rattle.irs_emit.specs.PartLaws.{ScheduleReadsBack, StreamReadsBack};
+
+/// By the meaning of cash flows the emitted value states just the flows that state the schedule, stream by
+/// stream and row by row, where dates are days and numbers have few digits. That it has no fault of the
+/// tables of cash flows is not said. It does nothing but to say so.
+#[tactic(auto, using(crate::proofs::PartsRead::stream_reads, crate::proofs::PartsRead::schedule_reads))]
+pub fn schedule_reads_back()
+    ensures streams { StreamReadsBack }
+    ensures schedules { ScheduleReadsBack }
+{}

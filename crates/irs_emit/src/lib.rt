@@ -10,4 +10,4 @@ mod rows;
 mod tests;
 
 pub use emitting::emit_flows;
-pub use leaf_laws::{leaves_read_back, rows_read_back};
+pub use leaf_laws::{leaves_read_back, rows_read_back, schedule_reads_back};
