@@ -20,7 +20,7 @@ use Rattle.irs_elements.specs.Dates.{day_at}
 use Rattle.irs_elements.specs.Find.{text_in}
 use Rattle.irs_elements.specs.Numbers.{amount_at, digits_of, has_no_point, is_whole, whole_at}
 use Rattle.irs_json.proofs.Trims.{front_stays, back_stays}
-use Rattle.irs_json.specs.Trim.{NoSpaceFirst, NoSpaceLast, is_space, trim_back}
+use Rattle.irs_json.specs.Trim.{NoSpaceFirst, NoSpaceLast, is_space, trim, trim_back}
 use Rattle.jiff_core.proofs.SignedLemmas.{signed_arith}
 use Rattle.serde_json.specs.Data.{string}
 use Rattle.std.proofs.Common.{◌≡◌, ◌≢◌, inl, inr, ℕ, zero, suc, ◌+◌, ◌-◌, ◌*◌, ◌/◌, ◌%◌, ◌^◌, ◌<◌, ◌≤◌, List, [], ◌∷◌, ◌++◌, length, Bool, true, false, nat_le, ◌==◌, ◌||◌, if◌then◌else◌, take, ℤ, pos, negsuc, ◌*ℤ◌, unsigned_abs, Some, refl, sym, ap, ◌∙◌, subst, arith, append-nil}
@@ -51,6 +51,9 @@ last_of : (s : List ℕ) → Visible s → NoSpaceLast s
 last_of s h x rest e = no_space x (last_visible rest x (subst Visible e h))
 
 -- nothing is trimmed
+pub trimmed : (s : List ℕ) → Visible s → trim s ≡ s
+trimmed s h = ap trim_back (front_stays s (first_of s h)) ∙ back_stays s (last_of s h)
+
 pub visible_text : (s : List ℕ) → Visible s → text_in (Some (string s)) ≡ Some s
 visible_text s h = ap Some (ap trim_back (front_stays s (first_of s h)) ∙ back_stays s (last_of s h))
 

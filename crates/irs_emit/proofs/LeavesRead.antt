@@ -57,7 +57,7 @@ capitals_ascii : (s : List ℕ) → list_all is_capital s ≡ true → IsAscii s
 capitals_ascii [] h = IsAscii-nil
 capitals_ascii (c ∷ cs) h = let b = both_true (is_capital c) (list_all is_capital cs) h in IsAscii-cons c cs (below c b.0) (capitals_ascii cs b.1)
 
-currency_ascii : (s : List ℕ) → is_currency s ≡ true → IsAscii s
+pub currency_ascii : (s : List ℕ) → is_currency s ≡ true → IsAscii s
 currency_ascii s h = capitals_ascii s (both_true (length s == 3) (list_all is_capital s) h).1
 
 pub currency_reads : CurrencyReadsBack

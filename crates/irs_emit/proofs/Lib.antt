@@ -8,3 +8,5 @@ pub mod LeavesRead
 pub mod RowsRead
 pub mod PartsRead
 pub mod Clean
+pub mod CleanRows
+pub mod CleanParts

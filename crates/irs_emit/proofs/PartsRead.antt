@@ -12,9 +12,10 @@ use Rattle.irs_base.specs.Members.{Every}
 use Rattle.irs_elements.specs.Find.{once, values_in, values_of}
 use Rattle.irs_emit.proofs.RowsRead.{array_values, exchange_reads, payment_reads, period_reads}
 use Rattle.irs_emit.specs.Emitted.{array_of, cashflows_value, emit_value, exchange_value, known_exchanges, listed_period, object_with, one_period, payment_value, period_value, period_values, put_known, stream_value}
-use Rattle.irs_emit.specs.PartLaws.{IsPartShort, ScheduleReadsBack, StreamReadsBack}
+use Rattle.irs_emit.specs.PartLaws.{IsPartShort, StatesFlows, StreamReadsBack}
 use Rattle.irs_emit.specs.RowLaws.{IsExchangeShort, IsPaymentShort, IsPeriodShort, IsResetShort}
 use Rattle.irs_json.specs.Carrier.{child_of, present}
+use Rattle.irs_json.specs.Reading.{Reads}
 use Rattle.irs_read.specs.Documents.{the_swap}
 use Rattle.irs_schedule.proofs.WalkLemmas.{covers_within}
 use Rattle.irs_schedule.specs.Parts.{Part, Covers, KeepsBounds}
@@ -119,7 +120,7 @@ payment_member : (o : Option Data) (payments : Data) → values_in (codes "payme
 payment_member None payments = refl
 payment_member (Some d) payments = refl
 
-mapped_length : {X : Type 0} (f : X → Data) (xs : List X) → length (map f xs) ≡ length xs
+pub mapped_length : {X : Type 0} (f : X → Data) (xs : List X) → length (map f xs) ≡ length xs
 mapped_length f [] = refl
 mapped_length f (x ∷ xs) = ap suc (mapped_length f xs)
 
@@ -138,19 +139,21 @@ payments_of p h =
 part_of : (a : List FlowExchange) (b : List FlowPayment) (c : List FlowPeriod) (f : FlowPart) → a ≡ f.exchanges → b ≡ f.payments → c ≡ f.periods → (record { exchanges = a; payments = b; periods = c }) ≡ f
 part_of a b c f e1 e2 e3 = rw (e1, e2, e3) refl
 
+-- the periods that the payments list are all of them
+pub periods_are : (p : Part) → KeepsBounds p → periods_of (payments_in (Some (cashflows_value p))) ≡ period_values p 0 (length p.periods)
+periods_are p h =
+    let n = length p.periods in
+    let some = h.some in
+    let same : n + 1 - 1 ≡ n = omega arith in
+    ap periods_of (payments_of p h) ∙ covered p 1 n p.payments (omega arith) (omega arith) h.covers ∙ ap (period_values p 0) same
+
 flows_read : (p : Part) → IsPartShort p → flows_in (Some (cashflows_value p)) ≡ stated_part p
 flows_read p h =
-    let some = h.bounds.some in
     let paid = payments_of p h.bounds in
-    let all : periods_of (map (payment_value p) p.payments) ≡ period_values p 0 (length p.periods) =
-        let n = length p.periods in
-        let same : n + 1 - 1 ≡ n = omega arith in
-        covered p 1 n p.payments (omega arith) (omega arith) h.bounds.covers ∙ ap (period_values p 0) same
-    in
     part_of _ _ _ (stated_part p)
     (ap (map exchange_in) (exchanges_of p) ∙ all_read exchange_in exchange_value stated_exchange IsExchangeShort p.exchanges exchange_reads h.exchanges)
     (ap (map payment_in) paid ∙ all_read payment_in (payment_value p) (stated_payment p.currency) (IsPaymentShort p) p.payments (payment_reads p) h.payments)
-    (ap (λ ds. map period_in (periods_of ds)) paid ∙ ap (map period_in) all ∙ all_periods p h)
+    (ap (map period_in) (periods_are p h.bounds) ∙ all_periods p h)
 
 its_flows : (p : Part) → once (codes "cashflows") (stream_value p) ≡ Some (cashflows_value p)
 unfolding cashflows_value
@@ -159,9 +162,16 @@ its_flows p = refl
 pub stream_reads : StreamReadsBack
 stream_reads p h = ap flows_in (its_flows p) ∙ flows_read p h
 
-its_swap : (s : List Part) → the_swap (emit_value s) ≡ Ok (object_with (codes "swapStream") (array_of (map stream_value s)))
+pub its_swap : (s : List Part) → the_swap (emit_value s) ≡ Ok (object_with (codes "swapStream") (array_of (map stream_value s)))
 unfolding emit_value
 its_swap s = refl
 
-pub schedule_reads : ScheduleReadsBack
-schedule_reads s h = (object_with (codes "swapStream") (array_of (map stream_value s)), its_swap s, ap (map stream_in) (array_values (map stream_value s)) ∙ all_read stream_in stream_value stated_part IsPartShort s stream_reads h)
+-- bytes that read as the emitted value state the flows
+pub states : (s : List Part) (bytes : List ℕ) → Reads bytes (emit_value s) → Every IsPartShort s → StatesFlows bytes s
+states s bytes reads h = record {
+  value = emit_value s;
+  reads = reads;
+  swap = object_with (codes "swapStream") (array_of (map stream_value s));
+  found = its_swap s;
+  says = ap (map stream_in) (array_values (map stream_value s)) ∙ all_read stream_in stream_value stated_part IsPartShort s stream_reads h;
+}

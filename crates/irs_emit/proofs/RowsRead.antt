@@ -119,7 +119,7 @@ period_reads x (Some r) h k = floating_raw x r x.rate ∙ raw_stated x (said amo
 
 -- ---- payments
 
-from_items : (ds : List Data) → list_of (items_from ds) ≡ ds
+pub from_items : (ds : List Data) → list_of (items_from ds) ≡ ds
 from_items [] = refl
 from_items (d ∷ ds) = ap (λ l. d ∷ l) (from_items ds)
 

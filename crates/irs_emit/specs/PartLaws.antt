@@ -2,8 +2,9 @@
 use Rattle.irs_audit.specs.FlowMeaning.{stream_in, streams_in}
 use Rattle.irs_audit.specs.StatedFlows.{stated_flows, stated_part}
 use Rattle.irs_base.specs.Members.{Every}
-use Rattle.irs_emit.specs.Emitted.{emit_value, stream_value}
+use Rattle.irs_emit.specs.Emitted.{stream_value}
 use Rattle.irs_emit.specs.RowLaws.{IsExchangeShort, IsPaymentShort, IsPeriodShort, IsResetShort}
+use Rattle.irs_json.specs.Reading.{Reads}
 use Rattle.irs_read.specs.Documents.{the_swap}
 use Rattle.irs_schedule.specs.Parts.{Part, KeepsBounds}
 use Rattle.irs_schedule.specs.PeriodViews.{period_at}
@@ -22,6 +23,10 @@ pub record IsPartShort (p : Part) : Type 0 where
 abbrev pub StreamReadsBack : Type 0
 StreamReadsBack = (p : Part) → IsPartShort p → stream_in (stream_value p) ≡ stated_part p
 
--- the swap of the value that is emitted states the flows of the schedule
-abbrev pub ScheduleReadsBack : Type 0
-ScheduleReadsBack = (s : List Part) → Every IsPartShort s → (swap : Data) × (the_swap (emit_value s) ≡ Ok swap) × (streams_in swap ≡ stated_flows s)
+-- the bytes read as a value whose swap states just the flows of the schedule
+pub record StatesFlows (bytes : List ℕ) (s : List Part) : Type 0 where
+  pub value : Data
+  pub reads : Reads bytes value
+  pub swap : Data
+  pub found : the_swap value ≡ Ok swap
+  pub says : streams_in swap ≡ stated_flows s

@@ -3,11 +3,11 @@
 #![tactic(auto)]
 
 mod emitting;
-mod leaf_laws;
+mod laws;
 mod leaves;
 mod rows;
 #[cfg(test)]
 mod tests;
 
 pub use emitting::emit_flows;
-pub use leaf_laws::{leaves_read_back, rows_read_back, schedule_reads_back};
+pub use laws::{leaves_read_back, rows_read_back};
