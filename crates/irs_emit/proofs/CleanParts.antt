@@ -22,7 +22,7 @@ use Rattle.irs_emit.proofs.CleanRows.{currency_kept, day_kept, exchange_free, le
 use Rattle.irs_audit.proofs.BoundLemmas.{payments_few}
 use Rattle.irs_elements.specs.Find.{values_in}
 use Rattle.irs_elements.specs.declared.table.Count.TheVariants.{UpTo}
-use Rattle.irs_emit.proofs.PartsRead.{its_swap, mapped_length, periods_are}
+use Rattle.irs_emit.proofs.PartsRead.{its_swap, mapped_length, periods_are, swap_reads}
 use Rattle.irs_emit.proofs.RowsRead.{all_listed, array_values, from_items}
 use Rattle.irs_read.proofs.TableLaws.{by_tables}
 use Rattle.irs_read.specs.Documents.{the_swap}
@@ -31,11 +31,12 @@ use Rattle.irs_schedule.specs.declared.views.CalculationPeriod.{CalculationPerio
 use Rattle.irs_terms.specs.declared.results.Reset.{Reset}
 use Rattle.irs_emit.specs.Emitted.{array_of, cashflows_value, emit_value, exchange_value, fixed_value, floating_value, forecast_value, known_exchanges, listed_period, object_with, one_period, payment_value, period_members, period_value, period_values, put_known, stream_value}
 use Rattle.irs_emit.specs.Leaves.{amount_leaf, currency_leaf, day_leaf, rate_leaf, text_of}
-use Rattle.irs_emit.specs.PartLaws.{IsPartShort}
+use Rattle.irs_emit.specs.PartLaws.{IsPartShort, StatesFlows}
 use Rattle.irs_emit.specs.RowLaws.{IsExchangeShort, IsPaymentShort, IsPeriodShort, IsResetShort, IsShortAmount}
 use Rattle.irs_json.specs.Leaves.{leaf_of}
 use Rattle.irs_json.specs.Values.{items_of, list_of}
-use Rattle.irs_schedule.specs.Parts.{Part}
+use Rattle.irs_json.specs.Reading.{Reads}
+use Rattle.irs_schedule.specs.Parts.{IsWithin, Part}
 use Rattle.irs_schedule.specs.declared.entries.PaymentEntry.{PaymentEntry}
 use Rattle.irs_terms.specs.declared.currency.Currency.{Currency}
 use Rattle.irs_terms.specs.declared.results.Exchange.{Exchange}
@@ -272,3 +273,11 @@ no_end a f w e h = let both : Ok a ≡ Err f = sym e ∙ h in cc
 pub emitted_free : (s : List Part) → 0 < length s → length s ≤ most_streams → Every IsPartShort s → (f : Broken) → FlowFault (emit_value s) f → ⊥
 emitted_free s some few h f (ended _ e) = no_end (swap_of s) f (the_swap (emit_value s)) (its_swap s) e
 emitted_free s some few h f (below t _ e fault) = swap_free s some few h f (subst (λ d. SwapFault d f) (the_same t (swap_of s) (the_swap (emit_value s)) e (its_swap s)) fault)
+
+-- bytes that read as the emitted value state the flows of the schedule
+pub states : (s : List Part) (bytes : List ℕ) → Reads bytes (emit_value s) → IsWithin s → Every IsPartShort s → StatesFlows bytes s
+states s bytes reads w h = record {
+  value = emit_value s;
+  reads = reads;
+  flows = record { clean = emitted_free s w.some w.few h; swap = swap_of s; found = its_swap s; says = swap_reads s h };
+}

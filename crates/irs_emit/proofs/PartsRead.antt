@@ -12,10 +12,9 @@ use Rattle.irs_base.specs.Members.{Every}
 use Rattle.irs_elements.specs.Find.{once, values_in, values_of}
 use Rattle.irs_emit.proofs.RowsRead.{array_values, exchange_reads, payment_reads, period_reads}
 use Rattle.irs_emit.specs.Emitted.{array_of, cashflows_value, emit_value, exchange_value, known_exchanges, listed_period, object_with, one_period, payment_value, period_value, period_values, put_known, stream_value}
-use Rattle.irs_emit.specs.PartLaws.{IsPartShort, StatesFlows, StreamReadsBack}
+use Rattle.irs_emit.specs.PartLaws.{IsPartShort, StreamReadsBack}
 use Rattle.irs_emit.specs.RowLaws.{IsExchangeShort, IsPaymentShort, IsPeriodShort, IsResetShort}
 use Rattle.irs_json.specs.Carrier.{child_of, present}
-use Rattle.irs_json.specs.Reading.{Reads}
 use Rattle.irs_read.specs.Documents.{the_swap}
 use Rattle.irs_schedule.proofs.WalkLemmas.{covers_within}
 use Rattle.irs_schedule.specs.Parts.{Part, Covers, KeepsBounds}
@@ -166,12 +165,6 @@ pub its_swap : (s : List Part) → the_swap (emit_value s) ≡ Ok (object_with (
 unfolding emit_value
 its_swap s = refl
 
--- bytes that read as the emitted value state the flows
-pub states : (s : List Part) (bytes : List ℕ) → Reads bytes (emit_value s) → Every IsPartShort s → StatesFlows bytes s
-states s bytes reads h = record {
-  value = emit_value s;
-  reads = reads;
-  swap = object_with (codes "swapStream") (array_of (map stream_value s));
-  found = its_swap s;
-  says = ap (map stream_in) (array_values (map stream_value s)) ∙ all_read stream_in stream_value stated_part IsPartShort s stream_reads h;
-}
+-- the swap of the emitted value states the flows
+pub swap_reads : (s : List Part) → Every IsPartShort s → stated_flows s ≡ streams_in (object_with (codes "swapStream") (array_of (map stream_value s)))
+swap_reads s h = sym (ap (map stream_in) (array_values (map stream_value s)) ∙ all_read stream_in stream_value stated_part IsPartShort s stream_reads h)

@@ -1,15 +1,15 @@
 -- The value of a stream, and that of a schedule, states the flows of the schedule.
-use Rattle.irs_audit.specs.FlowMeaning.{stream_in, streams_in}
+use Rattle.irs_audit.specs.FlowMeaning.{stream_in}
+use Rattle.irs_audit.specs.FlowReading.{FlowsOf}
 use Rattle.irs_audit.specs.StatedFlows.{stated_flows, stated_part}
 use Rattle.irs_base.specs.Members.{Every}
 use Rattle.irs_emit.specs.Emitted.{stream_value}
 use Rattle.irs_emit.specs.RowLaws.{IsExchangeShort, IsPaymentShort, IsPeriodShort, IsResetShort}
 use Rattle.irs_json.specs.Reading.{Reads}
-use Rattle.irs_read.specs.Documents.{the_swap}
 use Rattle.irs_schedule.specs.Parts.{Part, KeepsBounds}
 use Rattle.irs_schedule.specs.PeriodViews.{period_at}
 use Rattle.serde_json.specs.Data.{Data}
-use Rattle.std.specs.Prelude.{◌≡◌, ℕ, List, IfSome, Ok, slice_get}
+use Rattle.std.specs.Prelude.{◌≡◌, ℕ, List, IfSome, slice_get}
 
 -- a part whose rows are short
 pub record IsPartShort (p : Part) : Type 0 where
@@ -23,10 +23,9 @@ pub record IsPartShort (p : Part) : Type 0 where
 abbrev pub StreamReadsBack : Type 0
 StreamReadsBack = (p : Part) → IsPartShort p → stream_in (stream_value p) ≡ stated_part p
 
--- the bytes read as a value whose swap states just the flows of the schedule
+-- the bytes read as a value that has no fault of the tables of cash flows, and states just the flows that
+-- state the schedule
 pub record StatesFlows (bytes : List ℕ) (s : List Part) : Type 0 where
   pub value : Data
   pub reads : Reads bytes value
-  pub swap : Data
-  pub found : the_swap value ≡ Ok swap
-  pub says : streams_in swap ≡ stated_flows s
+  pub flows : FlowsOf value (stated_flows s)

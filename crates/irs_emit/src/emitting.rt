@@ -169,6 +169,7 @@ pub fn emit_flows(alloc: Global, s: &Schedule) -> Result<Vec<u8>, Memory>
     ensures reads { IfOk result (λ bytes. Reads bytes.items (emit_value s.now)) }
     ensures states { Every IsPartShort s.now → IfOk result (λ bytes. StatesFlows bytes.items s.now) }
 {
+    s.bounds();
     let mut bytes = document(alloc, s)?.to_vec(alloc)?;
     bytes.push(b'\n')?;
     Ok(bytes)
