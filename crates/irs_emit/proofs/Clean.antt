@@ -1,11 +1,9 @@
 -- The emitted objects have no fault of the tables of cash flows.
-use Rattle.irs_audit.specs.declared.flow_table.TheConstants.{FLOW_ROWS, PERIOD_ROWS}
-use Rattle.irs_audit.proofs.FlowLaws.{flow_code_names, period_code_names, flow_rows_are, flow_names_are, period_rows_are, period_names_are}
 use Rattle.irs_base.specs.declared.places.Broken.{Broken}
 use Rattle.irs_base.specs.declared.places.Rule.{Rule}
 use Rattle.irs_base.specs.declared.places.Rule.TheVariants.{K3}
-use Rattle.irs_elements.specs.Elements.{FaultAt, FaultUnder, IsMember, ShapeFault, has_odd, inside, index_in, is_element, is_refused, is_required, is_unknown, missing, most, name_at, no_href, odd, own, refused, shape, too_many, under, unknown, unmet}
-use Rattle.irs_elements.specs.Leaves.{has_value, leaf_rule, text_rule}
+use Rattle.irs_elements.specs.Elements.{FaultAt, FaultUnder, has_odd, inside, index_in, is_element, is_refused, is_required, is_unknown, missing, most, name_at, no_href, odd, own, refused, shape, too_many, under, unknown, unmet}
+use Rattle.irs_elements.specs.Leaves.{leaf_rule}
 use Rattle.irs_elements.specs.declared.table.Choice.TheVariants.{Free}
 use Rattle.irs_elements.specs.declared.table.Kind.{Kind}
 use Rattle.irs_elements.specs.declared.table.Kind.TheVariants.{Object, Leaf}
@@ -15,7 +13,7 @@ use Rattle.irs_json.specs.Carrier.{child_of}
 use Rattle.irs_json.specs.Leaves.{leaf_of}
 use Rattle.irs_json.specs.Names.{names_of}
 use Rattle.irs_json.specs.Values.{items_of}
-use Rattle.serde_json.specs.Data.{Data, object, string}
+use Rattle.serde_json.specs.Data.{Data}
 use Rattle.std.proofs.Common.{◌≡◌, ℕ, zero, suc, ◌+◌, ◌<◌, ◌≤◌, nat_lt, ◌==◌, ◌&&◌, if◌then◌else◌, Bool, true, false, List, [], ◌∷◌, length, Option, Some, None, refl, sym, ap, ◌∙◌, subst, arith, true≢false}
 use Rattle.std.proofs.lemmas.Bool.Decides.{nat_tests}
 use Rattle.std.specs.List.{list_any}

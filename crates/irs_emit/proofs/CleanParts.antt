@@ -1,7 +1,7 @@
 -- The emitted value has no fault of the tables of cash flows.
 use Rattle.irs_audit.specs.declared.flow_table.TheConstants.{FLOW_ROWS, PERIOD_ROWS}
 use Rattle.irs_audit.proofs.FlowLaws.{flow_code_names, flow_names_are, flow_rows_are, period_code_names, period_names_are, period_rows_are}
-use Rattle.irs_audit.specs.FlowFaults.{CashflowsFault, FlowFault, OnceFault, OwnFault, PeriodFault, PeriodsFault, StreamFault, StreamsFault, SwapFault, below, ended, has_both_rates, in_period, in_stream, is_sound, many_periods, many_streams, no_stream, payments_in, periods_of}
+use Rattle.irs_audit.specs.FlowFaults.{CashflowsFault, FlowFault, OnceFault, PeriodFault, PeriodsFault, StreamFault, StreamsFault, SwapFault, below, ended, has_both_rates, in_period, in_stream, is_sound, many_periods, many_streams, no_stream}
 use Rattle.irs_audit.specs.FlowLines.{flow_names, flow_rows, period_names, period_rows}
 use Rattle.irs_base.specs.Limits.{most_rows, most_streams}
 use Rattle.irs_base.specs.Members.{Every}
@@ -9,19 +9,17 @@ use Rattle.irs_base.specs.Texts.{day_text, dec_text}
 use Rattle.irs_base.specs.declared.line.Dec.{Dec}
 use Rattle.irs_base.specs.declared.places.Broken.{Broken}
 use Rattle.irs_base.specs.Days.{IsDay}
-use Rattle.irs_elements.specs.Elements.{FaultAt, index_in, is_refused, most}
-use Rattle.irs_elements.specs.Leaves.{leaf_rule}
+use Rattle.irs_elements.specs.Elements.{index_in}
 use Rattle.irs_elements.specs.Words.{is_currency}
 use Rattle.irs_elements.specs.declared.table.Choice.TheVariants.{Free}
 use Rattle.irs_elements.specs.declared.table.Kind.{Kind}
-use Rattle.irs_elements.specs.declared.table.Kind.TheVariants.{Object, Leaf}
+use Rattle.irs_elements.specs.declared.table.Kind.TheVariants.{Object}
 use Rattle.irs_elements.specs.declared.table.Leaf.TheVariants.{Amount, CurrencyName, Date}
 use Rattle.irs_elements.specs.declared.table.Row.{Row}
-use Rattle.irs_emit.proofs.Clean.{MemberFree, NoFault, ValuesFree, absent_free, object_free, one_value, passed_free, present_free}
+use Rattle.irs_emit.proofs.Clean.{NoFault, ValuesFree, absent_free, object_free, one_value, passed_free, present_free}
 use Rattle.irs_emit.proofs.CleanRows.{currency_kept, day_kept, exchange_free, leaf_member, no_row, number_kept, period_free}
 use Rattle.irs_audit.proofs.BoundLemmas.{payments_few}
 use Rattle.irs_elements.specs.Find.{values_in}
-use Rattle.irs_elements.specs.declared.table.Count.TheVariants.{UpTo}
 use Rattle.irs_emit.proofs.PartsRead.{its_swap, mapped_length, periods_are, swap_reads}
 use Rattle.irs_emit.proofs.RowsRead.{all_listed, array_values, from_items}
 use Rattle.irs_read.proofs.TableLaws.{by_tables}
@@ -33,8 +31,7 @@ use Rattle.irs_emit.specs.Emitted.{array_of, cashflows_value, emit_value, exchan
 use Rattle.irs_emit.specs.Leaves.{amount_leaf, currency_leaf, day_leaf, rate_leaf, text_of}
 use Rattle.irs_emit.specs.PartLaws.{IsPartShort, StatesFlows}
 use Rattle.irs_emit.specs.RowLaws.{IsExchangeShort, IsPaymentShort, IsPeriodShort, IsResetShort, IsShortAmount}
-use Rattle.irs_json.specs.Leaves.{leaf_of}
-use Rattle.irs_json.specs.Values.{items_of, list_of}
+use Rattle.irs_json.specs.Values.{list_of}
 use Rattle.irs_json.specs.Reading.{Reads}
 use Rattle.irs_schedule.specs.Parts.{IsWithin, Part}
 use Rattle.irs_schedule.specs.declared.entries.PaymentEntry.{PaymentEntry}
@@ -64,20 +61,22 @@ forecast_free stream i c None e h =
     let d = forecast_with c None in
     object_free F M stream 8 i d _ refl refl refl (
       leaf_member F M stream 9 i _ d CurrencyName (text_of c.letters) refl refl (omega arith) (currency_kept c e),
-      (absent_free F M stream 10 i _ d refl refl, tt))
+      (absent_free F M stream 10 i _ d refl refl, tt),
+    )
 forecast_free stream i c (Some v) e h =
     let d = forecast_with c (Some v) in
     object_free F M stream 8 i d _ refl refl refl (
       leaf_member F M stream 9 i _ d CurrencyName (text_of c.letters) refl refl (omega arith) (currency_kept c e),
-      (leaf_member F M stream 10 i _ d Amount (dec_text v.units v.places) refl refl (omega arith) (number_kept v.units v.places h.0 h.1), tt))
+      (leaf_member F M stream 10 i _ d Amount (dec_text v.units v.places) refl refl (omega arith) (number_kept v.units v.places h.0 h.1), tt),
+    )
 
 abbrev payment_with : ℤ → ℤ → List Data → Currency → Option Dec → Data
 payment_with unadjusted adjusted ds c o = object (
-  put (codes "adjustedPaymentDate") (day_leaf adjusted)
-  (put (codes "calculationPeriod") (array_of ds)
-  (put (codes "forecastPaymentAmount") (forecast_with c o)
-  (put (codes "unadjustedPaymentDate") (day_leaf unadjusted)
-  no_members))))
+    put (codes "adjustedPaymentDate") (day_leaf adjusted)
+    (put (codes "calculationPeriod") (array_of ds)
+    (put (codes "forecastPaymentAmount") (forecast_with c o)
+    (put (codes "unadjustedPaymentDate") (day_leaf unadjusted)
+    no_members))))
 
 payment_by : (stream i : ℕ) (u a : ℤ) (ds : List Data) (c : Currency) (o : Option Dec) → IsDay u → IsDay a → is_currency c.letters ≡ true → IfSome o IsShortAmount → NoFault F M stream 5 (Object Free) i (payment_with u a ds c o)
 payment_by stream i u a [] c o hu ha e h =
@@ -85,19 +84,45 @@ payment_by stream i u a [] c o hu ha e h =
     let m = forecast_with c o in
     object_free F M stream 5 i d _ refl refl refl (
       leaf_member F M stream 6 i _ d Date (day_text u) refl refl (omega arith) (day_kept u hu),
-      (leaf_member F M stream 7 i _ d Date (day_text a) refl refl (omega arith) (day_kept a ha),
-      (present_free F M stream 8 i _ d m refl refl (omega arith) (one_value F M stream 8 i (flow_at 8) m (λ j. forecast_free stream j c o e h)),
-      (passed_free F M stream 14 i _ d refl refl, (passed_free F M stream 15 i _ d refl refl, (passed_free F M stream 16 i _ d refl refl,
-      (absent_free F M stream 17 i _ d refl refl, tt)))))))
+      (
+        leaf_member F M stream 7 i _ d Date (day_text a) refl refl (omega arith) (day_kept a ha),
+        (
+          present_free F M stream 8 i _ d m refl refl (omega arith) (one_value F M stream 8 i (flow_at 8) m (λ j. forecast_free stream j c o e h)),
+          (
+            passed_free F M stream 14 i _ d refl refl,
+            (
+              passed_free F M stream 15 i _ d refl refl,
+              (
+                passed_free F M stream 16 i _ d refl refl,
+                (absent_free F M stream 17 i _ d refl refl, tt),
+              ),
+            ),
+          ),
+        ),
+      ),
+    )
 payment_by stream i u a (x ∷ ds) c o hu ha e h =
     let d = payment_with u a (x ∷ ds) c o in
     let m = forecast_with c o in
     object_free F M stream 5 i d _ refl refl refl (
       leaf_member F M stream 6 i _ d Date (day_text u) refl refl (omega arith) (day_kept u hu),
-      (leaf_member F M stream 7 i _ d Date (day_text a) refl refl (omega arith) (day_kept a ha),
-      (present_free F M stream 8 i _ d m refl refl (omega arith) (one_value F M stream 8 i (flow_at 8) m (λ j. forecast_free stream j c o e h)),
-      (passed_free F M stream 14 i _ d refl refl, (passed_free F M stream 15 i _ d refl refl, (passed_free F M stream 16 i _ d refl refl,
-      (absent_free F M stream 17 i _ d refl refl, tt)))))))
+      (
+        leaf_member F M stream 7 i _ d Date (day_text a) refl refl (omega arith) (day_kept a ha),
+        (
+          present_free F M stream 8 i _ d m refl refl (omega arith) (one_value F M stream 8 i (flow_at 8) m (λ j. forecast_free stream j c o e h)),
+          (
+            passed_free F M stream 14 i _ d refl refl,
+            (
+              passed_free F M stream 15 i _ d refl refl,
+              (
+                passed_free F M stream 16 i _ d refl refl,
+                (absent_free F M stream 17 i _ d refl refl, tt),
+              ),
+            ),
+          ),
+        ),
+      ),
+    )
 
 payment_free : (stream i : ℕ) (p : Part) (y : PaymentEntry) → IsPaymentShort p y → NoFault F M stream 5 (Object Free) i (payment_value p y)
 unfolding payment_value forecast_value
@@ -116,10 +141,10 @@ module _ {X : Type 0} (rows : List Row) (names : List (List ℕ)) (stream c : �
 
 abbrev cash : Option Data → Data → Data
 cash o payments = object (
-  put_known (codes "principalExchange") o
-  (put (codes "cashflowsMatchParameters") (string (codes "true"))
-  (put (codes "paymentCalculationPeriod") payments
-  no_members)))
+    put_known (codes "principalExchange") o
+    (put (codes "cashflowsMatchParameters") (string (codes "true"))
+    (put (codes "paymentCalculationPeriod") payments
+    no_members)))
 
 mapped_few : {X : Type 0} (f : X → Data) (xs : List X) (n : ℕ) → length xs ≤ n → length (list_of (items_from (map f xs))) ≤ n
 mapped_few f xs n h = let e = ap length (from_items (map f xs)) in let l = mapped_length f xs in omega (arith, e, l, h)
@@ -139,23 +164,32 @@ cash_free stream i p [] (y ∷ ys) hx hy lx ly =
     let d = cash None payments in
     object_free F M stream 0 i d _ refl refl refl (
       absent_free F M stream 1 i _ d refl refl,
-      (present_free F M stream 5 i _ d payments refl refl (mapped_few (payment_value p) (y ∷ ys) most_rows ly) (payments_member stream i p (y ∷ ys) hy),
-      (passed_free F M stream 11 i _ d refl refl, tt)))
+      (
+        present_free F M stream 5 i _ d payments refl refl (mapped_few (payment_value p) (y ∷ ys) most_rows ly) (payments_member stream i p (y ∷ ys) hy),
+        (passed_free F M stream 11 i _ d refl refl, tt),
+      ),
+    )
 cash_free stream i p (x ∷ xs) [] hx hy lx ly =
     let exchanges = array_of (map exchange_value (x ∷ xs)) in
     let d = cash (Some exchanges) (array_of []) in
     object_free F M stream 0 i d _ refl refl refl (
       present_free F M stream 1 i _ d exchanges refl refl (mapped_few exchange_value (x ∷ xs) most_rows lx) (exchanges_member stream i x xs hx),
-      (absent_free F M stream 5 i _ d refl refl,
-      (passed_free F M stream 11 i _ d refl refl, tt)))
+      (
+        absent_free F M stream 5 i _ d refl refl,
+        (passed_free F M stream 11 i _ d refl refl, tt),
+      ),
+    )
 cash_free stream i p (x ∷ xs) (y ∷ ys) hx hy lx ly =
     let exchanges = array_of (map exchange_value (x ∷ xs)) in
     let payments = array_of (map (payment_value p) (y ∷ ys)) in
     let d = cash (Some exchanges) payments in
     object_free F M stream 0 i d _ refl refl refl (
       present_free F M stream 1 i _ d exchanges refl refl (mapped_few exchange_value (x ∷ xs) most_rows lx) (exchanges_member stream i x xs hx),
-      (present_free F M stream 5 i _ d payments refl refl (mapped_few (payment_value p) (y ∷ ys) most_rows ly) (payments_member stream i p (y ∷ ys) hy),
-      (passed_free F M stream 11 i _ d refl refl, tt)))
+      (
+        present_free F M stream 5 i _ d payments refl refl (mapped_few (payment_value p) (y ∷ ys) most_rows ly) (payments_member stream i p (y ∷ ys) hy),
+        (passed_free F M stream 11 i _ d refl refl, tt),
+      ),
+    )
 
 cashflows_free : (stream i : ℕ) (p : Part) → IsPartShort p → NoFault F M stream 0 (Object Free) i (cashflows_value p)
 unfolding cashflows_value

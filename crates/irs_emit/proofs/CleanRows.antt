@@ -3,8 +3,6 @@ use Rattle.irs_audit.specs.declared.flow_table.TheConstants.{FLOW_ROWS, PERIOD_R
 use Rattle.irs_audit.proofs.FlowLaws.{flow_code_names, period_code_names}
 use Rattle.irs_base.specs.Days.{IsDay}
 use Rattle.irs_base.specs.Texts.{day_text, dec_text}
-use Rattle.irs_base.specs.declared.line.Dec.{Dec}
-use Rattle.irs_elements.specs.Dates.{day_at}
 use Rattle.irs_elements.specs.Elements.{has_odd, is_refused, is_required, is_unknown, most, name_at}
 use Rattle.irs_elements.specs.Leaves.{has_value, leaf_rule, text_rule}
 use Rattle.irs_elements.specs.declared.table.Choice.TheVariants.{Free}
@@ -21,7 +19,7 @@ use Rattle.irs_terms.specs.declared.currency.Currency.{Currency}
 use Rattle.irs_emit.proofs.LeafTextsRead.{Visible, count_back, count_visible, currency_back, currency_visible, day_back, day_visible, fraction_back, number_back, number_visible, trimmed}
 use Rattle.irs_audit.specs.StatedFlows.{stated_fraction}
 use Rattle.irs_emit.specs.Emitted.{definition_value, exchange_value, fixed_value, floating_value, observation_value, period_members, period_value, put_known}
-use Rattle.irs_emit.specs.Leaves.{amount_leaf, count_leaf, currency_leaf, day_leaf, fraction_leaf, notional_leaf, rate_leaf}
+use Rattle.irs_emit.specs.Leaves.{count_leaf, currency_leaf, day_leaf, fraction_leaf, notional_leaf, rate_leaf}
 use Rattle.irs_emit.specs.RowLaws.{IsExchangeShort, IsPeriodShort, IsResetShort, IsShort, IsShortRate}
 use Rattle.irs_json.specs.Carrier.{child_of}
 use Rattle.irs_json.specs.Leaves.{leaf_of}
@@ -33,7 +31,7 @@ use Rattle.std.specs.List.{list_any}
 use Rattle.irs_terms.specs.declared.results.Exchange.{Exchange}
 use Rattle.irs_terms.specs.declared.results.Reset.{Reset}
 use Rattle.serde_json.specs.Data.{Data, string, object, no_members, put}
-use Rattle.std.proofs.Common.{◌≡◌, ℕ, ◌^◌, ◌/◌, ◌<◌, ◌≤◌, Bool, true, false, List, ℤ, pos, negsuc, ◌≤ℤ◌, codes, unsigned_abs, Option, Some, None, IfSome, option_map, refl, sym, ap, ◌∙◌, subst, arith}
+use Rattle.std.proofs.Common.{◌≡◌, ℕ, ◌^◌, ◌<◌, ◌≤◌, Bool, true, false, List, ℤ, pos, negsuc, ◌≤ℤ◌, codes, unsigned_abs, Option, Some, None, IfSome, option_map, refl, sym, ap, ◌∙◌, subst, arith}
 use Rattle.std.specs.Prelude.{is_some, slice_get, unwrap_or}
 
 -- ---- leaves
@@ -73,10 +71,17 @@ pub exchange_free : (stream i : ℕ) (x : Exchange) → IsExchangeShort x → No
 unfolding exchange_value
 exchange_free stream i x h = object_free FLOW_ROWS flow_code_names stream 1 i (exchange_value x) _ refl refl refl (
   leaf_member FLOW_ROWS flow_code_names stream 2 i _ (exchange_value x) Date (day_text x.unadjusted) refl refl (omega arith) (day_kept x.unadjusted h.unadjusted),
-  (leaf_member FLOW_ROWS flow_code_names stream 3 i _ (exchange_value x) Date (day_text x.adjusted) refl refl (omega arith) (day_kept x.adjusted h.adjusted),
-  (leaf_member FLOW_ROWS flow_code_names stream 4 i _ (exchange_value x) Amount (dec_text x.amount.units x.amount.places) refl refl (omega arith) (number_kept x.amount.units x.amount.places h.amount.0 h.amount.1),
-  (passed_free FLOW_ROWS flow_code_names stream 12 i _ (exchange_value x) refl refl,
-  (passed_free FLOW_ROWS flow_code_names stream 13 i _ (exchange_value x) refl refl, tt)))))
+  (
+    leaf_member FLOW_ROWS flow_code_names stream 3 i _ (exchange_value x) Date (day_text x.adjusted) refl refl (omega arith) (day_kept x.adjusted h.adjusted),
+    (
+      leaf_member FLOW_ROWS flow_code_names stream 4 i _ (exchange_value x) Amount (dec_text x.amount.units x.amount.places) refl refl (omega arith) (number_kept x.amount.units x.amount.places h.amount.0 h.amount.1),
+      (
+        passed_free FLOW_ROWS flow_code_names stream 12 i _ (exchange_value x) refl refl,
+        (passed_free FLOW_ROWS flow_code_names stream 13 i _ (exchange_value x) refl refl, tt),
+      ),
+    ),
+  ),
+)
 
 -- ---- the rows of the tables
 
@@ -102,16 +107,26 @@ observation_by stream i a b None ha hb k =
     let d = observation_with a b None in
     object_free P N stream 11 i d _ refl refl refl (
       leaf_member P N stream 12 i _ d Date (day_text a) refl refl (omega arith) (day_kept a ha),
-      (leaf_member P N stream 13 i _ d Date (day_text b) refl refl (omega arith) (day_kept b hb),
-      (absent_free P N stream 14 i _ d refl refl,
-      (passed_free P N stream 19 i _ d refl refl, (passed_free P N stream 20 i _ d refl refl, (passed_free P N stream 21 i _ d refl refl, tt))))))
+      (
+        leaf_member P N stream 13 i _ d Date (day_text b) refl refl (omega arith) (day_kept b hb),
+        (
+          absent_free P N stream 14 i _ d refl refl,
+          (passed_free P N stream 19 i _ d refl refl, (passed_free P N stream 20 i _ d refl refl, (passed_free P N stream 21 i _ d refl refl, tt))),
+        ),
+      ),
+    )
 observation_by stream i a b (Some z) ha hb k =
     let d = observation_with a b (Some z) in
     object_free P N stream 11 i d _ refl refl refl (
       leaf_member P N stream 12 i _ d Date (day_text a) refl refl (omega arith) (day_kept a ha),
-      (leaf_member P N stream 13 i _ d Date (day_text b) refl refl (omega arith) (day_kept b hb),
-      (leaf_member P N stream 14 i _ d Amount (dec_text z 9) refl refl (omega arith) (number_kept z 9 (omega arith) k),
-      (passed_free P N stream 19 i _ d refl refl, (passed_free P N stream 20 i _ d refl refl, (passed_free P N stream 21 i _ d refl refl, tt))))))
+      (
+        leaf_member P N stream 13 i _ d Date (day_text b) refl refl (omega arith) (day_kept b hb),
+        (
+          leaf_member P N stream 14 i _ d Amount (dec_text z 9) refl refl (omega arith) (number_kept z 9 (omega arith) k),
+          (passed_free P N stream 19 i _ d refl refl, (passed_free P N stream 20 i _ d refl refl, (passed_free P N stream 21 i _ d refl refl, tt))),
+        ),
+      ),
+    )
 
 observation_free : (stream i : ℕ) (r : Reset) → IsResetShort r → NoFault P N stream 11 (Object Free) i (observation_value r)
 unfolding observation_value
@@ -127,17 +142,33 @@ definition_free stream i None r k h =
     let m = observation_value r in
     object_free P N stream 9 i d _ refl refl refl (
       absent_free P N stream 10 i _ d refl refl,
-      (present_free P N stream 11 i _ d m refl refl (omega arith) (one_value P N stream 11 i (row_at 11) m (λ j. observation_free stream j r h)),
-      (passed_free P N stream 17 i _ d refl refl, (passed_free P N stream 18 i _ d refl refl,
-      (absent_free P N stream 23 i _ d refl refl, (absent_free P N stream 24 i _ d refl refl, tt))))))
+      (
+        present_free P N stream 11 i _ d m refl refl (omega arith) (one_value P N stream 11 i (row_at 11) m (λ j. observation_free stream j r h)),
+        (
+          passed_free P N stream 17 i _ d refl refl,
+          (
+            passed_free P N stream 18 i _ d refl refl,
+            (absent_free P N stream 23 i _ d refl refl, (absent_free P N stream 24 i _ d refl refl, tt)),
+          ),
+        ),
+      ),
+    )
 definition_free stream i (Some z) r k h =
     let d = definition_with (Some z) r in
     let m = observation_value r in
     object_free P N stream 9 i d _ refl refl refl (
       leaf_member P N stream 10 i _ d Amount (dec_text z 9) refl refl (omega arith) (number_kept z 9 (omega arith) k),
-      (present_free P N stream 11 i _ d m refl refl (omega arith) (one_value P N stream 11 i (row_at 11) m (λ j. observation_free stream j r h)),
-      (passed_free P N stream 17 i _ d refl refl, (passed_free P N stream 18 i _ d refl refl,
-      (absent_free P N stream 23 i _ d refl refl, (absent_free P N stream 24 i _ d refl refl, tt))))))
+      (
+        present_free P N stream 11 i _ d m refl refl (omega arith) (one_value P N stream 11 i (row_at 11) m (λ j. observation_free stream j r h)),
+        (
+          passed_free P N stream 17 i _ d refl refl,
+          (
+            passed_free P N stream 18 i _ d refl refl,
+            (absent_free P N stream 23 i _ d refl refl, (absent_free P N stream 24 i _ d refl refl, tt)),
+          ),
+        ),
+      ),
+    )
 
 -- ---- calculation periods
 
@@ -163,16 +194,38 @@ period_by : (stream i : ℕ) (x : CalculationPeriod) (d : Data) (ns : List (List
     → MemberFree P N stream 7 (row_at 7) i d → MemberFree P N stream 9 (row_at 9) i d → IsPeriodShort x → NoFault P N stream 0 (Object Free) i d
 period_by stream i x d ns e known even has rate definition h = object_free P N stream 0 i d ns e known even (
   leaf_member P N stream 1 i _ d Date (day_text x.start) has.start refl (omega arith) (day_kept x.start h.start),
-  (leaf_member P N stream 2 i _ d Date (day_text x.«end») has.«end» refl (omega arith) (day_kept x.«end» h.«end»),
-  (leaf_member P N stream 3 i _ d Date (day_text x.adjusted_start) has.adjusted_start refl (omega arith) (day_kept x.adjusted_start h.adjusted_start),
-  (leaf_member P N stream 4 i _ d Date (day_text x.adjusted_end) has.adjusted_end refl (omega arith) (day_kept x.adjusted_end h.adjusted_end),
-  (leaf_member P N stream 5 i _ d Whole (signed_decimal x.days) has.days refl (omega arith) (count_kept x.days h.days),
-  (leaf_member P N stream 6 i _ d Amount (dec_text x.notional 4) has.notional refl (omega arith) (number_kept x.notional 4 (omega arith) h.notional),
-  (rate,
-  (leaf_member P N stream 8 i _ d Fraction (dec_text (stated_fraction x.frac).units 10) has.fraction refl (omega arith) (fraction_kept_by (stated_fraction x.frac).units h.fraction h.short),
-  (definition,
-  (passed_free P N stream 15 i _ d refl refl, (passed_free P N stream 16 i _ d refl refl,
-  (absent_free P N stream 22 i _ d has.refused refl, tt))))))))))))
+  (
+    leaf_member P N stream 2 i _ d Date (day_text x.«end») has.«end» refl (omega arith) (day_kept x.«end» h.«end»),
+    (
+      leaf_member P N stream 3 i _ d Date (day_text x.adjusted_start) has.adjusted_start refl (omega arith) (day_kept x.adjusted_start h.adjusted_start),
+      (
+        leaf_member P N stream 4 i _ d Date (day_text x.adjusted_end) has.adjusted_end refl (omega arith) (day_kept x.adjusted_end h.adjusted_end),
+        (
+          leaf_member P N stream 5 i _ d Whole (signed_decimal x.days) has.days refl (omega arith) (count_kept x.days h.days),
+          (
+            leaf_member P N stream 6 i _ d Amount (dec_text x.notional 4) has.notional refl (omega arith) (number_kept x.notional 4 (omega arith) h.notional),
+            (
+              rate,
+              (
+                leaf_member P N stream 8 i _ d Fraction (dec_text (stated_fraction x.frac).units 10) has.fraction refl (omega arith) (fraction_kept_by (stated_fraction x.frac).units h.fraction h.short),
+                (
+                  definition,
+                  (
+                    passed_free P N stream 15 i _ d refl refl,
+                    (
+                      passed_free P N stream 16 i _ d refl refl,
+                      (absent_free P N stream 22 i _ d has.refused refl, tt),
+                    ),
+                  ),
+                ),
+              ),
+            ),
+          ),
+        ),
+      ),
+    ),
+  ),
+)
 
 abbrev fixed_with : CalculationPeriod → Option ℤ → Data
 fixed_with x o = object (put_known (codes "fixedRate") (option_map rate_leaf o) (period_members x))

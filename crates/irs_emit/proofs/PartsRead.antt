@@ -11,10 +11,10 @@ use Rattle.irs_base.specs.Limits.{most_rows}
 use Rattle.irs_base.specs.Members.{Every}
 use Rattle.irs_elements.specs.Find.{once, values_in, values_of}
 use Rattle.irs_emit.proofs.RowsRead.{array_values, exchange_reads, payment_reads, period_reads}
-use Rattle.irs_emit.specs.Emitted.{array_of, cashflows_value, emit_value, exchange_value, known_exchanges, listed_period, object_with, one_period, payment_value, period_value, period_values, put_known, stream_value}
+use Rattle.irs_emit.specs.Emitted.{array_of, cashflows_value, emit_value, exchange_value, known_exchanges, listed_period, object_with, one_period, payment_value, period_values, put_known, stream_value}
 use Rattle.irs_emit.specs.PartLaws.{IsPartShort, StreamReadsBack}
-use Rattle.irs_emit.specs.RowLaws.{IsExchangeShort, IsPaymentShort, IsPeriodShort, IsResetShort}
-use Rattle.irs_json.specs.Carrier.{child_of, present}
+use Rattle.irs_emit.specs.RowLaws.{IsExchangeShort, IsPaymentShort, IsPeriodShort}
+use Rattle.irs_json.specs.Carrier.{present}
 use Rattle.irs_read.specs.Documents.{the_swap}
 use Rattle.irs_schedule.proofs.WalkLemmas.{covers_within}
 use Rattle.irs_schedule.specs.Parts.{Part, Covers, KeepsBounds}
@@ -23,12 +23,10 @@ use Rattle.irs_schedule.specs.declared.entries.PaymentEntry.{PaymentEntry}
 use Rattle.irs_schedule.specs.declared.entries.PeriodEntry.{PeriodEntry}
 use Rattle.irs_schedule.specs.declared.views.CalculationPeriod.{CalculationPeriod}
 use Rattle.irs_terms.specs.declared.results.Exchange.{Exchange}
-use Rattle.irs_terms.specs.declared.results.Reset.{Reset}
 use Rattle.serde_json.specs.Data.{Data, object, string, no_members, put}
-use Rattle.std.proofs.Common.{◌≡◌, ℕ, zero, suc, ◌+◌, ◌-◌, ◌<◌, ◌≤◌, nat_le, if◌then◌else◌, true, List, [], ◌∷◌, ◌++◌, length, map, codes, Option, Some, None, IfSome, Ok, option_map, refl, sym, ap, ap₂, ◌∙◌, subst, append_assoc, append-nil, option_and_then, arith}
+use Rattle.std.proofs.Common.{◌≡◌, ℕ, zero, suc, ◌+◌, ◌-◌, ◌≤◌, nat_le, true, List, [], ◌∷◌, ◌++◌, length, map, codes, Option, Some, None, IfSome, Ok, option_map, refl, sym, ap, ap₂, ◌∙◌, subst, append_assoc, append-nil, option_and_then, arith}
 use Rattle.std.proofs.lemmas.Bool.Decides.{nat_tests}
 use Rattle.std.proofs.lemmas.List.{map-append}
-use Rattle.std.specs.List.{flat_map}
 use Rattle.std.specs.Prelude.{slice_get}
 
 -- ---- lists of rows
@@ -106,10 +104,10 @@ few_stay ds h = rw (is_few (length ds) h) refl
 -- cash flows with these exchanges and payments
 abbrev cash : Option Data → Data → Data
 cash o payments = object (
-  put_known (codes "principalExchange") o
-  (put (codes "cashflowsMatchParameters") (string (codes "true"))
-  (put (codes "paymentCalculationPeriod") payments
-  no_members)))
+    put_known (codes "principalExchange") o
+    (put (codes "cashflowsMatchParameters") (string (codes "true"))
+    (put (codes "paymentCalculationPeriod") payments
+    no_members)))
 
 exchange_member : (o : Option Data) (payments : Data) → values_in (codes "principalExchange") (Some (cash o payments)) ≡ values_of (option_and_then present o)
 exchange_member None payments = refl

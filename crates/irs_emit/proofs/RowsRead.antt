@@ -1,5 +1,5 @@
 -- Each row reads back as the flow that states it.
-use Rattle.irs_audit.specs.FlowMeaning.{exchange_in, payment_in, period_in, reset_in, stated}
+use Rattle.irs_audit.specs.FlowMeaning.{payment_in, period_in, reset_in, stated}
 use Rattle.irs_audit.specs.StatedFlows.{stated_amount, stated_exchange, stated_number, stated_payment, stated_period, stated_reset}
 use Rattle.irs_audit.specs.declared.flows.FlowExchange.{FlowExchange}
 use Rattle.irs_audit.specs.declared.flows.FlowPayment.{FlowPayment}
@@ -147,11 +147,11 @@ payment_of a b n c m y e1 e2 e3 e4 e5 = rw (e1, e2, e3, e4, e5) refl
 -- a payment with these dates, periods and amount
 abbrev payment_with : ℤ → ℤ → List Data → Data → Data
 payment_with unadjusted adjusted ds forecast = object (
-  put (codes "adjustedPaymentDate") (day_leaf adjusted)
-  (put (codes "calculationPeriod") (array_of ds)
-  (put (codes "forecastPaymentAmount") forecast
-  (put (codes "unadjustedPaymentDate") (day_leaf unadjusted)
-  no_members))))
+    put (codes "adjustedPaymentDate") (day_leaf adjusted)
+    (put (codes "calculationPeriod") (array_of ds)
+    (put (codes "forecastPaymentAmount") forecast
+    (put (codes "unadjustedPaymentDate") (day_leaf unadjusted)
+    no_members))))
 
 abbrev forecast_with : Currency → Option Dec → Data
 forecast_with currency o = object (put_known (codes "amount") (option_map amount_leaf o) (put (codes "currency") (currency_leaf currency) no_members))
