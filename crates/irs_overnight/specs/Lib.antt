@@ -11,3 +11,4 @@ pub mod DerivedRules
 pub mod DerivedRows
 pub mod Overnight
 pub mod Texts
+pub mod Reading

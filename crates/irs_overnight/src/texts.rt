@@ -4,6 +4,7 @@ ghost use Rattle.std.specs.Prelude.{◌≡◌, ◌+◌, ◌<◌, ◌≤◌, List
 ghost use Rattle.std.specs.Fmt.{decimal, signed_decimal};
 ghost use Rattle.irs_base.specs.Limits.{most_index};
 ghost use Rattle.irs_base.specs.Texts.{day_text, dec_text};
+ghost use Rattle.irs_overnight.specs.Reading.{IsLawfulLine, ReadsAs};
 ghost use Rattle.irs_overnight.specs.Texts.{derived_text_of, fields_of, tenor_text, unit_text};
 
 use crate::derived::{DerivedRow, Found};
@@ -121,8 +122,13 @@ fn put_fields(row: &DerivedRow, tenor: Option<Frequency>, index: &Text, line: &m
 #[tactic(auto, unfolding(crate::specs::Texts::derived_text_of))]
 pub fn derived_text(row: &DerivedRow, tenor: Option<Frequency>, index: &Text, line: &mut Line)
     requires { length index.now ≤ most_index }
-    ensures { line.new ≡ derived_text_of row.now tenor index.now }
+    ensures text { line.new ≡ derived_text_of row.now tenor index.now }
+    // For an index and a tenor as terms have them the line of a rate spells it, and that of a missing
+    // rate is passed over.
+    ensures reads { IsLawfulLine index.now tenor → ReadsAs row.now row.now.found tenor index.now }
 {
+    // hands the prover the range of the fixing date
+    let _number = row.fixing.number();
     line.clear();
     put_fields(row, tenor, index, line);
     line.push(b"\n");
