@@ -8,3 +8,4 @@ pub mod SourceLemmas
 pub mod ThereLemmas
 pub mod VisibleTexts
 pub mod LinesRead
+pub mod FileRead

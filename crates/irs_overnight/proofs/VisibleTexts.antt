@@ -59,7 +59,7 @@ day_back d day = plain_is (day_text d) d day (plain d day)
 
 -- ---- digits
 
-digits_visible : (s : List ℕ) → AreDigits s → Visible s
+pub digits_visible : (s : List ℕ) → AreDigits s → Visible s
 digits_visible [] h = tt
 digits_visible (c ∷ cs) h = (omega (arith, h.0), digits_visible cs h.2)
 
@@ -75,7 +75,7 @@ one_digit : (n : ℕ) → n < 10 → AreDigits ((48 + n) ∷ [])
 one_digit n h = (omega arith, omega arith, tt)
 
 -- the digits spell the number
-abbrev IsSpelt : ℕ → List ℕ → Type 0
+abbrev pub IsSpelt : ℕ → List ℕ → Type 0
 IsSpelt n ds = AreDigits ds × (number_of ds ≡ n)
 
 spells_one : (n : ℕ) → n < 10 → IsSpelt n ((48 + n) ∷ [])
@@ -87,7 +87,7 @@ one_more a n e = omega (arith, e)
 spells_more : (n : ℕ) (ds : List ℕ) → 10 ≤ n → IsSpelt (n / 10) ds → IsSpelt n (ds ++ (48 + n % 10) ∷ [])
 spells_more n ds l h = (digits_append ds ((48 + n % 10) ∷ []) h.0 (one_digit (n % 10) (omega arith)), digits_behind 0 ds ((48 + n % 10) ∷ []) ∙ one_more (number_of ds) n h.1)
 
-spells_decimal : (n : ℕ) → n < 2 ^ 64 → IsSpelt n (decimal n)
+pub spells_decimal : (n : ℕ) → n < 2 ^ 64 → IsSpelt n (decimal n)
 spells_decimal n h = decimal_by_steps IsSpelt spells_one spells_more n h
 
 row_digits : (k n : ℕ) → AreDigits (digit_row k n)

@@ -12,3 +12,4 @@ pub mod DerivedRows
 pub mod Overnight
 pub mod Texts
 pub mod Reading
+pub mod FileLaw

@@ -7,7 +7,7 @@ ghost use Rattle.irs_base.specs.Texts.{day_text, dec_text};
 ghost use Rattle.irs_overnight.specs.Reading.{IsLawfulLine, ReadsAs};
 ghost use Rattle.irs_overnight.specs.Texts.{derived_text_of, fields_of, tenor_text, unit_text};
 
-use crate::derived::{DerivedRow, Found};
+use crate::derived::{Derived, DerivedRow, Found};
 use irs_base::{Day, Dec, Line, Text};
 use irs_terms::{Frequency, Unit};
 
@@ -135,3 +135,17 @@ pub fn derived_text(row: &DerivedRow, tenor: Option<Frequency>, index: &Text, li
 }
 
 ghost use Rattle.std.specs.Prelude.{codes};
+
+/// A law: for an index and a tenor as terms have them, rows with days and rates in range whose fixing
+/// dates rise print a fixing file, behind the line `# irs-fixings 1`, and its lines give exactly the
+/// rates of the rows: `Fixings::read` takes them, and none for a row whose rate is missing. The call
+/// does nothing but to say so.
+pub fn rates_read_back(rows: &Derived, tenor: Option<Frequency>, index: &Text)
+    requires lawful { IsLawfulLine index.now tenor }
+    requires kept { AreKept rows.now }
+    ensures { AreFixings rows.now tenor index.now }
+{
+    let _ = (rows.len(), tenor, index.len());
+}
+
+ghost use Rattle.irs_overnight.specs.FileLaw.{AreFixings, AreKept};
