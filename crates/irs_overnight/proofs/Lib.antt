@@ -6,3 +6,6 @@ pub mod DerivedOrder
 pub mod RowLemmas
 pub mod SourceLemmas
 pub mod ThereLemmas
+pub mod VisibleTexts
+pub mod LinesRead
+pub mod FileRead

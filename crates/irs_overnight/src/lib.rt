@@ -15,7 +15,7 @@ mod texts;
 pub use compounding::{DerErr, overnight};
 pub use derived::{Derived, DerivedRow, Found};
 pub use streams::check_stream;
-pub use texts::derived_text;
+pub use texts::{derived_text, rates_read_back};
 
 #[cfg(test)]
 mod tests;

@@ -4,9 +4,10 @@ ghost use Rattle.std.specs.Prelude.{◌≡◌, ◌+◌, ◌<◌, ◌≤◌, List
 ghost use Rattle.std.specs.Fmt.{decimal, signed_decimal};
 ghost use Rattle.irs_base.specs.Limits.{most_index};
 ghost use Rattle.irs_base.specs.Texts.{day_text, dec_text};
+ghost use Rattle.irs_overnight.specs.Reading.{IsLawfulLine, ReadsAs};
 ghost use Rattle.irs_overnight.specs.Texts.{derived_text_of, fields_of, tenor_text, unit_text};
 
-use crate::derived::{DerivedRow, Found};
+use crate::derived::{Derived, DerivedRow, Found};
 use irs_base::{Day, Dec, Line, Text};
 use irs_terms::{Frequency, Unit};
 
@@ -121,11 +122,30 @@ fn put_fields(row: &DerivedRow, tenor: Option<Frequency>, index: &Text, line: &m
 #[tactic(auto, unfolding(crate::specs::Texts::derived_text_of))]
 pub fn derived_text(row: &DerivedRow, tenor: Option<Frequency>, index: &Text, line: &mut Line)
     requires { length index.now ≤ most_index }
-    ensures { line.new ≡ derived_text_of row.now tenor index.now }
+    ensures text { line.new ≡ derived_text_of row.now tenor index.now }
+    // For an index and a tenor as terms have them the line of a rate spells it, and that of a missing
+    // rate is passed over.
+    ensures reads { IsLawfulLine index.now tenor → ReadsAs row.now row.now.found tenor index.now }
 {
+    // hands the prover the range of the fixing date
+    let _number = row.fixing.number();
     line.clear();
     put_fields(row, tenor, index, line);
     line.push(b"\n");
 }
 
 ghost use Rattle.std.specs.Prelude.{codes};
+
+/// A law: for an index and a tenor as terms have them, rows with days and rates in range whose fixing
+/// dates rise print a fixing file, behind the line `# irs-fixings 1`, and its lines give exactly the
+/// rates of the rows: `Fixings::read` takes them, and none for a row whose rate is missing. The call
+/// does nothing but to say so.
+pub fn rates_read_back(rows: &Derived, tenor: Option<Frequency>, index: &Text)
+    requires lawful { IsLawfulLine index.now tenor }
+    requires kept { AreKept rows.now }
+    ensures { AreFixings rows.now tenor index.now }
+{
+    let _ = (rows.len(), tenor, index.len());
+}
+
+ghost use Rattle.irs_overnight.specs.FileLaw.{AreFixings, AreKept};

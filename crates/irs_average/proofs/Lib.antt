@@ -1,0 +1,3 @@
+pub mod TenorLemmas
+pub mod LineLemmas
+pub mod StubLemmas

@@ -1,0 +1,2 @@
+-- There is one stub on a side of a stream, and one row of it.
+use Rattle.std.proofs.Common.{◌≡◌, sym}

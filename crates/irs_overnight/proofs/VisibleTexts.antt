@@ -1,0 +1,252 @@
+-- The texts of days, rates and tenors: no byte of them is a space or a tab, and they are read back.
+use Rattle.std.proofs.Common.{◌≡◌, ◌≢◌, inl, inr, ℕ, zero, suc, ◌+◌, ◌-◌, ◌*◌, ◌/◌, ◌%◌, ◌^◌, ◌<◌, ◌≤◌, List, [], ◌∷◌, ◌++◌, length, Bool, true, false, Option, Some, None, IfSome, ℤ, pos, negsuc, unsigned_abs, refl, sym, subst, ap, ap₂, ◌∙◌, arith}
+use Rattle.std.proofs.Math.Nat.{div-div-eq-div-mul, pow-succ'}
+use Rattle.std.proofs.lemmas.Bool.{cases_lt}
+use Rattle.std.proofs.lemmas.Bool.Decides.{nat_tests}
+use Rattle.std.proofs.lemmas.Fmt.{decimal_by_steps, decimal_nonempty, length-decimal-le}
+use Rattle.std.specs.Fmt.{decimal}
+use Rattle.irs_base.proofs.DateWalks.{date_of_day}
+use Rattle.irs_base.proofs.PlainDates.{plain_is}
+use Rattle.irs_base.proofs.TextLemmas.{length_digit_row, with_point}
+use Rattle.irs_base.specs.DateOf.{year_of, month_of, day_of_month}
+use Rattle.irs_base.specs.Dates.{date_at}
+use Rattle.irs_base.specs.Days.{IsDay}
+use Rattle.irs_base.specs.Decimals.{AreDigits, DecText, bare, minus, IsUnsigned, number_after, number_of}
+use Rattle.irs_base.specs.Fields.{is_space}
+use Rattle.irs_base.specs.Texts.{IsPlainDate, day_text, dec_text, digit_row, two_digits, unsigned_dec}
+use Rattle.irs_terms.specs.Lawful.{IsLawfulTenor, IsRate}
+use Rattle.irs_terms.specs.declared.frequency.Frequency.{Frequency}
+use Rattle.irs_terms.specs.declared.frequency.Unit.{Unit as FrequencyUnit}
+use Rattle.irs_terms.specs.declared.frequency.Unit.TheVariants.{D, W, M, Y, T}
+use Rattle.irs_resets.specs.Tenors.{digit_at, first_digit, hundreds, tenor_at, tens, three_digits, two_digits as pair_at, unit_at, with_unit}
+use Rattle.irs_overnight.specs.Texts.{tenor_text, unit_text}
+
+-- each byte is behind the space
+abbrev pub Visible : List ℕ → Type 0
+Visible [] = Unit {0}
+Visible (x ∷ xs) = (33 ≤ x) × Visible xs
+
+pub no_space : (x : ℕ) → 33 ≤ x → is_space x ≡ false
+no_space x h = grind (arith, nat_tests)
+
+visible_append : (a b : List ℕ) → Visible a → Visible b → Visible (a ++ b)
+visible_append [] b h k = k
+visible_append (x ∷ a) b h k = (h.0, visible_append a b h.1 k)
+
+-- ---- days
+
+two_visible : (n : ℕ) → Visible (two_digits n)
+two_visible n = (omega arith, (omega arith, tt))
+
+pub day_visible : (d : ℤ) → Visible (day_text d)
+unfolding day_text
+day_visible d =
+    let y = year_of d in
+    let m = month_of d in
+    let t = day_of_month d in
+    let dash : 33 ≤ 45 = omega arith in
+    let day : Visible (45 ∷ two_digits t) = (dash, two_visible t) in
+    let month : Visible (45 ∷ (two_digits m ++ 45 ∷ two_digits t)) = (dash, visible_append (two_digits m) (45 ∷ two_digits t) (two_visible m) day) in
+    let rest = 45 ∷ (two_digits m ++ 45 ∷ two_digits t) in
+    visible_append (two_digits (y / 100)) (two_digits (y % 100) ++ rest) (two_visible (y / 100)) (visible_append (two_digits (y % 100)) rest (two_visible (y % 100)) month)
+
+plain : (d : ℤ) → IsDay d → IsPlainDate (day_text d) d
+unfolding day_text
+plain d day = record { year = year_of d; month = month_of d; day = day_of_month d; has = date_of_day d day; is = refl }
+
+pub day_back : (d : ℤ) → IsDay d → date_at (day_text d) ≡ Some d
+day_back d day = plain_is (day_text d) d day (plain d day)
+
+-- ---- digits
+
+pub digits_visible : (s : List ℕ) → AreDigits s → Visible s
+digits_visible [] h = tt
+digits_visible (c ∷ cs) h = (omega (arith, h.0), digits_visible cs h.2)
+
+digits_append : (a b : List ℕ) → AreDigits a → AreDigits b → AreDigits (a ++ b)
+digits_append [] b h k = k
+digits_append (x ∷ a) b h k = (h.0, h.1, digits_append a b h.2 k)
+
+digits_behind : (n : ℕ) (a b : List ℕ) → number_after n (a ++ b) ≡ number_after (number_after n a) b
+digits_behind n [] b = refl
+digits_behind n (x ∷ a) b = digits_behind (10 * n + (x - 48)) a b
+
+one_digit : (n : ℕ) → n < 10 → AreDigits ((48 + n) ∷ [])
+one_digit n h = (omega arith, omega arith, tt)
+
+-- the digits spell the number
+abbrev pub IsSpelt : ℕ → List ℕ → Type 0
+IsSpelt n ds = AreDigits ds × (number_of ds ≡ n)
+
+spells_one : (n : ℕ) → n < 10 → IsSpelt n ((48 + n) ∷ [])
+spells_one n h = (one_digit n h, omega arith)
+
+one_more : (a n : ℕ) → a ≡ n / 10 → 10 * a + (48 + n % 10 - 48) ≡ n
+one_more a n e = omega (arith, e)
+
+spells_more : (n : ℕ) (ds : List ℕ) → 10 ≤ n → IsSpelt (n / 10) ds → IsSpelt n (ds ++ (48 + n % 10) ∷ [])
+spells_more n ds l h = (digits_append ds ((48 + n % 10) ∷ []) h.0 (one_digit (n % 10) (omega arith)), digits_behind 0 ds ((48 + n % 10) ∷ []) ∙ one_more (number_of ds) n h.1)
+
+pub spells_decimal : (n : ℕ) → n < 2 ^ 64 → IsSpelt n (decimal n)
+spells_decimal n h = decimal_by_steps IsSpelt spells_one spells_more n h
+
+row_digits : (k n : ℕ) → AreDigits (digit_row k n)
+row_digits zero n = tt
+row_digits (suc k) n = digits_append (digit_row k (n / 10)) ((48 + n % 10) ∷ []) (row_digits k (n / 10)) (one_digit (n % 10) (omega arith))
+
+row_spells : (k n : ℕ) → number_after (n / 10 ^ k) (digit_row k n) ≡ n
+row_spells zero n = omega arith
+row_spells (suc k) n =
+    let up : n / 10 ^ suc k ≡ n / 10 / 10 ^ k = ap (λ m. n / m) (pow-succ' 10 k) ∙ sym (div-div-eq-div-mul n 10 (10 ^ k)) in
+    let rest : number_after (n / 10 ^ suc k) (digit_row k (n / 10)) ≡ n / 10 = ap (λ m. number_after m (digit_row k (n / 10))) up ∙ row_spells k (n / 10) in
+    digits_behind (n / 10 ^ suc k) (digit_row k (n / 10)) ((48 + n % 10) ∷ []) ∙ one_more (number_after (n / 10 ^ suc k) (digit_row k (n / 10))) n rest
+
+-- ---- rates
+
+some_digit : (a b : ℕ) → 0 < a → 0 < a + b
+some_digit a b h = omega (arith, h)
+
+not_none : (k : ℕ) → suc k ≢ 0
+not_none k e = omega (arith, e)
+
+rate_unsigned : (n k : ℕ) → n / 10 ^ suc k < 10 ^ 18 → IsUnsigned (unsigned_dec n (suc k)) (suc k) n
+rate_unsigned n k h =
+    let a = n / 10 ^ suc k in
+    let row = digit_row (suc k) n in
+    let low : a < 2 ^ 64 = omega (arith, h) in
+    let len : length row ≡ suc k = length_digit_row (suc k) n in
+    let spelled : number_of (decimal a ++ row) ≡ n = digits_behind 0 (decimal a) row ∙ ap (λ m. number_after m row) (spells_decimal a low).1 ∙ row_spells (suc k) n in
+    record {
+      whole = decimal a;
+      fraction = row;
+      whole_digits = (spells_decimal a low).0;
+      fraction_digits = row_digits (suc k) n;
+      some = some_digit (length (decimal a)) (length row) (decimal_nonempty a low);
+      short = length-decimal-le 18 a (omega arith) h low;
+      is = inr (with_point n (suc k) (not_none k));
+      value = ap (λ m. n * 10 ^ m) len ∙ ap (λ m. m * 10 ^ suc k) (sym spelled);
+    }
+
+rate_visible_by : (n k : ℕ) → n / 10 ^ suc k < 10 ^ 18 → Visible (unsigned_dec n (suc k))
+rate_visible_by n k h =
+    let a = n / 10 ^ suc k in
+    let row : Visible (46 ∷ digit_row (suc k) n) = (omega arith, digits_visible (digit_row (suc k) n) (row_digits (suc k) n)) in
+    subst Visible (sym (with_point n (suc k) (not_none k))) (visible_append (decimal a) (46 ∷ digit_row (suc k) n) (digits_visible (decimal a) (spells_decimal a (omega (arith, h))).0) row)
+
+short_rate : (n : ℕ) → n ≤ 10 ^ 10 → n / 10 ^ 9 < 10 ^ 18
+short_rate n h = omega (arith, h)
+
+pub rate_back : (x : ℤ) → IsRate x → DecText (dec_text x 9) 9 x
+rate_back (pos n) h = bare (unsigned_dec n 9) 9 n (rate_unsigned n 8 (short_rate n h))
+rate_back (negsuc n) h = minus (unsigned_dec (suc n) 9) 9 (suc n) (rate_unsigned (suc n) 8 (short_rate (suc n) h))
+
+pub rate_visible : (x : ℤ) → IsRate x → Visible (dec_text x 9)
+rate_visible (pos n) h = rate_visible_by n 8 (short_rate n h)
+rate_visible (negsuc n) h = (omega arith, rate_visible_by (suc n) 8 (short_rate (suc n) h))
+
+-- ---- tenors
+
+pub record IsShort (n : ℕ) (ds : List ℕ) : Type 0 where
+  pub one : n < 10 → ds ≡ (48 + n) ∷ []
+  pub two : 10 ≤ n → n < 100 → ds ≡ (48 + n / 10) ∷ (48 + n % 10) ∷ []
+  pub three : 100 ≤ n → n < 1000 → ds ≡ (48 + n / 100) ∷ (48 + n / 10 % 10) ∷ (48 + n % 10) ∷ []
+
+short_one : (n : ℕ) → n < 10 → IsShort n ((48 + n) ∷ [])
+short_one n h = record { one = λ low. refl; two = λ low high. absurd (omega (arith, h, low)); three = λ low high. absurd (omega (arith, h, low)) }
+
+three_of : (n : ℕ) (ds : List ℕ) → ds ≡ (48 + n / 10 / 10) ∷ (48 + n / 10 % 10) ∷ [] → ds ++ (48 + n % 10) ∷ [] ≡ (48 + n / 100) ∷ (48 + n / 10 % 10) ∷ (48 + n % 10) ∷ []
+three_of n ds e =
+    let same : n / 10 / 10 ≡ n / 100 = omega arith in
+    ap (λ xs. xs ++ (48 + n % 10) ∷ []) (e ∙ ap (λ m. (48 + m) ∷ (48 + n / 10 % 10) ∷ []) same)
+
+short_more : (n : ℕ) (ds : List ℕ) → 10 ≤ n → IsShort (n / 10) ds → IsShort n (ds ++ (48 + n % 10) ∷ [])
+short_more n ds l h = record {
+  one = λ low. absurd (omega (arith, l, low));
+  two = λ low high. ap (λ xs. xs ++ (48 + n % 10) ∷ []) (h.one (omega (arith, high)));
+  three = λ low high. three_of n ds (h.two (omega (arith, low)) (omega (arith, high)));
+}
+
+short_decimal : (n : ℕ) → n < 2 ^ 64 → IsShort n (decimal n)
+short_decimal n h = decimal_by_steps IsShort short_one short_more n h
+
+digit_is : (n : ℕ) → n < 10 → digit_at (48 + n) ≡ Some n
+digit_is n h = grind (arith, nat_tests)
+
+leading_is : (n : ℕ) → 1 ≤ n → n < 10 → first_digit (48 + n) ≡ Some n
+leading_is n low h = grind (arith, nat_tests)
+
+unit_back : (u : FrequencyUnit) → (u ≡ T → ⊥) → (b : ℕ) × (unit_text u ≡ b ∷ []) × (unit_at b ≡ Some u) × (33 ≤ b)
+unit_back D h = (68, refl, refl, omega arith)
+unit_back W h = (87, refl, refl, omega arith)
+unit_back M h = (77, refl, refl, omega arith)
+unit_back Y h = (89, refl, refl, omega arith)
+unit_back T h = absurd (h refl)
+
+-- the first byte is behind the space
+abbrev pub StartsVisible : List ℕ → Type 0
+StartsVisible [] = ⊥
+StartsVisible (x ∷ xs) = 33 ≤ x
+
+starts_before : (a : List ℕ) (x : ℕ) (b : List ℕ) → Visible a → 33 ≤ x → StartsVisible (a ++ x ∷ b)
+starts_before [] x b h low = low
+starts_before (y ∷ a) x b h low = h.0
+
+rate_starts_by : (n k : ℕ) → n / 10 ^ suc k < 10 ^ 18 → StartsVisible (unsigned_dec n (suc k))
+rate_starts_by n k h =
+    let a = n / 10 ^ suc k in
+    subst StartsVisible (sym (with_point n (suc k) (not_none k))) (starts_before (decimal a) 46 (digit_row (suc k) n) (digits_visible (decimal a) (spells_decimal a (omega (arith, h))).0) (omega arith))
+
+pub rate_starts : (x : ℤ) → IsRate x → StartsVisible (dec_text x 9)
+rate_starts (pos n) h = rate_starts_by n 8 (short_rate n h)
+rate_starts (negsuc n) h = omega arith
+
+tenor_made : (f : Frequency) (b : ℕ) → unit_text f.unit ≡ b ∷ [] → decimal f.count ++ unit_text f.unit ≡ decimal f.count ++ b ∷ []
+tenor_made f b e = ap (λ (t : List ℕ). decimal f.count ++ t) e
+
+count_visible : (f : Frequency) → IsLawfulTenor f → Visible (decimal f.count)
+count_visible f h = let high = h.0.1 in digits_visible (decimal f.count) (spells_decimal f.count (omega (arith, high))).0
+
+pub tenor_visible : (tenor : Option Frequency) → IfSome tenor IsLawfulTenor → Visible (tenor_text tenor)
+tenor_visible None h = (omega arith, tt)
+tenor_visible (Some f) h = let u = unit_back f.unit h.1 in subst Visible (sym (tenor_made f u.0 u.1)) (visible_append (decimal f.count) (u.0 ∷ []) (count_visible f h) (u.3, tt))
+
+pub tenor_starts : (tenor : Option Frequency) → IfSome tenor IsLawfulTenor → StartsVisible (tenor_text tenor)
+tenor_starts None h = omega arith
+tenor_starts (Some f) h = let u = unit_back f.unit h.1 in subst StartsVisible (sym (tenor_made f u.0 u.1)) (starts_before (decimal f.count) u.0 [] (count_visible f h) u.3)
+
+pair_is : (n : ℕ) → 10 ≤ n → n < 100 → pair_at (48 + n / 10) (48 + n % 10) ≡ Some n
+pair_is n low high =
+    let e : 10 * (n / 10) + n % 10 ≡ n = omega arith in
+    ap₂ tens (leading_is (n / 10) (omega (arith, low)) (omega (arith, high))) (digit_is (n % 10) (omega arith)) ∙ ap (λ (m : ℕ). Some m) e
+
+three_is : (n : ℕ) → 100 ≤ n → n < 1000 → three_digits (48 + n / 100) (48 + n / 10 % 10) (48 + n % 10) ≡ Some n
+three_is n low high =
+    let e : 100 * (n / 100) + 10 * (n / 10 % 10) + n % 10 ≡ n = omega arith in
+    let a = leading_is (n / 100) (omega (arith, low)) (omega (arith, high)) in
+    let b = digit_is (n / 10 % 10) (omega arith) in
+    let c = digit_is (n % 10) (omega arith) in
+    rw (a, b, c) (ap (λ (m : ℕ). Some m) e)
+
+abbrev frequency : ℕ → FrequencyUnit → Frequency
+frequency n u = record { count = n; unit = u }
+
+tenor_by : (f : Frequency) (n b : ℕ) (ds : List ℕ) → IsLawfulTenor f → f.count ≡ n → IsShort n ds → unit_at b ≡ Some f.unit → tenor_at (ds ++ b ∷ []) ≡ Some (Some f)
+tenor_by f n b ds h same short unit =
+    let low = h.0.0 in
+    let high = h.0.1 in
+    elim (cases_lt n 10) [
+      | inl one ↦ ap (λ (t : List ℕ). tenor_at (t ++ b ∷ [])) (short.one one) ∙ ap₂ with_unit (leading_is n (omega (arith, low, same)) one) unit ∙ ap (λ (k : ℕ). Some (Some (frequency k f.unit))) (sym same)
+      | inr more ↦ elim (cases_lt n 100) [
+        | inl two ↦ ap (λ (t : List ℕ). tenor_at (t ++ b ∷ [])) (short.two more two) ∙ ap₂ with_unit (pair_is n more two) unit ∙ ap (λ (k : ℕ). Some (Some (frequency k f.unit))) (sym same)
+        | inr many ↦
+            let few : n < 1000 = omega (arith, high, same) in
+            ap (λ (t : List ℕ). tenor_at (t ++ b ∷ [])) (short.three many few) ∙ ap₂ with_unit (three_is n many few) unit ∙ ap (λ (k : ℕ). Some (Some (frequency k f.unit))) (sym same)
+      ]
+    ]
+
+pub tenor_back : (tenor : Option Frequency) → IfSome tenor IsLawfulTenor → tenor_at (tenor_text tenor) ≡ Some tenor
+tenor_back None h = refl
+tenor_back (Some f) h =
+    let u = unit_back f.unit h.1 in
+    let high = h.0.1 in
+    ap tenor_at (tenor_made f u.0 u.1) ∙ tenor_by f f.count u.0 (decimal f.count) h refl (short_decimal f.count (omega (arith, high))) u.2
