@@ -16,7 +16,7 @@ fn lines_of_one_stream(rt: HostRuntime) {
     };
     let mut line = Line::new();
     accrued_text(1, &inside, &mut line);
-    assert_eq!(rt; line.bytes(), b"a 1 1 91 91/360 12638.89\n");
+    assert_eq!(rt; line.bytes(), b"a 1 1 91 91/360 12638.89\n".as_slice());
     accrued_text(1, &Accrual::Outside, &mut line);
-    assert_eq!(rt; line.bytes(), b"a 1 none\n");
+    assert_eq!(rt; line.bytes(), b"a 1 none\n".as_slice());
 }

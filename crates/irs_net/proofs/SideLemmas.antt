@@ -9,7 +9,8 @@ use Rattle.serde_json.specs.Data.{Data, null, boolean, number, string, array, ob
 use Rattle.serde_json.specs.Find.{as_str}
 use Rattle.serde_json.specs.View.{view}
 use Rattle.serde_json.specs.declared.value.Value.{Value}
-use Rattle.irs_base.proofs.Firsts.{level_later, level_same}
+use Rattle.irs_base.proofs.FaultOrder.{broken_ties}
+use Rattle.irs_base.proofs.Firsts.{level_later, level_same, one_first}
 use Rattle.irs_base.proofs.MemberLemmas.{some_is}
 use Rattle.irs_base.specs.Limits.{most_streams}
 use Rattle.irs_base.specs.Order.{First, is_before}
@@ -26,7 +27,7 @@ use Rattle.irs_read.specs.Meaning.{streams_in}
 use Rattle.irs_read.specs.StreamLines.{swap_names, swap_rows}
 use Rattle.irs_read.specs.Swaps.{SwapFault, StreamsFault, no_stream, many_streams}
 use Rattle.irs_net.specs.FoundParties.{href_in, pair_of, parties_in, party_in, side_by, side_in}
-use Rattle.irs_net.specs.Parties.{AreSides, BreaksK8, BreaksK8Of, IsBackward, IsForward, IsPaid, IsSide, RefersTo, broken_at}
+use Rattle.irs_net.specs.Parties.{AreSides, BreaksK8, BreaksK8Of, IsBackward, IsForward, IsPaid, IsSide, RefersTo, SidesOf, broken_at}
 use Rattle.irs_net.specs.SidesTo.{SidesTo}
 use Rattle.irs_net.specs.declared.sides.Sides.{Sides}
 
@@ -159,6 +160,7 @@ not_backward f s h w =
 
 pub are_sides : (streams : List Data) (sides : Sides) → sides.count ≡ length streams → SidesTo streams (length streams) sides.forward → AreSides streams sides
 are_sides streams sides count to = record {
+  eight = to.count;
   count = count;
   each = λ first begins i stream there. side_is first stream (slice_index_or sides.forward i false) (to.each first stream i (slice_get_within streams i stream there) begins there);
   past = to.past;
@@ -259,3 +261,59 @@ first_of d s vs x found are h = (
 pub if_err : {A E : Type 0} (r : Result A E) (P Q : E → Type 0) → ((e : E) → P e → Q e) → IfErr r P → IfErr r Q
 if_err (Ok x) P Q to h = tt
 if_err (Err e) P Q to h = to e h
+
+-- ---- only one
+
+one_pair : (d : Data) (a b : Pair) → parties_in d ≡ Some a → parties_in d ≡ Some b → a ≡ b
+one_pair d a b e h = some_is a b (sym e ∙ h)
+
+not_both : (f s : Data) → IsForward f s → IsBackward f s → ⊥
+not_both f s a b =
+    let first = one_pair f (a.payer, a.receiver) (b.payer, b.receiver) (parties_are f a.payer a.receiver a.first_paid) (parties_are f b.payer b.receiver b.first_paid) in
+    let second = one_pair s (a.payer, a.receiver) (b.receiver, b.payer) (parties_are s a.payer a.receiver a.paid) (parties_are s b.receiver b.payer b.paid) in
+    let payer : a.payer ≡ b.receiver = ap (λ (p : Pair). p.0) second in
+    let receiver : a.receiver ≡ b.receiver = ap (λ (p : Pair). p.1) first in
+    a.paid.apart (payer ∙ sym receiver)
+
+one_side : (f s : Data) (a b : Bool) → IsSide f s a → IsSide f s b → a ≡ b
+one_side f s true true h k = refl
+one_side f s true false h k = absurd (not_both f s h k)
+one_side f s false true h k = absurd (not_both f s k h)
+one_side f s false false h k = refl
+
+same_flags : (xs ys : List Bool) → length xs ≡ length ys → ((i : ℕ) → get_or xs i false ≡ get_or ys i false) → xs ≡ ys
+same_flags [] [] e h = refl
+same_flags [] (y ∷ ys) e h = absurd (omega (arith, e))
+same_flags (x ∷ xs) [] e h = absurd (omega (arith, e))
+same_flags (x ∷ xs) (y ∷ ys) e h = ap₂ ◌∷◌ (h zero) (same_flags xs ys (omega (arith, e)) (λ i. h (suc i)))
+
+there_is : (xs : List Data) (i : ℕ) → i < length xs → (x : Data) × (slice_get xs i ≡ Some x)
+there_is [] i low = absurd (omega (arith, low))
+there_is (x ∷ xs) zero low = (x, refl)
+there_is (x ∷ xs) (suc i) low = there_is xs i (omega (arith, low))
+
+same_within : (streams : List Data) (a b : Sides) (i : ℕ) → AreSides streams a → AreSides streams b → i < length streams → get_or a.forward i false ≡ get_or b.forward i false
+same_within streams a b i h k low =
+    let first = there_is streams 0 (omega (arith, low)) in
+    let own = there_is streams i low in
+    one_side first.0 own.0 (get_or a.forward i false) (get_or b.forward i false) (h.each first.0 first.1 i own.0 own.1) (k.each first.0 first.1 i own.0 own.1)
+
+same_at : (streams : List Data) (a b : Sides) (i : ℕ) → AreSides streams a → AreSides streams b → get_or a.forward i false ≡ get_or b.forward i false
+same_at streams a b i h k = elim (le_or_lt (length streams) i) [
+  | inl low ↦ same_within streams a b i h k low
+  | inr behind ↦ h.past i behind ∙ sym (k.past i behind)
+]
+
+abbrev make_sides : List Bool → ℕ → Sides
+make_sides forward count = record { forward = forward; count = count }
+
+pub one_sides : (streams : List Data) (a b : Sides) → AreSides streams a → AreSides streams b → a ≡ b
+one_sides streams a b h k = ap₂ make_sides (same_flags a.forward b.forward (h.eight ∙ sym k.eight) (λ i. same_at streams a b i h k)) (h.count ∙ sym k.count)
+
+pub one_sides_of : (d : Data) (a b : Sides) → SidesOf d a → SidesOf d b → a ≡ b
+one_sides_of d a b h k =
+    let same : h.swap ≡ k.swap = ok_is h.swap k.swap (sym h.found ∙ k.found) in
+    one_sides (streams_in k.swap) a b (subst (λ (s : Data). AreSides (streams_in s) a) same h.are) k.are
+
+pub one_k8 : (d : Data) (x y : Broken) → First is_before (BreaksK8Of d) x → First is_before (BreaksK8Of d) y → x ≡ y
+one_k8 d x y h k = one_first is_before broken_ties (BreaksK8Of d) x y h k

@@ -6,6 +6,7 @@ ghost use Rattle.irs_base.specs.Limits.{most_streams};
 ghost use Rattle.irs_base.specs.Order.{First, is_before};
 ghost use Rattle.irs_base.specs.declared.places.Broken.{Broken};
 ghost use Rattle.irs_read.specs.Documents.{DocumentFault};
+ghost use Rattle.irs_net.specs.declared.sides.Sides.{Sides};
 ghost use Rattle.irs_net.specs.Parties.{AreSides, BreaksK8, BreaksK8Of, SidesOf, broken_at as broken_at_of};
 
 use crate::parties::side;
@@ -63,6 +64,9 @@ pub fn read_sides(v: &Value) -> Result<Sides, Broken>
     requires clean { (f : Broken) → DocumentFault (view v.now) f → ⊥ }
     ensures sides { IfOk result (SidesOf (view v.now)) }
     ensures broken { IfErr result (First is_before (BreaksK8Of (view v.now))) }
+    // Any two sides of the streams are equal, and any two first K8 are.
+    ensures one { (a b : Sides) → SidesOf (view v.now) a → SidesOf (view v.now) b → a ≡ b }
+    ensures one_broken { (x y : Broken) → First is_before (BreaksK8Of (view v.now)) x → First is_before (BreaksK8Of (view v.now)) y → x ≡ y }
 {
     match the_swap(v) {
         Ok(swap) => sides_of(values_at(swap, "swapStream")),

@@ -5,7 +5,7 @@ use Rattle.irs_base.specs.Order.{First, is_before}
 use Rattle.irs_read.specs.Documents.{the_swap, ended}
 use Rattle.irs_read.specs.Meaning.{streams_in}
 use Rattle.irs_net.specs.Parties.{BreaksK8, BreaksK8Of}
-use Rattle.irs_net.proofs.SideLemmas.{first_of, if_err, streams_few}
+use Rattle.irs_net.proofs.SideLemmas.{first_of, if_err, one_k8, one_sides_of, streams_few}
 use Rattle.irs_net.proofs.sides.read_sides.Goals as goal
 
 pub sides_of-requires-clause-some : goal.sides_of-requires-clause-some
@@ -33,3 +33,9 @@ returns-clause-broken c =
     let s = view c.in-Ok.swap.now in
     let vs = map view c.values_at.result.now in
     if_err c.sides_of.result (First is_before (BreaksK8 vs)) (First is_before (BreaksK8Of d)) (λ x h. first_of d s vs x (sym c.in-Ok.ensures) c.values_at.ensures h) c.sides_of.ensures.broken
+
+pub returns-clause-one : goal.returns-clause-one
+returns-clause-one c = λ a b h k. one_sides_of (view c.args.v.now) a b h k
+
+pub returns-clause-one_broken : goal.returns-clause-one_broken
+returns-clause-one_broken c = λ x y h k. one_k8 (view c.args.v.now) x y h k
