@@ -1,4 +1,4 @@
-use Rattle.std.proofs.Common.{◌≡◌, ℕ, suc, ◌+◌, ◌-◌, ◌<◌, List, ◌++◌, append_assoc, sym, ◌∙◌, arith}
+use Rattle.std.proofs.Common.{◌≡◌, ℕ, suc, ◌+◌, ◌-◌, ◌<◌, List, ◌++◌, append_assoc, ◌∙◌, arith}
 use Rattle.std.specs.List.{flat_map}
 use Rattle.irs_bulk.specs.BulkCalendars.{holidays_text, years_from}
 use Rattle.irs_bulk.proofs.holidays.bulk_calendar.Goals as goal
