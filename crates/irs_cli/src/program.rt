@@ -6,15 +6,15 @@ ghost use Rattle.irs_cli.specs.Commands.{texts, IsListed};
 ghost use Rattle.irs_cli.specs.Due.{Due, IsOneAnswer};
 ghost use Rattle.irs_cli.specs.Given.{TellsAll};
 ghost use Rattle.irs_cli.specs.Outcomes.{IfAnswered};
-ghost use Rattle.irs_cli.specs.Outside.{Rose, Grew, GrewByFront};
+ghost use Rattle.irs_outside.specs.Outside.{Rose, Grew, GrewByFront};
 ghost use Rattle.irs_cli.specs.Replying.{reply_status, reply_text};
 ghost use Rattle.irs_cli.specs.Run.{NoFile, Replies};
 
 use crate::commands::command_of;
+use crate::due::reply_of;
 use crate::fetching::fetch_all;
-use crate::outcomes::{Outcome, outcome_of};
 use crate::refusals::Refusal;
-use crate::replies::{Reply, outcome_reply, put_reply, refusal_reply};
+use crate::replies::{Reply, put_reply, refusal_reply};
 use crate::{Files, Sink};
 use irs_base::Memory;
 use std::alloc::Global;
@@ -70,18 +70,18 @@ fn answer<F: Files>(alloc: Global, words: &[String], files: &mut F) -> Result<Re
     ensures { IfOk result (λ r. Replies (texts words.now) (F.told files.old) (F.failed files.new) (F.faults files.old) (F.faults files.new) (reply_status r) (reply_text r)) }
 {
     match carry_out(alloc, words, files) {
-        Ok(outcome) => outcome_reply(alloc, outcome),
+        Ok(reply) => Ok(reply),
         Err(refusal) => refusal_reply(alloc, refusal),
     }
 }
 
 // What the command of the words comes to, or why it isn't carried out.
-fn carry_out<F: Files>(alloc: Global, words: &[String], files: &mut F) -> Result<Outcome, Refusal>
+fn carry_out<F: Files>(alloc: Global, words: &[String], files: &mut F) -> Result<Reply, Refusal>
     ensures { IfAnswered result (Replies (texts words.now) (F.told files.old) (F.failed files.new) (F.faults files.old) (F.faults files.new)) }
 {
-    let Some(command) = command_of(words) else {
+    let Some(command) = command_of(alloc, words)? else {
         return Err(Refusal::BadWords);
     };
-    let fetched = fetch_all(alloc, &command, files)?;
-    outcome_of(alloc, command.task, &fetched)
+    let fetched = fetch_all(alloc, &command.files, files)?;
+    reply_of(alloc, command.task, &fetched)
 }

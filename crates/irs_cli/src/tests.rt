@@ -1,5 +1,5 @@
 // The program over files and sinks in memory. What it prints of documents at large is tested above.
-use crate::{Files, MemFiles, MemSink, RealFiles, SureFiles, SureSink, run};
+use crate::{MemFiles, MemSink, RealFiles, SureFiles, SureSink, run};
 use std::alloc::{AllocError, Global};
 use std::fs;
 use std::process::Abort;
@@ -210,22 +210,5 @@ fn real_files_at_the_limit(rt: HostRuntime) -> Result<(), Fail> {
         assert_eq!(rt; out.bytes(), text.as_bytes(), "at {length}");
     }
     fs::remove_file(&rt, SPACES)?;
-    Ok(())
-}
-
-// A marked call fails though the file is there, and a file that is added again is replaced.
-#[test]
-fn a_marked_call_fails(rt: HostRuntime) -> Result<(), Fail> {
-    let alloc = rt.alloc();
-    let mut files = MemFiles::new(alloc);
-    files.add("B", b"1")?;
-    files.add("B", b"2")?;
-    files.fail_at(2)?;
-    for (wanted, most) in [("2", 5), ("failed", 5), ("", 0)] {
-        match files.fetch(alloc, "B", most) {
-            Ok(bytes) => assert_eq!(rt; bytes.as_slice(), wanted.as_bytes(), "at {wanted}"),
-            Err(_) => assert_eq!(rt; wanted, "failed"),
-        }
-    }
     Ok(())
 }
