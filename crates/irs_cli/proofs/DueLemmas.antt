@@ -95,7 +95,7 @@ module _ (t : Task) (g : Given) (swap : Swap) (cal : List Section) (r q : RateTa
       let x = rates_for t r in
       let y = rates_for t q in
       rules_more (DatedKept swap cal x) (DatedKept swap cal y) (Refuses (DatedBroken swap cal x) status text) (Refuses (DatedBroken swap cal y) status text) (DueKept t g swap cal r status text) (DueKept t g swap cal q status text)
-          (kept_same x y for_same swap cal) (kept_same y x (same_back x y for_same) swap cal) (refuses_same swap cal x y for_same status text) kept_too k
+      (kept_same x y for_same swap cal) (kept_same y x (same_back x y for_same) swap cal) (refuses_same swap cal x y for_same status text) kept_too k
 
   terms_same : DueTerms t g swap cal r status text → DueTerms t g swap cal q status text
   terms_same h = rules_more (KeepsTerms swap cal) (KeepsTerms swap cal) (Refuses (IsFirstOfTerms swap cal) status text) (Refuses (IsFirstOfTerms swap cal) status text) (DueDated t g swap cal r status text) (DueDated t g swap cal q status text) (λ k. k) (λ k. k) (λ k. k) dated_same h
