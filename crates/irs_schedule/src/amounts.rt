@@ -17,7 +17,7 @@ ghost use Rattle.irs_terms.specs.StepDates.{AllStepsRise};
 use crate::PaymentEntry;
 use crate::periods::{day_at, observed_at};
 use irs_base::{Day, Dec, Elem, Fault, Memory, Rule, Stopped};
-use irs_compound::{PeriodTerm, in_force, payment_amount, rates_by};
+use irs_compound::{PeriodTerm, in_force_of_rising, payment_amount, rates_of_rising};
 use irs_daycount::fraction_by;
 use irs_terms::{Payment, Reset, Stream};
 use std::alloc::Global;
@@ -143,6 +143,7 @@ fn terms_of(
     payment: &Payment,
 ) -> Result<Vec<PeriodTerm>, Memory>
     requires lawful { IsLawfulStream s.now }
+    requires rises { AllStepsRise s.now }
     requires table { IsTable table.now.unadjusted.now table.now.adjusted.now table.now.resets.now }
     requires from_one { 1 ≤ payment.now.first_period }
     requires some { payment.now.first_period ≤ payment.now.last_period }
@@ -159,6 +160,7 @@ fn terms_of(
 // Notional, rates and fraction of a period, counted from 1.
 fn period_term(s: &Stream, table: &PeriodTable<'_>, number: usize) -> PeriodTerm
     requires lawful { IsLawfulStream s.now }
+    requires rises { AllStepsRise s.now }
     requires table { IsTable table.now.unadjusted.now table.now.adjusted.now table.now.resets.now }
     requires low { 1 ≤ number }
     requires high { number < length table.now.unadjusted.now }
@@ -166,8 +168,8 @@ fn period_term(s: &Stream, table: &PeriodTable<'_>, number: usize) -> PeriodTerm
 {
     let start = day_at(table.unadjusted, number - 1);
     PeriodTerm {
-        notional: in_force(&s.notional, start),
-        rates: rates_by(&s.leg, start, observed_at(table.resets, number - 1)),
+        notional: in_force_of_rising(&s.notional, start),
+        rates: rates_of_rising(&s.leg, start, observed_at(table.resets, number - 1)),
         frac: fraction_by(
             s.day_count,
             day_at(table.adjusted, number - 1),

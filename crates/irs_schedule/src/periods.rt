@@ -3,6 +3,7 @@
 //! rate are those in force on its unadjusted start.
 ghost use Rattle.std.specs.Prelude.{◌≡◌, ℕ, ◌<◌, length, ◌<ℤ◌, IfSome, option_and_then, option_map, slice_get};
 ghost use Rattle.irs_terms.specs.Lawful.{IsLawfulLeg, IsRate};
+ghost use Rattle.irs_terms.specs.StepDates.{StepsRise, LegStepsRise};
 ghost use Rattle.irs_compound.specs.PeriodRates.{rates_by};
 ghost use Rattle.irs_schedule.specs.Periods.{entry_by};
 ghost use Rattle.irs_base.specs.Members.{Every, day_at};
@@ -10,7 +11,7 @@ ghost use Rattle.irs_base.specs.Members.{Every, day_at};
 use crate::PeriodEntry;
 use crate::kept_terms::KeptTerms;
 use irs_base::Day;
-use irs_compound::{in_force, rates_by};
+use irs_compound::{in_force_of_rising, rates_of_rising};
 use irs_daycount::{days_by, fraction_by};
 use irs_terms::{Leg, Reset};
 
@@ -26,13 +27,15 @@ pub(crate) fn entry_by(
 ) -> PeriodEntry
     requires order { from <ℤ to }
     requires leg { IsLawfulLeg terms.now.leg }
+    requires notional_rises { StepsRise terms.now.notional.steps }
+    requires leg_rises { LegStepsRise terms.now.leg }
     requires observed { IfSome observed IsRate }
     ensures { result ≡ entry_by terms.now from to last start observed }
 {
     PeriodEntry {
         days: days_by(terms.day_count, from, to, last),
         frac: fraction_by(terms.day_count, from, to, last),
-        notional: in_force(&terms.notional, start),
+        notional: in_force_of_rising(&terms.notional, start),
         rate: rate_by(&terms.leg, start, observed),
     }
 }
@@ -40,10 +43,11 @@ pub(crate) fn entry_by(
 // The rate of a period; on a floating stream there is none where none was observed.
 fn rate_by(leg: &Leg, start: Day, observed: Option<i64>) -> Option<i64>
     requires leg { IsLawfulLeg leg.now }
+    requires rises { LegStepsRise leg.now }
     requires observed { IfSome observed IsRate }
     ensures { result ≡ option_map (λ r. r.all_in) (rates_by leg.now start observed) }
 {
-    rates_by(leg, start, observed).map(|rates| rates.all_in)
+    rates_of_rising(leg, start, observed).map(|rates| rates.all_in)
 }
 
 /// The observed rate of a reset, by its place in the list.

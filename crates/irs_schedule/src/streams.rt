@@ -38,6 +38,7 @@ impl Model for StreamPart {
 ghost use Rattle.irs_base.specs.Limits.{most_exchanges, most_periods};
 ghost use Rattle.std.specs.Prelude.{IsTrue, IfSome, slice_index_or, if◌then◌else◌};
 ghost use Rattle.irs_terms.specs.Lawful.{IsLawfulValues, IsLawfulLeg, IsNotional, IsRate};
+ghost use Rattle.irs_terms.specs.StepDates.{StepsRise, LegStepsRise};
 ghost use Rattle.irs_schedule.specs.KeptTerms.{is_floating};
 ghost use Rattle.irs_schedule.specs.Parts.{KeepsBounds, Rises, Covers, HasAmount, IsAmount};
 ghost use Rattle.irs_schedule.specs.Periods.{periods_by};
@@ -56,6 +57,8 @@ impl StreamPart {
     ) -> StreamPart
         requires notional { IsLawfulValues IsNotional terms.notional }
         requires leg { IsLawfulLeg terms.leg }
+        requires notional_rises { StepsRise terms.notional.steps }
+        requires leg_rises { LegStepsRise terms.leg }
         requires some { 2 ≤ length unadjusted }
         requires few { length unadjusted ≤ most_periods + 1 }
         requires same_count { length adjusted ≡ length unadjusted }

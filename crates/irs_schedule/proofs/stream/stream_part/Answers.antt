@@ -5,6 +5,8 @@ use Rattle.irs_payments.specs.Payments.{Covers}
 use Rattle.irs_periods.proofs.AdjustedLemmas.{two_boundaries}
 use Rattle.irs_resets.specs.Resets.{HasSmallRate}
 use Rattle.irs_terms.specs.declared.amounts.Leg.{Leg}
+use Rattle.irs_terms.specs.StepDates.{StepsRise, LegStepsRise}
+use Rattle.irs_terms.specs.declared.step_list.StepValues.{StepValues}
 use Rattle.irs_terms.specs.declared.currency.Currency.{Currency}
 use Rattle.irs_terms.specs.declared.results.Payment.{Payment}
 use Rattle.irs_schedule.specs.DatedRules.{StreamBroken}
@@ -36,6 +38,13 @@ returns-in_err-entries-clause-broken c =
     rw (p.1, p.2) (handed_on c.in_err-entries.field-0.0 (IsFirstPassed s l.unadjusted l.adjusted d.resets d.payments) (StreamBroken sets fix s)
     (amounts_first sets fix s l c.in_ok-layout.ensures.ok d.payments d.resets dated.payments dated.resets dated.kept)
     c.in_err-entries.ensures.broken)
+
+pub new-requires-clause-notional_rises : goal.new-requires-clause-notional_rises
+new-requires-clause-notional_rises c =
+    subst (λ (v : StepValues). StepsRise v.steps) (sym c.in_ok-terms.ensures.notional) c.requires.kept.1.notional_rises
+
+pub new-requires-clause-leg_rises : goal.new-requires-clause-leg_rises
+new-requires-clause-leg_rises c = subst LegStepsRise (sym c.in_ok-terms.ensures.leg) c.requires.kept.1.leg_rises
 
 pub new-requires-clause-some : goal.new-requires-clause-some
 new-requires-clause-some c = let l = c.in_ok-layout.layout in two_boundaries c.args.s.now l.span l.unadjusted (begins_before_end c.args.s.now c.requires.kept.1.dates) c.in_ok-layout.ensures.ok.unadjusted
