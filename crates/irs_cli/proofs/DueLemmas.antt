@@ -1,5 +1,5 @@
 -- What is due for the files of a task, step by step.
-use Rattle.std.proofs.Common.{◌≡◌, inl, inr, ℕ, List, [], Option, Some, None, Bool, true, false, Result, Ok, Err, refl, sym, ◌∙◌, ap, subst, arith}
+use Rattle.std.proofs.Common.{◌≡◌, inl, inr, ℕ, List, [], Option, Some, None, Bool, true, false, Result, Ok, refl, sym, ◌∙◌, ap, subst, arith}
 use Rattle.std.specs.Prelude.{IfSome, if◌then◌else◌}
 use Rattle.std.proofs.lemmas.Option.{same_Some}
 use Rattle.serde_json.specs.Data.{Data}
@@ -40,7 +40,7 @@ use Rattle.irs_cli.specs.Commands.{uses_rates}
 use Rattle.irs_cli.specs.Given.{Given}
 use Rattle.irs_cli.specs.Messages.{refused, unreadable, bad_calendar, bad_fixings}
 use Rattle.irs_cli.specs.Due.{Is, IsJson, SpellsSwap, AreFixings, IsFixingsFault, KeepsTerms, Refuses, Facts, facts, Answered, rates_for, DueKept, DueDated, DueTerms, DueFixings, DueCalendars, DueDocument, DueFor, Passes}
-use Rattle.irs_cli.specs.Outcomes.{of_json, of_stopped, Ends, FixingsFail, IfRefused, IfAnswered, IsTermsFirst, IsRuleFirst, IsUnscheduled, IsScheduled}
+use Rattle.irs_cli.specs.Outcomes.{of_json, of_stopped, Ends, FixingsFail, IfRefused, IfAnswered, IsRuleFirst, IsUnscheduled, IsScheduled}
 use Rattle.irs_cli.proofs.FirstLemmas.{one_first, one_fixings_fault, no_fixings}
 use Rattle.irs_cli.proofs.SameRates.{SameRates, same_back, same_file, schedule_same, kept_same, first_same_table, not_kept}
 use Rattle.irs_cli.proofs.StepLemmas.{answered_more, refused_more, ends_more, read, unread, kept, broken, rules_more}

@@ -21,7 +21,6 @@ use Rattle.irs_rules.specs.TermsRules.{IsFirstBroken as IsFirstOfTerms}
 use Rattle.irs_schedule.specs.DatedRules.{DatedKept, DatedBroken}
 use Rattle.irs_schedule.specs.Parts.{Part}
 use Rattle.irs_schedule.specs.RowTexts.{text_of}
-use Rattle.irs_schedule.specs.Schedules.{IsSchedule}
 use Rattle.irs_terms.specs.declared.stream_list.Swap.{Swap}
 use Rattle.irs_cli.specs.Commands.{Words}
 use Rattle.irs_cli.specs.Given.{Given, Told, TellsAll}

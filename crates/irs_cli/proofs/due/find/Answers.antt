@@ -1,6 +1,8 @@
 use Rattle.std.proofs.Common.{ℕ, List, map, ap, sym, subst, Err, Vec}
 use Rattle.std.specs.Prelude.{IfSome}
 use Rattle.std.specs.declared.alloc.Global.{Global}
+use Rattle.serde_json.specs.Data.{Data}
+use Rattle.serde_json.specs.View.{view}
 use Rattle.irs_calendar.specs.Calendars.{spot_of}
 use Rattle.irs_calendar.specs.FirstFaults.{IsFirstFault}
 use Rattle.irs_calendar.specs.Grammar.{CalFiles}
@@ -32,8 +34,9 @@ returns-in_err-swap-clause-refused c =
     let made = c.from_residual-in_err-swap in
     let t = c.args.task in
     let g = given_by c.args.files.now in
+    let v : Data = view c.in_ok-document.document in
     refused_by made.result (of_stopped e) (λ r. IfRefused r (Ends (DueFor t g))) made.ensures.0 made.ensures.1
-    (refuse_read t g _ e (subst (λ (l : List ℕ). Reads l _) c.deref.ensures.value c.in_ok-document.ensures.reads) c.in_err-swap.ensures.broken)
+    (refuse_read t g v e (subst (λ (l : List ℕ). Reads l v) c.deref.ensures.value c.in_ok-document.ensures.reads) c.in_err-swap.ensures.broken)
 
 pub returns-in_err-calendars-clause-refused : goal.returns-in_err-calendars-clause-refused
 returns-in_err-calendars-clause-refused c =
@@ -41,8 +44,9 @@ returns-in_err-calendars-clause-refused c =
     let made = c.from_residual-in_err-calendars in
     let t = c.args.task in
     let g = given_by c.args.files.now in
+    let v : Data = view c.in_ok-document.document in
     let swap = c.in_ok-swap.swap in
-    let spells : SpellsSwap g.document swap = (_, subst (λ (l : List ℕ). Reads l _) c.deref.ensures.value c.in_ok-document.ensures.reads, c.in_ok-swap.ensures.means) in
+    let spells : SpellsSwap g.document swap = (v, subst (λ (l : List ℕ). Reads l v) c.deref.ensures.value c.in_ok-document.ensures.reads, c.in_ok-swap.ensures.means) in
     refused_by made.result (Calendars e) (λ r. IfRefused r (Ends (DueFor t g))) made.ensures.0 made.ensures.1
     (refuse_calendars t g swap e spells (subst (λ (l : List (Vec ℕ Global)). IfSome (spot_of e) (IsFirstFault (map (λ v. v.items) l))) c.deref-2.ensures.value c.in_err-calendars.ensures.first))
 
@@ -52,9 +56,10 @@ returns-in_err-fixings-clause-refused c =
     let made = c.from_residual-in_err-fixings in
     let t = c.args.task in
     let g = given_by c.args.files.now in
+    let v : Data = view c.in_ok-document.document in
     let swap = c.in_ok-swap.swap in
     let cal = c.in_ok-calendars.calendars in
-    let spells : SpellsSwap g.document swap = (_, subst (λ (l : List ℕ). Reads l _) c.deref.ensures.value c.in_ok-document.ensures.reads, c.in_ok-swap.ensures.means) in
+    let spells : SpellsSwap g.document swap = (v, subst (λ (l : List ℕ). Reads l v) c.deref.ensures.value c.in_ok-document.ensures.reads, c.in_ok-swap.ensures.means) in
     let files : CalFiles g.calendars cal = subst (λ (l : List (Vec ℕ Global)). CalFiles (map (λ v. v.items) l) cal) c.deref-2.ensures.value c.in_ok-calendars.ensures.spelt in
     refused_by made.result (Fixings e) (λ r. IfRefused r (Ends (DueFor t g))) made.ensures.0 made.ensures.1 (refuse_fixings t g swap cal e spells files c.in_err-fixings.ensures.fault)
 
@@ -64,9 +69,10 @@ returns-in_err-schedule-clause-refused c =
     let made = c.from_residual-in_err-schedule in
     let t = c.args.task in
     let g = given_by c.args.files.now in
+    let v : Data = view c.in_ok-document.document in
     let swap = c.in_ok-swap.swap in
     let cal = c.in_ok-calendars.calendars in
-    let spells : SpellsSwap g.document swap = (_, subst (λ (l : List ℕ). Reads l _) c.deref.ensures.value c.in_ok-document.ensures.reads, c.in_ok-swap.ensures.means) in
+    let spells : SpellsSwap g.document swap = (v, subst (λ (l : List ℕ). Reads l v) c.deref.ensures.value c.in_ok-document.ensures.reads, c.in_ok-swap.ensures.means) in
     let files : CalFiles g.calendars cal = subst (λ (l : List (Vec ℕ Global)). CalFiles (map (λ v. v.items) l) cal) c.deref-2.ensures.value c.in_ok-calendars.ensures.spelt in
     refused_by made.result e (λ r. IfRefused r (Ends (DueFor t g))) made.ensures.0 made.ensures.1 (refuse_rules t g swap cal c.in_ok-fixings.fixings e spells files c.in_ok-fixings.ensures.fixings c.in_err-schedule.ensures.refused)
 
@@ -74,8 +80,9 @@ pub returns-clause-passes : goal.returns-clause-passes
 returns-clause-passes c =
     let t = c.args.task in
     let g = given_by c.args.files.now in
+    let v : Data = view c.in_ok-document.document in
     let swap = c.in_ok-swap.swap in
     let cal = c.in_ok-calendars.calendars in
-    let spells : SpellsSwap g.document swap = (_, subst (λ (l : List ℕ). Reads l _) c.deref.ensures.value c.in_ok-document.ensures.reads, c.in_ok-swap.ensures.means) in
+    let spells : SpellsSwap g.document swap = (v, subst (λ (l : List ℕ). Reads l v) c.deref.ensures.value c.in_ok-document.ensures.reads, c.in_ok-swap.ensures.means) in
     let files : CalFiles g.calendars cal = subst (λ (l : List (Vec ℕ Global)). CalFiles (map (λ v. v.items) l) cal) c.deref-2.ensures.value c.in_ok-calendars.ensures.spelt in
     passes_by t g (facts swap cal c.in_ok-fixings.fixings c.in_ok-schedule.schedule) spells files c.in_ok-fixings.ensures.fixings c.in_ok-schedule.ensures.schedule
