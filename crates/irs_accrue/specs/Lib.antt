@@ -1,0 +1,4 @@
+pub mod Shares
+pub mod Accruals
+pub mod AccrualTexts
+pub mod Sizes

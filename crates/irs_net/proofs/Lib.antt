@@ -1,0 +1,6 @@
+pub mod KeyLemmas
+pub mod TotalLemmas
+pub mod NetLemmas
+pub mod SumLemmas
+pub mod PartLemmas
+pub mod SideLemmas
