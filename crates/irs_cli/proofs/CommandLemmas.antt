@@ -1,19 +1,21 @@
 -- What the table of commands says of words.
-use Rattle.std.proofs.Common.{◌≡◌, ℕ, zero, suc, ◌+◌, ◌-◌, ◌<◌, ◌≤◌, inl, inr, List, [], ◌∷◌, ◌++◌, length, map, take, drop, Option, Some, None, get_or, Bool, true, false, refl, sym, ◌∙◌, ap, subst, arith, append_assoc, String, string_bytes}
+use Rattle.std.proofs.Common.{◌≡◌, ℕ, zero, suc, ◌+◌, ◌-◌, ◌<◌, ◌≤◌, inl, inr, List, [], ◌∷◌, ◌++◌, length, map, take, drop, Option, Some, None, get_or, Bool, true, false, refl, sym, ◌∙◌, ap, subst, arith, append_assoc, ℤ, String, string_bytes}
 use Rattle.std.specs.Prelude.{slice_get, option_map, nat_le, ◌&&◌, if◌then◌else◌}
 use Rattle.std.proofs.lemmas.Bool.{cases_lt}
 use Rattle.std.proofs.lemmas.Bool.Decides.{nat_tests}
 use Rattle.std.specs.declared.alloc.Global.{Global}
 use Rattle.std.proofs.lemmas.Option.{slice_get-map, slice_get_read, same_Some}
 use Rattle.std.proofs.lemmas.List.{map-append, length-drop}
+use Rattle.irs_elements.proofs.DatesAt.{day_is}
 use Rattle.irs_cli.specs.declared.commands.Role.{Role}
 use Rattle.irs_cli.specs.declared.commands.Role.TheVariants.{Document, Fixings, Flows, Calendar}
 use Rattle.irs_cli.specs.declared.commands.Kind.{Kind}
 use Rattle.irs_cli.specs.declared.commands.Kind.TheVariants as kind
 use Rattle.irs_cli.specs.declared.commands.Task.{Task}
+use Rattle.irs_cli.specs.declared.commands.Task.TheVariants.{Accrue}
 use Rattle.irs_cli.specs.declared.commands.Command.{Command}
 use Rattle.irs_cli.specs.declared.commands.Named.{Named}
-use Rattle.irs_cli.specs.Commands.{Words, texts, Wanted, Asked, Asks, AsksAs, IsTask, IsListed, IsCommand, IsCommandAs, asked_by, wanted_by, kind_of, params_of, roles_of, calendars_of, most_calendars, role_at, is_file, kept, files_from}
+use Rattle.irs_cli.specs.Commands.{Words, texts, Wanted, Asked, Asks, AsksAs, IsTask, IsDateWord, IsDateAt, IsListed, IsCommand, IsCommandAs, asked_by, wanted_by, kind_of, params_of, roles_of, calendars_of, most_calendars, role_at, is_file, kept, files_from}
 
 pub ap_some : {x y : List ℕ} → x ≡ y → (let o : Option (List ℕ) = Some x in o ≡ Some y)
 ap_some e = ap Some e
@@ -56,10 +58,19 @@ step_no roles place i ws w fs r all at role not e =
 
 -- ---- words are one command at most
 
+one_word : (w : List ℕ) (d e : ℤ) → IsDateWord w d → IsDateWord w e → e ≡ d
+one_word w d e h k = same_Some e d (day_is w (Some e) (k.in_range, k.is) tt ∙ sym (day_is w (Some d) (h.in_range, h.is) tt))
+
+one_date : (ps : Words) (i : ℕ) (d e : ℤ) → IsDateAt ps i d → IsDateAt ps i e → e ≡ d
+one_date ps i d e h k =
+    let same : k.0 ≡ h.0 = same_Some k.0 h.0 (sym k.1 ∙ h.1) in
+    one_word h.0 d e h.2 (subst (λ (w : List ℕ). IsDateWord w e) same k.2)
+
 one_task : (k : Kind) (ps : Words) (t u : Task) → IsTask k ps t → IsTask k ps u → u ≡ t
 one_task kind.Check ps t u h i = i ∙ sym h
 one_task kind.Schedule ps t u h i = i ∙ sym h
 one_task kind.Audit ps t u h i = i ∙ sym h
+one_task kind.Accrue ps t u h i = i.2 ∙ ap (λ (d : ℤ). Accrue d) (one_date ps 0 h.0 i.0 h.1 i.1) ∙ sym h.2
 
 abbrev asked : Task → List Wanted → Asked
 asked t fs = record { task = t; files = fs }
@@ -120,6 +131,7 @@ row_fits : (k : Kind) → (all_cals (roles_of k) ≡ 0) × (calendars_of k ≤ m
 row_fits kind.Check = (refl, omega arith)
 row_fits kind.Schedule = (refl, omega arith)
 row_fits kind.Audit = (refl, omega arith)
+row_fits kind.Accrue = (refl, omega arith)
 
 one_cal : (r : Role) → is_cal r ≤ 1
 one_cal Document = omega arith

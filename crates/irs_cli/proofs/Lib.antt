@@ -7,6 +7,7 @@ pub mod FirstLemmas
 pub mod SameRates
 pub mod StepLemmas
 pub mod DueLemmas
+pub mod AccrueLemmas
 pub mod FlowLemmas
 pub mod RunLemmas
 pub mod MessageLemmas

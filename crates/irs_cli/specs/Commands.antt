@@ -1,12 +1,14 @@
 -- The listed commands: a table, and what it says of words.
-use Rattle.std.specs.Prelude.{◌≡◌, ℕ, ◌+◌, List, [], ◌∷◌, ◌++◌, length, map, take, drop, Option, Some, None, unwrap_or, codes, slice_get, String, string_bytes, Bool, true, not, ◌&&◌, nat_le, if◌then◌else◌}
+use Rattle.std.specs.Prelude.{◌≡◌, ℕ, ◌+◌, List, [], ◌∷◌, ◌++◌, length, map, take, drop, Option, Some, None, unwrap_or, codes, slice_get, String, string_bytes, Bool, true, not, ◌&&◌, nat_le, ℤ, if◌then◌else◌}
 use Rattle.std.specs.Str.{bytes_eq}
 use Rattle.std.specs.declared.alloc.Global.{Global}
+use Rattle.irs_base.specs.Days.{IsDay}
 use Rattle.irs_base.specs.Limits.{most_files}
+use Rattle.irs_base.specs.Texts.{IsDateText}
 use Rattle.irs_cli.specs.declared.commands.Kind.{Kind}
 use Rattle.irs_cli.specs.declared.commands.Kind.TheVariants as kind
 use Rattle.irs_cli.specs.declared.commands.Task.{Task}
-use Rattle.irs_cli.specs.declared.commands.Task.TheVariants.{Check, Schedule, Audit}
+use Rattle.irs_cli.specs.declared.commands.Task.TheVariants.{Check, Schedule, Audit, Accrue}
 use Rattle.irs_cli.specs.declared.commands.Role.{Role}
 use Rattle.irs_cli.specs.declared.commands.Role.TheVariants.{Document, Fixings, Flows, Calendar}
 use Rattle.irs_cli.specs.declared.commands.Named.{Named}
@@ -50,28 +52,33 @@ abbrev pub kind_of : List ℕ → Option Kind
 kind_of w =
     if bytes_eq w (codes "check") then Some kind.Check else
     if bytes_eq w (codes "schedule") then Some kind.Schedule else
-    if bytes_eq w (codes "audit") then Some kind.Audit else None
+    if bytes_eq w (codes "audit") then Some kind.Audit else
+    if bytes_eq w (codes "accrue") then Some kind.Accrue else None
 
 abbrev pub params_of : Kind → ℕ
 params_of kind.Check = 0
 params_of kind.Schedule = 0
 params_of kind.Audit = 0
+params_of kind.Accrue = 1
 
 abbrev pub roles_of : Kind → List Role
 roles_of kind.Check = Document ∷ []
 roles_of kind.Schedule = Document ∷ Fixings ∷ []
 roles_of kind.Audit = Document ∷ Fixings ∷ Flows ∷ []
+roles_of kind.Accrue = Document ∷ Fixings ∷ []
 
 abbrev pub calendars_of : Kind → ℕ
 calendars_of kind.Check = most_calendars
 calendars_of kind.Schedule = most_calendars
 calendars_of kind.Audit = most_calendars
+calendars_of kind.Accrue = most_calendars
 
 -- whether a task's schedule is made with the rates of the file of fixings; where there is no file, there are no rates
 abbrev pub uses_rates : Task → Bool
 uses_rates Check = true
 uses_rates Schedule = true
 uses_rates Audit = true
+uses_rates (Accrue date) = true
 
 -- ---- what the table says of words
 
@@ -99,11 +106,21 @@ files_from roles place i (w ∷ ws) = kept (role_at roles i) place w ++ files_fr
 abbrev pub counts : Kind → ℕ → Bool
 counts k n = nat_le (params_of k + length (roles_of k)) n && nat_le n (params_of k + length (roles_of k) + calendars_of k)
 
+-- the word is a date of the day: YYYY-MM-DD, with or without a Z behind it
+pub record IsDateWord (w : List ℕ) (d : ℤ) : Type 0 where
+  pub in_range : IsDay d
+  pub is : IsDateText w d
+
+-- the word with this index is a date of the day
+abbrev pub IsDateAt : Words → ℕ → ℤ → Type 0
+IsDateAt ps i d = (w : List ℕ) × (slice_get ps i ≡ Some w) × IsDateWord w d
+
 -- what a command of a kind asks for by its parameters
 abbrev pub IsTask : Kind → Words → Task → Type 0
 IsTask kind.Check ps t = t ≡ Check
 IsTask kind.Schedule ps t = t ≡ Schedule
 IsTask kind.Audit ps t = t ≡ Audit
+IsTask kind.Accrue ps t = (d : ℤ) × IsDateAt ps 0 d × (t ≡ Accrue d)
 
 -- the words behind the name of a command of this kind are those of a
 pub record AsksAs (k : Kind) (ws : Words) (a : Asked) : Type 0 where

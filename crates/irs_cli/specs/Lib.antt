@@ -4,6 +4,7 @@ pub mod Fetching
 pub mod Messages
 pub mod FlowMessages
 pub mod Steps
+pub mod Accrued
 pub mod Due
 pub mod Replying
 pub mod Outcomes

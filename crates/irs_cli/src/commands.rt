@@ -2,14 +2,15 @@
 //!
 //! `check DOC CAL..` asks whether a document keeps every rule, without fixings,
 //! `schedule DOC FIX CAL..` for its schedule, and `audit DOC FIX FLOWS CAL..` whether the cash flows of
-//! FLOWS agree with that schedule. `-` as FIX means no fixings. Each takes 0 to 16 calendars.
+//! FLOWS agree with that schedule. `accrue DATE DOC FIX CAL..` asks what has accrued on a day in each
+//! stream of that schedule. `-` as FIX means no fixings. Each takes 0 to 16 calendars.
 //!
 //! A command is data: how many of its words are parameters, the roles of its files in the order of the
 //! words, and how many calendars may follow.
-ghost use Rattle.std.specs.Prelude.{◌≡◌, ◌≤◌, ◌+◌, map, length, option_map, IfOk, IfSome, IfNone};
-ghost use Rattle.irs_cli.specs.Commands.{texts, kind_of, params_of, roles_of, calendars_of, counts, role_at, is_file, IsTask, IsCommand, IsCommandAs, asked_by, wanted_by, files_from, uses_rates, most_words};
+ghost use Rattle.std.specs.Prelude.{◌≡◌, ◌≤◌, ◌+◌, map, length, option_map, ℤ, IfOk, IfSome, IfNone};
+ghost use Rattle.irs_cli.specs.Commands.{texts, kind_of, params_of, roles_of, calendars_of, counts, role_at, is_file, IsTask, IsDateWord, IsDateAt, IsCommand, IsCommandAs, asked_by, wanted_by, files_from, uses_rates, most_words};
 
-use irs_base::{MOST_FILES, Memory};
+use irs_base::{Day, MOST_FILES, Memory, read_date};
 use std::alloc::Global;
 
 /// A command by its name.
@@ -18,6 +19,7 @@ pub(crate) enum Kind {
     Check,
     Schedule,
     Audit,
+    Accrue,
 }
 
 /// What is asked for, with its parameters.
@@ -29,6 +31,8 @@ pub(crate) enum Task {
     Schedule,
     /// Whether cash flows agree with the schedule of a document.
     Audit,
+    /// What has accrued on a day in each stream of the schedule.
+    Accrue(Day),
 }
 
 /// What a file is to a command.
@@ -65,6 +69,8 @@ fn kind_of(word: &str) -> Option<Kind>
         Some(Kind::Schedule)
     } else if word == "audit" {
         Some(Kind::Audit)
+    } else if word == "accrue" {
+        Some(Kind::Accrue)
     } else {
         None
     }
@@ -79,6 +85,7 @@ impl Kind {
             Kind::Check => 0,
             Kind::Schedule => 0,
             Kind::Audit => 0,
+            Kind::Accrue => 1,
         }
     }
 
@@ -90,6 +97,7 @@ impl Kind {
             Kind::Check => &[Role::Document],
             Kind::Schedule => &[Role::Document, Role::Fixings],
             Kind::Audit => &[Role::Document, Role::Fixings, Role::Flows],
+            Kind::Accrue => &[Role::Document, Role::Fixings],
         }
     }
 
@@ -101,6 +109,7 @@ impl Kind {
             Kind::Check => MOST_FILES,
             Kind::Schedule => MOST_FILES,
             Kind::Audit => MOST_FILES,
+            Kind::Accrue => MOST_FILES,
         }
     }
 }
@@ -114,6 +123,7 @@ impl Task {
             Task::Check => true,
             Task::Schedule => true,
             Task::Audit => true,
+            Task::Accrue(_) => true,
         }
     }
 }
@@ -167,7 +177,39 @@ fn task_of(kind: Kind, params: &[String]) -> Option<Task>
         Kind::Check => Some(Task::Check),
         Kind::Schedule => Some(Task::Schedule),
         Kind::Audit => Some(Task::Audit),
+        Kind::Accrue => accrue_of(params),
     }
+}
+
+/// `accrue` by its parameter.
+fn accrue_of(params: &[String]) -> Option<Task>
+    ensures some { IfSome result (λ t. IsTask Kind.Accrue (texts params.now) t) }
+    ensures none { IfNone result ((t : TaskSpec) → IsTask Kind.Accrue (texts params.now) t → ⊥) }
+{
+    match date_in(params) {
+        Some(date) => Some(Task::Accrue(date)),
+        None => None,
+    }
+}
+
+/// The day that the first of words is a date of.
+fn date_in(words: &[String]) -> Option<Day>
+    ensures some { IfSome result (λ d. IsDateAt (texts words.now) 0 d) }
+    ensures none { IfNone result ((d : ℤ) → IsDateAt (texts words.now) 0 d → ⊥) }
+{
+    let word = words.first()?;
+    date_of(word.as_str())
+}
+
+/// The day that a word is a date of.
+fn date_of(word: &str) -> Option<Day>
+    ensures some { IfSome result (λ d. IsDateWord word.now d) }
+    ensures none { IfNone result ((d : ℤ) → IsDateWord word.now d → ⊥) }
+{
+    let date = read_date(word.as_bytes())?;
+    // Hands the prover the range of the day.
+    let _number = date.number();
+    Some(date)
 }
 
 /// The files that the words behind the parameters name.

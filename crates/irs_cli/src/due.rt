@@ -37,7 +37,7 @@ pub(crate) fn reply_of(alloc: Global, task: Task, files: &Fetched) -> Result<Rep
     ensures { IfAnswered result (Ends (DueFor task (given_by files.now))) }
 {
     let found = find(alloc, task, files)?;
-    answer_by(alloc, task, files, found)
+    answer_by(alloc, &task, files, found)
 }
 
 /// What the files of a task say, and the schedule, or the first step that fails: the document, the

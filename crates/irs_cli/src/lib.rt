@@ -2,6 +2,7 @@
 //! any sink.
 #![tactic(auto)]
 
+mod accruing;
 mod answers;
 mod commands;
 mod due;

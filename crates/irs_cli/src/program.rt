@@ -23,8 +23,8 @@ use std::alloc::Global;
 /// broken, 3 a calendar, fixing or flow file is outside its grammar or limits, 4 the words are no
 /// listed command, 5 a file can't be read, 6 a put failed, 7 want of memory, 8 a file is too long.
 ///
-/// The commands are `check DOC CAL..`, `schedule DOC FIX CAL..` and `audit DOC FIX FLOWS CAL..`, with 0
-/// to 16 calendars, and `-` as FIX for no fixings. All files are fetched first, in the order of the
+/// The commands are `check DOC CAL..`, `schedule DOC FIX CAL..`, `audit DOC FIX FLOWS CAL..` and
+/// `accrue DATE DOC FIX CAL..`, with 0 to 16 calendars, and `-` as FIX for no fixings. All files are fetched first, in the order of the
 /// words; the flows are read when no rule is broken.
 pub fn run<F: Files, S: Sink>(alloc: Global, words: &[String], files: &mut F, out: &mut S) -> u8
     // Want of memory: nothing was written.

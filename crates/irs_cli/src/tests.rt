@@ -28,6 +28,12 @@ c 1 2 2024-07-15 2025-01-15 2024-07-15 2025-01-15 184 184/360 1000000.0000 0.050
 end
 ";
 
+// What has accrued on 15 April 2024.
+const ACCRUED: &str = "irs-accrued 1 2024-04-15
+a 1 1 91 91/360 12638.89
+end
+";
+
 // Its cash flows.
 const FLOWS: &str =
     r#"{"swap":{"swapStream":{"cashflows":{"cashflowsMatchParameters":"true","paymentCalculationPeriod":[
@@ -93,6 +99,14 @@ fn words_that_are_and_are_not_listed(rt: HostRuntime) -> Result<(), Fail> {
     expect(&rt, alloc, &["check"], 4, "bad words\n")?;
     expect(&rt, alloc, &["schedule", "B"], 4, "bad words\n")?;
     expect(&rt, alloc, &["chec", "B"], 4, "bad words\n")?;
+    expect(&rt, alloc, &["accrue", "2024-04-15", "B", "-"], 0, ACCRUED)?;
+    expect(
+        &rt,
+        alloc,
+        &["accrue", "2024-04-31", "B", "-"],
+        4,
+        "bad words\n",
+    )?;
     let mut many = ["cal"; 19];
     many[0] = "check";
     many[1] = "B";
