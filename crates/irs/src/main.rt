@@ -9,11 +9,12 @@ use std::process::ExitCode;
 const BAD_WORDS: u8 = 4;
 
 /// The listed commands: DOC is a document, FIX a file of fixings or `-` for none, FLOWS a document of
-/// cash flows, CAL a calendar file.
-const COMMANDS: [&str; 3] = [
+/// cash flows, DATE a date, CAL a calendar file.
+const COMMANDS: [&str; 4] = [
     "check DOC CAL..",
     "schedule DOC FIX CAL..",
     "audit DOC FIX FLOWS CAL..",
+    "accrue DATE DOC FIX CAL..",
 ];
 
 // The words behind the program's name, or the status where there are none to be had: 9 for a word

@@ -1,6 +1,5 @@
 -- There is one first broken rule, and one first line of a file of fixings that is at fault.
-use Rattle.std.proofs.Common.{◌≡◌, inl, inr, ℕ, Bool, true, false, List, [], ◌∷◌, Option, Some, None, refl, sym, ◌∙◌, ap, subst, arith}
-use Rattle.std.specs.Prelude.{nat_lt, slice_get}
+use Rattle.std.proofs.Common.{◌≡◌, inl, inr, ℕ, List, Option, Some, None, ap, subst}
 use Rattle.std.proofs.lemmas.Bool.{cases_order}
 use Rattle.irs_base.specs.Lines.{lines_of}
 use Rattle.irs_base.proofs.FaultOrder.{broken_ties}

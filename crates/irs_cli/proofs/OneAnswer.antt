@@ -1,29 +1,36 @@
 -- Where the source tells every file that the words name, one status and one text are due.
 use Rattle.std.proofs.Common.{◌≡◌, ℕ, List, sym, ◌∙◌, subst}
+use Rattle.serde_json.specs.Data.{Data}
 use Rattle.irs_base.specs.Order.{First, Only, is_before}
 use Rattle.irs_base.specs.declared.places.Broken.{Broken}
+use Rattle.irs_json.specs.Reading.{Reads}
 use Rattle.irs_audit.specs.FlowFaults.{FlowFault}
-use Rattle.irs_audit.specs.FlowReading.{kind_of}
+use Rattle.irs_audit.specs.FlowParts.{FlowPart}
+use Rattle.irs_audit.specs.FlowReading.{FlowsOf, kind_of}
 use Rattle.irs_audit.specs.Verdicts.{IsVerdict}
-use Rattle.irs_audit.specs.declared.departures.Verdict.{Verdict}
+use Rattle.irs_audit.specs.declared.error.ShapeKind.TheVariants.{NotJson}
+use Rattle.irs_calendar.specs.Calendars.{Spot}
 use Rattle.irs_calendar.specs.declared.sections.Section.{Section}
 use Rattle.irs_calendar.specs.FirstFaults.{IsFirstFault as IsFirstCalendarFault}
+use Rattle.irs_calendar.specs.Grammar.{CalFiles}
 use Rattle.irs_read.specs.Documents.{DocumentFault}
+use Rattle.irs_read.specs.Reading.{Means}
 use Rattle.irs_resets.specs.Rates.{RateTable}
 use Rattle.irs_resets.specs.declared.fixings.FixErr.{FixErr}
 use Rattle.irs_rules.specs.TermsRules.{IsFirstBroken as IsFirstOfTerms}
-use Rattle.irs_schedule.specs.DatedRules.{DatedBroken}
+use Rattle.irs_schedule.specs.DatedRules.{DatedKept, DatedBroken}
 use Rattle.irs_schedule.specs.Parts.{Part}
 use Rattle.irs_schedule.specs.RowTexts.{text_of}
-use Rattle.irs_schedule.specs.Schedules.{IsSchedule}
 use Rattle.irs_terms.specs.declared.stream_list.Swap.{Swap}
 use Rattle.irs_cli.specs.Commands.{Words}
 use Rattle.irs_cli.specs.Given.{Given, Told, TellsAll}
 use Rattle.irs_cli.specs.declared.commands.Task.{Task}
-use Rattle.irs_cli.specs.declared.commands.Task.TheVariants.{Check, Schedule, Audit}
-use Rattle.irs_cli.specs.FlowMessages.{bad_flows, verdict_status, verdict_text}
-use Rattle.irs_cli.specs.Messages.{bad_calendar, bad_fixings, refused}
-use Rattle.irs_cli.specs.Due.{Due, DueFlows, DueFor, DueUnbroken, FilesCase, FlowsCase, Is, IsFixingsFault, IsOneAnswer, WordsCase, all_told, broken_dates, broken_terms, long_file, no_calendars, no_command, no_flows, no_rates, no_swap, none_broken, some_flows, unread_document, unread_flows}
+use Rattle.irs_cli.specs.declared.commands.Task.TheVariants.{Check, Schedule, Audit, Accrue}
+use Rattle.irs_cli.specs.FlowMessages.{bad_flows, verdict_status, verdict_text, whole_document}
+use Rattle.irs_cli.specs.Messages.{all_kept, bad_calendar, bad_fixings, bad_words, refused, too_long, unreadable}
+use Rattle.irs_cli.specs.Due.{Due, DueFor, DueDocument, DueCalendars, DueFixings, DueTerms, DueDated, DueKept, DueFlows, DueStated, DueVerdict, Answered, AreFixings, Facts, facts, Is, IsFixingsFault, IsOneAnswer, KeepsTerms, Refuses, WordsCase, all_told, long_file, no_command, rates_for}
+use Rattle.irs_cli.proofs.AccrueLemmas.{one_page}
+use Rattle.irs_cli.proofs.StepLemmas.{rules_both, step_both}
 
 module _ (s u : ℕ) (t v : List ℕ) where
   abbrev Same : Type 0
@@ -37,56 +44,81 @@ module _ (s u : ℕ) (t v : List ℕ) where
   by_one : {X : Type 0} (P : X → Type 0) (status : X → ℕ) (text : X → List ℕ) (x y : X) → Only P x → Only P y → Is (status x) (text x) s t → Is (status y) (text y) u v → Same
   by_one P status text x y h k p q = both (status x) (text x) p (subst (λ (z : _). Is (status z) (text z) u v) (h.only y k.is) q)
 
-  module _ (bytes : List ℕ) (p : List Part) (h : DueFlows bytes p s t) (k : DueFlows bytes p u v) where
-    flows_by : FlowsCase bytes → Same
-    flows_by (unread_flows never) = both 3 _ (h.unread never) (k.unread never)
-    flows_by (no_flows w reads never) =
-        let a = h.fault w reads never in
-        let b = k.fault w reads never in
-        by_one (First is_before (FlowFault w)) (λ _. 3) (λ (x : Broken). bad_flows (kind_of x.rule) x.place) a.0 b.0 a.1 b.1 a.2 b.2
-    flows_by (some_flows w flows reads of) =
-        let a = h.verdict w flows reads of in
-        let b = k.verdict w flows reads of in
-        by_one (IsVerdict flows p) verdict_status verdict_text a.0 b.0 a.1 b.1 a.2 b.2
+  one_refusal : (P : Broken → Type 0) → Refuses P s t → Refuses P u v → Same
+  one_refusal P h k = by_one P (λ _. 2) refused h.0 k.0 h.1 k.1 h.2 k.2
 
-  module _ (bytes : List ℕ) (swap : Swap) (cal : List Section) (table : RateTable) where
-    unbroken_by : (task : Task) → DueUnbroken task bytes swap cal table s t → DueUnbroken task bytes swap cal table u v → Same
-    unbroken_by Check h k = both 0 _ h k
-    unbroken_by Schedule h k = by_one (IsSchedule swap cal table) (λ _. 0) text_of h.0 k.0 h.1 k.1 h.2 k.2
-    unbroken_by Audit h k =
-        let moved : DueFlows bytes h.0 u v = subst (λ (p : List Part). DueFlows bytes p u v) (h.1.only k.0 k.1.is) k.2 in
-        flows_by bytes h.0 h.2 moved h.2.case
+  -- ---- the last step of each task
 
-  module _ (task : Task) (g : Given) (h : DueFor task g s t) (k : DueFor task g u v) where
-    files_by : FilesCase g → Same
-    files_by (unread_document never) = both 2 _ (h.unread never) (k.unread never)
-    files_by (no_swap w reads never) =
-        let a = h.document w reads never in
-        let b = k.document w reads never in
-        by_one (First is_before (DocumentFault w)) (λ _. 2) refused a.0 b.0 a.1 b.1 a.2 b.2
-    files_by (no_calendars swap spells never) =
-        let a = h.calendars swap spells never in
-        let b = k.calendars swap spells never in
-        by_one (IsFirstCalendarFault g.calendars) (λ _. 3) bad_calendar a.0 b.0 a.1 b.1 a.2 b.2
-    files_by (no_rates swap cal spells files never) =
-        let a = h.fixings swap cal spells files never in
-        let b = k.fixings swap cal spells files never in
-        by_one (IsFixingsFault g.fixings) (λ _. 3) bad_fixings a.0 b.0 a.1 b.1 a.2 b.2
-    files_by (broken_terms swap cal table say never) =
-        let a = h.terms swap cal table say never in
-        let b = k.terms swap cal table say never in
-        by_one (IsFirstOfTerms swap cal) (λ _. 2) refused a.0 b.0 a.1 b.1 a.2 b.2
-    files_by (broken_dates swap cal table say kept never) =
-        let a = h.dated swap cal table say kept never in
-        let b = k.dated swap cal table say kept never in
-        by_one (DatedBroken swap cal table) (λ _. 2) refused a.0 b.0 a.1 b.1 a.2 b.2
-    files_by (none_broken swap cal table say kept dated) = unbroken_by _ swap cal table task (h.unbroken swap cal table say kept dated) (k.unbroken swap cal table say kept dated)
+  one_verdict : (p : List Part) (flows : List FlowPart) → DueVerdict flows p s t → DueVerdict flows p u v → Same
+  one_verdict p flows h k = by_one (IsVerdict flows p) verdict_status verdict_text h.0 k.0 h.1 k.1 h.2 k.2
+
+  abbrev Faulty : Data → ℕ → List ℕ → Type 0
+  Faulty w status text = (b : Broken) × Only (First is_before (FlowFault w)) b × Is 3 (bad_flows (kind_of b.rule) b.place) status text
+
+  one_fault : (w : Data) → Faulty w s t → Faulty w u v → Same
+  one_fault w h k = by_one (First is_before (FlowFault w)) (λ _. 3) (λ (x : Broken). bad_flows (kind_of x.rule) x.place) h.0 k.0 h.1 k.1 h.2 k.2
+
+  one_stated : (p : List Part) (w : Data) → DueStated w p s t → DueStated w p u v → Same
+  one_stated p w h k = step_both (FlowsOf w) (Faulty w s t) (Faulty w u v) (λ f. DueVerdict f p s t) (λ f. DueVerdict f p u v) (one_fault w) (one_verdict p) h k
+
+  one_flows : (bytes : List ℕ) (p : List Part) → DueFlows bytes p s t → DueFlows bytes p u v → Same
+  one_flows bytes p h k =
+      let text = bad_flows NotJson whole_document in
+      step_both (Reads bytes) (Is 3 text s t) (Is 3 text u v) (λ w. DueStated w p s t) (λ w. DueStated w p u v) (both 3 text) (one_stated p) h k
+
+  one_answered : (task : Task) (g : Given) (f : Facts) → Answered task g f s t → Answered task g f u v → Same
+  one_answered Check g f h k = both 0 all_kept h k
+  one_answered Schedule g f h k = both 0 (text_of f.parts) h k
+  one_answered Audit g f h k = one_flows g.flows f.parts h k
+  one_answered (Accrue date) g f h k = (h.0 ∙ sym k.0, one_page date f.parts t v h.1 k.1)
+
+  -- ---- the steps that the tasks share, the last first
+
+  module _ (task : Task) (g : Given) where
+    one_kept : (swap : Swap) (cal : List Section) (table : RateTable) → DueKept task g swap cal table s t → DueKept task g swap cal table u v → Same
+    one_kept swap cal table h k = one_answered task g (facts swap cal table h.0) h.2 (subst (λ (p : List Part). Answered task g (facts swap cal table p) u v) (h.1.only k.0 k.1.is) k.2)
+
+    one_dated : (swap : Swap) (cal : List Section) (table : RateTable) → DueDated task g swap cal table s t → DueDated task g swap cal table u v → Same
+    one_dated swap cal table h k =
+        let P = DatedBroken swap cal (rates_for task table) in
+        rules_both (DatedKept swap cal (rates_for task table)) (Refuses P s t) (Refuses P u v) (DueKept task g swap cal table s t) (DueKept task g swap cal table u v) (one_refusal P) (one_kept swap cal table) h k
+
+    one_terms : (swap : Swap) (cal : List Section) (table : RateTable) → DueTerms task g swap cal table s t → DueTerms task g swap cal table u v → Same
+    one_terms swap cal table h k =
+        let P = IsFirstOfTerms swap cal in
+        rules_both (KeepsTerms swap cal) (Refuses P s t) (Refuses P u v) (DueDated task g swap cal table s t) (DueDated task g swap cal table u v) (one_refusal P) (one_dated swap cal table) h k
+
+    abbrev BadFixings : ℕ → List ℕ → Type 0
+    BadFixings status text = (f : FixErr) × Only (IsFixingsFault g.fixings) f × Is 3 (bad_fixings f) status text
+
+    one_bad_fixings : BadFixings s t → BadFixings u v → Same
+    one_bad_fixings h k = by_one (IsFixingsFault g.fixings) (λ _. 3) bad_fixings h.0 k.0 h.1 k.1 h.2 k.2
+
+    one_table : (swap : Swap) (cal : List Section) → DueFixings task g swap cal s t → DueFixings task g swap cal u v → Same
+    one_table swap cal h k = step_both (AreFixings g.fixings) (BadFixings s t) (BadFixings u v) (λ table. DueTerms task g swap cal table s t) (λ table. DueTerms task g swap cal table u v) one_bad_fixings (one_terms swap cal) h k
+
+    abbrev BadCalendar : ℕ → List ℕ → Type 0
+    BadCalendar status text = (x : Spot) × Only (IsFirstCalendarFault g.calendars) x × Is 3 (bad_calendar x) status text
+
+    one_bad_calendar : BadCalendar s t → BadCalendar u v → Same
+    one_bad_calendar h k = by_one (IsFirstCalendarFault g.calendars) (λ _. 3) bad_calendar h.0 k.0 h.1 k.1 h.2 k.2
+
+    one_sections : (swap : Swap) → DueCalendars task g swap s t → DueCalendars task g swap u v → Same
+    one_sections swap h k = step_both (CalFiles g.calendars) (BadCalendar s t) (BadCalendar u v) (λ cal. DueFixings task g swap cal s t) (λ cal. DueFixings task g swap cal u v) one_bad_calendar (one_table swap) h k
+
+    one_document : (w : Data) → DueDocument task g w s t → DueDocument task g w u v → Same
+    one_document w h k =
+        let P = First is_before (DocumentFault w) in
+        step_both (Means w) (Refuses P s t) (Refuses P u v) (λ swap. DueCalendars task g swap s t) (λ swap. DueCalendars task g swap u v) (one_refusal P) one_sections h k
+
+    one_for : DueFor task g s t → DueFor task g u v → Same
+    one_for h k = step_both (Reads g.document) (Is 2 (refused unreadable) s t) (Is 2 (refused unreadable) u v) (λ w. DueDocument task g w s t) (λ w. DueDocument task g w u v) (both 2 (refused unreadable)) one_document h k
 
   module _ (ws : Words) (told : Told) (h : Due ws told s t) (k : Due ws told u v) where
     words_by : WordsCase ws told → Same
-    words_by (no_command never) = both 4 _ (h.unlisted never) (k.unlisted never)
-    words_by (long_file place first) = both 8 _ (h.long place first) (k.long place first)
-    words_by (all_told a g asks files) = files_by a.task g (h.given a g asks files) (k.given a g asks files) (h.given a g asks files).case
+    words_by (no_command never) = both 4 bad_words (h.unlisted never) (k.unlisted never)
+    words_by (long_file a place asks first) = both 8 (too_long place) (h.long a place asks first) (k.long a place asks first)
+    words_by (all_told a g asks files) = one_for a.task g (h.given a g asks files) (k.given a g asks files)
 
 pub one_answer : (ws : Words) (told : Told) → TellsAll ws told → IsOneAnswer ws told
 one_answer ws told all s u t v h k = words_by s u t v ws told h k (h.case all)

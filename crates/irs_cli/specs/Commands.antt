@@ -1,11 +1,18 @@
--- The listed commands, and the files that their words name.
-use Rattle.std.specs.Prelude.{◌≡◌, ◌≢◌, ℕ, ◌+◌, ◌≤◌, List, [], ◌∷◌, length, map, Option, Some, None, IsSome, option_map, unwrap_or, codes, slice_get, String, string_bytes, if◌then◌else◌}
+-- The listed commands: a table, and what it says of words.
+use Rattle.std.specs.Prelude.{◌≡◌, ℕ, ◌+◌, List, [], ◌∷◌, ◌++◌, length, map, take, drop, Option, Some, None, unwrap_or, codes, slice_get, String, string_bytes, Bool, true, not, ◌&&◌, nat_le, ℤ, if◌then◌else◌}
 use Rattle.std.specs.Str.{bytes_eq}
 use Rattle.std.specs.declared.alloc.Global.{Global}
+use Rattle.irs_base.specs.Days.{IsDay}
 use Rattle.irs_base.specs.Limits.{most_files}
-use Rattle.irs_cli.specs.declared.commands.Command.{Command}
+use Rattle.irs_base.specs.Texts.{IsDateText}
+use Rattle.irs_cli.specs.declared.commands.Kind.{Kind}
+use Rattle.irs_cli.specs.declared.commands.Kind.TheVariants as kind
 use Rattle.irs_cli.specs.declared.commands.Task.{Task}
-use Rattle.irs_cli.specs.declared.commands.Task.TheVariants.{Check, Schedule, Audit}
+use Rattle.irs_cli.specs.declared.commands.Task.TheVariants.{Check, Schedule, Audit, Accrue}
+use Rattle.irs_cli.specs.declared.commands.Role.{Role}
+use Rattle.irs_cli.specs.declared.commands.Role.TheVariants.{Document, Fixings, Flows, Calendar}
+use Rattle.irs_cli.specs.declared.commands.Named.{Named}
+use Rattle.irs_cli.specs.declared.commands.Command.{Command}
 
 -- the words behind the program's name, by their bytes
 abbrev pub Words : Type 0
@@ -14,76 +21,128 @@ Words = List (List ℕ)
 abbrev pub texts : List (String Global) → Words
 texts ws = map string_bytes ws
 
--- a command: what is asked for, and the names of the files; no fixings where `-` stands or none are taken, and
--- flows exactly for an audit
+-- a file that is wanted: the place of its word behind the command, from 1, its role and its name
+pub record Wanted : Type 0 where
+  pub place : ℕ
+  pub role : Role
+  pub name : List ℕ
+
+-- a command: what is asked for, and its files in the order of the words
 pub record Asked : Type 0 where
   pub task : Task
-  pub document : List ℕ
-  pub fixings : Option (List ℕ)
-  pub flows : Option (List ℕ)
-  pub calendars : Words
+  pub files : List Wanted
 
--- the command as the code keeps it
+-- a file and a command as the code keeps them
+abbrev pub wanted_by : Named → Wanted
+wanted_by n = record { place = n.place; role = n.role; name = n.name.now }
+
 abbrev pub asked_by : Command → Asked
-asked_by c = record { task = c.task; document = c.document.now; fixings = option_map (λ name. name.now) c.fixings; flows = option_map (λ name. name.now) c.flows; calendars = texts c.calendars.now }
+asked_by c = record { task = c.task; files = map wanted_by c.files.items }
 
 abbrev pub most_calendars : ℕ
 most_calendars = most_files
 
--- the file of fixings that a word names; `-` is none
-abbrev pub named : List ℕ → Option (List ℕ)
-named word = if bytes_eq word (codes "-") then None else Some word
+-- no command has more words behind its parameters
+abbrev pub most_words : ℕ
+most_words = most_calendars + 3
 
--- the word FIX
-abbrev pub fixings_word : Option (List ℕ) → List ℕ
-fixings_word None = codes "-"
-fixings_word (Some name) = name
+-- ---- the table: a command's name, how many parameters, the roles of its files, and how many calendars may follow
 
--- the word FLOWS, which an audit has
-abbrev pub flows_word : Option (List ℕ) → List ℕ
-flows_word flows = unwrap_or flows []
+abbrev pub kind_of : List ℕ → Option Kind
+kind_of w =
+    if bytes_eq w (codes "check") then Some kind.Check else
+    if bytes_eq w (codes "schedule") then Some kind.Schedule else
+    if bytes_eq w (codes "audit") then Some kind.Audit else
+    if bytes_eq w (codes "accrue") then Some kind.Accrue else None
 
--- `check DOC CAL..`, `schedule DOC FIX CAL..` and `audit DOC FIX FLOWS CAL..`
-abbrev pub words_for : Task → Asked → Words
-words_for Check a = codes "check" ∷ a.document ∷ a.calendars
-words_for Schedule a = codes "schedule" ∷ a.document ∷ fixings_word a.fixings ∷ a.calendars
-words_for Audit a = codes "audit" ∷ a.document ∷ fixings_word a.fixings ∷ flows_word a.flows ∷ a.calendars
+abbrev pub params_of : Kind → ℕ
+params_of kind.Check = 0
+params_of kind.Schedule = 0
+params_of kind.Audit = 0
+params_of kind.Accrue = 1
 
--- `check` takes no fixings, and a file of fixings isn't named `-`
-abbrev pub TakesFixings : Task → Option (List ℕ) → Type 0
-TakesFixings Check fixings = fixings ≡ None
-TakesFixings Schedule fixings = fixings ≢ Some (codes "-")
-TakesFixings Audit fixings = fixings ≢ Some (codes "-")
+abbrev pub roles_of : Kind → List Role
+roles_of kind.Check = Document ∷ []
+roles_of kind.Schedule = Document ∷ Fixings ∷ []
+roles_of kind.Audit = Document ∷ Fixings ∷ Flows ∷ []
+roles_of kind.Accrue = Document ∷ Fixings ∷ []
 
--- an audit takes flows, and nothing else does
-abbrev pub TakesFlows : Task → Option (List ℕ) → Type 0
-TakesFlows Check flows = flows ≡ None
-TakesFlows Schedule flows = flows ≡ None
-TakesFlows Audit flows = IsSome flows
+abbrev pub calendars_of : Kind → ℕ
+calendars_of kind.Check = most_calendars
+calendars_of kind.Schedule = most_calendars
+calendars_of kind.Audit = most_calendars
+calendars_of kind.Accrue = most_calendars
+
+-- whether a task's schedule is made with the rates of the file of fixings; where there is no file, there are no rates
+abbrev pub uses_rates : Task → Bool
+uses_rates Check = true
+uses_rates Schedule = true
+uses_rates Audit = true
+uses_rates (Accrue date) = true
+
+-- ---- what the table says of words
+
+-- the role of the word with this index behind the parameters: the calendars come last
+abbrev pub role_at : List Role → ℕ → Role
+role_at roles i = unwrap_or (slice_get roles i) Calendar
+
+-- `-` stands for no fixings, and is no file
+abbrev pub is_file : Role → List ℕ → Bool
+is_file Document w = true
+is_file Fixings w = not (bytes_eq w (codes "-"))
+is_file Flows w = true
+is_file Calendar w = true
+
+-- the file that a word at this place names, if it names one
+abbrev pub kept : Role → ℕ → List ℕ → List Wanted
+kept role place w = if is_file role w then record { place = place; role = role; name = w } ∷ [] else []
+
+-- the files that words name: the first of them stands at this place, and has this index
+abbrev pub files_from : List Role → ℕ → ℕ → Words → List Wanted
+files_from roles place i [] = []
+files_from roles place i (w ∷ ws) = kept (role_at roles i) place w ++ files_from roles (place + 1) (i + 1) ws
+
+-- a command of this kind may have so many words behind its name
+abbrev pub counts : Kind → ℕ → Bool
+counts k n = nat_le (params_of k + length (roles_of k)) n && nat_le n (params_of k + length (roles_of k) + calendars_of k)
+
+-- the word is a date of the day: YYYY-MM-DD, with or without a Z behind it
+pub record IsDateWord (w : List ℕ) (d : ℤ) : Type 0 where
+  pub in_range : IsDay d
+  pub is : IsDateText w d
+
+-- the word with this index is a date of the day
+abbrev pub IsDateAt : Words → ℕ → ℤ → Type 0
+IsDateAt ps i d = (w : List ℕ) × (slice_get ps i ≡ Some w) × IsDateWord w d
+
+-- what a command of a kind asks for by its parameters
+abbrev pub IsTask : Kind → Words → Task → Type 0
+IsTask kind.Check ps t = t ≡ Check
+IsTask kind.Schedule ps t = t ≡ Schedule
+IsTask kind.Audit ps t = t ≡ Audit
+IsTask kind.Accrue ps t = (d : ℤ) × IsDateAt ps 0 d × (t ≡ Accrue d)
+
+-- the words behind the name of a command of this kind are those of a
+pub record AsksAs (k : Kind) (ws : Words) (a : Asked) : Type 0 where
+  pub fits : counts k (length ws) ≡ true
+  pub task : IsTask k (take (params_of k) ws) a.task
+  pub files : a.files ≡ files_from (roles_of k) (params_of k + 1) 0 (drop (params_of k) ws)
 
 -- the words are this command
-pub record Asks (ws : Words) (a : Asked) : Type 0 where
-  pub words : ws ≡ words_for a.task a
-  pub fixings : TakesFixings a.task a.fixings
-  pub flows : TakesFlows a.task a.flows
-  pub few : length a.calendars ≤ most_calendars
+abbrev pub Asks : Words → Asked → Type 0
+Asks [] a = ⊥
+Asks (w ∷ ws) a = (k : Kind) × (kind_of w ≡ Some k) × AsksAs k ws a
 
 -- the words are a listed command
 abbrev pub IsListed : Words → Type 0
 IsListed ws = (a : Asked) × Asks ws a
 
--- the place of the first calendar's word behind the command
-abbrev pub first_calendar : Task → ℕ
-first_calendar Check = 2
-first_calendar Schedule = 3
-first_calendar Audit = 4
+-- the command that words are, none where they are no listed one
+abbrev pub IsCommand : Words → Option Asked → Type 0
+IsCommand ws None = IsListed ws → ⊥
+IsCommand ws (Some a) = Asks ws a
 
--- the word at this place behind the command, from 1, names a file
-pub data IsFileAt (a : Asked) (place : ℕ) (name : List ℕ) : Type 0 where
-  at_document : place ≡ 1 → name ≡ a.document → IsFileAt a place name
-  at_fixings : place ≡ 2 → a.fixings ≡ Some name → IsFileAt a place name
-  at_flows : place ≡ 3 → a.flows ≡ Some name → IsFileAt a place name
-  at_calendar : (i : ℕ) → place ≡ first_calendar a.task + i → slice_get a.calendars i ≡ Some name → IsFileAt a place name
-
-abbrev pub NamesFile : Words → ℕ → List ℕ → Type 0
-NamesFile ws place name = (a : Asked) × Asks ws a × IsFileAt a place name
+-- the command of a kind that the words behind its name are
+abbrev pub IsCommandAs : Kind → Words → Option Asked → Type 0
+IsCommandAs k ws None = (a : Asked) → AsksAs k ws a → ⊥
+IsCommandAs k ws (Some a) = AsksAs k ws a

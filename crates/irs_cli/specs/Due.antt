@@ -1,5 +1,5 @@
 -- What is due for the words and the files: status and text, by the first case that applies.
-use Rattle.std.specs.Prelude.{◌≡◌, ℕ, List, [], Option, Some, None, unwrap_or, Err}
+use Rattle.std.specs.Prelude.{◌≡◌, ℕ, List, [], Option, Some, None, if◌then◌else◌}
 use Rattle.serde_json.specs.Data.{Data}
 use Rattle.irs_base.specs.Lines.{lines_of}
 use Rattle.irs_base.specs.declared.places.Broken.{Broken}
@@ -27,16 +27,22 @@ use Rattle.irs_audit.specs.Verdicts.{IsVerdict}
 use Rattle.irs_audit.specs.declared.departures.Verdict.{Verdict}
 use Rattle.irs_audit.specs.declared.error.ShapeKind.TheVariants.{NotJson}
 use Rattle.irs_cli.specs.declared.commands.Task.{Task}
-use Rattle.irs_cli.specs.declared.commands.Task.TheVariants.{Check, Schedule, Audit}
-use Rattle.irs_cli.specs.Commands.{Words, Asked, Asks, IsListed}
+use Rattle.irs_cli.specs.declared.commands.Task.TheVariants.{Check, Schedule, Audit, Accrue}
+use Rattle.irs_cli.specs.Commands.{Words, Asked, Asks, IsListed, uses_rates}
 use Rattle.irs_cli.specs.Given.{Told, Given, AreTold, IsFirstLong, TellsAll}
 use Rattle.irs_cli.specs.Messages.{bad_words, too_long, refused, unreadable, bad_calendar, bad_fixings, all_kept}
 use Rattle.irs_cli.specs.FlowMessages.{bad_flows, whole_document, verdict_status, verdict_text}
+use Rattle.irs_cli.specs.Accrued.{TellsAccrued}
+use Rattle.irs_cli.specs.Steps.{Step, Rules}
 use Rattle.irs_base.specs.Order.{First, Only, is_before}
 
 -- status and text
 abbrev pub Is : ℕ → List ℕ → ℕ → List ℕ → Type 0
 Is s t status text = (status ≡ s) × (text ≡ t)
+
+-- a rule is broken: the line of the one b with P
+abbrev pub Refuses : (P : Broken → Type 0) → ℕ → List ℕ → Type 0
+Refuses P status text = (b : Broken) × Only P b × Is 2 (refused b) status text
 
 -- the bytes have a JSON reading
 abbrev pub IsJson : List ℕ → Type 0
@@ -65,72 +71,86 @@ IsFixingsFault (Some bytes) f = IsFixingFault bytes f
 abbrev pub KeepsTerms : Swap → List Section → Type 0
 KeepsTerms swap cal = (b : Broken) → BreaksTerms swap cal b → ⊥
 
--- the files say the swap, the sections of the calendars and the rates
-pub record FilesSay (g : Given) (swap : Swap) (cal : List Section) (table : RateTable) : Type 0 where
-  pub document : SpellsSwap g.document swap
-  pub calendars : CalFiles g.calendars cal
-  pub fixings : AreFixings g.fixings table
+-- the rates that a task's schedule is made with
+abbrev pub rates_for : Task → RateTable → RateTable
+rates_for t table = if uses_rates t then table else []
 
--- the bytes of the file of flows, which an audit has
-abbrev pub flow_bytes : Option (List ℕ) → List ℕ
-flow_bytes flows = unwrap_or flows []
+-- what the files of a task say, and the schedule
+pub record Facts : Type 0 where
+  pub swap : Swap
+  pub cal : List Section
+  pub table : RateTable
+  pub parts : List Part
 
--- how a file of flows may be: it has no JSON reading, its reading states no flows, or it states them
-pub data FlowsCase (bytes : List ℕ) : Type 0 where
-  unread_flows : ¬ (IsJson bytes) → FlowsCase bytes
-  no_flows : (v : Data) → Reads bytes v → ¬ ((flows : List FlowPart) × FlowsOf v flows) → FlowsCase bytes
-  some_flows : (v : Data) (flows : List FlowPart) → Reads bytes v → FlowsOf v flows → FlowsCase bytes
+abbrev pub facts : Swap → List Section → RateTable → List Part → Facts
+facts swap cal table parts = record { swap = swap; cal = cal; table = table; parts = parts }
 
--- what is due for flows against a schedule
-pub record DueFlows (bytes : List ℕ) (s : List Part) (status : ℕ) (text : List ℕ) : Type 0 where
-  -- the flows have no JSON reading
-  pub unread : ¬ (IsJson bytes) → Is 3 (bad_flows NotJson whole_document) status text
-  -- their reading states no flows: its first fault
-  pub fault : (v : Data) → Reads bytes v → ¬ ((flows : List FlowPart) × FlowsOf v flows) → (b : Broken) × Only (First is_before (FlowFault v)) b × Is 3 (bad_flows (kind_of b.rule) b.place) status text
-  -- it states flows: the verdict on them
-  pub verdict : (v : Data) (flows : List FlowPart) → Reads bytes v → FlowsOf v flows → (w : Verdict) × Only (IsVerdict flows s) w × Is (verdict_status w) (verdict_text w) status text
-  -- one of these applies
-  pub case : FlowsCase bytes
+-- ---- the last step of each task
 
--- what is due where no rule is broken: `ok`, the text of the one schedule, or what is due for the flows against it
-abbrev pub DueUnbroken : Task → List ℕ → Swap → List Section → RateTable → ℕ → List ℕ → Type 0
-DueUnbroken Check flows swap cal table status text = Is 0 all_kept status text
-DueUnbroken Schedule flows swap cal table status text = (s : List Part) × Only (IsSchedule swap cal table) s × Is 0 (text_of s) status text
-DueUnbroken Audit flows swap cal table status text = (s : List Part) × Only (IsSchedule swap cal table) s × DueFlows flows s status text
+-- the flows are stated: the verdict on them
+abbrev pub DueVerdict : List FlowPart → List Part → ℕ → List ℕ → Type 0
+DueVerdict flows s status text = (w : Verdict) × Only (IsVerdict flows s) w × Is (verdict_status w) (verdict_text w) status text
 
--- how the files of a task may be: the first step that fails, or no rule is broken
-pub data FilesCase (g : Given) : Type 0 where
-  unread_document : ¬ (IsJson g.document) → FilesCase g
-  no_swap : (v : Data) → Reads g.document v → ¬ ((swap : Swap) × Means v swap) → FilesCase g
-  no_calendars : (swap : Swap) → SpellsSwap g.document swap → ¬ ((cal : List Section) × CalFiles g.calendars cal) → FilesCase g
-  no_rates : (swap : Swap) (cal : List Section) → SpellsSwap g.document swap → CalFiles g.calendars cal → ¬ ((table : RateTable) × AreFixings g.fixings table) → FilesCase g
-  broken_terms : (swap : Swap) (cal : List Section) (table : RateTable) → FilesSay g swap cal table → ¬ (KeepsTerms swap cal) → FilesCase g
-  broken_dates : (swap : Swap) (cal : List Section) (table : RateTable) → FilesSay g swap cal table → KeepsTerms swap cal → ¬ (DatedKept swap cal table) → FilesCase g
-  none_broken : (swap : Swap) (cal : List Section) (table : RateTable) → FilesSay g swap cal table → KeepsTerms swap cal → DatedKept swap cal table → FilesCase g
+-- the flows have a JSON reading: its first fault, or the flows that it states
+abbrev pub DueStated : Data → List Part → ℕ → List ℕ → Type 0
+DueStated v s status text = Step (FlowsOf v) ((b : Broken) × Only (First is_before (FlowFault v)) b × Is 3 (bad_flows (kind_of b.rule) b.place) status text) (λ flows. DueVerdict flows s status text)
 
--- what is due for a task and the files
-pub record DueFor (task : Task) (g : Given) (status : ℕ) (text : List ℕ) : Type 0 where
-  -- K1: the document has no reading
-  pub unread : ¬ (IsJson g.document) → Is 2 (refused unreadable) status text
-  -- K2 to K7: its reading means no swap
-  pub document : (v : Data) → Reads g.document v → ¬ ((swap : Swap) × Means v swap) → (b : Broken) × Only (First is_before (DocumentFault v)) b × Is 2 (refused b) status text
-  -- the calendar files spell no sections
-  pub calendars : (swap : Swap) → SpellsSwap g.document swap → ¬ ((cal : List Section) × CalFiles g.calendars cal) → (s : Spot) × Only (IsFirstCalendarFault g.calendars) s × Is 3 (bad_calendar s) status text
-  -- the file of fixings has a line at fault
-  pub fixings : (swap : Swap) (cal : List Section) → SpellsSwap g.document swap → CalFiles g.calendars cal → ¬ ((table : RateTable) × AreFixings g.fixings table) → (f : FixErr) × Only (IsFixingsFault g.fixings) f × Is 3 (bad_fixings f) status text
-  -- K10 to K21
-  pub terms : (swap : Swap) (cal : List Section) (table : RateTable) → FilesSay g swap cal table → ¬ (KeepsTerms swap cal) → (b : Broken) × Only (IsFirstOfTerms swap cal) b × Is 2 (refused b) status text
-  -- K30 to K39
-  pub dated : (swap : Swap) (cal : List Section) (table : RateTable) → FilesSay g swap cal table → KeepsTerms swap cal → ¬ (DatedKept swap cal table) → (b : Broken) × Only (DatedBroken swap cal table) b × Is 2 (refused b) status text
-  -- no rule is broken
-  pub unbroken : (swap : Swap) (cal : List Section) (table : RateTable) → FilesSay g swap cal table → KeepsTerms swap cal → DatedKept swap cal table → DueUnbroken task (flow_bytes g.flows) swap cal table status text
-  -- one of these applies
-  pub case : FilesCase g
+-- what is due for the bytes of flows against a schedule
+abbrev pub DueFlows : List ℕ → List Part → ℕ → List ℕ → Type 0
+DueFlows bytes s status text = Step (Reads bytes) (Is 3 (bad_flows NotJson whole_document) status text) (λ v. DueStated v s status text)
+
+-- what is due for a task where no rule is broken and the schedule is the only one
+abbrev pub Answered : Task → Given → Facts → ℕ → List ℕ → Type 0
+Answered Check g f status text = Is 0 all_kept status text
+Answered Schedule g f status text = Is 0 (text_of f.parts) status text
+Answered Audit g f status text = DueFlows g.flows f.parts status text
+Answered (Accrue date) g f status text = (status ≡ 0) × TellsAccrued date f.parts text
+
+-- ---- the steps that the tasks share, the last first
+
+-- no rule is broken
+abbrev pub DueKept : Task → Given → Swap → List Section → RateTable → ℕ → List ℕ → Type 0
+DueKept t g swap cal table status text = (s : List Part) × Only (IsSchedule swap cal (rates_for t table)) s × Answered t g (facts swap cal table s) status text
+
+-- K30 to K39
+abbrev pub DueDated : Task → Given → Swap → List Section → RateTable → ℕ → List ℕ → Type 0
+DueDated t g swap cal table status text = Rules (DatedKept swap cal (rates_for t table)) (Refuses (DatedBroken swap cal (rates_for t table)) status text) (DueKept t g swap cal table status text)
+
+-- K10 to K21
+abbrev pub DueTerms : Task → Given → Swap → List Section → RateTable → ℕ → List ℕ → Type 0
+DueTerms t g swap cal table status text = Rules (KeepsTerms swap cal) (Refuses (IsFirstOfTerms swap cal) status text) (DueDated t g swap cal table status text)
+
+-- the file of fixings: its first line at fault
+abbrev pub DueFixings : Task → Given → Swap → List Section → ℕ → List ℕ → Type 0
+DueFixings t g swap cal status text = Step (AreFixings g.fixings) ((f : FixErr) × Only (IsFixingsFault g.fixings) f × Is 3 (bad_fixings f) status text) (λ table. DueTerms t g swap cal table status text)
+
+-- the calendar files: their first line at fault
+abbrev pub DueCalendars : Task → Given → Swap → ℕ → List ℕ → Type 0
+DueCalendars t g swap status text = Step (CalFiles g.calendars) ((s : Spot) × Only (IsFirstCalendarFault g.calendars) s × Is 3 (bad_calendar s) status text) (λ cal. DueFixings t g swap cal status text)
+
+-- K2 to K7: the document's reading means no swap
+abbrev pub DueDocument : Task → Given → Data → ℕ → List ℕ → Type 0
+DueDocument t g v status text = Step (Means v) (Refuses (First is_before (DocumentFault v)) status text) (λ swap. DueCalendars t g swap status text)
+
+-- what is due for a task and its files; K1: the document has no reading
+abbrev pub DueFor : Task → Given → ℕ → List ℕ → Type 0
+DueFor t g status text = Step (Reads g.document) (Is 2 (refused unreadable) status text) (λ v. DueDocument t g v status text)
+
+-- the files of a task pass every step, and these are the facts
+pub record Passes (t : Task) (g : Given) (f : Facts) : Type 0 where
+  pub document : SpellsSwap g.document f.swap
+  pub calendars : CalFiles g.calendars f.cal
+  pub fixings : AreFixings g.fixings f.table
+  pub terms : KeepsTerms f.swap f.cal
+  pub dated : DatedKept f.swap f.cal (rates_for t f.table)
+  pub schedule : Only (IsSchedule f.swap f.cal (rates_for t f.table)) f.parts
+
+-- ---- the words and the files
 
 -- how words and files may be: the words are no listed command, a file is too long, or all files are told
 pub data WordsCase (ws : Words) (told : Told) : Type 0 where
   no_command : ¬ (IsListed ws) → WordsCase ws told
-  long_file : (place : ℕ) → IsFirstLong ws told place → WordsCase ws told
+  long_file : (a : Asked) (place : ℕ) → Asks ws a → IsFirstLong told a place → WordsCase ws told
   all_told : (a : Asked) (g : Given) → Asks ws a → AreTold told a g → WordsCase ws told
 
 -- what is due, where the source tells the files that the words name
@@ -138,7 +158,7 @@ pub record Due (ws : Words) (told : Told) (status : ℕ) (text : List ℕ) : Typ
   -- the words are no listed command
   pub unlisted : ¬ (IsListed ws) → Is 4 bad_words status text
   -- a file is too long
-  pub long : (place : ℕ) → IsFirstLong ws told place → Is 8 (too_long place) status text
+  pub long : (a : Asked) (place : ℕ) → Asks ws a → IsFirstLong told a place → Is 8 (too_long place) status text
   -- all files are told, and none is too long
   pub given : (a : Asked) (g : Given) → Asks ws a → AreTold told a g → DueFor a.task g status text
   -- where every file is told, one of these applies

@@ -1,8 +1,9 @@
 -- The bytes of the files that a command names.
-use Rattle.std.specs.Prelude.{◌≡◌, ℕ, ◌+◌, ◌<◌, ◌≤◌, List, length, All, Option, Some, None, IfSome}
-use Rattle.irs_cli.specs.Commands.{Words, Asked, NamesFile, most_calendars}
+use Rattle.std.specs.Prelude.{◌≡◌, ◌⊎◌, ℕ, ◌+◌, ◌<◌, ◌≤◌, List, [], ◌∷◌, ◌++◌, length, All, Option, Some, None, IfSome}
 use Rattle.irs_base.specs.Limits.{most_bytes}
-use Rattle.irs_base.specs.Members.{Pairs}
+use Rattle.irs_cli.specs.declared.commands.Role.{Role}
+use Rattle.irs_cli.specs.declared.commands.Role.TheVariants.{Document, Fixings, Flows, Calendar}
+use Rattle.irs_cli.specs.Commands.{Words, Wanted, Asked, Asks, most_calendars}
 
 -- what a source tells of each name
 abbrev pub Told : Type 0
@@ -12,46 +13,67 @@ Told = List ℕ → Option (List ℕ)
 abbrev pub too_many : ℕ
 too_many = most_bytes + 1
 
--- the files of a command
+-- the files of a command by role
 pub record Given : Type 0 where
   pub document : List ℕ
   pub fixings : Option (List ℕ)
-  pub flows : Option (List ℕ)
+  pub flows : List ℕ
   pub calendars : List (List ℕ)
 
--- the files keep the limits of their number and sizes
-pub record IsWithin (g : Given) : Type 0 where
-  pub fixings : IfSome g.fixings (λ bytes. length bytes < too_many)
-  pub calendars : All (λ bytes. length bytes < too_many) g.calendars
-  pub few : length g.calendars ≤ most_calendars
+abbrev pub no_files : Given
+no_files = record { document = []; fixings = None; flows = []; calendars = [] }
+
+-- the files with one more
+abbrev pub with_file : Given → Role → List ℕ → Given
+with_file g Document bytes = record { document = bytes; fixings = g.fixings; flows = g.flows; calendars = g.calendars }
+with_file g Fixings bytes = record { document = g.document; fixings = Some bytes; flows = g.flows; calendars = g.calendars }
+with_file g Flows bytes = record { document = g.document; fixings = g.fixings; flows = bytes; calendars = g.calendars }
+with_file g Calendar bytes = record { document = g.document; fixings = g.fixings; flows = g.flows; calendars = g.calendars ++ bytes ∷ [] }
+
+-- h is g with the files of the list, in order and by role; R holds of each name and its bytes
+abbrev pub Gathers : (R : List ℕ → List ℕ → Type 0) → List Wanted → Given → Given → Type 0
+Gathers R [] g h = h ≡ g
+Gathers R (w ∷ ws) g h = (bytes : List ℕ) × R w.name bytes × Gathers R ws (with_file g w.role bytes) h
+
+-- P holds of each file
+abbrev pub Each : (P : Wanted → Type 0) → List Wanted → Type 0
+Each P [] = Unit {0}
+Each P (w ∷ ws) = P w × Each P ws
+
+-- Q holds of some file, and P of each before it
+abbrev pub Reaches : (P Q : Wanted → Type 0) → List Wanted → Type 0
+Reaches P Q [] = ⊥
+Reaches P Q (w ∷ ws) = Q w ⊎ (P w × Reaches P Q ws)
 
 -- the source tells these bytes of the name, and they aren't too many
 abbrev pub IsTold : Told → List ℕ → List ℕ → Type 0
 IsTold told name bytes = (told name ≡ Some bytes) × (length bytes < too_many)
 
--- R holds of the name and the file, where there is one
-abbrev pub EachOption : (List ℕ → List ℕ → Type 0) → Option (List ℕ) → Option (List ℕ) → Type 0
-EachOption R None None = Unit {0}
-EachOption R None (Some file) = ⊥
-EachOption R (Some name) None = ⊥
-EachOption R (Some name) (Some file) = R name file
+-- the source tells the files of the command, none is too long, and these are they by role
+abbrev pub AreTold : Told → Asked → Given → Type 0
+AreTold told a g = Gathers (IsTold told) a.files no_files g
 
--- the source tells the files of the command, and none is too long
-pub record AreTold (told : Told) (a : Asked) (g : Given) : Type 0 where
-  pub document : IsTold told a.document g.document
-  pub fixings : EachOption (IsTold told) a.fixings g.fixings
-  pub flows : EachOption (IsTold told) a.flows g.flows
-  pub calendars : Pairs (IsTold told) a.calendars g.calendars
-
--- the source tells the file of every word that names one
+-- the source tells each file of the command
 abbrev pub TellsAll : Words → Told → Type 0
-TellsAll ws told = (place : ℕ) (name : List ℕ) → NamesFile ws place name → (bytes : List ℕ) × (told name ≡ Some bytes)
+TellsAll ws told = (a : Asked) → Asks ws a → Each (λ w. (bytes : List ℕ) × (told w.name ≡ Some bytes)) a.files
 
--- the file of the word at this place is too long, and each before it is told and isn't
-pub record IsFirstLong (ws : Words) (told : Told) (place : ℕ) : Type 0 where
-  pub name : List ℕ
+-- the file is told and isn't too long
+abbrev pub IsShort : Told → Wanted → Type 0
+IsShort told w = (bytes : List ℕ) × IsTold told w.name bytes
+
+-- the file stands at this place, is told, and is too long
+pub record IsLongAt (told : Told) (place : ℕ) (w : Wanted) : Type 0 where
+  pub at : w.place ≡ place
   pub bytes : List ℕ
-  pub word : NamesFile ws place name
-  pub is_told : told name ≡ Some bytes
+  pub is_told : told w.name ≡ Some bytes
   pub long : too_many ≤ length bytes
-  pub before : (n : ℕ) (other : List ℕ) → n < place → NamesFile ws n other → (xs : List ℕ) × IsTold told other xs
+
+-- the file at this place is too long, and each before it is told and isn't
+abbrev pub IsFirstLong : Told → Asked → ℕ → Type 0
+IsFirstLong told a place = Reaches (IsShort told) (IsLongAt told place) a.files
+
+-- the limits that the readers of the files ask for
+pub record IsWithin (g : Given) : Type 0 where
+  pub fixings : IfSome g.fixings (λ bytes. length bytes < too_many)
+  pub calendars : All (λ bytes. length bytes < too_many) g.calendars
+  pub few : length g.calendars ≤ most_calendars

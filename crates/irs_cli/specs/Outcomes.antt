@@ -1,4 +1,4 @@
--- What a command comes to: an outcome, or a refusal.
+-- What a command comes to: a reply, or a refusal.
 use Rattle.std.specs.Prelude.{◌≡◌, ◌⊎◌, ℕ, ◌<◌, List, Option, Some, None, IfSome, option_map, Result, Ok, Err}
 use Rattle.irs_base.specs.declared.places.Broken.{Broken}
 use Rattle.irs_base.specs.Order.{Only}
@@ -15,7 +15,6 @@ use Rattle.irs_resets.specs.declared.fixings.FixErr.TheVariants as fixing
 use Rattle.irs_rules.specs.TermsRules.{IsFirstBroken as IsFirstOfTerms}
 use Rattle.irs_schedule.specs.DatedRules.{DatedKept, DatedBroken}
 use Rattle.irs_schedule.specs.Parts.{Part}
-use Rattle.irs_schedule.specs.RowTexts.{text_of}
 use Rattle.irs_schedule.specs.Schedules.{IsSchedule}
 use Rattle.irs_terms.specs.declared.stream_list.Swap.{Swap}
 use Rattle.irs_json.specs.Reading.{Reads}
@@ -25,18 +24,15 @@ use Rattle.irs_audit.specs.FlowReading.{FlowsOf, IsFirstShape}
 use Rattle.irs_audit.specs.declared.error.FlowErr.{FlowErr}
 use Rattle.irs_audit.specs.declared.error.FlowErr.TheVariants as flowing
 use Rattle.irs_audit.specs.declared.error.ShapeKind.TheVariants.{NotJson}
-use Rattle.irs_cli.specs.declared.commands.Task.{Task}
-use Rattle.irs_cli.specs.declared.commands.Task.TheVariants.{Check, Schedule, Audit}
 use Rattle.irs_cli.specs.declared.fetching.Unfetched.{Unfetched}
 use Rattle.irs_cli.specs.declared.fetching.Unfetched.TheVariants as fetching
-use Rattle.irs_cli.specs.declared.outcomes.Outcome.{Outcome}
-use Rattle.irs_cli.specs.declared.outcomes.Outcome.TheVariants.{Checked, Scheduled, Audited}
 use Rattle.irs_cli.specs.declared.refusals.Refusal.{Refusal}
 use Rattle.irs_cli.specs.declared.refusals.Refusal.TheVariants.{BadWords, NoFile, TooLong, Rule, Calendars, Fixings, Flows, Memory}
-use Rattle.irs_cli.specs.Messages.{bad_words, no_file, too_long, refused, unreadable, bad_calendar, bad_fixings, all_kept}
-use Rattle.irs_cli.specs.FlowMessages.{bad_flows, whole_document, verdict_status, verdict_text}
-use Rattle.irs_cli.specs.Given.{Given}
-use Rattle.irs_cli.specs.Due.{Is, IsJson, KeepsTerms, IsFixingsFault, DueFlows, DueFor}
+use Rattle.irs_cli.specs.declared.replies.Reply.{Reply}
+use Rattle.irs_cli.specs.Messages.{bad_words, no_file, too_long, refused, unreadable, bad_calendar, bad_fixings}
+use Rattle.irs_cli.specs.FlowMessages.{bad_flows, whole_document}
+use Rattle.irs_cli.specs.Replying.{reply_status, reply_text}
+use Rattle.irs_cli.specs.Due.{Is, IsJson, KeepsTerms, IsFixingsFault}
 
 -- the refusals that errors of the calls below become
 abbrev pub of_fetch : Unfetched → Refusal
@@ -80,28 +76,18 @@ answer_of (Fixings e) = fixings_answer e
 answer_of (Flows e) = flows_answer e
 answer_of Memory = None
 
-abbrev pub outcome_status : Outcome → ℕ
-outcome_status Checked = 0
-outcome_status (Scheduled s) = 0
-outcome_status (Audited w) = verdict_status w
-
-abbrev pub outcome_text : Outcome → List ℕ
-outcome_text Checked = all_kept
-outcome_text (Scheduled s) = text_of s
-outcome_text (Audited w) = verdict_text w
-
 -- P holds of the refusal's answer, if it has one
 abbrev pub IfRefused : Refusal → (ℕ → List ℕ → Type 0) → Type 0
 IfRefused r P = IfSome (answer_of r) (λ a. P a.0 a.1)
 
 -- P holds of the answer, if there is one
-abbrev pub IfAnswered : Result Outcome Refusal → (ℕ → List ℕ → Type 0) → Type 0
-IfAnswered (Ok o) P = P (outcome_status o) (outcome_text o)
+abbrev pub IfAnswered : Result Reply Refusal → (ℕ → List ℕ → Type 0) → Type 0
+IfAnswered (Ok o) P = P (reply_status o) (reply_text o)
 IfAnswered (Err r) P = IfRefused r P
 
--- what a task over its files comes to: the answer that is due, and a status that no words, fetch or put has
-pub record Concludes (task : Task) (g : Given) (status : ℕ) (text : List ℕ) : Type 0 where
-  pub due : DueFor task g status text
+-- P holds of them, and the status is one that no words, fetch or put has
+pub record Ends (P : ℕ → List ℕ → Type 0) (status : ℕ) (text : List ℕ) : Type 0 where
+  pub due : P status text
   pub verdict : status < 4
 
 -- an error of a file of fixings tells of its first line that is at fault, or of want of memory
@@ -136,14 +122,3 @@ IsRuleFirst swap cal table b = IsTermsFirst swap cal b ⊎ (KeepsTerms swap cal 
 -- the answer is the line of the first broken rule of the swap
 abbrev pub IsUnscheduled : Swap → List Section → RateTable → ℕ → List ℕ → Type 0
 IsUnscheduled swap cal table status text = (b : Broken) × IsRuleFirst swap cal table b × Is 2 (refused b) status text
-
--- what is due for a task whose schedule is s
-abbrev pub DueOf : Task → List ℕ → List Part → ℕ → List ℕ → Type 0
-DueOf Check flows s status text = Is 0 all_kept status text
-DueOf Schedule flows s status text = Is 0 (text_of s) status text
-DueOf Audit flows s status text = DueFlows flows s status text
-
--- what a task whose schedule is s comes to: what is due, and a status that no words, fetch or put has
-pub record ComesTo (task : Task) (flows : List ℕ) (s : List Part) (status : ℕ) (text : List ℕ) : Type 0 where
-  pub due : DueOf task flows s status text
-  pub verdict : status < 4

@@ -1,20 +1,20 @@
 -- What a run says before it writes.
-use Rattle.std.specs.Prelude.{◌≡◌, ◌≢◌, ◌⊎◌, ℕ, ◌<◌, List, length, Option, Some}
-use Rattle.irs_cli.specs.Outside.{Rose}
-use Rattle.irs_cli.specs.Commands.{Words, IsListed, NamesFile}
-use Rattle.irs_cli.specs.Given.{Told, too_many}
+use Rattle.std.specs.Prelude.{◌≡◌, ◌≢◌, ◌⊎◌, ℕ, List, Option}
+use Rattle.irs_outside.specs.Outside.{Rose}
+use Rattle.irs_cli.specs.Commands.{Words, Asked, Asks, IsListed}
+use Rattle.irs_cli.specs.Given.{Told, Reaches}
+use Rattle.irs_cli.specs.Fetching.{NotLong, FailedAt}
 use Rattle.irs_cli.specs.Messages.{no_file}
 use Rattle.irs_cli.specs.Due.{Due}
 
--- the fetch of a word that names a file failed, and this text says so; no file before it is too long
+-- the fetch of a file failed, and this text says so; no file before it that is told is too long
 pub record NoFile (ws : Words) (told : Told) (failed : Option (List ℕ)) (before now : ℕ) (text : List ℕ) : Type 0 where
+  pub asked : Asked
+  pub asks : Asks ws asked
   pub place : ℕ
-  pub name : List ℕ
-  pub word : NamesFile ws place name
-  pub is_failed : failed ≡ Some name
+  pub file : Reaches (NotLong told) (FailedAt failed place) asked.files
   pub rose : Rose before now
   pub is_text : text ≡ no_file place
-  pub none_long : (n : ℕ) (other bytes : List ℕ) → n < place → NamesFile ws n other → told other ≡ Some bytes → length bytes < too_many
 
 -- the text is the one that is due, or says that a file can't be read
 abbrev pub IsDueText : Words → Told → Option (List ℕ) → ℕ → ℕ → List ℕ → Type 0

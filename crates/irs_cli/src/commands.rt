@@ -2,13 +2,27 @@
 //!
 //! `check DOC CAL..` asks whether a document keeps every rule, without fixings,
 //! `schedule DOC FIX CAL..` for its schedule, and `audit DOC FIX FLOWS CAL..` whether the cash flows of
-//! FLOWS agree with that schedule. `-` as FIX means no fixings. Each takes 0 to 16 calendars.
-ghost use Rattle.std.specs.Prelude.{◌≡◌, ◌↔◌, ◌≤◌, ◌∷◌, length, codes, option_map, IfSome, IfNone, IsTrue};
-ghost use Rattle.irs_cli.specs.Commands.{Asks, IsListed, asked_by, texts, named, first_calendar, most_calendars};
+//! FLOWS agree with that schedule. `accrue DATE DOC FIX CAL..` asks what has accrued on a day in each
+//! stream of that schedule. `-` as FIX means no fixings. Each takes 0 to 16 calendars.
+//!
+//! A command is data: how many of its words are parameters, the roles of its files in the order of the
+//! words, and how many calendars may follow.
+ghost use Rattle.std.specs.Prelude.{◌≡◌, ◌≤◌, ◌+◌, map, length, option_map, ℤ, IfOk, IfSome, IfNone};
+ghost use Rattle.irs_cli.specs.Commands.{texts, kind_of, params_of, roles_of, calendars_of, counts, role_at, is_file, IsTask, IsDateWord, IsDateAt, IsCommand, IsCommandAs, asked_by, wanted_by, files_from, uses_rates, most_words};
 
-use irs_base::MOST_FILES;
+use irs_base::{Day, MOST_FILES, Memory, read_date};
+use std::alloc::Global;
 
-/// What is asked for.
+/// A command by its name.
+#[derive(Clone, Copy, Debug, PartialEq, Eq)]
+pub(crate) enum Kind {
+    Check,
+    Schedule,
+    Audit,
+    Accrue,
+}
+
+/// What is asked for, with its parameters.
 #[derive(Clone, Copy, Debug, PartialEq, Eq)]
 pub(crate) enum Task {
     /// Whether a document keeps every rule.
@@ -17,141 +31,226 @@ pub(crate) enum Task {
     Schedule,
     /// Whether cash flows agree with the schedule of a document.
     Audit,
+    /// What has accrued on a day in each stream of the schedule.
+    Accrue(Day),
 }
 
-/// A listed command: what is asked for, and the names of the files. An audit alone has flows.
+/// What a file is to a command.
+#[derive(Clone, Copy, Debug, PartialEq, Eq)]
+pub(crate) enum Role {
+    Document,
+    Fixings,
+    Flows,
+    Calendar,
+}
+
+/// A file that is wanted: the place of its word behind the command, from 1, its role and its name.
 #[derive(Clone, Copy)]
+pub(crate) struct Named<'w> {
+    pub(crate) place: u32,
+    pub(crate) role: Role,
+    pub(crate) name: &'w str,
+}
+
+/// A listed command: what is asked for, and the files in the order of the words.
+#[derive(Drop)]
 pub(crate) struct Command<'w> {
     pub(crate) task: Task,
-    pub(crate) document: &'w str,
-    pub(crate) fixings: Option<&'w str>,
-    pub(crate) flows: Option<&'w str>,
-    pub(crate) calendars: &'w [String],
+    pub(crate) files: Vec<Named<'w>>,
+}
+
+/// The command that a word names.
+fn kind_of(word: &str) -> Option<Kind>
+    ensures { result ≡ kind_of word.now }
+{
+    if word == "check" {
+        Some(Kind::Check)
+    } else if word == "schedule" {
+        Some(Kind::Schedule)
+    } else if word == "audit" {
+        Some(Kind::Audit)
+    } else if word == "accrue" {
+        Some(Kind::Accrue)
+    } else {
+        None
+    }
+}
+
+impl Kind {
+    /// How many words behind the command are parameters.
+    fn params(self) -> usize
+        ensures { result ≡ params_of self }
+    {
+        match self {
+            Kind::Check => 0,
+            Kind::Schedule => 0,
+            Kind::Audit => 0,
+            Kind::Accrue => 1,
+        }
+    }
+
+    /// The roles of the files before the calendars.
+    fn roles(self) -> &'static [Role]
+        ensures { result.now ≡ roles_of self }
+    {
+        match self {
+            Kind::Check => &[Role::Document],
+            Kind::Schedule => &[Role::Document, Role::Fixings],
+            Kind::Audit => &[Role::Document, Role::Fixings, Role::Flows],
+            Kind::Accrue => &[Role::Document, Role::Fixings],
+        }
+    }
+
+    /// How many calendars may follow.
+    fn calendars(self) -> usize
+        ensures { result ≡ calendars_of self }
+    {
+        match self {
+            Kind::Check => MOST_FILES,
+            Kind::Schedule => MOST_FILES,
+            Kind::Audit => MOST_FILES,
+            Kind::Accrue => MOST_FILES,
+        }
+    }
 }
 
 impl Task {
-    /// The place of the first calendar's word behind the command, from 1.
-    pub(crate) fn first_calendar(self) -> u32
-        ensures { result ≡ first_calendar self }
+    /// Whether the schedule is made with the rates of the file of fixings.
+    pub(crate) fn uses_rates(self) -> bool
+        ensures { result ≡ uses_rates self }
     {
         match self {
-            Task::Check => 2,
-            Task::Schedule => 3,
-            Task::Audit => 4,
+            Task::Check => true,
+            Task::Schedule => true,
+            Task::Audit => true,
+            Task::Accrue(_) => true,
         }
     }
 }
 
 /// The command that the words are, `None` exactly where they are no listed one.
-pub(crate) fn command_of(words: &[String]) -> Option<Command<'_>>
-    ensures some { IfSome result (λ c. Asks (texts words.now) (asked_by c)) }
-    ensures none { IfNone result (IsListed (texts words.now) → ⊥) }
+pub(crate) fn command_of(alloc: Global, words: &[String]) -> Result<Option<Command<'_>>, Memory>
+    ensures { IfOk result (λ o. IsCommand (texts words.now) (option_map asked_by o)) }
 {
-    let (command, files) = words.split_first()?;
-    let (document, others) = files.split_first()?;
-    command_by(command.as_str(), document.as_str(), others)
+    let Some((word, others)) = words.split_first() else {
+        return Ok(None);
+    };
+    let Some(kind) = kind_of(word.as_str()) else {
+        return Ok(None);
+    };
+    command_as(alloc, kind, others)
 }
 
-fn command_by<'w>(command: &str, document: &'w str, files: &'w [String]) -> Option<Command<'w>>
-    ensures some { IfSome result (λ c. Asks (command.now ∷ document.now ∷ texts files.now) (asked_by c)) }
-    ensures none { IfNone result (IsListed (command.now ∷ document.now ∷ texts files.now) → ⊥) }
+// The command of a kind that the words behind its name are.
+fn command_as<'w>(
+    alloc: Global,
+    kind: Kind,
+    words: &'w [String],
+) -> Result<Option<Command<'w>>, Memory>
+    ensures { IfOk result (λ o. IsCommandAs kind (texts words.now) (option_map asked_by o)) }
 {
-    if command == "check" {
-        return check_of(document, files);
+    if !counts(kind, words.len()) {
+        return Ok(None);
     }
-    if command == "schedule" {
-        return schedule_by(document, files);
+    let (params, names) = words.split_at(kind.params());
+    let Some(task) = task_of(kind, params) else {
+        return Ok(None);
+    };
+    let files = files_of(alloc, kind, names)?;
+    Ok(Some(Command { task, files }))
+}
+
+/// Whether a command may have so many words behind its name.
+fn counts(kind: Kind, words: usize) -> bool
+    ensures { result ≡ counts kind words }
+{
+    let least = kind.params() + kind.roles().len();
+    least <= words && words <= least + kind.calendars()
+}
+
+/// What a command asks for by its parameters.
+fn task_of(kind: Kind, params: &[String]) -> Option<Task>
+    ensures some { IfSome result (λ t. IsTask kind (texts params.now) t) }
+    ensures none { IfNone result ((t : TaskSpec) → IsTask kind (texts params.now) t → ⊥) }
+{
+    match kind {
+        Kind::Check => Some(Task::Check),
+        Kind::Schedule => Some(Task::Schedule),
+        Kind::Audit => Some(Task::Audit),
+        Kind::Accrue => accrue_of(params),
     }
-    if command == "audit" {
-        return audit_by(document, files);
+}
+
+/// `accrue` by its parameter.
+fn accrue_of(params: &[String]) -> Option<Task>
+    ensures some { IfSome result (λ t. IsTask Kind.Accrue (texts params.now) t) }
+    ensures none { IfNone result ((t : TaskSpec) → IsTask Kind.Accrue (texts params.now) t → ⊥) }
+{
+    match date_in(params) {
+        Some(date) => Some(Task::Accrue(date)),
+        None => None,
     }
-    None
 }
 
-fn check_of<'w>(document: &'w str, calendars: &'w [String]) -> Option<Command<'w>>
-    ensures some { IfSome result (λ c. Asks (codes "check" ∷ document.now ∷ texts calendars.now) (asked_by c)) }
-    ensures none { IfNone result (IsListed (codes "check" ∷ document.now ∷ texts calendars.now) → ⊥) }
+/// The day that the first of words is a date of.
+fn date_in(words: &[String]) -> Option<Day>
+    ensures some { IfSome result (λ d. IsDateAt (texts words.now) 0 d) }
+    ensures none { IfNone result ((d : ℤ) → IsDateAt (texts words.now) 0 d → ⊥) }
 {
-    if !are_few(calendars) {
-        return None;
+    let word = words.first()?;
+    date_of(word.as_str())
+}
+
+/// The day that a word is a date of.
+fn date_of(word: &str) -> Option<Day>
+    ensures some { IfSome result (λ d. IsDateWord word.now d) }
+    ensures none { IfNone result ((d : ℤ) → IsDateWord word.now d → ⊥) }
+{
+    let date = read_date(word.as_bytes())?;
+    // Hands the prover the range of the day.
+    let _number = date.number();
+    Some(date)
+}
+
+/// The files that the words behind the parameters name.
+fn files_of<'w>(alloc: Global, kind: Kind, words: &'w [String]) -> Result<Vec<Named<'w>>, Memory>
+    requires { length words.now ≤ most_words }
+    ensures { IfOk result (λ v. map wanted_by v.items ≡ files_from (roles_of kind) (params_of kind + 1) 0 (texts words.now)) }
+{
+    let roles = kind.roles();
+    let mut files = Vec::new(alloc);
+    let mut place = kind.params() as u32 + 1;
+    for (index, word) in words.iter().enumerate() {
+        let role = role_at(roles, index);
+        let name = word.as_str();
+        if is_file(role, name) {
+            files.push(Named { place, role, name })?;
+        }
+        place += 1;
     }
-    Some(Command {
-        task: Task::Check,
-        document,
-        fixings: None,
-        flows: None,
-        calendars,
-    })
+    Ok(files)
 }
 
-fn schedule_by<'w>(document: &'w str, files: &'w [String]) -> Option<Command<'w>>
-    ensures some { IfSome result (λ c. Asks (codes "schedule" ∷ document.now ∷ texts files.now) (asked_by c)) }
-    ensures none { IfNone result (IsListed (codes "schedule" ∷ document.now ∷ texts files.now) → ⊥) }
+/// The role of the word with this index behind the parameters.
+fn role_at(roles: &[Role], index: usize) -> Role
+    ensures { result ≡ role_at roles.now index }
 {
-    let (fixings, calendars) = files.split_first()?;
-    schedule_of(document, fixings.as_str(), calendars)
-}
-
-fn schedule_of<'w>(
-    document: &'w str,
-    fixings: &'w str,
-    calendars: &'w [String],
-) -> Option<Command<'w>>
-    ensures some { IfSome result (λ c. Asks (codes "schedule" ∷ document.now ∷ fixings.now ∷ texts calendars.now) (asked_by c)) }
-    ensures none { IfNone result (IsListed (codes "schedule" ∷ document.now ∷ fixings.now ∷ texts calendars.now) → ⊥) }
-{
-    if !are_few(calendars) {
-        return None;
+    match roles.get(index) {
+        Some(role) => *role,
+        None => Role::Calendar,
     }
-    Some(Command {
-        task: Task::Schedule,
-        document,
-        fixings: named(fixings),
-        flows: None,
-        calendars,
-    })
 }
 
-fn audit_by<'w>(document: &'w str, files: &'w [String]) -> Option<Command<'w>>
-    ensures some { IfSome result (λ c. Asks (codes "audit" ∷ document.now ∷ texts files.now) (asked_by c)) }
-    ensures none { IfNone result (IsListed (codes "audit" ∷ document.now ∷ texts files.now) → ⊥) }
+/// Whether a word names a file: `-` stands for no fixings.
+fn is_file(role: Role, word: &str) -> bool
+    ensures { result ≡ is_file role word.now }
 {
-    let (fixings, others) = files.split_first()?;
-    let (flows, calendars) = others.split_first()?;
-    audit_of(document, fixings.as_str(), flows.as_str(), calendars)
-}
-
-fn audit_of<'w>(
-    document: &'w str,
-    fixings: &'w str,
-    flows: &'w str,
-    calendars: &'w [String],
-) -> Option<Command<'w>>
-    ensures some { IfSome result (λ c. Asks (codes "audit" ∷ document.now ∷ fixings.now ∷ flows.now ∷ texts calendars.now) (asked_by c)) }
-    ensures none { IfNone result (IsListed (codes "audit" ∷ document.now ∷ fixings.now ∷ flows.now ∷ texts calendars.now) → ⊥) }
-{
-    if !are_few(calendars) {
-        return None;
+    match role {
+        Role::Document => true,
+        Role::Fixings => word != "-",
+        Role::Flows => true,
+        Role::Calendar => true,
     }
-    Some(Command {
-        task: Task::Audit,
-        document,
-        fixings: named(fixings),
-        flows: Some(flows),
-        calendars,
-    })
 }
 
-/// Whether there are no more calendars than a command takes.
-fn are_few(calendars: &[String]) -> bool
-    ensures { IsTrue result ↔ (length calendars.now ≤ most_calendars) }
-{
-    calendars.len() <= MOST_FILES
-}
-
-/// The file of fixings that a word names; `-` is none.
-fn named(word: &str) -> Option<&str>
-    ensures { option_map (λ name. name.now) result ≡ named word.now }
-{
-    if word == "-" { None } else { Some(word) }
-}
+ghost use Rattle.irs_cli.specs.declared.commands.Task.{Task as TaskSpec};

@@ -1,8 +1,8 @@
 //! The cash flows of an audit, and the verdict on them.
-ghost use Rattle.std.specs.Prelude.{◌≡◌, option_map, IfOk, IfErr};
-ghost use Rattle.irs_cli.specs.Due.{DueFlows, flow_bytes};
+ghost use Rattle.std.specs.Prelude.{◌≡◌, IfOk, IfErr};
+ghost use Rattle.irs_cli.specs.Due.{DueFlows};
 ghost use Rattle.irs_cli.specs.FlowMessages.{verdict_status, verdict_text, whole_document};
-ghost use Rattle.irs_cli.specs.Outcomes.{FlowsFail, IfRefused, SpellsFlows};
+ghost use Rattle.irs_cli.specs.Outcomes.{Ends, FlowsFail, IfRefused, SpellsFlows};
 ghost use Rattle.irs_cli.specs.declared.refusals.Refusal.TheVariants.{Flows as OfFlows};
 
 use irs_audit::{FlowErr, Flows, ShapeKind, Verdict, audit, read_flows};
@@ -15,12 +15,12 @@ use std::alloc::Global;
 pub(crate) fn verdict_on(
     alloc: Global,
     schedule: &Schedule,
-    file: &Option<Vec<u8>>,
+    bytes: &[u8],
 ) -> Result<Verdict, FlowErr>
-    ensures verdict { IfOk result (λ w. DueFlows (flow_bytes (option_map (λ v. v.items) file.now)) schedule.now (verdict_status w) (verdict_text w)) }
-    ensures fault { IfErr result (λ e. IfRefused (OfFlows e) (DueFlows (flow_bytes (option_map (λ v. v.items) file.now)) schedule.now)) }
+    ensures verdict { IfOk result (λ w. Ends (DueFlows bytes.now schedule.now) (verdict_status w) (verdict_text w)) }
+    ensures fault { IfErr result (λ e. IfRefused (OfFlows e) (Ends (DueFlows bytes.now schedule.now))) }
 {
-    let flows = spelt_flows(alloc, flow_bytes(file))?;
+    let flows = spelt_flows(alloc, bytes)?;
     Ok(audit(schedule, &flows))
 }
 
@@ -33,16 +33,6 @@ fn spelt_flows(alloc: Global, bytes: &[u8]) -> Result<Flows, FlowErr>
         Ok(document) => read_flows(alloc, &document),
         Err(JsonErr::NotJson) => Err(FlowErr::Shape(ShapeKind::NotJson, whole_document())),
         Err(JsonErr::Memory) => Err(FlowErr::Memory),
-    }
-}
-
-// The bytes of the file of flows, which an audit has.
-fn flow_bytes(file: &Option<Vec<u8>>) -> &[u8]
-    ensures { result.now ≡ flow_bytes (option_map (λ v. v.items) file.now) }
-{
-    match file {
-        Some(bytes) => bytes,
-        None => &[],
     }
 }
 

@@ -1,33 +1,23 @@
-//! The program as a library: files, a sink, and `run`, which prints what its words ask for.
+//! The program as a library: `run`, which prints what its words ask for, over any source of files and
+//! any sink.
 #![tactic(auto)]
 
+mod accruing;
+mod answers;
 mod commands;
+mod due;
 mod fetching;
-mod file_map;
-mod files;
 mod flow_messages;
 mod flows;
-mod inputs;
-mod memory_files;
-mod memory_sink;
 mod messages;
-mod outcomes;
 mod program;
-mod real;
 mod refusals;
 mod replies;
 mod rows;
-mod sink;
-mod sure_files;
-mod sure_sink;
 #[cfg(test)]
 mod tests;
 
-pub use files::{FetchErr, Files};
-pub use memory_files::MemFiles;
-pub use memory_sink::MemSink;
+pub use irs_outside::{
+    FetchErr, Files, MemFiles, MemSink, PutFailed, RealFiles, RealSink, Sink, SureFiles, SureSink,
+};
 pub use program::run;
-pub use real::{RealFiles, RealSink};
-pub use sink::{PutFailed, Sink};
-pub use sure_files::SureFiles;
-pub use sure_sink::SureSink;

@@ -6,15 +6,15 @@ ghost use Rattle.irs_cli.specs.Commands.{texts, IsListed};
 ghost use Rattle.irs_cli.specs.Due.{Due, IsOneAnswer};
 ghost use Rattle.irs_cli.specs.Given.{TellsAll};
 ghost use Rattle.irs_cli.specs.Outcomes.{IfAnswered};
-ghost use Rattle.irs_cli.specs.Outside.{Rose, Grew, GrewByFront};
+ghost use Rattle.irs_outside.specs.Outside.{Rose, Grew, GrewByFront};
 ghost use Rattle.irs_cli.specs.Replying.{reply_status, reply_text};
 ghost use Rattle.irs_cli.specs.Run.{NoFile, Replies};
 
 use crate::commands::command_of;
+use crate::due::reply_of;
 use crate::fetching::fetch_all;
-use crate::outcomes::{Outcome, outcome_of};
 use crate::refusals::Refusal;
-use crate::replies::{Reply, outcome_reply, put_reply, refusal_reply};
+use crate::replies::{Reply, put_reply, refusal_reply};
 use crate::{Files, Sink};
 use irs_base::Memory;
 use std::alloc::Global;
@@ -23,8 +23,8 @@ use std::alloc::Global;
 /// broken, 3 a calendar, fixing or flow file is outside its grammar or limits, 4 the words are no
 /// listed command, 5 a file can't be read, 6 a put failed, 7 want of memory, 8 a file is too long.
 ///
-/// The commands are `check DOC CAL..`, `schedule DOC FIX CAL..` and `audit DOC FIX FLOWS CAL..`, with 0
-/// to 16 calendars, and `-` as FIX for no fixings. All files are fetched first, in the order of the
+/// The commands are `check DOC CAL..`, `schedule DOC FIX CAL..`, `audit DOC FIX FLOWS CAL..` and
+/// `accrue DATE DOC FIX CAL..`, with 0 to 16 calendars, and `-` as FIX for no fixings. All files are fetched first, in the order of the
 /// words; the flows are read when no rule is broken.
 pub fn run<F: Files, S: Sink>(alloc: Global, words: &[String], files: &mut F, out: &mut S) -> u8
     // Want of memory: nothing was written.
@@ -70,18 +70,18 @@ fn answer<F: Files>(alloc: Global, words: &[String], files: &mut F) -> Result<Re
     ensures { IfOk result (λ r. Replies (texts words.now) (F.told files.old) (F.failed files.new) (F.faults files.old) (F.faults files.new) (reply_status r) (reply_text r)) }
 {
     match carry_out(alloc, words, files) {
-        Ok(outcome) => outcome_reply(alloc, outcome),
+        Ok(reply) => Ok(reply),
         Err(refusal) => refusal_reply(alloc, refusal),
     }
 }
 
 // What the command of the words comes to, or why it isn't carried out.
-fn carry_out<F: Files>(alloc: Global, words: &[String], files: &mut F) -> Result<Outcome, Refusal>
+fn carry_out<F: Files>(alloc: Global, words: &[String], files: &mut F) -> Result<Reply, Refusal>
     ensures { IfAnswered result (Replies (texts words.now) (F.told files.old) (F.failed files.new) (F.faults files.old) (F.faults files.new)) }
 {
-    let Some(command) = command_of(words) else {
+    let Some(command) = command_of(alloc, words)? else {
         return Err(Refusal::BadWords);
     };
-    let fetched = fetch_all(alloc, &command, files)?;
-    outcome_of(alloc, command.task, &fetched)
+    let fetched = fetch_all(alloc, &command.files, files)?;
+    reply_of(alloc, command.task, &fetched)
 }

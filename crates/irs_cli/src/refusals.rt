@@ -2,11 +2,11 @@
 ghost use Rattle.std.specs.Prelude.{◌≡◌};
 ghost use Rattle.irs_cli.specs.Messages.{unreadable};
 ghost use Rattle.irs_cli.specs.Outcomes.{of_fetch, of_json, of_stopped};
-ghost use Rattle.irs_cli.specs.declared.refusals.Refusal.TheVariants.{Calendars as OfCalendars, Fixings as OfFixings, Flows as OfFlows};
+ghost use Rattle.irs_cli.specs.declared.refusals.Refusal.TheVariants.{Calendars as OfCalendars, Fixings as OfFixings, Flows as OfFlows, Memory as OfMemory};
 
 use crate::fetching::Unfetched;
 use irs_audit::FlowErr;
-use irs_base::{Broken, Elem, Place, Rule, Stopped};
+use irs_base::{Broken, Elem, Memory, Place, Rule, Stopped};
 use irs_calendar::CalErr;
 use irs_json::JsonErr;
 use irs_resets::FixErr;
@@ -41,6 +41,14 @@ impl From<Unfetched> for Refusal {
             Unfetched::TooLong(place) => Refusal::TooLong(place),
             Unfetched::Memory => Refusal::Memory,
         }
+    }
+}
+
+impl From<Memory> for Refusal {
+    ghost from_gives = { λ _ r. r ≡ OfMemory };
+
+    fn from(_e: Memory) -> Refusal {
+        Refusal::Memory
     }
 }
 

@@ -1,6 +1,6 @@
 //! The text of a schedule, one put each line.
 ghost use Rattle.std.specs.Prelude.{◌≡◌, ℕ, ◌++◌, OnOk, OnErr};
-ghost use Rattle.irs_cli.specs.Outside.{Rose, Grew, GrewByFront};
+ghost use Rattle.irs_outside.specs.Outside.{Rose, Grew, GrewByFront};
 ghost use Rattle.irs_schedule.specs.RowTexts.{text_of};
 
 use crate::{PutFailed, Sink};

@@ -1,5 +1,5 @@
 // The program over files and sinks in memory. What it prints of documents at large is tested above.
-use crate::{Files, MemFiles, MemSink, RealFiles, SureFiles, SureSink, run};
+use crate::{MemFiles, MemSink, RealFiles, SureFiles, SureSink, run};
 use std::alloc::{AllocError, Global};
 use std::fs;
 use std::process::Abort;
@@ -25,6 +25,12 @@ p 1 1 2024-07-15 2024-07-15 1 1 25277.78
 c 1 1 2024-01-15 2024-07-15 2024-01-15 2024-07-15 182 182/360 1000000.0000 0.050000000
 p 1 2 2025-01-15 2025-01-15 2 2 25555.56
 c 1 2 2024-07-15 2025-01-15 2024-07-15 2025-01-15 184 184/360 1000000.0000 0.050000000
+end
+";
+
+// What has accrued on 15 April 2024.
+const ACCRUED: &str = "irs-accrued 1 2024-04-15
+a 1 1 91 91/360 12638.89
 end
 ";
 
@@ -93,6 +99,14 @@ fn words_that_are_and_are_not_listed(rt: HostRuntime) -> Result<(), Fail> {
     expect(&rt, alloc, &["check"], 4, "bad words\n")?;
     expect(&rt, alloc, &["schedule", "B"], 4, "bad words\n")?;
     expect(&rt, alloc, &["chec", "B"], 4, "bad words\n")?;
+    expect(&rt, alloc, &["accrue", "2024-04-15", "B", "-"], 0, ACCRUED)?;
+    expect(
+        &rt,
+        alloc,
+        &["accrue", "2024-04-31", "B", "-"],
+        4,
+        "bad words\n",
+    )?;
     let mut many = ["cal"; 19];
     many[0] = "check";
     many[1] = "B";
@@ -210,22 +224,5 @@ fn real_files_at_the_limit(rt: HostRuntime) -> Result<(), Fail> {
         assert_eq!(rt; out.bytes(), text.as_bytes(), "at {length}");
     }
     fs::remove_file(&rt, SPACES)?;
-    Ok(())
-}
-
-// A marked call fails though the file is there, and a file that is added again is replaced.
-#[test]
-fn a_marked_call_fails(rt: HostRuntime) -> Result<(), Fail> {
-    let alloc = rt.alloc();
-    let mut files = MemFiles::new(alloc);
-    files.add("B", b"1")?;
-    files.add("B", b"2")?;
-    files.fail_at(2)?;
-    for (wanted, most) in [("2", 5), ("failed", 5), ("", 0)] {
-        match files.fetch(alloc, "B", most) {
-            Ok(bytes) => assert_eq!(rt; bytes.as_slice(), wanted.as_bytes(), "at {wanted}"),
-            Err(_) => assert_eq!(rt; wanted, "failed"),
-        }
-    }
     Ok(())
 }

@@ -1,7 +1,7 @@
-use Rattle.std.proofs.Common.{◌<◌, ◌≤◌, refl, arith, rules, length}
+use Rattle.std.proofs.Common.{◌<◌, ◌≤◌, refl, rules, length}
 use Rattle.irs_cli.proofs.FetchLemmas.{front_whole, front_long}
-use Rattle.irs_cli.proofs.fetching.fetch.Goals as goal
 use Rattle.irs_cli.specs.Given.{too_many}
+use Rattle.irs_cli.proofs.fetching.fetch.Goals as goal
 
 pub returns-in-Ok-clause-one : goal.returns-in-Ok-clause-one
 returns-in-Ok-clause-one g c =
@@ -11,10 +11,4 @@ returns-in-Ok-clause-one g c =
 pub returns-in-Ok-2-clause-one : goal.returns-in-Ok-2-clause-one
 returns-in-Ok-2-clause-one g c =
     let long : too_many ≤ length c.in-Ok.bytes.items = search rules in
-    record {
-      name = c.args.name.now;
-      word = (refl, refl);
-      long = front_long too_many (g.F.Files.told c.args.files.now c.args.name.now) c.in-Ok.bytes.items c.in-Ok.ensures.bytes long;
-      quiet = (c.in-Ok.ensures.quiet (λ e. cc)).0;
-      none_long = λ n other bytes below at is. absurd (omega (arith, at.0));
-    }
+    (refl, front_long too_many (g.F.Files.told c.args.files.now c.args.name.now) c.in-Ok.bytes.items c.in-Ok.ensures.bytes long, (c.in-Ok.ensures.quiet (λ e. cc)).0)

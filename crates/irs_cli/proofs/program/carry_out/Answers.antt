@@ -1,30 +1,51 @@
-use Rattle.irs_cli.specs.Commands.{texts, asked_by}
-use Rattle.irs_cli.specs.Fetching.{given_by}
+use Rattle.std.proofs.Common.{List, map, subst}
+use Rattle.irs_cli.specs.declared.commands.Named.{Named}
+use Rattle.irs_cli.specs.Commands.{texts, Asks, asked_by, wanted_by}
+use Rattle.irs_cli.specs.Given.{Gathers, no_files}
+use Rattle.irs_cli.specs.Fetching.{given_by, Holds, Stops}
 use Rattle.irs_cli.specs.Outcomes.{of_fetch}
 use Rattle.irs_cli.specs.Run.{Replies}
-use Rattle.irs_cli.proofs.DueLemmas.{answered_by}
-use Rattle.irs_cli.proofs.FetchLemmas.{files_within}
+use Rattle.irs_cli.proofs.CommandLemmas.{unlisted_by, asks_by, few_cals}
+use Rattle.irs_cli.proofs.FileLemmas.{gathers_within}
+use Rattle.irs_cli.proofs.StepLemmas.{answered_by}
 use Rattle.irs_cli.proofs.RunLemmas.{unlisted_replies, stopped_replies, fetched_replies}
 use Rattle.irs_cli.proofs.program.carry_out.Goals as goal
 
 pub returns-in_default : goal.returns-in_default
-returns-in_default g c = unlisted_replies (texts c.args.words.now) (g.F.Files.told c.args.files.now) (g.F.Files.failed c.args.files.now) (g.F.Files.faults c.args.files.now) c.in_default.ensures.none
+returns-in_default g c =
+    let ws = texts c.args.words.now in
+    unlisted_replies ws (g.F.Files.told c.args.files.now) (g.F.Files.failed c.args.files.now) (g.F.Files.faults c.args.files.now) (unlisted_by ws c.in_ok-command.field-0 c.in_ok-command.ensures c.in_default.is)
 
 pub returns-in_err-fetched : goal.returns-in_err-fetched
 returns-in_err-fetched g c =
     let e = c.in_err-fetched.field-0.0 in
+    let made = c.from_residual-in_err-fetched in
     let ws = texts c.args.words.now in
     let told = g.F.Files.told c.args.files.now in
     let failed = g.F.Files.failed c.fetch_all.new.files in
     let before = g.F.Files.faults c.args.files.now in
     let now = g.F.Files.faults c.fetch_all.new.files in
-    answered_by c.from_residual.result (of_fetch e) (Replies ws told failed before now) c.from_residual.ensures.0 c.from_residual.ensures.1 (stopped_replies ws told (asked_by c.in-Some.command) failed before now e c.in-Some.ensures.some c.in_err-fetched.ensures)
+    let k = c.in-Some.command in
+    let asks : Asks ws (asked_by k) = asks_by ws c.in_ok-command.field-0 k c.in_ok-command.ensures c.in-Some.is in
+    let stops : Stops told (asked_by k).files failed before now e = subst (λ (l : List Named). Stops told (map wanted_by l) failed before now e) c.deref.ensures.value c.in_err-fetched.ensures in
+    answered_by made.result (of_fetch e) (Replies ws told failed before now) made.ensures.0 made.ensures.1 (stopped_replies ws told (asked_by k) failed before now e asks stops)
 
-pub outcome_of-requires : goal.outcome_of-requires
-outcome_of-requires g c =
-    let asks = c.in-Some.ensures.some in
-    files_within (g.F.Files.told c.args.files.now) (asked_by c.in-Some.command) (given_by c.in_ok-fetched.fetched) c.in_ok-fetched.ensures.0 asks.few
+pub reply_of-requires : goal.reply_of-requires
+reply_of-requires g c =
+    let ws = texts c.args.words.now in
+    let told = g.F.Files.told c.args.files.now in
+    let k = c.in-Some.command in
+    let asks : Asks ws (asked_by k) = asks_by ws c.in_ok-command.field-0 k c.in_ok-command.ensures c.in-Some.is in
+    let f = given_by c.in_ok-fetched.fetched in
+    let held : Gathers (Holds told) (asked_by k).files no_files f = subst (λ (l : List Named). Gathers (Holds told) (map wanted_by l) no_files f) c.deref.ensures.value c.in_ok-fetched.ensures.0 in
+    gathers_within (Holds told) (asked_by k).files f (λ name bytes h. h.1) (few_cals ws (asked_by k) asks) held
 
 pub returns : goal.returns
 returns g c =
-    fetched_replies (texts c.args.words.now) (g.F.Files.told c.args.files.now) (asked_by c.in-Some.command) (given_by c.in_ok-fetched.fetched) (g.F.Files.failed c.fetch_all.new.files) (g.F.Files.faults c.args.files.now) (g.F.Files.faults c.fetch_all.new.files) c.outcome_of.result c.in-Some.ensures.some c.in_ok-fetched.ensures.0 c.in_ok-fetched.ensures.1 c.outcome_of.ensures
+    let ws = texts c.args.words.now in
+    let told = g.F.Files.told c.args.files.now in
+    let k = c.in-Some.command in
+    let asks : Asks ws (asked_by k) = asks_by ws c.in_ok-command.field-0 k c.in_ok-command.ensures c.in-Some.is in
+    let f = given_by c.in_ok-fetched.fetched in
+    let held : Gathers (Holds told) (asked_by k).files no_files f = subst (λ (l : List Named). Gathers (Holds told) (map wanted_by l) no_files f) c.deref.ensures.value c.in_ok-fetched.ensures.0 in
+    fetched_replies ws told (asked_by k) f (g.F.Files.failed c.fetch_all.new.files) (g.F.Files.faults c.args.files.now) (g.F.Files.faults c.fetch_all.new.files) c.reply_of.result asks held c.in_ok-fetched.ensures.1 c.reply_of.ensures

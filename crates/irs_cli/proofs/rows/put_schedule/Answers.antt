@@ -2,7 +2,7 @@ use Rattle.std.proofs.Common.{◌≡◌, ℕ, List, [], ◌∷◌, ◌∙◌, su
 use Rattle.irs_schedule.specs.declared.row.Row.{Row}
 use Rattle.irs_schedule.specs.RowsOf.{rows_of}
 use Rattle.irs_schedule.specs.RowTexts.{HasPlaces, row_text_of, header, footer, text_of, text_from}
-use Rattle.irs_cli.specs.Outside.{Grew, GrewByFront}
+use Rattle.irs_outside.specs.Outside.{Grew, GrewByFront}
 use Rattle.irs_cli.proofs.Putting.{Through, through_more, through_last, through_part, through_last_part, through_row, first_part, on_err, on_err_then, on_ok_then}
 use Rattle.irs_base.specs.Members.{Every}
 use Rattle.irs_cli.proofs.rows.put_schedule.Goals as goal

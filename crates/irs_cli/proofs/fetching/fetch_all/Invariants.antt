@@ -1,0 +1,12 @@
+use Rattle.std.proofs.Common.{◌≡◌, ℕ, List, map, take}
+use Rattle.irs_cli.specs.Commands.{wanted_by}
+use Rattle.irs_cli.specs.Given.{Gathers, no_files}
+use Rattle.irs_cli.specs.Fetching.{given_by, Holds}
+use Rattle.irs_cli.proofs.fetching.fetch_all.Given as goal
+
+abbrev pub invariant-loop-named : goal.invariant-loop-named
+invariant-loop-named g l = record {
+  told : (n : List ℕ) → g.F.Files.told l.files n ≡ g.F.Files.told l.fn.files n;
+  quiet : g.F.Files.faults l.files ≡ g.F.Files.faults l.fn.files;
+  held : Gathers (Holds (g.F.Files.told l.fn.files)) (map wanted_by (take l.named-index l.names)) no_files (given_by l.fetched);
+}

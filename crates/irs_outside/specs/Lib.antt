@@ -1,0 +1,7 @@
+pub mod Outside
+pub mod FileMaps
+pub mod MemFiles
+pub mod SureFiles
+pub mod MemSinks
+pub mod MemSinkViews
+pub mod SureSinks

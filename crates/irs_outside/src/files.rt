@@ -1,0 +1,57 @@
+//! Where the program's files come from: this project's own trait, so that every clause on the
+//! program speaks of any source of files, a folder and a table in memory alike.
+ghost use Rattle.std.specs.Prelude.{◌≡◌, ℕ, ◌≤◌, List, length, take, Option, Some, IfOk, IfSome, IsErrOf};
+ghost use Rattle.irs_outside.specs.Outside.{Rose};
+ghost use Rattle.irs_outside.specs.declared.files.FetchErr.TheVariants.{Memory as OfMemory};
+
+use std::alloc::{AllocError, AllocFailed, Global};
+use thiserror::Error;
+
+/// Why a fetch gave nothing.
+#[derive(Clone, Copy, Debug, PartialEq, Eq, Error)]
+pub enum FetchErr {
+    /// The source has no such file, or it can't be read.
+    #[error("the file can't be read")]
+    Failed,
+    /// No memory was found for the bytes or for the name.
+    #[error("out of memory")]
+    Memory,
+}
+
+impl From<AllocError> for FetchErr {
+    ghost from_gives = { λ _ e. e ≡ OfMemory };
+
+    fn from(_e: AllocError) -> FetchErr {
+        FetchErr::Memory
+    }
+}
+
+impl<T: Drop> From<AllocFailed<T>> for FetchErr {
+    ghost from_gives = { λ _ e. e ≡ OfMemory };
+
+    fn from(_e: AllocFailed<T>) -> FetchErr {
+        FetchErr::Memory
+    }
+}
+
+/// A source of files.
+pub trait Files {
+    /// The bytes under a name, where the source tells them. No call changes them.
+    ghost told: { Self → List ℕ → Option (List ℕ) };
+
+    /// How often a fetch has failed. The count never falls.
+    ghost faults: { Self → ℕ };
+
+    /// The name that was handed to the last fetch that failed, none before the first.
+    ghost failed: { Self → Option (List ℕ) };
+
+    /// The first `most` bytes of a file, or all of it where it is shorter. `Failed` comes only
+    /// where the count of faults rose in this call.
+    fn fetch(&mut self, alloc: Global, name: &str, most: usize) -> Result<Vec<u8>, FetchErr>
+        ensures bytes { IfOk result (λ b. IfSome (told self.old name.now) (λ xs. b.items ≡ take most xs)) }
+        ensures fits { IfOk result (λ b. length b.items ≤ most) }
+        ensures told { (n : List ℕ) → told self.new n ≡ told self.old n }
+        ensures rose { IsErrOf result FetchErr.Failed → Rose (faults self.old) (faults self.new) }
+        ensures failed { IsErrOf result FetchErr.Failed → failed self.new ≡ Some name.now }
+        ensures quiet { (IsErrOf result FetchErr.Failed → ⊥) → (faults self.new ≡ faults self.old) × (failed self.new ≡ failed self.old) };
+}

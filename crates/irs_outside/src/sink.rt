@@ -1,0 +1,28 @@
+//! Where the program's text goes: this project's own trait, so that every clause on the program
+//! speaks of any sink, standard output and a buffer in memory alike.
+ghost use Rattle.std.specs.Prelude.{◌≡◌, ℕ, List, Option, OnOk, OnErr};
+ghost use Rattle.irs_outside.specs.Outside.{Rose, Grew, GrewByFront};
+
+use thiserror::Error;
+
+/// A write failed.
+#[derive(Clone, Copy, Debug, PartialEq, Eq, Error)]
+#[error("the text can't be written")]
+pub struct PutFailed;
+
+/// Takes bytes, one piece behind the other.
+pub trait Sink {
+    /// What was written, where the sink tells it.
+    ghost written: { Self → Option (List ℕ) };
+
+    /// How often a put has failed. The count never falls.
+    ghost faults: { Self → ℕ };
+
+    /// Appends the bytes, and takes no memory. A put that fails has appended a front of them, and
+    /// the count of faults rose in this call.
+    fn put(&mut self, bytes: &[u8]) -> Result<(), PutFailed>
+        ensures ok { OnOk result (Grew (written self.old) (written self.new) bytes.now) }
+        ensures quiet { OnOk result (faults self.new ≡ faults self.old) }
+        ensures err { OnErr result (GrewByFront (written self.old) (written self.new) bytes.now) }
+        ensures rose { OnErr result (Rose (faults self.old) (faults self.new)) };
+}
