@@ -1,11 +1,11 @@
 -- What every schedule keeps lets each of its numbers be stated.
-use Rattle.std.proofs.Common.{◌≡◌, ℕ, ◌+◌, ◌-◌, ◌*◌, ◌^◌, ◌<◌, ◌≤◌, List, Option, Some, None, ℤ, pos, negsuc, unsigned_abs, ◌≤ℤ◌, arith, ap, subst, inl, inr}
+use Rattle.std.proofs.Common.{◌≡◌, ℕ, ◌+◌, ◌-◌, ◌*◌, ◌^◌, ◌<◌, ◌≤◌, Option, Some, ℤ, pos, negsuc, unsigned_abs, arith, ap, subst, inl, inr}
 use Rattle.std.specs.Prelude.{slice_get, unwrap_or, IfSome}
 use Rattle.std.proofs.lemmas.Option.{slice_get_cases, IfSome_then}
 use Rattle.std.proofs.Math.Nat.{mul-le-mul}
 use Rattle.jiff_core.proofs.SignedLemmas.{signed_arith}
 use Rattle.irs_base.specs.declared.line.Dec.{Dec}
-use Rattle.irs_base.specs.Limits.{most_notional, most_rate}
+use Rattle.irs_base.specs.Limits.{most_rate}
 use Rattle.irs_terms.specs.Lawful.{IsNotional, IsRate}
 use Rattle.irs_terms.specs.declared.currency.Currency.{Currency}
 use Rattle.irs_terms.specs.declared.results.Exchange.{Exchange}

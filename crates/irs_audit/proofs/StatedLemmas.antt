@@ -1,5 +1,5 @@
 -- The flows that state a schedule agree with it.
-use Rattle.std.proofs.Common.{◌≡◌, ℕ, zero, suc, ◌+◌, ◌-◌, ◌^◌, ◌<◌, ◌≤◌, List, [], ◌∷◌, ◌++◌, length, drop, map, append_assoc, Option, Some, None, ℤ, pos, ◌*ℤ◌, ◌<ℤ◌, refl, sym, ◌∙◌, ap, subst, arith, inl, inr}
+use Rattle.std.proofs.Common.{◌≡◌, ℕ, zero, suc, ◌+◌, ◌-◌, ◌^◌, ◌<◌, ◌≤◌, List, [], ◌∷◌, ◌++◌, length, drop, append_assoc, Option, Some, None, ℤ, pos, ◌*ℤ◌, ◌<ℤ◌, refl, ◌∙◌, ap, subst, arith, inl, inr}
 use Rattle.std.specs.Prelude.{slice_get, option_map, option_and_then, unwrap_or, IfSome}
 use Rattle.std.proofs.lemmas.List.{drop_more}
 use Rattle.std.proofs.lemmas.Option.{slice_get-map, slice_get_past, slice_get_cases}
@@ -15,7 +15,6 @@ use Rattle.irs_schedule.specs.PeriodViews.{period_at, dated_period}
 use Rattle.irs_schedule.specs.declared.entries.PaymentEntry.{PaymentEntry}
 use Rattle.irs_schedule.specs.declared.entries.PeriodEntry.{PeriodEntry}
 use Rattle.irs_schedule.specs.declared.views.CalculationPeriod.{CalculationPeriod}
-use Rattle.irs_audit.specs.declared.departures.Departure.{Departure}
 use Rattle.irs_audit.specs.declared.departures.Field.{Field}
 use Rattle.irs_audit.specs.declared.departures.Field.TheVariants.{UnadjustedPrincipalExchangeDate, AdjustedPrincipalExchangeDate, PrincipalExchangeAmount}
 use Rattle.irs_audit.specs.declared.departures.Field.TheVariants.{UnadjustedPaymentDate, AdjustedPaymentDate, CalculationPeriod as PeriodCount, Currency as CurrencyField, Amount}
@@ -26,9 +25,7 @@ use Rattle.irs_audit.specs.declared.departures.RowKind.TheVariants.{Stream, Exch
 use Rattle.irs_audit.specs.declared.flows.FlowExchange.{FlowExchange}
 use Rattle.irs_audit.specs.declared.flows.FlowPayment.{FlowPayment}
 use Rattle.irs_audit.specs.declared.flows.FlowPeriod.{FlowPeriod}
-use Rattle.irs_audit.specs.declared.flows.FlowReset.{FlowReset}
 use Rattle.irs_audit.specs.Agreement.{RowDeparts, KindDeparts, StreamDeparts, Agrees}
-use Rattle.irs_audit.specs.Comparisons.{IsSmall}
 use Rattle.irs_audit.specs.FieldDepartures.{ExchangeDeparts, PaymentDeparts, PeriodDeparts, ResetDeparts}
 use Rattle.irs_audit.specs.FlowParts.{FlowPart}
 use Rattle.irs_audit.specs.StatedFlows.{stated_number, stated_amount, stated_fraction, stated_exchange, stated_payment, stated_reset, period_with, stated_period, stated_periods_from, stated_part, stated_flows}

@@ -1,23 +1,22 @@
 -- The sums of a schedule are small.
-use Rattle.std.proofs.Common.{◌≡◌, ℕ, ◌+◌, ◌-◌, ◌*◌, ◌^◌, ◌<◌, ◌≤◌, List, [], ◌∷◌, length, drop, get_or, ℤ, pos, negsuc, ◌+ℤ◌, unsigned_abs, FitsSigned, Option, Some, None, inl, inr, sym, ◌∙◌, ap, subst, arith}
+use Rattle.std.proofs.Common.{◌≡◌, ℕ, ◌+◌, ◌-◌, ◌*◌, ◌^◌, ◌<◌, ◌≤◌, List, ◌∷◌, length, drop, get_or, ℤ, pos, negsuc, ◌+ℤ◌, unsigned_abs, FitsSigned, Option, Some, inl, inr, sym, ◌∙◌, ap, arith}
 use Rattle.std.specs.Int.{w64}
 use Rattle.std.specs.List.{fold}
 use Rattle.std.specs.Prelude.{slice_get, unwrap_or, IfSome}
 use Rattle.std.proofs.lemmas.List.{drop_more}
 use Rattle.std.proofs.lemmas.Option.{slice_get_cases}
 use Rattle.std.proofs.Math.Nat.{mul-le-mul}
-use Rattle.jiff_core.proofs.SignedLemmas.{signed_arith, unsigned_abs-product}
+use Rattle.jiff_core.proofs.SignedLemmas.{unsigned_abs-product}
 use Rattle.irs_base.specs.Limits.{most_periods}
-use Rattle.irs_base.specs.Members.{Every}
 use Rattle.irs_base.specs.declared.line.Dec.{Dec}
 use Rattle.irs_schedule.specs.Parts.{Part, KeepsBounds, IsWithin}
 use Rattle.irs_schedule.specs.PeriodViews.{dated_period, period_at}
 use Rattle.irs_schedule.specs.declared.entries.PaymentEntry.{PaymentEntry}
 use Rattle.irs_schedule.specs.declared.entries.PeriodEntry.{PeriodEntry}
 use Rattle.irs_schedule.specs.declared.views.CalculationPeriod.{CalculationPeriod}
-use Rattle.irs_audit.specs.Comparisons.{IsStatable, IsStatableDec}
-use Rattle.irs_audit.specs.StatedFlows.{stated_amount, stated_number}
-use Rattle.irs_audit.specs.Sums.{all_days_from, days_from, known_or_zero, most_amount, paid_from, payment_rows, total_from}
+use Rattle.irs_audit.specs.Comparisons.{IsStatableDec}
+use Rattle.irs_audit.specs.StatedFlows.{stated_amount}
+use Rattle.irs_audit.specs.Sums.{days_from, known_or_zero, most_amount, paid_from, payment_rows}
 use Rattle.irs_audit.proofs.BoundLemmas.{payments_few}
 use Rattle.irs_audit.proofs.ValueLemmas.{both_powers}
 use Rattle.irs_audit.proofs.VerdictLemmas.{sum_few}
