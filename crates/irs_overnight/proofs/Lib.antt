@@ -9,3 +9,4 @@ pub mod ThereLemmas
 pub mod VisibleTexts
 pub mod LinesRead
 pub mod FileRead
+pub mod KeptRows

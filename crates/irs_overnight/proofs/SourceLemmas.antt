@@ -10,7 +10,7 @@ use Rattle.irs_base.specs.declared.places.Fault.{Fault}
 use Rattle.irs_base.proofs.Firsts.{one_first}
 use Rattle.irs_terms.specs.declared.amounts.FloatTerms.{FloatTerms}
 use Rattle.irs_terms.specs.declared.amounts.Leg.{Leg}
-use Rattle.irs_terms.specs.declared.amounts.Leg.TheVariants.{Floating}
+use Rattle.irs_terms.specs.declared.amounts.Leg.TheVariants.{Fixed, Floating}
 use Rattle.irs_terms.specs.declared.stream.Stream.{Stream}
 use Rattle.irs_terms.specs.declared.stream_list.Swap.{Swap}
 use Rattle.irs_schedule.specs.DaySets.{stream_sets}
@@ -21,7 +21,8 @@ use Rattle.irs_overnight.specs.DerivedRows.{AreDerived}
 use Rattle.irs_overnight.specs.DerivedRules.{BreaksDerived, derived_before}
 use Rattle.irs_overnight.specs.Overnight.{Asked, BreaksOvernight, HasSource, IsAsked, IsFirstDerived, IsOvernight, OvernightKept}
 use Rattle.irs_overnight.specs.DailySources.{DailySource, daily_source}
-use Rattle.irs_overnight.specs.Sources.{PaysFloating}
+use Rattle.irs_terms.specs.declared.step_list.StepValues.{StepValues}
+use Rattle.irs_overnight.specs.Sources.{Floats, PaysFloating}
 use Rattle.irs_overnight.specs.declared.derived.DerivedRow.{DerivedRow}
 use Rattle.irs_overnight.proofs.DerivedOrder.{derived_ties}
 use Rattle.irs_overnight.proofs.RowLemmas.{one_derived}
@@ -124,3 +125,22 @@ pub part_read : (ps qs : List Part) (place : ℕ) (p : Part) → qs ≡ ps → p
 part_read ps qs place p same low is =
     let here : p ≡ get_or ps place p = rw same at is in
     slice_get-get_or ps place p low ∙ ap (λ (x : Part). Some x) (sym here)
+
+floats_by : (swap : Swap) (number : ℕ) (s : Stream) (leg : Leg) → 1 ≤ number → slice_get swap.streams (number - 1) ≡ Some s → s.leg ≡ leg → ((Floats swap number → ⊥) → ⊥) → Floats swap number
+floats_by swap number s (Floating float) low at is not_none = (float, record { from_one = low; stream = s; at = at; pays = is })
+floats_by swap number s (Fixed values) low at is not_none = absurd (not_none (λ h. is_fixed s h.1.stream h.0 values (same_stream h.1.stream s (sym h.1.at ∙ at)) h.1.pays is))
+  where
+    is_fixed : (x y : Stream) (f : FloatTerms) (v : StepValues) → y ≡ x → y.leg ≡ Floating f → x.leg ≡ Fixed v → ⊥
+    is_fixed x y f v e p q = different (Floating f) (Fixed v) f v refl refl (sym p ∙ ap (λ (z : Stream). z.leg) e ∙ q)
+      where
+        different : (a b : Leg) (g : FloatTerms) (w : StepValues) → a ≡ Floating g → b ≡ Fixed w → a ≡ b → ⊥
+        different a b g w m n o = cc
+
+floats_read : (swap : Swap) (number : ℕ) (read : Option Stream) → 1 ≤ number → slice_get swap.streams (number - 1) ≡ read → ((Floats swap number → ⊥) → ⊥) → Floats swap number
+floats_read swap number (Some s) low at not_none = floats_by swap number s s.leg low at refl not_none
+floats_read swap number None low at not_none = absurd (not_none (λ h. lacks (slice_get swap.streams (number - 1)) h.1.stream at h.1.at))
+
+-- where `check_stream` finds nothing the stream floats
+pub floats_there : (swap : Swap) (number : ℕ) → ((Floats swap number → ⊥) → ⊥) → Floats swap number
+floats_there swap zero not_none = absurd (not_none (λ h. let low = h.1.from_one in omega (arith, low)))
+floats_there swap (suc n) not_none = floats_read swap (suc n) (slice_get swap.streams (suc n - 1)) (omega arith) refl not_none

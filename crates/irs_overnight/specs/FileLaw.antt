@@ -41,3 +41,8 @@ pub record HasRate (rows : List DerivedRow) (tenor : Option Frequency) (index na
 pub record AreFixings (rows : List DerivedRow) (tenor : Option Frequency) (index : List ℕ) : Type 0 where
   pub clean : (n : ℕ) → IsFaulty (lines_of (file_text rows tenor index)) n → ⊥
   pub holds : (name : List ℕ) (slot : Slot) (rate : ℤ) → ((n : ℕ) × Fixes (lines_of (file_text rows tenor index)) n name slot rate) ↔ HasRate rows tenor index name slot rate
+
+-- the fixing date and the rate of a row are in range
+pub record IsInRange (row : DerivedRow) : Type 0 where
+  pub day : IsDay row.fixing
+  pub rate : IsSmallFound row.found

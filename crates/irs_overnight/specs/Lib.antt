@@ -9,7 +9,7 @@ pub mod DailyPeriods
 pub mod PeriodTurns
 pub mod DerivedRules
 pub mod DerivedRows
-pub mod Overnight
 pub mod Texts
 pub mod Reading
 pub mod FileLaw
+pub mod Overnight

@@ -16,6 +16,7 @@ use Rattle.irs_schedule.specs.DaySets.{reset_days}
 use Rattle.irs_schedule.specs.Parts.{Part}
 use Rattle.irs_schedule.specs.Schedules.{IsSchedule}
 use Rattle.irs_overnight.specs.DerivedRows.{AreDerived}
+use Rattle.irs_overnight.specs.FileLaw.{AreFixings}
 use Rattle.irs_overnight.specs.DerivedRules.{BreaksDerived, derived_before}
 use Rattle.irs_overnight.specs.DailySources.{DailySource, daily_source}
 use Rattle.irs_overnight.specs.Sources.{Floats, PaysFloating}
@@ -72,3 +73,7 @@ pub record IsFirstDerived (a : Asked) (x : Broken) : Type 0 where
   pub fault : Fault
   pub first : First derived_before (BreaksOvernight a) fault
   pub is : x ≡ in_stream a.number fault
+
+-- with the index and the tenor of the stream the rows print a fixing file that has exactly their rates
+abbrev pub ReadsBack : Asked → List DerivedRow → Type 0
+ReadsBack a rows = (float : FloatTerms) → PaysFloating a.swap a.number float → AreFixings rows float.tenor float.index

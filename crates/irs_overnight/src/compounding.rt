@@ -1,10 +1,11 @@
 //! Daily rates of a stream's index compounded into one rate for each calculation period (2006 ISDA
 //! Definitions, section 7.1, on compounded overnight rates). The product and its rounding are this
 //! project's own.
-ghost use Rattle.std.specs.Prelude.{◌≡◌, List, IfOk};
+ghost use Rattle.std.specs.Prelude.{◌≡◌, All, List, IfOk};
 ghost use Rattle.irs_base.specs.Faults.{IfBroken};
 ghost use Rattle.irs_base.specs.declared.places.Broken.{Broken as BrokenRule};
-ghost use Rattle.irs_overnight.specs.Overnight.{IsAsked, IsFirstDerived, IsOvernight, OvernightKept, asked};
+ghost use Rattle.irs_overnight.specs.Overnight.{IsAsked, IsFirstDerived, IsOvernight, OvernightKept, ReadsBack, asked};
+ghost use Rattle.irs_overnight.specs.FileLaw.{IsInRange};
 ghost use Rattle.irs_overnight.specs.declared.derived.DerivedRow.{DerivedRow as Row};
 
 use crate::derived::Derived;
@@ -47,6 +48,8 @@ pub fn overnight<G: GoodDays>(
     // `check_stream` finds nothing, and schedule and good days are those of the swap.
     requires { IsAsked (asked swap.now stream s.now (G.days days.now) daily.now) }
     ensures ok { let a = asked swap.now stream s.now (G.days days.now) daily.now in IfOk result (IsOvernight a) }
+    // The rows print a fixing file that has exactly their rates.
+    ensures fixings { let a = asked swap.now stream s.now (G.days days.now) daily.now in IfOk result (ReadsBack a) }
     ensures kept { let a = asked swap.now stream s.now (G.days days.now) daily.now in IfOk result (λ _. OvernightKept a) }
     ensures broken { let a = asked swap.now stream s.now (G.days days.now) daily.now in IfBroken result (IsFirstDerived a) }
     // At every exit: where no rule is broken there is a list of rates; there is at most one, and one rule
@@ -74,6 +77,7 @@ fn numbered_rows<G: GoodDays>(
 ) -> Result<Derived, DerErr>
     requires { IsAsked (asked swap.now stream s.now (G.days days.now) daily.now) }
     ensures ok { let a = asked swap.now stream s.now (G.days days.now) daily.now in IfOk result (IsOvernight a) }
+    ensures range { IfOk result (All IsInRange) }
     ensures kept { let a = asked swap.now stream s.now (G.days days.now) daily.now in IfOk result (λ _. OvernightKept a) }
     ensures broken { let a = asked swap.now stream s.now (G.days days.now) daily.now in IfBroken result (IsFirstDerived a) }
 {

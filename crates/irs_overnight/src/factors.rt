@@ -6,6 +6,7 @@ ghost use Rattle.irs_base.specs.Limits.{most_rate};
 ghost use Rattle.irs_terms.specs.Lawful.{IsRate};
 ghost use Rattle.irs_overnight.specs.Bounds.{IsSmall};
 ghost use Rattle.irs_overnight.specs.Factors.{FactorPasses, Grows, GrowsBy, IsCompounded, PassesLimit, most_factor, one_factor, year_of};
+ghost use Rattle.irs_overnight.specs.FileLaw.{IsSmallFound};
 ghost use Rattle.irs_overnight.specs.FoundRates.{IsFound};
 ghost use Rattle.irs_overnight.specs.Observations.{first_absent};
 ghost use Rattle.irs_base.specs.Rounding.{Rounded};
@@ -166,6 +167,7 @@ fn known_rate(basis: u16, days: i64, observations: &[Observation]) -> Option<i64
     requires small { All IsSmall observations.now }
     requires known { first_absent observations.now ≡ None }
     ensures some { IfSome result (IsCompounded basis days observations.now) }
+    ensures size { IfSome result IsRate }
     ensures kept { IfSome result (λ _. PassesLimit basis days observations.now → ⊥) }
     ensures none { IfNone result (PassesLimit basis days observations.now) }
 {
@@ -180,6 +182,7 @@ pub(crate) fn compounded_rate(basis: u16, days: i64, observations: &[Observation
     requires days { (pos 0 <ℤ days) × (unsigned_abs days < all_days) }
     requires small { All IsSmall observations.now }
     ensures some { IfSome result (IsFound basis days observations.now) }
+    ensures size { IfSome result IsSmallFound }
     ensures kept { IfSome result (λ _. PassesLimit basis days observations.now → ⊥) }
     ensures none { IfNone result (PassesLimit basis days observations.now) }
 {

@@ -8,9 +8,11 @@ ghost use Rattle.irs_overnight.specs.DerivedRows.{AreDerived, IsDerivedRow};
 ghost use Rattle.irs_overnight.specs.DerivedRules.{BreaksPeriod, derived_before, period_fault};
 ghost use Rattle.irs_overnight.specs.Bounds.{IsSmall};
 ghost use Rattle.irs_overnight.specs.Factors.{PassesLimit};
+ghost use Rattle.irs_overnight.specs.FileLaw.{IsInRange, IsSmallFound};
 ghost use Rattle.irs_overnight.specs.FoundRates.{FindsRate, IsFound, PeriodFails};
 ghost use Rattle.irs_overnight.specs.PeriodTurns.{FirstWay, NoneFails};
-ghost use Rattle.irs_overnight.specs.DailySources.{daily_source};
+ghost use Rattle.irs_base.specs.Days.{IsDay};
+ghost use Rattle.irs_overnight.specs.DailySources.{daily_source, fixing_at};
 ghost use Rattle.irs_overnight.specs.Sources.{basis_of, daily_lines};
 ghost use Rattle.irs_overnight.specs.declared.derived.DerivedRow.{DerivedRow as Row};
 ghost use Rattle.irs_overnight.specs.declared.periods.PeriodFault.{PeriodFault as WayToFail};
@@ -40,6 +42,7 @@ fn period_found(basis: u16, start: Day, end: Day, observations: &[Observation]) 
     requires range { (1 ≤ basis) × (basis ≤ 365) }
     requires small { All IsSmall observations.now }
     ensures some { IfSome result (IsFound basis (end -ℤ start) observations.now) }
+    ensures size { IfSome result IsSmallFound }
     ensures kept { IfSome result (λ _. PassesLimit basis (end -ℤ start) observations.now → ⊥) }
     ensures none { IfNone result (PassesLimit basis (end -ℤ start) observations.now) }
 {
@@ -60,6 +63,7 @@ fn period_rate<G: GoodDays>(
     requires range { (1 ≤ basis) × (basis ≤ 365) }
     ensures ok { let p = daily_period basis (daily_lines daily.now index.now) (G.days days.now) start end in
         IfOk result (FindsRate p) }
+    ensures size { IfOk result IsSmallFound }
     ensures kept { let p = daily_period basis (daily_lines daily.now index.now) (G.days days.now) start end in
         IfOk result (λ _. NoneFails p) }
     ensures broken { let p = daily_period basis (daily_lines daily.now index.now) (G.days days.now) start end in
@@ -92,6 +96,19 @@ fn broken_by(why: PeriodFault, index: u32) -> Fault
     }
 }
 
+// The fixing date of a period, counted from 1.
+fn fixing_date(part: &StreamPart, number: usize) -> Day
+    requires floating { IsTrue part.now.floating }
+    requires period { IsPeriod part.now.adjusted number }
+    ensures value { result ≡ fixing_at part.now.resets number }
+    ensures day { IsDay result }
+{
+    let fixing = part.resets()[number - 1].fixing;
+    // hands the prover the range of the fixing date
+    let _number = fixing.number();
+    fixing
+}
+
 // The row of a period, counted from 1.
 fn period_row<G: GoodDays>(
     alloc: Global,
@@ -108,13 +125,14 @@ fn period_row<G: GoodDays>(
     requires period { IsPeriod part.now.adjusted number }
     ensures ok { let source = daily_source part.now index.now (G.days days.now) daily.now in
         IfOk result (IsDerivedRow source number) }
+    ensures range { IfOk result IsInRange }
     ensures kept { let source = daily_source part.now index.now (G.days days.now) daily.now in
         IfOk result (λ _. NoneFails (period_at source basis number)) }
     ensures broken { let source = daily_source part.now index.now (G.days days.now) daily.now in
         IfBroken result (λ f. (why : WayToFail) × FirstWay (period_at source basis number) why × (f ≡ period_fault why number)) }
 {
     let adjusted = part.adjusted();
-    let fixing = part.resets()[number - 1].fixing;
+    let fixing = fixing_date(part, number);
     let (start, end) = (adjusted[number - 1], adjusted[number]);
     match period_rate(alloc, days, start, end, basis, daily, index) {
         Ok(found) => Ok(DerivedRow {
@@ -141,6 +159,7 @@ pub(crate) fn period_rows<G: GoodDays>(
     requires range { (1 ≤ basis) × (basis ≤ 365) }
     ensures ok { let source = daily_source part.now index.now (G.days days.now) daily.now in
         IfOk result (AreDerived source) }
+    ensures range { IfOk result (All IsInRange) }
     ensures kept { let source = daily_source part.now index.now (G.days days.now) daily.now in
         IfOk result (λ _. (f : BrokenRule) → BreaksPeriod source f → ⊥) }
     ensures broken { let source = daily_source part.now index.now (G.days days.now) daily.now in

@@ -1,12 +1,13 @@
 //! The rules of a stream whose daily rates are compounded: its day count, and the order of its fixing
 //! dates.
-ghost use Rattle.std.specs.Prelude.{◌≡◌, ◌<◌, ◌≤◌, ◌^◌, IfOk, IfSome, IfNone, None, Some, IsTrue, length, nat_lt};
+ghost use Rattle.std.specs.Prelude.{◌≡◌, All, ◌<◌, ◌≤◌, ◌^◌, IfOk, IfSome, IfNone, None, Some, IsTrue, length, nat_lt};
 ghost use Rattle.std.specs.Prelude.{codes};
 ghost use Rattle.irs_base.specs.Faults.{IfBroken};
 ghost use Rattle.irs_base.specs.Order.{First, IsFirst};
 ghost use Rattle.irs_base.specs.Paths.{path_of};
 ghost use Rattle.irs_base.specs.declared.places.Fault.{Fault as BrokenRule};
 ghost use Rattle.irs_overnight.specs.DerivedRows.{AreDerived};
+ghost use Rattle.irs_overnight.specs.FileLaw.{IsInRange};
 ghost use Rattle.irs_overnight.specs.DerivedRules.{BreaksDerived, NotAfter, day_count_fraction, derived_before, no_basis, not_after_at};
 ghost use Rattle.irs_overnight.specs.DailySources.{daily_source};
 ghost use Rattle.irs_overnight.specs.Sources.{basis_of};
@@ -89,6 +90,7 @@ pub(crate) fn derived_rows<G: GoodDays>(
     requires floating { IsTrue part.now.floating }
     ensures ok { let source = daily_source part.now index.now (G.days days.now) daily.now in
         IfOk result (AreDerived source) }
+    ensures range { IfOk result (All IsInRange) }
     ensures kept { let source = daily_source part.now index.now (G.days days.now) daily.now in
         IfOk result (λ _. (f : BrokenRule) → BreaksDerived source f → ⊥) }
     ensures broken { let source = daily_source part.now index.now (G.days days.now) daily.now in

@@ -1,5 +1,7 @@
 use Rattle.std.proofs.Common.{◌≡◌, inl, inr, ℕ, ◌+◌, ◌<◌, ◌≤◌, [], ◌∷◌, length, length-append, sym, subst, arith}
 use Rattle.std.proofs.lemmas.Bool.{cases_lt}
+use Rattle.std.proofs.lemmas.List.Elements.{All-push}
+use Rattle.irs_overnight.specs.FileLaw.{IsInRange}
 use Rattle.std.proofs.lemmas.Result.{err_from_is_err_and}
 use Rattle.irs_base.specs.Order.{First}
 use Rattle.irs_base.specs.declared.places.Fault.{Fault}
@@ -38,6 +40,7 @@ loop-number-preserved g c =
       many = omega (arith, length-append c.loop-number.rows (row ∷ []), c.loop-number.invariant.many);
       within = λ _. omega (arith, within);
       each = numbered_push (IsDerivedRow source) 1 number c.loop-number.rows row c.loop-number.invariant.each next c.in_ok-row.ensures.ok;
+      range = All-push IsInRange c.loop-number.rows row c.loop-number.invariant.range c.in_ok-row.ensures.range;
       kept = λ j p low. elim (cases_lt j number) [
         | inl less ↦ c.loop-number.invariant.kept j p less
         | inr more ↦

@@ -1,5 +1,6 @@
-use Rattle.std.proofs.Common.{◌≡◌, ◌+◌, ◌<◌, ◌≤◌, length}
+use Rattle.std.proofs.Common.{◌≡◌, ◌+◌, ◌<◌, ◌≤◌, length, All}
 use Rattle.irs_base.specs.Members.{EachNumbered}
+use Rattle.irs_overnight.specs.FileLaw.{IsInRange}
 use Rattle.irs_overnight.specs.DerivedRows.{IsDerivedRow}
 use Rattle.irs_overnight.specs.DailySources.{daily_source}
 use Rattle.irs_overnight.proofs.DerivedOrder.{KeptBelow}
@@ -12,5 +13,6 @@ invariant-loop-number g l =
       many : length l.rows + 1 ≡ l.number;
       within : 1 < l.number → l.number ≤ length source.adjusted;
       each : EachNumbered (IsDerivedRow source) 1 l.rows;
+      range : All IsInRange l.rows;
       kept : KeptBelow source l.basis l.number;
     }
