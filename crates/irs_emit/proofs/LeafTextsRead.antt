@@ -1,0 +1,286 @@
+-- The text of each leaf is read back as its value.
+use Rattle.irs_base.proofs.DateWalks.{date_of_day}
+use Rattle.irs_base.proofs.DecimalLemmas.{no_point}
+use Rattle.irs_base.proofs.TextLemmas.{length_digit_row, with_point}
+use Rattle.irs_base.specs.DateOf.{year_of, month_of, day_of_month}
+use Rattle.irs_base.specs.Days.{IsDay}
+use Rattle.irs_base.specs.Decimals.{AreDigits, DecText, bare, minus, IsUnsigned, number_after, number_of}
+use Rattle.irs_base.specs.Texts.{IsPlainDate, day_text, dec_text, digit_row, two_digits, unsigned_dec}
+use Rattle.irs_elements.proofs.DatesAt.{day_is}
+use Rattle.irs_elements.proofs.DecimalsAt.{dec_is}
+use Rattle.irs_elements.proofs.Exact.{both_true, exact_same, true_both}
+use Rattle.irs_elements.proofs.FractionsAt.{digits_behind, fraction_exact, one_fraction}
+use Rattle.irs_elements.specs.Fractions.{IsFraction, fraction_at}
+use Rattle.irs_elements.specs.Words.{currency_at, is_capital, is_currency}
+use Rattle.irs_base.specs.Rounding.{Rounded}
+use Rattle.irs_base.specs.declared.rounding.Direction.TheVariants.{Nearest}
+use Rattle.std.specs.List.{list_all}
+use Rattle.std.proofs.lemmas.List.{take_all}
+use Rattle.irs_elements.specs.Dates.{day_at}
+use Rattle.irs_elements.specs.Find.{text_in}
+use Rattle.irs_elements.specs.Numbers.{amount_at, digits_of, has_no_point, is_whole, whole_at}
+use Rattle.irs_json.proofs.Trims.{front_stays, back_stays}
+use Rattle.irs_json.specs.Trim.{NoSpaceFirst, NoSpaceLast, is_space, trim, trim_back}
+use Rattle.jiff_core.proofs.SignedLemmas.{signed_arith}
+use Rattle.serde_json.specs.Data.{string}
+use Rattle.std.proofs.Common.{◌≡◌, ◌≢◌, inl, inr, ℕ, zero, suc, ◌+◌, ◌-◌, ◌*◌, ◌/◌, ◌%◌, ◌^◌, ◌<◌, ◌≤◌, List, [], ◌∷◌, ◌++◌, length, Bool, true, false, nat_le, ◌==◌, ◌||◌, if◌then◌else◌, take, ℤ, pos, negsuc, ◌*ℤ◌, unsigned_abs, Some, refl, sym, ap, ◌∙◌, subst, arith, append-nil}
+use Rattle.std.proofs.Math.Nat.{div-div-eq-div-mul, mul_assoc, pow-succ'}
+use Rattle.std.proofs.lemmas.Bool.Decides.{nat_tests}
+use Rattle.std.proofs.lemmas.Fmt.{decimal_by_steps, decimal_nonempty, length-decimal-le}
+use Rattle.std.proofs.lemmas.Nat.{pow-add}
+use Rattle.std.specs.Fmt.{decimal, signed_decimal}
+
+-- ---- texts without white space
+
+-- each byte is behind the space
+abbrev pub Visible : List ℕ → Type 0
+Visible [] = Unit {0}
+Visible (x ∷ xs) = (33 ≤ x) × Visible xs
+
+no_space : (x : ℕ) → 33 ≤ x → is_space x ≡ false
+no_space x h = grind (arith, nat_tests)
+
+last_visible : (rest : List ℕ) (x : ℕ) → Visible (rest ++ x ∷ []) → 33 ≤ x
+last_visible [] x h = h.0
+last_visible (y ∷ rest) x h = last_visible rest x h.1
+
+first_of : (s : List ℕ) → Visible s → NoSpaceFirst s
+first_of s h x rest e = no_space x ((subst Visible e h).0)
+
+last_of : (s : List ℕ) → Visible s → NoSpaceLast s
+last_of s h x rest e = no_space x (last_visible rest x (subst Visible e h))
+
+-- nothing is trimmed
+pub trimmed : (s : List ℕ) → Visible s → trim s ≡ s
+trimmed s h = ap trim_back (front_stays s (first_of s h)) ∙ back_stays s (last_of s h)
+
+pub visible_text : (s : List ℕ) → Visible s → text_in (Some (string s)) ≡ Some s
+visible_text s h = ap Some (ap trim_back (front_stays s (first_of s h)) ∙ back_stays s (last_of s h))
+
+pub visible_append : (a b : List ℕ) → Visible a → Visible b → Visible (a ++ b)
+visible_append [] b h k = k
+visible_append (x ∷ a) b h k = (h.0, visible_append a b h.1 k)
+
+-- ---- dates
+
+two_visible : (n : ℕ) → Visible (two_digits n)
+two_visible n = (omega arith, (omega arith, tt))
+
+pub day_visible : (d : ℤ) → Visible (day_text d)
+unfolding day_text
+day_visible d =
+    let y = year_of d in
+    let m = month_of d in
+    let t = day_of_month d in
+    let dash : 33 ≤ 45 = omega arith in
+    let day : Visible (45 ∷ two_digits t) = (dash, two_visible t) in
+    let month : Visible (45 ∷ (two_digits m ++ 45 ∷ two_digits t)) = (dash, visible_append (two_digits m) (45 ∷ two_digits t) (two_visible m) day) in
+    let rest = 45 ∷ (two_digits m ++ 45 ∷ two_digits t) in
+    visible_append (two_digits (y / 100)) (two_digits (y % 100) ++ rest) (two_visible (y / 100)) (visible_append (two_digits (y % 100)) rest (two_visible (y % 100)) month)
+
+plain : (d : ℤ) → IsDay d → IsPlainDate (day_text d) d
+unfolding day_text
+plain d day = record { year = year_of d; month = month_of d; day = day_of_month d; has = date_of_day d day; is = refl }
+
+-- a date is read back as its day
+pub day_back : (d : ℤ) → IsDay d → day_at (day_text d) ≡ Some d
+day_back d day = sym (day_is (day_text d) (Some d) (day, inl (plain d day)) tt)
+
+-- ---- digits
+
+digits_visible : (s : List ℕ) → AreDigits s → Visible s
+digits_visible [] h = tt
+digits_visible (c ∷ cs) h = (omega (arith, h.0), digits_visible cs h.2)
+
+digits_append : (a b : List ℕ) → AreDigits a → AreDigits b → AreDigits (a ++ b)
+digits_append [] b h k = k
+digits_append (x ∷ a) b h k = (h.0, h.1, digits_append a b h.2 k)
+
+one_digit : (n : ℕ) → n < 10 → AreDigits ((48 + n) ∷ [])
+one_digit n h = (omega arith, omega arith, tt)
+
+-- the digits spell the number
+abbrev Spells : ℕ → List ℕ → Type 0
+Spells n ds = AreDigits ds × (number_of ds ≡ n)
+
+spells_one : (n : ℕ) → n < 10 → Spells n ((48 + n) ∷ [])
+spells_one n h = (one_digit n h, omega arith)
+
+one_more : (a n : ℕ) → a ≡ n / 10 → 10 * a + (48 + n % 10 - 48) ≡ n
+one_more a n e = omega (arith, e)
+
+spells_more : (n : ℕ) (ds : List ℕ) → 10 ≤ n → Spells (n / 10) ds → Spells n (ds ++ (48 + n % 10) ∷ [])
+spells_more n ds l h = (digits_append ds ((48 + n % 10) ∷ []) h.0 (one_digit (n % 10) (omega arith)), digits_behind 0 ds ((48 + n % 10) ∷ []) ∙ one_more (number_of ds) n h.1)
+
+pub spells_decimal : (n : ℕ) → n < 2 ^ 64 → Spells n (decimal n)
+spells_decimal n h = decimal_by_steps Spells spells_one spells_more n h
+
+row_digits : (k n : ℕ) → AreDigits (digit_row k n)
+row_digits zero n = tt
+row_digits (suc k) n = digits_append (digit_row k (n / 10)) ((48 + n % 10) ∷ []) (row_digits k (n / 10)) (one_digit (n % 10) (omega arith))
+
+-- behind the digits of the whole part they spell the whole
+row_spells : (k n : ℕ) → number_after (n / 10 ^ k) (digit_row k n) ≡ n
+row_spells zero n = omega arith
+row_spells (suc k) n =
+    let up : n / 10 ^ suc k ≡ n / 10 / 10 ^ k = ap (λ m. n / m) (pow-succ' 10 k) ∙ sym (div-div-eq-div-mul n 10 (10 ^ k)) in
+    let rest : number_after (n / 10 ^ suc k) (digit_row k (n / 10)) ≡ n / 10 = ap (λ m. number_after m (digit_row k (n / 10))) up ∙ row_spells k (n / 10) in
+    digits_behind (n / 10 ^ suc k) (digit_row k (n / 10)) ((48 + n % 10) ∷ []) ∙ one_more (number_after (n / 10 ^ suc k) (digit_row k (n / 10))) n rest
+
+-- ---- decimals
+
+small : (n : ℕ) → n < 10 ^ 18 → n < 2 ^ 64
+small n h = omega arith
+
+whole_short : (n : ℕ) → n < 10 ^ 18 → length (decimal n) ≤ 18
+whole_short n h = length-decimal-le 18 n (omega arith) h (small n h)
+
+scaled : (n p : ℕ) → p ≤ 12 → n * 10 ^ (12 - p) * 10 ^ p ≡ n * 10 ^ 12
+scaled n p h =
+    let e : 10 ^ (12 - p) * 10 ^ p ≡ 10 ^ (12 - p + p) = sym (pow-add 10 (12 - p) p) in
+    let t : 12 - p + p ≡ 12 = omega arith in
+    mul_assoc n (10 ^ (12 - p)) (10 ^ p) ∙ ap (λ m. n * m) (e ∙ ap (λ k. 10 ^ k) t)
+
+some_digit : (a b : ℕ) → 0 < a → 0 < a + b
+some_digit a b h = omega (arith, h)
+
+whole_value : (n : ℕ) → n < 10 ^ 18 → n * 10 ^ 12 * 10 ^ 0 ≡ number_of (decimal n ++ []) * 10 ^ 12
+whole_value n h = let e : number_of (decimal n ++ []) ≡ n = ap number_of (append-nil (decimal n)) ∙ (spells_decimal n (small n h)).1 in omega (arith, e)
+
+whole_unsigned : (n : ℕ) → n < 10 ^ 18 → IsUnsigned (decimal n) 12 (n * 10 ^ 12)
+whole_unsigned n h = record {
+  whole = decimal n;
+  fraction = [];
+  whole_digits = (spells_decimal n (small n h)).0;
+  fraction_digits = tt;
+  some = some_digit (length (decimal n)) 0 (decimal_nonempty n (small n h));
+  short = whole_short n h;
+  is = inl (refl, refl);
+  value = whole_value n h;
+}
+
+not_none : (k : ℕ) → suc k ≢ 0
+not_none k e = omega (arith, e)
+
+pointed_unsigned : (n k : ℕ) → suc k ≤ 12 → n / 10 ^ suc k < 10 ^ 18 → IsUnsigned (unsigned_dec n (suc k)) 12 (n * 10 ^ (12 - suc k))
+pointed_unsigned n k l h =
+    let a = n / 10 ^ suc k in
+    let row = digit_row (suc k) n in
+    let len : length row ≡ suc k = length_digit_row (suc k) n in
+    let spelled : number_of (decimal a ++ row) ≡ n = digits_behind 0 (decimal a) row ∙ ap (λ m. number_after m row) (spells_decimal a (small a h)).1 ∙ row_spells (suc k) n in
+    record {
+      whole = decimal a;
+      fraction = row;
+      whole_digits = (spells_decimal a (small a h)).0;
+      fraction_digits = row_digits (suc k) n;
+      some = some_digit (length (decimal a)) (length row) (decimal_nonempty a (small a h));
+      short = whole_short a h;
+      is = inr (with_point n (suc k) (not_none k));
+      value = ap (λ m. n * 10 ^ (12 - suc k) * 10 ^ m) len ∙ scaled n (suc k) l ∙ ap (λ m. m * 10 ^ 12) (sym spelled);
+    }
+
+unsigned_back : (n p : ℕ) → p ≤ 12 → n / 10 ^ p < 10 ^ 18 → IsUnsigned (unsigned_dec n p) 12 (n * 10 ^ (12 - p))
+unsigned_back n zero l h = whole_unsigned n (omega (arith, h))
+unsigned_back n (suc k) l h = pointed_unsigned n k l h
+
+dec_spelled : (z : ℤ) (p : ℕ) → p ≤ 12 → unsigned_abs z / 10 ^ p < 10 ^ 18 → DecText (dec_text z p) 12 (z *ℤ pos (10 ^ (12 - p)))
+dec_spelled (pos n) p l h = bare (unsigned_dec n p) 12 (n * 10 ^ (12 - p)) (unsigned_back n p l h)
+dec_spelled (negsuc n) p l h = minus (unsigned_dec (suc n) p) 12 (suc n * 10 ^ (12 - p)) (unsigned_back (suc n) p l h)
+
+-- a decimal with few digits before its point is read back as its value
+pub number_back : (z : ℤ) (p : ℕ) → p ≤ 12 → unsigned_abs z / 10 ^ p < 10 ^ 18 → amount_at (dec_text z p) ≡ Some (z *ℤ pos (10 ^ (12 - p)))
+number_back z p l h = sym (dec_is (dec_text z p) 12 (Some (z *ℤ pos (10 ^ (12 - p)))) (dec_spelled z p l h) tt)
+
+unsigned_visible : (n p : ℕ) → n / 10 ^ p < 10 ^ 18 → Visible (unsigned_dec n p)
+unsigned_visible n zero h = let s : n < 10 ^ 18 = omega (arith, h) in digits_visible (decimal n) (spells_decimal n (small n s)).0
+unsigned_visible n (suc k) h =
+    let a = n / 10 ^ suc k in
+    let row : Visible (46 ∷ digit_row (suc k) n) = (omega arith, digits_visible (digit_row (suc k) n) (row_digits (suc k) n)) in
+    subst Visible (sym (with_point n (suc k) (not_none k))) (visible_append (decimal a) (46 ∷ digit_row (suc k) n) (digits_visible (decimal a) (spells_decimal a (small a h)).0) row)
+
+pub number_visible : (z : ℤ) (p : ℕ) → unsigned_abs z / 10 ^ p < 10 ^ 18 → Visible (dec_text z p)
+number_visible (pos n) p h = unsigned_visible n p h
+number_visible (negsuc n) p h = (omega arith, unsigned_visible (suc n) p h)
+
+-- ---- whole numbers
+
+whole_spelled_by : (n : ℕ) → n < 10 ^ 9 → IsUnsigned (decimal n) 0 n
+whole_spelled_by n h = record {
+  whole = decimal n;
+  fraction = [];
+  whole_digits = (spells_decimal n (omega arith)).0;
+  fraction_digits = tt;
+  some = some_digit (length (decimal n)) 0 (decimal_nonempty n (omega arith));
+  short = whole_short n (omega arith);
+  is = inl (refl, refl);
+  value = let e : number_of (decimal n ++ []) ≡ n = ap number_of (append-nil (decimal n)) ∙ (spells_decimal n (omega arith)).1 in omega (arith, e);
+}
+
+nine_digits : (n : ℕ) → n < 10 ^ 9 → length (decimal n) ≤ 9
+nine_digits n h = length-decimal-le 9 n (omega arith) h (omega arith)
+
+sign_left : (c : ℕ) (cs : List ℕ) (b : Bool) → length (if b then cs else c ∷ cs) ≤ length (c ∷ cs)
+sign_left c cs true = omega arith
+sign_left c cs false = omega arith
+
+no_longer : (s : List ℕ) → length (digits_of s) ≤ length s
+no_longer [] = omega arith
+no_longer (c ∷ cs) = sign_left c cs ((c == 43) || (c == 45))
+
+is_nine : (n : ℕ) → n ≤ 9 → nat_le n 9 ≡ true
+is_nine n h = grind (arith, nat_tests)
+
+whole_pos : (n : ℕ) → n < 10 ^ 9 → is_whole (decimal n) ≡ true
+whole_pos n h = let l = no_longer (decimal n) in true_both (nat_le (length (digits_of (decimal n))) 9) (has_no_point (decimal n)) (is_nine (length (digits_of (decimal n))) (omega (arith, l, nine_digits n h))) (no_point (decimal n) (spells_decimal n (omega arith)).0)
+
+whole_neg : (n : ℕ) → n < 10 ^ 9 → is_whole (45 ∷ decimal n) ≡ true
+whole_neg n h = true_both (nat_le (length (decimal n)) 9) (has_no_point (decimal n)) (is_nine (length (decimal n)) (nine_digits n h)) (no_point (decimal n) (spells_decimal n (omega arith)).0)
+
+-- a number below 10^9 in size is read back
+pub count_back : (z : ℤ) → unsigned_abs z < 10 ^ 9 → whole_at (signed_decimal z) ≡ Some z
+count_back (pos n) h = rw (whole_pos n h) (sym (dec_is (decimal n) 0 (Some (pos n)) (bare (decimal n) 0 n (whole_spelled_by n h)) tt))
+count_back (negsuc n) h = rw (whole_neg (suc n) h) (sym (dec_is (45 ∷ decimal (suc n)) 0 (Some (negsuc n)) (minus (decimal (suc n)) 0 (suc n) (whole_spelled_by (suc n) h)) tt))
+
+pub count_visible : (z : ℤ) → unsigned_abs z < 10 ^ 9 → Visible (signed_decimal z)
+count_visible (pos n) h = digits_visible (decimal n) (spells_decimal n (omega arith)).0
+count_visible (negsuc n) h = (omega arith, digits_visible (decimal (suc n)) (spells_decimal (suc n) (omega arith)).0)
+
+-- ---- fractions
+
+exactly : (n a b : ℕ) → a ≡ n → b ≡ 10 → Rounded Nearest (pos (a * 10 ^ 10)) (pos (10 ^ b)) (pos n)
+exactly n a b e f = rw (e, f) (omega (arith, signed_arith), omega (arith, signed_arith))
+
+fraction_spelled : (n : ℕ) → n / 10 ^ 10 < 10 ^ 18 → IsFraction (unsigned_dec n 10) (record { units = pos n; places = 10 })
+fraction_spelled n h =
+    let a = n / 10 ^ 10 in
+    let row = digit_row 10 n in
+    let len : length row ≡ 10 = length_digit_row 10 n in
+    let all : take 12 row ≡ row = take_all 12 row (omega (arith, len)) in
+    let spelled : number_of (decimal a ++ row) ≡ n = digits_behind 0 (decimal a) row ∙ ap (λ m. number_after m row) (spells_decimal a (small a h)).1 ∙ row_spells 10 n in
+    record {
+      whole = decimal a;
+      fraction = row;
+      parts = ((spells_decimal a (small a h)).0, row_digits 10 n, some_digit (length (decimal a)) (length row) (decimal_nonempty a (small a h)), whole_short a h);
+      is = inr (with_point n 10 (not_none 9));
+      places = sym (ap length all ∙ len);
+      value = exactly n (number_of (decimal a ++ row)) (length row) spelled len;
+    }
+
+-- a fraction that isn't negative is read back
+pub fraction_back : (n : ℕ) → n / 10 ^ 10 < 10 ^ 18 → fraction_at (dec_text (pos n) 10) ≡ Some (record { units = pos n; places = 10 })
+fraction_back n h = let s = unsigned_dec n 10 in sym (exact_same (IsFraction s) (fraction_at s) (Some (record { units = pos n; places = 10 })) (one_fraction s) (fraction_exact s) (fraction_spelled n h))
+
+-- ---- currencies
+
+capitals_visible : (s : List ℕ) → list_all is_capital s ≡ true → Visible s
+capitals_visible [] h = tt
+capitals_visible (c ∷ cs) h = let b = both_true (is_capital c) (list_all is_capital cs) h in (capital_visible c b.0, capitals_visible cs b.1)
+  where
+    capital_visible : (c : ℕ) → is_capital c ≡ true → 33 ≤ c
+    capital_visible c e = grind (arith, nat_tests)
+
+pub currency_visible : (s : List ℕ) → is_currency s ≡ true → Visible s
+currency_visible s h = capitals_visible s (both_true (length s == 3) (list_all is_capital s) h).1
+
+pub currency_back : (s : List ℕ) → is_currency s ≡ true → currency_at s ≡ Some (record { letters = s })
+currency_back s h = rw h refl

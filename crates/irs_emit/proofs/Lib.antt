@@ -1,0 +1,12 @@
+pub mod LeafTexts
+pub mod ReadBack
+pub mod Bounds
+pub mod Values
+pub mod Built
+pub mod LeafTextsRead
+pub mod LeavesRead
+pub mod RowsRead
+pub mod PartsRead
+pub mod Clean
+pub mod CleanRows
+pub mod CleanParts
