@@ -10,10 +10,11 @@ const BAD_WORDS: u8 = 4;
 
 /// The listed commands: DOC is a document, FIX a file of fixings or `-` for none, FLOWS a document of
 /// cash flows, DATE a date, CAL a calendar file.
-const COMMANDS: [&str; 4] = [
+const COMMANDS: [&str; 5] = [
     "check DOC CAL..",
     "schedule DOC FIX CAL..",
     "audit DOC FIX FLOWS CAL..",
+    "emit DOC FIX CAL..",
     "accrue DATE DOC FIX CAL..",
 ];
 

@@ -70,6 +70,7 @@ one_task : (k : Kind) (ps : Words) (t u : Task) → IsTask k ps t → IsTask k p
 one_task kind.Check ps t u h i = i ∙ sym h
 one_task kind.Schedule ps t u h i = i ∙ sym h
 one_task kind.Audit ps t u h i = i ∙ sym h
+one_task kind.Emit ps t u h i = i ∙ sym h
 one_task kind.Accrue ps t u h i = i.2 ∙ ap (λ (d : ℤ). Accrue d) (one_date ps 0 h.0 i.0 h.1 i.1) ∙ sym h.2
 
 abbrev asked : Task → List Wanted → Asked
@@ -131,6 +132,7 @@ row_fits : (k : Kind) → (all_cals (roles_of k) ≡ 0) × (calendars_of k ≤ m
 row_fits kind.Check = (refl, omega arith)
 row_fits kind.Schedule = (refl, omega arith)
 row_fits kind.Audit = (refl, omega arith)
+row_fits kind.Emit = (refl, omega arith)
 row_fits kind.Accrue = (refl, omega arith)
 
 one_cal : (r : Role) → is_cal r ≤ 1

@@ -32,7 +32,7 @@ use Rattle.irs_schedule.specs.DatedRules.{DatedKept, DatedBroken}
 use Rattle.irs_schedule.specs.Parts.{Part}
 use Rattle.irs_schedule.specs.Schedules.{IsSchedule}
 use Rattle.irs_cli.specs.declared.commands.Task.{Task}
-use Rattle.irs_cli.specs.declared.commands.Task.TheVariants.{Check, Schedule, Audit, Accrue}
+use Rattle.irs_cli.specs.declared.commands.Task.TheVariants.{Check, Schedule, Audit, Emit, Accrue}
 use Rattle.irs_cli.specs.declared.refusals.Refusal.{Refusal}
 use Rattle.irs_cli.specs.declared.refusals.Refusal.TheVariants.{Calendars, Fixings}
 use Rattle.irs_cli.specs.declared.replies.Reply.{Reply}
@@ -82,6 +82,7 @@ answered_same : (t : Task) (g : Given) (swap : Swap) (cal : List Section) (r q :
 answered_same Check g swap cal r q s status text e h = h
 answered_same Schedule g swap cal r q s status text e h = h
 answered_same Audit g swap cal r q s status text e h = h
+answered_same Emit g swap cal r q s status text e h = h
 answered_same (Accrue date) g swap cal r q s status text e h = h
 
 module _ (t : Task) (g : Given) (swap : Swap) (cal : List Section) (r q : RateTable) (e : SameRates r q) (status : ℕ) (text : List ℕ) where

@@ -22,10 +22,11 @@ use Rattle.irs_schedule.specs.DatedRules.{DatedKept, DatedBroken}
 use Rattle.irs_schedule.specs.Parts.{Part}
 use Rattle.irs_schedule.specs.RowTexts.{text_of}
 use Rattle.irs_terms.specs.declared.stream_list.Swap.{Swap}
+use Rattle.irs_emit.specs.Emitted.{emit_text}
 use Rattle.irs_cli.specs.Commands.{Words}
 use Rattle.irs_cli.specs.Given.{Given, Told, TellsAll}
 use Rattle.irs_cli.specs.declared.commands.Task.{Task}
-use Rattle.irs_cli.specs.declared.commands.Task.TheVariants.{Check, Schedule, Audit, Accrue}
+use Rattle.irs_cli.specs.declared.commands.Task.TheVariants.{Check, Schedule, Audit, Emit, Accrue}
 use Rattle.irs_cli.specs.FlowMessages.{bad_flows, verdict_status, verdict_text, whole_document}
 use Rattle.irs_cli.specs.Messages.{all_kept, bad_calendar, bad_fixings, bad_words, refused, too_long, unreadable}
 use Rattle.irs_cli.specs.Due.{Due, DueFor, DueDocument, DueCalendars, DueFixings, DueTerms, DueDated, DueKept, DueFlows, DueStated, DueVerdict, Answered, AreFixings, Facts, facts, Is, IsFixingsFault, IsOneAnswer, KeepsTerms, Refuses, WordsCase, all_told, long_file, no_command, rates_for}
@@ -70,6 +71,7 @@ module _ (s u : ℕ) (t v : List ℕ) where
   one_answered Check g f h k = both 0 all_kept h k
   one_answered Schedule g f h k = both 0 (text_of f.parts) h k
   one_answered Audit g f h k = one_flows g.flows f.parts h k
+  one_answered Emit g f h k = both 0 (emit_text f.parts) h k
   one_answered (Accrue date) g f h k = (h.0 ∙ sym k.0, one_page date f.parts t v h.1 k.1)
 
   -- ---- the steps that the tasks share, the last first

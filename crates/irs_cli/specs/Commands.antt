@@ -8,7 +8,7 @@ use Rattle.irs_base.specs.Texts.{IsDateText}
 use Rattle.irs_cli.specs.declared.commands.Kind.{Kind}
 use Rattle.irs_cli.specs.declared.commands.Kind.TheVariants as kind
 use Rattle.irs_cli.specs.declared.commands.Task.{Task}
-use Rattle.irs_cli.specs.declared.commands.Task.TheVariants.{Check, Schedule, Audit, Accrue}
+use Rattle.irs_cli.specs.declared.commands.Task.TheVariants.{Check, Schedule, Audit, Emit, Accrue}
 use Rattle.irs_cli.specs.declared.commands.Role.{Role}
 use Rattle.irs_cli.specs.declared.commands.Role.TheVariants.{Document, Fixings, Flows, Calendar}
 use Rattle.irs_cli.specs.declared.commands.Named.{Named}
@@ -53,24 +53,28 @@ kind_of w =
     if bytes_eq w (codes "check") then Some kind.Check else
     if bytes_eq w (codes "schedule") then Some kind.Schedule else
     if bytes_eq w (codes "audit") then Some kind.Audit else
+    if bytes_eq w (codes "emit") then Some kind.Emit else
     if bytes_eq w (codes "accrue") then Some kind.Accrue else None
 
 abbrev pub params_of : Kind → ℕ
 params_of kind.Check = 0
 params_of kind.Schedule = 0
 params_of kind.Audit = 0
+params_of kind.Emit = 0
 params_of kind.Accrue = 1
 
 abbrev pub roles_of : Kind → List Role
 roles_of kind.Check = Document ∷ []
 roles_of kind.Schedule = Document ∷ Fixings ∷ []
 roles_of kind.Audit = Document ∷ Fixings ∷ Flows ∷ []
+roles_of kind.Emit = Document ∷ Fixings ∷ []
 roles_of kind.Accrue = Document ∷ Fixings ∷ []
 
 abbrev pub calendars_of : Kind → ℕ
 calendars_of kind.Check = most_calendars
 calendars_of kind.Schedule = most_calendars
 calendars_of kind.Audit = most_calendars
+calendars_of kind.Emit = most_calendars
 calendars_of kind.Accrue = most_calendars
 
 -- whether a task's schedule is made with the rates of the file of fixings; where there is no file, there are no rates
@@ -78,6 +82,7 @@ abbrev pub uses_rates : Task → Bool
 uses_rates Check = true
 uses_rates Schedule = true
 uses_rates Audit = true
+uses_rates Emit = true
 uses_rates (Accrue date) = true
 
 -- ---- what the table says of words
@@ -120,6 +125,7 @@ abbrev pub IsTask : Kind → Words → Task → Type 0
 IsTask kind.Check ps t = t ≡ Check
 IsTask kind.Schedule ps t = t ≡ Schedule
 IsTask kind.Audit ps t = t ≡ Audit
+IsTask kind.Emit ps t = t ≡ Emit
 IsTask kind.Accrue ps t = (d : ℤ) × IsDateAt ps 0 d × (t ≡ Accrue d)
 
 -- the words behind the name of a command of this kind are those of a

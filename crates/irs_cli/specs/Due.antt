@@ -27,11 +27,12 @@ use Rattle.irs_audit.specs.Verdicts.{IsVerdict}
 use Rattle.irs_audit.specs.declared.departures.Verdict.{Verdict}
 use Rattle.irs_audit.specs.declared.error.ShapeKind.TheVariants.{NotJson}
 use Rattle.irs_cli.specs.declared.commands.Task.{Task}
-use Rattle.irs_cli.specs.declared.commands.Task.TheVariants.{Check, Schedule, Audit, Accrue}
+use Rattle.irs_cli.specs.declared.commands.Task.TheVariants.{Check, Schedule, Audit, Emit, Accrue}
 use Rattle.irs_cli.specs.Commands.{Words, Asked, Asks, IsListed, uses_rates}
 use Rattle.irs_cli.specs.Given.{Told, Given, AreTold, IsFirstLong, TellsAll}
 use Rattle.irs_cli.specs.Messages.{bad_words, too_long, refused, unreadable, bad_calendar, bad_fixings, all_kept}
 use Rattle.irs_cli.specs.FlowMessages.{bad_flows, whole_document, verdict_status, verdict_text}
+use Rattle.irs_emit.specs.Emitted.{emit_text}
 use Rattle.irs_cli.specs.Accrued.{TellsAccrued}
 use Rattle.irs_cli.specs.Steps.{Step, Rules}
 use Rattle.irs_base.specs.Order.{First, Only, is_before}
@@ -104,6 +105,7 @@ abbrev pub Answered : Task → Given → Facts → ℕ → List ℕ → Type 0
 Answered Check g f status text = Is 0 all_kept status text
 Answered Schedule g f status text = Is 0 (text_of f.parts) status text
 Answered Audit g f status text = DueFlows g.flows f.parts status text
+Answered Emit g f status text = Is 0 (emit_text f.parts) status text
 Answered (Accrue date) g f status text = (status ≡ 0) × TellsAccrued date f.parts text
 
 -- ---- the steps that the tasks share, the last first

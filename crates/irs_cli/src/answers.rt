@@ -1,5 +1,6 @@
 //! The last step of each task, where no rule is broken.
 ghost use Rattle.std.specs.Prelude.{◌≡◌};
+ghost use Rattle.irs_emit.specs.Emitted.{emit_text};
 ghost use Rattle.irs_cli.specs.Accrued.{TellsAccrued};
 ghost use Rattle.irs_cli.specs.Due.{Answered, DueFlows, Is};
 ghost use Rattle.irs_cli.specs.Fetching.{given_by};
@@ -15,6 +16,7 @@ use crate::flows::verdict_on;
 use crate::refusals::Refusal;
 use crate::replies::{Reply, line, verdict_reply};
 use irs_base::Day;
+use irs_emit::emit_flows;
 use irs_schedule::Schedule;
 use std::alloc::Global;
 
@@ -31,6 +33,7 @@ pub(crate) fn answer_by(
         Task::Check => check_answer(alloc),
         Task::Schedule => Ok(Reply::Rows(found.schedule)),
         Task::Audit => audit_answer(alloc, &files.flows, &found.schedule),
+        Task::Emit => emit_answer(alloc, &found.schedule),
         Task::Accrue(date) => accrue_answer(alloc, &found.schedule, date),
     }
 }
@@ -46,6 +49,12 @@ fn audit_answer(alloc: Global, flows: &[u8], schedule: &Schedule) -> Result<Repl
 {
     let verdict = verdict_on(alloc, schedule, flows)?;
     Ok(verdict_reply(alloc, verdict)?)
+}
+
+fn emit_answer(alloc: Global, schedule: &Schedule) -> Result<Reply, Refusal>
+    ensures { IfAnswered result (Ends (Is 0 (emit_text schedule.now))) }
+{
+    Ok(Reply::Text(0, emit_flows(alloc, schedule)?))
 }
 
 fn accrue_answer(alloc: Global, schedule: &Schedule, date: Day) -> Result<Reply, Refusal>

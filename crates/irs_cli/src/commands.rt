@@ -2,7 +2,8 @@
 //!
 //! `check DOC CAL..` asks whether a document keeps every rule, without fixings,
 //! `schedule DOC FIX CAL..` for its schedule, and `audit DOC FIX FLOWS CAL..` whether the cash flows of
-//! FLOWS agree with that schedule. `accrue DATE DOC FIX CAL..` asks what has accrued on a day in each
+//! FLOWS agree with that schedule. `emit DOC FIX CAL..` asks for the schedule as cash flows, and
+//! `accrue DATE DOC FIX CAL..` what has accrued on a day in each
 //! stream of that schedule. `-` as FIX means no fixings. Each takes 0 to 16 calendars.
 //!
 //! A command is data: how many of its words are parameters, the roles of its files in the order of the
@@ -19,6 +20,7 @@ pub(crate) enum Kind {
     Check,
     Schedule,
     Audit,
+    Emit,
     Accrue,
 }
 
@@ -31,6 +33,8 @@ pub(crate) enum Task {
     Schedule,
     /// Whether cash flows agree with the schedule of a document.
     Audit,
+    /// The schedule of a document as cash flows.
+    Emit,
     /// What has accrued on a day in each stream of the schedule.
     Accrue(Day),
 }
@@ -69,6 +73,8 @@ fn kind_of(word: &str) -> Option<Kind>
         Some(Kind::Schedule)
     } else if word == "audit" {
         Some(Kind::Audit)
+    } else if word == "emit" {
+        Some(Kind::Emit)
     } else if word == "accrue" {
         Some(Kind::Accrue)
     } else {
@@ -85,6 +91,7 @@ impl Kind {
             Kind::Check => 0,
             Kind::Schedule => 0,
             Kind::Audit => 0,
+            Kind::Emit => 0,
             Kind::Accrue => 1,
         }
     }
@@ -97,6 +104,7 @@ impl Kind {
             Kind::Check => &[Role::Document],
             Kind::Schedule => &[Role::Document, Role::Fixings],
             Kind::Audit => &[Role::Document, Role::Fixings, Role::Flows],
+            Kind::Emit => &[Role::Document, Role::Fixings],
             Kind::Accrue => &[Role::Document, Role::Fixings],
         }
     }
@@ -109,6 +117,7 @@ impl Kind {
             Kind::Check => MOST_FILES,
             Kind::Schedule => MOST_FILES,
             Kind::Audit => MOST_FILES,
+            Kind::Emit => MOST_FILES,
             Kind::Accrue => MOST_FILES,
         }
     }
@@ -123,6 +132,7 @@ impl Task {
             Task::Check => true,
             Task::Schedule => true,
             Task::Audit => true,
+            Task::Emit => true,
             Task::Accrue(_) => true,
         }
     }
@@ -177,6 +187,7 @@ fn task_of(kind: Kind, params: &[String]) -> Option<Task>
         Kind::Check => Some(Task::Check),
         Kind::Schedule => Some(Task::Schedule),
         Kind::Audit => Some(Task::Audit),
+        Kind::Emit => Some(Task::Emit),
         Kind::Accrue => accrue_of(params),
     }
 }
