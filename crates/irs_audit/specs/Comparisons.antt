@@ -27,9 +27,11 @@ pub record IsStatable (units : ℤ) (places : ℕ) : Type 0 where
   pub decimals : places ≤ 12
   pub size : unsigned_abs units ≤ 10 ^ 14 * 10 ^ places
 
+-- the same of an amount
 abbrev pub IsStatableDec : Dec → Type 0
 IsStatableDec v = IsStatable v.units v.places
 
+-- and of a rate
 abbrev pub IsStatableRate : ℤ → Type 0
 IsStatableRate rate = IsStatable rate 9
 

@@ -12,6 +12,7 @@ years_from first (suc n) = first ∷ years_from (first + 1) n
 abbrev pub holidays_text : ℕ → List ℕ
 holidays_text year = date_text year 1 1 ++ codes "\n" ++ date_text year 12 25 ++ codes "\n"
 
+-- the name of the centre, its cover and its weekend
 abbrev pub head_text : List ℕ
 head_text = codes "center BULK\ncover 1949-01-01 2012-12-31\nweekend SAT SUN\n"
 

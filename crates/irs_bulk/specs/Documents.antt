@@ -19,9 +19,11 @@ month_of k = 1 + k % 12
 abbrev pub year_of : ℕ → ℕ
 year_of k = 1950 + k / 12
 
+-- the effective date
 abbrev pub effective_text : ℕ → List ℕ
 effective_text k = date_text (year_of k) (month_of k) (roll_of k)
 
+-- the termination date
 abbrev pub termination_text : ℕ → List ℕ
 termination_text k = date_text (year_of k + 20) (month_of k) (roll_of k)
 
@@ -33,6 +35,7 @@ conventions = codes "NONE" ∷ codes "FOLLOWING" ∷ codes "MODFOLLOWING" ∷ co
 unfoldable pub convention_text : Bool → ℕ → List ℕ
 convention_text plain k = if plain then codes "NONE" else slice_index_or conventions ((k - 1) % 6) []
 
+-- the notional
 unfoldable pub notional_text : ℕ → List ℕ
 notional_text k = decimal (1000000 + 1000 * k)
 
@@ -44,6 +47,7 @@ rate_text k = codes "0." ++ two_digits (k / 100) ++ two_digits (k % 100)
 abbrev pub day_counts : List (List ℕ)
 day_counts = codes "1/1" ∷ codes "ACT/ACT.ISDA" ∷ codes "ACT/365.FIXED" ∷ codes "ACT/360" ∷ codes "30/360" ∷ codes "30E/360" ∷ codes "30E/360.ISDA" ∷ []
 
+-- the day count
 unfoldable pub day_count_text : ℕ → List ℕ
 day_count_text k = slice_index_or day_counts ((k - 1) % 7) []
 

@@ -18,6 +18,7 @@ use Rattle.irs_cli.specs.declared.commands.Command.{Command}
 abbrev pub Words : Type 0
 Words = List (List ℕ)
 
+-- the words of the code, by their bytes
 abbrev pub texts : List (String Global) → Words
 texts ws = map string_bytes ws
 
@@ -36,9 +37,11 @@ pub record Asked : Type 0 where
 abbrev pub wanted_by : Named → Wanted
 wanted_by n = record { place = n.place; role = n.role; name = n.name.now }
 
+-- the same of a command
 abbrev pub asked_by : Command → Asked
 asked_by c = record { task = c.task; files = map wanted_by c.files.items }
 
+-- the most calendars of a command
 abbrev pub most_calendars : ℕ
 most_calendars = most_files
 
@@ -48,6 +51,7 @@ most_words = most_calendars + 3
 
 -- ---- the table: a command's name, how many parameters, the roles of its files, and how many calendars may follow
 
+-- the command of a name
 abbrev pub kind_of : List ℕ → Option Kind
 kind_of w =
     if bytes_eq w (codes "check") then Some kind.Check else
@@ -56,6 +60,7 @@ kind_of w =
     if bytes_eq w (codes "emit") then Some kind.Emit else
     if bytes_eq w (codes "accrue") then Some kind.Accrue else None
 
+-- how many words come before its files
 abbrev pub params_of : Kind → ℕ
 params_of kind.Check = 0
 params_of kind.Schedule = 0
@@ -63,6 +68,7 @@ params_of kind.Audit = 0
 params_of kind.Emit = 0
 params_of kind.Accrue = 1
 
+-- the roles of its first files, in the order of the words
 abbrev pub roles_of : Kind → List Role
 roles_of kind.Check = Document ∷ []
 roles_of kind.Schedule = Document ∷ Fixings ∷ []
@@ -70,6 +76,7 @@ roles_of kind.Audit = Document ∷ Fixings ∷ Flows ∷ []
 roles_of kind.Emit = Document ∷ Fixings ∷ []
 roles_of kind.Accrue = Document ∷ Fixings ∷ []
 
+-- how many calendars may follow
 abbrev pub calendars_of : Kind → ℕ
 calendars_of kind.Check = most_calendars
 calendars_of kind.Schedule = most_calendars

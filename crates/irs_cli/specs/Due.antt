@@ -64,6 +64,7 @@ IsFixingFault bytes (fault.Syntax line) = IsFirstFault (IsBad (lines_of bytes)) 
 IsFixingFault bytes (fault.Repeat line) = IsFirstFault (Repeats (lines_of bytes)) (lines_of bytes) line
 IsFixingFault bytes fault.Memory = ⊥
 
+-- the same, where there is a file
 abbrev pub IsFixingsFault : Option (List ℕ) → FixErr → Type 0
 IsFixingsFault None f = ⊥
 IsFixingsFault (Some bytes) f = IsFixingFault bytes f
@@ -83,6 +84,7 @@ pub record Facts : Type 0 where
   pub table : RateTable
   pub parts : List Part
 
+-- the facts of these
 abbrev pub facts : Swap → List Section → RateTable → List Part → Facts
 facts swap cal table parts = record { swap = swap; cal = cal; table = table; parts = parts }
 

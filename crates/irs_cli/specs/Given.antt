@@ -20,6 +20,7 @@ pub record Given : Type 0 where
   pub flows : List ℕ
   pub calendars : List (List ℕ)
 
+-- no file yet
 abbrev pub no_files : Given
 no_files = record { document = []; fixings = None; flows = []; calendars = [] }
 

@@ -11,6 +11,7 @@ use Rattle.irs_calendar.specs.declared.machine.Fault.TheVariants.{Syntax, Repeat
 use Rattle.irs_resets.specs.declared.fixings.FixErr.{FixErr}
 use Rattle.irs_resets.specs.declared.fixings.FixErr.TheVariants as fixings
 
+-- the words are no listed command
 abbrev pub bad_words : List ℕ
 bad_words = codes "bad words\n"
 
@@ -34,6 +35,7 @@ refused b = refused_at b (path_of b.place.elem)
 abbrev pub unreadable : Broken
 unreadable = record { rule = K1; place = record { stream = 0; elem = document; index = 0 } }
 
+-- how a line of a calendar file is at fault
 abbrev pub calendar_fault : Fault → List ℕ
 calendar_fault Syntax = codes "syntax"
 calendar_fault Repeat = codes "repeat"
@@ -49,5 +51,6 @@ bad_fixings (fixings.Syntax line) = codes "bad fixings " ++ decimal line ++ code
 bad_fixings (fixings.Repeat line) = codes "bad fixings " ++ decimal line ++ codes " repeat\n"
 bad_fixings fixings.Memory = []
 
+-- the document keeps every rule
 abbrev pub all_kept : List ℕ
 all_kept = codes "ok\n"

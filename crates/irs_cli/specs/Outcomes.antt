@@ -40,6 +40,7 @@ of_fetch (fetching.NoFile place) = NoFile place
 of_fetch (fetching.TooLong place) = TooLong place
 of_fetch fetching.Memory = Memory
 
+-- a document without a reading, and want of memory
 abbrev pub of_json : JsonErr → Refusal
 of_json json.NotJson = Rule unreadable
 of_json json.Memory = Memory
@@ -53,14 +54,17 @@ of_stopped stopped.Memory = Memory
 abbrev pub Answer : Type 0
 Answer = ℕ × List ℕ
 
+-- the answer of a faulty calendar file, none for want of memory
 abbrev pub calendars_answer : CalErr → Option Answer
 calendars_answer e = option_map (λ s. (3, bad_calendar s)) (spot_of e)
 
+-- of a faulty file of fixings
 abbrev pub fixings_answer : FixErr → Option Answer
 fixings_answer (fixing.Syntax line) = Some (3, bad_fixings (fixing.Syntax line))
 fixings_answer (fixing.Repeat line) = Some (3, bad_fixings (fixing.Repeat line))
 fixings_answer fixing.Memory = None
 
+-- of faulty cash flows
 abbrev pub flows_answer : FlowErr → Option Answer
 flows_answer (flowing.Shape kind place) = Some (3, bad_flows kind place)
 flows_answer flowing.Memory = None

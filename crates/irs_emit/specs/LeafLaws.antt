@@ -21,9 +21,11 @@ DayReadsBack = (d : ℤ) → IsDay d → said day_at (Some (day_leaf d)) ≡ Som
 abbrev pub AmountReadsBack : Type 0
 AmountReadsBack = (v : Dec) → v.places ≤ 12 → unsigned_abs v.units / 10 ^ v.places < 10 ^ 18 → said amount_at (Some (amount_leaf v)) ≡ Some (stated_amount v)
 
+-- a notional
 abbrev pub NotionalReadsBack : Type 0
 NotionalReadsBack = (units : ℤ) → unsigned_abs units / 10 ^ 4 < 10 ^ 18 → said amount_at (Some (notional_leaf units)) ≡ Some (stated_number units 4)
 
+-- a rate
 abbrev pub RateReadsBack : Type 0
 RateReadsBack = (units : ℤ) → unsigned_abs units / 10 ^ 9 < 10 ^ 18 → said amount_at (Some (rate_leaf units)) ≡ Some (stated_number units 9)
 

@@ -18,6 +18,7 @@ day_leaf d = string (day_text d)
 abbrev pub number_leaf : ℤ → ℕ → Data
 number_leaf units places = string (dec_text units places)
 
+-- an amount, with its own decimals
 abbrev pub amount_leaf : Dec → Data
 amount_leaf v = number_leaf v.units v.places
 
@@ -25,6 +26,7 @@ amount_leaf v = number_leaf v.units v.places
 abbrev pub notional_leaf : ℤ → Data
 notional_leaf units = number_leaf units 4
 
+-- a rate
 abbrev pub rate_leaf : ℤ → Data
 rate_leaf units = number_leaf units 9
 

@@ -16,9 +16,11 @@ use Rattle.std.specs.Prelude.{◌≡◌, ℕ, ◌/◌, ◌^◌, ◌<◌, ◌≤�
 abbrev pub IsShort : ℤ → ℕ → Type 0
 IsShort units places = unsigned_abs units / 10 ^ places < 10 ^ 18
 
+-- an amount of at most 12 decimals and few digits
 abbrev pub IsShortAmount : Dec → Type 0
 IsShortAmount v = (v.places ≤ 12) × IsShort v.units v.places
 
+-- a rate of few digits
 abbrev pub IsShortRate : ℤ → Type 0
 IsShortRate units = IsShort units 9
 
@@ -28,11 +30,13 @@ pub record IsExchangeShort (x : Exchange) : Type 0 where
   pub adjusted : IsDay x.adjusted
   pub amount : IsShortAmount x.amount
 
+-- a reset with days of the range and a short rate
 pub record IsResetShort (r : Reset) : Type 0 where
   pub reset : IsDay r.reset
   pub fixing : IsDay r.fixing
   pub observed : IfSome r.observed IsShortRate
 
+-- a calculation period with days of the range and short numbers
 pub record IsPeriodShort (x : CalculationPeriod) : Type 0 where
   pub start : IsDay x.start
   pub «end» : IsDay x.«end»

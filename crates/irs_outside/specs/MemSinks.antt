@@ -10,6 +10,7 @@ pub record SinkSeen : Type 0 where
   pub calls : ℕ
   pub faults : ℕ
 
+-- the call is the one that is to fail
 abbrev pub is_marked_at : ℕ → Option ℕ → Bool
 is_marked_at call None = false
 is_marked_at call (Some marked) = nat_eq marked call

@@ -29,6 +29,7 @@ day_count_fraction = 109
 abbrev pub no_basis : Fault
 no_basis = fault_at K42 day_count_fraction 0
 
+-- K42 is broken
 abbrev pub BreaksBasis : DailySource → Fault → Type 0
 BreaksBasis source f = (basis_of source.day_count ≡ None) × (f ≡ no_basis)
 
@@ -42,6 +43,7 @@ pub record NotAfter (resets : List Reset) (number : ℕ) : Type 0 where
 abbrev pub not_after_at : ℕ → Fault
 not_after_at number = fault_at K41 reset_dates number
 
+-- K41 is broken at a period
 pub record BreaksFixing (source : DailySource) (f : Fault) : Type 0 where
   pub number : ℕ
   pub not_after : NotAfter source.resets number

@@ -24,6 +24,7 @@ pub record DailyPeriod : Type 0 where
   pub start : ℤ
   pub end : ℤ
 
+-- a period of these
 abbrev pub daily_period : ℕ → RateLines → DaySet → ℤ → ℤ → DailyPeriod
 daily_period basis lines days start end = record { basis = basis; lines = lines; days = days; start = start; end = end }
 

@@ -32,6 +32,7 @@ pub record AreObservations (lines : RateLines) (set : DaySet) (s e : ℤ) (os : 
   pub previous : Prev set s first
   pub observed : AreObserved lines first starts e os
 
+-- this day where it has no rate, else what is found later
 abbrev pub absent_or : Option ℤ → ℤ → Option ℤ → Option ℤ
 absent_or None d later = Some d
 absent_or (Some rate) d later = later

@@ -30,6 +30,7 @@ pub record Asked : Type 0 where
   pub days : DaySet
   pub rates : RateTable
 
+-- what is asked, of these
 abbrev pub asked : Swap → ℕ → List Part → DaySet → RateTable → Asked
 asked swap number parts days rates = record { swap = swap; number = number; parts = parts; days = days; rates = rates }
 

@@ -1,3 +1,0 @@
-pub mod TenorLemmas
-pub mod LineLemmas
-pub mod StubLemmas
