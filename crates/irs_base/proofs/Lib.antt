@@ -11,6 +11,7 @@ pub mod RoundingLemmas
 pub mod RoundingLaws
 pub mod TextLemmas
 pub mod TextLengths
+pub mod VisibleTexts
 pub mod PathLengths
 pub mod LineLemmas
 pub mod FieldLemmas

@@ -1,13 +1,20 @@
 -- Members of a list one after another, by their numbers or with their partners.
 use Rattle.std.proofs.Common.{◌≡◌, ℕ, zero, suc, ◌+◌, ◌-◌, ◌<◌, ◌≤◌, List, [], ◌∷◌, ◌++◌, length, take, arith, refl, sym, ◌∙◌, subst, ap, ap₂, inl, inr, Some}
 use Rattle.std.specs.List.{slice_get}
+use Rattle.std.specs.Prelude.{unwrap_or}
 use Rattle.std.proofs.lemmas.Bool.{cases_lt}
 use Rattle.std.proofs.lemmas.List.{take_more}
 use Rattle.std.proofs.lemmas.Option.{slice_get_within, get_or_from_slice_get}
-use Rattle.irs_base.specs.Members.{EachNumbered, Pairs, HoldsOf}
+use Rattle.irs_base.specs.Members.{EachNumbered, Every, Pairs, HoldsOf}
 
 pub some_is : {X : Type 0} (a b : X) → Some a ≡ Some b → a ≡ b
 some_is a b e = cc
+
+-- what holds of each member holds of the one at a place
+pub every_get : {X : Type 0} (P : X → Type 0) (xs : List X) (j : ℕ) (x : X) → Every P xs → slice_get xs j ≡ Some x → P x
+every_get P [] j x h e = absurd (cc)
+every_get P (y ∷ ys) zero x h e = subst P (ap (λ o. unwrap_or o y) e) h.0
+every_get P (y ∷ ys) (suc j) x h e = every_get P ys j x h.1 e
 
 -- none of the first i members has P
 abbrev pub NoneOf : {X : Type 0} → (X → Type 0) → List X → ℕ → Type 0

@@ -191,6 +191,10 @@ multiplier_step_date = 97
 abbrev pub spread_step_date : ℕ
 spread_step_date = 102
 
+-- `calculationPeriodAmount/calculation/dayCountFraction`
+abbrev pub day_count_fraction : ℕ
+day_count_fraction = 109
+
 -- `calculationPeriodAmount/calculation/compoundingMethod`
 abbrev pub compounding_method : ℕ
 compounding_method = 110

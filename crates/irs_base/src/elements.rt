@@ -154,6 +154,9 @@ impl Elem {
     /// `calculationPeriodAmount/calculation/floatingRateCalculation/spreadSchedule/step/stepDate`.
     pub const SPREAD_STEP_DATE: Elem = Elem { place: 102 };
 
+    /// `calculationPeriodAmount/calculation/dayCountFraction`.
+    pub const DAY_COUNT_FRACTION: Elem = Elem { place: 109 };
+
     /// `calculationPeriodAmount/calculation/compoundingMethod`.
     pub const COMPOUNDING_METHOD: Elem = Elem { place: 110 };
 

@@ -15,6 +15,7 @@ mod memory;
 mod months;
 mod names;
 mod places;
+mod putting;
 mod reading;
 mod rounding;
 mod stopped;

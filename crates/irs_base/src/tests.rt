@@ -96,7 +96,12 @@ fn lists_hold_what_is_pushed(rt: HostRuntime) -> Result<(), Fail> {
 fn a_line_and_a_path(rt: HostRuntime) {
     let mut line = Line::new();
     line.push_day(Day::latest());
-    assert_eq!(rt; line.bytes(), b"2299-12-31".as_slice());
+    line.put_dec(Dec {
+        units: -1_000_000_005,
+        places: 9,
+    });
+    line.put_whole(b'/', 360);
+    assert_eq!(rt; line.bytes(), b"2299-12-31 -1.000000005/360".as_slice());
     assert_eq!(rt;
         Elem::FIXING_DATES_RELATIVE_TO.path(),
         "resetDates/fixingDates/dateRelativeTo"
