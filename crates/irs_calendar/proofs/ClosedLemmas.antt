@@ -10,7 +10,7 @@ use Rattle.irs_calendar.specs.declared.weekends.Week.{Week}
 use Rattle.irs_calendar.specs.Rising.{is_listed}
 use Rattle.irs_calendar.specs.Sections.{is_open, all_open}
 use Rattle.irs_calendar.specs.Weekends.{off_on, any_off, IsStretch, IsWeek, IsWeekend, day_after, weekend_after}
-use Rattle.irs_calendar.specs.Closed.{any_listed, IsNext}
+use Rattle.irs_calendar.specs.Closed.{any_listed, IsNext, AreHeld}
 
 -- a day is open where no section lists it
 pub open_is : (ss : List Section) (d : ℤ) → all_open ss d ≡ (not (any_listed ss d) && not (any_off ss d))
@@ -94,8 +94,8 @@ weekend_shut ss first limit k m i w weekend below stretch low high =
     off_later ss first w.day (i - w.day) i (omega (arith, low))
     ∙ subst (λ (p : ℕ). off_on ss ((p + (i - w.day)) % 7) ≡ true) (weekend.place below) (stretch.same (i - w.day) (omega (arith, low, high)))
 
-pub turn : (ss : List Section) (first : ℤ) (limit k h end next : ℕ) (w : Weekend) (week : Week) → IsWeek (off_on ss) week → IsWeekend ss first limit k w → IsNext (λ i. any_listed ss (first +ℤ pos i)) k h limit → end ≡ min w.day h → next ≡ day_after week w end → Turn (all_open ss) first limit k end next
-turn ss first limit k h end next w week is_week weekend listed is_end is_next =
+pub turn : (ss : List Section) (first : ℤ) (limit k h end behind next : ℕ) (w : Weekend) (week : Week) → IsWeek (off_on ss) week → IsWeekend ss first limit k w → IsNext (λ i. any_listed ss (first +ℤ pos i)) k h limit → AreHeld (λ i. any_listed ss (first +ℤ pos i)) end behind w.day limit → end ≡ min w.day h → next ≡ day_after week w end behind → Turn (all_open ss) first limit k end next
+turn ss first limit k h end behind next w week is_week weekend listed holidays is_end is_next =
     let m = slice_index_or week.shut w.place 0 in
     let s : IsStretch (off_on ss) true w.place m = is_week.shut w.place weekend.in_week in
     let passes : (i : ℕ) → k ≤ i → i < end → all_open ss (first +ℤ pos i) ≡ true = λ i low high.
@@ -112,17 +112,15 @@ turn ss first limit k h end next w week is_week weekend listed is_end is_next =
             fails = λ i low high under. closed_by ss (first +ℤ pos i) (inr (weekend_shut ss first limit k m i w weekend below s (omega (arith, low, day.0)) (omega (arith, high, e, day.0))));
           }
       | inr other ↦
-          let e : next ≡ end + 1 = is_next ∙ rw other.1 refl in
+          let e : next ≡ behind = is_next ∙ rw other.1 refl in
           let before : end < w.day = before_day end w.day h is_end other.0 in
           let there : end ≡ h = omega (arith, before, is_end) in
           record {
             after = omega (arith, there, listed.after);
             within = omega (arith, there, listed.within);
-            later = omega (arith, e);
+            later = omega (arith, e, holidays.later);
             passes = passes;
-            fails = λ i low high under. closed_by ss (first +ℤ pos i) (inl (
-                let x : h ≡ i = omega (arith, low, high, e, there) in
-                subst (λ (z : ℕ). any_listed ss (first +ℤ pos z) ≡ true) x (listed.found (omega (arith, x, under)))));
+            fails = λ i low high under. closed_by ss (first +ℤ pos i) (inl (holidays.held before i low (omega (arith, high, e)) under));
           }
     ]
   where
@@ -130,8 +128,8 @@ turn ss first limit k h end next w week is_week weekend listed is_end is_next =
     before_day e d h is other = grind arith
 
 -- the weekend behind that
-pub weekend_later : (ss : List Section) (first : ℤ) (limit k h end next : ℕ) (w later : Weekend) (week : Week) → IsWeek (off_on ss) week → IsWeekend ss first limit k w → k ≤ end → end ≤ limit → end ≡ min w.day h → next ≡ day_after week w end → later ≡ weekend_after week w end → IsWeekend ss first limit next later
-weekend_later ss first limit k h end next w later week is_week weekend start within is_end is_next is_later =
+pub weekend_later : (ss : List Section) (first : ℤ) (limit k h end behind next : ℕ) (w later : Weekend) (week : Week) → IsWeek (off_on ss) week → IsWeekend ss first limit k w → k ≤ end → end ≤ limit → end < behind → (end < w.day → behind ≤ w.day) → end ≡ min w.day h → next ≡ day_after week w end behind → later ≡ weekend_after week w end → IsWeekend ss first limit next later
+weekend_later ss first limit k h end behind next w later week is_week weekend start within more no_more is_end is_next is_later =
     let m = slice_index_or week.shut w.place 0 in
     let a = slice_index_or week.next w.place 0 in
     let q = slice_index_or week.places w.place 0 in
@@ -160,13 +158,13 @@ weekend_later ss first limit k h end next w later week is_week weekend start wit
                 subst (λ (q : ℕ). off_on ss q ≡ true) p (f.ends few);
           })
       | inr other ↦
-          let e : next ≡ end + 1 = is_next ∙ rw other.1 refl in
+          let e : next ≡ behind = is_next ∙ rw other.1 refl in
           let l : later ≡ w = is_later ∙ rw other.1 refl in
           let before : end < w.day = before_day end w.day h is_end other.0 in
           subst (IsWeekend ss first limit next) (sym l) (record {
             in_week = weekend.in_week;
-            after = omega (arith, e, before);
-            clear = λ i low high under. weekend.clear i (omega (arith, low, e, start)) high under;
+            after = omega (arith, e, no_more before);
+            clear = λ i low high under. weekend.clear i (omega (arith, low, e, start, more)) high under;
             place = weekend.place;
             closed = weekend.closed;
           })

@@ -46,9 +46,9 @@ pub record IsWeekend (ss : List Section) (first : ℤ) (limit k : ℕ) (w : Week
   pub place : w.day ≤ limit → w.place ≡ (weekday_at first + w.day) % 7
   pub closed : w.day ≤ limit → off_on ss w.place ≡ true
 
--- the day after those that are closed from day e on, which is the weekend's or a holiday
-abbrev pub day_after : Week → Weekend → ℕ → ℕ
-day_after week w e = if e == w.day then e + slice_index_or week.shut w.place 0 else e + 1
+-- the day after those that are closed from day e on, which is the weekend's, or a holiday and the holidays end before n
+abbrev pub day_after : Week → Weekend → ℕ → ℕ → ℕ
+day_after week w e n = if e == w.day then e + slice_index_or week.shut w.place 0 else n
 
 -- the weekend after that
 abbrev pub weekend_after : Week → Weekend → ℕ → Weekend

@@ -1,8 +1,9 @@
 //! The days of a stretch with a bit for each that is a holiday, so that the next one is found in few
 //! steps.
-ghost use Rattle.std.specs.Prelude.{◌≡◌, ℕ, ◌+◌, ◌*◌, ◌<◌, ◌≤◌, ◌^◌, ◌==◌, ◌||◌, IfOk, map, length};
+ghost use Rattle.std.specs.Prelude.{◌≡◌, ℕ, ◌+◌, ◌*◌, ◌<◌, ◌≤◌, ◌^◌, ◌==◌, ◌||◌, true, IfOk, map, length};
+ghost use Rattle.std.specs.Int.{bit_at};
 ghost use Rattle.irs_calendar.specs.Rising.{is_listed};
-ghost use Rattle.irs_calendar.specs.Closed.{any_listed, is_marked, IsClosed, IsNextBit, IsNext, AreMarks};
+ghost use Rattle.irs_calendar.specs.Closed.{any_listed, is_marked, IsClosed, IsNextBit, IsNext, AreSet, AreHeld, AreMarks};
 
 use crate::chosen::days_after;
 use crate::holidays::Holidays;
@@ -100,4 +101,34 @@ pub fn marked_from(marks: &[u64], k: u32, h: u32, limit: u32) -> u32
         return h;
     }
     next_marked(marks, k, limit)
+}
+
+/// The bit behind those that are set in a row from bit k on; of a whole word behind the first.
+fn behind_set(word: u64, k: u32) -> u32
+    requires below { k < 64 }
+    requires set { bit_at word k ≡ 1 }
+    ensures { AreSet word k result }
+{
+    let rest = word >> k;
+    if rest == u64::MAX {
+        k + 1
+    } else {
+        k + rest.trailing_ones()
+    }
+}
+
+/// The day behind those that are marked in a row from day `end` on, or one that is still marked; not
+/// beyond the bound, where the bound is ahead.
+pub fn behind_marked(marks: &[u64], end: u32, bound: u32, limit: u32) -> u32
+    requires below { end ≤ limit }
+    requires room { limit ≤ 64 * length marks.now }
+    requires few { length marks.now < 2 ^ 20 }
+    requires marked { end < bound → end < limit → is_marked marks.now end ≡ true }
+    ensures { AreHeld (is_marked marks.now) end result bound limit }
+{
+    if bound <= end || limit <= end {
+        return end + 1;
+    }
+    let bit = behind_set(marks[end as usize / 64], end % 64);
+    (end / 64 * 64 + bit).min(bound)
 }

@@ -6,7 +6,7 @@ ghost use Rattle.irs_calendar.specs.Represents.{Represents};
 ghost use Rattle.irs_calendar.specs.Sections.{all_open};
 
 use crate::chosen::days_after;
-use crate::marks::{marked_from, marks_of};
+use crate::marks::{behind_marked, marked_from, marks_of};
 use crate::runs::Run;
 use crate::sections::Section;
 use crate::weekends::{day_after, first_weekend, week_of, weekend_after};
@@ -41,7 +41,8 @@ pub fn open_runs(
                 last: ahead(first, end - 1),
             })?;
         }
-        k = day_after(&week, weekend, end);
+        let behind = behind_marked(&marks, end, weekend.day, days);
+        k = day_after(&week, weekend, end, behind);
         weekend = weekend_after(&week, weekend, end);
     }
     Ok(runs)

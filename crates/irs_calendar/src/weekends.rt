@@ -113,16 +113,17 @@ pub fn first_weekend(sections: &[&Section], first: Day, limit: u32) -> Weekend
     }
 }
 
-/// The day after those that are closed from day `end` on, which is the weekend's or a holiday.
-pub fn day_after(week: &Week, weekend: Weekend, end: u32) -> u32
+/// The day after those that are closed from day `end` on, which is the weekend's, or a holiday and
+/// `behind` is the day after the holidays.
+pub fn day_after(week: &Week, weekend: Weekend, end: u32, behind: u32) -> u32
     requires weekday { weekend.place < 7 }
     requires few { end < 2 ^ 30 }
-    ensures { result ≡ day_after week.now weekend end }
+    ensures { result ≡ day_after week.now weekend end behind }
 {
     if end == weekend.day {
         end + u32::from(week.shut[weekend.place])
     } else {
-        end + 1
+        behind
     }
 }
 
