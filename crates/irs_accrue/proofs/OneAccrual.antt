@@ -3,7 +3,7 @@ use Rattle.std.proofs.Common.{◌≡◌, ◌⊎◌, inl, inr, ℕ, ◌+◌, ◌-
 use Rattle.std.specs.Prelude.{slice_get}
 use Rattle.std.proofs.lemmas.Int.{by_lt_z}
 use Rattle.jiff_core.proofs.SignedLemmas.{signed_arith}
-use Rattle.irs_base.proofs.MemberLemmas.{some_is}
+use Rattle.irs_base.proofs.MemberLemmas.{every_get, some_is}
 use Rattle.irs_base.proofs.RoundingLaws.{nearest_once}
 use Rattle.irs_base.specs.Members.{Every, HoldsOf, day_at}
 use Rattle.irs_base.specs.declared.line.Dec.{Dec}
@@ -20,7 +20,7 @@ use Rattle.irs_accrue.specs.Accruals.{Accrues, AccruesIn, IsAccrual, IsAccrued, 
 use Rattle.irs_accrue.specs.Shares.{CountedTo, HasRun, OfWhole}
 use Rattle.irs_accrue.specs.declared.accruals.Accrual.{Accrual}
 use Rattle.irs_accrue.specs.declared.accruals.Accrual.TheVariants.{Outside, Inside}
-use Rattle.irs_accrue.proofs.Periods.{RunsFromTo, every_get, one_number, rises_to, runs_from_to}
+use Rattle.irs_accrue.proofs.Periods.{RunsFromTo, one_number, rises_to, runs_from_to}
 
 abbrev make_frac : ℤ → ℤ → Frac
 make_frac num den = record { num = num; den = den }

@@ -4,8 +4,8 @@ use Rattle.std.specs.Prelude.{slice_get, unwrap_or}
 use Rattle.std.proofs.lemmas.Bool.{cases_order}
 use Rattle.std.proofs.lemmas.Option.{slice_get_cases, slice_get_within}
 use Rattle.jiff_core.proofs.SignedLemmas.{signed_arith}
-use Rattle.irs_base.proofs.MemberLemmas.{some_is}
-use Rattle.irs_base.specs.Members.{Every, day_at}
+use Rattle.irs_base.proofs.MemberLemmas.{every_get, some_is}
+use Rattle.irs_base.specs.Members.{day_at}
 use Rattle.irs_terms.specs.Lawful.{IsNotional}
 use Rattle.irs_schedule.specs.Parts.{IsEntry, KeepsBounds, Part, Rises}
 use Rattle.irs_schedule.specs.PeriodViews.{dated_period, period_at}
@@ -13,11 +13,6 @@ use Rattle.irs_schedule.specs.declared.entries.PeriodEntry.{PeriodEntry}
 use Rattle.irs_schedule.specs.declared.views.CalculationPeriod.{CalculationPeriod}
 use Rattle.irs_schedule.proofs.PeriodLemmas.{next_day}
 use Rattle.irs_accrue.specs.Accruals.{Runs}
-
-pub every_get : {X : Type 0} (P : X → Type 0) (xs : List X) (j : ℕ) (x : X) → Every P xs → slice_get xs j ≡ Some x → P x
-every_get P [] j x h e = absurd (cc)
-every_get P (y ∷ ys) zero x h e = subst P (ap (λ o. unwrap_or o y) e) h.0
-every_get P (y ∷ ys) (suc j) x h e = every_get P ys j x h.1 e
 
 -- a period that is there, and its entry
 record HasEntry (p : Part) (j : ℕ) (x : CalculationPeriod) : Type 0 where

@@ -14,52 +14,13 @@ use crate::Accrual;
 use irs_base::{Dec, Line};
 use irs_terms::Frac;
 
-// A mark and a whole number behind it.
-#[tactic(auto, using(irs_base::proofs::TextLemmas::appended, irs_base::proofs::TextLengths::length_signed))]
-fn put_whole(line: &mut Line, mark: u8, n: i128)
-    requires { length line.old + 41 ≤ 512 }
-    ensures text { line.new ≡ line.old ++ mark ∷ signed_decimal n }
-    ensures grows { length line.new ≤ length line.old + 41 }
-{
-    line.push(&[mark]);
-    line.push_whole(n);
-}
-
-fn put_signed(line: &mut Line, mark: u8, n: i64)
-    requires { length line.old + 41 ≤ 512 }
-    ensures text { line.new ≡ line.old ++ mark ∷ signed_decimal n }
-    ensures grows { length line.new ≤ length line.old + 41 }
-{
-    put_whole(line, mark, i128::from(n));
-}
-
-// A number that counts.
-fn put_number(line: &mut Line, n: u32)
-    requires { length line.old + 41 ≤ 512 }
-    ensures text { line.new ≡ line.old ++ 32 ∷ decimal n }
-    ensures grows { length line.new ≤ length line.old + 41 }
-{
-    put_whole(line, b' ', i128::from(n));
-}
-
 fn put_frac(line: &mut Line, frac: Frac)
     requires { length line.old + 82 ≤ 512 }
     ensures text { line.new ≡ line.old ++ 32 ∷ signed_decimal frac.num ++ 47 ∷ signed_decimal frac.den }
     ensures grows { length line.new ≤ length line.old + 82 }
 {
-    put_signed(line, b' ', frac.num);
-    put_signed(line, b'/', frac.den);
-}
-
-#[tactic(auto, using(irs_base::proofs::TextLemmas::appended, irs_base::proofs::TextLengths::length_dec))]
-fn put_dec(line: &mut Line, v: Dec)
-    requires places { v.places ≤ 12 }
-    requires room { length line.old + 54 ≤ 512 }
-    ensures text { line.new ≡ line.old ++ 32 ∷ dec_text v.units v.places }
-    ensures grows { length line.new ≤ length line.old + 54 }
-{
-    line.push(b" ");
-    line.push_dec(v);
+    line.put_signed(b' ', frac.num);
+    line.put_signed(b'/', frac.den);
 }
 
 fn put_amount(line: &mut Line, amount: Option<Dec>)
@@ -69,7 +30,7 @@ fn put_amount(line: &mut Line, amount: Option<Dec>)
     ensures grows { length line.new ≤ length line.old + 54 }
 {
     match amount {
-        Some(v) => put_dec(line, v),
+        Some(v) => line.put_dec(v),
         None => line.push(b" -"),
     }
 }
@@ -89,8 +50,8 @@ fn put_fields(line: &mut Line, a: &Accrual)
             frac,
             amount,
         } => {
-            put_number(line, period);
-            put_signed(line, b' ', days);
+            line.put_number(period);
+            line.put_signed(b' ', days);
             put_frac(line, frac);
             put_amount(line, amount);
         }
@@ -107,7 +68,7 @@ pub fn accrued_text(stream: u8, a: &Accrual, line: &mut Line)
 {
     line.clear();
     line.push(b"a");
-    put_number(line, u32::from(stream));
+    line.put_number(u32::from(stream));
     put_fields(line, a);
     line.push(b"\n");
 }

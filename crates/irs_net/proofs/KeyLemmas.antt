@@ -66,7 +66,7 @@ module _ {K : Type 0} where
   pub tail_in : (x : K) (xs : List K) (q : K) → Contains xs q → Contains (x ∷ xs) q
   tail_in x xs q c = (suc c.0, let l = c.1 in omega (arith, l), c.2)
 
-  none_in : (q : K) → Contains [] q → ⊥
+  pub none_in : (q : K) → Contains [] q → ⊥
   none_in q c = let l = c.1 in omega (arith, l)
 
 module _ {R : NetKey → NetKey → Ordering} (o : IsTotalOrder R) where

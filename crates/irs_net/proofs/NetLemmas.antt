@@ -71,7 +71,7 @@ net_is parts m ordered totals =
 
 -- ---- only one
 
-abbrev row_at : List NetPart → NetKey → NetRow
+abbrev pub row_at : List NetPart → NetKey → NetRow
 row_at parts key = row_of (key, make_total (known_sum key parts) (unknown_count key parts))
 
 abbrev make_row : NetKey → Dec → ℕ → NetRow

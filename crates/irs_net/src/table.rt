@@ -64,11 +64,13 @@ fn table_of(alloc: Global, totals: &NetTotals) -> Result<NetTable, Memory>
 /// The net of a schedule, whose streams have these sides: a row for each adjusted date and currency on
 /// which an exchange or a payment falls due, with the sum of the amounts that are known and the number
 /// of those that aren't. An amount counts as it is in a stream that is paid by the party which pays
-/// stream 1, and negated in another. `Memory` comes only where memory ran out.
+/// stream 1, and negated in another. There is one such table, also where memory ran out, which is the
+/// only cause of `Memory`.
 pub fn net(alloc: Global, s: &Schedule, sides: &Sides) -> Result<NetTable, Memory>
     requires { sides.now.count ≡ length s.now }
     ensures ok { IfOk result (λ rows. Net s.now sides.now.forward rows) }
-    // Any two tables of the schedule and the sides are equal.
+    // At every exit: there is a table of the schedule and the sides, and any two are equal.
+    ensures exists { (rows : List NetRow) × Net s.now sides.now.forward rows }
     ensures one { (a b : List NetRow) → Net s.now sides.now.forward a → Net s.now sides.now.forward b → a ≡ b }
     // For each currency the rows add up to the sum of all known amounts.
     ensures adds_up { (currency : Currency) (rows : List NetRow) → Net s.now sides.now.forward rows → rows_total currency rows ≡ parts_total currency (parts_of s.now sides.now.forward) }

@@ -55,7 +55,7 @@ dated_changes before (step ∷ steps) days =
     let rest = dated_changes step.value steps (λ i d l. days (suc i) d (omega (arith, l))) in
     All-append IsDated (change before step) (changes step.value steps) first rest
 
-dated_transfers : (s : Stream) → IsLawfulStream s → All IsDated (transfers_of s)
+pub dated_transfers : (s : Stream) → IsLawfulStream s → All IsDated (transfers_of s)
 dated_transfers s lawful =
     let steps : All (λ s. IsDay s.day) s.notional.steps = λ i d l. (lawful.notional.2 i d l).0 in
     let a : All IsDated (initial_of s) = dated_part s.exchanges.initial _ (dated_one s.effective.day (pos 0 -ℤ s.notional.initial) lawful.effective.0) in

@@ -1,5 +1,6 @@
 pub mod PeriodLemmas
 pub mod PartLemmas
+pub mod PartDays
 pub mod WalkLemmas
 pub mod PlaceLemmas
 pub mod PaymentLemmas

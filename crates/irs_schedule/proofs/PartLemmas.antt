@@ -1,45 +1,42 @@
 -- What a part keeps.
-use Rattle.std.proofs.Common.{◌+◌, ◌≡◌, ℕ, ◌-◌, ◌≤◌, length, arith, IfSome, subst, sym, if◌then◌else◌}
+use Rattle.std.proofs.Common.{◌+◌, ◌≡◌, ℕ, ◌-◌, length, arith, subst, sym, if◌then◌else◌}
 use Rattle.irs_base.specs.DayLists.{AreDays}
-use Rattle.irs_terms.specs.declared.results.Exchange.{Exchange}
-use Rattle.irs_terms.specs.declared.results.Reset.{Reset}
-use Rattle.irs_terms.specs.Lawful.{IsLawfulValues, IsLawfulLeg, IsNotional, IsRate}
-use Rattle.irs_terms.specs.StepDates.{StepsRise, LegStepsRise}
 use Rattle.irs_schedule.specs.declared.streams.StreamPart.TheInside.{Inside}
 use Rattle.irs_schedule.specs.KeptTerms.{is_floating}
-use Rattle.irs_schedule.specs.Keeping.{IsKept}
-use Rattle.irs_schedule.specs.Parts.{Rises, Covers, HasAmount, IsAmount}
+use Rattle.irs_schedule.specs.Keeping.{IsKept, MakePart}
+use Rattle.irs_schedule.specs.Parts.{Covers}
 use Rattle.irs_schedule.specs.Views.{part_of}
 use Rattle.irs_schedule.proofs.PeriodLemmas.{length_periods, entries_within}
-use Rattle.irs_base.specs.Limits.{most_exchanges, most_periods}
-use Rattle.irs_base.specs.Members.{Every}
 
--- what a part keeps, from what its fields are
-pub kept : (s : Inside) → IsLawfulValues IsNotional s.terms.notional → IsLawfulLeg s.terms.leg → StepsRise s.terms.notional.steps → LegStepsRise s.terms.leg → 2 ≤ length s.unadjusted → length s.unadjusted ≤ most_periods + 1 → length s.adjusted ≡ length s.unadjusted → Rises s.unadjusted → Rises s.adjusted
-    → length s.exchanges ≤ most_exchanges → Every (λ (x : Exchange). IsAmount s.terms.currency x.amount) s.exchanges → Covers 1 s.payments.items (length s.unadjusted - 1) → Every (HasAmount s.terms.currency) s.payments.items
-    → length s.resets ≡ (if is_floating s.terms.leg then length s.unadjusted - 1 else 0) → Every (λ (r : Reset). IfSome r.observed IsRate) s.resets → AreDays s.adjusted → IsKept s
-kept s notional leg notional_rises leg_rises some few same rises adjusted_rises exchanges exchanged covers paid resets observed days =
+-- what a part keeps, from what it is made of
+pub kept : (s : Inside) → MakePart s.terms s.unadjusted s.adjusted s.exchanges s.payments.items s.resets → AreDays s.unadjusted → AreDays s.adjusted → length s.terms.currency.letters ≡ 3 → IsKept s
+kept s h days moved three =
+    let same = h.same_count in
+    let some = h.some in
+    let few = h.few in
     let count : length (part_of s).periods ≡ length s.unadjusted - 1 = rw (← same) (length_periods s.terms s.unadjusted s.adjusted s.resets) in
     let C : ℕ → Type 0 = λ n. Covers 1 s.payments.items n in
     let R : ℕ → Type 0 = λ n. length s.resets ≡ (if is_floating s.terms.leg then n else 0) in
     record {
-      notional = notional;
-      leg = leg;
-      notional_rises = notional_rises;
-      leg_rises = leg_rises;
+      notional = h.notional;
+      leg = h.leg;
+      notional_rises = h.notional_rises;
+      leg_rises = h.leg_rises;
       bounds = record {
+        currency = record { three = three; capitals = h.currency };
+        dates = record { unadjusted = days; adjusted = moved; exchanges = h.exchange_days; payments = h.payment_days; resets = h.reset_days };
         some = omega (arith, count, some);
         few = omega (arith, count, few);
         unadjusted = omega (arith, count, some);
         adjusted = omega (arith, count, some, same);
-        rises = rises;
-        adjusted_rises = adjusted_rises;
-        covers = subst C (sym count) covers;
-        exchanges = exchanges;
-        exchanged = exchanged;
-        paid = paid;
-        entries = entries_within s.terms s.unadjusted s.adjusted s.resets notional leg observed days adjusted_rises;
-        resets = subst R (sym count) resets;
-        observed = observed;
+        rises = h.rises;
+        adjusted_rises = h.adjusted_rises;
+        covers = subst C (sym count) h.covers;
+        exchanges = h.exchanges_few;
+        exchanged = h.exchanged;
+        paid = h.paid;
+        entries = entries_within s.terms s.unadjusted s.adjusted s.resets h.notional h.leg h.observed moved h.adjusted_rises;
+        resets = subst R (sym count) h.resets_count;
+        observed = h.observed;
       };
     }

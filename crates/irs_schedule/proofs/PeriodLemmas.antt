@@ -9,7 +9,8 @@ use Rattle.irs_base.specs.DayLists.{AreDays}
 use Rattle.irs_terms.specs.declared.codes.DayCountCode.{DayCountCode}
 use Rattle.irs_terms.specs.declared.results.Reset.{Reset}
 use Rattle.irs_terms.specs.Lawful.{IsLawfulValues, IsLawfulLeg, IsNotional, IsRate}
-use Rattle.irs_daycount.specs.Fractions.{fraction_of}
+use Rattle.irs_terms.specs.declared.codes.DayCountCode.TheVariants.{OneOne, ActActIsda, Act365Fixed, Act360, Thirty360, ThirtyE360, ThirtyE360Isda}
+use Rattle.irs_daycount.specs.Fractions.{days_of, fraction_of}
 use Rattle.irs_daycount.specs.FractionLaws.{fraction_is, one_denominator}
 use Rattle.irs_daycount.proofs.FractionBounds.{fraction_bounded}
 use Rattle.irs_schedule.specs.declared.entries.PeriodEntry.{PeriodEntry}
@@ -74,6 +75,17 @@ numerator_small code a b last h k order =
     let bounded = fraction_bounded code a b last (fraction_of code a b last) h k order (fraction_is code a b last order) in
     (bounded.0, let up = bounded.1 in omega (arith, signed_arith, h, k, up))
 
+-- the days of a period
+days_small : (code : DayCountCode) (a b : ℤ) (last : Bool) → IsDay a → IsDay b → a <ℤ b → (pos 0 ≤ℤ days_of code a b last) × (days_of code a b last ≤ℤ pos most_numerator)
+unfolding days_of fraction_of
+days_small OneOne a b last h k order = (omega (arith, signed_arith, order), omega (arith, signed_arith, h, k))
+days_small ActActIsda a b last h k order = (omega (arith, signed_arith, order), omega (arith, signed_arith, h, k))
+days_small Act365Fixed a b last h k order = (omega (arith, signed_arith, order), omega (arith, signed_arith, h, k))
+days_small Act360 a b last h k order = (omega (arith, signed_arith, order), omega (arith, signed_arith, h, k))
+days_small Thirty360 a b last h k order = numerator_small Thirty360 a b last h k order
+days_small ThirtyE360 a b last h k order = numerator_small ThirtyE360 a b last h k order
+days_small ThirtyE360Isda a b last h k order = numerator_small ThirtyE360Isda a b last h k order
+
 every_computed : {X : Type 0} (P : X → Type 0) (f : ℕ → X) (a n : ℕ) → ((i : ℕ) → a ≤ i → i < a + n → P (f i)) → Every P (map f (range_with_len a n))
 every_computed P f a zero each = tt
 every_computed P f a (suc n) each = (each a (omega arith) (omega arith), every_computed P f (a + 1) n (λ i low high. each i (omega (arith, low)) (omega (arith, high))))
@@ -94,9 +106,12 @@ entries_within terms unadjusted adjusted resets notional leg observed days rises
     let b = day_at adjusted i in
     let last = i == count_of adjusted in
     let order : a <ℤ b = in_order adjusted i rises (omega (arith, low)) (omega (arith, high)) in
+    let from = is_day_at adjusted (i - 1) days (omega (arith, low, high)) in
+    let to = is_day_at adjusted i days (omega (arith, low, high)) in
     record {
+      days = days_small code a b last from to order;
       notional = value_within IsNotional terms.notional (start_of unadjusted i) notional;
-      numerator = numerator_small code a b last (is_day_at adjusted (i - 1) days (omega (arith, low, high))) (is_day_at adjusted i days (omega (arith, low, high))) order;
+      numerator = numerator_small code a b last from to order;
       denominator = one_denominator code a b last (fraction_of code a b last) (fraction_is code a b last order);
       rate = all_in_small (rates_by terms.leg (start_of unadjusted i) (observed_of resets i)) (rate_size terms.leg (start_of unadjusted i) (observed_of resets i) leg (observed_small resets (i - 1) observed));
     })

@@ -1,17 +1,6 @@
 -- The good days by which each date of a stream is adjusted or moved.
-use Rattle.std.specs.Prelude.{ℕ, Bool, true, false, not, ◌&&◌, ◌||◌, List, Option, Some, None, pos, if◌then◌else◌}
-use Rattle.std.specs.Ordering.{int_eq}
+use Rattle.std.specs.Prelude.{ℕ, true, List, Option, Some, None}
 use Rattle.irs_base.specs.Days.{first_day, last_day}
-use Rattle.irs_terms.specs.declared.codes.ConvCode.{ConvCode}
-use Rattle.irs_terms.specs.declared.codes.ConvCode.TheVariants.{Following, ModFollowing, Preceding, ModPreceding, Nearest, Unadjusted}
-use Rattle.irs_terms.specs.declared.codes.DayKind.{DayKind}
-use Rattle.irs_terms.specs.declared.codes.DayKind.TheVariants.{Business, Calendar, Unsaid}
-use Rattle.irs_terms.specs.declared.adjustments.Offset.{Offset}
-use Rattle.irs_terms.specs.declared.adjustments.Centers.{Centers}
-use Rattle.irs_terms.specs.declared.adjustments.Centers.TheVariants.{Absent, Listed, Dangling}
-use Rattle.irs_terms.specs.declared.adjustments.Adjustments.{Adjustments}
-use Rattle.irs_terms.specs.declared.dates.FixTerms.{FixTerms}
-use Rattle.irs_terms.specs.declared.dates.ResetTerms.{ResetTerms}
 use Rattle.irs_terms.specs.declared.stream.Stream.{Stream}
 use Rattle.irs_calendar.specs.declared.sections.Section.{Section}
 use Rattle.irs_calendar.specs.GoodDays.{DaySet}
@@ -42,7 +31,7 @@ boundary_days cal s = record {
 abbrev pub payment_days : List Section → Stream → DaySet
 payment_days cal s = days_of_names cal (names_with s.pay.offset s.pay.adj)
 
--- the good days of reset dates, and of fixing dates
+-- the good days of reset dates
 abbrev pub reset_days : List Section → Stream → DaySet
 reset_days cal s = days_of_names cal (reset_names s.reset)
 

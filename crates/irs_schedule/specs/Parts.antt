@@ -1,8 +1,10 @@
 -- What is seen of a schedule: a list of parts, one a stream, and the bounds that each part keeps.
 use Rattle.std.specs.Prelude.{IfSome, unsigned_abs, ◌≡◌, ℕ, ◌+◌, ◌*◌, ◌^◌, ◌<◌, ◌≤◌, List, [], ◌∷◌, length, Bool, slice_index_or, if◌then◌else◌, ℤ, pos, ◌<ℤ◌, ◌≤ℤ◌}
+use Rattle.irs_base.specs.DayLists.{AreDays}
+use Rattle.irs_base.specs.Days.{IsDay}
 use Rattle.irs_base.specs.declared.line.Dec.{Dec}
 use Rattle.irs_terms.specs.Currencies.{decimals_of}
-use Rattle.irs_terms.specs.Lawful.{IsNotional, IsRate}
+use Rattle.irs_terms.specs.Lawful.{IsLawfulCurrency, IsNotional, IsRate}
 use Rattle.irs_terms.specs.declared.currency.Currency.{Currency}
 use Rattle.irs_terms.specs.declared.codes.DayCountCode.{DayCountCode}
 use Rattle.irs_terms.specs.declared.results.Exchange.{Exchange}
@@ -41,6 +43,11 @@ abbrev pub Covers : ℕ → List PaymentEntry → ℕ → Type 0
 Covers next [] last = next ≡ last + 1
 Covers next (p ∷ ps) last = (p.first_period ≡ next) × (p.first_period ≤ p.last_period) × Covers (p.last_period + 1) ps last
 
+-- the code of a currency: three capital letters
+pub record IsCode (currency : Currency) : Type 0 where
+  pub three : length currency.letters ≡ 3
+  pub capitals : IsLawfulCurrency currency
+
 -- an amount of a currency: its decimals, at most 10^14 currency units in size
 pub record IsAmount (currency : Currency) (v : Dec) : Type 0 where
   pub places : v.places ≡ decimals_of currency.letters
@@ -50,8 +57,29 @@ pub record IsAmount (currency : Currency) (v : Dec) : Type 0 where
 abbrev pub HasAmount : Currency → PaymentEntry → Type 0
 HasAmount currency y = IfSome y.amount (IsAmount currency)
 
--- a period within the limits of amounts
+-- both dates of a principal exchange are days of the range
+abbrev pub IsDatedExchange : Exchange → Type 0
+IsDatedExchange x = IsDay x.unadjusted × IsDay x.adjusted
+
+-- both dates of a payment are
+abbrev pub IsDatedPayment : PaymentEntry → Type 0
+IsDatedPayment y = IsDay y.unadjusted × IsDay y.adjusted
+
+-- the reset date and the fixing date of a reset are
+abbrev pub IsDatedReset : Reset → Type 0
+IsDatedReset r = IsDay r.reset × IsDay r.fixing
+
+-- every date of the part is a day of the range
+pub record HasDays (p : Part) : Type 0 where
+  pub unadjusted : AreDays p.unadjusted
+  pub adjusted : AreDays p.adjusted
+  pub exchanges : Every IsDatedExchange p.exchanges
+  pub payments : Every IsDatedPayment p.payments
+  pub resets : Every IsDatedReset p.resets
+
+-- a period within the limits of days and amounts
 pub record IsEntry (code : DayCountCode) (e : PeriodEntry) : Type 0 where
+  pub days : (pos 0 ≤ℤ e.days) × (e.days ≤ℤ pos most_numerator)
   pub notional : IsNotional e.notional
   pub numerator : (pos 0 ≤ℤ e.frac.num) × (e.frac.num ≤ℤ pos most_numerator)
   pub denominator : e.frac.den ≡ denominator_of code
@@ -59,6 +87,8 @@ pub record IsEntry (code : DayCountCode) (e : PeriodEntry) : Type 0 where
 
 -- what every part keeps
 pub record KeepsBounds (p : Part) : Type 0 where
+  pub currency : IsCode p.currency
+  pub dates : HasDays p
   pub some : 0 < length p.periods
   pub few : length p.periods ≤ most_periods
   pub unadjusted : length p.unadjusted ≡ length p.periods + 1

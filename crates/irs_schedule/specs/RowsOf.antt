@@ -8,8 +8,9 @@ use Rattle.irs_terms.specs.declared.results.Reset.{Reset}
 use Rattle.irs_schedule.specs.declared.row.Row.{Row}
 use Rattle.irs_schedule.specs.declared.row.Row.TheVariants.{Stream, Exchange as ExchangeRow, Payment, Period, Reset as ResetRow}
 use Rattle.irs_schedule.specs.Parts.{Part}
+use Rattle.irs_schedule.specs.PeriodViews.{dated_period}
+use Rattle.irs_schedule.specs.declared.views.CalculationPeriod.{CalculationPeriod}
 use Rattle.irs_base.specs.Limits.{most_exchanges, most_periods, most_streams}
-use Rattle.irs_base.specs.Members.{day_at}
 
 -- what stands at a place where there is nothing
 abbrev pub no_period : PeriodEntry
@@ -19,11 +20,13 @@ no_period = record { days = pos 0; frac = record { num = pos 0; den = pos 1 }; n
 abbrev pub no_reset : Reset
 no_reset = record { reset = pos 0; fixing = pos 0; observed = None }
 
+-- the row of a calculation period with its dates
+abbrev pub row_of_period : ℕ → ℕ → CalculationPeriod → Row
+row_of_period k i x = Period k i x.start x.«end» x.adjusted_start x.adjusted_end x.days x.frac x.notional x.rate
+
 -- period i, from 1
 abbrev pub period_row : ℕ → Part → ℕ → Row
-period_row k p i =
-    let e = slice_index_or p.periods (i - 1) no_period in
-    Period k i (day_at p.unadjusted (i - 1)) (day_at p.unadjusted i) (day_at p.adjusted (i - 1)) (day_at p.adjusted i) e.days e.frac e.notional e.rate
+period_row k p i = row_of_period k i (dated_period p i (slice_index_or p.periods (i - 1) no_period))
 
 -- the reset of period i
 abbrev pub reset_row : ℕ → Part → ℕ → Row

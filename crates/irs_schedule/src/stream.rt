@@ -48,6 +48,9 @@ pub(crate) fn stream_part(
     ensures broken { IfBroken result (StreamBroken (sets_of days.now) fix.now s.now) }
 {
     let layout = laid_out(alloc, s, days)?;
+    // hands the prover that the boundaries are days
+    let _days = layout.unadjusted.as_slice();
+    let _moved = layout.adjusted.as_slice();
     let dated = dated_over(alloc, s, &layout, days, fix)?;
     let entries = entries_of(alloc, s, &layout, &dated)?;
     let terms = kept_terms(alloc, s)?;

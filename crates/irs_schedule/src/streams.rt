@@ -4,6 +4,7 @@ ghost use Rattle.std.specs.Prelude.{◌≡◌, ℕ, ◌+◌, ◌-◌, ◌<◌, �
 
 use crate::kept_terms::KeptTerms;
 use crate::periods::{day_at, entry_by, observed_at};
+use crate::views::dated_period;
 use crate::{PaymentEntry, PeriodEntry, Row};
 use irs_base::{Day, DayList};
 use irs_terms::{Currency, DayCountCode, Exchange, Exchanges, Reset, Resets};
@@ -35,15 +36,12 @@ impl Model for StreamPart {
     ghost invariant = { IsKept };
 }
 
-ghost use Rattle.irs_base.specs.Limits.{most_exchanges, most_periods};
-ghost use Rattle.std.specs.Prelude.{IsTrue, IfSome, slice_index_or, if◌then◌else◌};
-ghost use Rattle.irs_terms.specs.Lawful.{IsLawfulValues, IsLawfulLeg, IsNotional, IsRate};
-ghost use Rattle.irs_terms.specs.StepDates.{StepsRise, LegStepsRise};
+ghost use Rattle.std.specs.Prelude.{IsTrue, slice_index_or};
+ghost use Rattle.irs_schedule.specs.Keeping.{MakePart};
 ghost use Rattle.irs_schedule.specs.KeptTerms.{is_floating};
-ghost use Rattle.irs_schedule.specs.Parts.{KeepsBounds, Rises, Covers, HasAmount, IsAmount};
+ghost use Rattle.irs_schedule.specs.Parts.{KeepsBounds};
 ghost use Rattle.irs_schedule.specs.Periods.{periods_by};
 ghost use Rattle.irs_schedule.specs.RowsOf.{no_period, no_reset, period_row, reset_row, stream_row};
-ghost use Rattle.irs_base.specs.Members.{Every};
 
 impl StreamPart {
     /// A stream of these parts, which lie within the limits.
@@ -55,21 +53,7 @@ impl StreamPart {
         payments: Vec<PaymentEntry>,
         resets: Resets,
     ) -> StreamPart
-        requires notional { IsLawfulValues IsNotional terms.notional }
-        requires leg { IsLawfulLeg terms.leg }
-        requires notional_rises { StepsRise terms.notional.steps }
-        requires leg_rises { LegStepsRise terms.leg }
-        requires some { 2 ≤ length unadjusted }
-        requires few { length unadjusted ≤ most_periods + 1 }
-        requires same_count { length adjusted ≡ length unadjusted }
-        requires rises { Rises unadjusted }
-        requires adjusted_rises { Rises adjusted }
-        requires exchanges_few { length exchanges ≤ most_exchanges }
-        requires exchanged { Every (λ x. IsAmount terms.currency x.amount) exchanges }
-        requires covers { Covers 1 payments.items (length unadjusted - 1) }
-        requires paid { Every (HasAmount terms.currency) payments.items }
-        requires resets_count { length resets ≡ (if is_floating terms.leg then length unadjusted - 1 else 0) }
-        requires observed { Every (λ r. IfSome r.observed IsRate) resets }
+        requires { MakePart terms unadjusted adjusted exchanges payments.items resets }
         ensures currency { result.currency ≡ terms.currency }
         ensures day_count { result.day_count ≡ terms.day_count }
         ensures floating { result.floating ≡ is_floating terms.leg }
@@ -81,8 +65,10 @@ impl StreamPart {
         ensures resets { result.resets ≡ resets }
         ensures bounds { KeepsBounds result }
     {
-        // hands the prover that the boundaries are days
-        let _days = adjusted.as_slice();
+        // hands the prover that the boundaries are days, and how many letters a currency has
+        let _days = unadjusted.as_slice();
+        let _moved = adjusted.as_slice();
+        let _letters = terms.currency.letters.len();
         StreamPart {
             terms,
             unadjusted,
@@ -197,19 +183,18 @@ impl StreamPart {
         requires high { number ≤ length self.now.periods }
         ensures { result ≡ period_row stream self.now number }
     {
-        let end = number as usize;
-        let entry = self.entry(number);
+        let period = dated_period(self, number);
         Row::Period {
             stream,
             number,
-            start: day_at(self.unadjusted.as_slice(), end - 1),
-            end: day_at(self.unadjusted.as_slice(), end),
-            adjusted_start: day_at(self.adjusted.as_slice(), end - 1),
-            adjusted_end: day_at(self.adjusted.as_slice(), end),
-            days: entry.days,
-            frac: entry.frac,
-            notional: entry.notional,
-            rate: entry.rate,
+            start: period.start,
+            end: period.end,
+            adjusted_start: period.adjusted_start,
+            adjusted_end: period.adjusted_end,
+            days: period.days,
+            frac: period.frac,
+            notional: period.notional,
+            rate: period.rate,
         }
     }
 

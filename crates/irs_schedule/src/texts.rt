@@ -11,48 +11,6 @@ use crate::Row;
 use irs_base::{Day, Dec, Line};
 use irs_terms::{DayCountCode, Frac};
 
-// Each of these puts a space and a field.
-#[tactic(auto, using(irs_base::proofs::TextLemmas::appended))]
-fn put_field(line: &mut Line, bytes: &[u8])
-    requires { length line.old + length bytes.now < 512 }
-    ensures text { line.new ≡ line.old ++ 32 ∷ bytes.now }
-    ensures grows { length line.new ≡ length line.old + length bytes.now + 1 }
-{
-    line.push(b" ");
-    line.push(bytes);
-}
-
-#[tactic(auto, using(irs_base::proofs::TextLemmas::appended, irs_base::proofs::TextLengths::length_signed))]
-fn put_whole(line: &mut Line, mark: u8, n: i128)
-    requires { length line.old + 41 ≤ 512 }
-    ensures text { line.new ≡ line.old ++ mark ∷ signed_decimal n }
-    ensures grows { length line.new ≤ length line.old + 41 }
-{
-    line.push(&[mark]);
-    line.push_whole(n);
-}
-
-#[tactic(auto, using(irs_base::proofs::TextLemmas::appended, irs_base::proofs::TextLengths::length_day))]
-fn put_day(line: &mut Line, d: Day)
-    requires { length line.old + 11 ≤ 512 }
-    ensures text { line.new ≡ line.old ++ 32 ∷ day_text d }
-    ensures grows { length line.new ≡ length line.old + 11 }
-{
-    line.push(b" ");
-    line.push_day(d);
-}
-
-#[tactic(auto, using(irs_base::proofs::TextLemmas::appended, irs_base::proofs::TextLengths::length_dec))]
-fn put_dec(line: &mut Line, v: Dec)
-    requires places { v.places ≤ 12 }
-    requires room { length line.old + 54 ≤ 512 }
-    ensures text { line.new ≡ line.old ++ 32 ∷ dec_text v.units v.places }
-    ensures grows { length line.new ≤ length line.old + 54 }
-{
-    line.push(b" ");
-    line.push_dec(v);
-}
-
 fn put_optional(line: &mut Line, v: Option<Dec>)
     requires places { IfSome v IsFew }
     requires room { length line.old + 54 ≤ 512 }
@@ -60,17 +18,9 @@ fn put_optional(line: &mut Line, v: Option<Dec>)
     ensures grows { length line.new ≤ length line.old + 54 }
 {
     match v {
-        Some(v) => put_dec(line, v),
-        None => put_field(line, b"-"),
+        Some(v) => line.put_dec(v),
+        None => line.put_field(b"-"),
     }
-}
-
-fn put_signed(line: &mut Line, mark: u8, n: i64)
-    requires { length line.old + 41 ≤ 512 }
-    ensures text { line.new ≡ line.old ++ mark ∷ signed_decimal n }
-    ensures grows { length line.new ≤ length line.old + 41 }
-{
-    put_whole(line, mark, i128::from(n));
 }
 
 fn put_span(line: &mut Line, start: Day, end: Day)
@@ -78,8 +28,8 @@ fn put_span(line: &mut Line, start: Day, end: Day)
     ensures text { line.new ≡ line.old ++ 32 ∷ day_text start ++ 32 ∷ day_text end }
     ensures grows { length line.new ≡ length line.old + 22 }
 {
-    put_day(line, start);
-    put_day(line, end);
+    line.put_day(start);
+    line.put_day(end);
 }
 
 fn put_frac(line: &mut Line, frac: Frac)
@@ -87,8 +37,8 @@ fn put_frac(line: &mut Line, frac: Frac)
     ensures text { line.new ≡ line.old ++ 32 ∷ signed_decimal frac.num ++ 47 ∷ signed_decimal frac.den }
     ensures grows { length line.new ≤ length line.old + 82 }
 {
-    put_signed(line, b' ', frac.num);
-    put_signed(line, b'/', frac.den);
+    line.put_signed(b' ', frac.num);
+    line.put_signed(b'/', frac.den);
 }
 
 fn put_notional(line: &mut Line, units: i128)
@@ -96,7 +46,7 @@ fn put_notional(line: &mut Line, units: i128)
     ensures text { line.new ≡ line.old ++ 32 ∷ dec_text units 4 }
     ensures grows { length line.new ≤ length line.old + 54 }
 {
-    put_dec(line, Dec { units, places: 4 });
+    line.put_dec(Dec { units, places: 4 });
 }
 
 // What a line begins with.
@@ -107,17 +57,8 @@ fn put_head(line: &mut Line, kind: &[u8], stream: u8, number: u32)
     ensures grows { length line.new ≤ 92 }
 {
     line.push(kind);
-    put_number(line, u32::from(stream));
-    put_number(line, number);
-}
-
-// A number that counts.
-fn put_number(line: &mut Line, n: u32)
-    requires { length line.old + 41 ≤ 512 }
-    ensures text { line.new ≡ line.old ++ 32 ∷ decimal n }
-    ensures grows { length line.new ≤ length line.old + 41 }
-{
-    put_whole(line, b' ', i128::from(n));
+    line.put_number(u32::from(stream));
+    line.put_number(number);
 }
 
 fn put_rate(line: &mut Line, v: Option<i64>)
@@ -126,14 +67,11 @@ fn put_rate(line: &mut Line, v: Option<i64>)
     ensures grows { length line.new ≤ length line.old + 54 }
 {
     match v {
-        Some(v) => put_dec(
-            line,
-            Dec {
-                units: i128::from(v),
-                places: 9,
-            },
-        ),
-        None => put_field(line, b"-"),
+        Some(v) => line.put_dec(Dec {
+            units: i128::from(v),
+            places: 9,
+        }),
+        None => line.put_field(b"-"),
     }
 }
 
@@ -163,10 +101,10 @@ fn put_fields(row: &Row, line: &mut Line)
             floating,
         } => {
             line.push(b"stream");
-            put_number(line, u32::from(stream));
-            put_field(line, &currency.letters);
-            put_field(line, code_text(day_count).as_bytes());
-            put_field(line, kind_text(floating).as_bytes());
+            line.put_number(u32::from(stream));
+            line.put_field(&currency.letters);
+            line.put_field(code_text(day_count).as_bytes());
+            line.put_field(kind_text(floating).as_bytes());
         }
         Row::Exchange {
             stream,
@@ -176,11 +114,11 @@ fn put_fields(row: &Row, line: &mut Line)
             amount,
         } => {
             line.push(b"x");
-            put_number(line, u32::from(stream));
-            put_number(line, number);
-            put_day(line, unadjusted);
-            put_day(line, adjusted);
-            put_dec(line, amount);
+            line.put_number(u32::from(stream));
+            line.put_number(number);
+            line.put_day(unadjusted);
+            line.put_day(adjusted);
+            line.put_dec(amount);
         }
         Row::Payment {
             stream,
@@ -192,12 +130,12 @@ fn put_fields(row: &Row, line: &mut Line)
             amount,
         } => {
             line.push(b"p");
-            put_number(line, u32::from(stream));
-            put_number(line, number);
-            put_day(line, unadjusted);
-            put_day(line, adjusted);
-            put_number(line, first_period);
-            put_number(line, last_period);
+            line.put_number(u32::from(stream));
+            line.put_number(number);
+            line.put_day(unadjusted);
+            line.put_day(adjusted);
+            line.put_number(first_period);
+            line.put_number(last_period);
             put_optional(line, amount);
         }
         Row::Period {
@@ -215,7 +153,7 @@ fn put_fields(row: &Row, line: &mut Line)
             put_head(line, b"c", stream, number);
             put_span(line, start, end);
             put_span(line, adjusted_start, adjusted_end);
-            put_signed(line, b' ', days);
+            line.put_signed(b' ', days);
             put_frac(line, frac);
             put_notional(line, notional);
             put_rate(line, rate);
@@ -228,10 +166,10 @@ fn put_fields(row: &Row, line: &mut Line)
             observed,
         } => {
             line.push(b"r");
-            put_number(line, u32::from(stream));
-            put_number(line, number);
-            put_day(line, reset);
-            put_day(line, fixing);
+            line.put_number(u32::from(stream));
+            line.put_number(number);
+            line.put_day(reset);
+            line.put_day(fixing);
             put_rate(line, observed);
         }
     }

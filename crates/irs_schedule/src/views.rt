@@ -23,8 +23,8 @@ pub struct CalculationPeriod {
     pub rate: Option<i64>,
 }
 
-// A period, counted from 1.
-fn dated_period(part: &StreamPart, number: u32) -> CalculationPeriod
+/// A period, counted from 1.
+pub(crate) fn dated_period(part: &StreamPart, number: u32) -> CalculationPeriod
     requires low { 0 < number }
     requires high { number ≤ length part.now.periods }
     ensures { result ≡ dated_period part.now number (slice_index_or part.now.periods (number - 1) no_period) }

@@ -6,8 +6,18 @@ use Rattle.irs_net.specs.Nets.{HasPlaces, IsNet}
 use Rattle.irs_net.specs.NetTotals.{row_of, total_at}
 use Rattle.irs_net.specs.declared.parts.NetPart.{NetPart}
 use Rattle.irs_net.proofs.NetLemmas.{few_places, net_is, one_net}
+use Rattle.irs_net.proofs.NetThere.{net_there}
 use Rattle.irs_net.proofs.SumLemmas.{adds_up}
 use Rattle.irs_net.proofs.table.net.Goals as goal
+
+pub returns-in_err-parts-clause-exists : goal.returns-in_err-parts-clause-exists
+returns-in_err-parts-clause-exists c = net_there (parts_of c.args.s.now c.args.sides.now.forward)
+
+pub returns-in_err-totals-clause-exists : goal.returns-in_err-totals-clause-exists
+returns-in_err-totals-clause-exists c = net_there (parts_of c.args.s.now c.args.sides.now.forward)
+
+pub returns-clause-exists : goal.returns-clause-exists
+returns-clause-exists c = net_there (parts_of c.args.s.now c.args.sides.now.forward)
 
 pub returns-in_err-parts-clause-one : goal.returns-in_err-parts-clause-one
 returns-in_err-parts-clause-one c = λ a b h k. one_net (parts_of c.args.s.now c.args.sides.now.forward) a b h k

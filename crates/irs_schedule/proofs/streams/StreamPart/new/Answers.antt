@@ -5,13 +5,11 @@ use Rattle.irs_schedule.proofs.streams.StreamPart.new.Goals as goal
 
 pub invariant_of-result : goal.invariant_of-result
 invariant_of-result c =
-    let r = c.requires in
     let s : Inside = record { terms = c.args.terms; unadjusted = c.args.unadjusted; adjusted = c.args.adjusted; exchanges = c.args.exchanges; payments = c.args.payments; resets = c.args.resets } in
-    kept s r.notional r.leg r.notional_rises r.leg_rises r.some r.few r.same_count r.rises r.adjusted_rises r.exchanges_few r.exchanged r.covers r.paid r.resets_count r.observed c.as_slice-days.ensures.days
+    kept s c.requires c.as_slice-days.ensures.days c.as_slice-moved.ensures.days refl
 
 pub returns-clause-bounds : goal.returns-clause-bounds
 returns-clause-bounds c =
-    let r = c.requires in
     let s : Inside = record { terms = c.args.terms; unadjusted = c.args.unadjusted; adjusted = c.args.adjusted; exchanges = c.args.exchanges; payments = c.args.payments; resets = c.args.resets } in
-    let k : IsKept s = kept s r.notional r.leg r.notional_rises r.leg_rises r.some r.few r.same_count r.rises r.adjusted_rises r.exchanges_few r.exchanged r.covers r.paid r.resets_count r.observed c.as_slice-days.ensures.days in
+    let k : IsKept s = kept s c.requires c.as_slice-days.ensures.days c.as_slice-moved.ensures.days refl in
     k.bounds
