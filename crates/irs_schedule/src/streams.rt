@@ -65,10 +65,9 @@ impl StreamPart {
         ensures resets { result.resets ≡ resets }
         ensures bounds { KeepsBounds result }
     {
-        // hands the prover that the boundaries are days, and how many letters a currency has
+        // hands the prover that the boundaries are days
         let _days = unadjusted.as_slice();
         let _moved = adjusted.as_slice();
-        let _letters = terms.currency.letters.len();
         StreamPart {
             terms,
             unadjusted,
