@@ -1,5 +1,5 @@
 -- What the rules of a part say over the one layout of a stream.
-use Rattle.std.proofs.Common.{◌≡◌, ◌⊎◌, inl, inr, ℕ, ◌<◌, List, length, Ok, false, subst, sym, arith, ℤ}
+use Rattle.std.proofs.Common.{◌≡◌, ◌⊎◌, inl, inr, List, Ok, false, subst, arith, ℤ}
 use Rattle.irs_base.specs.Elements.{calculation_period_dates, calculation_period_frequency}
 use Rattle.irs_base.specs.Order.{First, comes_before}
 use Rattle.irs_base.specs.declared.places.Fault.{Fault}
@@ -10,7 +10,7 @@ use Rattle.irs_terms.specs.declared.results.Span.{Span}
 use Rattle.irs_terms.specs.declared.stream.Stream.{Stream}
 use Rattle.irs_periods.specs.Adjusting.{AdjustedList, BreaksAdjusted, boundary_element, boundary_index, last_of, no_result_at, not_after_at}
 use Rattle.irs_periods.specs.Boundaries.{Boundaries, BreaksPeriods, too_many_periods}
-use Rattle.irs_periods.specs.SpanRules.{BreaksSpan, SpanKept}
+use Rattle.irs_periods.specs.SpanRules.{BreaksSpan}
 use Rattle.irs_periods.specs.Spans.{Regular}
 use Rattle.irs_periods.proofs.AdjustedDecided.{answer_unbroken, adjusted_rises}
 use Rattle.irs_periods.proofs.AdjustedLemmas.{one_adjusted}

@@ -1,5 +1,5 @@
 -- What a part keeps.
-use Rattle.std.proofs.Common.{◌+◌, ◌≡◌, ℕ, ◌-◌, length, arith, subst, sym, if◌then◌else◌}
+use Rattle.std.proofs.Common.{◌≡◌, ℕ, ◌-◌, length, arith, subst, sym, if◌then◌else◌}
 use Rattle.irs_base.specs.DayLists.{AreDays}
 use Rattle.irs_schedule.specs.declared.streams.StreamPart.TheInside.{Inside}
 use Rattle.irs_schedule.specs.KeptTerms.{is_floating}

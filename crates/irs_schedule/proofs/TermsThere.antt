@@ -1,8 +1,7 @@
 -- The terms and the entry of each period are there, and so is the amount of each payment.
-use Rattle.std.proofs.Common.{◌≡◌, ◌⊎◌, inl, inr, ℕ, zero, suc, ◌+◌, ◌-◌, ◌<◌, ◌≤◌, ◌==◌, List, [], ◌∷◌, length, map, Option, Some, None, option_map, ℤ, ◌<ℤ◌, IsSome, arith, rules, refl, ap}
+use Rattle.std.proofs.Common.{◌≡◌, ℕ, ◌+◌, ◌-◌, ◌<◌, ◌≤◌, ◌==◌, List, [], ◌∷◌, length, map, Option, Some, None, ℤ, ◌<ℤ◌, arith, refl, ap}
 use Rattle.std.proofs.lemmas.List.Elements.{All-nil, All-cons}
 use Rattle.irs_base.specs.declared.line.Dec.{Dec}
-use Rattle.irs_base.specs.Days.{IsDay}
 use Rattle.irs_base.specs.DayLists.{AreDays}
 use Rattle.irs_base.specs.Listed.{IsRising}
 use Rattle.irs_terms.specs.Currencies.{decimals_of}

@@ -24,7 +24,7 @@ use Rattle.irs_schedule.specs.DaySets.{StreamSets}
 use Rattle.irs_schedule.specs.DatedRules.{BreaksAmounts, BreaksPart, DatedPart, KeptBefore, StreamBroken, StreamKept, in_amounts, in_exchanges, in_payments, in_periods, in_resets, in_span, in_steps, passed_at, resets_over, turn_of}
 use Rattle.irs_schedule.specs.FirstPassed.{IsFirstPassed}
 use Rattle.irs_schedule.specs.Layouts.{IsKeptLayout}
-use Rattle.irs_schedule.specs.PeriodTerms.{PassesAt, PassesFirst}
+use Rattle.irs_schedule.specs.PeriodTerms.{PassesAt}
 use Rattle.irs_schedule.specs.declared.layouts.Layout.{Layout}
 use Rattle.irs_schedule.proofs.LayoutRules.{layout_is, layout_unbroken, over_first, over_unbroken}
 

@@ -6,8 +6,6 @@ use Rattle.irs_base.specs.Days.{IsDay}
 use Rattle.irs_base.specs.DayLists.{AreDays}
 use Rattle.irs_base.specs.Listed.{IsRising}
 use Rattle.irs_terms.specs.Currencies.{decimals_of}
-use Rattle.irs_terms.specs.declared.amounts.Leg.{Leg}
-use Rattle.irs_terms.specs.declared.amounts.Leg.TheVariants.{Fixed, Floating}
 use Rattle.irs_terms.specs.declared.results.Payment.{Payment}
 use Rattle.irs_terms.specs.declared.results.Reset.{Reset}
 use Rattle.irs_terms.specs.declared.stream.Stream.{Stream}
@@ -20,7 +18,6 @@ use Rattle.irs_compound.specs.InForceLaws.{one_in_force}
 use Rattle.irs_compound.specs.RateLaws.{one_leg_rates}
 use Rattle.irs_compound.specs.PartsLaws.{AllFractions}
 use Rattle.irs_compound.specs.declared.periods.PeriodTerm.{PeriodTerm}
-use Rattle.irs_compound.specs.declared.periods.Rates.{Rates}
 use Rattle.irs_payments.specs.Payments.{Covers}
 use Rattle.irs_payments.proofs.PlaceLemmas.{rises_at}
 use Rattle.irs_schedule.specs.declared.entries.PaymentEntry.{PaymentEntry}

@@ -1,5 +1,5 @@
 -- What is seen of a schedule: a list of parts, one a stream, and the bounds that each part keeps.
-use Rattle.std.specs.Prelude.{IfSome, unsigned_abs, ◌≡◌, ℕ, ◌+◌, ◌*◌, ◌^◌, ◌<◌, ◌≤◌, List, [], ◌∷◌, length, Bool, slice_index_or, if◌then◌else◌, ℤ, pos, ◌<ℤ◌, ◌≤ℤ◌}
+use Rattle.std.specs.Prelude.{IfSome, unsigned_abs, ◌≡◌, ℕ, ◌+◌, ◌*◌, ◌^◌, ◌<◌, ◌≤◌, List, [], ◌∷◌, length, Bool, if◌then◌else◌, ℤ, pos, ◌<ℤ◌, ◌≤ℤ◌}
 use Rattle.irs_base.specs.DayLists.{AreDays}
 use Rattle.irs_base.specs.Days.{IsDay}
 use Rattle.irs_base.specs.declared.line.Dec.{Dec}
