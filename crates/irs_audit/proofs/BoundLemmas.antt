@@ -19,13 +19,8 @@ use Rattle.irs_schedule.proofs.PlaceLemmas.{decimals_few}
 use Rattle.irs_schedule.proofs.WalkLemmas.{covers_within}
 use Rattle.irs_audit.specs.Comparisons.{IsSmall, IsPayment}
 use Rattle.irs_daycount.specs.Actual.{act_act_denominator}
+use Rattle.irs_base.proofs.MemberLemmas.{every_get}
 use Rattle.irs_base.specs.Members.{Every}
-
--- what every member keeps, at a place
-pub every_get : {X : Type 0} (P : X → Type 0) (xs : List X) (j : ℕ) (x : X) → Every P xs → slice_get xs j ≡ Some x → P x
-every_get P [] j x h e = absurd (cc)
-every_get P (y ∷ ys) zero x h e = subst P (ap (λ o. unwrap_or o y) e) h.0
-every_get P (y ∷ ys) (suc j) x h e = every_get P ys j x h.1 e
 
 few : (currency : Currency) (v : Dec) → IsAmount currency v → v.places ≤ 12
 few currency v h = let e = h.places in let l = decimals_few currency.letters in omega (arith, e, l)

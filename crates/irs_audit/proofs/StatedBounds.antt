@@ -17,7 +17,7 @@ use Rattle.irs_schedule.specs.declared.views.CalculationPeriod.{CalculationPerio
 use Rattle.irs_schedule.specs.Parts.{Part, KeepsBounds, IsAmount, HasAmount, IsEntry}
 use Rattle.irs_schedule.specs.PeriodViews.{period_at, dated_period}
 use Rattle.irs_audit.specs.Comparisons.{IsStatable, IsStatableDec, IsStatablePeriod, IsStatableRate}
-use Rattle.irs_audit.proofs.BoundLemmas.{every_get}
+use Rattle.irs_base.proofs.MemberLemmas.{every_get}
 use Rattle.irs_audit.proofs.ValueLemmas.{both_powers}
 
 -- such a number fits 128 bits in units of 10^-12

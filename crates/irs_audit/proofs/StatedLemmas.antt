@@ -30,7 +30,8 @@ use Rattle.irs_audit.specs.FieldDepartures.{ExchangeDeparts, PaymentDeparts, Per
 use Rattle.irs_audit.specs.FlowParts.{FlowPart}
 use Rattle.irs_audit.specs.StatedFlows.{stated_number, stated_amount, stated_fraction, stated_exchange, stated_payment, stated_reset, period_with, stated_period, stated_periods_from, stated_part, stated_flows}
 use Rattle.irs_audit.specs.StatedValues.{IsNumber, IsAmount, IsFraction, StatedWrongly, NotStatedRightly, WhereKnown}
-use Rattle.irs_audit.proofs.BoundLemmas.{every_get, exchange_decimals, payment_kept, period_small}
+use Rattle.irs_base.proofs.MemberLemmas.{every_get}
+use Rattle.irs_audit.proofs.BoundLemmas.{exchange_decimals, payment_kept, period_small}
 use Rattle.irs_audit.proofs.RowLemmas.{resets_few}
 use Rattle.irs_audit.proofs.ValueLemmas.{scaled_up}
 

@@ -64,13 +64,16 @@ pub enum Field {
     ObservedRate,
 }
 
-/// Where cash flows depart from a schedule: the stream, counted from 1; the kind of the row; its
-/// number, counted from 1, or 0 for a stream; and the field.
+/// Where cash flows depart from a schedule.
 #[derive(Clone, Copy, Debug, PartialEq, Eq)]
 pub struct Departure {
+    /// The stream, counted from 1.
     pub stream: u8,
+    /// The kind of the row.
     pub kind: RowKind,
+    /// Its number, counted from 1; 0 for a stream.
     pub row: u32,
+    /// The field.
     pub field: Field,
 }
 

@@ -34,11 +34,12 @@ pub struct FlowPayment {
     pub amount: Option<i128>,
 }
 
-/// A stated day count fraction (FpML `dayCountYearFraction`): its value in units of 10^-places;
-/// `places` is at most 12.
+/// A stated day count fraction (FpML `dayCountYearFraction`).
 #[derive(Clone, Copy, Debug, PartialEq, Eq)]
 pub struct StatedFraction {
+    /// Its value in units of 10^-places.
     pub units: i128,
+    /// The decimals with which it is stated, at most 12.
     pub places: u8,
 }
 

@@ -63,9 +63,9 @@ fn exchanged(unadjusted: As, adjusted: As, amount: As) -> Option<Field> {
     exchange_field(&due, &flow)
 }
 
-#[test]
-fn exchanges(rt: HostRuntime) {
-    let rows = [
+// How an exchange is stated, and the first field that departs.
+fn exchange_rows() -> [(As, As, As, Option<Field>); 7] {
+    [
         (Right, Right, Right, None),
         (Absent, Right, Right, None),
         (
@@ -88,8 +88,12 @@ fn exchanges(rt: HostRuntime) {
         ),
         (Right, Right, Wrong, Some(Field::PrincipalExchangeAmount)),
         (Right, Right, Absent, Some(Field::PrincipalExchangeAmount)),
-    ];
-    for (unadjusted, adjusted, amount, want) in rows {
+    ]
+}
+
+#[test]
+fn exchanges(rt: HostRuntime) {
+    for (unadjusted, adjusted, amount, want) in exchange_rows() {
         assert_eq!(rt;
             exchanged(unadjusted, adjusted, amount),
             want,
@@ -124,9 +128,9 @@ fn paid(known: bool, dates: (As, As), periods: u32, named: As, amount: As) -> Op
     payment_field(Currency { letters: *b"USD" }, &due, &flow)
 }
 
-#[test]
-fn payments(rt: HostRuntime) {
-    let rows = [
+// Whether its amount is known, how a payment is stated, and the first field that departs.
+fn payment_rows() -> [(bool, (As, As), u32, As, As, Option<Field>); 10] {
+    [
         (true, (Right, Right), 2, Right, Right, None),
         (true, (Absent, Right), 2, Absent, Right, None),
         (false, (Right, Right), 2, Right, Absent, None),
@@ -158,8 +162,12 @@ fn payments(rt: HostRuntime) {
         (true, (Right, Right), 2, Wrong, Wrong, Some(Field::Currency)),
         (true, (Right, Right), 2, Right, Wrong, Some(Field::Amount)),
         (true, (Right, Right), 2, Right, Absent, Some(Field::Amount)),
-    ];
-    for (known, dates, periods, named, amount, want) in rows {
+    ]
+}
+
+#[test]
+fn payments(rt: HostRuntime) {
+    for (known, dates, periods, named, amount, want) in payment_rows() {
         assert_eq!(rt;
             paid(known, dates, periods, named, amount),
             want,
@@ -208,11 +216,11 @@ fn calculated(known: bool, dates: [As; 4], days: As, values: [As; 3]) -> Option<
     period_field(&due, &flow)
 }
 
-#[test]
-fn periods(rt: HostRuntime) {
+// Whether its rate is known, how a period is stated, and the first field that departs.
+fn period_rows() -> [(bool, [As; 4], As, [As; 3], Option<Field>); 11] {
     let right = [Right, Right, Right, Right];
     let wrong = [Wrong, Wrong, Wrong];
-    let rows = [
+    [
         (true, right, Right, [Right, Right, Right], None),
         (
             true,
@@ -266,8 +274,12 @@ fn periods(rt: HostRuntime) {
             [Right, Right, Wrong],
             Some(Field::DayCountYearFraction),
         ),
-    ];
-    for (known, dates, days, values, want) in rows {
+    ]
+}
+
+#[test]
+fn periods(rt: HostRuntime) {
+    for (known, dates, days, values, want) in period_rows() {
         assert_eq!(rt;
             calculated(known, dates, days, values),
             want,
@@ -332,9 +344,9 @@ fn reset_to(known: bool, reset: As, fixing: As, observed: As) -> Option<Field> {
     reset_field(&due, &flow)
 }
 
-#[test]
-fn resets(rt: HostRuntime) {
-    let rows = [
+// Whether its rate is known, how a reset is stated, and the first field that departs.
+fn reset_rows() -> [(bool, As, As, As, Option<Field>); 7] {
+    [
         (true, Right, Right, Right, None),
         (true, Absent, Right, Absent, None),
         (false, Right, Right, Wrong, None),
@@ -342,8 +354,12 @@ fn resets(rt: HostRuntime) {
         (true, Right, Absent, Wrong, Some(Field::AdjustedFixingDate)),
         (true, Right, Wrong, Wrong, Some(Field::AdjustedFixingDate)),
         (true, Right, Right, Wrong, Some(Field::ObservedRate)),
-    ];
-    for (known, reset, fixing, observed, want) in rows {
+    ]
+}
+
+#[test]
+fn resets(rt: HostRuntime) {
+    for (known, reset, fixing, observed, want) in reset_rows() {
         assert_eq!(rt;
             reset_to(known, reset, fixing, observed),
             want,

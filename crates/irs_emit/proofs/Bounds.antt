@@ -1,4 +1,5 @@
 -- What each row of a schedule keeps.
+use Rattle.irs_base.proofs.MemberLemmas.{every_get}
 use Rattle.irs_base.specs.Members.{Every}
 use Rattle.irs_base.specs.declared.line.Dec.{Dec}
 use Rattle.irs_daycount.specs.Fractions.{denominator_of}
@@ -18,12 +19,7 @@ use Rattle.std.proofs.Common.{◌≡◌, ℕ, zero, suc, ◌+◌, ◌<◌, ◌�
 use Rattle.std.proofs.lemmas.Option.{slice_get_cases, slice_get-get_or, IfSome_then}
 use Rattle.std.specs.Prelude.{slice_get, unwrap_or}
 
-every_get : {X : Type 0} (P : X → Type 0) (xs : List X) (j : ℕ) (x : X) → Every P xs → slice_get xs j ≡ Some x → P x
-every_get P [] j x h e = absurd (cc)
-every_get P (y ∷ ys) zero x h e = subst P (ap (λ o. unwrap_or o y) e) h.0
-every_get P (y ∷ ys) (suc j) x h e = every_get P ys j x h.1 e
-
-few : (currency : Currency) (v : Dec) → IsAmount currency v → v.places ≤ 12
+pub few : (currency : Currency) (v : Dec) → IsAmount currency v → v.places ≤ 12
 few currency v h = let e = h.places in let l = decimals_few currency.letters in omega (arith, e, l)
 
 pub exchange_few : (p : Part) (j : ℕ) (x : Exchange) → KeepsBounds p → slice_get p.exchanges j ≡ Some x → x.amount.places ≤ 12
@@ -38,7 +34,7 @@ payment_kept p j y h e =
     let order = every_get (λ (y : PaymentEntry). (1 ≤ y.first_period) × (y.first_period ≤ y.last_period)) p.payments j y (ordered 1 (length p.periods) p.payments (omega arith) h.covers) e in
     record { first = order.0; order = order.1; decimals = IfSome_then y.amount (every_get (HasAmount p.currency) p.payments j y h.paid e) (few p.currency) }
 
-above_zero : (code : DayCountCode) → pos 0 <ℤ denominator_of code
+pub above_zero : (code : DayCountCode) → pos 0 <ℤ denominator_of code
 above_zero OneOne = omega (arith, signed_arith)
 above_zero ActActIsda = omega (arith, signed_arith)
 above_zero Act365Fixed = omega (arith, signed_arith)

@@ -4,6 +4,7 @@ use Rattle.irs_audit.proofs.FlowLaws.{flow_code_names, flow_names_are, flow_rows
 use Rattle.irs_audit.specs.FlowFaults.{CashflowsFault, FlowFault, OnceFault, PeriodFault, PeriodsFault, StreamFault, StreamsFault, SwapFault, below, ended, has_both_rates, in_period, in_stream, is_sound, many_periods, many_streams, no_stream}
 use Rattle.irs_audit.specs.FlowLines.{flow_names, flow_rows, period_names, period_rows}
 use Rattle.irs_base.specs.Limits.{most_rows, most_streams}
+use Rattle.irs_base.proofs.MemberLemmas.{every_get}
 use Rattle.irs_base.specs.Members.{Every}
 use Rattle.irs_base.specs.Texts.{day_text, dec_text}
 use Rattle.irs_base.specs.declared.line.Dec.{Dec}
@@ -29,6 +30,8 @@ use Rattle.irs_schedule.specs.declared.views.CalculationPeriod.{CalculationPerio
 use Rattle.irs_terms.specs.declared.results.Reset.{Reset}
 use Rattle.irs_emit.specs.Emitted.{array_of, cashflows_value, emit_value, exchange_value, fixed_value, floating_value, forecast_value, known_exchanges, listed_period, object_with, one_period, payment_value, period_members, period_value, period_values, put_known, stream_value}
 use Rattle.irs_emit.specs.Leaves.{amount_leaf, currency_leaf, day_leaf, rate_leaf, text_of}
+use Rattle.irs_audit.proofs.StatedLemmas.{flows_agree}
+use Rattle.irs_emit.proofs.Short.{parts_short}
 use Rattle.irs_emit.specs.PartLaws.{IsPartShort, StatesFlows}
 use Rattle.irs_emit.specs.RowLaws.{IsExchangeShort, IsPaymentShort, IsPeriodShort, IsResetShort, IsShortAmount}
 use Rattle.irs_json.specs.Values.{list_of}
@@ -228,11 +231,6 @@ every_append : {X : Type 0} (Q : X → Type 0) (a b : List X) → Every Q a → 
 every_append Q [] b h k = k
 every_append Q (x ∷ a) b h k = (h.0, every_append Q a b h.1 k)
 
-every_get : {X : Type 0} (Q : X → Type 0) (xs : List X) (j : ℕ) (x : X) → Every Q xs → slice_get xs j ≡ Some x → Q x
-every_get Q [] j x h e = absurd (cc)
-every_get Q (y ∷ ys) zero x h e = subst Q (ap (λ o. unwrap_or o y) e) h.0
-every_get Q (y ∷ ys) (suc j) x h e = every_get Q ys j x h.1 e
-
 listed_good : (stream : ℕ) (reset : Option Reset) (o : Option CalculationPeriod) → IfSome o IsPeriodShort → IfSome reset IsResetShort → Every (IsGood stream) (listed_period reset o)
 listed_good stream reset None h g = tt
 listed_good stream reset (Some x) h g = (period_good stream x reset h g, tt)
@@ -309,9 +307,12 @@ emitted_free s some few h f (ended _ e) = no_end (swap_of s) f (the_swap (emit_v
 emitted_free s some few h f (below t _ e fault) = swap_free s some few h f (subst (λ d. SwapFault d f) (the_same t (swap_of s) (the_swap (emit_value s)) e (its_swap s)) fault)
 
 -- bytes that read as the emitted value state the flows of the schedule
-pub states : (s : List Part) (bytes : List ℕ) → Reads bytes (emit_value s) → IsWithin s → Every IsPartShort s → StatesFlows bytes s
-states s bytes reads w h = record {
-  value = emit_value s;
-  reads = reads;
-  flows = record { clean = emitted_free s w.some w.few h; swap = swap_of s; found = its_swap s; says = swap_reads s h };
-}
+pub states : (s : List Part) (bytes : List ℕ) → Reads bytes (emit_value s) → IsWithin s → StatesFlows bytes s
+states s bytes reads w =
+    let short = parts_short s w.each in
+    record {
+      value = emit_value s;
+      reads = reads;
+      flows = record { clean = emitted_free s w.some w.few short; swap = swap_of s; found = its_swap s; says = swap_reads s short };
+      audit = (flows_agree s w, refl, refl);
+    }

@@ -16,7 +16,8 @@ use Rattle.irs_elements.specs.Words.{is_currency}
 use Rattle.irs_emit.proofs.LeafTexts.{text_kept}
 use Rattle.irs_emit.proofs.LeavesRead.{currency_ascii}
 use Rattle.irs_terms.specs.declared.currency.Currency.{Currency}
-use Rattle.irs_emit.proofs.LeafTextsRead.{Visible, count_back, count_visible, currency_back, currency_visible, day_back, day_visible, fraction_back, number_back, number_visible, trimmed}
+use Rattle.irs_base.proofs.VisibleTexts.{Visible, day_visible}
+use Rattle.irs_emit.proofs.LeafTextsRead.{count_back, count_visible, currency_back, currency_visible, day_back, fraction_back, number_back, number_visible, trimmed}
 use Rattle.irs_audit.specs.StatedFlows.{stated_fraction}
 use Rattle.irs_emit.specs.Emitted.{definition_value, exchange_value, fixed_value, floating_value, observation_value, period_members, period_value, put_known}
 use Rattle.irs_emit.specs.Leaves.{count_leaf, currency_leaf, day_leaf, fraction_leaf, notional_leaf, rate_leaf}

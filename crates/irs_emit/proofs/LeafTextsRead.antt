@@ -1,15 +1,14 @@
 -- The text of each leaf is read back as its value.
-use Rattle.irs_base.proofs.DateWalks.{date_of_day}
 use Rattle.irs_base.proofs.DecimalLemmas.{no_point}
 use Rattle.irs_base.proofs.TextLemmas.{length_digit_row, with_point}
-use Rattle.irs_base.specs.DateOf.{year_of, month_of, day_of_month}
+use Rattle.irs_base.proofs.VisibleTexts.{Visible, digits_behind, digits_visible, not_none, places_visible, plain, row_digits, row_spells, spells_decimal}
 use Rattle.irs_base.specs.Days.{IsDay}
-use Rattle.irs_base.specs.Decimals.{AreDigits, DecText, bare, minus, IsUnsigned, number_after, number_of}
-use Rattle.irs_base.specs.Texts.{IsPlainDate, day_text, dec_text, digit_row, two_digits, unsigned_dec}
+use Rattle.irs_base.specs.Decimals.{DecText, bare, minus, IsUnsigned, number_after, number_of}
+use Rattle.irs_base.specs.Texts.{day_text, dec_text, digit_row, unsigned_dec}
 use Rattle.irs_elements.proofs.DatesAt.{day_is}
 use Rattle.irs_elements.proofs.DecimalsAt.{dec_is}
 use Rattle.irs_elements.proofs.Exact.{both_true, exact_same, true_both}
-use Rattle.irs_elements.proofs.FractionsAt.{digits_behind, fraction_exact, one_fraction}
+use Rattle.irs_elements.proofs.FractionsAt.{fraction_exact, one_fraction}
 use Rattle.irs_elements.specs.Fractions.{IsFraction, fraction_at}
 use Rattle.irs_elements.specs.Words.{currency_at, is_capital, is_currency}
 use Rattle.irs_base.specs.Rounding.{Rounded}
@@ -32,11 +31,6 @@ use Rattle.std.specs.Fmt.{decimal, signed_decimal}
 
 -- ---- texts without white space
 
--- each byte is behind the space
-abbrev pub Visible : List ℕ → Type 0
-Visible [] = Unit {0}
-Visible (x ∷ xs) = (33 ≤ x) × Visible xs
-
 no_space : (x : ℕ) → 33 ≤ x → is_space x ≡ false
 no_space x h = grind (arith, nat_tests)
 
@@ -57,75 +51,11 @@ trimmed s h = ap trim_back (front_stays s (first_of s h)) ∙ back_stays s (last
 pub visible_text : (s : List ℕ) → Visible s → text_in (Some (string s)) ≡ Some s
 visible_text s h = ap Some (ap trim_back (front_stays s (first_of s h)) ∙ back_stays s (last_of s h))
 
-pub visible_append : (a b : List ℕ) → Visible a → Visible b → Visible (a ++ b)
-visible_append [] b h k = k
-visible_append (x ∷ a) b h k = (h.0, visible_append a b h.1 k)
-
 -- ---- dates
-
-two_visible : (n : ℕ) → Visible (two_digits n)
-two_visible n = (omega arith, (omega arith, tt))
-
-pub day_visible : (d : ℤ) → Visible (day_text d)
-unfolding day_text
-day_visible d =
-    let y = year_of d in
-    let m = month_of d in
-    let t = day_of_month d in
-    let dash : 33 ≤ 45 = omega arith in
-    let day : Visible (45 ∷ two_digits t) = (dash, two_visible t) in
-    let month : Visible (45 ∷ (two_digits m ++ 45 ∷ two_digits t)) = (dash, visible_append (two_digits m) (45 ∷ two_digits t) (two_visible m) day) in
-    let rest = 45 ∷ (two_digits m ++ 45 ∷ two_digits t) in
-    visible_append (two_digits (y / 100)) (two_digits (y % 100) ++ rest) (two_visible (y / 100)) (visible_append (two_digits (y % 100)) rest (two_visible (y % 100)) month)
-
-plain : (d : ℤ) → IsDay d → IsPlainDate (day_text d) d
-unfolding day_text
-plain d day = record { year = year_of d; month = month_of d; day = day_of_month d; has = date_of_day d day; is = refl }
 
 -- a date is read back as its day
 pub day_back : (d : ℤ) → IsDay d → day_at (day_text d) ≡ Some d
 day_back d day = sym (day_is (day_text d) (Some d) (day, inl (plain d day)) tt)
-
--- ---- digits
-
-digits_visible : (s : List ℕ) → AreDigits s → Visible s
-digits_visible [] h = tt
-digits_visible (c ∷ cs) h = (omega (arith, h.0), digits_visible cs h.2)
-
-digits_append : (a b : List ℕ) → AreDigits a → AreDigits b → AreDigits (a ++ b)
-digits_append [] b h k = k
-digits_append (x ∷ a) b h k = (h.0, h.1, digits_append a b h.2 k)
-
-one_digit : (n : ℕ) → n < 10 → AreDigits ((48 + n) ∷ [])
-one_digit n h = (omega arith, omega arith, tt)
-
--- the digits spell the number
-abbrev Spells : ℕ → List ℕ → Type 0
-Spells n ds = AreDigits ds × (number_of ds ≡ n)
-
-spells_one : (n : ℕ) → n < 10 → Spells n ((48 + n) ∷ [])
-spells_one n h = (one_digit n h, omega arith)
-
-one_more : (a n : ℕ) → a ≡ n / 10 → 10 * a + (48 + n % 10 - 48) ≡ n
-one_more a n e = omega (arith, e)
-
-spells_more : (n : ℕ) (ds : List ℕ) → 10 ≤ n → Spells (n / 10) ds → Spells n (ds ++ (48 + n % 10) ∷ [])
-spells_more n ds l h = (digits_append ds ((48 + n % 10) ∷ []) h.0 (one_digit (n % 10) (omega arith)), digits_behind 0 ds ((48 + n % 10) ∷ []) ∙ one_more (number_of ds) n h.1)
-
-pub spells_decimal : (n : ℕ) → n < 2 ^ 64 → Spells n (decimal n)
-spells_decimal n h = decimal_by_steps Spells spells_one spells_more n h
-
-row_digits : (k n : ℕ) → AreDigits (digit_row k n)
-row_digits zero n = tt
-row_digits (suc k) n = digits_append (digit_row k (n / 10)) ((48 + n % 10) ∷ []) (row_digits k (n / 10)) (one_digit (n % 10) (omega arith))
-
--- behind the digits of the whole part they spell the whole
-row_spells : (k n : ℕ) → number_after (n / 10 ^ k) (digit_row k n) ≡ n
-row_spells zero n = omega arith
-row_spells (suc k) n =
-    let up : n / 10 ^ suc k ≡ n / 10 / 10 ^ k = ap (λ m. n / m) (pow-succ' 10 k) ∙ sym (div-div-eq-div-mul n 10 (10 ^ k)) in
-    let rest : number_after (n / 10 ^ suc k) (digit_row k (n / 10)) ≡ n / 10 = ap (λ m. number_after m (digit_row k (n / 10))) up ∙ row_spells k (n / 10) in
-    digits_behind (n / 10 ^ suc k) (digit_row k (n / 10)) ((48 + n % 10) ∷ []) ∙ one_more (number_after (n / 10 ^ suc k) (digit_row k (n / 10))) n rest
 
 -- ---- decimals
 
@@ -159,9 +89,6 @@ whole_unsigned n h = record {
   value = whole_value n h;
 }
 
-not_none : (k : ℕ) → suc k ≢ 0
-not_none k e = omega (arith, e)
-
 pointed_unsigned : (n k : ℕ) → suc k ≤ 12 → n / 10 ^ suc k < 10 ^ 18 → IsUnsigned (unsigned_dec n (suc k)) 12 (n * 10 ^ (12 - suc k))
 pointed_unsigned n k l h =
     let a = n / 10 ^ suc k in
@@ -193,10 +120,7 @@ number_back z p l h = sym (dec_is (dec_text z p) 12 (Some (z *ℤ pos (10 ^ (12 
 
 unsigned_visible : (n p : ℕ) → n / 10 ^ p < 10 ^ 18 → Visible (unsigned_dec n p)
 unsigned_visible n zero h = let s : n < 10 ^ 18 = omega (arith, h) in digits_visible (decimal n) (spells_decimal n (small n s)).0
-unsigned_visible n (suc k) h =
-    let a = n / 10 ^ suc k in
-    let row : Visible (46 ∷ digit_row (suc k) n) = (omega arith, digits_visible (digit_row (suc k) n) (row_digits (suc k) n)) in
-    subst Visible (sym (with_point n (suc k) (not_none k))) (visible_append (decimal a) (46 ∷ digit_row (suc k) n) (digits_visible (decimal a) (spells_decimal a (small a h)).0) row)
+unsigned_visible n (suc k) h = places_visible n k h
 
 pub number_visible : (z : ℤ) (p : ℕ) → unsigned_abs z / 10 ^ p < 10 ^ 18 → Visible (dec_text z p)
 number_visible (pos n) p h = unsigned_visible n p h

@@ -8,7 +8,8 @@ use Rattle.irs_base.specs.Texts.{day_text, dec_text}
 use Rattle.irs_base.specs.Rounding.{rounded}
 use Rattle.irs_base.specs.declared.rounding.Direction.TheVariants.{Nearest}
 use Rattle.irs_emit.proofs.LeafTexts.{text_kept}
-use Rattle.irs_emit.proofs.LeafTextsRead.{Visible, count_back, count_visible, currency_back, currency_visible, day_back, day_visible, fraction_back, number_back, number_visible, visible_text}
+use Rattle.irs_base.proofs.VisibleTexts.{Visible, day_visible}
+use Rattle.irs_emit.proofs.LeafTextsRead.{count_back, count_visible, currency_back, currency_visible, day_back, fraction_back, number_back, number_visible, visible_text}
 use Rattle.irs_emit.specs.LeafLaws.{DayReadsBack, AmountReadsBack, NotionalReadsBack, RateReadsBack, CountReadsBack, FractionReadsBack, CurrencyReadsBack}
 use Rattle.jiff_core.proofs.SignedLemmas.{signed_arith}
 use Rattle.serde_json.specs.Data.{string}

@@ -7,6 +7,7 @@ pub mod LeafTextsRead
 pub mod LeavesRead
 pub mod RowsRead
 pub mod PartsRead
+pub mod Short
 pub mod Clean
 pub mod CleanRows
 pub mod CleanParts

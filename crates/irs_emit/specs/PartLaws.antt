@@ -2,6 +2,8 @@
 use Rattle.irs_audit.specs.FlowMeaning.{stream_in}
 use Rattle.irs_audit.specs.FlowReading.{FlowsOf}
 use Rattle.irs_audit.specs.StatedFlows.{stated_flows, stated_part}
+use Rattle.irs_audit.specs.Verdicts.{IsVerdict, row_count, unfixed_count}
+use Rattle.irs_audit.specs.declared.departures.Verdict.TheVariants.{Yes}
 use Rattle.irs_base.specs.Members.{Every}
 use Rattle.irs_emit.specs.Emitted.{stream_value}
 use Rattle.irs_emit.specs.RowLaws.{IsExchangeShort, IsPaymentShort, IsPeriodShort, IsResetShort}
@@ -23,9 +25,10 @@ pub record IsPartShort (p : Part) : Type 0 where
 abbrev pub StreamReadsBack : Type 0
 StreamReadsBack = (p : Part) → IsPartShort p → stream_in (stream_value p) ≡ stated_part p
 
--- the bytes read as a value that has no fault of the tables of cash flows, and states just the flows that
--- state the schedule
+-- the bytes read as a value that has no fault of the tables of cash flows and states just the flows that
+-- state the schedule, and the audit of these flows is yes
 pub record StatesFlows (bytes : List ℕ) (s : List Part) : Type 0 where
   pub value : Data
   pub reads : Reads bytes value
   pub flows : FlowsOf value (stated_flows s)
+  pub audit : IsVerdict (stated_flows s) s (Yes (row_count s) (unfixed_count s))

@@ -4,9 +4,8 @@ ghost use Rattle.serde_json.specs.Data.{object};
 ghost use Rattle.serde_json.specs.View.{members_view, view};
 ghost use Rattle.serde_json.specs.Written.{compact_text};
 ghost use Rattle.irs_json.specs.Reading.{Reads};
-ghost use Rattle.irs_base.specs.Members.{Every};
 ghost use Rattle.irs_emit.specs.Paid.{IsPaid};
-ghost use Rattle.irs_emit.specs.PartLaws.{IsPartShort, StatesFlows};
+ghost use Rattle.irs_emit.specs.PartLaws.{StatesFlows};
 ghost use Rattle.irs_emit.specs.Emitted.{array_of, cashflows_value, emit_text, emit_value, exchange_value, known_exchanges, object_with, one_period, payment_value, period_values, stream_value};
 
 use crate::leaves;
@@ -167,7 +166,7 @@ fn document(alloc: Global, s: &Schedule) -> Result<Value, Memory>
 pub fn emit_flows(alloc: Global, s: &Schedule) -> Result<Vec<u8>, Memory>
     ensures text { IfOk result (λ bytes. bytes.items ≡ emit_text s.now) }
     ensures reads { IfOk result (λ bytes. Reads bytes.items (emit_value s.now)) }
-    ensures states { Every IsPartShort s.now → IfOk result (λ bytes. StatesFlows bytes.items s.now) }
+    ensures states { IfOk result (λ bytes. StatesFlows bytes.items s.now) }
 {
     s.bounds();
     let mut bytes = document(alloc, s)?.to_vec(alloc)?;

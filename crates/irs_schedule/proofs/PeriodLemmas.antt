@@ -4,6 +4,7 @@ use Rattle.std.specs.Prelude.{unsigned_abs}
 use Rattle.std.proofs.lemmas.List.FromFn.{get_or-map-range_with_len, length-map-range_with_len}
 use Rattle.std.specs.List.{range_with_len}
 use Rattle.jiff_core.proofs.SignedLemmas.{signed_arith}
+use Rattle.irs_base.proofs.DayListLemmas.{day_at_day}
 use Rattle.irs_base.specs.Days.{IsDay}
 use Rattle.irs_base.specs.DayLists.{AreDays}
 use Rattle.irs_terms.specs.declared.codes.DayCountCode.{DayCountCode}
@@ -57,11 +58,6 @@ next_day (x ∷ xs) (suc i) h low high = let e : suc i - 1 ≡ i = omega arith i
 pub in_order : (adjusted : List ℤ) (i : ℕ) → Rises adjusted → 0 < i → i ≤ count_of adjusted → start_of adjusted i <ℤ day_at adjusted i
 in_order adjusted i rises low high = next_day adjusted i rises low (omega (arith, low, high))
 
-pub is_day_at : (xs : List ℤ) (i : ℕ) → AreDays xs → i < length xs → IsDay (day_at xs i)
-is_day_at [] i h low = absurd (omega arith)
-is_day_at (x ∷ xs) zero h low = h.0
-is_day_at (x ∷ xs) (suc i) h low = is_day_at xs i h.1 (omega arith)
-
 -- the observed rate of a reset is a rate
 pub observed_small : (rs : List Reset) (j : ℕ) → Every (λ (r : Reset). IfSome r.observed IsRate) rs → IfSome (option_and_then (λ (r : Reset). r.observed) (slice_get rs j)) IsRate
 observed_small [] j h = tt
@@ -106,8 +102,8 @@ entries_within terms unadjusted adjusted resets notional leg observed days rises
     let b = day_at adjusted i in
     let last = i == count_of adjusted in
     let order : a <ℤ b = in_order adjusted i rises (omega (arith, low)) (omega (arith, high)) in
-    let from = is_day_at adjusted (i - 1) days (omega (arith, low, high)) in
-    let to = is_day_at adjusted i days (omega (arith, low, high)) in
+    let from = day_at_day adjusted (i - 1) days in
+    let to = day_at_day adjusted i days in
     record {
       days = days_small code a b last from to order;
       notional = value_within IsNotional terms.notional (start_of unadjusted i) notional;

@@ -25,7 +25,7 @@ use Rattle.irs_schedule.specs.declared.entries.PeriodEntry.{PeriodEntry}
 use Rattle.irs_schedule.specs.PeriodTerms.{IsPeriodTerm, IsPeriodEntry, AreTerms, IsAmountBy, IsAmountFor}
 use Rattle.irs_schedule.specs.Schedules.{payment_of}
 use Rattle.irs_schedule.specs.Periods.{observed_of}
-use Rattle.irs_schedule.proofs.PeriodLemmas.{is_day_at}
+use Rattle.irs_base.proofs.DayListLemmas.{day_at_day}
 use Rattle.irs_terms.specs.StepDates.{StepsRise, LegStepsRise}
 use Rattle.irs_base.specs.Members.{EachNumbered, Every, day_at}
 use Rattle.irs_base.proofs.MemberLemmas.{one_numbered}
@@ -72,8 +72,8 @@ module _ (s : Stream) (b a : List ℤ) (rs : List Reset) (rises : StepsRise s.no
   -- the days of a rising list of days bound the fractions of its periods
   frac_fits : (i : ℕ) (t : PeriodTerm) → AreDays a → IsRising a → 1 ≤ i → i < length a → IsPeriodTerm s b a rs i t → IsFraction t.frac
   frac_fits i t days rising low high h =
-      let start : IsDay (day_at a (i - 1)) = is_day_at a (i - 1) days (omega (arith, low, high)) in
-      let end : IsDay (day_at a i) = is_day_at a i days high in
+      let start : IsDay (day_at a (i - 1)) = day_at_day a (i - 1) days in
+      let end : IsDay (day_at a i) = day_at_day a i days in
       let order : day_at a (i - 1) <ℤ day_at a i = rises_at a (i - 1) i rising (omega (arith, low)) high in
       fraction_fits s.day_count (day_at a (i - 1)) (day_at a i) t.frac start end (fraction_bounded s.day_count (day_at a (i - 1)) (day_at a i) (i == length a - 1) t.frac start end order h.frac) (one_denominator s.day_count (day_at a (i - 1)) (day_at a i) (i == length a - 1) t.frac h.frac)
 

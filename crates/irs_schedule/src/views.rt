@@ -9,17 +9,24 @@ use crate::streams::StreamPart;
 use irs_base::Day;
 use irs_terms::Frac;
 
-/// A calculation period: its unadjusted and adjusted dates, its days, its day count fraction, its
-/// notional in units of 10^-4, and its rate in units of 10^-9 where it is known.
+/// A calculation period.
 #[derive(Clone, Copy, Debug, PartialEq, Eq)]
 pub struct CalculationPeriod {
+    /// The unadjusted start: the boundary before the period.
     pub start: Day,
+    /// The unadjusted end: the boundary behind it.
     pub end: Day,
+    /// The start, adjusted.
     pub adjusted_start: Day,
+    /// The end, adjusted.
     pub adjusted_end: Day,
+    /// Its days by the day count, from the adjusted start to the adjusted end.
     pub days: i64,
+    /// Its day count fraction, not reduced.
     pub frac: Frac,
+    /// The notional in units of 10^-4, in force on the unadjusted start.
     pub notional: i128,
+    /// The rate in units of 10^-9, where it is known.
     pub rate: Option<i64>,
 }
 
