@@ -8,7 +8,7 @@ ghost use Rattle.irs_base.specs.Paths.{path_of};
 ghost use Rattle.irs_base.specs.declared.places.Fault.{Fault as BrokenRule};
 ghost use Rattle.irs_overnight.specs.DerivedRows.{AreDerived};
 ghost use Rattle.irs_overnight.specs.FileLaw.{IsInRange};
-ghost use Rattle.irs_overnight.specs.DerivedRules.{BreaksDerived, NotAfter, day_count_fraction, derived_before, no_basis, not_after_at};
+ghost use Rattle.irs_overnight.specs.DerivedRules.{BreaksDerived, NotAfter, derived_before, no_basis, not_after_at};
 ghost use Rattle.irs_overnight.specs.DailySources.{daily_source};
 ghost use Rattle.irs_overnight.specs.Sources.{basis_of};
 
@@ -20,9 +20,6 @@ use irs_resets::Fixings;
 use irs_schedule::StreamPart;
 use irs_terms::{DayCountCode, Reset};
 use std::alloc::Global;
-
-/// The place of `calculationPeriodAmount/calculation/dayCountFraction` in the table of elements.
-const DAY_COUNT_FRACTION: u8 = 109;
 
 // The days of the year by which daily interest counts.
 fn basis_of(code: DayCountCode) -> Option<u16>
@@ -44,18 +41,15 @@ fn basis_of(code: DayCountCode) -> Option<u16>
 fn without_basis() -> Fault
     ensures { result ≡ no_basis }
 {
-    match Elem::at(DAY_COUNT_FRACTION) {
-        Some(elem) => Fault {
-            rule: Rule::K42,
-            elem,
-            index: 0,
-        },
-        None => unreachable!(),
+    Fault {
+        rule: Rule::K42,
+        elem: Elem::DAY_COUNT_FRACTION,
+        index: 0,
     }
 }
 
-// K41 of the period with that number.
-fn unrising(number: u32) -> Fault
+/// K41, the fixing date isn't after that of the period before it, at the period with that number, from 1.
+pub fn unrising(number: u32) -> Fault
     ensures { result ≡ not_after_at number }
 {
     Fault {
@@ -65,8 +59,8 @@ fn unrising(number: u32) -> Fault
     }
 }
 
-// The lowest period whose fixing date isn't after that of the period before it.
-fn first_unrising(resets: &[Reset]) -> Option<u32>
+/// The number, from 1, of the lowest period whose fixing date isn't after that of the period before it.
+pub fn first_unrising(resets: &[Reset]) -> Option<u32>
     requires { length resets.now < 2 ^ 32 }
     ensures { IsFirst nat_lt (NotAfter resets.now) result }
 {
