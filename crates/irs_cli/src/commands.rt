@@ -5,15 +5,17 @@
 //! FLOWS agree with that schedule. `emit DOC FIX CAL..` asks for the schedule as cash flows,
 //! `accrue DATE DOC FIX CAL..` what has accrued on a day in each stream of that schedule, and
 //! `net DOC FIX CAL..` what falls due between the two parties. `overnight STREAM DOC DAILY CAL..` asks
-//! for the rates that the daily rates of DAILY give for the periods of a stream. `-` as FIX or DAILY
-//! means no fixings. Each takes 0 to 16 calendars.
+//! for the rates that the daily rates of DAILY give for the periods of a stream,
+//! `average STREAM MEAN STEP DOC FIX CAL..` for the averages of its rates over them, and
+//! `interpolate STREAM SIDE LOW HIGH DOC FIX CAL..` for the rate of its stub on a side between those of
+//! two tenors. `-` as FIX or DAILY means no fixings. Each takes 0 to 16 calendars.
 //!
 //! A command is data: how many of its words are parameters, the roles of its files in the order of the
 //! words, and how many calendars may follow.
 ghost use Rattle.std.specs.Prelude.{◌≡◌, ◌≤◌, ◌+◌, map, length, option_map, IfOk, IfSome, IfNone};
 ghost use Rattle.irs_cli.specs.Commands.{texts, kind_of, params_of, roles_of, calendars_of, counts, role_at, is_file, IsRequest, IsCommand, IsCommandAs, asked_by, wanted_by, files_from, most_words};
 
-use crate::params::{accrue_of, overnight_of};
+use crate::params::{accrue_of, average_of, interpolate_of, overnight_of};
 use irs_answers::Task;
 use irs_base::{MOST_FILES, Memory};
 use std::alloc::Global;
@@ -28,6 +30,8 @@ pub(crate) enum Kind {
     Accrue,
     Net,
     Overnight,
+    Average,
+    Interpolate,
 }
 
 /// What is asked for, with its parameters.
@@ -79,6 +83,10 @@ fn kind_of(word: &str) -> Option<Kind>
         Some(Kind::Net)
     } else if word == "overnight" {
         Some(Kind::Overnight)
+    } else if word == "average" {
+        Some(Kind::Average)
+    } else if word == "interpolate" {
+        Some(Kind::Interpolate)
     } else {
         None
     }
@@ -97,6 +105,8 @@ impl Kind {
             Kind::Accrue => 1,
             Kind::Net => 0,
             Kind::Overnight => 1,
+            Kind::Average => 3,
+            Kind::Interpolate => 4,
         }
     }
 
@@ -112,6 +122,8 @@ impl Kind {
             Kind::Accrue => &[Role::Document, Role::Fixings],
             Kind::Net => &[Role::Document, Role::Fixings],
             Kind::Overnight => &[Role::Document, Role::Fixings],
+            Kind::Average => &[Role::Document, Role::Fixings],
+            Kind::Interpolate => &[Role::Document, Role::Fixings],
         }
     }
 
@@ -127,6 +139,8 @@ impl Kind {
             Kind::Accrue => MOST_FILES,
             Kind::Net => MOST_FILES,
             Kind::Overnight => MOST_FILES,
+            Kind::Average => MOST_FILES,
+            Kind::Interpolate => MOST_FILES,
         }
     }
 }
@@ -184,6 +198,8 @@ fn request_of(kind: Kind, params: &[String]) -> Option<Request>
         Kind::Accrue => accrue_of(params),
         Kind::Net => Some(Request::OverFiles(Task::Net)),
         Kind::Overnight => overnight_of(params),
+        Kind::Average => average_of(params),
+        Kind::Interpolate => interpolate_of(params),
     }
 }
 
