@@ -2,23 +2,26 @@
 //!
 //! The calendar is read once. A document's own faults are told before those of the calendar, as
 //! `schedule` tells them. What one document needs is let go before the next.
-ghost use Rattle.std.specs.Prelude.{◌≡◌, ◌+◌, ◌<◌, ◌≤◌, [], ◌∷◌, IfErr, IfOk, IfSome, MatchResult};
-ghost use Rattle.irs_calendar.specs.Calendars.{spot_of};
-ghost use Rattle.irs_calendar.specs.FirstFaults.{IsFirstFault};
-ghost use Rattle.irs_calendar.specs.Grammar.{CalFiles};
+ghost use Rattle.std.specs.Prelude.{◌≡◌, ◌<◌, ◌≤◌, ◌^◌, [], ◌∷◌, map, IfErr, IfOk};
+ghost use Rattle.irs_terms.specs.Lawful.{IsLawful};
+ghost use Rattle.irs_answers.specs.Due.{Spells};
 ghost use Rattle.irs_answers.specs.Outcomes.{Ends, IfAnswered, IfRefused};
+ghost use Rattle.irs_answers.specs.declared.tasks.Task.TheVariants.{Schedule as OfSchedule};
 ghost use Rattle.irs_bulk.specs.BulkCalendars.{calendar_text};
-ghost use Rattle.irs_bulk.specs.BulkLines.{IsRun};
-ghost use Rattle.irs_bulk.specs.BulkRuns.{Adds, AreSums, DueAt, DueBulk, DueSchedule, IsScheduleOf, agree_of, first_of, one_total};
-ghost use Rattle.irs_bulk.specs.Documents.{most_bulk};
+ghost use Rattle.irs_bulk.specs.BulkLines.{IsRun, line_text};
+ghost use Rattle.irs_bulk.specs.BulkRuns.{Adds, AreSums, DueAt, DueBulk, DueSchedule, IsCalendar, IsScheduleOf, agree_of, first_of, one_total};
+ghost use Rattle.irs_bulk.specs.Documents.{document_text, most_bulk};
 
 use crate::{Totals, bulk_calendar, bulk_doc, bulk_text};
-use irs_answers::{Refusal, Reply, schedule_of, swap_of};
+use irs_answers::{Refusal, Reply, schedule_of};
 use irs_audit::{Verdict, audit, flows_of, sums_of};
 use irs_base::{Line, Memory};
 use irs_calendar::{CalErr, Calendars};
+use irs_json::parse;
+use irs_read::read_swap;
 use irs_resets::Fixings;
 use irs_schedule::Schedule;
+use irs_terms::Swap;
 use std::alloc::Global;
 
 /// What `bulk N` comes to (the command is this project's own). For each k from 1 to N the schedule of
@@ -111,12 +114,23 @@ fn schedule_at(
     ensures schedule { IfOk result (IsScheduleOf plain k) }
     ensures refused { IfErr result (λ r. IfRefused r (Ends (DueSchedule plain k))) }
 {
-    let document = bulk_doc(alloc, k, plain)?;
-    let swap = swap_of(alloc, &document)?;
+    let swap = swap_at(alloc, k, plain)?;
     match calendars {
         Ok(calendars) => schedule_of(alloc, &swap, calendars, &Fixings::none()),
         Err(fault) => Err(Refusal::Calendars(*fault)),
     }
+}
+
+// The swap of document k, or of its plain form; or what `schedule` says where there is none.
+fn swap_at(alloc: Global, k: u32, plain: bool) -> Result<Swap, Refusal>
+    requires low { 0 < k }
+    requires high { k ≤ most_bulk }
+    ensures spells { IfOk result (λ swap. Spells OfSchedule (document_text plain k) swap None) }
+    ensures lawful { IfOk result IsLawful }
+    ensures refused { IfErr result (λ r. IfRefused r (Ends (DueSchedule plain k))) }
+{
+    let document = parse(alloc, &bulk_doc(alloc, k, plain)?)?;
+    Ok(read_swap(alloc, &document)?)
 }
 
 // What is added up of one schedule, and of a verdict on flows against it.
