@@ -2,17 +2,17 @@
 use Rattle.std.specs.Prelude.{◌≡◌, ℕ, ◌+◌, List, [], ◌∷◌, ◌++◌, length, map, take, drop, Option, Some, None, unwrap_or, codes, slice_get, String, string_bytes, Bool, true, not, ◌&&◌, nat_le, ℤ, if◌then◌else◌}
 use Rattle.std.specs.Str.{bytes_eq}
 use Rattle.std.specs.declared.alloc.Global.{Global}
-use Rattle.irs_base.specs.Days.{IsDay}
-use Rattle.irs_base.specs.Limits.{most_files}
-use Rattle.irs_base.specs.Texts.{IsDateText}
+use Rattle.irs_answers.specs.Given.{most_calendars}
+use Rattle.irs_answers.specs.declared.tasks.Task.TheVariants as task
 use Rattle.irs_cli.specs.declared.commands.Kind.{Kind}
 use Rattle.irs_cli.specs.declared.commands.Kind.TheVariants as kind
-use Rattle.irs_cli.specs.declared.commands.Task.{Task}
-use Rattle.irs_cli.specs.declared.commands.Task.TheVariants.{Check, Schedule, Audit, Emit, Accrue}
+use Rattle.irs_cli.specs.declared.commands.Request.{Request}
+use Rattle.irs_cli.specs.declared.commands.Request.TheVariants.{OverFiles}
 use Rattle.irs_cli.specs.declared.commands.Role.{Role}
 use Rattle.irs_cli.specs.declared.commands.Role.TheVariants.{Document, Fixings, Flows, Calendar}
 use Rattle.irs_cli.specs.declared.commands.Named.{Named}
 use Rattle.irs_cli.specs.declared.commands.Command.{Command}
+use Rattle.irs_cli.specs.Params.{IsDateAt, IsStreamAt}
 
 -- the words behind the program's name, by their bytes
 abbrev pub Words : Type 0
@@ -30,7 +30,7 @@ pub record Wanted : Type 0 where
 
 -- a command: what is asked for, and its files in the order of the words
 pub record Asked : Type 0 where
-  pub task : Task
+  pub request : Request
   pub files : List Wanted
 
 -- a file and a command as the code keeps them
@@ -39,11 +39,7 @@ wanted_by n = record { place = n.place; role = n.role; name = n.name.now }
 
 -- the same of a command
 abbrev pub asked_by : Command → Asked
-asked_by c = record { task = c.task; files = map wanted_by c.files.items }
-
--- the most calendars of a command
-abbrev pub most_calendars : ℕ
-most_calendars = most_files
+asked_by c = record { request = c.request; files = map wanted_by c.files.items }
 
 -- no command has more words behind its parameters
 abbrev pub most_words : ℕ
@@ -58,7 +54,9 @@ kind_of w =
     if bytes_eq w (codes "schedule") then Some kind.Schedule else
     if bytes_eq w (codes "audit") then Some kind.Audit else
     if bytes_eq w (codes "emit") then Some kind.Emit else
-    if bytes_eq w (codes "accrue") then Some kind.Accrue else None
+    if bytes_eq w (codes "accrue") then Some kind.Accrue else
+    if bytes_eq w (codes "net") then Some kind.Net else
+    if bytes_eq w (codes "overnight") then Some kind.Overnight else None
 
 -- how many words come before its files
 abbrev pub params_of : Kind → ℕ
@@ -67,6 +65,8 @@ params_of kind.Schedule = 0
 params_of kind.Audit = 0
 params_of kind.Emit = 0
 params_of kind.Accrue = 1
+params_of kind.Net = 0
+params_of kind.Overnight = 1
 
 -- the roles of its first files, in the order of the words
 abbrev pub roles_of : Kind → List Role
@@ -75,6 +75,8 @@ roles_of kind.Schedule = Document ∷ Fixings ∷ []
 roles_of kind.Audit = Document ∷ Fixings ∷ Flows ∷ []
 roles_of kind.Emit = Document ∷ Fixings ∷ []
 roles_of kind.Accrue = Document ∷ Fixings ∷ []
+roles_of kind.Net = Document ∷ Fixings ∷ []
+roles_of kind.Overnight = Document ∷ Fixings ∷ []
 
 -- how many calendars may follow
 abbrev pub calendars_of : Kind → ℕ
@@ -83,14 +85,8 @@ calendars_of kind.Schedule = most_calendars
 calendars_of kind.Audit = most_calendars
 calendars_of kind.Emit = most_calendars
 calendars_of kind.Accrue = most_calendars
-
--- whether a task's schedule is made with the rates of the file of fixings; where there is no file, there are no rates
-abbrev pub uses_rates : Task → Bool
-uses_rates Check = true
-uses_rates Schedule = true
-uses_rates Audit = true
-uses_rates Emit = true
-uses_rates (Accrue date) = true
+calendars_of kind.Net = most_calendars
+calendars_of kind.Overnight = most_calendars
 
 -- ---- what the table says of words
 
@@ -118,27 +114,20 @@ files_from roles place i (w ∷ ws) = kept (role_at roles i) place w ++ files_fr
 abbrev pub counts : Kind → ℕ → Bool
 counts k n = nat_le (params_of k + length (roles_of k)) n && nat_le n (params_of k + length (roles_of k) + calendars_of k)
 
--- the word is a date of the day: YYYY-MM-DD, with or without a Z behind it
-pub record IsDateWord (w : List ℕ) (d : ℤ) : Type 0 where
-  pub in_range : IsDay d
-  pub is : IsDateText w d
-
--- the word with this index is a date of the day
-abbrev pub IsDateAt : Words → ℕ → ℤ → Type 0
-IsDateAt ps i d = (w : List ℕ) × (slice_get ps i ≡ Some w) × IsDateWord w d
-
 -- what a command of a kind asks for by its parameters
-abbrev pub IsTask : Kind → Words → Task → Type 0
-IsTask kind.Check ps t = t ≡ Check
-IsTask kind.Schedule ps t = t ≡ Schedule
-IsTask kind.Audit ps t = t ≡ Audit
-IsTask kind.Emit ps t = t ≡ Emit
-IsTask kind.Accrue ps t = (d : ℤ) × IsDateAt ps 0 d × (t ≡ Accrue d)
+abbrev pub IsRequest : Kind → Words → Request → Type 0
+IsRequest kind.Check ps r = r ≡ OverFiles task.Check
+IsRequest kind.Schedule ps r = r ≡ OverFiles task.Schedule
+IsRequest kind.Audit ps r = r ≡ OverFiles task.Audit
+IsRequest kind.Emit ps r = r ≡ OverFiles task.Emit
+IsRequest kind.Accrue ps r = (d : ℤ) × IsDateAt ps 0 d × (r ≡ OverFiles (task.Accrue d))
+IsRequest kind.Net ps r = r ≡ OverFiles task.Net
+IsRequest kind.Overnight ps r = (n : ℕ) × IsStreamAt ps 0 n × (r ≡ OverFiles (task.Overnight n))
 
 -- the words behind the name of a command of this kind are those of a
 pub record AsksAs (k : Kind) (ws : Words) (a : Asked) : Type 0 where
   pub fits : counts k (length ws) ≡ true
-  pub task : IsTask k (take (params_of k) ws) a.task
+  pub request : IsRequest k (take (params_of k) ws) a.request
   pub files : a.files ≡ files_from (roles_of k) (params_of k + 1) 0 (drop (params_of k) ws)
 
 -- the words are this command

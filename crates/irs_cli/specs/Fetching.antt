@@ -1,16 +1,13 @@
 -- What a fetch of files gives.
-use Rattle.std.specs.Prelude.{◌≡◌, ℕ, ◌<◌, ◌≤◌, List, length, map, Option, Some, option_map, IfSome, Result, Ok, Err, Vec}
+use Rattle.std.specs.Prelude.{◌≡◌, ℕ, ◌<◌, ◌≤◌, List, length, Option, Some, IfSome, Result, Ok, Err, Vec}
 use Rattle.std.specs.declared.alloc.Global.{Global}
-use Rattle.irs_cli.specs.declared.fetching.Fetched.{Fetched}
+use Rattle.irs_answers.specs.Given.{given_by, no_files, too_many}
+use Rattle.irs_answers.specs.declared.files.TaskFiles.{TaskFiles}
 use Rattle.irs_cli.specs.declared.fetching.Unfetched.{Unfetched}
 use Rattle.irs_cli.specs.declared.fetching.Unfetched.TheVariants.{NoFile, TooLong, Memory}
 use Rattle.irs_outside.specs.Outside.{Rose}
 use Rattle.irs_cli.specs.Commands.{Wanted}
-use Rattle.irs_cli.specs.Given.{Told, Given, Gathers, Reaches, no_files, too_many}
-
--- the files as the code keeps them
-abbrev pub given_by : Fetched → Given
-given_by f = record { document = f.document.items; fixings = option_map (λ v. v.items) f.fixings; flows = f.flows.items; calendars = map (λ v. v.items) f.calendars.items }
+use Rattle.irs_cli.specs.Given.{Told, Gathers, Reaches}
 
 -- the bytes are those of the name, where it is told, and they aren't too many
 abbrev pub Holds : Told → List ℕ → List ℕ → Type 0
@@ -48,6 +45,6 @@ FetchesOne told failed before now name place (Ok bytes) = Holds told name bytes.
 FetchesOne told failed before now name place (Err e) = StopsOne told failed before now name place e
 
 -- what the fetch of all files gives: each in order, by role
-abbrev pub FetchesAll : Told → Option (List ℕ) → ℕ → ℕ → List Wanted → Result Fetched Unfetched → Type 0
+abbrev pub FetchesAll : Told → Option (List ℕ) → ℕ → ℕ → List Wanted → Result TaskFiles Unfetched → Type 0
 FetchesAll told failed before now ws (Ok f) = Gathers (Holds told) ws no_files (given_by f) × (now ≡ before)
 FetchesAll told failed before now ws (Err e) = Stops told ws failed before now e

@@ -1,28 +1,13 @@
--- The bytes of the files that a command names.
-use Rattle.std.specs.Prelude.{◌≡◌, ◌⊎◌, ℕ, ◌+◌, ◌<◌, ◌≤◌, List, [], ◌∷◌, ◌++◌, length, All, Option, Some, None, IfSome}
-use Rattle.irs_base.specs.Limits.{most_bytes}
+-- The files that a command names, as a source tells them.
+use Rattle.std.specs.Prelude.{◌≡◌, ◌⊎◌, ℕ, ◌<◌, ◌≤◌, List, [], ◌∷◌, ◌++◌, length, Option, Some}
+use Rattle.irs_answers.specs.Given.{Given, no_files, too_many}
 use Rattle.irs_cli.specs.declared.commands.Role.{Role}
 use Rattle.irs_cli.specs.declared.commands.Role.TheVariants.{Document, Fixings, Flows, Calendar}
-use Rattle.irs_cli.specs.Commands.{Words, Wanted, Asked, Asks, most_calendars}
+use Rattle.irs_cli.specs.Commands.{Words, Wanted, Asked, Asks}
 
 -- what a source tells of each name
 abbrev pub Told : Type 0
 Told = List ℕ → Option (List ℕ)
-
--- one byte more than a file may have
-abbrev pub too_many : ℕ
-too_many = most_bytes + 1
-
--- the files of a command by role
-pub record Given : Type 0 where
-  pub document : List ℕ
-  pub fixings : Option (List ℕ)
-  pub flows : List ℕ
-  pub calendars : List (List ℕ)
-
--- no file yet
-abbrev pub no_files : Given
-no_files = record { document = []; fixings = None; flows = []; calendars = [] }
 
 -- the files with one more
 abbrev pub with_file : Given → Role → List ℕ → Given
@@ -72,9 +57,3 @@ pub record IsLongAt (told : Told) (place : ℕ) (w : Wanted) : Type 0 where
 -- the file at this place is too long, and each before it is told and isn't
 abbrev pub IsFirstLong : Told → Asked → ℕ → Type 0
 IsFirstLong told a place = Reaches (IsShort told) (IsLongAt told place) a.files
-
--- the limits that the readers of the files ask for
-pub record IsWithin (g : Given) : Type 0 where
-  pub fixings : IfSome g.fixings (λ bytes. length bytes < too_many)
-  pub calendars : All (λ bytes. length bytes < too_many) g.calendars
-  pub few : length g.calendars ≤ most_calendars

@@ -1,12 +1,8 @@
+pub mod Params
 pub mod Commands
 pub mod Given
 pub mod Fetching
 pub mod Messages
-pub mod FlowMessages
-pub mod Steps
-pub mod Accrued
 pub mod Due
-pub mod Replying
 pub mod Outcomes
-pub mod Found
 pub mod Run

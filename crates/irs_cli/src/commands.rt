@@ -2,16 +2,20 @@
 //!
 //! `check DOC CAL..` asks whether a document keeps every rule, without fixings,
 //! `schedule DOC FIX CAL..` for its schedule, and `audit DOC FIX FLOWS CAL..` whether the cash flows of
-//! FLOWS agree with that schedule. `emit DOC FIX CAL..` asks for the schedule as cash flows, and
-//! `accrue DATE DOC FIX CAL..` what has accrued on a day in each
-//! stream of that schedule. `-` as FIX means no fixings. Each takes 0 to 16 calendars.
+//! FLOWS agree with that schedule. `emit DOC FIX CAL..` asks for the schedule as cash flows,
+//! `accrue DATE DOC FIX CAL..` what has accrued on a day in each stream of that schedule, and
+//! `net DOC FIX CAL..` what falls due between the two parties. `overnight STREAM DOC DAILY CAL..` asks
+//! for the rates that the daily rates of DAILY give for the periods of a stream. `-` as FIX or DAILY
+//! means no fixings. Each takes 0 to 16 calendars.
 //!
 //! A command is data: how many of its words are parameters, the roles of its files in the order of the
 //! words, and how many calendars may follow.
-ghost use Rattle.std.specs.Prelude.{◌≡◌, ◌≤◌, ◌+◌, map, length, option_map, ℤ, IfOk, IfSome, IfNone};
-ghost use Rattle.irs_cli.specs.Commands.{texts, kind_of, params_of, roles_of, calendars_of, counts, role_at, is_file, IsTask, IsDateWord, IsDateAt, IsCommand, IsCommandAs, asked_by, wanted_by, files_from, uses_rates, most_words};
+ghost use Rattle.std.specs.Prelude.{◌≡◌, ◌≤◌, ◌+◌, map, length, option_map, IfOk, IfSome, IfNone};
+ghost use Rattle.irs_cli.specs.Commands.{texts, kind_of, params_of, roles_of, calendars_of, counts, role_at, is_file, IsRequest, IsCommand, IsCommandAs, asked_by, wanted_by, files_from, most_words};
 
-use irs_base::{Day, MOST_FILES, Memory, read_date};
+use crate::params::{accrue_of, overnight_of};
+use irs_answers::Task;
+use irs_base::{MOST_FILES, Memory};
 use std::alloc::Global;
 
 /// A command by its name.
@@ -22,21 +26,15 @@ pub(crate) enum Kind {
     Audit,
     Emit,
     Accrue,
+    Net,
+    Overnight,
 }
 
 /// What is asked for, with its parameters.
 #[derive(Clone, Copy, Debug, PartialEq, Eq)]
-pub(crate) enum Task {
-    /// Whether a document keeps every rule.
-    Check,
-    /// The schedule of a document.
-    Schedule,
-    /// Whether cash flows agree with the schedule of a document.
-    Audit,
-    /// The schedule of a document as cash flows.
-    Emit,
-    /// What has accrued on a day in each stream of the schedule.
-    Accrue(Day),
+pub(crate) enum Request {
+    /// A task over the files that the words name.
+    OverFiles(Task),
 }
 
 /// What a file is to a command.
@@ -59,7 +57,7 @@ pub(crate) struct Named<'w> {
 /// A listed command: what is asked for, and the files in the order of the words.
 #[derive(Drop)]
 pub(crate) struct Command<'w> {
-    pub(crate) task: Task,
+    pub(crate) request: Request,
     pub(crate) files: Vec<Named<'w>>,
 }
 
@@ -77,6 +75,10 @@ fn kind_of(word: &str) -> Option<Kind>
         Some(Kind::Emit)
     } else if word == "accrue" {
         Some(Kind::Accrue)
+    } else if word == "net" {
+        Some(Kind::Net)
+    } else if word == "overnight" {
+        Some(Kind::Overnight)
     } else {
         None
     }
@@ -93,6 +95,8 @@ impl Kind {
             Kind::Audit => 0,
             Kind::Emit => 0,
             Kind::Accrue => 1,
+            Kind::Net => 0,
+            Kind::Overnight => 1,
         }
     }
 
@@ -106,6 +110,8 @@ impl Kind {
             Kind::Audit => &[Role::Document, Role::Fixings, Role::Flows],
             Kind::Emit => &[Role::Document, Role::Fixings],
             Kind::Accrue => &[Role::Document, Role::Fixings],
+            Kind::Net => &[Role::Document, Role::Fixings],
+            Kind::Overnight => &[Role::Document, Role::Fixings],
         }
     }
 
@@ -119,21 +125,8 @@ impl Kind {
             Kind::Audit => MOST_FILES,
             Kind::Emit => MOST_FILES,
             Kind::Accrue => MOST_FILES,
-        }
-    }
-}
-
-impl Task {
-    /// Whether the schedule is made with the rates of the file of fixings.
-    pub(crate) fn uses_rates(self) -> bool
-        ensures { result ≡ uses_rates self }
-    {
-        match self {
-            Task::Check => true,
-            Task::Schedule => true,
-            Task::Audit => true,
-            Task::Emit => true,
-            Task::Accrue(_) => true,
+            Kind::Net => MOST_FILES,
+            Kind::Overnight => MOST_FILES,
         }
     }
 }
@@ -163,11 +156,11 @@ fn command_as<'w>(
         return Ok(None);
     }
     let (params, names) = words.split_at(kind.params());
-    let Some(task) = task_of(kind, params) else {
+    let Some(request) = request_of(kind, params) else {
         return Ok(None);
     };
     let files = files_of(alloc, kind, names)?;
-    Ok(Some(Command { task, files }))
+    Ok(Some(Command { request, files }))
 }
 
 /// Whether a command may have so many words behind its name.
@@ -179,48 +172,19 @@ fn counts(kind: Kind, words: usize) -> bool
 }
 
 /// What a command asks for by its parameters.
-fn task_of(kind: Kind, params: &[String]) -> Option<Task>
-    ensures some { IfSome result (λ t. IsTask kind (texts params.now) t) }
-    ensures none { IfNone result ((t : TaskSpec) → IsTask kind (texts params.now) t → ⊥) }
+fn request_of(kind: Kind, params: &[String]) -> Option<Request>
+    ensures some { IfSome result (λ r. IsRequest kind (texts params.now) r) }
+    ensures none { IfNone result ((r : RequestSpec) → IsRequest kind (texts params.now) r → ⊥) }
 {
     match kind {
-        Kind::Check => Some(Task::Check),
-        Kind::Schedule => Some(Task::Schedule),
-        Kind::Audit => Some(Task::Audit),
-        Kind::Emit => Some(Task::Emit),
+        Kind::Check => Some(Request::OverFiles(Task::Check)),
+        Kind::Schedule => Some(Request::OverFiles(Task::Schedule)),
+        Kind::Audit => Some(Request::OverFiles(Task::Audit)),
+        Kind::Emit => Some(Request::OverFiles(Task::Emit)),
         Kind::Accrue => accrue_of(params),
+        Kind::Net => Some(Request::OverFiles(Task::Net)),
+        Kind::Overnight => overnight_of(params),
     }
-}
-
-/// `accrue` by its parameter.
-fn accrue_of(params: &[String]) -> Option<Task>
-    ensures some { IfSome result (λ t. IsTask Kind.Accrue (texts params.now) t) }
-    ensures none { IfNone result ((t : TaskSpec) → IsTask Kind.Accrue (texts params.now) t → ⊥) }
-{
-    match date_in(params) {
-        Some(date) => Some(Task::Accrue(date)),
-        None => None,
-    }
-}
-
-/// The day that the first of words is a date of.
-fn date_in(words: &[String]) -> Option<Day>
-    ensures some { IfSome result (λ d. IsDateAt (texts words.now) 0 d) }
-    ensures none { IfNone result ((d : ℤ) → IsDateAt (texts words.now) 0 d → ⊥) }
-{
-    let word = words.first()?;
-    date_of(word.as_str())
-}
-
-/// The day that a word is a date of.
-fn date_of(word: &str) -> Option<Day>
-    ensures some { IfSome result (λ d. IsDateWord word.now d) }
-    ensures none { IfNone result ((d : ℤ) → IsDateWord word.now d → ⊥) }
-{
-    let date = read_date(word.as_bytes())?;
-    // Hands the prover the range of the day.
-    let _number = date.number();
-    Some(date)
 }
 
 /// The files that the words behind the parameters name.
@@ -264,4 +228,4 @@ fn is_file(role: Role, word: &str) -> bool
     }
 }
 
-ghost use Rattle.irs_cli.specs.declared.commands.Task.{Task as TaskSpec};
+ghost use Rattle.irs_cli.specs.declared.commands.Request.{Request as RequestSpec};

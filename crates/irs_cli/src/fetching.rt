@@ -1,26 +1,19 @@
 //! Fetching the files of a command: all of them, in the order of the words.
 ghost use Rattle.std.specs.Prelude.{◌≡◌, ℕ, List, map, OnOk};
 ghost use Rattle.irs_cli.specs.Commands.{wanted_by};
-ghost use Rattle.irs_cli.specs.Given.{no_files, with_file};
-ghost use Rattle.irs_cli.specs.Fetching.{given_by, FetchesOne, FetchesAll};
+ghost use Rattle.irs_answers.specs.Given.{given_by};
+ghost use Rattle.irs_cli.specs.Given.{with_file};
+ghost use Rattle.irs_cli.specs.Fetching.{FetchesOne, FetchesAll};
 ghost use Rattle.irs_cli.specs.declared.fetching.Unfetched.TheVariants.{Memory as OfMemory};
 
 use crate::commands::{Named, Role};
 use crate::{FetchErr, Files};
+use irs_answers::TaskFiles;
 use irs_base::{MOST_BYTES, Memory};
 use std::alloc::Global;
 
 /// How many bytes of a file are asked for: one more than it may have.
 const MOST: usize = MOST_BYTES + 1;
-
-/// The bytes of the files, by role.
-#[derive(Drop)]
-pub(crate) struct Fetched {
-    pub(crate) document: Vec<u8>,
-    pub(crate) fixings: Option<Vec<u8>>,
-    pub(crate) flows: Vec<u8>,
-    pub(crate) calendars: Vec<Vec<u8>>,
-}
 
 /// What ended the fetching.
 #[derive(Clone, Copy, Debug, PartialEq, Eq)]
@@ -41,31 +34,17 @@ impl From<Memory> for Unfetched {
     }
 }
 
-impl Fetched {
-    /// No file.
-    pub(crate) fn new(alloc: Global) -> Fetched
-        ensures { given_by result ≡ no_files }
-    {
-        Fetched {
-            document: Vec::new(alloc),
-            fixings: None,
-            flows: Vec::new(alloc),
-            calendars: Vec::new(alloc),
-        }
+/// Takes the bytes of a file by its role.
+fn put_file(files: &mut TaskFiles, role: Role, bytes: Vec<u8>) -> Result<(), Memory>
+    ensures { OnOk result (given_by files.new ≡ with_file (given_by files.old) role bytes.items) }
+{
+    match role {
+        Role::Document => files.document = bytes,
+        Role::Fixings => files.fixings = Some(bytes),
+        Role::Flows => files.flows = bytes,
+        Role::Calendar => files.calendars.push(bytes)?,
     }
-
-    /// Takes the bytes of a file.
-    pub(crate) fn put(&mut self, role: Role, bytes: Vec<u8>) -> Result<(), Memory>
-        ensures { OnOk result (given_by self.new ≡ with_file (given_by self.old) role bytes.items) }
-    {
-        match role {
-            Role::Document => self.document = bytes,
-            Role::Fixings => self.fixings = Some(bytes),
-            Role::Flows => self.flows = bytes,
-            Role::Calendar => self.calendars.push(bytes)?,
-        }
-        Ok(())
-    }
+    Ok(())
 }
 
 /// The bytes of all files of a command; the first that can't be read or is too long ends it.
@@ -73,13 +52,13 @@ pub(crate) fn fetch_all<F: Files>(
     alloc: Global,
     names: &[Named<'_>],
     files: &mut F,
-) -> Result<Fetched, Unfetched>
+) -> Result<TaskFiles, Unfetched>
     ensures { FetchesAll (F.told files.old) (F.failed files.new) (F.faults files.old) (F.faults files.new) (map wanted_by names.now) result }
 {
-    let mut fetched = Fetched::new(alloc);
+    let mut fetched = TaskFiles::new(alloc);
     for named in names {
         let bytes = fetch(alloc, files, named.name, named.place)?;
-        fetched.put(named.role, bytes)?;
+        put_file(&mut fetched, named.role, bytes)?;
     }
     Ok(fetched)
 }

@@ -2,21 +2,17 @@
 //! any sink.
 #![tactic(auto)]
 
-mod accruing;
-mod answers;
 mod commands;
-mod due;
 mod fetching;
-mod flow_messages;
-mod flows;
-mod messages;
+mod params;
 mod program;
+mod putting;
 mod refusals;
-mod replies;
 mod rows;
 #[cfg(test)]
 mod tests;
 
+pub use irs_answers::Status;
 pub use irs_outside::{
     FetchErr, Files, MemFiles, MemSink, PutFailed, RealFiles, RealSink, Sink, SureFiles, SureSink,
 };

@@ -3,19 +3,21 @@
 //! Words, texts and statuses are this project's own. All memory is taken before the first put.
 ghost use Rattle.std.specs.Prelude.{◌≡◌, ◌≢◌, ◌⊎◌, ℕ, ◌<◌, List, IfOk};
 ghost use Rattle.irs_cli.specs.Commands.{texts, IsListed};
-ghost use Rattle.irs_cli.specs.Due.{Due, IsOneAnswer};
+ghost use Rattle.irs_answers.specs.Given.{IsWithin, given_by};
+ghost use Rattle.irs_answers.specs.Outcomes.{Ends};
+ghost use Rattle.irs_answers.specs.Replying.{reply_status, reply_text};
+ghost use Rattle.irs_cli.specs.Due.{Due, DueOf, IsOneAnswer};
 ghost use Rattle.irs_cli.specs.Given.{TellsAll};
 ghost use Rattle.irs_cli.specs.Outcomes.{IfAnswered};
 ghost use Rattle.irs_outside.specs.Outside.{Rose, Grew, GrewByFront};
-ghost use Rattle.irs_cli.specs.Replying.{reply_status, reply_text};
 ghost use Rattle.irs_cli.specs.Run.{NoFile, Replies};
 
-use crate::commands::command_of;
-use crate::due::reply_of;
+use crate::commands::{Request, command_of};
 use crate::fetching::fetch_all;
+use crate::putting::put_reply;
 use crate::refusals::Refusal;
-use crate::replies::{Reply, put_reply, refusal_reply};
 use crate::{Files, Sink};
+use irs_answers::{Reply, Status, TaskFiles, reply_of};
 use irs_base::Memory;
 use std::alloc::Global;
 
@@ -23,9 +25,10 @@ use std::alloc::Global;
 /// broken, 3 a calendar, fixing or flow file is outside its grammar or limits, 4 the words are no
 /// listed command, 5 a file can't be read, 6 a put failed, 7 want of memory, 8 a file is too long.
 ///
-/// The commands are `check DOC CAL..`, `schedule DOC FIX CAL..`, `audit DOC FIX FLOWS CAL..` and
-/// `accrue DATE DOC FIX CAL..`, with 0 to 16 calendars, and `-` as FIX for no fixings. All files are fetched first, in the order of the
-/// words; the flows are read when no rule is broken.
+/// The commands are `check DOC CAL..`, `schedule DOC FIX CAL..`, `audit DOC FIX FLOWS CAL..`,
+/// `emit DOC FIX CAL..`, `accrue DATE DOC FIX CAL..`, `net DOC FIX CAL..` and
+/// `overnight STREAM DOC DAILY CAL..`, with 0 to 16 calendars, and `-` as FIX or DAILY for no fixings.
+/// All files are fetched first, in the order of the words; the flows are read when no rule is broken.
 pub fn run<F: Files, S: Sink>(alloc: Global, words: &[String], files: &mut F, out: &mut S) -> u8
     // Want of memory: nothing was written.
     ensures memory { result ≡ 7 → S.written out.new ≡ S.written out.old }
@@ -59,9 +62,9 @@ pub fn run<F: Files, S: Sink>(alloc: Global, words: &[String], files: &mut F, ou
     match answer(alloc, words, files) {
         Ok(reply) => match put_reply(out, &reply) {
             Ok(()) => reply.status(),
-            Err(_) => 6,
+            Err(_) => Status::PutFailed.number(),
         },
-        Err(Memory) => 7,
+        Err(Memory) => Status::NoMemory.number(),
     }
 }
 
@@ -71,11 +74,11 @@ fn answer<F: Files>(alloc: Global, words: &[String], files: &mut F) -> Result<Re
 {
     match carry_out(alloc, words, files) {
         Ok(reply) => Ok(reply),
-        Err(refusal) => refusal_reply(alloc, refusal),
+        Err(refusal) => refusal.reply(alloc),
     }
 }
 
-// What the command of the words comes to, or why it isn't carried out.
+// What the command of the words comes to, or why it isn't carried out over its files.
 fn carry_out<F: Files>(alloc: Global, words: &[String], files: &mut F) -> Result<Reply, Refusal>
     ensures { IfAnswered result (Replies (texts words.now) (F.told files.old) (F.failed files.new) (F.faults files.old) (F.faults files.new)) }
 {
@@ -83,5 +86,15 @@ fn carry_out<F: Files>(alloc: Global, words: &[String], files: &mut F) -> Result
         return Err(Refusal::BadWords);
     };
     let fetched = fetch_all(alloc, &command.files, files)?;
-    reply_of(alloc, command.task, &fetched)
+    Ok(reply_to(alloc, command.request, &fetched)?)
+}
+
+// What a request over its files comes to.
+fn reply_to(alloc: Global, request: Request, files: &TaskFiles) -> Result<Reply, Memory>
+    requires { IsWithin (given_by files.now) }
+    ensures { IfOk result (λ r. Ends (DueOf request (given_by files.now)) (reply_status r) (reply_text r)) }
+{
+    match request {
+        Request::OverFiles(task) => reply_of(alloc, task, files),
+    }
 }

@@ -1,17 +1,15 @@
-//! Why a command isn't carried out.
-ghost use Rattle.std.specs.Prelude.{◌≡◌};
-ghost use Rattle.irs_cli.specs.Messages.{unreadable};
-ghost use Rattle.irs_cli.specs.Outcomes.{of_fetch, of_json, of_stopped};
-ghost use Rattle.irs_cli.specs.declared.refusals.Refusal.TheVariants.{Calendars as OfCalendars, Fixings as OfFixings, Flows as OfFlows, Memory as OfMemory};
+//! Why a request isn't carried out over files, and what is written then.
+ghost use Rattle.std.specs.Prelude.{◌≡◌, Some, IfOk};
+ghost use Rattle.irs_answers.specs.Replying.{reply_status, reply_text};
+ghost use Rattle.irs_cli.specs.Outcomes.{answer_of, of_fetch};
+ghost use Rattle.irs_cli.specs.declared.refusals.Refusal.TheVariants.{Memory as OfMemory};
 
 use crate::fetching::Unfetched;
-use irs_audit::FlowErr;
-use irs_base::{Broken, Elem, Memory, Place, Rule, Stopped};
-use irs_calendar::CalErr;
-use irs_json::JsonErr;
-use irs_resets::FixErr;
+use irs_answers::{Reply, Status};
+use irs_base::Memory;
+use std::alloc::Global;
 
-/// Why a command isn't carried out.
+/// Why a request isn't carried out over files.
 #[derive(Clone, Copy, Debug, PartialEq, Eq)]
 pub(crate) enum Refusal {
     /// The words are no listed command.
@@ -20,14 +18,6 @@ pub(crate) enum Refusal {
     NoFile(u32),
     /// The file of the word at this place behind the command is too long.
     TooLong(u32),
-    /// A rule is broken.
-    Rule(Broken),
-    /// A calendar file is outside its grammar or limits.
-    Calendars(CalErr),
-    /// The file of fixings is outside its grammar.
-    Fixings(FixErr),
-    /// The flows are out of shape.
-    Flows(FlowErr),
     /// Memory ran out.
     Memory,
 }
@@ -52,64 +42,20 @@ impl From<Memory> for Refusal {
     }
 }
 
-impl From<JsonErr> for Refusal {
-    ghost from_gives = { λ e r. r ≡ of_json e };
-
-    fn from(e: JsonErr) -> Refusal {
-        match e {
-            JsonErr::NotJson => Refusal::Rule(unreadable()),
-            JsonErr::Memory => Refusal::Memory,
+impl Refusal {
+    /// The line that tells of a refusal, with its status; want of memory has none.
+    pub(crate) fn reply(self, alloc: Global) -> Result<Reply, Memory>
+        ensures { IfOk result (λ r. answer_of self ≡ Some (reply_status r, reply_text r)) }
+    {
+        match self {
+            Refusal::BadWords => Reply::line(alloc, Status::BadWords, b"bad words\n"),
+            Refusal::NoFile(place) => {
+                Reply::numbered(alloc, Status::NoFile, b"no file ", place, b"\n")
+            }
+            Refusal::TooLong(place) => {
+                Reply::numbered(alloc, Status::TooLong, b"too long ", place, b"\n")
+            }
+            Refusal::Memory => Err(Memory),
         }
-    }
-}
-
-// What `read_swap` and `make_schedule` answer.
-impl From<Stopped<Broken>> for Refusal {
-    ghost from_gives = { λ e r. r ≡ of_stopped e };
-
-    fn from(e: Stopped<Broken>) -> Refusal {
-        match e {
-            Stopped::Broken(broken) => Refusal::Rule(broken),
-            Stopped::Memory => Refusal::Memory,
-        }
-    }
-}
-
-impl From<CalErr> for Refusal {
-    ghost from_gives = { λ e r. r ≡ OfCalendars e };
-
-    fn from(e: CalErr) -> Refusal {
-        Refusal::Calendars(e)
-    }
-}
-
-impl From<FixErr> for Refusal {
-    ghost from_gives = { λ e r. r ≡ OfFixings e };
-
-    fn from(e: FixErr) -> Refusal {
-        Refusal::Fixings(e)
-    }
-}
-
-impl From<FlowErr> for Refusal {
-    ghost from_gives = { λ e r. r ≡ OfFlows e };
-
-    fn from(e: FlowErr) -> Refusal {
-        Refusal::Flows(e)
-    }
-}
-
-/// The rule that a document without a JSON reading breaks.
-fn unreadable() -> Broken
-    ensures { result ≡ unreadable }
-{
-    let place = Place {
-        stream: 0,
-        elem: Elem::DOCUMENT,
-        index: 0,
-    };
-    Broken {
-        rule: Rule::K1,
-        place,
     }
 }

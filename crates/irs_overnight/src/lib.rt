@@ -14,7 +14,11 @@ mod texts;
 
 pub use compounding::{DerErr, overnight};
 pub use derived::{Derived, DerivedRow, Found};
-pub use streams::check_stream;
+pub use observations::{Observation, first_absent};
+pub use periods::fixing_date;
+pub use rules::{first_unrising, unrising};
+pub use starts::{days_ahead, days_between};
+pub use streams::{check_stream, floating_at, stream_at};
 pub use texts::{derived_text, rates_read_back};
 
 #[cfg(test)]

@@ -24,10 +24,10 @@ pub(crate) const ONE_DAY: Frequency = Frequency {
 /// A rate that was observed on a day, in units of 10^-9, `None` where it has no line; the weight is
 /// the number of days for which it holds.
 #[derive(Clone, Copy, Debug, PartialEq, Eq)]
-pub(crate) struct Observation {
-    pub(crate) day: Day,
-    pub(crate) weight: i64,
-    pub(crate) rate: Option<i64>,
+pub struct Observation {
+    pub day: Day,
+    pub weight: i64,
+    pub rate: Option<i64>,
 }
 
 // The start behind the one at a place, or the end behind the last.
@@ -131,7 +131,7 @@ pub(crate) fn observations<G: GoodDays>(
 }
 
 /// The day of the first observation without a rate.
-pub(crate) fn first_absent(observations: &[Observation]) -> Option<Day>
+pub fn first_absent(observations: &[Observation]) -> Option<Day>
     ensures { result ≡ first_absent observations.now }
 {
     for o in observations {

@@ -96,8 +96,8 @@ fn broken_by(why: PeriodFault, index: u32) -> Fault
     }
 }
 
-// The fixing date of a period, counted from 1.
-fn fixing_date(part: &StreamPart, number: usize) -> Day
+/// The fixing date of a period of a floating stream, counted from 1.
+pub fn fixing_date(part: &StreamPart, number: usize) -> Day
     requires floating { IsTrue part.now.floating }
     requires period { IsPeriod part.now.adjusted number }
     ensures value { result ≡ fixing_at part.now.resets number }

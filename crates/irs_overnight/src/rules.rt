@@ -54,8 +54,8 @@ fn without_basis() -> Fault
     }
 }
 
-// K41 of the period with that number.
-fn unrising(number: u32) -> Fault
+/// K41, the fixing date isn't after that of the period before it, at the period with that number, from 1.
+pub fn unrising(number: u32) -> Fault
     ensures { result ≡ not_after_at number }
 {
     Fault {
@@ -65,8 +65,8 @@ fn unrising(number: u32) -> Fault
     }
 }
 
-// The lowest period whose fixing date isn't after that of the period before it.
-fn first_unrising(resets: &[Reset]) -> Option<u32>
+/// The number, from 1, of the lowest period whose fixing date isn't after that of the period before it.
+pub fn first_unrising(resets: &[Reset]) -> Option<u32>
     requires { length resets.now < 2 ^ 32 }
     ensures { IsFirst nat_lt (NotAfter resets.now) result }
 {

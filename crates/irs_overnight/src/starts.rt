@@ -9,15 +9,15 @@ use irs_calendar::GoodDays;
 use std::alloc::Global;
 
 /// The number of days from one day to another.
-pub(crate) fn days_between(start: Day, end: Day) -> i64
+pub fn days_between(start: Day, end: Day) -> i64
     ensures value { result ≡ end -ℤ start }
     ensures small { unsigned_abs result < all_days }
 {
     i64::from(end.number()) - i64::from(start.number())
 }
 
-// The same where the second isn't before the first.
-fn days_ahead(start: Day, end: Day) -> u32
+/// The same where the second isn't before the first.
+pub fn days_ahead(start: Day, end: Day) -> u32
     requires { start ≤ℤ end }
     ensures value { start +ℤ pos result ≡ end }
 {

@@ -7,8 +7,8 @@ ghost use Rattle.irs_overnight.specs.Sources.{Floats, PaysFloating};
 use irs_base::{Broken, Elem, Fault, Rule};
 use irs_terms::{FloatTerms, Leg, Stream, Swap};
 
-// The stream with that number, from 1.
-fn stream_at(swap: &Swap, number: u8) -> Option<&Stream>
+/// The stream of a swap with that number, from 1.
+pub fn stream_at(swap: &Swap, number: u8) -> Option<&Stream>
     ensures some { IfSome result (λ s. (1 ≤ number) × (slice_get swap.now.streams (number - 1) ≡ Some s.now)) }
     ensures none { IfNone result (1 ≤ number → slice_get swap.now.streams (number - 1) ≡ None) }
 {
@@ -20,7 +20,7 @@ fn stream_at(swap: &Swap, number: u8) -> Option<&Stream>
 
 /// What the stream with that number, from 1, pays floating; `None` exactly where the swap has no
 /// such stream, or it is fixed.
-pub(crate) fn floating_at(swap: &Swap, number: u8) -> Option<&FloatTerms>
+pub fn floating_at(swap: &Swap, number: u8) -> Option<&FloatTerms>
     ensures some { IfSome result (λ f. PaysFloating swap.now number f.now) }
     ensures none { IfNone result ((f : Float) → PaysFloating swap.now number f → ⊥) }
 {

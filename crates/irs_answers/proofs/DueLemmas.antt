@@ -1,0 +1,196 @@
+-- What is due for the files of a task, step by step.
+use Rattle.std.proofs.Common.{◌≡◌, inl, inr, ℕ, List, [], Option, Some, None, Bool, true, false, Result, Ok, refl, sym, ◌∙◌, ap, subst, arith}
+use Rattle.std.specs.Prelude.{IfSome, if◌then◌else◌}
+use Rattle.std.proofs.lemmas.Option.{same_Some}
+use Rattle.serde_json.specs.Data.{Data}
+use Rattle.irs_base.specs.Faults.{IfStopped}
+use Rattle.irs_base.specs.Order.{First, Only, is_before}
+use Rattle.irs_base.specs.declared.places.Broken.{Broken}
+use Rattle.irs_base.specs.declared.stopped.Stopped.{Stopped}
+use Rattle.irs_base.specs.declared.stopped.Stopped.TheVariants as stopped
+use Rattle.irs_json.specs.Reading.{Reads}
+use Rattle.irs_json.specs.declared.reading.JsonErr.{JsonErr}
+use Rattle.irs_json.specs.declared.reading.JsonErr.TheVariants as json
+use Rattle.irs_read.specs.Documents.{DocumentFault}
+use Rattle.irs_read.specs.Meaning.{swap_in}
+use Rattle.irs_read.specs.Reading.{Means}
+use Rattle.irs_terms.specs.declared.stream_list.Swap.{Swap}
+use Rattle.irs_calendar.specs.Calendars.{Spot, spot_of}
+use Rattle.irs_calendar.specs.FirstFaults.{IsFirstFault as IsFirstCalendarFault}
+use Rattle.irs_calendar.specs.Grammar.{CalFiles}
+use Rattle.irs_calendar.specs.declared.calendars.CalErr.{CalErr}
+use Rattle.irs_calendar.specs.declared.calendars.CalErr.TheVariants as calendar
+use Rattle.irs_calendar.specs.declared.sections.Section.{Section}
+use Rattle.irs_calendar.proofs.FaultLemmas.{faulty_spell_none, one_first_fault}
+use Rattle.irs_calendar.proofs.GrammarLemmas.{spelt_is_read}
+use Rattle.irs_resets.specs.Rates.{RateTable}
+use Rattle.irs_resets.specs.declared.fixings.FixErr.{FixErr}
+use Rattle.irs_resets.specs.declared.fixings.FixErr.TheVariants as fixing
+use Rattle.irs_rules.specs.TermsRules.{IsFirstBroken as IsFirstOfTerms}
+use Rattle.irs_schedule.proofs.OneBroken.{one_broken}
+use Rattle.irs_schedule.specs.DatedRules.{DatedKept, DatedBroken}
+use Rattle.irs_schedule.specs.Parts.{Part}
+use Rattle.irs_schedule.specs.Schedules.{IsSchedule}
+use Rattle.irs_answers.specs.declared.commands.Task.{Task}
+use Rattle.irs_answers.specs.declared.commands.Task.TheVariants.{Check, Schedule, Audit, Emit, Accrue}
+use Rattle.irs_answers.specs.declared.refusals.Refusal.{Refusal}
+use Rattle.irs_answers.specs.declared.refusals.Refusal.TheVariants.{Calendars, Fixings}
+use Rattle.irs_answers.specs.declared.replies.Reply.{Reply}
+use Rattle.irs_answers.specs.Commands.{uses_rates}
+use Rattle.irs_answers.specs.Given.{Given}
+use Rattle.irs_answers.specs.Messages.{refused, unreadable, bad_calendar, bad_fixings}
+use Rattle.irs_answers.specs.Due.{Is, IsJson, SpellsSwap, AreFixings, IsFixingsFault, KeepsTerms, Refuses, Facts, facts, Answered, rates_for, DueKept, DueDated, DueTerms, DueFixings, DueCalendars, DueDocument, DueFor, Passes}
+use Rattle.irs_answers.specs.Outcomes.{of_json, of_stopped, Ends, FixingsFail, IfRefused, IfAnswered, IsRuleFirst, IsUnscheduled, IsScheduled}
+use Rattle.irs_answers.proofs.FirstLemmas.{one_first, one_fixings_fault, no_fixings}
+use Rattle.irs_answers.proofs.SameRates.{SameRates, same_back, same_file, schedule_same, kept_same, first_same_table, not_kept}
+use Rattle.irs_answers.proofs.StepLemmas.{answered_more, refused_more, ends_more, read, unread, kept, broken, rules_more}
+
+-- ---- the files say one thing
+
+pub one_reading : (bytes : List ℕ) (v w : Data) → Reads bytes v → Reads bytes w → w ≡ v
+one_reading bytes v w h k = same_Some w v (sym k.1 ∙ h.1)
+
+same_ok : {A E : Type 0} (x y : A) → (let r : Result A E = Ok x in r ≡ Ok y) → x ≡ y
+same_ok x y e = cc
+
+one_meaning : (v : Data) (s t : Swap) → Means v s → Means v t → t ≡ s
+one_meaning v s t h k =
+    let at : k.at ≡ h.at = same_ok k.at h.at (sym k.found ∙ h.found) in
+    k.says ∙ ap (λ (d : Data). swap_in d) at ∙ sym h.says
+
+one_calendars : (files : List (List ℕ)) (s t : List Section) → CalFiles files s → CalFiles files t → t ≡ s
+one_calendars files s t h k = same_ok t s (sym (spelt_is_read files t k) ∙ spelt_is_read files s h)
+
+one_fixings : (o : Option (List ℕ)) (t u : RateTable) → AreFixings o t → AreFixings o u → SameRates t u
+one_fixings None t u h k = λ index slot. rw (h, k) refl
+one_fixings (Some bytes) t u h k = same_file bytes t u h k
+
+-- ---- rates that can't be told apart
+
+same_if : (b : Bool) (t u : RateTable) → SameRates t u → SameRates (if b then t else []) (if b then u else [])
+same_if true t u e = e
+same_if false t u e = λ index slot. refl
+
+module _ (swap : Swap) (cal : List Section) (t u : RateTable) (e : SameRates t u) where
+  only_same : (s : List Part) → Only (IsSchedule swap cal t) s → Only (IsSchedule swap cal u) s
+  only_same s h = record { is = schedule_same t u e swap cal s h.is; only = λ y k. h.only y (schedule_same u t (same_back t u e) swap cal y k) }
+
+  refuses_same : (status : ℕ) (text : List ℕ) → Refuses (DatedBroken swap cal t) status text → Refuses (DatedBroken swap cal u) status text
+  refuses_same status text h = (h.0, record { is = first_same_table t u e swap cal h.0 h.1.is; only = λ y k. h.1.only y (first_same_table u t (same_back t u e) swap cal y k) }, h.2)
+
+answered_same : (t : Task) (g : Given) (swap : Swap) (cal : List Section) (r q : RateTable) (s : List Part) (status : ℕ) (text : List ℕ) → SameRates r q → Answered t g (facts swap cal r s) status text → Answered t g (facts swap cal q s) status text
+answered_same Check g swap cal r q s status text e h = h
+answered_same Schedule g swap cal r q s status text e h = h
+answered_same Audit g swap cal r q s status text e h = h
+answered_same Emit g swap cal r q s status text e h = h
+answered_same (Accrue date) g swap cal r q s status text e h = h
+
+module _ (t : Task) (g : Given) (swap : Swap) (cal : List Section) (r q : RateTable) (e : SameRates r q) (status : ℕ) (text : List ℕ) where
+  for_same : SameRates (rates_for t r) (rates_for t q)
+  for_same = same_if (uses_rates t) r q e
+
+  kept_too : DueKept t g swap cal r status text → DueKept t g swap cal q status text
+  kept_too z = (z.0, only_same swap cal (rates_for t r) (rates_for t q) for_same z.0 z.1, answered_same t g swap cal r q z.0 status text e z.2)
+
+  dated_same : DueDated t g swap cal r status text → DueDated t g swap cal q status text
+  dated_same k =
+      let x = rates_for t r in
+      let y = rates_for t q in
+      rules_more (DatedKept swap cal x) (DatedKept swap cal y) (Refuses (DatedBroken swap cal x) status text) (Refuses (DatedBroken swap cal y) status text) (DueKept t g swap cal r status text) (DueKept t g swap cal q status text)
+      (kept_same x y for_same swap cal) (kept_same y x (same_back x y for_same) swap cal) (refuses_same swap cal x y for_same status text) kept_too k
+
+  terms_same : DueTerms t g swap cal r status text → DueTerms t g swap cal q status text
+  terms_same h = rules_more (KeepsTerms swap cal) (KeepsTerms swap cal) (Refuses (IsFirstOfTerms swap cal) status text) (Refuses (IsFirstOfTerms swap cal) status text) (DueDated t g swap cal r status text) (DueDated t g swap cal q status text) (λ k. k) (λ k. k) (λ k. k) dated_same h
+
+-- ---- each step that is passed
+
+module _ (t : Task) (g : Given) (status : ℕ) (text : List ℕ) where
+  pub in_json : (v : Data) → Reads g.document v → DueDocument t g v status text → DueFor t g status text
+  in_json v is h = read (Reads g.document) (Is 2 (refused unreadable) status text) (λ w. DueDocument t g w status text) v is (λ w other. subst (λ (x : Data). DueDocument t g x status text) (sym (one_reading g.document v w is other)) h)
+
+  pub in_swap : (v : Data) (swap : Swap) → Means v swap → DueCalendars t g swap status text → DueDocument t g v status text
+  in_swap v swap is h = read (Means v) (Refuses (First is_before (DocumentFault v)) status text) (λ w. DueCalendars t g w status text) swap is (λ w other. subst (λ (x : Swap). DueCalendars t g x status text) (sym (one_meaning v swap w is other)) h)
+
+  pub in_document : (swap : Swap) → SpellsSwap g.document swap → DueCalendars t g swap status text → DueFor t g status text
+  in_document swap s h = in_json s.0 s.1 (in_swap s.0 swap s.2 h)
+
+  pub in_calendars : (swap : Swap) (cal : List Section) → CalFiles g.calendars cal → DueFixings t g swap cal status text → DueCalendars t g swap status text
+  in_calendars swap cal is h = read (CalFiles g.calendars) ((s : Spot) × Only (IsFirstCalendarFault g.calendars) s × Is 3 (bad_calendar s) status text) (λ c. DueFixings t g swap c status text) cal is (λ c other. subst (λ (x : List Section). DueFixings t g swap x status text) (sym (one_calendars g.calendars cal c is other)) h)
+
+  pub in_fixings : (swap : Swap) (cal : List Section) (table : RateTable) → AreFixings g.fixings table → DueTerms t g swap cal table status text → DueFixings t g swap cal status text
+  in_fixings swap cal table is h = read (AreFixings g.fixings) ((f : FixErr) × Only (IsFixingsFault g.fixings) f × Is 3 (bad_fixings f) status text) (λ q. DueTerms t g swap cal q status text) table is (λ q other. terms_same t g swap cal table q (one_fixings g.fixings table q is other) status text h)
+
+  pub in_terms : (swap : Swap) (cal : List Section) (table : RateTable) → KeepsTerms swap cal → DueDated t g swap cal table status text → DueTerms t g swap cal table status text
+  in_terms swap cal table is h = kept (KeepsTerms swap cal) (Refuses (IsFirstOfTerms swap cal) status text) (DueDated t g swap cal table status text) is h
+
+  pub in_dated : (swap : Swap) (cal : List Section) (table : RateTable) → DatedKept swap cal (rates_for t table) → DueKept t g swap cal table status text → DueDated t g swap cal table status text
+  in_dated swap cal table is h = kept (DatedKept swap cal (rates_for t table)) (Refuses (DatedBroken swap cal (rates_for t table)) status text) (DueKept t g swap cal table status text) is h
+
+  pub passed : (f : Facts) → Passes t g f → Answered t g f status text → DueFor t g status text
+  passed f p h = in_document f.swap p.document (in_calendars f.swap f.cal p.calendars (in_fixings f.swap f.cal f.table p.fixings (in_terms f.swap f.cal f.table p.terms (in_dated f.swap f.cal f.table p.dated (f.parts, p.schedule, h)))))
+
+pub passed_answer : (t : Task) (g : Given) (f : Facts) (r : Result Reply Refusal) → Passes t g f → IfAnswered r (Ends (Answered t g f)) → IfAnswered r (Ends (DueFor t g))
+passed_answer t g f r p h = answered_more r (Ends (Answered t g f)) (Ends (DueFor t g)) (ends_more (Answered t g f) (DueFor t g) (λ status text k. passed t g status text f p k)) h
+
+-- ---- the step that fails
+
+module _ (t : Task) (g : Given) where
+  at_json : (IsJson g.document → ⊥) → DueFor t g 2 (refused unreadable)
+  at_json never = unread (Reads g.document) (Is 2 (refused unreadable) 2 (refused unreadable)) (λ v. DueDocument t g v 2 (refused unreadable)) (λ v reads. never (v, reads)) (refl, refl)
+
+  at_document : (v : Data) (b : Broken) → First is_before (DocumentFault v) b → DueDocument t g v 2 (refused b)
+  at_document v b first = unread (Means v) (Refuses (First is_before (DocumentFault v)) 2 (refused b)) (λ swap. DueCalendars t g swap 2 (refused b)) (λ swap means. means.clean b first.0) (b, record { is = first; only = λ c h. one_first (DocumentFault v) b c first h }, (refl, refl))
+
+  at_calendars : (swap : Swap) (s : Spot) → IsFirstCalendarFault g.calendars s → DueCalendars t g swap 3 (bad_calendar s)
+  at_calendars swap s first = unread (CalFiles g.calendars) ((x : Spot) × Only (IsFirstCalendarFault g.calendars) x × Is 3 (bad_calendar x) 3 (bad_calendar s)) (λ cal. DueFixings t g swap cal 3 (bad_calendar s)) (λ cal spelt. faulty_spell_none g.calendars s cal first spelt) (s, record { is = first; only = λ x h. one_first_fault g.calendars x s h first }, (refl, refl))
+
+  at_fixings : (swap : Swap) (cal : List Section) (f : FixErr) → IsFixingsFault g.fixings f → DueFixings t g swap cal 3 (bad_fixings f)
+  at_fixings swap cal f fault = unread (AreFixings g.fixings) ((x : FixErr) × Only (IsFixingsFault g.fixings) x × Is 3 (bad_fixings x) 3 (bad_fixings f)) (λ table. DueTerms t g swap cal table 3 (bad_fixings f)) (λ table are. no_fixings g.fixings f table fault are) (f, record { is = fault; only = λ x h. one_fixings_fault g.fixings f x fault h }, (refl, refl))
+
+  at_rule : (swap : Swap) (cal : List Section) (table : RateTable) (b : Broken) → IsRuleFirst swap cal (rates_for t table) b → DueTerms t g swap cal table 2 (refused b)
+  at_rule swap cal table b (inl first) = broken (KeepsTerms swap cal) (Refuses (IsFirstOfTerms swap cal) 2 (refused b)) (DueDated t g swap cal table 2 (refused b)) (λ keeps. keeps b first.is.0) (b, first, (refl, refl))
+  at_rule swap cal table b (inr first) =
+      let rates = rates_for t table in
+      in_terms t g 2 (refused b) swap cal table first.0 (broken (DatedKept swap cal rates) (Refuses (DatedBroken swap cal rates) 2 (refused b)) (DueKept t g swap cal table 2 (refused b)) (λ keeps. not_kept swap cal rates b first.1 keeps) (b, record { is = first.1; only = λ y k. one_broken swap cal rates y b k first.1 }, (refl, refl)))
+
+  -- ---- the errors of the calls are what is due
+
+  pub refuse_json : (e : JsonErr) → (e ≡ json.NotJson → (v : Data) → Reads g.document v → ⊥) → IfRefused (of_json e) (Ends (DueFor t g))
+  refuse_json json.NotJson h = record { due = at_json (λ k. h refl k.0 k.1); verdict = omega arith }
+  refuse_json json.Memory h = tt
+
+  pub refuse_read : (v : Data) (e : Stopped Broken) → Reads g.document v → IfStopped e (First is_before (DocumentFault v)) → IfRefused (of_stopped e) (Ends (DueFor t g))
+  refuse_read v (stopped.Broken b) reads first = record { due = in_json t g 2 (refused b) v reads (at_document v b first); verdict = omega arith }
+  refuse_read v stopped.Memory reads first = tt
+
+  calendar_due : (swap : Swap) (s : Spot) → SpellsSwap g.document swap → IsFirstCalendarFault g.calendars s → Ends (DueFor t g) 3 (bad_calendar s)
+  calendar_due swap s spells first = record { due = in_document t g 3 (bad_calendar s) swap spells (at_calendars swap s first); verdict = omega arith }
+
+  pub refuse_calendars : (swap : Swap) (e : CalErr) → SpellsSwap g.document swap → IfSome (spot_of e) (IsFirstCalendarFault g.calendars) → IfRefused (Calendars e) (Ends (DueFor t g))
+  refuse_calendars swap (calendar.Syntax file line) spells h = calendar_due swap _ spells h
+  refuse_calendars swap (calendar.Repeat file line) spells h = calendar_due swap _ spells h
+  refuse_calendars swap (calendar.TooMany file line) spells h = calendar_due swap _ spells h
+  refuse_calendars swap calendar.Memory spells h = tt
+
+  fixing_due : (swap : Swap) (cal : List Section) (f : FixErr) → SpellsSwap g.document swap → CalFiles g.calendars cal → IsFixingsFault g.fixings f → Ends (DueFor t g) 3 (bad_fixings f)
+  fixing_due swap cal f spells files fault = record { due = in_document t g 3 (bad_fixings f) swap spells (in_calendars t g 3 (bad_fixings f) swap cal files (at_fixings swap cal f fault)); verdict = omega arith }
+
+  pub refuse_fixings : (swap : Swap) (cal : List Section) (e : FixErr) → SpellsSwap g.document swap → CalFiles g.calendars cal → FixingsFail g.fixings e → IfRefused (Fixings e) (Ends (DueFor t g))
+  refuse_fixings swap cal (fixing.Syntax line) spells files h = fixing_due swap cal (fixing.Syntax line) spells files h
+  refuse_fixings swap cal (fixing.Repeat line) spells files h = fixing_due swap cal (fixing.Repeat line) spells files h
+  refuse_fixings swap cal fixing.Memory spells files h = tt
+
+  rule_due : (swap : Swap) (cal : List Section) (table : RateTable) → SpellsSwap g.document swap → CalFiles g.calendars cal → AreFixings g.fixings table → (status : ℕ) (text : List ℕ) → IsUnscheduled swap cal (rates_for t table) status text → Ends (DueFor t g) status text
+  rule_due swap cal table spells files rates status text h = rw (h.2.0, h.2.1) (record { due = in_document t g 2 (refused h.0) swap spells (in_calendars t g 2 (refused h.0) swap cal files (in_fixings t g 2 (refused h.0) swap cal table rates (at_rule swap cal table h.0 h.1))); verdict = omega arith })
+
+  pub refuse_rules : (swap : Swap) (cal : List Section) (table : RateTable) (r : Refusal) → SpellsSwap g.document swap → CalFiles g.calendars cal → AreFixings g.fixings table → IfRefused r (IsUnscheduled swap cal (rates_for t table)) → IfRefused r (Ends (DueFor t g))
+  refuse_rules swap cal table r spells files rates h = refused_more r (IsUnscheduled swap cal (rates_for t table)) (Ends (DueFor t g)) (rule_due swap cal table spells files rates) h
+
+-- the making of a schedule
+pub refuse_making : (swap : Swap) (cal : List Section) (table : RateTable) (e : Stopped Broken) → KeepsTerms swap cal → IfStopped e (DatedBroken swap cal table) → IfRefused (of_stopped e) (IsUnscheduled swap cal table)
+refuse_making swap cal table (stopped.Broken b) kept h = (b, inr (kept, h), (refl, refl))
+refuse_making swap cal table stopped.Memory kept h = tt
+
+-- files that pass, from what was read and made
+pub passes_by : (t : Task) (g : Given) (f : Facts) → SpellsSwap g.document f.swap → CalFiles g.calendars f.cal → AreFixings g.fixings f.table → IsScheduled f.swap f.cal (rates_for t f.table) f.parts → Passes t g f
+passes_by t g f document calendars fixings made = record { document = document; calendars = calendars; fixings = fixings; terms = made.terms; dated = made.dated; schedule = made.schedule }

@@ -1,0 +1,194 @@
+-- What is due for a task and its files: status and text, by the first step that applies.
+use Rattle.std.specs.Prelude.{◌≡◌, ℕ, List, [], Option, Some, None, Bool, true, false, if◌then◌else◌}
+use Rattle.serde_json.specs.Data.{Data}
+use Rattle.irs_base.specs.Lines.{lines_of}
+use Rattle.irs_base.specs.declared.places.Broken.{Broken}
+use Rattle.irs_json.specs.Reading.{Reads}
+use Rattle.irs_read.specs.Documents.{DocumentFault}
+use Rattle.irs_read.specs.Reading.{Means}
+use Rattle.irs_terms.specs.declared.stream_list.Swap.{Swap}
+use Rattle.irs_calendar.specs.Calendars.{Spot}
+use Rattle.irs_calendar.specs.FirstFaults.{IsFirstFault as IsFirstCalendarFault}
+use Rattle.irs_calendar.specs.Grammar.{CalFiles}
+use Rattle.irs_calendar.specs.declared.sections.Section.{Section}
+use Rattle.irs_resets.specs.FixingFiles.{IsFixingFile, IsFirstFault, IsBad, Repeats}
+use Rattle.irs_resets.specs.Rates.{RateTable}
+use Rattle.irs_resets.specs.declared.fixings.FixErr.{FixErr}
+use Rattle.irs_resets.specs.declared.fixings.FixErr.TheVariants as fault
+use Rattle.irs_rules.specs.TermsRules.{BreaksTerms, IsFirstBroken as IsFirstOfTerms}
+use Rattle.irs_schedule.specs.DatedRules.{DatedKept, DatedBroken}
+use Rattle.irs_schedule.specs.Parts.{Part}
+use Rattle.irs_schedule.specs.RowTexts.{text_of}
+use Rattle.irs_schedule.specs.Schedules.{IsSchedule}
+use Rattle.irs_audit.specs.FlowFaults.{FlowFault}
+use Rattle.irs_audit.specs.FlowParts.{FlowPart}
+use Rattle.irs_audit.specs.FlowReading.{FlowsOf, kind_of}
+use Rattle.irs_audit.specs.Verdicts.{IsVerdict}
+use Rattle.irs_audit.specs.declared.departures.Verdict.{Verdict}
+use Rattle.irs_audit.specs.declared.error.ShapeKind.TheVariants.{NotJson}
+use Rattle.irs_answers.specs.FlowMessages.{bad_flows, whole_document, verdict_status, verdict_text}
+use Rattle.irs_emit.specs.Emitted.{emit_text}
+use Rattle.irs_answers.specs.Accrued.{TellsAccrued}
+use Rattle.irs_base.specs.Order.{First, Only, is_before}
+use Rattle.irs_answers.specs.declared.tasks.Task.{Task}
+use Rattle.irs_answers.specs.declared.tasks.Task.TheVariants.{Check, Schedule, Audit, Emit, Accrue, Net, Overnight}
+use Rattle.irs_answers.specs.Tasks.{nets, uses_rates}
+use Rattle.irs_answers.specs.Given.{Given}
+use Rattle.irs_answers.specs.Messages.{refused, unreadable, bad_calendar, bad_fixings, all_kept}
+use Rattle.irs_answers.specs.Steps.{Is, Refuses, Rules, Step}
+use Rattle.irs_answers.specs.Derived.{DueOvernight}
+use Rattle.irs_answers.specs.Netted.{TellsNet}
+use Rattle.irs_net.specs.Parties.{BreaksK8Of, SidesOf}
+use Rattle.irs_net.specs.declared.sides.Sides.{Sides}
+
+-- the bytes have a JSON reading
+abbrev pub IsJson : List ℕ → Type 0
+IsJson bytes = (v : Data) × Reads bytes v
+
+-- the rates of a file of fixings, none without one
+abbrev pub AreFixings : Option (List ℕ) → RateTable → Type 0
+AreFixings None table = table ≡ []
+AreFixings (Some bytes) table = IsFixingFile bytes table
+
+-- the first line of a file of fixings that is at fault, and how it is
+abbrev pub IsFixingFault : List ℕ → FixErr → Type 0
+IsFixingFault bytes (fault.Syntax line) = IsFirstFault (IsBad (lines_of bytes)) (lines_of bytes) line
+IsFixingFault bytes (fault.Repeat line) = IsFirstFault (Repeats (lines_of bytes)) (lines_of bytes) line
+IsFixingFault bytes fault.Memory = ⊥
+
+-- the same, where there is a file
+abbrev pub IsFixingsFault : Option (List ℕ) → FixErr → Type 0
+IsFixingsFault None f = ⊥
+IsFixingsFault (Some bytes) f = IsFixingFault bytes f
+
+-- no rule of the terms is broken
+abbrev pub KeepsTerms : Swap → List Section → Type 0
+KeepsTerms swap cal = (b : Broken) → BreaksTerms swap cal b → ⊥
+
+-- the sides of the streams, where they are asked for
+abbrev pub SidesIf : Bool → Data → Option Sides → Type 0
+SidesIf true v None = ⊥
+SidesIf true v (Some sides) = SidesOf v sides
+SidesIf false v sides = sides ≡ None
+
+-- the first stream whose parties aren't those of the first, where they are asked for
+abbrev pub BreaksSidesIf : Bool → Data → Broken → Type 0
+BreaksSidesIf true v b = First is_before (BreaksK8Of v) b
+BreaksSidesIf false v b = ⊥
+
+-- the sides that a task asks for
+abbrev pub HasSides : Task → Data → Option Sides → Type 0
+HasSides t v sides = SidesIf (nets t) v sides
+
+-- the first K8, of a task that asks for them
+abbrev pub BreaksSides : Task → Data → Broken → Type 0
+BreaksSides t v b = BreaksSidesIf (nets t) v b
+
+-- the rates that a task's schedule is made with
+abbrev pub rates_for : Task → RateTable → RateTable
+rates_for t table = if uses_rates t then table else []
+
+-- what the files of a task say, and the schedule
+pub record Facts : Type 0 where
+  pub swap : Swap
+  pub sides : Option Sides
+  pub cal : List Section
+  pub table : RateTable
+  pub parts : List Part
+
+-- the facts of these
+abbrev pub facts : Swap → Option Sides → List Section → RateTable → List Part → Facts
+facts swap sides cal table parts = record { swap = swap; sides = sides; cal = cal; table = table; parts = parts }
+
+-- ---- the last step of each task
+
+-- the flows are stated: the verdict on them
+abbrev pub DueVerdict : List FlowPart → List Part → ℕ → List ℕ → Type 0
+DueVerdict flows s status text = (w : Verdict) × Only (IsVerdict flows s) w × Is (verdict_status w) (verdict_text w) status text
+
+-- the flows have a JSON reading: its first fault, or the flows that it states
+abbrev pub DueStated : Data → List Part → ℕ → List ℕ → Type 0
+DueStated v s status text = Step (FlowsOf v) ((b : Broken) × Only (First is_before (FlowFault v)) b × Is 3 (bad_flows (kind_of b.rule) b.place) status text) (λ flows. DueVerdict flows s status text)
+
+-- what is due for the bytes of flows against a schedule
+abbrev pub DueFlows : List ℕ → List Part → ℕ → List ℕ → Type 0
+DueFlows bytes s status text = Step (Reads bytes) (Is 3 (bad_flows NotJson whole_document) status text) (λ v. DueStated v s status text)
+
+-- what is due for a task where no rule is broken and the schedule is the only one
+abbrev pub Answered : Task → Given → Facts → ℕ → List ℕ → Type 0
+Answered Check g f status text = Is 0 all_kept status text
+Answered Schedule g f status text = Is 0 (text_of f.parts) status text
+Answered Audit g f status text = DueFlows g.flows f.parts status text
+Answered Emit g f status text = Is 0 (emit_text f.parts) status text
+Answered (Accrue date) g f status text = (status ≡ 0) × TellsAccrued date f.parts text
+Answered Net g f status text = (status ≡ 0) × TellsNet f.sides f.parts text
+Answered (Overnight stream) g f status text = DueOvernight stream f.swap f.cal f.table f.parts status text
+
+-- ---- the steps that the tasks share, the last first
+
+-- no rule is broken
+abbrev pub DueKept : Task → Given → Swap → Option Sides → List Section → RateTable → ℕ → List ℕ → Type 0
+DueKept t g swap sides cal table status text =
+    (s : List Part) × Only (IsSchedule swap cal (rates_for t table)) s × Answered t g (facts swap sides cal table s) status text
+
+-- K30 to K39
+abbrev pub DueDated : Task → Given → Swap → Option Sides → List Section → RateTable → ℕ → List ℕ → Type 0
+DueDated t g swap sides cal table status text =
+    Rules (DatedKept swap cal (rates_for t table)) (Refuses (DatedBroken swap cal (rates_for t table)) status text) (DueKept t g swap sides cal table status text)
+
+-- K10 to K21
+abbrev pub DueTerms : Task → Given → Swap → Option Sides → List Section → RateTable → ℕ → List ℕ → Type 0
+DueTerms t g swap sides cal table status text =
+    Rules (KeepsTerms swap cal) (Refuses (IsFirstOfTerms swap cal) status text) (DueDated t g swap sides cal table status text)
+
+-- the file of fixings: its first line at fault
+abbrev pub BadFixings : Given → ℕ → List ℕ → Type 0
+BadFixings g status text = (f : FixErr) × Only (IsFixingsFault g.fixings) f × Is 3 (bad_fixings f) status text
+
+-- the file of fixings
+abbrev pub DueFixings : Task → Given → Swap → Option Sides → List Section → ℕ → List ℕ → Type 0
+DueFixings t g swap sides cal status text =
+    Step (AreFixings g.fixings) (BadFixings g status text) (λ table. DueTerms t g swap sides cal table status text)
+
+-- the calendar files: their first line at fault
+abbrev pub BadCalendars : Given → ℕ → List ℕ → Type 0
+BadCalendars g status text = (s : Spot) × Only (IsFirstCalendarFault g.calendars) s × Is 3 (bad_calendar s) status text
+
+-- the calendar files
+abbrev pub DueCalendars : Task → Given → Swap → Option Sides → ℕ → List ℕ → Type 0
+DueCalendars t g swap sides status text =
+    Step (CalFiles g.calendars) (BadCalendars g status text) (λ cal. DueFixings t g swap sides cal status text)
+
+-- K8: the parties of the streams, where the task asks for them
+abbrev pub DueSides : Task → Given → Data → Swap → ℕ → List ℕ → Type 0
+DueSides t g v swap status text =
+    Step (HasSides t v) (Refuses (BreaksSides t v) status text) (λ sides. DueCalendars t g swap sides status text)
+
+-- K2 to K7: the document's reading means no swap
+abbrev pub DueDocument : Task → Given → Data → ℕ → List ℕ → Type 0
+DueDocument t g v status text =
+    Step (Means v) (Refuses (First is_before (DocumentFault v)) status text) (λ swap. DueSides t g v swap status text)
+
+-- what is due for a task and its files; K1: the document has no reading
+abbrev pub DueFor : Task → Given → ℕ → List ℕ → Type 0
+DueFor t g status text = Step (Reads g.document) (Is 2 (refused unreadable) status text) (λ v. DueDocument t g v status text)
+
+-- one status and one text are due for a task and its files
+abbrev pub IsOneDue : Task → Given → Type 0
+IsOneDue t g = (s u : ℕ) (x y : List ℕ) → DueFor t g s x → DueFor t g u y → (s ≡ u) × (x ≡ y)
+
+-- the bytes have a reading, it means the swap, and these are the sides that the task asks for
+pub record Spells (t : Task) (bytes : List ℕ) (swap : Swap) (sides : Option Sides) : Type 0 where
+  pub value : Data
+  pub reads : Reads bytes value
+  pub means : Means value swap
+  pub has_sides : HasSides t value sides
+
+-- the files of a task pass every step, and these are the facts
+pub record Passes (t : Task) (g : Given) (f : Facts) : Type 0 where
+  pub document : Spells t g.document f.swap f.sides
+  pub calendars : CalFiles g.calendars f.cal
+  pub fixings : AreFixings g.fixings f.table
+  pub terms : KeepsTerms f.swap f.cal
+  pub dated : DatedKept f.swap f.cal (rates_for t f.table)
+  pub schedule : Only (IsSchedule f.swap f.cal (rates_for t f.table)) f.parts

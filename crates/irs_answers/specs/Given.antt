@@ -1,0 +1,33 @@
+-- The files of a task, by what they are to it.
+use Rattle.std.specs.Prelude.{ℕ, ◌+◌, ◌<◌, ◌≤◌, List, [], length, map, All, Option, Some, None, option_map, IfSome}
+use Rattle.irs_base.specs.Limits.{most_bytes, most_files}
+use Rattle.irs_answers.specs.declared.files.TaskFiles.{TaskFiles}
+
+-- one byte more than a file may have
+abbrev pub too_many : ℕ
+too_many = most_bytes + 1
+
+-- the most calendars of a task
+abbrev pub most_calendars : ℕ
+most_calendars = most_files
+
+-- the bytes of the files
+pub record Given : Type 0 where
+  pub document : List ℕ
+  pub fixings : Option (List ℕ)
+  pub flows : List ℕ
+  pub calendars : List (List ℕ)
+
+-- no file
+abbrev pub no_files : Given
+no_files = record { document = []; fixings = None; flows = []; calendars = [] }
+
+-- the files as the code keeps them
+abbrev pub given_by : TaskFiles → Given
+given_by f = record { document = f.document.items; fixings = option_map (λ v. v.items) f.fixings; flows = f.flows.items; calendars = map (λ v. v.items) f.calendars.items }
+
+-- the limits that the readers of the files ask for
+pub record IsWithin (g : Given) : Type 0 where
+  pub fixings : IfSome g.fixings (λ bytes. length bytes < too_many)
+  pub calendars : All (λ bytes. length bytes < too_many) g.calendars
+  pub few : length g.calendars ≤ most_calendars

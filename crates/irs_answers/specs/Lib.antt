@@ -1,0 +1,13 @@
+pub mod Statuses
+pub mod Tasks
+pub mod Given
+pub mod Messages
+pub mod FlowMessages
+pub mod Steps
+pub mod Accrued
+pub mod Netted
+pub mod Derived
+pub mod Due
+pub mod Replying
+pub mod Outcomes
+pub mod Found

@@ -1,0 +1,118 @@
+-- What a task comes to: a reply, or a refusal.
+use Rattle.std.specs.Prelude.{◌≡◌, ◌⊎◌, ℕ, ◌<◌, List, Option, Some, None, IfSome, option_map, Result, Ok, Err}
+use Rattle.irs_base.specs.declared.places.Broken.{Broken}
+use Rattle.irs_base.specs.Order.{Only}
+use Rattle.irs_base.specs.declared.stopped.Stopped.{Stopped}
+use Rattle.irs_base.specs.declared.stopped.Stopped.TheVariants as stopped
+use Rattle.irs_json.specs.declared.JsonErr.{JsonErr}
+use Rattle.irs_json.specs.declared.JsonErr.TheVariants as json
+use Rattle.irs_calendar.specs.Calendars.{spot_of}
+use Rattle.irs_calendar.specs.declared.calendars.CalErr.{CalErr}
+use Rattle.irs_calendar.specs.declared.sections.Section.{Section}
+use Rattle.irs_resets.specs.Rates.{RateTable}
+use Rattle.irs_resets.specs.declared.fixings.FixErr.{FixErr}
+use Rattle.irs_resets.specs.declared.fixings.FixErr.TheVariants as fixing
+use Rattle.irs_rules.specs.TermsRules.{IsFirstBroken as IsFirstOfTerms}
+use Rattle.irs_schedule.specs.DatedRules.{DatedKept, DatedBroken}
+use Rattle.irs_schedule.specs.Parts.{Part}
+use Rattle.irs_schedule.specs.Schedules.{IsSchedule}
+use Rattle.irs_terms.specs.declared.stream_list.Swap.{Swap}
+use Rattle.irs_json.specs.Reading.{Reads}
+use Rattle.serde_json.specs.Data.{Data}
+use Rattle.irs_audit.specs.FlowParts.{FlowPart}
+use Rattle.irs_audit.specs.FlowReading.{FlowsOf, IsFirstShape}
+use Rattle.irs_audit.specs.declared.error.FlowErr.{FlowErr}
+use Rattle.irs_audit.specs.declared.error.FlowErr.TheVariants as flowing
+use Rattle.irs_audit.specs.declared.error.ShapeKind.TheVariants.{NotJson}
+use Rattle.irs_answers.specs.declared.refusals.Refusal.{Refusal}
+use Rattle.irs_answers.specs.declared.refusals.Refusal.TheVariants.{Rule, Calendars, Fixings, Flows, Memory}
+use Rattle.irs_answers.specs.declared.replies.Reply.{Reply}
+use Rattle.irs_answers.specs.Messages.{refused, unreadable, bad_calendar, bad_fixings}
+use Rattle.irs_answers.specs.FlowMessages.{bad_flows, whole_document}
+use Rattle.irs_answers.specs.Replying.{reply_status, reply_text}
+use Rattle.irs_answers.specs.Due.{IsJson, KeepsTerms, IsFixingsFault}
+use Rattle.irs_answers.specs.Steps.{Is}
+
+-- the refusals that errors of the calls below become: a document without a reading, and want of memory
+abbrev pub of_json : JsonErr → Refusal
+of_json json.NotJson = Rule unreadable
+of_json json.Memory = Memory
+
+-- a document or a swap that breaks a rule, and want of memory there
+abbrev pub of_stopped : Stopped Broken → Refusal
+of_stopped (stopped.Broken b) = Rule b
+of_stopped stopped.Memory = Memory
+
+-- a status and a text
+abbrev pub Answer : Type 0
+Answer = ℕ × List ℕ
+
+-- the answer of a faulty calendar file, none for want of memory
+abbrev pub calendars_answer : CalErr → Option Answer
+calendars_answer e = option_map (λ s. (3, bad_calendar s)) (spot_of e)
+
+-- of a faulty file of fixings
+abbrev pub fixings_answer : FixErr → Option Answer
+fixings_answer (fixing.Syntax line) = Some (3, bad_fixings (fixing.Syntax line))
+fixings_answer (fixing.Repeat line) = Some (3, bad_fixings (fixing.Repeat line))
+fixings_answer fixing.Memory = None
+
+-- of faulty cash flows
+abbrev pub flows_answer : FlowErr → Option Answer
+flows_answer (flowing.Shape kind place) = Some (3, bad_flows kind place)
+flows_answer flowing.Memory = None
+
+-- the answer of a refusal, none for want of memory
+abbrev pub answer_of : Refusal → Option Answer
+answer_of (Rule b) = Some (2, refused b)
+answer_of (Calendars e) = calendars_answer e
+answer_of (Fixings e) = fixings_answer e
+answer_of (Flows e) = flows_answer e
+answer_of Memory = None
+
+-- P holds of the refusal's answer, if it has one
+abbrev pub IfRefused : Refusal → (ℕ → List ℕ → Type 0) → Type 0
+IfRefused r P = IfSome (answer_of r) (λ a. P a.0 a.1)
+
+-- P holds of the answer, if there is one
+abbrev pub IfAnswered : Result Reply Refusal → (ℕ → List ℕ → Type 0) → Type 0
+IfAnswered (Ok o) P = P (reply_status o) (reply_text o)
+IfAnswered (Err r) P = IfRefused r P
+
+-- P holds of them, and the status is one that no words, fetch or put has
+pub record Ends (P : ℕ → List ℕ → Type 0) (status : ℕ) (text : List ℕ) : Type 0 where
+  pub due : P status text
+  pub verdict : status < 4
+
+-- an error of a file of fixings tells of its first line that is at fault, or of want of memory
+abbrev pub FixingsFail : Option (List ℕ) → FixErr → Type 0
+FixingsFail bytes (fixing.Syntax line) = IsFixingsFault bytes (fixing.Syntax line)
+FixingsFail bytes (fixing.Repeat line) = IsFixingsFault bytes (fixing.Repeat line)
+FixingsFail bytes fixing.Memory = Unit {0}
+
+-- the bytes have a reading, and it states the flows
+abbrev pub SpellsFlows : List ℕ → List FlowPart → Type 0
+SpellsFlows bytes flows = (v : Data) × Reads bytes v × FlowsOf v flows
+
+-- an error of a file of flows tells that it has no reading, or the first fault of its reading, or of want of memory
+abbrev pub FlowsFail : List ℕ → FlowErr → Type 0
+FlowsFail bytes (flowing.Shape kind place) = (¬ (IsJson bytes) × (kind ≡ NotJson) × (place ≡ whole_document)) ⊎ ((v : Data) × Reads bytes v × IsFirstShape v kind place)
+FlowsFail bytes flowing.Memory = Unit {0}
+
+-- no rule of the swap is broken, and the schedule is the only one
+pub record IsScheduled (swap : Swap) (cal : List Section) (table : RateTable) (s : List Part) : Type 0 where
+  pub terms : KeepsTerms swap cal
+  pub dated : DatedKept swap cal table
+  pub schedule : Only (IsSchedule swap cal table) s
+
+-- b is the first broken rule of the terms
+abbrev pub IsTermsFirst : Swap → List Section → Broken → Type 0
+IsTermsFirst swap cal b = Only (IsFirstOfTerms swap cal) b
+
+-- b is the first broken rule of the swap
+abbrev pub IsRuleFirst : Swap → List Section → RateTable → Broken → Type 0
+IsRuleFirst swap cal table b = IsTermsFirst swap cal b ⊎ (KeepsTerms swap cal × DatedBroken swap cal table b)
+
+-- the answer is the line of the first broken rule of the swap
+abbrev pub IsUnscheduled : Swap → List Section → RateTable → ℕ → List ℕ → Type 0
+IsUnscheduled swap cal table status text = (b : Broken) × IsRuleFirst swap cal table b × Is 2 (refused b) status text

@@ -1,0 +1,71 @@
+//! The last step of each task, where no rule is broken.
+ghost use Rattle.std.specs.Prelude.{◌≡◌};
+ghost use Rattle.irs_emit.specs.Emitted.{emit_text};
+ghost use Rattle.irs_answers.specs.Accrued.{TellsAccrued};
+ghost use Rattle.irs_answers.specs.Due.{Answered, DueFlows, Passes};
+ghost use Rattle.irs_answers.specs.Found.{facts_by};
+ghost use Rattle.irs_answers.specs.Given.{given_by};
+ghost use Rattle.irs_answers.specs.Messages.{all_kept};
+ghost use Rattle.irs_answers.specs.Outcomes.{Ends, IfAnswered};
+ghost use Rattle.irs_answers.specs.Steps.{Is};
+
+use crate::accruing::accrued_page;
+use crate::derived::overnight_answer;
+use crate::due::Found;
+use crate::files::TaskFiles;
+use crate::flows::verdict_on;
+use crate::netting::net_answer;
+use crate::refusals::Refusal;
+use crate::replies::{Reply, verdict_reply};
+use crate::statuses::Status;
+use crate::tasks::Task;
+use irs_base::Day;
+use irs_emit::emit_flows;
+use irs_schedule::Schedule;
+use std::alloc::Global;
+
+/// What a task comes to whose files say this.
+pub(crate) fn answer_by(
+    alloc: Global,
+    task: &Task,
+    files: &TaskFiles,
+    found: Found,
+) -> Result<Reply, Refusal>
+    requires { Passes task.now (given_by files.now) (facts_by found) }
+    ensures { IfAnswered result (Ends (Answered task.now (given_by files.now) (facts_by found))) }
+{
+    match *task {
+        Task::Check => check_answer(alloc),
+        Task::Schedule => Ok(Reply::Rows(found.schedule)),
+        Task::Audit => audit_answer(alloc, &files.flows, &found.schedule),
+        Task::Emit => emit_answer(alloc, &found.schedule),
+        Task::Accrue(date) => accrue_answer(alloc, &found.schedule, date),
+        Task::Net => net_answer(alloc, &found),
+        Task::Overnight(stream) => overnight_answer(alloc, stream, &found),
+    }
+}
+
+fn check_answer(alloc: Global) -> Result<Reply, Refusal>
+    ensures { IfAnswered result (Ends (Is 0 all_kept)) }
+{
+    Ok(Reply::line(alloc, Status::Done, b"ok\n")?)
+}
+
+fn audit_answer(alloc: Global, flows: &[u8], schedule: &Schedule) -> Result<Reply, Refusal>
+    ensures { IfAnswered result (Ends (DueFlows flows.now schedule.now)) }
+{
+    let verdict = verdict_on(alloc, schedule, flows)?;
+    Ok(verdict_reply(alloc, verdict)?)
+}
+
+fn emit_answer(alloc: Global, schedule: &Schedule) -> Result<Reply, Refusal>
+    ensures { IfAnswered result (Ends (Is 0 (emit_text schedule.now))) }
+{
+    Ok(Reply::Text(Status::Done, emit_flows(alloc, schedule)?))
+}
+
+fn accrue_answer(alloc: Global, schedule: &Schedule, date: Day) -> Result<Reply, Refusal>
+    ensures { IfAnswered result (Ends (λ status text. (status ≡ 0) × TellsAccrued date schedule.now text)) }
+{
+    Ok(Reply::Text(Status::Done, accrued_page(alloc, schedule, date)?))
+}

@@ -1,0 +1,148 @@
+//! What a task over its files comes to: the steps that the tasks share.
+ghost use Rattle.std.specs.Prelude.{◌≡◌, ◌≤◌, length, option_map, IfSome, IfOk, IfErr};
+ghost use Rattle.serde_json.specs.View.{view};
+ghost use Rattle.irs_base.specs.Limits.{most_bytes};
+ghost use Rattle.irs_base.specs.declared.places.Broken.{Broken as BrokenRule};
+ghost use Rattle.irs_read.specs.Documents.{DocumentFault};
+ghost use Rattle.irs_terms.specs.Lawful.{IsLawful};
+ghost use Rattle.irs_answers.specs.Given.{IsWithin, given_by};
+ghost use Rattle.irs_answers.specs.Due.{AreFixings, BreaksSides, DueFor, HasSides, Passes, rates_for};
+ghost use Rattle.irs_answers.specs.Found.{facts_by};
+ghost use Rattle.irs_answers.specs.Outcomes.{Ends, FixingsFail, IfAnswered, IfRefused, IsScheduled, IsUnscheduled};
+ghost use Rattle.irs_answers.specs.Replying.{reply_status, reply_text};
+
+use crate::answers::answer_by;
+use crate::files::TaskFiles;
+use crate::refusals::Refusal;
+use crate::replies::Reply;
+use crate::tasks::Task;
+use irs_base::{Broken, Memory};
+use irs_calendar::Calendars;
+use irs_json::{Value, parse};
+use irs_net::{Sides, read_sides};
+use irs_read::read_swap;
+use irs_resets::{FixErr, Fixings};
+use irs_rules::check_terms;
+use irs_schedule::{Schedule, make_schedule};
+use irs_terms::Swap;
+use std::alloc::Global;
+
+/// What the files of a task say, and the schedule.
+#[derive(Drop)]
+pub struct Found {
+    /// The swap that the document spells.
+    pub swap: Swap,
+    /// Which party pays each stream, for a task that asks for it.
+    pub sides: Option<Sides>,
+    /// The calendar files.
+    pub calendars: Calendars,
+    /// The rates of the file of fixings, none where there is no file.
+    pub fixings: Fixings,
+    /// The schedule of the swap, made with those rates where the task uses them.
+    pub schedule: Schedule,
+}
+
+/// The status and the text that a task over its files comes to, by the first step that applies: the
+/// document, the parties where the task asks for them, the calendars, the fixings, the rules of the
+/// swap, and the task's own. `Memory` comes where memory ran out.
+pub fn reply_of(alloc: Global, task: Task, files: &TaskFiles) -> Result<Reply, Memory>
+    requires { IsWithin (given_by files.now) }
+    ensures { IfOk result (λ r. Ends (DueFor task (given_by files.now)) (reply_status r) (reply_text r)) }
+{
+    match carry_out(alloc, task, files) {
+        Ok(reply) => Ok(reply),
+        Err(refusal) => refusal.reply(alloc),
+    }
+}
+
+// What a task over its files comes to, or why it isn't carried out.
+fn carry_out(alloc: Global, task: Task, files: &TaskFiles) -> Result<Reply, Refusal>
+    requires { IsWithin (given_by files.now) }
+    ensures { IfAnswered result (Ends (DueFor task (given_by files.now))) }
+{
+    let found = find(alloc, task, files)?;
+    answer_by(alloc, &task, files, found)
+}
+
+/// What the files of a task say, and the schedule, or the first step that fails: the document, the
+/// parties where the task asks for them (K8), the calendars, the fixings, the rules of the swap.
+pub fn find(alloc: Global, task: Task, files: &TaskFiles) -> Result<Found, Refusal>
+    requires { IsWithin (given_by files.now) }
+    ensures passes { IfOk result (λ f. Passes task (given_by files.now) (facts_by f)) }
+    ensures refused { IfErr result (λ r. IfRefused r (Ends (DueFor task (given_by files.now)))) }
+{
+    let document = parse(alloc, &files.document)?;
+    let swap = read_swap(alloc, &document)?;
+    let sides = sides_for(task, &document)?;
+    let calendars = Calendars::read(alloc, &files.calendars)?;
+    let fixings = read_fixings(alloc, &files.fixings)?;
+    let schedule = schedule_for(alloc, task, &swap, &calendars, &fixings)?;
+    Ok(Found {
+        swap,
+        sides,
+        calendars,
+        fixings,
+        schedule,
+    })
+}
+
+// Which party pays each stream, for a task that asks for it.
+fn sides_for(task: Task, document: &Value) -> Result<Option<Sides>, Broken>
+    requires { (f : BrokenRule) → DocumentFault (view document.now) f → ⊥ }
+    ensures sides { IfOk result (λ o. HasSides task (view document.now) o) }
+    ensures broken { IfErr result (λ b. BreaksSides task (view document.now) b) }
+{
+    if task.nets() {
+        Ok(Some(read_sides(document)?))
+    } else {
+        Ok(None)
+    }
+}
+
+// The fixings of a file, none where there is no file.
+fn read_fixings(alloc: Global, bytes: &Option<Vec<u8>>) -> Result<Fixings, FixErr>
+    requires { IfSome bytes.now (λ v. length v.items ≤ most_bytes) }
+    ensures fixings { IfOk result (λ f. AreFixings (option_map (λ v. v.items) bytes.now) f) }
+    ensures fault { IfErr result (λ e. FixingsFail (option_map (λ v. v.items) bytes.now) e) }
+{
+    match bytes {
+        Some(bytes) => Fixings::read(alloc, bytes),
+        None => Ok(Fixings::none()),
+    }
+}
+
+// The schedule that a task asks for, with the rates of the file of fixings where it uses them.
+fn schedule_for(
+    alloc: Global,
+    task: Task,
+    swap: &Swap,
+    calendars: &Calendars,
+    fixings: &Fixings,
+) -> Result<Schedule, Refusal>
+    requires { IsLawful swap.now }
+    ensures schedule { IfOk result (λ s. IsScheduled swap.now calendars.now (rates_for task fixings.now) s) }
+    ensures refused { IfErr result (λ r. IfRefused r (IsUnscheduled swap.now calendars.now (rates_for task fixings.now))) }
+{
+    if task.uses_rates() {
+        schedule_of(alloc, swap, calendars, fixings)
+    } else {
+        schedule_of(alloc, swap, calendars, &Fixings::none())
+    }
+}
+
+// The schedule of a swap, or the first broken rule of K10 to K39.
+fn schedule_of(
+    alloc: Global,
+    swap: &Swap,
+    calendars: &Calendars,
+    fixings: &Fixings,
+) -> Result<Schedule, Refusal>
+    requires { IsLawful swap.now }
+    ensures schedule { IfOk result (λ s. IsScheduled swap.now calendars.now fixings.now s) }
+    ensures refused { IfErr result (λ r. IfRefused r (IsUnscheduled swap.now calendars.now fixings.now)) }
+{
+    match check_terms(swap, calendars) {
+        Some(broken) => Err(Refusal::Rule(broken)),
+        None => Ok(make_schedule(alloc, swap, calendars, fixings)?),
+    }
+}

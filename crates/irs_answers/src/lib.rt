@@ -1,0 +1,24 @@
+//! What a task comes to over the files that it is given: the steps that all tasks share, the last step
+//! of each, and the texts that are due.
+#![tactic(auto)]
+
+mod accruing;
+mod answers;
+mod derived;
+mod due;
+mod files;
+mod flow_messages;
+mod flows;
+mod messages;
+mod netting;
+mod refusals;
+mod replies;
+mod statuses;
+mod tasks;
+
+pub use due::{Found, find, reply_of};
+pub use files::TaskFiles;
+pub use refusals::Refusal;
+pub use replies::Reply;
+pub use statuses::Status;
+pub use tasks::Task;

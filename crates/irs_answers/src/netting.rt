@@ -1,0 +1,57 @@
+//! The text of `net`: what falls due between the two parties, a line for each date and currency. Its
+//! format is this project's own.
+ghost use Rattle.std.specs.Prelude.{◌≡◌, ◌++◌, List, Some, length, IfOk};
+ghost use Rattle.irs_base.specs.Members.{Every};
+ghost use Rattle.irs_net.specs.Nets.{HasPlaces};
+ghost use Rattle.irs_net.specs.declared.table.NetRow.{NetRow as Row};
+ghost use Rattle.irs_answers.specs.Due.{Passes};
+ghost use Rattle.irs_answers.specs.Found.{facts_by};
+ghost use Rattle.irs_answers.specs.Given.{Given};
+ghost use Rattle.irs_answers.specs.Netted.{TellsNet, TellsNetOf, net_page};
+ghost use Rattle.irs_answers.specs.Outcomes.{Ends, IfAnswered};
+ghost use Rattle.irs_answers.specs.declared.tasks.Task.TheVariants.{Net as OfNet};
+
+use crate::due::Found;
+use crate::refusals::Refusal;
+use crate::replies::Reply;
+use crate::statuses::Status;
+use irs_base::{Line, Memory};
+use irs_net::{NetRow, Sides, net, net_text};
+use irs_schedule::Schedule;
+use std::alloc::Global;
+
+/// The net of a schedule, whose sides were read.
+pub(crate) fn net_answer(alloc: Global, found: &Found) -> Result<Reply, Refusal>
+    requires { (g : Given) × Passes OfNet g (facts_by found.now) }
+    ensures { IfAnswered result (Ends (λ status text. (status ≡ 0) × TellsNet found.now.sides found.now.schedule text)) }
+{
+    let Some(sides) = found.sides else {
+        unreachable!()
+    };
+    let text = netted_page(alloc, &found.schedule, &sides)?;
+    Ok(Reply::Text(Status::Done, text))
+}
+
+// The whole text, of the one table of the schedule.
+fn netted_page(alloc: Global, schedule: &Schedule, sides: &Sides) -> Result<Vec<u8>, Memory>
+    requires { sides.now.count ≡ length schedule.now }
+    ensures { IfOk result (λ t. TellsNetOf sides.now schedule.now t.items) }
+{
+    let table = net(alloc, schedule, sides)?;
+    rows_page(alloc, table.as_slice())
+}
+
+// The rows behind the header, and `end` behind them.
+fn rows_page(alloc: Global, rows: &[NetRow]) -> Result<Vec<u8>, Memory>
+    requires { Every HasPlaces rows.now }
+    ensures { IfOk result (λ t. t.items ≡ net_page rows.now) }
+{
+    let mut text = Vec::from_slice(alloc, b"irs-net 1\n")?;
+    let mut line = Line::new();
+    for row in rows {
+        net_text(row, &mut line);
+        text.extend_from_slice(line.bytes())?;
+    }
+    text.extend_from_slice(b"end\n")?;
+    Ok(text)
+}

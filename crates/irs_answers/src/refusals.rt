@@ -1,0 +1,105 @@
+//! Why a task isn't carried out.
+ghost use Rattle.std.specs.Prelude.{◌≡◌};
+ghost use Rattle.irs_answers.specs.Messages.{unreadable};
+ghost use Rattle.irs_answers.specs.Outcomes.{of_json, of_stopped};
+ghost use Rattle.irs_answers.specs.declared.refusals.Refusal.TheVariants.{Rule as OfRule, Calendars as OfCalendars, Fixings as OfFixings, Flows as OfFlows, Memory as OfMemory};
+
+use irs_audit::FlowErr;
+use irs_base::{Broken, Elem, Memory, Place, Rule, Stopped};
+use irs_calendar::CalErr;
+use irs_json::JsonErr;
+use irs_resets::FixErr;
+
+/// Why a task isn't carried out: the first step that fails.
+#[derive(Clone, Copy, Debug, PartialEq, Eq)]
+pub enum Refusal {
+    /// A rule is broken.
+    Rule(Broken),
+    /// A calendar file is outside its grammar or limits.
+    Calendars(CalErr),
+    /// The file of fixings is outside its grammar.
+    Fixings(FixErr),
+    /// The flows are out of shape.
+    Flows(FlowErr),
+    /// Memory ran out.
+    Memory,
+}
+
+impl From<Memory> for Refusal {
+    ghost from_gives = { λ _ r. r ≡ OfMemory };
+
+    fn from(_e: Memory) -> Refusal {
+        Refusal::Memory
+    }
+}
+
+impl From<JsonErr> for Refusal {
+    ghost from_gives = { λ e r. r ≡ of_json e };
+
+    fn from(e: JsonErr) -> Refusal {
+        match e {
+            JsonErr::NotJson => Refusal::Rule(unreadable()),
+            JsonErr::Memory => Refusal::Memory,
+        }
+    }
+}
+
+// What `read_swap` and `make_schedule` answer.
+impl From<Stopped<Broken>> for Refusal {
+    ghost from_gives = { λ e r. r ≡ of_stopped e };
+
+    fn from(e: Stopped<Broken>) -> Refusal {
+        match e {
+            Stopped::Broken(broken) => Refusal::Rule(broken),
+            Stopped::Memory => Refusal::Memory,
+        }
+    }
+}
+
+// What `read_sides` answers.
+impl From<Broken> for Refusal {
+    ghost from_gives = { λ e r. r ≡ OfRule e };
+
+    fn from(e: Broken) -> Refusal {
+        Refusal::Rule(e)
+    }
+}
+
+impl From<CalErr> for Refusal {
+    ghost from_gives = { λ e r. r ≡ OfCalendars e };
+
+    fn from(e: CalErr) -> Refusal {
+        Refusal::Calendars(e)
+    }
+}
+
+impl From<FixErr> for Refusal {
+    ghost from_gives = { λ e r. r ≡ OfFixings e };
+
+    fn from(e: FixErr) -> Refusal {
+        Refusal::Fixings(e)
+    }
+}
+
+impl From<FlowErr> for Refusal {
+    ghost from_gives = { λ e r. r ≡ OfFlows e };
+
+    fn from(e: FlowErr) -> Refusal {
+        Refusal::Flows(e)
+    }
+}
+
+/// The rule that a document without a JSON reading breaks.
+fn unreadable() -> Broken
+    ensures { result ≡ unreadable }
+{
+    let place = Place {
+        stream: 0,
+        elem: Elem::DOCUMENT,
+        index: 0,
+    };
+    Broken {
+        rule: Rule::K1,
+        place,
+    }
+}

@@ -1,0 +1,48 @@
+//! The exit statuses, which are this project's own.
+ghost use Rattle.std.specs.Prelude.{◌≡◌};
+ghost use Rattle.irs_answers.specs.Statuses.{status_number};
+
+/// How a run ends.
+#[derive(Clone, Copy, Debug, PartialEq, Eq)]
+pub enum Status {
+    /// Done.
+    Done,
+    /// The cash flows don't agree with the schedule.
+    NotAgreed,
+    /// A rule is broken.
+    RuleBroken,
+    /// A calendar, fixing or flow file is outside its grammar or limits.
+    BadFile,
+    /// The words are no listed command.
+    BadWords,
+    /// A file can't be read.
+    NoFile,
+    /// A put failed.
+    PutFailed,
+    /// Memory ran out.
+    NoMemory,
+    /// A file is too long.
+    TooLong,
+    /// A word isn't text.
+    NotText,
+}
+
+impl Status {
+    /// The number of a status, 0 for `Done`.
+    pub fn number(self) -> u8
+        ensures { result ≡ status_number self }
+    {
+        match self {
+            Status::Done => 0,
+            Status::NotAgreed => 1,
+            Status::RuleBroken => 2,
+            Status::BadFile => 3,
+            Status::BadWords => 4,
+            Status::NoFile => 5,
+            Status::PutFailed => 6,
+            Status::NoMemory => 7,
+            Status::TooLong => 8,
+            Status::NotText => 9,
+        }
+    }
+}

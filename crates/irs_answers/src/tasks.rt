@@ -1,0 +1,56 @@
+//! What may be asked of a document and the files beside it.
+ghost use Rattle.std.specs.Prelude.{◌≡◌};
+ghost use Rattle.irs_answers.specs.Tasks.{nets, uses_rates};
+
+use irs_base::Day;
+
+/// What is asked of a document and the files beside it.
+#[derive(Clone, Copy, Debug, PartialEq, Eq)]
+pub enum Task {
+    /// Whether a document keeps every rule.
+    Check,
+    /// The schedule of a document.
+    Schedule,
+    /// Whether cash flows agree with the schedule of a document.
+    Audit,
+    /// The schedule of a document as cash flows.
+    Emit,
+    /// What has accrued on a day in each stream of the schedule.
+    Accrue(Day),
+    /// What falls due between the two parties on each date and in each currency.
+    Net,
+    /// The rates that daily rates give for the calculation periods of the stream with this number, from 1.
+    Overnight(u8),
+}
+
+impl Task {
+    /// Whether the schedule is made with the rates of the file of fixings.
+    pub(crate) fn uses_rates(self) -> bool
+        ensures { result ≡ uses_rates self }
+    {
+        match self {
+            Task::Check => true,
+            Task::Schedule => true,
+            Task::Audit => true,
+            Task::Emit => true,
+            Task::Accrue(_) => true,
+            Task::Net => true,
+            Task::Overnight(_) => false,
+        }
+    }
+
+    /// Whether the task asks which party pays each stream.
+    pub(crate) fn nets(self) -> bool
+        ensures { result ≡ nets self }
+    {
+        match self {
+            Task::Check => false,
+            Task::Schedule => false,
+            Task::Audit => false,
+            Task::Emit => false,
+            Task::Accrue(_) => false,
+            Task::Net => true,
+            Task::Overnight(_) => false,
+        }
+    }
+}

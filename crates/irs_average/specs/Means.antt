@@ -1,0 +1,47 @@
+-- The two means of the rates that were observed in a calculation period, in units of 10^-9.
+use Rattle.std.specs.Prelude.{◌≡◌, ◌<◌, List, [], ◌∷◌, length, Option, None, IfSome, All, unwrap_or, ℤ, pos, ◌+ℤ◌, ◌*ℤ◌, ◌≤ℤ◌}
+use Rattle.irs_base.specs.Rounding.{Rounded}
+use Rattle.irs_base.specs.declared.rounding.Direction.TheVariants.{Nearest}
+use Rattle.irs_overnight.specs.Observations.{first_absent}
+use Rattle.irs_overnight.specs.declared.observations.Observation.{Observation}
+use Rattle.irs_average.specs.declared.means.Mean.{Mean}
+use Rattle.irs_average.specs.declared.means.Mean.TheVariants.{Plain, Weighted}
+
+-- the rate of an observation, where it is there
+abbrev pub rate_in : Observation → ℤ
+rate_in o = unwrap_or o.rate (pos 0)
+
+-- what an observation adds: its rate, by the weighted mean once for each day of its weight
+abbrev pub counted : Mean → Observation → ℤ
+counted Plain o = rate_in o
+counted Weighted o = rate_in o *ℤ o.weight
+
+-- a sum over observations
+abbrev pub sum_over : (Observation → ℤ) → List Observation → ℤ
+sum_over f [] = pos 0
+sum_over f (o ∷ os) = f o +ℤ sum_over f os
+
+-- what the sum is divided by: the number of observations, by the weighted mean the days of the period
+abbrev pub divisor : Mean → ℤ → List Observation → ℤ
+divisor Plain days os = pos (length os)
+divisor Weighted days os = days
+
+-- the days of a period are shared out among its observations, of which there are some
+pub record ShareOut (days : ℤ) (os : List Observation) : Type 0 where
+  pub some : 0 < length os
+  pub weights : All (λ o. pos 0 ≤ℤ o.weight) os
+  pub whole : sum_over (λ o. o.weight) os ≡ days
+
+-- x is the mean of the rates observed in a period of that many days, each of which is there
+pub record IsMean (kind : Mean) (days : ℤ) (os : List Observation) (x : ℤ) : Type 0 where
+  pub known : first_absent os ≡ None
+  pub rounded : Rounded Nearest (sum_over (counted kind) os) (divisor kind days os) x
+
+-- the rate lies between these bounds
+abbrev pub IsWithin : ℤ → ℤ → ℤ → Type 0
+IsWithin least greatest x = (least ≤ℤ x) × (x ≤ℤ greatest)
+
+-- x lies within all bounds within which the rates of the observations lie, and so between the least and the
+-- greatest of them
+abbrev pub LiesAmong : List Observation → ℤ → Type 0
+LiesAmong os x = (least greatest : ℤ) → All (λ o. IfSome o.rate (IsWithin least greatest)) os → IsWithin least greatest x

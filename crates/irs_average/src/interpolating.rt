@@ -1,0 +1,145 @@
+//! The rate of a stub between those of two tenors of its index.
+ghost use Rattle.std.specs.Prelude.{◌≡◌, ◌×◌, ℤ, List, IfOk, IfErr, IfSome, IfNone, IsTrue};
+ghost use Rattle.irs_base.specs.declared.places.Broken.{Broken as BrokenRule};
+ghost use Rattle.irs_resets.specs.ResetDates.{IsPeriod};
+ghost use Rattle.irs_overnight.specs.FileLaw.{IsInRange};
+ghost use Rattle.irs_overnight.specs.declared.derived.DerivedRow.{DerivedRow as Row};
+ghost use Rattle.irs_average.specs.Interpolations.{BreaksStub, IsInterpolated, IsStubBroken, LiesAmongTwo, StubKept, StubReadsBack, no_stub, outside_at};
+ghost use Rattle.irs_average.specs.StubRates.{IsStubRow, LiesOutside};
+ghost use Rattle.irs_average.specs.Stubs.{IsStubAsked, stub_asked, stub_source};
+
+use crate::stub_rates::{ends_around, found_between};
+use crate::stubs::{Side, stub_index, stub_number};
+use irs_base::{Broken, Elem, Fault, Rule, Text};
+use irs_overnight::{DerivedRow, fixing_date};
+use irs_resets::Fixings;
+use irs_schedule::{Schedule, StreamPart};
+use irs_terms::{Frequency, Swap};
+
+// K45.
+fn without_stub() -> Fault
+    ensures { result ≡ no_stub }
+{
+    Fault {
+        rule: Rule::K45,
+        elem: Elem::STUB_AMOUNT,
+        index: 0,
+    }
+}
+
+// K46 of the period with that number.
+fn outside(number: u32) -> Fault
+    ensures { result ≡ outside_at number }
+{
+    Fault {
+        rule: Rule::K46,
+        elem: Elem::STUB_AMOUNT,
+        index: number,
+    }
+}
+
+// The row of a stub, whose period counts from 1; `None` exactly where it doesn't end between the two
+// tenors.
+fn stub_row(
+    part: &StreamPart,
+    number: usize,
+    index: &Text,
+    low: Frequency,
+    high: Frequency,
+    fix: &Fixings,
+) -> Option<DerivedRow>
+    requires floating { IsTrue part.now.floating }
+    requires period { IsPeriod part.now.adjusted number }
+    ensures some { let source = stub_source part.now number index.now low high fix.now in
+        IfSome result (IsStubRow source number) }
+    ensures range { IfSome result IsInRange }
+    ensures none { let source = stub_source part.now number index.now low high fix.now in
+        IfNone result (LiesOutside source) }
+{
+    let adjusted = part.adjusted();
+    let fixing = fixing_date(part, number);
+    let (start, end) = (adjusted[number - 1], adjusted[number]);
+    let low_rate = fix.rate_on(index, Some(low), fixing);
+    let high_rate = fix.rate_on(index, Some(high), fixing);
+    match ends_around(start, end, low, high) {
+        Some(ends) => Some(DerivedRow {
+            period: number as u32,
+            fixing,
+            found: found_between(low_rate, high_rate, ends, end, fixing),
+        }),
+        None => None,
+    }
+}
+
+// The row of the stub that is asked.
+fn asked_row(
+    s: &Schedule,
+    swap: &Swap,
+    stream: u8,
+    side: Side,
+    low: Frequency,
+    high: Frequency,
+    fix: &Fixings,
+) -> Result<DerivedRow, Fault>
+    requires { IsStubAsked (stub_asked swap.now stream side low high s.now fix.now) }
+    ensures ok { let a = stub_asked swap.now stream side low high s.now fix.now in IfOk result (IsInterpolated a) }
+    ensures range { IfOk result IsInRange }
+    ensures broken { let a = stub_asked swap.now stream side low high s.now fix.now in IfErr result (BreaksStub a) }
+{
+    let Some((index, _)) = stub_index(swap, stream, side) else {
+        return Err(without_stub());
+    };
+    let part = &s.streams()[stream as usize - 1];
+    let number = stub_number(part, side);
+    match stub_row(part, number, index, low, high, fix) {
+        Some(row) => Ok(row),
+        None => Err(outside(number as u32)),
+    }
+}
+
+/// The rate of a floating stream's stub on a side, in units of 10^-9, with the number of its period and
+/// its fixing date; or that date, where the rate of a tenor has no line. `stream` counts from 1, `s` is
+/// the schedule of the swap without fixings, and a tenor is 1 to 999 days, weeks, months or years.
+///
+/// The rate lies on the line through the rates of the two tenors of the stub's index on the fixing date,
+/// each at the day on which its tenor ends. A tenor starts on the adjusted start of the stub; one of
+/// months or years ends on the day of the same number, or the last day of a shorter month. The rate is
+/// that at the adjusted end of the stub, rounded at 9 decimals, a half up.
+///
+/// `Broken` is exactly K45, the stream has no stub on that side, or no `floatingRate` for it; else K46, a
+/// tenor ends out of the range of dates, the first doesn't end before the second, or the stub ends
+/// before the first or after the second. No memory is taken.
+pub fn interpolate(
+    s: &Schedule,
+    swap: &Swap,
+    stream: u8,
+    side: Side,
+    low: Frequency,
+    high: Frequency,
+    fix: &Fixings,
+) -> Result<DerivedRow, Broken>
+    // `check_stream` finds nothing, and the schedule is that of the swap.
+    requires { IsStubAsked (stub_asked swap.now stream side low high s.now fix.now) }
+    ensures ok { let a = stub_asked swap.now stream side low high s.now fix.now in IfOk result (IsInterpolated a) }
+    // The row prints a fixing file that has exactly its rate.
+    ensures fixings { let a = stub_asked swap.now stream side low high s.now fix.now in IfOk result (StubReadsBack a) }
+    ensures kept { let a = stub_asked swap.now stream side low high s.now fix.now in IfOk result (λ _. StubKept a) }
+    ensures broken { let a = stub_asked swap.now stream side low high s.now fix.now in IfErr result (IsStubBroken a) }
+    // At every exit: where no rule is broken there is a row; there is at most one, and one broken rule.
+    ensures exists { let a = stub_asked swap.now stream side low high s.now fix.now in
+        StubKept a → (row : Row) × IsInterpolated a row }
+    ensures one { let a = stub_asked swap.now stream side low high s.now fix.now in
+        (row other : Row) → IsInterpolated a row → IsInterpolated a other → row ≡ other }
+    ensures one_broken { let a = stub_asked swap.now stream side low high s.now fix.now in
+        (x y : BrokenRule) → IsStubBroken a x → IsStubBroken a y → x ≡ y }
+    // A law: the rate lies between those of the two tenors.
+    ensures between { let a = stub_asked swap.now stream side low high s.now fix.now in
+        (row : Row) → IsInterpolated a row → LiesAmongTwo a row }
+{
+    // hands the prover the bounds of the schedule
+    s.bounds();
+    match asked_row(s, swap, stream, side, low, high, fix) {
+        Ok(row) => Ok(row),
+        Err(fault) => Err(fault.in_stream(stream)),
+    }
+}

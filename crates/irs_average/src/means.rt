@@ -1,0 +1,121 @@
+//! The two means of the rates that were observed in a calculation period (2006 ISDA Definitions,
+//! section 6.2, on two or more reset dates in a calculation period).
+ghost use Rattle.std.specs.Prelude.{◌≡◌, ◌+◌, ◌*◌, ◌^◌, ◌<◌, ◌≤◌, All, None, length, pos, ◌<ℤ◌, ◌+ℤ◌, ◌*ℤ◌, unsigned_abs};
+ghost use Rattle.irs_base.specs.Days.{all_days};
+ghost use Rattle.irs_terms.specs.Lawful.{IsRate};
+ghost use Rattle.irs_overnight.specs.Bounds.{IsSmall};
+ghost use Rattle.irs_overnight.specs.FileLaw.{IsSmallFound};
+ghost use Rattle.irs_overnight.specs.Observations.{first_absent};
+ghost use Rattle.irs_average.specs.MeanPeriods.{IsMeanFound};
+ghost use Rattle.irs_average.specs.Means.{IsMean, ShareOut, counted, divisor, rate_in, sum_over};
+
+use irs_base::{Direction, round};
+use irs_overnight::{Found, Observation, first_absent};
+
+/// A mean of the rates that were observed in a calculation period.
+#[derive(Clone, Copy, Debug, PartialEq, Eq)]
+pub enum Mean {
+    /// The sum of the rates by their number.
+    Plain,
+    /// Each rate as often as the days until the next observation, or the end of the period; the sum by
+    /// the days of the period.
+    Weighted,
+}
+
+// The rate of an observation; 0 where it has none.
+fn rate_in(o: Observation) -> i64
+    requires { IsSmall o }
+    ensures value { result ≡ rate_in o }
+    ensures small { IsRate result }
+{
+    match o.rate {
+        Some(rate) => rate,
+        None => 0,
+    }
+}
+
+// A rate over its days.
+fn over_days(rate: i64, weight: i64) -> i128
+    requires rate { IsRate rate }
+    requires weight { unsigned_abs weight < all_days }
+    ensures value { result ≡ rate *ℤ weight }
+    ensures size { unsigned_abs result ≤ 10 ^ 10 * all_days }
+{
+    i128::from(rate) * i128::from(weight)
+}
+
+// What an observation adds.
+fn counted(kind: Mean, o: Observation) -> i128
+    requires { IsSmall o }
+    ensures value { result ≡ counted kind o }
+    ensures size { unsigned_abs result ≤ 10 ^ 10 * all_days }
+{
+    match kind {
+        Mean::Plain => i128::from(rate_in(o)),
+        Mean::Weighted => over_days(rate_in(o), o.weight),
+    }
+}
+
+// A sum of so many and one more.
+fn added(sum: i128, more: i128, count: usize) -> i128
+    requires sum { unsigned_abs sum ≤ count * (10 ^ 10 * all_days) }
+    requires more { unsigned_abs more ≤ 10 ^ 10 * all_days }
+    ensures value { result ≡ sum +ℤ more }
+    ensures size { unsigned_abs result ≤ (count + 1) * (10 ^ 10 * all_days) }
+{
+    sum + more
+}
+
+// What the observations add up to.
+fn total(kind: Mean, observations: &[Observation]) -> i128
+    requires small { All IsSmall observations.now }
+    ensures value { result ≡ sum_over (counted kind) observations.now }
+    ensures size { unsigned_abs result ≤ length observations.now * (10 ^ 10 * all_days) }
+{
+    let mut sum = 0;
+    for (place, o) in observations.iter().enumerate() {
+        sum = added(sum, counted(kind, *o), place);
+    }
+    sum
+}
+
+// What the sum is divided by.
+fn divisor(kind: Mean, days: i64, observations: &[Observation]) -> i128
+    requires days { (pos 0 <ℤ days) × (unsigned_abs days < all_days) }
+    requires some { 0 < length observations.now }
+    ensures value { result ≡ divisor kind days observations.now }
+    ensures above { pos 0 <ℤ result }
+    ensures size { unsigned_abs result ≤ 2 ^ 64 }
+{
+    match kind {
+        Mean::Plain => observations.len() as i128,
+        Mean::Weighted => i128::from(days),
+    }
+}
+
+// The mean where each rate is there.
+fn mean(kind: Mean, days: i64, observations: &[Observation]) -> i64
+    requires days { (pos 0 <ℤ days) × (unsigned_abs days < all_days) }
+    requires small { All IsSmall observations.now }
+    requires shares { ShareOut days observations.now }
+    requires known { first_absent observations.now ≡ None }
+    ensures is { IsMean kind days observations.now result }
+    ensures small { IsRate result }
+{
+    let sum = total(kind, observations);
+    round(Direction::Nearest, sum, divisor(kind, days, observations)) as i64
+}
+
+/// The mean of the rates that were observed in a period, or the first day whose rate is missing.
+pub(crate) fn mean_found(kind: Mean, days: i64, observations: &[Observation]) -> Found
+    requires days { (pos 0 <ℤ days) × (unsigned_abs days < all_days) }
+    requires small { All IsSmall observations.now }
+    requires shares { ShareOut days observations.now }
+    ensures is { IsMeanFound kind days observations.now result }
+    ensures small { IsSmallFound result }
+{
+    match first_absent(observations) {
+        Some(day) => Found::Missing(day),
+        None => Found::Rate(mean(kind, days, observations)),
+    }
+}
