@@ -95,3 +95,7 @@ pub record DueBulk (n : ℕ) (status : ℕ) (text : List ℕ) : Type 0 where
   pub sums : (t : Totals) → AreSums n t → Is 0 (line_text t) status text
   -- one of these applies
   pub case : ((k : ℕ) × IsStop n k) ⊎ ((t : Totals) × AreSums n t)
+
+-- one status and one text are due
+abbrev pub IsOneBulk : ℕ → Type 0
+IsOneBulk n = (s u : ℕ) (t v : List ℕ) → DueBulk n s t → DueBulk n u v → (s ≡ u) × (t ≡ v)

@@ -6,14 +6,15 @@ ghost use Rattle.std.specs.Prelude.{◌≡◌, ◌<◌, ◌≤◌, ◌^◌, [], 
 ghost use Rattle.irs_terms.specs.Lawful.{IsLawful};
 ghost use Rattle.irs_answers.specs.Due.{Spells};
 ghost use Rattle.irs_answers.specs.Outcomes.{Ends, IfAnswered, IfRefused};
+ghost use Rattle.irs_answers.specs.Replying.{reply_status, reply_text};
 ghost use Rattle.irs_answers.specs.declared.tasks.Task.TheVariants.{Schedule as OfSchedule};
 ghost use Rattle.irs_bulk.specs.BulkCalendars.{calendar_text};
 ghost use Rattle.irs_bulk.specs.BulkLines.{IsRun, line_text};
-ghost use Rattle.irs_bulk.specs.BulkRuns.{Adds, AreSums, DueAt, DueBulk, DueSchedule, IsCalendar, IsScheduleOf, agree_of, first_of, one_total};
+ghost use Rattle.irs_bulk.specs.BulkRuns.{Adds, AreSums, DueAt, DueBulk, DueSchedule, IsCalendar, IsOneBulk, IsScheduleOf, agree_of, first_of, one_total};
 ghost use Rattle.irs_bulk.specs.Documents.{document_text, most_bulk};
 
 use crate::{Totals, bulk_calendar, bulk_doc, bulk_text};
-use irs_answers::{Refusal, Reply, schedule_of};
+use irs_answers::{Refusal, Reply, Status, schedule_of};
 use irs_audit::{Verdict, audit, flows_of, sums_of};
 use irs_base::{Line, Memory};
 use irs_calendar::{CalErr, Calendars};
@@ -31,12 +32,24 @@ use std::alloc::Global;
 /// periods, amounts and days of the documents' schedules; how many of them agree with the flows that
 /// state their plain schedule; and of the others the numbers of the first rows that depart, added up.
 /// `Memory` comes only for want of memory.
-pub fn bulk(alloc: Global, n: u32) -> Result<Reply, Refusal>
+pub fn bulk(alloc: Global, n: u32) -> Result<Reply, Memory>
+    requires { n ≤ most_bulk }
+    ensures due { IfOk result (λ r. Ends (DueBulk n) (reply_status r) (reply_text r)) }
+    ensures one { IsOneBulk n }
+{
+    match run(alloc, n) {
+        Ok(reply) => Ok(reply),
+        Err(refusal) => refusal.reply(alloc),
+    }
+}
+
+// The reply of a run, or why there is none.
+fn run(alloc: Global, n: u32) -> Result<Reply, Refusal>
     requires { n ≤ most_bulk }
     ensures { IfAnswered result (Ends (DueBulk n)) }
 {
     let totals = totals(alloc, n)?;
-    Ok(Reply::Text(0, line(alloc, &totals)?))
+    Ok(Reply::Text(Status::Done, line(alloc, &totals)?))
 }
 
 fn line(alloc: Global, totals: &Totals) -> Result<Vec<u8>, Memory>

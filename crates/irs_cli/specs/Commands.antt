@@ -7,12 +7,12 @@ use Rattle.irs_answers.specs.declared.tasks.Task.TheVariants as task
 use Rattle.irs_cli.specs.declared.commands.Kind.{Kind}
 use Rattle.irs_cli.specs.declared.commands.Kind.TheVariants as kind
 use Rattle.irs_cli.specs.declared.commands.Request.{Request}
-use Rattle.irs_cli.specs.declared.commands.Request.TheVariants.{OverFiles}
+use Rattle.irs_cli.specs.declared.commands.Request.TheVariants.{OverFiles, Bulk}
 use Rattle.irs_cli.specs.declared.commands.Role.{Role}
 use Rattle.irs_cli.specs.declared.commands.Role.TheVariants.{Document, Fixings, Flows, Calendar}
 use Rattle.irs_cli.specs.declared.commands.Named.{Named}
 use Rattle.irs_cli.specs.declared.commands.Command.{Command}
-use Rattle.irs_cli.specs.Params.{IsDateAt, IsStreamAt}
+use Rattle.irs_cli.specs.Params.{IsCountAt, IsDateAt, IsStreamAt}
 
 -- the words behind the program's name, by their bytes
 abbrev pub Words : Type 0
@@ -56,7 +56,8 @@ kind_of w =
     if bytes_eq w (codes "emit") then Some kind.Emit else
     if bytes_eq w (codes "accrue") then Some kind.Accrue else
     if bytes_eq w (codes "net") then Some kind.Net else
-    if bytes_eq w (codes "overnight") then Some kind.Overnight else None
+    if bytes_eq w (codes "overnight") then Some kind.Overnight else
+    if bytes_eq w (codes "bulk") then Some kind.Bulk else None
 
 -- how many words come before its files
 abbrev pub params_of : Kind → ℕ
@@ -67,6 +68,7 @@ params_of kind.Emit = 0
 params_of kind.Accrue = 1
 params_of kind.Net = 0
 params_of kind.Overnight = 1
+params_of kind.Bulk = 1
 
 -- the roles of its first files, in the order of the words
 abbrev pub roles_of : Kind → List Role
@@ -77,6 +79,7 @@ roles_of kind.Emit = Document ∷ Fixings ∷ []
 roles_of kind.Accrue = Document ∷ Fixings ∷ []
 roles_of kind.Net = Document ∷ Fixings ∷ []
 roles_of kind.Overnight = Document ∷ Fixings ∷ []
+roles_of kind.Bulk = []
 
 -- how many calendars may follow
 abbrev pub calendars_of : Kind → ℕ
@@ -87,6 +90,7 @@ calendars_of kind.Emit = most_calendars
 calendars_of kind.Accrue = most_calendars
 calendars_of kind.Net = most_calendars
 calendars_of kind.Overnight = most_calendars
+calendars_of kind.Bulk = 0
 
 -- ---- what the table says of words
 
@@ -123,6 +127,7 @@ IsRequest kind.Emit ps r = r ≡ OverFiles task.Emit
 IsRequest kind.Accrue ps r = (d : ℤ) × IsDateAt ps 0 d × (r ≡ OverFiles (task.Accrue d))
 IsRequest kind.Net ps r = r ≡ OverFiles task.Net
 IsRequest kind.Overnight ps r = (n : ℕ) × IsStreamAt ps 0 n × (r ≡ OverFiles (task.Overnight n))
+IsRequest kind.Bulk ps r = (n : ℕ) × IsCountAt ps 0 n × (r ≡ Bulk n)
 
 -- the words behind the name of a command of this kind are those of a
 pub record AsksAs (k : Kind) (ws : Words) (a : Asked) : Type 0 where

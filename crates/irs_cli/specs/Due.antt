@@ -3,8 +3,9 @@ use Rattle.std.specs.Prelude.{◌≡◌, ℕ, List}
 use Rattle.irs_answers.specs.Due.{DueFor}
 use Rattle.irs_answers.specs.Given.{Given}
 use Rattle.irs_answers.specs.Steps.{Is}
+use Rattle.irs_bulk.specs.BulkRuns.{DueBulk}
 use Rattle.irs_cli.specs.declared.commands.Request.{Request}
-use Rattle.irs_cli.specs.declared.commands.Request.TheVariants.{OverFiles}
+use Rattle.irs_cli.specs.declared.commands.Request.TheVariants.{OverFiles, Bulk}
 use Rattle.irs_cli.specs.Commands.{Words, Asked, Asks, IsListed}
 use Rattle.irs_cli.specs.Given.{Told, AreTold, IsFirstLong, TellsAll}
 use Rattle.irs_cli.specs.Messages.{bad_words, too_long}
@@ -12,6 +13,7 @@ use Rattle.irs_cli.specs.Messages.{bad_words, too_long}
 -- what is due for a request and its files
 abbrev pub DueOf : Request → Given → ℕ → List ℕ → Type 0
 DueOf (OverFiles task) g status text = DueFor task g status text
+DueOf (Bulk n) g status text = DueBulk n status text
 
 -- how words and files may be: the words are no listed command, a file is too long, or all files are told
 pub data WordsCase (ws : Words) (told : Told) : Type 0 where

@@ -1,8 +1,9 @@
 -- The words of a command that are parameters and no files.
-use Rattle.std.specs.Prelude.{◌≡◌, ℕ, ◌+◌, ◌≤◌, List, [], ◌∷◌, Some, slice_get, ℤ}
+use Rattle.std.specs.Prelude.{◌≡◌, ℕ, ◌+◌, ◌≤◌, List, [], ◌∷◌, Some, decimal, slice_get, ℤ}
 use Rattle.irs_base.specs.Days.{IsDay}
 use Rattle.irs_base.specs.Limits.{most_streams}
 use Rattle.irs_base.specs.Texts.{IsDateText}
+use Rattle.irs_bulk.specs.Documents.{most_bulk}
 
 -- the word with this index is one of an x
 abbrev pub At : {X : Type 0} → (List ℕ → X → Type 0) → List (List ℕ) → ℕ → X → Type 0
@@ -26,3 +27,13 @@ pub record IsStreamWord (w : List ℕ) (n : ℕ) : Type 0 where
 -- the word with this index is the number of a stream
 abbrev pub IsStreamAt : List (List ℕ) → ℕ → ℕ → Type 0
 IsStreamAt ps i n = At IsStreamWord ps i n
+
+-- the word is a number of documents: its digits, with no zero in front, of a number from 1 to 500
+pub record IsCountWord (w : List ℕ) (n : ℕ) : Type 0 where
+  pub from_one : 1 ≤ n
+  pub to_most : n ≤ most_bulk
+  pub is : w ≡ decimal n
+
+-- the word with this index is a number of documents
+abbrev pub IsCountAt : List (List ℕ) → ℕ → ℕ → Type 0
+IsCountAt ps i n = At IsCountWord ps i n

@@ -6,14 +6,15 @@
 //! `accrue DATE DOC FIX CAL..` what has accrued on a day in each stream of that schedule, and
 //! `net DOC FIX CAL..` what falls due between the two parties. `overnight STREAM DOC DAILY CAL..` asks
 //! for the rates that the daily rates of DAILY give for the periods of a stream. `-` as FIX or DAILY
-//! means no fixings. Each takes 0 to 16 calendars.
+//! means no fixings. Each takes 0 to 16 calendars. `bulk N` adds up the schedules of N documents of its
+//! own, and names no file.
 //!
 //! A command is data: how many of its words are parameters, the roles of its files in the order of the
 //! words, and how many calendars may follow.
 ghost use Rattle.std.specs.Prelude.{◌≡◌, ◌≤◌, ◌+◌, map, length, option_map, IfOk, IfSome, IfNone};
 ghost use Rattle.irs_cli.specs.Commands.{texts, kind_of, params_of, roles_of, calendars_of, counts, role_at, is_file, IsRequest, IsCommand, IsCommandAs, asked_by, wanted_by, files_from, most_words};
 
-use crate::params::{accrue_of, overnight_of};
+use crate::params::{accrue_of, bulk_of, overnight_of};
 use irs_answers::Task;
 use irs_base::{MOST_FILES, Memory};
 use std::alloc::Global;
@@ -28,6 +29,7 @@ pub(crate) enum Kind {
     Accrue,
     Net,
     Overnight,
+    Bulk,
 }
 
 /// What is asked for, with its parameters.
@@ -35,6 +37,8 @@ pub(crate) enum Kind {
 pub(crate) enum Request {
     /// A task over the files that the words name.
     OverFiles(Task),
+    /// The sums over so many documents, which no word names.
+    Bulk(u32),
 }
 
 /// What a file is to a command.
@@ -79,6 +83,8 @@ fn kind_of(word: &str) -> Option<Kind>
         Some(Kind::Net)
     } else if word == "overnight" {
         Some(Kind::Overnight)
+    } else if word == "bulk" {
+        Some(Kind::Bulk)
     } else {
         None
     }
@@ -97,6 +103,7 @@ impl Kind {
             Kind::Accrue => 1,
             Kind::Net => 0,
             Kind::Overnight => 1,
+            Kind::Bulk => 1,
         }
     }
 
@@ -112,6 +119,7 @@ impl Kind {
             Kind::Accrue => &[Role::Document, Role::Fixings],
             Kind::Net => &[Role::Document, Role::Fixings],
             Kind::Overnight => &[Role::Document, Role::Fixings],
+            Kind::Bulk => &[],
         }
     }
 
@@ -127,6 +135,7 @@ impl Kind {
             Kind::Accrue => MOST_FILES,
             Kind::Net => MOST_FILES,
             Kind::Overnight => MOST_FILES,
+            Kind::Bulk => 0,
         }
     }
 }
@@ -184,6 +193,7 @@ fn request_of(kind: Kind, params: &[String]) -> Option<Request>
         Kind::Accrue => accrue_of(params),
         Kind::Net => Some(Request::OverFiles(Task::Net)),
         Kind::Overnight => overnight_of(params),
+        Kind::Bulk => bulk_of(params),
     }
 }
 
