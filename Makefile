@@ -2,17 +2,19 @@
 # of the shipped example. `make try DOC=FILE` prints the schedule of a document by the program as it
 # stands, unproved, for whoever wants to look before the proofs are done. `make examples` runs the
 # program on every example and compares. `make test` is the gate. They need the kit's command `rt` and
-# nothing else.
-.PHONY: all irs try examples test clean
-DOC ?= examples/B.json
+# nothing else. `make faults` makes each allocation of the program fail in turn, `make hostile` runs it on
+# the largest and the worst inputs, `make bench` counts what it takes; they want a C compiler, Python and,
+# for the counts, valgrind. `make library` builds the library for C, and `make bindings` tries it.
+.PHONY: all irs try examples faults hostile bench library bindings test clean
+DOC ?= examples/fixed_leg/terms.json
 
 all: irs
-	./irs schedule examples/B.json -
+	./irs schedule examples/fixed_leg/terms.json -
 
 irs:
 	tools/prove
 	mkdir -p crates/irs/out
-	cd crates/irs && rt run -- schedule ../../examples/B.json - > out/printed
+	cd crates/irs && rt run -- schedule ../../examples/fixed_leg/terms.json - > out/printed
 	cp crates/irs/out/irs irs
 
 try:
@@ -21,6 +23,22 @@ try:
 
 examples: irs
 	examples/compare
+
+faults: irs
+	tools/faults
+
+hostile: irs
+	tools/hostile
+
+bench: irs
+	tools/bench
+
+library:
+	cd crates/irs_c && rt lib
+	bindings/build
+
+bindings: library
+	bindings/try
 
 test:
 	.ci/run

@@ -1,3 +1,4 @@
+use Rattle.std.proofs.Common.{refl}
 use Rattle.irs_schedule.specs.declared.streams.StreamPart.TheInside.{Inside}
 use Rattle.irs_schedule.specs.Keeping.{IsKept}
 use Rattle.irs_schedule.proofs.PartLemmas.{kept}
