@@ -31,12 +31,12 @@ use Rattle.irs_emit.specs.Emitted.{emit_text}
 use Rattle.irs_answers.specs.Accrued.{TellsAccrued}
 use Rattle.irs_base.specs.Order.{First, Only, is_before}
 use Rattle.irs_answers.specs.declared.tasks.Task.{Task}
-use Rattle.irs_answers.specs.declared.tasks.Task.TheVariants.{Check, Schedule, Audit, Emit, Accrue, Net, Overnight}
+use Rattle.irs_answers.specs.declared.tasks.Task.TheVariants.{Check, Schedule, Audit, Emit, Accrue, Net, Overnight, Average, Interpolate}
 use Rattle.irs_answers.specs.Tasks.{nets, uses_rates}
 use Rattle.irs_answers.specs.Given.{Given}
 use Rattle.irs_answers.specs.Messages.{refused, unreadable, bad_calendar, bad_fixings, all_kept}
 use Rattle.irs_answers.specs.Steps.{Is, Refuses, Rules, Step}
-use Rattle.irs_answers.specs.Derived.{DueOvernight}
+use Rattle.irs_answers.specs.Derived.{DueAverage, DueInterpolate, DueOvernight}
 use Rattle.irs_answers.specs.Netted.{TellsNet}
 use Rattle.irs_net.specs.Parties.{BreaksK8Of, SidesOf}
 use Rattle.irs_net.specs.declared.sides.Sides.{Sides}
@@ -123,6 +123,8 @@ Answered Emit g f status text = Is 0 (emit_text f.parts) status text
 Answered (Accrue date) g f status text = (status ≡ 0) × TellsAccrued date f.parts text
 Answered Net g f status text = (status ≡ 0) × TellsNet f.sides f.parts text
 Answered (Overnight stream) g f status text = DueOvernight stream f.swap f.cal f.table f.parts status text
+Answered (Average stream mean step) g f status text = DueAverage stream mean step f.swap f.cal f.table f.parts status text
+Answered (Interpolate stream side low high) g f status text = DueInterpolate stream side low high f.swap f.table f.parts status text
 
 -- ---- the steps that the tasks share, the last first
 

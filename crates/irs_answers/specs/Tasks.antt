@@ -1,7 +1,9 @@
--- What the tasks ask for besides: rates in the schedule, and the sides of the streams.
-use Rattle.std.specs.Prelude.{Bool, true, false}
+-- What the tasks ask for besides: rates in the schedule, and the sides of the streams; and the ranges of their parameters.
+use Rattle.std.specs.Prelude.{◌≤◌, Bool, true, false}
+use Rattle.irs_terms.specs.Lawful.{IsLawfulTenor}
+use Rattle.irs_average.specs.Averages.{most_step}
 use Rattle.irs_answers.specs.declared.tasks.Task.{Task}
-use Rattle.irs_answers.specs.declared.tasks.Task.TheVariants.{Check, Schedule, Audit, Emit, Accrue, Net, Overnight}
+use Rattle.irs_answers.specs.declared.tasks.Task.TheVariants.{Check, Schedule, Audit, Emit, Accrue, Net, Overnight, Average, Interpolate}
 
 -- whether a task's schedule is made with the rates of the file of fixings; where there is no file, there are no rates
 abbrev pub uses_rates : Task → Bool
@@ -12,6 +14,8 @@ uses_rates Emit = true
 uses_rates (Accrue date) = true
 uses_rates Net = true
 uses_rates (Overnight stream) = false
+uses_rates (Average stream mean step) = false
+uses_rates (Interpolate stream side low high) = false
 
 -- whether a task asks which party pays each stream
 abbrev pub nets : Task → Bool
@@ -22,3 +26,17 @@ nets Emit = false
 nets (Accrue date) = false
 nets Net = true
 nets (Overnight stream) = false
+nets (Average stream mean step) = false
+nets (Interpolate stream side low high) = false
+
+-- the parameters of a task lie in their ranges: a step of 1 to 6,993 days, two tenors
+abbrev pub IsLawfulTask : Task → Type 0
+IsLawfulTask Check = Unit {0}
+IsLawfulTask Schedule = Unit {0}
+IsLawfulTask Audit = Unit {0}
+IsLawfulTask Emit = Unit {0}
+IsLawfulTask (Accrue date) = Unit {0}
+IsLawfulTask Net = Unit {0}
+IsLawfulTask (Overnight stream) = Unit {0}
+IsLawfulTask (Average stream mean step) = (1 ≤ step) × (step ≤ most_step)
+IsLawfulTask (Interpolate stream side low high) = IsLawfulTenor low × IsLawfulTenor high

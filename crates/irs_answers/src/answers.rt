@@ -8,9 +8,11 @@ ghost use Rattle.irs_answers.specs.Given.{given_by};
 ghost use Rattle.irs_answers.specs.Messages.{all_kept};
 ghost use Rattle.irs_answers.specs.Outcomes.{Ends, IfAnswered};
 ghost use Rattle.irs_answers.specs.Steps.{Is};
+ghost use Rattle.irs_answers.specs.Tasks.{IsLawfulTask};
+ghost use Rattle.irs_terms.specs.Lawful.{IsLawful};
 
 use crate::accruing::accrued_page;
-use crate::derived::overnight_answer;
+use crate::derived::{average_answer, interpolate_answer, overnight_answer};
 use crate::due::Found;
 use crate::files::TaskFiles;
 use crate::flows::verdict_on;
@@ -31,7 +33,9 @@ pub(crate) fn answer_by(
     files: &TaskFiles,
     found: Found,
 ) -> Result<Reply, Refusal>
-    requires { Passes task.now (given_by files.now) (facts_by found) }
+    requires asked { IsLawfulTask task.now }
+    requires lawful { IsLawful found.swap }
+    requires passes { Passes task.now (given_by files.now) (facts_by found) }
     ensures { IfAnswered result (Ends (Answered task.now (given_by files.now) (facts_by found))) }
 {
     match *task {
@@ -42,6 +46,13 @@ pub(crate) fn answer_by(
         Task::Accrue(date) => accrue_answer(alloc, &found.schedule, date),
         Task::Net => net_answer(alloc, &found),
         Task::Overnight(stream) => overnight_answer(alloc, stream, &found),
+        Task::Average { stream, mean, step } => average_answer(alloc, stream, mean, step, &found),
+        Task::Interpolate {
+            stream,
+            side,
+            low,
+            high,
+        } => interpolate_answer(alloc, stream, side, low, high, &found),
     }
 }
 

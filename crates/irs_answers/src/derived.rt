@@ -1,40 +1,95 @@
-//! The tasks that derive rates for a floating stream from the file of fixings: its own rules, and the
+//! The tasks that derive rates for a floating stream from the file of fixings: their own rules, and the
 //! fixing file that is printed.
-ghost use Rattle.std.specs.Prelude.{◌≡◌, ◌++◌, ◌≤◌, length, List, IfOk, IfSome, IfNone};
+ghost use Rattle.std.specs.Prelude.{◌≡◌, ◌≤◌, length, IfOk, IfErr, IfSome, IfNone};
 ghost use Rattle.irs_base.specs.Limits.{most_index};
+ghost use Rattle.irs_terms.specs.Lawful.{IsLawfulTenor};
+ghost use Rattle.irs_average.specs.Averages.{most_step};
+ghost use Rattle.irs_overnight.specs.DerivedRules.{no_floating_stream};
 ghost use Rattle.irs_overnight.specs.FileLaw.{file_text};
-ghost use Rattle.irs_answers.specs.Derived.{DueOvernight, FloatingStream, IsFloatingAt};
-ghost use Rattle.irs_answers.specs.Due.{Passes};
-ghost use Rattle.irs_answers.specs.Found.{facts_by};
-ghost use Rattle.irs_answers.specs.Given.{Given};
+ghost use Rattle.irs_answers.specs.Derived.{DueAverage, DueInterpolate, DueOvernight, FloatingStream, IsFloatingAt, IsUnfixed};
 ghost use Rattle.irs_answers.specs.Outcomes.{Ends, IfAnswered};
-ghost use Rattle.irs_answers.specs.declared.tasks.Task.TheVariants.{Overnight as OfOvernight};
 
 use crate::due::Found;
 use crate::refusals::Refusal;
 use crate::replies::Reply;
 use crate::statuses::Status;
-use irs_base::{Line, Memory, Text};
-use irs_overnight::{DerivedRow, check_stream, derived_text, overnight};
+use irs_average::{Mean, Side, average, interpolate, stub_index};
+use irs_base::{Broken, Line, Memory, Text};
+use irs_overnight::{DerivedRow, check_stream, derived_text, overnight, stream_at};
 use irs_schedule::reset_days;
 use irs_terms::{FloatTerms, Frequency, Leg, Stream, Swap};
 use std::alloc::Global;
 
 /// The rates that daily rates give for the stream with that number.
 pub(crate) fn overnight_answer(alloc: Global, number: u8, found: &Found) -> Result<Reply, Refusal>
-    requires { (g : Given) × Passes (OfOvernight number) g (facts_by found.now) }
+    requires { IsUnfixed found.now.swap found.now.calendars found.now.schedule }
     ensures { IfAnswered result (Ends (DueOvernight number found.now.swap found.now.calendars found.now.fixings found.now.schedule)) }
 {
-    if let Some(broken) = check_stream(&found.swap, number) {
-        return Err(Refusal::Rule(broken));
-    }
-    let Some((stream, float)) = floating_at(&found.swap, number) else {
-        unreachable!()
-    };
+    let swap = &found.swap;
+    let (stream, float) = floating(swap, number)?;
     let days = reset_days(alloc, &found.calendars, stream)?;
-    let rows = overnight(alloc, &found.schedule, &found.swap, number, &days, &found.fixings)?;
+    let rows = overnight(alloc, &found.schedule, swap, number, &days, &found.fixings)?;
     let text = fixings_page(alloc, rows.as_slice(), float.tenor, &float.index)?;
     Ok(Reply::Text(Status::Done, text))
+}
+
+/// The averages of the rates of the stream with that number.
+pub(crate) fn average_answer(
+    alloc: Global,
+    number: u8,
+    mean: Mean,
+    step: u32,
+    found: &Found,
+) -> Result<Reply, Refusal>
+    requires some { 1 ≤ step }
+    requires few { step ≤ most_step }
+    requires unfixed { IsUnfixed found.now.swap found.now.calendars found.now.schedule }
+    ensures { IfAnswered result (Ends (DueAverage number mean step found.now.swap found.now.calendars found.now.fixings found.now.schedule)) }
+{
+    let (swap, schedule) = (&found.swap, &found.schedule);
+    let (stream, float) = floating(swap, number)?;
+    let days = reset_days(alloc, &found.calendars, stream)?;
+    let rows = average(alloc, schedule, swap, number, mean, step, &days, &found.fixings)?;
+    let text = fixings_page(alloc, rows.as_slice(), float.tenor, &float.index)?;
+    Ok(Reply::Text(Status::Done, text))
+}
+
+/// The rate of the stub of the stream with that number, on a side, between those of two tenors.
+pub(crate) fn interpolate_answer(
+    alloc: Global,
+    number: u8,
+    side: Side,
+    low: Frequency,
+    high: Frequency,
+    found: &Found,
+) -> Result<Reply, Refusal>
+    requires low { IsLawfulTenor low }
+    requires high { IsLawfulTenor high }
+    requires unfixed { IsUnfixed found.now.swap found.now.calendars found.now.schedule }
+    ensures { IfAnswered result (Ends (DueInterpolate number side low high found.now.swap found.now.fixings found.now.schedule)) }
+{
+    let swap = &found.swap;
+    floating(swap, number)?;
+    let row = interpolate(&found.schedule, swap, number, side, low, high, &found.fixings)?;
+    let Some((index, tenor)) = stub_index(swap, number, side) else {
+        unreachable!()
+    };
+    Ok(Reply::Text(Status::Done, fixings_page(alloc, &[row], tenor, index)?))
+}
+
+// The floating stream with that number, from 1, and what it pays; K40 where there is none.
+fn floating(swap: &Swap, number: u8) -> Result<(&Stream, &FloatTerms), Broken>
+    ensures floats { IfOk result (λ p. IsFloatingAt swap.now number (record { stream = p.0.now; float = p.1.now })) }
+    ensures none { IfErr result (λ _. (x : FloatingStream) → IsFloatingAt swap.now number x → ⊥) }
+    ensures broken { IfErr result (λ b. b ≡ no_floating_stream number) }
+{
+    if let Some(broken) = check_stream(swap, number) {
+        return Err(broken);
+    }
+    match floating_at(swap, number) {
+        Some(found) => Ok(found),
+        None => unreachable!(),
+    }
 }
 
 // The floating stream with that number, from 1, and what it pays.
@@ -42,8 +97,7 @@ fn floating_at(swap: &Swap, number: u8) -> Option<(&Stream, &FloatTerms)>
     ensures some { IfSome result (λ p. IsFloatingAt swap.now number (record { stream = p.0.now; float = p.1.now })) }
     ensures none { IfNone result ((x : FloatingStream) → IsFloatingAt swap.now number x → ⊥) }
 {
-    let place = number.checked_sub(1)?;
-    let stream = swap.streams.as_slice().get(place as usize)?;
+    let stream = stream_at(swap, number)?;
     match &stream.leg {
         Leg::Floating(float) => Some((stream, float)),
         Leg::Fixed(_) => None,

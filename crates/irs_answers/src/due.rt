@@ -10,6 +10,7 @@ ghost use Rattle.irs_answers.specs.Due.{AreFixings, BreaksSides, DueFor, HasSide
 ghost use Rattle.irs_answers.specs.Found.{facts_by};
 ghost use Rattle.irs_answers.specs.Outcomes.{Ends, FixingsFail, IfAnswered, IfRefused, IsScheduled, IsUnscheduled};
 ghost use Rattle.irs_answers.specs.Replying.{reply_status, reply_text};
+ghost use Rattle.irs_answers.specs.Tasks.{IsLawfulTask};
 
 use crate::answers::answer_by;
 use crate::files::TaskFiles;
@@ -46,7 +47,8 @@ pub struct Found {
 /// document, the parties where the task asks for them, the calendars, the fixings, the rules of the
 /// swap, and the task's own. `Memory` comes where memory ran out.
 pub fn reply_of(alloc: Global, task: Task, files: &TaskFiles) -> Result<Reply, Memory>
-    requires { IsWithin (given_by files.now) }
+    requires lawful { IsLawfulTask task }
+    requires within { IsWithin (given_by files.now) }
     ensures { IfOk result (λ r. Ends (DueFor task (given_by files.now)) (reply_status r) (reply_text r)) }
 {
     match carry_out(alloc, task, files) {
@@ -57,7 +59,8 @@ pub fn reply_of(alloc: Global, task: Task, files: &TaskFiles) -> Result<Reply, M
 
 // What a task over its files comes to, or why it isn't carried out.
 fn carry_out(alloc: Global, task: Task, files: &TaskFiles) -> Result<Reply, Refusal>
-    requires { IsWithin (given_by files.now) }
+    requires lawful { IsLawfulTask task }
+    requires within { IsWithin (given_by files.now) }
     ensures { IfAnswered result (Ends (DueFor task (given_by files.now))) }
 {
     let found = find(alloc, task, files)?;
@@ -69,6 +72,7 @@ fn carry_out(alloc: Global, task: Task, files: &TaskFiles) -> Result<Reply, Refu
 pub fn find(alloc: Global, task: Task, files: &TaskFiles) -> Result<Found, Refusal>
     requires { IsWithin (given_by files.now) }
     ensures passes { IfOk result (λ f. Passes task (given_by files.now) (facts_by f)) }
+    ensures lawful { IfOk result (λ f. IsLawful f.swap) }
     ensures refused { IfErr result (λ r. IfRefused r (Ends (DueFor task (given_by files.now)))) }
 {
     let document = parse(alloc, &files.document)?;

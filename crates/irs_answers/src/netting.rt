@@ -4,12 +4,8 @@ ghost use Rattle.std.specs.Prelude.{◌≡◌, ◌++◌, List, Some, length, IfO
 ghost use Rattle.irs_base.specs.Members.{Every};
 ghost use Rattle.irs_net.specs.Nets.{HasPlaces};
 ghost use Rattle.irs_net.specs.declared.table.NetRow.{NetRow as Row};
-ghost use Rattle.irs_answers.specs.Due.{Passes};
-ghost use Rattle.irs_answers.specs.Found.{facts_by};
-ghost use Rattle.irs_answers.specs.Given.{Given};
-ghost use Rattle.irs_answers.specs.Netted.{TellsNet, TellsNetOf, net_page};
+ghost use Rattle.irs_answers.specs.Netted.{IsSided, TellsNet, TellsNetOf, net_page};
 ghost use Rattle.irs_answers.specs.Outcomes.{Ends, IfAnswered};
-ghost use Rattle.irs_answers.specs.declared.tasks.Task.TheVariants.{Net as OfNet};
 
 use crate::due::Found;
 use crate::refusals::Refusal;
@@ -22,7 +18,7 @@ use std::alloc::Global;
 
 /// The net of a schedule, whose sides were read.
 pub(crate) fn net_answer(alloc: Global, found: &Found) -> Result<Reply, Refusal>
-    requires { (g : Given) × Passes OfNet g (facts_by found.now) }
+    requires { IsSided found.now.sides found.now.schedule }
     ensures { IfAnswered result (Ends (λ status text. (status ≡ 0) × TellsNet found.now.sides found.now.schedule text)) }
 {
     let Some(sides) = found.sides else {

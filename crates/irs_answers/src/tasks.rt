@@ -2,7 +2,9 @@
 ghost use Rattle.std.specs.Prelude.{◌≡◌};
 ghost use Rattle.irs_answers.specs.Tasks.{nets, uses_rates};
 
+use irs_average::{Mean, Side};
 use irs_base::Day;
+use irs_terms::Frequency;
 
 /// What is asked of a document and the files beside it.
 #[derive(Clone, Copy, Debug, PartialEq, Eq)]
@@ -21,6 +23,15 @@ pub enum Task {
     Net,
     /// The rates that daily rates give for the calculation periods of the stream with this number, from 1.
     Overnight(u8),
+    /// The averages of a stream's rates, observed every `step` days, over its calculation periods.
+    Average { stream: u8, mean: Mean, step: u32 },
+    /// The rate of a stream's stub on a side, between those of two tenors.
+    Interpolate {
+        stream: u8,
+        side: Side,
+        low: Frequency,
+        high: Frequency,
+    },
 }
 
 impl Task {
@@ -36,6 +47,8 @@ impl Task {
             Task::Accrue(_) => true,
             Task::Net => true,
             Task::Overnight(_) => false,
+            Task::Average { .. } => false,
+            Task::Interpolate { .. } => false,
         }
     }
 
@@ -51,6 +64,8 @@ impl Task {
             Task::Accrue(_) => false,
             Task::Net => true,
             Task::Overnight(_) => false,
+            Task::Average { .. } => false,
+            Task::Interpolate { .. } => false,
         }
     }
 }

@@ -15,7 +15,9 @@ use crate::means::{Mean, mean_found};
 use crate::samples::{Steps, samples};
 use irs_base::{Day, Elem, Fault, Memory, Rule, Stopped};
 use irs_calendar::GoodDays;
-use irs_overnight::{Derived, DerivedRow, Found, days_between, first_unrising, fixing_date, unrising};
+use irs_overnight::{
+    Derived, DerivedRow, Found, days_between, first_unrising, fixing_date, unrising,
+};
 use irs_resets::Fixings;
 use irs_schedule::StreamPart;
 use irs_terms::FloatTerms;

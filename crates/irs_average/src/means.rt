@@ -94,7 +94,7 @@ fn divisor(kind: Mean, days: i64, observations: &[Observation]) -> i128
 }
 
 // The mean where each rate is there.
-fn mean(kind: Mean, days: i64, observations: &[Observation]) -> i64
+fn mean_rate(kind: Mean, days: i64, observations: &[Observation]) -> i64
     requires days { (pos 0 <ℤ days) × (unsigned_abs days < all_days) }
     requires small { All IsSmall observations.now }
     requires shares { ShareOut days observations.now }
@@ -116,6 +116,6 @@ pub(crate) fn mean_found(kind: Mean, days: i64, observations: &[Observation]) ->
 {
     match first_absent(observations) {
         Some(day) => Found::Missing(day),
-        None => Found::Rate(mean(kind, days, observations)),
+        None => Found::Rate(mean_rate(kind, days, observations)),
     }
 }

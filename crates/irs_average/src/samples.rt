@@ -15,6 +15,7 @@ use irs_terms::FloatTerms;
 use std::alloc::Global;
 
 /// The steps of a period: every so many days from its start, as many as begin before its end.
+#[derive(Drop)]
 pub(crate) struct Steps {
     start: Day,
     end: Day,
@@ -66,7 +67,11 @@ impl Steps {
         requires { k < self.now.count }
         ensures { result ≡ step_end self.now.start self.now.end self.now.step self.now.count k }
     {
-        if k + 1 < self.count { self.day(k + 1) } else { self.end }
+        if k + 1 < self.count {
+            self.day(k + 1)
+        } else {
+            self.end
+        }
     }
 }
 

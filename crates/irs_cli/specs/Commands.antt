@@ -3,6 +3,9 @@ use Rattle.std.specs.Prelude.{◌≡◌, ℕ, ◌+◌, List, [], ◌∷◌, ◌+
 use Rattle.std.specs.Str.{bytes_eq}
 use Rattle.std.specs.declared.alloc.Global.{Global}
 use Rattle.irs_answers.specs.Given.{most_calendars}
+use Rattle.irs_average.specs.declared.means.Mean.{Mean}
+use Rattle.irs_average.specs.declared.stubs.Side.{Side}
+use Rattle.irs_terms.specs.declared.frequency.Frequency.{Frequency}
 use Rattle.irs_answers.specs.declared.tasks.Task.TheVariants as task
 use Rattle.irs_cli.specs.declared.commands.Kind.{Kind}
 use Rattle.irs_cli.specs.declared.commands.Kind.TheVariants as kind
@@ -12,7 +15,7 @@ use Rattle.irs_cli.specs.declared.commands.Role.{Role}
 use Rattle.irs_cli.specs.declared.commands.Role.TheVariants.{Document, Fixings, Flows, Calendar}
 use Rattle.irs_cli.specs.declared.commands.Named.{Named}
 use Rattle.irs_cli.specs.declared.commands.Command.{Command}
-use Rattle.irs_cli.specs.Params.{IsCountAt, IsDateAt, IsStreamAt}
+use Rattle.irs_cli.specs.Params.{At, IsCountWord, IsDateWord, IsMeanWord, IsSideWord, IsStepWord, IsStreamWord, IsTenorWord}
 
 -- the words behind the program's name, by their bytes
 abbrev pub Words : Type 0
@@ -53,44 +56,52 @@ kind_of w =
     if bytes_eq w (codes "check") then Some kind.Check else
     if bytes_eq w (codes "schedule") then Some kind.Schedule else
     if bytes_eq w (codes "audit") then Some kind.Audit else
+    if bytes_eq w (codes "bulk") then Some kind.Bulk else
     if bytes_eq w (codes "emit") then Some kind.Emit else
     if bytes_eq w (codes "accrue") then Some kind.Accrue else
     if bytes_eq w (codes "net") then Some kind.Net else
     if bytes_eq w (codes "overnight") then Some kind.Overnight else
-    if bytes_eq w (codes "bulk") then Some kind.Bulk else None
+    if bytes_eq w (codes "average") then Some kind.Average else
+    if bytes_eq w (codes "interpolate") then Some kind.Interpolate else None
 
 -- how many words come before its files
 abbrev pub params_of : Kind → ℕ
 params_of kind.Check = 0
 params_of kind.Schedule = 0
 params_of kind.Audit = 0
+params_of kind.Bulk = 1
 params_of kind.Emit = 0
 params_of kind.Accrue = 1
 params_of kind.Net = 0
 params_of kind.Overnight = 1
-params_of kind.Bulk = 1
+params_of kind.Average = 3
+params_of kind.Interpolate = 4
 
 -- the roles of its first files, in the order of the words
 abbrev pub roles_of : Kind → List Role
 roles_of kind.Check = Document ∷ []
 roles_of kind.Schedule = Document ∷ Fixings ∷ []
 roles_of kind.Audit = Document ∷ Fixings ∷ Flows ∷ []
+roles_of kind.Bulk = []
 roles_of kind.Emit = Document ∷ Fixings ∷ []
 roles_of kind.Accrue = Document ∷ Fixings ∷ []
 roles_of kind.Net = Document ∷ Fixings ∷ []
 roles_of kind.Overnight = Document ∷ Fixings ∷ []
-roles_of kind.Bulk = []
+roles_of kind.Average = Document ∷ Fixings ∷ []
+roles_of kind.Interpolate = Document ∷ Fixings ∷ []
 
 -- how many calendars may follow
 abbrev pub calendars_of : Kind → ℕ
 calendars_of kind.Check = most_calendars
 calendars_of kind.Schedule = most_calendars
 calendars_of kind.Audit = most_calendars
+calendars_of kind.Bulk = 0
 calendars_of kind.Emit = most_calendars
 calendars_of kind.Accrue = most_calendars
 calendars_of kind.Net = most_calendars
 calendars_of kind.Overnight = most_calendars
-calendars_of kind.Bulk = 0
+calendars_of kind.Average = most_calendars
+calendars_of kind.Interpolate = most_calendars
 
 -- ---- what the table says of words
 
@@ -118,16 +129,58 @@ files_from roles place i (w ∷ ws) = kept (role_at roles i) place w ++ files_fr
 abbrev pub counts : Kind → ℕ → Bool
 counts k n = nat_le (params_of k + length (roles_of k)) n && nat_le n (params_of k + length (roles_of k) + calendars_of k)
 
+-- `accrue` with its date
+pub record AsksAccrue (ps : Words) (r : Request) : Type 0 where
+  pub date : ℤ
+  pub is_date : At IsDateWord ps 0 date
+  pub is : r ≡ OverFiles (task.Accrue date)
+
+-- `bulk` with its number of documents
+pub record AsksBulk (ps : Words) (r : Request) : Type 0 where
+  pub count : ℕ
+  pub is_count : At IsCountWord ps 0 count
+  pub is : r ≡ Bulk count
+
+-- `overnight` with its stream
+pub record AsksOvernight (ps : Words) (r : Request) : Type 0 where
+  pub stream : ℕ
+  pub is_stream : At IsStreamWord ps 0 stream
+  pub is : r ≡ OverFiles (task.Overnight stream)
+
+-- `average` with its stream, its mean and its step
+pub record AsksAverage (ps : Words) (r : Request) : Type 0 where
+  pub stream : ℕ
+  pub is_stream : At IsStreamWord ps 0 stream
+  pub mean : Mean
+  pub is_mean : At IsMeanWord ps 1 mean
+  pub step : ℕ
+  pub is_step : At IsStepWord ps 2 step
+  pub is : r ≡ OverFiles (task.Average stream mean step)
+
+-- `interpolate` with its stream, its side and its two tenors
+pub record AsksInterpolate (ps : Words) (r : Request) : Type 0 where
+  pub stream : ℕ
+  pub is_stream : At IsStreamWord ps 0 stream
+  pub side : Side
+  pub is_side : At IsSideWord ps 1 side
+  pub low : Frequency
+  pub is_low : At IsTenorWord ps 2 low
+  pub high : Frequency
+  pub is_high : At IsTenorWord ps 3 high
+  pub is : r ≡ OverFiles (task.Interpolate stream side low high)
+
 -- what a command of a kind asks for by its parameters
 abbrev pub IsRequest : Kind → Words → Request → Type 0
 IsRequest kind.Check ps r = r ≡ OverFiles task.Check
 IsRequest kind.Schedule ps r = r ≡ OverFiles task.Schedule
 IsRequest kind.Audit ps r = r ≡ OverFiles task.Audit
+IsRequest kind.Bulk ps r = AsksBulk ps r
 IsRequest kind.Emit ps r = r ≡ OverFiles task.Emit
-IsRequest kind.Accrue ps r = (d : ℤ) × IsDateAt ps 0 d × (r ≡ OverFiles (task.Accrue d))
+IsRequest kind.Accrue ps r = AsksAccrue ps r
 IsRequest kind.Net ps r = r ≡ OverFiles task.Net
-IsRequest kind.Overnight ps r = (n : ℕ) × IsStreamAt ps 0 n × (r ≡ OverFiles (task.Overnight n))
-IsRequest kind.Bulk ps r = (n : ℕ) × IsCountAt ps 0 n × (r ≡ Bulk n)
+IsRequest kind.Overnight ps r = AsksOvernight ps r
+IsRequest kind.Average ps r = AsksAverage ps r
+IsRequest kind.Interpolate ps r = AsksInterpolate ps r
 
 -- the words behind the name of a command of this kind are those of a
 pub record AsksAs (k : Kind) (ws : Words) (a : Asked) : Type 0 where

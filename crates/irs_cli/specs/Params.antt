@@ -1,39 +1,73 @@
 -- The words of a command that are parameters and no files.
-use Rattle.std.specs.Prelude.{◌≡◌, ℕ, ◌+◌, ◌≤◌, List, [], ◌∷◌, Some, decimal, slice_get, ℤ}
+use Rattle.std.specs.Prelude.{◌≡◌, ℕ, ◌+◌, ◌*◌, ◌≤◌, List, [], ◌∷◌, codes, decimal, Option, Some, None, slice_get, ℤ}
 use Rattle.irs_base.specs.Days.{IsDay}
 use Rattle.irs_base.specs.Limits.{most_streams}
 use Rattle.irs_base.specs.Texts.{IsDateText}
+use Rattle.irs_terms.specs.declared.frequency.Frequency.{Frequency}
+use Rattle.irs_terms.specs.declared.frequency.Unit.{Unit as FrequencyUnit}
+use Rattle.irs_terms.specs.declared.frequency.Unit.TheVariants.{D, W, M, Y, T}
 use Rattle.irs_bulk.specs.Documents.{most_bulk}
+use Rattle.irs_resets.specs.Tenors.{tenor_at}
+use Rattle.irs_average.specs.declared.means.Mean.{Mean}
+use Rattle.irs_average.specs.declared.means.Mean.TheVariants.{Plain, Weighted}
+use Rattle.irs_average.specs.declared.stubs.Side.{Side}
+use Rattle.irs_average.specs.declared.stubs.Side.TheVariants.{Initial, Last}
 
--- the word with this index is one of an x
-abbrev pub At : {X : Type 0} → (List ℕ → X → Type 0) → List (List ℕ) → ℕ → X → Type 0
-At Is ps i x = (w : List ℕ) × (slice_get ps i ≡ Some w) × Is w x
+-- the word with this index is one for x
+pub record At {X : Type 0} (Is : List ℕ → X → Type 0) (ps : List (List ℕ)) (i : ℕ) (x : X) : Type 0 where
+  pub word : List ℕ
+  pub there : slice_get ps i ≡ Some word
+  pub is : Is word x
 
--- the word is a date of the day: YYYY-MM-DD, with or without a Z behind it
+-- a date of the day: YYYY-MM-DD, with or without a Z behind it
 pub record IsDateWord (w : List ℕ) (d : ℤ) : Type 0 where
   pub in_range : IsDay d
   pub is : IsDateText w d
 
--- the word with this index is a date of the day
-abbrev pub IsDateAt : List (List ℕ) → ℕ → ℤ → Type 0
-IsDateAt ps i d = At IsDateWord ps i d
-
--- the word is the number of a stream: one digit from 1 to 8
-pub record IsStreamWord (w : List ℕ) (n : ℕ) : Type 0 where
-  pub from_one : 1 ≤ n
-  pub to_eight : n ≤ most_streams
-  pub is : w ≡ (48 + n) ∷ []
-
--- the word with this index is the number of a stream
-abbrev pub IsStreamAt : List (List ℕ) → ℕ → ℕ → Type 0
-IsStreamAt ps i n = At IsStreamWord ps i n
-
--- the word is a number of documents: its digits, with no zero in front, of a number from 1 to 500
+-- a number of documents, from 1 to 500, in digits with no zero in front
 pub record IsCountWord (w : List ℕ) (n : ℕ) : Type 0 where
   pub from_one : 1 ≤ n
   pub to_most : n ≤ most_bulk
   pub is : w ≡ decimal n
 
--- the word with this index is a number of documents
-abbrev pub IsCountAt : List (List ℕ) → ℕ → ℕ → Type 0
-IsCountAt ps i n = At IsCountWord ps i n
+-- the number of a stream: one digit from 1 to 8
+pub record IsStreamWord (w : List ℕ) (n : ℕ) : Type 0 where
+  pub from_one : 1 ≤ n
+  pub to_eight : n ≤ most_streams
+  pub is : w ≡ (48 + n) ∷ []
+
+-- the name of a mean
+abbrev pub mean_name : Mean → List ℕ
+mean_name Plain = codes "plain"
+mean_name Weighted = codes "weighted"
+
+-- the word names it
+pub record IsMeanWord (w : List ℕ) (m : Mean) : Type 0 where
+  pub is : w ≡ mean_name m
+
+-- the name of a side
+abbrev pub side_name : Side → List ℕ
+side_name Initial = codes "initial"
+side_name Last = codes "final"
+
+-- the word names it
+pub record IsSideWord (w : List ℕ) (s : Side) : Type 0 where
+  pub is : w ≡ side_name s
+
+-- a tenor as in a fixing file, a number from 1 to 999 without leading zeros and D, W, M or Y
+pub record IsTenorWord (w : List ℕ) (f : Frequency) : Type 0 where
+  pub is : tenor_at w ≡ Some (Some f)
+
+-- so many days or weeks in days; the other units have no number of days
+abbrev pub days_of : FrequencyUnit → ℕ → Option ℕ
+days_of D count = Some count
+days_of W count = Some (7 * count)
+days_of M count = None
+days_of Y count = None
+days_of T count = None
+
+-- 1 to 999 days or weeks, in days
+pub record IsStepWord (w : List ℕ) (n : ℕ) : Type 0 where
+  pub step : Frequency
+  pub is_tenor : IsTenorWord w step
+  pub days : days_of step.unit step.count ≡ Some n

@@ -5,16 +5,19 @@
 //! FLOWS agree with that schedule. `emit DOC FIX CAL..` asks for the schedule as cash flows,
 //! `accrue DATE DOC FIX CAL..` what has accrued on a day in each stream of that schedule, and
 //! `net DOC FIX CAL..` what falls due between the two parties. `overnight STREAM DOC DAILY CAL..` asks
-//! for the rates that the daily rates of DAILY give for the periods of a stream. `-` as FIX or DAILY
-//! means no fixings. Each takes 0 to 16 calendars. `bulk N` adds up the schedules of N documents of its
-//! own, and names no file.
+//! for the rates that the daily rates of DAILY give for the periods of a stream,
+//! `average STREAM MEAN STEP DOC FIX CAL..` for the averages of its rates over them, and
+//! `interpolate STREAM SIDE LOW HIGH DOC FIX CAL..` for the rate of its stub on a side between those of
+//! two tenors. `-` as FIX or DAILY means no fixings. Each takes 0 to 16 calendars.
+//!
+//! `bulk N` adds up the schedules of N documents of its own, and names no file.
 //!
 //! A command is data: how many of its words are parameters, the roles of its files in the order of the
 //! words, and how many calendars may follow.
 ghost use Rattle.std.specs.Prelude.{◌≡◌, ◌≤◌, ◌+◌, map, length, option_map, IfOk, IfSome, IfNone};
 ghost use Rattle.irs_cli.specs.Commands.{texts, kind_of, params_of, roles_of, calendars_of, counts, role_at, is_file, IsRequest, IsCommand, IsCommandAs, asked_by, wanted_by, files_from, most_words};
 
-use crate::params::{accrue_of, bulk_of, overnight_of};
+use crate::params::{accrue_of, average_of, bulk_of, interpolate_of, overnight_of};
 use irs_answers::Task;
 use irs_base::{MOST_FILES, Memory};
 use std::alloc::Global;
@@ -25,11 +28,13 @@ pub(crate) enum Kind {
     Check,
     Schedule,
     Audit,
+    Bulk,
     Emit,
     Accrue,
     Net,
     Overnight,
-    Bulk,
+    Average,
+    Interpolate,
 }
 
 /// What is asked for, with its parameters.
@@ -75,6 +80,8 @@ fn kind_of(word: &str) -> Option<Kind>
         Some(Kind::Schedule)
     } else if word == "audit" {
         Some(Kind::Audit)
+    } else if word == "bulk" {
+        Some(Kind::Bulk)
     } else if word == "emit" {
         Some(Kind::Emit)
     } else if word == "accrue" {
@@ -83,8 +90,10 @@ fn kind_of(word: &str) -> Option<Kind>
         Some(Kind::Net)
     } else if word == "overnight" {
         Some(Kind::Overnight)
-    } else if word == "bulk" {
-        Some(Kind::Bulk)
+    } else if word == "average" {
+        Some(Kind::Average)
+    } else if word == "interpolate" {
+        Some(Kind::Interpolate)
     } else {
         None
     }
@@ -99,11 +108,13 @@ impl Kind {
             Kind::Check => 0,
             Kind::Schedule => 0,
             Kind::Audit => 0,
+            Kind::Bulk => 1,
             Kind::Emit => 0,
             Kind::Accrue => 1,
             Kind::Net => 0,
             Kind::Overnight => 1,
-            Kind::Bulk => 1,
+            Kind::Average => 3,
+            Kind::Interpolate => 4,
         }
     }
 
@@ -115,11 +126,13 @@ impl Kind {
             Kind::Check => &[Role::Document],
             Kind::Schedule => &[Role::Document, Role::Fixings],
             Kind::Audit => &[Role::Document, Role::Fixings, Role::Flows],
+            Kind::Bulk => &[],
             Kind::Emit => &[Role::Document, Role::Fixings],
             Kind::Accrue => &[Role::Document, Role::Fixings],
             Kind::Net => &[Role::Document, Role::Fixings],
             Kind::Overnight => &[Role::Document, Role::Fixings],
-            Kind::Bulk => &[],
+            Kind::Average => &[Role::Document, Role::Fixings],
+            Kind::Interpolate => &[Role::Document, Role::Fixings],
         }
     }
 
@@ -131,11 +144,13 @@ impl Kind {
             Kind::Check => MOST_FILES,
             Kind::Schedule => MOST_FILES,
             Kind::Audit => MOST_FILES,
+            Kind::Bulk => 0,
             Kind::Emit => MOST_FILES,
             Kind::Accrue => MOST_FILES,
             Kind::Net => MOST_FILES,
             Kind::Overnight => MOST_FILES,
-            Kind::Bulk => 0,
+            Kind::Average => MOST_FILES,
+            Kind::Interpolate => MOST_FILES,
         }
     }
 }
@@ -189,11 +204,13 @@ fn request_of(kind: Kind, params: &[String]) -> Option<Request>
         Kind::Check => Some(Request::OverFiles(Task::Check)),
         Kind::Schedule => Some(Request::OverFiles(Task::Schedule)),
         Kind::Audit => Some(Request::OverFiles(Task::Audit)),
+        Kind::Bulk => bulk_of(params),
         Kind::Emit => Some(Request::OverFiles(Task::Emit)),
         Kind::Accrue => accrue_of(params),
         Kind::Net => Some(Request::OverFiles(Task::Net)),
         Kind::Overnight => overnight_of(params),
-        Kind::Bulk => bulk_of(params),
+        Kind::Average => average_of(params),
+        Kind::Interpolate => interpolate_of(params),
     }
 }
 

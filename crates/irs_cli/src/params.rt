@@ -1,58 +1,93 @@
 //! The words of a command that are parameters and no files.
-ghost use Rattle.std.specs.Prelude.{◌≡◌, ◌↔◌, ℕ, ℤ, IfSome, IfNone, IsTrue};
+ghost use Rattle.std.specs.Prelude.{◌≡◌, ◌↔◌, ℕ, ℤ, Some, IfSome, IfNone, IsTrue, slice_get};
+ghost use Rattle.irs_resets.specs.Tenors.{tenor_at};
 ghost use Rattle.irs_cli.specs.Commands.{texts, IsRequest};
-ghost use Rattle.irs_cli.specs.Params.{IsCountAt, IsCountWord, IsDateAt, IsDateWord, IsStreamAt, IsStreamWord};
+ghost use Rattle.irs_cli.specs.Params.{At, IsCountWord, IsDateWord, IsMeanWord, IsSideWord, IsStepWord, IsStreamWord, IsTenorWord, days_of};
 ghost use Rattle.irs_cli.specs.declared.commands.Kind.TheVariants as kind;
 ghost use Rattle.irs_cli.specs.declared.commands.Request.{Request as RequestSpec};
+ghost use Rattle.irs_average.specs.declared.means.Mean.{Mean as MeanSpec};
+ghost use Rattle.irs_average.specs.declared.stubs.Side.{Side as SideSpec};
+ghost use Rattle.irs_terms.specs.declared.frequency.Frequency.{Frequency as FrequencySpec};
 
 use crate::commands::Request;
 use irs_answers::Task;
+use irs_average::{Mean, Side};
 use irs_base::{Day, read_date};
 use irs_bulk::MOST_BULK;
+use irs_resets::tenor;
+use irs_terms::{Frequency, Unit};
 
-/// `accrue` by its parameter.
+/// `accrue DATE` by its parameter.
 pub(crate) fn accrue_of(params: &[String]) -> Option<Request>
     ensures some { IfSome result (λ r. IsRequest kind.Accrue (texts params.now) r) }
     ensures none { IfNone result ((r : RequestSpec) → IsRequest kind.Accrue (texts params.now) r → ⊥) }
 {
-    match date_in(params) {
+    match date_at(params, 0) {
         Some(date) => Some(Request::OverFiles(Task::Accrue(date))),
         None => None,
     }
 }
 
-/// `overnight` by its parameter.
-pub(crate) fn overnight_of(params: &[String]) -> Option<Request>
-    ensures some { IfSome result (λ r. IsRequest kind.Overnight (texts params.now) r) }
-    ensures none { IfNone result ((r : RequestSpec) → IsRequest kind.Overnight (texts params.now) r → ⊥) }
-{
-    match stream_in(params) {
-        Some(stream) => Some(Request::OverFiles(Task::Overnight(stream))),
-        None => None,
-    }
-}
-
-/// `bulk` by its parameter.
+/// `bulk N` by its parameter.
 pub(crate) fn bulk_of(params: &[String]) -> Option<Request>
     ensures some { IfSome result (λ r. IsRequest kind.Bulk (texts params.now) r) }
     ensures none { IfNone result ((r : RequestSpec) → IsRequest kind.Bulk (texts params.now) r → ⊥) }
 {
-    match count_in(params) {
+    match count_at(params, 0) {
         Some(count) => Some(Request::Bulk(count)),
         None => None,
     }
 }
 
-/// The day that the first of words is a date of.
-fn date_in(words: &[String]) -> Option<Day>
-    ensures some { IfSome result (λ d. IsDateAt (texts words.now) 0 d) }
-    ensures none { IfNone result ((d : ℤ) → IsDateAt (texts words.now) 0 d → ⊥) }
+/// `overnight STREAM` by its parameter.
+pub(crate) fn overnight_of(params: &[String]) -> Option<Request>
+    ensures some { IfSome result (λ r. IsRequest kind.Overnight (texts params.now) r) }
+    ensures none { IfNone result ((r : RequestSpec) → IsRequest kind.Overnight (texts params.now) r → ⊥) }
 {
-    let word = words.first()?;
+    match stream_at(params, 0) {
+        Some(stream) => Some(Request::OverFiles(Task::Overnight(stream))),
+        None => None,
+    }
+}
+
+/// `average STREAM MEAN STEP` by its parameters.
+pub(crate) fn average_of(params: &[String]) -> Option<Request>
+    ensures some { IfSome result (λ r. IsRequest kind.Average (texts params.now) r) }
+    ensures none { IfNone result ((r : RequestSpec) → IsRequest kind.Average (texts params.now) r → ⊥) }
+{
+    let stream = stream_at(params, 0)?;
+    let mean = mean_at(params, 1)?;
+    let step = step_at(params, 2)?;
+    Some(Request::OverFiles(Task::Average { stream, mean, step }))
+}
+
+/// `interpolate STREAM SIDE LOW HIGH` by its parameters.
+pub(crate) fn interpolate_of(params: &[String]) -> Option<Request>
+    ensures some { IfSome result (λ r. IsRequest kind.Interpolate (texts params.now) r) }
+    ensures none { IfNone result ((r : RequestSpec) → IsRequest kind.Interpolate (texts params.now) r → ⊥) }
+{
+    let stream = stream_at(params, 0)?;
+    let side = side_at(params, 1)?;
+    let low = tenor_at(params, 2)?;
+    let high = tenor_at(params, 3)?;
+    Some(Request::OverFiles(Task::Interpolate {
+        stream,
+        side,
+        low,
+        high,
+    }))
+}
+
+// The day that the word with this index is a date of.
+fn date_at(words: &[String], index: usize) -> Option<Day>
+    ensures some { IfSome result (λ d. At IsDateWord (texts words.now) index d) }
+    ensures none { IfNone result ((d : ℤ) → At IsDateWord (texts words.now) index d → ⊥) }
+{
+    let word = words.get(index)?;
     date_of(word.as_str())
 }
 
-/// The day that a word is a date of.
+// The day that a word is a date of.
 fn date_of(word: &str) -> Option<Day>
     ensures some { IfSome result (λ d. IsDateWord word.now d) }
     ensures none { IfNone result ((d : ℤ) → IsDateWord word.now d → ⊥) }
@@ -63,16 +98,45 @@ fn date_of(word: &str) -> Option<Day>
     Some(date)
 }
 
-/// The number of a stream that the first of words is.
-fn stream_in(words: &[String]) -> Option<u8>
-    ensures some { IfSome result (λ n. IsStreamAt (texts words.now) 0 n) }
-    ensures none { IfNone result ((n : ℕ) → IsStreamAt (texts words.now) 0 n → ⊥) }
+// The number of documents that the word with this index is.
+fn count_at(words: &[String], index: usize) -> Option<u32>
+    ensures some { IfSome result (λ n. At IsCountWord (texts words.now) index n) }
+    ensures none { IfNone result ((n : ℕ) → At IsCountWord (texts words.now) index n → ⊥) }
 {
-    let word = words.first()?;
+    let word = words.get(index)?;
+    count_of(word.as_str())
+}
+
+// The number of documents that a word is: from 1 to 500, in digits with no zero in front.
+fn count_of(word: &str) -> Option<u32>
+    ensures some { IfSome result (λ n. IsCountWord word.now n) }
+    ensures none { IfNone result ((n : ℕ) → IsCountWord word.now n → ⊥) }
+{
+    match word.parse::<u32>() {
+        Ok(count) if is_count(word, count) => Some(count),
+        Ok(_) => None,
+        Err(_) => None,
+    }
+}
+
+// Whether the word is this number of documents.
+fn is_count(word: &str, count: u32) -> bool
+    ensures { IsTrue result ↔ IsCountWord word.now count }
+{
+    let mut digits = itoa::Buffer::new();
+    0 < count && count <= MOST_BULK && digits.format(count) == word
+}
+
+// The number of a stream that the word with this index is.
+fn stream_at(words: &[String], index: usize) -> Option<u8>
+    ensures some { IfSome result (λ n. At IsStreamWord (texts words.now) index n) }
+    ensures none { IfNone result ((n : ℕ) → At IsStreamWord (texts words.now) index n → ⊥) }
+{
+    let word = words.get(index)?;
     stream_of(word.as_str())
 }
 
-/// The number of a stream that a word is: one digit from 1 to 8.
+// The number of a stream that a word is: one digit from 1 to 8.
 fn stream_of(word: &str) -> Option<u8>
     ensures some { IfSome result (λ n. IsStreamWord word.now n) }
     ensures none { IfNone result ((n : ℕ) → IsStreamWord word.now n → ⊥) }
@@ -83,30 +147,100 @@ fn stream_of(word: &str) -> Option<u8>
     }
 }
 
-/// The number of documents that the first of words is.
-fn count_in(words: &[String]) -> Option<u32>
-    ensures some { IfSome result (λ n. IsCountAt (texts words.now) 0 n) }
-    ensures none { IfNone result ((n : ℕ) → IsCountAt (texts words.now) 0 n → ⊥) }
+// The mean that the word with this index names.
+fn mean_at(words: &[String], index: usize) -> Option<Mean>
+    ensures some { IfSome result (λ m. At IsMeanWord (texts words.now) index m) }
+    ensures none { IfNone result ((m : MeanSpec) → At IsMeanWord (texts words.now) index m → ⊥) }
 {
-    let word = words.first()?;
-    count_of(word.as_str())
+    let word = words.get(index)?;
+    mean_of(word.as_str())
 }
 
-/// The number of documents that a word is: from 1 to 500, in digits without zeros in front.
-fn count_of(word: &str) -> Option<u32>
-    ensures some { IfSome result (λ n. IsCountWord word.now n) }
-    ensures none { IfNone result ((n : ℕ) → IsCountWord word.now n → ⊥) }
+// The mean that a word names.
+fn mean_of(word: &str) -> Option<Mean>
+    ensures some { IfSome result (λ m. IsMeanWord word.now m) }
+    ensures none { IfNone result ((m : MeanSpec) → IsMeanWord word.now m → ⊥) }
 {
-    match word.parse::<u32>() {
-        Ok(count) if is_count(count, word) => Some(count),
-        Ok(_) => None,
-        Err(_) => None,
+    if word == "plain" {
+        Some(Mean::Plain)
+    } else if word == "weighted" {
+        Some(Mean::Weighted)
+    } else {
+        None
     }
 }
 
-fn is_count(count: u32, word: &str) -> bool
-    ensures { IsTrue result ↔ IsCountWord word.now count }
+// The side that the word with this index names.
+fn side_at(words: &[String], index: usize) -> Option<Side>
+    ensures some { IfSome result (λ s. At IsSideWord (texts words.now) index s) }
+    ensures none { IfNone result ((s : SideSpec) → At IsSideWord (texts words.now) index s → ⊥) }
 {
-    let mut digits = itoa::Buffer::new();
-    0 < count && count <= MOST_BULK && digits.format(count) == word
+    let word = words.get(index)?;
+    side_of(word.as_str())
+}
+
+// The side that a word names.
+fn side_of(word: &str) -> Option<Side>
+    ensures some { IfSome result (λ s. IsSideWord word.now s) }
+    ensures none { IfNone result ((s : SideSpec) → IsSideWord word.now s → ⊥) }
+{
+    if word == "initial" {
+        Some(Side::Initial)
+    } else if word == "final" {
+        Some(Side::Last)
+    } else {
+        None
+    }
+}
+
+// The days of a step that the word with this index is.
+fn step_at(words: &[String], index: usize) -> Option<u32>
+    ensures some { IfSome result (λ n. At IsStepWord (texts words.now) index n) }
+    ensures none { IfNone result ((n : ℕ) → At IsStepWord (texts words.now) index n → ⊥) }
+{
+    let word = words.get(index)?;
+    step_of(word.as_str())
+}
+
+// The days of a step that a word is: 1 to 999 days or weeks.
+fn step_of(word: &str) -> Option<u32>
+    ensures some { IfSome result (λ n. IsStepWord word.now n) }
+    ensures none { IfNone result ((n : ℕ) → IsStepWord word.now n → ⊥) }
+{
+    let step = tenor_of(word)?;
+    days_of(step)
+}
+
+// The days of a number of days or weeks.
+fn days_of(step: Frequency) -> Option<u32>
+    ensures { result ≡ days_of step.unit step.count }
+{
+    match step.unit {
+        Unit::D => Some(u32::from(step.count)),
+        Unit::W => Some(7 * u32::from(step.count)),
+        Unit::M => None,
+        Unit::Y => None,
+        Unit::T => None,
+    }
+}
+
+// The tenor that the word with this index is.
+fn tenor_at(words: &[String], index: usize) -> Option<Frequency>
+    ensures some { IfSome result (λ f. At IsTenorWord (texts words.now) index f) }
+    ensures none { IfNone result ((f : FrequencySpec) → At IsTenorWord (texts words.now) index f → ⊥) }
+{
+    let word = words.get(index)?;
+    tenor_of(word.as_str())
+}
+
+// The tenor that a word is, as in a fixing file; `-` is none.
+fn tenor_of(word: &str) -> Option<Frequency>
+    ensures some { IfSome result (λ f. IsTenorWord word.now f) }
+    ensures none { IfNone result ((f : FrequencySpec) → IsTenorWord word.now f → ⊥) }
+{
+    match tenor(word.as_bytes()) {
+        Some(Some(tenor)) => Some(tenor),
+        Some(None) => None,
+        None => None,
+    }
 }

@@ -6,7 +6,7 @@ ghost use Rattle.irs_cli.specs.Commands.{texts, IsListed};
 ghost use Rattle.irs_answers.specs.Given.{IsWithin, given_by};
 ghost use Rattle.irs_answers.specs.Outcomes.{Ends};
 ghost use Rattle.irs_answers.specs.Replying.{reply_status, reply_text};
-ghost use Rattle.irs_cli.specs.Due.{Due, DueOf, IsOneAnswer};
+ghost use Rattle.irs_cli.specs.Due.{Due, DueOf, IsLawfulRequest, IsOneAnswer};
 ghost use Rattle.irs_cli.specs.Given.{TellsAll};
 ghost use Rattle.irs_cli.specs.Outcomes.{IfAnswered};
 ghost use Rattle.irs_outside.specs.Outside.{Rose, Grew, GrewByFront};
@@ -27,10 +27,12 @@ use std::alloc::Global;
 /// listed command, 5 a file can't be read, 6 a put failed, 7 want of memory, 8 a file is too long.
 ///
 /// The commands are `check DOC CAL..`, `schedule DOC FIX CAL..`, `audit DOC FIX FLOWS CAL..`,
-/// `emit DOC FIX CAL..`, `accrue DATE DOC FIX CAL..`, `net DOC FIX CAL..` and
-/// `overnight STREAM DOC DAILY CAL..`, with 0 to 16 calendars, and `-` as FIX or DAILY for no fixings;
-/// and `bulk N`, with N from 1 to 500.
+/// `emit DOC FIX CAL..`, `accrue DATE DOC FIX CAL..`, `net DOC FIX CAL..`,
+/// `overnight STREAM DOC DAILY CAL..`, `average STREAM MEAN STEP DOC FIX CAL..` and
+/// `interpolate STREAM SIDE LOW HIGH DOC FIX CAL..`, with 0 to 16 calendars, and `-` as FIX or DAILY for
+/// no fixings.
 /// All files are fetched first, in the order of the words; the flows are read when no rule is broken.
+/// `bulk N`, with N from 1 to 500, names no file.
 pub fn run<F: Files, S: Sink>(alloc: Global, words: &[String], files: &mut F, out: &mut S) -> u8
     // Want of memory: nothing was written.
     ensures memory { result ≡ 7 → S.written out.new ≡ S.written out.old }
@@ -93,7 +95,8 @@ fn carry_out<F: Files>(alloc: Global, words: &[String], files: &mut F) -> Result
 
 // What a request over its files comes to.
 fn reply_to(alloc: Global, request: Request, files: &TaskFiles) -> Result<Reply, Memory>
-    requires { IsWithin (given_by files.now) }
+    requires lawful { IsLawfulRequest request }
+    requires within { IsWithin (given_by files.now) }
     ensures { IfOk result (λ r. Ends (DueOf request (given_by files.now)) (reply_status r) (reply_text r)) }
 {
     match request {

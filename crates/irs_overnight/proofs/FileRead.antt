@@ -25,7 +25,8 @@ use Rattle.irs_overnight.specs.declared.derived.DerivedRow.{DerivedRow}
 use Rattle.irs_overnight.specs.declared.derived.Found.{Found}
 use Rattle.irs_overnight.specs.declared.derived.Found.TheVariants.{Rate, Missing}
 use Rattle.irs_overnight.proofs.LinesRead.{reads_as}
-use Rattle.irs_overnight.proofs.VisibleTexts.{Visible, day_visible, digits_visible, rate_visible, spells_decimal, tenor_visible}
+use Rattle.irs_base.proofs.VisibleTexts.{Visible, day_visible, digits_visible, spells_decimal}
+use Rattle.irs_overnight.proofs.VisibleTexts.{rate_visible, tenor_visible}
 
 -- ---- lines
 

@@ -20,7 +20,8 @@ use Rattle.irs_overnight.specs.Texts.{fields_of, tenor_text, unit_text}
 use Rattle.irs_overnight.specs.declared.derived.DerivedRow.{DerivedRow}
 use Rattle.irs_overnight.specs.declared.derived.Found.{Found}
 use Rattle.irs_overnight.specs.declared.derived.Found.TheVariants.{Rate, Missing}
-use Rattle.irs_overnight.proofs.VisibleTexts.{Visible, day_back, day_visible, no_space, rate_back, rate_starts, rate_visible, tenor_back, tenor_starts, tenor_visible, StartsVisible}
+use Rattle.irs_base.proofs.VisibleTexts.{Visible, day_visible}
+use Rattle.irs_overnight.proofs.VisibleTexts.{day_back, no_space, rate_back, rate_starts, rate_visible, tenor_back, tenor_starts, tenor_visible, StartsVisible}
 
 -- ---- words
 

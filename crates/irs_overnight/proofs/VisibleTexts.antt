@@ -1,19 +1,17 @@
 -- The texts of days, rates and tenors: no byte of them is a space or a tab, and they are read back.
 use Rattle.std.proofs.Common.{◌≡◌, ◌≢◌, inl, inr, ℕ, zero, suc, ◌+◌, ◌-◌, ◌*◌, ◌/◌, ◌%◌, ◌^◌, ◌<◌, ◌≤◌, List, [], ◌∷◌, ◌++◌, length, Bool, true, false, Option, Some, None, IfSome, ℤ, pos, negsuc, unsigned_abs, refl, sym, subst, ap, ap₂, ◌∙◌, arith}
-use Rattle.std.proofs.Math.Nat.{div-div-eq-div-mul, pow-succ'}
 use Rattle.std.proofs.lemmas.Bool.{cases_lt}
 use Rattle.std.proofs.lemmas.Bool.Decides.{nat_tests}
 use Rattle.std.proofs.lemmas.Fmt.{decimal_by_steps, decimal_nonempty, length-decimal-le}
 use Rattle.std.specs.Fmt.{decimal}
-use Rattle.irs_base.proofs.DateWalks.{date_of_day}
 use Rattle.irs_base.proofs.PlainDates.{plain_is}
 use Rattle.irs_base.proofs.TextLemmas.{length_digit_row, with_point}
-use Rattle.irs_base.specs.DateOf.{year_of, month_of, day_of_month}
+use Rattle.irs_base.proofs.VisibleTexts.{Visible, digits_behind, digits_visible, not_none, places_visible, plain, row_digits, row_spells, spells_decimal, visible_append}
 use Rattle.irs_base.specs.Dates.{date_at}
 use Rattle.irs_base.specs.Days.{IsDay}
-use Rattle.irs_base.specs.Decimals.{AreDigits, DecText, bare, minus, IsUnsigned, number_after, number_of}
+use Rattle.irs_base.specs.Decimals.{DecText, bare, minus, IsUnsigned, number_after, number_of}
 use Rattle.irs_base.specs.Fields.{is_space}
-use Rattle.irs_base.specs.Texts.{IsPlainDate, day_text, dec_text, digit_row, two_digits, unsigned_dec}
+use Rattle.irs_base.specs.Texts.{day_text, dec_text, digit_row, unsigned_dec}
 use Rattle.irs_terms.specs.Lawful.{IsLawfulTenor, IsRate}
 use Rattle.irs_terms.specs.declared.frequency.Frequency.{Frequency}
 use Rattle.irs_terms.specs.declared.frequency.Unit.{Unit as FrequencyUnit}
@@ -21,93 +19,16 @@ use Rattle.irs_terms.specs.declared.frequency.Unit.TheVariants.{D, W, M, Y, T}
 use Rattle.irs_resets.specs.Tenors.{digit_at, first_digit, hundreds, tenor_at, tens, three_digits, two_digits as pair_at, unit_at, with_unit}
 use Rattle.irs_overnight.specs.Texts.{tenor_text, unit_text}
 
--- each byte is behind the space
-abbrev pub Visible : List ℕ → Type 0
-Visible [] = Unit {0}
-Visible (x ∷ xs) = (33 ≤ x) × Visible xs
-
 pub no_space : (x : ℕ) → 33 ≤ x → is_space x ≡ false
 no_space x h = grind (arith, nat_tests)
 
-visible_append : (a b : List ℕ) → Visible a → Visible b → Visible (a ++ b)
-visible_append [] b h k = k
-visible_append (x ∷ a) b h k = (h.0, visible_append a b h.1 k)
-
--- ---- days
-
-two_visible : (n : ℕ) → Visible (two_digits n)
-two_visible n = (omega arith, (omega arith, tt))
-
-pub day_visible : (d : ℤ) → Visible (day_text d)
-unfolding day_text
-day_visible d =
-    let y = year_of d in
-    let m = month_of d in
-    let t = day_of_month d in
-    let dash : 33 ≤ 45 = omega arith in
-    let day : Visible (45 ∷ two_digits t) = (dash, two_visible t) in
-    let month : Visible (45 ∷ (two_digits m ++ 45 ∷ two_digits t)) = (dash, visible_append (two_digits m) (45 ∷ two_digits t) (two_visible m) day) in
-    let rest = 45 ∷ (two_digits m ++ 45 ∷ two_digits t) in
-    visible_append (two_digits (y / 100)) (two_digits (y % 100) ++ rest) (two_visible (y / 100)) (visible_append (two_digits (y % 100)) rest (two_visible (y % 100)) month)
-
-plain : (d : ℤ) → IsDay d → IsPlainDate (day_text d) d
-unfolding day_text
-plain d day = record { year = year_of d; month = month_of d; day = day_of_month d; has = date_of_day d day; is = refl }
-
 pub day_back : (d : ℤ) → IsDay d → date_at (day_text d) ≡ Some d
 day_back d day = plain_is (day_text d) d day (plain d day)
-
--- ---- digits
-
-pub digits_visible : (s : List ℕ) → AreDigits s → Visible s
-digits_visible [] h = tt
-digits_visible (c ∷ cs) h = (omega (arith, h.0), digits_visible cs h.2)
-
-digits_append : (a b : List ℕ) → AreDigits a → AreDigits b → AreDigits (a ++ b)
-digits_append [] b h k = k
-digits_append (x ∷ a) b h k = (h.0, h.1, digits_append a b h.2 k)
-
-digits_behind : (n : ℕ) (a b : List ℕ) → number_after n (a ++ b) ≡ number_after (number_after n a) b
-digits_behind n [] b = refl
-digits_behind n (x ∷ a) b = digits_behind (10 * n + (x - 48)) a b
-
-one_digit : (n : ℕ) → n < 10 → AreDigits ((48 + n) ∷ [])
-one_digit n h = (omega arith, omega arith, tt)
-
--- the digits spell the number
-abbrev pub IsSpelt : ℕ → List ℕ → Type 0
-IsSpelt n ds = AreDigits ds × (number_of ds ≡ n)
-
-spells_one : (n : ℕ) → n < 10 → IsSpelt n ((48 + n) ∷ [])
-spells_one n h = (one_digit n h, omega arith)
-
-one_more : (a n : ℕ) → a ≡ n / 10 → 10 * a + (48 + n % 10 - 48) ≡ n
-one_more a n e = omega (arith, e)
-
-spells_more : (n : ℕ) (ds : List ℕ) → 10 ≤ n → IsSpelt (n / 10) ds → IsSpelt n (ds ++ (48 + n % 10) ∷ [])
-spells_more n ds l h = (digits_append ds ((48 + n % 10) ∷ []) h.0 (one_digit (n % 10) (omega arith)), digits_behind 0 ds ((48 + n % 10) ∷ []) ∙ one_more (number_of ds) n h.1)
-
-pub spells_decimal : (n : ℕ) → n < 2 ^ 64 → IsSpelt n (decimal n)
-spells_decimal n h = decimal_by_steps IsSpelt spells_one spells_more n h
-
-row_digits : (k n : ℕ) → AreDigits (digit_row k n)
-row_digits zero n = tt
-row_digits (suc k) n = digits_append (digit_row k (n / 10)) ((48 + n % 10) ∷ []) (row_digits k (n / 10)) (one_digit (n % 10) (omega arith))
-
-row_spells : (k n : ℕ) → number_after (n / 10 ^ k) (digit_row k n) ≡ n
-row_spells zero n = omega arith
-row_spells (suc k) n =
-    let up : n / 10 ^ suc k ≡ n / 10 / 10 ^ k = ap (λ m. n / m) (pow-succ' 10 k) ∙ sym (div-div-eq-div-mul n 10 (10 ^ k)) in
-    let rest : number_after (n / 10 ^ suc k) (digit_row k (n / 10)) ≡ n / 10 = ap (λ m. number_after m (digit_row k (n / 10))) up ∙ row_spells k (n / 10) in
-    digits_behind (n / 10 ^ suc k) (digit_row k (n / 10)) ((48 + n % 10) ∷ []) ∙ one_more (number_after (n / 10 ^ suc k) (digit_row k (n / 10))) n rest
 
 -- ---- rates
 
 some_digit : (a b : ℕ) → 0 < a → 0 < a + b
 some_digit a b h = omega (arith, h)
-
-not_none : (k : ℕ) → suc k ≢ 0
-not_none k e = omega (arith, e)
 
 rate_unsigned : (n k : ℕ) → n / 10 ^ suc k < 10 ^ 18 → IsUnsigned (unsigned_dec n (suc k)) (suc k) n
 rate_unsigned n k h =
@@ -127,12 +48,6 @@ rate_unsigned n k h =
       value = ap (λ m. n * 10 ^ m) len ∙ ap (λ m. m * 10 ^ suc k) (sym spelled);
     }
 
-rate_visible_by : (n k : ℕ) → n / 10 ^ suc k < 10 ^ 18 → Visible (unsigned_dec n (suc k))
-rate_visible_by n k h =
-    let a = n / 10 ^ suc k in
-    let row : Visible (46 ∷ digit_row (suc k) n) = (omega arith, digits_visible (digit_row (suc k) n) (row_digits (suc k) n)) in
-    subst Visible (sym (with_point n (suc k) (not_none k))) (visible_append (decimal a) (46 ∷ digit_row (suc k) n) (digits_visible (decimal a) (spells_decimal a (omega (arith, h))).0) row)
-
 short_rate : (n : ℕ) → n ≤ 10 ^ 10 → n / 10 ^ 9 < 10 ^ 18
 short_rate n h = omega (arith, h)
 
@@ -141,8 +56,8 @@ rate_back (pos n) h = bare (unsigned_dec n 9) 9 n (rate_unsigned n 8 (short_rate
 rate_back (negsuc n) h = minus (unsigned_dec (suc n) 9) 9 (suc n) (rate_unsigned (suc n) 8 (short_rate (suc n) h))
 
 pub rate_visible : (x : ℤ) → IsRate x → Visible (dec_text x 9)
-rate_visible (pos n) h = rate_visible_by n 8 (short_rate n h)
-rate_visible (negsuc n) h = (omega arith, rate_visible_by (suc n) 8 (short_rate (suc n) h))
+rate_visible (pos n) h = places_visible n 8 (short_rate n h)
+rate_visible (negsuc n) h = (omega arith, places_visible (suc n) 8 (short_rate (suc n) h))
 
 -- ---- tenors
 

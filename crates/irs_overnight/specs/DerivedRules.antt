@@ -1,6 +1,6 @@
 -- The rules of daily compounding, K40 to K44.
-use Rattle.std.specs.Prelude.{◌≡◌, ◌⊎◌, ℕ, ◌-◌, ◌≤◌, Bool, List, length, Some, None, ◌≤ℤ◌, nat_lt}
-use Rattle.irs_base.specs.Elements.{swap_stream, reset_dates, calculation_period_amount}
+use Rattle.std.specs.Prelude.{◌≡◌, ◌⊎◌, ℕ, ◌-◌, ◌≤◌, Bool, List, length, Some, None, ◌≤ℤ◌, nat_lt, ◌==◌, if◌then◌else◌}
+use Rattle.irs_base.specs.Elements.{swap_stream, reset_dates, calculation_period_amount, day_count_fraction}
 use Rattle.irs_base.specs.Faults.{fault_at, in_stream}
 use Rattle.irs_base.specs.Order.{level}
 use Rattle.irs_base.specs.Rules.{rule_number}
@@ -20,10 +20,6 @@ use Rattle.irs_overnight.specs.declared.periods.PeriodFault.TheVariants.{NoDays,
 -- K40: there is no such stream, or it is fixed
 abbrev pub no_floating_stream : ℕ → Broken
 no_floating_stream number = in_stream number (fault_at K40 swap_stream 0)
-
--- the place of calculationPeriodAmount/calculation/dayCountFraction in the table of elements
-abbrev pub day_count_fraction : ℕ
-day_count_fraction = 109
 
 -- K42: the day count is neither ACT/360 nor ACT/365.FIXED
 abbrev pub no_basis : Fault
@@ -71,9 +67,7 @@ BreaksDerived source f = BreaksBasis source f ⊎ (BreaksFixing source f ⊎ Bre
 
 -- K42 comes first, then K41, then the others
 abbrev pub derived_turn : Rule → ℕ
-derived_turn K42 = 0
-derived_turn K41 = 1
-derived_turn _ = 2
+derived_turn rule = if rule_number rule == 42 then 0 else if rule_number rule == 41 then 1 else 2
 
 -- by the turn, then by the period, then by the rule
 abbrev pub derived_before : Fault → Fault → Bool

@@ -8,7 +8,7 @@ ghost use Rattle.irs_base.specs.Paths.{path_of};
 ghost use Rattle.irs_base.specs.declared.places.Fault.{Fault as BrokenRule};
 ghost use Rattle.irs_overnight.specs.DerivedRows.{AreDerived};
 ghost use Rattle.irs_overnight.specs.FileLaw.{IsInRange};
-ghost use Rattle.irs_overnight.specs.DerivedRules.{BreaksDerived, NotAfter, day_count_fraction, derived_before, no_basis, not_after_at};
+ghost use Rattle.irs_overnight.specs.DerivedRules.{BreaksDerived, NotAfter, derived_before, no_basis, not_after_at};
 ghost use Rattle.irs_overnight.specs.DailySources.{daily_source};
 ghost use Rattle.irs_overnight.specs.Sources.{basis_of};
 
@@ -20,9 +20,6 @@ use irs_resets::Fixings;
 use irs_schedule::StreamPart;
 use irs_terms::{DayCountCode, Reset};
 use std::alloc::Global;
-
-/// The place of `calculationPeriodAmount/calculation/dayCountFraction` in the table of elements.
-const DAY_COUNT_FRACTION: u8 = 109;
 
 // The days of the year by which daily interest counts.
 fn basis_of(code: DayCountCode) -> Option<u16>
@@ -44,13 +41,10 @@ fn basis_of(code: DayCountCode) -> Option<u16>
 fn without_basis() -> Fault
     ensures { result ≡ no_basis }
 {
-    match Elem::at(DAY_COUNT_FRACTION) {
-        Some(elem) => Fault {
-            rule: Rule::K42,
-            elem,
-            index: 0,
-        },
-        None => unreachable!(),
+    Fault {
+        rule: Rule::K42,
+        elem: Elem::DAY_COUNT_FRACTION,
+        index: 0,
     }
 }
 
