@@ -134,8 +134,8 @@ fn schedule_for(
     }
 }
 
-// The schedule of a swap, or the first broken rule of K10 to K39.
-fn schedule_of(
+/// The schedule of a swap, or the first broken rule of K10 to K39.
+pub fn schedule_of(
     alloc: Global,
     swap: &Swap,
     calendars: &Calendars,

@@ -16,7 +16,7 @@ mod replies;
 mod statuses;
 mod tasks;
 
-pub use due::{Found, find, reply_of};
+pub use due::{Found, find, reply_of, schedule_of};
 pub use files::TaskFiles;
 pub use refusals::Refusal;
 pub use replies::Reply;

@@ -1,3 +1,4 @@
 pub mod Documents
 pub mod BulkCalendars
 pub mod BulkLines
+pub mod BulkRuns

@@ -1,5 +1,6 @@
 //! The calendar of `bulk`.
-ghost use Rattle.std.specs.Prelude.{◌≡◌, ◌<◌, ◌++◌, IfOk, OnOk};
+ghost use Rattle.std.specs.Prelude.{◌≡◌, ◌<◌, ◌≤◌, ◌++◌, length, IfOk, OnOk};
+ghost use Rattle.irs_base.specs.Limits.{most_bytes};
 ghost use Rattle.irs_bulk.specs.BulkCalendars.{calendar_text, holidays_text};
 
 use crate::digits::{put, put_date};
@@ -20,9 +21,10 @@ fn put_holidays(text: &mut Vec<u8>, year: u32) -> Result<(), Memory>
 /// The calendar file of `bulk` (the format is this project's own): the centre BULK from 1949-01-01 to
 /// 2012-12-31, closed on Saturdays, Sundays, and each first of January and 25th of December. `Memory`
 /// comes only for want of memory.
-#[tactic(auto, unfolding(crate::specs::BulkCalendars::calendar_text))]
+#[tactic(auto, using(crate::proofs::CalendarLengths::calendar_short), unfolding(crate::specs::BulkCalendars::calendar_text))]
 pub fn bulk_calendar(alloc: Global) -> Result<Vec<u8>, Memory>
-    ensures { IfOk result (λ text. text.items ≡ calendar_text) }
+    ensures value { IfOk result (λ text. text.items ≡ calendar_text) }
+    ensures short { length calendar_text ≤ most_bytes }
 {
     let mut text = Vec::from_slice(
         alloc,

@@ -1,14 +1,16 @@
-//! The input of `bulk` and its line: documents that differ in dates, convention, notional, rate and day
-//! count, the calendar of their centre, and the sums that a run prints. All of it is this project's own.
+//! `bulk`: documents that differ in dates, convention, notional, rate and day count, the calendar of
+//! their centre, and the sums over their schedules that a run prints. All of it is this project's own.
 #![tactic(auto)]
 
 mod digits;
 mod documents;
 mod holidays;
+mod runs;
 #[cfg(test)]
 mod tests;
 mod totals;
 
 pub use documents::{MOST_BULK, bulk_doc, bulk_limit};
 pub use holidays::bulk_calendar;
+pub use runs::bulk;
 pub use totals::{Totals, bulk_text};

@@ -68,37 +68,24 @@ impl Totals {
     }
 }
 
-// A space and a whole number.
-#[tactic(auto, using(irs_base::proofs::TextLemmas::appended, irs_base::proofs::TextLengths::length_signed))]
-fn put_whole(line: &mut Line, n: i128)
-    requires { length line.old + 41 ≤ 512 }
-    ensures text { line.new ≡ line.old ++ 32 ∷ signed_decimal n }
-    ensures grows { length line.new ≤ length line.old + 41 }
-{
-    line.push(b" ");
-    line.push_whole(n);
-}
-
 // A space and a number that counts.
 fn put_count(line: &mut Line, n: u64)
     requires { length line.old + 41 ≤ 512 }
     ensures text { line.new ≡ line.old ++ 32 ∷ decimal n }
     ensures grows { length line.new ≤ length line.old + 41 }
 {
-    put_whole(line, i128::from(n));
+    line.put_whole(b' ', i128::from(n));
 }
 
 // A space and an amount in units of 10^-12, rounded to two decimals.
-#[tactic(auto, using(irs_base::proofs::TextLemmas::appended, irs_base::proofs::TextLengths::length_dec))]
 fn put_total(line: &mut Line, total: i128)
     requires size { unsigned_abs total ≤ most_bulk * most_sum }
-    requires room { length line.old + 44 ≤ 512 }
+    requires room { length line.old + 54 ≤ 512 }
     ensures text { line.new ≡ line.old ++ 32 ∷ dec_text (rounded Nearest total (pos (10 ^ 10))) 2 }
-    ensures grows { length line.new ≤ length line.old + 44 }
+    ensures grows { length line.new ≤ length line.old + 54 }
 {
     let units = round(Direction::Nearest, total, 10_000_000_000);
-    line.push(b" ");
-    line.push_dec(Dec { units, places: 2 });
+    line.put_dec(Dec { units, places: 2 });
 }
 
 /// Puts the line of a run, `bulk N ROWS TOTAL DAYS AGREE FIRST`, with its line feed, in the place of what
@@ -110,11 +97,11 @@ pub fn bulk_text(totals: &Totals, line: &mut Line)
 {
     line.clear();
     line.push(b"bulk");
-    put_count(line, u64::from(totals.documents));
+    line.put_number(totals.documents);
     put_count(line, totals.rows);
     put_total(line, totals.total);
-    put_whole(line, totals.days);
-    put_count(line, u64::from(totals.agree));
+    line.put_whole(b' ', totals.days);
+    line.put_number(totals.agree);
     put_count(line, totals.first);
     line.push(b"\n");
 }

@@ -10,12 +10,12 @@ use Rattle.irs_answers.specs.declared.tasks.Task.TheVariants as task
 use Rattle.irs_cli.specs.declared.commands.Kind.{Kind}
 use Rattle.irs_cli.specs.declared.commands.Kind.TheVariants as kind
 use Rattle.irs_cli.specs.declared.commands.Request.{Request}
-use Rattle.irs_cli.specs.declared.commands.Request.TheVariants.{OverFiles}
+use Rattle.irs_cli.specs.declared.commands.Request.TheVariants.{OverFiles, Bulk}
 use Rattle.irs_cli.specs.declared.commands.Role.{Role}
 use Rattle.irs_cli.specs.declared.commands.Role.TheVariants.{Document, Fixings, Flows, Calendar}
 use Rattle.irs_cli.specs.declared.commands.Named.{Named}
 use Rattle.irs_cli.specs.declared.commands.Command.{Command}
-use Rattle.irs_cli.specs.Params.{At, IsDateWord, IsMeanWord, IsSideWord, IsStepWord, IsStreamWord, IsTenorWord}
+use Rattle.irs_cli.specs.Params.{At, IsCountWord, IsDateWord, IsMeanWord, IsSideWord, IsStepWord, IsStreamWord, IsTenorWord}
 
 -- the words behind the program's name, by their bytes
 abbrev pub Words : Type 0
@@ -56,6 +56,7 @@ kind_of w =
     if bytes_eq w (codes "check") then Some kind.Check else
     if bytes_eq w (codes "schedule") then Some kind.Schedule else
     if bytes_eq w (codes "audit") then Some kind.Audit else
+    if bytes_eq w (codes "bulk") then Some kind.Bulk else
     if bytes_eq w (codes "emit") then Some kind.Emit else
     if bytes_eq w (codes "accrue") then Some kind.Accrue else
     if bytes_eq w (codes "net") then Some kind.Net else
@@ -68,6 +69,7 @@ abbrev pub params_of : Kind → ℕ
 params_of kind.Check = 0
 params_of kind.Schedule = 0
 params_of kind.Audit = 0
+params_of kind.Bulk = 1
 params_of kind.Emit = 0
 params_of kind.Accrue = 1
 params_of kind.Net = 0
@@ -80,6 +82,7 @@ abbrev pub roles_of : Kind → List Role
 roles_of kind.Check = Document ∷ []
 roles_of kind.Schedule = Document ∷ Fixings ∷ []
 roles_of kind.Audit = Document ∷ Fixings ∷ Flows ∷ []
+roles_of kind.Bulk = []
 roles_of kind.Emit = Document ∷ Fixings ∷ []
 roles_of kind.Accrue = Document ∷ Fixings ∷ []
 roles_of kind.Net = Document ∷ Fixings ∷ []
@@ -92,6 +95,7 @@ abbrev pub calendars_of : Kind → ℕ
 calendars_of kind.Check = most_calendars
 calendars_of kind.Schedule = most_calendars
 calendars_of kind.Audit = most_calendars
+calendars_of kind.Bulk = 0
 calendars_of kind.Emit = most_calendars
 calendars_of kind.Accrue = most_calendars
 calendars_of kind.Net = most_calendars
@@ -131,6 +135,12 @@ pub record AsksAccrue (ps : Words) (r : Request) : Type 0 where
   pub is_date : At IsDateWord ps 0 date
   pub is : r ≡ OverFiles (task.Accrue date)
 
+-- `bulk` with its number of documents
+pub record AsksBulk (ps : Words) (r : Request) : Type 0 where
+  pub count : ℕ
+  pub is_count : At IsCountWord ps 0 count
+  pub is : r ≡ Bulk count
+
 -- `overnight` with its stream
 pub record AsksOvernight (ps : Words) (r : Request) : Type 0 where
   pub stream : ℕ
@@ -164,6 +174,7 @@ abbrev pub IsRequest : Kind → Words → Request → Type 0
 IsRequest kind.Check ps r = r ≡ OverFiles task.Check
 IsRequest kind.Schedule ps r = r ≡ OverFiles task.Schedule
 IsRequest kind.Audit ps r = r ≡ OverFiles task.Audit
+IsRequest kind.Bulk ps r = AsksBulk ps r
 IsRequest kind.Emit ps r = r ≡ OverFiles task.Emit
 IsRequest kind.Accrue ps r = AsksAccrue ps r
 IsRequest kind.Net ps r = r ≡ OverFiles task.Net

@@ -1,11 +1,12 @@
 -- The words of a command that are parameters and no files.
-use Rattle.std.specs.Prelude.{◌≡◌, ℕ, ◌+◌, ◌*◌, ◌≤◌, List, [], ◌∷◌, codes, Option, Some, None, slice_get, ℤ}
+use Rattle.std.specs.Prelude.{◌≡◌, ℕ, ◌+◌, ◌*◌, ◌≤◌, List, [], ◌∷◌, codes, decimal, Option, Some, None, slice_get, ℤ}
 use Rattle.irs_base.specs.Days.{IsDay}
 use Rattle.irs_base.specs.Limits.{most_streams}
 use Rattle.irs_base.specs.Texts.{IsDateText}
 use Rattle.irs_terms.specs.declared.frequency.Frequency.{Frequency}
 use Rattle.irs_terms.specs.declared.frequency.Unit.{Unit as FrequencyUnit}
 use Rattle.irs_terms.specs.declared.frequency.Unit.TheVariants.{D, W, M, Y, T}
+use Rattle.irs_bulk.specs.Documents.{most_bulk}
 use Rattle.irs_resets.specs.Tenors.{tenor_at}
 use Rattle.irs_average.specs.declared.means.Mean.{Mean}
 use Rattle.irs_average.specs.declared.means.Mean.TheVariants.{Plain, Weighted}
@@ -22,6 +23,12 @@ pub record At {X : Type 0} (Is : List ℕ → X → Type 0) (ps : List (List ℕ
 pub record IsDateWord (w : List ℕ) (d : ℤ) : Type 0 where
   pub in_range : IsDay d
   pub is : IsDateText w d
+
+-- a number of documents, from 1 to 500, in digits with no zero in front
+pub record IsCountWord (w : List ℕ) (n : ℕ) : Type 0 where
+  pub from_one : 1 ≤ n
+  pub to_most : n ≤ most_bulk
+  pub is : w ≡ decimal n
 
 -- the number of a stream: one digit from 1 to 8
 pub record IsStreamWord (w : List ℕ) (n : ℕ) : Type 0 where

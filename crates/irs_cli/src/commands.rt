@@ -10,12 +10,14 @@
 //! `interpolate STREAM SIDE LOW HIGH DOC FIX CAL..` for the rate of its stub on a side between those of
 //! two tenors. `-` as FIX or DAILY means no fixings. Each takes 0 to 16 calendars.
 //!
+//! `bulk N` adds up the schedules of N documents of its own, and names no file.
+//!
 //! A command is data: how many of its words are parameters, the roles of its files in the order of the
 //! words, and how many calendars may follow.
 ghost use Rattle.std.specs.Prelude.{◌≡◌, ◌≤◌, ◌+◌, map, length, option_map, IfOk, IfSome, IfNone};
 ghost use Rattle.irs_cli.specs.Commands.{texts, kind_of, params_of, roles_of, calendars_of, counts, role_at, is_file, IsRequest, IsCommand, IsCommandAs, asked_by, wanted_by, files_from, most_words};
 
-use crate::params::{accrue_of, average_of, interpolate_of, overnight_of};
+use crate::params::{accrue_of, average_of, bulk_of, interpolate_of, overnight_of};
 use irs_answers::Task;
 use irs_base::{MOST_FILES, Memory};
 use std::alloc::Global;
@@ -26,6 +28,7 @@ pub(crate) enum Kind {
     Check,
     Schedule,
     Audit,
+    Bulk,
     Emit,
     Accrue,
     Net,
@@ -39,6 +42,8 @@ pub(crate) enum Kind {
 pub(crate) enum Request {
     /// A task over the files that the words name.
     OverFiles(Task),
+    /// The sums over so many documents, which no word names.
+    Bulk(u32),
 }
 
 /// What a file is to a command.
@@ -75,6 +80,8 @@ fn kind_of(word: &str) -> Option<Kind>
         Some(Kind::Schedule)
     } else if word == "audit" {
         Some(Kind::Audit)
+    } else if word == "bulk" {
+        Some(Kind::Bulk)
     } else if word == "emit" {
         Some(Kind::Emit)
     } else if word == "accrue" {
@@ -101,6 +108,7 @@ impl Kind {
             Kind::Check => 0,
             Kind::Schedule => 0,
             Kind::Audit => 0,
+            Kind::Bulk => 1,
             Kind::Emit => 0,
             Kind::Accrue => 1,
             Kind::Net => 0,
@@ -118,6 +126,7 @@ impl Kind {
             Kind::Check => &[Role::Document],
             Kind::Schedule => &[Role::Document, Role::Fixings],
             Kind::Audit => &[Role::Document, Role::Fixings, Role::Flows],
+            Kind::Bulk => &[],
             Kind::Emit => &[Role::Document, Role::Fixings],
             Kind::Accrue => &[Role::Document, Role::Fixings],
             Kind::Net => &[Role::Document, Role::Fixings],
@@ -135,6 +144,7 @@ impl Kind {
             Kind::Check => MOST_FILES,
             Kind::Schedule => MOST_FILES,
             Kind::Audit => MOST_FILES,
+            Kind::Bulk => 0,
             Kind::Emit => MOST_FILES,
             Kind::Accrue => MOST_FILES,
             Kind::Net => MOST_FILES,
@@ -194,6 +204,7 @@ fn request_of(kind: Kind, params: &[String]) -> Option<Request>
         Kind::Check => Some(Request::OverFiles(Task::Check)),
         Kind::Schedule => Some(Request::OverFiles(Task::Schedule)),
         Kind::Audit => Some(Request::OverFiles(Task::Audit)),
+        Kind::Bulk => bulk_of(params),
         Kind::Emit => Some(Request::OverFiles(Task::Emit)),
         Kind::Accrue => accrue_of(params),
         Kind::Net => Some(Request::OverFiles(Task::Net)),

@@ -13,6 +13,7 @@ mod rows;
 mod tests;
 
 pub use irs_answers::Status;
+pub use irs_bulk::{bulk_calendar, bulk_doc};
 pub use irs_outside::{
     FetchErr, Files, MemFiles, MemSink, PutFailed, RealFiles, RealSink, Sink, SureFiles, SureSink,
 };

@@ -1,8 +1,8 @@
 //! The words of a command that are parameters and no files.
-ghost use Rattle.std.specs.Prelude.{◌≡◌, ℕ, ℤ, Some, IfSome, IfNone, slice_get};
+ghost use Rattle.std.specs.Prelude.{◌≡◌, ◌↔◌, ℕ, ℤ, Some, IfSome, IfNone, IsTrue, slice_get};
 ghost use Rattle.irs_resets.specs.Tenors.{tenor_at};
 ghost use Rattle.irs_cli.specs.Commands.{texts, IsRequest};
-ghost use Rattle.irs_cli.specs.Params.{At, IsDateWord, IsMeanWord, IsSideWord, IsStepWord, IsStreamWord, IsTenorWord, days_of};
+ghost use Rattle.irs_cli.specs.Params.{At, IsCountWord, IsDateWord, IsMeanWord, IsSideWord, IsStepWord, IsStreamWord, IsTenorWord, days_of};
 ghost use Rattle.irs_cli.specs.declared.commands.Kind.TheVariants as kind;
 ghost use Rattle.irs_cli.specs.declared.commands.Request.{Request as RequestSpec};
 ghost use Rattle.irs_average.specs.declared.means.Mean.{Mean as MeanSpec};
@@ -13,6 +13,7 @@ use crate::commands::Request;
 use irs_answers::Task;
 use irs_average::{Mean, Side};
 use irs_base::{Day, read_date};
+use irs_bulk::MOST_BULK;
 use irs_resets::tenor;
 use irs_terms::{Frequency, Unit};
 
@@ -23,6 +24,17 @@ pub(crate) fn accrue_of(params: &[String]) -> Option<Request>
 {
     match date_at(params, 0) {
         Some(date) => Some(Request::OverFiles(Task::Accrue(date))),
+        None => None,
+    }
+}
+
+/// `bulk N` by its parameter.
+pub(crate) fn bulk_of(params: &[String]) -> Option<Request>
+    ensures some { IfSome result (λ r. IsRequest kind.Bulk (texts params.now) r) }
+    ensures none { IfNone result ((r : RequestSpec) → IsRequest kind.Bulk (texts params.now) r → ⊥) }
+{
+    match count_at(params, 0) {
+        Some(count) => Some(Request::Bulk(count)),
         None => None,
     }
 }
@@ -84,6 +96,35 @@ fn date_of(word: &str) -> Option<Day>
     // Hands the prover the range of the day.
     let _number = date.number();
     Some(date)
+}
+
+// The number of documents that the word with this index is.
+fn count_at(words: &[String], index: usize) -> Option<u32>
+    ensures some { IfSome result (λ n. At IsCountWord (texts words.now) index n) }
+    ensures none { IfNone result ((n : ℕ) → At IsCountWord (texts words.now) index n → ⊥) }
+{
+    let word = words.get(index)?;
+    count_of(word.as_str())
+}
+
+// The number of documents that a word is: from 1 to 500, in digits with no zero in front.
+fn count_of(word: &str) -> Option<u32>
+    ensures some { IfSome result (λ n. IsCountWord word.now n) }
+    ensures none { IfNone result ((n : ℕ) → IsCountWord word.now n → ⊥) }
+{
+    match word.parse::<u32>() {
+        Ok(count) if is_count(word, count) => Some(count),
+        Ok(_) => None,
+        Err(_) => None,
+    }
+}
+
+// Whether the word is this number of documents.
+fn is_count(word: &str, count: u32) -> bool
+    ensures { IsTrue result ↔ IsCountWord word.now count }
+{
+    let mut digits = itoa::Buffer::new();
+    0 < count && count <= MOST_BULK && digits.format(count) == word
 }
 
 // The number of a stream that the word with this index is.

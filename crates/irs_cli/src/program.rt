@@ -19,6 +19,7 @@ use crate::refusals::Refusal;
 use crate::{Files, Sink};
 use irs_answers::{Reply, Status, TaskFiles, reply_of};
 use irs_base::Memory;
+use irs_bulk::bulk;
 use std::alloc::Global;
 
 /// Prints what the words ask for, and answers the status: 0 done, 1 the flows don't agree, 2 a rule is
@@ -31,6 +32,7 @@ use std::alloc::Global;
 /// `interpolate STREAM SIDE LOW HIGH DOC FIX CAL..`, with 0 to 16 calendars, and `-` as FIX or DAILY for
 /// no fixings.
 /// All files are fetched first, in the order of the words; the flows are read when no rule is broken.
+/// `bulk N`, with N from 1 to 500, names no file.
 pub fn run<F: Files, S: Sink>(alloc: Global, words: &[String], files: &mut F, out: &mut S) -> u8
     // Want of memory: nothing was written.
     ensures memory { result ≡ 7 → S.written out.new ≡ S.written out.old }
@@ -99,5 +101,6 @@ fn reply_to(alloc: Global, request: Request, files: &TaskFiles) -> Result<Reply,
 {
     match request {
         Request::OverFiles(task) => reply_of(alloc, task, files),
+        Request::Bulk(count) => bulk(alloc, count),
     }
 }

@@ -14,11 +14,14 @@ pub(crate) fn put_schedule<S: Sink>(out: &mut S, schedule: &Schedule) -> Result<
     ensures err { OnErr result (GrewByFront (S.written out.old) (S.written out.new) (text_of schedule.now)) }
     ensures rose { OnErr result (Rose (S.faults out.old) (S.faults out.new)) }
 {
-    out.put(b"irs-schedule 2\n")?;
     let mut line = Line::new();
+    line.push(b"irs-schedule 2\n");
+    out.put(line.bytes())?;
     for row in schedule.rows() {
         row_text(&row, &mut line);
         out.put(line.bytes())?;
     }
-    out.put(b"end\n")
+    line.clear();
+    line.push(b"end\n");
+    out.put(line.bytes())
 }

@@ -1,0 +1,2 @@
+pub mod CalendarLengths
+pub mod BulkRunLemmas

@@ -1,0 +1,185 @@
+//! A run of `bulk`: the schedules of its documents, added up.
+//!
+//! The calendar is read once. A document's own faults are told before those of the calendar, as
+//! `schedule` tells them. What one document needs is let go before the next.
+ghost use Rattle.std.specs.Prelude.{◌≡◌, ◌<◌, ◌≤◌, ◌^◌, [], ◌∷◌, map, IfErr, IfOk};
+ghost use Rattle.irs_terms.specs.Lawful.{IsLawful};
+ghost use Rattle.irs_answers.specs.Due.{Spells};
+ghost use Rattle.irs_answers.specs.Outcomes.{Ends, IfAnswered, IfRefused};
+ghost use Rattle.irs_answers.specs.Replying.{reply_status, reply_text};
+ghost use Rattle.irs_answers.specs.declared.tasks.Task.TheVariants.{Schedule as OfSchedule};
+ghost use Rattle.irs_bulk.specs.BulkCalendars.{calendar_text};
+ghost use Rattle.irs_bulk.specs.BulkLines.{IsRun, line_text};
+ghost use Rattle.irs_bulk.specs.BulkRuns.{Adds, AreSums, DueAt, DueBulk, DueSchedule, IsCalendar, IsOneBulk, IsScheduleOf, agree_of, first_of, one_total};
+ghost use Rattle.irs_bulk.specs.Documents.{document_text, most_bulk};
+
+use crate::{Totals, bulk_calendar, bulk_doc, bulk_text};
+use irs_answers::{Refusal, Reply, Status, schedule_of};
+use irs_audit::{Verdict, audit, flows_of, sums_of};
+use irs_base::{Line, Memory};
+use irs_calendar::{CalErr, Calendars};
+use irs_json::parse;
+use irs_read::read_swap;
+use irs_resets::Fixings;
+use irs_schedule::Schedule;
+use irs_terms::Swap;
+use std::alloc::Global;
+
+/// What `bulk N` comes to (the command is this project's own). For each k from 1 to N the schedule of
+/// document k and that of its plain form are made, with the calendar of their centre and without
+/// fixings. Where one of them can't be made, the answer is what `schedule` says of the first such k, of
+/// the document where neither can be. Else it is 0 and the line of the sums: payments and calculation
+/// periods, amounts and days of the documents' schedules; how many of them agree with the flows that
+/// state their plain schedule; and of the others the numbers of the first rows that depart, added up.
+/// `Memory` comes only for want of memory.
+pub fn bulk(alloc: Global, n: u32) -> Result<Reply, Memory>
+    requires { n ≤ most_bulk }
+    ensures due { IfOk result (λ r. Ends (DueBulk n) (reply_status r) (reply_text r)) }
+    ensures one { IsOneBulk n }
+{
+    match run(alloc, n) {
+        Ok(reply) => Ok(reply),
+        Err(refusal) => refusal.reply(alloc),
+    }
+}
+
+// The reply of a run, or why there is none.
+fn run(alloc: Global, n: u32) -> Result<Reply, Refusal>
+    requires { n ≤ most_bulk }
+    ensures { IfAnswered result (Ends (DueBulk n)) }
+{
+    let totals = totals(alloc, n)?;
+    Ok(Reply::Text(Status::Done, line(alloc, &totals)?))
+}
+
+fn line(alloc: Global, totals: &Totals) -> Result<Vec<u8>, Memory>
+    requires { IsRun totals.now }
+    ensures { IfOk result (λ t. t.items ≡ line_text totals.now) }
+{
+    let mut line = Line::new();
+    bulk_text(totals, &mut line);
+    Ok(Vec::from_slice(alloc, line.bytes())?)
+}
+
+// The sums over the documents 1 to n, or what is due for the first without a schedule.
+fn totals(alloc: Global, n: u32) -> Result<Totals, Refusal>
+    requires { n ≤ most_bulk }
+    ensures sums { IfOk result (AreSums n) }
+    ensures run { IfOk result IsRun }
+    ensures refused { IfErr result (λ r. IfRefused r (Ends (DueBulk n))) }
+{
+    let calendars = calendars(alloc);
+    let mut totals = Totals::none();
+    for before in 0..n {
+        totals = totals.with(one_total(alloc, before + 1, &calendars)?);
+    }
+    Ok(totals)
+}
+
+// The calendar of all documents, or why it can't be read.
+fn calendars(alloc: Global) -> Result<Calendars, CalErr>
+    ensures { IsCalendar result }
+{
+    match calendar_files(alloc) {
+        Ok(files) => Calendars::read(alloc, &files),
+        Err(Memory) => Err(CalErr::Memory),
+    }
+}
+
+fn calendar_files(alloc: Global) -> Result<Vec<Vec<u8>>, Memory>
+    ensures { IfOk result (λ files. map (λ f. f.items) files.items ≡ calendar_text ∷ []) }
+{
+    let mut files = Vec::new(alloc);
+    files.push(bulk_calendar(alloc)?)?;
+    Ok(files)
+}
+
+// What document k adds, or what is due for it where it has no schedule, or its plain form has none.
+fn one_total(
+    alloc: Global,
+    k: u32,
+    calendars: &Result<Calendars, CalErr>,
+) -> Result<Totals, Refusal>
+    requires low { 0 < k }
+    requires high { k ≤ most_bulk }
+    requires calendar { IsCalendar calendars.now }
+    ensures adds { IfOk result (Adds k) }
+    ensures run { IfOk result IsRun }
+    ensures one { IfOk result (λ t. t.documents ≡ 1) }
+    ensures refused { IfErr result (λ r. IfRefused r (Ends (DueAt k))) }
+{
+    let schedule = schedule_at(alloc, k, false, calendars)?;
+    let plain = schedule_at(alloc, k, true, calendars)?;
+    let flows = flows_of(alloc, &plain)?;
+    Ok(totals_by(&schedule, audit(&schedule, &flows)))
+}
+
+// The schedule of document k, or of its plain form; or what `schedule` says where there is none.
+fn schedule_at(
+    alloc: Global,
+    k: u32,
+    plain: bool,
+    calendars: &Result<Calendars, CalErr>,
+) -> Result<Schedule, Refusal>
+    requires low { 0 < k }
+    requires high { k ≤ most_bulk }
+    requires calendar { IsCalendar calendars.now }
+    ensures schedule { IfOk result (IsScheduleOf plain k) }
+    ensures refused { IfErr result (λ r. IfRefused r (Ends (DueSchedule plain k))) }
+{
+    let swap = swap_at(alloc, k, plain)?;
+    match calendars {
+        Ok(calendars) => schedule_of(alloc, &swap, calendars, &Fixings::none()),
+        Err(fault) => Err(Refusal::Calendars(*fault)),
+    }
+}
+
+// The swap of document k, or of its plain form; or what `schedule` says where there is none.
+fn swap_at(alloc: Global, k: u32, plain: bool) -> Result<Swap, Refusal>
+    requires low { 0 < k }
+    requires high { k ≤ most_bulk }
+    ensures spells { IfOk result (λ swap. Spells OfSchedule (document_text plain k) swap None) }
+    ensures lawful { IfOk result IsLawful }
+    ensures refused { IfErr result (λ r. IfRefused r (Ends (DueSchedule plain k))) }
+{
+    let document = parse(alloc, &bulk_doc(alloc, k, plain)?)?;
+    Ok(read_swap(alloc, &document)?)
+}
+
+// What is added up of one schedule, and of a verdict on flows against it.
+fn totals_by(schedule: &Schedule, verdict: Verdict) -> Totals
+    ensures value { result ≡ one_total schedule.now verdict }
+    ensures run { IsRun result }
+{
+    let sums = sums_of(schedule);
+    Totals {
+        documents: 1,
+        rows: u64::from(sums.rows),
+        total: sums.total,
+        days: sums.days,
+        agree: agree_of(verdict),
+        first: first_of(verdict),
+    }
+}
+
+// 1 where the flows agree.
+fn agree_of(verdict: Verdict) -> u32
+    ensures value { result ≡ agree_of verdict }
+    ensures few { result ≤ 1 }
+{
+    match verdict {
+        Verdict::Yes { .. } => 1,
+        Verdict::No(_) => 0,
+    }
+}
+
+// The number of the first row that departs, 0 where none does.
+fn first_of(verdict: Verdict) -> u64
+    ensures value { result ≡ first_of verdict }
+    ensures small { result < 2 ^ 32 }
+{
+    match verdict {
+        Verdict::Yes { .. } => 0,
+        Verdict::No(departure) => u64::from(departure.row),
+    }
+}
