@@ -1,5 +1,5 @@
 -- The first fault at each step of the walk.
-use Rattle.std.proofs.Common.{◌≡◌, ℕ, ◌+◌, ◌<◌, ◌≤◌, Bool, true, false, ◌⊎◌, inl, inr, List, length, map, Option, Some, None, option_map, refl, sym, ap, subst, ◌∙◌, arith}
+use Rattle.std.proofs.Common.{◌≡◌, ℕ, ◌+◌, ◌<◌, ◌≤◌, Bool, true, false, ◌⊎◌, inl, inr, List, length, map, Option, Some, None, is_none, option_map, refl, sym, ap, subst, ◌∙◌, arith}
 use Rattle.std.specs.Prelude.{slice_get}
 use Rattle.std.proofs.lemmas.Option.{slice_get_within, slice_get-map}
 use Rattle.std.specs.List.{list_any}
@@ -17,7 +17,7 @@ use Rattle.irs_elements.specs.declared.table.Choice.{Choice}
 use Rattle.irs_elements.specs.declared.walk.Unmet.{Unmet}
 use Rattle.irs_base.specs.declared.places.Rule.{Rule}
 use Rattle.irs_base.specs.declared.places.Rule.TheVariants.{K2, K3, K4, K5, K7}
-use Rattle.irs_elements.specs.Elements.{place, unmet_place, choice_unmet, fault_if, own_rule, name_at, is_unknown, is_element, is_refused, is_required, most, absent_index, index_in, IsMember, ShapeFault, unknown, unmet, odd, no_href, has_odd, lacks_href, FaultAt, own, shape, under, FaultUnder, missing, refused, too_many, inside, FaultAmong, MemberFault}
+use Rattle.irs_elements.specs.Elements.{place, unmet_place, choice_unmet, is_chosen, fault_if, own_rule, name_at, is_unknown, is_element, is_refused, is_required, most, absent_index, index_in, IsMember, ShapeFault, unknown, unmet, odd, no_href, has_odd, lacks_href, FaultAt, own, shape, under, FaultUnder, missing, refused, too_many, inside, FaultAmong, MemberFault}
 use Rattle.irs_elements.proofs.First.{first_or, first_same, first_one, first_is, first_more, first_skip, Below}
 use Rattle.irs_base.specs.Order.{earlier_broken, IsFirstBroken}
 
@@ -29,6 +29,14 @@ first_of_rule at (Some k) = first_one _ (at k) (k, (refl, refl)) (λ g (j, (e, i
 pub first_if : (f : Broken) (b : Bool) → IsFirstBroken (λ g. (b ≡ true) × (g ≡ f)) (fault_if b f)
 first_if f true = first_one _ f (refl, refl) (λ g (t, is). is)
 first_if f false = λ g (t, is). cc
+
+chosen_by : (o : Option Unmet) → ((u : Unmet) → o ≡ Some u → ⊥) → is_none o ≡ true
+chosen_by None h = refl
+chosen_by (Some u) h = absurd (h u refl)
+
+-- a choice is kept where no way to fail it is there
+pub choice_kept : (names : List (List ℕ)) (ch : Choice) (d : Data) → ((u : Unmet) → choice_unmet names ch d ≡ Some u → ⊥) → is_chosen names ch d ≡ true
+choice_kept names ch d h = chosen_by (choice_unmet names ch d) h
 
 no_own : (ch : Choice) (d : Data) (ns : List (List ℕ)) (k : Rule) → names_of d ≡ Some ns → own_rule (Object ch) d ≡ Some k → ⊥
 no_own ch d ns k h e = let e' : own_rule (Object ch) d ≡ None = rw h refl in cc
