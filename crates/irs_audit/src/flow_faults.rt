@@ -15,7 +15,7 @@ ghost use Rattle.irs_base.specs.Order.{IsFirstBroken};
 
 use crate::flow_table::{FLOW_NAMES, FLOW_ROWS, FLOWS, PERIOD, PERIOD_NAMES, PERIOD_ROWS};
 use irs_base::{Broken, Elem, MOST_ROWS, MOST_STREAMS, Place, Rule};
-use irs_elements::{earlier, first_fault, values, values_at};
+use irs_elements::{Table, earlier, first_fault, values, values_at};
 use irs_json::{Value, child, members};
 use irs_read::the_swap;
 
@@ -106,7 +106,12 @@ fn both_rates_fault(stream: u8, v: &Value) -> Option<Broken>
 fn period_fault(stream: u8, number: u32, v: &Value) -> Option<Broken>
     ensures { IsFirstBroken (PeriodFault stream number (view v.now)) result }
 {
-    let own = first_fault(&PERIOD_ROWS, &PERIOD_NAMES, stream, 0, PERIOD, number, v);
+    let table = Table {
+        rows: &PERIOD_ROWS,
+        names: &PERIOD_NAMES,
+        stream,
+    };
+    let own = first_fault(&table, 0, PERIOD, number, v);
     earlier(own, both_rates_fault(stream, v))
 }
 
@@ -180,7 +185,12 @@ pub fn payments_of<'a>(v: Option<&'a Value>) -> &'a [Value]
 fn cashflows_fault(stream: u8, v: &Value) -> Option<Broken>
     ensures { IsFirstBroken (CashflowsFault stream (view v.now)) result }
 {
-    let own = first_fault(&FLOW_ROWS, &FLOW_NAMES, stream, 0, FLOWS, 0, v);
+    let table = Table {
+        rows: &FLOW_ROWS,
+        names: &FLOW_NAMES,
+        stream,
+    };
+    let own = first_fault(&table, 0, FLOWS, 0, v);
     earlier(own, periods_fault(stream, payments_of(Some(v))))
 }
 

@@ -10,7 +10,7 @@ ghost use Rattle.irs_read.specs.Tables.{is_whole};
 ghost use Rattle.std.specs.Prelude.{◌≡◌, drop, map, true};
 
 use irs_base::MOST_ROWS;
-use irs_elements::{Choice, Count, Kind, Leaf, Row};
+use irs_elements::{Choice, Count, Kind, Leaf, Row, row};
 
 const OBJECT: Kind = Kind::Object(Choice::Free);
 
@@ -19,24 +19,24 @@ pub const FLOWS: Kind = Kind::Object(Choice::Free);
 
 /// The rows of `cashflows`: parent, place among the elements, kind, count.
 pub const FLOW_ROWS: [Row; 18] = [
-    Row(0, 131, FLOWS, Count::One),
-    Row(0, 132, OBJECT, Count::UpTo(MOST_ROWS)),
-    Row(1, 133, Kind::Leaf(Leaf::Date), Count::Maybe),
-    Row(1, 134, Kind::Leaf(Leaf::Date), Count::Maybe),
-    Row(1, 135, Kind::Leaf(Leaf::Amount), Count::Maybe),
-    Row(0, 136, OBJECT, Count::UpTo(MOST_ROWS)),
-    Row(5, 137, Kind::Leaf(Leaf::Date), Count::Maybe),
-    Row(5, 138, Kind::Leaf(Leaf::Date), Count::Maybe),
-    Row(5, 139, OBJECT, Count::Maybe),
-    Row(8, 140, Kind::Leaf(Leaf::CurrencyName), Count::Maybe),
-    Row(8, 141, Kind::Leaf(Leaf::Amount), Count::Maybe),
-    Row(0, 131, Kind::Passed, Count::Maybe),
-    Row(1, 131, Kind::Passed, Count::Maybe),
-    Row(1, 131, Kind::Passed, Count::Maybe),
-    Row(5, 131, Kind::Passed, Count::Maybe),
-    Row(5, 131, Kind::Passed, Count::Maybe),
-    Row(5, 131, Kind::Passed, Count::Maybe),
-    Row(5, 131, Kind::Refused, Count::Maybe),
+    row!(0, 131, FLOWS, Count::One),
+    row!(0, 132, OBJECT, Count::UpTo(MOST_ROWS)),
+    row!(1, 133, Kind::Leaf(Leaf::Date), Count::Maybe),
+    row!(1, 134, Kind::Leaf(Leaf::Date), Count::Maybe),
+    row!(1, 135, Kind::Leaf(Leaf::Amount), Count::Maybe),
+    row!(0, 136, OBJECT, Count::UpTo(MOST_ROWS)),
+    row!(5, 137, Kind::Leaf(Leaf::Date), Count::Maybe),
+    row!(5, 138, Kind::Leaf(Leaf::Date), Count::Maybe),
+    row!(5, 139, OBJECT, Count::Maybe),
+    row!(8, 140, Kind::Leaf(Leaf::CurrencyName), Count::Maybe),
+    row!(8, 141, Kind::Leaf(Leaf::Amount), Count::Maybe),
+    row!(0, 131, Kind::Passed, Count::Maybe),
+    row!(1, 131, Kind::Passed, Count::Maybe),
+    row!(1, 131, Kind::Passed, Count::Maybe),
+    row!(5, 131, Kind::Passed, Count::Maybe),
+    row!(5, 131, Kind::Passed, Count::Maybe),
+    row!(5, 131, Kind::Passed, Count::Maybe),
+    row!(5, 131, Kind::Refused, Count::Maybe),
 ];
 
 /// The name at each row of `cashflows`.
@@ -66,31 +66,31 @@ pub const PERIOD: Kind = Kind::Object(Choice::Free);
 
 /// The rows of a calculation period.
 pub const PERIOD_ROWS: [Row; 25] = [
-    Row(0, 142, PERIOD, Count::One),
-    Row(0, 143, Kind::Leaf(Leaf::Date), Count::Maybe),
-    Row(0, 144, Kind::Leaf(Leaf::Date), Count::Maybe),
-    Row(0, 145, Kind::Leaf(Leaf::Date), Count::Maybe),
-    Row(0, 146, Kind::Leaf(Leaf::Date), Count::Maybe),
-    Row(0, 147, Kind::Leaf(Leaf::Whole), Count::Maybe),
-    Row(0, 148, Kind::Leaf(Leaf::Amount), Count::Maybe),
-    Row(0, 149, Kind::Leaf(Leaf::Amount), Count::Maybe),
-    Row(0, 150, Kind::Leaf(Leaf::Fraction), Count::Maybe),
-    Row(0, 151, OBJECT, Count::Maybe),
-    Row(9, 152, Kind::Leaf(Leaf::Amount), Count::Maybe),
-    Row(9, 153, OBJECT, Count::Maybe),
-    Row(11, 154, Kind::Leaf(Leaf::Date), Count::Maybe),
-    Row(11, 155, Kind::Leaf(Leaf::Date), Count::Maybe),
-    Row(11, 156, Kind::Leaf(Leaf::Amount), Count::Maybe),
-    Row(0, 142, Kind::Passed, Count::Maybe),
-    Row(0, 142, Kind::Passed, Count::Maybe),
-    Row(9, 142, Kind::Passed, Count::Maybe),
-    Row(9, 142, Kind::Passed, Count::Maybe),
-    Row(11, 142, Kind::Passed, Count::Maybe),
-    Row(11, 142, Kind::Passed, Count::Maybe),
-    Row(11, 142, Kind::Passed, Count::Maybe),
-    Row(0, 142, Kind::Refused, Count::Maybe),
-    Row(9, 142, Kind::Refused, Count::Maybe),
-    Row(9, 142, Kind::Refused, Count::Maybe),
+    row!(0, 142, PERIOD, Count::One),
+    row!(0, 143, Kind::Leaf(Leaf::Date), Count::Maybe),
+    row!(0, 144, Kind::Leaf(Leaf::Date), Count::Maybe),
+    row!(0, 145, Kind::Leaf(Leaf::Date), Count::Maybe),
+    row!(0, 146, Kind::Leaf(Leaf::Date), Count::Maybe),
+    row!(0, 147, Kind::Leaf(Leaf::Whole), Count::Maybe),
+    row!(0, 148, Kind::Leaf(Leaf::Amount), Count::Maybe),
+    row!(0, 149, Kind::Leaf(Leaf::Amount), Count::Maybe),
+    row!(0, 150, Kind::Leaf(Leaf::Fraction), Count::Maybe),
+    row!(0, 151, OBJECT, Count::Maybe),
+    row!(9, 152, Kind::Leaf(Leaf::Amount), Count::Maybe),
+    row!(9, 153, OBJECT, Count::Maybe),
+    row!(11, 154, Kind::Leaf(Leaf::Date), Count::Maybe),
+    row!(11, 155, Kind::Leaf(Leaf::Date), Count::Maybe),
+    row!(11, 156, Kind::Leaf(Leaf::Amount), Count::Maybe),
+    row!(0, 142, Kind::Passed, Count::Maybe),
+    row!(0, 142, Kind::Passed, Count::Maybe),
+    row!(9, 142, Kind::Passed, Count::Maybe),
+    row!(9, 142, Kind::Passed, Count::Maybe),
+    row!(11, 142, Kind::Passed, Count::Maybe),
+    row!(11, 142, Kind::Passed, Count::Maybe),
+    row!(11, 142, Kind::Passed, Count::Maybe),
+    row!(0, 142, Kind::Refused, Count::Maybe),
+    row!(9, 142, Kind::Refused, Count::Maybe),
+    row!(9, 142, Kind::Refused, Count::Maybe),
 ];
 
 /// The name at each row of a calculation period.

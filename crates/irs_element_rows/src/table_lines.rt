@@ -82,13 +82,13 @@ fn print_table(rt: &HostRuntime, title: &str, rows: &[Row], names: &[&'static st
     let alloc = rt.alloc();
     let mut paths: Vec<String> = Vec::new(alloc);
     for (row, name) in rows.iter().zip(names) {
-        let path = match paths.get(row.0) {
-            Some(above) if row.0 > 0 => format!(in alloc; "{above}/{name}")?,
+        let path = match paths.get(row.parent) {
+            Some(above) if row.parent > 0 => format!(in alloc; "{above}/{name}")?,
             Some(_) | None => String::from_str(alloc, name)?,
         };
         if !paths.is_empty() {
-            let kind = kind_text(alloc, row.2, names)?;
-            println!(rt; "{path} | {kind} | {}", count_text(alloc, row.3)?)?;
+            let kind = kind_text(alloc, row.kind, names)?;
+            println!(rt; "{path} | {kind} | {}", count_text(alloc, row.count)?)?;
         }
         paths.push(path)?;
     }

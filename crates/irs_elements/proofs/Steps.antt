@@ -1,5 +1,5 @@
 -- The first fault at each step of the walk.
-use Rattle.std.proofs.Common.{◌≡◌, ℕ, ◌+◌, ◌<◌, ◌≤◌, Bool, true, false, ◌⊎◌, inl, inr, List, length, map, Option, Some, None, option_map, refl, sym, ap, subst, ◌∙◌, arith}
+use Rattle.std.proofs.Common.{◌≡◌, ℕ, ◌+◌, ◌<◌, ◌≤◌, Bool, true, false, ◌⊎◌, inl, inr, List, length, map, Option, Some, None, is_none, option_map, refl, sym, ap, subst, ◌∙◌, arith}
 use Rattle.std.specs.Prelude.{slice_get}
 use Rattle.std.proofs.lemmas.Option.{slice_get_within, slice_get-map}
 use Rattle.std.specs.List.{list_any}
@@ -17,7 +17,7 @@ use Rattle.irs_elements.specs.declared.table.Choice.{Choice}
 use Rattle.irs_elements.specs.declared.walk.Unmet.{Unmet}
 use Rattle.irs_base.specs.declared.places.Rule.{Rule}
 use Rattle.irs_base.specs.declared.places.Rule.TheVariants.{K2, K3, K4, K5, K7}
-use Rattle.irs_elements.specs.Elements.{place, unmet_place, choice_unmet, fault_if, own_rule, name_at, is_unknown, is_element, is_refused, is_required, most, absent_index, index_in, IsMember, ShapeFault, unknown, unmet, odd, no_href, has_odd, lacks_href, FaultAt, own, shape, under, FaultUnder, missing, refused, too_many, inside, FaultAmong, MemberFault}
+use Rattle.irs_elements.specs.Elements.{place, unmet_place, choice_unmet, is_chosen, fault_if, own_rule, name_at, is_unknown, is_element, is_refused, is_required, most, absent_index, index_in, IsMember, ShapeFault, unknown, unmet, odd, no_href, has_odd, lacks_href, FaultAt, own, shape, under, FaultUnder, missing, refused, too_many, inside, FaultAmong, MemberFault}
 use Rattle.irs_elements.proofs.First.{first_or, first_same, first_one, first_is, first_more, first_skip, Below}
 use Rattle.irs_base.specs.Order.{earlier_broken, IsFirstBroken}
 
@@ -29,6 +29,14 @@ first_of_rule at (Some k) = first_one _ (at k) (k, (refl, refl)) (λ g (j, (e, i
 pub first_if : (f : Broken) (b : Bool) → IsFirstBroken (λ g. (b ≡ true) × (g ≡ f)) (fault_if b f)
 first_if f true = first_one _ f (refl, refl) (λ g (t, is). is)
 first_if f false = λ g (t, is). cc
+
+chosen_by : (o : Option Unmet) → ((u : Unmet) → o ≡ Some u → ⊥) → is_none o ≡ true
+chosen_by None h = refl
+chosen_by (Some u) h = absurd (h u refl)
+
+-- a choice is kept where no way to fail it is there
+pub choice_kept : (names : List (List ℕ)) (ch : Choice) (d : Data) → ((u : Unmet) → choice_unmet names ch d ≡ Some u → ⊥) → is_chosen names ch d ≡ true
+choice_kept names ch d h = chosen_by (choice_unmet names ch d) h
 
 no_own : (ch : Choice) (d : Data) (ns : List (List ℕ)) (k : Rule) → names_of d ≡ Some ns → own_rule (Object ch) d ≡ Some k → ⊥
 no_own ch d ns k h e = let e' : own_rule (Object ch) d ≡ None = rw h refl in cc
@@ -127,65 +135,65 @@ module _ (rows : List Row) (names : List (List ℕ)) (stream : ℕ) where
 
   -- ---- a member
 
-  pub under_missing : (c i : ℕ) (row : Row) (d : Data) → is_element row.2 ≡ true → is_required row.3 ≡ true → child_of (name_at names c) d ≡ None
-      → IsFirstBroken (FaultUnder rows names stream c row i d) (Some (place rows stream K2 c (absent_index row.3 i)))
+  pub under_missing : (c i : ℕ) (row : Row) (d : Data) → is_element row.kind ≡ true → is_required row.count ≡ true → child_of (name_at names c) d ≡ None
+      → IsFirstBroken (FaultUnder rows names stream c row i d) (Some (place rows stream K2 c (absent_index row.count i)))
   under_missing c i row d el rq ab = first_one _ _ (missing c i row d el rq ab) (only c i row d ab)
     where
-      only : (c i : ℕ) (row : Row) (d : Data) → child_of (name_at names c) d ≡ None → (g : Broken) → FaultUnder rows names stream c row i d g → g ≡ place rows stream K2 c (absent_index row.3 i)
+      only : (c i : ℕ) (row : Row) (d : Data) → child_of (name_at names c) d ≡ None → (g : Broken) → FaultUnder rows names stream c row i d g → g ≡ place rows stream K2 c (absent_index row.count i)
       only c i row d ab g (missing _ _ _ _ el rq h) = refl
       only c i row d ab g (refused _ _ _ _ m rf h) = cc
       only c i row d ab g (too_many _ _ _ _ m el h t) = cc
       only c i row d ab g (inside _ _ j _ _ m x _ el h le at f) = cc
 
-  pub under_absent : (c i : ℕ) (row : Row) (d : Data) → ((is_element row.2 ≡ true) → is_required row.3 ≡ true → ⊥) → child_of (name_at names c) d ≡ None
+  pub under_absent : (c i : ℕ) (row : Row) (d : Data) → ((is_element row.kind ≡ true) → is_required row.count ≡ true → ⊥) → child_of (name_at names c) d ≡ None
       → IsFirstBroken (FaultUnder rows names stream c row i d) None
   under_absent c i row d free ab = none c i row d free ab
     where
-      none : (c i : ℕ) (row : Row) (d : Data) → ((is_element row.2 ≡ true) → is_required row.3 ≡ true → ⊥) → child_of (name_at names c) d ≡ None → (g : Broken) → FaultUnder rows names stream c row i d g → ⊥
+      none : (c i : ℕ) (row : Row) (d : Data) → ((is_element row.kind ≡ true) → is_required row.count ≡ true → ⊥) → child_of (name_at names c) d ≡ None → (g : Broken) → FaultUnder rows names stream c row i d g → ⊥
       none c i row d free ab g (missing _ _ _ _ el rq h) = free el rq
       none c i row d free ab g (refused _ _ _ _ m rf h) = cc
       none c i row d free ab g (too_many _ _ _ _ m el h t) = cc
       none c i row d free ab g (inside _ _ j _ _ m x _ el h le at f) = cc
 
-  pub under_refused : (c i : ℕ) (row : Row) (d m : Data) → is_refused row.2 ≡ true → child_of (name_at names c) d ≡ Some m
-      → IsFirstBroken (FaultUnder rows names stream c row i d) (Some (place rows stream K5 row.0 i))
-  under_refused c i row d m rf h = first_one _ _ (refused c i row d m rf h) (only c i row d m (no_element row.2 rf) h)
+  pub under_refused : (c i : ℕ) (row : Row) (d m : Data) → is_refused row.kind ≡ true → child_of (name_at names c) d ≡ Some m
+      → IsFirstBroken (FaultUnder rows names stream c row i d) (Some (place rows stream K5 row.parent i))
+  under_refused c i row d m rf h = first_one _ _ (refused c i row d m rf h) (only c i row d m (no_element row.kind rf) h)
     where
-      only : (c i : ℕ) (row : Row) (d m : Data) → is_element row.2 ≡ false → child_of (name_at names c) d ≡ Some m → (g : Broken) → FaultUnder rows names stream c row i d g → g ≡ place rows stream K5 row.0 i
+      only : (c i : ℕ) (row : Row) (d m : Data) → is_element row.kind ≡ false → child_of (name_at names c) d ≡ Some m → (g : Broken) → FaultUnder rows names stream c row i d g → g ≡ place rows stream K5 row.parent i
       only c i row d m nel ab g (missing _ _ _ _ el rq h) = cc
       only c i row d m nel ab g (refused _ _ _ _ m' rf h) = refl
       only c i row d m nel ab g (too_many _ _ _ _ m' el h t) = cc
       only c i row d m nel ab g (inside _ _ j _ _ m' x _ el h le at f) = cc
 
-  pub under_passed : (c i : ℕ) (row : Row) (d : Data) → is_element row.2 ≡ false → is_refused row.2 ≡ false → IsFirstBroken (FaultUnder rows names stream c row i d) None
+  pub under_passed : (c i : ℕ) (row : Row) (d : Data) → is_element row.kind ≡ false → is_refused row.kind ≡ false → IsFirstBroken (FaultUnder rows names stream c row i d) None
   under_passed c i row d nel nrf = none c i row d nel nrf
     where
-      none : (c i : ℕ) (row : Row) (d : Data) → is_element row.2 ≡ false → is_refused row.2 ≡ false → (g : Broken) → FaultUnder rows names stream c row i d g → ⊥
+      none : (c i : ℕ) (row : Row) (d : Data) → is_element row.kind ≡ false → is_refused row.kind ≡ false → (g : Broken) → FaultUnder rows names stream c row i d g → ⊥
       none c i row d nel nrf g (missing _ _ _ _ el rq h) = cc
       none c i row d nel nrf g (refused _ _ _ _ m' rf h) = cc
       none c i row d nel nrf g (too_many _ _ _ _ m' el h t) = cc
       none c i row d nel nrf g (inside _ _ j _ _ m' x _ el h le at f) = cc
 
-  pub under_many : (c i : ℕ) (row : Row) (d m : Data) → is_element row.2 ≡ true → is_refused row.2 ≡ false → child_of (name_at names c) d ≡ Some m
-      → most row.3 < length (items_of m) → IsFirstBroken (FaultUnder rows names stream c row i d) (Some (place rows stream K7 c 0))
+  pub under_many : (c i : ℕ) (row : Row) (d m : Data) → is_element row.kind ≡ true → is_refused row.kind ≡ false → child_of (name_at names c) d ≡ Some m
+      → most row.count < length (items_of m) → IsFirstBroken (FaultUnder rows names stream c row i d) (Some (place rows stream K7 c 0))
   under_many c i row d m el nrf h t = first_one _ _ (too_many c i row d m el h t) (only c i row d m nrf h t)
     where
-      only : (c i : ℕ) (row : Row) (d m : Data) → is_refused row.2 ≡ false → child_of (name_at names c) d ≡ Some m → most row.3 < length (items_of m)
+      only : (c i : ℕ) (row : Row) (d m : Data) → is_refused row.kind ≡ false → child_of (name_at names c) d ≡ Some m → most row.count < length (items_of m)
           → (g : Broken) → FaultUnder rows names stream c row i d g → g ≡ place rows stream K7 c 0
       only c i row d m nrf h t g (missing _ _ _ _ el rq h') = cc
       only c i row d m nrf h t g (refused _ _ _ _ m' rf h') = cc
       only c i row d m nrf h t g (too_many _ _ _ _ m' el h' t') = refl
-      only c i row d m nrf h t g (inside _ _ j _ _ m' x _ el h' le at f) = let same : m' ≡ m = cc in let le' : length (items_of m) ≤ most row.3 = rw (sym same) le in absurd (omega arith)
+      only c i row d m nrf h t g (inside _ _ j _ _ m' x _ el h' le at f) = let same : m' ≡ m = cc in let le' : length (items_of m) ≤ most row.count = rw (sym same) le in absurd (omega arith)
 
-  pub under_lawful : (c i : ℕ) (row : Row) (d m : Data) (a : Option Broken) → is_element row.2 ≡ true → is_refused row.2 ≡ false → child_of (name_at names c) d ≡ Some m
-      → length (items_of m) ≤ most row.3 → IsFirstBroken (FaultAmong rows names stream c row.2 (index_in row.3 i) (items_of m)) a → IsFirstBroken (FaultUnder rows names stream c row i d) a
+  pub under_lawful : (c i : ℕ) (row : Row) (d m : Data) (a : Option Broken) → is_element row.kind ≡ true → is_refused row.kind ≡ false → child_of (name_at names c) d ≡ Some m
+      → length (items_of m) ≤ most row.count → IsFirstBroken (FaultAmong rows names stream c row.kind (index_in row.count i) (items_of m)) a → IsFirstBroken (FaultUnder rows names stream c row i d) a
   under_lawful c i row d m a el nrf h le p = first_same _ _ a (λ f (j, (x, (at, f'))). inside c i j row d m x f el h le at f') (inner c i row d m nrf h le) p
     where
-      inner : (c i : ℕ) (row : Row) (d m : Data) → is_refused row.2 ≡ false → child_of (name_at names c) d ≡ Some m → length (items_of m) ≤ most row.3
-          → (g : Broken) → FaultUnder rows names stream c row i d g → FaultAmong rows names stream c row.2 (index_in row.3 i) (items_of m) g
+      inner : (c i : ℕ) (row : Row) (d m : Data) → is_refused row.kind ≡ false → child_of (name_at names c) d ≡ Some m → length (items_of m) ≤ most row.count
+          → (g : Broken) → FaultUnder rows names stream c row i d g → FaultAmong rows names stream c row.kind (index_in row.count i) (items_of m) g
       inner c i row d m nrf h le g (missing _ _ _ _ el rq h') = cc
       inner c i row d m nrf h le g (refused _ _ _ _ m' rf h') = cc
-      inner c i row d m nrf h le g (too_many _ _ _ _ m' el h' t') = let same : m' ≡ m = cc in let t : most row.3 < length (items_of m) = rw (sym same) t' in absurd (omega arith)
+      inner c i row d m nrf h le g (too_many _ _ _ _ m' el h' t') = let same : m' ≡ m = cc in let t : most row.count < length (items_of m) = rw (sym same) t' in absurd (omega arith)
       inner c i row d m nrf h le g (inside _ _ j _ _ m' x _ el h' le' at f) = let same : items_of m' ≡ items_of m = cc in (j, (x, (rw (sym same) at, f)))
 
   -- ---- the values of a member
@@ -202,12 +210,12 @@ module _ (rows : List Row) (names : List (List ℕ)) (stream : ℕ) where
 
   -- ---- steps of the two loops
 
-  pub member_step : (r i c : ℕ) (d : Data) (row : Row) (a b s : Option Broken) → slice_get rows c ≡ Some row → row.0 ≡ r → r < c
+  pub member_step : (r i c : ℕ) (d : Data) (row : Row) (a b s : Option Broken) → slice_get rows c ≡ Some row → row.parent ≡ r → r < c
       → s ≡ earlier_broken a b → IsFirstBroken (Below (RowFault r i d) c) a → IsFirstBroken (FaultUnder rows names stream c row i d) b → IsFirstBroken (Below (RowFault r i d) (c + 1)) s
   member_step r i c d row a b s found up later e p q =
       first_is _ _ s e (first_more (RowFault r i d) c a b p (row_first r i c d row b (record { found = found; parent = up; later = later }) q))
 
-  pub other_step : (r i c : ℕ) (d : Data) (row : Row) (a s : Option Broken) → slice_get rows c ≡ Some row → (row.0 ≡ r → r < c → ⊥)
+  pub other_step : (r i c : ℕ) (d : Data) (row : Row) (a s : Option Broken) → slice_get rows c ≡ Some row → (row.parent ≡ r → r < c → ⊥)
       → s ≡ a → IsFirstBroken (Below (RowFault r i d) c) a → IsFirstBroken (Below (RowFault r i d) (c + 1)) s
   other_step r i c d row a s found apart e p =
       first_is _ _ s e (first_skip (RowFault r i d) c a p (λ f (row', (m, u)). let same : row' ≡ row = one_row c row' row m.found found in apart (rw (sym same) m.parent) m.later))

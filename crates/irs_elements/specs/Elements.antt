@@ -104,7 +104,7 @@ elem_of place = if nat_lt place count then place else 0
 -- the place of a row's element
 abbrev pub elem_in : Option Row → ℕ
 elem_in None = 0
-elem_in (Some row) = elem_of row.1
+elem_in (Some row) = elem_of row.place
 
 -- the element at row r; a row past the table stands for the document
 abbrev pub elem_at : List Row → ℕ → ℕ
@@ -150,10 +150,14 @@ module _ (names : List (List ℕ)) where
   choice_unmet (AtMostOne a b) d = if stands a d && stands b d then Some Both else None
   choice_unmet (ExactlyOne a b) d = if stands a d && stands b d then Some Both else (if stands a d || stands b d then None else Some Neither)
 
+  -- whether the choice of an object is kept
+  abbrev pub is_chosen : Choice → Data → Bool
+  is_chosen choice d = is_none (choice_unmet choice d)
+
 module _ (rows : List Row) (names : List (List ℕ)) where
   -- whether a row below the object at row r has the name
   abbrev pub is_known : ℕ → List ℕ → Bool
-  is_known r name = list_any (λ (c, row). nat_lt r c && row.0 == r && bytes_eq (name_at names c) name) (enumerate_from 0 rows)
+  is_known r name = list_any (λ (c, row). nat_lt r c && row.parent == r && bytes_eq (name_at names c) name) (enumerate_from 0 rows)
 
   -- a name that is no attribute's and stands in no row
   abbrev pub is_unknown : ℕ → List ℕ → Bool
@@ -162,7 +166,7 @@ module _ (rows : List Row) (names : List (List ℕ)) where
   -- c is the row of a member of the object at row r
   pub record IsMember (r c : ℕ) (row : Row) : Type 0 where
     pub found : slice_get rows c ≡ Some row
-    pub parent : row.0 ≡ r
+    pub parent : row.parent ≡ r
     pub later : r < c
 
 module _ (rows : List Row) (names : List (List ℕ)) (stream : ℕ) where
@@ -194,17 +198,17 @@ module _ (rows : List Row) (names : List (List ℕ)) (stream : ℕ) where
     -- those of the member at row c of the object d, which has index i
     pub data FaultUnder : ℕ → Row → ℕ → Data → Broken → Type 0 where
       -- it must stand, and is absent
-      missing : (c i : ℕ) (row : Row) (d : Data) → is_element row.2 ≡ true → is_required row.3 ≡ true → child_of (name_at names c) d ≡ None
-          → FaultUnder c row i d (place rows stream K2 c (absent_index row.3 i))
+      missing : (c i : ℕ) (row : Row) (d : Data) → is_element row.kind ≡ true → is_required row.count ≡ true → child_of (name_at names c) d ≡ None
+          → FaultUnder c row i d (place rows stream K2 c (absent_index row.count i))
       -- it is out of the profile, and stands
-      refused : (c i : ℕ) (row : Row) (d m : Data) → is_refused row.2 ≡ true → child_of (name_at names c) d ≡ Some m
-          → FaultUnder c row i d (place rows stream K5 row.0 i)
+      refused : (c i : ℕ) (row : Row) (d m : Data) → is_refused row.kind ≡ true → child_of (name_at names c) d ≡ Some m
+          → FaultUnder c row i d (place rows stream K5 row.parent i)
       -- it stands too often
-      too_many : (c i : ℕ) (row : Row) (d m : Data) → is_element row.2 ≡ true → child_of (name_at names c) d ≡ Some m
-          → most row.3 < length (items_of m) → FaultUnder c row i d (place rows stream K7 c 0)
+      too_many : (c i : ℕ) (row : Row) (d m : Data) → is_element row.kind ≡ true → child_of (name_at names c) d ≡ Some m
+          → most row.count < length (items_of m) → FaultUnder c row i d (place rows stream K7 c 0)
       -- it stands as often as it may, and a rule is broken in what stands there
-      inside : (c i j : ℕ) (row : Row) (d m x : Data) (f : Broken) → is_element row.2 ≡ true → child_of (name_at names c) d ≡ Some m
-          → length (items_of m) ≤ most row.3 → slice_get (items_of m) j ≡ Some x → FaultAt c row.2 (index_in row.3 i j) x f
+      inside : (c i j : ℕ) (row : Row) (d m x : Data) (f : Broken) → is_element row.kind ≡ true → child_of (name_at names c) d ≡ Some m
+          → length (items_of m) ≤ most row.count → slice_get (items_of m) j ≡ Some x → FaultAt c row.kind (index_in row.count i j) x f
           → FaultUnder c row i d f
 
   -- those of the values ds of the member at row c, of which the j-th has the index at j

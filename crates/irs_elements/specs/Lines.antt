@@ -103,12 +103,12 @@ module _ (places rows : List (List ℕ)) where
   kind_of path (leaf k) = Leaf k
 
   abbrev pub row_of : Line → Row
-  row_of l = record { 0 = place_of rows l.above; 1 = place_of places l.path; 2 = kind_of l.path l.form; 3 = l.often }
+  row_of l = record { parent = place_of rows l.above; place = place_of places l.path; kind = kind_of l.path l.form; count = l.often }
 
   -- the rows of members that are no elements have the place of the whole
   abbrev pub other_rows : ℕ → Kind → List Others → List Row
   other_rows place kind [] = []
-  other_rows place kind (o ∷ os) = map (λ (name : String). record { 0 = place_of rows (codes o.above); 1 = place; 2 = kind; 3 = Maybe }) o.names ++ other_rows place kind os
+  other_rows place kind (o ∷ os) = map (λ (name : String). record { parent = place_of rows (codes o.above); place = place; kind = kind; count = Maybe }) o.names ++ other_rows place kind os
 
 -- the names of members that are passed over or out of profile
 abbrev pub other_names : List Others → List (List ℕ)
@@ -117,7 +117,7 @@ other_names (o ∷ os) = map codes o.names ++ other_names os
 
 -- the row of the whole is its own parent, and it is an object that stands once
 abbrev pub first_row : ℕ → Row
-first_row place = record { 0 = 0; 1 = place; 2 = Object Free; 3 = One }
+first_row place = record { parent = 0; place = place; kind = Object Free; count = One }
 
 -- the rows of a table: its first, one for each line, then one for each other name
 abbrev pub rows_of : List (List ℕ) → Table → List Row

@@ -40,10 +40,44 @@ pub enum Count {
     UpTo(u32),
 }
 
-/// A row: the row of its parent, the place of the element in the table of paths, its kind and its
-/// count. A row stands behind its parent's. Of a passed or refused member the place isn't used.
+/// A row of a table. It stands behind that of its parent; the first is the object that all of the
+/// table lies in, and its own parent.
 #[derive(Clone, Copy, Debug)]
-pub struct Row(pub usize, pub u8, pub Kind, pub Count);
+pub struct Row {
+    /// The row of the object that it is a member of.
+    pub parent: usize,
+    /// The place of the element in the table of paths; of a passed or refused member it isn't used.
+    pub place: u8,
+    /// What stands there.
+    pub kind: Kind,
+    /// How often it stands.
+    pub count: Count,
+}
+
+/// A row on one line: parent, place, kind, count.
+#[macro_export]
+macro_rules! row {
+    ($parent:expr, $place:expr, $kind:expr, $count:expr) => {
+        $crate::Row {
+            parent: $parent,
+            place: $place,
+            kind: $kind,
+            count: $count,
+        }
+    };
+}
+
+/// A table of elements, and the stream in whose values it is followed: a row and a name for each
+/// element. Stream 0 stands for what lies outside the streams.
+#[derive(Clone, Copy)]
+pub struct Table<'t> {
+    /// The rows.
+    pub rows: &'t [Row],
+    /// The name at each row.
+    pub names: &'t [&'static str],
+    /// The number of the stream, from 1.
+    pub stream: u8,
+}
 
 /// What the text of a leaf says, with the FpML elements that have such a leaf.
 #[derive(Clone, Copy, Debug)]

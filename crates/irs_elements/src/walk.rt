@@ -12,7 +12,7 @@ ghost use Rattle.irs_base.specs.Order.{IsFirstBroken};
 
 use crate::leaves::leaf_rule;
 use crate::order::earlier;
-use crate::{Choice, Count, Kind, Row};
+use crate::{Choice, Count, Kind, Row, Table};
 use irs_base::{Broken, Elem, Place, Rule};
 use irs_json::{MemberIter, Value, child, is_attribute_name, items, members};
 
@@ -31,7 +31,7 @@ fn element(rows: &[Row], r: usize) -> Elem
 {
     match rows.get(r) {
         None => Elem::DOCUMENT,
-        Some(row) => element_at(row.1),
+        Some(row) => element_at(row.place),
     }
 }
 
@@ -46,14 +46,14 @@ fn element_at(place: u8) -> Elem
 }
 
 // A rule that is broken at row r.
-fn broken(rows: &[Row], stream: u8, rule: Rule, r: usize, index: u32) -> Broken
-    ensures { result ≡ place rows.now stream rule r index }
+fn broken(table: &Table<'_>, rule: Rule, r: usize, index: u32) -> Broken
+    ensures { result ≡ place table.now.rows.now table.now.stream rule r index }
 {
     Broken {
         rule,
         place: Place {
-            stream,
-            elem: element(rows, r),
+            stream: table.stream,
+            elem: element(table.rows, r),
             index,
         },
     }
@@ -75,19 +75,12 @@ fn own_rule(kind: Kind, v: &Value) -> Option<Rule>
     }
 }
 
-fn own_fault(
-    rows: &[Row],
-    stream: u8,
-    kind: Kind,
-    r: usize,
-    index: u32,
-    v: &Value,
-) -> Option<Broken>
-    ensures { result ≡ option_map (λ k. place rows.now stream k r index) (own_rule_of kind (view v.now)) }
+fn own_fault(table: &Table<'_>, kind: Kind, r: usize, index: u32, v: &Value) -> Option<Broken>
+    ensures { result ≡ option_map (λ k. place table.now.rows.now table.now.stream k r index) (own_rule_of kind (view v.now)) }
 {
     match own_rule(kind, v) {
         None => None,
-        Some(rule) => Some(broken(rows, stream, rule, r, index)),
+        Some(rule) => Some(broken(table, rule, r, index)),
     }
 }
 
@@ -198,49 +191,42 @@ fn choice_unmet(names: &[&'static str], choice: Choice, v: &Value) -> Option<Unm
 }
 
 fn choice_fault(
-    rows: &[Row],
-    names: &[&'static str],
-    stream: u8,
+    table: &Table<'_>,
     r: usize,
     choice: Choice,
     index: u32,
     v: &Value,
 ) -> Option<Broken>
-    ensures { result ≡ option_map (unmet_place rows.now stream r index) (choice_unmet_of (texts names.now) choice (view v.now)) }
+    ensures { result ≡ option_map (unmet_place table.now.rows.now table.now.stream r index) (choice_unmet_of (texts table.now.names.now) choice (view v.now)) }
 {
-    match choice_unmet(names, choice, v) {
+    match choice_unmet(table.names, choice, v) {
         None => None,
-        Some(Unmet::Both) => Some(broken(rows, stream, Rule::K7, r, 0)),
-        Some(Unmet::Neither) => Some(broken(rows, stream, Rule::K2, r, index)),
+        Some(Unmet::Both) => Some(broken(table, Rule::K7, r, 0)),
+        Some(Unmet::Neither) => Some(broken(table, Rule::K2, r, index)),
     }
 }
 
 // Whether a row below the object at row r has the name.
-fn is_known(rows: &[Row], names: &[&'static str], r: usize, name: &str) -> bool
-    ensures { result ≡ is_known_in rows.now (texts names.now) r name.now }
+fn is_known(table: &Table<'_>, r: usize, name: &str) -> bool
+    ensures { result ≡ is_known_in table.now.rows.now (texts table.now.names.now) r name.now }
 {
-    rows.iter().enumerate().any(|(c, row)| r < c && row.0 == r && name_of(names, c) == name)
+    table.rows.iter().enumerate().any(|(c, row)| r < c
+        && row.parent == r
+        && name_of(table.names, c) == name)
 }
 
 // Whether an object at row r has a member that the table doesn't know.
-fn has_unknown(rows: &[Row], names: &[&'static str], r: usize, mut listed: MemberIter<'_>) -> bool
-    ensures { result ≡ list_any (is_unknown rows.now (texts names.now) r) listed.entry }
+fn has_unknown(table: &Table<'_>, r: usize, mut listed: MemberIter<'_>) -> bool
+    ensures { result ≡ list_any (is_unknown table.now.rows.now (texts table.now.names.now) r) listed.entry }
 {
-    listed.any(|name| !(is_attribute_name(name) || is_known(rows, names, r, name)))
+    listed.any(|name| !(is_attribute_name(name) || is_known(table, r, name)))
 }
 
-fn unknown_fault(
-    rows: &[Row],
-    names: &[&'static str],
-    stream: u8,
-    r: usize,
-    index: u32,
-    listed: MemberIter<'_>,
-) -> Option<Broken>
-    ensures { result ≡ fault_if (list_any (is_unknown rows.now (texts names.now) r) listed.entry) (place rows.now stream Rule.K4 r index) }
+fn unknown_fault(table: &Table<'_>, r: usize, index: u32, listed: MemberIter<'_>) -> Option<Broken>
+    ensures { result ≡ fault_if (list_any (is_unknown table.now.rows.now (texts table.now.names.now) r) listed.entry) (place table.now.rows.now table.now.stream Rule.K4 r index) }
 {
-    if has_unknown(rows, names, r, listed) {
-        Some(broken(rows, stream, Rule::K4, r, index))
+    if has_unknown(table, r, listed) {
+        Some(broken(table, Rule::K4, r, index))
     } else {
         None
     }
@@ -256,11 +242,11 @@ fn is_odd(v: &Value, name: &str) -> bool
     }
 }
 
-fn odd_fault(rows: &[Row], stream: u8, r: usize, index: u32, v: &Value) -> Option<Broken>
-    ensures { result ≡ fault_if (has_odd (view v.now)) (place rows.now stream Rule.K3 r index) }
+fn odd_fault(table: &Table<'_>, r: usize, index: u32, v: &Value) -> Option<Broken>
+    ensures { result ≡ fault_if (has_odd (view v.now)) (place table.now.rows.now table.now.stream Rule.K3 r index) }
 {
     if is_odd(v, "@id") || is_odd(v, "@href") {
-        Some(broken(rows, stream, Rule::K3, r, index))
+        Some(broken(table, Rule::K3, r, index))
     } else {
         None
     }
@@ -277,18 +263,11 @@ fn lacks_href(choice: Choice, v: &Value) -> bool
     }
 }
 
-fn href_fault(
-    rows: &[Row],
-    stream: u8,
-    r: usize,
-    choice: Choice,
-    index: u32,
-    v: &Value,
-) -> Option<Broken>
-    ensures { result ≡ fault_if (lacks_href_of choice (view v.now)) (place rows.now stream Rule.K2 r index) }
+fn href_fault(table: &Table<'_>, r: usize, choice: Choice, index: u32, v: &Value) -> Option<Broken>
+    ensures { result ≡ fault_if (lacks_href_of choice (view v.now)) (place table.now.rows.now table.now.stream Rule.K2 r index) }
 {
     if lacks_href(choice, v) {
-        Some(broken(rows, stream, Rule::K2, r, index))
+        Some(broken(table, Rule::K2, r, index))
     } else {
         None
     }
@@ -296,9 +275,7 @@ fn href_fault(
 
 // The first rule that an object breaks beside those of its members.
 fn shape_fault(
-    rows: &[Row],
-    names: &[&'static str],
-    stream: u8,
+    table: &Table<'_>,
     r: usize,
     choice: Choice,
     index: u32,
@@ -306,38 +283,30 @@ fn shape_fault(
     listed: MemberIter<'_>,
 ) -> Option<Broken>
     requires { names_of (view v.now) ≡ Some listed }
-    ensures { IsFirstBroken (ShapeFault rows.now (texts names.now) stream r choice index (view v.now)) result }
+    ensures { IsFirstBroken (ShapeFault table.now.rows.now (texts table.now.names.now) table.now.stream r choice index (view v.now)) result }
 {
-    let unknown = unknown_fault(rows, names, stream, r, index, listed);
-    let chosen = choice_fault(rows, names, stream, r, choice, index, v);
-    let odd = odd_fault(rows, stream, r, index, v);
-    let href = href_fault(rows, stream, r, choice, index, v);
+    let unknown = unknown_fault(table, r, index, listed);
+    let chosen = choice_fault(table, r, choice, index, v);
+    let odd = odd_fault(table, r, index, v);
+    let href = href_fault(table, r, choice, index, v);
     earlier(earlier(unknown, chosen), earlier(odd, href))
 }
 
 /// The first rule that is broken by `v`, which stands at row `r` of the table with this kind and
 /// index, in the stream of that number; `None` exactly where none is.
 #[cycle(faults)]
-pub fn first_fault(
-    rows: &[Row],
-    names: &[&'static str],
-    stream: u8,
-    r: usize,
-    kind: Kind,
-    index: u32,
-    v: &Value,
-) -> Option<Broken>
-    ensures { IsFirstBroken (FaultAt rows.now (texts names.now) stream r kind index (view v.now)) result }
+pub fn first_fault(table: &Table<'_>, r: usize, kind: Kind, index: u32, v: &Value) -> Option<Broken>
+    ensures { IsFirstBroken (FaultAt table.now.rows.now (texts table.now.names.now) table.now.stream r kind index (view v.now)) result }
 {
     match kind {
         Kind::Object(choice) => match members(v) {
-            None => own_fault(rows, stream, kind, r, index, v),
+            None => own_fault(table, kind, r, index, v),
             Some(listed) => {
-                let shape = shape_fault(rows, names, stream, r, choice, index, v, listed);
-                earlier(shape, members_fault(rows, names, stream, r, index, v))
+                let shape = shape_fault(table, r, choice, index, v, listed);
+                earlier(shape, members_fault(table, r, index, v))
             }
         },
-        Kind::Leaf(_) => own_fault(rows, stream, kind, r, index, v),
+        Kind::Leaf(_) => own_fault(table, kind, r, index, v),
         Kind::Passed => None,
         Kind::Refused => None,
     }
@@ -345,21 +314,14 @@ pub fn first_fault(
 
 // The first rule that the members of an object at row r break.
 #[cycle(faults)]
-fn members_fault(
-    rows: &[Row],
-    names: &[&'static str],
-    stream: u8,
-    r: usize,
-    index: u32,
-    v: &Value,
-) -> Option<Broken>
-    ensures { IsFirstBroken (MemberFault rows.now (texts names.now) stream r index (view v.now)) result }
+fn members_fault(table: &Table<'_>, r: usize, index: u32, v: &Value) -> Option<Broken>
+    ensures { IsFirstBroken (MemberFault table.now.rows.now (texts table.now.names.now) table.now.stream r index (view v.now)) result }
 {
     let mut first = None;
-    for c in 0..rows.len() {
-        let row = rows[c];
-        if r < c && row.0 == r {
-            first = earlier(first, fault_under(rows, names, stream, c, row, index, v));
+    for c in 0..table.rows.len() {
+        let row = table.rows[c];
+        if r < c && row.parent == r {
+            first = earlier(first, fault_under(table, c, row, index, v));
         }
     }
     first
@@ -367,32 +329,24 @@ fn members_fault(
 
 // The first rule that the member at row c breaks.
 #[cycle(faults)]
-fn fault_under(
-    rows: &[Row],
-    names: &[&'static str],
-    stream: u8,
-    c: usize,
-    row: Row,
-    index: u32,
-    v: &Value,
-) -> Option<Broken>
-    ensures { IsFirstBroken (FaultUnder rows.now (texts names.now) stream c row index (view v.now)) result }
+fn fault_under(table: &Table<'_>, c: usize, row: Row, index: u32, v: &Value) -> Option<Broken>
+    ensures { IsFirstBroken (FaultUnder table.now.rows.now (texts table.now.names.now) table.now.stream c row index (view v.now)) result }
 {
-    match child(v, name_of(names, c)) {
-        None => if is_element(row.2) && is_required(row.3) {
-            let at = absent_index(row.3, index);
-            Some(broken(rows, stream, Rule::K2, c, at))
+    match child(v, name_of(table.names, c)) {
+        None => if is_element(row.kind) && is_required(row.count) {
+            let at = absent_index(row.count, index);
+            Some(broken(table, Rule::K2, c, at))
         } else {
             None
         },
-        Some(member) => if is_refused(row.2) {
-            Some(broken(rows, stream, Rule::K5, row.0, index))
-        } else if is_element(row.2) {
+        Some(member) => if is_refused(row.kind) {
+            Some(broken(table, Rule::K5, row.parent, index))
+        } else if is_element(row.kind) {
             let list = items(member).as_slice();
-            if list.len() > most(row.3) as usize {
-                Some(broken(rows, stream, Rule::K7, c, 0))
+            if list.len() > most(row.count) as usize {
+                Some(broken(table, Rule::K7, c, 0))
             } else {
-                fault_among(rows, names, stream, c, row, index, list)
+                fault_among(table, c, row, index, list)
             }
         } else {
             None
@@ -402,25 +356,14 @@ fn fault_under(
 
 // The first rule that the values of the member at row c break.
 #[cycle(faults)]
-fn fault_among(
-    rows: &[Row],
-    names: &[&'static str],
-    stream: u8,
-    c: usize,
-    row: Row,
-    index: u32,
-    list: &[Value],
-) -> Option<Broken>
-    requires { length list.now ≤ most_of row.3 }
-    ensures { IsFirstBroken (FaultAmong rows.now (texts names.now) stream c row.2 (index_in_of row.3 index) (map view list.now)) result }
+fn fault_among(table: &Table<'_>, c: usize, row: Row, index: u32, list: &[Value]) -> Option<Broken>
+    requires { length list.now ≤ most_of row.count }
+    ensures { IsFirstBroken (FaultAmong table.now.rows.now (texts table.now.names.now) table.now.stream c row.kind (index_in_of row.count index) (map view list.now)) result }
 {
     let mut first = None;
     for j in 0..list.len() {
-        let at = index_in(row.3, index, j as u32);
-        first = earlier(
-            first,
-            first_fault(rows, names, stream, c, row.2, at, &list[j]),
-        );
+        let at = index_in(row.count, index, j as u32);
+        first = earlier(first, first_fault(table, c, row.kind, at, &list[j]));
     }
     first
 }

@@ -139,8 +139,8 @@ module _ {X : Type 0} (rows : List Row) (names : List (List ℕ)) (stream c : �
   mapped_free kind (x ∷ xs) law h zero y k e = subst (λ d. NoFault rows names stream c kind k d) (ap (λ o. unwrap_or o y) e) (law k x h.0)
   mapped_free kind (x ∷ xs) law h (suc j) y k e = mapped_free kind xs law h.1 j y k e
 
-  pub array_free : (i : ℕ) (row : Row) (xs : List X) → ((k : ℕ) (x : X) → Q x → NoFault rows names stream c row.2 k (f x)) → Every Q xs → ValuesFree rows names stream c row i (list_of (items_from (map f xs)))
-  array_free i row xs law h j y e = mapped_free row.2 xs law h j y (index_in row.3 i j) (ap (λ ds. slice_get ds j) (sym (from_items (map f xs))) ∙ e)
+  pub array_free : (i : ℕ) (row : Row) (xs : List X) → ((k : ℕ) (x : X) → Q x → NoFault rows names stream c row.kind k (f x)) → Every Q xs → ValuesFree rows names stream c row i (list_of (items_from (map f xs)))
+  array_free i row xs law h j y e = mapped_free row.kind xs law h j y (index_in row.count i j) (ap (λ ds. slice_get ds j) (sym (from_items (map f xs))) ∙ e)
 
 abbrev cash : Option Data → Data → Data
 cash o payments = object (

@@ -55,13 +55,13 @@ currency_kept c h = ap (λ s. leaf_rule CurrencyName (leaf_of (string s))) (text
 
 module _ (rows : List Row) (names : List (List ℕ)) (stream : ℕ) where
   -- a leaf that stands once
-  pub leaf_member : (c i : ℕ) (row : Row) (d : Data) (k : LeafKind) (s : List ℕ) → child_of (name_at names c) d ≡ Some (string s) → row.2 ≡ Leaf k → 1 ≤ most row.3 → leaf_rule k (leaf_of (string s)) ≡ None → MemberFree rows names stream c row i d
+  pub leaf_member : (c i : ℕ) (row : Row) (d : Data) (k : LeafKind) (s : List ℕ) → child_of (name_at names c) d ≡ Some (string s) → row.kind ≡ Leaf k → 1 ≤ most row.count → leaf_rule k (leaf_of (string s)) ≡ None → MemberFree rows names stream c row i d
   leaf_member c i row d k s e is l none =
       present_free rows names stream c i row d (string s) e (ap is_refused is) l
       (one_value rows names stream c i row (string s) (λ j. subst (λ kind. NoFault rows names stream c kind j (string s)) (sym is) (leaf_free rows names stream c j k (string s) none)))
 
   -- one that may be absent
-  pub known_member : {X : Type 0} (c i : ℕ) (row : Row) (d : Data) (k : LeafKind) (text : X → List ℕ) (o : Option X) → child_of (name_at names c) d ≡ option_map (λ x. string (text x)) o → is_required row.3 ≡ false → row.2 ≡ Leaf k → 1 ≤ most row.3
+  pub known_member : {X : Type 0} (c i : ℕ) (row : Row) (d : Data) (k : LeafKind) (text : X → List ℕ) (o : Option X) → child_of (name_at names c) d ≡ option_map (λ x. string (text x)) o → is_required row.count ≡ false → row.kind ≡ Leaf k → 1 ≤ most row.count
       → IfSome o (λ x. leaf_rule k (leaf_of (string (text x))) ≡ None) → MemberFree rows names stream c row i d
   known_member c i row d k text None e q is l none = absent_free rows names stream c i row d e q
   known_member c i row d k text (Some x) e q is l none = leaf_member c i row d k (text x) e is l none
@@ -87,7 +87,7 @@ exchange_free stream i x h = object_free FLOW_ROWS flow_code_names stream 1 i (e
 -- ---- the rows of the tables
 
 abbrev pub no_row : Row
-no_row = record { 0 = 0; 1 = 0; 2 = Passed; 3 = Maybe }
+no_row = record { parent = 0; place = 0; kind = Passed; count = Maybe }
 
 abbrev P : List Row
 P = PERIOD_ROWS

@@ -42,11 +42,11 @@ is_object Refused = false
 
 abbrev object_at : Option Row → Bool
 object_at None = false
-object_at (Some row) = is_object row.2
+object_at (Some row) = is_object row.kind
 
 abbrev is_below : ℕ → Option Row → Bool
 is_below r None = false
-is_below r (Some row) = (row.0 == r) && is_element row.2
+is_below r (Some row) = (row.parent == r) && is_element row.kind
 
 -- whether row c is an element below the object at row r
 abbrev pub is_child : List Row → ℕ → ℕ → Bool
@@ -54,11 +54,11 @@ is_child rows r c = nat_lt r c && (object_at (slice_get rows r) && is_below r (s
 
 abbrev pub most_at : Option Row → ℕ
 most_at None = 0
-most_at (Some row) = most row.3
+most_at (Some row) = most row.count
 
 abbrev pub required_at : Option Row → Bool
 required_at None = false
-required_at (Some row) = is_required row.3
+required_at (Some row) = is_required row.count
 
 abbrev leaf_in : Kind → Option LeafKind
 leaf_in (Object choice) = None
@@ -68,7 +68,7 @@ leaf_in Refused = None
 
 abbrev pub leaf_at : Option Row → Option LeafKind
 leaf_at None = None
-leaf_at (Some row) = leaf_in row.2
+leaf_at (Some row) = leaf_in row.kind
 
 object_kind : (k : Kind) → is_object k ≡ true → (choice : Choice) × (k ≡ Object choice)
 object_kind (Object choice) e = (choice, refl)
@@ -85,12 +85,12 @@ leaf_kind Refused leaf e = cc
 record Below (r : ℕ) (o : Option Row) : Type 0 where
   row : Row
   found : o ≡ Some row
-  parent : row.0 ≡ r
-  element : is_element row.2 ≡ true
+  parent : row.parent ≡ r
+  element : is_element row.kind ≡ true
 
 below_is : (r : ℕ) (o : Option Row) → is_below r o ≡ true → Below r o
 below_is r None e = absurd (true≢false (sym e))
-below_is r (Some row) e = let b = both_true (row.0 == r) (is_element row.2) e in record { row = row; found = refl; parent = is_number row.0 r b.0; element = b.1 }
+below_is r (Some row) e = let b = both_true (row.parent == r) (is_element row.kind) e in record { row = row; found = refl; parent = is_number row.parent r b.0; element = b.1 }
 
 -- what stands is no empty array
 pub filled : (o : Option Data) (m : Data) → option_and_then present o ≡ Some m → 0 < length (items_of m)
@@ -128,20 +128,20 @@ module _ (rows : List Row) (names : List (List ℕ)) where
     pub found : slice_get rows c ≡ Some row
     pub stream : ℕ
     pub index : ℕ
-    pub none : Unbroken stream c row.2 index d
+    pub none : Unbroken stream c row.kind index d
 
   pub names_by : (s r i : ℕ) (choice : Choice) (d : Data) (o : Option (List (List ℕ))) → names_of d ≡ o → Unbroken s r (Object choice) i d → (ns : List (List ℕ)) × (names_of d ≡ Some ns)
   names_by s r i choice d None e none = absurd (none (place rows s K3 r i) (own r i K3 (Object choice) d (rw e refl)))
   names_by s r i choice d (Some ns) e none = (ns, e)
 
-  pub few_by : (s r i c : ℕ) (choice : Choice) (row : Row) (d m : Data) (ns : List (List ℕ)) → names_of d ≡ Some ns → IsMember rows names r c row → is_element row.2 ≡ true
-      → child_of (name_at names c) d ≡ Some m → Unbroken s r (Object choice) i d → (length (items_of m) ≤ most row.3) ⊎ (most row.3 < length (items_of m)) → length (items_of m) ≤ most row.3
+  pub few_by : (s r i c : ℕ) (choice : Choice) (row : Row) (d m : Data) (ns : List (List ℕ)) → names_of d ≡ Some ns → IsMember rows names r c row → is_element row.kind ≡ true
+      → child_of (name_at names c) d ≡ Some m → Unbroken s r (Object choice) i d → (length (items_of m) ≤ most row.count) ⊎ (most row.count < length (items_of m)) → length (items_of m) ≤ most row.count
   few_by s r i c choice row d m ns n mem el h none (inl le) = le
   few_by s r i c choice row d m ns n mem el h none (inr lt) = absurd (none (place rows s K7 c 0) (under r i c choice d ns (place rows s K7 c 0) row n mem (too_many c i row d m el h lt)))
 
-  pub there_by : (s r i c : ℕ) (choice : Choice) (row : Row) (d : Data) (ns : List (List ℕ)) (o : Option Data) → names_of d ≡ Some ns → IsMember rows names r c row → is_element row.2 ≡ true
-      → is_required row.3 ≡ true → child_of (name_at names c) d ≡ o → Unbroken s r (Object choice) i d → (m : Data) × (child_of (name_at names c) d ≡ Some m)
-  there_by s r i c choice row d ns None n mem el rq h none = absurd (none (place rows s K2 c (absent_index row.3 i)) (under r i c choice d ns (place rows s K2 c (absent_index row.3 i)) row n mem (missing c i row d el rq h)))
+  pub there_by : (s r i c : ℕ) (choice : Choice) (row : Row) (d : Data) (ns : List (List ℕ)) (o : Option Data) → names_of d ≡ Some ns → IsMember rows names r c row → is_element row.kind ≡ true
+      → is_required row.count ≡ true → child_of (name_at names c) d ≡ o → Unbroken s r (Object choice) i d → (m : Data) × (child_of (name_at names c) d ≡ Some m)
+  there_by s r i c choice row d ns None n mem el rq h none = absurd (none (place rows s K2 c (absent_index row.count i)) (under r i c choice d ns (place rows s K2 c (absent_index row.count i)) row n mem (missing c i row d el rq h)))
   there_by s r i c choice row d ns (Some m) n mem el rq h none = (m, h)
 
   -- an object without faults, and an element below it
@@ -154,13 +154,13 @@ module _ (rows : List Row) (names : List (List ℕ)) where
     named : names_of d ≡ Some ns
     row : Row
     member_row : IsMember rows names r c row
-    element : is_element row.2 ≡ true
+    element : is_element row.kind ≡ true
 
   joint : (r c : ℕ) (d : Data) → is_child rows r c ≡ true → Clean r d → Joint r c d
   joint r c d e clean =
       let first = both_true (nat_lt r c) (object_at (slice_get rows r) && is_below r (slice_get rows c)) e in
       let second = both_true (object_at (slice_get rows r)) (is_below r (slice_get rows c)) first.1 in
-      let (choice, is) = object_kind clean.row.2 (subst (λ (o : Option Row). object_at o ≡ true) clean.found second.0) in
+      let (choice, is) = object_kind clean.row.kind (subst (λ (o : Option Row). object_at o ≡ true) clean.found second.0) in
       let none : Unbroken clean.stream r (Object choice) clean.index d = subst (λ (k : Kind). Unbroken clean.stream r k clean.index d) is clean.none in
       let (ns, named) = names_by clean.stream r clean.index choice d (names_of d) refl none in
       let b = below_is r (slice_get rows c) second.1 in
@@ -172,13 +172,13 @@ module _ (rows : List Row) (names : List (List ℕ)) where
 
   fine_items : (r c : ℕ) (d m : Data) → Joint r c d → child_of (name_at names c) d ≡ Some m → Fine c (items_of m)
   fine_items r c d m k h =
-      let few = few_by k.stream r k.index c k.choice k.row d m k.ns k.named k.member_row k.element h k.none (le_or_lt (length (items_of m)) (most k.row.3)) in (
+      let few = few_by k.stream r k.index c k.choice k.row d m k.ns k.named k.member_row k.element h k.none (le_or_lt (length (items_of m)) (most k.row.count)) in (
         subst (λ (o : Option Row). length (items_of m) ≤ most_at o) (sym k.member_row.found) few,
         λ j x at. record {
           row = k.row;
           found = k.member_row.found;
           stream = k.stream;
-          index = index_in k.row.3 k.index j;
+          index = index_in k.row.count k.index j;
           none = λ f g. k.none f (under r k.index c k.choice d k.ns f k.row k.named k.member_row (inside c k.index j k.row d m x f k.element h few at g));
         },
       )
@@ -235,8 +235,8 @@ module _ (rows : List Row) (names : List (List ℕ)) where
 
   pub clean_leaf : (c : ℕ) (leaf : LeafKind) (d : Data) → leaf_at (slice_get rows c) ≡ Some leaf → Clean c d → Said leaf d
   clean_leaf c leaf d e clean =
-      let is = leaf_kind clean.row.2 leaf (subst (λ (o : Option Row). leaf_at o ≡ Some leaf) clean.found e) in
+      let is = leaf_kind clean.row.kind leaf (subst (λ (o : Option Row). leaf_at o ≡ Some leaf) clean.found e) in
       said_by clean.stream c clean.index leaf d (leaf_of d) (leaf_rule leaf (leaf_of d)) refl refl (subst (λ (k : Kind). Unbroken clean.stream c k clean.index d) is clean.none)
 
-  pub clean_from : (c stream index : ℕ) (d : Data) (row : Row) → slice_get rows c ≡ Some row → Unbroken stream c row.2 index d → Clean c d
+  pub clean_from : (c stream index : ℕ) (d : Data) (row : Row) → slice_get rows c ≡ Some row → Unbroken stream c row.kind index d → Clean c d
   clean_from c stream index d row found none = record { row = row; found = found; stream = stream; index = index; none = none }

@@ -9,7 +9,7 @@ use Rattle.std.specs.Prelude.{ℕ, ◌+◌, nat_lt, Bool, true, false, ◌&&◌,
 
 abbrev stands_below : ℕ → Option Row → Bool
 stands_below r None = false
-stands_below r (Some row) = row.0 == r
+stands_below r (Some row) = row.parent == r
 
 -- the rows of a choice at row r are members of that row
 abbrev chooses : List Row → ℕ → Choice → Bool
@@ -28,5 +28,5 @@ kind_fits rows r Refused = true
 -- row of the same parent has its name
 abbrev pub is_whole : List Row → ℕ → List Row → List (List ℕ) → Bool
 is_whole all r [] [] = true
-is_whole all r (row ∷ rows) (name ∷ names) = nat_lt row.0 r && kind_fits all r row.2 && no_twin row.0 name (map (λ (x : Row). x.0) rows) names && is_whole all (r + 1) rows names
+is_whole all r (row ∷ rows) (name ∷ names) = nat_lt row.parent r && kind_fits all r row.kind && no_twin row.parent name (map (λ (x : Row). x.parent) rows) names && is_whole all (r + 1) rows names
 is_whole all r rows names = false

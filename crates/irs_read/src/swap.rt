@@ -7,7 +7,7 @@ ghost use Rattle.irs_base.specs.Order.{IsFirstBroken};
 
 use crate::table::{NAMES, ROWS, STREAM, SWAP, SWAP_NAMES, SWAP_ROWS};
 use irs_base::{Broken, Elem, MOST_STREAMS, Place, Rule};
-use irs_elements::{earlier, first_fault, values_at};
+use irs_elements::{Table, earlier, first_fault, values_at};
 use irs_json::{Value, members};
 
 /// A rule that is broken outside the streams.
@@ -32,10 +32,12 @@ fn each_stream_fault(list: &[Value]) -> Option<Broken>
     let mut first = None;
     for j in 0..list.len() {
         let number = j as u8 + 1;
-        first = earlier(
-            first,
-            first_fault(&ROWS, &NAMES, number, 0, STREAM, 0, &list[j]),
-        );
+        let table = Table {
+            rows: &ROWS,
+            names: &NAMES,
+            stream: number,
+        };
+        first = earlier(first, first_fault(&table, 0, STREAM, 0, &list[j]));
     }
     first
 }
@@ -57,7 +59,12 @@ fn streams_fault(list: &[Value]) -> Option<Broken>
 pub fn first_in_swap(v: &Value) -> Option<Broken>
     ensures { IsFirstBroken (SwapFault (view v.now)) result }
 {
-    let own = first_fault(&SWAP_ROWS, &SWAP_NAMES, 0, 0, SWAP, 0, v);
+    let table = Table {
+        rows: &SWAP_ROWS,
+        names: &SWAP_NAMES,
+        stream: 0,
+    };
+    let own = first_fault(&table, 0, SWAP, 0, v);
     match members(v) {
         None => own,
         Some(_) => earlier(own, streams_fault(values_at(v, "swapStream"))),

@@ -7,19 +7,19 @@ use Rattle.irs_base.specs.Order.{IsFirstBroken}
 use Rattle.irs_elements.proofs.walk.+faults.Given as goal
 
 abbrev pub invariant-members_fault-loop-c : goal.invariant-members_fault-loop-c
-invariant-members_fault-loop-c l = IsFirstBroken (Below (RowFault l.rows (texts l.names) l.stream l.r l.index (view l.v)) l.c) l.first
+invariant-members_fault-loop-c l = IsFirstBroken (Below (RowFault l.table.rows.now (texts l.table.names.now) l.table.stream l.r l.index (view l.v)) l.c) l.first
 
 abbrev pub invariant-fault_among-loop-j : goal.invariant-fault_among-loop-j
-invariant-fault_among-loop-j l = IsFirstBroken (Below (ItemFault l.rows (texts l.names) l.stream l.c l.row.2 (index_in l.row.3 l.index) (map view l.list)) l.j) l.first
+invariant-fault_among-loop-j l = IsFirstBroken (Below (ItemFault l.table.rows.now (texts l.table.names.now) l.table.stream l.c l.row.kind (index_in l.row.count l.index) (map view l.list)) l.j) l.first
 
 abbrev pub decreases-first_fault : goal.decreases-first_fault
-decreases-first_fault l = 4 * (length l.rows.now - l.r) + 1
+decreases-first_fault l = 4 * (length l.table.now.rows.now - l.r) + 1
 
 abbrev pub decreases-members_fault : goal.decreases-members_fault
-decreases-members_fault l = 4 * (length l.rows.now - l.r)
+decreases-members_fault l = 4 * (length l.table.now.rows.now - l.r)
 
 abbrev pub decreases-fault_under : goal.decreases-fault_under
-decreases-fault_under l = 4 * (length l.rows.now - l.c) + 3
+decreases-fault_under l = 4 * (length l.table.now.rows.now - l.c) + 3
 
 abbrev pub decreases-fault_among : goal.decreases-fault_among
-decreases-fault_among l = 4 * (length l.rows.now - l.c) + 2
+decreases-fault_among l = 4 * (length l.table.now.rows.now - l.c) + 2
