@@ -172,3 +172,15 @@ module _ (lines : RateLines) (set : DaySet) (step : ℕ) (s e : ℤ) where
 
       some_days : (s e : ℤ) (n : ℕ) → s <ℤ e → s +ℤ pos n ≡ e → 1 ≤ n
       some_days s e n order is = omega (arith, signed_arith, order, is)
+
+-- ---- behind the loop
+
+module _ (lines : RateLines) (set : DaySet) (s e : ℤ) (step n : ℕ) where
+  pub whole : (k : ℕ) (os : List Observation) → ((j : ℕ) → j < n ↔ step_day s step j <ℤ e) → n ≤ k → k ≤ n → Samples lines set s e step n k os → AreSamples lines set step s e os
+  whole k os counted from to h = let many = h.many in samples_all lines set s e step n os counted (omega (arith, many, from, to)) h.each
+
+-- a period with a step begins before it ends
+pub in_order : (s e : ℤ) (step n : ℕ) → ((j : ℕ) → j < n ↔ step_day s step j <ℤ e) → 0 < n → s <ℤ e
+in_order s e step n counted some =
+    let first : step_day s step 0 ≡ s = omega (arith, signed_arith) in
+    subst (λ (x : ℤ). x <ℤ e) first ((counted 0).0 some)

@@ -1,5 +1,5 @@
 -- A tenor ends on one day, and two tenors lie around an end in one way.
-use Rattle.std.proofs.Common.{◌≡◌, ℕ, ◌+◌, ◌*◌, ◌<◌, ◌≤◌, Option, Some, None, IfSome, IfNone, SomeIff, ℤ, pos, ◌+ℤ◌, ◌-ℤ◌, ◌≤ℤ◌, ◌<ℤ◌, refl, sym, subst, ◌∙◌, ap, arith}
+use Rattle.std.proofs.Common.{◌≡◌, ℕ, ◌+◌, ◌*◌, ◌<◌, ◌≤◌, Bool, false, IsTrue, Option, Some, None, IfSome, IfNone, SomeIff, ℤ, pos, ◌+ℤ◌, ◌-ℤ◌, ◌≤ℤ◌, ◌<ℤ◌, refl, sym, subst, ◌∙◌, ap, arith}
 use Rattle.jiff_core.proofs.SignedLemmas.{signed_arith}
 use Rattle.irs_base.specs.Civils.{IsCivilOf}
 use Rattle.irs_base.specs.Days.{IsDay, month_index_of}
@@ -62,3 +62,6 @@ not_around start end low high near far a b none x y h =
     let by_first : LiesBetween start end low high near y = subst (λ (d : ℤ). LiesBetween start end low high d y) first h in
     let by_last : LiesBetween start end low high near far = subst (LiesBetween start end low high near) last by_first in
     none (by_last.order, by_last.from, by_last.to)
+
+pub is_not : (b : Bool) → b ≡ false → IsTrue b → ⊥
+is_not b p q = cc (p, q)
