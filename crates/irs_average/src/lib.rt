@@ -6,6 +6,7 @@ mod averaging;
 mod interpolating;
 mod mean_rows;
 mod means;
+mod rates;
 mod samples;
 mod stub_rates;
 mod stubs;

@@ -1,14 +1,17 @@
 //! The two means of the rates that were observed in a calculation period (2006 ISDA Definitions,
 //! section 6.2, on two or more reset dates in a calculation period).
-ghost use Rattle.std.specs.Prelude.{◌≡◌, ◌+◌, ◌*◌, ◌^◌, ◌<◌, ◌≤◌, All, None, length, pos, ◌<ℤ◌, ◌+ℤ◌, ◌*ℤ◌, unsigned_abs};
+ghost use Rattle.std.specs.Prelude.{◌≡◌, ◌+◌, ◌*◌, ◌^◌, ◌<◌, ◌≤◌, All, IfSome, None, length, pos, unwrap_or, ◌<ℤ◌, ◌+ℤ◌, ◌*ℤ◌, unsigned_abs};
 ghost use Rattle.irs_base.specs.Days.{all_days};
 ghost use Rattle.irs_terms.specs.Lawful.{IsRate};
 ghost use Rattle.irs_overnight.specs.Bounds.{IsSmall};
 ghost use Rattle.irs_overnight.specs.FileLaw.{IsSmallFound};
 ghost use Rattle.irs_overnight.specs.Observations.{first_absent};
+ghost use Rattle.irs_base.specs.Rounding.{Rounded};
+ghost use Rattle.irs_base.specs.declared.rounding.Direction.TheVariants.{Nearest};
 ghost use Rattle.irs_average.specs.MeanPeriods.{IsMeanFound};
-ghost use Rattle.irs_average.specs.Means.{IsMean, ShareOut, counted, divisor, rate_in, sum_over};
+ghost use Rattle.irs_average.specs.Means.{IsMean, ShareOut, counted, divisor, sum_over};
 
+use crate::rates::{as_rate, over_days};
 use irs_base::{Direction, round};
 use irs_overnight::{Found, Observation, first_absent};
 
@@ -23,45 +26,36 @@ pub enum Mean {
 }
 
 // The rate of an observation; 0 where it has none.
-fn rate_in(o: Observation) -> i64
-    requires { IsSmall o }
-    ensures value { result ≡ rate_in o }
+fn rate_or_zero(rate: Option<i64>) -> i64
+    requires { IfSome rate IsRate }
+    ensures value { result ≡ unwrap_or rate (pos 0) }
     ensures small { IsRate result }
 {
-    match o.rate {
+    match rate {
         Some(rate) => rate,
         None => 0,
     }
-}
-
-// A rate over its days.
-fn over_days(rate: i64, weight: i64) -> i128
-    requires rate { IsRate rate }
-    requires weight { unsigned_abs weight < all_days }
-    ensures value { result ≡ rate *ℤ weight }
-    ensures size { unsigned_abs result ≤ 10 ^ 10 * all_days }
-{
-    i128::from(rate) * i128::from(weight)
 }
 
 // What an observation adds.
 fn counted(kind: Mean, o: Observation) -> i128
     requires { IsSmall o }
     ensures value { result ≡ counted kind o }
-    ensures size { unsigned_abs result ≤ 10 ^ 10 * all_days }
+    ensures size { unsigned_abs result ≤ 2 * 10 ^ 10 * all_days }
 {
+    let rate = rate_or_zero(o.rate);
     match kind {
-        Mean::Plain => i128::from(rate_in(o)),
-        Mean::Weighted => over_days(rate_in(o), o.weight),
+        Mean::Plain => i128::from(rate),
+        Mean::Weighted => over_days(rate, o.weight),
     }
 }
 
 // A sum of so many and one more.
 fn added(sum: i128, more: i128, count: usize) -> i128
-    requires sum { unsigned_abs sum ≤ count * (10 ^ 10 * all_days) }
-    requires more { unsigned_abs more ≤ 10 ^ 10 * all_days }
+    requires sum { unsigned_abs sum ≤ count * (2 * 10 ^ 10 * all_days) }
+    requires more { unsigned_abs more ≤ 2 * 10 ^ 10 * all_days }
     ensures value { result ≡ sum +ℤ more }
-    ensures size { unsigned_abs result ≤ (count + 1) * (10 ^ 10 * all_days) }
+    ensures size { unsigned_abs result ≤ (count + 1) * (2 * 10 ^ 10 * all_days) }
 {
     sum + more
 }
@@ -70,11 +64,11 @@ fn added(sum: i128, more: i128, count: usize) -> i128
 fn total(kind: Mean, observations: &[Observation]) -> i128
     requires small { All IsSmall observations.now }
     ensures value { result ≡ sum_over (counted kind) observations.now }
-    ensures size { unsigned_abs result ≤ length observations.now * (10 ^ 10 * all_days) }
+    ensures size { unsigned_abs result ≤ length observations.now * (2 * 10 ^ 10 * all_days) }
 {
     let mut sum = 0;
-    for (place, o) in observations.iter().enumerate() {
-        sum = added(sum, counted(kind, *o), place);
+    for place in 0..observations.len() {
+        sum = added(sum, counted(kind, observations[place]), place);
     }
     sum
 }
@@ -93,7 +87,18 @@ fn divisor(kind: Mean, days: i64, observations: &[Observation]) -> i128
     }
 }
 
-// The mean where each rate is there.
+// The rounded mean.
+fn rounded_mean(kind: Mean, days: i64, observations: &[Observation]) -> i128
+    requires days { (pos 0 <ℤ days) × (unsigned_abs days < all_days) }
+    requires small { All IsSmall observations.now }
+    requires some { 0 < length observations.now }
+    ensures { Rounded Nearest (sum_over (counted kind) observations.now) (divisor kind days observations.now) result }
+{
+    let sum = total(kind, observations);
+    round(Direction::Nearest, sum, divisor(kind, days, observations))
+}
+
+// The same as a rate, where each rate is there.
 fn mean_rate(kind: Mean, days: i64, observations: &[Observation]) -> i64
     requires days { (pos 0 <ℤ days) × (unsigned_abs days < all_days) }
     requires small { All IsSmall observations.now }
@@ -102,8 +107,7 @@ fn mean_rate(kind: Mean, days: i64, observations: &[Observation]) -> i64
     ensures is { IsMean kind days observations.now result }
     ensures small { IsRate result }
 {
-    let sum = total(kind, observations);
-    round(Direction::Nearest, sum, divisor(kind, days, observations)) as i64
+    as_rate(rounded_mean(kind, days, observations))
 }
 
 /// The mean of the rates that were observed in a period, or the first day whose rate is missing.

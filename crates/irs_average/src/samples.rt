@@ -1,5 +1,5 @@
 //! The observations of a calculation period for an average: every so many days from its start.
-ghost use Rattle.std.specs.Prelude.{◌≡◌, ◌↔◌, ℕ, ℤ, ◌+◌, ◌*◌, ◌<◌, ◌≤◌, length, IfOk, IfSome, IfNone, All, pos, ◌<ℤ◌, ◌+ℤ◌, ◌-ℤ◌};
+ghost use Rattle.std.specs.Prelude.{◌≡◌, ◌↔◌, ℕ, ℤ, ◌+◌, ◌*◌, ◌^◌, ◌<◌, ◌≤◌, length, IfOk, IfSome, IfNone, All, pos, ◌<ℤ◌, ◌+ℤ◌, ◌-ℤ◌};
 ghost use Rattle.irs_base.specs.Days.{IsDay};
 ghost use Rattle.irs_calendar.specs.GoodDays.{Prev};
 ghost use Rattle.irs_overnight.specs.Bounds.{IsSmall};
@@ -22,6 +22,7 @@ pub(crate) struct Steps {
     step: u32,
     count: u32,
     ghost days: { IsDay start × IsDay end },
+    ghost few: { count < 2 ^ 32 },
     ghost counted: { (k : ℕ) → k < count ↔ step_day start step k <ℤ end },
 }
 

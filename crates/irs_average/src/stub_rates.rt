@@ -1,6 +1,6 @@
 //! The rate of a stub on the line through the rates of two tenors (2006 ISDA Definitions, section 8.3,
 //! linear interpolation). The rounding, and that no rate is extrapolated, are this project's own.
-ghost use Rattle.std.specs.Prelude.{◌≡◌, ◌+◌, ◌*◌, ◌^◌, ◌<◌, ◌≤◌, ℤ, Some, IfSome, IfNone, pos, ◌<ℤ◌, ◌≤ℤ◌, ◌+ℤ◌, ◌-ℤ◌, ◌*ℤ◌, unsigned_abs};
+ghost use Rattle.std.specs.Prelude.{◌≡◌, ◌↔◌, IsTrue, ◌+◌, ◌*◌, ◌^◌, ◌<◌, ◌≤◌, ℤ, Some, IfSome, IfNone, pos, ◌<ℤ◌, ◌≤ℤ◌, ◌+ℤ◌, ◌-ℤ◌, ◌*ℤ◌, unsigned_abs};
 ghost use Rattle.irs_base.specs.Days.{IsDay, all_days};
 ghost use Rattle.irs_base.specs.Rounding.{Rounded};
 ghost use Rattle.irs_base.specs.declared.rounding.Direction.TheVariants.{Nearest};
@@ -8,10 +8,18 @@ ghost use Rattle.irs_terms.specs.Lawful.{IsRate};
 ghost use Rattle.irs_overnight.specs.FileLaw.{IsSmallFound};
 ghost use Rattle.irs_average.specs.StubRates.{IsFoundBetween, LiesBetween};
 
+use crate::rates::{as_rate, over_days};
 use crate::tenor_ends::tenor_end;
 use irs_base::{Day, Direction, round};
 use irs_overnight::{Found, days_between};
 use irs_terms::Frequency;
+
+// Whether the days lie in order, and the end of the stub is one of them or lies between.
+fn are_around(near: Day, far: Day, end: Day) -> bool
+    ensures { IsTrue result ↔ (near <ℤ far) × (near ≤ℤ end) × (end ≤ℤ far) }
+{
+    near < far && near <= end && end <= far
+}
 
 /// The days on which two tenors end; `None` exactly where they don't lie in range and in order, or the
 /// end of the stub doesn't lie between them.
@@ -27,20 +35,10 @@ pub(crate) fn ends_around(
     let (Some(near), Some(far)) = (tenor_end(start, low), tenor_end(start, high)) else {
         return None;
     };
-    if near >= far || end < near || far < end {
-        return None;
+    if are_around(near, far, end) {
+        return Some((near, far));
     }
-    Some((near, far))
-}
-
-// A rate over a number of days.
-fn over_days(rate: i64, days: i64) -> i128
-    requires rate { unsigned_abs rate ≤ 2 * 10 ^ 10 }
-    requires days { unsigned_abs days < all_days }
-    ensures value { result ≡ rate *ℤ days }
-    ensures size { unsigned_abs result ≤ 2 * 10 ^ 10 * all_days }
-{
-    i128::from(rate) * i128::from(days)
+    None
 }
 
 // By how much one rate is above another.
@@ -63,17 +61,51 @@ fn added(a: i128, b: i128) -> i128
     a + b
 }
 
-// The rate on the line through two rates that lie `width` days apart, `days` behind the first.
+// What stands on the line through two rates that lie `width` days apart, `days` behind the first; times
+// the width.
+fn line_value(low: i64, high: i64, width: i64, days: i64) -> i128
+    requires low { IsRate low }
+    requires high { IsRate high }
+    requires width { unsigned_abs width < all_days }
+    requires days { unsigned_abs days < all_days }
+    ensures value { result ≡ low *ℤ width +ℤ (high -ℤ low) *ℤ days }
+    ensures size { unsigned_abs result ≤ 4 * 10 ^ 10 * all_days }
+{
+    added(over_days(low, width), over_days(rise(low, high), days))
+}
+
+// A number of days above 0.
+fn whole_days(days: i64) -> i128
+    requires days { (pos 0 <ℤ days) × (unsigned_abs days < all_days) }
+    ensures value { result ≡ days }
+    ensures above { pos 0 <ℤ result }
+    ensures size { unsigned_abs result < all_days }
+{
+    i128::from(days)
+}
+
+// The rounded rate there.
+fn rounded_line(low: i64, high: i64, width: i64, days: i64) -> i128
+    requires low { IsRate low }
+    requires high { IsRate high }
+    requires width { (pos 0 <ℤ width) × (unsigned_abs width < all_days) }
+    requires days { unsigned_abs days < all_days }
+    ensures { Rounded Nearest (low *ℤ width +ℤ (high -ℤ low) *ℤ days) width result }
+{
+    let value = line_value(low, high, width, days);
+    round(Direction::Nearest, value, whole_days(width))
+}
+
+// The same as a rate.
 fn on_line(low: i64, high: i64, width: i64, days: i64) -> i64
     requires low { IsRate low }
     requires high { IsRate high }
     requires width { (pos 0 <ℤ width) × (unsigned_abs width < all_days) }
-    requires days { (pos 0 ≤ℤ days) × (days ≤ℤ width) }
+    requires days { (pos 0 ≤ℤ days) × (days ≤ℤ width) × (unsigned_abs days < all_days) }
     ensures rounded { Rounded Nearest (low *ℤ width +ℤ (high -ℤ low) *ℤ days) width result }
     ensures small { IsRate result }
 {
-    let weighed = added(over_days(low, width), over_days(rise(low, high), days));
-    round(Direction::Nearest, weighed, i128::from(width)) as i64
+    as_rate(rounded_line(low, high, width, days))
 }
 
 /// What two rates give between the ends of their tenors: a rate, or the fixing date where one of them

@@ -31,6 +31,13 @@ derived_ties f g p q =
     let elem : f.elem ≡ g.elem = tied_last _ _ numbers.1 numbers.2 in
     same_fault f.rule g.rule _ _ _ _ (same_rule f.rule g.rule numbers.0) elem index.0
 
+pub level_none : (m n : ℕ) → nat_lt m n ≡ false → level m n false ≡ false
+level_none m n h = elim (cases_order m n) [
+  | inl same ↦ level_same m n false same refl
+  | inr (inl less) ↦ absurd (false_lt m n h less)
+  | inr (inr more) ↦ level_later m n false more
+]
+
 -- ---- periods
 
 -- within a period a day that lacks comes first
@@ -110,13 +117,6 @@ module _ (source : DailySource) (basis : ℕ) (is : basis_of source.day_count �
     | inl basis ↦ has_basis f basis
     | inr (inl fixing) ↦ rising fixing.number fixing.not_after
     | inr (inr period) ↦ periods f period
-  ]
-
-  level_none : (m n : ℕ) → nat_lt m n ≡ false → level m n false ≡ false
-  level_none m n h = elim (cases_order m n) [
-    | inl same ↦ level_same m n false same refl
-    | inr (inl less) ↦ absurd (false_lt m n h less)
-    | inr (inr more) ↦ level_later m n false more
   ]
 
   after_fixing : (w : PeriodFault) (j n : ℕ) → derived_before (period_fault w j) (not_after_at n) ≡ false

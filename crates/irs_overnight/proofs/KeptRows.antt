@@ -9,6 +9,7 @@ use Rattle.irs_base.specs.declared.places.Fault.{Fault}
 use Rattle.irs_terms.specs.Lawful.{IsLawfulFloat, IsLawfulLeg, IsLawfulStream}
 use Rattle.irs_terms.specs.declared.amounts.FloatTerms.{FloatTerms}
 use Rattle.irs_terms.specs.declared.results.Reset.{Reset}
+use Rattle.irs_resets.specs.ResetDates.{IsPeriod}
 use Rattle.irs_schedule.specs.Parts.{KeepsBounds, Part}
 use Rattle.irs_overnight.specs.DailySources.{DailySource, fixing_at}
 use Rattle.irs_overnight.specs.DerivedRows.{AreDerived, IsDerivedRow}
@@ -21,7 +22,7 @@ use Rattle.irs_overnight.specs.declared.derived.DerivedRow.{DerivedRow}
 use Rattle.irs_overnight.proofs.FileRead.{are_fixings}
 use Rattle.irs_overnight.proofs.SourceLemmas.{asked_part, every_at, part_floats}
 
-numbered_at : (P : ℕ → DerivedRow → Type 0) (n k : ℕ) (rows : List DerivedRow) (row : DerivedRow) → EachNumbered P n rows → slice_get rows k ≡ Some row → P (n + k) row
+pub numbered_at : (P : ℕ → DerivedRow → Type 0) (n k : ℕ) (rows : List DerivedRow) (row : DerivedRow) → EachNumbered P n rows → slice_get rows k ≡ Some row → P (n + k) row
 numbered_at P n k [] row h at = absurd (let low = slice_get_within [] k row at in omega (arith, low))
 numbered_at P n zero (x ∷ rows) row h at = let e : x ≡ row = cc in let same : n ≡ n + 0 = omega arith in subst (λ (m : ℕ). P m row) same (subst (P n) e h.0)
 numbered_at P n (suc k) (x ∷ rows) row h at = let same : n + 1 + k ≡ n + suc k = omega arith in subst (λ (m : ℕ). P m row) same (numbered_at P (n + 1) k rows row h.1 at)
@@ -54,33 +55,34 @@ module _ (resets : List Reset) (none : (n : ℕ) → NotAfter resets n → ⊥) 
       let e : i + (j - i - 1 + 1) ≡ j = omega (arith, less) in
       subst (λ (n : ℕ). fixing_at resets i <ℤ fixing_at resets n) e (later_after i (j - i - 1) low (omega (arith, less, high)))
 
-module _ (source : DailySource) (rows : List DerivedRow) (derived : AreDerived source rows) (good : All IsInRange rows) (none : (n : ℕ) → NotAfter source.resets n → ⊥) (many : length source.adjusted ≡ length source.resets + 1) (few : length source.adjusted < 2 ^ 32) where
+-- the row of period i has its number and its fixing date
+abbrev pub IsDated : List ℤ → List Reset → ℕ → DerivedRow → Type 0
+IsDated adjusted resets i row = IsPeriod adjusted i × (row.period ≡ i) × (row.fixing ≡ fixing_at resets i)
+
+module _ (adjusted : List ℤ) (resets : List Reset) (rows : List DerivedRow) (dated : (k : ℕ) (row : DerivedRow) → slice_get rows k ≡ Some row → IsDated adjusted resets (1 + k) row) (good : All IsInRange rows) (none : (n : ℕ) → NotAfter resets n → ⊥) (many : length adjusted ≡ length resets + 1) (few : length adjusted < 2 ^ 32) where
   range_at : (k : ℕ) (row : DerivedRow) → slice_get rows k ≡ Some row → IsInRange row
   range_at k row at = subst IsInRange (get_or_from_slice_get rows k row row at) (good k row (slice_get_within rows k row at))
-
-  row_at : (k : ℕ) (row : DerivedRow) → slice_get rows k ≡ Some row → IsDerivedRow source (1 + k) row
-  row_at k row at = numbered_at (IsDerivedRow source) 1 k rows row derived.each at
 
   pub kept_rows : AreKept rows
   kept_rows = record {
     days = λ k row at. (range_at k row at).day;
     rates = λ k row at. (range_at k row at).rate;
     periods = λ k row at.
-        let is = row_at k row at in
-        let high = is.stands.1 in
-        let e = is.period in
+        let is = dated k row at in
+        let high = is.0.1 in
+        let e = is.1 in
         omega (arith, high, e, few);
     rise = λ j k row later less at there.
-        let a = row_at j row at in
-        let b = row_at k later there in
-        let high = b.stands.1 in
-        let order = rising_at source.resets none (1 + j) (1 + k) (omega arith) (omega (arith, less)) (omega (arith, high, many)) in
-        let x = a.fixing in
-        let y = b.fixing in
+        let a = dated j row at in
+        let b = dated k later there in
+        let high = b.0.1 in
+        let order = rising_at resets none (1 + j) (1 + k) (omega arith) (omega (arith, less)) (omega (arith, high, many)) in
+        let x = a.2 in
+        let y = b.2 in
         omega (arith, signed_arith, order, x, y);
   }
 
-lawful_float : (a : Asked) → IsAsked a → (float : FloatTerms) → PaysFloating a.swap a.number float → IsLawfulFloat float
+pub lawful_float : (a : Asked) → IsAsked a → (float : FloatTerms) → PaysFloating a.swap a.number float → IsLawfulFloat float
 lawful_float a h float pays =
     let streams = h.lawful.2 in
     let low = slice_get_within a.swap.streams (a.number - 1) pays.stream pays.at in
@@ -101,8 +103,11 @@ reads_back a h bounds rows over kept good = λ float pays.
     let many : length over.source.adjusted ≡ length over.source.resets + 1 = rw is (omega (arith, adjusted, resets)) in
     let short : length over.source.adjusted < 2 ^ 32 = rw is (omega (arith, adjusted, few)) in
     let none : (n : ℕ) → NotAfter over.source.resets n → ⊥ = λ n not_after. kept (not_after_at n) (record { source = over.source; has = over.has; breaks = inr (inl (record { number = n; not_after = not_after; is = refl })) }) in
+    let dated : (k : ℕ) (row : DerivedRow) → slice_get rows k ≡ Some row → IsDated over.source.adjusted over.source.resets (1 + k) row = λ k row at.
+    let is = numbered_at (IsDerivedRow over.source) 1 k rows row over.derived.each at in
+    (is.stands, is.period, is.fixing) in
     let lawful = lawful_float a h float pays in
-    are_fixings float.tenor float.index rows (record { named = lawful.index; lasting = lawful.tenor }) (kept_rows over.source rows over.derived good none many short)
+    are_fixings float.tenor float.index rows (record { named = lawful.index; lasting = lawful.tenor }) (kept_rows over.source.adjusted over.source.resets rows dated good none many short)
 
 -- three facts of an answer that is there, as one
 pub ok_three : {X E : Type 0} (r : Result X E) (P Q R S : X → Type 0) → ((x : X) → P x → Q x → R x → S x) → IfOk r P → IfOk r Q → IfOk r R → IfOk r S

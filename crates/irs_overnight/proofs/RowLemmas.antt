@@ -24,10 +24,10 @@ use Rattle.irs_overnight.proofs.PeriodLemmas.{basis_range, one_found, some_basis
 pub in_order : (adjusted : List ℤ) (i : ℕ) → Rises adjusted → IsPeriod adjusted i → day_at adjusted (i - 1) <ℤ day_at adjusted i
 in_order adjusted i rises period = next_day adjusted i rises period.0 period.1
 
-abbrev made : ℕ → ℤ → Found → DerivedRow
+abbrev pub made : ℕ → ℤ → Found → DerivedRow
 made i d f = record { period = i; fixing = d; found = f }
 
-same_row : (i j : ℕ) (c d : ℤ) (f g : Found) → i ≡ j → c ≡ d → f ≡ g → made i c f ≡ made j d g
+pub same_row : (i j : ℕ) (c d : ℤ) (f g : Found) → i ≡ j → c ≡ d → f ≡ g → made i c f ≡ made j d g
 same_row i j c d f g a b e = λ t. made (a t) (b t) (e t)
 
 module _ (source : DailySource) (rises : Rises source.adjusted) where

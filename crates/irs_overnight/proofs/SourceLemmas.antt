@@ -52,7 +52,7 @@ one_source a x y p q =
     p.is ∙ same ∙ sym q.is
 
 -- the partner of a member
-partner : (R : Stream → Part → Type 0) (ss : List Stream) (ps : List Part) (i : ℕ) (s : Stream) → Pairs R ss ps → slice_get ss i ≡ Some s → (p : Part) × (slice_get ps i ≡ Some p) × R s p
+pub partner : (R : Stream → Part → Type 0) (ss : List Stream) (ps : List Part) (i : ℕ) (s : Stream) → Pairs R ss ps → slice_get ss i ≡ Some s → (p : Part) × (slice_get ps i ≡ Some p) × R s p
 partner R [] [] i s pairs at = absurd (cc)
 partner R [] (p ∷ ps) i s pairs at = absurd pairs
 partner R (x ∷ ss) [] i s pairs at = absurd pairs

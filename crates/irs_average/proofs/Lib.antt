@@ -1,0 +1,11 @@
+pub mod BetweenLemmas
+pub mod StepCounts
+pub mod MeanLemmas
+pub mod SampleLemmas
+pub mod MeanOrder
+pub mod MeanRowLemmas
+pub mod AverageLemmas
+pub mod TenorLemmas
+pub mod LineLemmas
+pub mod StubLemmas
+pub mod StubReading
