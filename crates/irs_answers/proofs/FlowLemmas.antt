@@ -19,7 +19,8 @@ use Rattle.irs_audit.specs.declared.error.FlowErr.TheVariants as flowing
 use Rattle.irs_audit.specs.declared.error.ShapeKind.{ShapeKind}
 use Rattle.irs_audit.specs.declared.error.ShapeKind.TheVariants.{NotJson}
 use Rattle.irs_answers.specs.declared.refusals.Refusal.TheVariants.{Flows}
-use Rattle.irs_answers.specs.Due.{Is, IsJson, DueFlows, DueStated, DueVerdict}
+use Rattle.irs_answers.specs.Due.{IsJson, DueFlows, DueStated, DueVerdict}
+use Rattle.irs_answers.specs.Steps.{Is}
 use Rattle.irs_answers.specs.FlowMessages.{bad_flows, whole_document, verdict_status, verdict_text}
 use Rattle.irs_answers.specs.Outcomes.{Ends, FlowsFail, IfRefused, SpellsFlows}
 use Rattle.irs_answers.proofs.DueLemmas.{one_reading}

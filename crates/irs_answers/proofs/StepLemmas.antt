@@ -5,6 +5,7 @@ use Rattle.std.specs.Result.{IsErrAnd}
 use Rattle.irs_answers.specs.declared.refusals.Refusal.{Refusal}
 use Rattle.irs_answers.specs.declared.replies.Reply.{Reply}
 use Rattle.irs_answers.specs.Steps.{Step, Rules}
+use Rattle.irs_base.specs.Order.{Only}
 use Rattle.irs_answers.specs.Replying.{reply_status, reply_text}
 use Rattle.irs_answers.specs.Outcomes.{Answer, answer_of, IfRefused, IfAnswered, Ends}
 
@@ -39,6 +40,14 @@ kept Keeps Fails Next keeps next = record { fails = λ n. absurd (n keeps); next
 -- a rule is broken
 pub broken : (Keeps Fails Next : Type 0) → (Keeps → ⊥) → Fails → Rules Keeps Fails Next
 broken Keeps Fails Next never fails = record { fails = λ _. fails; next = λ k. absurd (never k); case = inl never }
+
+-- what is due for each that is read changes alone
+pub step_next : {X : Type 0} (Reads : X → Type 0) (F : Type 0) (N M : X → Type 0) → ((x : X) → N x → M x) → Step Reads F N → Step Reads F M
+step_next Reads F N M more h = record { fails = h.fails; next = λ x reads. more x (h.next x reads); case = h.case }
+
+-- an only one of rules that are the same
+pub only_more : {X : Type 0} (P Q : X → Type 0) → ((x : X) → P x → Q x) → ((x : X) → Q x → P x) → (x : X) → Only P x → Only Q x
+only_more P Q there back x h = record { is = there x h.is; only = λ y is. h.only y (back y is) }
 
 case_more : (K L : Type 0) → (K → L) → (L → K) → ((K → ⊥) ⊎ K) → ((L → ⊥) ⊎ L)
 case_more K L there back (inl none) = inl (λ l. none (back l))

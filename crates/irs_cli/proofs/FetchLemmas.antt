@@ -90,13 +90,3 @@ front_long n (Some xs) b h long = elim (cases_lt (length xs) n) [
   | inl less ↦ let l : take n xs ≡ xs = take_all n xs (omega arith) in let k : length b ≡ length xs = ap (λ (x : List ℕ). length x) (h ∙ l) in absurd (omega arith)
   | inr more ↦ more
 ]
-
--- ---- the limits of the files as the code keeps them
-
-pub all_small : (vs : List (Vec ℕ Global)) → All (λ bytes. length bytes < too_many) (map (λ v. v.items) vs) → All (λ v. length v.items ≤ most_bytes) vs
-all_small vs h = λ k d below.
-    let below' : k < length (map (λ (v : Vec ℕ Global). v.items) vs) = rw (length-map vs (λ (v : Vec ℕ Global). v.items)) below in
-    let small : length (get_or (map (λ (v : Vec ℕ Global). v.items) vs) k d.items) < too_many = h k d.items below' in
-    let same : get_or (map (λ (v : Vec ℕ Global). v.items) vs) k d.items ≡ (get_or vs k d).items = get_or-map (λ (v : Vec ℕ Global). v.items) vs k d d.items below in
-    let short : length (get_or vs k d).items < too_many = subst (λ (l : List ℕ). length l < too_many) same small in
-    omega (arith, short)

@@ -1,0 +1,15 @@
+pub mod Pushes
+pub mod FirstLemmas
+pub mod SameRates
+pub mod StepLemmas
+pub mod SameDerived
+pub mod DerivedSame
+pub mod DueLemmas
+pub mod FileLimits
+pub mod AccrueLemmas
+pub mod FlowLemmas
+pub mod NetLemmas
+pub mod DerivedLemmas
+pub mod StubLemmas
+pub mod MessageLemmas
+pub mod OneAnswer
