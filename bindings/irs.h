@@ -1,7 +1,9 @@
 /* irs.h: what libirs offers to C and C++, and to whatever calls C.
 
-   One call, irs_run, does what a command of the program irs does, on words and files in memory. Words,
-   files, texts and statuses are those of the program (docs/FORMATS.md). It keeps nothing between calls.
+   irs_run does what a command of the program irs does, on words and files in memory; irs_meaning says what
+   the line that it answers means. Words,
+   files, texts and statuses are those of the program (docs/FORMATS.md). Nothing is
+   kept between calls.
 
    What a caller has to keep to:
    - no pointer is NULL, also where there is nothing behind it (irs_lend helps);
@@ -30,6 +32,13 @@ struct irs_file { struct irs_bytes name, bytes; };
 uint8_t irs_run(const struct irs_bytes *words, size_t n_words,
                 const struct irs_file *files, size_t n_files,
                 uint8_t *out, size_t out_len, size_t *needed);
+
+/* What the line of an answer means, in one plain sentence: the words of the command, and the status and
+   the text that irs_run answered. Answers 0, or 7 where memory ran out, or 9 where a word isn't UTF-8. The
+   sentence goes to `out` and its length to `*needed` as the text of irs_run does; at status 0 it is empty. */
+uint8_t irs_meaning(const struct irs_bytes *words, size_t n_words, uint8_t status,
+                    const uint8_t *line, size_t line_len,
+                    uint8_t *out, size_t out_len, size_t *needed);
 
 /* Lends bytes; NULL with length 0 is fine here. */
 static inline struct irs_bytes irs_lend(const void *at, size_t len) {

@@ -13,8 +13,7 @@ from concurrent.futures import Executor, ProcessPoolExecutor
 from concurrent.futures import BrokenExecutor
 from typing import Any, Callable, Dict, Iterable, Iterator, List, NamedTuple, Optional, Sequence, Tuple
 
-from .library import Text, run as run_words
-from .plain import sentence_of
+from .library import Text, meaning, run as run_words
 
 #: The commands that a book can be asked.
 COMMANDS = ("check", "schedule", "audit", "emit", "net")
@@ -112,11 +111,12 @@ def _words_of(command: str, trade: Trade) -> Tuple[List[Text], Dict[str, Text]]:
 
 def outcome_of(command: str, trade: Trade) -> Outcome:
     """What one trade comes to."""
-    answer = run_words(*_words_of(command, trade))
+    words, files = _words_of(command, trade)
+    answer = run_words(words, files)
     if answer.status == 0 and command in ("schedule", "emit", "net"):
         return Outcome(trade.name, 0, f"{len(answer.text.splitlines())} lines", "")
     line = _first_line(answer.text)
-    return Outcome(trade.name, answer.status, line, sentence_of(answer.status, line) if answer.status else "")
+    return Outcome(trade.name, answer.status, line, meaning(words, answer.status, line))
 
 
 def _work(command: str, chunk: List[Trade]) -> List[Outcome]:

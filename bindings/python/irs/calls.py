@@ -12,8 +12,7 @@ import json
 from typing import Any, Dict, Iterable, Iterator, List, Mapping, Optional, Union
 
 from .errors import error_of
-from .library import Answer, Text, as_bytes, run
-from .plain import sentence_of
+from .library import Answer, Text, meaning, run
 from .rows import (Accrued, Derived, Exchange, Missing, Net, Payment, Period, Reset, Row, Stream, Verdict,
                    accrued_of, derived_of, inner_lines, row_of, verdict_of)
 
@@ -87,7 +86,7 @@ def _asked(parts: List[Text], files: Dict[str, Text], calendars: Iterable[Text])
     answer = run(words, files)
     if answer.status > 1:
         line = answer.text.decode().rstrip("\n")
-        raise error_of(answer.status, line, sentence_of(answer.status, line))
+        raise error_of(answer.status, line, meaning(words, answer.status, line))
     return answer
 
 

@@ -1,4 +1,4 @@
-"""The one call of libirs, by ctypes: words and files in, status and text out.
+"""The calls of libirs, by ctypes: words and files in, status and text out.
 
 It keeps nothing between calls, so threads may call side by side.
 """
@@ -41,6 +41,12 @@ def _load() -> ctypes.CDLL:
         ctypes.POINTER(_File), ctypes.c_size_t,
         ctypes.c_void_p, ctypes.c_size_t, ctypes.POINTER(ctypes.c_size_t),
     ]
+    library.irs_meaning.restype = ctypes.c_uint8
+    library.irs_meaning.argtypes = [
+        ctypes.POINTER(_Bytes), ctypes.c_size_t, ctypes.c_uint8,
+        ctypes.c_char_p, ctypes.c_size_t,
+        ctypes.c_void_p, ctypes.c_size_t, ctypes.POINTER(ctypes.c_size_t),
+    ]
     return library
 
 
@@ -76,4 +82,24 @@ def run(words: Sequence[Text], files: Mapping[str, Text] = {}) -> Answer:
         status = _LIBRARY.irs_run(lent_words, len(words), lent_files, len(pairs), out, room, ctypes.byref(needed))
         if needed.value <= room:
             return Answer(status, out.raw[: needed.value])
+        room = needed.value
+
+
+def meaning(words: Sequence[Text], status: int, line: Text) -> str:
+    """What the line of an answer means, in one plain sentence; empty at status 0.
+
+    >>> meaning(["check", "document"], 2, "refused K1 0 document 0")
+    "K1: the document isn't JSON"
+    """
+    lent_words = (_Bytes * max(1, len(words)))(*[_lent(word) for word in words])
+    said = as_bytes(line)
+    needed = ctypes.c_size_t()
+    room = 1024
+    while True:
+        out = ctypes.create_string_buffer(room)
+        done = _LIBRARY.irs_meaning(lent_words, len(words), status, said, len(said), out, room, ctypes.byref(needed))
+        if done != 0:
+            return ""
+        if needed.value <= room:
+            return out.raw[: needed.value].decode()
         room = needed.value

@@ -6,10 +6,12 @@ ghost use Rattle.irs_cli.specs.Due.{Due, IsOneAnswer};
 ghost use Rattle.irs_cli.specs.Given.{TellsAll};
 ghost use Rattle.irs_c.specs.Given.{words_in, file_in, IsAbsent};
 ghost use Rattle.irs_c.specs.Shown.{Shown};
+ghost use Rattle.irs_plain.specs.Sentences.{said, sentence_of};
 
 use crate::given::{Bytes, File, GivenFiles};
 use crate::kept::Kept;
 use irs_cli::run;
+use irs_plain::{Sentence, meaning};
 use std::alloc::Global;
 
 /// Runs a command of the program over lent words and files, and answers its status: 0 done, 1 the
@@ -55,6 +57,63 @@ pub extern "C" fn irs_run(
             status
         }
     }
+}
+
+/// What the line of an answer means, in one plain sentence: `words` are those of the command, `status`
+/// and `line` what `irs_run` answered. 0 done, 7 want of memory, 9 a word isn't UTF-8.
+///
+/// The sentence goes to `out` as far as it has room, and its length to `needed`, as the text of
+/// `irs_run` does. At 0 as `status` it is empty.
+#[unsafe(no_mangle)]
+pub extern "C" fn irs_meaning(
+    alloc: Global,
+    words: &[Bytes<'_>],
+    status: u8,
+    line: &[u8],
+    out: &mut [u8],
+    needed: &mut usize,
+) -> u8
+    // Want of memory, or a word that isn't UTF-8: no sentence.
+    ensures memory { result ≡ 7 → (out.new ≡ out.old) × (needed.new ≡ 0) }
+    ensures not_text { result ≡ 9 → (All (λ w. IsUtf8 w.at.now) words.now → ⊥) × (out.new ≡ out.old) × (needed.new ≡ 0) }
+    ensures done { result ≡ 0 → Shown out.old out.new needed.new (sentence_of (words_in words.now) status line.now) }
+    ensures listed { (result ≡ 0) ⊎ ((result ≡ 7) ⊎ (result ≡ 9)) }
+{
+    match sentence(alloc, words, status, line) {
+        Ok(text) => {
+            show(&text, out);
+            *needed = text.len();
+            0
+        }
+        Err(status) => {
+            *needed = 0;
+            status
+        }
+    }
+}
+
+// The sentence, or 7 or 9 where there is none.
+fn sentence(alloc: Global, words: &[Bytes<'_>], status: u8, line: &[u8]) -> Result<Vec<u8>, u8>
+    ensures done { IfOk result (λ t. t.items ≡ sentence_of (words_in words.now) status line.now) }
+    ensures not_text { IfErr result (λ s. s ≡ 9 → All (λ w. IsUtf8 w.at.now) words.now → ⊥) }
+    ensures err { IfErr result (λ s. (s ≡ 7) ⊎ (s ≡ 9)) }
+{
+    let words = words_of(alloc, words)?;
+    joined(alloc, meaning(&words, status, line))
+}
+
+// The parts of a sentence one behind the other, or 7 where memory ran out.
+fn joined(alloc: Global, sentence: Sentence<'_>) -> Result<Vec<u8>, u8>
+    ensures text { IfOk result (λ t. t.items ≡ said sentence) }
+    ensures err { IfErr result (λ s. s ≡ 7) }
+{
+    let mut text = Vec::new(alloc);
+    for part in &sentence.parts {
+        if text.extend_from_slice(part).is_err() {
+            return Err(7);
+        }
+    }
+    Ok(text)
 }
 
 // Status and text, or the status alone where there is no text: 7 or 9.
