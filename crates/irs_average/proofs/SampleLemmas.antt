@@ -95,12 +95,15 @@ module _ (lines : RateLines) (set : DaySet) (s e : ℤ) (step n : ℕ) where
     pub each : EachNumbered (IsSample lines set s e step n) 0 os
     pub small : All IsSmall os
 
-  pub samples_more : (k : ℕ) (os : List Observation) (o : Observation) → Samples k os → IsSample lines set s e step n k o → IsSmall o → Samples (k + 1) (os ++ o ∷ [])
+  samples_more : (k : ℕ) (os : List Observation) (o : Observation) → Samples k os → IsSample lines set s e step n k o → IsSmall o → Samples (k + 1) (os ++ o ∷ [])
   samples_more k os o h is small = record {
     many = let many = h.many in let longer : length (os ++ o ∷ []) ≡ length os + 1 = simp length-append in omega (arith, many, longer);
     each = let many = h.many in numbered_push (IsSample lines set s e step n) 0 k os o h.each (omega (arith, many)) is;
     small = All-push IsSmall os o h.small small;
   }
+
+  pub samples_pushed : (k : ℕ) (os pushed : List Observation) (o : Observation) → Samples k os → IsSample lines set s e step n k o → IsSmall o → pushed ≡ os ++ o ∷ [] → Samples (k + 1) pushed
+  samples_pushed k os pushed o h is small e = subst (Samples (k + 1)) (sym e) (samples_more k os o h is small)
 
   -- all of them
   pub samples_all : (os : List Observation) → ((j : ℕ) → j < n ↔ step_day s step j <ℤ e) → length os ≡ n → EachNumbered (IsSample lines set s e step n) 0 os → AreSamples lines set step s e os

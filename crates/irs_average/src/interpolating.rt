@@ -62,10 +62,10 @@ fn stub_row(
     let low_rate = fix.rate_on(index, Some(low), fixing);
     let high_rate = fix.rate_on(index, Some(high), fixing);
     match ends_around(start, end, low, high) {
-        Some(ends) => Some(DerivedRow {
+        Some((near, far)) => Some(DerivedRow {
             period: number as u32,
             fixing,
-            found: found_between(low_rate, high_rate, ends, end, fixing),
+            found: found_between(low_rate, high_rate, near, far, end, fixing),
         }),
         None => None,
     }

@@ -113,22 +113,22 @@ fn on_line(low: i64, high: i64, width: i64, days: i64) -> i64
 pub(crate) fn found_between(
     low: Option<i64>,
     high: Option<i64>,
-    ends: (Day, Day),
+    near: Day,
+    far: Day,
     end: Day,
     fixing: Day,
 ) -> Found
     requires low { IfSome low IsRate }
     requires high { IfSome high IsRate }
-    requires order { ends.0 <ℤ ends.1 }
-    requires from { ends.0 ≤ℤ end }
-    requires to { end ≤ℤ ends.1 }
-    ensures is { IsFoundBetween low high ends.0 ends.1 end fixing result }
+    requires order { near <ℤ far }
+    requires from { near ≤ℤ end }
+    requires to { end ≤ℤ far }
+    ensures is { IsFoundBetween low high near far end fixing result }
     ensures small { IsSmallFound result }
 {
     let (Some(low), Some(high)) = (low, high) else {
         return Found::Missing(fixing);
     };
-    let (near, far) = ends;
     let (width, days) = (days_between(near, far), days_between(near, end));
     Found::Rate(on_line(low, high, width, days))
 }

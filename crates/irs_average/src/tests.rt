@@ -37,10 +37,10 @@ fn lies_between_two_tenors(rt: HostRuntime) -> Result<(), Fail> {
             unit: Unit::M,
         },
     );
-    let ends = ends_around(start, end, low, high).ok_or("the end lies outside")?;
-    let found = found_between(Some(50_000_000), Some(52_900_000), ends, end, start);
+    let (near, far) = ends_around(start, end, low, high).ok_or("the end lies outside")?;
+    let found = found_between(Some(50_000_000), Some(52_900_000), near, far, end, start);
     assert_eq!(rt; found, Found::Rate(51_400_000));
-    let missing = found_between(Some(50_000_000), None, ends, end, start);
+    let missing = found_between(Some(50_000_000), None, near, far, end, start);
     assert_eq!(rt; missing, Found::Missing(start));
     Ok(())
 }

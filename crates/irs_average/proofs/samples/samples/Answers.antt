@@ -4,7 +4,7 @@ use Rattle.irs_overnight.specs.Sources.{RateLines}
 use Rattle.irs_overnight.specs.declared.observations.Observation.{Observation}
 use Rattle.irs_average.specs.MeanSources.{own_lines}
 use Rattle.irs_average.specs.Samples.{AreSamples, step_day}
-use Rattle.irs_average.proofs.SampleLemmas.{Samples, in_order, lacks_none, samples_all, samples_more, shares_out, whole}
+use Rattle.irs_average.proofs.SampleLemmas.{Samples, in_order, lacks_none, samples_pushed, shares_out, whole}
 use Rattle.irs_average.proofs.samples.samples.Goals as goal
 
 pub loop-k-preserved : goal.loop-k-preserved
@@ -12,8 +12,7 @@ loop-k-preserved g c =
     let lines : RateLines = own_lines c.args.fix.now c.args.float.now in
     let set : DaySet = g.G.GoodDays.days c.args.days.now in
     let steps = c.args.steps.now in
-    let more = samples_more lines set steps.start steps.end steps.step steps.count c.loop-k.k c.loop-k.all.items c.in-Some.found c.loop-k.invariant c.in-Some.ensures.some c.in-Some.ensures.small in
-    subst (λ (v : List Observation). Samples lines set steps.start steps.end steps.step steps.count (c.loop-k.k + 1) v) (sym (c.in_ok-push.ensures {u = tt}).items) more
+    samples_pushed lines set steps.start steps.end steps.step steps.count c.loop-k.k c.loop-k.all.items c.push.new.self.items c.in-Some.found c.loop-k.invariant c.in-Some.ensures.some c.in-Some.ensures.small (c.in_ok-push.ensures {u = tt}).items
 
 pub returns-clause-some : goal.returns-clause-some
 returns-clause-some g c =
