@@ -77,10 +77,10 @@ pub fn find(alloc: Global, task: Task, files: &TaskFiles) -> Result<Found, Refus
 {
     let document = parse(alloc, &files.document)?;
     let swap = read_swap(alloc, &document)?;
-    let sides = sides_for(task, &document)?;
+    let sides = sides_for(&task, &document)?;
     let calendars = Calendars::read(alloc, &files.calendars)?;
     let fixings = read_fixings(alloc, &files.fixings)?;
-    let schedule = schedule_for(alloc, task, &swap, &calendars, &fixings)?;
+    let schedule = schedule_for(alloc, &task, &swap, &calendars, &fixings)?;
     Ok(Found {
         swap,
         sides,
@@ -91,10 +91,10 @@ pub fn find(alloc: Global, task: Task, files: &TaskFiles) -> Result<Found, Refus
 }
 
 // Which party pays each stream, for a task that asks for it.
-fn sides_for(task: Task, document: &Value) -> Result<Option<Sides>, Broken>
+fn sides_for(task: &Task, document: &Value) -> Result<Option<Sides>, Broken>
     requires { (f : BrokenRule) → DocumentFault (view document.now) f → ⊥ }
-    ensures sides { IfOk result (λ o. HasSides task (view document.now) o) }
-    ensures broken { IfErr result (λ b. BreaksSides task (view document.now) b) }
+    ensures sides { IfOk result (λ o. HasSides task.now (view document.now) o) }
+    ensures broken { IfErr result (λ b. BreaksSides task.now (view document.now) b) }
 {
     if task.nets() {
         Ok(Some(read_sides(document)?))
@@ -118,14 +118,14 @@ fn read_fixings(alloc: Global, bytes: &Option<Vec<u8>>) -> Result<Fixings, FixEr
 // The schedule that a task asks for, with the rates of the file of fixings where it uses them.
 fn schedule_for(
     alloc: Global,
-    task: Task,
+    task: &Task,
     swap: &Swap,
     calendars: &Calendars,
     fixings: &Fixings,
 ) -> Result<Schedule, Refusal>
     requires { IsLawful swap.now }
-    ensures schedule { IfOk result (λ s. IsScheduled swap.now calendars.now (rates_for task fixings.now) s) }
-    ensures refused { IfErr result (λ r. IfRefused r (IsUnscheduled swap.now calendars.now (rates_for task fixings.now))) }
+    ensures schedule { IfOk result (λ s. IsScheduled swap.now calendars.now (rates_for task.now fixings.now) s) }
+    ensures refused { IfErr result (λ r. IfRefused r (IsUnscheduled swap.now calendars.now (rates_for task.now fixings.now))) }
 {
     if task.uses_rates() {
         schedule_of(alloc, swap, calendars, fixings)

@@ -36,10 +36,10 @@ pub enum Task {
 
 impl Task {
     /// Whether the schedule is made with the rates of the file of fixings.
-    pub(crate) fn uses_rates(self) -> bool
-        ensures { result ≡ uses_rates self }
+    pub(crate) fn uses_rates(&self) -> bool
+        ensures { result ≡ uses_rates self.now }
     {
-        match self {
+        match *self {
             Task::Check => true,
             Task::Schedule => true,
             Task::Audit => true,
@@ -53,10 +53,10 @@ impl Task {
     }
 
     /// Whether the task asks which party pays each stream.
-    pub(crate) fn nets(self) -> bool
-        ensures { result ≡ nets self }
+    pub(crate) fn nets(&self) -> bool
+        ensures { result ≡ nets self.now }
     {
-        match self {
+        match *self {
             Task::Check => false,
             Task::Schedule => false,
             Task::Audit => false,
