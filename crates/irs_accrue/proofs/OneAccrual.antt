@@ -1,11 +1,9 @@
 -- There is one accrual of a stream on a day.
-use Rattle.std.proofs.Common.{◌≡◌, ◌⊎◌, inl, inr, ℕ, ◌+◌, ◌-◌, ◌^◌, ◌<◌, ◌≤◌, List, length, Bool, false, Option, Some, None, ℤ, pos, negsuc, ◌-ℤ◌, ◌*ℤ◌, ◌<ℤ◌, ◌≤ℤ◌, refl, sym, ap, ap₂, ◌∙◌, subst, arith}
-use Rattle.std.specs.Prelude.{slice_get}
+use Rattle.std.proofs.Common.{◌≡◌, inl, inr, ℕ, ◌-◌, ◌^◌, List, length, false, Option, Some, None, ℤ, pos, negsuc, ◌*ℤ◌, ◌<ℤ◌, ◌≤ℤ◌, refl, sym, ap, ap₂, ◌∙◌, subst, arith}
 use Rattle.std.proofs.lemmas.Int.{by_lt_z}
 use Rattle.jiff_core.proofs.SignedLemmas.{signed_arith}
 use Rattle.irs_base.proofs.MemberLemmas.{every_get, some_is}
 use Rattle.irs_base.proofs.RoundingLaws.{nearest_once}
-use Rattle.irs_base.specs.Members.{Every, HoldsOf, day_at}
 use Rattle.irs_base.specs.declared.line.Dec.{Dec}
 use Rattle.irs_terms.specs.Currencies.{decimals_of}
 use Rattle.irs_terms.specs.declared.codes.DayCountCode.{DayCountCode}
@@ -14,10 +12,9 @@ use Rattle.irs_terms.specs.declared.results.Frac.{Frac}
 use Rattle.irs_daycount.specs.Fractions.{denominator_of}
 use Rattle.irs_daycount.specs.FractionLaws.{one_days, one_denominator, one_fraction}
 use Rattle.irs_schedule.specs.Parts.{IsWithin, KeepsBounds, Part}
-use Rattle.irs_schedule.specs.PeriodViews.{period_at}
 use Rattle.irs_schedule.specs.declared.views.CalculationPeriod.{CalculationPeriod}
-use Rattle.irs_accrue.specs.Accruals.{Accrues, AccruesIn, IsAccrual, IsAccrued, IsInterest, IsOutside, IsPriced, Runs}
-use Rattle.irs_accrue.specs.Shares.{CountedTo, HasRun, OfWhole}
+use Rattle.irs_accrue.specs.Accruals.{Accrues, AccruesIn, IsAccrual, IsAccrued, IsInterest, IsOutside}
+use Rattle.irs_accrue.specs.Shares.{CountedTo, HasRun}
 use Rattle.irs_accrue.specs.declared.accruals.Accrual.{Accrual}
 use Rattle.irs_accrue.specs.declared.accruals.Accrual.TheVariants.{Outside, Inside}
 use Rattle.irs_accrue.proofs.Periods.{RunsFromTo, one_number, rises_to, runs_from_to}

@@ -1,5 +1,5 @@
 -- How large products are.
-use Rattle.std.proofs.Common.{◌≡◌, ℕ, zero, suc, ◌*◌, ◌^◌, ◌≤◌, ℤ, pos, negsuc, ◌≤ℤ◌, unsigned_abs, arith}
+use Rattle.std.proofs.Common.{ℕ, zero, suc, ◌*◌, ◌^◌, ◌≤◌, ℤ, pos, negsuc, ◌≤ℤ◌, unsigned_abs, arith}
 use Rattle.std.proofs.Math.Nat.{mul-le-mul}
 use Rattle.jiff_core.proofs.SignedLemmas.{signed_arith}
 

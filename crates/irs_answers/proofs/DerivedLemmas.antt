@@ -1,6 +1,6 @@
 -- What is due for derived rates, from what the calls answer.
-use Rattle.std.proofs.Common.{◌≡◌, inl, inr, ℕ, ◌<◌, List, [], ◌∷◌, Option, Some, refl, sym, ◌∙◌, ap, ap₂, subst, arith}
-use Rattle.std.specs.Prelude.{slice_get}
+use Rattle.std.proofs.Common.{◌≡◌, ℕ, ◌<◌, ◌≤◌, List, [], ◌∷◌, length, Option, Some, None, refl, sym, ◌∙◌, ap, ap₂, subst, arith}
+use Rattle.std.specs.Prelude.{IfSome}
 use Rattle.std.proofs.lemmas.Option.{same_Some}
 use Rattle.irs_base.specs.Faults.{IfStopped}
 use Rattle.irs_base.specs.Limits.{most_index}
@@ -28,9 +28,13 @@ use Rattle.irs_overnight.specs.Overnight.{Asked, IsAsked, IsFirstDerived, IsOver
 use Rattle.irs_overnight.specs.declared.derived.DerivedRow.{DerivedRow}
 use Rattle.irs_average.specs.Averages.{AverageAsked, AverageKept, IsAverage, IsAverageAsked, IsFirstOfAverage, averaged, most_step}
 use Rattle.irs_average.specs.Interpolations.{IsInterpolated, IsStubBroken, StubKept}
-use Rattle.irs_average.specs.Stubs.{GivesIndex, IsStubAsked, stub_asked}
+use Rattle.irs_average.specs.Stubs.{GivesIndex, GivesOn, IsStubAsked, StubAsked, stub_asked}
 use Rattle.irs_average.specs.declared.means.Mean.{Mean}
 use Rattle.irs_average.specs.declared.stubs.Side.{Side}
+use Rattle.irs_average.specs.declared.stubs.Side.TheVariants.{Initial, Last}
+use Rattle.irs_terms.specs.declared.amounts.StubRate.{StubRate}
+use Rattle.irs_terms.specs.declared.amounts.StubRate.TheVariants.{Index}
+use Rattle.irs_terms.specs.declared.amounts.StubTerms.{StubTerms}
 use Rattle.irs_answers.specs.Derived.{DueAverage, DueAveraged, DueCompounded, DueInterpolate, DueOvernight, DueStub, FloatingStream, IsFloatingAt, IsUnfixed, NotFloating, PrintsOne, PrintsStub}
 use Rattle.irs_answers.specs.Messages.{refused}
 use Rattle.irs_answers.specs.Outcomes.{Ends, IfRefused, of_stopped}
@@ -83,14 +87,29 @@ module _ (swap : Swap) (cal : List Section) (parts : List Part) (h : IsUnfixed s
     high = m;
   }
 
--- ---- K40
+-- ---- the stream, and what is due behind it
 
-module _ (swap : Swap) (n : ℕ) (never : (x : FloatingStream) → IsFloatingAt swap n x → ⊥) (Next : FloatingStream → ℕ → List ℕ → Type 0) where
-  abbrev unfloating_text : List ℕ
-  unfloating_text = refused (no_floating_stream n)
+module _ (swap : Swap) (n : ℕ) (Next : FloatingStream → ℕ → List ℕ → Type 0) where
+  abbrev Whole : ℕ → List ℕ → Type 0
+  Whole status text = Step (IsFloatingAt swap n) (NotFloating n status text) (λ y. Next y status text)
 
-  unfloating : Step (IsFloatingAt swap n) (NotFloating n 2 unfloating_text) (λ x. Next x 2 unfloating_text)
-  unfloating = unread (IsFloatingAt swap n) (NotFloating n 2 unfloating_text) (λ x. Next x 2 unfloating_text) never (refl, refl)
+  -- K40
+  pub refuse_unfloating : (b : Broken) → ((x : FloatingStream) → IsFloatingAt swap n x → ⊥) → b ≡ no_floating_stream n → IfRefused (Rule b) (Ends Whole)
+  refuse_unfloating b never e = rw e (record { due = unread (IsFloatingAt swap n) (NotFloating n 2 (refused (no_floating_stream n))) (λ x. Next x 2 (refused (no_floating_stream n))) never (refl, refl); verdict = omega arith })
+
+  module _ (x : FloatingStream) (k : IsFloatingAt swap n x) where
+    in_floating : (status : ℕ) (text : List ℕ) → Next x status text → Whole status text
+    in_floating status text h = read (IsFloatingAt swap n) (NotFloating n status text) (λ y. Next y status text) x k (λ y other. subst (λ (z : FloatingStream). Next z status text) (sym (one_floating swap n x y k other)) h)
+
+    pub refuse_broken : (b : Broken) → Next x 2 (refused b) → IfRefused (Rule b) (Ends Whole)
+    refuse_broken b h = record { due = in_floating 2 (refused b) h; verdict = omega arith }
+
+    pub refuse_stopped : (P : Broken → Type 0) (e : Stopped Broken) → IfStopped e P → ((b : Broken) → P b → Next x 2 (refused b)) → IfRefused (of_stopped e) (Ends Whole)
+    refuse_stopped P (stopped.Broken b) h due = refuse_broken b (due b h)
+    refuse_stopped P stopped.Memory h due = tt
+
+    pub ends_done : (text : List ℕ) → Next x 0 text → Ends Whole 0 text
+    ends_done text h = record { due = in_floating 0 text h; verdict = omega arith }
 
 -- ---- the rules of the task, and its rows
 
@@ -101,3 +120,34 @@ due_first K P N b never first one = broken K (Refuses P 2 (refused b)) N (λ k. 
 -- the one list of rows
 due_printed : (K : Type 0) (F : Type 0) (P : List DerivedRow → Type 0) (float : FloatTerms) (rows : List DerivedRow) → K → P rows → ((x y : List DerivedRow) → P x → P y → x ≡ y) → Rules K F (PrintsOne P float 0 (file_text rows float.tenor float.index))
 due_printed K F P float rows keeps are one = kept K F (PrintsOne P float 0 (file_text rows float.tenor float.index)) keeps (rows, record { is = are; only = λ y is. one y rows is are }, (refl, refl))
+
+pub compounded_first : (a : Asked) (float : FloatTerms) (b : Broken) → IsFirstDerived a b → ((x y : Broken) → IsFirstDerived a x → IsFirstDerived a y → x ≡ y) → DueCompounded a float 2 (refused b)
+compounded_first a float b first one = due_first (OvernightKept a) (IsFirstDerived a) (PrintsOne (IsOvernight a) float 2 (refused b)) b (λ k f. k f.fault f.first.0) first one
+
+pub compounded_rows : (a : Asked) (float : FloatTerms) (rows : List DerivedRow) → OvernightKept a → IsOvernight a rows → ((x y : List DerivedRow) → IsOvernight a x → IsOvernight a y → x ≡ y) → DueCompounded a float 0 (file_text rows float.tenor float.index)
+compounded_rows a float rows keeps are one = due_printed (OvernightKept a) (Refuses (IsFirstDerived a) 0 (file_text rows float.tenor float.index)) (IsOvernight a) float rows keeps are one
+
+pub averaged_first : (a : AverageAsked) (float : FloatTerms) (b : Broken) → IsFirstOfAverage a b → ((x y : Broken) → IsFirstOfAverage a x → IsFirstOfAverage a y → x ≡ y) → DueAveraged a float 2 (refused b)
+averaged_first a float b first one = due_first (AverageKept a) (IsFirstOfAverage a) (PrintsOne (IsAverage a) float 2 (refused b)) b (λ k f. k f.fault f.first.0) first one
+
+pub averaged_rows : (a : AverageAsked) (float : FloatTerms) (rows : List DerivedRow) → AverageKept a → IsAverage a rows → ((x y : List DerivedRow) → IsAverage a x → IsAverage a y → x ≡ y) → DueAveraged a float 0 (file_text rows float.tenor float.index)
+averaged_rows a float rows keeps are one = due_printed (AverageKept a) (Refuses (IsFirstOfAverage a) 0 (file_text rows float.tenor float.index)) (IsAverage a) float rows keeps are one
+
+pub stub_broken : (a : StubAsked) (b : Broken) → IsStubBroken a b → ((x y : Broken) → IsStubBroken a x → IsStubBroken a y → x ≡ y) → DueStub a 2 (refused b)
+stub_broken a b first one = due_first (StubKept a) (IsStubBroken a) (PrintsStub a 2 (refused b)) b (λ k f. k f.fault f.breaks) first one
+
+pub stub_printed : (a : StubAsked) (row : DerivedRow) (index : List ℕ) (tenor : Option Frequency) → StubKept a → IsInterpolated a row → ((x y : DerivedRow) → IsInterpolated a x → IsInterpolated a y → x ≡ y) → GivesIndex a.swap a.number a.side index tenor → DueStub a 0 (file_text (row ∷ []) tenor index)
+stub_printed a row index tenor keeps is one gives = let text = file_text (row ∷ []) tenor index in kept (StubKept a) (Refuses (IsStubBroken a) 0 text) (PrintsStub a 0 text) keeps (row, record { is = is; only = λ y other. one y row other is }, (index, (tenor, gives, (refl, refl))))
+
+-- ---- the index of a stub
+
+stub_named : (o : Option StubTerms) (side : Side) (index : List ℕ) (tenor : Option Frequency) → IfSome o IsLawfulStubs → GivesOn side o index tenor → IsLawfulIndex index
+stub_named None side index tenor h k = absurd k
+stub_named (Some stubs) Initial index tenor h k = let r : IfSome (Some (Index index tenor)) IsLawfulStubRate = subst (λ (z : Option StubRate). IfSome z IsLawfulStubRate) k h.0 in r.0
+stub_named (Some stubs) Last index tenor h k = let r : IfSome (Some (Index index tenor)) IsLawfulStubRate = subst (λ (z : Option StubRate). IfSome z IsLawfulStubRate) k h.1 in r.0
+
+-- it is no longer than an index may be
+pub stub_short : (swap : Swap) (n : ℕ) (side : Side) (index : List ℕ) (tenor : Option Frequency) → IsLawful swap → GivesIndex swap n side index tenor → length index ≤ most_index
+stub_short swap n side index tenor lawful gives =
+    let s = lawful_stream swap lawful _ gives.stream gives.at in
+    (stub_named gives.stream.stubs side index tenor s.stubs gives.gives).1.0

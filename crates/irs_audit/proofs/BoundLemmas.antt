@@ -1,5 +1,5 @@
 -- What each row of a schedule keeps.
-use Rattle.std.proofs.Common.{◌≡◌, ℕ, zero, suc, ◌+◌, ◌≤◌, List, [], ◌∷◌, length, Option, Some, ℤ, pos, ◌<ℤ◌, ◌≤ℤ◌, inl, inr, sym, ap, subst, arith}
+use Rattle.std.proofs.Common.{◌≡◌, ℕ, ◌+◌, ◌≤◌, List, [], ◌∷◌, length, Option, Some, ℤ, pos, ◌<ℤ◌, ◌≤ℤ◌, inl, inr, sym, ap, subst, arith}
 use Rattle.std.specs.Prelude.{slice_get, unwrap_or}
 use Rattle.std.proofs.lemmas.Option.{slice_get_cases, IfSome_then}
 use Rattle.jiff_core.proofs.SignedLemmas.{signed_arith}

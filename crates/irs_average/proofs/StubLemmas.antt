@@ -1,5 +1,5 @@
 -- The stub for which an index is given is there, and it is one.
-use Rattle.std.proofs.Common.{◌≡◌, ◌⊎◌, inl, inr, ℕ, ◌+◌, ◌-◌, ◌<◌, ◌≤◌, List, [], length, Option, Some, None, IsSome, IsTrue, ℤ, ◌<ℤ◌, refl, sym, subst, ◌∙◌, ap, arith}
+use Rattle.std.proofs.Common.{◌≡◌, ◌⊎◌, inl, inr, ℕ, ◌+◌, ◌-◌, ◌<◌, ◌≤◌, List, [], length, Option, Some, None, IsSome, IsTrue, Result, Ok, Err, IfOk, IfErr, ℤ, ◌<ℤ◌, refl, sym, subst, ◌∙◌, ap, arith}
 use Rattle.std.specs.Prelude.{slice_get}
 use Rattle.jiff_core.proofs.SignedLemmas.{signed_arith}
 use Rattle.irs_base.proofs.Decided.{order_of}
@@ -24,7 +24,6 @@ use Rattle.irs_schedule.specs.DaySets.{reset_days, stream_sets}
 use Rattle.irs_schedule.specs.Layouts.{IsLayout}
 use Rattle.irs_schedule.specs.Parts.{KeepsBounds, Part}
 use Rattle.irs_schedule.specs.Schedules.{IsPart}
-use Rattle.irs_schedule.specs.declared.layouts.Layout.{Layout}
 use Rattle.irs_overnight.specs.Overnight.{Asked, IsAsked, asked}
 use Rattle.irs_overnight.specs.declared.derived.DerivedRow.{DerivedRow}
 use Rattle.irs_overnight.proofs.SourceLemmas.{asked_part, asked_place, partner, same_stream, some_part}
@@ -86,7 +85,7 @@ pub has_stub : (a : StubAsked) → IsStubAsked a → (part : Part) → slice_get
 has_stub a h part at index tenor gives =
     let sets = stream_sets h.calendars gives.stream in
     let found = partner (λ s p. IsPart (stream_sets h.calendars s) [] s p) a.swap.streams a.parts (a.number - 1) gives.stream h.schedule gives.at in
-    let layout : Layout = found.2.layout in
+    let layout = found.2.layout in
     let laid : IsLayout sets gives.stream layout = found.2.is_layout in
     let kept = h.dates (a.number - 1) gives.stream gives.at in
     let initial : InitialUnmet gives.stream layout.span → ⊥ = λ unmet. kept in_resets (fault_at K37 initial_stub 0) (record { layout = layout; is_layout = laid; breaks = inl (inl (unmet, refl)) }) in
@@ -184,3 +183,12 @@ lies_among a row h stub has x low high is at_low at_high l g first second =
     let moved : IsStubRow stub.source stub.period row = subst (λ (s : Stub). IsStubRow s.source s.period row) same h.is in
     row_within stub.source stub.period row x low high l g moved is
     (ap (tenor_rate stub.source) (low_of a stub has) ∙ at_low) (ap (tenor_rate stub.source) (high_of a stub has) ∙ at_high) first second
+
+-- an answer that is a row or a broken rule
+pub row_there : (a : StubAsked) (r : Result DerivedRow Broken) → IfOk r (IsInterpolated a) → IfErr r (IsStubBroken a) → StubKept a → (row : DerivedRow) × IsInterpolated a row
+row_there a (Ok row) is broken kept = (row, is)
+row_there a (Err x) is broken kept = absurd (kept broken.fault broken.breaks)
+
+pub row_kept : (a : StubAsked) (r : Result DerivedRow Broken) → IfOk r (IsInterpolated a) → IfOk r (λ _. StubKept a)
+row_kept a (Ok row) is = row_keeps a row is
+row_kept a (Err x) is = tt

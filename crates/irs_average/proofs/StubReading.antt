@@ -1,8 +1,9 @@
 -- The row of a stub prints a fixing file that has exactly its rate.
-use Rattle.std.proofs.Common.{◌≡◌, ℕ, zero, suc, ◌+◌, ◌-◌, ◌^◌, ◌<◌, ◌≤◌, List, [], ◌∷◌, length, Option, Some, None, IfSome, ℤ, ◌<ℤ◌, refl, sym, subst, ◌∙◌, ap, arith}
+use Rattle.std.proofs.Common.{◌≡◌, ℕ, zero, suc, ◌+◌, ◌-◌, ◌^◌, ◌<◌, ◌≤◌, List, [], ◌∷◌, length, Option, Some, None, IfSome, Result, Ok, Err, IfOk, ℤ, ◌<ℤ◌, refl, sym, subst, ◌∙◌, ap, arith}
 use Rattle.std.specs.Prelude.{slice_get}
 use Rattle.std.proofs.lemmas.Option.{get_or_from_slice_get, slice_get_within}
 use Rattle.irs_base.specs.Members.{Every}
+use Rattle.irs_base.specs.declared.places.Broken.{Broken}
 use Rattle.irs_terms.specs.Lawful.{IsLawfulStream, IsLawfulStubRate, IsLawfulStubs}
 use Rattle.irs_terms.specs.declared.amounts.StubRate.{StubRate}
 use Rattle.irs_terms.specs.declared.amounts.StubRate.TheVariants.{Index}
@@ -77,3 +78,7 @@ stub_reads_back a h bounds row is range = λ stub has.
     let short : number_on a.side count < 2 ^ 32 = number_few a.side count (omega (arith, adjusted, some)) (omega (arith, adjusted, few)) in
     let small : row.period < 2 ^ 32 = subst (λ (n : ℕ). n < 2 ^ 32) (sym (is.is.number ∙ number)) short in
     are_fixings stub.tenor stub.source.index (row ∷ []) (lawful_stub a h stub has) (one_kept row range small)
+
+pub read_back : (a : StubAsked) → IsStubAsked a → Every KeepsBounds a.parts → (r : Result DerivedRow Broken) → IfOk r (IsInterpolated a) → IfOk r IsInRange → IfOk r (StubReadsBack a)
+read_back a h bounds (Ok row) is range = stub_reads_back a h bounds row is range
+read_back a h bounds (Err x) is range = tt

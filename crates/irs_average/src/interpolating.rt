@@ -1,5 +1,5 @@
 //! The rate of a stub between those of two tenors of its index.
-ghost use Rattle.std.specs.Prelude.{◌≡◌, ◌×◌, ℤ, List, IfOk, IfErr, IfSome, IfNone, IsTrue};
+ghost use Rattle.std.specs.Prelude.{◌≡◌, ℤ, List, IfOk, IfErr, IfSome, IfNone, IsTrue};
 ghost use Rattle.irs_base.specs.declared.places.Broken.{Broken as BrokenRule};
 ghost use Rattle.irs_resets.specs.ResetDates.{IsPeriod};
 ghost use Rattle.irs_overnight.specs.FileLaw.{IsInRange};
@@ -138,6 +138,24 @@ pub fn interpolate(
 {
     // hands the prover the bounds of the schedule
     s.bounds();
+    numbered_row(s, swap, stream, side, low, high, fix)
+}
+
+// The same; a broken rule is named by the number of the stream.
+fn numbered_row(
+    s: &Schedule,
+    swap: &Swap,
+    stream: u8,
+    side: Side,
+    low: Frequency,
+    high: Frequency,
+    fix: &Fixings,
+) -> Result<DerivedRow, Broken>
+    requires { IsStubAsked (stub_asked swap.now stream side low high s.now fix.now) }
+    ensures ok { let a = stub_asked swap.now stream side low high s.now fix.now in IfOk result (IsInterpolated a) }
+    ensures range { IfOk result IsInRange }
+    ensures broken { let a = stub_asked swap.now stream side low high s.now fix.now in IfErr result (IsStubBroken a) }
+{
     match asked_row(s, swap, stream, side, low, high, fix) {
         Ok(row) => Ok(row),
         Err(fault) => Err(fault.in_stream(stream)),

@@ -120,7 +120,8 @@ fn mean_rows<G: GoodDays>(
 {
     let mut rows = Derived::new(alloc);
     for number in 1..part.adjusted().len() {
-        let Some(row) = mean_row(alloc, part, number, kind, step, days, fix, float)? else {
+        let found = mean_row(alloc, part, number, kind, step, days, fix, float)?;
+        let Some(row) = found else {
             return Err(Stopped::Broken(lacking(number as u32)));
         };
         rows.push(row)?;

@@ -6,16 +6,23 @@ use Rattle.std.proofs.lemmas.Bool.Decides.{nat_tests}
 use Rattle.std.specs.declared.alloc.Global.{Global}
 use Rattle.std.proofs.lemmas.Option.{slice_get-map, slice_get_read, same_Some}
 use Rattle.std.proofs.lemmas.List.{map-append, length-drop}
-use Rattle.irs_elements.proofs.DatesAt.{day_is}
 use Rattle.irs_cli.specs.declared.commands.Role.{Role}
 use Rattle.irs_cli.specs.declared.commands.Role.TheVariants.{Document, Fixings, Flows, Calendar}
 use Rattle.irs_cli.specs.declared.commands.Kind.{Kind}
 use Rattle.irs_cli.specs.declared.commands.Kind.TheVariants as kind
-use Rattle.irs_cli.specs.declared.commands.Task.{Task}
-use Rattle.irs_cli.specs.declared.commands.Task.TheVariants.{Accrue}
+use Rattle.irs_average.specs.declared.means.Mean.{Mean}
+use Rattle.irs_average.specs.declared.stubs.Side.{Side}
+use Rattle.irs_terms.specs.declared.frequency.Frequency.{Frequency}
+use Rattle.irs_answers.specs.declared.tasks.Task.TheVariants as task
+use Rattle.irs_answers.specs.Given.{most_calendars}
+use Rattle.irs_cli.specs.declared.commands.Request.{Request}
+use Rattle.irs_cli.specs.declared.commands.Request.TheVariants.{OverFiles, Bulk}
 use Rattle.irs_cli.specs.declared.commands.Command.{Command}
 use Rattle.irs_cli.specs.declared.commands.Named.{Named}
-use Rattle.irs_cli.specs.Commands.{Words, texts, Wanted, Asked, Asks, AsksAs, IsTask, IsDateWord, IsDateAt, IsListed, IsCommand, IsCommandAs, asked_by, wanted_by, kind_of, params_of, roles_of, calendars_of, most_calendars, role_at, is_file, kept, files_from}
+use Rattle.irs_cli.specs.Commands.{Words, texts, Wanted, Asked, Asks, AsksAs, AsksAccrue, AsksAverage, AsksBulk, AsksInterpolate, AsksOvernight, IsRequest, IsListed, IsCommand, IsCommandAs, asked_by, wanted_by, kind_of, params_of, roles_of, calendars_of, role_at, is_file, kept, files_from}
+use Rattle.irs_cli.specs.Due.{IsLawfulRequest}
+use Rattle.irs_cli.specs.Params.{IsCountWord, IsDateWord, IsMeanWord, IsSideWord, IsStepWord, IsStreamWord, IsTenorWord}
+use Rattle.irs_cli.proofs.ParamLemmas.{one_at, one_count, one_date, one_mean, one_side, one_step, one_stream, one_tenor, step_lawful, tenor_lawful}
 
 pub ap_some : {x y : List ℕ} → x ≡ y → (let o : Option (List ℕ) = Some x in o ≡ Some y)
 ap_some e = ap Some e
@@ -58,26 +65,60 @@ step_no roles place i ws w fs r all at role not e =
 
 -- ---- words are one command at most
 
-one_word : (w : List ℕ) (d e : ℤ) → IsDateWord w d → IsDateWord w e → e ≡ d
-one_word w d e h k = same_Some e d (day_is w (Some e) (k.in_range, k.is) tt ∙ sym (day_is w (Some d) (h.in_range, h.is) tt))
+one_accrue : (ps : Words) (a b : Request) → AsksAccrue ps a → AsksAccrue ps b → b ≡ a
+one_accrue ps a b h k = k.is ∙ ap (λ (d : ℤ). OverFiles (task.Accrue d)) (one_at IsDateWord one_date ps 0 h.date k.date h.is_date k.is_date) ∙ sym h.is
 
-one_date : (ps : Words) (i : ℕ) (d e : ℤ) → IsDateAt ps i d → IsDateAt ps i e → e ≡ d
-one_date ps i d e h k =
-    let same : k.0 ≡ h.0 = same_Some k.0 h.0 (sym k.1 ∙ h.1) in
-    one_word h.0 d e h.2 (subst (λ (w : List ℕ). IsDateWord w e) same k.2)
+one_bulk : (ps : Words) (a b : Request) → AsksBulk ps a → AsksBulk ps b → b ≡ a
+one_bulk ps a b h k = k.is ∙ ap (λ (n : ℕ). Bulk n) (one_at IsCountWord one_count ps 0 h.count k.count h.is_count k.is_count) ∙ sym h.is
 
-one_task : (k : Kind) (ps : Words) (t u : Task) → IsTask k ps t → IsTask k ps u → u ≡ t
-one_task kind.Check ps t u h i = i ∙ sym h
-one_task kind.Schedule ps t u h i = i ∙ sym h
-one_task kind.Audit ps t u h i = i ∙ sym h
-one_task kind.Emit ps t u h i = i ∙ sym h
-one_task kind.Accrue ps t u h i = i.2 ∙ ap (λ (d : ℤ). Accrue d) (one_date ps 0 h.0 i.0 h.1 i.1) ∙ sym h.2
+one_overnight : (ps : Words) (a b : Request) → AsksOvernight ps a → AsksOvernight ps b → b ≡ a
+one_overnight ps a b h k = k.is ∙ ap (λ (n : ℕ). OverFiles (task.Overnight n)) (one_at IsStreamWord one_stream ps 0 h.stream k.stream h.is_stream k.is_stream) ∙ sym h.is
 
-abbrev asked : Task → List Wanted → Asked
-asked t fs = record { task = t; files = fs }
+one_average : (ps : Words) (a b : Request) → AsksAverage ps a → AsksAverage ps b → b ≡ a
+one_average ps a b h k =
+    let n = one_at IsStreamWord one_stream ps 0 h.stream k.stream h.is_stream k.is_stream in
+    let m = one_at IsMeanWord one_mean ps 1 h.mean k.mean h.is_mean k.is_mean in
+    let s = one_at IsStepWord one_step ps 2 h.step k.step h.is_step k.is_step in
+    k.is ∙ ap (λ (x : ℕ). OverFiles (task.Average x k.mean k.step)) n ∙ ap (λ (x : Mean). OverFiles (task.Average h.stream x k.step)) m ∙ ap (λ (x : ℕ). OverFiles (task.Average h.stream h.mean x)) s ∙ sym h.is
+
+one_interpolate : (ps : Words) (a b : Request) → AsksInterpolate ps a → AsksInterpolate ps b → b ≡ a
+one_interpolate ps a b h k =
+    let n = one_at IsStreamWord one_stream ps 0 h.stream k.stream h.is_stream k.is_stream in
+    let s = one_at IsSideWord one_side ps 1 h.side k.side h.is_side k.is_side in
+    let l = one_at IsTenorWord one_tenor ps 2 h.low k.low h.is_low k.is_low in
+    let m = one_at IsTenorWord one_tenor ps 3 h.high k.high h.is_high k.is_high in
+    k.is ∙ ap (λ (x : ℕ). OverFiles (task.Interpolate x k.side k.low k.high)) n ∙ ap (λ (x : Side). OverFiles (task.Interpolate h.stream x k.low k.high)) s ∙ ap (λ (x : Frequency). OverFiles (task.Interpolate h.stream h.side x k.high)) l ∙ ap (λ (x : Frequency). OverFiles (task.Interpolate h.stream h.side h.low x)) m ∙ sym h.is
+
+one_request : (k : Kind) (ps : Words) (r q : Request) → IsRequest k ps r → IsRequest k ps q → q ≡ r
+one_request kind.Check ps r q h i = i ∙ sym h
+one_request kind.Schedule ps r q h i = i ∙ sym h
+one_request kind.Audit ps r q h i = i ∙ sym h
+one_request kind.Bulk ps r q h i = one_bulk ps r q h i
+one_request kind.Emit ps r q h i = i ∙ sym h
+one_request kind.Accrue ps r q h i = one_accrue ps r q h i
+one_request kind.Net ps r q h i = i ∙ sym h
+one_request kind.Overnight ps r q h i = one_overnight ps r q h i
+one_request kind.Average ps r q h i = one_average ps r q h i
+one_request kind.Interpolate ps r q h i = one_interpolate ps r q h i
+
+-- its parameters lie in their ranges
+lawful_by : (k : Kind) (ps : Words) (r : Request) → IsRequest k ps r → IsLawfulRequest r
+lawful_by kind.Check ps r h = subst IsLawfulRequest (sym h) tt
+lawful_by kind.Schedule ps r h = subst IsLawfulRequest (sym h) tt
+lawful_by kind.Audit ps r h = subst IsLawfulRequest (sym h) tt
+lawful_by kind.Bulk ps r h = subst IsLawfulRequest (sym h.is) h.is_count.is.to_most
+lawful_by kind.Emit ps r h = subst IsLawfulRequest (sym h) tt
+lawful_by kind.Accrue ps r h = subst IsLawfulRequest (sym h.is) tt
+lawful_by kind.Net ps r h = subst IsLawfulRequest (sym h) tt
+lawful_by kind.Overnight ps r h = subst IsLawfulRequest (sym h.is) tt
+lawful_by kind.Average ps r h = subst IsLawfulRequest (sym h.is) (step_lawful h.is_step.word h.step h.is_step.is)
+lawful_by kind.Interpolate ps r h = subst IsLawfulRequest (sym h.is) (tenor_lawful h.is_low.word h.low h.is_low.is, tenor_lawful h.is_high.word h.high h.is_high.is)
+
+abbrev asked : Request → List Wanted → Asked
+asked r fs = record { request = r; files = fs }
 
 one_as : (k : Kind) (ws : Words) (a b : Asked) → AsksAs k ws a → AsksAs k ws b → b ≡ a
-one_as k ws a b h i = ap (λ (t : Task). asked t b.files) (one_task k (take (params_of k) ws) a.task b.task h.task i.task) ∙ ap (λ (f : List Wanted). asked a.task f) (i.files ∙ sym h.files)
+one_as k ws a b h i = ap (λ (r : Request). asked r b.files) (one_request k (take (params_of k) ws) a.request b.request h.request i.request) ∙ ap (λ (f : List Wanted). asked a.request f) (i.files ∙ sym h.files)
 
 same_kind : (w : List ℕ) (k l : Kind) → kind_of w ≡ Some k → kind_of w ≡ Some l → l ≡ k
 same_kind w k l h i = same_Some l k (sym i ∙ h)
@@ -132,8 +173,13 @@ row_fits : (k : Kind) → (all_cals (roles_of k) ≡ 0) × (calendars_of k ≤ m
 row_fits kind.Check = (refl, omega arith)
 row_fits kind.Schedule = (refl, omega arith)
 row_fits kind.Audit = (refl, omega arith)
+row_fits kind.Bulk = (refl, omega arith)
 row_fits kind.Emit = (refl, omega arith)
 row_fits kind.Accrue = (refl, omega arith)
+row_fits kind.Net = (refl, omega arith)
+row_fits kind.Overnight = (refl, omega arith)
+row_fits kind.Average = (refl, omega arith)
+row_fits kind.Interpolate = (refl, omega arith)
 
 one_cal : (r : Role) → is_cal r ≤ 1
 one_cal Document = omega arith
@@ -182,3 +228,7 @@ few_cals ws a h =
     let left : length (drop p f.words) ≡ n - p = length-drop p f.words in
     let bound : cals (files_from roles (p + 1) 0 (drop p f.words)) ≤ most_calendars = omega (arith, few, left, most, row.1) in
     subst (λ (l : List Wanted). cals l ≤ most_calendars) (sym f.form.files) bound
+
+-- the parameters of a listed command lie in their ranges
+pub lawful_asked : (ws : Words) (a : Asked) → Asks ws a → IsLawfulRequest a.request
+lawful_asked ws a h = let f = formed ws a h in lawful_by f.kind (take (params_of f.kind) f.words) a.request f.form.request

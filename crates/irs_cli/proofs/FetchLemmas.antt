@@ -1,19 +1,18 @@
 -- What the fetch of files says of the files that are told.
-use Rattle.std.proofs.Common.{◌≡◌, inl, inr, ℕ, zero, suc, ◌+◌, ◌<◌, ◌≤◌, List, [], ◌∷◌, ◌++◌, length, map, take, drop, get_or, Option, Some, None, refl, sym, ◌∙◌, ap, subst, arith, Vec}
-use Rattle.std.specs.declared.alloc.Global.{Global}
-use Rattle.std.specs.Prelude.{IfSome, IsErr, All, Result, Ok, Err}
+use Rattle.std.proofs.Common.{◌≡◌, inl, inr, ℕ, zero, suc, ◌+◌, ◌<◌, ◌≤◌, List, [], ◌∷◌, ◌++◌, length, map, take, drop, get_or, Option, Some, None, refl, sym, ◌∙◌, ap, subst, arith}
+use Rattle.std.specs.Prelude.{IfSome, IsErr, Result, Ok, Err}
 use Rattle.std.specs.Result.{IsErrAnd}
 use Rattle.std.proofs.lemmas.Bool.{cases_lt}
-use Rattle.std.proofs.lemmas.List.{take_all, length-take-le, length-map, map_more, map-append, get_or-map}
+use Rattle.std.proofs.lemmas.List.{take_all, length-take-le, map_more, map-append}
 use Rattle.irs_outside.specs.Outside.{Rose}
 use Rattle.irs_cli.specs.declared.commands.Named.{Named}
-use Rattle.irs_cli.specs.declared.fetching.Fetched.{Fetched}
+use Rattle.irs_answers.specs.declared.files.TaskFiles.{TaskFiles}
+use Rattle.irs_answers.specs.Given.{Given, no_files, too_many}
 use Rattle.irs_cli.specs.declared.fetching.Unfetched.{Unfetched}
 use Rattle.irs_cli.specs.declared.fetching.Unfetched.TheVariants.{NoFile, TooLong, Memory}
 use Rattle.irs_cli.specs.Commands.{Wanted, wanted_by}
-use Rattle.irs_cli.specs.Given.{Told, Given, Gathers, Reaches, no_files, with_file, too_many}
+use Rattle.irs_cli.specs.Given.{Told, Gathers, Reaches, with_file}
 use Rattle.irs_cli.specs.Fetching.{Holds, NotLong, FailedAt, OverAt, Stops, StopsOne, FetchesAll}
-use Rattle.irs_base.specs.Limits.{most_bytes}
 use Rattle.irs_cli.proofs.FileLemmas.{gathers_reach, gathers_more}
 
 -- ---- what a later call is told is what was told before it
@@ -71,7 +70,7 @@ held_more told xs i d g h bytes less k held e =
     let more : Gathers (Holds told) (map wanted_by (take i xs) ++ wanted_by n ∷ []) no_files (with_file g n.role bytes) = gathers_more (Holds told) (map wanted_by (take i xs)) (wanted_by n) bytes no_files g k held in
     subst (λ (l : List Wanted). Gathers (Holds told) l no_files h) (sym (map_more wanted_by xs i d less)) (subst (λ (x : Given). Gathers (Holds told) (map wanted_by (take i xs) ++ wanted_by n ∷ []) no_files x) (sym e) more)
 
-pub all_by : (told : Told) (failed : Option (List ℕ)) (before now : ℕ) (ws : List Wanted) (r : Result Fetched Unfetched) (e : Unfetched) → IsErr r → IsErrAnd r (λ x. x ≡ e) → Stops told ws failed before now e → FetchesAll told failed before now ws r
+pub all_by : (told : Told) (failed : Option (List ℕ)) (before now : ℕ) (ws : List Wanted) (r : Result TaskFiles Unfetched) (e : Unfetched) → IsErr r → IsErrAnd r (λ x. x ≡ e) → Stops told ws failed before now e → FetchesAll told failed before now ws r
 all_by told failed before now ws (Ok f) e h k s = absurd k
 all_by told failed before now ws (Err x) e h k s = subst (λ (u : Unfetched). Stops told ws failed before now u) (sym k) s
 

@@ -1,14 +1,8 @@
 pub mod Putting
-pub mod Pushes
+pub mod ParamLemmas
 pub mod CommandLemmas
 pub mod FileLemmas
 pub mod FetchLemmas
-pub mod FirstLemmas
-pub mod SameRates
-pub mod StepLemmas
-pub mod DueLemmas
-pub mod AccrueLemmas
-pub mod FlowLemmas
 pub mod RunLemmas
-pub mod MessageLemmas
+pub mod HandedReplies
 pub mod OneAnswer

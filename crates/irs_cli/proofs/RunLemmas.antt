@@ -1,21 +1,20 @@
 -- What a run says, from what its parts say.
-use Rattle.std.proofs.Common.{◌≡◌, inl, inr, ℕ, ◌<◌, ◌≤◌, List, length, Option, Some, Result, refl, sym, ◌∙◌, ap, subst, arith}
+use Rattle.std.proofs.Common.{◌≡◌, inl, inr, ℕ, ◌<◌, ◌≤◌, List, length, Option, Some, refl, sym, ◌∙◌, ap, subst, arith}
 use Rattle.std.specs.Prelude.{IfSome}
 use Rattle.irs_outside.specs.Outside.{Rose}
 use Rattle.irs_cli.specs.declared.fetching.Unfetched.{Unfetched}
 use Rattle.irs_cli.specs.declared.fetching.Unfetched.TheVariants as fetching
-use Rattle.irs_cli.specs.declared.refusals.Refusal.{Refusal}
-use Rattle.irs_cli.specs.declared.replies.Reply.{Reply}
+use Rattle.irs_answers.specs.Given.{Given, no_files, too_many}
+use Rattle.irs_answers.specs.Outcomes.{Ends}
 use Rattle.irs_cli.specs.Commands.{Words, Wanted, Asked, Asks, IsListed}
-use Rattle.irs_cli.specs.Given.{Told, Given, Gathers, Reaches, IsTold, IsShort, IsLongAt, IsFirstLong, AreTold, no_files, too_many}
+use Rattle.irs_cli.specs.Given.{Told, Gathers, Reaches, IsTold, IsShort, IsLongAt, IsFirstLong, AreTold}
 use Rattle.irs_cli.specs.Fetching.{Holds, NotLong, FailedAt, OverAt, Stops}
 use Rattle.irs_cli.specs.Messages.{bad_words, no_file, too_long}
-use Rattle.irs_cli.specs.Due.{Due, DueFor, no_command, long_file, all_told}
-use Rattle.irs_cli.specs.Outcomes.{of_fetch, Ends, IfRefused, IfAnswered}
+use Rattle.irs_cli.specs.Due.{Due, DueOf, no_command, long_file, all_told}
+use Rattle.irs_cli.specs.Outcomes.{of_fetch, IfRefused}
 use Rattle.irs_cli.specs.Run.{NoFile, Replies}
 use Rattle.irs_cli.proofs.CommandLemmas.{one_command}
 use Rattle.irs_cli.proofs.FileLemmas.{reaches_meet, reaches_with, gathers_none, gathers_one, gathers_with}
-use Rattle.irs_cli.proofs.StepLemmas.{answered_more}
 
 -- ---- words that are no command
 
@@ -116,7 +115,7 @@ held_long told q w bytes h k =
     let s : length k.bytes < too_many = subst (λ (l : List ℕ). length l < too_many) same h.1 in
     omega (arith, s, k.long)
 
-ended_replies : (ws : Words) (told : Told) (a : Asked) (g : Given) (failed : Option (List ℕ)) (before now : ℕ) → Asks ws a → Gathers (Holds told) a.files no_files g → now ≡ before → (status : ℕ) (text : List ℕ) → Ends (DueFor a.task g) status text → Replies ws told failed before now status text
+pub ended_replies : (ws : Words) (told : Told) (a : Asked) (g : Given) (failed : Option (List ℕ)) (before now : ℕ) → Asks ws a → Gathers (Holds told) a.files no_files g → now ≡ before → (status : ℕ) (text : List ℕ) → Ends (DueOf a.request g) status text → Replies ws told failed before now status text
 ended_replies ws told a g failed before now asks held quiet status text h =
     let due : Due ws told status text = record {
       unlisted = λ unlisted. absurd (unlisted (a, asks));
@@ -139,6 +138,3 @@ ended_replies ws told a g failed before now asks held quiet status text h =
       only_unlisted = λ e. absurd (omega (arith, e, h.verdict));
       when_unlisted = λ unlisted. absurd (unlisted (a, asks));
     }
-
-pub fetched_replies : (ws : Words) (told : Told) (a : Asked) (g : Given) (failed : Option (List ℕ)) (before now : ℕ) (r : Result Reply Refusal) → Asks ws a → Gathers (Holds told) a.files no_files g → now ≡ before → IfAnswered r (Ends (DueFor a.task g)) → IfAnswered r (Replies ws told failed before now)
-fetched_replies ws told a g failed before now r asks held quiet h = answered_more r (Ends (DueFor a.task g)) (Replies ws told failed before now) (ended_replies ws told a g failed before now asks held quiet) h

@@ -15,7 +15,7 @@ use Rattle.irs_terms.specs.declared.codes.DayCountCode.TheVariants.{OneOne, ActA
 use Rattle.irs_terms.specs.declared.currency.Currency.{Currency}
 use Rattle.irs_terms.specs.declared.results.Exchange.{Exchange}
 use Rattle.jiff_core.proofs.SignedLemmas.{signed_arith}
-use Rattle.std.proofs.Common.{◌≡◌, ℕ, zero, suc, ◌+◌, ◌<◌, ◌≤◌, List, [], ◌∷◌, length, get_or, Option, Some, ℤ, pos, ◌<ℤ◌, inl, inr, sym, ap, ◌∙◌, subst, arith}
+use Rattle.std.proofs.Common.{◌≡◌, ℕ, ◌+◌, ◌<◌, ◌≤◌, List, [], ◌∷◌, length, get_or, Option, Some, ℤ, pos, ◌<ℤ◌, inl, inr, sym, ap, ◌∙◌, subst, arith}
 use Rattle.std.proofs.lemmas.Option.{slice_get_cases, slice_get-get_or, IfSome_then}
 use Rattle.std.specs.Prelude.{slice_get, unwrap_or}
 

@@ -1,6 +1,6 @@
 -- The rows of every schedule are short: their dates are days, their currency is three capital letters, and their numbers
 -- have at most 18 digits before the point.
-use Rattle.std.proofs.Common.{◌≡◌, ℕ, zero, suc, ◌+◌, ◌-◌, ◌*◌, ◌/◌, ◌^◌, ◌<◌, ◌≤◌, ◌==◌, true, List, [], ◌∷◌, length, All, Option, Some, None, IfSome, option_map, ℤ, pos, negsuc, ◌*ℤ◌, ◌≤ℤ◌, ◌<ℤ◌, unsigned_abs, refl, sym, ap, subst, arith}
+use Rattle.std.proofs.Common.{◌≡◌, ℕ, zero, suc, ◌+◌, ◌-◌, ◌*◌, ◌/◌, ◌^◌, ◌<◌, ◌≤◌, ◌==◌, true, List, [], ◌∷◌, length, All, Option, Some, None, IfSome, option_map, ℤ, pos, negsuc, ◌*ℤ◌, ◌≤ℤ◌, unsigned_abs, refl, sym, subst, arith}
 use Rattle.std.specs.Prelude.{slice_get}
 use Rattle.std.specs.List.{list_all}
 use Rattle.std.proofs.Math.Nat.{div-le_of_le-mul}
@@ -20,7 +20,6 @@ use Rattle.irs_terms.specs.declared.codes.DayCountCode.{DayCountCode}
 use Rattle.irs_terms.specs.declared.codes.DayCountCode.TheVariants.{OneOne, ActActIsda, Act365Fixed, Act360, Thirty360, ThirtyE360, ThirtyE360Isda}
 use Rattle.irs_terms.specs.declared.currency.Currency.{Currency}
 use Rattle.irs_terms.specs.declared.results.Exchange.{Exchange}
-use Rattle.irs_terms.specs.declared.results.Frac.{Frac}
 use Rattle.irs_terms.specs.declared.results.Reset.{Reset}
 use Rattle.irs_daycount.specs.Fractions.{denominator_of}
 use Rattle.irs_elements.proofs.Exact.{true_both}

@@ -1,5 +1,5 @@
 -- There is a net of any parts: their dates and currencies in order, each with its sums.
-use Rattle.std.proofs.Common.{◌≡◌, ◌⊎◌, inl, inr, List, [], ◌∷◌, map, Contains, refl, sym, ap, ap₂, subst, ◌∙◌}
+use Rattle.std.proofs.Common.{◌≡◌, ◌⊎◌, inl, inr, List, [], ◌∷◌, map, Contains, refl, sym, ap, subst, ◌∙◌}
 use Rattle.std.specs.List.{AllByRecursion}
 use Rattle.std.specs.List.Sorted.{IsStrictlySortedBy}
 use Rattle.std.specs.Ordering.{ordering_reverse}
@@ -130,10 +130,12 @@ are_sums parts (k ∷ ks) = (record { amount = refl; unknown = refl }, are_sums 
 pub net_there : (parts : List NetPart) → (rows : List NetRow) × IsNet parts rows
 net_there parts =
     let k = keyed parts in
-    let e = keys_back parts k.keys in
-    (map (row_at parts) k.keys, record {
-      rising = subst (IsStrictlySortedBy key_order) (sym e) k.sorted;
-      sound = λ q c. k.sound q (subst (λ (qs : List NetKey). Contains qs q) e c);
-      complete = λ q c. subst (λ (qs : List NetKey). Contains qs q) (sym e) (k.complete q c);
-      sums = are_sums parts k.keys;
-    })
+    let e = keys_back parts k.keys in (
+      map (row_at parts) k.keys,
+      record {
+        rising = subst (IsStrictlySortedBy key_order) (sym e) k.sorted;
+        sound = λ q c. k.sound q (subst (λ (qs : List NetKey). Contains qs q) e c);
+        complete = λ q c. subst (λ (qs : List NetKey). Contains qs q) (sym e) (k.complete q c);
+        sums = are_sums parts k.keys;
+      },
+    )

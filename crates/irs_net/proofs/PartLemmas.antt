@@ -1,12 +1,10 @@
 -- The exchanges and payments of a schedule: one stream more, how many there are and how large.
-use Rattle.std.proofs.Common.{◌≡◌, ℕ, zero, suc, ◌+◌, ◌*◌, ◌^◌, ◌<◌, ◌≤◌, Bool, true, false, List, [], ◌∷◌, ◌++◌, length, map, take, get_or, Option, Some, None, IfSome, ℤ, pos, negsuc, neg_ℤ, unsigned_abs, refl, sym, ap, subst, ◌∙◌, arith, append_assoc, length-append}
+use Rattle.std.proofs.Common.{◌≡◌, ℕ, zero, suc, ◌+◌, ◌*◌, ◌^◌, ◌<◌, ◌≤◌, Bool, true, false, List, [], ◌∷◌, ◌++◌, length, map, take, get_or, Option, Some, None, IfSome, ℤ, pos, negsuc, unsigned_abs, sym, ap, subst, ◌∙◌, arith, append_assoc, length-append}
 use Rattle.std.specs.Prelude.{option_map}
 use Rattle.std.proofs.lemmas.List.{append-nil, length-map}
-use Rattle.jiff_core.proofs.SignedLemmas.{signed_arith}
-use Rattle.irs_base.specs.Limits.{most_exchanges, most_periods, most_streams}
+use Rattle.irs_base.specs.Limits.{most_exchanges, most_periods}
 use Rattle.irs_base.specs.Members.{Every}
 use Rattle.irs_base.specs.declared.line.Dec.{Dec}
-use Rattle.irs_terms.specs.Currencies.{decimals_of}
 use Rattle.irs_terms.specs.declared.currency.Currency.{Currency}
 use Rattle.irs_terms.specs.declared.results.Exchange.{Exchange}
 use Rattle.irs_schedule.proofs.PlaceLemmas.{decimals_few, every_both, every_map}

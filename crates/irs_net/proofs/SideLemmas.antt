@@ -15,7 +15,7 @@ use Rattle.irs_base.proofs.MemberLemmas.{some_is}
 use Rattle.irs_base.specs.Limits.{most_streams}
 use Rattle.irs_base.specs.Order.{First, is_before}
 use Rattle.irs_base.specs.declared.places.Broken.{Broken}
-use Rattle.irs_base.specs.declared.places.Rule.TheVariants.{K2, K3, K7}
+use Rattle.irs_base.specs.declared.places.Rule.TheVariants.{K3}
 use Rattle.irs_elements.specs.Elements.{own, own_rule}
 use Rattle.irs_elements.specs.Find.{values_in}
 use Rattle.irs_elements.specs.declared.table.Choice.TheVariants.{Free}
@@ -24,8 +24,7 @@ use Rattle.irs_json.specs.Carrier.{child_of}
 use Rattle.irs_json.specs.Names.{names_of}
 use Rattle.irs_read.specs.Documents.{DocumentFault, Way, the_swap, below}
 use Rattle.irs_read.specs.Meaning.{streams_in}
-use Rattle.irs_read.specs.StreamLines.{swap_names, swap_rows}
-use Rattle.irs_read.specs.Swaps.{SwapFault, StreamsFault, no_stream, many_streams}
+use Rattle.irs_read.specs.Swaps.{no_stream, many_streams}
 use Rattle.irs_net.specs.FoundParties.{href_in, pair_of, parties_in, party_in, side_by, side_in}
 use Rattle.irs_net.specs.Parties.{AreSides, BreaksK8, BreaksK8Of, IsBackward, IsForward, IsPaid, IsSide, RefersTo, SidesOf, broken_at}
 use Rattle.irs_net.specs.SidesTo.{SidesTo}

@@ -1,5 +1,5 @@
 -- Totals by date and currency while parts are added, and how large they are.
-use Rattle.std.specs.Prelude.{ℕ, ◌+◌, ◌*◌, ◌^◌, ◌≤◌, List, map, Option, Some, None, is_none, if◌then◌else◌, unwrap_or, IfSome, ℤ, pos, ◌+ℤ◌, unsigned_abs}
+use Rattle.std.specs.Prelude.{ℕ, ◌+◌, ◌*◌, ◌^◌, ◌≤◌, List, map, Option, Some, None, is_none, if◌then◌else◌, IfSome, ℤ, pos, ◌+ℤ◌, unsigned_abs}
 use Rattle.std.specs.List.{list_any}
 use Rattle.irs_base.specs.Limits.{most_exchanges, most_periods, most_streams}
 use Rattle.irs_terms.specs.Currencies.{decimals_of}

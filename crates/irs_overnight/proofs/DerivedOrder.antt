@@ -1,5 +1,5 @@
 -- The order of the rules of daily compounding, and which of them is the first that is broken.
-use Rattle.std.proofs.Common.{◌≡◌, ◌⊎◌, inl, inr, ℕ, ◌<◌, ◌≤◌, Bool, true, false, Option, Some, None, refl, sym, subst, ◌∙◌, ap, arith}
+use Rattle.std.proofs.Common.{◌≡◌, inl, inr, ℕ, ◌<◌, Bool, true, false, Some, None, refl, sym, subst, ◌∙◌}
 use Rattle.std.specs.Prelude.{nat_lt}
 use Rattle.std.proofs.lemmas.Bool.{cases_order}
 use Rattle.irs_base.specs.Faults.{fault_at}
@@ -7,11 +7,11 @@ use Rattle.irs_base.specs.Order.{First, level}
 use Rattle.irs_base.specs.Rules.{rule_number}
 use Rattle.irs_base.specs.declared.places.Fault.{Fault}
 use Rattle.irs_base.specs.declared.places.Rule.{Rule}
-use Rattle.irs_base.proofs.Firsts.{AreTied, false_lt, level_later, level_same, one_first, tied, tied_last}
+use Rattle.irs_base.proofs.Firsts.{AreTied, false_lt, level_later, level_same, tied, tied_last}
 use Rattle.irs_base.proofs.RuleNumbers.{same_rule}
 use Rattle.irs_resets.specs.ResetDates.{IsPeriod}
 use Rattle.irs_overnight.specs.DailyPeriods.{period_at}
-use Rattle.irs_overnight.specs.DerivedRules.{BreaksBasis, BreaksDerived, BreaksFixing, BreaksPeriod, NotAfter, derived_before, derived_turn, no_basis, not_after_at, period_fault}
+use Rattle.irs_overnight.specs.DerivedRules.{BreaksBasis, BreaksDerived, BreaksPeriod, NotAfter, derived_before, derived_turn, no_basis, not_after_at, period_fault}
 use Rattle.irs_overnight.specs.FoundRates.{DailyPeriod, PeriodFails}
 use Rattle.irs_overnight.specs.PeriodTurns.{FirstWay, NoneFails}
 use Rattle.irs_overnight.specs.DailySources.{DailySource}

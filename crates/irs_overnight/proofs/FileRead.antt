@@ -1,17 +1,15 @@
 -- The text of derived rates is a fixing file that has exactly their rates.
-use Rattle.std.proofs.Common.{◌≡◌, ◌≢◌, ◌⊎◌, ◌↔◌, ◌==◌, ℕ, zero, suc, ◌+◌, ◌-◌, ◌*◌, ◌^◌, ◌<◌, ◌≤◌, List, [], ◌∷◌, ◌++◌, length, map, All, inl, inr, Bool, true, false, Option, Some, None, IfSome, IsTrue, ℤ, ◌<ℤ◌, refl, sym, subst, ap, ap₂, ◌∙◌, arith, append_assoc, codes}
-use Rattle.std.specs.Prelude.{get_or, slice_get, slice_index_or}
+use Rattle.std.proofs.Common.{◌≡◌, ◌≢◌, ◌⊎◌, ◌==◌, ℕ, zero, suc, ◌+◌, ◌-◌, ◌^◌, ◌<◌, ◌≤◌, List, [], ◌∷◌, ◌++◌, length, map, All, inl, inr, Bool, true, false, Option, Some, ℤ, refl, sym, subst, ap, ◌∙◌, arith, append_assoc, codes}
+use Rattle.std.specs.Prelude.{get_or, slice_get}
 use Rattle.std.specs.List.{flat_map}
 use Rattle.std.specs.Fmt.{decimal}
-use Rattle.std.proofs.lemmas.Bool.{cases_order}
 use Rattle.std.proofs.lemmas.Bool.Decides.{nat_tests}
-use Rattle.std.proofs.lemmas.Option.{slice_get_within}
 use Rattle.jiff_core.proofs.SignedLemmas.{signed_arith}
 use Rattle.irs_base.proofs.DecimalLemmas.{one_decimal}
 use Rattle.irs_base.specs.Days.{IsDay}
 use Rattle.irs_base.specs.Lines.{lines_of, with_byte}
 use Rattle.irs_base.specs.Texts.{day_text, dec_text}
-use Rattle.irs_terms.specs.Lawful.{IsLawfulIndex, IsRate}
+use Rattle.irs_terms.specs.Lawful.{IsRate}
 use Rattle.irs_terms.specs.declared.frequency.Frequency.{Frequency}
 use Rattle.irs_resets.specs.FixingFiles.{Fixes, IsBad, IsFaulty, IsLine, Repeats, line_at}
 use Rattle.irs_resets.specs.FixingLines.{Spells}
@@ -19,7 +17,7 @@ use Rattle.irs_resets.specs.Words.{is_passed}
 use Rattle.irs_resets.specs.declared.store.Slot.{Slot}
 use Rattle.irs_resets.proofs.FileLemmas.{passed_none}
 use Rattle.irs_overnight.specs.FileLaw.{AreFixings, AreKept, HasRate, IsSmallFound, file_text}
-use Rattle.irs_overnight.specs.Reading.{IsLawfulLine, ReadsAs}
+use Rattle.irs_overnight.specs.Reading.{IsLawfulLine}
 use Rattle.irs_overnight.specs.Texts.{derived_text_of, fields_of, tenor_text}
 use Rattle.irs_overnight.specs.declared.derived.DerivedRow.{DerivedRow}
 use Rattle.irs_overnight.specs.declared.derived.Found.{Found}

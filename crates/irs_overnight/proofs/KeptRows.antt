@@ -1,26 +1,24 @@
 -- The rows of a stream without a broken rule keep what a fixing file asks of them.
-use Rattle.std.proofs.Common.{◌≡◌, inl, inr, ℕ, zero, suc, ◌+◌, ◌-◌, ◌^◌, ◌<◌, ◌≤◌, List, [], ◌∷◌, length, All, Some, IfSome, Result, Ok, Err, IfOk, IsTrue, ℤ, ◌<ℤ◌, ◌≤ℤ◌, refl, sym, subst, ap, ◌∙◌, arith}
-use Rattle.std.specs.Prelude.{get_or, slice_get, if◌then◌else◌}
+use Rattle.std.proofs.Common.{◌≡◌, inl, inr, ℕ, zero, suc, ◌+◌, ◌-◌, ◌^◌, ◌<◌, ◌≤◌, List, [], ◌∷◌, length, All, Some, Result, Ok, Err, IfOk, ℤ, ◌<ℤ◌, ◌≤ℤ◌, refl, sym, subst, arith}
+use Rattle.std.specs.Prelude.{slice_get}
 use Rattle.std.proofs.lemmas.Option.{get_or_from_slice_get, slice_get_within}
 use Rattle.jiff_core.proofs.SignedLemmas.{signed_arith}
 use Rattle.irs_base.proofs.Decided.{order_of}
 use Rattle.irs_base.specs.Members.{EachNumbered, Every}
-use Rattle.irs_base.specs.declared.places.Fault.{Fault}
 use Rattle.irs_terms.specs.Lawful.{IsLawfulFloat, IsLawfulLeg, IsLawfulStream}
 use Rattle.irs_terms.specs.declared.amounts.FloatTerms.{FloatTerms}
 use Rattle.irs_terms.specs.declared.results.Reset.{Reset}
 use Rattle.irs_resets.specs.ResetDates.{IsPeriod}
-use Rattle.irs_schedule.specs.Parts.{KeepsBounds, Part}
-use Rattle.irs_overnight.specs.DailySources.{DailySource, fixing_at}
-use Rattle.irs_overnight.specs.DerivedRows.{AreDerived, IsDerivedRow}
+use Rattle.irs_schedule.specs.Parts.{KeepsBounds}
+use Rattle.irs_overnight.specs.DailySources.{fixing_at}
+use Rattle.irs_overnight.specs.DerivedRows.{IsDerivedRow}
 use Rattle.irs_overnight.specs.DerivedRules.{NotAfter, not_after_at}
 use Rattle.irs_overnight.specs.FileLaw.{AreKept, IsInRange}
 use Rattle.irs_overnight.specs.Overnight.{Asked, IsAsked, IsOvernight, OvernightKept, ReadsBack}
-use Rattle.irs_overnight.specs.Reading.{IsLawfulLine}
 use Rattle.irs_overnight.specs.Sources.{PaysFloating}
 use Rattle.irs_overnight.specs.declared.derived.DerivedRow.{DerivedRow}
 use Rattle.irs_overnight.proofs.FileRead.{are_fixings}
-use Rattle.irs_overnight.proofs.SourceLemmas.{asked_part, every_at, part_floats}
+use Rattle.irs_overnight.proofs.SourceLemmas.{every_at, part_floats}
 
 pub numbered_at : (P : ℕ → DerivedRow → Type 0) (n k : ℕ) (rows : List DerivedRow) (row : DerivedRow) → EachNumbered P n rows → slice_get rows k ≡ Some row → P (n + k) row
 numbered_at P n k [] row h at = absurd (let low = slice_get_within [] k row at in omega (arith, low))

@@ -1,22 +1,17 @@
 -- The line of a rate spells it, and that of a missing rate is passed over.
-use Rattle.std.proofs.Common.{◌≡◌, ◌≢◌, ℕ, zero, suc, ◌+◌, ◌-◌, ◌*◌, ◌/◌, ◌%◌, ◌^◌, ◌<◌, ◌≤◌, List, [], ◌∷◌, ◌++◌, length, take, All, inl, inr, Bool, true, false, Option, Some, None, IfSome, IsTrue, ℤ, pos, negsuc, refl, sym, subst, ap, ap₂, ◌∙◌, arith, append_assoc, codes}
+use Rattle.std.proofs.Common.{◌≡◌, ◌≢◌, ℕ, ◌-◌, ◌<◌, ◌≤◌, List, [], ◌∷◌, ◌++◌, length, false, Option, ℤ, refl, sym, ap, ◌∙◌, arith, append_assoc}
 use Rattle.std.specs.Prelude.{get_or}
-use Rattle.std.proofs.lemmas.Bool.{cases_lt}
 use Rattle.std.proofs.lemmas.List.{take_all}
-use Rattle.std.specs.Fmt.{decimal}
-use Rattle.irs_base.proofs.TextLemmas.{with_point}
 use Rattle.irs_base.specs.Days.{IsDay}
 use Rattle.irs_base.specs.Fields.{is_space}
-use Rattle.irs_base.specs.Texts.{day_text, dec_text, digit_row, unsigned_dec}
-use Rattle.irs_terms.specs.Lawful.{IsLawfulIndex, IsLawfulTenor, IsRate}
+use Rattle.irs_base.specs.Texts.{day_text, dec_text}
+use Rattle.irs_terms.specs.Lawful.{IsLawfulIndex, IsRate}
 use Rattle.irs_terms.specs.declared.frequency.Frequency.{Frequency}
-use Rattle.irs_terms.specs.declared.frequency.Unit.{Unit as FrequencyUnit}
-use Rattle.irs_resets.specs.FixingLines.{IsIndexText, Spells}
-use Rattle.irs_resets.specs.Tenors.{tenor_at, with_unit}
-use Rattle.irs_resets.specs.Words.{behind_gap, behind_word, is_passed, trimmed, without_gap, word}
+use Rattle.irs_resets.specs.FixingLines.{Spells}
+use Rattle.irs_resets.specs.Words.{behind_gap, behind_word, trimmed, without_gap, word}
 use Rattle.irs_resets.proofs.WordLemmas.{trimmed_to}
 use Rattle.irs_overnight.specs.Reading.{IsLawfulLine, ReadsAs}
-use Rattle.irs_overnight.specs.Texts.{fields_of, tenor_text, unit_text}
+use Rattle.irs_overnight.specs.Texts.{tenor_text}
 use Rattle.irs_overnight.specs.declared.derived.DerivedRow.{DerivedRow}
 use Rattle.irs_overnight.specs.declared.derived.Found.{Found}
 use Rattle.irs_overnight.specs.declared.derived.Found.TheVariants.{Rate, Missing}

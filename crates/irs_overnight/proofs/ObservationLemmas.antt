@@ -1,5 +1,5 @@
 -- A period has one list of observations, and one first observation without a rate.
-use Rattle.std.proofs.Common.{◌≡◌, ℕ, zero, suc, ◌+◌, ◌<◌, List, [], ◌∷◌, length, drop, Option, Some, None, IsSome, ℤ, refl, sym, subst, ◌∙◌, arith, All, ◌++◌, length-append}
+use Rattle.std.proofs.Common.{◌≡◌, ℕ, zero, suc, ◌+◌, ◌<◌, List, [], ◌∷◌, length, Option, Some, None, IsSome, ℤ, refl, sym, subst, ◌∙◌, arith, All, ◌++◌, length-append}
 use Rattle.std.specs.Prelude.{get_or}
 use Rattle.std.proofs.lemmas.List.Elements.{All-push}
 use Rattle.irs_base.specs.Members.{EachNumbered}

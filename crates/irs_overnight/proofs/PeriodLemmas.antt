@@ -1,18 +1,17 @@
 -- What a period gives: one rate or one missing day, and it fails in no way then.
-use Rattle.std.proofs.Common.{◌≡◌, ◌⊎◌, inl, inr, ℕ, zero, suc, ◌+◌, ◌*◌, ◌^◌, ◌<◌, ◌≤◌, List, [], ◌∷◌, length, Option, Some, None, ℤ, pos, ◌<ℤ◌, ◌*ℤ◌, ◌-ℤ◌, refl, sym, subst, ◌∙◌, ap, arith}
+use Rattle.std.proofs.Common.{◌≡◌, ℕ, ◌^◌, ◌≤◌, List, [], ◌∷◌, Option, Some, None, ℤ, pos, ◌<ℤ◌, ◌*ℤ◌, ◌-ℤ◌, refl, sym, subst, ◌∙◌, ap, arith}
 use Rattle.jiff_core.proofs.SignedLemmas.{signed_arith}
 use Rattle.irs_terms.specs.declared.codes.DayCountCode.{DayCountCode}
 use Rattle.irs_terms.specs.declared.codes.DayCountCode.TheVariants.{OneOne, ActActIsda, Act365Fixed, Act360, Thirty360, ThirtyE360, ThirtyE360Isda}
-use Rattle.irs_overnight.specs.Factors.{Grows, IsCompounded, PassesLimit, one_factor}
-use Rattle.irs_overnight.specs.FoundRates.{DailyPeriod, FindsRate, IsFound, PassesRange, PeriodFails}
+use Rattle.irs_overnight.specs.Factors.{Grows, PassesLimit, one_factor}
+use Rattle.irs_overnight.specs.FoundRates.{DailyPeriod, FindsRate, IsFound, PassesRange}
 use Rattle.irs_overnight.specs.PeriodTurns.{NoneFails}
-use Rattle.irs_overnight.specs.Observations.{AreObservations, absent_or, first_absent}
+use Rattle.irs_overnight.specs.Observations.{AreObservations, first_absent}
 use Rattle.irs_overnight.specs.Sources.{basis_of}
 use Rattle.irs_overnight.specs.Starts.{LacksDays}
 use Rattle.irs_overnight.specs.declared.derived.Found.{Found}
 use Rattle.irs_overnight.specs.declared.derived.Found.TheVariants.{Rate, Missing}
 use Rattle.irs_overnight.specs.declared.observations.Observation.{Observation}
-use Rattle.irs_overnight.specs.declared.periods.PeriodFault.{PeriodFault}
 use Rattle.irs_overnight.specs.declared.periods.PeriodFault.TheVariants.{NoDays, OutOfRange}
 use Rattle.irs_overnight.proofs.FactorLemmas.{one_compounded}
 use Rattle.irs_overnight.proofs.ObservationLemmas.{one_observations}

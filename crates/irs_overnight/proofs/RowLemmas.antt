@@ -1,5 +1,5 @@
 -- There is one list of derived rates.
-use Rattle.std.proofs.Common.{◌≡◌, inl, inr, ℕ, ◌+◌, ◌-◌, ◌<◌, ◌≤◌, List, length, Some, ℤ, pos, ◌<ℤ◌, ◌≤ℤ◌, ◌-ℤ◌, refl, sym, subst, ◌∙◌, ap, arith}
+use Rattle.std.proofs.Common.{◌≡◌, inl, inr, ℕ, ◌+◌, ◌-◌, ◌<◌, ◌≤◌, List, length, Some, ℤ, pos, ◌<ℤ◌, ◌≤ℤ◌, sym, subst, ◌∙◌, ap, arith}
 use Rattle.std.specs.Prelude.{get_or}
 use Rattle.std.proofs.lemmas.Bool.{cases_lt}
 use Rattle.std.proofs.lemmas.Option.{slice_get-get_or}
@@ -14,7 +14,7 @@ use Rattle.irs_schedule.specs.Parts.{Rises}
 use Rattle.irs_schedule.proofs.PeriodLemmas.{next_day}
 use Rattle.irs_overnight.specs.DailyPeriods.{period_at}
 use Rattle.irs_overnight.specs.DerivedRows.{AreDerived, IsDerivedRow}
-use Rattle.irs_overnight.specs.FoundRates.{DailyPeriod, FindsRate}
+use Rattle.irs_overnight.specs.FoundRates.{FindsRate}
 use Rattle.irs_overnight.specs.DailySources.{DailySource}
 use Rattle.irs_overnight.specs.declared.derived.DerivedRow.{DerivedRow}
 use Rattle.irs_overnight.specs.declared.derived.Found.{Found}

@@ -1,11 +1,11 @@
 -- The days from which daily rates hold, found day by day.
-use Rattle.std.proofs.Common.{◌≡◌, ◌⊎◌, inl, inr, ℕ, ◌+◌, ◌<◌, ◌≤◌, List, [], ◌∷◌, ◌++◌, ℤ, pos, ◌+ℤ◌, ◌-ℤ◌, ◌<ℤ◌, ◌≤ℤ◌, refl, sym, subst, arith, Bool, false, IsTrue}
+use Rattle.std.proofs.Common.{◌≡◌, inl, inr, ℕ, ◌+◌, ◌≤◌, List, [], ◌∷◌, ◌++◌, ℤ, pos, ◌+ℤ◌, ◌-ℤ◌, ◌<ℤ◌, ◌≤ℤ◌, sym, subst, arith, Bool, false, IsTrue}
 use Rattle.jiff_core.proofs.SignedLemmas.{signed_arith}
-use Rattle.irs_base.specs.Listed.{Member, Lists}
+use Rattle.irs_base.specs.Listed.{Member}
 use Rattle.irs_base.proofs.Decided.{order_of}
 use Rattle.irs_base.proofs.Rising.{member_cases, member_new, member_old, one_rising, rising_push}
 use Rattle.irs_calendar.specs.GoodDays.{DaySet, IsGood}
-use Rattle.irs_overnight.specs.Starts.{Starts, AreStarts, LeavesCover}
+use Rattle.irs_overnight.specs.Starts.{AreStarts, LeavesCover}
 
 pub is_not : (b : Bool) → b ≡ false → IsTrue b → ⊥
 is_not b p q = cc (p, q)

@@ -1,21 +1,21 @@
 -- Where no rule is broken each period has its observations and what they give, so there is a list of rates.
-use Rattle.std.proofs.Common.{◌≡◌, ◌⊎◌, inl, inr, ℕ, zero, suc, ◌+◌, ◌-◌, ◌*◌, ◌^◌, ◌<◌, ◌≤◌, List, [], ◌∷◌, ◌++◌, length, Option, Some, None, ℤ, pos, ◌+ℤ◌, ◌-ℤ◌, ◌*ℤ◌, ◌<ℤ◌, ◌≤ℤ◌, refl, sym, subst, ◌∙◌, arith}
-use Rattle.std.specs.Prelude.{slice_get, unsigned_abs}
+use Rattle.std.proofs.Common.{◌≡◌, inl, inr, ℕ, zero, suc, ◌+◌, ◌-◌, ◌^◌, ◌≤◌, List, [], ◌∷◌, ◌++◌, length, Option, Some, None, ℤ, pos, ◌+ℤ◌, ◌-ℤ◌, ◌*ℤ◌, ◌<ℤ◌, ◌≤ℤ◌, refl, sym, subst, arith}
+use Rattle.std.specs.Prelude.{unsigned_abs}
 use Rattle.jiff_core.proofs.SignedLemmas.{signed_arith}
-use Rattle.irs_base.specs.Members.{EachNumbered, Every, day_at}
+use Rattle.irs_base.specs.Members.{Every, day_at}
 use Rattle.irs_base.specs.declared.places.Fault.{Fault}
 use Rattle.irs_base.proofs.MemberLemmas.{numbered_there}
 use Rattle.irs_base.proofs.RoundingLaws.{nearest_exists}
-use Rattle.irs_calendar.specs.GoodDays.{DaySet, InCover, Prev}
+use Rattle.irs_calendar.specs.GoodDays.{DaySet, InCover}
 use Rattle.irs_adjust.proofs.FoundDays.{decides_good, decides_in_cover, decides_prev}
 use Rattle.irs_resets.specs.ResetDates.{IsPeriod}
 use Rattle.irs_resets.proofs.FileLemmas.{some_rate}
-use Rattle.irs_schedule.specs.Parts.{KeepsBounds, Part, Rises}
+use Rattle.irs_schedule.specs.Parts.{KeepsBounds, Rises}
 use Rattle.irs_overnight.specs.DailyPeriods.{period_at}
 use Rattle.irs_overnight.specs.DailySources.{DailySource, daily_source, fixing_at}
 use Rattle.irs_overnight.specs.DerivedRows.{AreDerived, IsDerivedRow}
 use Rattle.irs_overnight.specs.DerivedRules.{BreaksDerived, no_basis, period_fault}
-use Rattle.irs_overnight.specs.Factors.{Grows, GrowsBy, one_factor, year_of}
+use Rattle.irs_overnight.specs.Factors.{Grows, one_factor, year_of}
 use Rattle.irs_overnight.specs.FoundRates.{DailyPeriod, FindsRate, IsFound}
 use Rattle.irs_overnight.specs.Observations.{AreObservations, AreObserved, IsObservation, first_absent, next_start, observed_on}
 use Rattle.irs_overnight.specs.Overnight.{Asked, HasSource, IsAsked, IsOvernight, OvernightKept}
@@ -25,7 +25,7 @@ use Rattle.irs_overnight.specs.declared.derived.DerivedRow.{DerivedRow}
 use Rattle.irs_overnight.specs.declared.derived.Found.{Found}
 use Rattle.irs_overnight.specs.declared.derived.Found.TheVariants.{Rate, Missing}
 use Rattle.irs_overnight.specs.declared.observations.Observation.{Observation}
-use Rattle.irs_overnight.specs.declared.periods.PeriodFault.TheVariants.{NoDays, OutOfRange}
+use Rattle.irs_overnight.specs.declared.periods.PeriodFault.TheVariants.{NoDays}
 use Rattle.irs_overnight.proofs.FactorLemmas.{above}
 use Rattle.irs_overnight.proofs.ObservationLemmas.{known_or}
 use Rattle.irs_overnight.proofs.PeriodLemmas.{basis_range, positive}

@@ -1,5 +1,5 @@
 -- The texts of days, rates and tenors: no byte of them is a space or a tab, and they are read back.
-use Rattle.std.proofs.Common.{◌≡◌, ◌≢◌, inl, inr, ℕ, zero, suc, ◌+◌, ◌-◌, ◌*◌, ◌/◌, ◌%◌, ◌^◌, ◌<◌, ◌≤◌, List, [], ◌∷◌, ◌++◌, length, Bool, true, false, Option, Some, None, IfSome, ℤ, pos, negsuc, unsigned_abs, refl, sym, subst, ap, ap₂, ◌∙◌, arith}
+use Rattle.std.proofs.Common.{◌≡◌, inl, inr, ℕ, suc, ◌+◌, ◌*◌, ◌/◌, ◌%◌, ◌^◌, ◌<◌, ◌≤◌, List, [], ◌∷◌, ◌++◌, length, false, Option, Some, None, IfSome, ℤ, pos, negsuc, refl, sym, subst, ap, ap₂, ◌∙◌, arith}
 use Rattle.std.proofs.lemmas.Bool.{cases_lt}
 use Rattle.std.proofs.lemmas.Bool.Decides.{nat_tests}
 use Rattle.std.proofs.lemmas.Fmt.{decimal_by_steps, decimal_nonempty, length-decimal-le}
@@ -16,7 +16,7 @@ use Rattle.irs_terms.specs.Lawful.{IsLawfulTenor, IsRate}
 use Rattle.irs_terms.specs.declared.frequency.Frequency.{Frequency}
 use Rattle.irs_terms.specs.declared.frequency.Unit.{Unit as FrequencyUnit}
 use Rattle.irs_terms.specs.declared.frequency.Unit.TheVariants.{D, W, M, Y, T}
-use Rattle.irs_resets.specs.Tenors.{digit_at, first_digit, hundreds, tenor_at, tens, three_digits, two_digits as pair_at, unit_at, with_unit}
+use Rattle.irs_resets.specs.Tenors.{digit_at, first_digit, tenor_at, tens, three_digits, two_digits as pair_at, unit_at, with_unit}
 use Rattle.irs_overnight.specs.Texts.{tenor_text, unit_text}
 
 pub no_space : (x : ℕ) → 33 ≤ x → is_space x ≡ false

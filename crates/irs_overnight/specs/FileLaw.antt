@@ -1,5 +1,5 @@
 -- Derived rates as a fixing file.
-use Rattle.std.specs.Prelude.{◌≡◌, ◌↔◌, ℕ, ◌+◌, ◌^◌, ◌<◌, List, ◌++◌, codes, Option, Some, ℤ, ◌<ℤ◌, slice_get}
+use Rattle.std.specs.Prelude.{◌≡◌, ◌↔◌, ℕ, ◌^◌, ◌<◌, List, ◌++◌, codes, Option, Some, ℤ, ◌<ℤ◌, slice_get}
 use Rattle.std.specs.List.{flat_map}
 use Rattle.irs_base.specs.Days.{IsDay}
 use Rattle.irs_base.specs.Lines.{lines_of}

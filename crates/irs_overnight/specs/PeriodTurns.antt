@@ -1,5 +1,4 @@
 -- The way in which a period fails first.
-use Rattle.std.specs.Prelude.{◌≡◌}
 use Rattle.irs_overnight.specs.FoundRates.{DailyPeriod, PeriodFails}
 use Rattle.irs_overnight.specs.Starts.{LacksDays}
 use Rattle.irs_overnight.specs.declared.periods.PeriodFault.{PeriodFault}

@@ -1,5 +1,5 @@
 -- The line of a fixing file that a derived rate prints.
-use Rattle.std.specs.Prelude.{ℕ, List, ◌∷◌, ◌++◌, [], codes, Option, Some, None}
+use Rattle.std.specs.Prelude.{ℕ, List, ◌∷◌, ◌++◌, codes, Option, Some, None}
 use Rattle.std.specs.Fmt.{decimal}
 use Rattle.irs_base.specs.Texts.{day_text, dec_text}
 use Rattle.irs_terms.specs.declared.frequency.Frequency.{Frequency}

@@ -1,8 +1,6 @@
-use Rattle.std.proofs.Common.{rules, arith, ◌≡◌, ◌≤◌, Some, unsigned_abs, FitsSigned, sym}
+use Rattle.std.proofs.Common.{rules, arith, ◌≡◌, unsigned_abs, FitsSigned}
 use Rattle.std.specs.Int.{w64, w128}
 use Rattle.std.proofs.lemmas.Int.{to_z-of_z}
-use Rattle.irs_base.specs.Limits.{most_rate}
-use Rattle.irs_terms.specs.Currencies.{decimals_of}
 use Rattle.irs_accrue.specs.Accruals.{IsInterest}
 use Rattle.irs_accrue.proofs.interest.amount_of.Goals as goal
 

@@ -1,7 +1,7 @@
 use Rattle.std.proofs.Common.{◌∙◌}
 use Rattle.irs_cli.specs.Commands.{wanted_by}
 use Rattle.std.proofs.Common.{map}
-use Rattle.irs_cli.specs.Fetching.{given_by}
+use Rattle.irs_answers.specs.Given.{given_by}
 use Rattle.irs_cli.proofs.FetchLemmas.{holds_before, stops_before, stops_at, held_more, all_by}
 use Rattle.irs_cli.proofs.fetching.fetch_all.Goals as goal
 
@@ -27,5 +27,5 @@ loop-named-preserved g c =
     record {
       told = λ n. c.fetch.ensures.told n ∙ l.invariant.told n;
       quiet = c.in_ok-bytes.ensures.one.1 ∙ l.invariant.quiet;
-      held = held_more told c.args.names.now l.named-index _ (given_by l.fetched) (given_by c.put.new.self) got c.loop-named-test.true l.invariant.held (holds_before told later _ got l.invariant.told c.in_ok-bytes.ensures.one.0) c.in_ok-put.ensures;
+      held = held_more told c.args.names.now l.named-index _ (given_by l.fetched) (given_by c.put_file.new.files) got c.loop-named-test.true l.invariant.held (holds_before told later _ got l.invariant.told c.in_ok-bytes.ensures.one.0) c.in_ok-put_file.ensures;
     }

@@ -1,7 +1,8 @@
 use Rattle.std.proofs.Common.{◌≡◌, ℕ, List, map, take}
 use Rattle.irs_cli.specs.Commands.{wanted_by}
-use Rattle.irs_cli.specs.Given.{Gathers, no_files}
-use Rattle.irs_cli.specs.Fetching.{given_by, Holds}
+use Rattle.irs_answers.specs.Given.{given_by, no_files}
+use Rattle.irs_cli.specs.Given.{Gathers}
+use Rattle.irs_cli.specs.Fetching.{Holds}
 use Rattle.irs_cli.proofs.fetching.fetch_all.Given as goal
 
 abbrev pub invariant-loop-named : goal.invariant-loop-named

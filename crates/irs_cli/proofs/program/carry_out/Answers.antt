@@ -1,14 +1,16 @@
 use Rattle.std.proofs.Common.{List, map, subst}
 use Rattle.irs_cli.specs.declared.commands.Named.{Named}
 use Rattle.irs_cli.specs.Commands.{texts, Asks, asked_by, wanted_by}
-use Rattle.irs_cli.specs.Given.{Gathers, no_files}
-use Rattle.irs_cli.specs.Fetching.{given_by, Holds, Stops}
+use Rattle.irs_answers.specs.Given.{given_by, no_files}
+use Rattle.irs_answers.specs.Replying.{reply_status, reply_text}
+use Rattle.irs_cli.specs.Given.{Gathers}
+use Rattle.irs_cli.specs.Fetching.{Holds, Stops}
 use Rattle.irs_cli.specs.Outcomes.{of_fetch}
 use Rattle.irs_cli.specs.Run.{Replies}
-use Rattle.irs_cli.proofs.CommandLemmas.{unlisted_by, asks_by, few_cals}
+use Rattle.irs_cli.proofs.CommandLemmas.{unlisted_by, asks_by, few_cals, lawful_asked}
 use Rattle.irs_cli.proofs.FileLemmas.{gathers_within}
-use Rattle.irs_cli.proofs.StepLemmas.{answered_by}
-use Rattle.irs_cli.proofs.RunLemmas.{unlisted_replies, stopped_replies, fetched_replies}
+use Rattle.irs_cli.proofs.HandedReplies.{answered_by}
+use Rattle.irs_cli.proofs.RunLemmas.{unlisted_replies, stopped_replies, ended_replies}
 use Rattle.irs_cli.proofs.program.carry_out.Goals as goal
 
 pub returns-in_default : goal.returns-in_default
@@ -30,8 +32,8 @@ returns-in_err-fetched g c =
     let stops : Stops told (asked_by k).files failed before now e = subst (λ (l : List Named). Stops told (map wanted_by l) failed before now e) c.deref.ensures.value c.in_err-fetched.ensures in
     answered_by made.result (of_fetch e) (Replies ws told failed before now) made.ensures.0 made.ensures.1 (stopped_replies ws told (asked_by k) failed before now e asks stops)
 
-pub reply_of-requires : goal.reply_of-requires
-reply_of-requires g c =
+pub reply_to-requires-clause-within : goal.reply_to-requires-clause-within
+reply_to-requires-clause-within g c =
     let ws = texts c.args.words.now in
     let told = g.F.Files.told c.args.files.now in
     let k = c.in-Some.command in
@@ -39,6 +41,12 @@ reply_of-requires g c =
     let f = given_by c.in_ok-fetched.fetched in
     let held : Gathers (Holds told) (asked_by k).files no_files f = subst (λ (l : List Named). Gathers (Holds told) (map wanted_by l) no_files f) c.deref.ensures.value c.in_ok-fetched.ensures.0 in
     gathers_within (Holds told) (asked_by k).files f (λ name bytes h. h.1) (few_cals ws (asked_by k) asks) held
+
+pub reply_to-requires-clause-lawful : goal.reply_to-requires-clause-lawful
+reply_to-requires-clause-lawful g c =
+    let ws = texts c.args.words.now in
+    let k = c.in-Some.command in
+    lawful_asked ws (asked_by k) (asks_by ws c.in_ok-command.field-0 k c.in_ok-command.ensures c.in-Some.is)
 
 pub returns : goal.returns
 returns g c =
@@ -48,4 +56,5 @@ returns g c =
     let asks : Asks ws (asked_by k) = asks_by ws c.in_ok-command.field-0 k c.in_ok-command.ensures c.in-Some.is in
     let f = given_by c.in_ok-fetched.fetched in
     let held : Gathers (Holds told) (asked_by k).files no_files f = subst (λ (l : List Named). Gathers (Holds told) (map wanted_by l) no_files f) c.deref.ensures.value c.in_ok-fetched.ensures.0 in
-    fetched_replies ws told (asked_by k) f (g.F.Files.failed c.fetch_all.new.files) (g.F.Files.faults c.args.files.now) (g.F.Files.faults c.fetch_all.new.files) c.reply_of.result asks held c.in_ok-fetched.ensures.1 c.reply_of.ensures
+    let reply = c.in_ok-reply_to.field-0 in
+    ended_replies ws told (asked_by k) f (g.F.Files.failed c.fetch_all.new.files) (g.F.Files.faults c.args.files.now) (g.F.Files.faults c.fetch_all.new.files) asks held c.in_ok-fetched.ensures.1 (reply_status reply) (reply_text reply) c.in_ok-reply_to.ensures

@@ -1,4 +1,4 @@
-use Rattle.std.proofs.Common.{rules, ◌≡◌, ◌<◌, map, length, sym, ◌∙◌, Some, None, arith}
+use Rattle.std.proofs.Common.{map, length, sym, ◌∙◌, arith}
 use Rattle.std.proofs.lemmas.List.{length-map}
 use Rattle.serde_json.specs.View.{view}
 use Rattle.irs_net.proofs.SideLemmas.{first_k8, seen_at, sides_done, sides_more}

@@ -1,12 +1,10 @@
-use Rattle.std.proofs.Common.{◌≡◌, ℤ, ◌<ℤ◌, ◌-◌, sym, subst, arith}
-use Rattle.jiff_core.proofs.SignedLemmas.{signed_arith}
+use Rattle.std.proofs.Common.{◌≡◌, ◌<ℤ◌, ◌-◌, sym, subst, arith}
 use Rattle.irs_base.specs.Members.{day_at}
 use Rattle.irs_overnight.specs.DailySources.{DailySource, daily_source}
 use Rattle.irs_overnight.specs.DailyPeriods.{period_at}
 use Rattle.irs_overnight.specs.FoundRates.{DailyPeriod, daily_period}
 use Rattle.irs_overnight.specs.DerivedRules.{period_fault}
 use Rattle.irs_overnight.specs.PeriodTurns.{FirstWay}
-use Rattle.irs_overnight.specs.declared.periods.PeriodFault.{PeriodFault}
 use Rattle.irs_overnight.proofs.RowLemmas.{day_read, in_order}
 use Rattle.irs_overnight.proofs.periods.period_row.Goals as goal
 

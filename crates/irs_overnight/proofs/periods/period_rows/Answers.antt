@@ -1,4 +1,4 @@
-use Rattle.std.proofs.Common.{◌≡◌, inl, inr, ℕ, ◌+◌, ◌<◌, ◌≤◌, [], ◌∷◌, length, length-append, sym, subst, arith}
+use Rattle.std.proofs.Common.{◌≡◌, inl, inr, ℕ, ◌+◌, ◌<◌, [], ◌∷◌, length, length-append, sym, subst, arith}
 use Rattle.std.proofs.lemmas.Bool.{cases_lt}
 use Rattle.std.proofs.lemmas.List.Elements.{All-push}
 use Rattle.irs_overnight.specs.FileLaw.{IsInRange}
@@ -7,7 +7,6 @@ use Rattle.irs_base.specs.Order.{First}
 use Rattle.irs_base.specs.declared.places.Fault.{Fault}
 use Rattle.irs_base.proofs.HandedAnswers.{handed_on}
 use Rattle.irs_base.proofs.MemberLemmas.{numbered_push}
-use Rattle.irs_resets.specs.ResetDates.{IsPeriod}
 use Rattle.irs_overnight.specs.DailySources.{DailySource, daily_source}
 use Rattle.irs_overnight.specs.DailyPeriods.{period_at}
 use Rattle.irs_overnight.specs.DerivedRows.{IsDerivedRow}

@@ -1,7 +1,6 @@
-use Rattle.std.proofs.Common.{◌≡◌, ℕ, Some, sym, ◌∙◌}
+use Rattle.std.proofs.Common.{◌≡◌, ℕ, Some, sym}
 use Rattle.std.proofs.lemmas.Result.{IfOk-weaker}
 use Rattle.irs_base.specs.Order.{First}
-use Rattle.irs_base.specs.declared.places.Fault.{Fault}
 use Rattle.irs_base.proofs.HandedAnswers.{handed_back}
 use Rattle.irs_overnight.specs.DailySources.{DailySource, daily_source}
 use Rattle.irs_overnight.specs.DerivedRules.{BreaksDerived, BreaksPeriod, NotAfter, derived_before}

@@ -1,4 +1,4 @@
-use Rattle.std.proofs.Common.{◌≡◌, ℤ, ◌≤ℤ◌, ◌+ℤ◌, ◌<ℤ◌, pos, ap, refl, sym, ◌∙◌}
+use Rattle.std.proofs.Common.{◌≡◌, ◌≤ℤ◌, ◌+ℤ◌, ◌<ℤ◌, pos, refl, sym}
 use Rattle.irs_base.proofs.Orders.{lt_false, lt_true}
 use Rattle.irs_calendar.specs.GoodDays.{DaySet}
 use Rattle.irs_overnight.proofs.StartLemmas.{leaves_past, leaves_before, past_if}

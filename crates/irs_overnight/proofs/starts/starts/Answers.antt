@@ -1,4 +1,4 @@
-use Rattle.std.proofs.Common.{◌≡◌, ◌∷◌, [], ◌++◌, ℤ, pos, ◌+ℤ◌, List, ap, ◌∙◌, sym, subst, false, IsTrue, true≢false}
+use Rattle.std.proofs.Common.{◌≡◌, ◌∷◌, [], ◌++◌, ℤ, pos, ◌+ℤ◌, sym, subst}
 use Rattle.irs_calendar.specs.GoodDays.{DaySet, IsGood}
 use Rattle.irs_overnight.proofs.StartLemmas.{is_not, starts_bad, starts_good}
 use Rattle.irs_overnight.proofs.starts.starts.Goals as goal

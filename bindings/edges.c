@@ -1,0 +1,38 @@
+/* The edges of the call: a short buffer, none, no words, a file that isn't lent, odd bytes. */
+#include "irs.h"
+#include <stdio.h>
+#include <string.h>
+#define S(s) { (const uint8_t *)(s), sizeof(s) - 1 }
+#define CHECK(c) do { if (!(c)) { printf("line %d fails\n", __LINE__); return 1; } } while (0)
+
+int main(void) {
+    struct irs_bytes words[] = { S("check"), S("D") };
+    struct irs_file files[] = { { S("C"), S("") }, { S("D"), S("[") }, { S("D"), S("third") } };
+    const char *refused = "refused K1 0 document 0\n";
+    size_t length = strlen(refused), needed = 99;
+    uint8_t out[64];
+    memset(out, '#', sizeof out);
+    CHECK(irs_run(words, 2, files, 3, out, sizeof out, &needed) == 2);
+    CHECK(needed == length && memcmp(out, refused, length) == 0 && out[length] == '#');
+    /* a short buffer */
+    memset(out, '#', sizeof out);
+    CHECK(irs_run(words, 2, files, 3, out, 3, &needed) == 2);
+    CHECK(needed == length && memcmp(out, "ref#", 4) == 0);
+    /* no buffer: only the length */
+    CHECK(irs_run(words, 2, files, 3, out, 0, &needed) == 2 && needed == length);
+    /* a file that isn't lent */
+    CHECK(irs_run(words, 2, files, 1, out, 64, &needed) == 5 && needed == 10 && !memcmp(out, "no file 1\n", 10));
+    CHECK(irs_run(words, 2, files, 0, out, 64, &needed) == 5);
+    /* no words, and words that are no command */
+    CHECK(irs_run(words, 0, files, 3, out, 64, &needed) == 4 && needed == 10 && !memcmp(out, "bad words\n", 10));
+    CHECK(irs_run(words, 1, files, 3, out, 64, &needed) == 4);
+    /* a word that isn't UTF-8 */
+    struct irs_bytes bad[] = { S("check"), S("\xff\xfe") };
+    memset(out, '#', sizeof out);
+    CHECK(irs_run(bad, 2, files, 3, out, 64, &needed) == 9 && needed == 0 && out[0] == '#');
+    /* any bytes in the name and the contents of a file that no word names */
+    struct irs_file odd[] = { { S("\xff\0\xc0"), S("x") }, { S("D"), S("\0\xff\xfe\0") } };
+    CHECK(irs_run(words, 2, odd, 2, out, 64, &needed) == 2 && needed == length);
+    puts("edges: as they should be");
+    return 0;
+}

@@ -1,0 +1,54 @@
+/* irs.h: what libirs offers to C and C++, and to whatever calls C.
+
+   irs_run does what a command of the program irs does, on words and files in memory; irs_meaning says what
+   the line that it answers means. Words,
+   files, texts and statuses are those of the program (docs/FORMATS.md). Nothing is
+   kept between calls.
+
+   What a caller has to keep to:
+   - no pointer is NULL, also where there is nothing behind it (irs_lend helps);
+   - `out` and `needed` overlap neither each other nor what is lent, and nobody writes to what is lent
+     while the call runs; otherwise several threads may call at once;
+   - it isn't called from a signal handler;
+   - the thread has at least 256 KiB of stack (JSON nests up to 127 deep), and the processor has SSE4.1. */
+#ifndef IRS_H
+#define IRS_H
+#include <stddef.h>
+#include <stdint.h>
+#ifdef __cplusplus
+extern "C" {
+#endif
+
+/* Bytes that the caller lends for the call. `at` is never NULL, also where `len` is 0. */
+struct irs_bytes { const uint8_t *at; size_t len; };
+
+/* A file: a name as the words have it, and its bytes. Of several with one name the first counts. */
+struct irs_file { struct irs_bytes name, bytes; };
+
+/* Answers the status of the command that the words are: 0 to 5 and 8 as the program has them, 7 where
+   memory ran out and 9 where a word isn't UTF-8; 6 never comes. Writes the front of the text that fits
+   to `out`, and the length of the whole text to `*needed`: where that is above `out_len`, call again
+   with as much room. At 7 and 9 there is no text, and `*needed` is 0. */
+uint8_t irs_run(const struct irs_bytes *words, size_t n_words,
+                const struct irs_file *files, size_t n_files,
+                uint8_t *out, size_t out_len, size_t *needed);
+
+/* What the line of an answer means, in one plain sentence: the words of the command, and the status and
+   the text that irs_run answered. Answers 0, or 7 where memory ran out, or 9 where a word isn't UTF-8. The
+   sentence goes to `out` and its length to `*needed` as the text of irs_run does; at status 0 it is empty. */
+uint8_t irs_meaning(const struct irs_bytes *words, size_t n_words, uint8_t status,
+                    const uint8_t *line, size_t line_len,
+                    uint8_t *out, size_t out_len, size_t *needed);
+
+/* Lends bytes; NULL with length 0 is fine here. */
+static inline struct irs_bytes irs_lend(const void *at, size_t len) {
+    struct irs_bytes b;
+    b.at = len ? (const uint8_t *)at : (const uint8_t *)"";
+    b.len = len;
+    return b;
+}
+
+#ifdef __cplusplus
+}
+#endif
+#endif

@@ -1,0 +1,24 @@
+"""Schedules of interest rate swaps and the audit of cash flows, by a library whose answers are proved.
+
+    >>> import irs
+    >>> schedule = irs.schedule(open("B.json").read())
+    >>> schedule.payments()[0].amount
+    Decimal('25277.78')
+
+What a document, a calendar and a file of fixings are stands in docs/FORMATS.md, the rules in
+docs/RULES.md; that the answers are the only ones is proved of the library's call (docs/PROOFS.md), and
+only tested of what this package makes of its text.
+"""
+from .book import Outcome, Summary
+from .calls import (Schedule, accrue, audit, average, check, emit, interpolate, net, overnight, schedule)
+from .errors import BadFile, BadWords, Error, NotText, Refused, TooLong
+from .library import Answer, run
+from .rows import (Accrued, Derived, Exchange, Missing, Net, No, Payment, Period, Reset, Row, Stream, Verdict,
+                   Yes)
+
+__all__ = [
+    "Accrued", "Answer", "BadFile", "BadWords", "Derived", "Error", "Exchange", "Missing", "Net", "No",
+    "NotText", "Outcome", "Payment", "Period", "Refused", "Reset", "Row", "Schedule", "Stream", "Summary",
+    "TooLong", "Verdict", "Yes", "accrue", "audit", "average", "check", "emit", "interpolate", "net",
+    "overnight", "run", "schedule",
+]

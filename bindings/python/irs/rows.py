@@ -1,0 +1,181 @@
+"""The rows of the texts that the library prints, as named tuples.
+
+Dates are `datetime.date`, amounts, notionals and rates `decimal.Decimal` with the decimals that the text
+has, fractions `fractions.Fraction`. What isn't known for want of a fixing is `None`. All numbers count
+from 1.
+"""
+from __future__ import annotations
+
+from datetime import date
+from decimal import Decimal
+from fractions import Fraction
+from typing import Callable, Dict, List, NamedTuple, Optional, Union
+
+
+class Stream(NamedTuple):
+    """A stream: its currency, its day count as FpML names it, and whether it pays a floating rate."""
+
+    stream: int
+    currency: str
+    day_count: str
+    floating: bool
+
+
+class Exchange(NamedTuple):
+    """A principal exchange. A positive amount is paid by the stream's payer."""
+
+    stream: int
+    number: int
+    unadjusted: date
+    adjusted: date
+    amount: Decimal
+
+
+class Payment(NamedTuple):
+    """A payment over the calculation periods from the first to the last."""
+
+    stream: int
+    number: int
+    unadjusted: date
+    adjusted: date
+    first_period: int
+    last_period: int
+    amount: Optional[Decimal]
+
+
+class Period(NamedTuple):
+    """A calculation period. The rate has the spread in it; 0.05 is 5%."""
+
+    stream: int
+    number: int
+    start: date
+    end: date
+    adjusted_start: date
+    adjusted_end: date
+    days: int
+    fraction: Fraction
+    notional: Decimal
+    rate: Optional[Decimal]
+
+
+class Reset(NamedTuple):
+    """The reset of a period of a floating stream."""
+
+    stream: int
+    number: int
+    reset: date
+    fixing: date
+    observed: Optional[Decimal]
+
+
+class Net(NamedTuple):
+    """What falls due between the two parties on a day in a currency, positive where the payer of stream
+    1 pays it; `unknown` payments of that day wait for a fixing and aren't in the amount."""
+
+    date: date
+    currency: str
+    amount: Decimal
+    unknown: int
+
+
+class Accrued(NamedTuple):
+    """What has accrued in the running period of a stream; `period` is `None` where none runs."""
+
+    stream: int
+    period: Optional[int]
+    days: Optional[int]
+    fraction: Optional[Fraction]
+    amount: Optional[Decimal]
+
+
+class Derived(NamedTuple):
+    """A rate that is derived from fixings, as a line of a fixing file has it."""
+
+    date: date
+    rate: Decimal
+    tenor: Optional[str]
+    index: str
+
+
+class Missing(NamedTuple):
+    """A period whose rate isn't there, and the first day whose fixing lacks."""
+
+    period: int
+    date: date
+
+
+class Yes(NamedTuple):
+    """The cash flows agree: how many rows the schedule has, and how many payments wait for a fixing."""
+
+    rows: int
+    unfixed: int
+
+
+class No(NamedTuple):
+    """The first departure of the cash flows from the schedule."""
+
+    stream: int
+    kind: str
+    row: int
+    field: str
+
+
+Row = Union[Stream, Exchange, Payment, Period, Reset]
+Verdict = Union[Yes, No]
+
+
+def _optional(read: Callable[[str], object]) -> Callable[[str], object]:
+    return lambda text: None if text == "-" else read(text)
+
+
+_day = date.fromisoformat
+_amount = _optional(Decimal)
+_flag = lambda text: text == "float"
+
+_READERS: Dict[str, tuple] = {
+    "stream": (Stream, (int, str, str, _flag)),
+    "x": (Exchange, (int, int, _day, _day, Decimal)),
+    "p": (Payment, (int, int, _day, _day, int, int, _amount)),
+    "c": (Period, (int, int, _day, _day, _day, _day, int, Fraction, Decimal, _amount)),
+    "r": (Reset, (int, int, _day, _day, _amount)),
+    "n": (Net, (_day, str, Decimal, int)),
+}
+
+
+def row_of(line: str) -> Union[Row, Net]:
+    """The row of a line of a schedule or of a net."""
+    mark, *fields = line.split(" ")
+    kind, readers = _READERS[mark]
+    return kind(*(read(field) for read, field in zip(readers, fields)))
+
+
+def inner_lines(text: bytes) -> List[str]:
+    """The lines between the header and `end`."""
+    return text.decode().splitlines()[1:-1]
+
+
+def accrued_of(line: str) -> Accrued:
+    """What has accrued in a stream, of its line."""
+    fields = line.split(" ")
+    if fields[2] == "none":
+        return Accrued(int(fields[1]), None, None, None, None)
+    _, stream, period, days, fraction, amount = fields
+    return Accrued(int(stream), int(period), int(days), Fraction(fraction), _amount(amount))
+
+
+def derived_of(line: str) -> Union[Derived, Missing]:
+    """A derived rate, or a missing one, of its line."""
+    if line.startswith("# missing "):
+        _, _, period, day = line.split(" ")
+        return Missing(int(period), _day(day))
+    day, rate, tenor, index = line.split(" ", 3)
+    return Derived(_day(day), Decimal(rate), None if tenor == "-" else tenor, index)
+
+
+def verdict_of(text: bytes) -> Verdict:
+    """The verdict of an audit."""
+    fields = text.decode().split()
+    if fields[0] == "yes":
+        return Yes(int(fields[1]), int(fields[2]))
+    _, stream, kind, row, field = fields
+    return No(int(stream), kind, int(row), field)

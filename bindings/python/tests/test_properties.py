@@ -1,0 +1,43 @@
+"""Properties of the readers of rows, where hypothesis is installed: what a text says comes back."""
+import os
+import sys
+import unittest
+
+sys.path.insert(0, os.path.join(os.path.dirname(os.path.abspath(__file__)), ".."))
+
+try:
+    from hypothesis import given, strategies as st
+except ImportError:
+    raise unittest.SkipTest("hypothesis isn't installed")
+
+from irs import rows
+
+days = st.dates()
+numbers = st.integers(min_value=1, max_value=8000)
+amounts = st.none() | st.decimals(allow_nan=False, allow_infinity=False, places=2, min_value=-10**14, max_value=10**14)
+
+
+def shown(value):
+    return "-" if value is None else f"{value:f}"
+
+
+class Readers(unittest.TestCase):
+    @given(numbers, numbers, days, days, amounts)
+    def test_a_payment(self, stream, number, unadjusted, adjusted, amount):
+        line = f"p {stream} {number} {unadjusted} {adjusted} {number} {number} {shown(amount)}"
+        self.assertEqual(rows.row_of(line), rows.Payment(stream, number, unadjusted, adjusted, number, number, amount))
+
+    @given(numbers, days, amounts)
+    def test_a_net(self, unknown, day, amount):
+        if amount is not None:
+            self.assertEqual(rows.row_of(f"n {day} USD {shown(amount)} {unknown}"), rows.Net(day, "USD", amount, unknown))
+
+    @given(numbers, numbers, numbers, amounts)
+    def test_what_has_accrued(self, stream, period, passed, amount):
+        line = f"a {stream} {period} {passed} {passed}/360 {shown(amount)}"
+        told = rows.accrued_of(line)
+        self.assertEqual((told.stream, told.days, told.fraction * 360, told.amount), (stream, passed, passed, amount))
+
+
+if __name__ == "__main__":
+    unittest.main()

@@ -1,0 +1,31 @@
+-- The words and files that a C caller lends.
+use Rattle.std.specs.Prelude.{◌≡◌, ℕ, List, [], ◌∷◌, map, Option, Some, None, if◌then◌else◌}
+use Rattle.std.specs.Str.{bytes_eq}
+use Rattle.irs_cli.specs.Commands.{Words, Wanted, Asked, Asks}
+use Rattle.irs_cli.specs.Fetching.{NotLong}
+use Rattle.irs_cli.specs.Given.{Told, Reaches}
+use Rattle.irs_cli.specs.Messages.{no_file}
+use Rattle.irs_c.specs.declared.given.Bytes.{Bytes}
+use Rattle.irs_c.specs.declared.given.File.{File}
+
+-- the words, by their bytes
+abbrev pub words_in : List Bytes → Words
+words_in ws = map (λ w. w.at.now) ws
+
+-- the bytes of the first file of this name
+abbrev pub file_in : List File → Told
+file_in [] name = None
+file_in (f ∷ fs) name = if bytes_eq f.name.at.now name then Some f.bytes.at.now else file_in fs name
+
+-- the file of the word at this place isn't lent
+pub record AbsentAt (told : Told) (place : ℕ) (w : Wanted) : Type 0 where
+  pub at : w.place ≡ place
+  pub none : told w.name ≡ None
+
+-- the words name a file that isn't lent, none before it is too long, and the text says which
+pub record IsAbsent (ws : Words) (told : Told) (text : List ℕ) : Type 0 where
+  pub asked : Asked
+  pub asks : Asks ws asked
+  pub place : ℕ
+  pub file : Reaches (NotLong told) (AbsentAt told place) asked.files
+  pub is_text : text ≡ no_file place

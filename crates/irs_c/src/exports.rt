@@ -1,0 +1,174 @@
+//! What C calls. The form of the call is this project's own; `bindings/irs.h` has it in C's words.
+ghost use Rattle.std.specs.Prelude.{◌≡◌, ◌≢◌, ◌⊎◌, ◌×◌, ℕ, ◌<◌, List, ◌++◌, length, take, drop, All, IfOk, IfErr};
+ghost use Rattle.std.specs.Str.{IsUtf8};
+ghost use Rattle.irs_cli.specs.Commands.{texts, IsListed};
+ghost use Rattle.irs_cli.specs.Due.{Due, IsOneAnswer};
+ghost use Rattle.irs_cli.specs.Given.{TellsAll};
+ghost use Rattle.irs_c.specs.Given.{words_in, file_in, IsAbsent};
+ghost use Rattle.irs_c.specs.Shown.{Shown};
+ghost use Rattle.irs_plain.specs.Sentences.{said, sentence_of};
+
+use crate::given::{Bytes, File, GivenFiles};
+use crate::kept::Kept;
+use irs_cli::run;
+use irs_plain::{Sentence, meaning};
+use std::alloc::Global;
+
+/// Runs a command of the program over lent words and files, and answers its status: 0 done, 1 the
+/// flows don't agree, 2 a rule is broken, 3 a calendar, fixing or flow file is outside its grammar or
+/// limits, 4 the words are no listed command, 5 a file that the words name isn't lent, 7 want of
+/// memory, 8 a file is too long, 9 a word isn't UTF-8. Status 6 never comes.
+///
+/// The text that the program would print goes to `out` as far as it has room, and its length to
+/// `needed`: where that is more than `out` has, a second call with as much room gives all of it. At 7
+/// and 9 there is no text. It keeps nothing between calls.
+#[unsafe(no_mangle)]
+pub extern "C" fn irs_run(
+    alloc: Global,
+    words: &[Bytes<'_>],
+    files: &[File<'_>],
+    out: &mut [u8],
+    needed: &mut usize,
+) -> u8
+    // Want of memory, or a word that isn't UTF-8: no text.
+    ensures memory { result ≡ 7 → (out.new ≡ out.old) × (needed.new ≡ 0) }
+    ensures not_text { result ≡ 9 → (All (λ w. IsUtf8 w.at.now) words.now → ⊥) × (out.new ≡ out.old) × (needed.new ≡ 0) }
+    // A file that the words name isn't lent, and the text says which.
+    ensures absent { result ≡ 5 → (text : List ℕ)
+        × IsAbsent (words_in words.now) (file_in files.now) text
+        × Shown out.old out.new needed.new text }
+    // Any other status, and exactly its text, are what is due.
+    ensures due { result ≢ 5 → result ≢ 7 → result ≢ 9 → (text : List ℕ)
+        × Due (words_in words.now) (file_in files.now) result text
+        × Shown out.old out.new needed.new text }
+    // The statuses are these, and 6 is none of them.
+    ensures listed { (result < 10) × (result ≢ 6) }
+    // Where every file that the words name is lent, one status and one text are due.
+    ensures one { TellsAll (words_in words.now) (file_in files.now) → IsOneAnswer (words_in words.now) (file_in files.now) }
+{
+    match answer(alloc, words, files) {
+        Ok((status, text)) => {
+            show(&text, out);
+            *needed = text.len();
+            status
+        }
+        Err(status) => {
+            *needed = 0;
+            status
+        }
+    }
+}
+
+/// What the line of an answer means, in one plain sentence: `words` are those of the command, `status`
+/// and `line` what `irs_run` answered. 0 done, 7 want of memory, 9 a word isn't UTF-8.
+///
+/// The sentence goes to `out` as far as it has room, and its length to `needed`, as the text of
+/// `irs_run` does. At 0 as `status` it is empty.
+#[unsafe(no_mangle)]
+pub extern "C" fn irs_meaning(
+    alloc: Global,
+    words: &[Bytes<'_>],
+    status: u8,
+    line: &[u8],
+    out: &mut [u8],
+    needed: &mut usize,
+) -> u8
+    // Want of memory, or a word that isn't UTF-8: no sentence.
+    ensures memory { result ≡ 7 → (out.new ≡ out.old) × (needed.new ≡ 0) }
+    ensures not_text { result ≡ 9 → (All (λ w. IsUtf8 w.at.now) words.now → ⊥) × (out.new ≡ out.old) × (needed.new ≡ 0) }
+    ensures done { result ≡ 0 → Shown out.old out.new needed.new (sentence_of (words_in words.now) status line.now) }
+    ensures listed { (result ≡ 0) ⊎ ((result ≡ 7) ⊎ (result ≡ 9)) }
+{
+    match sentence(alloc, words, status, line) {
+        Ok(text) => {
+            show(&text, out);
+            *needed = text.len();
+            0
+        }
+        Err(status) => {
+            *needed = 0;
+            status
+        }
+    }
+}
+
+// The sentence, or 7 or 9 where there is none.
+fn sentence(alloc: Global, words: &[Bytes<'_>], status: u8, line: &[u8]) -> Result<Vec<u8>, u8>
+    ensures done { IfOk result (λ t. t.items ≡ sentence_of (words_in words.now) status line.now) }
+    ensures not_text { IfErr result (λ s. s ≡ 9 → All (λ w. IsUtf8 w.at.now) words.now → ⊥) }
+    ensures err { IfErr result (λ s. (s ≡ 7) ⊎ (s ≡ 9)) }
+{
+    let words = words_of(alloc, words)?;
+    joined(alloc, meaning(&words, status, line))
+}
+
+// The parts of a sentence one behind the other, or 7 where memory ran out.
+fn joined(alloc: Global, sentence: Sentence<'_>) -> Result<Vec<u8>, u8>
+    ensures text { IfOk result (λ t. t.items ≡ said sentence) }
+    ensures err { IfErr result (λ s. s ≡ 7) }
+{
+    let mut text = Vec::new(alloc);
+    for part in &sentence.parts {
+        if text.extend_from_slice(part).is_err() {
+            return Err(7);
+        }
+    }
+    Ok(text)
+}
+
+// Status and text, or the status alone where there is no text: 7 or 9.
+fn answer(alloc: Global, words: &[Bytes<'_>], files: &[File<'_>]) -> Result<(u8, Vec<u8>), u8>
+    ensures due { IfOk result (λ r. r.0 ≢ 5 → Due (words_in words.now) (file_in files.now) r.0 r.1.items) }
+    ensures absent { IfOk result (λ r. r.0 ≡ 5 → IsAbsent (words_in words.now) (file_in files.now) r.1.items) }
+    ensures ok { IfOk result (λ r. (r.0 < 9) × (r.0 ≢ 6) × (r.0 ≢ 7)) }
+    ensures not_text { IfErr result (λ s. s ≡ 9 → All (λ w. IsUtf8 w.at.now) words.now → ⊥) }
+    ensures err { IfErr result (λ s. (s ≡ 7) ⊎ (s ≡ 9)) }
+{
+    let words = words_of(alloc, words)?;
+    run_kept(alloc, &words, files)
+}
+
+// Status and text of a run over the lent files, or 7 where memory ran out.
+fn run_kept(alloc: Global, words: &[String], files: &[File<'_>]) -> Result<(u8, Vec<u8>), u8>
+    ensures due { IfOk result (λ r. r.0 ≢ 5 → Due (texts words.now) (file_in files.now) r.0 r.1.items) }
+    ensures absent { IfOk result (λ r. r.0 ≡ 5 → IsAbsent (texts words.now) (file_in files.now) r.1.items) }
+    ensures ok { IfOk result (λ r. (r.0 < 9) × (r.0 ≢ 6) × (r.0 ≢ 7)) }
+    ensures err { IfErr result (λ s. s ≡ 7) }
+{
+    let mut source = GivenFiles::new(files);
+    let mut kept = Kept::new(alloc);
+    let status = run(alloc, words, &mut source, &mut kept);
+    if status == 6 || status == 7 {
+        return Err(7);
+    }
+    Ok((status, kept.text))
+}
+
+// The words as text, or 9 where one isn't UTF-8, or 7 for want of memory.
+fn words_of(alloc: Global, words: &[Bytes<'_>]) -> Result<Vec<String>, u8>
+    ensures ok { IfOk result (λ v. texts v.items ≡ words_in words.now) }
+    ensures not_text { IfErr result (λ s. s ≡ 9 → All (λ w. IsUtf8 w.at.now) words.now → ⊥) }
+    ensures err { IfErr result (λ s. (s ≡ 7) ⊎ (s ≡ 9)) }
+{
+    let mut made = Vec::new(alloc);
+    for word in words {
+        let Ok(word) = str::from_utf8(word.at) else {
+            return Err(9);
+        };
+        let Ok(word) = String::from_str(alloc, word) else {
+            return Err(7);
+        };
+        if made.push(word).is_err() {
+            return Err(7);
+        }
+    }
+    Ok(made)
+}
+
+// Copies the front of the text that fits.
+fn show(text: &[u8], out: &mut [u8])
+    ensures { out.new ≡ take (length out.old) text.now ++ drop (length text.now) out.old }
+{
+    let n = text.len().min(out.len());
+    out[..n].copy_from_slice(&text[..n]);
+}

@@ -1,0 +1,39 @@
+//! A sink that keeps the text.
+ghost use Rattle.std.specs.Prelude.{◌≡◌, [], Some};
+
+use irs_cli::{PutFailed, Sink};
+use std::alloc::Global;
+
+/// What was put, and how often a put failed for want of memory.
+#[derive(Drop)]
+pub(crate) struct Kept {
+    pub(crate) text: Vec<u8>,
+    pub(crate) faults: u64,
+}
+
+impl Kept {
+    pub(crate) fn new(alloc: Global) -> Kept
+        ensures { result.text.items ≡ [] }
+    {
+        Kept {
+            text: Vec::new(alloc),
+            faults: 0,
+        }
+    }
+}
+
+impl Sink for Kept {
+    ghost written = { λ s. Some s.text.items };
+
+    ghost faults = { λ s. s.faults };
+
+    fn put(&mut self, bytes: &[u8]) -> Result<(), PutFailed> {
+        match self.text.extend_from_slice(bytes) {
+            Ok(()) => Ok(()),
+            Err(_) => {
+                self.faults = self.faults.saturating_add(1);
+                Err(PutFailed)
+            }
+        }
+    }
+}

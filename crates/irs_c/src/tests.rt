@@ -1,0 +1,38 @@
+//! The two calls, over words and files in memory.
+use crate::exports::{irs_meaning, irs_run};
+use crate::given::{Bytes, File};
+use std::test::*;
+
+fn lent(at: &'static [u8]) -> Bytes<'static> {
+    Bytes { at }
+}
+
+fn words() -> [Bytes<'static>; 2] {
+    [lent(b"check"), lent(b"D")]
+}
+
+#[test]
+fn a_document_that_is_no_json(rt: HostRuntime) {
+    let files = [File {
+        name: lent(b"D"),
+        bytes: lent(b"["),
+    }];
+    let mut out = [b'#'; 32];
+    let mut needed = 0;
+    let status = irs_run(rt.alloc(), &words(), &files, &mut out, &mut needed);
+    assert_eq!(rt; (status, needed), (2, 24));
+    assert_eq!(rt; &out[..25], b"refused K1 0 document 0\n#".as_slice());
+    let status = irs_run(rt.alloc(), &words(), &[], &mut out[..3], &mut needed);
+    assert_eq!(rt; (status, needed), (5, 10));
+    assert_eq!(rt; &out[..4], b"no u".as_slice());
+}
+
+#[test]
+fn what_a_line_means(rt: HostRuntime) {
+    let mut out = [b'#'; 64];
+    let mut needed = 0;
+    let line = b"no file 1\n";
+    let status = irs_meaning(rt.alloc(), &words(), 5, line, &mut out, &mut needed);
+    assert_eq!(rt; (status, needed), (0, 15));
+    assert_eq!(rt; &out[..16], b"no such file: D#".as_slice());
+}

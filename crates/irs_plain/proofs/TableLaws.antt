@@ -1,0 +1,16 @@
+-- The code's lists are those of the specification.
+use Rattle.irs_plain.specs.Rules.{codes_of, rows, texts_after, texts_before}
+use Rattle.irs_plain.specs.declared.table.TheConstants.{AFTER, BEFORE, RULES}
+use Rattle.std.proofs.Common.{◌≡◌, map, refl}
+
+pub rules_are : map (λ n. n.now) RULES ≡ codes_of
+unfolding codes_of rows
+rules_are = refl
+
+pub before_are : map (λ n. n.now) BEFORE ≡ texts_before
+unfolding texts_before rows
+before_are = refl
+
+pub after_are : map (λ n. n.now) AFTER ≡ texts_after
+unfolding texts_after rows
+after_are = refl

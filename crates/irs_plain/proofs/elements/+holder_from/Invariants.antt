@@ -1,0 +1,5 @@
+use Rattle.std.proofs.Common.{length}
+use Rattle.irs_plain.proofs.elements.+holder_from.Given as goal
+
+abbrev pub decreases-holder_from : goal.decreases-holder_from
+decreases-holder_from l = length l.rest.now

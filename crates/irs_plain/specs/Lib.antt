@@ -1,0 +1,7 @@
+pub mod Cuts
+pub mod Elements
+pub mod Rules
+pub mod Lookup
+pub mod Words
+pub mod Sentences
+pub mod Kept

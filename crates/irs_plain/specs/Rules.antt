@@ -1,0 +1,75 @@
+-- The rules in plain words, a line each: the rule, what is said before the element at fault, and what
+-- behind it. Behind them stand the kinds of fault of cash flows, which are K1 to K7 on their own table.
+use Prim.Native.String.{String}
+use Rattle.std.specs.Prelude.{ℕ, List, [], ◌∷◌, map, codes}
+
+-- a rule with its words
+pub record Row : Type 0 where
+  pub rule : String
+  pub before : String
+  pub after : String
+
+-- a line of the table
+abbrev row : String → String → String → Row
+row rule before after = record { rule = rule; before = before; after = after }
+
+-- the table
+unfoldable pub rows : List Row
+rows =
+    row "K1" "" " isn't JSON"
+    ∷ row "K2" "" " is missing, or a member that it must have"
+    ∷ row "K3" "" " isn't the text or the object that it has to be"
+    ∷ row "K4" "" " has a member that isn't known"
+    ∷ row "K5" "" " has a member or a value that FpML knows and this program doesn't read"
+    ∷ row "K6" "the text of " " is none of its values, or is out of range"
+    ∷ row "K7" "" " stands too often, or has two members that don't go together"
+    ∷ row "K8" "" " and the receiver don't name the two parties of the first stream"
+    ∷ row "K10" "" " names nothing, or more than one list"
+    ∷ row "K11" "" " asks for business days and names no centre"
+    ∷ row "K12" "a centre of " " is in no calendar file"
+    ∷ row "K13" "" " is out of order among the dates of the stream"
+    ∷ row "K14" "" " and the roll convention don't go together"
+    ∷ row "K15" "" " isn't a whole multiple of the calculation frequency"
+    ∷ row "K16" "" " is required and absent, or isn't allowed there"
+    ∷ row "K17" "" " doesn't say whether it counts business or calendar days"
+    ∷ row "K18" "" " isn't behind the step before it, or isn't inside the life of the stream"
+    ∷ row "K19" "" " goes with the other kind of rate"
+    ∷ row "K20" "" " isn't as long as the calculation frequency"
+    ∷ row "K21" "" " isn't allowed with this rate"
+    ∷ row "K30" "" " isn't on the roll day that the periods are counted from"
+    ∷ row "K31" "" " isn't on the grid where the regular periods end"
+    ∷ row "K32" "" " makes more than 8,000 calculation periods"
+    ∷ row "K33" "a day of " " can't be adjusted: the calendars don't cover it, or have no good day there"
+    ∷ row "K34" "two adjusted dates of " " fall on one day or change their order"
+    ∷ row "K35" "" " is no date on which payments fall"
+    ∷ row "K36" "" " isn't on a boundary of the periods"
+    ∷ row "K37" "" " is given, and the stream has no such stub"
+    ∷ row "K38" "an offset in calendar days of " " leaves the range of dates"
+    ∷ row "K39" "a rate or an amount of " " passes its limit"
+    ∷ row "K40" "" " isn't there, or has a fixed rate"
+    ∷ row "K41" "a fixing date of " " isn't behind the one before it"
+    ∷ row "K42" "" " has to be ACT/360 or ACT/365.FIXED for this command"
+    ∷ row "K43" "an observation of " " lies outside the calendars, or before every good day"
+    ∷ row "K44" "a compounded rate of " " passes its limit"
+    ∷ row "K45" "" " has no floating rate for a stub on that side"
+    ∷ row "K46" "the stub of " " doesn't end between the two tenors"
+    ∷ row "notjson" "" " isn't JSON"
+    ∷ row "missing" "" " is missing, or a member that it must have"
+    ∷ row "kind" "" " isn't the text or the object that it has to be"
+    ∷ row "unknown" "" " has a member that isn't known"
+    ∷ row "profile" "" " has a member or a value that FpML knows and this program doesn't read"
+    ∷ row "value" "the text of " " is none of its values, or is out of range"
+    ∷ row "count" "" " stands too often, or has two members that don't go together"
+    ∷ []
+
+-- the rules
+unfoldable pub codes_of : List (List ℕ)
+codes_of = map (λ (r : Row). codes r.rule) rows
+
+-- what is said before the elements
+unfoldable pub texts_before : List (List ℕ)
+texts_before = map (λ (r : Row). codes r.before) rows
+
+-- and behind them
+unfoldable pub texts_after : List (List ℕ)
+texts_after = map (λ (r : Row). codes r.after) rows

@@ -1,0 +1,128 @@
+-- The sentence for a line that the program wrote, as parts that are joined.
+use Rattle.irs_plain.specs.Cuts.{fifth, fourth, front, second, sixth, third}
+use Rattle.irs_plain.specs.Elements.{holder, name_words, possessive}
+use Rattle.irs_plain.specs.Lookup.{after, before}
+use Rattle.irs_plain.specs.Words.{calendar_name, fixings_name, flows_name, named}
+use Rattle.irs_plain.specs.declared.lines.Sentence.{Sentence}
+use Rattle.std.specs.Prelude.{ℕ, ◌==◌, ◌||◌, Bool, not, List, [], ◌∷◌, ◌++◌, map, codes, if◌then◌else◌}
+use Rattle.std.specs.Str.{bytes_eq}
+
+-- parts one behind the other
+abbrev pub joined : List (List ℕ) → List ℕ
+joined [] = []
+joined (part ∷ parts) = part ++ joined parts
+
+-- what a sentence says
+abbrev pub said : Sentence → List ℕ
+said s = joined (map (λ p. p.now) s.parts)
+
+-- ---- a broken rule
+
+-- a text, unless the number is 0
+abbrev pub unless_zero : List ℕ → List ℕ → List ℕ
+unless_zero number text = if bytes_eq number (codes "0") then [] else text
+
+-- the number of a place, where the sentence of its rule tells it: of a centre it doesn't
+abbrev pub number_told : List ℕ → List ℕ → List ℕ
+number_told rule index = if bytes_eq rule (codes "K12") then codes "0" else index
+
+-- what a rule says of an element, behind three parts
+abbrev pub about : List ℕ → List ℕ → List ℕ → List ℕ → List ℕ → List ℕ → List ℕ → List (List ℕ)
+about one two three rule stream path index =
+    one ∷ two ∷ three
+    ∷ before rule ∷ holder path ∷ possessive (holder path) ∷ name_words path ∷ after rule
+    ∷ unless_zero stream (codes " (stream ") ∷ unless_zero stream stream
+    ∷ unless_zero index (codes ", number ") ∷ unless_zero index index
+    ∷ unless_zero stream (codes ")")
+    ∷ []
+
+-- `refused RULE STREAM PATH INDEX`
+abbrev pub refused : List ℕ → List (List ℕ)
+refused line = about (second line) (codes ": ") [] (second line) (third line) (fourth line) (number_told (second line) (fifth line))
+
+-- ---- a file at fault
+
+-- what is wrong with a line of a calendar file
+abbrev pub calendar_fault : List ℕ → List ℕ
+calendar_fault fault =
+    if bytes_eq fault (codes "repeat") then codes "this centre stands already"
+    else (if bytes_eq fault (codes "toomany") then codes "a centre has at most 20,000 holidays" else codes "this line can't stand here")
+
+-- what is wrong with a line of a fixing file
+abbrev pub fixing_fault : List ℕ → List ℕ
+fixing_fault fault = if bytes_eq fault (codes "repeat") then codes "this date, tenor and index stand already" else codes "this line isn't DATE RATE TENOR INDEX"
+
+-- `bad calendar FILE LINE FAULT`
+abbrev pub bad_calendar : List (List ℕ) → List ℕ → List (List ℕ)
+bad_calendar words line =
+    codes "calendar file " ∷ third line ∷ codes " (" ∷ calendar_name words (third line) ∷ codes "), line " ∷ fourth line ∷ codes ": " ∷ calendar_fault (fifth line) ∷ []
+
+-- `bad fixings LINE FAULT`
+abbrev pub bad_fixings : List (List ℕ) → List ℕ → List (List ℕ)
+bad_fixings words line =
+    codes "fixing file (" ∷ fixings_name words ∷ codes "), line " ∷ third line ∷ codes ": " ∷ fixing_fault (fourth line) ∷ []
+
+-- `bad flows KIND STREAM PATH INDEX`
+abbrev pub bad_flows : List (List ℕ) → List ℕ → List (List ℕ)
+bad_flows words line = about (codes "cash flows (") (flows_name words) (codes "): ") (third line) (fourth line) (fifth line) (sixth line)
+
+-- a file that is outside its grammar or its limits
+abbrev pub bad_file : List (List ℕ) → List ℕ → List (List ℕ)
+bad_file words line =
+    if bytes_eq (second line) (codes "calendar") then bad_calendar words line
+    else (if bytes_eq (second line) (codes "fixings") then bad_fixings words line else bad_flows words line)
+
+-- ---- cash flows that depart from the schedule
+
+-- the departure is of a field, and not of a whole row
+abbrev pub is_of_field : List ℕ → Bool
+is_of_field field = not (bytes_eq field (codes "missing") || bytes_eq field (codes "extra"))
+
+-- what cash flows do
+abbrev pub verb : List ℕ → List ℕ
+verb field =
+    if bytes_eq field (codes "missing") then codes ") lack "
+    else (if bytes_eq field (codes "extra") then codes ") have " else codes ") depart from the schedule in ")
+
+-- a text where the departure is of a field
+abbrev pub of_field : List ℕ → List ℕ → List ℕ
+of_field field text = if is_of_field field then text else []
+
+-- a text where the row isn't a stream as a whole
+abbrev pub unless_stream : List ℕ → List ℕ → List ℕ
+unless_stream kind text = if bytes_eq kind (codes "stream") then [] else text
+
+-- what stands before the number of the stream
+abbrev pub stream_words : List ℕ → List ℕ
+stream_words kind = if bytes_eq kind (codes "stream") then codes "stream " else codes " of stream "
+
+-- what stands at the end
+abbrev pub ending : List ℕ → List ℕ
+ending field = if bytes_eq field (codes "extra") then codes ", and the schedule doesn't" else []
+
+-- `no STREAM KIND ROW FIELD`
+abbrev pub departure : List (List ℕ) → List ℕ → List (List ℕ)
+departure words line =
+    codes "the cash flows (" ∷ flows_name words ∷ verb (fifth line)
+    ∷ of_field (fifth line) (fifth line) ∷ of_field (fifth line) (codes " of ")
+    ∷ unless_stream (third line) (third line) ∷ unless_stream (third line) (codes " ") ∷ unless_stream (third line) (fourth line)
+    ∷ stream_words (third line) ∷ second line ∷ ending (fifth line) ∷ []
+
+-- ---- every status
+
+-- the sentence for a line without its end
+abbrev pub told : List (List ℕ) → ℕ → List ℕ → List (List ℕ)
+told words status line =
+    if status == 1 then departure words line
+    else (if status == 2 then refused line
+    else (if status == 3 then bad_file words line
+    else (if status == 4 then codes "these words are no listed command: " ∷ codes "irs --help lists them" ∷ []
+    else (if status == 5 then codes "no such file: " ∷ named words (third line) ∷ []
+    else (if status == 6 then codes "the text couldn't be written to standard output" ∷ []
+    else (if status == 7 then codes "there wasn't enough memory" ∷ []
+    else (if status == 8 then named words (third line) ∷ codes " has more than 4,194,304 bytes" ∷ []
+    else (if status == 9 then codes "a word of the command line isn't text" ∷ [] else []))))))))
+
+-- the sentence for what the program wrote with a status
+abbrev pub sentence_of : List (List ℕ) → ℕ → List ℕ → List ℕ
+sentence_of words status written = joined (told words status (front 10 written))

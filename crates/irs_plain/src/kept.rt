@@ -1,0 +1,62 @@
+//! A sink over a sink: it hands every put on and keeps the first bytes that were put, so that a
+//! sentence can be said about the line that was written.
+ghost use Rattle.std.specs.Prelude.{◌≡◌, ◌≤◌, ◌++◌, [], length, take, OnOk, OnErr};
+ghost use Rattle.irs_base.specs.Texts.{longest_line};
+ghost use Rattle.irs_outside.specs.Outside.{Grew, GrewByFront, Rose};
+ghost use Rattle.irs_plain.specs.Kept.{front_of, sink_of};
+
+use irs_base::{LONGEST_LINE, Line};
+use irs_outside::{PutFailed, Sink};
+
+/// A sink, and the first 512 bytes that it was handed.
+#[derive(Drop)]
+pub struct Kept<S> {
+    sink: S,
+    front: Line,
+}
+
+// Appends what there is room for.
+fn keep(front: &mut Line, bytes: &[u8])
+    ensures { front.new ≡ take longest_line (front.old ++ bytes.now) }
+{
+    let room = LONGEST_LINE - front.bytes().len();
+    front.push(&bytes[..room.min(bytes.len())]);
+}
+
+impl<S: Sink> Kept<S> {
+    /// The sink, of which nothing is kept yet.
+    pub fn new(sink: S) -> Kept<S>
+        ensures sink { sink_of result ≡ sink }
+        ensures front { front_of result ≡ [] }
+    {
+        Kept {
+            sink,
+            front: Line::new(),
+        }
+    }
+
+    /// The first bytes that were put, at most 512; also those of a put that failed.
+    pub fn front(&self) -> &[u8]
+        ensures { result.now ≡ front_of self.now }
+    {
+        self.front.bytes()
+    }
+}
+
+impl<S: Sink> Sink for Kept<S> {
+    ghost written = { λ k. S.written (sink_of k) };
+
+    ghost faults = { λ k. S.faults (sink_of k) };
+
+    /// It answers what the sink answers.
+    fn put(&mut self, bytes: &[u8]) -> Result<(), PutFailed>
+        ensures ok { OnOk result (Grew (S.written (sink_of self.old)) (S.written (sink_of self.new)) bytes.now) }
+        ensures quiet { OnOk result (S.faults (sink_of self.new) ≡ S.faults (sink_of self.old)) }
+        ensures err { OnErr result (GrewByFront (S.written (sink_of self.old)) (S.written (sink_of self.new)) bytes.now) }
+        ensures rose { OnErr result (Rose (S.faults (sink_of self.old)) (S.faults (sink_of self.new))) }
+        ensures kept { front_of self.new ≡ take longest_line (front_of self.old ++ bytes.now) }
+    {
+        keep(&mut self.front, bytes);
+        self.sink.put(bytes)
+    }
+}

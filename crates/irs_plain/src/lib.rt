@@ -1,0 +1,19 @@
+//! What a person reads on standard error: one plain sentence for the line that the program wrote on
+//! standard output, and the texts of `--help` and `--version`.
+#![tactic(auto)]
+
+mod cuts;
+mod elements;
+mod help;
+mod kept;
+mod lines;
+mod lookup;
+mod table;
+#[cfg(test)]
+mod tests;
+mod words;
+
+pub use help::{COMMANDS, HELP, VERSION};
+pub use kept::Kept;
+pub use lines::{Sentence, meaning};
+pub use table::rules_listed;

@@ -1,0 +1,314 @@
+//! The sentence for a line that the program wrote: what it means, with the names of the files that it
+//! speaks of.
+ghost use Rattle.irs_plain.specs.Sentences.{about as about_of, bad_calendar as bad_calendar_of, bad_file as bad_file_of, bad_fixings as bad_fixings_of, bad_flows as bad_flows_of, calendar_fault as calendar_fault_of, departure as departure_of, ending as ending_of, fixing_fault as fixing_fault_of, is_of_field as is_of_field_of, joined, number_told as number_told_of, of_field as of_field_of, refused as refused_of, said, sentence_of, stream_words as stream_words_of, told as told_of, unless_stream as unless_stream_of, unless_zero as unless_zero_of, verb as verb_of};
+ghost use Rattle.irs_plain.specs.Words.{texts};
+ghost use Rattle.std.specs.Prelude.{◌≡◌, [], ◌∷◌};
+
+use crate::cuts::{fifth, fourth, front, is, second, sixth, third};
+use crate::elements::{holder, name_words, possessive};
+use crate::lookup::{after, before};
+use crate::words::{calendar_name, fixings_name, flows_name, named};
+
+/// The most parts of a sentence.
+const PARTS: usize = 13;
+
+/// A sentence, as parts to be written one behind the other. Parts that aren't needed are empty.
+#[derive(Clone, Copy)]
+pub struct Sentence<'a> {
+    /// The parts.
+    pub parts: [&'a [u8]; PARTS],
+}
+
+// A sentence of three parts.
+fn short<'a>(first: &'a [u8], second: &'a [u8], third: &'a [u8]) -> Sentence<'a>
+    ensures { said result ≡ joined (first.now ∷ second.now ∷ third.now ∷ []) }
+{
+    Sentence {
+        parts: [
+            first, second, third, b"", b"", b"", b"", b"", b"", b"", b"", b"", b"",
+        ],
+    }
+}
+
+// The first three parts of a sentence.
+#[derive(Clone, Copy)]
+struct Opening<'a> {
+    first: &'a [u8],
+    second: &'a [u8],
+    third: &'a [u8],
+}
+
+// ---- a broken rule
+
+// The text, unless the number is 0.
+fn unless_zero<'a>(number: &[u8], text: &'a [u8]) -> &'a [u8]
+    ensures { result.now ≡ unless_zero_of number.now text.now }
+{
+    if is(number, "0") { b"" } else { text }
+}
+
+// The number of a place, where the sentence of its rule tells it: of a centre it doesn't.
+fn number_told<'a>(rule: &[u8], index: &'a [u8]) -> &'a [u8]
+    ensures { result.now ≡ number_told_of rule.now index.now }
+{
+    if is(rule, "K12") { b"0" } else { index }
+}
+
+// What a rule says of an element, behind an opening of three parts.
+fn about<'a>(
+    opening: Opening<'a>,
+    rule: &[u8],
+    stream: &'a [u8],
+    path: &'a [u8],
+    index: &'a [u8],
+) -> Sentence<'a>
+    ensures { said result ≡ joined (about_of opening.entry.first.now opening.entry.second.now opening.entry.third.now rule.now stream.now path.now index.now) }
+{
+    Sentence {
+        parts: [
+            opening.first,
+            opening.second,
+            opening.third,
+            before(rule),
+            holder(path),
+            possessive(holder(path)),
+            name_words(path),
+            after(rule),
+            unless_zero(stream, b" (stream "),
+            unless_zero(stream, stream),
+            unless_zero(index, b", number "),
+            unless_zero(index, index),
+            unless_zero(stream, b")"),
+        ],
+    }
+}
+
+// `refused RULE STREAM PATH INDEX`.
+fn refused(line: &[u8]) -> Sentence<'_>
+    ensures { said result ≡ joined (refused_of line.now) }
+{
+    let rule = second(line);
+    let opening = Opening {
+        first: rule,
+        second: b": ",
+        third: b"",
+    };
+    let index = number_told(rule, fifth(line));
+    about(opening, rule, third(line), fourth(line), index)
+}
+
+// ---- a file at fault
+
+// What is wrong with a line of a calendar file.
+fn calendar_fault<'a>(fault: &[u8]) -> &'a [u8]
+    ensures { result.now ≡ calendar_fault_of fault.now }
+{
+    if is(fault, "repeat") {
+        b"this centre stands already"
+    } else if is(fault, "toomany") {
+        b"a centre has at most 20,000 holidays"
+    } else {
+        b"this line can't stand here"
+    }
+}
+
+// What is wrong with a line of a fixing file.
+fn fixing_fault<'a>(fault: &[u8]) -> &'a [u8]
+    ensures { result.now ≡ fixing_fault_of fault.now }
+{
+    if is(fault, "repeat") {
+        b"this date, tenor and index stand already"
+    } else {
+        b"this line isn't DATE RATE TENOR INDEX"
+    }
+}
+
+// `bad calendar FILE LINE FAULT`.
+fn bad_calendar<'a>(words: &'a [String], line: &'a [u8]) -> Sentence<'a>
+    ensures { said result ≡ joined (bad_calendar_of (texts words.now) line.now) }
+{
+    Sentence {
+        parts: [
+            b"calendar file ",
+            third(line),
+            b" (",
+            calendar_name(words, third(line)),
+            b"), line ",
+            fourth(line),
+            b": ",
+            calendar_fault(fifth(line)),
+            b"",
+            b"",
+            b"",
+            b"",
+            b"",
+        ],
+    }
+}
+
+// `bad fixings LINE FAULT`.
+fn bad_fixings<'a>(words: &'a [String], line: &'a [u8]) -> Sentence<'a>
+    ensures { said result ≡ joined (bad_fixings_of (texts words.now) line.now) }
+{
+    Sentence {
+        parts: [
+            b"fixing file (",
+            fixings_name(words),
+            b"), line ",
+            third(line),
+            b": ",
+            fixing_fault(fourth(line)),
+            b"",
+            b"",
+            b"",
+            b"",
+            b"",
+            b"",
+            b"",
+        ],
+    }
+}
+
+// `bad flows KIND STREAM PATH INDEX`.
+fn bad_flows<'a>(words: &'a [String], line: &'a [u8]) -> Sentence<'a>
+    ensures { said result ≡ joined (bad_flows_of (texts words.now) line.now) }
+{
+    let opening = Opening {
+        first: b"cash flows (",
+        second: flows_name(words),
+        third: b"): ",
+    };
+    about(opening, third(line), fourth(line), fifth(line), sixth(line))
+}
+
+// A file that is outside its grammar or its limits.
+fn bad_file<'a>(words: &'a [String], line: &'a [u8]) -> Sentence<'a>
+    ensures { said result ≡ joined (bad_file_of (texts words.now) line.now) }
+{
+    let file = second(line);
+    if is(file, "calendar") {
+        bad_calendar(words, line)
+    } else if is(file, "fixings") {
+        bad_fixings(words, line)
+    } else {
+        bad_flows(words, line)
+    }
+}
+
+// ---- cash flows that depart from the schedule
+
+// Whether the departure is of a field, and not of a whole row.
+fn is_of_field(field: &[u8]) -> bool
+    ensures { result ≡ is_of_field_of field.now }
+{
+    !(is(field, "missing") || is(field, "extra"))
+}
+
+// What cash flows do.
+fn verb<'a>(field: &[u8]) -> &'a [u8]
+    ensures { result.now ≡ verb_of field.now }
+{
+    if is(field, "missing") {
+        b") lack "
+    } else if is(field, "extra") {
+        b") have "
+    } else {
+        b") depart from the schedule in "
+    }
+}
+
+// The text where the departure is of a field.
+fn of_field<'a>(field: &[u8], text: &'a [u8]) -> &'a [u8]
+    ensures { result.now ≡ of_field_of field.now text.now }
+{
+    if is_of_field(field) { text } else { b"" }
+}
+
+// The text where the row isn't a stream as a whole.
+fn unless_stream<'a>(kind: &[u8], text: &'a [u8]) -> &'a [u8]
+    ensures { result.now ≡ unless_stream_of kind.now text.now }
+{
+    if is(kind, "stream") { b"" } else { text }
+}
+
+// What stands before the number of the stream.
+fn stream_words<'a>(kind: &[u8]) -> &'a [u8]
+    ensures { result.now ≡ stream_words_of kind.now }
+{
+    if is(kind, "stream") {
+        b"stream "
+    } else {
+        b" of stream "
+    }
+}
+
+// What stands at the end.
+fn ending<'a>(field: &[u8]) -> &'a [u8]
+    ensures { result.now ≡ ending_of field.now }
+{
+    if is(field, "extra") {
+        b", and the schedule doesn't"
+    } else {
+        b""
+    }
+}
+
+// `no STREAM KIND ROW FIELD`.
+fn departure<'a>(words: &'a [String], line: &'a [u8]) -> Sentence<'a>
+    ensures { said result ≡ joined (departure_of (texts words.now) line.now) }
+{
+    Sentence {
+        parts: [
+            b"the cash flows (",
+            flows_name(words),
+            verb(fifth(line)),
+            of_field(fifth(line), fifth(line)),
+            of_field(fifth(line), b" of "),
+            unless_stream(third(line), third(line)),
+            unless_stream(third(line), b" "),
+            unless_stream(third(line), fourth(line)),
+            stream_words(third(line)),
+            second(line),
+            ending(fifth(line)),
+            b"",
+            b"",
+        ],
+    }
+}
+
+// ---- every status
+
+// The sentence for a line without its end.
+fn told<'a>(words: &'a [String], status: u8, line: &'a [u8]) -> Sentence<'a>
+    ensures { said result ≡ joined (told_of (texts words.now) status line.now) }
+{
+    match status {
+        1 => departure(words, line),
+        2 => refused(line),
+        3 => bad_file(words, line),
+        4 => short(
+            b"these words are no listed command: ",
+            b"irs --help lists them",
+            b"",
+        ),
+        5 => short(b"no such file: ", named(words, third(line)), b""),
+        6 => short(b"the text couldn't be written to standard output", b"", b""),
+        7 => short(b"there wasn't enough memory", b"", b""),
+        8 => short(
+            named(words, third(line)),
+            b" has more than 4,194,304 bytes",
+            b"",
+        ),
+        9 => short(b"a word of the command line isn't text", b"", b""),
+        _ => short(b"", b"", b""),
+    }
+}
+
+/// What a line means that the program wrote with this status, in one sentence. `words` are the words of
+/// the command line, of which the first is the command, and `line` is what the program wrote, or its first
+/// 512 bytes. For status 0 there is nothing to say, and the sentence is empty.
+pub fn meaning<'a>(words: &'a [String], status: u8, line: &'a [u8]) -> Sentence<'a>
+    ensures { said result ≡ sentence_of (texts words.now) status line.now }
+{
+    told(words, status, front(b'\n', line))
+}

@@ -1,0 +1,1 @@
+//! Sentences for lines of the program.
