@@ -59,7 +59,7 @@ one_reading bytes v w h k = same_Some w v (sym k.1 ∙ h.1)
 same_ok : {A E : Type 0} (x y : A) → (let r : Result A E = Ok x in r ≡ Ok y) → x ≡ y
 same_ok x y e = cc
 
-one_meaning : (v : Data) (s t : Swap) → Means v s → Means v t → t ≡ s
+pub one_meaning : (v : Data) (s t : Swap) → Means v s → Means v t → t ≡ s
 one_meaning v s t h k =
     let at : k.at ≡ h.at = same_ok k.at h.at (sym k.found ∙ h.found) in
     k.says ∙ ap (λ (d : Data). swap_in d) at ∙ sym h.says
@@ -97,16 +97,16 @@ sides_first : (b : Bool) (v : Data) (x y : Broken) → BreaksSidesIf b v x → B
 sides_first true v x y h k = one_first (BreaksK8Of v) x y h k
 sides_first false v x y h k = absurd h
 
-one_calendars : (files : List (List ℕ)) (s t : List Section) → CalFiles files s → CalFiles files t → t ≡ s
+pub one_calendars : (files : List (List ℕ)) (s t : List Section) → CalFiles files s → CalFiles files t → t ≡ s
 one_calendars files s t h k = same_ok t s (sym (spelt_is_read files t k) ∙ spelt_is_read files s h)
 
-one_fixings : (o : Option (List ℕ)) (t u : RateTable) → AreFixings o t → AreFixings o u → SameRates t u
+pub one_fixings : (o : Option (List ℕ)) (t u : RateTable) → AreFixings o t → AreFixings o u → SameRates t u
 one_fixings None t u h k = λ index slot. rw (h, k) refl
 one_fixings (Some bytes) t u h k = same_file bytes t u h k
 
 -- ---- rates that can't be told apart
 
-same_if : (b : Bool) (t u : RateTable) → SameRates t u → SameRates (if b then t else []) (if b then u else [])
+pub same_if : (b : Bool) (t u : RateTable) → SameRates t u → SameRates (if b then t else []) (if b then u else [])
 same_if true t u e = e
 same_if false t u e = λ index slot. refl
 

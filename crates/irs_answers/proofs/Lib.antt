@@ -5,6 +5,7 @@ pub mod StepLemmas
 pub mod SameDerived
 pub mod DerivedSame
 pub mod DueLemmas
+pub mod PassLemmas
 pub mod FileLimits
 pub mod AccrueLemmas
 pub mod FlowLemmas

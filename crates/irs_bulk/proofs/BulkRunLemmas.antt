@@ -1,12 +1,16 @@
 -- A run of `bulk`: the first document without a schedule, or the sums; and that one answer is due.
-use Rattle.std.proofs.Common.{◌≡◌, inl, inr, ◌⊎◌, ℕ, zero, suc, ◌<◌, ◌≤◌, List, Bool, true, false, Option, Some, None, refl, sym, ◌∙◌, ap, subst, arith}
-use Rattle.std.specs.Prelude.{IfSome}
+use Rattle.std.proofs.Common.{◌≡◌, inl, inr, ℕ, zero, suc, ◌<◌, ◌≤◌, List, [], ◌∷◌, Bool, true, false, Option, Some, None, Result, Ok, Err, refl, sym, ◌∙◌, ap, subst, arith}
+use Rattle.std.specs.Prelude.{IfErr, IfOk, IfSome}
 use Rattle.std.proofs.lemmas.Bool.{cases_order}
 use Rattle.irs_calendar.specs.declared.calendars.CalErr.{CalErr}
 use Rattle.irs_calendar.specs.declared.calendars.CalErr.TheVariants as calendar
 use Rattle.irs_resets.specs.declared.fixings.FixErr.{FixErr}
 use Rattle.irs_resets.specs.declared.fixings.FixErr.TheVariants as fixing
 use Rattle.irs_schedule.specs.Parts.{Part}
+use Rattle.irs_calendar.specs.Grammar.{CalFiles}
+use Rattle.irs_calendar.specs.declared.sections.Section.{Section}
+use Rattle.irs_resets.specs.Rates.{RateTable}
+use Rattle.irs_terms.specs.declared.stream_list.Swap.{Swap}
 use Rattle.irs_audit.specs.StatedFlows.{stated_flows}
 use Rattle.irs_audit.specs.Verdicts.{IsVerdict}
 use Rattle.irs_audit.specs.declared.departures.Verdict.{Verdict}
@@ -15,14 +19,29 @@ use Rattle.irs_audit.specs.declared.error.FlowErr.TheVariants as flowing
 use Rattle.irs_audit.proofs.VerdictLemmas.{one_verdict}
 use Rattle.irs_answers.specs.declared.tasks.Task.TheVariants.{Schedule}
 use Rattle.irs_answers.specs.declared.refusals.Refusal.{Refusal}
-use Rattle.irs_answers.specs.declared.refusals.Refusal.TheVariants.{BadWords, NoFile, TooLong, Rule, Calendars, Fixings, Flows, Memory}
-use Rattle.irs_answers.specs.Outcomes.{Answer, answer_of, Ends, IfRefused}
-use Rattle.irs_answers.proofs.OneAnswer.{one_for}
+use Rattle.irs_answers.specs.declared.refusals.Refusal.TheVariants.{Rule, Calendars, Fixings, Flows, Memory}
+use Rattle.irs_answers.specs.Due.{Spells, facts}
+use Rattle.irs_answers.specs.Outcomes.{Answer, answer_of, Ends, IfRefused, IsScheduled, IsUnscheduled}
+use Rattle.irs_answers.proofs.DueLemmas.{passes_by, refuse_rules}
+use Rattle.irs_answers.proofs.OneAnswer.{one_due}
 use Rattle.irs_answers.proofs.PassLemmas.{passes_one, passes_due}
 use Rattle.irs_answers.proofs.StepLemmas.{read, unread, step_both}
+use Rattle.irs_bulk.specs.BulkCalendars.{calendar_text}
 use Rattle.irs_bulk.specs.BulkLines.{both_totals, line_text}
 use Rattle.irs_bulk.specs.BulkRuns.{Adds, AreSums, DueAt, DueBulk, DueSchedule, HasBoth, IsScheduleOf, IsStop, files_of, one_total}
+use Rattle.irs_bulk.specs.Documents.{document_text}
 use Rattle.irs_bulk.specs.declared.totals.Totals.{Totals}
+
+-- ---- the schedule that is made is that of the document
+
+module _ (plain : Bool) (k : ℕ) (swap : Swap) (cal : List Section) (table : RateTable) (spells : Spells Schedule (document_text plain k) swap None) (files : CalFiles (calendar_text ∷ []) cal) (without : table ≡ []) where
+  pub schedule_by : (r : Result (List Part) Refusal) → IfOk r (IsScheduled swap cal table) → IfOk r (IsScheduleOf plain k)
+  schedule_by (Ok s) h = (facts swap None cal table s, passes_by Schedule (files_of plain k) (facts swap None cal table s) spells files without h, refl)
+  schedule_by (Err e) h = tt
+
+  pub unscheduled_by : (r : Result (List Part) Refusal) → IfErr r (λ e. IfRefused e (IsUnscheduled swap cal table)) → IfErr r (λ e. IfRefused e (Ends (DueSchedule plain k)))
+  unscheduled_by (Ok s) h = tt
+  unscheduled_by (Err e) h = refuse_rules Schedule (files_of plain k) swap None cal table e spells files without h
 
 -- ---- one schedule, and one sum
 
@@ -100,9 +119,6 @@ flows_zero flowing.Memory = tt
 
 -- the status of a refusal isn't 0
 refused_zero : (r : Refusal) → IfSome (answer_of r) (λ a. a.0 ≡ 0 → ⊥)
-refused_zero BadWords = λ z. omega (arith, z)
-refused_zero (NoFile place) = λ z. omega (arith, z)
-refused_zero (TooLong place) = λ z. omega (arith, z)
 refused_zero (Rule b) = λ z. omega (arith, z)
 refused_zero (Calendars e) = calendars_zero e
 refused_zero (Fixings e) = fixings_zero e
@@ -113,51 +129,51 @@ some_both : (o : Option Answer) (P Q : ℕ → List ℕ → Type 0) → IfSome o
 some_both None P Q n f h = tt
 some_both (Some a) P Q n f h = f a.0 a.1 n h
 
-refused_by : (r : Refusal) (P Q : ℕ → List ℕ → Type 0) → ((status : ℕ) (text : List ℕ) → (status ≡ 0 → ⊥) → P status text → Q status text) → IfRefused r P → IfRefused r Q
-refused_by r P Q f h = some_both (answer_of r) P Q (refused_zero r) f h
+refused_with : (r : Refusal) (P Q : ℕ → List ℕ → Type 0) → ((status : ℕ) (text : List ℕ) → (status ≡ 0 → ⊥) → P status text → Q status text) → IfRefused r P → IfRefused r Q
+refused_with r P Q f h = some_both (answer_of r) P Q (refused_zero r) f h
 
 passes_zero : (plain : Bool) (k : ℕ) (s : List Part) (status : ℕ) (text : List ℕ) → IsScheduleOf plain k s → DueSchedule plain k status text → status ≡ 0
 passes_zero plain k s status text h due = (passes_due Schedule (files_of plain k) h.0 status text h.1 due).1.0
 
 at_document : (k status : ℕ) (text : List ℕ) → (status ≡ 0 → ⊥) → Ends (DueSchedule false k) status text → Ends (DueAt k) status text
-at_document k status text no h = record {
-  due = unread (IsScheduleOf false k) (DueSchedule false k status text) (λ s. DueSchedule true k status text) (λ s is. no (passes_zero false k s status text is h.due)) h.due;
+at_document k status text some h = record {
+  due = unread (IsScheduleOf false k) (DueSchedule false k status text) (λ s. DueSchedule true k status text) (λ s is. some (passes_zero false k s status text is h.due)) h.due;
   verdict = h.verdict;
 }
 
 pub refused_document : (k : ℕ) (r : Refusal) → IfRefused r (Ends (DueSchedule false k)) → IfRefused r (Ends (DueAt k))
-refused_document k r h = refused_by r (Ends (DueSchedule false k)) (Ends (DueAt k)) (at_document k) h
+refused_document k r h = refused_with r (Ends (DueSchedule false k)) (Ends (DueAt k)) (at_document k) h
 
 at_plain : (k : ℕ) (s : List Part) → IsScheduleOf false k s → (status : ℕ) (text : List ℕ) → (status ≡ 0 → ⊥) → Ends (DueSchedule true k) status text → Ends (DueAt k) status text
-at_plain k s is status text no h = record {
+at_plain k s is status text some h = record {
   due = read (IsScheduleOf false k) (DueSchedule false k status text) (λ s. DueSchedule true k status text) s is (λ _ _. h.due);
   verdict = h.verdict;
 }
 
 pub refused_plain : (k : ℕ) (s : List Part) (r : Refusal) → IsScheduleOf false k s → IfRefused r (Ends (DueSchedule true k)) → IfRefused r (Ends (DueAt k))
-refused_plain k s r is h = refused_by r (Ends (DueSchedule true k)) (Ends (DueAt k)) (at_plain k s is) h
+refused_plain k s r is h = refused_with r (Ends (DueSchedule true k)) (Ends (DueAt k)) (at_plain k s is) h
 
 -- what is due at a document that has both schedules has status 0
 both_zero : (k status : ℕ) (text : List ℕ) → HasBoth k → DueAt k status text → status ≡ 0
 both_zero k status text h due = passes_zero true k h.1.0 status text h.1.1 (due.next h.0.0 h.0.1)
 
 at_stop : (n k : ℕ) (t : Totals) → k < n → AreSums k t → (status : ℕ) (text : List ℕ) → (status ≡ 0 → ⊥) → Ends (DueAt (suc k)) status text → Ends (DueBulk n) status text
-at_stop n k t below sums status text no h =
+at_stop n k t below sums status text some h =
     let stop : IsStop n (suc k) = record {
       low = omega arith;
       high = omega (arith, below);
       before = λ j low less. sums_have k j t sums low (omega (arith, less));
-      none = λ both. no (both_zero (suc k) status text both h.due);
+      none = λ both. some (both_zero (suc k) status text both h.due);
     } in
     record { due = bulk_stops n (suc k) status text stop h.due; verdict = h.verdict }
 
 pub bulk_refused : (n k : ℕ) (t : Totals) (r : Refusal) → k < n → AreSums k t → IfRefused r (Ends (DueAt (suc k))) → IfRefused r (Ends (DueBulk n))
-bulk_refused n k t r below sums h = refused_by r (Ends (DueAt (suc k))) (Ends (DueBulk n)) (at_stop n k t below sums) h
+bulk_refused n k t r below sums h = refused_with r (Ends (DueAt (suc k))) (Ends (DueBulk n)) (at_stop n k t below sums) h
 
 -- ---- one answer
 
 one_at : (s u : ℕ) (t v : List ℕ) (k : ℕ) → DueAt k s t → DueAt k u v → (s ≡ u) × (t ≡ v)
-one_at s u t v k h i = step_both (IsScheduleOf false k) (DueSchedule false k s t) (DueSchedule false k u v) (λ p. DueSchedule true k s t) (λ p. DueSchedule true k u v) (one_for s u t v Schedule (files_of false k)) (λ p. one_for s u t v Schedule (files_of true k)) h i
+one_at s u t v k h i = step_both (IsScheduleOf false k) (DueSchedule false k s t) (DueSchedule false k u v) (λ p. DueSchedule true k s t) (λ p. DueSchedule true k u v) (one_due Schedule (files_of false k) s u t v) (λ p. one_due Schedule (files_of true k) s u t v) h i
 
 -- one status and one text are due
 pub one_bulk : (s u : ℕ) (t v : List ℕ) (n : ℕ) → DueBulk n s t → DueBulk n u v → (s ≡ u) × (t ≡ v)

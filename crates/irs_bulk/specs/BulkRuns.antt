@@ -1,16 +1,16 @@
 -- What `bulk N` comes to: the first of its documents that has no schedule, or the sums over the schedules of all.
-use Rattle.std.specs.Prelude.{◌≡◌, ◌⊎◌, ℕ, zero, suc, ◌<◌, ◌≤◌, List, [], ◌∷◌, Bool, true, false, None, IfSome, Result, Ok, Err, sum_by, pos}
+use Rattle.std.specs.Prelude.{◌≡◌, ◌⊎◌, ℕ, zero, suc, ◌<◌, ◌≤◌, List, [], ◌∷◌, Bool, true, false, None, IfSome, Result, Ok, Err}
 use Rattle.irs_calendar.specs.Calendars.{spot_of}
 use Rattle.irs_calendar.specs.FirstFaults.{IsFirstFault}
 use Rattle.irs_calendar.specs.Grammar.{CalFiles}
 use Rattle.irs_calendar.specs.declared.calendars.CalErr.{CalErr}
 use Rattle.irs_calendar.specs.declared.sections.Section.{Section}
 use Rattle.irs_answers.specs.declared.tasks.Task.TheVariants.{Schedule}
-use Rattle.irs_answers.specs.Due.{DueFor, Facts, Is, Passes}
+use Rattle.irs_answers.specs.Due.{DueFor, Facts, Passes}
 use Rattle.irs_answers.specs.Given.{Given}
-use Rattle.irs_answers.specs.Steps.{Step}
+use Rattle.irs_answers.specs.Steps.{Is, Step}
 use Rattle.irs_audit.specs.StatedFlows.{stated_flows}
-use Rattle.irs_audit.specs.Sums.{all_days_from, payment_rows, total_from}
+use Rattle.irs_audit.specs.Sums.{sums_in}
 use Rattle.irs_audit.specs.Verdicts.{IsVerdict}
 use Rattle.irs_audit.specs.declared.departures.Verdict.{Verdict}
 use Rattle.irs_audit.specs.declared.departures.Verdict.TheVariants.{Yes, No}
@@ -57,7 +57,14 @@ first_of (No d) = d.row
 
 -- the rows, amounts and days of one schedule, and a verdict on flows against it
 abbrev pub one_total : List Part → Verdict → Totals
-one_total s v = record { documents = 1; rows = sum_by payment_rows s; total = total_from (pos 0) s; days = all_days_from (pos 0) s; agree = agree_of v; first = first_of v }
+one_total s v = let sums = sums_in s in record {
+  documents = 1;
+  rows = sums.rows;
+  total = sums.total;
+  days = sums.days;
+  agree = agree_of v;
+  first = first_of v;
+}
 
 -- what document k adds: by its schedule, and by the verdict against it on the flows that state the schedule of its plain form
 pub record Adds (k : ℕ) (t : Totals) : Type 0 where

@@ -48,7 +48,8 @@ fn run(alloc: Global, n: u32) -> Result<Reply, Refusal>
     requires { n ≤ most_bulk }
     ensures { IfAnswered result (Ends (DueBulk n)) }
 {
-    let totals = totals(alloc, n)?;
+    let calendars = calendars(alloc);
+    let totals = totals(alloc, n, &calendars)?;
     Ok(Reply::Text(Status::Done, line(alloc, &totals)?))
 }
 
@@ -62,16 +63,19 @@ fn line(alloc: Global, totals: &Totals) -> Result<Vec<u8>, Memory>
 }
 
 // The sums over the documents 1 to n, or what is due for the first without a schedule.
-fn totals(alloc: Global, n: u32) -> Result<Totals, Refusal>
-    requires { n ≤ most_bulk }
+fn totals(alloc: Global, n: u32, calendars: &Result<Calendars, CalErr>) -> Result<Totals, Refusal>
+    requires few { n ≤ most_bulk }
+    requires calendar { IsCalendar calendars.now }
     ensures sums { IfOk result (AreSums n) }
     ensures run { IfOk result IsRun }
     ensures refused { IfErr result (λ r. IfRefused r (Ends (DueBulk n))) }
 {
-    let calendars = calendars(alloc);
     let mut totals = Totals::none();
     for before in 0..n {
-        totals = totals.with(one_total(alloc, before + 1, &calendars)?);
+        match one_total(alloc, before + 1, calendars) {
+            Ok(more) => totals = totals.with(more),
+            Err(refusal) => return Err(refusal),
+        }
     }
     Ok(totals)
 }
@@ -86,6 +90,7 @@ fn calendars(alloc: Global) -> Result<Calendars, CalErr>
     }
 }
 
+// The files of its centre: one.
 fn calendar_files(alloc: Global) -> Result<Vec<Vec<u8>>, Memory>
     ensures { IfOk result (λ files. map (λ f. f.items) files.items ≡ calendar_text ∷ []) }
 {

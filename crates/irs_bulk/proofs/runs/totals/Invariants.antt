@@ -1,0 +1,11 @@
+use Rattle.std.proofs.Common.{◌≡◌}
+use Rattle.irs_bulk.specs.BulkLines.{IsRun}
+use Rattle.irs_bulk.specs.BulkRuns.{AreSums}
+use Rattle.irs_bulk.proofs.runs.totals.Given as goal
+
+abbrev pub invariant-loop-before : goal.invariant-loop-before
+invariant-loop-before l = record {
+  sums : AreSums l.before l.totals;
+  run : IsRun l.totals;
+  documents : l.totals.documents ≡ l.before;
+}
