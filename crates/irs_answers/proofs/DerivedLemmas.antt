@@ -25,6 +25,7 @@ use Rattle.irs_schedule.specs.Parts.{Part}
 use Rattle.irs_overnight.specs.DerivedRules.{no_floating_stream}
 use Rattle.irs_overnight.specs.FileLaw.{file_text}
 use Rattle.irs_overnight.specs.Overnight.{Asked, IsAsked, IsFirstDerived, IsOvernight, OvernightKept, asked}
+use Rattle.irs_overnight.specs.Sources.{Floats}
 use Rattle.irs_overnight.specs.declared.derived.DerivedRow.{DerivedRow}
 use Rattle.irs_average.specs.Averages.{AverageAsked, AverageKept, IsAverage, IsAverageAsked, IsFirstOfAverage, averaged, most_step}
 use Rattle.irs_average.specs.Interpolations.{IsInterpolated, IsStubBroken, StubKept}
@@ -150,4 +151,13 @@ stub_named (Some stubs) Last index tenor h k = let r : IfSome (Some (Index index
 pub stub_short : (swap : Swap) (n : ℕ) (side : Side) (index : List ℕ) (tenor : Option Frequency) → IsLawful swap → GivesIndex swap n side index tenor → length index ≤ most_index
 stub_short swap n side index tenor lawful gives =
     let s = lawful_stream swap lawful _ gives.stream gives.at in
-    (stub_named gives.stream.stubs side index tenor s.stubs gives.gives).1.0
+    (stub_named gives.stream.stubs side index tenor s.stubs gives.gives).1
+
+-- ---- a stream that floats, as K40 says it
+
+-- a swap has a floating stream with that number exactly where it floats there
+pub floats_by : (swap : Swap) (n : ℕ) (x : FloatingStream) → IsFloatingAt swap n x → Floats swap n
+floats_by swap n x k = (x.float, record { from_one = k.from_one; stream = x.stream; at = k.at; pays = k.pays })
+
+pub stream_by : (swap : Swap) (n : ℕ) → Floats swap n → (x : FloatingStream) × IsFloatingAt swap n x
+stream_by swap n f = (record { stream = f.1.stream; float = f.0 }, record { from_one = f.1.from_one; at = f.1.at; pays = f.1.pays })

@@ -19,7 +19,8 @@ use Rattle.irs_average.specs.declared.means.Mean.{Mean}
 use Rattle.irs_average.specs.declared.stubs.Side.{Side}
 use Rattle.irs_answers.specs.Derived.{DueAverage, DueAveraged, DueCompounded, DueInterpolate, DueOvernight, DueStub, IsFloatingAt, NotFloating, PrintsOne, PrintsStub}
 use Rattle.irs_answers.specs.Steps.{Refuses, Rules}
-use Rattle.irs_answers.proofs.SameDerived.{average_first, average_kept, average_same, overnight_first, overnight_kept, overnight_same, stub_first, stub_kept, stub_same}
+use Rattle.irs_overnight.proofs.RatesAlone.{overnight_first, overnight_kept, overnight_same}
+use Rattle.irs_answers.proofs.SameDerived.{average_first, average_kept, average_same, stub_first, stub_kept, stub_same}
 use Rattle.irs_answers.proofs.SameRates.{SameRates, same_back}
 use Rattle.irs_answers.proofs.StepLemmas.{only_more, rules_more, step_next}
 

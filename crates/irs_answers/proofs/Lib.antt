@@ -1,4 +1,5 @@
 pub mod Pushes
+pub mod PageLemmas
 pub mod FirstLemmas
 pub mod SameRates
 pub mod StepLemmas

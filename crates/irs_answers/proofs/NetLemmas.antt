@@ -2,7 +2,7 @@
 use Rattle.std.proofs.Common.{◌≡◌, ℕ, ◌+◌, ◌<◌, List, [], ◌∷◌, ◌++◌, length, map, take, Option, Some, None, Bool, true, false, Result, Ok, refl, sym, ◌∙◌, ap, subst, arith}
 use Rattle.std.proofs.lemmas.List.{length-map}
 use Rattle.irs_base.specs.Members.{Pairs}
-use Rattle.irs_read.specs.Meaning.{stream_in, lists_of, streams_in, swap_in}
+use Rattle.irs_read.specs.Meaning.{streams_in, swap_in}
 use Rattle.irs_read.specs.Reading.{Means}
 use Rattle.irs_resets.specs.Rates.{RateTable}
 use Rattle.irs_calendar.specs.declared.sections.Section.{Section}
@@ -32,7 +32,7 @@ swap_long : (v : Data) (swap : Swap) (sides : Sides) → Means v swap → SidesO
 swap_long v swap sides h k =
     let at : k.swap ≡ h.at = same_ok k.swap h.at (sym k.found ∙ h.found) in
     let many : sides.count ≡ length (streams_in h.at) = subst (λ (d : Data). sides.count ≡ length (streams_in d)) at k.are.count in
-    let mapped : length (swap_in h.at).streams ≡ length (streams_in h.at) = length-map (streams_in h.at) (stream_in (lists_of (streams_in h.at))) in
+    let mapped : length (swap_in h.at).streams ≡ length (streams_in h.at) = length-map (streams_in h.at) _ in
     many ∙ sym mapped ∙ sym (ap (λ (s : Swap). length s.streams) h.says)
 
 sided : (v : Data) (swap : Swap) (cal : List Section) (table : RateTable) (parts : List Part) (o : Option Sides) → Means v swap → IsSchedule swap cal table parts → SidesIf true v o → IsSided o parts

@@ -10,3 +10,4 @@ pub mod VisibleTexts
 pub mod LinesRead
 pub mod FileRead
 pub mod KeptRows
+pub mod RatesAlone

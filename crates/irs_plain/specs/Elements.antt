@@ -1,6 +1,6 @@
 -- An element in plain words, by its path.
 use Rattle.irs_plain.specs.Cuts.{front}
-use Rattle.std.specs.Prelude.{ℕ, ◌==◌, Bool, true, false, List, [], ◌∷◌, codes, if◌then◌else◌}
+use Rattle.std.specs.Prelude.{ℕ, ◌==◌, Bool, false, List, [], ◌∷◌, codes, if◌then◌else◌}
 use Rattle.std.specs.Str.{bytes_eq}
 
 -- the path begins with the name `dateAdjustments`

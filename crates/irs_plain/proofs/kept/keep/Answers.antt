@@ -1,4 +1,4 @@
-use Rattle.std.proofs.Common.{◌∙◌, ◌≡◌, ◌-◌, min, ap, length, ℕ, List}
+use Rattle.std.proofs.Common.{◌∙◌, ◌-◌, min, ap, length, ℕ, List}
 use Rattle.irs_base.specs.Texts.{longest_line}
 use Rattle.irs_plain.proofs.KeptLemmas.{kept_more}
 use Rattle.irs_plain.proofs.kept.keep.Goals as goal

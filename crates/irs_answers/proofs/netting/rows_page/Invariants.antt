@@ -1,0 +1,10 @@
+use Rattle.std.proofs.Common.{◌≡◌, ◌++◌, take}
+use Rattle.std.specs.List.{flat_map}
+use Rattle.irs_net.specs.NetTexts.{net_text}
+use Rattle.irs_answers.specs.Netted.{net_header}
+use Rattle.irs_answers.proofs.netting.rows_page.Given as goal
+
+abbrev pub invariant-loop-row : goal.invariant-loop-row
+invariant-loop-row l = record {
+  text : l.text.items ≡ net_header ++ flat_map net_text (take l.row-index l.rows);
+}
