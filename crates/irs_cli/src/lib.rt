@@ -11,6 +11,8 @@ mod refusals;
 mod rows;
 #[cfg(test)]
 mod tests;
+#[cfg(test)]
+mod tests_puts;
 
 pub use irs_answers::Status;
 pub use irs_bulk::{bulk_calendar, bulk_doc};
