@@ -1,10 +1,9 @@
 -- What is due for derived rates, from what the calls answer.
-use Rattle.std.proofs.Common.{◌≡◌, ℕ, ◌<◌, ◌≤◌, List, [], ◌∷◌, length, Option, Some, None, refl, sym, ◌∙◌, ap, ap₂, subst, arith}
+use Rattle.std.proofs.Common.{◌≡◌, ℕ, ◌≤◌, List, [], ◌∷◌, length, Option, Some, None, refl, sym, ◌∙◌, ap, ap₂, subst, arith}
 use Rattle.std.specs.Prelude.{IfSome}
 use Rattle.std.proofs.lemmas.Option.{same_Some}
 use Rattle.irs_base.specs.Faults.{IfStopped}
 use Rattle.irs_base.specs.Limits.{most_index}
-use Rattle.irs_base.specs.Order.{Only}
 use Rattle.irs_base.specs.declared.places.Broken.{Broken}
 use Rattle.irs_base.specs.declared.stopped.Stopped.{Stopped}
 use Rattle.irs_base.specs.declared.stopped.Stopped.TheVariants as stopped
@@ -27,16 +26,15 @@ use Rattle.irs_overnight.specs.FileLaw.{file_text}
 use Rattle.irs_overnight.specs.Overnight.{Asked, IsAsked, IsFirstDerived, IsOvernight, OvernightKept, asked}
 use Rattle.irs_overnight.specs.Sources.{Floats}
 use Rattle.irs_overnight.specs.declared.derived.DerivedRow.{DerivedRow}
-use Rattle.irs_average.specs.Averages.{AverageAsked, AverageKept, IsAverage, IsAverageAsked, IsFirstOfAverage, averaged, most_step}
+use Rattle.irs_average.specs.Averages.{AverageAsked, AverageKept, IsAverage, IsFirstOfAverage}
 use Rattle.irs_average.specs.Interpolations.{IsInterpolated, IsStubBroken, StubKept}
 use Rattle.irs_average.specs.Stubs.{GivesIndex, GivesOn, IsStubAsked, StubAsked, stub_asked}
-use Rattle.irs_average.specs.declared.means.Mean.{Mean}
 use Rattle.irs_average.specs.declared.stubs.Side.{Side}
 use Rattle.irs_average.specs.declared.stubs.Side.TheVariants.{Initial, Last}
 use Rattle.irs_terms.specs.declared.amounts.StubRate.{StubRate}
 use Rattle.irs_terms.specs.declared.amounts.StubRate.TheVariants.{Index}
 use Rattle.irs_terms.specs.declared.amounts.StubTerms.{StubTerms}
-use Rattle.irs_answers.specs.Derived.{DueAverage, DueAveraged, DueCompounded, DueInterpolate, DueOvernight, DueStub, FloatingStream, IsFloatingAt, IsUnfixed, NotFloating, PrintsOne, PrintsStub}
+use Rattle.irs_answers.specs.Derived.{DueAveraged, DueCompounded, DueStub, FloatingStream, IsFloatingAt, IsUnfixed, NotFloating, PrintsOne, PrintsStub}
 use Rattle.irs_answers.specs.Messages.{refused}
 use Rattle.irs_answers.specs.Outcomes.{Ends, IfRefused, of_stopped}
 use Rattle.irs_answers.specs.Steps.{Refuses, Rules, Step}

@@ -1,6 +1,5 @@
 -- What is due for derived rates depends on a table of rates by its rates alone.
-use Rattle.std.proofs.Common.{◌≡◌, ℕ, List, [], ◌∷◌, Option}
-use Rattle.irs_base.specs.Order.{Only}
+use Rattle.std.proofs.Common.{ℕ, List}
 use Rattle.irs_base.specs.declared.places.Broken.{Broken}
 use Rattle.irs_terms.specs.declared.amounts.FloatTerms.{FloatTerms}
 use Rattle.irs_terms.specs.declared.frequency.Frequency.{Frequency}

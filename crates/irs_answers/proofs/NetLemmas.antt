@@ -1,5 +1,5 @@
 -- The sides that were read are those of the schedule's streams, and the rows of the net as text.
-use Rattle.std.proofs.Common.{◌≡◌, ℕ, ◌+◌, ◌<◌, List, [], ◌∷◌, ◌++◌, length, map, take, Option, Some, None, Bool, true, false, Result, Ok, refl, sym, ◌∙◌, ap, subst, arith}
+use Rattle.std.proofs.Common.{◌≡◌, List, [], ◌∷◌, length, Option, Some, None, true, Result, Ok, refl, sym, ◌∙◌, ap, subst, arith}
 use Rattle.std.proofs.lemmas.List.{length-map}
 use Rattle.irs_base.specs.Members.{Pairs}
 use Rattle.irs_read.specs.Meaning.{streams_in, swap_in}

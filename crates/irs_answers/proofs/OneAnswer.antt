@@ -10,14 +10,12 @@ use Rattle.irs_audit.specs.FlowParts.{FlowPart}
 use Rattle.irs_audit.specs.FlowReading.{FlowsOf, kind_of}
 use Rattle.irs_audit.specs.Verdicts.{IsVerdict}
 use Rattle.irs_audit.specs.declared.error.ShapeKind.TheVariants.{NotJson}
-use Rattle.irs_calendar.specs.Calendars.{Spot}
 use Rattle.irs_calendar.specs.declared.sections.Section.{Section}
 use Rattle.irs_calendar.specs.FirstFaults.{IsFirstFault as IsFirstCalendarFault}
 use Rattle.irs_calendar.specs.Grammar.{CalFiles}
 use Rattle.irs_read.specs.Documents.{DocumentFault}
 use Rattle.irs_read.specs.Reading.{Means}
 use Rattle.irs_resets.specs.Rates.{RateTable}
-use Rattle.irs_resets.specs.declared.fixings.FixErr.{FixErr}
 use Rattle.irs_rules.specs.TermsRules.{IsFirstBroken as IsFirstOfTerms}
 use Rattle.irs_schedule.specs.DatedRules.{DatedKept, DatedBroken}
 use Rattle.irs_schedule.specs.Parts.{Part}
@@ -25,7 +23,6 @@ use Rattle.irs_schedule.specs.RowTexts.{text_of}
 use Rattle.irs_terms.specs.declared.stream_list.Swap.{Swap}
 use Rattle.irs_emit.specs.Emitted.{emit_text}
 use Rattle.irs_answers.specs.FlowMessages.{bad_flows, verdict_status, verdict_text, whole_document}
-use Rattle.irs_net.specs.Nets.{Net}
 use Rattle.irs_net.specs.declared.sides.Sides.{Sides}
 use Rattle.irs_net.specs.declared.table.NetRow.{NetRow}
 use Rattle.irs_overnight.specs.DerivedRules.{no_floating_stream}
@@ -33,8 +30,8 @@ use Rattle.irs_overnight.specs.FileLaw.{file_text}
 use Rattle.irs_overnight.specs.Overnight.{IsFirstDerived, IsOvernight, OvernightKept, asked}
 use Rattle.irs_overnight.specs.declared.derived.DerivedRow.{DerivedRow}
 use Rattle.irs_average.specs.Averages.{AverageKept, IsAverage, IsFirstOfAverage, averaged}
-use Rattle.irs_average.specs.Interpolations.{IsInterpolated, IsStubBroken, StubKept}
-use Rattle.irs_average.specs.Stubs.{GivesIndex, StubAsked, stub_asked}
+use Rattle.irs_average.specs.Interpolations.{IsStubBroken, StubKept}
+use Rattle.irs_average.specs.Stubs.{StubAsked, stub_asked}
 use Rattle.irs_average.specs.declared.means.Mean.{Mean}
 use Rattle.irs_average.specs.declared.stubs.Side.{Side}
 use Rattle.irs_schedule.specs.DaySets.{reset_days}
@@ -45,7 +42,7 @@ use Rattle.irs_answers.specs.declared.tasks.Task.TheVariants.{Check, Schedule, A
 use Rattle.irs_answers.specs.Given.{Given}
 use Rattle.irs_answers.specs.Messages.{all_kept, refused, unreadable, bad_calendar, bad_fixings}
 use Rattle.irs_answers.specs.Steps.{Is, Refuses, Rules}
-use Rattle.irs_answers.specs.Derived.{DueAverage, DueAveraged, DueCompounded, DueInterpolate, DueOvernight, DueStub, FloatingStream, IsFloatingAt, NotFloating, PrintsOne, PrintsStub}
+use Rattle.irs_answers.specs.Derived.{DueAverage, DueAveraged, DueCompounded, DueInterpolate, DueOvernight, DueStub, IsFloatingAt, NotFloating, PrintsOne, PrintsStub}
 use Rattle.irs_answers.specs.Netted.{TellsNet, TellsNetOf, net_page}
 use Rattle.irs_answers.specs.Due.{DueFor, DueDocument, DueSides, DueCalendars, DueFixings, DueTerms, DueDated, DueKept, DueFlows, DueStated, DueVerdict, Answered, AreFixings, BadCalendars, BadFixings, BreaksSides, Facts, facts, HasSides, IsFixingsFault, IsOneDue, KeepsTerms, rates_for}
 use Rattle.irs_answers.proofs.StubLemmas.{one_index}

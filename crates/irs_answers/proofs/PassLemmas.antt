@@ -1,5 +1,5 @@
 -- Files that pass have one schedule, and what is due for them is the answer.
-use Rattle.std.proofs.Common.{◌≡◌, ℕ, List, Option, sym, subst}
+use Rattle.std.proofs.Common.{◌≡◌, ℕ, List, subst}
 use Rattle.irs_calendar.specs.declared.sections.Section.{Section}
 use Rattle.irs_schedule.specs.Parts.{Part}
 use Rattle.irs_schedule.specs.Schedules.{IsSchedule}

@@ -1,5 +1,5 @@
 -- Averages and rates of stubs, and their rules, depend on a table of rates by its rates alone.
-use Rattle.std.proofs.Common.{◌≡◌, inl, inr, ℕ, ◌-◌, List, length, Option, Some, ℤ, ◌-ℤ◌, refl, sym, ◌∙◌, ap, subst}
+use Rattle.std.proofs.Common.{◌≡◌, inl, inr, ℕ, ◌-◌, List, length, Option, Some, ℤ, refl, ◌∙◌, subst}
 use Rattle.irs_base.specs.Members.{day_at}
 use Rattle.irs_base.specs.declared.places.Broken.{Broken}
 use Rattle.irs_base.specs.declared.places.Fault.{Fault}
@@ -11,7 +11,7 @@ use Rattle.irs_calendar.specs.GoodDays.{DaySet}
 use Rattle.irs_resets.specs.Rates.{RateTable}
 use Rattle.irs_schedule.specs.Parts.{Part}
 use Rattle.irs_overnight.specs.Overnight.{asked}
-use Rattle.irs_overnight.specs.Sources.{RateLines, rate_by}
+use Rattle.irs_overnight.specs.Sources.{RateLines}
 use Rattle.irs_overnight.specs.declared.derived.DerivedRow.{DerivedRow}
 use Rattle.irs_overnight.specs.declared.observations.Observation.{Observation}
 use Rattle.irs_average.specs.Averages.{AverageKept, BreaksAverage, IsAverage, IsFirstOfAverage, averaged}

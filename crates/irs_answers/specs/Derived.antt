@@ -1,7 +1,6 @@
 -- What is due for the tasks that derive rates for a floating stream: their own rules, then a fixing file.
 use Rattle.std.specs.Prelude.{◌≡◌, ℕ, ◌-◌, ◌≤◌, List, [], ◌∷◌, Option, Some, slice_get}
 use Rattle.irs_base.specs.Order.{Only}
-use Rattle.irs_base.specs.declared.places.Broken.{Broken}
 use Rattle.irs_terms.specs.Lawful.{IsLawful}
 use Rattle.irs_terms.specs.declared.amounts.FloatTerms.{FloatTerms}
 use Rattle.irs_terms.specs.declared.amounts.Leg.TheVariants.{Floating}

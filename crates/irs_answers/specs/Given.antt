@@ -1,5 +1,5 @@
 -- The files of a task, by what they are to it.
-use Rattle.std.specs.Prelude.{ℕ, ◌+◌, ◌<◌, ◌≤◌, List, [], length, map, All, Option, Some, None, option_map, IfSome}
+use Rattle.std.specs.Prelude.{ℕ, ◌+◌, ◌<◌, ◌≤◌, List, [], length, map, All, Option, None, option_map, IfSome}
 use Rattle.irs_base.specs.Limits.{most_bytes, most_files}
 use Rattle.irs_answers.specs.declared.files.TaskFiles.{TaskFiles}
 

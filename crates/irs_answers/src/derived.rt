@@ -49,7 +49,16 @@ pub(crate) fn average_answer(
     let (swap, schedule) = (&found.swap, &found.schedule);
     let (stream, float) = floating(swap, number)?;
     let days = reset_days(alloc, &found.calendars, stream)?;
-    let rows = average(alloc, schedule, swap, number, mean, step, &days, &found.fixings)?;
+    let rows = average(
+        alloc,
+        schedule,
+        swap,
+        number,
+        mean,
+        step,
+        &days,
+        &found.fixings,
+    )?;
     let text = fixings_page(alloc, rows.as_slice(), float.tenor, &float.index)?;
     Ok(Reply::Text(Status::Done, text))
 }
@@ -70,7 +79,15 @@ pub(crate) fn interpolate_answer(
 {
     let swap = &found.swap;
     floating(swap, number)?;
-    let row = interpolate(&found.schedule, swap, number, side, low, high, &found.fixings)?;
+    let row = interpolate(
+        &found.schedule,
+        swap,
+        number,
+        side,
+        low,
+        high,
+        &found.fixings,
+    )?;
     let Some((index, tenor)) = stub_index(swap, number, side) else {
         unreachable!()
     };

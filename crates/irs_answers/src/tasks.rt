@@ -24,7 +24,11 @@ pub enum Task {
     /// The rates that daily rates give for the calculation periods of the stream with this number, from 1.
     Overnight(u8),
     /// The averages of a stream's rates, observed every `step` days, over its calculation periods.
-    Average { stream: u8, mean: Mean, step: u32 },
+    Average {
+        stream: u8,
+        mean: Mean,
+        step: u32,
+    },
     /// The rate of a stream's stub on a side, between those of two tenors.
     Interpolate {
         stream: u8,

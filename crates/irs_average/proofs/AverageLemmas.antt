@@ -1,6 +1,6 @@
 -- What averages of a stream are worked out from is one thing, and the schedule of the swap has it.
-use Rattle.std.proofs.Common.{◌≡◌, inl, inr, ℕ, ◌+◌, ◌-◌, ◌^◌, ◌<◌, ◌≤◌, List, length, All, Some, ℤ, ◌<ℤ◌, ◌-ℤ◌, refl, sym, subst, ◌∙◌, ap, arith}
-use Rattle.std.specs.Prelude.{slice_get, if◌then◌else◌}
+use Rattle.std.proofs.Common.{◌≡◌, inl, ℕ, ◌+◌, ◌-◌, ◌^◌, ◌<◌, List, length, All, Some, ℤ, ◌<ℤ◌, ◌-ℤ◌, refl, sym, subst, ◌∙◌, ap, arith}
+use Rattle.std.specs.Prelude.{slice_get}
 use Rattle.irs_base.specs.Faults.{in_stream}
 use Rattle.irs_base.specs.Members.{Every}
 use Rattle.irs_base.specs.Order.{First}

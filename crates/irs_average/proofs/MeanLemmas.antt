@@ -1,13 +1,11 @@
 -- Sums over observations, and the bounds of their means.
-use Rattle.std.proofs.Common.{◌≡◌, ◌⊎◌, inl, inr, ℕ, zero, suc, ◌+◌, ◌*◌, ◌^◌, ◌<◌, ◌≤◌, List, [], ◌∷◌, length, drop, drop-cons, get_or, All, Option, Some, None, IsSome, IfSome, unwrap_or, ℤ, pos, neg_ℤ, ◌+ℤ◌, ◌*ℤ◌, ◌≤ℤ◌, ◌<ℤ◌, unsigned_abs, refl, sym, subst, ap, ap₂, ◌∙◌, arith}
+use Rattle.std.proofs.Common.{◌≡◌, ℕ, suc, ◌+◌, ◌<◌, List, [], ◌∷◌, length, drop, drop-cons, get_or, All, Option, Some, None, IsSome, IfSome, unwrap_or, ℤ, pos, neg_ℤ, ◌+ℤ◌, ◌*ℤ◌, ◌≤ℤ◌, ◌<ℤ◌, refl, sym, subst, ap, ap₂, ◌∙◌, arith}
 use Rattle.jiff_core.proofs.SignedLemmas.{signed_arith}
 use Rattle.irs_base.specs.Limits.{most_rate}
-use Rattle.irs_base.specs.Rounding.{Rounded}
-use Rattle.irs_base.specs.declared.rounding.Direction.TheVariants.{Nearest}
 use Rattle.irs_base.proofs.RoundingLaws.{nearest_exists, nearest_once}
 use Rattle.irs_terms.specs.Lawful.{IsRate}
 use Rattle.irs_overnight.specs.Bounds.{IsSmall}
-use Rattle.irs_overnight.specs.Observations.{absent_or, first_absent}
+use Rattle.irs_overnight.specs.Observations.{first_absent}
 use Rattle.irs_overnight.specs.declared.derived.Found.{Found}
 use Rattle.irs_overnight.specs.declared.derived.Found.TheVariants.{Rate, Missing}
 use Rattle.irs_overnight.specs.declared.observations.Observation.{Observation}

@@ -1,11 +1,10 @@
 -- The stub for which an index is given is there, and it is one.
-use Rattle.std.proofs.Common.{◌≡◌, ◌⊎◌, inl, inr, ℕ, ◌+◌, ◌-◌, ◌<◌, ◌≤◌, List, [], length, Option, Some, None, IsSome, IsTrue, Result, Ok, Err, IfOk, IfErr, ℤ, ◌<ℤ◌, refl, sym, subst, ◌∙◌, ap, arith}
+use Rattle.std.proofs.Common.{◌≡◌, inl, inr, ℕ, ◌-◌, ◌≤◌, List, [], length, Option, Some, None, IsSome, Result, Ok, Err, IfOk, IfErr, ℤ, ◌<ℤ◌, refl, sym, subst, ◌∙◌, ap, arith}
 use Rattle.std.specs.Prelude.{slice_get}
 use Rattle.jiff_core.proofs.SignedLemmas.{signed_arith}
 use Rattle.irs_base.proofs.Decided.{order_of}
 use Rattle.irs_base.specs.Elements.{initial_stub, final_stub}
 use Rattle.irs_base.specs.Faults.{fault_at, in_stream}
-use Rattle.irs_base.specs.Members.{Every, day_at}
 use Rattle.irs_base.specs.declared.places.Broken.{Broken}
 use Rattle.irs_base.specs.declared.places.Fault.{Fault}
 use Rattle.irs_base.specs.declared.places.Rule.TheVariants.{K37}
@@ -16,20 +15,19 @@ use Rattle.irs_terms.specs.declared.amounts.StubTerms.{StubTerms}
 use Rattle.irs_terms.specs.declared.frequency.Frequency.{Frequency}
 use Rattle.irs_terms.specs.declared.results.Span.{Span}
 use Rattle.irs_terms.specs.declared.stream.Stream.{Stream}
-use Rattle.irs_periods.specs.Spans.{Regular}
 use Rattle.irs_resets.specs.ResetDates.{IsPeriod}
 use Rattle.irs_resets.specs.ResetRules.{FinalUnmet, GivesFinal, GivesInitial, InitialUnmet}
 use Rattle.irs_schedule.specs.DatedRules.{in_resets}
 use Rattle.irs_schedule.specs.DaySets.{reset_days, stream_sets}
 use Rattle.irs_schedule.specs.Layouts.{IsLayout}
-use Rattle.irs_schedule.specs.Parts.{KeepsBounds, Part}
+use Rattle.irs_schedule.specs.Parts.{Part}
 use Rattle.irs_schedule.specs.Schedules.{IsPart}
 use Rattle.irs_overnight.specs.Overnight.{Asked, IsAsked, asked}
 use Rattle.irs_overnight.specs.declared.derived.DerivedRow.{DerivedRow}
-use Rattle.irs_overnight.proofs.SourceLemmas.{asked_part, asked_place, partner, same_stream, some_part}
-use Rattle.irs_average.specs.Interpolations.{BreaksStub, BreaksTenors, IsInterpolated, IsStubBroken, LacksStub, LiesAmongTwo, StubKept, no_stub, outside_at}
-use Rattle.irs_average.specs.StubRates.{IsStubRow, LiesBetween, LiesOutside, StubSource, tenor_rate}
-use Rattle.irs_average.specs.Stubs.{GivesIndex, GivesOn, HasStub, IsStubAsked, IsStubOn, Stub, StubAsked, given_on, number_on, stub_source}
+use Rattle.irs_overnight.proofs.SourceLemmas.{partner, same_stream, some_part}
+use Rattle.irs_average.specs.Interpolations.{BreaksStub, BreaksTenors, IsInterpolated, IsStubBroken, LiesAmongTwo, StubKept, outside_at}
+use Rattle.irs_average.specs.StubRates.{IsStubRow, StubSource, tenor_rate}
+use Rattle.irs_average.specs.Stubs.{GivesIndex, GivesOn, HasStub, IsStubAsked, IsStubOn, Stub, StubAsked, number_on, stub_source}
 use Rattle.irs_average.specs.declared.stubs.Side.{Side}
 use Rattle.irs_average.specs.declared.stubs.Side.TheVariants.{Initial, Last}
 use Rattle.irs_average.proofs.LineLemmas.{one_stub_row, row_within}

@@ -1,5 +1,5 @@
 -- The row of a stub prints a fixing file that has exactly its rate.
-use Rattle.std.proofs.Common.{◌≡◌, ℕ, zero, suc, ◌+◌, ◌-◌, ◌^◌, ◌<◌, ◌≤◌, List, [], ◌∷◌, length, Option, Some, None, IfSome, Result, Ok, Err, IfOk, ℤ, ◌<ℤ◌, refl, sym, subst, ◌∙◌, ap, arith}
+use Rattle.std.proofs.Common.{◌≡◌, ℕ, ◌-◌, ◌^◌, ◌<◌, ◌≤◌, List, [], ◌∷◌, length, Option, Some, None, IfSome, Result, Ok, Err, IfOk, sym, subst, ◌∙◌, ap, arith}
 use Rattle.std.specs.Prelude.{slice_get}
 use Rattle.std.proofs.lemmas.Option.{get_or_from_slice_get, slice_get_within}
 use Rattle.irs_base.specs.Members.{Every}
@@ -16,10 +16,10 @@ use Rattle.irs_overnight.specs.declared.derived.DerivedRow.{DerivedRow}
 use Rattle.irs_overnight.proofs.FileRead.{are_fixings}
 use Rattle.irs_overnight.proofs.SourceLemmas.{every_at}
 use Rattle.irs_average.specs.Interpolations.{IsInterpolated, StubReadsBack}
-use Rattle.irs_average.specs.Stubs.{GivesOn, HasStub, IsStubAsked, Stub, StubAsked, given_on, number_on}
+use Rattle.irs_average.specs.Stubs.{GivesOn, HasStub, IsStubAsked, Stub, StubAsked, number_on}
 use Rattle.irs_average.specs.declared.stubs.Side.{Side}
 use Rattle.irs_average.specs.declared.stubs.Side.TheVariants.{Initial, Last}
-use Rattle.irs_average.proofs.StubLemmas.{is_with, one_stub}
+use Rattle.irs_average.proofs.StubLemmas.{is_with}
 
 -- ---- the index and the tenor are lawful
 

@@ -1,5 +1,5 @@
 -- A tenor ends on one day, and two tenors lie around an end in one way.
-use Rattle.std.proofs.Common.{◌≡◌, ℕ, ◌+◌, ◌*◌, ◌<◌, ◌≤◌, Bool, false, IsTrue, Option, Some, None, IfSome, IfNone, SomeIff, ℤ, pos, ◌+ℤ◌, ◌-ℤ◌, ◌≤ℤ◌, ◌<ℤ◌, refl, sym, subst, ◌∙◌, ap, arith}
+use Rattle.std.proofs.Common.{◌≡◌, ℕ, ◌*◌, Bool, false, IsTrue, Option, Some, None, IfSome, IfNone, SomeIff, ℤ, pos, ◌+ℤ◌, ◌≤ℤ◌, ◌<ℤ◌, refl, sym, subst, ◌∙◌, arith}
 use Rattle.jiff_core.proofs.SignedLemmas.{signed_arith}
 use Rattle.irs_base.specs.Civils.{IsCivilOf}
 use Rattle.irs_base.specs.Days.{IsDay, month_index_of}

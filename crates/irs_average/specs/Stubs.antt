@@ -1,5 +1,5 @@
 -- The stub of a stream on one of its two sides, and the index that is given for it.
-use Rattle.std.specs.Prelude.{◌≡◌, ℕ, ◌-◌, ◌≤◌, List, [], length, Option, Some, None, ℤ, slice_get}
+use Rattle.std.specs.Prelude.{◌≡◌, ℕ, ◌-◌, ◌≤◌, List, [], length, Option, Some, None, slice_get}
 use Rattle.irs_base.specs.Members.{day_at}
 use Rattle.irs_terms.specs.Lawful.{IsLawful, IsLawfulTenor}
 use Rattle.irs_terms.specs.declared.amounts.StubRate.{StubRate}

@@ -1,8 +1,7 @@
-use Rattle.std.proofs.Common.{ℕ, List, [], ◌∷◌, subst, sym, ◌∙◌}
+use Rattle.std.proofs.Common.{ℕ, List, [], ◌∷◌, subst, sym}
 use Rattle.irs_average.specs.Stubs.{stub_asked}
 use Rattle.irs_overnight.specs.FileLaw.{file_text}
 use Rattle.irs_answers.specs.Derived.{DueInterpolate, DueStub, FloatingStream}
-use Rattle.irs_answers.specs.Messages.{refused}
 use Rattle.irs_answers.specs.Outcomes.{Ends}
 use Rattle.irs_answers.specs.declared.refusals.Refusal.TheVariants.{Rule}
 use Rattle.irs_answers.proofs.DerivedLemmas.{ends_done, refuse_broken, stub_broken, stub_is_asked, stub_printed, stub_short}

@@ -1,4 +1,4 @@
-use Rattle.std.proofs.Common.{◌≡◌, ◌-◌, Some, refl, sym}
+use Rattle.std.proofs.Common.{◌≡◌, ◌-◌, Some}
 use Rattle.std.specs.Prelude.{slice_get}
 use Rattle.irs_base.specs.Order.{First}
 use Rattle.irs_overnight.specs.DerivedRules.{derived_before}

@@ -1,10 +1,8 @@
-use Rattle.std.proofs.Common.{◌≡◌, ◌↔◌, ℕ, ◌+◌, ◌<◌, ◌≤◌, List, ℤ, ◌<ℤ◌, ◌∙◌, sym, subst, arith}
 use Rattle.irs_calendar.specs.GoodDays.{DaySet}
 use Rattle.irs_overnight.specs.Sources.{RateLines}
-use Rattle.irs_overnight.specs.declared.observations.Observation.{Observation}
 use Rattle.irs_average.specs.MeanSources.{own_lines}
-use Rattle.irs_average.specs.Samples.{AreSamples, step_day}
-use Rattle.irs_average.proofs.SampleLemmas.{Samples, in_order, lacks_none, samples_pushed, shares_out, whole}
+use Rattle.irs_average.specs.Samples.{AreSamples}
+use Rattle.irs_average.proofs.SampleLemmas.{in_order, lacks_none, samples_pushed, shares_out, whole}
 use Rattle.irs_average.proofs.samples.samples.Goals as goal
 
 pub loop-k-preserved : goal.loop-k-preserved

@@ -1,4 +1,4 @@
-use Rattle.std.proofs.Common.{rules, ◌≡◌, ◌-ℤ◌, ◌*ℤ◌, ◌+ℤ◌, FitsSigned}
+use Rattle.std.proofs.Common.{rules, FitsSigned}
 use Rattle.std.specs.Int.{w64, w128}
 use Rattle.std.proofs.lemmas.Int.{to_z-of_z}
 use Rattle.irs_base.specs.Rounding.{Rounded}

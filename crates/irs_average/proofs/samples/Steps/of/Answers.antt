@@ -1,4 +1,4 @@
-use Rattle.std.proofs.Common.{◌≡◌, ◌<◌, ◌*◌, ◌≤◌, ℕ, arith}
+use Rattle.std.proofs.Common.{◌<◌, ◌*◌, arith}
 use Rattle.jiff_core.proofs.SignedLemmas.{signed_arith}
 use Rattle.irs_average.proofs.samples.Steps.of.Goals as goal
 
