@@ -35,6 +35,7 @@ unlisted_replies ws told failed n none =
       quiet = λ _. refl;
       only_unlisted = λ _. none;
       when_unlisted = λ _. refl;
+      listed = omega (arith);
     }
 
 -- ---- a file that can't be read
@@ -51,6 +52,7 @@ no_file_replies ws told a failed before now place asks h rose =
       quiet = λ no. absurd (no refl);
       only_unlisted = λ e. absurd (omega (arith, e));
       when_unlisted = λ unlisted. absurd (unlisted (a, asks));
+      listed = omega (arith);
     }
 
 -- ---- a file that is too long
@@ -92,6 +94,7 @@ long_replies ws told a failed before now place asks h quiet =
       quiet = λ _. quiet;
       only_unlisted = λ e. absurd (omega (arith, e));
       when_unlisted = λ unlisted. absurd (unlisted (a, asks));
+      listed = omega (arith);
     }
 
 pub stopped_replies : (ws : Words) (told : Told) (a : Asked) (failed : Option (List ℕ)) (before now : ℕ) (u : Unfetched) → Asks ws a → Stops told a.files failed before now u → IfRefused (of_fetch u) (Replies ws told failed before now)
@@ -137,4 +140,5 @@ ended_replies ws told a g failed before now asks held quiet status text h =
       quiet = λ _. quiet;
       only_unlisted = λ e. absurd (omega (arith, e, h.verdict));
       when_unlisted = λ unlisted. absurd (unlisted (a, asks));
+      listed = omega (arith);
     }

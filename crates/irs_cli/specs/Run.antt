@@ -1,5 +1,5 @@
 -- What a run says before it writes.
-use Rattle.std.specs.Prelude.{◌≡◌, ◌≢◌, ◌⊎◌, ℕ, List, Option}
+use Rattle.std.specs.Prelude.{◌≡◌, ◌≢◌, ◌⊎◌, ℕ, ◌<◌, List, Option}
 use Rattle.irs_outside.specs.Outside.{Rose}
 use Rattle.irs_cli.specs.Commands.{Words, Asked, Asks, IsListed}
 use Rattle.irs_cli.specs.Given.{Told, Reaches}
@@ -30,3 +30,4 @@ pub record Replies (ws : Words) (told : Told) (failed : Option (List ℕ)) (befo
   pub quiet : status ≢ 5 → now ≡ before
   pub only_unlisted : status ≡ 4 → ¬ (IsListed ws)
   pub when_unlisted : ¬ (IsListed ws) → status ≡ 4
+  pub listed : status < 9

@@ -53,7 +53,8 @@ pub(crate) fn fetch_all<F: Files>(
     names: &[Named<'_>],
     files: &mut F,
 ) -> Result<TaskFiles, Unfetched>
-    ensures { FetchesAll (F.told files.old) (F.failed files.new) (F.faults files.old) (F.faults files.new) (map wanted_by names.now) result }
+    ensures told { (n : List ℕ) → F.told files.new n ≡ F.told files.old n }
+    ensures all { FetchesAll (F.told files.old) (F.failed files.new) (F.faults files.old) (F.faults files.new) (map wanted_by names.now) result }
 {
     let mut fetched = TaskFiles::new(alloc);
     for named in names {

@@ -28,12 +28,16 @@ use std::alloc::Global;
 ///
 /// The commands are `check DOC CAL..`, `schedule DOC FIX CAL..`, `audit DOC FIX FLOWS CAL..`,
 /// `emit DOC FIX CAL..`, `accrue DATE DOC FIX CAL..`, `net DOC FIX CAL..`,
-/// `overnight STREAM DOC DAILY CAL..`, `average STREAM MEAN STEP DOC FIX CAL..` and
+/// `overnight STREAM DOC DAILY CAL..`, `average STREAM KIND STEP DOC FIX CAL..` and
 /// `interpolate STREAM SIDE LOW HIGH DOC FIX CAL..`, with 0 to 16 calendars, and `-` as FIX or DAILY for
 /// no fixings.
 /// All files are fetched first, in the order of the words; the flows are read when no rule is broken.
 /// `bulk N`, with N from 1 to 500, names no file.
 pub fn run<F: Files, S: Sink>(alloc: Global, words: &[String], files: &mut F, out: &mut S) -> u8
+    // The statuses are 0 to 8, and what the files tell is the same afterwards.
+    ensures listed { result < 9 }
+    ensures told { (n : List ℕ) → F.told files.new n ≡ F.told files.old n }
+
     // Want of memory: nothing was written.
     ensures memory { result ≡ 7 → S.written out.new ≡ S.written out.old }
 
@@ -74,7 +78,8 @@ pub fn run<F: Files, S: Sink>(alloc: Global, words: &[String], files: &mut F, ou
 
 // What is to be written for the words.
 fn answer<F: Files>(alloc: Global, words: &[String], files: &mut F) -> Result<Reply, Memory>
-    ensures { IfOk result (λ r. Replies (texts words.now) (F.told files.old) (F.failed files.new) (F.faults files.old) (F.faults files.new) (reply_status r) (reply_text r)) }
+    ensures told { (n : List ℕ) → F.told files.new n ≡ F.told files.old n }
+    ensures replies { IfOk result (λ r. Replies (texts words.now) (F.told files.old) (F.failed files.new) (F.faults files.old) (F.faults files.new) (reply_status r) (reply_text r)) }
 {
     match carry_out(alloc, words, files) {
         Ok(reply) => Ok(reply),
@@ -84,7 +89,8 @@ fn answer<F: Files>(alloc: Global, words: &[String], files: &mut F) -> Result<Re
 
 // What the command of the words comes to, or why it isn't carried out over its files.
 fn carry_out<F: Files>(alloc: Global, words: &[String], files: &mut F) -> Result<Reply, Refusal>
-    ensures { IfAnswered result (Replies (texts words.now) (F.told files.old) (F.failed files.new) (F.faults files.old) (F.faults files.new)) }
+    ensures told { (n : List ℕ) → F.told files.new n ≡ F.told files.old n }
+    ensures answered { IfAnswered result (Replies (texts words.now) (F.told files.old) (F.failed files.new) (F.faults files.old) (F.faults files.new)) }
 {
     let Some(command) = command_of(alloc, words)? else {
         return Err(Refusal::BadWords);

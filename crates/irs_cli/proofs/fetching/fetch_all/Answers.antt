@@ -5,8 +5,8 @@ use Rattle.irs_answers.specs.Given.{given_by}
 use Rattle.irs_cli.proofs.FetchLemmas.{holds_before, stops_before, stops_at, held_more, all_by}
 use Rattle.irs_cli.proofs.fetching.fetch_all.Goals as goal
 
-pub returns-in_err-bytes : goal.returns-in_err-bytes
-returns-in_err-bytes g c =
+pub returns-in_err-bytes-clause-all : goal.returns-in_err-bytes-clause-all
+returns-in_err-bytes-clause-all g c =
     let told = g.F.Files.told c.args.files.now in
     let later = g.F.Files.told c.loop-named.files in
     let before = g.F.Files.faults c.args.files.now in

@@ -13,13 +13,13 @@ use Rattle.irs_cli.proofs.HandedReplies.{answered_by}
 use Rattle.irs_cli.proofs.RunLemmas.{unlisted_replies, stopped_replies, ended_replies}
 use Rattle.irs_cli.proofs.program.carry_out.Goals as goal
 
-pub returns-in_default : goal.returns-in_default
-returns-in_default g c =
+pub returns-in_default-clause-answered : goal.returns-in_default-clause-answered
+returns-in_default-clause-answered g c =
     let ws = texts c.args.words.now in
     unlisted_replies ws (g.F.Files.told c.args.files.now) (g.F.Files.failed c.args.files.now) (g.F.Files.faults c.args.files.now) (unlisted_by ws c.in_ok-command.field-0 c.in_ok-command.ensures c.in_default.is)
 
-pub returns-in_err-fetched : goal.returns-in_err-fetched
-returns-in_err-fetched g c =
+pub returns-in_err-fetched-clause-answered : goal.returns-in_err-fetched-clause-answered
+returns-in_err-fetched-clause-answered g c =
     let e = c.in_err-fetched.field-0.0 in
     let made = c.from_residual-in_err-fetched in
     let ws = texts c.args.words.now in
@@ -29,7 +29,7 @@ returns-in_err-fetched g c =
     let now = g.F.Files.faults c.fetch_all.new.files in
     let k = c.in-Some.command in
     let asks : Asks ws (asked_by k) = asks_by ws c.in_ok-command.field-0 k c.in_ok-command.ensures c.in-Some.is in
-    let stops : Stops told (asked_by k).files failed before now e = subst (λ (l : List Named). Stops told (map wanted_by l) failed before now e) c.deref.ensures.value c.in_err-fetched.ensures in
+    let stops : Stops told (asked_by k).files failed before now e = subst (λ (l : List Named). Stops told (map wanted_by l) failed before now e) c.deref.ensures.value c.in_err-fetched.ensures.all in
     answered_by made.result (of_fetch e) (Replies ws told failed before now) made.ensures.0 made.ensures.1 (stopped_replies ws told (asked_by k) failed before now e asks stops)
 
 pub reply_to-requires-clause-within : goal.reply_to-requires-clause-within
@@ -39,7 +39,7 @@ reply_to-requires-clause-within g c =
     let k = c.in-Some.command in
     let asks : Asks ws (asked_by k) = asks_by ws c.in_ok-command.field-0 k c.in_ok-command.ensures c.in-Some.is in
     let f = given_by c.in_ok-fetched.fetched in
-    let held : Gathers (Holds told) (asked_by k).files no_files f = subst (λ (l : List Named). Gathers (Holds told) (map wanted_by l) no_files f) c.deref.ensures.value c.in_ok-fetched.ensures.0 in
+    let held : Gathers (Holds told) (asked_by k).files no_files f = subst (λ (l : List Named). Gathers (Holds told) (map wanted_by l) no_files f) c.deref.ensures.value c.in_ok-fetched.ensures.all.0 in
     gathers_within (Holds told) (asked_by k).files f (λ name bytes h. h.1) (few_cals ws (asked_by k) asks) held
 
 pub reply_to-requires-clause-lawful : goal.reply_to-requires-clause-lawful
@@ -48,13 +48,13 @@ reply_to-requires-clause-lawful g c =
     let k = c.in-Some.command in
     lawful_asked ws (asked_by k) (asks_by ws c.in_ok-command.field-0 k c.in_ok-command.ensures c.in-Some.is)
 
-pub returns : goal.returns
-returns g c =
+pub returns-clause-answered : goal.returns-clause-answered
+returns-clause-answered g c =
     let ws = texts c.args.words.now in
     let told = g.F.Files.told c.args.files.now in
     let k = c.in-Some.command in
     let asks : Asks ws (asked_by k) = asks_by ws c.in_ok-command.field-0 k c.in_ok-command.ensures c.in-Some.is in
     let f = given_by c.in_ok-fetched.fetched in
-    let held : Gathers (Holds told) (asked_by k).files no_files f = subst (λ (l : List Named). Gathers (Holds told) (map wanted_by l) no_files f) c.deref.ensures.value c.in_ok-fetched.ensures.0 in
+    let held : Gathers (Holds told) (asked_by k).files no_files f = subst (λ (l : List Named). Gathers (Holds told) (map wanted_by l) no_files f) c.deref.ensures.value c.in_ok-fetched.ensures.all.0 in
     let reply = c.in_ok-reply_to.field-0 in
-    ended_replies ws told (asked_by k) f (g.F.Files.failed c.fetch_all.new.files) (g.F.Files.faults c.args.files.now) (g.F.Files.faults c.fetch_all.new.files) asks held c.in_ok-fetched.ensures.1 (reply_status reply) (reply_text reply) c.in_ok-reply_to.ensures
+    ended_replies ws told (asked_by k) f (g.F.Files.failed c.fetch_all.new.files) (g.F.Files.faults c.args.files.now) (g.F.Files.faults c.fetch_all.new.files) asks held c.in_ok-fetched.ensures.all.1 (reply_status reply) (reply_text reply) c.in_ok-reply_to.ensures
