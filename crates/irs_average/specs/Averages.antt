@@ -74,10 +74,12 @@ pub record IsFirstOfAverage (a : AverageAsked) (x : Broken) : Type 0 where
 -- each average lies between the least and the greatest rate of the observations of its period
 abbrev pub LieAmong : AverageAsked → List DerivedRow → Type 0
 LieAmong a rows =
-    (source : MeanSource) → HasMeanSource a source → (k : ℕ) (row : DerivedRow) (x : ℤ) → slice_get rows k ≡ Some row → row.found ≡ Rate x →
+    (source : MeanSource) → HasMeanSource a source →
+    (k : ℕ) (row : DerivedRow) (x : ℤ) → slice_get rows k ≡ Some row → row.found ≡ Rate x →
     let p : MeanPeriod = mean_period_at source row.period in
     (os : List Observation) → AreSamples p.lines p.days p.step p.start p.end os → LiesAmong os x
 
 -- with the index and the tenor of the stream the rows print a fixing file that has exactly their rates
 abbrev pub AverageReadsBack : AverageAsked → List DerivedRow → Type 0
-AverageReadsBack a rows = (float : FloatTerms) → PaysFloating a.of.swap a.of.number float → AreFixings rows float.tenor float.index
+AverageReadsBack a rows =
+    (float : FloatTerms) → PaysFloating a.of.swap a.of.number float → AreFixings rows float.tenor float.index

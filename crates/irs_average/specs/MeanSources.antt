@@ -37,7 +37,8 @@ mean_source part by = record { adjusted = part.adjusted; resets = part.resets; b
 
 -- a period of these
 abbrev pub mean_period : Averaging → ℤ → ℤ → MeanPeriod
-mean_period by start end = record { kind = by.kind; step = by.step; lines = by.lines; days = by.days; start = start; end = end }
+mean_period by start end =
+    record { kind = by.kind; step = by.step; lines = by.lines; days = by.days; start = start; end = end }
 
 -- period i goes from adjusted boundary i - 1 to adjusted boundary i
 abbrev pub mean_period_at : MeanSource → ℕ → MeanPeriod

@@ -44,4 +44,5 @@ IsWithin least greatest x = (least ≤ℤ x) × (x ≤ℤ greatest)
 -- x lies within all bounds within which the rates of the observations lie, and so between the least and the
 -- greatest of them
 abbrev pub LiesAmong : List Observation → ℤ → Type 0
-LiesAmong os x = (least greatest : ℤ) → All (λ o. IfSome o.rate (IsWithin least greatest)) os → IsWithin least greatest x
+LiesAmong os x =
+    (least greatest : ℤ) → All (λ o. IfSome o.rate (IsWithin least greatest)) os → IsWithin least greatest x

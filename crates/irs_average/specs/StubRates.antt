@@ -51,7 +51,10 @@ tenor_rate source tenor = rate_at source.rates source.index (record { date = sou
 
 -- what is found for the stub
 abbrev pub IsStubFound : StubSource → ℤ → ℤ → Found → Type 0
-IsStubFound source near far found = IsFoundBetween (tenor_rate source source.low) (tenor_rate source source.high) near far source.end source.fixing found
+IsStubFound source near far found =
+    let low = tenor_rate source source.low in
+    let high = tenor_rate source source.high in
+    IsFoundBetween low high near far source.end source.fixing found
 
 -- the row of a stub with that number
 pub record IsStubRow (source : StubSource) (period : ℕ) (row : DerivedRow) : Type 0 where

@@ -38,8 +38,8 @@ fn outside(number: u32) -> Fault
     }
 }
 
-// The row of a stub, whose period counts from 1; `None` exactly where it doesn't end between the two
-// tenors.
+// The row of a stub, whose period counts from 1; `None` exactly where it doesn't end between the
+// two tenors.
 fn stub_row(
     part: &StreamPart,
     number: usize,
@@ -97,18 +97,19 @@ fn asked_row(
     }
 }
 
-/// The rate of a floating stream's stub on a side, in units of 10^-9, with the number of its period and
-/// its fixing date; or that date, where the rate of a tenor has no line. `stream` counts from 1, `s` is
-/// the schedule of the swap without fixings, and a tenor is 1 to 999 days, weeks, months or years.
+/// The rate of a floating stream's stub on a side, in units of 10^-9, with the number of its period
+/// and its fixing date; or that date, where the rate of a tenor has no line. `stream` counts from
+/// 1, `s` is the schedule of the swap without fixings, and a tenor is 1 to 999 days, weeks, months
+/// or years.
 ///
-/// The rate lies on the line through the rates of the two tenors of the stub's index on the fixing date,
-/// each at the day on which its tenor ends. A tenor starts on the adjusted start of the stub; one of
-/// months or years ends on the day of the same number, or the last day of a shorter month. The rate is
-/// that at the adjusted end of the stub, rounded at 9 decimals, a half up.
+/// The rate lies on the line through the rates of the two tenors of the stub's index on the fixing
+/// date, each at the day on which its tenor ends. A tenor starts on the adjusted start of the stub;
+/// one of months or years ends on the day of the same number, or the last day of a shorter month.
+/// The rate is that at the adjusted end of the stub, rounded at 9 decimals, a half up.
 ///
-/// `Broken` is exactly K45, the stream has no stub on that side, or no `floatingRate` for it; else K46, a
-/// tenor ends out of the range of dates, the first doesn't end before the second, or the stub ends
-/// before the first or after the second. No memory is taken.
+/// `Broken` is exactly K45, the stream has no stub on that side, or no `floatingRate` for it; else
+/// K46, a tenor ends out of the range of dates, the first doesn't end before the second, or the
+/// stub ends before the first or after the second. No memory is taken.
 pub fn interpolate(
     s: &Schedule,
     swap: &Swap,
@@ -125,7 +126,8 @@ pub fn interpolate(
     ensures fixings { let a = stub_asked swap.now stream side low high s.now fix.now in IfOk result (StubReadsBack a) }
     ensures kept { let a = stub_asked swap.now stream side low high s.now fix.now in IfOk result (λ _. StubKept a) }
     ensures broken { let a = stub_asked swap.now stream side low high s.now fix.now in IfErr result (IsStubBroken a) }
-    // At every exit: where no rule is broken there is a row; there is at most one, and one broken rule.
+    // At every exit: where no rule is broken there is a row; there is at most one, and one broken
+    // rule.
     ensures exists { let a = stub_asked swap.now stream side low high s.now fix.now in
         StubKept a → (row : Row) × IsInterpolated a row }
     ensures one { let a = stub_asked swap.now stream side low high s.now fix.now in

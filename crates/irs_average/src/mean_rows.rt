@@ -37,13 +37,13 @@ fn period_mean<G: GoodDays>(
 ) -> Result<Option<Found>, Memory>
     requires order { start <ℤ end }
     requires some { 1 ≤ step }
-    ensures some { let p = mean_period (averaging_by kind step (G.days days.now) (own_lines fix.now float.now)) start end in
-        IfOk result (λ o. IfSome o (FindsMean p)) }
+    ensures some { let by = averaging_by kind step (G.days days.now) (own_lines fix.now float.now) in
+        IfOk result (λ o. IfSome o (FindsMean (mean_period by start end))) }
     ensures small { IfOk result (λ o. IfSome o IsSmallFound) }
-    ensures unbroken { let p = mean_period (averaging_by kind step (G.days days.now) (own_lines fix.now float.now)) start end in
-        IfOk result (λ o. IfSome o (λ _. LacksDay p → ⊥)) }
-    ensures none { let p = mean_period (averaging_by kind step (G.days days.now) (own_lines fix.now float.now)) start end in
-        IfOk result (λ o. IfNone o (LacksDay p)) }
+    ensures unbroken { let by = averaging_by kind step (G.days days.now) (own_lines fix.now float.now) in
+        IfOk result (λ o. IfSome o (λ _. LacksDay (mean_period by start end) → ⊥)) }
+    ensures none { let by = averaging_by kind step (G.days days.now) (own_lines fix.now float.now) in
+        IfOk result (λ o. IfNone o (LacksDay (mean_period by start end))) }
 {
     let steps = Steps::of(start, end, step);
     match samples(alloc, days, fix, float, &steps)? {
@@ -66,13 +66,13 @@ fn mean_row<G: GoodDays>(
     requires floating { IsTrue part.now.floating }
     requires period { IsPeriod part.now.adjusted number }
     requires some { 1 ≤ step }
-    ensures some { let source = mean_source part.now (averaging_by kind step (G.days days.now) (own_lines fix.now float.now)) in
-        IfOk result (λ o. IfSome o (IsMeanRow source number)) }
+    ensures some { let by = averaging_by kind step (G.days days.now) (own_lines fix.now float.now) in
+        IfOk result (λ o. IfSome o (IsMeanRow (mean_source part.now by) number)) }
     ensures range { IfOk result (λ o. IfSome o IsInRange) }
-    ensures unbroken { let source = mean_source part.now (averaging_by kind step (G.days days.now) (own_lines fix.now float.now)) in
-        IfOk result (λ o. IfSome o (λ _. LacksDay (mean_period_at source number) → ⊥)) }
-    ensures none { let source = mean_source part.now (averaging_by kind step (G.days days.now) (own_lines fix.now float.now)) in
-        IfOk result (λ o. IfNone o (LacksDay (mean_period_at source number))) }
+    ensures unbroken { let by = averaging_by kind step (G.days days.now) (own_lines fix.now float.now) in
+        IfOk result (λ o. IfSome o (λ _. LacksDay (mean_period_at (mean_source part.now by) number) → ⊥)) }
+    ensures none { let by = averaging_by kind step (G.days days.now) (own_lines fix.now float.now) in
+        IfOk result (λ o. IfNone o (LacksDay (mean_period_at (mean_source part.now by) number))) }
 {
     let adjusted = part.adjusted();
     let fixing = fixing_date(part, number);
@@ -110,13 +110,13 @@ fn mean_rows<G: GoodDays>(
 ) -> Result<Derived, Stopped<Fault>>
     requires floating { IsTrue part.now.floating }
     requires some { 1 ≤ step }
-    ensures ok { let source = mean_source part.now (averaging_by kind step (G.days days.now) (own_lines fix.now float.now)) in
-        IfOk result (AreMeans source) }
+    ensures ok { let by = averaging_by kind step (G.days days.now) (own_lines fix.now float.now) in
+        IfOk result (AreMeans (mean_source part.now by)) }
     ensures range { IfOk result (All IsInRange) }
-    ensures kept { let source = mean_source part.now (averaging_by kind step (G.days days.now) (own_lines fix.now float.now)) in
-        IfOk result (λ _. (f : BrokenRule) → BreaksSamples source f → ⊥) }
-    ensures broken { let source = mean_source part.now (averaging_by kind step (G.days days.now) (own_lines fix.now float.now)) in
-        IfBroken result (First derived_before (BreaksSamples source)) }
+    ensures kept { let by = averaging_by kind step (G.days days.now) (own_lines fix.now float.now) in
+        IfOk result (λ _. (f : BrokenRule) → BreaksSamples (mean_source part.now by) f → ⊥) }
+    ensures broken { let by = averaging_by kind step (G.days days.now) (own_lines fix.now float.now) in
+        IfBroken result (First derived_before (BreaksSamples (mean_source part.now by))) }
 {
     let mut rows = Derived::new(alloc);
     for number in 1..part.adjusted().len() {
@@ -129,7 +129,8 @@ fn mean_rows<G: GoodDays>(
     Ok(rows)
 }
 
-/// The averages of a floating stream of a schedule. `Broken` is the lowest K41, else the lowest K43.
+/// The averages of a floating stream of a schedule. `Broken` is the lowest K41, else the lowest
+/// K43.
 pub(crate) fn averages<G: GoodDays>(
     alloc: Global,
     part: &StreamPart,
@@ -141,13 +142,13 @@ pub(crate) fn averages<G: GoodDays>(
 ) -> Result<Derived, Stopped<Fault>>
     requires floating { IsTrue part.now.floating }
     requires some { 1 ≤ step }
-    ensures ok { let source = mean_source part.now (averaging_by kind step (G.days days.now) (own_lines fix.now float.now)) in
-        IfOk result (AreMeans source) }
+    ensures ok { let by = averaging_by kind step (G.days days.now) (own_lines fix.now float.now) in
+        IfOk result (AreMeans (mean_source part.now by)) }
     ensures range { IfOk result (All IsInRange) }
-    ensures kept { let source = mean_source part.now (averaging_by kind step (G.days days.now) (own_lines fix.now float.now)) in
-        IfOk result (λ _. (f : BrokenRule) → BreaksMeans source f → ⊥) }
-    ensures broken { let source = mean_source part.now (averaging_by kind step (G.days days.now) (own_lines fix.now float.now)) in
-        IfBroken result (First derived_before (BreaksMeans source)) }
+    ensures kept { let by = averaging_by kind step (G.days days.now) (own_lines fix.now float.now) in
+        IfOk result (λ _. (f : BrokenRule) → BreaksMeans (mean_source part.now by) f → ⊥) }
+    ensures broken { let by = averaging_by kind step (G.days days.now) (own_lines fix.now float.now) in
+        IfBroken result (First derived_before (BreaksMeans (mean_source part.now by))) }
 {
     if let Some(number) = first_unrising(part.resets()) {
         return Err(Stopped::Broken(unrising(number)));

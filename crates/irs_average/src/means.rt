@@ -20,8 +20,8 @@ use irs_overnight::{Found, Observation, first_absent};
 pub enum Mean {
     /// The sum of the rates by their number.
     Plain,
-    /// Each rate as often as the days until the next observation, or the end of the period; the sum by
-    /// the days of the period.
+    /// Each rate as often as the days until the next observation, or the end of the period; the sum
+    /// by the days of the period.
     Weighted,
 }
 

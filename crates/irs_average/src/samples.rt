@@ -86,9 +86,11 @@ fn sample<G: GoodDays>(
 ) -> Option<Observation>
     requires { k < steps.now.count }
     ensures some { let lines = own_lines fix.now float.now in
-        IfSome result (IsSample lines (G.days days.now) steps.now.start steps.now.end steps.now.step steps.now.count k) }
+        let s = steps.now in
+        IfSome result (IsSample lines (G.days days.now) s.start s.end s.step s.count k) }
     ensures small { IfSome result IsSmall }
-    ensures none { IfNone result ((q : ℤ) → Prev (G.days days.now) (step_day steps.now.start steps.now.step k) q → ⊥) }
+    ensures none { let from = step_day steps.now.start steps.now.step k in
+        IfNone result ((q : ℤ) → Prev (G.days days.now) from q → ⊥) }
 {
     let from = steps.day(k);
     match days.prev_good(from) {
@@ -111,11 +113,14 @@ pub(crate) fn samples<G: GoodDays>(
 ) -> Result<Option<Vec<Observation>>, Memory>
     requires some { 0 < steps.now.count }
     ensures some { let lines = own_lines fix.now float.now in
-        IfOk result (λ o. IfSome o (λ v. AreSamples lines (G.days days.now) steps.now.step steps.now.start steps.now.end v.items)) }
+        let s = steps.now in
+        IfOk result (λ o. IfSome o (λ v. AreSamples lines (G.days days.now) s.step s.start s.end v.items)) }
     ensures small { IfOk result (λ o. IfSome o (λ v. All IsSmall v.items)) }
     ensures shares { IfOk result (λ o. IfSome o (λ v. ShareOut (steps.now.end -ℤ steps.now.start) v.items)) }
-    ensures unbroken { IfOk result (λ o. IfSome o (λ _. LacksSample (G.days days.now) steps.now.step steps.now.start steps.now.end → ⊥)) }
-    ensures none { IfOk result (λ o. IfNone o (LacksSample (G.days days.now) steps.now.step steps.now.start steps.now.end)) }
+    ensures unbroken { let s = steps.now in
+        IfOk result (λ o. IfSome o (λ _. LacksSample (G.days days.now) s.step s.start s.end → ⊥)) }
+    ensures none { let s = steps.now in
+        IfOk result (λ o. IfNone o (LacksSample (G.days days.now) s.step s.start s.end)) }
 {
     let mut all = Vec::new(alloc);
     for k in 0..steps.count {

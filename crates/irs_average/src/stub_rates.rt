@@ -1,5 +1,6 @@
-//! The rate of a stub on the line through the rates of two tenors (2006 ISDA Definitions, section 8.3,
-//! linear interpolation). The rounding, and that no rate is extrapolated, are this project's own.
+//! The rate of a stub on the line through the rates of two tenors (2006 ISDA Definitions, section
+//! 8.3, linear interpolation). The rounding, and that no rate is extrapolated, are this project's
+//! own.
 ghost use Rattle.std.specs.Prelude.{◌≡◌, ◌↔◌, IsTrue, ◌+◌, ◌*◌, ◌^◌, ◌<◌, ◌≤◌, ℤ, Some, IfSome, IfNone, pos, ◌<ℤ◌, ◌≤ℤ◌, ◌+ℤ◌, ◌-ℤ◌, ◌*ℤ◌, unsigned_abs};
 ghost use Rattle.irs_base.specs.Days.{IsDay, all_days};
 ghost use Rattle.irs_base.specs.Rounding.{Rounded};
@@ -21,8 +22,8 @@ fn are_around(near: Day, far: Day, end: Day) -> bool
     near < far && near <= end && end <= far
 }
 
-/// The days on which two tenors end; `None` exactly where they don't lie in range and in order, or the
-/// end of the stub doesn't lie between them.
+/// The days on which two tenors end; `None` exactly where they don't lie in range and in order, or
+/// the end of the stub doesn't lie between them.
 pub(crate) fn ends_around(
     start: Day,
     end: Day,
@@ -61,8 +62,8 @@ fn added(a: i128, b: i128) -> i128
     a + b
 }
 
-// What stands on the line through two rates that lie `width` days apart, `days` behind the first; times
-// the width.
+// What stands on the line through two rates that lie `width` days apart, `days` behind the first;
+// times the width.
 fn line_value(low: i64, high: i64, width: i64, days: i64) -> i128
     requires low { IsRate low }
     requires high { IsRate high }
@@ -108,8 +109,8 @@ fn on_line(low: i64, high: i64, width: i64, days: i64) -> i64
     as_rate(rounded_line(low, high, width, days))
 }
 
-/// What two rates give between the ends of their tenors: a rate, or the fixing date where one of them
-/// is missing.
+/// What two rates give between the ends of their tenors: a rate, or the fixing date where one of
+/// them is missing.
 pub(crate) fn found_between(
     low: Option<i64>,
     high: Option<i64>,

@@ -22,7 +22,7 @@ pub enum Side {
 // The index and the tenor that are given for a stub.
 fn index_of(given: &Option<StubRate>) -> Option<(&Text, Option<Frequency>)>
     ensures some { IfSome result (λ r. given.now ≡ Some (OfIndex r.0.now r.1)) }
-    ensures none { IfNone result ((index : List ℕ) (tenor : Option Tenor) → given.now ≡ Some (OfIndex index tenor) → ⊥) }
+    ensures none { IfNone result ((i : List ℕ) (t : Option Tenor) → given.now ≡ Some (OfIndex i t) → ⊥) }
 {
     match given {
         Some(StubRate::Index(index, tenor)) => Some((index, *tenor)),
@@ -34,7 +34,7 @@ fn index_of(given: &Option<StubRate>) -> Option<(&Text, Option<Frequency>)>
 // The same by the side.
 fn index_on(side: Side, stubs: &StubTerms) -> Option<(&Text, Option<Frequency>)>
     ensures some { IfSome result (λ r. given_on side stubs.now ≡ Some (OfIndex r.0.now r.1)) }
-    ensures none { IfNone result ((index : List ℕ) (tenor : Option Tenor) → given_on side stubs.now ≡ Some (OfIndex index tenor) → ⊥) }
+    ensures none { IfNone result ((i : List ℕ) (t : Option Tenor) → given_on side stubs.now ≡ Some (OfIndex i t) → ⊥) }
 {
     match side {
         Side::Initial => index_of(&stubs.initial),
@@ -42,12 +42,12 @@ fn index_on(side: Side, stubs: &StubTerms) -> Option<(&Text, Option<Frequency>)>
     }
 }
 
-/// The index and the tenor that are given for the stub of a stream on a side (FpML `floatingRate` of
-/// `initialStub` or `finalStub`), by the number of the stream, from 1; `None` exactly where none is
-/// given. No memory is taken.
+/// The index and the tenor that are given for the stub of a stream on a side (FpML `floatingRate`
+/// of `initialStub` or `finalStub`), by the number of the stream, from 1; `None` exactly where none
+/// is given. No memory is taken.
 pub fn stub_index(swap: &Swap, stream: u8, side: Side) -> Option<(&Text, Option<Frequency>)>
     ensures some { IfSome result (λ r. GivesIndex swap.now stream side r.0.now r.1) }
-    ensures none { IfNone result ((index : List ℕ) (tenor : Option Tenor) → GivesIndex swap.now stream side index tenor → ⊥) }
+    ensures none { IfNone result ((i : List ℕ) (t : Option Tenor) → GivesIndex swap.now stream side i t → ⊥) }
 {
     let Some(terms) = stream_at(swap, stream) else {
         return None;

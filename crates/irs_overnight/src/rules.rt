@@ -48,7 +48,8 @@ fn without_basis() -> Fault
     }
 }
 
-/// K41, the fixing date isn't after that of the period before it, at the period with that number, from 1.
+/// K41, the fixing date isn't after that of the period before it, at the period with that number,
+/// from 1.
 pub fn unrising(number: u32) -> Fault
     ensures { result ≡ not_after_at number }
 {
@@ -59,7 +60,8 @@ pub fn unrising(number: u32) -> Fault
     }
 }
 
-/// The number, from 1, of the lowest period whose fixing date isn't after that of the period before it.
+/// The number, from 1, of the lowest period whose fixing date isn't after that of the period before
+/// it.
 pub fn first_unrising(resets: &[Reset]) -> Option<u32>
     requires { length resets.now < 2 ^ 32 }
     ensures { IsFirst nat_lt (NotAfter resets.now) result }
