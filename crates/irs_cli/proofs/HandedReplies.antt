@@ -1,6 +1,6 @@
 -- Answers that are handed on.
-use Rattle.std.proofs.Common.{◌≡◌, ℕ, List, Result, Ok, Err, sym, subst}
-use Rattle.std.specs.Prelude.{IsErr}
+use Rattle.std.proofs.Common.{◌≡◌, ℕ, List, Option, Some, None, Bool, true, false, Result, Ok, Err, sym, subst}
+use Rattle.std.specs.Prelude.{IfNone, IsErr, IsTrue}
 use Rattle.std.specs.Result.{IsErrAnd}
 use Rattle.irs_answers.specs.declared.replies.Reply.{Reply}
 use Rattle.irs_cli.specs.declared.refusals.Refusal.{Refusal}
@@ -9,3 +9,22 @@ use Rattle.irs_cli.specs.Outcomes.{IfAnswered, IfRefused}
 pub answered_by : (r : Result Reply Refusal) (e : Refusal) (P : ℕ → List ℕ → Type 0) → IsErr r → IsErrAnd r (λ x. x ≡ e) → IfRefused e P → IfAnswered r P
 answered_by (Ok x) e P h k p = absurd k
 answered_by (Err x) e P h k p = subst (λ (y : Refusal). IfRefused y P) (sym k) p
+
+-- what holds holds where there is no answer
+pub if_none : {X : Type 0} (o : Option X) (P : Type 0) → P → IfNone o P
+if_none None P p = p
+if_none (Some x) P p = tt
+
+pub none_then : {X : Type 0} (o : Option X) (P Q : Type 0) → IfNone o P → (P → Q) → IfNone o Q
+none_then None P Q p f = f p
+none_then (Some x) P Q p f = tt
+
+pub ok_same : {A E : Type 0} (r : Result A E) (x y : A) → r ≡ Ok x → r ≡ Ok y → x ≡ y
+ok_same r x y h k = cc
+
+pub ok_not_err : {A E : Type 0} (r : Result A E) (x : A) (e : E) → r ≡ Ok x → r ≡ Err e → ⊥
+ok_not_err r x e h k = cc
+
+pub not_true : (b : Bool) → b ≡ false → IsTrue b → ⊥
+not_true true e h = cc
+not_true false e h = cc

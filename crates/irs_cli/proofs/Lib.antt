@@ -1,4 +1,4 @@
-pub mod Putting
+pub mod PutLemmas
 pub mod ParamLemmas
 pub mod CommandLemmas
 pub mod FileLemmas
