@@ -6,7 +6,7 @@
 //! `accrue DATE DOC FIX CAL..` what has accrued on a day in each stream of that schedule, and
 //! `net DOC FIX CAL..` what falls due between the two parties. `overnight STREAM DOC DAILY CAL..` asks
 //! for the rates that the daily rates of DAILY give for the periods of a stream,
-//! `average STREAM MEAN STEP DOC FIX CAL..` for the averages of its rates over them, and
+//! `average STREAM KIND STEP DOC FIX CAL..` for the averages of its rates over them, and
 //! `interpolate STREAM SIDE LOW HIGH DOC FIX CAL..` for the rate of its stub on a side between those of
 //! two tenors. `-` as FIX or DAILY means no fixings. Each takes 0 to 16 calendars.
 //!

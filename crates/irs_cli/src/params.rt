@@ -50,7 +50,7 @@ pub(crate) fn overnight_of(params: &[String]) -> Option<Request>
     }
 }
 
-/// `average STREAM MEAN STEP` by its parameters.
+/// `average STREAM KIND STEP` by its parameters.
 pub(crate) fn average_of(params: &[String]) -> Option<Request>
     ensures some { IfSome result (λ r. IsRequest kind.Average (texts params.now) r) }
     ensures none { IfNone result ((r : RequestSpec) → IsRequest kind.Average (texts params.now) r → ⊥) }
