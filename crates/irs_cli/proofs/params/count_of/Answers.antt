@@ -1,4 +1,4 @@
-use Rattle.std.proofs.Common.{◌≡◌, ℕ, ◌<◌, ◌^◌, Ok, sym, subst, arith}
+use Rattle.std.proofs.Common.{ℕ, subst, arith}
 use Rattle.std.proofs.lemmas.Fmt.{parse-decimal}
 use Rattle.irs_cli.specs.Params.{IsCountWord}
 use Rattle.irs_cli.proofs.HandedReplies.{not_true, ok_not_err, ok_same}
