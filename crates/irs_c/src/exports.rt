@@ -1,5 +1,5 @@
 //! What C calls. The form of the call is this project's own; `bindings/irs.h` has it in C's words.
-ghost use Rattle.std.specs.Prelude.{◌≡◌, ◌≢◌, ◌⊎◌, ◌×◌, ℕ, ◌<◌, List, ◌++◌, length, take, drop, All, IfOk, IfErr};
+ghost use Rattle.std.specs.Prelude.{◌≡◌, ◌≢◌, ◌⊎◌, ℕ, ◌<◌, List, ◌++◌, length, take, drop, All, IfOk, IfErr};
 ghost use Rattle.std.specs.Str.{IsUtf8};
 ghost use Rattle.irs_cli.specs.Commands.{texts, IsListed};
 ghost use Rattle.irs_cli.specs.Due.{Due, IsOneAnswer};
