@@ -1,5 +1,5 @@
 -- The words and files that a C caller lends.
-use Rattle.std.specs.Prelude.{◌≡◌, ℕ, List, [], ◌∷◌, map, Option, Some, None, if◌then◌else◌}
+use Rattle.std.specs.Prelude.{◌≡◌, ℕ, List, [], ◌∷◌, map, Some, None, if◌then◌else◌}
 use Rattle.std.specs.Str.{bytes_eq}
 use Rattle.irs_cli.specs.Commands.{Words, Wanted, Asked, Asks}
 use Rattle.irs_cli.specs.Fetching.{NotLong}

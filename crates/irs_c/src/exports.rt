@@ -1,17 +1,17 @@
 //! What C calls. The form of the call is this project's own; `bindings/irs.h` has it in C's words.
-ghost use Rattle.std.specs.Prelude.{◌≡◌, ◌≢◌, ◌⊎◌, ℕ, ◌<◌, List, ◌++◌, length, take, drop, All, IfOk, IfErr};
+ghost use Rattle.std.specs.Prelude.{◌≡◌, ◌≢◌, ◌⊎◌, ℕ, ◌<◌, List, ◌++◌, length, take, drop, map, All, OnOk, IfOk, IfErr};
 ghost use Rattle.std.specs.Str.{IsUtf8};
 ghost use Rattle.irs_cli.specs.Commands.{texts, IsListed};
 ghost use Rattle.irs_cli.specs.Due.{Due, IsOneAnswer};
 ghost use Rattle.irs_cli.specs.Given.{TellsAll};
 ghost use Rattle.irs_c.specs.Given.{words_in, file_in, IsAbsent};
 ghost use Rattle.irs_c.specs.Shown.{Shown};
-ghost use Rattle.irs_plain.specs.Sentences.{said, sentence_of};
+ghost use Rattle.irs_plain.specs.Sentences.{joined as joined_of, sentence_of};
 
 use crate::given::{Bytes, File, GivenFiles};
 use crate::kept::Kept;
 use irs_cli::run;
-use irs_plain::{Sentence, meaning};
+use irs_plain::meaning;
 use std::alloc::Global;
 
 /// Runs a command of the program over lent words and files, and answers its status: 0 done, 1 the
@@ -99,21 +99,30 @@ fn sentence(alloc: Global, words: &[Bytes<'_>], status: u8, line: &[u8]) -> Resu
     ensures err { IfErr result (λ s. (s ≡ 7) ⊎ (s ≡ 9)) }
 {
     let words = words_of(alloc, words)?;
-    joined(alloc, meaning(&words, status, line))
+    joined(alloc, &meaning(&words, status, line).parts)
 }
 
 // The parts of a sentence one behind the other, or 7 where memory ran out.
-fn joined(alloc: Global, sentence: Sentence<'_>) -> Result<Vec<u8>, u8>
-    ensures text { IfOk result (λ t. t.items ≡ said sentence) }
+fn joined(alloc: Global, parts: &[&[u8]]) -> Result<Vec<u8>, u8>
+    ensures text { IfOk result (λ t. t.items ≡ joined_of (map (λ p. p.now) parts.now)) }
     ensures err { IfErr result (λ s. s ≡ 7) }
 {
     let mut text = Vec::new(alloc);
-    for part in &sentence.parts {
-        if text.extend_from_slice(part).is_err() {
-            return Err(7);
-        }
+    for part in parts {
+        append(&mut text, part)?;
     }
     Ok(text)
+}
+
+// Appends a part, or answers 7 where memory ran out.
+fn append(text: &mut Vec<u8>, part: &[u8]) -> Result<(), u8>
+    ensures text { OnOk result (text.new.items ≡ text.old.items ++ part.now) }
+    ensures err { IfErr result (λ s. s ≡ 7) }
+{
+    match text.extend_from_slice(part) {
+        Ok(()) => Ok(()),
+        Err(_) => Err(7),
+    }
 }
 
 // Status and text, or the status alone where there is no text: 7 or 9.

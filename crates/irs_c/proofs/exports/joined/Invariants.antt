@@ -3,4 +3,4 @@ use Rattle.irs_plain.specs.Sentences.{joined as joined_of}
 use Rattle.irs_c.proofs.exports.joined.Given as goal
 
 abbrev pub invariant-loop-part : goal.invariant-loop-part
-invariant-loop-part l = l.text.items ≡ joined_of (map (λ p. p.now) (take l.part-index l.sentence.parts))
+invariant-loop-part l = l.text.items ≡ joined_of (map (λ p. p.now) (take l.part-index l.parts))
