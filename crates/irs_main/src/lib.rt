@@ -5,7 +5,7 @@
 use irs_cli::{RealFiles, RealSink, run};
 use irs_plain::{COMMANDS, HELP, Kept, Sentence, VERSION, meaning};
 use std::env;
-use std::io::{self, Write};
+use std::io::{self, ErrorKind, Write};
 
 /// The status for words that are no listed command.
 const BAD_WORDS: u8 = 4;
@@ -21,8 +21,10 @@ const NO_TEXT: u8 = 9;
 
 // The words behind the program's name, or the status where there are none to be had.
 fn words_of(rt: &HostRuntime) -> Result<Vec<String>, u8> {
-    let Ok(args) = env::args(rt) else {
-        return Err(NO_TEXT);
+    let args = match env::args(rt) {
+        Ok(args) => args,
+        Err(e) if e.kind() == ErrorKind::OutOfMemory => return Err(NO_MEMORY),
+        Err(_) => return Err(NO_TEXT),
     };
     let mut words = Vec::new(rt.alloc());
     for word in args.skip(1) {
