@@ -209,7 +209,7 @@ class _Worker:
 
 
 def outcomes(trades: Iterable[Trade], command: str = "audit", *, executor: Any = None, jobs: Optional[int] = None,
-             chunk: int = 200, ahead: int = 64) -> Iterator[Outcome]:
+             chunk: int = 50, ahead: int = 64) -> Iterator[Outcome]:
     """An outcome a trade, as they are done and in no order.
 
     `executor` is anything with `submit`, as `concurrent.futures` and `dask.distributed.Client` have it, or
@@ -242,7 +242,7 @@ def _with_bar(told: Iterator[Outcome], total: Optional[int]) -> Iterator[Outcome
 
 
 def run(trades: Iterable[Trade], command: str = "audit", *, executor: Any = None, jobs: Optional[int] = None,
-        chunk: int = 200, progress: bool = False, total: Optional[int] = None,
+        chunk: int = 50, progress: bool = False, total: Optional[int] = None,
         each: Optional[Callable[[Outcome], Any]] = None) -> Summary:
     """Asks one command of every trade, and adds up how they end. `each` is called with every outcome;
     `progress` shows a bar where tqdm is installed."""

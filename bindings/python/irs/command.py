@@ -94,7 +94,7 @@ def parsed(arguments: Optional[List[str]]) -> argparse.Namespace:
     parser.add_argument("--csv", type=Path, default=Path("irs-book.csv"), help="where the outcomes go (irs-book.csv)")
     parser.add_argument("--jobs", type=int, default=None, help="processes (as many as there are processors)")
     parser.add_argument("--scheduler", metavar="ADDRESS", help="a dask scheduler, as tcp://host:8786")
-    parser.add_argument("--chunk", type=int, default=200, help="trades that are sent at once (200)")
+    parser.add_argument("--chunk", type=int, default=50, help="trades that are sent at once (50)")
     return parser.parse_args(arguments)
 
 
