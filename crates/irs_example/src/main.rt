@@ -1,5 +1,5 @@
 //! The crates as a library: a document becomes a schedule, which is asked for the next payment behind a
-//! day, for two of its rows as text, and for the verdict on another party's cash flows.
+//! day in each stream, and for the verdict on another party's cash flows.
 //! docs/LIBRARY.md goes through it step by step.
 #![tactic(auto)]
 
@@ -11,7 +11,7 @@ use irs_json::parse;
 use irs_read::read_swap;
 use irs_resets::Fixings;
 use irs_rules::check_terms;
-use irs_schedule::{PaymentEntry, Schedule, make_schedule, row_text};
+use irs_schedule::{PaymentEntry, Schedule, make_schedule};
 use std::alloc::Global;
 use std::fs;
 
@@ -25,42 +25,23 @@ fn schedule_of(alloc: Global, document: &[u8]) -> Result<Schedule> {
     let swap = read_swap(alloc, &value)?;
     let calendars = Calendars::read(alloc, &[])?;
     let fixings = Fixings::none();
-    if check_terms(&swap, &calendars).is_some() {
-        bail!("the terms break a rule");
+    match check_terms(&swap, &calendars) {
+        Some(_) => bail!("the terms break a rule"),
+        None => Ok(make_schedule(alloc, &swap, &calendars, &fixings)?),
     }
-    Ok(make_schedule(alloc, &swap, &calendars, &fixings)?)
 }
 
-// The first payment of a schedule that is due behind a day, by its adjusted date.
-fn next_payment(schedule: &Schedule, today: Day) -> Option<PaymentEntry> {
-    let mut next: Option<PaymentEntry> = None;
-    for part in schedule.streams() {
-        for payment in part.payments() {
-            let later = next.is_none_or(|found| payment.adjusted < found.adjusted);
-            if today < payment.adjusted && later {
-                next = Some(*payment);
-            }
-        }
-    }
-    next
+// The first payment of a stream that is due behind a day, by its adjusted date; payments stand in order.
+fn next_payment(payments: &[PaymentEntry], today: Day) -> Option<&PaymentEntry> {
+    payments.iter().find(|payment| today < payment.adjusted)
 }
 
 // The line of a payment that is due: its date as the schedule's text has it.
-fn print_due(rt: &HostRuntime, payment: PaymentEntry) -> Result<()> {
+fn print_due(rt: &HostRuntime, payment: &PaymentEntry) -> Result<()> {
     let mut line = Line::new();
     line.push_day(payment.adjusted);
     let date = str::from_utf8(line.bytes())?;
     println!(rt; "next payment: {date}, for period {}", payment.first_period)?;
-    Ok(())
-}
-
-// The first rows of a schedule, as its text has them.
-fn print_rows(rt: &HostRuntime, schedule: &Schedule, count: usize) -> Result<()> {
-    let mut line = Line::new();
-    for row in schedule.rows().take(count) {
-        row_text(&row, &mut line);
-        print!(rt; "{}", str::from_utf8(line.bytes())?)?;
-    }
     Ok(())
 }
 
@@ -77,9 +58,10 @@ fn print_verdict(rt: &HostRuntime, schedule: &Schedule, flows: &[u8]) -> Result<
 fn main(rt: HostRuntime) -> Result<()> {
     let schedule = schedule_of(rt.alloc(), &fs::read(&rt, "B.json")?)?;
     let today = read_date(TODAY.as_bytes()).context("no such day")?;
-    if let Some(payment) = next_payment(&schedule, today) {
-        print_due(&rt, payment)?;
+    for part in schedule.streams() {
+        if let Some(payment) = next_payment(part.payments(), today) {
+            print_due(&rt, payment)?;
+        }
     }
-    print_rows(&rt, &schedule, 2)?;
     print_verdict(&rt, &schedule, &fs::read(&rt, "flows.json")?)
 }
