@@ -1,5 +1,6 @@
 -- There is one accrual of a stream on a day.
-use Rattle.std.proofs.Common.{◌≡◌, inl, inr, ℕ, ◌-◌, ◌^◌, List, length, false, Option, Some, None, ℤ, pos, negsuc, ◌*ℤ◌, ◌<ℤ◌, ◌≤ℤ◌, refl, sym, ap, ap₂, ◌∙◌, subst, arith}
+use Rattle.std.proofs.Common.{◌≡◌, inl, inr, ℕ, ◌-◌, ◌^◌, List, length, false, Option, Some, None, ℤ, pos, negsuc, ◌*ℤ◌}
+use Rattle.std.proofs.Common.{◌<ℤ◌, ◌≤ℤ◌, refl, sym, ap, ap₂, ◌∙◌, subst, arith}
 use Rattle.std.proofs.lemmas.Int.{by_lt_z}
 use Rattle.jiff_core.proofs.SignedLemmas.{signed_arith}
 use Rattle.irs_base.proofs.MemberLemmas.{every_get, some_is}
@@ -7,7 +8,8 @@ use Rattle.irs_base.proofs.RoundingLaws.{nearest_once}
 use Rattle.irs_base.specs.declared.line.Dec.{Dec}
 use Rattle.irs_terms.specs.Currencies.{decimals_of}
 use Rattle.irs_terms.specs.declared.codes.DayCountCode.{DayCountCode}
-use Rattle.irs_terms.specs.declared.codes.DayCountCode.TheVariants.{OneOne, ActActIsda, Act365Fixed, Act360, Thirty360, ThirtyE360, ThirtyE360Isda}
+use Rattle.irs_terms.specs.declared.codes.DayCountCode.TheVariants.{OneOne, ActActIsda, Act365Fixed, Act360, Thirty360}
+use Rattle.irs_terms.specs.declared.codes.DayCountCode.TheVariants.{ThirtyE360, ThirtyE360Isda}
 use Rattle.irs_terms.specs.declared.results.Frac.{Frac}
 use Rattle.irs_daycount.specs.Fractions.{denominator_of}
 use Rattle.irs_daycount.specs.FractionLaws.{one_days, one_denominator, one_fraction}
@@ -27,7 +29,8 @@ same_frac f g h k = ap₂ make_frac h k
 
 -- ---- days and fraction
 
-both_counted : (code : DayCountCode) (s d m n : ℤ) (f g : Frac) → s ≤ℤ d → CountedTo code s d m f → CountedTo code s d n g → (m ≡ n) × (f ≡ g)
+both_counted : (code : DayCountCode) (s d m n : ℤ) (f g : Frac) → s ≤ℤ d → CountedTo code s d m f
+    → CountedTo code s d n g → (m ≡ n) × (f ≡ g)
 both_counted code s d m n f g started a b =
     by_lt_z s d
     (λ (l : s <ℤ d).
@@ -40,8 +43,10 @@ both_counted code s d m n f g started a b =
     let y = b.none e in
     (x.0 ∙ sym y.0, same_frac f g (x.1 ∙ sym y.1) (x.2 ∙ sym y.2)))
 
-both_run : (code : DayCountCode) (s d e m n : ℤ) (f g : Frac) → s ≤ℤ d → HasRun code s d e m f → HasRun code s d e n g → (m ≡ n) × (f ≡ g)
-both_run OneOne s d e m n f g started a b = (a.passed ∙ sym b.passed, same_frac f g (a.num ∙ sym b.num) (a.den ∙ sym b.den))
+both_run : (code : DayCountCode) (s d e m n : ℤ) (f g : Frac) → s ≤ℤ d → HasRun code s d e m f → HasRun code s d e n g
+    → (m ≡ n) × (f ≡ g)
+both_run OneOne s d e m n f g started a b =
+    (a.passed ∙ sym b.passed, same_frac f g (a.num ∙ sym b.num) (a.den ∙ sym b.den))
 both_run ActActIsda s d e m n f g started a b = both_counted ActActIsda s d m n f g started a b
 both_run Act365Fixed s d e m n f g started a b = both_counted Act365Fixed s d m n f g started a b
 both_run Act360 s d e m n f g started a b = both_counted Act360 s d m n f g started a b
@@ -58,7 +63,8 @@ above Thirty360 = omega (arith, signed_arith)
 above ThirtyE360 = omega (arith, signed_arith)
 above ThirtyE360Isda = omega (arith, signed_arith)
 
-counted_den : (code : DayCountCode) (s d m : ℤ) (f : Frac) → s ≤ℤ d → CountedTo code s d m f → f.den ≡ denominator_of code
+counted_den : (code : DayCountCode) (s d m : ℤ) (f : Frac) → s ≤ℤ d → CountedTo code s d m f
+    → f.den ≡ denominator_of code
 counted_den code s d m f started a =
     by_lt_z s d
     (λ (l : s <ℤ d). one_denominator code s d false f (a.some l).1)
@@ -71,7 +77,8 @@ counted_above : (code : DayCountCode) (s d m : ℤ) (f : Frac) → s ≤ℤ d �
 counted_above code s d m f started a = subst IsAbove (sym (counted_den code s d m f started a)) (above code)
 
 den_above : (code : DayCountCode) (s d e m : ℤ) (f : Frac) → s ≤ℤ d → d <ℤ e → HasRun code s d e m f → IsAbove f.den
-den_above OneOne s d e m f started ends a = let g = a.den in subst IsAbove (sym g) (omega (arith, signed_arith, started, ends))
+den_above OneOne s d e m f started ends a = let g = a.den in
+    subst IsAbove (sym g) (omega (arith, signed_arith, started, ends))
 den_above ActActIsda s d e m f started ends a = counted_above ActActIsda s d m f started a
 den_above Act365Fixed s d e m f started ends a = counted_above Act365Fixed s d m f started a
 den_above Act360 s d e m f started ends a = counted_above Act360 s d m f started a
@@ -88,34 +95,47 @@ scaled_above (negsuc n) h = absurd (omega (arith, signed_arith, h))
 abbrev make_dec : ℤ → ℕ → Dec
 make_dec units places = record { units = units; places = places }
 
-one_interest : (places : ℕ) (notional rate : ℤ) (f : Frac) (v w : Dec) → IsAbove f.den → IsInterest places notional rate f v → IsInterest places notional rate f w → v ≡ w
+one_interest : (places : ℕ) (notional rate : ℤ) (f : Frac) (v w : Dec) → IsAbove f.den
+    → IsInterest places notional rate f v → IsInterest places notional rate f w → v ≡ w
 one_interest places notional rate f v w den a b =
-    let units = nearest_once (notional *ℤ rate *ℤ f.num *ℤ pos (10 ^ places)) (f.den *ℤ pos (10 ^ 13)) v.units w.units (scaled_above f.den den) a.rounded b.rounded in
+    let units = nearest_once (notional *ℤ rate *ℤ f.num *ℤ pos (10 ^ places)) (f.den *ℤ pos (10 ^ 13)) v.units w.units
+    (scaled_above f.den den) a.rounded b.rounded in
     ap₂ make_dec units (a.decimals ∙ sym b.decimals)
 
-both_accrued : (places : ℕ) (notional : ℤ) (known : Option ℤ) (f : Frac) (a b : Option Dec) → IsAbove f.den → IsAccrued places notional known f a → IsAccrued places notional known f b → a ≡ b
+both_accrued : (places : ℕ) (notional : ℤ) (known : Option ℤ) (f : Frac) (a b : Option Dec) → IsAbove f.den
+    → IsAccrued places notional known f a → IsAccrued places notional known f b → a ≡ b
 both_accrued places notional known f None None den h k = refl
 both_accrued places notional known f None (Some w) den h k = absurd (h k.0 k.1)
 both_accrued places notional known f (Some v) None den h k = absurd (k h.0 h.1)
 both_accrued places notional known f (Some v) (Some w) den h k =
     let rates : h.0 ≡ k.0 = some_is h.0 k.0 (sym h.1.is ∙ k.1.is) in
-    ap (λ (x : Dec). Some x) (one_interest places notional k.0 f v w den (subst (λ (r : ℤ). IsInterest places notional r f v) rates h.2) k.2)
+    ap (λ (x : Dec). Some x)
+    (one_interest places notional k.0 f v w den (subst (λ (r : ℤ). IsInterest places notional r f v) rates h.2) k.2)
 
 -- ---- the accrual
 
-inside_same : (m n : ℕ) (x y : ℤ) (f g : Frac) (a b : Option Dec) → m ≡ n → x ≡ y → f ≡ g → a ≡ b → Inside m x f a ≡ Inside n y g b
-inside_same m n x y f g a b h i j k = ap₂ (λ (z : ℕ) (w : ℤ). Inside z w f a) h i ∙ ap₂ (λ (z : Frac) (w : Option Dec). Inside n y z w) j k
+inside_same : (m n : ℕ) (x y : ℤ) (f g : Frac) (a b : Option Dec) → m ≡ n → x ≡ y → f ≡ g → a ≡ b
+    → Inside m x f a ≡ Inside n y g b
+inside_same m n x y f g a b h i j k =
+    ap₂ (λ (z : ℕ) (w : ℤ). Inside z w f a) h i ∙ ap₂ (λ (z : Frac) (w : Option Dec). Inside n y z w) j k
 
 -- of one period
-in_period : (p : Part) (d : ℤ) (m : ℕ) (x y : ℤ) (f g : Frac) (a b : Option Dec) → KeepsBounds p → AccruesIn p d m x f a → AccruesIn p d m y g b → Inside m x f a ≡ Inside m y g b
+in_period : (p : Part) (d : ℤ) (m : ℕ) (x y : ℤ) (f g : Frac) (a b : Option Dec) → KeepsBounds p → AccruesIn p d m x f a
+    → AccruesIn p d m y g b → Inside m x f a ≡ Inside m y g b
 in_period p d m x y f g a b kept h k =
     let period : h.period ≡ k.period = some_is h.period k.period (sym h.runs.is ∙ k.runs.is) in
-    let run : HasRun p.day_count k.period.adjusted_start d k.period.adjusted_end x f = subst (λ (c : CalculationPeriod). HasRun p.day_count c.adjusted_start d c.adjusted_end x f) period h.has_run in
-    let share = both_run p.day_count k.period.adjusted_start d k.period.adjusted_end x y f g k.runs.started run k.has_run in
-    let den = den_above p.day_count k.period.adjusted_start d k.period.adjusted_end y g k.runs.started k.runs.not_ended k.has_run in
+    let run : HasRun p.day_count k.period.adjusted_start d k.period.adjusted_end x f =
+    subst (λ (c : CalculationPeriod). HasRun p.day_count c.adjusted_start d c.adjusted_end x f) period h.has_run in
+    let share = both_run p.day_count k.period.adjusted_start d k.period.adjusted_end x y f g k.runs.started run
+    k.has_run in
+    let den = den_above p.day_count k.period.adjusted_start d k.period.adjusted_end y g k.runs.started k.runs.not_ended
+    k.has_run in
     let places = decimals_of p.currency.letters in
-    let own : IsAccrued places k.period.notional k.period.rate f a = subst (λ (c : CalculationPeriod). IsAccrued places c.notional c.rate f a) period h.accrued in
-    let amount = both_accrued places k.period.notional k.period.rate g a b den (subst (λ (z : Frac). IsAccrued places k.period.notional k.period.rate z a) share.1 own) k.accrued in
+    let own : IsAccrued places k.period.notional k.period.rate f a =
+    subst (λ (c : CalculationPeriod). IsAccrued places c.notional c.rate f a) period h.accrued in
+    let amount =
+    both_accrued places k.period.notional k.period.rate g a b den
+    (subst (λ (z : Frac). IsAccrued places k.period.notional k.period.rate z a) share.1 own) k.accrued in
     inside_same m m x y f g a b refl share.0 share.1 amount
 
 not_outside : (p : Part) (d : ℤ) (m : ℕ) → KeepsBounds p → RunsFromTo p d m → IsOutside p d → ⊥
@@ -141,7 +161,9 @@ one_in p d (Inside m x f a) (Inside n y g b) kept h k =
     let own : AccruesIn p d n x f a = subst (λ (i : ℕ). AccruesIn p d i x f a) number h in
     ap (λ (i : ℕ). Inside i x f a) number ∙ in_period p d n x y f g a b kept own k
 
-pub one_accrual : (parts : List Part) (stream : ℕ) (d : ℤ) (a b : Accrual) → IsWithin parts → Accrues parts stream d a → Accrues parts stream d b → a ≡ b
+pub one_accrual : (parts : List Part) (stream : ℕ) (d : ℤ) (a b : Accrual) → IsWithin parts → Accrues parts stream d a
+    → Accrues parts stream d b → a ≡ b
 one_accrual parts stream d a b kept h k =
     let same : h.member ≡ k.member = some_is h.member k.member (sym h.at ∙ k.at) in
-    one_in k.member d a b (every_get KeepsBounds parts (stream - 1) k.member kept.each k.at) (subst (λ (p : Part). IsAccrual p d a) same h.holds) k.holds
+    one_in k.member d a b (every_get KeepsBounds parts (stream - 1) k.member kept.each k.at)
+    (subst (λ (p : Part). IsAccrual p d a) same h.holds) k.holds

@@ -1,5 +1,6 @@
 -- The calculation period that runs on a day.
-use Rattle.std.proofs.Common.{◌≡◌, ℕ, zero, suc, ◌+◌, ◌-◌, ◌<◌, ◌≤◌, List, length, Some, ℤ, ◌<ℤ◌, ◌≤ℤ◌, inl, inr, sym, ap, ◌∙◌, subst, arith}
+use Rattle.std.proofs.Common.{◌≡◌, ℕ, zero, suc, ◌+◌, ◌-◌, ◌<◌, ◌≤◌, List, length, Some, ℤ, ◌<ℤ◌, ◌≤ℤ◌, inl, inr, sym}
+use Rattle.std.proofs.Common.{ap, ◌∙◌, subst, arith}
 use Rattle.std.specs.Prelude.{slice_get}
 use Rattle.std.proofs.lemmas.Bool.{cases_order}
 use Rattle.std.proofs.lemmas.Option.{slice_get_cases, slice_get_within}
@@ -30,7 +31,8 @@ has_entry p j x e = elim (slice_get_cases p.periods j).1 [
 ]
 
 -- the notional of a period
-pub notional_fits : (p : Part) (j : ℕ) (x : CalculationPeriod) → KeepsBounds p → period_at p j ≡ Some x → IsNotional x.notional
+pub notional_fits : (p : Part) (j : ℕ) (x : CalculationPeriod) → KeepsBounds p → period_at p j ≡ Some x
+    → IsNotional x.notional
 notional_fits p j x kept e =
     let h = has_entry p j x e in
     let entry = every_get (IsEntry p.day_count) p.periods j h.entry kept.entries h.there in
@@ -50,8 +52,10 @@ runs_from_to p d number x r =
     let one = r.from_one in
     let back : number - 1 + 1 - 1 ≡ number - 1 = omega (arith, one) in
     let on : number - 1 + 1 ≡ number = omega (arith, one) in
-    let start : day_at p.adjusted (number - 1) ≡ x.adjusted_start = ap (day_at p.adjusted) (sym back) ∙ ap (λ (y : CalculationPeriod). y.adjusted_start) h.dated in
-    let end : day_at p.adjusted number ≡ x.adjusted_end = ap (day_at p.adjusted) (sym on) ∙ ap (λ (y : CalculationPeriod). y.adjusted_end) h.dated in
+    let start : day_at p.adjusted (number - 1) ≡ x.adjusted_start =
+    ap (day_at p.adjusted) (sym back) ∙ ap (λ (y : CalculationPeriod). y.adjusted_start) h.dated in
+    let end : day_at p.adjusted number ≡ x.adjusted_end =
+    ap (day_at p.adjusted) (sym on) ∙ ap (λ (y : CalculationPeriod). y.adjusted_end) h.dated in
     record {
       from_one = one;
       to_last = omega (arith, one, low);

@@ -1,6 +1,7 @@
 -- What has accrued on a day: the simple interest of the calculation period that runs on it; that nothing but this
 -- period is looked at is this project's own.
-use Rattle.std.specs.Prelude.{◌≡◌, ◌⊎◌, ℕ, ◌-◌, ◌^◌, ◌≤◌, List, length, Option, Some, None, ℤ, pos, ◌*ℤ◌, ◌<ℤ◌, ◌≤ℤ◌, unsigned_abs, IfSome}
+use Rattle.std.specs.Prelude.{◌≡◌, ◌⊎◌, ℕ, ◌-◌, ◌^◌, ◌≤◌, List, length, Option, Some, None, ℤ, pos, ◌*ℤ◌, ◌<ℤ◌, ◌≤ℤ◌}
+use Rattle.std.specs.Prelude.{unsigned_abs, IfSome}
 use Rattle.irs_base.specs.Limits.{most_rate}
 use Rattle.irs_base.specs.Members.{HoldsOf, day_at}
 use Rattle.irs_base.specs.Rounding.{Rounded}
@@ -29,7 +30,8 @@ pub record IsPriced (known : Option ℤ) (rate : ℤ) : Type 0 where
 -- the amount is absent where the rate isn't known, or passes 10 in size; else it is the interest
 abbrev pub IsAccrued : ℕ → ℤ → Option ℤ → Frac → Option Dec → Type 0
 IsAccrued places notional known frac None = (rate : ℤ) → IsPriced known rate → ⊥
-IsAccrued places notional known frac (Some v) = (rate : ℤ) × IsPriced known rate × IsInterest places notional rate frac v
+IsAccrued places notional known frac (Some v) =
+    (rate : ℤ) × IsPriced known rate × IsInterest places notional rate frac v
 
 -- the period with this number, from 1, runs on d: from its adjusted start, included, to its adjusted end, excluded
 pub record Runs (p : Part) (d : ℤ) (number : ℕ) (period : CalculationPeriod) : Type 0 where

@@ -2,7 +2,8 @@
 -- runs from s, included, to e, excluded, and d is a day of it.
 use Rattle.std.specs.Prelude.{◌≡◌, false, ℤ, pos, ◌-ℤ◌, ◌<ℤ◌}
 use Rattle.irs_terms.specs.declared.codes.DayCountCode.{DayCountCode}
-use Rattle.irs_terms.specs.declared.codes.DayCountCode.TheVariants.{OneOne, ActActIsda, Act365Fixed, Act360, Thirty360, ThirtyE360, ThirtyE360Isda}
+use Rattle.irs_terms.specs.declared.codes.DayCountCode.TheVariants.{OneOne, ActActIsda, Act365Fixed, Act360, Thirty360}
+use Rattle.irs_terms.specs.declared.codes.DayCountCode.TheVariants.{ThirtyE360, ThirtyE360Isda}
 use Rattle.irs_terms.specs.declared.results.Frac.{Frac}
 use Rattle.irs_daycount.specs.Fractions.{Days, Fraction, denominator_of}
 

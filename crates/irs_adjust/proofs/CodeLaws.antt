@@ -1,7 +1,8 @@
 -- A day has at most one adjusted day, by whichever code.
 use Rattle.std.proofs.Common.{◌≡◌, ℤ}
 use Rattle.irs_terms.specs.declared.codes.ConvCode.{ConvCode}
-use Rattle.irs_terms.specs.declared.codes.ConvCode.TheVariants.{Following, ModFollowing, Preceding, ModPreceding, Nearest, Unadjusted}
+use Rattle.irs_terms.specs.declared.codes.ConvCode.TheVariants.{Following, ModFollowing, Preceding, ModPreceding}
+use Rattle.irs_terms.specs.declared.codes.ConvCode.TheVariants.{Nearest, Unadjusted}
 use Rattle.irs_calendar.specs.GoodDays.{DaySet}
 use Rattle.irs_adjust.specs.ConventionLaws.{one_same, one_next, one_prev, one_modfollows, one_modprecedes, one_nearest}
 use Rattle.irs_adjust.specs.Codes.{Adjusts}

@@ -1,5 +1,6 @@
 -- In a day set whose cover lies in the range of days, the day that a convention gives is found, or there is none.
-use Rattle.std.proofs.Common.{◌≡◌, ◌⊎◌, inl, inr, ℕ, zero, suc, ◌+◌, ◌-◌, ℤ, pos, ◌+ℤ◌, ◌-ℤ◌, ◌≤ℤ◌, arith, refl, sym, ◌∙◌, subst}
+use Rattle.std.proofs.Common.{◌≡◌, ◌⊎◌, inl, inr, ℕ, zero, suc, ◌+◌, ◌-◌, ℤ, pos, ◌+ℤ◌, ◌-ℤ◌, ◌≤ℤ◌, arith, refl, sym}
+use Rattle.std.proofs.Common.{◌∙◌, subst}
 use Rattle.std.proofs.lemmas.Bool.{cases_Bool, cases_eq, both_ways}
 use borrow.Author.Differences.{up, down}
 use Rattle.jiff_core.proofs.SignedLemmas.{signed_arith}
@@ -7,7 +8,8 @@ use Rattle.irs_base.specs.Days.{IsDay, weekday_at}
 use Rattle.irs_base.specs.Months.{InMonth}
 use Rattle.irs_base.proofs.MonthLemmas.{has_month, same_month}
 use Rattle.irs_terms.specs.declared.codes.ConvCode.{ConvCode}
-use Rattle.irs_terms.specs.declared.codes.ConvCode.TheVariants.{Following, ModFollowing, Preceding, ModPreceding, Nearest, Unadjusted}
+use Rattle.irs_terms.specs.declared.codes.ConvCode.TheVariants.{Following, ModFollowing, Preceding, ModPreceding}
+use Rattle.irs_terms.specs.declared.codes.ConvCode.TheVariants.{Nearest, Unadjusted}
 use Rattle.irs_calendar.specs.GoodDays.{DaySet, InCover, IsGood, Next, Prev}
 use Rattle.irs_adjust.specs.Conventions.{SameMonth, ModFollows, ModPrecedes, IsSundayOrMonday, GoesNearest}
 use Rattle.irs_adjust.specs.ConventionLaws.{one_next, one_prev, next_stays, prev_stays}
@@ -27,7 +29,8 @@ IsFound P = ((r : ℤ) × P r) ⊎ ((r : ℤ) → P r → ⊥)
 pub decides_le : (a b : ℤ) → IsDecided (a ≤ℤ b)
 decides_le a b = elim (order_of b a) [
   | inl above ↦ inr (λ le. omega (arith, signed_arith, above, le))
-  | inr rest ↦ inl (elim rest [ inl below ↦ omega (arith, signed_arith, below) | inr same ↦ omega (arith, signed_arith, same) ])
+  | inr rest ↦
+      inl (elim rest [ inl below ↦ omega (arith, signed_arith, below) | inr same ↦ omega (arith, signed_arith, same) ])
 ]
 
 -- a day lies in the cover, or outside it
@@ -67,13 +70,23 @@ next_later s d inside bad (inl found) = inl (
     good = found.1.good;
     none_before = λ x low high g. elim (order_of d x) [
       | inl later ↦ found.1.none_before x (omega (arith, signed_arith, later)) high g
-      | inr rest ↦ elim rest [ inl earlier ↦ omega (arith, signed_arith, earlier, low) | inr same ↦ bad (subst (IsGood s) (sym same) g) ]
+      | inr rest ↦
+          elim rest [
+            | inl earlier ↦ omega (arith, signed_arith, earlier, low)
+            | inr same ↦
+                bad (subst (IsGood s) (sym same) g)
+          ]
     ];
   },
 )
 next_later s d inside bad (inr none) = inr (λ x low g. elim (order_of d x) [
   | inl later ↦ none x (omega (arith, signed_arith, later)) g
-  | inr rest ↦ elim rest [ inl earlier ↦ omega (arith, signed_arith, earlier, low) | inr same ↦ bad (subst (IsGood s) (sym same) g) ]
+  | inr rest ↦
+      elim rest [
+        | inl earlier ↦ omega (arith, signed_arith, earlier, low)
+        | inr same ↦
+            bad (subst (IsGood s) (sym same) g)
+      ]
 ])
 
 -- the n days after d are the last of the cover
@@ -87,7 +100,8 @@ next_within s zero d inside ends = elim (decides_good s d inside) [
 next_within s (suc n) d inside ends = elim (decides_good s d inside) [
   | inl good ↦ inl (d, next_stays s d good)
   | inr bad ↦
-      let on : InCover s (d +ℤ pos 1) = record { from = omega (arith, signed_arith, inside.from); to = omega (arith, signed_arith, ends) } in
+      let on : InCover s (d +ℤ pos 1) =
+      record { from = omega (arith, signed_arith, inside.from); to = omega (arith, signed_arith, ends) } in
       next_later s d inside bad (next_within s n (d +ℤ pos 1) on (omega (arith, signed_arith, ends)))
 ]
 
@@ -115,13 +129,15 @@ prev_earlier s d inside bad (inl found) = inl (
     good = found.1.good;
     none_after = λ x low high g. elim (order_of x d) [
       | inl earlier ↦ found.1.none_after x low (omega (arith, signed_arith, earlier)) g
-      | inr rest ↦ elim rest [ inl later ↦ omega (arith, signed_arith, later, high) | inr same ↦ bad (subst (IsGood s) same g) ]
+      | inr rest ↦
+          elim rest [ inl later ↦ omega (arith, signed_arith, later, high) | inr same ↦ bad (subst (IsGood s) same g) ]
     ];
   },
 )
 prev_earlier s d inside bad (inr none) = inr (λ x high g. elim (order_of x d) [
   | inl earlier ↦ none x (omega (arith, signed_arith, earlier)) g
-  | inr rest ↦ elim rest [ inl later ↦ omega (arith, signed_arith, later, high) | inr same ↦ bad (subst (IsGood s) same g) ]
+  | inr rest ↦
+      elim rest [ inl later ↦ omega (arith, signed_arith, later, high) | inr same ↦ bad (subst (IsGood s) same g) ]
 ])
 
 -- the n days before d are the first of the cover
@@ -135,7 +151,8 @@ prev_within s zero d inside begins = elim (decides_good s d inside) [
 prev_within s (suc n) d inside begins = elim (decides_good s d inside) [
   | inl good ↦ inl (d, prev_stays s d good)
   | inr bad ↦
-      let back : InCover s (d -ℤ pos 1) = record { from = omega (arith, signed_arith, begins); to = omega (arith, signed_arith, inside.to) } in
+      let back : InCover s (d -ℤ pos 1) =
+      record { from = omega (arith, signed_arith, begins); to = omega (arith, signed_arith, inside.to) } in
       prev_earlier s d inside bad (prev_within s n (d -ℤ pos 1) back (omega (arith, signed_arith, begins)))
 ]
 
@@ -158,12 +175,14 @@ decides_same_month a b first second =
     let n = has_month b second in
     elim (decides_same m.0 n.0) [
       | inl same ↦ inl (record { month = n.0; of_first = subst (λ (k : ℤ). InMonth a k) same m.1; of_second = n.1 })
-      | inr other ↦ inr (λ h. other (same_month a m.0 h.month m.1 h.of_first ∙ same_month b h.month n.0 h.of_second n.1))
+      | inr other ↦
+          inr (λ h. other (same_month a m.0 h.month m.1 h.of_first ∙ same_month b h.month n.0 h.of_second n.1))
     ]
 
 -- the next day lies in another month, so that the previous one decides
 follows_back : (s : DaySet) (d f : ℤ) → Next s d f → (SameMonth d f → ⊥) → IsFound (Prev s d) → IsFound (ModFollows s d)
-follows_back s d f next apart (inl found) = inl (found.0, record { following = f; next = next; choice = inr (apart, found.1) })
+follows_back s d f next apart (inl found) =
+    inl (found.0, record { following = f; next = next; choice = inr (apart, found.1) })
 follows_back s d f next apart (inr none) = inr (λ r h. elim h.choice [
   | inl stays ↦ apart (subst (SameMonth d) (one_next s d h.following f h.next next) stays.0)
   | inr back ↦ none r back.1
@@ -181,7 +200,8 @@ decides_follows s d day range = elim (decides_next s d) [
 
 -- the previous day lies in another month, so that the next one decides
 precedes_on : (s : DaySet) (d p : ℤ) → Prev s d p → (SameMonth d p → ⊥) → IsFound (Next s d) → IsFound (ModPrecedes s d)
-precedes_on s d p prev apart (inl found) = inl (found.0, record { preceding = p; prev = prev; choice = inr (apart, found.1) })
+precedes_on s d p prev apart (inl found) =
+    inl (found.0, record { preceding = p; prev = prev; choice = inr (apart, found.1) })
 precedes_on s d p prev apart (inr none) = inr (λ r h. elim h.choice [
   | inl stays ↦ apart (subst (SameMonth d) (one_prev s d h.preceding p h.prev prev) stays.0)
   | inr on ↦ none r on.1
@@ -207,16 +227,20 @@ decides_sunday_or_monday d = elim (cases_eq (weekday_at d) 6) [
 ]
 
 -- on a Sunday or a Monday that isn't good the next day decides
-nearest_on : (s : DaySet) (d : ℤ) → InCover s d → (IsGood s d → ⊥) → IsSundayOrMonday d → IsFound (Next s d) → IsFound (GoesNearest s d)
-nearest_on s d inside bad early (inl found) = inl (found.0, record { inside = inside; choice = inr (bad, inl (early, found.1)) })
+nearest_on : (s : DaySet) (d : ℤ) → InCover s d → (IsGood s d → ⊥) → IsSundayOrMonday d → IsFound (Next s d)
+    → IsFound (GoesNearest s d)
+nearest_on s d inside bad early (inl found) =
+    inl (found.0, record { inside = inside; choice = inr (bad, inl (early, found.1)) })
 nearest_on s d inside bad early (inr none) = inr (λ r h. elim h.choice [
   | inl stays ↦ bad stays.0
   | inr moves ↦ elim moves.1 [ inl on ↦ none r on.1 | inr back ↦ back.0 early ]
 ])
 
 -- on another day that isn't good the previous one decides
-nearest_back : (s : DaySet) (d : ℤ) → InCover s d → (IsGood s d → ⊥) → (IsSundayOrMonday d → ⊥) → IsFound (Prev s d) → IsFound (GoesNearest s d)
-nearest_back s d inside bad late (inl found) = inl (found.0, record { inside = inside; choice = inr (bad, inr (late, found.1)) })
+nearest_back : (s : DaySet) (d : ℤ) → InCover s d → (IsGood s d → ⊥) → (IsSundayOrMonday d → ⊥) → IsFound (Prev s d)
+    → IsFound (GoesNearest s d)
+nearest_back s d inside bad late (inl found) =
+    inl (found.0, record { inside = inside; choice = inr (bad, inr (late, found.1)) })
 nearest_back s d inside bad late (inr none) = inr (λ r h. elim h.choice [
   | inl stays ↦ bad stays.0
   | inr moves ↦ elim moves.1 [ inl on ↦ late on.0 | inr back ↦ none r back.1 ]

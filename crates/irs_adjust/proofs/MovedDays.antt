@@ -1,5 +1,6 @@
 -- The day to which an offset moves a day is found, or there is none.
-use Rattle.std.proofs.Common.{◌≡◌, ◌⊎◌, inl, inr, ℕ, zero, suc, ◌<◌, ◌≤◌, ℤ, pos, negsuc, ◌+ℤ◌, ◌-ℤ◌, arith, refl, sym, subst}
+use Rattle.std.proofs.Common.{◌≡◌, ◌⊎◌, inl, inr, ℕ, zero, suc, ◌<◌, ◌≤◌, ℤ, pos, negsuc, ◌+ℤ◌, ◌-ℤ◌, arith, refl, sym}
+use Rattle.std.proofs.Common.{subst}
 use Rattle.irs_base.specs.Days.{IsDay, first_day, last_day}
 use Rattle.irs_terms.specs.declared.codes.DayKind.{DayKind}
 use Rattle.irs_terms.specs.declared.codes.DayKind.TheVariants.{Business, Calendar, Unsaid}
@@ -24,12 +25,17 @@ next_on_good Back s x y prev = prev.good
 
 -- the n-th good day on that side is reached, or there are not so many
 abbrev Walked : Way → DaySet → ℤ → ℕ → Type 0
-Walked way s d n = ((x : ℤ) × Reached way s d n x × (0 < n → IsGood s x)) ⊎ ((more : ℕ) → n ≤ more → (r : ℤ) → MovesOn way s d more r → ⊥)
+Walked way s d n =
+    ((x : ℤ) × Reached way s d n x × (0 < n → IsGood s x))
+    ⊎ ((more : ℕ) → n ≤ more → (r : ℤ) → MovesOn way s d more r → ⊥)
 
 -- one good day more
-walk_on : (way : Way) (s : DaySet) (d : ℤ) (n : ℕ) (x : ℤ) → Reached way s d n x → IsFound (IsNextOn way s x) → Walked way s d (suc n)
-walk_on way s d n x reached (inl found) = inl (found.0, reached_more way s d n x found.0 reached found.1, λ some. next_on_good way s x found.0 found.1)
-walk_on way s d n x reached (inr none) = inr (λ more beyond r m. none_moved way s d n more x (omega (arith, beyond)) reached none r m)
+walk_on : (way : Way) (s : DaySet) (d : ℤ) (n : ℕ) (x : ℤ) → Reached way s d n x → IsFound (IsNextOn way s x)
+    → Walked way s d (suc n)
+walk_on way s d n x reached (inl found) =
+    inl (found.0, reached_more way s d n x found.0 reached found.1, λ some. next_on_good way s x found.0 found.1)
+walk_on way s d n x reached (inr none) =
+    inr (λ more beyond r m. none_moved way s d n more x (omega (arith, beyond)) reached none r m)
 
 walk : (way : Way) (s : DaySet) (d : ℤ) (n : ℕ) → InCover s d → Walked way s d n
 walk way s d zero inside = inl (d, reached_none way s d inside, λ some. absurd (omega (arith, some)))

@@ -12,7 +12,8 @@ one_business : (n : ℤ) (s : DaySet) (d r t : ℤ) → MovesBusiness n s d r �
 one_business (pos n) s d r t a b = one_moves Ahead s d n r t a b
 one_business (negsuc n) s d r t a b = one_moves Back s d (suc n) r t a b
 
-one_of_kind : (kind : DayKind) (n : ℤ) (s : DaySet) (d r t : ℤ) → MovesDays kind n s d r → MovesDays kind n s d t → r ≡ t
+one_of_kind : (kind : DayKind) (n : ℤ) (s : DaySet) (d r t : ℤ) → MovesDays kind n s d r
+    → MovesDays kind n s d t → r ≡ t
 one_of_kind Business n s d r t a b = one_business n s d r t a b
 one_of_kind Calendar n s d r t a b = a.is ∙ sym b.is
 one_of_kind Unsaid n s d r t a b = absurd a

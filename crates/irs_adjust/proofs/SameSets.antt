@@ -1,7 +1,8 @@
 -- Sets that say the same of each day adjust and move days alike.
 use Rattle.std.proofs.Common.{◌≡◌, inl, inr, ℕ, zero, suc, ◌≤◌, arith, refl, sym, ◌∙◌, subst, ℤ, pos, negsuc, ◌≤ℤ◌}
 use Rattle.irs_terms.specs.declared.codes.ConvCode.{ConvCode}
-use Rattle.irs_terms.specs.declared.codes.ConvCode.TheVariants.{Following, ModFollowing, Preceding, ModPreceding, Nearest, Unadjusted}
+use Rattle.irs_terms.specs.declared.codes.ConvCode.TheVariants.{Following, ModFollowing, Preceding, ModPreceding}
+use Rattle.irs_terms.specs.declared.codes.ConvCode.TheVariants.{Nearest, Unadjusted}
 use Rattle.irs_terms.specs.declared.codes.DayKind.{DayKind}
 use Rattle.irs_terms.specs.declared.codes.DayKind.TheVariants.{Business, Calendar, Unsaid}
 use Rattle.irs_terms.specs.declared.adjustments.Offset.{Offset}
@@ -93,14 +94,16 @@ same_adjusts ModPreceding s t d r same h = same_modprecedes s t d r same h
 same_adjusts Nearest s t d r same h = same_nearest s t d r same h
 same_adjusts Unadjusted s t d r same h = h
 
-same_count : (way : Way) (s t : DaySet) (d : ℤ) (n : ℕ) → SameDays s t → ((k : ℕ) → k ≤ n → InCover s (away way d k)) → good_days way s d n ≡ good_days way t d n
+same_count : (way : Way) (s t : DaySet) (d : ℤ) (n : ℕ) → SameDays s t → ((k : ℕ) → k ≤ n → InCover s (away way d k))
+    → good_days way s d n ≡ good_days way t d n
 same_count way s t d zero same inside = refl
 same_count way s t d (suc n) same inside =
     let e = same.test (away way d (suc n)) (inside (suc n) (omega arith)) in
     let before = same_count way s t d n same (λ k h. inside k (omega (arith, h))) in
     rw (e, before) refl
 
-same_walk : (way : Way) (s t : DaySet) (d : ℤ) (n : ℕ) (r : ℤ) → SameDays s t → MovesOn way s d n r → MovesOn way t d n r
+same_walk : (way : Way) (s t : DaySet) (d : ℤ) (n : ℕ) (r : ℤ) → SameDays s t → MovesOn way s d n r
+    → MovesOn way t d n r
 same_walk way s t d n r same m =
     let far : InCover s (away way d (suc m.span)) = subst (InCover s) m.is m.good.inside in
     record {
@@ -108,14 +111,16 @@ same_walk way s t d n r same m =
       good = same_good s t r same m.good;
       span = m.span;
       is = m.is;
-      count = sym (same_count way s t d (suc m.span) same (λ k h. between way s d k (suc m.span) h m.starts far)) ∙ m.count;
+      count = sym (same_count way s t d (suc m.span) same (λ k h. between way s d k (suc m.span) h m.starts far))
+          ∙ m.count;
     }
 
 same_business : (n : ℤ) (s t : DaySet) (d r : ℤ) → SameDays s t → MovesBusiness n s d r → MovesBusiness n t d r
 same_business (pos n) s t d r same h = same_walk Ahead s t d n r same h
 same_business (negsuc n) s t d r same h = same_walk Back s t d (suc n) r same h
 
-same_kind : (kind : DayKind) (n : ℤ) (s t : DaySet) (d r : ℤ) → SameDays s t → MovesDays kind n s d r → MovesDays kind n t d r
+same_kind : (kind : DayKind) (n : ℤ) (s t : DaySet) (d r : ℤ) → SameDays s t → MovesDays kind n s d r
+    → MovesDays kind n t d r
 same_kind Business n s t d r same h = same_business n s t d r same h
 same_kind Calendar n s t d r same h = h
 same_kind Unsaid n s t d r same h = h

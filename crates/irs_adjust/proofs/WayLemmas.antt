@@ -1,5 +1,6 @@
 -- Good days on one side of a day, in the same way on both sides.
-use Rattle.std.proofs.Common.{◌≡◌, ◌⊎◌, inl, inr, ℕ, zero, suc, ◌+◌, ◌-◌, ◌<◌, ◌≤◌, arith, refl, sym, ◌∙◌, ap, subst, ℤ, pos, ◌+ℤ◌, ◌-ℤ◌, ◌≤ℤ◌, Bool, true, false}
+use Rattle.std.proofs.Common.{◌≡◌, ◌⊎◌, inl, inr, ℕ, zero, suc, ◌+◌, ◌-◌, ◌<◌, ◌≤◌, arith, refl, sym, ◌∙◌, ap, subst, ℤ}
+use Rattle.std.proofs.Common.{pos, ◌+ℤ◌, ◌-ℤ◌, ◌≤ℤ◌, Bool, true, false}
 use Rattle.jiff_core.proofs.SignedLemmas.{signed_arith}
 use Rattle.std.proofs.lemmas.Bool.{cases_lt}
 use borrow.Author.Differences.{up, down}
@@ -18,9 +19,12 @@ pub away_on : (way : Way) (d : ℤ) (a b : ℕ) → away way (away way d a) b �
 away_on Ahead d a b = omega (arith, signed_arith)
 away_on Back d a b = omega (arith, signed_arith)
 
-pub between : (way : Way) (s : DaySet) (d : ℤ) (a b : ℕ) → a ≤ b → InCover s d → InCover s (away way d b) → InCover s (away way d a)
-between Ahead s d a b h near far = record { from = omega (arith, signed_arith, near.from); to = omega (arith, signed_arith, far.to, h) }
-between Back s d a b h near far = record { from = omega (arith, signed_arith, far.from, h); to = omega (arith, signed_arith, near.to) }
+pub between : (way : Way) (s : DaySet) (d : ℤ) (a b : ℕ) → a ≤ b → InCover s d → InCover s (away way d b)
+    → InCover s (away way d a)
+between Ahead s d a b h near far =
+    record { from = omega (arith, signed_arith, near.from); to = omega (arith, signed_arith, far.to, h) }
+between Back s d a b h near far =
+    record { from = omega (arith, signed_arith, far.from, h); to = omega (arith, signed_arith, near.to) }
 
 -- y is good and lies behind the days next to x of which none is good
 pub record Gap (way : Way) (s : DaySet) (x y : ℤ) : Type 0 where
@@ -41,7 +45,8 @@ gap_of Ahead s x y next =
       span = n.0;
       is = omega (arith, signed_arith, n.1);
       good = next.good;
-      none = λ j h g. next.none_before (x +ℤ pos (suc j)) (omega (arith, signed_arith)) (omega (arith, signed_arith, n.1, h)) g;
+      none = λ j h g. next.none_before (x +ℤ pos (suc j)) (omega (arith, signed_arith))
+          (omega (arith, signed_arith, n.1, h)) g;
     }
 gap_of Back s x y prev =
     let n = apart y (x -ℤ pos 1) prev.before in
@@ -50,7 +55,8 @@ gap_of Back s x y prev =
       span = n.0;
       is = omega (arith, signed_arith, n.1);
       good = prev.good;
-      none = λ j h g. prev.none_after (x -ℤ pos (suc j)) (omega (arith, signed_arith, n.1, h)) (omega (arith, signed_arith)) g;
+      none = λ j h g. prev.none_after (x -ℤ pos (suc j)) (omega (arith, signed_arith, n.1, h))
+          (omega (arith, signed_arith)) g;
     }
 
 pub next_of : (way : Way) (s : DaySet) (x y : ℤ) → Gap way s x y → IsNextOn way s x y
@@ -80,14 +86,17 @@ good_or_not true = inl refl
 good_or_not false = inr refl
 
 -- the count over two stretches is the sum of theirs
-pub good_days-add : (way : Way) (s : DaySet) (d : ℤ) (a b : ℕ) → good_days way s d (a + b) ≡ good_days way s d a + good_days way s (away way d a) b
+pub good_days-add : (way : Way) (s : DaySet) (d : ℤ) (a b : ℕ)
+    → good_days way s d (a + b) ≡ good_days way s d a + good_days way s (away way d a) b
 good_days-add way s d a zero = let e : a + 0 ≡ a = omega arith in rw e (omega arith)
 good_days-add way s d a (suc b) =
     let e : a + suc b ≡ suc (a + b) = omega arith in
-    let same : away way (away way d a) (suc b) ≡ away way d (suc (a + b)) = subst (λ (n : ℕ). away way (away way d a) (suc b) ≡ away way d n) e (away_on way d a (suc b)) in
+    let same : away way (away way d a) (suc b) ≡ away way d (suc (a + b)) =
+    subst (λ (n : ℕ). away way (away way d a) (suc b) ≡ away way d n) e (away_on way d a (suc b)) in
     rw (e, same) (omega (arith, good_days-add way s d a b))
 
-none_counted : (way : Way) (s : DaySet) (d : ℤ) (n : ℕ) → ((j : ℕ) → j < n → s.test (away way d (suc j)) ≡ false) → good_days way s d n ≡ 0
+none_counted : (way : Way) (s : DaySet) (d : ℤ) (n : ℕ) → ((j : ℕ) → j < n → s.test (away way d (suc j)) ≡ false)
+    → good_days way s d n ≡ 0
 none_counted way s d zero none = refl
 none_counted way s d (suc n) none =
     let last = none n (omega arith) in
@@ -101,11 +110,13 @@ not_good s x inside bad = elim (good_or_not (s.test x)) [
 ]
 
 -- up to the nearest good day there is one
-one_counted : (way : Way) (s : DaySet) (x y : ℤ) (gap : Gap way s x y) → InCover s x → good_days way s x (suc gap.span) ≡ 1
+one_counted : (way : Way) (s : DaySet) (x y : ℤ) (gap : Gap way s x y) → InCover s x
+    → good_days way s x (suc gap.span) ≡ 1
 one_counted way s x y gap here =
     let far : InCover s (away way x (suc gap.span)) = subst (InCover s) gap.is gap.good.inside in
     let none : (j : ℕ) → j < gap.span → s.test (away way x (suc j)) ≡ false = λ j h.
-    not_good s (away way x (suc j)) (between way s x (suc j) (suc gap.span) (omega (arith, h)) here far) (gap.none j h) in
+    not_good s (away way x (suc j)) (between way s x (suc j) (suc gap.span) (omega (arith, h)) here far)
+    (gap.none j h) in
     let hit : s.test (away way x (suc gap.span)) ≡ true = subst (λ (z : ℤ). s.test z ≡ true) gap.is gap.good.passes in
     rw hit (omega (arith, none_counted way s x gap.span none))
 
@@ -117,15 +128,23 @@ record FirstPlace (t : ℕ → Bool) (n : ℕ) : Type 0 where
   none : (j : ℕ) → j < place → t j ≡ false
 
 first_place : (t : ℕ → Bool) (n : ℕ) → t n ≡ true → FirstPlace t n
-first_place t zero holds = record { place = 0; within = omega arith; holds = holds; none = λ j h. absurd (omega (arith, h)) }
+first_place t zero holds =
+    record { place = 0; within = omega arith; holds = holds; none = λ j h. absurd (omega (arith, h)) }
 first_place t (suc n) holds = elim (good_or_not (t 0)) [
   | inl at ↦ record { place = 0; within = omega arith; holds = at; none = λ j h. absurd (omega (arith, h)) }
   | inr fails ↦
       let rest = first_place (λ i. t (suc i)) n holds in
-      record { place = suc rest.place; within = omega (arith, rest.within); holds = rest.holds; none = below t rest.place fails rest.none }
+      record {
+        place = suc rest.place;
+        within = omega (arith, rest.within);
+        holds = rest.holds;
+        none =
+            below t rest.place fails rest.none;
+      }
 ]
   where
-    below : (t : ℕ → Bool) (k : ℕ) → t 0 ≡ false → ((j : ℕ) → j < k → t (suc j) ≡ false) → (j : ℕ) → j < suc k → t j ≡ false
+    below : (t : ℕ → Bool) (k : ℕ) → t 0 ≡ false → ((j : ℕ) → j < k → t (suc j) ≡ false) → (j : ℕ) → j < suc k
+        → t j ≡ false
     below t k fails rest zero h = fails
     below t k fails rest (suc j) h = rest j (omega (arith, h))
 
@@ -146,12 +165,14 @@ reached_none way s d starts = record {
   count = refl;
 }
 
-pub reached_more : (way : Way) (s : DaySet) (d : ℤ) (n : ℕ) (x y : ℤ) → Reached way s d n x → IsNextOn way s x y → Reached way s d (suc n) y
+pub reached_more : (way : Way) (s : DaySet) (d : ℤ) (n : ℕ) (x y : ℤ) → Reached way s d n x → IsNextOn way s x y
+    → Reached way s d (suc n) y
 reached_more way s d n x y r next =
     let gap = gap_of way s x y next in
     let one = one_counted way s x y gap r.inside in
     let one' = subst (λ (z : ℤ). good_days way s z (suc gap.span) ≡ 1) r.is one in
-    let is : y ≡ away way (away way d r.span) (suc gap.span) = subst (λ (z : ℤ). y ≡ away way z (suc gap.span)) r.is gap.is in
+    let is : y ≡ away way (away way d r.span) (suc gap.span) =
+    subst (λ (z : ℤ). y ≡ away way z (suc gap.span)) r.is gap.is in
     record {
       starts = r.starts;
       inside = gap.good.inside;
@@ -160,7 +181,8 @@ reached_more way s d n x y r next =
       count = omega (arith, good_days-add way s d r.span (suc gap.span), one', r.count);
     }
 
-pub moved : (way : Way) (s : DaySet) (d : ℤ) (n : ℕ) (x : ℤ) → 0 < n → Reached way s d n x → IsGood s x → MovesOn way s d n x
+pub moved : (way : Way) (s : DaySet) (d : ℤ) (n : ℕ) (x : ℤ) → 0 < n → Reached way s d n x → IsGood s x
+    → MovesOn way s d n x
 moved way s d n x some r good = from_span r.span refl
   where
     from_span : (k : ℕ) → k ≡ r.span → MovesOn way s d n x
@@ -177,7 +199,8 @@ moved way s d n x some r good = from_span r.span refl
     }
 
 -- where a good day stands on that side, there is a nearest one
-exists_next : (way : Way) (s : DaySet) (x r : ℤ) (n : ℕ) → InCover s x → r ≡ away way x (suc n) → IsGood s r → (y : ℤ) × IsNextOn way s x y
+exists_next : (way : Way) (s : DaySet) (x r : ℤ) (n : ℕ) → InCover s x → r ≡ away way x (suc n) → IsGood s r
+    → (y : ℤ) × IsNextOn way s x y
 exists_next way s x r n here is good =
     let far : InCover s (away way x (suc n)) = subst (InCover s) is good.inside in
     let inside : (j : ℕ) → j ≤ suc n → InCover s (away way x j) = λ j h. between way s x j (suc n) h here far in
@@ -196,12 +219,15 @@ exists_next way s x r n here is good =
     differ b t f = cc (t, f)
 
 -- where there is no next good day, no more of them can be counted
-pub none_moved : (way : Way) (s : DaySet) (d : ℤ) (n more : ℕ) (x : ℤ) → n < more → Reached way s d n x → ((y : ℤ) → IsNextOn way s x y → ⊥) → (r : ℤ) → MovesOn way s d more r → ⊥
+pub none_moved : (way : Way) (s : DaySet) (d : ℤ) (n more : ℕ) (x : ℤ) → n < more → Reached way s d n x
+    → ((y : ℤ) → IsNextOn way s x y → ⊥) → (r : ℤ) → MovesOn way s d more r → ⊥
 none_moved way s d n more x fewer reached none r m = elim (cases_lt reached.span (suc m.span)) [
   | inl beyond ↦
       let q : ℕ = m.span - reached.span in
       let e : reached.span + suc q ≡ suc m.span = omega (arith, beyond) in
-      let on : away way x (suc q) ≡ away way d (reached.span + suc q) = subst (λ (z : ℤ). away way z (suc q) ≡ away way d (reached.span + suc q)) (sym reached.is) (away_on way d reached.span (suc q)) in
+      let on : away way x (suc q) ≡ away way d (reached.span + suc q) =
+      subst (λ (z : ℤ). away way z (suc q) ≡ away way d (reached.span + suc q)) (sym reached.is)
+      (away_on way d reached.span (suc q)) in
       let is : r ≡ away way x (suc q) = m.is ∙ ap (away way d) (sym e) ∙ sym on in
       let y = exists_next way s x r q reached.inside is m.good in
       none y.0 y.1
@@ -209,28 +235,38 @@ none_moved way s d n more x fewer reached none r m = elim (cases_lt reached.span
       let b : ℕ = reached.span - suc m.span in
       let e : suc m.span + b ≡ reached.span = omega arith in
       let sum = good_days-add way s d (suc m.span) b in
-      let sum' = subst (λ (i : ℕ). good_days way s d i ≡ good_days way s d (suc m.span) + good_days way s (away way d (suc m.span)) b) e sum in
+      let sum' = subst (λ (i : ℕ). good_days way s d i
+      ≡ good_days way s d (suc m.span) + good_days way s (away way d (suc m.span)) b) e sum in
       omega (arith, sum', m.count, reached.count)
 ]
 
-at_least_one : (way : Way) (s : DaySet) (x : ℤ) (m : ℕ) → s.test (away way x (suc m)) ≡ true → 1 ≤ good_days way s x (suc m)
+at_least_one : (way : Way) (s : DaySet) (x : ℤ) (m : ℕ) → s.test (away way x (suc m)) ≡ true
+    → 1 ≤ good_days way s x (suc m)
 at_least_one way s x m hit = rw hit (omega arith)
 
-no_two : (way : Way) (s : DaySet) (d : ℤ) (n p q : ℕ) → p < q → good_days way s d (suc p) ≡ n → good_days way s d (suc q) ≡ n → s.test (away way d (suc q)) ≡ true → ⊥
+no_two : (way : Way) (s : DaySet) (d : ℤ) (n p q : ℕ) → p < q → good_days way s d (suc p) ≡ n
+    → good_days way s d (suc q) ≡ n → s.test (away way d (suc q)) ≡ true → ⊥
 no_two way s d n p q below first second hit =
     let m : ℕ = q - suc p in
     let e : suc p + suc m ≡ suc q = omega (arith, below) in
-    let place : away way d (suc q) ≡ away way (away way d (suc p)) (suc m) = ap (away way d) (sym e) ∙ sym (away_on way d (suc p) (suc m)) in
+    let place : away way d (suc q) ≡ away way (away way d (suc p)) (suc m) =
+    ap (away way d) (sym e) ∙ sym (away_on way d (suc p) (suc m)) in
     let one = at_least_one way s (away way d (suc p)) m (subst (λ (z : ℤ). s.test z ≡ true) place hit) in
-    let sum = subst (λ (i : ℕ). good_days way s d i ≡ good_days way s d (suc p) + good_days way s (away way d (suc p)) (suc m)) e (good_days-add way s d (suc p) (suc m)) in
+    let sum = subst (λ (i : ℕ). good_days way s d i
+    ≡ good_days way s d (suc p) + good_days way s (away way d (suc p)) (suc m)) e
+    (good_days-add way s d (suc p) (suc m)) in
     omega (arith, sum, one, first, second)
 
 -- the n-th good day on one side is one day
 pub one_moves : (way : Way) (s : DaySet) (d : ℤ) (n : ℕ) (r t : ℤ) → MovesOn way s d n r → MovesOn way s d n t → r ≡ t
 one_moves way s d n r t a b = elim (cases_lt a.span b.span) [
-  | inl low ↦ absurd (no_two way s d n a.span b.span low a.count b.count (subst (λ (z : ℤ). s.test z ≡ true) b.is b.good.passes))
+  | inl low ↦ absurd (no_two way s d n a.span b.span low a.count b.count
+      (subst (λ (z : ℤ). s.test z ≡ true) b.is b.good.passes))
   | inr rest ↦ elim (cases_lt b.span a.span) [
-    | inl high ↦ absurd (no_two way s d n b.span a.span high b.count a.count (subst (λ (z : ℤ). s.test z ≡ true) a.is a.good.passes))
-    | inr other ↦ let e : a.span ≡ b.span = omega (arith, rest, other) in a.is ∙ ap (λ (k : ℕ). away way d (suc k)) e ∙ sym b.is
+    | inl high ↦
+        absurd (no_two way s d n b.span a.span high b.count a.count
+        (subst (λ (z : ℤ). s.test z ≡ true) a.is a.good.passes))
+    | inr other ↦ let e : a.span ≡ b.span = omega (arith, rest, other) in
+        a.is ∙ ap (λ (k : ℕ). away way d (suc k)) e ∙ sym b.is
   ]
 ]

@@ -1,7 +1,8 @@
 -- The relation of each convention's code.
 use Rattle.std.specs.Prelude.{◌≡◌, ℤ}
 use Rattle.irs_terms.specs.declared.codes.ConvCode.{ConvCode}
-use Rattle.irs_terms.specs.declared.codes.ConvCode.TheVariants.{Following, ModFollowing, Preceding, ModPreceding, Nearest, Unadjusted}
+use Rattle.irs_terms.specs.declared.codes.ConvCode.TheVariants.{Following, ModFollowing, Preceding, ModPreceding}
+use Rattle.irs_terms.specs.declared.codes.ConvCode.TheVariants.{Nearest, Unadjusted}
 use Rattle.irs_calendar.specs.GoodDays.{DaySet, Next, Prev}
 use Rattle.irs_adjust.specs.Conventions.{ModFollows, ModPrecedes, GoesNearest}
 

@@ -64,7 +64,8 @@ one_modfollows s d r t a b =
     ]
 
 pub modfollows_stays : (s : DaySet) (d : ℤ) → IsDay d → IsGood s d → ModFollows s d d
-modfollows_stays s d day good = record { following = d; next = next_stays s d good; choice = inl (own_month d day, refl) }
+modfollows_stays s d day good =
+    record { following = d; next = next_stays s d good; choice = inl (own_month d day, refl) }
 
 pub one_modprecedes : (s : DaySet) (d r t : ℤ) → ModPrecedes s d r → ModPrecedes s d t → r ≡ t
 one_modprecedes s d r t a b =
@@ -81,7 +82,8 @@ one_modprecedes s d r t a b =
     ]
 
 pub modprecedes_stays : (s : DaySet) (d : ℤ) → IsDay d → IsGood s d → ModPrecedes s d d
-modprecedes_stays s d day good = record { preceding = d; prev = prev_stays s d good; choice = inl (own_month d day, refl) }
+modprecedes_stays s d day good =
+    record { preceding = d; prev = prev_stays s d good; choice = inl (own_month d day, refl) }
 
 pub one_nearest : (s : DaySet) (d r t : ℤ) → GoesNearest s d r → GoesNearest s d t → r ≡ t
 one_nearest s d r t a b = elim a.choice [

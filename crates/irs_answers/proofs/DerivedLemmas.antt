@@ -1,5 +1,6 @@
 -- What is due for derived rates, from what the calls answer.
-use Rattle.std.proofs.Common.{◌≡◌, ℕ, ◌≤◌, List, [], ◌∷◌, length, Option, Some, None, refl, sym, ◌∙◌, ap, ap₂, subst, arith}
+use Rattle.std.proofs.Common.{◌≡◌, ℕ, ◌≤◌, List, [], ◌∷◌, length, Option, Some, None, refl, sym, ◌∙◌, ap, ap₂, subst}
+use Rattle.std.proofs.Common.{arith}
 use Rattle.std.specs.Prelude.{IfSome}
 use Rattle.std.proofs.lemmas.Option.{same_Some}
 use Rattle.irs_base.specs.Faults.{IfStopped}
@@ -7,7 +8,8 @@ use Rattle.irs_base.specs.Limits.{most_index}
 use Rattle.irs_base.specs.declared.places.Broken.{Broken}
 use Rattle.irs_base.specs.declared.stopped.Stopped.{Stopped}
 use Rattle.irs_base.specs.declared.stopped.Stopped.TheVariants as stopped
-use Rattle.irs_terms.specs.Lawful.{IsLawful, IsLawfulFloat, IsLawfulIndex, IsLawfulLeg, IsLawfulStream, IsLawfulStubRate, IsLawfulStubs, IsLawfulTenor}
+use Rattle.irs_terms.specs.Lawful.{IsLawful, IsLawfulFloat, IsLawfulIndex, IsLawfulLeg, IsLawfulStream}
+use Rattle.irs_terms.specs.Lawful.{IsLawfulStubRate, IsLawfulStubs, IsLawfulTenor}
 use Rattle.irs_terms.specs.declared.amounts.FloatTerms.{FloatTerms}
 use Rattle.irs_terms.specs.declared.amounts.Leg.{Leg}
 use Rattle.irs_terms.specs.declared.amounts.Leg.TheVariants.{Floating}
@@ -34,7 +36,8 @@ use Rattle.irs_average.specs.declared.stubs.Side.TheVariants.{Initial, Last}
 use Rattle.irs_terms.specs.declared.amounts.StubRate.{StubRate}
 use Rattle.irs_terms.specs.declared.amounts.StubRate.TheVariants.{Index}
 use Rattle.irs_terms.specs.declared.amounts.StubTerms.{StubTerms}
-use Rattle.irs_answers.specs.Derived.{DueAveraged, DueCompounded, DueStub, FloatingStream, IsFloatingAt, IsUnfixed, NotFloating, PrintsOne, PrintsStub}
+use Rattle.irs_answers.specs.Derived.{DueAveraged, DueCompounded, DueStub, FloatingStream, IsFloatingAt, IsUnfixed}
+use Rattle.irs_answers.specs.Derived.{NotFloating, PrintsOne, PrintsStub}
 use Rattle.irs_answers.specs.Messages.{refused}
 use Rattle.irs_answers.specs.Outcomes.{Ends, IfRefused, of_stopped}
 use Rattle.irs_answers.specs.Steps.{Refuses, Rules, Step}
@@ -53,7 +56,8 @@ one_floating swap n x y h k =
     let f : y.float ≡ x.float = same_leg y.float x.float (sym k.pays ∙ ap (λ (z : Stream). z.leg) s ∙ h.pays) in
     ap₂ (λ (z : Stream) (w : FloatTerms). record { stream = z; float = w }) s f
 
-module _ (swap : Swap) (cal : List Section) (parts : List Part) (h : IsUnfixed swap cal parts) (n : ℕ) (x : FloatingStream) (k : IsFloatingAt swap n x) where
+module _ (swap : Swap) (cal : List Section) (parts : List Part) (h : IsUnfixed swap cal parts) (n : ℕ)
+    (x : FloatingStream) (k : IsFloatingAt swap n x) where
   pub stream_lawful : IsLawfulStream x.stream
   stream_lawful = lawful_stream swap h.lawful _ x.stream k.at
 
@@ -63,7 +67,8 @@ module _ (swap : Swap) (cal : List Section) (parts : List Part) (h : IsUnfixed s
   pub float_lawful : IsLawfulFloat x.float
   float_lawful = subst IsLawfulLeg k.pays stream_lawful.leg
 
-  pub overnight_asked : (days : DaySet) (rates : RateTable) → days ≡ reset_days cal x.stream → IsAsked (asked swap n parts days rates)
+  pub overnight_asked : (days : DaySet) (rates : RateTable) → days ≡ reset_days cal x.stream
+      → IsAsked (asked swap n parts days rates)
   overnight_asked days rates e = record {
     lawful = h.lawful;
     floats = (x.float, record { from_one = k.from_one; stream = x.stream; at = k.at; pays = k.pays });
@@ -74,7 +79,8 @@ module _ (swap : Swap) (cal : List Section) (parts : List Part) (h : IsUnfixed s
     reset_set = e;
   }
 
-  pub stub_is_asked : (side : Side) (low high : Frequency) (rates : RateTable) → IsLawfulTenor low → IsLawfulTenor high → IsStubAsked (stub_asked swap n side low high parts rates)
+  pub stub_is_asked : (side : Side) (low high : Frequency) (rates : RateTable) → IsLawfulTenor low → IsLawfulTenor high
+      → IsStubAsked (stub_asked swap n side low high parts rates)
   stub_is_asked side low high rates l m = record {
     lawful = h.lawful;
     floats = (x.float, record { from_one = k.from_one; stream = x.stream; at = k.at; pays = k.pays });
@@ -93,17 +99,27 @@ module _ (swap : Swap) (n : ℕ) (Next : FloatingStream → ℕ → List ℕ →
   Whole status text = Step (IsFloatingAt swap n) (NotFloating n status text) (λ y. Next y status text)
 
   -- K40
-  pub refuse_unfloating : (b : Broken) → ((x : FloatingStream) → IsFloatingAt swap n x → ⊥) → b ≡ no_floating_stream n → IfRefused (Rule b) (Ends Whole)
-  refuse_unfloating b never e = rw e (record { due = unread (IsFloatingAt swap n) (NotFloating n 2 (refused (no_floating_stream n))) (λ x. Next x 2 (refused (no_floating_stream n))) never (refl, refl); verdict = omega arith })
+  pub refuse_unfloating : (b : Broken) → ((x : FloatingStream) → IsFloatingAt swap n x → ⊥) → b ≡ no_floating_stream n
+      → IfRefused (Rule b) (Ends Whole)
+  refuse_unfloating b never e =
+      rw e (record {
+        due =
+            unread (IsFloatingAt swap n) (NotFloating n 2 (refused (no_floating_stream n)))
+            (λ x. Next x 2 (refused (no_floating_stream n))) never (refl, refl);
+        verdict = omega arith;
+      })
 
   module _ (x : FloatingStream) (k : IsFloatingAt swap n x) where
     in_floating : (status : ℕ) (text : List ℕ) → Next x status text → Whole status text
-    in_floating status text h = read (IsFloatingAt swap n) (NotFloating n status text) (λ y. Next y status text) x k (λ y other. subst (λ (z : FloatingStream). Next z status text) (sym (one_floating swap n x y k other)) h)
+    in_floating status text h =
+        read (IsFloatingAt swap n) (NotFloating n status text) (λ y. Next y status text) x k
+        (λ y other. subst (λ (z : FloatingStream). Next z status text) (sym (one_floating swap n x y k other)) h)
 
     pub refuse_broken : (b : Broken) → Next x 2 (refused b) → IfRefused (Rule b) (Ends Whole)
     refuse_broken b h = record { due = in_floating 2 (refused b) h; verdict = omega arith }
 
-    pub refuse_stopped : (P : Broken → Type 0) (e : Stopped Broken) → IfStopped e P → ((b : Broken) → P b → Next x 2 (refused b)) → IfRefused (of_stopped e) (Ends Whole)
+    pub refuse_stopped : (P : Broken → Type 0) (e : Stopped Broken) → IfStopped e P
+        → ((b : Broken) → P b → Next x 2 (refused b)) → IfRefused (of_stopped e) (Ends Whole)
     refuse_stopped P (stopped.Broken b) h due = refuse_broken b (due b h)
     refuse_stopped P stopped.Memory h due = tt
 
@@ -113,40 +129,80 @@ module _ (swap : Swap) (n : ℕ) (Next : FloatingStream → ℕ → List ℕ →
 -- ---- the rules of the task, and its rows
 
 -- the first broken rule
-due_first : (K : Type 0) (P : Broken → Type 0) (N : Type 0) (b : Broken) → (K → P b → ⊥) → P b → ((x y : Broken) → P x → P y → x ≡ y) → Rules K (Refuses P 2 (refused b)) N
-due_first K P N b never first one = broken K (Refuses P 2 (refused b)) N (λ k. never k first) (b, record { is = first; only = λ y is. one y b is first }, (refl, refl))
+due_first : (K : Type 0) (P : Broken → Type 0) (N : Type 0) (b : Broken) → (K → P b → ⊥) → P b
+    → ((x y : Broken) → P x → P y → x ≡ y) → Rules K (Refuses P 2 (refused b)) N
+due_first K P N b never first one =
+    broken K (Refuses P 2 (refused b)) N (λ k. never k first) (
+      b,
+      record { is = first; only = λ y is. one y b is first },
+      (refl, refl),
+    )
 
 -- the one list of rows
-due_printed : (K : Type 0) (F : Type 0) (P : List DerivedRow → Type 0) (float : FloatTerms) (rows : List DerivedRow) → K → P rows → ((x y : List DerivedRow) → P x → P y → x ≡ y) → Rules K F (PrintsOne P float 0 (file_text rows float.tenor float.index))
-due_printed K F P float rows keeps are one = kept K F (PrintsOne P float 0 (file_text rows float.tenor float.index)) keeps (rows, record { is = are; only = λ y is. one y rows is are }, (refl, refl))
+due_printed : (K : Type 0) (F : Type 0) (P : List DerivedRow → Type 0) (float : FloatTerms) (rows : List DerivedRow) → K
+    → P rows → ((x y : List DerivedRow) → P x → P y → x ≡ y)
+    → Rules K F (PrintsOne P float 0 (file_text rows float.tenor float.index))
+due_printed K F P float rows keeps are one =
+    kept K F (PrintsOne P float 0 (file_text rows float.tenor float.index)) keeps (
+      rows,
+      record { is = are; only = λ y is. one y rows is are },
+      (refl, refl),
+    )
 
-pub compounded_first : (a : Asked) (float : FloatTerms) (b : Broken) → IsFirstDerived a b → ((x y : Broken) → IsFirstDerived a x → IsFirstDerived a y → x ≡ y) → DueCompounded a float 2 (refused b)
-compounded_first a float b first one = due_first (OvernightKept a) (IsFirstDerived a) (PrintsOne (IsOvernight a) float 2 (refused b)) b (λ k f. k f.fault f.first.0) first one
+pub compounded_first : (a : Asked) (float : FloatTerms) (b : Broken) → IsFirstDerived a b
+    → ((x y : Broken) → IsFirstDerived a x → IsFirstDerived a y → x ≡ y) → DueCompounded a float 2 (refused b)
+compounded_first a float b first one =
+    due_first (OvernightKept a) (IsFirstDerived a) (PrintsOne (IsOvernight a) float 2 (refused b)) b
+    (λ k f. k f.fault f.first.0) first one
 
-pub compounded_rows : (a : Asked) (float : FloatTerms) (rows : List DerivedRow) → OvernightKept a → IsOvernight a rows → ((x y : List DerivedRow) → IsOvernight a x → IsOvernight a y → x ≡ y) → DueCompounded a float 0 (file_text rows float.tenor float.index)
-compounded_rows a float rows keeps are one = due_printed (OvernightKept a) (Refuses (IsFirstDerived a) 0 (file_text rows float.tenor float.index)) (IsOvernight a) float rows keeps are one
+pub compounded_rows : (a : Asked) (float : FloatTerms) (rows : List DerivedRow) → OvernightKept a → IsOvernight a rows
+    → ((x y : List DerivedRow) → IsOvernight a x → IsOvernight a y → x ≡ y)
+    → DueCompounded a float 0 (file_text rows float.tenor float.index)
+compounded_rows a float rows keeps are one =
+    due_printed (OvernightKept a) (Refuses (IsFirstDerived a) 0 (file_text rows float.tenor float.index))
+    (IsOvernight a) float rows keeps are one
 
-pub averaged_first : (a : AverageAsked) (float : FloatTerms) (b : Broken) → IsFirstOfAverage a b → ((x y : Broken) → IsFirstOfAverage a x → IsFirstOfAverage a y → x ≡ y) → DueAveraged a float 2 (refused b)
-averaged_first a float b first one = due_first (AverageKept a) (IsFirstOfAverage a) (PrintsOne (IsAverage a) float 2 (refused b)) b (λ k f. k f.fault f.first.0) first one
+pub averaged_first : (a : AverageAsked) (float : FloatTerms) (b : Broken) → IsFirstOfAverage a b
+    → ((x y : Broken) → IsFirstOfAverage a x → IsFirstOfAverage a y → x ≡ y) → DueAveraged a float 2 (refused b)
+averaged_first a float b first one =
+    due_first (AverageKept a) (IsFirstOfAverage a) (PrintsOne (IsAverage a) float 2 (refused b)) b
+    (λ k f. k f.fault f.first.0) first one
 
-pub averaged_rows : (a : AverageAsked) (float : FloatTerms) (rows : List DerivedRow) → AverageKept a → IsAverage a rows → ((x y : List DerivedRow) → IsAverage a x → IsAverage a y → x ≡ y) → DueAveraged a float 0 (file_text rows float.tenor float.index)
-averaged_rows a float rows keeps are one = due_printed (AverageKept a) (Refuses (IsFirstOfAverage a) 0 (file_text rows float.tenor float.index)) (IsAverage a) float rows keeps are one
+pub averaged_rows : (a : AverageAsked) (float : FloatTerms) (rows : List DerivedRow) → AverageKept a → IsAverage a rows
+    → ((x y : List DerivedRow) → IsAverage a x → IsAverage a y → x ≡ y)
+    → DueAveraged a float 0 (file_text rows float.tenor float.index)
+averaged_rows a float rows keeps are one =
+    due_printed (AverageKept a) (Refuses (IsFirstOfAverage a) 0 (file_text rows float.tenor float.index))
+    (IsAverage a) float rows keeps are one
 
-pub stub_broken : (a : StubAsked) (b : Broken) → IsStubBroken a b → ((x y : Broken) → IsStubBroken a x → IsStubBroken a y → x ≡ y) → DueStub a 2 (refused b)
-stub_broken a b first one = due_first (StubKept a) (IsStubBroken a) (PrintsStub a 2 (refused b)) b (λ k f. k f.fault f.breaks) first one
+pub stub_broken : (a : StubAsked) (b : Broken) → IsStubBroken a b
+    → ((x y : Broken) → IsStubBroken a x → IsStubBroken a y → x ≡ y) → DueStub a 2 (refused b)
+stub_broken a b first one =
+    due_first (StubKept a) (IsStubBroken a) (PrintsStub a 2 (refused b)) b (λ k f. k f.fault f.breaks) first one
 
-pub stub_printed : (a : StubAsked) (row : DerivedRow) (index : List ℕ) (tenor : Option Frequency) → StubKept a → IsInterpolated a row → ((x y : DerivedRow) → IsInterpolated a x → IsInterpolated a y → x ≡ y) → GivesIndex a.swap a.number a.side index tenor → DueStub a 0 (file_text (row ∷ []) tenor index)
-stub_printed a row index tenor keeps is one gives = let text = file_text (row ∷ []) tenor index in kept (StubKept a) (Refuses (IsStubBroken a) 0 text) (PrintsStub a 0 text) keeps (row, record { is = is; only = λ y other. one y row other is }, (index, (tenor, gives, (refl, refl))))
+pub stub_printed : (a : StubAsked) (row : DerivedRow) (index : List ℕ) (tenor : Option Frequency) → StubKept a
+    → IsInterpolated a row → ((x y : DerivedRow) → IsInterpolated a x → IsInterpolated a y → x ≡ y)
+    → GivesIndex a.swap a.number a.side index tenor → DueStub a 0 (file_text (row ∷ []) tenor index)
+stub_printed a row index tenor keeps is one gives = let text = file_text (row ∷ []) tenor index in
+    kept (StubKept a) (Refuses (IsStubBroken a) 0 text) (PrintsStub a 0 text) keeps (
+      row,
+      record { is = is; only = λ y other. one y row other is },
+      (index, (tenor, gives, (refl, refl))),
+    )
 
 -- ---- the index of a stub
 
-stub_named : (o : Option StubTerms) (side : Side) (index : List ℕ) (tenor : Option Frequency) → IfSome o IsLawfulStubs → GivesOn side o index tenor → IsLawfulIndex index
+stub_named : (o : Option StubTerms) (side : Side) (index : List ℕ) (tenor : Option Frequency) → IfSome o IsLawfulStubs
+    → GivesOn side o index tenor → IsLawfulIndex index
 stub_named None side index tenor h k = absurd k
-stub_named (Some stubs) Initial index tenor h k = let r : IfSome (Some (Index index tenor)) IsLawfulStubRate = subst (λ (z : Option StubRate). IfSome z IsLawfulStubRate) k h.0 in r.0
-stub_named (Some stubs) Last index tenor h k = let r : IfSome (Some (Index index tenor)) IsLawfulStubRate = subst (λ (z : Option StubRate). IfSome z IsLawfulStubRate) k h.1 in r.0
+stub_named (Some stubs) Initial index tenor h k = let r : IfSome (Some (Index index tenor)) IsLawfulStubRate =
+    subst (λ (z : Option StubRate). IfSome z IsLawfulStubRate) k h.0 in r.0
+stub_named (Some stubs) Last index tenor h k = let r : IfSome (Some (Index index tenor)) IsLawfulStubRate =
+    subst (λ (z : Option StubRate). IfSome z IsLawfulStubRate) k h.1 in r.0
 
 -- it is no longer than an index may be
-pub stub_short : (swap : Swap) (n : ℕ) (side : Side) (index : List ℕ) (tenor : Option Frequency) → IsLawful swap → GivesIndex swap n side index tenor → length index ≤ most_index
+pub stub_short : (swap : Swap) (n : ℕ) (side : Side) (index : List ℕ) (tenor : Option Frequency) → IsLawful swap
+    → GivesIndex swap n side index tenor → length index ≤ most_index
 stub_short swap n side index tenor lawful gives =
     let s = lawful_stream swap lawful _ gives.stream gives.at in
     (stub_named gives.stream.stubs side index tenor s.stubs gives.gives).1
@@ -158,4 +214,5 @@ pub floats_by : (swap : Swap) (n : ℕ) (x : FloatingStream) → IsFloatingAt sw
 floats_by swap n x k = (x.float, record { from_one = k.from_one; stream = x.stream; at = k.at; pays = k.pays })
 
 pub stream_by : (swap : Swap) (n : ℕ) → Floats swap n → (x : FloatingStream) × IsFloatingAt swap n x
-stream_by swap n f = (record { stream = f.1.stream; float = f.0 }, record { from_one = f.1.from_one; at = f.1.at; pays = f.1.pays })
+stream_by swap n f =
+    (record { stream = f.1.stream; float = f.0 }, record { from_one = f.1.from_one; at = f.1.at; pays = f.1.pays })

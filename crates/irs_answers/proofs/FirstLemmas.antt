@@ -19,7 +19,8 @@ one_first P f g h k = one_of_order is_before broken_ties P g f k h
 
 -- ---- lines of fixings
 
-same_line : (P Q : ℕ → Type 0) (ls : List (List ℕ)) (m n : ℕ) → ((k : ℕ) → P k → IsFaulty ls k) → ((k : ℕ) → Q k → IsFaulty ls k) → IsFirstFault P ls m → IsFirstFault Q ls n → m ≡ n
+same_line : (P Q : ℕ → Type 0) (ls : List (List ℕ)) (m n : ℕ) → ((k : ℕ) → P k → IsFaulty ls k)
+    → ((k : ℕ) → Q k → IsFaulty ls k) → IsFirstFault P ls m → IsFirstFault Q ls n → m ≡ n
 same_line P Q ls m n p q h k = elim (cases_order m n) [
   | inl same ↦ same
   | inr (inl less) ↦ absurd (k.none_before m less (p m h.fault))
@@ -37,8 +38,10 @@ is_repeat : (ls : List (List ℕ)) (k : ℕ) → Repeats ls k → IsFaulty ls k
 is_repeat ls k h = inr h
 
 one_fault : (bytes : List ℕ) (f g : FixErr) → IsFixingFault bytes f → IsFixingFault bytes g → g ≡ f
-one_fault bytes (Syntax m) (Syntax n) h k = let ls = lines_of bytes in ap (λ (x : ℕ). Syntax x) (same_line (IsBad ls) (IsBad ls) ls n m (is_bad ls) (is_bad ls) k h)
-one_fault bytes (Repeat m) (Repeat n) h k = let ls = lines_of bytes in ap (λ (x : ℕ). Repeat x) (same_line (Repeats ls) (Repeats ls) ls n m (is_repeat ls) (is_repeat ls) k h)
+one_fault bytes (Syntax m) (Syntax n) h k = let ls = lines_of bytes in
+    ap (λ (x : ℕ). Syntax x) (same_line (IsBad ls) (IsBad ls) ls n m (is_bad ls) (is_bad ls) k h)
+one_fault bytes (Repeat m) (Repeat n) h k = let ls = lines_of bytes in
+    ap (λ (x : ℕ). Repeat x) (same_line (Repeats ls) (Repeats ls) ls n m (is_repeat ls) (is_repeat ls) k h)
 one_fault bytes (Syntax m) (Repeat n) h k =
     let ls = lines_of bytes in
     let e : m ≡ n = same_line (IsBad ls) (Repeats ls) ls m n (is_bad ls) (is_repeat ls) h k in

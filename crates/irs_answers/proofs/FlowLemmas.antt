@@ -33,23 +33,38 @@ at_json bytes s never =
     let text = bad_flows NotJson whole_document in
     unread (Reads bytes) (Is 3 text 3 text) (λ v. DueStated v s 3 text) (λ v reads. never (v, reads)) (refl, refl)
 
-in_json : (bytes : List ℕ) (s : List Part) (v : Data) (status : ℕ) (text : List ℕ) → Reads bytes v → DueStated v s status text → DueFlows bytes s status text
-in_json bytes s v status text reads h = read (Reads bytes) (Is 3 (bad_flows NotJson whole_document) status text) (λ w. DueStated w s status text) v reads (λ w other. subst (λ (x : Data). DueStated x s status text) (sym (one_reading bytes v w reads other)) h)
+in_json : (bytes : List ℕ) (s : List Part) (v : Data) (status : ℕ) (text : List ℕ) → Reads bytes v
+    → DueStated v s status text → DueFlows bytes s status text
+in_json bytes s v status text reads h =
+    read (Reads bytes) (Is 3 (bad_flows NotJson whole_document) status text) (λ w. DueStated w s status text) v reads
+    (λ w other. subst (λ (x : Data). DueStated x s status text) (sym (one_reading bytes v w reads other)) h)
 
 abbrev Faulty : Data → ℕ → List ℕ → Type 0
-Faulty v status text = (b : Broken) × Only (First is_before (FlowFault v)) b × Is 3 (bad_flows (kind_of b.rule) b.place) status text
+Faulty v status text =
+    (b : Broken) × Only (First is_before (FlowFault v)) b × Is 3 (bad_flows (kind_of b.rule) b.place) status text
 
-at_fault : (s : List Part) (v : Data) (b : Broken) → First is_before (FlowFault v) b → DueStated v s 3 (bad_flows (kind_of b.rule) b.place)
+at_fault : (s : List Part) (v : Data) (b : Broken) → First is_before (FlowFault v) b
+    → DueStated v s 3 (bad_flows (kind_of b.rule) b.place)
 at_fault s v b first =
     let text = bad_flows (kind_of b.rule) b.place in
-    unread (FlowsOf v) (Faulty v 3 text) (λ flows. DueVerdict flows s 3 text) (λ flows of. of.clean b first.0) (b, record { is = first; only = λ c h. one_first (FlowFault v) b c first h }, (refl, refl))
+    unread (FlowsOf v) (Faulty v 3 text) (λ flows. DueVerdict flows s 3 text) (λ flows of. of.clean b first.0) (
+      b,
+      record { is = first; only = λ c h. one_first (FlowFault v) b c first h },
+      (refl, refl),
+    )
 
-due_shape : (bytes : List ℕ) (s : List Part) (v : Data) (how : ShapeKind) (place : Place) → Reads bytes v → IsFirstShape v how place → DueFlows bytes s 3 (bad_flows how place)
-due_shape bytes s v how place reads h = rw (h.kind_is, h.place_is) (in_json bytes s v 3 (bad_flows (kind_of h.fault.rule) h.fault.place) reads (at_fault s v h.fault h.first))
+due_shape : (bytes : List ℕ) (s : List Part) (v : Data) (how : ShapeKind) (place : Place) → Reads bytes v
+    → IsFirstShape v how place → DueFlows bytes s 3 (bad_flows how place)
+due_shape bytes s v how place reads h =
+    rw (h.kind_is, h.place_is)
+    (in_json bytes s v 3 (bad_flows (kind_of h.fault.rule) h.fault.place) reads (at_fault s v h.fault h.first))
 
-pub refuse_flows : (bytes : List ℕ) (s : List Part) (e : FlowErr) → FlowsFail bytes e → IfRefused (Flows e) (Ends (DueFlows bytes s))
-refuse_flows bytes s (flowing.Shape how place) (inl h) = rw (h.1, h.2) (record { due = at_json bytes s h.0; verdict = omega arith })
-refuse_flows bytes s (flowing.Shape how place) (inr h) = record { due = due_shape bytes s h.0 how place h.1 h.2; verdict = omega arith }
+pub refuse_flows : (bytes : List ℕ) (s : List Part) (e : FlowErr) → FlowsFail bytes e
+    → IfRefused (Flows e) (Ends (DueFlows bytes s))
+refuse_flows bytes s (flowing.Shape how place) (inl h) =
+    rw (h.1, h.2) (record { due = at_json bytes s h.0; verdict = omega arith })
+refuse_flows bytes s (flowing.Shape how place) (inr h) =
+    record { due = due_shape bytes s h.0 how place h.1 h.2; verdict = omega arith }
 refuse_flows bytes s flowing.Memory h = tt
 
 -- the flows that a file states are one list
@@ -65,16 +80,22 @@ verdict_low : (w : Verdict) → verdict_status w < 4
 verdict_low (Yes rows unfixed) = omega arith
 verdict_low (No d) = omega arith
 
-pub due_verdict : (bytes : List ℕ) (s : List Part) (flows : List FlowPart) (w : Verdict) → SpellsFlows bytes flows → IsVerdict flows s w → ((o : Verdict) → IsVerdict flows s o → o ≡ w) → Ends (DueFlows bytes s) (verdict_status w) (verdict_text w)
+pub due_verdict : (bytes : List ℕ) (s : List Part) (flows : List FlowPart) (w : Verdict) → SpellsFlows bytes flows
+    → IsVerdict flows s w → ((o : Verdict) → IsVerdict flows s o → o ≡ w)
+    → Ends (DueFlows bytes s) (verdict_status w) (verdict_text w)
 due_verdict bytes s flows w spells is only =
     let v = spells.0 in
     let status = verdict_status w in
     let text = verdict_text w in
     let due : DueVerdict flows s status text = (w, record { is = is; only = only }, (refl, refl)) in
-    let stated : DueStated v s status text = read (FlowsOf v) (Faulty v status text) (λ f. DueVerdict f s status text) flows spells.2 (λ f of. subst (λ (x : List FlowPart). DueVerdict x s status text) (sym (one_flows v flows f spells.2 of)) due) in
+    let stated : DueStated v s status text =
+    read (FlowsOf v) (Faulty v status text) (λ f. DueVerdict f s status text) flows spells.2
+    (λ f of. subst (λ (x : List FlowPart). DueVerdict x s status text)
+    (sym (one_flows v flows f spells.2 of)) due) in
     record { due = in_json bytes s v status text spells.1 stated; verdict = verdict_low w }
 
 -- an error that is handed on
-pub failed_by : {A : Type 0} (r : Result A FlowErr) (e : FlowErr) (P : FlowErr → Type 0) → IsErr r → IsErrAnd r (λ x. x ≡ e) → P e → IfErr r P
+pub failed_by : {A : Type 0} (r : Result A FlowErr) (e : FlowErr) (P : FlowErr → Type 0) → IsErr r
+    → IsErrAnd r (λ x. x ≡ e) → P e → IfErr r P
 failed_by (Ok x) e P h k p = tt
 failed_by (Err x) e P h k p = subst P (sym k) p

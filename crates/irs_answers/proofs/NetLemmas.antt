@@ -1,5 +1,6 @@
 -- The sides that were read are those of the schedule's streams, and the rows of the net as text.
-use Rattle.std.proofs.Common.{◌≡◌, List, [], ◌∷◌, length, Option, Some, None, true, Result, Ok, refl, sym, ◌∙◌, ap, subst, arith}
+use Rattle.std.proofs.Common.{◌≡◌, List, [], ◌∷◌, length, Option, Some, None, true, Result, Ok, refl, sym, ◌∙◌, ap}
+use Rattle.std.proofs.Common.{subst, arith}
 use Rattle.std.proofs.lemmas.List.{length-map}
 use Rattle.irs_base.specs.Members.{Pairs}
 use Rattle.irs_read.specs.Meaning.{streams_in, swap_in}
@@ -28,17 +29,26 @@ pairs_long R (x ∷ xs) [] h = absurd h
 pairs_long R (x ∷ xs) (y ∷ ys) h = let e = pairs_long R xs ys h.1 in omega (arith, e)
 
 -- a swap has as many streams as its document
-swap_long : (v : Data) (swap : Swap) (sides : Sides) → Means v swap → SidesOf v sides → sides.count ≡ length swap.streams
+swap_long : (v : Data) (swap : Swap) (sides : Sides) → Means v swap → SidesOf v sides
+    → sides.count ≡ length swap.streams
 swap_long v swap sides h k =
     let at : k.swap ≡ h.at = same_ok k.swap h.at (sym k.found ∙ h.found) in
-    let many : sides.count ≡ length (streams_in h.at) = subst (λ (d : Data). sides.count ≡ length (streams_in d)) at k.are.count in
+    let many : sides.count ≡ length (streams_in h.at) =
+    subst (λ (d : Data). sides.count ≡ length (streams_in d)) at k.are.count in
     let mapped : length (swap_in h.at).streams ≡ length (streams_in h.at) = length-map (streams_in h.at) _ in
     many ∙ sym mapped ∙ sym (ap (λ (s : Swap). length s.streams) h.says)
 
-sided : (v : Data) (swap : Swap) (cal : List Section) (table : RateTable) (parts : List Part) (o : Option Sides) → Means v swap → IsSchedule swap cal table parts → SidesIf true v o → IsSided o parts
+sided : (v : Data) (swap : Swap) (cal : List Section) (table : RateTable) (parts : List Part) (o : Option Sides)
+    → Means v swap → IsSchedule swap cal table parts → SidesIf true v o → IsSided o parts
 sided v swap cal table parts None h made k = absurd k
-sided v swap cal table parts (Some sides) h made k = (sides, refl, swap_long v swap sides h k ∙ pairs_long (λ s p. IsPart (stream_sets cal s) table s p) swap.streams parts made)
+sided v swap cal table parts (Some sides) h made k = (
+  sides,
+  refl,
+  swap_long v swap sides h k
+      ∙ pairs_long (λ s p. IsPart (stream_sets cal s) table s p) swap.streams parts made,
+)
 
 -- the files of `net` give sides of as many streams as the schedule has
 pub sided_by : (g : Given) (f : Facts) → Passes Net g f → IsSided f.sides f.parts
-sided_by g f p = sided p.document.value f.swap f.cal f.table f.parts f.sides p.document.means p.schedule.is p.document.has_sides
+sided_by g f p =
+    sided p.document.value f.swap f.cal f.table f.parts f.sides p.document.means p.schedule.is p.document.has_sides

@@ -1,20 +1,29 @@
 -- A text that is written row by row.
-use Rattle.std.proofs.Common.{◌≡◌, ℕ, zero, suc, ◌+◌, ◌<◌, ◌≤◌, List, [], ◌∷◌, ◌++◌, length, take, get_or, sym, ◌∙◌, ap, arith, append_assoc}
+use Rattle.std.proofs.Common.{◌≡◌, ℕ, zero, suc, ◌+◌, ◌<◌, ◌≤◌, List, [], ◌∷◌, ◌++◌, length, take, get_or, sym, ◌∙◌, ap}
+use Rattle.std.proofs.Common.{arith, append_assoc}
 use Rattle.std.specs.List.{flat_map}
 use Rattle.std.proofs.lemmas.List.{append-nil, take_all}
 
-flat_suc : {X : Type 0} (f : X → List ℕ) (xs : List X) (i : ℕ) (d : X) → i < length xs → flat_map f (take (suc i) xs) ≡ flat_map f (take i xs) ++ f (get_or xs i d)
+flat_suc : {X : Type 0} (f : X → List ℕ) (xs : List X) (i : ℕ) (d : X) → i < length xs
+    → flat_map f (take (suc i) xs) ≡ flat_map f (take i xs) ++ f (get_or xs i d)
 flat_suc f [] i d less = absurd (omega (arith, less))
 flat_suc f (y ∷ ys) zero d less = append-nil (f y)
-flat_suc f (y ∷ ys) (suc i) d less = ap (λ (l : List ℕ). f y ++ l) (flat_suc f ys i d (omega (arith, less))) ∙ sym (append_assoc (f y) (flat_map f (take i ys)) (f (get_or ys i d)))
+flat_suc f (y ∷ ys) (suc i) d less =
+    ap (λ (l : List ℕ). f y ++ l) (flat_suc f ys i d (omega (arith, less)))
+    ∙ sym (append_assoc (f y) (flat_map f (take i ys)) (f (get_or ys i d)))
 
 -- the next row is behind the others
-pub page_more : {X : Type 0} (f : X → List ℕ) (head old new line : List ℕ) (xs : List X) (i : ℕ) (d : X) → i < length xs → old ≡ head ++ flat_map f (take i xs) → new ≡ old ++ line → line ≡ f (get_or xs i d) → new ≡ head ++ flat_map f (take (i + 1) xs)
+pub page_more : {X : Type 0} (f : X → List ℕ) (head old new line : List ℕ) (xs : List X) (i : ℕ) (d : X) → i < length xs
+    → old ≡ head ++ flat_map f (take i xs) → new ≡ old ++ line → line ≡ f (get_or xs i d)
+    → new ≡ head ++ flat_map f (take (i + 1) xs)
 page_more f head old new line xs i d less before grown is =
     let n : suc i ≡ i + 1 = omega arith in
     let rows = flat_map f (take i xs) in
-    grown ∙ ap (λ (l : List ℕ). l ++ line) before ∙ append_assoc head rows line ∙ ap (λ (l : List ℕ). head ++ (rows ++ l)) is ∙ ap (λ (l : List ℕ). head ++ l) (sym (flat_suc f xs i d less)) ∙ ap (λ (k : ℕ). head ++ flat_map f (take k xs)) n
+    grown ∙ ap (λ (l : List ℕ). l ++ line) before ∙ append_assoc head rows line
+    ∙ ap (λ (l : List ℕ). head ++ (rows ++ l)) is ∙ ap (λ (l : List ℕ). head ++ l) (sym (flat_suc f xs i d less))
+    ∙ ap (λ (k : ℕ). head ++ flat_map f (take k xs)) n
 
 -- all rows stand there
-pub page_whole : {X : Type 0} (f : X → List ℕ) (head text : List ℕ) (xs : List X) (i : ℕ) → length xs ≤ i → text ≡ head ++ flat_map f (take i xs) → text ≡ head ++ flat_map f xs
+pub page_whole : {X : Type 0} (f : X → List ℕ) (head text : List ℕ) (xs : List X) (i : ℕ) → length xs ≤ i
+    → text ≡ head ++ flat_map f (take i xs) → text ≡ head ++ flat_map f xs
 page_whole f head text xs i more e = e ∙ ap (λ (l : List _). head ++ flat_map f l) (take_all i xs more)

@@ -14,7 +14,8 @@ use Rattle.irs_answers.proofs.DueLemmas.{one_calendars, one_fixings, one_meaning
 use Rattle.irs_answers.proofs.SameRates.{SameRates, schedule_same}
 
 -- a swap that is spelt is the only one
-one_swap : (t : Task) (bytes : List ℕ) (f h : Facts) → Spells t bytes f.swap f.sides → Spells t bytes h.swap h.sides → h.swap ≡ f.swap
+one_swap : (t : Task) (bytes : List ℕ) (f h : Facts) → Spells t bytes f.swap f.sides → Spells t bytes h.swap h.sides
+    → h.swap ≡ f.swap
 one_swap t bytes f h p q =
     let same : q.value ≡ p.value = one_reading bytes p.value q.value p.reads q.reads in
     one_meaning p.value f.swap h.swap p.means (subst (λ (v : Data). Means v h.swap) same q.means)
@@ -23,14 +24,21 @@ one_swap t bytes f h p q =
 pub passes_one : (t : Task) (g : Given) (f h : Facts) → Passes t g f → Passes t g h → h.parts ≡ f.parts
 passes_one t g f h p q =
     let r = rates_for t h.table in
-    let e : SameRates r (rates_for t f.table) = same_if (uses_rates t) h.table f.table (one_fixings g.fixings h.table f.table q.fixings p.fixings) in
-    let a : IsSchedule f.swap h.cal r h.parts = subst (λ (x : Swap). IsSchedule x h.cal r h.parts) (one_swap t g.document f h p.document q.document) q.schedule.is in
-    let b : IsSchedule f.swap f.cal r h.parts = subst (λ (x : List Section). IsSchedule f.swap x r h.parts) (one_calendars g.calendars f.cal h.cal p.calendars q.calendars) a in
+    let e : SameRates r (rates_for t f.table) =
+    same_if (uses_rates t) h.table f.table (one_fixings g.fixings h.table f.table q.fixings p.fixings) in
+    let a : IsSchedule f.swap h.cal r h.parts =
+    subst (λ (x : Swap). IsSchedule x h.cal r h.parts)
+    (one_swap t g.document f h p.document q.document) q.schedule.is in
+    let b : IsSchedule f.swap f.cal r h.parts =
+    subst (λ (x : List Section). IsSchedule f.swap x r h.parts)
+    (one_calendars g.calendars f.cal h.cal p.calendars q.calendars) a in
     p.schedule.only h.parts (schedule_same r (rates_for t f.table) e f.swap f.cal h.parts b)
 
 -- what is due for files that pass is what the task answers
-pub passes_due : (t : Task) (g : Given) (f : Facts) (status : ℕ) (text : List ℕ) → Passes t g f → DueFor t g status text → (s : List Part) × Answered t g (facts f.swap f.sides f.cal f.table s) status text
+pub passes_due : (t : Task) (g : Given) (f : Facts) (status : ℕ) (text : List ℕ) → Passes t g f → DueFor t g status text
+    → (s : List Part) × Answered t g (facts f.swap f.sides f.cal f.table s) status text
 passes_due t g f status text p h =
     let d = p.document in
-    let last = (((((((h.next d.value d.reads).next f.swap d.means).next f.sides d.has_sides).next f.cal p.calendars).next f.table p.fixings).next p.terms).next p.dated) in
+    let last = (((((((h.next d.value d.reads).next f.swap d.means).next f.sides d.has_sides).next f.cal
+    p.calendars).next f.table p.fixings).next p.terms).next p.dated) in
     (last.0, last.2)

@@ -9,29 +9,37 @@ use Rattle.irs_base.specs.Order.{Only}
 use Rattle.irs_answers.specs.Replying.{reply_status, reply_text}
 use Rattle.irs_answers.specs.Outcomes.{Answer, answer_of, IfRefused, IfAnswered, Ends}
 
-pub some_more : (o : Option Answer) (P Q : ℕ → List ℕ → Type 0) → ((status : ℕ) (text : List ℕ) → P status text → Q status text) → IfSome o (λ a. P a.0 a.1) → IfSome o (λ a. Q a.0 a.1)
+pub some_more : (o : Option Answer) (P Q : ℕ → List ℕ → Type 0)
+    → ((status : ℕ) (text : List ℕ) → P status text → Q status text) → IfSome o (λ a. P a.0 a.1)
+    → IfSome o (λ a. Q a.0 a.1)
 some_more None P Q f h = tt
 some_more (Some a) P Q f h = f a.0 a.1 h
 
-pub answered_more : (r : Result Reply Refusal) (P Q : ℕ → List ℕ → Type 0) → ((status : ℕ) (text : List ℕ) → P status text → Q status text) → IfAnswered r P → IfAnswered r Q
+pub answered_more : (r : Result Reply Refusal) (P Q : ℕ → List ℕ → Type 0)
+    → ((status : ℕ) (text : List ℕ) → P status text → Q status text) → IfAnswered r P → IfAnswered r Q
 answered_more (Ok o) P Q f h = f (reply_status o) (reply_text o) h
 answered_more (Err e) P Q f h = some_more (answer_of e) P Q f h
 
-pub refused_more : (r : Refusal) (P Q : ℕ → List ℕ → Type 0) → ((status : ℕ) (text : List ℕ) → P status text → Q status text) → IfRefused r P → IfRefused r Q
+pub refused_more : (r : Refusal) (P Q : ℕ → List ℕ → Type 0)
+    → ((status : ℕ) (text : List ℕ) → P status text → Q status text) → IfRefused r P → IfRefused r Q
 refused_more r P Q f h = some_more (answer_of r) P Q f h
 
-pub ends_more : (P Q : ℕ → List ℕ → Type 0) → ((status : ℕ) (text : List ℕ) → P status text → Q status text) → (status : ℕ) (text : List ℕ) → Ends P status text → Ends Q status text
+pub ends_more : (P Q : ℕ → List ℕ → Type 0) → ((status : ℕ) (text : List ℕ) → P status text → Q status text)
+    → (status : ℕ) (text : List ℕ) → Ends P status text → Ends Q status text
 ends_more P Q f status text h = record { due = f status text h.due; verdict = h.verdict }
 
 -- ---- steps and rules
 
 -- an x is read, and what is due for it is due for each other that may be read
-pub read : {X : Type 0} (Reads : X → Type 0) (Fails : Type 0) (Next : X → Type 0) (x : X) → Reads x → ((y : X) → Reads y → Next y) → Step Reads Fails Next
+pub read : {X : Type 0} (Reads : X → Type 0) (Fails : Type 0) (Next : X → Type 0) (x : X) → Reads x
+    → ((y : X) → Reads y → Next y) → Step Reads Fails Next
 read Reads Fails Next x reads next = record { fails = λ n. absurd (n (x, reads)); next = next; case = inr (x, reads) }
 
 -- no x is read
-pub unread : {X : Type 0} (Reads : X → Type 0) (Fails : Type 0) (Next : X → Type 0) → ((x : X) → Reads x → ⊥) → Fails → Step Reads Fails Next
-unread Reads Fails Next none fails = record { fails = λ _. fails; next = λ x reads. absurd (none x reads); case = inl (λ k. none k.0 k.1) }
+pub unread : {X : Type 0} (Reads : X → Type 0) (Fails : Type 0) (Next : X → Type 0) → ((x : X) → Reads x → ⊥) → Fails
+    → Step Reads Fails Next
+unread Reads Fails Next none fails =
+    record { fails = λ _. fails; next = λ x reads. absurd (none x reads); case = inl (λ k. none k.0 k.1) }
 
 -- the rules are kept
 pub kept : (Keeps Fails Next : Type 0) → Keeps → Next → Rules Keeps Fails Next
@@ -42,11 +50,13 @@ pub broken : (Keeps Fails Next : Type 0) → (Keeps → ⊥) → Fails → Rules
 broken Keeps Fails Next never fails = record { fails = λ _. fails; next = λ k. absurd (never k); case = inl never }
 
 -- what is due for each that is read changes alone
-pub step_next : {X : Type 0} (Reads : X → Type 0) (F : Type 0) (N M : X → Type 0) → ((x : X) → N x → M x) → Step Reads F N → Step Reads F M
+pub step_next : {X : Type 0} (Reads : X → Type 0) (F : Type 0) (N M : X → Type 0) → ((x : X) → N x → M x)
+    → Step Reads F N → Step Reads F M
 step_next Reads F N M more h = record { fails = h.fails; next = λ x reads. more x (h.next x reads); case = h.case }
 
 -- an only one of rules that are the same
-pub only_more : {X : Type 0} (P Q : X → Type 0) → ((x : X) → P x → Q x) → ((x : X) → Q x → P x) → (x : X) → Only P x → Only Q x
+pub only_more : {X : Type 0} (P Q : X → Type 0) → ((x : X) → P x → Q x) → ((x : X) → Q x → P x) → (x : X) → Only P x
+    → Only Q x
 only_more P Q there back x h = record { is = there x h.is; only = λ y is. h.only y (back y is) }
 
 case_more : (K L : Type 0) → (K → L) → (L → K) → ((K → ⊥) ⊎ K) → ((L → ⊥) ⊎ L)
@@ -62,7 +72,8 @@ rules_more K L F G N M there back fails next h = record {
 }
 
 -- what two have in common who pass a step: where it fails, and where they read the same
-pub step_both : {X C : Type 0} (Reads : X → Type 0) (F G : Type 0) (N M : X → Type 0) → (F → G → C) → ((x : X) → N x → M x → C) → Step Reads F N → Step Reads G M → C
+pub step_both : {X C : Type 0} (Reads : X → Type 0) (F G : Type 0) (N M : X → Type 0) → (F → G → C)
+    → ((x : X) → N x → M x → C) → Step Reads F N → Step Reads G M → C
 step_both Reads F G N M fails next h k = elim h.case [
   | inl none ↦ fails (h.fails none) (k.fails none)
   | inr x ↦ next x.0 (h.next x.0 x.1) (k.next x.0 x.1)
@@ -76,10 +87,12 @@ rules_both K F G N M fails next h k = elim h.case [
 
 -- ---- errors of the calls become refusals
 
-pub refused_by : {A : Type 0} (r : Result A Refusal) (e : Refusal) (P : Refusal → Type 0) → IsErr r → IsErrAnd r (λ x. x ≡ e) → P e → IfErr r P
+pub refused_by : {A : Type 0} (r : Result A Refusal) (e : Refusal) (P : Refusal → Type 0) → IsErr r
+    → IsErrAnd r (λ x. x ≡ e) → P e → IfErr r P
 refused_by (Ok x) e P h k p = tt
 refused_by (Err x) e P h k p = subst P (sym k) p
 
-pub answered_by : (r : Result Reply Refusal) (e : Refusal) (P : ℕ → List ℕ → Type 0) → IsErr r → IsErrAnd r (λ x. x ≡ e) → IfRefused e P → IfAnswered r P
+pub answered_by : (r : Result Reply Refusal) (e : Refusal) (P : ℕ → List ℕ → Type 0) → IsErr r → IsErrAnd r (λ x. x ≡ e)
+    → IfRefused e P → IfAnswered r P
 answered_by (Ok x) e P h k p = absurd k
 answered_by (Err x) e P h k p = subst (λ (y : Refusal). IfRefused y P) (sym k) p

@@ -15,7 +15,9 @@ accrued_header d = codes "irs-accrued 1 " ++ day_text d ++ codes "\n"
 -- the lines of streams, the first of them with this number: each that of the one accrual of its stream on the day
 abbrev pub AreAccrued : ℤ → ℕ → List Part → List ℕ → Type 0
 AreAccrued d k [] lines = lines ≡ []
-AreAccrued d k (p ∷ ps) lines = (a : Accrual) × Only (IsAccrual p d) a × ((rest : List ℕ) × AreAccrued d (k + 1) ps rest × (lines ≡ accrual_text k a ++ rest))
+AreAccrued d k (p ∷ ps) lines =
+    (a : Accrual) × Only (IsAccrual p d) a
+    × ((rest : List ℕ) × AreAccrued d (k + 1) ps rest × (lines ≡ accrual_text k a ++ rest))
 
 -- the whole text, of its lines
 abbrev pub accrued_page : ℤ → List ℕ → List ℕ

@@ -58,7 +58,8 @@ PrintsOne P float status text = (rows : List DerivedRow) × Only P rows × Print
 
 -- K41 to K44, then the rates that daily rates give
 abbrev pub DueCompounded : Asked → FloatTerms → ℕ → List ℕ → Type 0
-DueCompounded a float status text = Rules (OvernightKept a) (Refuses (IsFirstDerived a) status text) (PrintsOne (IsOvernight a) float status text)
+DueCompounded a float status text =
+    Rules (OvernightKept a) (Refuses (IsFirstDerived a) status text) (PrintsOne (IsOvernight a) float status text)
 
 -- what is due for daily rates of the stream with that number
 abbrev pub DueOvernight : ℕ → Swap → List Section → RateTable → List Part → ℕ → List ℕ → Type 0
@@ -68,19 +69,22 @@ DueOvernight number swap cal rates parts status text =
 
 -- K41 and K43, then the averages
 abbrev pub DueAveraged : AverageAsked → FloatTerms → ℕ → List ℕ → Type 0
-DueAveraged a float status text = Rules (AverageKept a) (Refuses (IsFirstOfAverage a) status text) (PrintsOne (IsAverage a) float status text)
+DueAveraged a float status text =
+    Rules (AverageKept a) (Refuses (IsFirstOfAverage a) status text) (PrintsOne (IsAverage a) float status text)
 
 -- what is due for averages of the stream with that number
 abbrev pub DueAverage : ℕ → Mean → ℕ → Swap → List Section → RateTable → List Part → ℕ → List ℕ → Type 0
 DueAverage number mean step swap cal rates parts status text =
     Step (IsFloatingAt swap number) (NotFloating number status text)
-    (λ x. DueAveraged (averaged (asked swap number parts (reset_days cal x.stream) rates) mean step) x.float status text)
+    (λ x. DueAveraged (averaged (asked swap number parts (reset_days cal x.stream) rates) mean step) x.float
+    status text)
 
 -- the one row of a stub, as a fixing file of the index and the tenor of its `floatingRate`
 abbrev pub PrintsStub : StubAsked → ℕ → List ℕ → Type 0
 PrintsStub a status text =
     (row : DerivedRow) × Only (IsInterpolated a) row
-    × ((index : List ℕ) × ((tenor : Option Frequency) × GivesIndex a.swap a.number a.side index tenor × Prints (row ∷ []) tenor index status text))
+    × ((index : List ℕ) × ((tenor : Option Frequency) × GivesIndex a.swap a.number a.side index tenor
+    × Prints (row ∷ []) tenor index status text))
 
 -- K45 and K46, then the rate of the stub
 abbrev pub DueStub : StubAsked → ℕ → List ℕ → Type 0
@@ -89,4 +93,5 @@ DueStub a status text = Rules (StubKept a) (Refuses (IsStubBroken a) status text
 -- what is due for the stub of the stream with that number
 abbrev pub DueInterpolate : ℕ → Side → Frequency → Frequency → Swap → RateTable → List Part → ℕ → List ℕ → Type 0
 DueInterpolate number side low high swap rates parts status text =
-    Step (IsFloatingAt swap number) (NotFloating number status text) (λ x. DueStub (stub_asked swap number side low high parts rates) status text)
+    Step (IsFloatingAt swap number) (NotFloating number status text)
+    (λ x. DueStub (stub_asked swap number side low high parts rates) status text)

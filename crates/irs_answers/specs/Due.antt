@@ -31,7 +31,8 @@ use Rattle.irs_emit.specs.Emitted.{emit_text}
 use Rattle.irs_answers.specs.Accrued.{TellsAccrued}
 use Rattle.irs_base.specs.Order.{First, Only, is_before}
 use Rattle.irs_answers.specs.declared.tasks.Task.{Task}
-use Rattle.irs_answers.specs.declared.tasks.Task.TheVariants.{Check, Schedule, Audit, Emit, Accrue, Net, Overnight, Average, Interpolate}
+use Rattle.irs_answers.specs.declared.tasks.Task.TheVariants.{Check, Schedule, Audit, Emit, Accrue, Net, Overnight}
+use Rattle.irs_answers.specs.declared.tasks.Task.TheVariants.{Average, Interpolate}
 use Rattle.irs_answers.specs.Tasks.{nets, uses_rates}
 use Rattle.irs_answers.specs.Given.{Given}
 use Rattle.irs_answers.specs.Messages.{refused, unreadable, bad_calendar, bad_fixings, all_kept}
@@ -104,15 +105,19 @@ facts swap sides cal table parts = record { swap = swap; sides = sides; cal = ca
 
 -- the flows are stated: the verdict on them
 abbrev pub DueVerdict : List FlowPart → List Part → ℕ → List ℕ → Type 0
-DueVerdict flows s status text = (w : Verdict) × Only (IsVerdict flows s) w × Is (verdict_status w) (verdict_text w) status text
+DueVerdict flows s status text =
+    (w : Verdict) × Only (IsVerdict flows s) w × Is (verdict_status w) (verdict_text w) status text
 
 -- the flows have a JSON reading: its first fault, or the flows that it states
 abbrev pub DueStated : Data → List Part → ℕ → List ℕ → Type 0
-DueStated v s status text = Step (FlowsOf v) ((b : Broken) × Only (First is_before (FlowFault v)) b × Is 3 (bad_flows (kind_of b.rule) b.place) status text) (λ flows. DueVerdict flows s status text)
+DueStated v s status text =
+    Step (FlowsOf v) ((b : Broken) × Only (First is_before (FlowFault v)) b
+    × Is 3 (bad_flows (kind_of b.rule) b.place) status text) (λ flows. DueVerdict flows s status text)
 
 -- what is due for the bytes of flows against a schedule
 abbrev pub DueFlows : List ℕ → List Part → ℕ → List ℕ → Type 0
-DueFlows bytes s status text = Step (Reads bytes) (Is 3 (bad_flows NotJson whole_document) status text) (λ v. DueStated v s status text)
+DueFlows bytes s status text =
+    Step (Reads bytes) (Is 3 (bad_flows NotJson whole_document) status text) (λ v. DueStated v s status text)
 
 -- what is due for a task where no rule is broken and the schedule is the only one
 abbrev pub Answered : Task → Given → Facts → ℕ → List ℕ → Type 0
@@ -123,25 +128,30 @@ Answered Emit g f status text = Is 0 (emit_text f.parts) status text
 Answered (Accrue date) g f status text = (status ≡ 0) × TellsAccrued date f.parts text
 Answered Net g f status text = (status ≡ 0) × TellsNet f.sides f.parts text
 Answered (Overnight stream) g f status text = DueOvernight stream f.swap f.cal f.table f.parts status text
-Answered (Average stream mean step) g f status text = DueAverage stream mean step f.swap f.cal f.table f.parts status text
-Answered (Interpolate stream side low high) g f status text = DueInterpolate stream side low high f.swap f.table f.parts status text
+Answered (Average stream mean step) g f status text =
+    DueAverage stream mean step f.swap f.cal f.table f.parts status text
+Answered (Interpolate stream side low high) g f status text =
+    DueInterpolate stream side low high f.swap f.table f.parts status text
 
 -- ---- the steps that the tasks share, the last first
 
 -- no rule is broken
 abbrev pub DueKept : Task → Given → Swap → Option Sides → List Section → RateTable → ℕ → List ℕ → Type 0
 DueKept t g swap sides cal table status text =
-    (s : List Part) × Only (IsSchedule swap cal (rates_for t table)) s × Answered t g (facts swap sides cal table s) status text
+    (s : List Part) × Only (IsSchedule swap cal (rates_for t table)) s
+    × Answered t g (facts swap sides cal table s) status text
 
 -- K30 to K39
 abbrev pub DueDated : Task → Given → Swap → Option Sides → List Section → RateTable → ℕ → List ℕ → Type 0
 DueDated t g swap sides cal table status text =
-    Rules (DatedKept swap cal (rates_for t table)) (Refuses (DatedBroken swap cal (rates_for t table)) status text) (DueKept t g swap sides cal table status text)
+    Rules (DatedKept swap cal (rates_for t table)) (Refuses (DatedBroken swap cal (rates_for t table)) status text)
+    (DueKept t g swap sides cal table status text)
 
 -- K10 to K21
 abbrev pub DueTerms : Task → Given → Swap → Option Sides → List Section → RateTable → ℕ → List ℕ → Type 0
 DueTerms t g swap sides cal table status text =
-    Rules (KeepsTerms swap cal) (Refuses (IsFirstOfTerms swap cal) status text) (DueDated t g swap sides cal table status text)
+    Rules (KeepsTerms swap cal) (Refuses (IsFirstOfTerms swap cal) status text)
+    (DueDated t g swap sides cal table status text)
 
 -- the file of fixings: its first line at fault
 abbrev pub BadFixings : Given → ℕ → List ℕ → Type 0
@@ -173,7 +183,8 @@ DueDocument t g v status text =
 
 -- what is due for a task and its files; K1: the document has no reading
 abbrev pub DueFor : Task → Given → ℕ → List ℕ → Type 0
-DueFor t g status text = Step (Reads g.document) (Is 2 (refused unreadable) status text) (λ v. DueDocument t g v status text)
+DueFor t g status text =
+    Step (Reads g.document) (Is 2 (refused unreadable) status text) (λ v. DueDocument t g v status text)
 
 -- one status and one text are due for a task and its files
 abbrev pub IsOneDue : Task → Given → Type 0

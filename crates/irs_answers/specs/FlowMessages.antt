@@ -27,7 +27,9 @@ shape_name shape.Count = codes "count"
 
 -- the line of a fault of the flows with a path: kind, stream, path and index
 abbrev pub bad_flows_at : ShapeKind → Place → List ℕ → List ℕ
-bad_flows_at kind place path = codes "bad flows " ++ shape_name kind ++ 32 ∷ decimal place.stream ++ 32 ∷ path ++ 32 ∷ decimal place.index ++ codes "\n"
+bad_flows_at kind place path =
+    codes "bad flows " ++ shape_name kind ++ 32 ∷ decimal place.stream ++ 32 ∷ path ++ 32 ∷ decimal place.index
+    ++ codes "\n"
 
 -- the line of a fault of the flows, with the path of its element
 abbrev pub bad_flows : ShapeKind → Place → List ℕ
@@ -73,7 +75,9 @@ field_name field.ObservedRate = codes "observedRate"
 
 -- the line of a departure: stream, kind of row, row and field
 abbrev pub departure_text : Departure → List ℕ
-departure_text d = codes "no " ++ decimal d.stream ++ 32 ∷ row_name d.kind ++ 32 ∷ decimal d.row ++ 32 ∷ field_name d.field ++ codes "\n"
+departure_text d =
+    codes "no " ++ decimal d.stream ++ 32 ∷ row_name d.kind ++ 32 ∷ decimal d.row ++ 32 ∷ field_name d.field
+    ++ codes "\n"
 
 -- the line of a verdict: where the flows agree, how many rows the schedule has, and how many payments without amount
 abbrev pub verdict_text : Verdict → List ℕ

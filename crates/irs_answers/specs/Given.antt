@@ -24,7 +24,14 @@ no_files = record { document = []; fixings = None; flows = []; calendars = [] }
 
 -- the files as the code keeps them
 abbrev pub given_by : TaskFiles → Given
-given_by f = record { document = f.document.items; fixings = option_map (λ v. v.items) f.fixings; flows = f.flows.items; calendars = map (λ v. v.items) f.calendars.items }
+given_by f =
+    record {
+      document = f.document.items;
+      fixings = option_map (λ v. v.items) f.fixings;
+      flows =
+          f.flows.items;
+      calendars = map (λ v. v.items) f.calendars.items;
+    }
 
 -- the limits that the readers of the files ask for
 pub record IsWithin (g : Given) : Type 0 where

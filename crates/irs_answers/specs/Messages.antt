@@ -13,7 +13,9 @@ use Rattle.irs_resets.specs.declared.fixings.FixErr.TheVariants as fixings
 
 -- the line of a broken rule with a path: rule, stream, path and index
 abbrev pub refused_at : Broken → List ℕ → List ℕ
-refused_at b path = codes "refused K" ++ decimal (rule_number b.rule) ++ 32 ∷ decimal b.place.stream ++ 32 ∷ path ++ 32 ∷ decimal b.place.index ++ codes "\n"
+refused_at b path =
+    codes "refused K" ++ decimal (rule_number b.rule) ++ 32 ∷ decimal b.place.stream ++ 32 ∷ path
+    ++ 32 ∷ decimal b.place.index ++ codes "\n"
 
 -- the line of a broken rule, with the path of its element
 abbrev pub refused : Broken → List ℕ
@@ -31,7 +33,8 @@ calendar_fault TooMany = codes "toomany"
 
 -- a calendar file is outside its grammar or limits: the file, its line and how
 abbrev pub bad_calendar : Spot → List ℕ
-bad_calendar s = codes "bad calendar " ++ decimal s.file ++ 32 ∷ decimal s.line ++ 32 ∷ calendar_fault s.fault ++ codes "\n"
+bad_calendar s =
+    codes "bad calendar " ++ decimal s.file ++ 32 ∷ decimal s.line ++ 32 ∷ calendar_fault s.fault ++ codes "\n"
 
 -- the file of fixings is outside its grammar: the line and how
 abbrev pub bad_fixings : FixErr → List ℕ

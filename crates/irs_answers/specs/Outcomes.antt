@@ -96,7 +96,9 @@ SpellsFlows bytes flows = (v : Data) × Reads bytes v × FlowsOf v flows
 
 -- an error of a file of flows tells that it has no reading, or the first fault of its reading, or of want of memory
 abbrev pub FlowsFail : List ℕ → FlowErr → Type 0
-FlowsFail bytes (flowing.Shape kind place) = (¬ (IsJson bytes) × (kind ≡ NotJson) × (place ≡ whole_document)) ⊎ ((v : Data) × Reads bytes v × IsFirstShape v kind place)
+FlowsFail bytes (flowing.Shape kind place) =
+    (¬ (IsJson bytes) × (kind ≡ NotJson) × (place ≡ whole_document))
+    ⊎ ((v : Data) × Reads bytes v × IsFirstShape v kind place)
 FlowsFail bytes flowing.Memory = Unit {0}
 
 -- no rule of the swap is broken, and the schedule is the only one

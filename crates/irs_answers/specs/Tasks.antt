@@ -1,9 +1,11 @@
--- What the tasks ask for besides: rates in the schedule, and the sides of the streams; and the ranges of their parameters.
+-- What the tasks ask for besides: rates in the schedule, and the sides of the streams; and the ranges of their
+-- parameters.
 use Rattle.std.specs.Prelude.{◌≤◌, Bool, true, false}
 use Rattle.irs_terms.specs.Lawful.{IsLawfulTenor}
 use Rattle.irs_average.specs.Averages.{most_step}
 use Rattle.irs_answers.specs.declared.tasks.Task.{Task}
-use Rattle.irs_answers.specs.declared.tasks.Task.TheVariants.{Check, Schedule, Audit, Emit, Accrue, Net, Overnight, Average, Interpolate}
+use Rattle.irs_answers.specs.declared.tasks.Task.TheVariants.{Check, Schedule, Audit, Emit, Accrue, Net, Overnight}
+use Rattle.irs_answers.specs.declared.tasks.Task.TheVariants.{Average, Interpolate}
 
 -- whether a task's schedule is made with the rates of the file of fixings; where there is no file, there are no rates
 abbrev pub uses_rates : Task → Bool

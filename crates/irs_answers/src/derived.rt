@@ -6,7 +6,8 @@ ghost use Rattle.irs_terms.specs.Lawful.{IsLawfulTenor};
 ghost use Rattle.irs_average.specs.Averages.{most_step};
 ghost use Rattle.irs_overnight.specs.DerivedRules.{no_floating_stream};
 ghost use Rattle.irs_overnight.specs.FileLaw.{file_text};
-ghost use Rattle.irs_answers.specs.Derived.{DueAverage, DueInterpolate, DueOvernight, FloatingStream, IsFloatingAt, IsUnfixed};
+ghost use Rattle.irs_answers.specs.Derived.{DueAverage, DueInterpolate, DueOvernight, FloatingStream, IsFloatingAt};
+ghost use Rattle.irs_answers.specs.Derived.{IsUnfixed};
 ghost use Rattle.irs_answers.specs.Outcomes.{Ends, IfAnswered};
 
 use crate::due::Found;
@@ -23,7 +24,8 @@ use std::alloc::Global;
 /// The rates that daily rates give for the stream with that number.
 pub(crate) fn overnight_answer(alloc: Global, number: u8, found: &Found) -> Result<Reply, Refusal>
     requires { IsUnfixed found.now.swap found.now.calendars found.now.schedule }
-    ensures { IfAnswered result (Ends (DueOvernight number found.now.swap found.now.calendars found.now.fixings found.now.schedule)) }
+    ensures { IfAnswered result
+        (Ends (DueOvernight number found.now.swap found.now.calendars found.now.fixings found.now.schedule)) }
 {
     let swap = &found.swap;
     let (stream, float) = floating(swap, number)?;
@@ -44,7 +46,8 @@ pub(crate) fn average_answer(
     requires some { 1 ≤ step }
     requires few { step ≤ most_step }
     requires unfixed { IsUnfixed found.now.swap found.now.calendars found.now.schedule }
-    ensures { IfAnswered result (Ends (DueAverage number mean step found.now.swap found.now.calendars found.now.fixings found.now.schedule)) }
+    ensures { IfAnswered result
+        (Ends (DueAverage number mean step found.now.swap found.now.calendars found.now.fixings found.now.schedule)) }
 {
     let (swap, schedule) = (&found.swap, &found.schedule);
     let (stream, float) = floating(swap, number)?;
@@ -75,7 +78,8 @@ pub(crate) fn interpolate_answer(
     requires low { IsLawfulTenor low }
     requires high { IsLawfulTenor high }
     requires unfixed { IsUnfixed found.now.swap found.now.calendars found.now.schedule }
-    ensures { IfAnswered result (Ends (DueInterpolate number side low high found.now.swap found.now.fixings found.now.schedule)) }
+    ensures { IfAnswered result
+        (Ends (DueInterpolate number side low high found.now.swap found.now.fixings found.now.schedule)) }
 {
     let swap = &found.swap;
     floating(swap, number)?;

@@ -125,7 +125,8 @@ fn schedule_for(
 ) -> Result<Schedule, Refusal>
     requires { IsLawful swap.now }
     ensures schedule { IfOk result (λ s. IsScheduled swap.now calendars.now (rates_for task.now fixings.now) s) }
-    ensures refused { IfErr result (λ r. IfRefused r (IsUnscheduled swap.now calendars.now (rates_for task.now fixings.now))) }
+    ensures refused { IfErr result
+        (λ r. IfRefused r (IsUnscheduled swap.now calendars.now (rates_for task.now fixings.now))) }
 {
     if task.uses_rates() {
         schedule_of(alloc, swap, calendars, fixings)

@@ -28,7 +28,8 @@ pub(crate) fn departure_text(alloc: Global, departure: Departure) -> Result<Vec<
 }
 
 fn no_line(alloc: Global, stream: u32, kind: &str, row: u32, field: &str) -> Result<Vec<u8>, Memory>
-    ensures { IfOk result (λ t. t.items ≡ codes "no " ++ decimal stream ++ 32 ∷ kind.now ++ 32 ∷ decimal row ++ 32 ∷ field.now ++ codes "\n") }
+    ensures { IfOk result (λ t. t.items ≡ codes "no " ++ decimal stream ++ 32 ∷ kind.now ++ 32 ∷ decimal row
+        ++ 32 ∷ field.now ++ codes "\n") }
 {
     let mut text = Vec::from_slice(alloc, b"no ")?;
     push_number(&mut text, stream)?;
@@ -57,7 +58,8 @@ fn bad_line(
     path: &str,
     index: u32,
 ) -> Result<Vec<u8>, Memory>
-    ensures { IfOk result (λ t. t.items ≡ codes "bad flows " ++ kind.now ++ 32 ∷ decimal stream ++ 32 ∷ path.now ++ 32 ∷ decimal index ++ codes "\n") }
+    ensures { IfOk result (λ t. t.items ≡ codes "bad flows " ++ kind.now ++ 32 ∷ decimal stream ++ 32 ∷ path.now
+        ++ 32 ∷ decimal index ++ codes "\n") }
 {
     let mut text = Vec::from_slice(alloc, b"bad flows ")?;
     text.extend_from_slice(kind.as_bytes())?;

@@ -24,7 +24,8 @@ fn refused_line(
     path: &str,
     index: u32,
 ) -> Result<Vec<u8>, Memory>
-    ensures { IfOk result (λ t. t.items ≡ codes "refused K" ++ decimal rule ++ 32 ∷ decimal stream ++ 32 ∷ path.now ++ 32 ∷ decimal index ++ codes "\n") }
+    ensures { IfOk result (λ t. t.items ≡ codes "refused K" ++ decimal rule ++ 32 ∷ decimal stream ++ 32 ∷ path.now
+        ++ 32 ∷ decimal index ++ codes "\n") }
 {
     let mut text = Vec::from_slice(alloc, b"refused K")?;
     push_number(&mut text, rule)?;
@@ -43,7 +44,8 @@ pub(crate) fn calendar_text(
     line: u32,
     fault: &str,
 ) -> Result<Vec<u8>, Memory>
-    ensures { IfOk result (λ t. t.items ≡ codes "bad calendar " ++ decimal file ++ 32 ∷ decimal line ++ 32 ∷ fault.now ++ codes "\n") }
+    ensures { IfOk result (λ t. t.items ≡ codes "bad calendar " ++ decimal file ++ 32 ∷ decimal line ++ 32 ∷ fault.now
+        ++ codes "\n") }
 {
     let mut text = Vec::from_slice(alloc, b"bad calendar ")?;
     push_number(&mut text, file)?;

@@ -19,7 +19,8 @@ use std::alloc::Global;
 /// The net of a schedule, whose sides were read.
 pub(crate) fn net_answer(alloc: Global, found: &Found) -> Result<Reply, Refusal>
     requires { IsSided found.now.sides found.now.schedule }
-    ensures { IfAnswered result (Ends (λ status text. (status ≡ 0) × TellsNet found.now.sides found.now.schedule text)) }
+    ensures { IfAnswered result
+        (Ends (λ status text. (status ≡ 0) × TellsNet found.now.sides found.now.schedule text)) }
 {
     let Some(sides) = found.sides else {
         unreachable!()

@@ -2,7 +2,9 @@
 ghost use Rattle.std.specs.Prelude.{◌≡◌};
 ghost use Rattle.irs_answers.specs.Messages.{unreadable};
 ghost use Rattle.irs_answers.specs.Outcomes.{of_json, of_stopped};
-ghost use Rattle.irs_answers.specs.declared.refusals.Refusal.TheVariants.{Rule as OfRule, Calendars as OfCalendars, Fixings as OfFixings, Flows as OfFlows, Memory as OfMemory};
+ghost use Rattle.irs_answers.specs.declared.refusals.Refusal.TheVariants.{Rule as OfRule, Calendars as OfCalendars};
+ghost use Rattle.irs_answers.specs.declared.refusals.Refusal.TheVariants.{Fixings as OfFixings, Flows as OfFlows};
+ghost use Rattle.irs_answers.specs.declared.refusals.Refusal.TheVariants.{Memory as OfMemory};
 
 use irs_audit::FlowErr;
 use irs_base::{Broken, Elem, Memory, Place, Rule, Stopped};

@@ -52,7 +52,8 @@ impl Reply {
         n: u32,
         after: &[u8],
     ) -> Result<Reply, Memory>
-        ensures { IfOk result (λ r. (reply_status r ≡ status_number status) × (reply_text r ≡ before.now ++ decimal n ++ after.now)) }
+        ensures { IfOk result (λ r. (reply_status r ≡ status_number status)
+            × (reply_text r ≡ before.now ++ decimal n ++ after.now)) }
     {
         Ok(Reply::Text(status, numbered_text(alloc, before, n, after)?))
     }
@@ -102,7 +103,8 @@ fn calendars_reply(alloc: Global, e: CalErr) -> Result<Reply, Memory>
 }
 
 fn bad_calendar(alloc: Global, file: u32, line: u32, fault: &str) -> Result<Reply, Memory>
-    ensures { IfOk result (λ r. (reply_status r ≡ 3) × (reply_text r ≡ codes "bad calendar " ++ decimal file ++ 32 ∷ decimal line ++ 32 ∷ fault.now ++ codes "\n")) }
+    ensures { IfOk result (λ r. (reply_status r ≡ 3)
+        × (reply_text r ≡ codes "bad calendar " ++ decimal file ++ 32 ∷ decimal line ++ 32 ∷ fault.now ++ codes "\n")) }
 {
     let text = calendar_text(alloc, file, line, fault)?;
     Ok(Reply::Text(Status::BadFile, text))
@@ -119,7 +121,8 @@ fn fixings_reply(alloc: Global, e: FixErr) -> Result<Reply, Memory>
 }
 
 fn bad_fixings(alloc: Global, line: u32, fault: &[u8]) -> Result<Reply, Memory>
-    ensures { IfOk result (λ r. (reply_status r ≡ 3) × (reply_text r ≡ codes "bad fixings " ++ decimal line ++ fault.now)) }
+    ensures { IfOk result (λ r. (reply_status r ≡ 3)
+        × (reply_text r ≡ codes "bad fixings " ++ decimal line ++ fault.now)) }
 {
     Reply::numbered(alloc, Status::BadFile, b"bad fixings ", line, fault)
 }

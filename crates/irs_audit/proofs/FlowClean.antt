@@ -1,6 +1,7 @@
 -- In a document without faults no stream has too many calculation periods.
 use Rattle.irs_audit.proofs.FlowRules.{of_flows, told}
-use Rattle.irs_audit.specs.FlowFaults.{FlowFault, OnceFault, StreamFault, StreamsFault, SwapFault, at, below, in_stream, many_periods, many_streams, payments_in, periods_of}
+use Rattle.irs_audit.specs.FlowFaults.{FlowFault, OnceFault, StreamFault, StreamsFault, SwapFault, at, below, in_stream}
+use Rattle.irs_audit.specs.FlowFaults.{many_periods, many_streams, payments_in, periods_of}
 use Rattle.irs_audit.specs.FlowMeaning.{AllHaveFewPeriods, HasFewPeriods}
 use Rattle.irs_audit.specs.FlowReading.{IsFirstFault, kind_of}
 use Rattle.irs_audit.specs.declared.error.FlowErr.TheVariants.{Shape}
@@ -17,7 +18,9 @@ use Rattle.irs_base.specs.Limits.{most_rows, most_streams}
 use Rattle.serde_json.specs.Data.{Data, null, boolean, number, string, array, object}
 use Rattle.serde_json.specs.View.{view}
 use Rattle.serde_json.specs.declared.value.Value.{Value}
-use Rattle.std.proofs.Common.{◌≡◌, inl, inr, ℕ, ◌+◌, ◌<◌, ◌≤◌, true, List, [], ◌∷◌, length, Option, Some, None, Ok, option_and_then, option_map, map, slice_get, is_some, codes, refl, sym, ap, ◌∙◌, subst, arith}
+use Rattle.std.proofs.Common.{◌≡◌, inl, inr, ℕ, ◌+◌, ◌<◌, ◌≤◌, true, List, [], ◌∷◌, length, Option, Some, None, Ok}
+use Rattle.std.proofs.Common.{option_and_then, option_map, map, slice_get, is_some, codes, refl, sym, ap, ◌∙◌, subst}
+use Rattle.std.proofs.Common.{arith}
 use Rattle.std.proofs.lemmas.Option.{slice_get_within, slice_get-map}
 use Rattle.irs_base.specs.Order.{IsFirstBroken}
 
@@ -55,7 +58,8 @@ once_few stream (x ∷ y ∷ rest) none = absurd (none (at stream K7 cashflows) 
 abbrev Values : Data → List Data
 Values d = values_in (codes "cashflows") (Some d)
 
-stream_by : (stream : ℕ) (d : Data) (ds : List Data) → Values d ≡ ds → ((f : Broken) → StreamFault stream d f → ⊥) → IsFew (slice_get ds 0)
+stream_by : (stream : ℕ) (d : Data) (ds : List Data) → Values d ≡ ds → ((f : Broken) → StreamFault stream d f → ⊥)
+    → IsFew (slice_get ds 0)
 stream_by stream d [] e none = omega arith
 stream_by stream d (x ∷ xs) e none =
     let some : 0 < length (Values d) = let l = ap length e in omega (arith, l) in
@@ -63,7 +67,8 @@ stream_by stream d (x ∷ xs) e none =
     once_few stream (x ∷ xs) (λ f q. none f (inr (there, subst (λ (l : List Data). OnceFault stream l f) (sym e) q)))
 
 stream_few : (stream : ℕ) (d : Data) → ((f : Broken) → StreamFault stream d f → ⊥) → HasFewPeriods d
-stream_few stream d none = subst (λ (o : Option Data). IsFew o) (sym (once_is (codes "cashflows") d)) (stream_by stream d (Values d) refl none)
+stream_few stream d none =
+    subst (λ (o : Option Data). IsFew o) (sym (once_is (codes "cashflows") d)) (stream_by stream d (Values d) refl none)
 
 -- ---- the streams of a swap
 
@@ -88,10 +93,13 @@ pub flows_few : (d s : Data) → the_swap d ≡ Ok s → ((f : Broken) → FlowF
 flows_few d s e none = swap_few s (λ f q. none f (below s f e q))
 
 -- one stream of those that have not too many
-pub few_at : (vs : List Value) (j : ℕ) (v : Value) → slice_get vs j ≡ Some v → AllHaveFewPeriods (map view vs) → HasFewPeriods (view v)
+pub few_at : (vs : List Value) (j : ℕ) (v : Value) → slice_get vs j ≡ Some v → AllHaveFewPeriods (map view vs)
+    → HasFewPeriods (view v)
 few_at vs j v found h = h j (view v) (slice_get-map view vs j ∙ ap (option_map view) found)
 
 -- ---- what is told
 
-pub first_shape : (d : Data) (f : Broken) → IsFirstBroken (FlowFault d) (Some f) → IsFirstFault d (Shape (kind_of f.rule) f.place)
-first_shape d f p = record { fault = f; first = p; kind_is = refl; place_is = refl; read = told f.rule (of_flows d f p.0) }
+pub first_shape : (d : Data) (f : Broken) → IsFirstBroken (FlowFault d) (Some f)
+    → IsFirstFault d (Shape (kind_of f.rule) f.place)
+first_shape d f p =
+    record { fault = f; first = p; kind_is = refl; place_is = refl; read = told f.rule (of_flows d f p.0) }

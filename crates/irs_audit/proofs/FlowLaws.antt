@@ -1,5 +1,6 @@
 -- The code's tables of cash flows are those of the specification.
-use Rattle.irs_audit.specs.FlowLines.{flow_elements, flow_names, flow_rows, flow_table, period_elements, period_names, period_rows, period_table}
+use Rattle.irs_audit.specs.FlowLines.{flow_elements, flow_names, flow_rows, flow_table, period_elements, period_names}
+use Rattle.irs_audit.specs.FlowLines.{period_rows, period_table}
 use Rattle.irs_audit.specs.declared.flow_table.TheConstants.{FLOW_NAMES, FLOW_ROWS, PERIOD_NAMES, PERIOD_ROWS}
 use Rattle.irs_base.specs.PathList.{paths, printed}
 use Rattle.irs_base.specs.declared.places.Broken.{Broken}
@@ -43,8 +44,16 @@ unfolding period_table period_elements printed paths
 period_lines_are = refl
 
 -- what is first by the code's tables is first by the specification's
-pub flow_first : (s r : ℕ) (k : Kind) (i : ℕ) (d : Data) (a : Option Broken) → IsFirstBroken (FaultAt FLOW_ROWS flow_code_names s r k i d) a → IsFirstBroken (FaultAt flow_rows flow_names s r k i d) a
-flow_first s r k i d a p = by_tables (λ rows names. IsFirstBroken (FaultAt rows names s r k i d) a) FLOW_ROWS flow_rows flow_code_names flow_names flow_rows_are flow_names_are p
+pub flow_first : (s r : ℕ) (k : Kind) (i : ℕ) (d : Data) (a : Option Broken)
+    → IsFirstBroken (FaultAt FLOW_ROWS flow_code_names s r k i d) a
+    → IsFirstBroken (FaultAt flow_rows flow_names s r k i d) a
+flow_first s r k i d a p =
+    by_tables (λ rows names. IsFirstBroken (FaultAt rows names s r k i d) a) FLOW_ROWS flow_rows flow_code_names
+    flow_names flow_rows_are flow_names_are p
 
-pub period_first : (s r : ℕ) (k : Kind) (i : ℕ) (d : Data) (a : Option Broken) → IsFirstBroken (FaultAt PERIOD_ROWS period_code_names s r k i d) a → IsFirstBroken (FaultAt period_rows period_names s r k i d) a
-period_first s r k i d a p = by_tables (λ rows names. IsFirstBroken (FaultAt rows names s r k i d) a) PERIOD_ROWS period_rows period_code_names period_names period_rows_are period_names_are p
+pub period_first : (s r : ℕ) (k : Kind) (i : ℕ) (d : Data) (a : Option Broken)
+    → IsFirstBroken (FaultAt PERIOD_ROWS period_code_names s r k i d) a
+    → IsFirstBroken (FaultAt period_rows period_names s r k i d) a
+period_first s r k i d a p =
+    by_tables (λ rows names. IsFirstBroken (FaultAt rows names s r k i d) a) PERIOD_ROWS period_rows period_code_names
+    period_names period_rows_are period_names_are p

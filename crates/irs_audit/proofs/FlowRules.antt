@@ -1,5 +1,7 @@
 -- Every fault of cash flows is a rule of the tables of elements.
-use Rattle.irs_audit.specs.FlowFaults.{CashflowsFault, FlowFault, OnceFault, OwnFault, PeriodFault, PeriodsFault, StreamFault, StreamsFault, SwapFault, at, below, ended, in_period, in_stream, many_periods, many_streams, no_stream, payments_in, periods_of}
+use Rattle.irs_audit.specs.FlowFaults.{CashflowsFault, FlowFault, OnceFault, OwnFault, PeriodFault, PeriodsFault}
+use Rattle.irs_audit.specs.FlowFaults.{StreamFault, StreamsFault, SwapFault, at, below, ended, in_period, in_stream}
+use Rattle.irs_audit.specs.FlowFaults.{many_periods, many_streams, no_stream, payments_in, periods_of}
 use Rattle.irs_audit.specs.FlowLines.{flow_names, flow_rows, period_names, period_rows}
 use Rattle.irs_audit.specs.FlowReading.{kind_of}
 use Rattle.irs_audit.specs.declared.flow_table.TheConstants.{FLOWS, PERIOD}
@@ -11,10 +13,12 @@ use Rattle.irs_base.specs.declared.places.Rule.TheVariants.{K2, K3, K4, K5, K6, 
 use Rattle.irs_elements.proofs.TableRules.{IsOfTables, of_table}
 use Rattle.irs_elements.specs.Find.{values_in}
 use Rattle.irs_json.specs.Names.{names_of}
-use Rattle.irs_read.specs.Documents.{Way, by_root, document_below, has, one_object, one_swap, onward, swap_below, the_swap, trade_below}
+use Rattle.irs_read.specs.Documents.{Way, by_root, document_below, has, one_object, one_swap, onward, swap_below}
+use Rattle.irs_read.specs.Documents.{the_swap, trade_below}
 use Rattle.irs_read.specs.Swaps.{outside}
 use Rattle.serde_json.specs.Data.{Data}
-use Rattle.std.proofs.Common.{◌≡◌, ◌≢◌, inl, inr, ℕ, ◌+◌, codes, Bool, true, false, List, [], ◌∷◌, Some, Ok, Err, is_some, if◌then◌else◌, sym, subst}
+use Rattle.std.proofs.Common.{◌≡◌, ◌≢◌, inl, inr, ℕ, ◌+◌, codes, Bool, true, false, List, [], ◌∷◌, Some, Ok, Err}
+use Rattle.std.proofs.Common.{is_some, if◌then◌else◌, sym, subst}
 
 two : IsOfTables K2
 two = tt
@@ -63,10 +67,14 @@ good_below : (d : Data) → Good (swap_below d)
 good_below d = good_swap (values_in (codes "swap") (Some d))
 
 good_trade : (d : Data) → Good (trade_below d)
-good_trade d = good_onward (one_object (values_in (codes "trade") (Some d))) swap_below (good_object (values_in (codes "trade") (Some d))) good_below
+good_trade d =
+    good_onward (one_object (values_in (codes "trade") (Some d))) swap_below
+    (good_object (values_in (codes "trade") (Some d))) good_below
 
 good_document : (d : Data) → Good (document_below d)
-good_document d = good_onward (one_object (values_in (codes "dataDocument") (Some d))) trade_below (good_object (values_in (codes "dataDocument") (Some d))) good_trade
+good_document d =
+    good_onward (one_object (values_in (codes "dataDocument") (Some d))) trade_below
+    (good_object (values_in (codes "dataDocument") (Some d))) good_trade
 
 good_root : (a b c : Bool) (d : Data) → Good (by_root a b c d)
 good_root false false false d = two
@@ -82,7 +90,9 @@ good_if w true h = h
 good_if w false h = three
 
 good_way : (d : Data) → Good (the_swap d)
-good_way d = good_if (by_root (has (codes "swap") d) (has (codes "trade") d) (has (codes "dataDocument") d) d) (is_some (names_of d)) (good_root (has (codes "swap") d) (has (codes "trade") d) (has (codes "dataDocument") d) d)
+good_way d =
+    good_if (by_root (has (codes "swap") d) (has (codes "trade") d) (has (codes "dataDocument") d) d)
+    (is_some (names_of d)) (good_root (has (codes "swap") d) (has (codes "trade") d) (has (codes "dataDocument") d) d)
 
 of_way : (w : Way) (f : Broken) → w ≡ Err f → Good w → IsOfTables f.rule
 of_way w f e h = subst (λ (x : Way). Good x) e h

@@ -1,5 +1,8 @@
 -- The first fault at each step of the reading of cash flows.
-use Rattle.irs_audit.specs.FlowFaults.{FlowFault, OnceFault, Only, OwnFault, PeriodFault, PeriodsFault, PeriodsFrom, StreamFault, StreamsFault, SwapFault, at, below, ended, few, in_period, in_stream, is_sound, many_periods, many_streams, no_stream, periods_in, periods_of}
+use Rattle.irs_audit.specs.FlowFaults.{FlowFault, OnceFault, Only, OwnFault, PeriodFault, PeriodsFault, PeriodsFrom}
+use Rattle.irs_audit.specs.FlowFaults.{StreamFault, StreamsFault, SwapFault, at, below, ended, few, in_period}
+use Rattle.irs_audit.specs.FlowFaults.{in_stream, is_sound, many_periods, many_streams, no_stream, periods_in}
+use Rattle.irs_audit.specs.FlowFaults.{periods_of}
 use Rattle.irs_base.specs.Elements.{cashflows, flow_period, swap_stream}
 use Rattle.irs_base.specs.declared.places.Broken.{Broken}
 use Rattle.irs_base.specs.declared.places.Rule.TheVariants.{K2, K3, K7}
@@ -13,7 +16,9 @@ use Rattle.irs_base.specs.Limits.{most_rows, most_streams}
 use Rattle.serde_json.specs.Data.{Data}
 use Rattle.serde_json.specs.View.{view}
 use Rattle.serde_json.specs.declared.value.Value.{Value}
-use Rattle.std.proofs.Common.{◌≡◌, ◌⊎◌, inl, inr, ℕ, zero, suc, ◌+◌, ◌-◌, ◌<◌, ◌≤◌, nat_le, Bool, true, false, true≢false, List, [], ◌∷◌, ◌++◌, length, map, take, drop, get_or, Option, Some, None, Ok, Err, refl, sym, ap, ◌∙◌, subst, arith}
+use Rattle.std.proofs.Common.{◌≡◌, ◌⊎◌, inl, inr, ℕ, zero, suc, ◌+◌, ◌-◌, ◌<◌, ◌≤◌, nat_le, Bool, true, false}
+use Rattle.std.proofs.Common.{true≢false, List, [], ◌∷◌, ◌++◌, length, map, take, drop, get_or, Option, Some, None, Ok}
+use Rattle.std.proofs.Common.{Err, refl, sym, ap, ◌∙◌, subst, arith}
 use Rattle.std.proofs.lemmas.Bool.{cases_order}
 use Rattle.std.proofs.lemmas.Bool.Decides.{nat_tests}
 use Rattle.std.proofs.lemmas.Grind.{flat_map-append}
@@ -39,17 +44,20 @@ module _ (P Q : Broken → Type 0) where
   named : (o : Option (List (List ℕ))) (ns : List (List ℕ)) → o ≡ Some ns → is_some o ≡ true
   named o ns e = rw e refl
 
-  pub object_none : (d : Data) (a : Option Broken) → names_of d ≡ None → IsFirstBroken P a → IsFirstBroken (WithMembers d) a
+  pub object_none : (d : Data) (a : Option Broken) → names_of d ≡ None → IsFirstBroken P a
+      → IsFirstBroken (WithMembers d) a
   object_none d a h p = first_same _ _ a (λ f q. inl q) (only d h) p
     where
       only : (d : Data) → names_of d ≡ None → (f : Broken) → WithMembers d f → P f
       only d h f (inl q) = q
       only d h f (inr (t, q)) = let e : is_some (names_of d) ≡ false = rw h refl in absurd (true≢false (sym t ∙ e))
 
-  pub object_some : (d : Data) (ns : List (List ℕ)) (a b s : Option Broken) → names_of d ≡ Some ns → s ≡ earlier_broken a b → IsFirstBroken P a → IsFirstBroken Q b → IsFirstBroken (WithMembers d) s
+  pub object_some : (d : Data) (ns : List (List ℕ)) (a b s : Option Broken) → names_of d ≡ Some ns
+      → s ≡ earlier_broken a b → IsFirstBroken P a → IsFirstBroken Q b → IsFirstBroken (WithMembers d) s
   object_some d ns a b s h e p q =
       let there = named (names_of d) ns h in
-      first_is _ _ s e (first_or P (λ f. (is_some (names_of d) ≡ true) × Q f) a b p (first_same _ _ b (λ f x. (there, x)) (λ f (t, x). x) q))
+      first_is _ _ s e (first_or P (λ f. (is_some (names_of d) ≡ true)
+      × Q f) a b p (first_same _ _ b (λ f x. (there, x)) (λ f (t, x). x) q))
 
 -- ---- periods, payment by payment
 
@@ -66,7 +74,8 @@ module _ (stream : ℕ) where
   abbrev At : ℕ → Data → Broken → Type 0
   At i x f = PeriodFault stream i x f
 
-  apart : (xs ys : List Data) (f : Broken) (j : ℕ) (x : Data) → slice_get (xs ++ ys) j ≡ Some x → At (0 + j + 1) x f → (j ≡ length xs) ⊎ ((j < length xs) ⊎ (length xs < j))
+  apart : (xs ys : List Data) (f : Broken) (j : ℕ) (x : Data) → slice_get (xs ++ ys) j ≡ Some x → At (0 + j + 1) x f
+      → (j ≡ length xs) ⊎ ((j < length xs) ⊎ (length xs < j))
       → PeriodsFrom stream 0 xs f ⊎ PeriodsFrom stream (length xs) ys f
   apart xs ys f j x e h (inl is) = inr (
     0,
@@ -84,53 +93,79 @@ module _ (stream : ℕ) where
     (
       x,
       (
-        sym (get_right xs ys (j - length xs)) ∙ ap (slice_get (xs ++ ys)) (let k : length xs + (j - length xs) ≡ j = omega arith in k) ∙ e,
+        sym (get_right xs ys (j - length xs)) ∙ ap (slice_get (xs ++ ys)) (let k : length xs + (j - length xs) ≡ j =
+            omega arith in k) ∙ e,
         subst (λ (i : ℕ). At i x f) (let k : 0 + j + 1 ≡ length xs + (j - length xs) + 1 = omega arith in k) h,
       ),
     ),
   )
 
-  from_both : (xs ys : List Data) (f : Broken) → PeriodsFrom stream 0 (xs ++ ys) f → PeriodsFrom stream 0 xs f ⊎ PeriodsFrom stream (length xs) ys f
+  from_both : (xs ys : List Data) (f : Broken) → PeriodsFrom stream 0 (xs ++ ys) f
+      → PeriodsFrom stream 0 xs f ⊎ PeriodsFrom stream (length xs) ys f
   from_both xs ys f (j, (x, (e, h))) = apart xs ys f j x e h (cases_order j (length xs))
 
-  to_both : (xs ys : List Data) (f : Broken) → PeriodsFrom stream 0 xs f ⊎ PeriodsFrom stream (length xs) ys f → PeriodsFrom stream 0 (xs ++ ys) f
+  to_both : (xs ys : List Data) (f : Broken) → PeriodsFrom stream 0 xs f ⊎ PeriodsFrom stream (length xs) ys f
+      → PeriodsFrom stream 0 (xs ++ ys) f
   to_both xs ys f (inl (j, (x, (e, h)))) = (j, (x, (get_left xs ys j (slice_get_within xs j x e) ∙ e, h)))
-  to_both xs ys f (inr (k, (x, (e, h)))) = (length xs + k, (x, (get_right xs ys k ∙ e, subst (λ (i : ℕ). At i x f) (let q : length xs + k + 1 ≡ 0 + (length xs + k) + 1 = omega arith in q) h)))
+  to_both xs ys f (inr (k, (x, (e, h)))) = (
+    length xs + k,
+    (
+      x,
+      (
+        get_right xs ys k ∙ e,
+        subst (λ (i : ℕ). At i x f) (let q : length xs + k + 1 ≡ 0 + (length xs + k) + 1 = omega arith in q) h,
+      ),
+    ),
+  )
 
   -- the first fault of more periods
-  pub periods_more : (xs ys : List Data) (a b : Option Broken) → IsFirstBroken (PeriodsFrom stream 0 xs) a → IsFirstBroken (PeriodsFrom stream (length xs) ys) b → IsFirstBroken (PeriodsFrom stream 0 (xs ++ ys)) (earlier_broken a b)
+  pub periods_more : (xs ys : List Data) (a b : Option Broken) → IsFirstBroken (PeriodsFrom stream 0 xs) a
+      → IsFirstBroken (PeriodsFrom stream (length xs) ys) b
+      → IsFirstBroken (PeriodsFrom stream 0 (xs ++ ys)) (earlier_broken a b)
   periods_more xs ys a b p q = first_same _ _ _ (to_both xs ys) (from_both xs ys) (first_or _ _ _ _ p q)
 
 -- the periods of one payment more
-pub periods_of_more : (vs : List Value) (i : ℕ) (v : Value) → i < length vs → v ≡ get_or vs i v → periods_of (map view (take (i + 1) vs)) ≡ periods_of (map view (take i vs)) ++ periods_in (view v)
+pub periods_of_more : (vs : List Value) (i : ℕ) (v : Value) → i < length vs → v ≡ get_or vs i v
+    → periods_of (map view (take (i + 1) vs)) ≡ periods_of (map view (take i vs)) ++ periods_in (view v)
 periods_of_more vs i v h is =
     ap (λ xs. periods_of (map view xs)) (take_more vs i v h)
     ∙ ap periods_of (map-append view (take i vs) (get_or vs i v ∷ []))
     ∙ flat_map-append periods_in (map view (take i vs)) (view (get_or vs i v) ∷ [])
-    ∙ ap (λ xs. periods_of (map view (take i vs)) ++ xs) (append-nil (periods_in (view (get_or vs i v))) ∙ ap (λ w. periods_in (view w)) (sym is))
+    ∙ ap (λ xs. periods_of (map view (take i vs)) ++ xs) (append-nil (periods_in (view (get_or vs i v)))
+    ∙ ap (λ w. periods_in (view w)) (sym is))
 
 -- the periods so far and those of the next payment are at most all
-pub periods_fit : (vs : List Value) (i : ℕ) (v : Value) → i < length vs → v ≡ get_or vs i v → length (periods_of (map view (take i vs))) + length (periods_in (view v)) ≤ length (periods_of (map view vs))
+pub periods_fit : (vs : List Value) (i : ℕ) (v : Value) → i < length vs → v ≡ get_or vs i v
+    → length (periods_of (map view (take i vs))) + length (periods_in (view v)) ≤ length (periods_of (map view vs))
 periods_fit vs i v h is =
-    let same : periods_of (map view vs) ≡ periods_of (map view (take (i + 1) vs)) ++ periods_of (map view (drop (i + 1) vs)) =
-    ap (λ xs. periods_of (map view xs)) (sym (take-append-drop (i + 1) vs)) ∙ ap periods_of (map-append view (take (i + 1) vs) (drop (i + 1) vs)) ∙ flat_map-append periods_in (map view (take (i + 1) vs)) (map view (drop (i + 1) vs)) in
-    let long = ap length same ∙ length-append (periods_of (map view (take (i + 1) vs))) (periods_of (map view (drop (i + 1) vs))) in
-    let more = ap length (periods_of_more vs i v h is) ∙ length-append (periods_of (map view (take i vs))) (periods_in (view v)) in
+    let same : periods_of (map view vs) ≡ periods_of (map view (take (i + 1) vs))
+    ++ periods_of (map view (drop (i + 1) vs)) =
+    ap (λ xs. periods_of (map view xs)) (sym (take-append-drop (i + 1) vs))
+    ∙ ap periods_of (map-append view (take (i + 1) vs) (drop (i + 1) vs))
+    ∙ flat_map-append periods_in (map view (take (i + 1) vs)) (map view (drop (i + 1) vs)) in
+    let long = ap length same
+    ∙ length-append (periods_of (map view (take (i + 1) vs))) (periods_of (map view (drop (i + 1) vs))) in
+    let more = ap length (periods_of_more vs i v h is)
+    ∙ length-append (periods_of (map view (take i vs))) (periods_in (view v)) in
     omega (arith, long, more)
 
 -- ---- all periods
 
-pub many_first : (stream : ℕ) (ds : List Data) (a : Option Broken) → most_rows < length ds → a ≡ Some (at stream K7 flow_period) → IsFirstBroken (PeriodsFault stream ds) a
+pub many_first : (stream : ℕ) (ds : List Data) (a : Option Broken) → most_rows < length ds
+    → a ≡ Some (at stream K7 flow_period) → IsFirstBroken (PeriodsFault stream ds) a
 many_first stream ds a h e = first_is _ _ a e (first_one _ _ (many_periods h) (only ds h))
   where
-    only : (ds : List Data) → most_rows < length ds → (g : Broken) → PeriodsFault stream ds g → g ≡ at stream K7 flow_period
+    only : (ds : List Data) → most_rows < length ds → (g : Broken) → PeriodsFault stream ds g
+        → g ≡ at stream K7 flow_period
     only ds h g (many_periods e) = refl
     only ds h g (in_period _ le q) = absurd (omega arith)
 
-pub few_first : (stream : ℕ) (ds : List Data) (a : Option Broken) → length ds ≤ most_rows → IsFirstBroken (PeriodsFrom stream 0 ds) a → IsFirstBroken (PeriodsFault stream ds) a
+pub few_first : (stream : ℕ) (ds : List Data) (a : Option Broken) → length ds ≤ most_rows
+    → IsFirstBroken (PeriodsFrom stream 0 ds) a → IsFirstBroken (PeriodsFault stream ds) a
 few_first stream ds a h p = first_same _ _ a (λ f q. in_period f h q) (inner ds h) p
   where
-    inner : (ds : List Data) → length ds ≤ most_rows → (g : Broken) → PeriodsFault stream ds g → PeriodsFrom stream 0 ds g
+    inner : (ds : List Data) → length ds ≤ most_rows → (g : Broken) → PeriodsFault stream ds g
+        → PeriodsFrom stream 0 ds g
     inner ds h g (many_periods e) = absurd (omega arith)
     inner ds h g (in_period _ le q) = q
 
@@ -148,7 +183,8 @@ many_is ds h = let k : nat_le (length ds) most_rows ≡ false = grind (arith, na
 
 -- ---- streams
 
-pub none_first : (ds : List Data) (a : Option Broken) → length ds ≡ 0 → a ≡ Some (at 0 K2 swap_stream) → IsFirstBroken (StreamsFault ds) a
+pub none_first : (ds : List Data) (a : Option Broken) → length ds ≡ 0 → a ≡ Some (at 0 K2 swap_stream)
+    → IsFirstBroken (StreamsFault ds) a
 none_first ds a h e = first_is _ _ a e (first_one _ _ (no_stream h) (only ds h))
   where
     only : (ds : List Data) → length ds ≡ 0 → (g : Broken) → StreamsFault ds g → g ≡ at 0 K2 swap_stream
@@ -156,7 +192,8 @@ none_first ds a h e = first_is _ _ a e (first_one _ _ (no_stream h) (only ds h))
     only ds h g (many_streams e) = absurd (omega arith)
     only ds h g (in_stream _ lo hi q) = absurd (omega arith)
 
-pub too_many_first : (ds : List Data) (a : Option Broken) → most_streams < length ds → a ≡ Some (at 0 K7 swap_stream) → IsFirstBroken (StreamsFault ds) a
+pub too_many_first : (ds : List Data) (a : Option Broken) → most_streams < length ds → a ≡ Some (at 0 K7 swap_stream)
+    → IsFirstBroken (StreamsFault ds) a
 too_many_first ds a h e = first_is _ _ a e (first_one _ _ (many_streams h) (only ds h))
   where
     only : (ds : List Data) → most_streams < length ds → (g : Broken) → StreamsFault ds g → g ≡ at 0 K7 swap_stream
@@ -164,10 +201,12 @@ too_many_first ds a h e = first_is _ _ a e (first_one _ _ (many_streams h) (only
     only ds h g (many_streams e) = refl
     only ds h g (in_stream _ lo hi q) = absurd (omega arith)
 
-pub each_first : (ds : List Data) (a : Option Broken) → 0 < length ds → length ds ≤ most_streams → IsFirstBroken (Among (λ j. StreamFault (j + 1)) ds) a → IsFirstBroken (StreamsFault ds) a
+pub each_first : (ds : List Data) (a : Option Broken) → 0 < length ds → length ds ≤ most_streams
+    → IsFirstBroken (Among (λ j. StreamFault (j + 1)) ds) a → IsFirstBroken (StreamsFault ds) a
 each_first ds a lo hi p = first_same _ _ a (λ f q. in_stream f lo hi q) (inner ds lo hi) p
   where
-    inner : (ds : List Data) → 0 < length ds → length ds ≤ most_streams → (g : Broken) → StreamsFault ds g → Among (λ j. StreamFault (j + 1)) ds g
+    inner : (ds : List Data) → 0 < length ds → length ds ≤ most_streams → (g : Broken) → StreamsFault ds g
+        → Among (λ j. StreamFault (j + 1)) ds g
     inner ds lo hi g (no_stream e) = absurd (omega arith)
     inner ds lo hi g (many_streams e) = absurd (omega arith)
     inner ds lo hi g (in_stream _ lo' hi' q) = q
@@ -181,7 +220,8 @@ ended_first d f e = first_one _ f (ended f e) (only d f e)
     only d f e g (ended _ h) = cc
     only d f e g (below s _ h q) = cc
 
-pub below_first : (d s : Data) (a : Option Broken) → the_swap d ≡ Ok s → IsFirstBroken (SwapFault s) a → IsFirstBroken (FlowFault d) a
+pub below_first : (d s : Data) (a : Option Broken) → the_swap d ≡ Ok s → IsFirstBroken (SwapFault s) a
+    → IsFirstBroken (FlowFault d) a
 below_first d s a e p = first_same _ _ a (λ f q. below s f e q) (only d s e) p
   where
     only : (d s : Data) → the_swap d ≡ Ok s → (g : Broken) → FlowFault d g → SwapFault s g
@@ -193,28 +233,38 @@ below_first d s a e p = first_same _ _ a (λ f q. below s f e q) (only d s e) p
 pub own_none : (stream elem : ℕ) (d : Data) → is_sound d ≡ true → IsFirstBroken (OwnFault stream elem d) None
 own_none stream elem d h = only_first (not (is_sound d)) (at stream K3 elem) None (rw h refl)
 
-pub own_some : (stream elem : ℕ) (d : Data) (a : Option Broken) → is_sound d ≡ false → a ≡ Some (at stream K3 elem) → IsFirstBroken (OwnFault stream elem d) a
+pub own_some : (stream elem : ℕ) (d : Data) (a : Option Broken) → is_sound d ≡ false → a ≡ Some (at stream K3 elem)
+    → IsFirstBroken (OwnFault stream elem d) a
 own_some stream elem d a h e = only_first (not (is_sound d)) (at stream K3 elem) a (rw h e)
 
 -- the first fault of the periods of one payment more
-pub payment_step : (stream : ℕ) (vs : List Value) (i : ℕ) (v : Value) (before : ℕ) (ds : List Data) (a b s : Option Broken) → i < length vs → v ≡ get_or vs i v → ds ≡ periods_in (view v)
-    → before ≡ length (periods_of (map view (take i vs))) → s ≡ earlier_broken a b → IsFirstBroken (PeriodsFrom stream 0 (periods_of (map view (take i vs)))) a → IsFirstBroken (PeriodsFrom stream before ds) b
+pub payment_step : (stream : ℕ) (vs : List Value) (i : ℕ) (v : Value) (before : ℕ) (ds : List Data)
+    (a b s : Option Broken) → i < length vs → v ≡ get_or vs i v → ds ≡ periods_in (view v)
+    → before ≡ length (periods_of (map view (take i vs))) → s ≡ earlier_broken a b
+    → IsFirstBroken (PeriodsFrom stream 0 (periods_of (map view (take i vs)))) a
+    → IsFirstBroken (PeriodsFrom stream before ds) b
     → IsFirstBroken (PeriodsFrom stream 0 (periods_of (map view (take (i + 1) vs)))) s
 payment_step stream vs i v before ds a b s lt is these count e p q =
-    let shifted : IsFirstBroken (PeriodsFrom stream (length (periods_of (map view (take i vs)))) (periods_in (view v))) b =
-    subst (λ (n : ℕ). IsFirstBroken (PeriodsFrom stream n (periods_in (view v))) b) count (subst (λ (l : List Data). IsFirstBroken (PeriodsFrom stream before l) b) these q) in
+    let shifted : IsFirstBroken
+    (PeriodsFrom stream (length (periods_of (map view (take i vs)))) (periods_in (view v))) b =
+    subst (λ (n : ℕ). IsFirstBroken (PeriodsFrom stream n (periods_in (view v))) b) count
+    (subst (λ (l : List Data). IsFirstBroken (PeriodsFrom stream before l) b) these q) in
     let both = periods_more stream (periods_of (map view (take i vs))) (periods_in (view v)) a b p shifted in
-    first_is _ _ s e (subst (λ (l : List Data). IsFirstBroken (PeriodsFrom stream 0 l) (earlier_broken a b)) (sym (periods_of_more vs i v lt is)) both)
+    first_is _ _ s e (subst (λ (l : List Data). IsFirstBroken (PeriodsFrom stream 0 l) (earlier_broken a b))
+    (sym (periods_of_more vs i v lt is)) both)
 
 -- how many periods there are with those of the next payment
-pub count_step : (vs : List Value) (i : ℕ) (v : Value) (list : List Value) → i < length vs → v ≡ get_or vs i v → map view list ≡ periods_in (view v)
+pub count_step : (vs : List Value) (i : ℕ) (v : Value) (list : List Value) → i < length vs → v ≡ get_or vs i v
+    → map view list ≡ periods_in (view v)
     → length (periods_of (map view (take (i + 1) vs))) ≡ length (periods_of (map view (take i vs))) + length list
 count_step vs i v list lt is these =
-    let long = ap length (periods_of_more vs i v lt is) ∙ length-append (periods_of (map view (take i vs))) (periods_in (view v)) in
+    let long = ap length (periods_of_more vs i v lt is)
+    ∙ length-append (periods_of (map view (take i vs))) (periods_in (view v)) in
     let same = sym (length-map list view) ∙ ap length these in
     omega (arith, long, same)
 
-pub count_fits : (vs : List Value) (i : ℕ) (v : Value) (list : List Value) → i < length vs → v ≡ get_or vs i v → map view list ≡ periods_in (view v)
+pub count_fits : (vs : List Value) (i : ℕ) (v : Value) (list : List Value) → i < length vs → v ≡ get_or vs i v
+    → map view list ≡ periods_in (view v)
     → length (periods_of (map view (take i vs))) + length list ≤ length (periods_of (map view vs))
 count_fits vs i v list lt is these =
     let fits = periods_fit vs i v lt is in
@@ -225,11 +275,13 @@ pub many_test : (n : ℕ) → most_rows < n → false ≡ nat_le n most_rows
 many_test n h = let k : nat_le n most_rows ≡ false = grind (arith, nat_tests) in sym k
 
 -- two or more values of `cashflows`
-pub once_many : (stream : ℕ) (list : List Value) (x : Broken) → 2 ≤ length list → x ≡ at stream K7 cashflows → IsFirstBroken (OnceFault stream (map view list)) (Some x)
+pub once_many : (stream : ℕ) (list : List Value) (x : Broken) → 2 ≤ length list → x ≡ at stream K7 cashflows
+    → IsFirstBroken (OnceFault stream (map view list)) (Some x)
 once_many stream [] x h e = absurd (omega arith)
 once_many stream (a ∷ []) x h e = absurd (omega arith)
 once_many stream (a ∷ b ∷ rest) x h e = alone (at stream K7 cashflows) (Some x) (ap Some e)
 
 -- the periods of one payment are at most all
-pub one_fits : (vs : List Value) (i : ℕ) (v : Value) → i < length vs → v ≡ get_or vs i v → length (periods_in (view v)) ≤ length (periods_of (map view vs))
+pub one_fits : (vs : List Value) (i : ℕ) (v : Value) → i < length vs → v ≡ get_or vs i v
+    → length (periods_in (view v)) ≤ length (periods_of (map view vs))
 one_fits vs i v lt is = let h = periods_fit vs i v lt is in omega (arith, h)

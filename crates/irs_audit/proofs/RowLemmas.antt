@@ -1,5 +1,6 @@
 -- The first departure among the rows of a stream.
-use Rattle.std.proofs.Common.{◌≡◌, ℕ, Bool, true, false, ◌+◌, ◌-◌, ◌<◌, ◌≤◌, List, length, Option, Some, None, ◌⊎◌, inl, inr, refl, sym, ◌∙◌, ap, subst, arith}
+use Rattle.std.proofs.Common.{◌≡◌, ℕ, Bool, true, false, ◌+◌, ◌-◌, ◌<◌, ◌≤◌, List, length, Option, Some, None, ◌⊎◌, inl}
+use Rattle.std.proofs.Common.{inr, refl, sym, ◌∙◌, ap, subst, arith}
 use Rattle.std.specs.Prelude.{slice_get, if◌then◌else◌}
 use Rattle.std.proofs.lemmas.Option.{slice_get_past, slice_get-get_or, slice_get_cases}
 use Rattle.std.specs.Option.{option_or}
@@ -28,7 +29,8 @@ FirstOfRow Fields None None o = o ≡ None
 moved : (n : ℕ) (f g : Field) → g ≡ f → n ≤ field_place f → n ≤ field_place g
 moved n f g e h = let Q : Field → Type 0 = λ k. n ≤ field_place k in subst Q (sym e) h
 
-pub row_first : {X Y : Type 0} (Fields : X → Y → Field → Type 0) (x : Option X) (y : Option Y) (o : Option Field) → FirstOfRow Fields x y o → IsFirstField (RowDeparts Fields x y) o
+pub row_first : {X Y : Type 0} (Fields : X → Y → Field → Type 0) (x : Option X) (y : Option Y) (o : Option Field)
+    → FirstOfRow Fields x y o → IsFirstField (RowDeparts Fields x y) o
 row_first Fields (Some x) (Some y) o h = h
 row_first Fields (Some x) None o h = rw h (refl, λ g e. moved 0 Missing g e (omega arith))
 row_first Fields None (Some y) o h = rw h (refl, λ g e. moved 1 Extra g e (omega arith))
@@ -40,28 +42,49 @@ module _ (kind : RowKind) (p : Part) (g : FlowPart) where
   NoneBelow i = (j : ℕ) (f : Field) → j < i → KindDeparts kind p g j f → ⊥
 
   pub none_more : (i : ℕ) → NoneBelow i → IsFirstField (KindDeparts kind p g i) None → NoneBelow (i + 1)
-  none_more i below here j f h d = elim (cases_order j i) [ inl e ↦ here f (let Q : ℕ → Type 0 = λ n. KindDeparts kind p g n f in subst Q e d) | inr (inl l) ↦ below j f l d | inr (inr l) ↦ omega (arith, h, l) ]
+  none_more i below here j f h d =
+      elim (cases_order j i) [
+        | inl e ↦
+            here f (let Q : ℕ → Type 0 = λ n. KindDeparts kind p g n f in subst Q e d)
+        | inr (inl l) ↦
+            below j f l d
+        | inr (inr l) ↦ omega (arith, h, l)
+      ]
 
   pub none_before : NoneBelow 0
   none_before j f h d = omega (arith, h)
 
   pub none_found : (k last : ℕ) → NoneBelow last → IsFirst (AmongRows k kind p g last) None
-  none_found k last below = λ d m. let low = m.low in let high = m.high in below (d.row - 1) d.field (omega (arith, low, high)) m.departs
+  none_found k last below = λ d m. let low = m.low in let high = m.high in
+      below (d.row - 1) d.field (omega (arith, low, high)) m.departs
 
-  found_order : (i : ℕ) (field : Field) → NoneBelow i → IsFirstField (KindDeparts kind p g i) (Some field) → (row : ℕ) (f : Field) → 0 < row → KindDeparts kind p g (row - 1) f → Level (i + 1) row (field_place field ≤ field_place f)
+  found_order : (i : ℕ) (field : Field) → NoneBelow i → IsFirstField (KindDeparts kind p g i) (Some field)
+      → (row : ℕ) (f : Field) → 0 < row → KindDeparts kind p g (row - 1) f
+      → Level (i + 1) row (field_place field ≤ field_place f)
   found_order i field below here row f low d = elim (cases_order (row - 1) i) [
     | inl e ↦ inr (omega (arith, low, e), here.1 f (let Q : ℕ → Type 0 = λ n. KindDeparts kind p g n f in subst Q e d))
     | inr (inl l) ↦ absurd (below (row - 1) f l d)
     | inr (inr l) ↦ inl (omega (arith, low, l))
   ]
 
-  pub row_found : (k last i : ℕ) (field : Field) → i < last → NoneBelow i → IsFirstField (KindDeparts kind p g i) (Some field)
+  pub row_found : (k last i : ℕ) (field : Field) → i < last → NoneBelow i
+      → IsFirstField (KindDeparts kind p g i) (Some field)
       → IsFirst (AmongRows k kind p g last) (Some (record { stream = k; kind = kind; row = i + 1; field = field }))
   row_found k last i field within below here =
       let back : i + 1 - 1 ≡ i = omega arith in
       let Q : ℕ → Type 0 = λ n. KindDeparts kind p g n field in (
-        record { stream = refl; is_kind = refl; low = omega arith; high = omega (arith, within); departs = subst Q (sym back) here.0 },
-        λ e m. inr (sym m.stream, inr (ap kind_place (sym m.is_kind), found_order i field below here e.row e.field m.low m.departs)),
+        record {
+          stream = refl;
+          is_kind = refl;
+          low = omega arith;
+          high = omega (arith, within);
+          departs =
+              subst Q (sym back) here.0;
+        },
+        λ e m. inr (
+          sym m.stream,
+          inr (ap kind_place (sym m.is_kind), found_order i field below here e.row e.field m.low m.departs),
+        ),
       )
 
 -- all departures of a kind
@@ -72,68 +95,86 @@ pub record OfKind (k : ℕ) (kind : RowKind) (p : Part) (g : FlowPart) (d : Depa
   pub departs : KindDeparts kind p g (d.row - 1) d.field
 
 -- where rows past the one at place n depart only with it, those up to it are all
-up_to : (k : ℕ) (kind : RowKind) (p : Part) (g : FlowPart) (n : ℕ) (d : Departure) → OfKind k kind p g d → d.row ≤ n → AmongRows k kind p g n d
+up_to : (k : ℕ) (kind : RowKind) (p : Part) (g : FlowPart) (n : ℕ) (d : Departure) → OfKind k kind p g d → d.row ≤ n
+    → AmongRows k kind p g n d
 up_to k kind p g n d m h = record { stream = m.stream; is_kind = m.is_kind; low = m.low; high = h; departs = m.departs }
 
-all_rows : (k : ℕ) (kind : RowKind) (p : Part) (g : FlowPart) (n : ℕ) (d : Departure) → AmongRows k kind p g n d → OfKind k kind p g d
+all_rows : (k : ℕ) (kind : RowKind) (p : Part) (g : FlowPart) (n : ℕ) (d : Departure) → AmongRows k kind p g n d
+    → OfKind k kind p g d
 all_rows k kind p g n d m = record { stream = m.stream; is_kind = m.is_kind; low = m.low; departs = m.departs }
 
-extra_at : (k : ℕ) (kind : RowKind) (p : Part) (g : FlowPart) (n : ℕ) → KindDeparts kind p g n Extra → AmongRows k kind p g (n + 1) (record { stream = k; kind = kind; row = n + 1; field = Extra })
+extra_at : (k : ℕ) (kind : RowKind) (p : Part) (g : FlowPart) (n : ℕ) → KindDeparts kind p g n Extra
+    → AmongRows k kind p g (n + 1) (record { stream = k; kind = kind; row = n + 1; field = Extra })
 extra_at k kind p g n x =
     let back : n + 1 - 1 ≡ n = omega arith in
     let Q : ℕ → Type 0 = λ i. KindDeparts kind p g i Extra in
     record { stream = refl; is_kind = refl; low = omega arith; high = omega arith; departs = subst Q (sym back) x }
 
-later_row : (k : ℕ) (kind : RowKind) (d e : Departure) → d.stream ≡ k → d.kind ≡ kind → e.stream ≡ k → e.kind ≡ kind → d.row < e.row → NotAfter d e
+later_row : (k : ℕ) (kind : RowKind) (d e : Departure) → d.stream ≡ k → d.kind ≡ kind → e.stream ≡ k → e.kind ≡ kind
+    → d.row < e.row → NotAfter d e
 later_row k kind d e a b c f h = inr (a ∙ sym c, inr (ap kind_place b ∙ sym (ap kind_place f), inl h))
 
-pub extended : (k : ℕ) (kind : RowKind) (p : Part) (g : FlowPart) (n : ℕ) (o : Option Departure) → ((j : ℕ) (f : Field) → n ≤ j → KindDeparts kind p g j f → KindDeparts kind p g n Extra)
+pub extended : (k : ℕ) (kind : RowKind) (p : Part) (g : FlowPart) (n : ℕ) (o : Option Departure)
+    → ((j : ℕ) (f : Field) → n ≤ j → KindDeparts kind p g j f → KindDeparts kind p g n Extra)
     → IsFirst (AmongRows k kind p g (n + 1)) o → IsFirst (OfKind k kind p g) o
 extended k kind p g n None past h = λ d m. elim (cases_lt (n + 1) d.row) [
-  | inl l ↦ h (record { stream = k; kind = kind; row = n + 1; field = Extra }) (extra_at k kind p g n (past (d.row - 1) d.field (omega (arith, l)) m.departs))
+  | inl l ↦ h (record { stream = k; kind = kind; row = n + 1; field = Extra })
+      (extra_at k kind p g n (past (d.row - 1) d.field (omega (arith, l)) m.departs))
   | inr l ↦ h d (up_to k kind p g (n + 1) d m l)
 ]
 extended k kind p g n (Some d) past h =
     let m = h.0 in (
       all_rows k kind p g (n + 1) d m,
       λ e x. elim (cases_lt (n + 1) e.row) [
-        | inl l ↦ let high = m.high in later_row k kind d e m.stream m.is_kind x.stream x.is_kind (omega (arith, high, l))
+        | inl l ↦ let high = m.high in
+            later_row k kind d e m.stream m.is_kind x.stream x.is_kind (omega (arith, high, l))
         | inr l ↦ h.1 e (up_to k kind p g (n + 1) e x l)
       ],
     )
 
-stands : {X Y : Type 0} (Fields : X → Y → Field → Type 0) (xn : Option X) (ys : List Y) (n j : ℕ) (f : Field) → n ≤ j → xn ≡ None → RowDeparts Fields None (slice_get ys j) f → RowDeparts Fields xn (slice_get ys n) Extra
+stands : {X Y : Type 0} (Fields : X → Y → Field → Type 0) (xn : Option X) (ys : List Y) (n j : ℕ) (f : Field) → n ≤ j
+    → xn ≡ None → RowDeparts Fields None (slice_get ys j) f → RowDeparts Fields xn (slice_get ys n) Extra
 stands {X} {Y} Fields xn ys n j f h en d = elim (slice_get_cases ys j).1 [
-  | inl w ↦ let low : j < length ys = w.1 in let e = slice_get-get_or ys n w.0 (omega (arith, h, low)) in rw (en, e) refl
+  | inl w ↦ let low : j < length ys = w.1 in let e = slice_get-get_or ys n w.0 (omega (arith, h, low)) in
+      rw (en, e) refl
   | inr w ↦ absurd (let D : Option Y → Type 0 = λ o. RowDeparts Fields None o f in subst D w.1 d)
 ]
 
 -- a row of the flows that is past the one at place n, where the schedule has none from there on
-extra_before : {X Y : Type 0} (Fields : X → Y → Field → Type 0) (x : Option X) (xn : Option X) (ys : List Y) (n j : ℕ) (f : Field) → n ≤ j → x ≡ None → xn ≡ None → RowDeparts Fields x (slice_get ys j) f → RowDeparts Fields xn (slice_get ys n) Extra
+extra_before : {X Y : Type 0} (Fields : X → Y → Field
+    → Type 0) (x : Option X) (xn : Option X) (ys : List Y) (n j : ℕ) (f : Field) → n ≤ j → x ≡ None → xn ≡ None
+    → RowDeparts Fields x (slice_get ys j) f → RowDeparts Fields xn (slice_get ys n) Extra
 extra_before {X} {Y} Fields x xn ys n j f h e en d =
     let D : Option X → Type 0 = λ o. RowDeparts Fields o (slice_get ys j) f in
     stands Fields xn ys n j f h en (subst D e d)
 
-exchanges_past : (p : Part) (g : FlowPart) (j : ℕ) (f : Field) → length p.exchanges ≤ j → KindDeparts Exchange p g j f → KindDeparts Exchange p g (length p.exchanges) Extra
+exchanges_past : (p : Part) (g : FlowPart) (j : ℕ) (f : Field) → length p.exchanges ≤ j → KindDeparts Exchange p g j f
+    → KindDeparts Exchange p g (length p.exchanges) Extra
 exchanges_past p g j f h d =
     let n = length p.exchanges in
-    extra_before ExchangeDeparts (slice_get p.exchanges j) (slice_get p.exchanges n) g.exchanges n j f h (slice_get_past p.exchanges j h) (slice_get_past p.exchanges n (omega arith)) d
+    extra_before ExchangeDeparts (slice_get p.exchanges j) (slice_get p.exchanges n) g.exchanges n j f h
+    (slice_get_past p.exchanges j h) (slice_get_past p.exchanges n (omega arith)) d
 
-payments_past : (p : Part) (g : FlowPart) (j : ℕ) (f : Field) → length p.payments ≤ j → KindDeparts Payment p g j f → KindDeparts Payment p g (length p.payments) Extra
+payments_past : (p : Part) (g : FlowPart) (j : ℕ) (f : Field) → length p.payments ≤ j → KindDeparts Payment p g j f
+    → KindDeparts Payment p g (length p.payments) Extra
 payments_past p g j f h d =
     let n = length p.payments in
-    extra_before (PaymentDeparts p.currency) (slice_get p.payments j) (slice_get p.payments n) g.payments n j f h (slice_get_past p.payments j h) (slice_get_past p.payments n (omega arith)) d
+    extra_before (PaymentDeparts p.currency) (slice_get p.payments j) (slice_get p.payments n) g.payments n j f h
+    (slice_get_past p.payments j h) (slice_get_past p.payments n (omega arith)) d
 
 no_period : (p : Part) (j : ℕ) → length p.periods ≤ j → period_at p j ≡ None
 no_period p j h = rw (slice_get_past p.periods j h) refl
 
-periods_past : (p : Part) (g : FlowPart) (j : ℕ) (f : Field) → length p.periods ≤ j → KindDeparts Period p g j f → KindDeparts Period p g (length p.periods) Extra
+periods_past : (p : Part) (g : FlowPart) (j : ℕ) (f : Field) → length p.periods ≤ j → KindDeparts Period p g j f
+    → KindDeparts Period p g (length p.periods) Extra
 periods_past p g j f h d =
     let n = length p.periods in
-    extra_before PeriodDeparts (period_at p j) (period_at p n) g.periods n j f h (no_period p j h) (no_period p n (omega arith)) d
+    extra_before PeriodDeparts (period_at p j) (period_at p n) g.periods n j f h (no_period p j h)
+    (no_period p n (omega arith)) d
 
 -- a reset past the last period is that of a period that departs
-resets_past : (p : Part) (g : FlowPart) (j : ℕ) (f : Field) → length p.resets ≤ length p.periods → length p.periods ≤ j → KindDeparts Reset p g j f → KindDeparts Period p g j Extra
+resets_past : (p : Part) (g : FlowPart) (j : ℕ) (f : Field) → length p.resets ≤ length p.periods → length p.periods ≤ j
+    → KindDeparts Reset p g j f → KindDeparts Period p g j Extra
 resets_past p g j f few h d =
     let none = slice_get_past p.resets j (omega (arith, few, h)) in
     let past = no_period p j h in
@@ -150,16 +191,20 @@ few_if false m n e = omega (arith, e)
 pub resets_few : (p : Part) → KeepsBounds p → length p.resets ≤ length p.periods
 resets_few p h = few_if p.floating (length p.resets) (length p.periods) h.resets
 
-within_periods : (k : ℕ) (p : Part) (g : FlowPart) (o : Option Departure) → KeepsBounds p → ((j : ℕ) (f : Field) → KindDeparts Period p g j f → ⊥)
+within_periods : (k : ℕ) (p : Part) (g : FlowPart) (o : Option Departure) → KeepsBounds p
+    → ((j : ℕ) (f : Field) → KindDeparts Period p g j f → ⊥)
     → IsFirst (AmongRows k Reset p g (length p.periods)) o → IsFirst (OfKind k Reset p g) o
 within_periods k p g o bounds never h =
     let n = length p.periods in
-    first_same (AmongRows k Reset p g n) (OfKind k Reset p g) o (all_rows k Reset p g n) (λ d m. elim (cases_lt n d.row) [
-      | inl l ↦ absurd (never (d.row - 1) Extra (resets_past p g (d.row - 1) d.field (resets_few p bounds) (omega (arith, l)) m.departs))
+    first_same (AmongRows k Reset p g n) (OfKind k Reset p g) o (all_rows k Reset p g n)
+    (λ d m. elim (cases_lt n d.row) [
+      | inl l ↦ absurd (never (d.row - 1) Extra
+          (resets_past p g (d.row - 1) d.field (resets_few p bounds) (omega (arith, l)) m.departs))
       | inr l ↦ up_to k Reset p g n d m l
     ]) h
 
-by_kind : (k : ℕ) (a b : RowKind) (p : Part) (g : FlowPart) (d e : Departure) → kind_place a < kind_place b → OfKind k a p g d → OfKind k b p g e → NotAfter d e
+by_kind : (k : ℕ) (a b : RowKind) (p : Part) (g : FlowPart) (d e : Departure) → kind_place a < kind_place b
+    → OfKind k a p g d → OfKind k b p g e → NotAfter d e
 by_kind k a b p g d e h m n =
     let c = ap kind_place m.is_kind in
     let f = ap kind_place n.is_kind in
@@ -186,7 +231,8 @@ module _ (k : ℕ) (p : Part) (g : FlowPart) where
   from_each d (inl (inr m)) = whole Period d m
   from_each d (inr m) = whole Reset d m
 
-  by_its_kind : (kind : RowKind) (d : Departure) → d.kind ≡ kind → d.stream ≡ k → 0 < d.row → KindDeparts kind p g (d.row - 1) d.field → OfEach d
+  by_its_kind : (kind : RowKind) (d : Departure) → d.kind ≡ kind → d.stream ≡ k → 0 < d.row
+      → KindDeparts kind p g (d.row - 1) d.field → OfEach d
   by_its_kind Stream d e a low h = absurd h
   by_its_kind Exchange d e a low h = inl (inl (inl (record { stream = a; is_kind = e; low = low; departs = h })))
   by_its_kind Payment d e a low h = inl (inl (inr (record { stream = a; is_kind = e; low = low; departs = h })))
@@ -200,24 +246,35 @@ module _ (k : ℕ) (p : Part) (g : FlowPart) where
   period_at_row never j f h =
       let back : j + 1 - 1 ≡ j = omega arith in
       let Q : ℕ → Type 0 = λ i. KindDeparts Period p g i f in
-      never (record { stream = k; kind = Period; row = j + 1; field = f }) (inr (record { stream = refl; is_kind = refl; low = omega arith; departs = subst Q (sym back) h }))
+      never (record { stream = k; kind = Period; row = j + 1; field = f })
+      (inr (record { stream = refl; is_kind = refl; low = omega arith; departs = subst Q (sym back) h }))
 
   -- the first of the four kinds in order is the first of the stream
   pub stream_first : (a b c d : Option Departure) → KeepsBounds p
-      → IsFirst (AmongRows k Exchange p g (length p.exchanges + 1)) a → IsFirst (AmongRows k Payment p g (length p.payments + 1)) b
+      → IsFirst (AmongRows k Exchange p g (length p.exchanges + 1)) a
+      → IsFirst (AmongRows k Payment p g (length p.payments + 1)) b
       → IsFirst (AmongRows k Period p g (length p.periods + 1)) c → IsFirst (AmongRows k Reset p g (length p.periods)) d
       → IsFirst (AmongStream k p g) (option_or (option_or (option_or a b) c) d)
   stream_first a b c d bounds ha hb hc hd =
       let X = extended k Exchange p g (length p.exchanges) a (exchanges_past p g) ha in
       let P = extended k Payment p g (length p.payments) b (payments_past p g) hb in
       let C = extended k Period p g (length p.periods) c (periods_past p g) hc in
-      let XP = first_or (OfKind k Exchange p g) (OfKind k Payment p g) a b (λ d e m n. by_kind k Exchange Payment p g d e (omega arith) m n) X (λ _. P) in
+      let XP = first_or (OfKind k Exchange p g) (OfKind k Payment p g) a b
+      (λ d e m n. by_kind k Exchange Payment p g d e (omega arith) m n) X (λ _. P) in
       let XPC = first_or UpToPayments (OfKind k Period p g) (option_or a b) c
-      (λ d e m n. elim m [ inl x ↦ by_kind k Exchange Period p g d e (omega arith) x n | inr x ↦ by_kind k Payment Period p g d e (omega arith) x n ])
+      (λ d e m n. elim m [
+        | inl x ↦ by_kind k Exchange Period p g d e (omega arith) x n
+        | inr x ↦
+            by_kind k Payment Period p g d e (omega arith) x n
+      ])
       XP (λ _. C) in
       let each = first_or UpToPeriods (OfKind k Reset p g) (option_or (option_or a b) c) d
       (λ d e m n. elim m [
-        | inl y ↦ elim y [ inl x ↦ by_kind k Exchange Reset p g d e (omega arith) x n | inr x ↦ by_kind k Payment Reset p g d e (omega arith) x n ]
+        | inl y ↦ elim y [
+          | inl x ↦ by_kind k Exchange Reset p g d e (omega arith) x n
+          | inr x ↦
+              by_kind k Payment Reset p g d e (omega arith) x n
+        ]
         | inr x ↦ by_kind k Period Reset p g d e (omega arith) x n
       ])
       XPC (λ never. within_periods k p g d bounds (period_at_row never) hd) in

@@ -1,5 +1,6 @@
 -- What every schedule keeps lets each of its numbers be stated.
-use Rattle.std.proofs.Common.{◌≡◌, ℕ, ◌+◌, ◌-◌, ◌*◌, ◌^◌, ◌<◌, ◌≤◌, Option, Some, ℤ, pos, negsuc, unsigned_abs, arith, ap, subst, inl, inr}
+use Rattle.std.proofs.Common.{◌≡◌, ℕ, ◌+◌, ◌-◌, ◌*◌, ◌^◌, ◌<◌, ◌≤◌, Option, Some, ℤ, pos, negsuc, unsigned_abs, arith}
+use Rattle.std.proofs.Common.{ap, subst, inl, inr}
 use Rattle.std.specs.Prelude.{slice_get, unwrap_or, IfSome}
 use Rattle.std.proofs.lemmas.Option.{slice_get_cases, IfSome_then}
 use Rattle.std.proofs.Math.Nat.{mul-le-mul}
@@ -28,7 +29,8 @@ statable_fits u p h =
     omega (arith, product, power)
 
 amount_statable : (currency : Currency) (v : Dec) → IsAmount currency v → IsStatableDec v
-amount_statable currency v h = record { decimals = omega (arith, h.places, decimals_few currency.letters); size = h.size }
+amount_statable currency v h =
+    record { decimals = omega (arith, h.places, decimals_few currency.letters); size = h.size }
 
 pub notional_statable : (n : ℤ) → IsNotional n → IsStatable n 4
 notional_statable (pos n) h = record { decimals = omega arith; size = omega (arith, signed_arith, h) }
@@ -41,24 +43,36 @@ rate_statable r h = record { decimals = omega arith; size = omega (arith, h) }
 observed_statable : (r : ℤ) → IsRate r → IsStatableRate r
 observed_statable r h = record { decimals = omega arith; size = omega (arith, h) }
 
-pub exchange_statable : (p : Part) (j : ℕ) (x : Exchange) → KeepsBounds p → slice_get p.exchanges j ≡ Some x → IsStatableDec x.amount
-exchange_statable p j x h e = amount_statable p.currency x.amount (every_get (λ (y : Exchange). IsAmount p.currency y.amount) p.exchanges j x h.exchanged e)
+pub exchange_statable : (p : Part) (j : ℕ) (x : Exchange) → KeepsBounds p → slice_get p.exchanges j ≡ Some x
+    → IsStatableDec x.amount
+exchange_statable p j x h e =
+    amount_statable p.currency x.amount
+    (every_get (λ (y : Exchange). IsAmount p.currency y.amount) p.exchanges j x h.exchanged e)
 
-pub payment_statable : (p : Part) (j : ℕ) (y : PaymentEntry) → KeepsBounds p → slice_get p.payments j ≡ Some y → IfSome y.amount IsStatableDec
-payment_statable p j y h e = IfSome_then y.amount (every_get (HasAmount p.currency) p.payments j y h.paid e) (amount_statable p.currency)
+pub payment_statable : (p : Part) (j : ℕ) (y : PaymentEntry) → KeepsBounds p → slice_get p.payments j ≡ Some y
+    → IfSome y.amount IsStatableDec
+payment_statable p j y h e =
+    IfSome_then y.amount (every_get (HasAmount p.currency) p.payments j y h.paid e) (amount_statable p.currency)
 
-pub reset_statable : (p : Part) (j : ℕ) (r : Reset) → KeepsBounds p → slice_get p.resets j ≡ Some r → IfSome r.observed IsStatableRate
-reset_statable p j r h e = IfSome_then r.observed (every_get (λ (y : Reset). IfSome y.observed IsRate) p.resets j r h.observed e) observed_statable
+pub reset_statable : (p : Part) (j : ℕ) (r : Reset) → KeepsBounds p → slice_get p.resets j ≡ Some r
+    → IfSome r.observed IsStatableRate
+reset_statable p j r h e =
+    IfSome_then r.observed (every_get (λ (y : Reset). IfSome y.observed IsRate) p.resets j r h.observed e)
+    observed_statable
 
-entry_statable : (p : Part) (j : ℕ) (e : PeriodEntry) → IsEntry p.day_count e → IsStatablePeriod (dated_period p (j + 1) e)
-entry_statable p j e h = record { notional = notional_statable e.notional h.notional; rate = IfSome_then e.rate h.rate rate_statable }
+entry_statable : (p : Part) (j : ℕ) (e : PeriodEntry) → IsEntry p.day_count e
+    → IsStatablePeriod (dated_period p (j + 1) e)
+entry_statable p j e h =
+    record { notional = notional_statable e.notional h.notional; rate = IfSome_then e.rate h.rate rate_statable }
 
-pub period_statable : (p : Part) (j : ℕ) (x : CalculationPeriod) → KeepsBounds p → period_at p j ≡ Some x → IsStatablePeriod x
+pub period_statable : (p : Part) (j : ℕ) (x : CalculationPeriod) → KeepsBounds p → period_at p j ≡ Some x
+    → IsStatablePeriod x
 period_statable p j x h e = elim (slice_get_cases p.periods j).1 [
   | inl w ↦
       let there = w.2 in
       let same : Some (dated_period p (j + 1) w.0) ≡ Some x = rw there at e in
       let P : CalculationPeriod → Type 0 = λ y. IsStatablePeriod y in
-      subst P (ap (λ (o : Option CalculationPeriod). unwrap_or o x) same) (entry_statable p j w.0 (every_get (IsEntry p.day_count) p.periods j w.0 h.entries there))
+      subst P (ap (λ (o : Option CalculationPeriod). unwrap_or o x) same)
+      (entry_statable p j w.0 (every_get (IsEntry p.day_count) p.periods j w.0 h.entries there))
   | inr w ↦ absurd (let none = w.1 in let bad = rw none at e in cc)
 ]

@@ -1,5 +1,6 @@
 -- The first departure among the streams.
-use Rattle.std.proofs.Common.{◌≡◌, ℕ, ◌+◌, ◌-◌, ◌≤◌, List, length, Option, Some, None, inl, inr, refl, sym, ap, subst, arith}
+use Rattle.std.proofs.Common.{◌≡◌, ℕ, ◌+◌, ◌-◌, ◌≤◌, List, length, Option, Some, None, inl, inr, refl, sym, ap, subst}
+use Rattle.std.proofs.Common.{arith}
 use Rattle.std.specs.Prelude.{slice_get}
 use Rattle.std.proofs.lemmas.Bool.{cases_lt, cases_order}
 use Rattle.std.proofs.lemmas.Option.{slice_get_past, slice_get-get_or, slice_get_cases}
@@ -17,25 +18,37 @@ use Rattle.irs_audit.specs.StreamSets.{OfStream}
 use Rattle.irs_audit.proofs.OrderLemmas.{first_same}
 
 -- the departures of a stream that both have are those of its rows
-pub both_first : (k : ℕ) (p : Part) (g : FlowPart) (o : Option Departure) → IsFirst (AmongStream k p g) o → IsFirst (OfStream k (Some p) (Some g)) o
+pub both_first : (k : ℕ) (p : Part) (g : FlowPart) (o : Option Departure) → IsFirst (AmongStream k p g) o
+    → IsFirst (OfStream k (Some p) (Some g)) o
 both_first k p g o h =
     first_same (AmongStream k p g) (OfStream k (Some p) (Some g)) o
     (λ d m. record { stream = m.stream; departs = (m.low, m.departs) })
     (λ d m. record { stream = m.stream; low = m.departs.0; departs = m.departs.1 })
     h
 
-whole_order : (k : ℕ) (field : Field) (e : Departure) → e.stream ≡ k → e.kind ≡ Stream → e.row ≡ 0 → e.field ≡ field → NotAfter (record { stream = k; kind = Stream; row = 0; field = field }) e
+whole_order : (k : ℕ) (field : Field) (e : Departure) → e.stream ≡ k → e.kind ≡ Stream → e.row ≡ 0 → e.field ≡ field
+    → NotAfter (record { stream = k; kind = Stream; row = 0; field = field }) e
 whole_order k field e a b c f =
     let Q : Field → Type 0 = λ x. field_place field ≤ field_place x in
     inr (sym a, inr (sym (ap kind_place b), inr (sym c, subst Q (sym f) (omega arith))))
 
 -- a stream that only the schedule has
-pub missing_first : (k : ℕ) (p : Part) → IsFirst (OfStream k (Some p) None) (Some (record { stream = k; kind = Stream; row = 0; field = Missing }))
-missing_first k p = (record { stream = refl; departs = (refl, refl, refl) }, λ e m. let d = m.departs in whole_order k Missing e m.stream d.0 d.1 d.2)
+pub missing_first : (k : ℕ) (p : Part)
+    → IsFirst (OfStream k (Some p) None) (Some (record { stream = k; kind = Stream; row = 0; field = Missing }))
+missing_first k p = (
+  record { stream = refl; departs = (refl, refl, refl) },
+  λ e m. let d = m.departs in
+      whole_order k Missing e m.stream d.0 d.1 d.2,
+)
 
 -- one that only the flows have
-pub extra_first : (k : ℕ) (g : FlowPart) → IsFirst (OfStream k None (Some g)) (Some (record { stream = k; kind = Stream; row = 0; field = Extra }))
-extra_first k g = (record { stream = refl; departs = (refl, refl, refl) }, λ e m. let d = m.departs in whole_order k Extra e m.stream d.0 d.1 d.2)
+pub extra_first : (k : ℕ) (g : FlowPart)
+    → IsFirst (OfStream k None (Some g)) (Some (record { stream = k; kind = Stream; row = 0; field = Extra }))
+extra_first k g = (
+  record { stream = refl; departs = (refl, refl, refl) },
+  λ e m. let d = m.departs in
+      whole_order k Extra e m.stream d.0 d.1 d.2,
+)
 
 module _ (f : List FlowPart) (s : List Part) where
   -- no stream up to the one of number i departs
@@ -62,7 +75,8 @@ module _ (f : List FlowPart) (s : List Part) where
   none_before d h m = let low = m.0 in omega (arith, h, low)
 
   pub none_more : (i : ℕ) → NoneUpTo i → IsFirst (OfPlace i) None → NoneUpTo (i + 1)
-  none_more i below here d h m = let low = m.0 in elim (cases_lt i d.stream) [ inl l ↦ here d (to_place i d (omega (arith, l, h)) m) | inr l ↦ below d l m ]
+  none_more i below here d h m = let low = m.0 in
+      elim (cases_lt i d.stream) [ inl l ↦ here d (to_place i d (omega (arith, l, h)) m) | inr l ↦ below d l m ]
 
   place_order : (i : ℕ) (d e : Departure) → NoneUpTo i → IsFirst (OfPlace i) (Some d) → Departs f s e → NotAfter d e
   place_order i d e below here m =
@@ -78,14 +92,16 @@ module _ (f : List FlowPart) (s : List Part) where
   place_found i d below here = (from_place i d here.0, λ e m. place_order i d e below here m)
 
   -- a stream of the flows past the one behind the schedule's last
-  extra_stream : (j : ℕ) (kind : RowKind) (row : ℕ) (field : Field) → length s ≤ j → StreamDeparts (slice_get s j) (slice_get f j) kind row field
+  extra_stream : (j : ℕ) (kind : RowKind) (row : ℕ) (field : Field) → length s ≤ j
+      → StreamDeparts (slice_get s j) (slice_get f j) kind row field
       → StreamDeparts (slice_get s (length s)) (slice_get f (length s)) Stream 0 Extra
   extra_stream j kind row field h d =
       let n = length s in
       let e = slice_get_past s n (omega arith) in
       let past = slice_get_past s j h in
       elim (slice_get_cases f j).1 [
-        | inl w ↦ let low = w.1 in let there = slice_get-get_or f n w.0 (omega (arith, h, low)) in rw (e, there) (refl, refl, refl)
+        | inl w ↦ let low = w.1 in let there = slice_get-get_or f n w.0 (omega (arith, h, low)) in
+            rw (e, there) (refl, refl, refl)
         | inr w ↦ absurd (let q = w.1 in rw (past, q) at d)
       ]
 
@@ -94,6 +110,8 @@ module _ (f : List FlowPart) (s : List Part) where
     | inl l ↦
         let k = extra_stream (d.stream - 1) d.kind d.row d.field (omega (arith, l)) m.1 in
         let n = length s in
-        below (record { stream = n + 1; kind = Stream; row = 0; field = Extra }) (omega arith) (from_place n (record { stream = n + 1; kind = Stream; row = 0; field = Extra }) (record { stream = refl; departs = k }))
+        below (record { stream = n + 1; kind = Stream; row = 0; field = Extra }) (omega arith)
+        (from_place n (record { stream = n + 1; kind = Stream; row = 0; field = Extra })
+        (record { stream = refl; departs = k }))
     | inr l ↦ below d l m
   ]

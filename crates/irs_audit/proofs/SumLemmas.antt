@@ -1,5 +1,6 @@
 -- The sums of a schedule are small.
-use Rattle.std.proofs.Common.{◌≡◌, ℕ, ◌+◌, ◌-◌, ◌*◌, ◌^◌, ◌<◌, ◌≤◌, List, ◌∷◌, length, drop, get_or, ℤ, pos, negsuc, ◌+ℤ◌, unsigned_abs, FitsSigned, Option, Some, inl, inr, sym, ◌∙◌, ap, arith}
+use Rattle.std.proofs.Common.{◌≡◌, ℕ, ◌+◌, ◌-◌, ◌*◌, ◌^◌, ◌<◌, ◌≤◌, List, ◌∷◌, length, drop, get_or, ℤ, pos, negsuc}
+use Rattle.std.proofs.Common.{◌+ℤ◌, unsigned_abs, FitsSigned, Option, Some, inl, inr, sym, ◌∙◌, ap, arith}
 use Rattle.std.specs.Int.{w64}
 use Rattle.std.specs.List.{fold}
 use Rattle.std.specs.Prelude.{slice_get, unwrap_or, IfSome}
@@ -24,7 +25,8 @@ use Rattle.irs_audit.proofs.VerdictLemmas.{sum_few}
 -- a stated amount
 pub amount_size : (v : Dec) → IsStatableDec v → unsigned_abs (stated_amount v) ≤ most_amount
 amount_size v h =
-    let product : unsigned_abs v.units * 10 ^ (12 - v.places) ≤ 10 ^ 14 * 10 ^ v.places * 10 ^ (12 - v.places) = mul-le-mul h.size (omega arith) in
+    let product : unsigned_abs v.units * 10 ^ (12 - v.places) ≤ 10 ^ 14 * 10 ^ v.places * 10 ^ (12 - v.places) =
+    mul-le-mul h.size (omega arith) in
     let power = both_powers v.places h.decimals in
     rw (unsigned_abs-product v.units (pos (10 ^ (12 - v.places)))) (omega (arith, product, power))
 
@@ -37,16 +39,20 @@ payment_rows_few : (p : Part) → KeepsBounds p → payment_rows p ≤ 2 * most_
 payment_rows_few p h = let payments = payments_few p h in omega (arith, h.few, payments)
 
 pub payment_rows_fit : (s : List Part) → IsWithin s → fold (λ n p. n + payment_rows p) 0 s < 2 ^ 32
-payment_rows_fit s h = let few = sum_few payment_rows (2 * most_periods) 0 s payment_rows_few h.each in omega (arith, few, h.few)
+payment_rows_fit s h = let few = sum_few payment_rows (2 * most_periods) 0 s payment_rows_few h.each in
+    omega (arith, few, h.few)
 
 -- one payment more
-pub paid_more : (t : ℤ) (ys : List PaymentEntry) (i : ℕ) (y : PaymentEntry) → i < length ys → y ≡ get_or ys i y → paid_from (t +ℤ known_or_zero y.amount) (drop (i + 1) ys) ≡ paid_from t (drop i ys)
+pub paid_more : (t : ℤ) (ys : List PaymentEntry) (i : ℕ) (y : PaymentEntry) → i < length ys → y ≡ get_or ys i y
+    → paid_from (t +ℤ known_or_zero y.amount) (drop (i + 1) ys) ≡ paid_from t (drop i ys)
 paid_more t ys i y low is =
-    let rest : drop i ys ≡ y ∷ drop (i + 1) ys = drop_more ys i y low ∙ ap (λ (z : PaymentEntry). z ∷ drop (i + 1) ys) (sym is) in
+    let rest : drop i ys ≡ y ∷ drop (i + 1) ys =
+    drop_more ys i y low ∙ ap (λ (z : PaymentEntry). z ∷ drop (i + 1) ys) (sym is) in
     sym (ap (paid_from t) rest)
 
 -- the days of the period at a place
-pub days_there : (p : Part) (j : ℕ) (x : CalculationPeriod) → period_at p j ≡ Some x → IfSome (slice_get p.periods j) (λ e. x.days ≡ e.days)
+pub days_there : (p : Part) (j : ℕ) (x : CalculationPeriod) → period_at p j ≡ Some x
+    → IfSome (slice_get p.periods j) (λ e. x.days ≡ e.days)
 days_there p j x h = elim (slice_get_cases p.periods j).1 [
   | inl w ↦
       let there = w.2 in
@@ -56,12 +62,14 @@ days_there p j x h = elim (slice_get_cases p.periods j).1 [
 ]
 
 -- the days of one period more
-pub days_more : (t k : ℤ) (es : List PeriodEntry) (i : ℕ) → i < length es → IfSome (slice_get es i) (λ e. k ≡ e.days) → days_from (t +ℤ k) (drop (i + 1) es) ≡ days_from t (drop i es)
+pub days_more : (t k : ℤ) (es : List PeriodEntry) (i : ℕ) → i < length es → IfSome (slice_get es i) (λ e. k ≡ e.days)
+    → days_from (t +ℤ k) (drop (i + 1) es) ≡ days_from t (drop i es)
 days_more t k es i low h = elim (slice_get_cases es i).1 [
   | inl w ↦
       let there = w.2 in
       let is : k ≡ (w.0).days = rw there at h in
-      let rest : drop i es ≡ w.0 ∷ drop (i + 1) es = drop_more es i w.0 w.1 ∙ ap (λ (e : PeriodEntry). e ∷ drop (i + 1) es) w.3 in
+      let rest : drop i es ≡ w.0 ∷ drop (i + 1) es =
+      drop_more es i w.0 w.1 ∙ ap (λ (e : PeriodEntry). e ∷ drop (i + 1) es) w.3 in
       rw is (sym (ap (days_from t) rest))
   | inr w ↦ absurd (let past = w.0 in omega (arith, low, past))
 ]

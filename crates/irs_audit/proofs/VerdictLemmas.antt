@@ -1,5 +1,6 @@
 -- There is one verdict on cash flows, and the counts of a schedule are small.
-use Rattle.std.proofs.Common.{◌≡◌, ℕ, Bool, true, false, cond, ◌+◌, ◌*◌, ◌^◌, ◌<◌, ◌≤◌, List, [], ◌∷◌, length, sym, ◌∙◌, ap, arith, ◌↔◌}
+use Rattle.std.proofs.Common.{◌≡◌, ℕ, Bool, true, false, cond, ◌+◌, ◌*◌, ◌^◌, ◌<◌, ◌≤◌, List, [], ◌∷◌, length, sym, ◌∙◌}
+use Rattle.std.proofs.Common.{ap, arith, ◌↔◌}
 use Rattle.std.specs.Prelude.{is_none, if◌then◌else◌}
 use Rattle.std.specs.List.{fold}
 use Rattle.irs_schedule.specs.Parts.{Part, KeepsBounds, IsWithin}
@@ -24,7 +25,8 @@ one_verdict f s (No d) (Yes a b) h k = absurd (k.0 d h.0)
 one_verdict f s (No d) (No e) h k = ap (λ (x : Departure). No x) (first_is_one (Departs f s) d e h k)
 
 -- it is No exactly where something departs
-pub no_exactly : (f : List FlowPart) (s : List Part) (v : Verdict) → IsVerdict f s v → (IsNo v ↔ ((d : Departure) × Departs f s d))
+pub no_exactly : (f : List FlowPart) (s : List Part) (v : Verdict) → IsVerdict f s v
+    → (IsNo v ↔ ((d : Departure) × Departs f s d))
 no_exactly f s (Yes a b) h = (λ n. absurd n, λ x. h.0 x.0 x.1)
 no_exactly f s (No d) h = (λ _. (d, h.0), λ _. tt)
 
@@ -42,9 +44,11 @@ one_few : (b : Bool) → cond b 1 0 ≤ 1
 one_few true = omega arith
 one_few false = omega arith
 
-count_few : {X : Type 0} (test : X → Bool) (a : ℕ) (xs : List X) → fold (λ n x. n + cond (test x) 1 0) a xs ≤ a + length xs
+count_few : {X : Type 0} (test : X → Bool) (a : ℕ) (xs : List X)
+    → fold (λ n x. n + cond (test x) 1 0) a xs ≤ a + length xs
 count_few test a [] = omega arith
-count_few test a (x ∷ xs) = let rest = count_few test (a + cond (test x) 1 0) xs in let one = one_few (test x) in omega (arith, rest, one)
+count_few test a (x ∷ xs) = let rest = count_few test (a + cond (test x) 1 0) xs in let one = one_few (test x) in
+    omega (arith, rest, one)
 
 pub unfixed_few : (p : Part) → KeepsBounds p → stream_unfixed p ≤ most_periods
 unfixed_few p h =
@@ -52,12 +56,15 @@ unfixed_few p h =
     let count = count_few (λ (y : PaymentEntry). is_none y.amount) 0 p.payments in
     omega (arith, h.few, payments, count)
 
-pub sum_few : (f : Part → ℕ) (c a : ℕ) (ps : List Part) → ((p : Part) → KeepsBounds p → f p ≤ c) → Every KeepsBounds ps → fold (λ n p. n + f p) a ps ≤ a + c * length ps
+pub sum_few : (f : Part → ℕ) (c a : ℕ) (ps : List Part) → ((p : Part) → KeepsBounds p → f p ≤ c) → Every KeepsBounds ps
+    → fold (λ n p. n + f p) a ps ≤ a + c * length ps
 sum_few f c a [] each h = omega arith
-sum_few f c a (p ∷ ps) each h = let rest = sum_few f c (a + f p) ps each h.1 in let one = each p h.0 in omega (arith, rest, one)
+sum_few f c a (p ∷ ps) each h = let rest = sum_few f c (a + f p) ps each h.1 in let one = each p h.0 in
+    omega (arith, rest, one)
 
 pub row_count_fits : (s : List Part) → IsWithin s → row_count s < 2 ^ 32
 row_count_fits s h = let few = sum_few stream_rows most_stream_rows 0 s rows_few h.each in omega (arith, few, h.few)
 
 pub unfixed_count_fits : (s : List Part) → IsWithin s → unfixed_count s < 2 ^ 32
-unfixed_count_fits s h = let few = sum_few stream_unfixed most_periods 0 s unfixed_few h.each in omega (arith, few, h.few)
+unfixed_count_fits s h = let few = sum_few stream_unfixed most_periods 0 s unfixed_few h.each in
+    omega (arith, few, h.few)

@@ -27,7 +27,8 @@ stated_reset g j = option_and_then (λ y. y.reset) (slice_get g.periods j)
 abbrev pub KindDeparts : RowKind → Part → FlowPart → ℕ → Field → Type 0
 KindDeparts Stream p g j field = ⊥
 KindDeparts Exchange p g j field = RowDeparts ExchangeDeparts (slice_get p.exchanges j) (slice_get g.exchanges j) field
-KindDeparts Payment p g j field = RowDeparts (PaymentDeparts p.currency) (slice_get p.payments j) (slice_get g.payments j) field
+KindDeparts Payment p g j field =
+    RowDeparts (PaymentDeparts p.currency) (slice_get p.payments j) (slice_get g.payments j) field
 KindDeparts Period p g j field = RowDeparts PeriodDeparts (period_at p j) (slice_get g.periods j) field
 KindDeparts Reset p g j field = RowDeparts ResetDeparts (slice_get p.resets j) (stated_reset g j) field
 
@@ -41,7 +42,8 @@ StreamDeparts None None kind row field = ⊥
 
 -- the flows depart from the schedule at d; streams count from 1
 abbrev pub Departs : List FlowPart → List Part → Departure → Type 0
-Departs f s d = (0 < d.stream) × StreamDeparts (slice_get s (d.stream - 1)) (slice_get f (d.stream - 1)) d.kind d.row d.field
+Departs f s d =
+    (0 < d.stream) × StreamDeparts (slice_get s (d.stream - 1)) (slice_get f (d.stream - 1)) d.kind d.row d.field
 
 -- the flows agree with the schedule where nothing departs
 abbrev pub Agrees : List FlowPart → List Part → Type 0

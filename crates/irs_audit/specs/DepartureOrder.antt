@@ -5,9 +5,15 @@ use Rattle.irs_audit.specs.declared.departures.RowKind.{RowKind}
 use Rattle.irs_audit.specs.declared.departures.RowKind.TheVariants.{Stream, Exchange, Payment, Period, Reset}
 use Rattle.irs_audit.specs.declared.departures.Field.{Field}
 use Rattle.irs_audit.specs.declared.departures.Field.TheVariants.{Missing, Extra}
-use Rattle.irs_audit.specs.declared.departures.Field.TheVariants.{UnadjustedPrincipalExchangeDate, AdjustedPrincipalExchangeDate, PrincipalExchangeAmount}
-use Rattle.irs_audit.specs.declared.departures.Field.TheVariants.{UnadjustedPaymentDate, AdjustedPaymentDate, CalculationPeriod, Currency, Amount}
-use Rattle.irs_audit.specs.declared.departures.Field.TheVariants.{UnadjustedStartDate, UnadjustedEndDate, AdjustedStartDate, AdjustedEndDate, CalculationPeriodNumberOfDays, NotionalAmount, Rate, DayCountYearFraction}
+use Rattle.irs_audit.specs.declared.departures.Field.TheVariants.{UnadjustedPrincipalExchangeDate}
+use Rattle.irs_audit.specs.declared.departures.Field.TheVariants.{AdjustedPrincipalExchangeDate}
+use Rattle.irs_audit.specs.declared.departures.Field.TheVariants.{PrincipalExchangeAmount}
+use Rattle.irs_audit.specs.declared.departures.Field.TheVariants.{UnadjustedPaymentDate, AdjustedPaymentDate}
+use Rattle.irs_audit.specs.declared.departures.Field.TheVariants.{CalculationPeriod, Currency, Amount}
+use Rattle.irs_audit.specs.declared.departures.Field.TheVariants.{UnadjustedStartDate, UnadjustedEndDate}
+use Rattle.irs_audit.specs.declared.departures.Field.TheVariants.{AdjustedStartDate, AdjustedEndDate}
+use Rattle.irs_audit.specs.declared.departures.Field.TheVariants.{CalculationPeriodNumberOfDays, NotionalAmount, Rate}
+use Rattle.irs_audit.specs.declared.departures.Field.TheVariants.{DayCountYearFraction}
 use Rattle.irs_audit.specs.declared.departures.Field.TheVariants.{ResetDate, AdjustedFixingDate, ObservedRate}
 
 -- the place of a kind of rows in the order
@@ -48,7 +54,9 @@ Level a b Next = (a < b) ⊎ ((a ≡ b) × Next)
 
 -- d comes before e or is in the same place: by stream, kind, row and field
 abbrev pub NotAfter : Departure → Departure → Type 0
-NotAfter d e = Level d.stream e.stream (Level (kind_place d.kind) (kind_place e.kind) (Level d.row e.row (field_place d.field ≤ field_place e.field)))
+NotAfter d e =
+    Level d.stream e.stream
+    (Level (kind_place d.kind) (kind_place e.kind) (Level d.row e.row (field_place d.field ≤ field_place e.field)))
 
 -- the first departure that meets P; none where none does
 abbrev pub IsFirst : (Departure → Type 0) → Option Departure → Type 0

@@ -6,9 +6,16 @@ use Rattle.irs_terms.specs.declared.results.Reset.{Reset}
 use Rattle.irs_schedule.specs.declared.entries.PaymentEntry.{PaymentEntry}
 use Rattle.irs_schedule.specs.declared.views.CalculationPeriod.{CalculationPeriod}
 use Rattle.irs_audit.specs.declared.departures.Field.{Field}
-use Rattle.irs_audit.specs.declared.departures.Field.TheVariants.{UnadjustedPrincipalExchangeDate, AdjustedPrincipalExchangeDate, PrincipalExchangeAmount}
-use Rattle.irs_audit.specs.declared.departures.Field.TheVariants.{UnadjustedPaymentDate, AdjustedPaymentDate, CalculationPeriod as PeriodCount, Currency as CurrencyField, Amount}
-use Rattle.irs_audit.specs.declared.departures.Field.TheVariants.{UnadjustedStartDate, UnadjustedEndDate, AdjustedStartDate, AdjustedEndDate, CalculationPeriodNumberOfDays, NotionalAmount, Rate, DayCountYearFraction}
+use Rattle.irs_audit.specs.declared.departures.Field.TheVariants.{UnadjustedPrincipalExchangeDate}
+use Rattle.irs_audit.specs.declared.departures.Field.TheVariants.{AdjustedPrincipalExchangeDate}
+use Rattle.irs_audit.specs.declared.departures.Field.TheVariants.{PrincipalExchangeAmount}
+use Rattle.irs_audit.specs.declared.departures.Field.TheVariants.{UnadjustedPaymentDate, AdjustedPaymentDate}
+use Rattle.irs_audit.specs.declared.departures.Field.TheVariants.{CalculationPeriod as PeriodCount}
+use Rattle.irs_audit.specs.declared.departures.Field.TheVariants.{Currency as CurrencyField, Amount}
+use Rattle.irs_audit.specs.declared.departures.Field.TheVariants.{UnadjustedStartDate, UnadjustedEndDate}
+use Rattle.irs_audit.specs.declared.departures.Field.TheVariants.{AdjustedStartDate, AdjustedEndDate}
+use Rattle.irs_audit.specs.declared.departures.Field.TheVariants.{CalculationPeriodNumberOfDays, NotionalAmount, Rate}
+use Rattle.irs_audit.specs.declared.departures.Field.TheVariants.{DayCountYearFraction}
 use Rattle.irs_audit.specs.declared.departures.Field.TheVariants.{ResetDate, AdjustedFixingDate, ObservedRate}
 use Rattle.irs_audit.specs.declared.flows.FlowExchange.{FlowExchange}
 use Rattle.irs_audit.specs.declared.flows.FlowPayment.{FlowPayment}

@@ -15,7 +15,8 @@ use Rattle.irs_read.specs.Swaps.{Among}
 use Rattle.irs_base.specs.Limits.{most_rows, most_streams}
 use Rattle.serde_json.specs.Data.{Data}
 use Rattle.std.specs.List.{flat_map}
-use Rattle.std.specs.Prelude.{◌≡◌, ◌⊎◌, ℕ, ◌+◌, ◌<◌, ◌≤◌, nat_le, Bool, true, not, ◌&&◌, List, [], ◌∷◌, length, Option, Some, None, is_some, option_and_then, codes, Ok, Err, if◌then◌else◌}
+use Rattle.std.specs.Prelude.{◌≡◌, ◌⊎◌, ℕ, ◌+◌, ◌<◌, ◌≤◌, nat_le, Bool, true, not, ◌&&◌, List, [], ◌∷◌, length, Option}
+use Rattle.std.specs.Prelude.{Some, None, is_some, option_and_then, codes, Ok, Err, if◌then◌else◌}
 
 -- a rule that is broken in a stream, or outside the streams, at an element without index
 abbrev pub at : ℕ → Rule → ℕ → Broken
@@ -45,7 +46,9 @@ sole (x ∷ y ∷ rest) = None
 
 -- whether `calculatedRate` stands in the one `floatingRateDefinition` of a period
 abbrev pub has_calculated_rate : Data → Bool
-has_calculated_rate d = is_some (option_and_then (child_of (codes "calculatedRate")) (sole (values_in (codes "floatingRateDefinition") (Some d))))
+has_calculated_rate d =
+    is_some (option_and_then (child_of (codes "calculatedRate"))
+    (sole (values_in (codes "floatingRateDefinition") (Some d))))
 
 -- whether both rates stand in a period
 abbrev pub has_both_rates : Data → Bool
@@ -53,7 +56,9 @@ has_both_rates d = is_some (child_of (codes "fixedRate") d) && has_calculated_ra
 
 -- the faults of the calculation period with this number: those of its table, and that both rates stand
 abbrev pub PeriodFault : ℕ → ℕ → Data → Broken → Type 0
-PeriodFault stream number d f = FaultAt period_rows period_names stream 0 (Object Free) number d f ⊎ Only (has_both_rates d) (at stream K7 flow_period) f
+PeriodFault stream number d f =
+    FaultAt period_rows period_names stream 0 (Object Free) number d f
+    ⊎ Only (has_both_rates d) (at stream K7 flow_period) f
 
 -- the calculation periods of a payment
 abbrev pub periods_in : Data → List Data
@@ -86,7 +91,9 @@ payments_in o = few (values_in (codes "paymentCalculationPeriod") o)
 
 -- the faults of cash flows: those of their table, and those of the periods of their payments
 abbrev pub CashflowsFault : ℕ → Data → Broken → Type 0
-CashflowsFault stream d f = FaultAt flow_rows flow_names stream 0 (Object Free) 0 d f ⊎ PeriodsFault stream (periods_of (payments_in (Some d))) f
+CashflowsFault stream d f =
+    FaultAt flow_rows flow_names stream 0 (Object Free) 0 d f
+    ⊎ PeriodsFault stream (periods_of (payments_in (Some d))) f
 
 -- the faults of the values of `cashflows`, which stands once
 abbrev pub OnceFault : ℕ → List Data → Broken → Type 0
@@ -108,7 +115,8 @@ pub data StreamsFault (ds : List Data) : Broken → Type 0 where
   -- there are more than eight
   many_streams : most_streams < length ds → StreamsFault ds (at 0 K7 swap_stream)
   -- there are one to eight, and one of them has the fault
-  in_stream : (f : Broken) → 0 < length ds → length ds ≤ most_streams → Among (λ j. StreamFault (j + 1)) ds f → StreamsFault ds f
+  in_stream : (f : Broken) → 0 < length ds → length ds ≤ most_streams → Among (λ j. StreamFault (j + 1)) ds f
+      → StreamsFault ds f
 
 -- the faults of a swap: its own, and where it is an object those of its streams
 abbrev pub SwapFault : Data → Broken → Type 0

@@ -62,14 +62,17 @@ period_with first fraction reset d = record {
   adjusted_end = said day_at (once (codes "adjustedEndDate") d);
   days = said whole_at (once (codes "calculationPeriodNumberOfDays") d);
   notional = said amount_at (once (codes "notionalAmount") d);
-  rate = either (said amount_at (once (codes "fixedRate") d)) (said amount_at (member (codes "calculatedRate") (once (codes "floatingRateDefinition") d)));
+  rate = either (said amount_at (once (codes "fixedRate") d))
+      (said amount_at (member (codes "calculatedRate") (once (codes "floatingRateDefinition") d)));
   fraction = fraction;
   reset = reset;
 }
 
 -- the fields of a calculation period
 abbrev pub period_in : Data → FlowPeriod
-period_in d = period_with (said day_at (once (codes "unadjustedStartDate") d)) (option_map stated (said fraction_at (once (codes "dayCountYearFraction") d))) (reset_at d) d
+period_in d =
+    period_with (said day_at (once (codes "unadjustedStartDate") d))
+    (option_map stated (said fraction_at (once (codes "dayCountYearFraction") d))) (reset_at d) d
 
 -- the flows in a `cashflows` that may be absent
 abbrev pub flows_in : Option Data → FlowPart

@@ -4,7 +4,8 @@ use Rattle.irs_audit.specs.declared.flows.FlowPayment.{FlowPayment}
 use Rattle.irs_audit.specs.declared.flows.FlowPeriod.{FlowPeriod}
 use Rattle.std.specs.Prelude.{List}
 
--- the flows of one stream: its principal exchanges, its payments, and the calculation periods of all of its payments, each in order
+-- the flows of one stream: its principal exchanges, its payments, and the calculation periods of all of its
+-- payments, each in order
 pub record FlowPart : Type 0 where
   pub exchanges : List FlowExchange
   pub payments : List FlowPayment

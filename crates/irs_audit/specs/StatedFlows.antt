@@ -78,7 +78,8 @@ stated_period x reset = period_with x (option_map stated_reset reset)
 -- the periods of a part, the first of these at a place, from 0
 abbrev pub stated_periods_from : Part → ℕ → List PeriodEntry → List FlowPeriod
 stated_periods_from p j [] = []
-stated_periods_from p j (e ∷ es) = stated_period (dated_period p (j + 1) e) (slice_get p.resets j) ∷ stated_periods_from p (j + 1) es
+stated_periods_from p j (e ∷ es) =
+    stated_period (dated_period p (j + 1) e) (slice_get p.resets j) ∷ stated_periods_from p (j + 1) es
 
 -- the flows of a stream
 abbrev pub stated_part : Part → FlowPart

@@ -2,7 +2,11 @@
 //! `cashflows`, and of the calculation periods, which are counted through all payments of a stream.
 //!
 //! The carrier, the table and the order of faults are this project's own.
-ghost use Rattle.irs_audit.specs.FlowFaults.{CashflowsFault, FlowFault, OnceFault, OwnFault, PeriodFault, PeriodsFault, PeriodsFrom, StreamFault, StreamsFault, SwapFault, at as at_of, has_both_rates as has_both_rates_of, has_calculated_rate as has_calculated_rate_of, is_sound as is_sound_of, payments_in, periods_of, sole as sole_of};
+ghost use Rattle.irs_audit.specs.FlowFaults.{CashflowsFault, FlowFault, OnceFault, OwnFault, PeriodFault, PeriodsFault};
+ghost use Rattle.irs_audit.specs.FlowFaults.{PeriodsFrom, StreamFault, StreamsFault, SwapFault, at as at_of};
+ghost use Rattle.irs_audit.specs.FlowFaults.{has_both_rates as has_both_rates_of};
+ghost use Rattle.irs_audit.specs.FlowFaults.{has_calculated_rate as has_calculated_rate_of, is_sound as is_sound_of};
+ghost use Rattle.irs_audit.specs.FlowFaults.{payments_in, periods_of, sole as sole_of};
 ghost use Rattle.irs_base.specs.Elements.{flow_period};
 ghost use Rattle.irs_elements.specs.Elements.{fault_if, is_odd as is_odd_of};
 ghost use Rattle.irs_elements.specs.Find.{seen};

@@ -4,7 +4,8 @@
 //! calculation periods are passed over, since they are counted through all payments of the stream and
 //! each is looked into with that number. The order of the rows, the counts, and which elements are in
 //! the profile, are this project's own.
-ghost use Rattle.irs_audit.specs.FlowLines.{flow_elements, flow_names, flow_rows, flow_table, period_elements, period_names, period_rows, period_table};
+ghost use Rattle.irs_audit.specs.FlowLines.{flow_elements, flow_names, flow_rows, flow_table, period_elements};
+ghost use Rattle.irs_audit.specs.FlowLines.{period_names, period_rows, period_table};
 ghost use Rattle.irs_elements.specs.Lines.{Line};
 ghost use Rattle.irs_read.specs.Tables.{is_whole};
 ghost use Rattle.std.specs.Prelude.{◌≡◌, drop, map, true};

@@ -1,9 +1,13 @@
 //! The cash flows that state a schedule: a row for each of its rows, with each field that it knows.
 //! That they state every field, and fractions with ten decimals, is this project's own.
-ghost use Rattle.std.specs.Prelude.{◌≡◌, ◌+◌, ◌-◌, ◌<◌, ◌≤◌, ◌*◌, ◌^◌, ◌*ℤ◌, pos, unsigned_abs, length, map, option_map, slice_get, IfOk, IfSome};
+ghost use Rattle.std.specs.Prelude.{◌≡◌, ◌+◌, ◌-◌, ◌<◌, ◌≤◌, ◌*◌, ◌^◌, ◌*ℤ◌, pos, unsigned_abs, length, map};
+ghost use Rattle.std.specs.Prelude.{option_map, slice_get, IfOk, IfSome};
 ghost use Rattle.irs_audit.specs.Agreement.{Agrees};
-ghost use Rattle.irs_audit.specs.Comparisons.{IsPayment, IsSmall, IsStatable, IsStatableDec, IsStatablePeriod, IsStatableRate};
-ghost use Rattle.irs_audit.specs.StatedFlows.{period_with, stated_amount, stated_exchange, stated_flows, stated_fraction, stated_number, stated_part, stated_payment, stated_periods_from, stated_reset};
+ghost use Rattle.irs_audit.specs.Comparisons.{IsPayment, IsSmall, IsStatable, IsStatableDec, IsStatablePeriod};
+ghost use Rattle.irs_audit.specs.Comparisons.{IsStatableRate};
+ghost use Rattle.irs_audit.specs.StatedFlows.{period_with, stated_amount, stated_exchange, stated_flows};
+ghost use Rattle.irs_audit.specs.StatedFlows.{stated_fraction, stated_number, stated_part, stated_payment};
+ghost use Rattle.irs_audit.specs.StatedFlows.{stated_periods_from, stated_reset};
 
 use crate::comparisons::{power_of_ten, scaled};
 use crate::rows::item;

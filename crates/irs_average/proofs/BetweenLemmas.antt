@@ -1,5 +1,6 @@
 -- A rounded quotient lies within the bounds of what it is a mean of.
-use Rattle.std.proofs.Common.{◌≡◌, ℕ, ◌+◌, ◌*◌, ◌≤◌, ℤ, pos, negsuc, ◌+ℤ◌, ◌-ℤ◌, ◌*ℤ◌, ◌≤ℤ◌, ◌<ℤ◌, unsigned_abs, neg_ℤ, sym, ap, ◌∙◌, arith}
+use Rattle.std.proofs.Common.{◌≡◌, ℕ, ◌+◌, ◌*◌, ◌≤◌, ℤ, pos, negsuc, ◌+ℤ◌, ◌-ℤ◌, ◌*ℤ◌, ◌≤ℤ◌, ◌<ℤ◌, unsigned_abs, neg_ℤ}
+use Rattle.std.proofs.Common.{sym, ap, ◌∙◌, arith}
 use Rattle.std.proofs.Math.Nat.{mul-le-mul_left}
 use Rattle.std.proofs.lemmas.Int.{by_lt_z}
 use borrow.Author.Differences.{up, down}
@@ -21,8 +22,10 @@ scaled a b (negsuc k) h low = absurd (omega (arith, signed_arith, low))
 pub spread : (a v w : ℤ) → a *ℤ (v +ℤ w) ≡ a *ℤ v +ℤ a *ℤ w
 spread a v w =
     let e : up (v +ℤ w) + down v + down w ≡ up v + up w + down (v +ℤ w) = omega (arith, signed_arith) in
-    let p : up a * (up (v +ℤ w) + down v + down w) ≡ up a * (up v + up w + down (v +ℤ w)) = ap (λ (n : ℕ). up a * n) e in
-    let q : down a * (up (v +ℤ w) + down v + down w) ≡ down a * (up v + up w + down (v +ℤ w)) = ap (λ (n : ℕ). down a * n) e in
+    let p : up a * (up (v +ℤ w) + down v + down w) ≡ up a * (up v + up w + down (v +ℤ w)) =
+    ap (λ (n : ℕ). up a * n) e in
+    let q : down a * (up (v +ℤ w) + down v + down w) ≡ down a * (up v + up w + down (v +ℤ w)) =
+    ap (λ (n : ℕ). down a * n) e in
     omega (arith, signed_arith, p, q)
 
 turned : (a b : ℤ) → a *ℤ b ≡ b *ℤ a
@@ -45,7 +48,8 @@ multiple_order k m n h =
     (λ (l : m ≤ℤ n). l)
 
 -- p / q, rounded, lies between whole numbers between which it lies
-pub rounded_within : (p q x l g : ℤ) → pos 0 <ℤ q → Rounded Nearest p q x → (l *ℤ q) ≤ℤ p → p ≤ℤ (g *ℤ q) → (l ≤ℤ x) × (x ≤ℤ g)
+pub rounded_within : (p q x l g : ℤ) → pos 0 <ℤ q → Rounded Nearest p q x → (l *ℤ q) ≤ℤ p → p ≤ℤ (g *ℤ q)
+    → (l ≤ℤ x) × (x ≤ℤ g)
 rounded_within p (negsuc k) x l g above r low high = absurd (omega (arith, signed_arith, above))
 rounded_within p (pos k) x l g above r low high = (
   multiple_order (2 * k) l x (omega (arith, signed_arith, above, r, low)),
@@ -72,9 +76,12 @@ line_within a b w d l g low high first second =
     let bg = scaled b g d second.1 low in
     let whole : (w -ℤ d) +ℤ d ≡ w = omega (arith, signed_arith) in
     let rise : (b -ℤ a) +ℤ a ≡ b = omega (arith, signed_arith) in
-    let by : (x : ℤ) → x *ℤ w ≡ x *ℤ (w -ℤ d) +ℤ x *ℤ d = λ x. ap (λ (y : ℤ). x *ℤ y) (sym whole) ∙ spread x (w -ℤ d) d in
+    let by : (x : ℤ) → x *ℤ w ≡ x *ℤ (w -ℤ d) +ℤ x *ℤ d =
+    λ x. ap (λ (y : ℤ). x *ℤ y) (sym whole) ∙ spread x (w -ℤ d) d in
     let up_by : b *ℤ d ≡ (b -ℤ a) *ℤ d +ℤ a *ℤ d = ap (λ (y : ℤ). y *ℤ d) (sym rise) ∙ spread_left (b -ℤ a) a d in
     summed (l *ℤ w) (g *ℤ w) (a *ℤ w) ((b -ℤ a) *ℤ d) _ _ _ _ _ _ _ (by l) (by g) (by a) up_by al ag bl bg
   where
-    summed : (lw gw aw r l1 l2 g1 g2 a1 a2 b2 : ℤ) → lw ≡ l1 +ℤ l2 → gw ≡ g1 +ℤ g2 → aw ≡ a1 +ℤ a2 → b2 ≡ r +ℤ a2 → l1 ≤ℤ a1 → a1 ≤ℤ g1 → l2 ≤ℤ b2 → b2 ≤ℤ g2 → (lw ≤ℤ (aw +ℤ r)) × ((aw +ℤ r) ≤ℤ gw)
-    summed lw gw aw r l1 l2 g1 g2 a1 a2 b2 p q s t h i j k = (omega (arith, signed_arith, p, s, t, h, j), omega (arith, signed_arith, q, s, t, i, k))
+    summed : (lw gw aw r l1 l2 g1 g2 a1 a2 b2 : ℤ) → lw ≡ l1 +ℤ l2 → gw ≡ g1 +ℤ g2 → aw ≡ a1 +ℤ a2 → b2 ≡ r +ℤ a2
+        → l1 ≤ℤ a1 → a1 ≤ℤ g1 → l2 ≤ℤ b2 → b2 ≤ℤ g2 → (lw ≤ℤ (aw +ℤ r)) × ((aw +ℤ r) ≤ℤ gw)
+    summed lw gw aw r l1 l2 g1 g2 a1 a2 b2 p q s t h i j k =
+        (omega (arith, signed_arith, p, s, t, h, j), omega (arith, signed_arith, q, s, t, i, k))

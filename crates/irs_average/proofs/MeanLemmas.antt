@@ -1,5 +1,7 @@
 -- Sums over observations, and the bounds of their means.
-use Rattle.std.proofs.Common.{◌≡◌, ℕ, suc, ◌+◌, ◌<◌, List, [], ◌∷◌, length, drop, drop-cons, get_or, All, Option, Some, None, IsSome, IfSome, unwrap_or, ℤ, pos, neg_ℤ, ◌+ℤ◌, ◌*ℤ◌, ◌≤ℤ◌, ◌<ℤ◌, refl, sym, subst, ap, ap₂, ◌∙◌, arith}
+use Rattle.std.proofs.Common.{◌≡◌, ℕ, suc, ◌+◌, ◌<◌, List, [], ◌∷◌, length, drop, drop-cons, get_or, All, Option, Some}
+use Rattle.std.proofs.Common.{None, IsSome, IfSome, unwrap_or, ℤ, pos, neg_ℤ, ◌+ℤ◌, ◌*ℤ◌, ◌≤ℤ◌, ◌<ℤ◌, refl, sym, subst}
+use Rattle.std.proofs.Common.{ap, ap₂, ◌∙◌, arith}
 use Rattle.jiff_core.proofs.SignedLemmas.{signed_arith}
 use Rattle.irs_base.specs.Limits.{most_rate}
 use Rattle.irs_base.proofs.RoundingLaws.{nearest_exists, nearest_once}
@@ -22,7 +24,9 @@ moved : (sum more rest whole left : ℤ) → left ≡ more +ℤ rest → sum +�
 moved sum more rest whole left a b = omega (arith, signed_arith, a, b)
 
 -- one more is counted
-pub sum_step : (f : Observation → ℤ) (os : List Observation) (k : ℕ) (o : Observation) (sum : ℤ) → k < length os → get_or os k o ≡ o → sum +ℤ sum_over f (drop k os) ≡ sum_over f os → (sum +ℤ f o) +ℤ sum_over f (drop (k + 1) os) ≡ sum_over f os
+pub sum_step : (f : Observation → ℤ) (os : List Observation) (k : ℕ) (o : Observation) (sum : ℤ) → k < length os
+    → get_or os k o ≡ o → sum +ℤ sum_over f (drop k os) ≡ sum_over f os
+    → (sum +ℤ f o) +ℤ sum_over f (drop (k + 1) os) ≡ sum_over f os
 sum_step f os k o sum low is h =
     let next : suc k ≡ k + 1 = omega arith in
     let left : drop k os ≡ o ∷ drop (k + 1) os = drop-cons os k o low ∙ ap₂ ◌∷◌ is (ap (λ (n : ℕ). drop n os) next) in
@@ -37,11 +41,13 @@ sum_of_ones : (os : List Observation) → sum_over (portion Plain) os ≡ pos (l
 sum_of_ones [] = refl
 sum_of_ones (o ∷ os) = let rest = sum_of_ones os in omega (arith, signed_arith, rest)
 
-divisor_is : (kind : Mean) (days : ℤ) (os : List Observation) → ShareOut days os → divisor kind days os ≡ sum_over (portion kind) os
+divisor_is : (kind : Mean) (days : ℤ) (os : List Observation) → ShareOut days os
+    → divisor kind days os ≡ sum_over (portion kind) os
 divisor_is Plain days os h = sym (sum_of_ones os)
 divisor_is Weighted days os h = sym h.whole
 
-pub divisor_above : (kind : Mean) (days : ℤ) (os : List Observation) → pos 0 <ℤ days → 0 < length os → pos 0 <ℤ divisor kind days os
+pub divisor_above : (kind : Mean) (days : ℤ) (os : List Observation) → pos 0 <ℤ days → 0 < length os
+    → pos 0 <ℤ divisor kind days os
 divisor_above Plain days os above some = omega (arith, signed_arith, some)
 divisor_above Weighted days os above some = above
 
@@ -51,7 +57,8 @@ some_within : (l g : ℤ) (r : Option ℤ) → IsSome r → IfSome r (IsWithin l
 some_within l g None some h = absurd (cc)
 some_within l g (Some r) some h = h
 
-counted_within : (l g : ℤ) (kind : Mean) (o : Observation) → pos 0 ≤ℤ o.weight → IsWithin l g (rate_in o) → ((l *ℤ portion kind o) ≤ℤ counted kind o) × (counted kind o ≤ℤ (g *ℤ portion kind o))
+counted_within : (l g : ℤ) (kind : Mean) (o : Observation) → pos 0 ≤ℤ o.weight → IsWithin l g (rate_in o)
+    → ((l *ℤ portion kind o) ≤ℤ counted kind o) × (counted kind o ≤ℤ (g *ℤ portion kind o))
 counted_within l g Plain o some h = (omega (arith, signed_arith, h), omega (arith, signed_arith, h))
 counted_within l g Weighted o some h = (scaled l (rate_in o) o.weight h.0 some, scaled (rate_in o) g o.weight h.1 some)
 
@@ -61,14 +68,17 @@ both_sums a b s t x e h k = omega (arith, signed_arith, e, h, k)
 sums_both : (a b s t x : ℤ) → x ≡ a +ℤ b → s ≤ℤ a → t ≤ℤ b → (s +ℤ t) ≤ℤ x
 sums_both a b s t x e h k = omega (arith, signed_arith, e, h, k)
 
-sum_within : (l g : ℤ) (kind : Mean) (os : List Observation) → first_absent os ≡ None → All (λ o. pos 0 ≤ℤ o.weight) os → All (λ o. IfSome o.rate (IsWithin l g)) os → ((l *ℤ sum_over (portion kind) os) ≤ℤ sum_over (counted kind) os) × (sum_over (counted kind) os ≤ℤ (g *ℤ sum_over (portion kind) os))
+sum_within : (l g : ℤ) (kind : Mean) (os : List Observation) → first_absent os ≡ None → All (λ o. pos 0 ≤ℤ o.weight) os
+    → All (λ o. IfSome o.rate (IsWithin l g)) os → ((l *ℤ sum_over (portion kind) os) ≤ℤ sum_over (counted kind) os)
+    × (sum_over (counted kind) os ≤ℤ (g *ℤ sum_over (portion kind) os))
 sum_within l g kind [] known weights within = (omega (arith, signed_arith), omega (arith, signed_arith))
 sum_within l g kind (o ∷ os) known weights within =
     let here = known_or o.rate o.day (first_absent os) known in
     let low : pos 0 ≤ℤ o.weight = weights 0 o (omega arith) in
     let bounds : IfSome o.rate (IsWithin l g) = within 0 o (omega arith) in
     let one = counted_within l g kind o low (some_within l g o.rate here.0 bounds) in
-    let rest = sum_within l g kind os here.1 (λ k d less. weights (suc k) d (omega (arith, less))) (λ k d less. within (suc k) d (omega (arith, less))) in (
+    let rest = sum_within l g kind os here.1 (λ k d less. weights (suc k) d (omega (arith, less)))
+    (λ k d less. within (suc k) d (omega (arith, less))) in (
       both_sums _ _ _ _ _ (spread l (portion kind o) (sum_over (portion kind) os)) one.0 rest.0,
       sums_both _ _ _ _ _ (spread g (portion kind o) (sum_over (portion kind) os)) one.1 rest.1,
     )
@@ -79,7 +89,8 @@ module _ (kind : Mean) (days : ℤ) (os : List Observation) (above : pos 0 <ℤ 
   mean_within x mean l g within =
       let by = divisor_is kind days os shares in
       let sums = sum_within l g kind os mean.known shares.weights within in
-      rounded_within (sum_over (counted kind) os) (divisor kind days os) x l g (divisor_above kind days os above shares.some) mean.rounded
+      rounded_within (sum_over (counted kind) os) (divisor kind days os) x l g
+      (divisor_above kind days os above shares.some) mean.rounded
       (subst (λ (q : ℤ). (l *ℤ q) ≤ℤ sum_over (counted kind) os) (sym by) sums.0)
       (subst (λ (q : ℤ). sum_over (counted kind) os ≤ℤ (g *ℤ q)) (sym by) sums.1)
 
@@ -89,7 +100,10 @@ module _ (kind : Mean) (days : ℤ) (os : List Observation) (above : pos 0 <ℤ 
 
   -- so it is a rate
   pub mean_small : (x : ℤ) → All IsSmall os → IsMean kind days os x → IsRate x
-  mean_small x small mean = small_within most_rate x (mean_within x mean (neg_ℤ (pos most_rate)) (pos most_rate) (λ k d low. rates_within (get_or os k d).rate (small k d low).rate))
+  mean_small x small mean =
+      small_within most_rate x
+      (mean_within x mean (neg_ℤ (pos most_rate)) (pos most_rate)
+      (λ k d low. rates_within (get_or os k d).rate (small k d low).rate))
 
   some_day : (a b : ℤ) → Some a ≡ Some b → a ≡ b
   some_day a b e = cc
@@ -99,7 +113,9 @@ module _ (kind : Mean) (days : ℤ) (os : List Observation) (above : pos 0 <ℤ 
 
   -- there is one mean, or one first day without a rate
   pub one_mean_found : (x y : Found) → IsMeanFound kind days os x → IsMeanFound kind days os y → x ≡ y
-  one_mean_found (Rate x) (Rate y) p q = ap Rate (nearest_once (sum_over (counted kind) os) (divisor kind days os) x y (divisor_above kind days os above shares.some) p.rounded q.rounded)
+  one_mean_found (Rate x) (Rate y) p q =
+      ap Rate (nearest_once (sum_over (counted kind) os) (divisor kind days os) x y
+      (divisor_above kind days os above shares.some) p.rounded q.rounded)
   one_mean_found (Rate x) (Missing d) p q = absurd (apart (first_absent os) d p.known q)
   one_mean_found (Missing d) (Rate x) p q = absurd (apart (first_absent os) d q.known p)
   one_mean_found (Missing c) (Missing d) p q = ap Missing (some_day c d (sym p ∙ q))
@@ -107,7 +123,8 @@ module _ (kind : Mean) (days : ℤ) (os : List Observation) (above : pos 0 <ℤ 
   mean_by : (absent : Option ℤ) → first_absent os ≡ absent → (found : Found) × IsMeanFound kind days os found
   mean_by (Some d) e = (Missing d, e)
   mean_by None e =
-      let x = nearest_exists (sum_over (counted kind) os) (divisor kind days os) (divisor_above kind days os above shares.some) in
+      let x = nearest_exists (sum_over (counted kind) os) (divisor kind days os)
+      (divisor_above kind days os above shares.some) in
       (Rate x.0, record { known = e; rounded = x.1 })
 
   pub mean_there : (found : Found) × IsMeanFound kind days os found

@@ -19,7 +19,8 @@ lacking_order : (j i : ℕ) → derived_before (lacking_at j) (lacking_at i) ≡
 lacking_order j i = refl
 
 module _ (source : MeanSource) where
-  module _ (i : ℕ) (period : IsPeriod source.adjusted i) (lacks : LacksDay (mean_period_at source i)) (kept : KeptBelow source i) where
+  module _ (i : ℕ) (period : IsPeriod source.adjusted i) (lacks : LacksDay (mean_period_at source i))
+      (kept : KeptBelow source i) where
     not_earlier : (f : Fault) → BreaksSamples source f → derived_before f (lacking_at i) ≡ false
     not_earlier f b =
         let at : level b.number i false ≡ false = elim (cases_order b.number i) [
@@ -34,11 +35,13 @@ module _ (source : MeanSource) where
     first_lacking = (record { number = i; period = period; lacks = lacks; is = refl }, not_earlier)
 
   -- where no period lacks one K43 isn't broken
-  pub samples_kept : (i : ℕ) → ((j : ℕ) → IsPeriod source.adjusted j → j < i) → KeptBelow source i → (f : Fault) → BreaksSamples source f → ⊥
+  pub samples_kept : (i : ℕ) → ((j : ℕ) → IsPeriod source.adjusted j → j < i) → KeptBelow source i → (f : Fault)
+      → BreaksSamples source f → ⊥
   samples_kept i all kept f b = kept b.number b.period (all b.number b.period) b.lacks
 
   -- where fixing dates rise the first K43 is the first of all
-  pub first_of_samples : ((n : ℕ) → NotAfter source.resets n → ⊥) → (f : Fault) → First derived_before (BreaksSamples source) f → First derived_before (BreaksMeans source) f
+  pub first_of_samples : ((n : ℕ) → NotAfter source.resets n → ⊥) → (f : Fault)
+      → First derived_before (BreaksSamples source) f → First derived_before (BreaksMeans source) f
   first_of_samples rising f first = (
     inr first.0,
     λ g b. elim b [
@@ -47,7 +50,8 @@ module _ (source : MeanSource) where
     ],
   )
 
-  pub means_kept : ((n : ℕ) → NotAfter source.resets n → ⊥) → ((f : Fault) → BreaksSamples source f → ⊥) → (f : Fault) → BreaksMeans source f → ⊥
+  pub means_kept : ((n : ℕ) → NotAfter source.resets n → ⊥) → ((f : Fault) → BreaksSamples source f → ⊥) → (f : Fault)
+      → BreaksMeans source f → ⊥
   means_kept rising samples f b = elim b [
     | inl order ↦ rising order.number order.not_after
     | inr lacks ↦ samples f lacks
@@ -57,11 +61,15 @@ module _ (source : MeanSource) where
   after_order j n = refl
 
   -- the lowest period whose fixing date isn't later is the first of all
-  pub first_order : (n : ℕ) → First nat_lt (NotAfter source.resets) n → First derived_before (BreaksMeans source) (not_after_at n)
+  pub first_order : (n : ℕ) → First nat_lt (NotAfter source.resets) n
+      → First derived_before (BreaksMeans source) (not_after_at n)
   first_order n first = (
     inl (record { number = n; not_after = first.0; is = refl }),
     λ g b. elim b [
-      | inl order ↦ subst (λ (h : Fault). derived_before h (not_after_at n) ≡ false) (sym order.is) (level_none order.number n (first.1 order.number order.not_after))
-      | inr lacks ↦ subst (λ (h : Fault). derived_before h (not_after_at n) ≡ false) (sym lacks.is) (after_order lacks.number n)
+      | inl order ↦
+          subst (λ (h : Fault). derived_before h (not_after_at n) ≡ false) (sym order.is)
+          (level_none order.number n (first.1 order.number order.not_after))
+      | inr lacks ↦
+          subst (λ (h : Fault). derived_before h (not_after_at n) ≡ false) (sym lacks.is) (after_order lacks.number n)
     ],
   )

@@ -1,5 +1,7 @@
 -- The observations of a period: there is one list of them, and their weights are the days of the period.
-use Rattle.std.proofs.Common.{◌≡◌, ◌↔◌, inl, inr, ℕ, zero, suc, ◌+◌, ◌-◌, ◌*◌, ◌/◌, ◌<◌, ◌≤◌, List, [], ◌∷◌, ◌++◌, length, length-append, get_or, All, Bool, true, false, Option, ℤ, pos, ◌+ℤ◌, ◌-ℤ◌, ◌≤ℤ◌, ◌<ℤ◌, refl, sym, subst, ap, ◌∙◌, arith}
+use Rattle.std.proofs.Common.{◌≡◌, ◌↔◌, inl, inr, ℕ, zero, suc, ◌+◌, ◌-◌, ◌*◌, ◌/◌, ◌<◌, ◌≤◌, List, [], ◌∷◌, ◌++◌}
+use Rattle.std.proofs.Common.{length, length-append, get_or, All, Bool, true, false, Option, ℤ, pos, ◌+ℤ◌, ◌-ℤ◌, ◌≤ℤ◌}
+use Rattle.std.proofs.Common.{◌<ℤ◌, refl, sym, subst, ap, ◌∙◌, arith}
 use Rattle.std.specs.Prelude.{nat_lt, if◌then◌else◌, unsigned_abs}
 use Rattle.std.proofs.lemmas.Bool.{cases_lt}
 use Rattle.std.proofs.lemmas.Bool.Decides.{nat_tests}
@@ -19,7 +21,8 @@ use Rattle.irs_average.proofs.StepCounts.{before_end, multiples_below, one_count
 
 -- ---- what stands at a place
 
-pub numbered_read : {X : Type 0} (P : ℕ → X → Type 0) (n k : ℕ) (xs : List X) (d : X) → EachNumbered P n xs → k < length xs → P (n + k) (get_or xs k d)
+pub numbered_read : {X : Type 0} (P : ℕ → X → Type 0) (n k : ℕ) (xs : List X) (d : X) → EachNumbered P n xs
+    → k < length xs → P (n + k) (get_or xs k d)
 numbered_read P n k [] d h low = absurd (omega (arith, low))
 numbered_read P n zero (x ∷ xs) d h low = let same : n ≡ n + 0 = omega arith in subst (λ (m : ℕ). P m x) same h.0
 numbered_read P n (suc k) (x ∷ xs) d h low =
@@ -27,8 +30,10 @@ numbered_read P n (suc k) (x ∷ xs) d h low =
     subst (λ (m : ℕ). P m (get_or xs k d)) same (numbered_read P (n + 1) k xs d h.1 (omega (arith, low)))
 
 -- of a list that is numbered from 0
-read_at : {X : Type 0} (P : ℕ → X → Type 0) (k : ℕ) (xs : List X) (d : X) → EachNumbered P 0 xs → k < length xs → P k (get_or xs k d)
-read_at P k xs d h low = let same : 0 + k ≡ k = omega arith in subst (λ (m : ℕ). P m (get_or xs k d)) same (numbered_read P 0 k xs d h low)
+read_at : {X : Type 0} (P : ℕ → X → Type 0) (k : ℕ) (xs : List X) (d : X) → EachNumbered P 0 xs → k < length xs
+    → P k (get_or xs k d)
+read_at P k xs d h low = let same : 0 + k ≡ k = omega arith in
+    subst (λ (m : ℕ). P m (get_or xs k d)) same (numbered_read P 0 k xs d h low)
 
 first_of : (os : List Observation) → 0 < length os → Observation
 first_of [] some = absurd (omega (arith, some))
@@ -63,13 +68,15 @@ none_left e x h = omega (arith, signed_arith, h)
 
 module _ (lines : RateLines) (set : DaySet) (s e : ℤ) (step n : ℕ) where
   -- the weights behind a place are the days from there to the end
-  weights_left : (m : ℕ) (os : List Observation) → EachNumbered (IsSample lines set s e step n) m os → m + length os ≡ n → sum_over (λ o. o.weight) os ≡ e -ℤ point s e step n m
+  weights_left : (m : ℕ) (os : List Observation) → EachNumbered (IsSample lines set s e step n) m os → m + length os ≡ n
+      → sum_over (λ o. o.weight) os ≡ e -ℤ point s e step n m
   weights_left m [] h all =
       let same : m ≡ n = omega (arith, all) in
       none_left e (point s e step n m) (ap (point s e step n) same ∙ point_end s e step n)
   weights_left m (o ∷ os) h all =
       let rest = weights_left (m + 1) os h.1 (omega (arith, all)) in
-      telescopes (step_day s step m) (point s e step n (m + 1)) e o.weight (sum_over (λ o. o.weight) os) (point s e step n m) h.0.weight rest (point_low s e step n m (omega (arith, all)))
+      telescopes (step_day s step m) (point s e step n (m + 1)) e o.weight (sum_over (λ o. o.weight) os)
+      (point s e step n m) h.0.weight rest (point_low s e step n m (omega (arith, all)))
 
   later_step : (k : ℕ) → step_day s step k ≤ℤ step_day s step (k + 1)
   later_step k =
@@ -81,12 +88,16 @@ module _ (lines : RateLines) (set : DaySet) (s e : ℤ) (step n : ℕ) where
 
   end_behind : (k : ℕ) → ((j : ℕ) → j < n ↔ step_day s step j <ℤ e) → k < n → step_day s step k ≤ℤ step_end s e step n k
   end_behind k many low = elim (cases_lt (k + 1) n) [
-    | inl more ↦ subst (λ (x : ℤ). step_day s step k ≤ℤ x) (sym (chosen (nat_lt (k + 1) n) true (step_day s step (k + 1)) e (lt_is (k + 1) n more))) (later_step k)
+    | inl more ↦
+        subst (λ (x : ℤ). step_day s step k ≤ℤ x)
+        (sym (chosen (nat_lt (k + 1) n) true (step_day s step (k + 1)) e (lt_is (k + 1) n more))) (later_step k)
     | inr last ↦
         let same : k + 1 ≡ n = omega (arith, low, last) in
         let none : nat_lt (k + 1) n ≡ false = ap (λ (m : ℕ). nat_lt m n) same ∙ not_lt n in
         let before = (many k).0 low in
-        subst (λ (x : ℤ). step_day s step k ≤ℤ x) (sym (chosen (nat_lt (k + 1) n) false (step_day s step (k + 1)) e none)) (omega (arith, signed_arith, before))
+        subst (λ (x : ℤ). step_day s step k ≤ℤ x)
+        (sym (chosen (nat_lt (k + 1) n) false (step_day s step (k + 1)) e none))
+        (omega (arith, signed_arith, before))
   ]
 
   -- the observations of the first steps
@@ -95,18 +106,22 @@ module _ (lines : RateLines) (set : DaySet) (s e : ℤ) (step n : ℕ) where
     pub each : EachNumbered (IsSample lines set s e step n) 0 os
     pub small : All IsSmall os
 
-  samples_more : (k : ℕ) (os : List Observation) (o : Observation) → Samples k os → IsSample lines set s e step n k o → IsSmall o → Samples (k + 1) (os ++ o ∷ [])
+  samples_more : (k : ℕ) (os : List Observation) (o : Observation) → Samples k os → IsSample lines set s e step n k o
+      → IsSmall o → Samples (k + 1) (os ++ o ∷ [])
   samples_more k os o h is small = record {
-    many = let many = h.many in let longer : length (os ++ o ∷ []) ≡ length os + 1 = simp length-append in omega (arith, many, longer);
+    many = let many = h.many in let longer : length (os ++ o ∷ []) ≡ length os + 1 = simp length-append in
+        omega (arith, many, longer);
     each = let many = h.many in numbered_push (IsSample lines set s e step n) 0 k os o h.each (omega (arith, many)) is;
     small = All-push IsSmall os o h.small small;
   }
 
-  pub samples_pushed : (k : ℕ) (os pushed : List Observation) (o : Observation) → Samples k os → IsSample lines set s e step n k o → IsSmall o → pushed ≡ os ++ o ∷ [] → Samples (k + 1) pushed
+  pub samples_pushed : (k : ℕ) (os pushed : List Observation) (o : Observation) → Samples k os
+      → IsSample lines set s e step n k o → IsSmall o → pushed ≡ os ++ o ∷ [] → Samples (k + 1) pushed
   samples_pushed k os pushed o h is small e = subst (Samples (k + 1)) (sym e) (samples_more k os o h is small)
 
   -- all of them
-  pub samples_all : (os : List Observation) → ((j : ℕ) → j < n ↔ step_day s step j <ℤ e) → length os ≡ n → EachNumbered (IsSample lines set s e step n) 0 os → AreSamples lines set step s e os
+  pub samples_all : (os : List Observation) → ((j : ℕ) → j < n ↔ step_day s step j <ℤ e) → length os ≡ n
+      → EachNumbered (IsSample lines set s e step n) 0 os → AreSamples lines set step s e os
   samples_all os counted many each = record {
     many = subst (λ (m : ℕ). (j : ℕ) → j < m ↔ step_day s step j <ℤ e) (sym many) counted;
     each = subst (λ (m : ℕ). EachNumbered (IsSample lines set s e step m) 0 os) (sym many) each;
@@ -132,14 +147,16 @@ module _ (lines : RateLines) (set : DaySet) (step : ℕ) (s e : ℤ) where
         some = some;
         weights = λ k d low.
             let there = read_at (IsSample lines set s e step n) k os d are.each low in
-            longer lines set s e step n (step_day s step k) (step_end s e step n k) (get_or os k d).weight there.weight (end_behind lines set s e step n k are.many low);
+            longer lines set s e step n (step_day s step k) (step_end s e step n k) (get_or os k d).weight there.weight
+            (end_behind lines set s e step n k are.many low);
         whole = weights_left lines set s e step n 0 os are.each (omega arith) ∙ ap (λ (x : ℤ). e -ℤ x) start;
       }
 
   abbrev sample_by : ℤ → ℤ → Option ℤ → Observation
   sample_by d w r = record { day = d; weight = w; rate = r }
 
-  one_sample : (n k : ℕ) (x y : Observation) → IsSample lines set s e step n k x → IsSample lines set s e step n k y → x ≡ y
+  one_sample : (n k : ℕ) (x y : Observation) → IsSample lines set s e step n k x
+      → IsSample lines set s e step n k y → x ≡ y
   one_sample n k x y p q =
       let days = one_prev set (step_day s step k) x.day y.day p.previous q.previous in
       let weights = p.weight ∙ sym q.weight in
@@ -147,14 +164,18 @@ module _ (lines : RateLines) (set : DaySet) (step : ℕ) (s e : ℤ) where
       λ i. sample_by (days i) (weights i) (rates i)
 
   -- there is one list
-  pub one_samples : (os ps : List Observation) → AreSamples lines set step s e os → AreSamples lines set step s e ps → os ≡ ps
+  pub one_samples : (os ps : List Observation) → AreSamples lines set step s e os → AreSamples lines set step s e ps
+      → os ≡ ps
   one_samples os ps a b =
-      let same : length os ≡ length ps = one_count (length os) (length ps) (λ k. step_day s step k <ℤ e) a.many b.many in
-      one_numbered (IsSample lines set s e step (length ps)) (λ k x y p q. one_sample (length ps) k x y p q) 0 os ps same
+      let same : length os ≡ length ps =
+      one_count (length os) (length ps) (λ k. step_day s step k <ℤ e) a.many b.many in
+      one_numbered (IsSample lines set s e step (length ps))
+      (λ k x y p q. one_sample (length ps) k x y p q) 0 os ps same
       (subst (λ (n : ℕ). EachNumbered (IsSample lines set s e step n) 0 os) same a.each) b.each
 
   -- where none lacks a day there are observations
-  pub samples_there : s <ℤ e → 1 ≤ step → (LacksSample set step s e → ⊥) → (os : List Observation) × AreSamples lines set step s e os
+  pub samples_there : s <ℤ e → 1 ≤ step → (LacksSample set step s e → ⊥)
+      → (os : List Observation) × AreSamples lines set step s e os
   samples_there order wide kept =
       let days : ℕ = unsigned_abs (e -ℤ s) in
       let whole : s +ℤ pos days ≡ e = whole_days s e days order refl in
@@ -164,8 +185,12 @@ module _ (lines : RateLines) (set : DaySet) (step : ℕ) (s e : ℤ) where
       let low = multiples_below days step k some wide in
       let end = before_end s e days (k * step) whole in
       (λ h. end.0 (low.0 h), λ h. low.1 (end.1 h)) in
-      let there = numbered_there (IsSample lines set s e step n) n 0 (λ k from to. elim (decides_prev set (step_day s step k)) [
-        | inl found ↦ (sample_by found.0 (step_end s e step n k -ℤ step_day s step k) (rate_by lines found.0), record { previous = found.1; weight = refl; rate = refl })
+      let there = numbered_there (IsSample lines set s e step n) n 0
+      (λ k from to. elim (decides_prev set (step_day s step k)) [
+        | inl found ↦ (
+          sample_by found.0 (step_end s e step n k -ℤ step_day s step k) (rate_by lines found.0),
+          record { previous = found.1; weight = refl; rate = refl },
+        )
         | inr none ↦ absurd (kept (record { count = k; before_end = (counted k).0 (omega (arith, to)); none = none }))
       ]) in
       (there.0, samples_all lines set s e step n there.0 counted there.1 there.2)
@@ -179,8 +204,10 @@ module _ (lines : RateLines) (set : DaySet) (step : ℕ) (s e : ℤ) where
 -- ---- behind the loop
 
 module _ (lines : RateLines) (set : DaySet) (s e : ℤ) (step n : ℕ) where
-  pub whole : (k : ℕ) (os : List Observation) → ((j : ℕ) → j < n ↔ step_day s step j <ℤ e) → n ≤ k → k ≤ n → Samples lines set s e step n k os → AreSamples lines set step s e os
-  whole k os counted from to h = let many = h.many in samples_all lines set s e step n os counted (omega (arith, many, from, to)) h.each
+  pub whole : (k : ℕ) (os : List Observation) → ((j : ℕ) → j < n ↔ step_day s step j <ℤ e) → n ≤ k → k ≤ n
+      → Samples lines set s e step n k os → AreSamples lines set step s e os
+  whole k os counted from to h = let many = h.many in
+      samples_all lines set s e step n os counted (omega (arith, many, from, to)) h.each
 
 -- a period with a step begins before it ends
 pub in_order : (s e : ℤ) (step n : ℕ) → ((j : ℕ) → j < n ↔ step_day s step j <ℤ e) → 0 < n → s <ℤ e

@@ -17,8 +17,10 @@ no_more m d h = omega (arith, h)
 
 pub multiples_below : (days step k : ℕ) → 1 ≤ days → 1 ≤ step → k < (days - 1) / step + 1 ↔ k * step < days
 multiples_below days step k some wide =
-    let both : (k ≤ (days - 1) / step) ↔ (k * step ≤ days - 1) = le-div_iff_mul-le wide in
-    (λ h. less (k * step) days some (both.0 (up_to k ((days - 1) / step) h)), λ h. below k ((days - 1) / step) (both.1 (no_more (k * step) days h)))
+    let both : (k ≤ (days - 1) / step) ↔ (k * step ≤ days - 1) = le-div_iff_mul-le wide in (
+      λ h. less (k * step) days some (both.0 (up_to k ((days - 1) / step) h)),
+      λ h. below k ((days - 1) / step) (both.1 (no_more (k * step) days h)),
+    )
 
 -- on days
 pub before_end : (s e : ℤ) (days m : ℕ) → s +ℤ pos days ≡ e → m < days ↔ (s +ℤ pos m) <ℤ e

@@ -1,5 +1,6 @@
 -- The stub for which an index is given is there, and it is one.
-use Rattle.std.proofs.Common.{◌≡◌, inl, inr, ℕ, ◌-◌, ◌≤◌, List, [], length, Option, Some, None, IsSome, Result, Ok, Err, IfOk, IfErr, ℤ, ◌<ℤ◌, refl, sym, subst, ◌∙◌, ap, arith}
+use Rattle.std.proofs.Common.{◌≡◌, inl, inr, ℕ, ◌-◌, ◌≤◌, List, [], length, Option, Some, None, IsSome, Result, Ok, Err}
+use Rattle.std.proofs.Common.{IfOk, IfErr, ℤ, ◌<ℤ◌, refl, sym, subst, ◌∙◌, ap, arith}
 use Rattle.std.specs.Prelude.{slice_get}
 use Rattle.jiff_core.proofs.SignedLemmas.{signed_arith}
 use Rattle.irs_base.proofs.Decided.{order_of}
@@ -25,9 +26,11 @@ use Rattle.irs_schedule.specs.Schedules.{IsPart}
 use Rattle.irs_overnight.specs.Overnight.{Asked, IsAsked, asked}
 use Rattle.irs_overnight.specs.declared.derived.DerivedRow.{DerivedRow}
 use Rattle.irs_overnight.proofs.SourceLemmas.{partner, same_stream, some_part}
-use Rattle.irs_average.specs.Interpolations.{BreaksStub, BreaksTenors, IsInterpolated, IsStubBroken, LiesAmongTwo, StubKept, outside_at}
+use Rattle.irs_average.specs.Interpolations.{BreaksStub, BreaksTenors, IsInterpolated, IsStubBroken, LiesAmongTwo}
+use Rattle.irs_average.specs.Interpolations.{StubKept, outside_at}
 use Rattle.irs_average.specs.StubRates.{IsStubRow, StubSource, tenor_rate}
-use Rattle.irs_average.specs.Stubs.{GivesIndex, GivesOn, HasStub, IsStubAsked, IsStubOn, Stub, StubAsked, number_on, stub_source}
+use Rattle.irs_average.specs.Stubs.{GivesIndex, GivesOn, HasStub, IsStubAsked, IsStubOn, Stub, StubAsked, number_on}
+use Rattle.irs_average.specs.Stubs.{stub_source}
 use Rattle.irs_average.specs.declared.stubs.Side.{Side}
 use Rattle.irs_average.specs.declared.stubs.Side.TheVariants.{Initial, Last}
 use Rattle.irs_average.proofs.LineLemmas.{one_stub_row, row_within}
@@ -53,11 +56,13 @@ is_with_days a h = record {
 given_some : (o : Option StubRate) (index : List ℕ) (tenor : Option Frequency) → o ≡ Some (Index index tenor) → IsSome o
 given_some o index tenor e = subst IsSome (sym e) refl
 
-gives_initial : (stubs : Option StubTerms) (index : List ℕ) (tenor : Option Frequency) → GivesOn Initial stubs index tenor → GivesInitial stubs
+gives_initial : (stubs : Option StubTerms) (index : List ℕ) (tenor : Option Frequency)
+    → GivesOn Initial stubs index tenor → GivesInitial stubs
 gives_initial None index tenor h = absurd h
 gives_initial (Some stubs) index tenor h = given_some stubs.initial index tenor h
 
-gives_final : (stubs : Option StubTerms) (index : List ℕ) (tenor : Option Frequency) → GivesOn Last stubs index tenor → GivesFinal stubs
+gives_final : (stubs : Option StubTerms) (index : List ℕ) (tenor : Option Frequency) → GivesOn Last stubs index tenor
+    → GivesFinal stubs
 gives_final None index tenor h = absurd h
 gives_final (Some stubs) index tenor h = given_some stubs.last index tenor h
 
@@ -69,9 +74,19 @@ holds a b h = elim (order_of a b) [
 ]
 
 -- no given stub is unmet
-stub_on : (side : Side) (s : Stream) (span : Span) (n : ℕ) (index : List ℕ) (tenor : Option Frequency) → GivesOn side s.stubs index tenor → (InitialUnmet s span → ⊥) → (FinalUnmet s span → ⊥) → IsStubOn side s span n (number_on side n)
-stub_on Initial s span n index tenor gives initial last = (holds (first_day_of s) span.first (λ none. initial (record { given = gives_initial s.stubs index tenor gives; no_stub = none })), refl)
-stub_on Last s span n index tenor gives initial last = (holds span.last s.termination.day (λ none. last (record { given = gives_final s.stubs index tenor gives; no_stub = none })), refl)
+stub_on : (side : Side) (s : Stream) (span : Span) (n : ℕ) (index : List ℕ) (tenor : Option Frequency)
+    → GivesOn side s.stubs index tenor → (InitialUnmet s span → ⊥) → (FinalUnmet s span → ⊥)
+    → IsStubOn side s span n (number_on side n)
+stub_on Initial s span n index tenor gives initial last = (
+  holds (first_day_of s) span.first
+      (λ none. initial (record { given = gives_initial s.stubs index tenor gives; no_stub = none })),
+  refl,
+)
+stub_on Last s span n index tenor gives initial last = (
+  holds span.last s.termination.day
+      (λ none. last (record { given = gives_final s.stubs index tenor gives; no_stub = none })),
+  refl,
+)
 
 -- the stub with an index
 abbrev pub stub_with : StubAsked → Part → List ℕ → Option Frequency → Stub
@@ -79,15 +94,22 @@ stub_with a part index tenor =
     let period : ℕ = number_on a.side (length part.adjusted - 1) in
     record { period = period; tenor = tenor; source = stub_source part period index a.low a.high a.rates }
 
-pub has_stub : (a : StubAsked) → IsStubAsked a → (part : Part) → slice_get a.parts (a.number - 1) ≡ Some part → (index : List ℕ) (tenor : Option Frequency) → GivesIndex a.swap a.number a.side index tenor → HasStub a (stub_with a part index tenor)
+pub has_stub : (a : StubAsked) → IsStubAsked a → (part : Part) → slice_get a.parts (a.number - 1) ≡ Some part
+    → (index : List ℕ) (tenor : Option Frequency) → GivesIndex a.swap a.number a.side index tenor
+    → HasStub a (stub_with a part index tenor)
 has_stub a h part at index tenor gives =
     let sets = stream_sets h.calendars gives.stream in
-    let found = partner (λ s p. IsPart (stream_sets h.calendars s) [] s p) a.swap.streams a.parts (a.number - 1) gives.stream h.schedule gives.at in
+    let found = partner (λ s p. IsPart (stream_sets h.calendars s) [] s p) a.swap.streams a.parts
+    (a.number - 1) gives.stream h.schedule gives.at in
     let layout = found.2.layout in
     let laid : IsLayout sets gives.stream layout = found.2.is_layout in
     let kept = h.dates (a.number - 1) gives.stream gives.at in
-    let initial : InitialUnmet gives.stream layout.span → ⊥ = λ unmet. kept in_resets (fault_at K37 initial_stub 0) (record { layout = layout; is_layout = laid; breaks = inl (inl (unmet, refl)) }) in
-    let last : FinalUnmet gives.stream layout.span → ⊥ = λ unmet. kept in_resets (fault_at K37 final_stub 0) (record { layout = layout; is_layout = laid; breaks = inl (inr (unmet, refl)) }) in
+    let initial : InitialUnmet gives.stream layout.span → ⊥ =
+    λ unmet. kept in_resets (fault_at K37 initial_stub 0)
+    (record { layout = layout; is_layout = laid; breaks = inl (inl (unmet, refl)) }) in
+    let last : FinalUnmet gives.stream layout.span → ⊥ =
+    λ unmet. kept in_resets (fault_at K37 final_stub 0)
+    (record { layout = layout; is_layout = laid; breaks = inl (inr (unmet, refl)) }) in
     record {
       gives = gives;
       part = part;
@@ -99,7 +121,8 @@ has_stub a h part at index tenor gives =
     }
 
 -- its period is one of the stream
-pub is_period : (side : Side) (adjusted : List ℤ) → 2 ≤ length adjusted → IsPeriod adjusted (number_on side (length adjusted - 1))
+pub is_period : (side : Side) (adjusted : List ℤ) → 2 ≤ length adjusted
+    → IsPeriod adjusted (number_on side (length adjusted - 1))
 is_period Initial adjusted h = (omega arith, omega (arith, h))
 is_period Last adjusted h = (omega (arith, h), omega (arith, h))
 
@@ -111,11 +134,13 @@ index_of i j t u e = cc
 tenor_of : (i j : List ℕ) (t u : Option Frequency) → Some (Index i t) ≡ Some (Index j u) → t ≡ u
 tenor_of i j t u e = cc
 
-one_given : (side : Side) (stubs : Option StubTerms) (i j : List ℕ) (t u : Option Frequency) → GivesOn side stubs i t → GivesOn side stubs j u → (i ≡ j) × (t ≡ u)
+one_given : (side : Side) (stubs : Option StubTerms) (i j : List ℕ) (t u : Option Frequency) → GivesOn side stubs i t
+    → GivesOn side stubs j u → (i ≡ j) × (t ≡ u)
 one_given side None i j t u p q = absurd p
 one_given side (Some stubs) i j t u p q = (index_of i j t u (sym p ∙ q), tenor_of i j t u (sym p ∙ q))
 
-one_index : (a : StubAsked) (i j : List ℕ) (t u : Option Frequency) → GivesIndex a.swap a.number a.side i t → GivesIndex a.swap a.number a.side j u → (i ≡ j) × (t ≡ u)
+one_index : (a : StubAsked) (i j : List ℕ) (t u : Option Frequency) → GivesIndex a.swap a.number a.side i t
+    → GivesIndex a.swap a.number a.side j u → (i ≡ j) × (t ≡ u)
 one_index a i j t u p q =
     let same = same_stream p.stream q.stream (sym p.at ∙ q.at) in
     one_given a.side q.stream.stubs i j t u (subst (λ (s : Stream). GivesOn a.side s.stubs i t) same p.gives) q.gives
@@ -128,7 +153,8 @@ abbrev stub_by : ℕ → Option Frequency → StubSource → Stub
 stub_by period tenor source = record { period = period; tenor = tenor; source = source }
 
 -- every stub is the one with its index
-pub is_with : (a : StubAsked) (stub : Stub) (has : HasStub a stub) → stub ≡ stub_with a has.part stub.source.index stub.tenor
+pub is_with : (a : StubAsked) (stub : Stub) (has : HasStub a stub)
+    → stub ≡ stub_with a has.part stub.source.index stub.tenor
 is_with a stub has =
     let period = numbered_on a.side has.gives.stream has.span (length has.part.adjusted - 1) stub.period has.is_stub in
     let source = has.is ∙ ap (λ (i : ℕ). stub_source has.part i stub.source.index a.low a.high a.rates) period in
@@ -153,7 +179,8 @@ one_interpolated a x y p q =
     let same = one_stub a p.stub q.stub p.has q.has in
     one_stub_row q.stub.source q.stub.period x y (subst (λ (s : Stub). IsStubRow s.source s.period x) same p.is) q.is
 
-outside_by : (a : StubAsked) (f : Fault) (b : BreaksTenors a f) (stub : Stub) → HasStub a stub → f ≡ outside_at stub.period
+outside_by : (a : StubAsked) (f : Fault) (b : BreaksTenors a f) (stub : Stub) → HasStub a stub
+    → f ≡ outside_at stub.period
 outside_by a f b stub has = b.is ∙ ap (λ (s : Stub). outside_at s.period) (one_stub a b.stub stub b.has has)
 
 one_fault : (a : StubAsked) (f g : Fault) → BreaksStub a f → BreaksStub a g → f ≡ g
@@ -171,19 +198,23 @@ pub row_keeps : (a : StubAsked) (row : DerivedRow) → IsInterpolated a row → 
 row_keeps a row h f (inl lacks) = lacks.0 h.stub h.has
 row_keeps a row h f (inr b) =
     let same = one_stub a h.stub b.stub h.has b.has in
-    let moved : IsStubRow b.stub.source b.stub.period row = subst (λ (s : Stub). IsStubRow s.source s.period row) same h.is in
+    let moved : IsStubRow b.stub.source b.stub.period row =
+    subst (λ (s : Stub). IsStubRow s.source s.period row) same h.is in
     b.outside moved.near moved.far moved.between
 
 -- the rate of the row lies between those of the two tenors
 pub lies_among : (a : StubAsked) (row : DerivedRow) → IsInterpolated a row → LiesAmongTwo a row
 lies_among a row h stub has x low high is at_low at_high l g first second =
     let same = one_stub a h.stub stub h.has has in
-    let moved : IsStubRow stub.source stub.period row = subst (λ (s : Stub). IsStubRow s.source s.period row) same h.is in
+    let moved : IsStubRow stub.source stub.period row =
+    subst (λ (s : Stub). IsStubRow s.source s.period row) same h.is in
     row_within stub.source stub.period row x low high l g moved is
-    (ap (tenor_rate stub.source) (low_of a stub has) ∙ at_low) (ap (tenor_rate stub.source) (high_of a stub has) ∙ at_high) first second
+    (ap (tenor_rate stub.source) (low_of a stub has) ∙ at_low) (ap (tenor_rate stub.source) (high_of a stub has)
+    ∙ at_high) first second
 
 -- an answer that is a row or a broken rule
-pub row_there : (a : StubAsked) (r : Result DerivedRow Broken) → IfOk r (IsInterpolated a) → IfErr r (IsStubBroken a) → StubKept a → (row : DerivedRow) × IsInterpolated a row
+pub row_there : (a : StubAsked) (r : Result DerivedRow Broken) → IfOk r (IsInterpolated a) → IfErr r (IsStubBroken a)
+    → StubKept a → (row : DerivedRow) × IsInterpolated a row
 row_there a (Ok row) is broken kept = (row, is)
 row_there a (Err x) is broken kept = absurd (kept broken.fault broken.breaks)
 

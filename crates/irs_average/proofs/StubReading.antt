@@ -1,5 +1,6 @@
 -- The row of a stub prints a fixing file that has exactly its rate.
-use Rattle.std.proofs.Common.{◌≡◌, ℕ, ◌-◌, ◌^◌, ◌<◌, ◌≤◌, List, [], ◌∷◌, length, Option, Some, None, IfSome, Result, Ok, Err, IfOk, sym, subst, ◌∙◌, ap, arith}
+use Rattle.std.proofs.Common.{◌≡◌, ℕ, ◌-◌, ◌^◌, ◌<◌, ◌≤◌, List, [], ◌∷◌, length, Option, Some, None, IfSome, Result, Ok}
+use Rattle.std.proofs.Common.{Err, IfOk, sym, subst, ◌∙◌, ap, arith}
 use Rattle.std.specs.Prelude.{slice_get}
 use Rattle.std.proofs.lemmas.Option.{get_or_from_slice_get, slice_get_within}
 use Rattle.irs_base.specs.Members.{Every}
@@ -23,22 +24,28 @@ use Rattle.irs_average.proofs.StubLemmas.{is_with}
 
 -- ---- the index and the tenor are lawful
 
-lawful_given : (given : Option StubRate) (index : List ℕ) (tenor : Option Frequency) → IfSome given IsLawfulStubRate → given ≡ Some (Index index tenor) → IsLawfulLine index tenor
+lawful_given : (given : Option StubRate) (index : List ℕ) (tenor : Option Frequency) → IfSome given IsLawfulStubRate
+    → given ≡ Some (Index index tenor) → IsLawfulLine index tenor
 lawful_given given index tenor lawful is =
-    let both : IsLawfulStubRate (Index index tenor) = subst (λ (o : Option StubRate). IfSome o IsLawfulStubRate) is lawful in
+    let both : IsLawfulStubRate (Index index tenor) =
+    subst (λ (o : Option StubRate). IfSome o IsLawfulStubRate) is lawful in
     record { named = both.0; lasting = both.1 }
 
-lawful_on : (side : Side) (stubs : Option StubTerms) (index : List ℕ) (tenor : Option Frequency) → IfSome stubs IsLawfulStubs → GivesOn side stubs index tenor → IsLawfulLine index tenor
+lawful_on : (side : Side) (stubs : Option StubTerms) (index : List ℕ) (tenor : Option Frequency)
+    → IfSome stubs IsLawfulStubs → GivesOn side stubs index tenor → IsLawfulLine index tenor
 lawful_on side None index tenor lawful gives = absurd gives
 lawful_on Initial (Some stubs) index tenor lawful gives = lawful_given stubs.initial index tenor lawful.0 gives
 lawful_on Last (Some stubs) index tenor lawful gives = lawful_given stubs.last index tenor lawful.1 gives
 
-lawful_stub : (a : StubAsked) → IsStubAsked a → (stub : Stub) → HasStub a stub → IsLawfulLine stub.source.index stub.tenor
+lawful_stub : (a : StubAsked) → IsStubAsked a → (stub : Stub) → HasStub a stub
+    → IsLawfulLine stub.source.index stub.tenor
 lawful_stub a h stub has =
     let streams = h.lawful.2 in
     let gives = has.gives in
     let low = slice_get_within a.swap.streams (a.number - 1) gives.stream gives.at in
-    let stream : IsLawfulStream gives.stream = subst IsLawfulStream (get_or_from_slice_get a.swap.streams (a.number - 1) gives.stream gives.stream gives.at) (streams (a.number - 1) gives.stream low) in
+    let stream : IsLawfulStream gives.stream =
+    subst IsLawfulStream (get_or_from_slice_get a.swap.streams (a.number - 1) gives.stream gives.stream gives.at)
+    (streams (a.number - 1) gives.stream low) in
     lawful_on a.side gives.stream.stubs stub.source.index stub.tenor stream.stubs gives.gives
 
 -- ---- one row
@@ -67,7 +74,8 @@ number_few : (side : Side) (n : ℕ) → 1 ≤ n → n < 2 ^ 32 → number_on si
 number_few Initial n some few = omega arith
 number_few Last n some few = few
 
-pub stub_reads_back : (a : StubAsked) → IsStubAsked a → Every KeepsBounds a.parts → (row : DerivedRow) → IsInterpolated a row → IsInRange row → StubReadsBack a row
+pub stub_reads_back : (a : StubAsked) → IsStubAsked a → Every KeepsBounds a.parts → (row : DerivedRow)
+    → IsInterpolated a row → IsInRange row → StubReadsBack a row
 stub_reads_back a h bounds row is range = λ stub has.
     let keeps = every_at KeepsBounds a.parts (a.number - 1) is.has.part bounds is.has.at in
     let adjusted = keeps.adjusted in
@@ -75,10 +83,12 @@ stub_reads_back a h bounds row is range = λ stub has.
     let some = keeps.some in
     let count = length is.has.part.adjusted - 1 in
     let number : is.stub.period ≡ number_on a.side count = ap (λ (s : Stub). s.period) (is_with a is.stub is.has) in
-    let short : number_on a.side count < 2 ^ 32 = number_few a.side count (omega (arith, adjusted, some)) (omega (arith, adjusted, few)) in
+    let short : number_on a.side count < 2 ^ 32 =
+    number_few a.side count (omega (arith, adjusted, some)) (omega (arith, adjusted, few)) in
     let small : row.period < 2 ^ 32 = subst (λ (n : ℕ). n < 2 ^ 32) (sym (is.is.number ∙ number)) short in
     are_fixings stub.tenor stub.source.index (row ∷ []) (lawful_stub a h stub has) (one_kept row range small)
 
-pub read_back : (a : StubAsked) → IsStubAsked a → Every KeepsBounds a.parts → (r : Result DerivedRow Broken) → IfOk r (IsInterpolated a) → IfOk r IsInRange → IfOk r (StubReadsBack a)
+pub read_back : (a : StubAsked) → IsStubAsked a → Every KeepsBounds a.parts → (r : Result DerivedRow Broken)
+    → IfOk r (IsInterpolated a) → IfOk r IsInRange → IfOk r (StubReadsBack a)
 read_back a h bounds (Ok row) is range = stub_reads_back a h bounds row is range
 read_back a h bounds (Err x) is range = tt

@@ -34,7 +34,8 @@ GivesOn side None index tenor = ⊥
 GivesOn side (Some stubs) index tenor = given_on side stubs ≡ Some (Index index tenor)
 
 -- in the stream of a swap with that number, from 1
-pub record GivesIndex (swap : Swap) (number : ℕ) (side : Side) (index : List ℕ) (tenor : Option Frequency) : Type 0 where
+pub record GivesIndex (swap : Swap) (number : ℕ) (side : Side) (index : List ℕ)
+    (tenor : Option Frequency) : Type 0 where
   pub from_one : 1 ≤ number
   pub stream : Stream
   pub at : slice_get swap.streams (number - 1) ≡ Some stream

@@ -7,7 +7,8 @@ ghost use Rattle.irs_base.specs.declared.places.Broken.{Broken as BrokenRule};
 ghost use Rattle.irs_overnight.specs.FileLaw.{IsInRange};
 ghost use Rattle.irs_overnight.specs.Overnight.{asked};
 ghost use Rattle.irs_overnight.specs.declared.derived.DerivedRow.{DerivedRow as Row};
-ghost use Rattle.irs_average.specs.Averages.{AverageKept, AverageReadsBack, IsAverage, IsAverageAsked, IsFirstOfAverage, LieAmong, averaged};
+ghost use Rattle.irs_average.specs.Averages.{AverageKept, AverageReadsBack, IsAverage, IsAverageAsked};
+ghost use Rattle.irs_average.specs.Averages.{IsFirstOfAverage, LieAmong, averaged};
 
 use crate::mean_rows::averages;
 use crate::means::Mean;

@@ -4,7 +4,8 @@ ghost use Rattle.irs_base.specs.declared.places.Broken.{Broken as BrokenRule};
 ghost use Rattle.irs_resets.specs.ResetDates.{IsPeriod};
 ghost use Rattle.irs_overnight.specs.FileLaw.{IsInRange};
 ghost use Rattle.irs_overnight.specs.declared.derived.DerivedRow.{DerivedRow as Row};
-ghost use Rattle.irs_average.specs.Interpolations.{BreaksStub, IsInterpolated, IsStubBroken, LiesAmongTwo, StubKept, StubReadsBack, no_stub, outside_at};
+ghost use Rattle.irs_average.specs.Interpolations.{BreaksStub, IsInterpolated, IsStubBroken, LiesAmongTwo, StubKept};
+ghost use Rattle.irs_average.specs.Interpolations.{StubReadsBack, no_stub, outside_at};
 ghost use Rattle.irs_average.specs.StubRates.{IsStubRow, LiesOutside};
 ghost use Rattle.irs_average.specs.Stubs.{IsStubAsked, stub_asked, stub_source};
 

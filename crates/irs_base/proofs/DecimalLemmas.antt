@@ -1,12 +1,16 @@
 -- What digits spell.
-use Rattle.std.proofs.Common.{◌≡◌, inl, inr, ℕ, zero, suc, ◌+◌, ◌-◌, ◌*◌, ◌^◌, ◌<◌, ◌≤◌, nat_le, Bool, IsTrue, true, false, not, ◌&&◌, ◌==◌, List, [], ◌∷◌, ◌++◌, length, drop, refl, sym, ap, ap₂, subst, ◌∙◌, arith}
+use Rattle.std.proofs.Common.{◌≡◌, inl, inr, ℕ, zero, suc, ◌+◌, ◌-◌, ◌*◌, ◌^◌, ◌<◌, ◌≤◌, nat_le, Bool, IsTrue, true}
+use Rattle.std.proofs.Common.{false, not, ◌&&◌, ◌==◌, List, [], ◌∷◌, ◌++◌, length, drop, refl, sym, ap, ap₂, subst, ◌∙◌}
+use Rattle.std.proofs.Common.{arith}
 use Rattle.irs_base.proofs.Orders.{both_true as both}
 use Rattle.std.specs.List.{list_all}
-use Rattle.std.proofs.Math.Nat.{mul-le-mul, mul-le-mul_left, mul-le-mul_right, pow-succ', one-le-pow, le_of_mul-le-mul_right, pow-le-pow_right}
+use Rattle.std.proofs.Math.Nat.{mul-le-mul, mul-le-mul_left, mul-le-mul_right, pow-succ', one-le-pow}
+use Rattle.std.proofs.Math.Nat.{le_of_mul-le-mul_right, pow-le-pow_right}
 use Rattle.std.proofs.lemmas.Bool.Decides.{nat_tests}
 use Rattle.std.proofs.Common.{ℤ, pos, neg_ℤ}
 use Rattle.irs_base.specs.Decimals.DecText.{bare, plus, minus}
-use Rattle.irs_base.specs.Decimals.{DecText, AreDigits, number_after, number_of, padded, is_digit, is_zero, has_no_point, IsUnsigned, IsCut, AreParts}
+use Rattle.irs_base.specs.Decimals.{DecText, AreDigits, number_after, number_of, padded, is_digit, is_zero}
+use Rattle.irs_base.specs.Decimals.{has_no_point, IsUnsigned, IsCut, AreParts}
 
 -- one digit more leaves room for one digit less
 pub room_left : (n c count : ℕ) → 0 < count → c ≤ 9 → (10 * n + c + 1) * 10 ^ (count - 1) ≤ (n + 1) * 10 ^ count
@@ -65,12 +69,16 @@ no_point_behind : (x : ℕ) (xs : List ℕ) → has_no_point (x ∷ xs) ≡ true
 no_point_behind x xs h = (both (not (x == 46)) (has_no_point xs) h).1
 
 -- a text is cut at its first point in one way
-pub same_cut : (w x f g : List ℕ) → has_no_point w ≡ true → has_no_point x ≡ true → w ++ 46 ∷ f ≡ x ++ 46 ∷ g → (w ≡ x) × (f ≡ g)
+pub same_cut : (w x f g : List ℕ) → has_no_point w ≡ true → has_no_point x ≡ true → w ++ 46 ∷ f ≡ x ++ 46 ∷ g
+    → (w ≡ x) × (f ≡ g)
 same_cut [] [] f g a b e = (refl, tail_same 46 46 f g e)
-same_cut [] (y ∷ ys) f g a b e = absurd (point_first ys (subst (λ z. has_no_point (z ∷ ys) ≡ true) (sym (head_same 46 y f (ys ++ 46 ∷ g) e)) b))
-same_cut (y ∷ ys) [] f g a b e = absurd (point_first ys (subst (λ z. has_no_point (z ∷ ys) ≡ true) (head_same y 46 (ys ++ 46 ∷ f) g e) a))
+same_cut [] (y ∷ ys) f g a b e =
+    absurd (point_first ys (subst (λ z. has_no_point (z ∷ ys) ≡ true) (sym (head_same 46 y f (ys ++ 46 ∷ g) e)) b))
+same_cut (y ∷ ys) [] f g a b e =
+    absurd (point_first ys (subst (λ z. has_no_point (z ∷ ys) ≡ true) (head_same y 46 (ys ++ 46 ∷ f) g e) a))
 same_cut (y ∷ ys) (z ∷ zs) f g a b e =
-    let rest = same_cut ys zs f g (no_point_behind y ys a) (no_point_behind z zs b) (tail_same y z (ys ++ 46 ∷ f) (zs ++ 46 ∷ g) e) in
+    let rest = same_cut ys zs f g (no_point_behind y ys a) (no_point_behind z zs b)
+    (tail_same y z (ys ++ 46 ∷ f) (zs ++ 46 ∷ g) e) in
     (ap₂ ◌∷◌ (head_same y z (ys ++ 46 ∷ f) (zs ++ 46 ∷ g) e) rest.0, rest.1)
 
 -- what has a point is no text without one
@@ -79,14 +87,19 @@ with_a_point [] f h = point_first f h
 with_a_point (y ∷ ys) f h = with_a_point ys f (no_point_behind y (ys ++ 46 ∷ f) h)
 
 -- the parts of a decimal are those at its first point
-pub cut_parts : (text w f : List ℕ) (places v : ℕ) → IsCut text w f → (u : IsUnsigned text places v) → (u.whole ≡ w) × (u.fraction ≡ f)
+pub cut_parts : (text w f : List ℕ) (places v : ℕ) → IsCut text w f → (u : IsUnsigned text places v)
+    → (u.whole ≡ w) × (u.fraction ≡ f)
 cut_parts text w f places v cut u = elim cut.is [
   | inl none ↦ elim u.is [
     | inl other ↦ (sym other.0 ∙ none.0, other.1 ∙ sym none.1)
-    | inr point ↦ absurd (with_a_point u.whole u.fraction (subst (λ (t : List ℕ). has_no_point t ≡ true) (sym none.0 ∙ point) cut.no_point))
+    | inr point ↦
+        absurd (with_a_point u.whole u.fraction
+        (subst (λ (t : List ℕ). has_no_point t ≡ true) (sym none.0 ∙ point) cut.no_point))
   ]
   | inr point ↦ elim u.is [
-    | inl other ↦ absurd (with_a_point w f (subst (λ (t : List ℕ). has_no_point t ≡ true) (sym other.0 ∙ point) (no_point u.whole u.whole_digits)))
+    | inl other ↦
+        absurd (with_a_point w f
+        (subst (λ (t : List ℕ). has_no_point t ≡ true) (sym other.0 ∙ point) (no_point u.whole u.whole_digits)))
     | inr second ↦ same_cut u.whole w u.fraction f (no_point u.whole u.whole_digits) cut.no_point (sym second ∙ point)
   ]
 ]
@@ -112,7 +125,8 @@ zeros_after n (c ∷ cs) h =
     same n c k z = rw z (omega arith)
 
 -- the padded number is that of the digits, in units of the last place
-pub padded_value : (n p : ℕ) (f : List ℕ) → list_all is_zero (drop p f) ≡ true → number_after n (padded p f) * 10 ^ length f ≡ number_after n f * 10 ^ p
+pub padded_value : (n p : ℕ) (f : List ℕ) → list_all is_zero (drop p f) ≡ true
+    → number_after n (padded p f) * 10 ^ length f ≡ number_after n f * 10 ^ p
 padded_value n zero f h = rw (zeros_after n f h) (omega arith)
 padded_value n (suc p) [] h =
     let rest = padded_value (10 * n + (48 - 48)) p [] (drop_nil p) in
@@ -123,7 +137,9 @@ padded_value n (suc p) [] h =
     drop_nil (suc p) = refl
 padded_value n (suc p) (c ∷ cs) h =
     let rest = padded_value (10 * n + (c - 48)) p cs h in
-    rw (pow-succ' 10 p, pow-succ' 10 (length cs)) (by_ten (number_after (10 * n + (c - 48)) (padded p cs)) (10 ^ length cs) (number_after (10 * n + (c - 48)) cs) (10 ^ p) rest)
+    rw (pow-succ' 10 p, pow-succ' 10 (length cs))
+    (by_ten (number_after (10 * n + (c - 48)) (padded p cs)) (10 ^ length cs) (number_after (10 * n + (c - 48)) cs)
+    (10 ^ p) rest)
   where
     by_ten : (a b c d : ℕ) → a * b ≡ c * d → a * (10 * b) ≡ c * (10 * d)
     by_ten a b c d h = omega (arith, h)
@@ -141,27 +157,34 @@ some_power k = let p = one-le-pow k 10 (omega arith) in omega (arith, p)
 all_zeros : (v n : ℕ) (f : List ℕ) → AreDigits f → v * 10 ^ length f ≡ number_after n f → list_all is_zero f ≡ true
 all_zeros v n [] h e = refl
 all_zeros v n (c ∷ cs) h e =
-    let e₂ : v * (10 * 10 ^ length cs) ≡ number_after (10 * n + (c - 48)) cs = sym (ap (λ (k : ℕ). v * k) (pow-succ' 10 (length cs))) ∙ e in
+    let e₂ : v * (10 * 10 ^ length cs) ≡ number_after (10 * n + (c - 48)) cs =
+    sym (ap (λ (k : ℕ). v * k) (pow-succ' 10 (length cs))) ∙ e in
     let e₃ : 10 * v * 10 ^ length cs ≡ number_after (10 * n + (c - 48)) cs = omega (arith, e₂) in
     let rest = all_zeros (10 * v) (10 * n + (c - 48)) cs h.2 e₃ in
-    let same : 10 * v ≡ 10 * n + (c - 48) = cancel (10 * v) (10 * n + (c - 48)) (10 ^ length cs) (some_power (length cs)) (e₃ ∙ zeros_after (10 * n + (c - 48)) cs rest) in
+    let same : 10 * v ≡ 10 * n + (c - 48) =
+    cancel (10 * v) (10 * n + (c - 48)) (10 ^ length cs) (some_power (length cs)) (e₃
+    ∙ zeros_after (10 * n + (c - 48)) cs rest) in
     let z : c ≡ 48 = omega (arith, same, h.0, h.1) in
     rw z rest
 
 -- a number of so many places has zeros behind them
-pub zeros_needed : (v n p : ℕ) (f : List ℕ) → AreDigits f → v * 10 ^ length f ≡ number_after n f * 10 ^ p → list_all is_zero (drop p f) ≡ true
+pub zeros_needed : (v n p : ℕ) (f : List ℕ) → AreDigits f → v * 10 ^ length f ≡ number_after n f * 10 ^ p
+    → list_all is_zero (drop p f) ≡ true
 zeros_needed v n zero f h e = all_zeros v n f h (omega (arith, e))
 zeros_needed v n (suc p) [] h e = refl
 zeros_needed v n (suc p) (c ∷ cs) h e =
     let e₂ : v * (10 * 10 ^ length cs) ≡ number_after (10 * n + (c - 48)) cs * (10 * 10 ^ p) =
-    sym (ap (λ (k : ℕ). v * k) (pow-succ' 10 (length cs))) ∙ e ∙ ap (λ (k : ℕ). number_after (10 * n + (c - 48)) cs * k) (pow-succ' 10 p) in
+    sym (ap (λ (k : ℕ). v * k) (pow-succ' 10 (length cs))) ∙ e
+    ∙ ap (λ (k : ℕ). number_after (10 * n + (c - 48)) cs * k) (pow-succ' 10 p) in
     zeros_needed v (10 * n + (c - 48)) p cs h.2 (omega (arith, e₂))
 
 -- what isn't refused is a decimal, and its value is what the digits spell
-pub unsigned_is : (text w f : List ℕ) (p : ℕ) → IsCut text w f → AreParts w f → list_all is_zero (drop p f) ≡ true → IsUnsigned text p (number_after (number_after 0 (padded (length w) w)) (padded p f))
+pub unsigned_is : (text w f : List ℕ) (p : ℕ) → IsCut text w f → AreParts w f → list_all is_zero (drop p f) ≡ true
+    → IsUnsigned text p (number_after (number_after 0 (padded (length w) w)) (padded p f))
 unsigned_is text w f p cut parts zeros =
     let n : ℕ = number_after 0 (padded (length w) w) in
-    let same : number_of (w ++ f) ≡ number_after n f = number_behind_both 0 w f ∙ ap (λ (l : List ℕ). number_after (number_after 0 l) f) (sym (padded_whole w)) in
+    let same : number_of (w ++ f) ≡ number_after n f =
+    number_behind_both 0 w f ∙ ap (λ (l : List ℕ). number_after (number_after 0 l) f) (sym (padded_whole w)) in
     record {
       whole = w;
       fraction = f;
@@ -180,18 +203,22 @@ not_parts text w f p v cut h u =
     let are : AreParts u.whole u.fraction = (u.whole_digits, u.fraction_digits, u.some, u.short) in
     h (subst (λ (l : List ℕ). AreParts w l) parts.1 (subst (λ (l : List ℕ). AreParts l u.fraction) parts.0 are))
 
-pub not_zeros : (text w f : List ℕ) (p v : ℕ) → IsCut text w f → (list_all is_zero (drop p f) ≡ true → ⊥) → IsUnsigned text p v → ⊥
+pub not_zeros : (text w f : List ℕ) (p v : ℕ) → IsCut text w f → (list_all is_zero (drop p f) ≡ true → ⊥)
+    → IsUnsigned text p v → ⊥
 not_zeros text w f p v cut h u =
     let parts = cut_parts text w f p v cut u in
-    let e : v * 10 ^ length u.fraction ≡ number_after (number_after 0 u.whole) u.fraction * 10 ^ p = u.value ∙ ap (λ (k : ℕ). k * 10 ^ p) (number_behind_both 0 u.whole u.fraction) in
-    h (subst (λ (l : List ℕ). list_all is_zero (drop p l) ≡ true) parts.1 (zeros_needed v (number_after 0 u.whole) p u.fraction u.fraction_digits e))
+    let e : v * 10 ^ length u.fraction ≡ number_after (number_after 0 u.whole) u.fraction * 10 ^ p =
+    u.value ∙ ap (λ (k : ℕ). k * 10 ^ p) (number_behind_both 0 u.whole u.fraction) in
+    h (subst (λ (l : List ℕ). list_all is_zero (drop p l) ≡ true) parts.1
+    (zeros_needed v (number_after 0 u.whole) p u.fraction u.fraction_digits e))
 
 -- a text stands for one number at most
 pub one_unsigned : (text : List ℕ) (p v k : ℕ) → IsUnsigned text p v → IsUnsigned text p k → v ≡ k
 one_unsigned text p v k a b =
     let cut : IsCut text b.whole b.fraction = record { no_point = no_point b.whole b.whole_digits; is = b.is } in
     let parts = cut_parts text b.whole b.fraction p v cut a in
-    let e : v * 10 ^ length b.fraction ≡ number_of (b.whole ++ b.fraction) * 10 ^ p = rw (sym parts.0, sym parts.1) a.value in
+    let e : v * 10 ^ length b.fraction ≡ number_of (b.whole ++ b.fraction) * 10 ^ p =
+    rw (sym parts.0, sym parts.1) a.value in
     cancel v k (10 ^ length b.fraction) (some_power (length b.fraction)) (e ∙ sym b.value)
 
 -- room for eighteen digits and twelve places
@@ -230,7 +257,8 @@ pub minus_none : (ds : List ℕ) (p : ℕ) (v : ℤ) → ((n : ℕ) → IsUnsign
 minus_none ds p v none (bare _ _ n u) = sign_first 45 ds p n (omega arith) u
 minus_none ds p v none (minus _ _ n u) = none n u
 
-pub bare_none : (text : List ℕ) (p : ℕ) (v : ℤ) → ((rest : List ℕ) → text ≡ 43 ∷ rest → ⊥) → ((rest : List ℕ) → text ≡ 45 ∷ rest → ⊥) → ((n : ℕ) → IsUnsigned text p n → ⊥) → DecText text p v → ⊥
+pub bare_none : (text : List ℕ) (p : ℕ) (v : ℤ) → ((rest : List ℕ) → text ≡ 43 ∷ rest → ⊥)
+    → ((rest : List ℕ) → text ≡ 45 ∷ rest → ⊥) → ((n : ℕ) → IsUnsigned text p n → ⊥) → DecText text p v → ⊥
 bare_none text p v no_plus no_minus none (bare _ _ n u) = none n u
 bare_none _ p v no_plus no_minus none (plus ds _ n u) = no_plus ds refl
 bare_none _ p v no_plus no_minus none (minus ds _ n u) = no_minus ds refl

@@ -6,7 +6,8 @@ use Rattle.irs_base.specs.declared.places.Fault.{Fault}
 use Rattle.irs_base.specs.declared.places.Broken.{Broken}
 use Rattle.irs_base.specs.Faults.{fault_at}
 use Rattle.irs_base.specs.Order.{First, turn, is_before, is_before_in, comes_before}
-use Rattle.irs_base.proofs.Firsts.{IsOrder, IsFounded, AreTied, level_order, rank_order, level_founded, rank_founded, tied, tied_last, one_first}
+use Rattle.irs_base.proofs.Firsts.{IsOrder, IsFounded, AreTied, level_order, rank_order, level_founded, rank_founded}
+use Rattle.irs_base.proofs.Firsts.{tied, tied_last, one_first}
 use Rattle.irs_base.proofs.RuleNumbers.{same_rule}
 
 -- ---- in a swap
@@ -27,7 +28,9 @@ broken_ties f g p q =
 
 -- within its stream
 pub broken_order_in : IsOrder is_before_in
-broken_order_in = level_order (λ (f : Broken). rule_number f.rule) _ (level_order (λ (f : Broken). f.place.elem) _ (rank_order (λ (f : Broken). f.place.index)))
+broken_order_in =
+    level_order (λ (f : Broken). rule_number f.rule) _
+    (level_order (λ (f : Broken). f.place.elem) _ (rank_order (λ (f : Broken). f.place.index)))
 
 pub broken_order : IsOrder is_before
 broken_order = level_order (λ (f : Broken). f.place.stream) _ broken_order_in
@@ -46,15 +49,23 @@ fault_ties f g p q =
     same_fault f.rule g.rule _ _ _ _ (same_rule f.rule g.rule numbers.0) elements.0 index
 
 pub fault_order : IsOrder comes_before
-fault_order = level_order (λ (f : Fault). turn f.rule) _ (level_order (λ (f : Fault). rule_number f.rule) _ (level_order (λ (f : Fault). f.elem) _ (rank_order (λ (f : Fault). f.index))))
+fault_order =
+    level_order (λ (f : Fault). turn f.rule) _
+    (level_order (λ (f : Fault). rule_number f.rule) _
+    (level_order (λ (f : Fault). f.elem) _ (rank_order (λ (f : Fault). f.index))))
 
 pub fault_founded : IsFounded comes_before
-fault_founded = level_founded (λ (f : Fault). turn f.rule) _ (level_founded (λ (f : Fault). rule_number f.rule) _ (level_founded (λ (f : Fault). f.elem) _ (rank_founded (λ (f : Fault). f.index))))
+fault_founded =
+    level_founded (λ (f : Fault). turn f.rule) _
+    (level_founded (λ (f : Fault). rule_number f.rule) _
+    (level_founded (λ (f : Fault). f.elem) _ (rank_founded (λ (f : Fault). f.index))))
 
 -- at most one rule is the first that is broken
-pub one_fault : (Breaks : Fault → Type 0) (f g : Fault) → First comes_before Breaks f → First comes_before Breaks g → f ≡ g
+pub one_fault : (Breaks : Fault → Type 0) (f g : Fault) → First comes_before Breaks f
+    → First comes_before Breaks g → f ≡ g
 one_fault Breaks f g p q = one_first comes_before fault_ties Breaks f g p q
 
 -- where none is the first, none is broken
-pub none_broken : (Breaks : Fault → Type 0) → ((f : Fault) → First comes_before Breaks f → ⊥) → (f : Fault) → Breaks f → ⊥
+pub none_broken : (Breaks : Fault → Type 0) → ((f : Fault) → First comes_before Breaks f → ⊥) → (f : Fault)
+    → Breaks f → ⊥
 none_broken Breaks no_first f h = fault_founded Breaks no_first f h

@@ -1,12 +1,14 @@
 -- Where a field ends.
-use Rattle.std.proofs.Common.{◌≡◌, ℕ, zero, suc, ◌+◌, ◌-◌, ◌<◌, ◌≤◌, true, false, List, [], ◌∷◌, take, drop, length, get_or, arith, refl, ◌∙◌, ap, length-drop}
+use Rattle.std.proofs.Common.{◌≡◌, ℕ, zero, suc, ◌+◌, ◌-◌, ◌<◌, ◌≤◌, true, false, List, [], ◌∷◌, take, drop, length}
+use Rattle.std.proofs.Common.{get_or, arith, refl, ◌∙◌, ap, length-drop}
 use Rattle.std.proofs.Math.Seq.{drop-cons}
 use Rattle.std.proofs.lemmas.List.{take_all}
 use Rattle.irs_base.specs.Lines.{with_byte}
 use Rattle.irs_base.specs.Fields.{is_space, begins_space, fields}
 
 -- a gap in front changes nothing
-pub skip_one : (bytes : List ℕ) (i : ℕ) → i < length bytes → is_space (get_or bytes i 0) ≡ true → fields (drop (i + 1) bytes) ≡ fields (drop i bytes)
+pub skip_one : (bytes : List ℕ) (i : ℕ) → i < length bytes → is_space (get_or bytes i 0) ≡ true
+    → fields (drop (i + 1) bytes) ≡ fields (drop i bytes)
 skip_one bytes i within gap =
     let e : i + 1 ≡ suc i = omega arith in
     rw (e, drop-cons bytes i 0 within, gap) refl
@@ -14,7 +16,8 @@ skip_one bytes i within gap =
 pub whole_rest : (bytes : List ℕ) (i : ℕ) → i ≤ length bytes → take (length bytes - i) (drop i bytes) ≡ drop i bytes
 whole_rest bytes i h = take_all (length bytes - i) (drop i bytes) (omega (arith, length-drop i bytes))
 
-pub begins_at : (bytes : List ℕ) (i : ℕ) → i < length bytes → is_space (get_or bytes i 0) ≡ false → begins_space (drop i bytes) ≡ false
+pub begins_at : (bytes : List ℕ) (i : ℕ) → i < length bytes → is_space (get_or bytes i 0) ≡ false
+    → begins_space (drop i bytes) ≡ false
 begins_at bytes i within no_gap = rw (drop-cons bytes i 0 within, no_gap) refl
 
 pub none_left : (bytes : List ℕ) (i : ℕ) → length bytes ≤ i → fields (drop i bytes) ≡ []
@@ -24,7 +27,8 @@ none_left (b ∷ bs) zero h = absurd (omega (arith, h))
 none_left (b ∷ bs) (suc i) h = none_left bs i (omega (arith, h))
 
 -- a field goes to the first gap
-pub field_at : (bytes : List ℕ) (i : ℕ) → 0 < i → i < length bytes → is_space (get_or bytes i 0) ≡ true → ((k : ℕ) → k < i → is_space (get_or bytes k 0) ≡ false) → fields bytes ≡ take i bytes ∷ fields (drop i bytes)
+pub field_at : (bytes : List ℕ) (i : ℕ) → 0 < i → i < length bytes → is_space (get_or bytes i 0) ≡ true
+    → ((k : ℕ) → k < i → is_space (get_or bytes k 0) ≡ false) → fields bytes ≡ take i bytes ∷ fields (drop i bytes)
 field_at [] i some within gap none = absurd (omega (arith, within))
 field_at (b ∷ bs) zero some within gap none = absurd (omega (arith, some))
 field_at (b ∷ []) (suc i) some within gap none = absurd (omega (arith, within))
@@ -34,13 +38,16 @@ field_at (b ∷ c ∷ cs) (suc zero) some within gap none =
 field_at (b ∷ c ∷ cs) (suc (suc i)) some within gap none =
     let first : is_space b ≡ false = none 0 (omega arith) in
     let second : is_space c ≡ false = none 1 (omega arith) in
-    let rest = field_at (c ∷ cs) (suc i) (omega arith) (omega (arith, within)) gap (λ k h. none (suc k) (omega (arith, h))) in
+    let rest = field_at (c ∷ cs) (suc i) (omega arith) (omega (arith, within)) gap
+    (λ k h. none (suc k) (omega (arith, h))) in
     begun b c cs first second ∙ ap (with_byte b) rest
   where
-    begun : (b c : ℕ) (cs : List ℕ) → is_space b ≡ false → is_space c ≡ false → fields (b ∷ c ∷ cs) ≡ with_byte b (fields (c ∷ cs))
+    begun : (b c : ℕ) (cs : List ℕ) → is_space b ≡ false → is_space c ≡ false
+        → fields (b ∷ c ∷ cs) ≡ with_byte b (fields (c ∷ cs))
     begun b c cs first second = rw (first, second) refl
 
-pub field_alone : (bytes : List ℕ) → 0 < length bytes → ((k : ℕ) → k < length bytes → is_space (get_or bytes k 0) ≡ false) → fields bytes ≡ bytes ∷ []
+pub field_alone : (bytes : List ℕ) → 0 < length bytes
+    → ((k : ℕ) → k < length bytes → is_space (get_or bytes k 0) ≡ false) → fields bytes ≡ bytes ∷ []
 field_alone [] some none = absurd (omega (arith, some))
 field_alone (b ∷ []) some none =
     let first : is_space b ≡ false = none 0 (omega arith) in
@@ -51,7 +58,8 @@ field_alone (b ∷ c ∷ cs) some none =
     let rest = field_alone (c ∷ cs) (omega arith) (λ k h. none (suc k) (omega (arith, h))) in
     begun b c cs first second ∙ ap (with_byte b) rest
   where
-    begun : (b c : ℕ) (cs : List ℕ) → is_space b ≡ false → is_space c ≡ false → fields (b ∷ c ∷ cs) ≡ with_byte b (fields (c ∷ cs))
+    begun : (b c : ℕ) (cs : List ℕ) → is_space b ≡ false → is_space c ≡ false
+        → fields (b ∷ c ∷ cs) ≡ with_byte b (fields (c ∷ cs))
     begun b c cs first second = rw (first, second) refl
 
 -- the first byte is no gap
@@ -59,6 +67,8 @@ pub first_solid : (bytes : List ℕ) → begins_space bytes ≡ false → is_spa
 first_solid [] h = refl
 first_solid (b ∷ bs) h = h
 
-pub field_here : (bytes : List ℕ) (i : ℕ) → begins_space bytes ≡ false → i < length bytes → is_space (get_or bytes i 0) ≡ true → ((k : ℕ) → k < i → is_space (get_or bytes k 0) ≡ false) → fields bytes ≡ take i bytes ∷ fields (drop i bytes)
+pub field_here : (bytes : List ℕ) (i : ℕ) → begins_space bytes ≡ false → i < length bytes
+    → is_space (get_or bytes i 0) ≡ true → ((k : ℕ) → k < i → is_space (get_or bytes k 0) ≡ false)
+    → fields bytes ≡ take i bytes ∷ fields (drop i bytes)
 field_here bytes zero begins within gap none = absurd (let f = first_solid bytes begins in cc (f, gap))
 field_here bytes (suc i) begins within gap none = field_at bytes (suc i) (omega arith) within gap none

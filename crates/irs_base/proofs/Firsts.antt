@@ -1,6 +1,7 @@
 -- What comes first in an order by levels: there is at most one, the earlier of two firsts is the first of
 -- both sets, and where nothing comes first there is nothing.
-use Rattle.std.proofs.Common.{◌≡◌, ℕ, zero, suc, ◌<◌, Bool, true, false, true≢false, ◌⊎◌, inl, inr, Option, Some, None, refl, sym, ◌∙◌, ap, arith}
+use Rattle.std.proofs.Common.{◌≡◌, ℕ, zero, suc, ◌<◌, Bool, true, false, true≢false, ◌⊎◌, inl, inr, Option, Some, None}
+use Rattle.std.proofs.Common.{refl, sym, ◌∙◌, ap, arith}
 use Rattle.std.specs.Prelude.{if◌then◌else◌, nat_lt}
 use Rattle.std.proofs.lemmas.Bool.Decides.{nat_tests}
 use Rattle.std.proofs.lemmas.Bool.{cases_order}
@@ -8,12 +9,14 @@ use Rattle.irs_base.specs.Order.{First, IsFirst, earlier, level}
 
 -- ---- levels
 
-pub level_trans : (a b c : ℕ) (s t u : Bool) → (s ≡ true → t ≡ true → u ≡ true) → level a b s ≡ true → level b c t ≡ true → level a c u ≡ true
+pub level_trans : (a b c : ℕ) (s t u : Bool) → (s ≡ true → t ≡ true → u ≡ true) → level a b s ≡ true
+    → level b c t ≡ true → level a c u ≡ true
 level_trans a b c true true u h p q = let e : u ≡ true = h refl refl in rw e (grind (arith, nat_tests))
 level_trans a b c true false u h p q = grind (arith, nat_tests)
 level_trans a b c false t u h p q = grind (arith, nat_tests)
 
-pub level_split : (a b c : ℕ) (s t u : Bool) → (s ≡ true → t ≡ false → u ≡ true) → level a c s ≡ true → level a b t ≡ false → level b c u ≡ true
+pub level_split : (a b c : ℕ) (s t u : Bool) → (s ≡ true → t ≡ false → u ≡ true) → level a c s ≡ true
+    → level a b t ≡ false → level b c u ≡ true
 level_split a b c true false u h p q = let e : u ≡ true = h refl refl in rw e (grind (arith, nat_tests))
 level_split a b c true true u h p q = grind (arith, nat_tests)
 level_split a b c false t u h p q = grind (arith, nat_tests)
@@ -65,7 +68,8 @@ rank_order rank = record {
   split = λ h g f p q. grind (arith, nat_tests);
 }
 
-pub level_order : {X : Type 0} (rank : X → ℕ) (next : X → X → Bool) → IsOrder next → IsOrder (λ (f g : X). level (rank f) (rank g) (next f g))
+pub level_order : {X : Type 0} (rank : X → ℕ) (next : X → X → Bool) → IsOrder next
+    → IsOrder (λ (f g : X). level (rank f) (rank g) (next f g))
 level_order rank next order = record {
   itself = λ f. level_same (rank f) (rank f) (next f f) refl (order.itself f);
   trans = λ h g f p q. level_trans (rank h) (rank g) (rank f) (next h g) (next g f) (next h f) (order.trans h g f) p q;
@@ -87,12 +91,14 @@ module _ {X : Type 0} (before : X → X → Bool) (order : IsOrder before) where
   pub after_kept : (h g f : X) → before h g ≡ false → before g f ≡ false → before h f ≡ false
   after_kept h g f p q = not_before (before h f) (λ e. true≢false (sym (order.split h g f e p) ∙ q))
 
-  chosen : (P Q : X → Type 0) (f g : X) (b : Bool) → before g f ≡ b → First before P f → First before Q g → IsFirst before (λ h. P h ⊎ Q h) (if b then Some g else Some f)
+  chosen : (P Q : X → Type 0) (f g : X) (b : Bool) → before g f ≡ b → First before P f → First before Q g
+      → IsFirst before (λ h. P h ⊎ Q h) (if b then Some g else Some f)
   chosen P Q f g true e p q = (inr q.0, λ h x. elim x [ inl y ↦ after_earlier h g f (p.1 h y) e | inr y ↦ q.1 h y ])
   chosen P Q f g false e p q = (inl p.0, λ h x. elim x [ inl y ↦ p.1 h y | inr y ↦ after_kept h g f (q.1 h y) e ])
 
   -- the earlier of the firsts of two sets is the first of both
-  pub first_or : (P Q : X → Type 0) (a b : Option X) → IsFirst before P a → IsFirst before Q b → IsFirst before (λ f. P f ⊎ Q f) (earlier before a b)
+  pub first_or : (P Q : X → Type 0) (a b : Option X) → IsFirst before P a → IsFirst before Q b
+      → IsFirst before (λ f. P f ⊎ Q f) (earlier before a b)
   first_or P Q None None p q = λ f x. elim x [ inl y ↦ p f y | inr y ↦ q f y ]
   first_or P Q None (Some g) p q = (inr q.0, λ h x. elim x [ inl y ↦ absurd (p h y) | inr y ↦ q.1 h y ])
   first_or P Q (Some f) None p q = (inl p.0, λ h x. elim x [ inl y ↦ p.1 h y | inr y ↦ absurd (q h y) ])
@@ -103,7 +109,8 @@ module _ {X : Type 0} (before : X → X → Bool) (order : IsOrder before) where
   first_one P f p only = (p, λ g y. let e : g ≡ f = only g y in rw e (order.itself f))
 
 -- two sets of the same have the same first
-pub first_same : {X : Type 0} (before : X → X → Bool) (P Q : X → Type 0) (a : Option X) → ((f : X) → P f → Q f) → ((f : X) → Q f → P f) → IsFirst before P a → IsFirst before Q a
+pub first_same : {X : Type 0} (before : X → X → Bool) (P Q : X → Type 0) (a : Option X) → ((f : X) → P f → Q f)
+    → ((f : X) → Q f → P f) → IsFirst before P a → IsFirst before Q a
 first_same before P Q None to from p = λ f y. p f (from f y)
 first_same before P Q (Some f) to from p = (to f p.0, λ g y. p.1 g (from g y))
 
@@ -112,11 +119,13 @@ abbrev pub AreTied : {X : Type 0} → (X → X → Bool) → Type 0
 AreTied {X} before = (f g : X) → before f g ≡ false → before g f ≡ false → f ≡ g
 
 -- so there is one first
-pub one_first : {X : Type 0} (before : X → X → Bool) → AreTied before → (P : X → Type 0) (f g : X) → First before P f → First before P g → f ≡ g
+pub one_first : {X : Type 0} (before : X → X → Bool) → AreTied before → (P : X → Type 0) (f g : X) → First before P f
+    → First before P g → f ≡ g
 one_first before ties P f g p q = ties f g (q.1 f p.0) (p.1 g q.0)
 
 -- and one answer
-pub one_answer : {X : Type 0} (before : X → X → Bool) → AreTied before → (P : X → Type 0) (a b : Option X) → IsFirst before P a → IsFirst before P b → a ≡ b
+pub one_answer : {X : Type 0} (before : X → X → Bool) → AreTied before → (P : X → Type 0) (a b : Option X)
+    → IsFirst before P a → IsFirst before P b → a ≡ b
 one_answer before ties P None None p q = refl
 one_answer before ties P None (Some g) p q = absurd (p g q.0)
 one_answer before ties P (Some f) None p q = absurd (q f p.0)
@@ -130,7 +139,8 @@ NoLowest {X} rank P = (x : X) → P x → ((y : X) → rank y < rank x → P y �
 
 none_below : {X : Type 0} (rank : X → ℕ) (P : X → Type 0) → NoLowest rank P → (n : ℕ) (x : X) → rank x < n → P x → ⊥
 none_below rank P no_lowest zero x below holds = omega (arith, below)
-none_below rank P no_lowest (suc n) x below holds = no_lowest x holds (λ y lower h. none_below rank P no_lowest n y (omega (arith, below, lower)) h)
+none_below rank P no_lowest (suc n) x below holds =
+    no_lowest x holds (λ y lower h. none_below rank P no_lowest n y (omega (arith, below, lower)) h)
 
 -- where no x is the lowest with P there is none
 pub none_by_rank : {X : Type 0} (rank : X → ℕ) (P : X → Type 0) → NoLowest rank P → (x : X) → P x → ⊥
@@ -141,9 +151,11 @@ abbrev pub IsFounded : {X : Type 0} → (X → X → Bool) → Type 1
 IsFounded {X} before = (P : X → Type 0) → ((x : X) → First before P x → ⊥) → (x : X) → P x → ⊥
 
 pub rank_founded : {X : Type 0} (rank : X → ℕ) → IsFounded (λ (f g : X). nat_lt (rank f) (rank g))
-rank_founded rank P no_first = none_by_rank rank P (λ x h lower. no_first x (h, λ y p. lt_false (rank y) (rank x) (λ less. lower y less p)))
+rank_founded rank P no_first =
+    none_by_rank rank P (λ x h lower. no_first x (h, λ y p. lt_false (rank y) (rank x) (λ less. lower y less p)))
 
-pub level_founded : {X : Type 0} (rank : X → ℕ) (next : X → X → Bool) → IsFounded next → IsFounded (λ (f g : X). level (rank f) (rank g) (next f g))
+pub level_founded : {X : Type 0} (rank : X → ℕ) (next : X → X → Bool) → IsFounded next
+    → IsFounded (λ (f g : X). level (rank f) (rank g) (next f g))
 level_founded {X} rank next founded P no_first = none_by_rank rank P (λ x h lower.
     founded (λ (y : X). P y × (rank y ≡ rank x)) (λ y first. no_first y (
       first.0.0,

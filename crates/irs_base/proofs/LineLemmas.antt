@@ -1,5 +1,6 @@
 -- Where a line ends.
-use Rattle.std.proofs.Common.{◌≡◌, ◌⊎◌, inl, inr, ℕ, zero, suc, ◌+◌, ◌-◌, ◌<◌, ◌≤◌, Bool, true, false, ◌&&◌, ◌==◌, List, [], ◌∷◌, take, drop, length, get_or, arith, refl, ◌∙◌, ap}
+use Rattle.std.proofs.Common.{◌≡◌, ◌⊎◌, inl, inr, ℕ, zero, suc, ◌+◌, ◌-◌, ◌<◌, ◌≤◌, Bool, true, false, ◌&&◌, ◌==◌, List}
+use Rattle.std.proofs.Common.{[], ◌∷◌, take, drop, length, get_or, arith, refl, ◌∙◌, ap}
 use Rattle.std.proofs.Common.{length-drop}
 use Rattle.std.proofs.lemmas.List.{take_all}
 use Rattle.irs_base.specs.Lines.{with_byte, lines_of, without_cr}
@@ -30,7 +31,9 @@ cr_stays (b ∷ c ∷ cs) zero len at = absurd (omega (arith, len))
 cr_stays (b ∷ c ∷ cs) (suc n) len at = ap (λ (l : List ℕ). b ∷ l) (cr_stays (c ∷ cs) n (omega (arith, len)) at)
 
 -- the first LF ends the first line
-pub line_at : (bytes : List ℕ) (i : ℕ) → i < length bytes → get_or bytes i 0 ≡ 10 → ((k : ℕ) → k < i → get_or bytes k 0 ≡ 10 → ⊥) → lines_of bytes ≡ without_cr (take i bytes) ∷ lines_of (drop (suc i) bytes)
+pub line_at : (bytes : List ℕ) (i : ℕ) → i < length bytes → get_or bytes i 0 ≡ 10
+    → ((k : ℕ) → k < i → get_or bytes k 0 ≡ 10 → ⊥)
+    → lines_of bytes ≡ without_cr (take i bytes) ∷ lines_of (drop (suc i) bytes)
 line_at [] i within at none = absurd (omega (arith, within))
 line_at (b ∷ bs) zero within at none = rw (is_eq b 10 at) refl
 line_at (b ∷ []) (suc i) within at none = absurd (omega (arith, within))
@@ -51,11 +54,13 @@ line_at (b ∷ c ∷ cs) (suc (suc i)) within at none =
     both_false true = refl
     both_false false = refl
 
-    begun : (b c : ℕ) (cs : List ℕ) → (b == 10) ≡ false → (c == 10) ≡ false → lines_of (b ∷ c ∷ cs) ≡ with_byte b (lines_of (c ∷ cs))
+    begun : (b c : ℕ) (cs : List ℕ) → (b == 10) ≡ false → (c == 10) ≡ false
+        → lines_of (b ∷ c ∷ cs) ≡ with_byte b (lines_of (c ∷ cs))
     begun b c cs first second = rw (first, second, both_false (b == 13)) refl
 
 -- with no LF there is one line
-pub line_alone : (bytes : List ℕ) → 0 < length bytes → ((k : ℕ) → k < length bytes → get_or bytes k 0 ≡ 10 → ⊥) → lines_of bytes ≡ bytes ∷ []
+pub line_alone : (bytes : List ℕ) → 0 < length bytes → ((k : ℕ) → k < length bytes → get_or bytes k 0 ≡ 10 → ⊥)
+    → lines_of bytes ≡ bytes ∷ []
 line_alone [] some none = absurd (omega (arith, some))
 line_alone (b ∷ []) some none =
     let first : (b == 10) ≡ false = not_eq b 10 (none 0 (omega arith)) in
@@ -74,12 +79,15 @@ line_alone (b ∷ c ∷ cs) some none =
     both_false true = refl
     both_false false = refl
 
-    begun : (b c : ℕ) (cs : List ℕ) → (b == 10) ≡ false → (c == 10) ≡ false → lines_of (b ∷ c ∷ cs) ≡ with_byte b (lines_of (c ∷ cs))
+    begun : (b c : ℕ) (cs : List ℕ) → (b == 10) ≡ false → (c == 10) ≡ false
+        → lines_of (b ∷ c ∷ cs) ≡ with_byte b (lines_of (c ∷ cs))
     begun b c cs first second = rw (first, second, both_false (b == 13)) refl
 
 pub empty_stays : (line : List ℕ) → length line ≤ 0 → line ≡ without_cr line
 empty_stays [] h = refl
 empty_stays (b ∷ bs) h = absurd (omega (arith, h))
 
-pub rest_of : (bytes : List ℕ) (i : ℕ) → i < length bytes → take (length bytes - (i + 1)) (drop (i + 1) bytes) ≡ drop (suc i) bytes
-rest_of bytes i h = let e : i + 1 ≡ suc i = omega arith in rw e (take_all (length bytes - suc i) (drop (suc i) bytes) (omega (arith, length-drop (suc i) bytes)))
+pub rest_of : (bytes : List ℕ) (i : ℕ) → i < length bytes
+    → take (length bytes - (i + 1)) (drop (i + 1) bytes) ≡ drop (suc i) bytes
+rest_of bytes i h = let e : i + 1 ≡ suc i = omega arith in
+    rw e (take_all (length bytes - suc i) (drop (suc i) bytes) (omega (arith, length-drop (suc i) bytes)))

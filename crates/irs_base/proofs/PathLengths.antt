@@ -1,5 +1,6 @@
 -- How long paths are.
-use Rattle.std.proofs.Common.{◌≡◌, ℕ, zero, suc, ◌≤◌, Bool, true, nat_le, List, [], ◌∷◌, length, map, slice_get, Some, refl, sym, ap, subst, arith}
+use Rattle.std.proofs.Common.{◌≡◌, ℕ, zero, suc, ◌≤◌, Bool, true, nat_le, List, [], ◌∷◌, length, map, slice_get, Some}
+use Rattle.std.proofs.Common.{refl, sym, ap, subst, arith}
 use Rattle.std.specs.List.{list_all}
 use Rattle.std.proofs.lemmas.Bool.Decides.{nat_tests}
 use Rattle.std.proofs.lemmas.Option.{same_Some}
@@ -15,9 +16,11 @@ is_short p = nat_le (length p) longest_path
 all_short : list_all is_short (map (λ p. p.now) PATHS) ≡ true
 all_short = refl
 
-short_at : (ps : List (List ℕ)) (i : ℕ) (p : List ℕ) → list_all is_short ps ≡ true → slice_get ps i ≡ Some p → is_short p ≡ true
+short_at : (ps : List (List ℕ)) (i : ℕ) (p : List ℕ) → list_all is_short ps ≡ true → slice_get ps i ≡ Some p
+    → is_short p ≡ true
 short_at [] i p h e = absurd cc
-short_at (q ∷ qs) zero p h e = subst (λ (x : List ℕ). is_short x ≡ true) (same_Some q p e) (both_true (is_short q) (list_all is_short qs) h).0
+short_at (q ∷ qs) zero p h e =
+    subst (λ (x : List ℕ). is_short x ≡ true) (same_Some q p e) (both_true (is_short q) (list_all is_short qs) h).0
 short_at (q ∷ qs) (suc i) p h e = short_at qs i p (both_true (is_short q) (list_all is_short qs) h).1 e
 
 pub path_short : (i : ℕ) (p : List ℕ) → slice_get (map (λ p. p.now) PATHS) i ≡ Some p → length p ≤ longest_path

@@ -1,5 +1,7 @@
 -- The day of a date's text is the day that has that date.
-use Rattle.std.proofs.Common.{◌≡◌, inl, inr, ℕ, ◌+◌, ◌-◌, ◌*◌, ◌/◌, ◌%◌, ◌<◌, ◌≤◌, nat_le, true, ◌&&◌, ◌==◌, List, [], ◌∷◌, length, slice_index, Option, Some, None, IfSome, IfNone, ℤ, pos, refl, sym, ap, subst, ◌∙◌, arith}
+use Rattle.std.proofs.Common.{◌≡◌, inl, inr, ℕ, ◌+◌, ◌-◌, ◌*◌, ◌/◌, ◌%◌, ◌<◌, ◌≤◌, nat_le, true, ◌&&◌, ◌==◌, List, []}
+use Rattle.std.proofs.Common.{◌∷◌, length, slice_index, Option, Some, None, IfSome, IfNone, ℤ, pos, refl, sym, ap}
+use Rattle.std.proofs.Common.{subst, ◌∙◌, arith}
 use Rattle.std.proofs.lemmas.Bool.Decides.{nat_tests}
 use Rattle.jiff_core.specs.Calendar.{days_from_civil}
 use Rattle.jiff_core.proofs.SignedLemmas.{signed_arith}
@@ -23,7 +25,12 @@ pair_two n h =
 date_of_text : (y m d : ℕ) → y < 10000 → m < 100 → d < 100 → date_at (date_text y m d) ≡ day_number y m d
 date_of_text y m d h k l =
     let e : 100 * (y / 100) + y % 100 ≡ y = omega arith in
-    rw (pair_two (y / 100) (omega (arith, h)), pair_two (y % 100) (omega arith), pair_two m k, pair_two d l) (ap (λ (z : ℕ). day_number z m d) e)
+    rw (
+      pair_two (y / 100) (omega (arith, h)),
+      pair_two (y % 100) (omega arith),
+      pair_two m k,
+      pair_two d l,
+    ) (ap (λ (z : ℕ). day_number z m d) e)
 
 -- what the text of a date gives
 pub plain_is : (text : List ℕ) (d : ℤ) → IsDay d → IsPlainDate text d → date_at text ≡ Some d
@@ -72,7 +79,19 @@ record AreThere (a b c e : Option ℕ) (d : ℤ) : Type 0 where
   pub is : day_number (100 * century + year) month day ≡ Some d
 
 parts_there : (a b c e : Option ℕ) (d : ℤ) → date_of_parts a b c e ≡ Some d → AreThere a b c e d
-parts_there (Some w) (Some x) (Some y) (Some z) d h = record { century = w; year = x; month = y; day = z; is_century = refl; is_year = refl; is_month = refl; is_day = refl; is = h }
+parts_there (Some w) (Some x) (Some y) (Some z) d h =
+    record {
+      century = w;
+      year = x;
+      month = y;
+      day = z;
+      is_century = refl;
+      is_year = refl;
+      is_month = refl;
+      is_day =
+          refl;
+      is = h;
+    }
 parts_there (Some w) (Some x) (Some y) None d h = absurd cc
 parts_there (Some w) (Some x) None e d h = absurd cc
 parts_there (Some w) None c e d h = absurd cc
@@ -95,24 +114,27 @@ day_there y m d x small e = elim (true_or_false (is_civil y m d && is_in_range (
 
 -- and a text that gives a day is that of its date
 pub is_plain : (text : List ℕ) (d : ℤ) → date_at text ≡ Some d → IsDay d × IsPlainDate text d
-is_plain text d e = elim (true_or_false ((length text == 10) && ((slice_index text 4 == 45) && (slice_index text 7 == 45)))) [
-  | inl t ↦
-      let b = both_true (length text == 10) ((slice_index text 4 == 45) && (slice_index text 7 == 45)) t in
-      let c = both_true (slice_index text 4 == 45) (slice_index text 7 == 45) b.1 in
-      let len : length text ≡ 10 = grind (arith, nat_tests, b.0) in
-      let dash₁ : slice_index text 4 ≡ 45 = grind (arith, nat_tests, c.0) in
-      let dash₂ : slice_index text 7 ≡ 45 = grind (arith, nat_tests, c.1) in
-      let p = parts_there (pair_at (slice_index text 0) (slice_index text 1)) (pair_at (slice_index text 2) (slice_index text 3)) (pair_at (slice_index text 5) (slice_index text 6)) (pair_at (slice_index text 8) (slice_index text 9)) d (rw t at e) in
-      let ce = two_of (slice_index text 0) (slice_index text 1) p.century p.is_century in
-      let ye = two_of (slice_index text 2) (slice_index text 3) p.year p.is_year in
-      let mo = two_of (slice_index text 5) (slice_index text 6) p.month p.is_month in
-      let da = two_of (slice_index text 8) (slice_index text 9) p.day p.is_day in
-      let small : 100 * p.century + p.year < 10000 = omega (arith, ce.0, ye.0) in
-      let h = day_there (100 * p.century + p.year) p.month p.day d small p.is in
-      let is = plain_text text p.century p.year p.month p.day len dash₁ dash₂ ce.1 ye.1 mo.1 da.1 ye.0 in
-      (h.0, record { year = 100 * p.century + p.year; month = p.month; day = p.day; has = h.1; is = is })
-  | inr f ↦ absurd (none_some d (rw f at e))
-]
+is_plain text d e =
+    elim (true_or_false ((length text == 10) && ((slice_index text 4 == 45) && (slice_index text 7 == 45)))) [
+      | inl t ↦
+          let b = both_true (length text == 10) ((slice_index text 4 == 45) && (slice_index text 7 == 45)) t in
+          let c = both_true (slice_index text 4 == 45) (slice_index text 7 == 45) b.1 in
+          let len : length text ≡ 10 = grind (arith, nat_tests, b.0) in
+          let dash₁ : slice_index text 4 ≡ 45 = grind (arith, nat_tests, c.0) in
+          let dash₂ : slice_index text 7 ≡ 45 = grind (arith, nat_tests, c.1) in
+          let p = parts_there (pair_at (slice_index text 0) (slice_index text 1))
+          (pair_at (slice_index text 2) (slice_index text 3)) (pair_at (slice_index text 5) (slice_index text 6))
+          (pair_at (slice_index text 8) (slice_index text 9)) d (rw t at e) in
+          let ce = two_of (slice_index text 0) (slice_index text 1) p.century p.is_century in
+          let ye = two_of (slice_index text 2) (slice_index text 3) p.year p.is_year in
+          let mo = two_of (slice_index text 5) (slice_index text 6) p.month p.is_month in
+          let da = two_of (slice_index text 8) (slice_index text 9) p.day p.is_day in
+          let small : 100 * p.century + p.year < 10000 = omega (arith, ce.0, ye.0) in
+          let h = day_there (100 * p.century + p.year) p.month p.day d small p.is in
+          let is = plain_text text p.century p.year p.month p.day len dash₁ dash₂ ce.1 ye.1 mo.1 da.1 ye.0 in
+          (h.0, record { year = 100 * p.century + p.year; month = p.month; day = p.day; has = h.1; is = is })
+      | inr f ↦ absurd (none_some d (rw f at e))
+    ]
   where
     none_some : (n : ℤ) → None ≡ Some n → ⊥
     none_some n e = cc
@@ -121,7 +143,8 @@ pub some_plain : (text : List ℕ) (r : Option ℤ) → r ≡ date_at text → I
 some_plain text None e = tt
 some_plain text (Some d) e = (is_plain text d (sym e)).1
 
-pub none_plain : (text : List ℕ) (r : Option ℤ) → r ≡ date_at text → IfNone r ((d : ℤ) → IsDay d → IsPlainDate text d → ⊥)
+pub none_plain : (text : List ℕ) (r : Option ℤ) → r ≡ date_at text
+    → IfNone r ((d : ℤ) → IsDay d → IsPlainDate text d → ⊥)
 none_plain text None e = λ d day p. none_some d (e ∙ plain_is text d day p)
   where
     none_some : (n : ℤ) → None ≡ Some n → ⊥

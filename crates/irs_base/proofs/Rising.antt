@@ -1,5 +1,6 @@
 -- Rising lists of days.
-use Rattle.std.proofs.Common.{◌≡◌, ◌⊎◌, inl, inr, ⊎_elim, ◌≤◌, List, [], ◌∷◌, ◌++◌, length, ℤ, ◌<ℤ◌, refl, sym, ap₂, subst, ◌∙◌, arith}
+use Rattle.std.proofs.Common.{◌≡◌, ◌⊎◌, inl, inr, ⊎_elim, ◌≤◌, List, [], ◌∷◌, ◌++◌, length, ℤ, ◌<ℤ◌, refl, sym, ap₂}
+use Rattle.std.proofs.Common.{subst, ◌∙◌, arith}
 use Rattle.jiff_core.proofs.SignedLemmas.{signed_arith}
 use Rattle.irs_base.specs.Listed.{Member, AllAfter, IsRising}
 
@@ -33,14 +34,16 @@ after_push x y (z ∷ zs) after h = (after.0, after_push x y zs after.1 h)
 
 pub rising_push : (y : ℤ) (xs : List ℤ) → IsRising xs → ((d : ℤ) → Member d xs → d <ℤ y) → IsRising (xs ++ y ∷ [])
 rising_push y [] rising below = (tt, tt)
-rising_push y (x ∷ xs) rising below = (after_push x y xs rising.0 (below x (inl refl)), rising_push y xs rising.1 (λ d m. below d (inr m)))
+rising_push y (x ∷ xs) rising below =
+    (after_push x y xs rising.0 (below x (inl refl)), rising_push y xs rising.1 (λ d m. below d (inr m)))
 
 -- a day of both that is not the first of one stands behind it
 behind : (x y d : ℤ) (ys : List ℤ) → x <ℤ d → x ≡ y → Member d (y ∷ ys) → Member d ys
 behind x y d ys later same (inl here) = absurd (not_itself x (subst (λ z. x <ℤ z) (here ∙ sym same) later))
 behind x y d ys later same (inr there) = there
 
-first_same : (x y : ℤ) (xs ys : List ℤ) → IsRising (x ∷ xs) → IsRising (y ∷ ys) → Member x (y ∷ ys) → Member y (x ∷ xs) → x ≡ y
+first_same : (x y : ℤ) (xs ys : List ℤ) → IsRising (x ∷ xs) → IsRising (y ∷ ys) → Member x (y ∷ ys)
+    → Member y (x ∷ xs) → x ≡ y
 first_same x y xs ys rx ry (inl here) n = here
 first_same x y xs ys rx ry (inr there) (inl here) = sym here
 first_same x y xs ys rx ry (inr there) (inr other) =
@@ -49,7 +52,8 @@ first_same x y xs ys rx ry (inr there) (inr other) =
     absurd (omega (arith, signed_arith, a, b))
 
 -- rising lists with the same members are one
-pub one_rising : (a b : List ℤ) → IsRising a → IsRising b → ((d : ℤ) → Member d a → Member d b) → ((d : ℤ) → Member d b → Member d a) → a ≡ b
+pub one_rising : (a b : List ℤ) → IsRising a → IsRising b → ((d : ℤ) → Member d a → Member d b)
+    → ((d : ℤ) → Member d b → Member d a) → a ≡ b
 one_rising [] [] ra rb there back = refl
 one_rising [] (y ∷ ys) ra rb there back = absurd (back y (inl refl))
 one_rising (x ∷ xs) [] ra rb there back = absurd (there x (inl refl))
@@ -64,13 +68,17 @@ pub no_longer : (xs b : List ℤ) → IsRising xs → IsRising b → ((d : ℤ) 
 no_longer [] b rx rb all = omega arith
 no_longer (x ∷ xs) [] rx rb all = absurd (all x (inl refl))
 no_longer (x ∷ xs) (y ∷ ys) rx rb all = elim (all x (inl refl)) [
-  | inl here ↦ let rest = no_longer xs ys rx.1 rb.1 (λ d m. behind x y d ys (member_after x d xs rx.0 m) here (all d (inr m))) in omega (arith, rest)
+  | inl here ↦ let rest =
+      no_longer xs ys rx.1 rb.1 (λ d m. behind x y d ys (member_after x d xs rx.0 m) here (all d (inr m))) in
+      omega (arith, rest)
   | inr there ↦
       let later = member_after y x ys rb.0 there in
-      let rest = no_longer (x ∷ xs) ys rx rb.1 (λ d m. behind y y d ys (after_first x y d xs rx later m) refl (all d m)) in
+      let rest = no_longer (x ∷ xs) ys rx rb.1
+      (λ d m. behind y y d ys (after_first x y d xs rx later m) refl (all d m)) in
       omega (arith, rest)
 ]
   where
     after_first : (x y d : ℤ) (xs : List ℤ) → IsRising (x ∷ xs) → y <ℤ x → Member d (x ∷ xs) → y <ℤ d
     after_first x y d xs rising later (inl here) = subst (λ z. y <ℤ z) (sym here) later
-    after_first x y d xs rising later (inr there) = let a = member_after x d xs rising.0 there in omega (arith, signed_arith, a, later)
+    after_first x y d xs rising later (inr there) = let a = member_after x d xs rising.0 there in
+        omega (arith, signed_arith, a, later)

@@ -1,5 +1,6 @@
 -- Each p/q has one rounded value, and only one.
-use Rattle.std.proofs.Common.{◌≡◌, ℕ, suc, zero, ◌+◌, ◌*◌, ◌<◌, ◌≤◌, ℤ, pos, negsuc, ◌+ℤ◌, ◌-ℤ◌, ◌*ℤ◌, ◌≤ℤ◌, ◌<ℤ◌, unsigned_abs, neg_ℤ, refl, arith, true, false, Bool, if◌then◌else◌}
+use Rattle.std.proofs.Common.{◌≡◌, ℕ, suc, zero, ◌+◌, ◌*◌, ◌<◌, ◌≤◌, ℤ, pos, negsuc, ◌+ℤ◌, ◌-ℤ◌, ◌*ℤ◌, ◌≤ℤ◌, ◌<ℤ◌}
+use Rattle.std.proofs.Common.{unsigned_abs, neg_ℤ, refl, arith, true, false, Bool, if◌then◌else◌}
 use Rattle.std.specs.Prelude.{int_lt}
 use Rattle.std.proofs.Math.Nat.{mul-le-mul_left}
 use Rattle.std.proofs.lemmas.Int.{by_lt_z}
@@ -73,7 +74,8 @@ negative_multiple k zero = omega (arith, signed_arith)
 negative_multiple k (suc l) = refl
 
 -- p/q is rounded to at most a whole number that it doesn't pass in size
-pub rounded_size : (dir : Direction) (p m : ℤ) (k l : ℕ) → 0 < k → unsigned_abs p ≤ k * l → Rounded dir p (pos k) m → unsigned_abs m ≤ l
+pub rounded_size : (dir : Direction) (p m : ℤ) (k l : ℕ) → 0 < k → unsigned_abs p ≤ k * l → Rounded dir p (pos k) m
+    → unsigned_abs m ≤ l
 rounded_size Up p m k l a h r =
     let b = between p (k * l) h in
     size_within m l
@@ -90,13 +92,19 @@ rounded_size Nearest p m k l a h r =
     (multiple_order (2 * k) (neg_ℤ (pos l)) m (rw (negative_multiple (2 * k) l) (omega (arith, signed_arith, a, b, r))))
     (multiple_order (2 * k) m (pos l) (omega (arith, signed_arith, a, b, r)))
 
-up_choice : (p q : ℤ) (b : Bool) → int_lt (pos 0) (int_rem_euclid p q) ≡ b → pos 0 <ℤ q → Rounded Up p q (if b then int_div_euclid p q +ℤ pos 1 else int_div_euclid p q)
-up_choice p q true e low = up_high p q (int_div_euclid p q) (int_rem_euclid p q) (quotient_and_rest p q low) (omega (arith, signed_arith, e))
-up_choice p q false e low = up_low p q (int_div_euclid p q) (int_rem_euclid p q) (quotient_and_rest p q low) (omega (arith, signed_arith, e))
+up_choice : (p q : ℤ) (b : Bool) → int_lt (pos 0) (int_rem_euclid p q) ≡ b → pos 0 <ℤ q
+    → Rounded Up p q (if b then int_div_euclid p q +ℤ pos 1 else int_div_euclid p q)
+up_choice p q true e low =
+    up_high p q (int_div_euclid p q) (int_rem_euclid p q) (quotient_and_rest p q low) (omega (arith, signed_arith, e))
+up_choice p q false e low =
+    up_low p q (int_div_euclid p q) (int_rem_euclid p q) (quotient_and_rest p q low) (omega (arith, signed_arith, e))
 
-near_choice : (p q : ℤ) (b : Bool) → int_lt (int_rem_euclid p q) (q -ℤ int_rem_euclid p q) ≡ b → pos 0 <ℤ q → Rounded Nearest p q (if b then int_div_euclid p q else int_div_euclid p q +ℤ pos 1)
-near_choice p q true e low = near_low p q (int_div_euclid p q) (int_rem_euclid p q) (quotient_and_rest p q low) (omega (arith, signed_arith, e))
-near_choice p q false e low = near_high p q (int_div_euclid p q) (int_rem_euclid p q) (quotient_and_rest p q low) (omega (arith, signed_arith, e))
+near_choice : (p q : ℤ) (b : Bool) → int_lt (int_rem_euclid p q) (q -ℤ int_rem_euclid p q) ≡ b → pos 0 <ℤ q
+    → Rounded Nearest p q (if b then int_div_euclid p q else int_div_euclid p q +ℤ pos 1)
+near_choice p q true e low =
+    near_low p q (int_div_euclid p q) (int_rem_euclid p q) (quotient_and_rest p q low) (omega (arith, signed_arith, e))
+near_choice p q false e low =
+    near_high p q (int_div_euclid p q) (int_rem_euclid p q) (quotient_and_rest p q low) (omega (arith, signed_arith, e))
 
 -- the function gives a rounded number
 pub rounded_is : (dir : Direction) (p q : ℤ) → pos 0 <ℤ q → Rounded dir p q (rounded dir p q)

@@ -1,5 +1,6 @@
 -- The texts of days and numbers: no byte of them is a space or a tab, and what their digits spell.
-use Rattle.std.proofs.Common.{◌≡◌, ◌≢◌, ℕ, zero, suc, ◌+◌, ◌-◌, ◌*◌, ◌/◌, ◌%◌, ◌^◌, ◌<◌, ◌≤◌, List, [], ◌∷◌, ◌++◌, ℤ, refl, sym, subst, ap, ◌∙◌, arith}
+use Rattle.std.proofs.Common.{◌≡◌, ◌≢◌, ℕ, zero, suc, ◌+◌, ◌-◌, ◌*◌, ◌/◌, ◌%◌, ◌^◌, ◌<◌, ◌≤◌, List, [], ◌∷◌, ◌++◌, ℤ}
+use Rattle.std.proofs.Common.{refl, sym, subst, ap, ◌∙◌, arith}
 use Rattle.std.proofs.Math.Nat.{div-div-eq-div-mul, pow-succ'}
 use Rattle.std.proofs.lemmas.Fmt.{decimal_by_steps}
 use Rattle.std.specs.Fmt.{decimal}
@@ -32,9 +33,11 @@ day_visible d =
     let t = day_of_month d in
     let dash : 33 ≤ 45 = omega arith in
     let day : Visible (45 ∷ two_digits t) = (dash, two_visible t) in
-    let month : Visible (45 ∷ (two_digits m ++ 45 ∷ two_digits t)) = (dash, visible_append (two_digits m) (45 ∷ two_digits t) (two_visible m) day) in
+    let month : Visible (45 ∷ (two_digits m ++ 45 ∷ two_digits t)) =
+    (dash, visible_append (two_digits m) (45 ∷ two_digits t) (two_visible m) day) in
     let rest = 45 ∷ (two_digits m ++ 45 ∷ two_digits t) in
-    visible_append (two_digits (y / 100)) (two_digits (y % 100) ++ rest) (two_visible (y / 100)) (visible_append (two_digits (y % 100)) rest (two_visible (y % 100)) month)
+    visible_append (two_digits (y / 100)) (two_digits (y % 100) ++ rest) (two_visible (y / 100))
+    (visible_append (two_digits (y % 100)) rest (two_visible (y % 100)) month)
 
 -- the text of a day is a date of it
 pub plain : (d : ℤ) → IsDay d → IsPlainDate (day_text d) d
@@ -70,7 +73,10 @@ one_more : (a n : ℕ) → a ≡ n / 10 → 10 * a + (48 + n % 10 - 48) ≡ n
 one_more a n e = omega (arith, e)
 
 spells_more : (n : ℕ) (ds : List ℕ) → 10 ≤ n → IsSpelt (n / 10) ds → IsSpelt n (ds ++ (48 + n % 10) ∷ [])
-spells_more n ds l h = (digits_append ds ((48 + n % 10) ∷ []) h.0 (one_digit (n % 10) (omega arith)), digits_behind 0 ds ((48 + n % 10) ∷ []) ∙ one_more (number_of ds) n h.1)
+spells_more n ds l h = (
+  digits_append ds ((48 + n % 10) ∷ []) h.0 (one_digit (n % 10) (omega arith)),
+  digits_behind 0 ds ((48 + n % 10) ∷ []) ∙ one_more (number_of ds) n h.1,
+)
 
 -- a whole number's text spells it
 pub spells_decimal : (n : ℕ) → n < 2 ^ 64 → IsSpelt n (decimal n)
@@ -78,15 +84,19 @@ spells_decimal n h = decimal_by_steps IsSpelt spells_one spells_more n h
 
 pub row_digits : (k n : ℕ) → AreDigits (digit_row k n)
 row_digits zero n = tt
-row_digits (suc k) n = digits_append (digit_row k (n / 10)) ((48 + n % 10) ∷ []) (row_digits k (n / 10)) (one_digit (n % 10) (omega arith))
+row_digits (suc k) n =
+    digits_append (digit_row k (n / 10)) ((48 + n % 10) ∷ []) (row_digits k (n / 10)) (one_digit (n % 10) (omega arith))
 
 -- behind the digits of the whole part they spell the whole
 pub row_spells : (k n : ℕ) → number_after (n / 10 ^ k) (digit_row k n) ≡ n
 row_spells zero n = omega arith
 row_spells (suc k) n =
-    let up : n / 10 ^ suc k ≡ n / 10 / 10 ^ k = ap (λ m. n / m) (pow-succ' 10 k) ∙ sym (div-div-eq-div-mul n 10 (10 ^ k)) in
-    let rest : number_after (n / 10 ^ suc k) (digit_row k (n / 10)) ≡ n / 10 = ap (λ m. number_after m (digit_row k (n / 10))) up ∙ row_spells k (n / 10) in
-    digits_behind (n / 10 ^ suc k) (digit_row k (n / 10)) ((48 + n % 10) ∷ []) ∙ one_more (number_after (n / 10 ^ suc k) (digit_row k (n / 10))) n rest
+    let up : n / 10 ^ suc k ≡ n / 10 / 10 ^ k =
+    ap (λ m. n / m) (pow-succ' 10 k) ∙ sym (div-div-eq-div-mul n 10 (10 ^ k)) in
+    let rest : number_after (n / 10 ^ suc k) (digit_row k (n / 10)) ≡ n / 10 =
+    ap (λ m. number_after m (digit_row k (n / 10))) up ∙ row_spells k (n / 10) in
+    digits_behind (n / 10 ^ suc k) (digit_row k (n / 10)) ((48 + n % 10) ∷ [])
+    ∙ one_more (number_after (n / 10 ^ suc k) (digit_row k (n / 10))) n rest
 
 pub not_none : (k : ℕ) → suc k ≢ 0
 not_none k e = omega (arith, e)
@@ -95,5 +105,8 @@ not_none k e = omega (arith, e)
 pub places_visible : (n k : ℕ) → n / 10 ^ suc k < 10 ^ 18 → Visible (unsigned_dec n (suc k))
 places_visible n k h =
     let a = n / 10 ^ suc k in
-    let row : Visible (46 ∷ digit_row (suc k) n) = (omega arith, digits_visible (digit_row (suc k) n) (row_digits (suc k) n)) in
-    subst Visible (sym (with_point n (suc k) (not_none k))) (visible_append (decimal a) (46 ∷ digit_row (suc k) n) (digits_visible (decimal a) (spells_decimal a (omega (arith, h))).0) row)
+    let row : Visible (46 ∷ digit_row (suc k) n) =
+    (omega arith, digits_visible (digit_row (suc k) n) (row_digits (suc k) n)) in
+    subst Visible (sym (with_point n (suc k) (not_none k)))
+    (visible_append (decimal a) (46 ∷ digit_row (suc k) n)
+    (digits_visible (decimal a) (spells_decimal a (omega (arith, h))).0) row)

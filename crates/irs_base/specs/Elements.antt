@@ -1,5 +1,6 @@
 -- The table of elements: its places, and what makes it whole.
-use Rattle.std.specs.Prelude.{ℕ, ◌+◌, nat_lt, Bool, true, false, not, ◌&&◌, ◌||◌, ◌==◌, List, [], ◌∷◌, ◌++◌, Option, Some, None, slice_get, if◌then◌else◌}
+use Rattle.std.specs.Prelude.{ℕ, ◌+◌, nat_lt, Bool, true, false, not, ◌&&◌, ◌||◌, ◌==◌, List, [], ◌∷◌, ◌++◌, Option}
+use Rattle.std.specs.Prelude.{Some, None, slice_get, if◌then◌else◌}
 use Rattle.std.specs.Str.{bytes_eq}
 
 -- how many elements there are
@@ -24,7 +25,9 @@ no_twin parent name (p ∷ ps) (n ∷ ns) = (not (p == parent) || not (bytes_eq 
 -- from the place n on, each element stands behind its parent, has its path, and has no twin
 abbrev pub fits_from : List (List ℕ) → ℕ → List ℕ → List (List ℕ) → List (List ℕ) → Bool
 fits_from all n [] [] [] = true
-fits_from all n (parent ∷ parents) (name ∷ names) (path ∷ paths) = nat_lt parent n && bytes_eq path (path_below all parent name) && no_twin parent name parents names && fits_from all (n + 1) parents names paths
+fits_from all n (parent ∷ parents) (name ∷ names) (path ∷ paths) =
+    nat_lt parent n && bytes_eq path (path_below all parent name) && no_twin parent name parents names
+    && fits_from all (n + 1) parents names paths
 fits_from all n parents names paths = false
 
 -- the places of the elements that rules and readers name

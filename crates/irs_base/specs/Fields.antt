@@ -19,4 +19,5 @@ ends_field (b ∷ bs) = is_space b
 -- what stands between spaces and tabs
 abbrev pub fields : List ℕ → List (List ℕ)
 fields [] = []
-fields (b ∷ bs) = if is_space b then fields bs else (if ends_field bs then (b ∷ []) ∷ fields bs else with_byte b (fields bs))
+fields (b ∷ bs) =
+    if is_space b then fields bs else (if ends_field bs then (b ∷ []) ∷ fields bs else with_byte b (fields bs))

@@ -36,7 +36,9 @@ level a b next = nat_lt a b || (a == b && next)
 
 -- within a stream: the lower rule, then the earlier element, then the lower index
 abbrev pub is_before_in : Broken → Broken → Bool
-is_before_in f g = level (rule_number f.rule) (rule_number g.rule) (level f.place.elem g.place.elem (nat_lt f.place.index g.place.index))
+is_before_in f g =
+    level (rule_number f.rule) (rule_number g.rule)
+    (level f.place.elem g.place.elem (nat_lt f.place.index g.place.index))
 
 -- the lower stream comes first
 abbrev pub is_before : Broken → Broken → Bool
@@ -61,4 +63,6 @@ turn _ = 0
 
 -- within a part of a stream: the turn, then the lower rule, then the earlier element, then the lower index
 abbrev pub comes_before : Fault → Fault → Bool
-comes_before f g = level (turn f.rule) (turn g.rule) (level (rule_number f.rule) (rule_number g.rule) (level f.elem g.elem (nat_lt f.index g.index)))
+comes_before f g =
+    level (turn f.rule) (turn g.rule)
+    (level (rule_number f.rule) (rule_number g.rule) (level f.elem g.elem (nat_lt f.index g.index)))

@@ -1,7 +1,9 @@
 -- The numbers of rules.
 use Rattle.std.specs.Prelude.{ℕ}
 use Rattle.irs_base.specs.declared.places.Rule.{Rule}
-use Rattle.irs_base.specs.declared.places.Rule.TheVariants.{K1, K2, K3, K4, K5, K6, K7, K8, K10, K11, K12, K13, K14, K15, K16, K17, K18, K19, K20, K21, K30, K31, K32, K33, K34, K35, K36, K37, K38, K39, K40, K41, K42, K43, K44, K45, K46}
+use Rattle.irs_base.specs.declared.places.Rule.TheVariants.{K1, K2, K3, K4, K5, K6, K7, K8, K10, K11, K12, K13, K14}
+use Rattle.irs_base.specs.declared.places.Rule.TheVariants.{K15, K16, K17, K18, K19, K20, K21, K30, K31, K32, K33, K34}
+use Rattle.irs_base.specs.declared.places.Rule.TheVariants.{K35, K36, K37, K38, K39, K40, K41, K42, K43, K44, K45, K46}
 
 -- the number behind the K
 abbrev pub rule_number : Rule → ℕ

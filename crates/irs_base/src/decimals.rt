@@ -1,9 +1,11 @@
 //! Decimals: an optional sign, then digits with at most one point, at least one digit in all and at
 //! most 18 before the point.
-ghost use Rattle.std.specs.Prelude.{◌≡◌, ◌+◌, ◌*◌, ◌^◌, ◌<◌, ◌≤◌, ◌∷◌, List, ℕ, suc, ℤ, pos, neg_ℤ, true, length, drop, unsigned_abs, IfSome, IfNone, IsTrue, ◌↔◌};
+ghost use Rattle.std.specs.Prelude.{◌≡◌, ◌+◌, ◌*◌, ◌^◌, ◌<◌, ◌≤◌, ◌∷◌, List, ℕ, suc, ℤ, pos, neg_ℤ, true, length, drop};
+ghost use Rattle.std.specs.Prelude.{unsigned_abs, IfSome, IfNone, IsTrue, ◌↔◌};
 ghost use Rattle.std.specs.List.{list_all};
 ghost use Rattle.irs_base.specs.Texts.{most_places};
-ghost use Rattle.irs_base.specs.Decimals.{AreDigits, AreParts, DecText, IsCut, IsUnsigned, is_digit, is_zero, number_after, padded};
+ghost use Rattle.irs_base.specs.Decimals.{AreDigits, AreParts, DecText, IsCut, IsUnsigned, is_digit, is_zero};
+ghost use Rattle.irs_base.specs.Decimals.{number_after, padded};
 
 /// The most digits before the point.
 const MOST_DIGITS: usize = 18;

@@ -234,7 +234,8 @@ pub fn paths_listed()
 /// its own name behind a `/` (the name alone right below the stream), and no two elements of one
 /// parent have one name, so that no path stands twice.
 pub fn table_fits()
-    ensures { fits_from (map (λ p. p.now) PATHS) 3 (drop 3 PARENTS) (drop 3 (map (λ n. n.now) NAMES)) (drop 3 (map (λ p. p.now) PATHS)) ≡ true }
+    ensures { fits_from (map (λ p. p.now) PATHS) 3 (drop 3 PARENTS) (drop 3 (map (λ n. n.now) NAMES))
+        (drop 3 (map (λ p. p.now) PATHS)) ≡ true }
 {}
 
 /// The place of the element that the path continues; the stream for a path of one name.

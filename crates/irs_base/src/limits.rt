@@ -2,7 +2,9 @@
 //! this project's own.
 ghost use Rattle.std.specs.Prelude.{◌≡◌};
 ghost use Rattle.irs_base.specs.Days.{all_days};
-ghost use Rattle.irs_base.specs.Limits.{most_bytes, most_centers, most_exchanges, most_files, most_holidays, most_index, most_name, most_periods, most_rate, most_rows, most_steps, most_streams};
+ghost use Rattle.irs_base.specs.Limits.{most_bytes, most_centers, most_exchanges, most_files, most_holidays};
+ghost use Rattle.irs_base.specs.Limits.{most_index, most_name, most_periods, most_rate, most_rows, most_steps};
+ghost use Rattle.irs_base.specs.Limits.{most_streams};
 
 /// The number of days from 1901-01-01 to 2299-12-31.
 pub const ALL_DAYS: u32 = 145_732;

@@ -1,5 +1,6 @@
 -- A run of `bulk`: the first document without a schedule, or the sums; and that one answer is due.
-use Rattle.std.proofs.Common.{◌≡◌, inl, inr, ℕ, zero, suc, ◌<◌, ◌≤◌, List, [], ◌∷◌, Bool, true, false, Option, Some, None, Result, Ok, Err, refl, sym, ◌∙◌, ap, subst, arith}
+use Rattle.std.proofs.Common.{◌≡◌, inl, inr, ℕ, zero, suc, ◌<◌, ◌≤◌, List, [], ◌∷◌, Bool, true, false, Option, Some}
+use Rattle.std.proofs.Common.{None, Result, Ok, Err, refl, sym, ◌∙◌, ap, subst, arith}
 use Rattle.std.specs.Prelude.{IfErr, IfOk, IfSome}
 use Rattle.std.proofs.lemmas.Bool.{cases_order}
 use Rattle.irs_calendar.specs.declared.calendars.CalErr.{CalErr}
@@ -28,18 +29,27 @@ use Rattle.irs_answers.proofs.PassLemmas.{passes_one, passes_due}
 use Rattle.irs_answers.proofs.StepLemmas.{read, unread, step_both}
 use Rattle.irs_bulk.specs.BulkCalendars.{calendar_text}
 use Rattle.irs_bulk.specs.BulkLines.{both_totals, line_text}
-use Rattle.irs_bulk.specs.BulkRuns.{Adds, AreSums, DueAt, DueBulk, DueSchedule, HasBoth, IsScheduleOf, IsStop, files_of, one_total}
+use Rattle.irs_bulk.specs.BulkRuns.{Adds, AreSums, DueAt, DueBulk, DueSchedule, HasBoth, IsScheduleOf, IsStop, files_of}
+use Rattle.irs_bulk.specs.BulkRuns.{one_total}
 use Rattle.irs_bulk.specs.Documents.{document_text}
 use Rattle.irs_bulk.specs.declared.totals.Totals.{Totals}
 
 -- ---- the schedule that is made is that of the document
 
-module _ (plain : Bool) (k : ℕ) (swap : Swap) (cal : List Section) (table : RateTable) (spells : Spells Schedule (document_text plain k) swap None) (files : CalFiles (calendar_text ∷ []) cal) (without : table ≡ []) where
-  pub schedule_by : (r : Result (List Part) Refusal) → IfOk r (IsScheduled swap cal table) → IfOk r (IsScheduleOf plain k)
-  schedule_by (Ok s) h = (facts swap None cal table s, passes_by Schedule (files_of plain k) (facts swap None cal table s) spells files without h, refl)
+module _ (plain : Bool) (k : ℕ) (swap : Swap) (cal : List Section) (table : RateTable)
+    (spells : Spells Schedule (document_text plain k) swap None) (files : CalFiles (calendar_text ∷ []) cal)
+    (without : table ≡ []) where
+  pub schedule_by : (r : Result (List Part) Refusal) → IfOk r (IsScheduled swap cal table)
+      → IfOk r (IsScheduleOf plain k)
+  schedule_by (Ok s) h = (
+    facts swap None cal table s,
+    passes_by Schedule (files_of plain k) (facts swap None cal table s) spells files without h,
+    refl,
+  )
   schedule_by (Err e) h = tt
 
-  pub unscheduled_by : (r : Result (List Part) Refusal) → IfErr r (λ e. IfRefused e (IsUnscheduled swap cal table)) → IfErr r (λ e. IfRefused e (Ends (DueSchedule plain k)))
+  pub unscheduled_by : (r : Result (List Part) Refusal) → IfErr r (λ e. IfRefused e (IsUnscheduled swap cal table))
+      → IfErr r (λ e. IfRefused e (Ends (DueSchedule plain k)))
   unscheduled_by (Ok s) h = tt
   unscheduled_by (Err e) h = refuse_rules Schedule (files_of plain k) swap None cal table e spells files without h
 
@@ -52,9 +62,13 @@ one_adds : (k : ℕ) (t u : Totals) → Adds k t → Adds k u → u ≡ t
 one_adds k t u h i =
     let s : i.schedule ≡ h.schedule = one_schedule_of false k h.schedule i.schedule h.of_document i.of_document in
     let p : i.plain ≡ h.plain = one_schedule_of true k h.plain i.plain h.of_plain i.of_plain in
-    let moved : IsVerdict (stated_flows h.plain) h.schedule i.verdict = subst (λ (x : List Part). IsVerdict (stated_flows x) h.schedule i.verdict) p (subst (λ (x : List Part). IsVerdict (stated_flows i.plain) x i.verdict) s i.is_verdict) in
-    let v : i.verdict ≡ h.verdict = one_verdict (stated_flows h.plain) h.schedule i.verdict h.verdict moved h.is_verdict in
-    i.adds ∙ ap (λ (x : List Part). one_total x i.verdict) s ∙ ap (λ (x : Verdict). one_total h.schedule x) v ∙ sym h.adds
+    let moved : IsVerdict (stated_flows h.plain) h.schedule i.verdict =
+    subst (λ (x : List Part). IsVerdict (stated_flows x) h.schedule i.verdict) p
+    (subst (λ (x : List Part). IsVerdict (stated_flows i.plain) x i.verdict) s i.is_verdict) in
+    let v : i.verdict ≡ h.verdict =
+    one_verdict (stated_flows h.plain) h.schedule i.verdict h.verdict moved h.is_verdict in
+    i.adds ∙ ap (λ (x : List Part). one_total x i.verdict) s ∙ ap (λ (x : Verdict). one_total h.schedule x) v
+    ∙ sym h.adds
 
 one_sums : (n : ℕ) (t u : Totals) → AreSums n t → AreSums n u → u ≡ t
 one_sums zero t u h i = i ∙ sym h
@@ -125,39 +139,49 @@ refused_zero (Fixings e) = fixings_zero e
 refused_zero (Flows e) = flows_zero e
 refused_zero Memory = tt
 
-some_both : (o : Option Answer) (P Q : ℕ → List ℕ → Type 0) → IfSome o (λ a. a.0 ≡ 0 → ⊥) → ((status : ℕ) (text : List ℕ) → (status ≡ 0 → ⊥) → P status text → Q status text) → IfSome o (λ a. P a.0 a.1) → IfSome o (λ a. Q a.0 a.1)
+some_both : (o : Option Answer) (P Q : ℕ → List ℕ → Type 0) → IfSome o (λ a. a.0 ≡ 0 → ⊥)
+    → ((status : ℕ) (text : List ℕ) → (status ≡ 0 → ⊥) → P status text → Q status text) → IfSome o (λ a. P a.0 a.1)
+    → IfSome o (λ a. Q a.0 a.1)
 some_both None P Q n f h = tt
 some_both (Some a) P Q n f h = f a.0 a.1 n h
 
-refused_with : (r : Refusal) (P Q : ℕ → List ℕ → Type 0) → ((status : ℕ) (text : List ℕ) → (status ≡ 0 → ⊥) → P status text → Q status text) → IfRefused r P → IfRefused r Q
+refused_with : (r : Refusal) (P Q : ℕ → List ℕ → Type 0)
+    → ((status : ℕ) (text : List ℕ) → (status ≡ 0 → ⊥) → P status text → Q status text) → IfRefused r P → IfRefused r Q
 refused_with r P Q f h = some_both (answer_of r) P Q (refused_zero r) f h
 
-passes_zero : (plain : Bool) (k : ℕ) (s : List Part) (status : ℕ) (text : List ℕ) → IsScheduleOf plain k s → DueSchedule plain k status text → status ≡ 0
+passes_zero : (plain : Bool) (k : ℕ) (s : List Part) (status : ℕ) (text : List ℕ) → IsScheduleOf plain k s
+    → DueSchedule plain k status text → status ≡ 0
 passes_zero plain k s status text h due = (passes_due Schedule (files_of plain k) h.0 status text h.1 due).1.0
 
-at_document : (k status : ℕ) (text : List ℕ) → (status ≡ 0 → ⊥) → Ends (DueSchedule false k) status text → Ends (DueAt k) status text
+at_document : (k status : ℕ) (text : List ℕ) → (status ≡ 0 → ⊥) → Ends (DueSchedule false k) status text
+    → Ends (DueAt k) status text
 at_document k status text some h = record {
-  due = unread (IsScheduleOf false k) (DueSchedule false k status text) (λ s. DueSchedule true k status text) (λ s is. some (passes_zero false k s status text is h.due)) h.due;
+  due = unread (IsScheduleOf false k) (DueSchedule false k status text) (λ s. DueSchedule true k status text)
+      (λ s is. some (passes_zero false k s status text is h.due)) h.due;
   verdict = h.verdict;
 }
 
 pub refused_document : (k : ℕ) (r : Refusal) → IfRefused r (Ends (DueSchedule false k)) → IfRefused r (Ends (DueAt k))
 refused_document k r h = refused_with r (Ends (DueSchedule false k)) (Ends (DueAt k)) (at_document k) h
 
-at_plain : (k : ℕ) (s : List Part) → IsScheduleOf false k s → (status : ℕ) (text : List ℕ) → (status ≡ 0 → ⊥) → Ends (DueSchedule true k) status text → Ends (DueAt k) status text
+at_plain : (k : ℕ) (s : List Part) → IsScheduleOf false k s → (status : ℕ) (text : List ℕ) → (status ≡ 0 → ⊥)
+    → Ends (DueSchedule true k) status text → Ends (DueAt k) status text
 at_plain k s is status text some h = record {
-  due = read (IsScheduleOf false k) (DueSchedule false k status text) (λ s. DueSchedule true k status text) s is (λ _ _. h.due);
+  due = read (IsScheduleOf false k) (DueSchedule false k status text) (λ s. DueSchedule true k status text) s is
+      (λ _ _. h.due);
   verdict = h.verdict;
 }
 
-pub refused_plain : (k : ℕ) (s : List Part) (r : Refusal) → IsScheduleOf false k s → IfRefused r (Ends (DueSchedule true k)) → IfRefused r (Ends (DueAt k))
+pub refused_plain : (k : ℕ) (s : List Part) (r : Refusal) → IsScheduleOf false k s
+    → IfRefused r (Ends (DueSchedule true k)) → IfRefused r (Ends (DueAt k))
 refused_plain k s r is h = refused_with r (Ends (DueSchedule true k)) (Ends (DueAt k)) (at_plain k s is) h
 
 -- what is due at a document that has both schedules has status 0
 both_zero : (k status : ℕ) (text : List ℕ) → HasBoth k → DueAt k status text → status ≡ 0
 both_zero k status text h due = passes_zero true k h.1.0 status text h.1.1 (due.next h.0.0 h.0.1)
 
-at_stop : (n k : ℕ) (t : Totals) → k < n → AreSums k t → (status : ℕ) (text : List ℕ) → (status ≡ 0 → ⊥) → Ends (DueAt (suc k)) status text → Ends (DueBulk n) status text
+at_stop : (n k : ℕ) (t : Totals) → k < n → AreSums k t → (status : ℕ) (text : List ℕ) → (status ≡ 0 → ⊥)
+    → Ends (DueAt (suc k)) status text → Ends (DueBulk n) status text
 at_stop n k t below sums status text some h =
     let stop : IsStop n (suc k) = record {
       low = omega arith;
@@ -167,13 +191,18 @@ at_stop n k t below sums status text some h =
     } in
     record { due = bulk_stops n (suc k) status text stop h.due; verdict = h.verdict }
 
-pub bulk_refused : (n k : ℕ) (t : Totals) (r : Refusal) → k < n → AreSums k t → IfRefused r (Ends (DueAt (suc k))) → IfRefused r (Ends (DueBulk n))
-bulk_refused n k t r below sums h = refused_with r (Ends (DueAt (suc k))) (Ends (DueBulk n)) (at_stop n k t below sums) h
+pub bulk_refused : (n k : ℕ) (t : Totals) (r : Refusal) → k < n → AreSums k t → IfRefused r (Ends (DueAt (suc k)))
+    → IfRefused r (Ends (DueBulk n))
+bulk_refused n k t r below sums h =
+    refused_with r (Ends (DueAt (suc k))) (Ends (DueBulk n)) (at_stop n k t below sums) h
 
 -- ---- one answer
 
 one_at : (s u : ℕ) (t v : List ℕ) (k : ℕ) → DueAt k s t → DueAt k u v → (s ≡ u) × (t ≡ v)
-one_at s u t v k h i = step_both (IsScheduleOf false k) (DueSchedule false k s t) (DueSchedule false k u v) (λ p. DueSchedule true k s t) (λ p. DueSchedule true k u v) (one_due Schedule (files_of false k) s u t v) (λ p. one_due Schedule (files_of true k) s u t v) h i
+one_at s u t v k h i =
+    step_both (IsScheduleOf false k) (DueSchedule false k s t) (DueSchedule false k u v) (λ p. DueSchedule true k s t)
+    (λ p. DueSchedule true k u v) (one_due Schedule (files_of false k) s u t v)
+    (λ p. one_due Schedule (files_of true k) s u t v) h i
 
 -- one status and one text are due
 pub one_bulk : (s u : ℕ) (t v : List ℕ) (n : ℕ) → DueBulk n s t → DueBulk n u v → (s ≡ u) × (t ≡ v)

@@ -47,5 +47,6 @@ totals_from t (u ∷ us) = totals_from (both_totals t u) us
 -- N, ROWS, TOTAL with two decimals, DAYS, AGREE and FIRST
 unfoldable pub line_text : Totals → List ℕ
 line_text t =
-    codes "bulk " ++ decimal t.documents ++ 32 ∷ decimal t.rows ++ 32 ∷ dec_text (rounded Nearest t.total (pos (10 ^ 10))) 2
+    codes "bulk " ++ decimal t.documents ++ 32 ∷ decimal t.rows
+    ++ 32 ∷ dec_text (rounded Nearest t.total (pos (10 ^ 10))) 2
     ++ 32 ∷ signed_decimal t.days ++ 32 ∷ decimal t.agree ++ 32 ∷ decimal t.first ++ codes "\n"

@@ -1,5 +1,6 @@
 -- What `bulk N` comes to: the first of its documents that has no schedule, or the sums over the schedules of all.
-use Rattle.std.specs.Prelude.{◌≡◌, ◌⊎◌, ℕ, zero, suc, ◌<◌, ◌≤◌, List, [], ◌∷◌, Bool, true, false, None, IfSome, Result, Ok, Err}
+use Rattle.std.specs.Prelude.{◌≡◌, ◌⊎◌, ℕ, zero, suc, ◌<◌, ◌≤◌, List, [], ◌∷◌, Bool, true, false, None, IfSome, Result}
+use Rattle.std.specs.Prelude.{Ok, Err}
 use Rattle.irs_calendar.specs.Calendars.{spot_of}
 use Rattle.irs_calendar.specs.FirstFaults.{IsFirstFault}
 use Rattle.irs_calendar.specs.Grammar.{CalFiles}
@@ -24,7 +25,8 @@ use Rattle.irs_schedule.specs.Parts.{Part}
 
 -- the files of document k, or of its plain form: the calendar of its centre, and no fixings
 abbrev pub files_of : Bool → ℕ → Given
-files_of plain k = record { document = document_text plain k; fixings = None; flows = []; calendars = calendar_text ∷ [] }
+files_of plain k =
+    record { document = document_text plain k; fixings = None; flows = []; calendars = calendar_text ∷ [] }
 
 -- the sections of the calendar, or its first fault
 abbrev pub IsCalendar : Result (List Section) CalErr → Type 0
@@ -66,7 +68,8 @@ one_total s v = let sums = sums_in s in record {
   first = first_of v;
 }
 
--- what document k adds: by its schedule, and by the verdict against it on the flows that state the schedule of its plain form
+-- what document k adds: by its schedule, and by the verdict against it on the flows that state the schedule of its
+-- plain form
 pub record Adds (k : ℕ) (t : Totals) : Type 0 where
   pub schedule : List Part
   pub of_document : IsScheduleOf false k schedule
@@ -79,7 +82,8 @@ pub record Adds (k : ℕ) (t : Totals) : Type 0 where
 -- the sums over the documents 1 to n
 abbrev pub AreSums : ℕ → Totals → Type 0
 AreSums zero t = t ≡ no_totals
-AreSums (suc k) t = (before : Totals) × AreSums k before × ((more : Totals) × Adds (suc k) more × (t ≡ both_totals before more))
+AreSums (suc k) t =
+    (before : Totals) × AreSums k before × ((more : Totals) × Adds (suc k) more × (t ≡ both_totals before more))
 
 -- ---- what is due
 
@@ -92,7 +96,8 @@ pub record IsStop (n k : ℕ) : Type 0 where
 
 -- what is due at document k: what `schedule` says of it where it has no schedule, else what that says of its plain form
 abbrev pub DueAt : ℕ → ℕ → List ℕ → Type 0
-DueAt k status text = Step (IsScheduleOf false k) (DueSchedule false k status text) (λ s. DueSchedule true k status text)
+DueAt k status text =
+    Step (IsScheduleOf false k) (DueSchedule false k status text) (λ s. DueSchedule true k status text)
 
 -- what is due for `bulk n`
 pub record DueBulk (n : ℕ) (status : ℕ) (text : List ℕ) : Type 0 where

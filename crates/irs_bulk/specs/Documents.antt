@@ -1,6 +1,7 @@
 -- The documents of `bulk`: one fixed stream over twenty years each, which differ in roll, dates, convention,
 -- notional, rate and day count.
-use Rattle.std.specs.Prelude.{ℕ, ◌+◌, ◌-◌, ◌*◌, ◌/◌, ◌%◌, List, [], ◌∷◌, ◌++◌, codes, decimal, Bool, if◌then◌else◌, slice_index_or}
+use Rattle.std.specs.Prelude.{ℕ, ◌+◌, ◌-◌, ◌*◌, ◌/◌, ◌%◌, List, [], ◌∷◌, ◌++◌, codes, decimal, Bool, if◌then◌else◌}
+use Rattle.std.specs.Prelude.{slice_index_or}
 use Rattle.irs_base.specs.Texts.{date_text, two_digits}
 
 -- the most documents of a run
@@ -29,7 +30,9 @@ termination_text k = date_text (year_of k + 20) (month_of k) (roll_of k)
 
 -- the conventions, which the documents have in turn
 abbrev pub conventions : List (List ℕ)
-conventions = codes "NONE" ∷ codes "FOLLOWING" ∷ codes "MODFOLLOWING" ∷ codes "PRECEDING" ∷ codes "MODPRECEDING" ∷ codes "NEAREST" ∷ []
+conventions =
+    codes "NONE" ∷ codes "FOLLOWING" ∷ codes "MODFOLLOWING" ∷ codes "PRECEDING" ∷ codes "MODPRECEDING"
+    ∷ codes "NEAREST" ∷ []
 
 -- the convention of document k; a plain document has NONE in its place
 unfoldable pub convention_text : Bool → ℕ → List ℕ
@@ -45,7 +48,9 @@ rate_text k = codes "0." ++ two_digits (k / 100) ++ two_digits (k % 100)
 
 -- the day counts, which the documents have in turn
 abbrev pub day_counts : List (List ℕ)
-day_counts = codes "1/1" ∷ codes "ACT/ACT.ISDA" ∷ codes "ACT/365.FIXED" ∷ codes "ACT/360" ∷ codes "30/360" ∷ codes "30E/360" ∷ codes "30E/360.ISDA" ∷ []
+day_counts =
+    codes "1/1" ∷ codes "ACT/ACT.ISDA" ∷ codes "ACT/365.FIXED" ∷ codes "ACT/360" ∷ codes "30/360" ∷ codes "30E/360"
+    ∷ codes "30E/360.ISDA" ∷ []
 
 -- the day count
 unfoldable pub day_count_text : ℕ → List ℕ
@@ -53,19 +58,23 @@ day_count_text k = slice_index_or day_counts ((k - 1) % 7) []
 
 -- the members of an adjustments element: a convention, on the one centre BULK
 unfoldable pub adjustments_text : List ℕ → List ℕ
-adjustments_text convention = codes "\"businessDayConvention\":\"" ++ convention ++ codes "\",\"businessCenters\":{\"businessCenter\":\"BULK\"}"
+adjustments_text convention =
+    codes "\"businessDayConvention\":\"" ++ convention ++ codes "\",\"businessCenters\":{\"businessCenter\":\"BULK\"}"
 
 -- an adjustable date
 unfoldable pub date_element : List ℕ → List ℕ → List ℕ
-date_element date adjustments = codes "{\"unadjustedDate\":\"" ++ date ++ codes "\",\"dateAdjustments\":{" ++ adjustments ++ codes "}}"
+date_element date adjustments =
+    codes "{\"unadjustedDate\":\"" ++ date ++ codes "\",\"dateAdjustments\":{" ++ adjustments ++ codes "}}"
 
 -- when the periods of document k begin and end
 unfoldable pub dates_text : List ℕ → ℕ → List ℕ
 dates_text adjustments k =
-    codes "\"calculationPeriodDates\":{\"@id\":\"cpd\",\n\"effectiveDate\":" ++ date_element (effective_text k) adjustments
+    codes "\"calculationPeriodDates\":{\"@id\":\"cpd\",\n\"effectiveDate\":"
+    ++ date_element (effective_text k) adjustments
     ++ codes ",\n\"terminationDate\":" ++ date_element (termination_text k) adjustments
     ++ codes ",\n\"calculationPeriodDatesAdjustments\":{" ++ adjustments
-    ++ codes "},\n\"calculationPeriodFrequency\":{\"periodMultiplier\":\"1\",\"period\":\"M\",\"rollConvention\":\"" ++ decimal (roll_of k) ++ codes "\"}},\n"
+    ++ codes "},\n\"calculationPeriodFrequency\":{\"periodMultiplier\":\"1\",\"period\":\"M\",\"rollConvention\":\""
+    ++ decimal (roll_of k) ++ codes "\"}},\n"
 
 -- when it pays
 unfoldable pub payments_text : List ℕ → List ℕ
@@ -81,7 +90,8 @@ amounts_text k =
 
 -- the document whose dates are adjusted as the element says
 abbrev pub document_with : List ℕ → ℕ → List ℕ
-document_with adjustments k = codes "{\"swap\":{\"swapStream\":{\n" ++ dates_text adjustments k ++ payments_text adjustments ++ amounts_text k
+document_with adjustments k =
+    codes "{\"swap\":{\"swapStream\":{\n" ++ dates_text adjustments k ++ payments_text adjustments ++ amounts_text k
 
 -- document k; a plain one adjusts no date
 unfoldable pub document_text : Bool → ℕ → List ℕ

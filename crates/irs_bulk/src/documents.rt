@@ -1,7 +1,9 @@
 //! The documents of `bulk`: one fixed stream of monthly periods over twenty years each.
 ghost use Rattle.std.specs.Prelude.{◌≡◌, ◌+◌, ◌<◌, ◌≤◌, [], ◌++◌, IfOk, OnOk, length, map, slice_index_or};
 ghost use Rattle.irs_base.specs.Texts.{date_text};
-ghost use Rattle.irs_bulk.specs.Documents.{adjustments_text, amounts_text, convention_text, date_element, dates_text, day_count_text, document_text, document_with, month_of, most_bulk, notional_text, payments_text, rate_text, roll_of};
+ghost use Rattle.irs_bulk.specs.Documents.{adjustments_text, amounts_text, convention_text, date_element, dates_text};
+ghost use Rattle.irs_bulk.specs.Documents.{day_count_text, document_text, document_with, month_of, most_bulk};
+ghost use Rattle.irs_bulk.specs.Documents.{notional_text, payments_text, rate_text, roll_of};
 
 use crate::digits::{put, put_date, put_number, put_two_digits};
 use irs_base::Memory;

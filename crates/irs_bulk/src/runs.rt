@@ -10,7 +10,8 @@ ghost use Rattle.irs_answers.specs.Replying.{reply_status, reply_text};
 ghost use Rattle.irs_answers.specs.declared.tasks.Task.TheVariants.{Schedule as OfSchedule};
 ghost use Rattle.irs_bulk.specs.BulkCalendars.{calendar_text};
 ghost use Rattle.irs_bulk.specs.BulkLines.{IsRun, line_text};
-ghost use Rattle.irs_bulk.specs.BulkRuns.{Adds, AreSums, DueAt, DueBulk, DueSchedule, IsCalendar, IsOneBulk, IsScheduleOf, agree_of, first_of, one_total};
+ghost use Rattle.irs_bulk.specs.BulkRuns.{Adds, AreSums, DueAt, DueBulk, DueSchedule, IsCalendar, IsOneBulk};
+ghost use Rattle.irs_bulk.specs.BulkRuns.{IsScheduleOf, agree_of, first_of, one_total};
 ghost use Rattle.irs_bulk.specs.Documents.{document_text, most_bulk};
 
 use crate::{Totals, bulk_calendar, bulk_doc, bulk_text};

@@ -32,7 +32,8 @@ pub extern "C" fn irs_run(
 ) -> u8
     // Want of memory, or a word that isn't UTF-8: no text.
     ensures memory { result ≡ 7 → (out.new ≡ out.old) × (needed.new ≡ 0) }
-    ensures not_text { result ≡ 9 → (All (λ w. IsUtf8 w.at.now) words.now → ⊥) × (out.new ≡ out.old) × (needed.new ≡ 0) }
+    ensures not_text { result ≡ 9 → (All (λ w. IsUtf8 w.at.now) words.now → ⊥) × (out.new ≡ out.old)
+        × (needed.new ≡ 0) }
     // A file that the words name isn't lent, and the text says which.
     ensures absent { result ≡ 5 → (text : List ℕ)
         × IsAbsent (words_in words.now) (file_in files.now) text
@@ -44,7 +45,8 @@ pub extern "C" fn irs_run(
     // The statuses are these, and 6 is none of them.
     ensures listed { (result < 10) × (result ≢ 6) }
     // Where every file that the words name is lent, one status and one text are due.
-    ensures one { TellsAll (words_in words.now) (file_in files.now) → IsOneAnswer (words_in words.now) (file_in files.now) }
+    ensures one { TellsAll (words_in words.now) (file_in files.now)
+        → IsOneAnswer (words_in words.now) (file_in files.now) }
 {
     match answer(alloc, words, files) {
         Ok((status, text)) => {
@@ -75,7 +77,8 @@ pub extern "C" fn irs_meaning(
 ) -> u8
     // Want of memory, or a word that isn't UTF-8: no sentence.
     ensures memory { result ≡ 7 → (out.new ≡ out.old) × (needed.new ≡ 0) }
-    ensures not_text { result ≡ 9 → (All (λ w. IsUtf8 w.at.now) words.now → ⊥) × (out.new ≡ out.old) × (needed.new ≡ 0) }
+    ensures not_text { result ≡ 9 → (All (λ w. IsUtf8 w.at.now) words.now → ⊥) × (out.new ≡ out.old)
+        × (needed.new ≡ 0) }
     ensures done { result ≡ 0 → Shown out.old out.new needed.new (sentence_of (words_in words.now) status line.now) }
     ensures listed { (result ≡ 0) ⊎ ((result ≡ 7) ⊎ (result ≡ 9)) }
 {

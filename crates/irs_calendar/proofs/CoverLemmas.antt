@@ -1,5 +1,6 @@
 -- What covers have in common.
-use Rattle.std.proofs.Common.{◌≡◌, ℕ, suc, ◌+◌, ◌<◌, ◌≤◌, Bool, true, false, List, [], ◌∷◌, map, drop, length, get_or, arith, refl, sym, ◌∙◌, ap, subst, ℤ, ◌≤ℤ◌, Bor}
+use Rattle.std.proofs.Common.{◌≡◌, ℕ, suc, ◌+◌, ◌<◌, ◌≤◌, Bool, true, false, List, [], ◌∷◌, map, drop, length, get_or}
+use Rattle.std.proofs.Common.{arith, refl, sym, ◌∙◌, ap, subst, ℤ, ◌≤ℤ◌, Bor}
 use Rattle.std.proofs.Math.Seq.{drop-cons}
 use Rattle.irs_calendar.specs.declared.sections.Section.{Section}
 use Rattle.jiff_core.proofs.SignedLemmas.{signed_arith}
@@ -7,29 +8,41 @@ use Rattle.irs_base.specs.Days.{first_day, last_day}
 use Rattle.irs_calendar.specs.GoodDays.{DaySet, SameDays}
 use Rattle.irs_calendar.specs.Runs.{CoveredRuns, set_of_runs}
 use Rattle.irs_calendar.specs.Represents.{Represents}
-use Rattle.irs_calendar.specs.Selected.{later, earlier, latest_first, earliest_last, set_of_sections, AllCover, CoversCommon}
+use Rattle.irs_calendar.specs.Selected.{later, earlier, latest_first, earliest_last, set_of_sections, AllCover}
+use Rattle.irs_calendar.specs.Selected.{CoversCommon}
 use Rattle.irs_calendar.proofs.CalendarLemmas.{drop_all}
 
 abbrev pub sections_at : List (Bor Section) → List Section
 sections_at xs = map {A = Bor Section} {B = Section} (λ s. s.now) xs
 
-next_section : (ss : List (Bor Section)) (i : ℕ) (x : Bor Section) → i < length ss → x ≡ get_or ss i x → sections_at (drop i ss) ≡ x.now ∷ sections_at (drop (i + 1) ss)
+next_section : (ss : List (Bor Section)) (i : ℕ) (x : Bor Section) → i < length ss → x ≡ get_or ss i x
+    → sections_at (drop i ss) ≡ x.now ∷ sections_at (drop (i + 1) ss)
 next_section ss i x within is =
     let k : i + 1 ≡ suc i = omega arith in
     rw k (ap sections_at (drop-cons ss i x within ∙ ap (λ (s : Bor Section). s ∷ drop (suc i) ss) (sym is)))
 
 -- a cover that is narrowed by one section
-pub first_more : (ss : List (Bor Section)) (i : ℕ) (x : Bor Section) (a whole : ℤ) → i < length ss → x ≡ get_or ss i x → latest_first a (sections_at (drop i ss)) ≡ whole → latest_first (later a x.now.first) (sections_at (drop (i + 1) ss)) ≡ whole
-first_more ss i x a whole within is kept = subst (λ (l : List Section). latest_first a l ≡ whole) (next_section ss i x within is) kept
+pub first_more : (ss : List (Bor Section)) (i : ℕ) (x : Bor Section) (a whole : ℤ) → i < length ss → x ≡ get_or ss i x
+    → latest_first a (sections_at (drop i ss)) ≡ whole
+    → latest_first (later a x.now.first) (sections_at (drop (i + 1) ss)) ≡ whole
+first_more ss i x a whole within is kept =
+    subst (λ (l : List Section). latest_first a l ≡ whole) (next_section ss i x within is) kept
 
-pub last_more : (ss : List (Bor Section)) (i : ℕ) (x : Bor Section) (a whole : ℤ) → i < length ss → x ≡ get_or ss i x → earliest_last a (sections_at (drop i ss)) ≡ whole → earliest_last (earlier a x.now.last) (sections_at (drop (i + 1) ss)) ≡ whole
-last_more ss i x a whole within is kept = subst (λ (l : List Section). earliest_last a l ≡ whole) (next_section ss i x within is) kept
+pub last_more : (ss : List (Bor Section)) (i : ℕ) (x : Bor Section) (a whole : ℤ) → i < length ss → x ≡ get_or ss i x
+    → earliest_last a (sections_at (drop i ss)) ≡ whole
+    → earliest_last (earlier a x.now.last) (sections_at (drop (i + 1) ss)) ≡ whole
+last_more ss i x a whole within is kept =
+    subst (λ (l : List Section). earliest_last a l ≡ whole) (next_section ss i x within is) kept
 
-pub first_end : (ss : List (Bor Section)) (i : ℕ) (a whole : ℤ) → length ss ≤ i → latest_first a (sections_at (drop i ss)) ≡ whole → a ≡ whole
-first_end ss i a whole past kept = subst (λ (l : List (Bor Section)). latest_first a (sections_at l) ≡ whole) (drop_all ss i past) kept
+pub first_end : (ss : List (Bor Section)) (i : ℕ) (a whole : ℤ) → length ss ≤ i
+    → latest_first a (sections_at (drop i ss)) ≡ whole → a ≡ whole
+first_end ss i a whole past kept =
+    subst (λ (l : List (Bor Section)). latest_first a (sections_at l) ≡ whole) (drop_all ss i past) kept
 
-pub last_end : (ss : List (Bor Section)) (i : ℕ) (a whole : ℤ) → length ss ≤ i → earliest_last a (sections_at (drop i ss)) ≡ whole → a ≡ whole
-last_end ss i a whole past kept = subst (λ (l : List (Bor Section)). earliest_last a (sections_at l) ≡ whole) (drop_all ss i past) kept
+pub last_end : (ss : List (Bor Section)) (i : ℕ) (a whole : ℤ) → length ss ≤ i
+    → earliest_last a (sections_at (drop i ss)) ≡ whole → a ≡ whole
+last_end ss i a whole past kept =
+    subst (λ (l : List (Bor Section)). earliest_last a (sections_at l) ≡ whole) (drop_all ss i past) kept
 
 same_bool : (a b : Bool) → (a ≡ true → b ≡ true) → (b ≡ true → a ≡ true) → a ≡ b
 same_bool true b there back = sym (there refl)
@@ -37,7 +50,8 @@ same_bool false true there back = back refl
 same_bool false false there back = refl
 
 -- runs that represent a test are the set of that test
-pub same_days : (t : DaySet) (c : CoveredRuns) → c.first ≡ t.first → c.last ≡ t.last → Represents t.test c → SameDays (set_of_runs c) t
+pub same_days : (t : DaySet) (c : CoveredRuns) → c.first ≡ t.first → c.last ≡ t.last → Represents t.test c
+    → SameDays (set_of_runs c) t
 same_days t c first last represents = record {
   first = first;
   last = last;
@@ -60,7 +74,8 @@ earlier_is a b d h = grind (arith, signed_arith)
 is_earlier : (a b d : ℤ) → d ≤ℤ a → d ≤ℤ b → d ≤ℤ earlier a b
 is_earlier a b d h k = grind (arith, signed_arith)
 
-all_within : (ss : List Section) (a b d : ℤ) → latest_first a ss ≤ℤ d → d ≤ℤ earliest_last b ss → (a ≤ℤ d) × (d ≤ℤ b) × AllCover ss d
+all_within : (ss : List Section) (a b d : ℤ) → latest_first a ss ≤ℤ d → d ≤ℤ earliest_last b ss
+    → (a ≤ℤ d) × (d ≤ℤ b) × AllCover ss d
 all_within [] a b d from to = (from, to, tt)
 all_within (s ∷ ss) a b d from to =
     let r = all_within ss (later a s.first) (earlier b s.last) d from to in
@@ -68,17 +83,24 @@ all_within (s ∷ ss) a b d from to =
     let high = earlier_is b s.last d r.1 in
     (low.0, high.0, (low.1, high.1, r.2))
 
-within_all : (ss : List Section) (a b d : ℤ) → a ≤ℤ d → d ≤ℤ b → AllCover ss d → (latest_first a ss ≤ℤ d) × (d ≤ℤ earliest_last b ss)
+within_all : (ss : List Section) (a b d : ℤ) → a ≤ℤ d → d ≤ℤ b → AllCover ss d
+    → (latest_first a ss ≤ℤ d) × (d ≤ℤ earliest_last b ss)
 within_all [] a b d low high all = (low, high)
 within_all (s ∷ ss) a b d low high all =
-    within_all ss (later a s.first) (earlier b s.last) d (is_later a s.first d low all.0) (is_earlier b s.last d high all.1) all.2
+    within_all ss (later a s.first) (earlier b s.last) d (is_later a s.first d low all.0)
+    (is_earlier b s.last d high all.1) all.2
 
 pub covers_common : (ss : List Section) (t : DaySet) → SameDays t (set_of_sections ss) → CoversCommon ss t
 covers_common ss t same d = (
   (λ inside.
-      let r = all_within ss first_day last_day d (subst (λ (x : ℤ). x ≤ℤ d) same.first inside.from) (subst (λ (x : ℤ). d ≤ℤ x) same.last inside.to) in
+      let r = all_within ss first_day last_day d (subst (λ (x : ℤ). x ≤ℤ d) same.first inside.from)
+      (subst (λ (x : ℤ). d ≤ℤ x) same.last inside.to) in
       ((r.0, r.1), r.2)),
   (λ p.
       let r = within_all ss first_day last_day d p.0.0 p.0.1 p.1 in
-      record { from = subst (λ (x : ℤ). x ≤ℤ d) (sym same.first) r.0; to = subst (λ (x : ℤ). d ≤ℤ x) (sym same.last) r.1 }),
+      record {
+        from = subst (λ (x : ℤ). x ≤ℤ d) (sym same.first) r.0;
+        to =
+            subst (λ (x : ℤ). d ≤ℤ x) (sym same.last) r.1;
+      }),
 )

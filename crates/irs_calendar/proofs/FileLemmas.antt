@@ -9,23 +9,31 @@ use Rattle.irs_calendar.specs.Words.{kind_of}
 use Rattle.irs_base.specs.Lines.{lines_of}
 use Rattle.irs_calendar.specs.Files.{Place, numbered, then_read, sections_in, FileFails}
 
-pub goes_on : (n : ℕ) (s t : State) (line : List ℕ) (lines more : List (List ℕ)) (whole : Result (List Section) Place) → sections_in n s lines ≡ whole → lines ≡ line ∷ more → numbered n (after_line s (kind_of line)) ≡ Ok t → sections_in (n + 1) t more ≡ whole
+pub goes_on : (n : ℕ) (s t : State) (line : List ℕ) (lines more : List (List ℕ)) (whole : Result (List Section) Place)
+    → sections_in n s lines ≡ whole → lines ≡ line ∷ more → numbered n (after_line s (kind_of line)) ≡ Ok t
+    → sections_in (n + 1) t more ≡ whole
 unfolding sections_in
 goes_on n s t line lines more whole kept split read =
     let k = subst (λ (ls : List (List ℕ)). sections_in n s ls ≡ whole) split kept in
     subst (λ (r : Result State Place). then_read r (λ u. sections_in (n + 1) u more) ≡ whole) read k
 
-pub stops : (n : ℕ) (s : State) (line : List ℕ) (lines more : List (List ℕ)) (whole : Result (List Section) Place) (e : Place) → sections_in n s lines ≡ whole → lines ≡ line ∷ more → numbered n (after_line s (kind_of line)) ≡ Err e → whole ≡ Err e
+pub stops : (n : ℕ) (s : State) (line : List ℕ) (lines more : List (List ℕ)) (whole : Result (List Section) Place)
+    (e : Place) → sections_in n s lines ≡ whole → lines ≡ line ∷ more → numbered n (after_line s (kind_of line)) ≡ Err e
+    → whole ≡ Err e
 unfolding sections_in
 stops n s line lines more whole e kept split read =
     let k = subst (λ (ls : List (List ℕ)). sections_in n s ls ≡ whole) split kept in
     sym (subst (λ (r : Result State Place). then_read r (λ u. sections_in (n + 1) u more) ≡ whole) read k)
 
-pub fails : (n : ℕ) (s : State) (line : List ℕ) (lines more : List (List ℕ)) (whole : Result (List Section) Place) (e : FileErr) → sections_in n s lines ≡ whole → lines ≡ line ∷ more → FileFails e (numbered n (after_line s (kind_of line))) → FileFails e whole
+pub fails : (n : ℕ) (s : State) (line : List ℕ) (lines more : List (List ℕ)) (whole : Result (List Section) Place)
+    (e : FileErr) → sections_in n s lines ≡ whole → lines ≡ line ∷ more
+    → FileFails e (numbered n (after_line s (kind_of line))) → FileFails e whole
 fails n s line lines more whole errors.Memory kept split read = tt
-fails n s line lines more whole (errors.Fault f k) kept split read = stops n s line lines more whole (f, k) kept split read
+fails n s line lines more whole (errors.Fault f k) kept split read =
+    stops n s line lines more whole (f, k) kept split read
 
-pub ended : (n : ℕ) (s : State) (rest : List ℕ) (whole : Result (List Section) Place) → sections_in n s (lines_of rest) ≡ whole → length rest ≤ 0 → numbered n (at_end s.done s.part) ≡ whole
+pub ended : (n : ℕ) (s : State) (rest : List ℕ) (whole : Result (List Section) Place)
+    → sections_in n s (lines_of rest) ≡ whole → length rest ≤ 0 → numbered n (at_end s.done s.part) ≡ whole
 unfolding sections_in
 ended n s [] whole kept none = kept
 ended n s (b ∷ bs) whole kept none = absurd (omega (arith, none))

@@ -1,5 +1,6 @@
 -- Finding a day among days that rise.
-use Rattle.std.proofs.Common.{◌≡◌, ◌⊎◌, inl, inr, ℕ, zero, suc, ◌<◌, ◌≤◌, Bool, true, false, ◌&&◌, List, [], ◌∷◌, length, slice_get, Some, arith, refl, sym, ◌∙◌, subst, ℤ, ◌<ℤ◌}
+use Rattle.std.proofs.Common.{◌≡◌, ◌⊎◌, inl, inr, ℕ, zero, suc, ◌<◌, ◌≤◌, Bool, true, false, ◌&&◌, List, [], ◌∷◌}
+use Rattle.std.proofs.Common.{length, slice_get, Some, arith, refl, sym, ◌∙◌, subst, ℤ, ◌<ℤ◌}
 use Rattle.std.specs.Ordering.{int_cmp, is_lt, is_le, int_eq}
 use Rattle.std.proofs.lemmas.Option.{slice_get_within, same_Some}
 use Rattle.jiff_core.proofs.SignedLemmas.{signed_arith}
@@ -24,10 +25,13 @@ not_true false h = refl
 -- above each of the days
 pub after_all : (days : List ℤ) (d : ℤ) → all_before d days ≡ true → IsAfter d days
 after_all [] d h i x at = absurd (cc)
-after_all (y ∷ ys) d h zero x at = let b = both_true (is_lt (int_cmp y d)) (all_before d ys) h in subst (λ (z : ℤ). z <ℤ d) (same_Some y x at) (lt_true y d b.0)
-after_all (y ∷ ys) d h (suc i) x at = let b = both_true (is_lt (int_cmp y d)) (all_before d ys) h in after_all ys d b.1 i x at
+after_all (y ∷ ys) d h zero x at = let b = both_true (is_lt (int_cmp y d)) (all_before d ys) h in
+    subst (λ (z : ℤ). z <ℤ d) (same_Some y x at) (lt_true y d b.0)
+after_all (y ∷ ys) d h (suc i) x at = let b = both_true (is_lt (int_cmp y d)) (all_before d ys) h in
+    after_all ys d b.1 i x at
 
-pub all_after : (days : List ℤ) (d : ℤ) → ((i : ℕ) (x : ℤ) → slice_get days i ≡ Some x → x <ℤ d) → all_before d days ≡ true
+pub all_after : (days : List ℤ) (d : ℤ) → ((i : ℕ) (x : ℤ) → slice_get days i ≡ Some x → x <ℤ d)
+    → all_before d days ≡ true
 all_after [] d h = refl
 all_after (y ∷ ys) d h = rw (true_lt y d (h 0 y refl), all_after ys d (λ i x at. h (suc i) x at)) refl
 
@@ -38,15 +42,19 @@ fits_after s d h =
     after_all s.holidays d b.1
 
 -- it is enough to be above the last one
-pub last_before : (days : List ℤ) (d x : ℤ) (n : ℕ) → IsRising days → suc n ≡ length days → slice_get days n ≡ Some x → is_lt (int_cmp x d) ≡ all_before d days
+pub last_before : (days : List ℤ) (d x : ℤ) (n : ℕ) → IsRising days → suc n ≡ length days → slice_get days n ≡ Some x
+    → is_lt (int_cmp x d) ≡ all_before d days
 last_before days d x n rising len at = elim (true_or_false (is_lt (int_cmp x d))) [
-  | inl low ↦ low ∙ sym (all_after days d (λ i y there. elim (cases_le i n (omega (arith, len, slice_get_within days i y there))) [
-    | inl front ↦ omega (arith, signed_arith, rising.rises i n y x front there at, lt_true x d low)
-    | inr same ↦
-        let q : Some x ≡ Some y = sym at ∙ subst (λ (k : ℕ). slice_get days k ≡ Some y) same there in
-        subst (λ (z : ℤ). z <ℤ d) (same_Some x y q) (lt_true x d low)
-  ]))
-  | inr high ↦ high ∙ sym (not_true (all_before d days) (λ t. let low = after_all days d t n x at in omega (arith, signed_arith, low, lt_false x d high)))
+  | inl low ↦ low ∙ sym
+      (all_after days d (λ i y there. elim (cases_le i n (omega (arith, len, slice_get_within days i y there))) [
+        | inl front ↦ omega (arith, signed_arith, rising.rises i n y x front there at, lt_true x d low)
+        | inr same ↦
+            let q : Some x ≡ Some y = sym at ∙ subst (λ (k : ℕ). slice_get days k ≡ Some y) same there in
+            subst (λ (z : ℤ). z <ℤ d) (same_Some x y q) (lt_true x d low)
+      ]))
+  | inr high ↦
+      high ∙ sym (not_true (all_before d days) (λ t. let low = after_all days d t n x at in
+      omega (arith, signed_arith, low, lt_false x d high)))
 ]
   where
     true_or_false : (b : Bool) → (b ≡ true) ⊎ (b ≡ false)

@@ -1,5 +1,6 @@
 -- Good days and the runs that hold them.
-use Rattle.std.proofs.Common.{◌≡◌, ◌⊎◌, inl, inr, ℕ, zero, suc, ◌+◌, ◌*◌, ◌^◌, ◌<◌, Bool, true, false, ◌||◌, List, [], ◌∷◌, length, slice_get, Some, arith, refl, sym, ◌∙◌, ap, subst, ℤ, pos, ◌+ℤ◌, ◌≤ℤ◌, ◌<ℤ◌}
+use Rattle.std.proofs.Common.{◌≡◌, ◌⊎◌, inl, inr, ℕ, zero, suc, ◌+◌, ◌*◌, ◌^◌, ◌<◌, Bool, true, false, ◌||◌, List, []}
+use Rattle.std.proofs.Common.{◌∷◌, length, slice_get, Some, arith, refl, sym, ◌∙◌, ap, subst, ℤ, pos, ◌+ℤ◌, ◌≤ℤ◌, ◌<ℤ◌}
 use Rattle.std.specs.List.{list_any}
 use Rattle.std.specs.Ordering.{int_cmp, is_le, is_lt}
 use Rattle.std.proofs.lemmas.Option.{slice_get_within, same_Some}
@@ -13,7 +14,8 @@ use Rattle.irs_calendar.specs.Runs.{CoveredRuns, AreRuns, holds_day, set_of_runs
 use Rattle.irs_calendar.specs.Splits.{comes_before, IsDownward, Splits}
 
 -- what passes a test somewhere in a list has a place in it
-pub any_place : {A : Type 0} (p : A → Bool) (xs : List A) → list_any p xs ≡ true → (i : ℕ) × (x : A) × (slice_get xs i ≡ Some x) × (p x ≡ true)
+pub any_place : {A : Type 0} (p : A → Bool) (xs : List A) → list_any p xs ≡ true
+    → (i : ℕ) × (x : A) × (slice_get xs i ≡ Some x) × (p x ≡ true)
 any_place p [] h = absurd (cc)
 any_place p (x ∷ xs) h = elim (cases_or (p x) (list_any p xs) h) [
   | inl first ↦ (0, x, refl, first)
@@ -24,9 +26,11 @@ any_place p (x ∷ xs) h = elim (cases_or (p x) (list_any p xs) h) [
     cases_or true b h = inl refl
     cases_or false b h = inr h
 
-pub place_any : {A : Type 0} (p : A → Bool) (xs : List A) (i : ℕ) (x : A) → slice_get xs i ≡ Some x → p x ≡ true → list_any p xs ≡ true
+pub place_any : {A : Type 0} (p : A → Bool) (xs : List A) (i : ℕ) (x : A) → slice_get xs i ≡ Some x → p x ≡ true
+    → list_any p xs ≡ true
 place_any p [] i x at passes = absurd (cc)
-place_any p (y ∷ ys) zero x at passes = or_left (p y) (list_any p ys) (subst (λ z. p z ≡ true) (sym (same_Some y x at)) passes)
+place_any p (y ∷ ys) zero x at passes =
+    or_left (p y) (list_any p ys) (subst (λ z. p z ≡ true) (sym (same_Some y x at)) passes)
   where
     or_left : (a b : Bool) → a ≡ true → (a || b) ≡ true
     or_left true b h = refl
@@ -51,7 +55,8 @@ held c d good =
     let ends = both_true (is_le (int_cmp p.1.first d)) (is_le (int_cmp d p.1.last)) p.3 in
     record { index = p.0; run = p.1; at = p.2; from = le_true p.1.first d ends.0; to = le_true d p.1.last ends.1 }
 
-pub good_held : (c : CoveredRuns) (d : ℤ) (i : ℕ) (r : Run) → AreRuns c → slice_get c.runs i ≡ Some r → r.first ≤ℤ d → d ≤ℤ r.last → IsGood (set_of_runs c) d
+pub good_held : (c : CoveredRuns) (d : ℤ) (i : ℕ) (r : Run) → AreRuns c → slice_get c.runs i ≡ Some r → r.first ≤ℤ d
+    → d ≤ℤ r.last → IsGood (set_of_runs c) d
 good_held c d i r are at from to =
     let low = are.from i r at in
     let high = are.to i r at in
@@ -77,11 +82,13 @@ begins_downward c d are i j r s lower atr ats passes =
 place_cases : (i k : ℕ) → (i < k) ⊎ ((i ≡ k) ⊎ (k < i))
 place_cases i k = grind arith
 
-same_run : (c : CoveredRuns) (i k : ℕ) (r s : Run) → i ≡ k → slice_get c.runs k ≡ Some r → slice_get c.runs i ≡ Some s → r ≡ s
+same_run : (c : CoveredRuns) (i k : ℕ) (r s : Run) → i ≡ k → slice_get c.runs k ≡ Some r
+    → slice_get c.runs i ≡ Some s → r ≡ s
 same_run c i k r s e atr ats = same_Some r s (sym atr ∙ subst (λ n. slice_get c.runs n ≡ Some s) e ats)
 
 -- no good day lies between d and the first run that doesn't end before it
-none_to_run : (c : CoveredRuns) (d : ℤ) (k : ℕ) (r : Run) → AreRuns c → Splits (comes_before Last d) c.runs k → slice_get c.runs k ≡ Some r → (x : ℤ) → d ≤ℤ x → x <ℤ r.first → IsGood (set_of_runs c) x → ⊥
+none_to_run : (c : CoveredRuns) (d : ℤ) (k : ℕ) (r : Run) → AreRuns c → Splits (comes_before Last d) c.runs k
+    → slice_get c.runs k ≡ Some r → (x : ℤ) → d ≤ℤ x → x <ℤ r.first → IsGood (set_of_runs c) x → ⊥
 none_to_run c d k r are cut at x low high good =
     let h = held c x good in
     elim (place_cases h.index k) [
@@ -90,11 +97,14 @@ none_to_run c d k r are cut at x low high good =
         | inl here ↦
             let same = ap (λ (z : Run). z.first) (same_run c h.index k r h.run here at h.at) in
             omega (arith, signed_arith, same, h.from, high)
-        | inr back ↦ omega (arith, signed_arith, are.apart k h.index r h.run back at h.at, are.filled k r at, h.from, high)
+        | inr back ↦
+            omega (arith, signed_arith, are.apart k h.index r h.run back at h.at, are.filled k r at, h.from, high)
       ]
     ]
 
-pub next_run : (c : CoveredRuns) (d : ℤ) (k : ℕ) (r : Run) → AreRuns c → InCover (set_of_runs c) d → Splits (comes_before Last d) c.runs k → slice_get c.runs k ≡ Some r → d <ℤ r.first → Next (set_of_runs c) d r.first
+pub next_run : (c : CoveredRuns) (d : ℤ) (k : ℕ) (r : Run) → AreRuns c → InCover (set_of_runs c) d
+    → Splits (comes_before Last d) c.runs k → slice_get c.runs k ≡ Some r → d <ℤ r.first
+    → Next (set_of_runs c) d r.first
 next_run c d k r are inside cut at before = record {
   starts = inside;
   after = omega (arith, signed_arith, before);
@@ -102,7 +112,8 @@ next_run c d k r are inside cut at before = record {
   none_before = none_to_run c d k r are cut at;
 }
 
-pub next_here : (c : CoveredRuns) (d : ℤ) (k : ℕ) (r : Run) → AreRuns c → InCover (set_of_runs c) d → Splits (comes_before Last d) c.runs k → slice_get c.runs k ≡ Some r → r.first ≤ℤ d → Next (set_of_runs c) d d
+pub next_here : (c : CoveredRuns) (d : ℤ) (k : ℕ) (r : Run) → AreRuns c → InCover (set_of_runs c) d
+    → Splits (comes_before Last d) c.runs k → slice_get c.runs k ≡ Some r → r.first ≤ℤ d → Next (set_of_runs c) d d
 next_here c d k r are inside cut at from = record {
   starts = inside;
   after = omega (arith, signed_arith);
@@ -110,14 +121,16 @@ next_here c d k r are inside cut at from = record {
   none_before = λ x low high g. omega (arith, signed_arith, low, high);
 }
 
-pub none_next : (c : CoveredRuns) (d : ℤ) (k : ℕ) → Splits (comes_before Last d) c.runs k → k ≡ length c.runs → (x : ℤ) → Next (set_of_runs c) d x → ⊥
+pub none_next : (c : CoveredRuns) (d : ℤ) (k : ℕ) → Splits (comes_before Last d) c.runs k → k ≡ length c.runs → (x : ℤ)
+    → Next (set_of_runs c) d x → ⊥
 none_next c d k cut all x next =
     let h = held c x next.good in
     let front : h.index < k = omega (arith, all, slice_get_within c.runs h.index h.run h.at) in
     omega (arith, signed_arith, lt_true h.run.last d (cut.below h.index h.run front h.at), h.to, next.after)
 
 -- no good day lies between d and the last run that begins by it
-none_from_run : (c : CoveredRuns) (d : ℤ) (k : ℕ) (r : Run) → AreRuns c → Splits (comes_before First d) c.runs (k + 1) → slice_get c.runs k ≡ Some r → (x : ℤ) → r.last <ℤ x → x ≤ℤ d → IsGood (set_of_runs c) x → ⊥
+none_from_run : (c : CoveredRuns) (d : ℤ) (k : ℕ) (r : Run) → AreRuns c → Splits (comes_before First d) c.runs (k + 1)
+    → slice_get c.runs k ≡ Some r → (x : ℤ) → r.last <ℤ x → x ≤ℤ d → IsGood (set_of_runs c) x → ⊥
 none_from_run c d k r are cut at x low high good =
     let h = held c x good in
     elim (place_cases h.index k) [
@@ -126,11 +139,20 @@ none_from_run c d k r are cut at x low high good =
         | inl here ↦
             let same = ap (λ (z : Run). z.last) (same_run c h.index k r h.run here at h.at) in
             omega (arith, signed_arith, same, h.to, low)
-        | inr back ↦ omega (arith, signed_arith, le_false h.run.first d (cut.above h.index h.run (omega (arith, back)) h.at), h.from, high)
+        | inr back ↦
+            omega (
+              arith,
+              signed_arith,
+              le_false h.run.first d (cut.above h.index h.run (omega (arith, back)) h.at),
+              h.from,
+              high,
+            )
       ]
     ]
 
-pub prev_run : (c : CoveredRuns) (d : ℤ) (k : ℕ) (r : Run) → AreRuns c → InCover (set_of_runs c) d → Splits (comes_before First d) c.runs (k + 1) → slice_get c.runs k ≡ Some r → r.last <ℤ d → Prev (set_of_runs c) d r.last
+pub prev_run : (c : CoveredRuns) (d : ℤ) (k : ℕ) (r : Run) → AreRuns c → InCover (set_of_runs c) d
+    → Splits (comes_before First d) c.runs (k + 1) → slice_get c.runs k ≡ Some r → r.last <ℤ d
+    → Prev (set_of_runs c) d r.last
 prev_run c d k r are inside cut at before = record {
   starts = inside;
   before = omega (arith, signed_arith, before);
@@ -138,7 +160,9 @@ prev_run c d k r are inside cut at before = record {
   none_after = none_from_run c d k r are cut at;
 }
 
-pub prev_here : (c : CoveredRuns) (d : ℤ) (k : ℕ) (r : Run) → AreRuns c → InCover (set_of_runs c) d → Splits (comes_before First d) c.runs (k + 1) → slice_get c.runs k ≡ Some r → d ≤ℤ r.last → Prev (set_of_runs c) d d
+pub prev_here : (c : CoveredRuns) (d : ℤ) (k : ℕ) (r : Run) → AreRuns c → InCover (set_of_runs c) d
+    → Splits (comes_before First d) c.runs (k + 1) → slice_get c.runs k ≡ Some r → d ≤ℤ r.last
+    → Prev (set_of_runs c) d d
 prev_here c d k r are inside cut at to = record {
   starts = inside;
   before = omega (arith, signed_arith);
@@ -146,19 +170,31 @@ prev_here c d k r are inside cut at to = record {
   none_after = λ x low high g. omega (arith, signed_arith, low, high);
 }
 
-pub none_prev : (c : CoveredRuns) (d : ℤ) → Splits (comes_before First d) c.runs 0 → (x : ℤ) → Prev (set_of_runs c) d x → ⊥
+pub none_prev : (c : CoveredRuns) (d : ℤ) → Splits (comes_before First d) c.runs 0 → (x : ℤ)
+    → Prev (set_of_runs c) d x → ⊥
 none_prev c d cut x prev =
     let h = held c x prev.good in
-    omega (arith, signed_arith, le_false h.run.first d (cut.above h.index h.run (omega arith) h.at), h.from, prev.before)
+    omega (
+      arith,
+      signed_arith,
+      le_false h.run.first d (cut.above h.index h.run (omega arith) h.at),
+      h.from,
+      prev.before,
+    )
 
 -- one run over the whole range
-pub one_run : (c : CoveredRuns) (r : Run) → c.runs ≡ r ∷ [] → r.first ≡ c.first → r.last ≡ c.last → c.first ≤ℤ c.last → AreRuns c
+pub one_run : (c : CoveredRuns) (r : Run) → c.runs ≡ r ∷ [] → r.first ≡ c.first → r.last ≡ c.last → c.first ≤ℤ c.last
+    → AreRuns c
 one_run c r is from to order = record {
-  filled = λ i s at. let e = only i s (subst (λ (rs : List Run). slice_get rs i ≡ Some s) is at) in subst (λ (z : Run). z.first ≤ℤ z.last) e.1 (omega (arith, signed_arith, from, to, order));
-  from = λ i s at. let e = only i s (subst (λ (rs : List Run). slice_get rs i ≡ Some s) is at) in subst (λ (z : Run). c.first ≤ℤ z.first) e.1 (omega (arith, signed_arith, from));
-  to = λ i s at. let e = only i s (subst (λ (rs : List Run). slice_get rs i ≡ Some s) is at) in subst (λ (z : Run). z.last ≤ℤ c.last) e.1 (omega (arith, signed_arith, to));
+  filled = λ i s at. let e = only i s (subst (λ (rs : List Run). slice_get rs i ≡ Some s) is at) in
+      subst (λ (z : Run). z.first ≤ℤ z.last) e.1 (omega (arith, signed_arith, from, to, order));
+  from = λ i s at. let e = only i s (subst (λ (rs : List Run). slice_get rs i ≡ Some s) is at) in
+      subst (λ (z : Run). c.first ≤ℤ z.first) e.1 (omega (arith, signed_arith, from));
+  to = λ i s at. let e = only i s (subst (λ (rs : List Run). slice_get rs i ≡ Some s) is at) in
+      subst (λ (z : Run). z.last ≤ℤ c.last) e.1 (omega (arith, signed_arith, to));
   apart = λ i j s t lower ats att.
-      let e = only j t (subst (λ (rs : List Run). slice_get rs j ≡ Some t) is att) in absurd (omega (arith, e.0, lower));
+      let e = only j t (subst (λ (rs : List Run). slice_get rs j ≡ Some t) is att) in
+      absurd (omega (arith, e.0, lower));
 }
   where
     only : (i : ℕ) (s : Run) → slice_get (r ∷ []) i ≡ Some s → (i ≡ 0) × (r ≡ s)
@@ -166,13 +202,21 @@ one_run c r is from to order = record {
     only (suc i) s at = absurd (cc)
 
 -- each run takes a day and a gap, so there are few
-pub begins_late : (c : CoveredRuns) → AreRuns c → (i : ℕ) (r : Run) → slice_get c.runs i ≡ Some r → (c.first +ℤ pos (2 * i)) ≤ℤ r.first
+pub begins_late : (c : CoveredRuns) → AreRuns c → (i : ℕ) (r : Run) → slice_get c.runs i ≡ Some r
+    → (c.first +ℤ pos (2 * i)) ≤ℤ r.first
 begins_late c are zero r at = omega (arith, signed_arith, are.from 0 r at)
 begins_late c are (suc i) r at =
     let s = before_it c.runs i r at in
-    omega (arith, signed_arith, begins_late c are i s.0 s.1, are.filled i s.0 s.1, are.apart i (suc i) s.0 r (omega arith) s.1 at)
+    omega (
+      arith,
+      signed_arith,
+      begins_late c are i s.0 s.1,
+      are.filled i s.0 s.1,
+      are.apart i (suc i) s.0 r (omega arith) s.1 at,
+    )
   where
-    before_it : (rs : List Run) (i : ℕ) (r : Run) → slice_get rs (suc i) ≡ Some r → (s : Run) × (slice_get rs i ≡ Some s)
+    before_it : (rs : List Run) (i : ℕ) (r : Run) → slice_get rs (suc i) ≡ Some r
+        → (s : Run) × (slice_get rs i ≡ Some s)
     before_it [] i r at = absurd (cc)
     before_it (x ∷ xs) zero r at = (x, refl)
     before_it (x ∷ xs) (suc i) r at = before_it xs i r at
@@ -189,7 +233,8 @@ few_runs c (suc n) are low high all =
     in_place (x ∷ xs) (suc i) h = in_place xs i (omega (arith, h))
 
 -- the day lies in the cover
-pub in_cover : (c : CoveredRuns) (d : ℤ) → false ≡ is_lt (int_cmp d c.first) → false ≡ is_lt (int_cmp c.last d) → InCover (set_of_runs c) d
+pub in_cover : (c : CoveredRuns) (d : ℤ) → false ≡ is_lt (int_cmp d c.first) → false ≡ is_lt (int_cmp c.last d)
+    → InCover (set_of_runs c) d
 in_cover c d low high = record { from = lt_false d c.first (sym low); to = lt_false c.last d (sym high) }
 
 -- a good day is the next one from itself on

@@ -1,5 +1,6 @@
 -- Days that are closed, and the next holiday.
-use Rattle.std.specs.Prelude.{◌≡◌, ℕ, ◌*◌, ◌^◌, ◌<◌, ◌≤◌, ◌/◌, ◌%◌, ◌==◌, ◌||◌, Bool, true, false, List, length, ℤ, pos, ◌+ℤ◌, slice_index_or}
+use Rattle.std.specs.Prelude.{◌≡◌, ℕ, ◌*◌, ◌^◌, ◌<◌, ◌≤◌, ◌/◌, ◌%◌, ◌==◌, ◌||◌, Bool, true, false, List, length, ℤ, pos}
+use Rattle.std.specs.Prelude.{◌+ℤ◌, slice_index_or}
 use Rattle.std.specs.List.{list_any}
 use Rattle.std.specs.Int.{bit_at}
 use Rattle.irs_calendar.specs.declared.sections.Section.{Section}
@@ -15,7 +16,8 @@ is_marked marks k = bit_at (slice_index_or marks (k / 64) 0) (k % 64) == 1
 
 -- the days that are closed are marked besides, as far as a limit; days are counted from first
 abbrev pub IsClosed : ℤ → ℕ → (ℤ → Bool) → List ℕ → List ℕ → Type 0
-IsClosed first limit closed old new = (k : ℕ) → k < limit → is_marked new k ≡ (is_marked old k || closed (first +ℤ pos k))
+IsClosed first limit closed old new =
+    (k : ℕ) → k < limit → is_marked new k ≡ (is_marked old k || closed (first +ℤ pos k))
 
 -- n is the first bit that is set from k on, or all 64 are passed
 pub record IsNextBit (word k n : ℕ) : Type 0 where

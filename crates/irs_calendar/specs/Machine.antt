@@ -53,7 +53,8 @@ after_cover done (Open s) a b = Err Syntax
 abbrev pub after_weekend : List Section → Part → List Bool → Result State Fault
 after_weekend done Between w = Err Syntax
 after_weekend done (Named n) w = Err Syntax
-after_weekend done (Covered n a b) w = Ok (record { done = done; part = Open (record { name = n; first = a; last = b; weekend = w; holidays = [] }) })
+after_weekend done (Covered n a b) w =
+    Ok (record { done = done; part = Open (record { name = n; first = a; last = b; weekend = w; holidays = [] }) })
 after_weekend done (Open s) w = Err Syntax
 
 -- the day lies in the cover, behind the holidays so far
@@ -65,7 +66,10 @@ abbrev pub after_holiday : List Section → Part → ℤ → Result State Fault
 after_holiday done Between d = Err Syntax
 after_holiday done (Named n) d = Err Syntax
 after_holiday done (Covered n a b) d = Err Syntax
-after_holiday done (Open s) d = if fits_section s d then (if nat_le most_holidays (length s.holidays) then Err TooMany else Ok (record { done = done; part = Open (record s { holidays = s.holidays ++ d ∷ [] }) })) else Err Syntax
+after_holiday done (Open s) d =
+    if fits_section s d then
+    (if nat_le most_holidays (length s.holidays) then Err TooMany else Ok
+    (record { done = done; part = Open (record s { holidays = s.holidays ++ d ∷ [] }) })) else Err Syntax
 
 -- what a line makes of what was read before it
 abbrev pub after_line : State → Said → Result State Fault

@@ -1,5 +1,6 @@
 -- Days of the week that are closed, and how long they stay so. Monday is 0 and Sunday 6.
-use Rattle.std.specs.Prelude.{◌≡◌, ℕ, ◌+◌, ◌-◌, ◌<◌, ◌≤◌, ◌%◌, ◌==◌, Bool, true, false, not, List, slice_index_or, ℤ, pos, ◌+ℤ◌, if◌then◌else◌}
+use Rattle.std.specs.Prelude.{◌≡◌, ℕ, ◌+◌, ◌-◌, ◌<◌, ◌≤◌, ◌%◌, ◌==◌, Bool, true, false, not, List, slice_index_or, ℤ}
+use Rattle.std.specs.Prelude.{pos, ◌+ℤ◌, if◌then◌else◌}
 use Rattle.std.specs.List.{list_any}
 use Rattle.irs_base.specs.Days.{weekday_at}
 use Rattle.irs_calendar.specs.declared.sections.Section.{Section}
@@ -26,7 +27,9 @@ AreShut off shut = (p : ℕ) → p < 7 → IsStretch off true p (slice_index_or 
 
 -- how far away the next closed weekday then is, behind open ones
 abbrev pub AreNext : (ℕ → Bool) → List ℕ → List ℕ → Type 0
-AreNext off shut next = (p : ℕ) → p < 7 → (slice_index_or shut p 0 ≤ slice_index_or next p 0) × IsStretch off false ((p + slice_index_or shut p 0) % 7) (slice_index_or next p 0 - slice_index_or shut p 0)
+AreNext off shut next =
+    (p : ℕ) → p < 7 → (slice_index_or shut p 0 ≤ slice_index_or next p 0)
+    × IsStretch off false ((p + slice_index_or shut p 0) % 7) (slice_index_or next p 0 - slice_index_or shut p 0)
 
 -- and which one that is
 abbrev pub ArePlaces : List ℕ → List ℕ → Type 0
@@ -52,4 +55,9 @@ day_after week w e n = if e == w.day then e + slice_index_or week.shut w.place 0
 
 -- the weekend after that
 abbrev pub weekend_after : Week → Weekend → ℕ → Weekend
-weekend_after week w e = if e == w.day then record { day = e + slice_index_or week.next w.place 0; place = slice_index_or week.places w.place 0 } else w
+weekend_after week w e =
+    if e == w.day then record {
+      day = e + slice_index_or week.next w.place 0;
+      place =
+          slice_index_or week.places w.place 0;
+    } else w

@@ -3,7 +3,8 @@
 //! A file is a list of sections, none at all included. A section has, each on a line of its own and
 //! in this order, `center NAME`, `cover DATE DATE`, `weekend` with 0 to 7 different names of MON to
 //! SUN, and then its holidays, which rise strictly inside the cover. The format is this project's own.
-ghost use Rattle.std.specs.Prelude.{◌≡◌, ℕ, ◌<◌, ◌≤◌, ◌^◌, List, [], length, map, Some, Ok, All, IsOk, IfOk, IfErr, IfSome, IsSome, None, is_some};
+ghost use Rattle.std.specs.Prelude.{◌≡◌, ℕ, ◌<◌, ◌≤◌, ◌^◌, List, [], length, map, Some, Ok, All, IsOk, IfOk, IfErr};
+ghost use Rattle.std.specs.Prelude.{IfSome, IsSome, None, is_some};
 ghost use Rattle.std.specs.Option.{option_copied};
 ghost use Rattle.irs_base.specs.Limits.{most_bytes, most_centers, most_files};
 ghost use Rattle.irs_calendar.specs.Runs.{set_of_runs};
@@ -166,7 +167,8 @@ impl Calendars {
         // The files spell the sections, by the grammar.
         ensures spelt { IfOk result (λ c. CalFiles (map (λ f. f.items) files.now) c) }
         // Files with a faulty line spell no sections.
-        ensures refused { IfErr result (λ e. IsSome (spot_of e) → (ss : List Section) → CalFiles (map (λ f. f.items) files.now) ss → ⊥) }
+        ensures refused { IfErr result (λ e. IsSome (spot_of e) → (ss : List Section)
+            → CalFiles (map (λ f. f.items) files.now) ss → ⊥) }
         // An error is at the first fault: what stands before can go on, and with the line nothing can.
         ensures first { IfErr result (λ e. IfSome (spot_of e) (IsFirstFault (map (λ f. f.items) files.now))) }
         // Where sections are read there is no fault.

@@ -20,7 +20,9 @@ pub fn open_runs(
     first: Day,
     last: Day,
 ) -> Result<Vec<Run>, Memory>
-    ensures { IfOk result (λ runs. Represents (all_open (map (λ s. s.now) sections.now)) (record { first = first; last = last; runs = runs.items })) }
+    ensures { IfOk result
+        (λ runs. Represents (all_open (map (λ s. s.now) sections.now))
+        (record { first = first; last = last; runs = runs.items })) }
 {
     let mut runs = Vec::new(alloc);
     if last < first {

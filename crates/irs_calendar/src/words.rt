@@ -8,7 +8,8 @@ ghost use Rattle.std.specs.List.{list_all};
 ghost use Rattle.std.specs.Str.{bytes_eq};
 ghost use Rattle.irs_base.specs.Fields.{fields};
 ghost use Rattle.irs_calendar.specs.Machine.{said_of};
-ghost use Rattle.irs_calendar.specs.Words.{is_plain, is_center_name, said_center, said_cover, place_of, weekend_of, no_days, said_holiday, said_by, kind_of};
+ghost use Rattle.irs_calendar.specs.Words.{is_plain, is_center_name, said_center, said_cover, place_of, weekend_of};
+ghost use Rattle.irs_calendar.specs.Words.{no_days, said_holiday, said_by, kind_of};
 
 use crate::part::Said;
 use irs_base::{MOST_NAME, date, first_field, is_gap};

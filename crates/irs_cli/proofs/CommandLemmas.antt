@@ -1,5 +1,7 @@
 -- What the table of commands says of words.
-use Rattle.std.proofs.Common.{◌≡◌, ℕ, zero, suc, ◌+◌, ◌-◌, ◌<◌, ◌≤◌, inl, inr, List, [], ◌∷◌, ◌++◌, length, map, take, drop, Option, Some, None, get_or, Bool, true, false, refl, sym, ◌∙◌, ap, subst, arith, append_assoc, ℤ, String, string_bytes}
+use Rattle.std.proofs.Common.{◌≡◌, ℕ, zero, suc, ◌+◌, ◌-◌, ◌<◌, ◌≤◌, inl, inr, List, [], ◌∷◌, ◌++◌, length, map, take}
+use Rattle.std.proofs.Common.{drop, Option, Some, None, get_or, Bool, true, false, refl, sym, ◌∙◌, ap, subst, arith}
+use Rattle.std.proofs.Common.{append_assoc, ℤ, String, string_bytes}
 use Rattle.std.specs.Prelude.{slice_get, option_map, nat_le, ◌&&◌, if◌then◌else◌}
 use Rattle.std.proofs.lemmas.Bool.{cases_lt}
 use Rattle.std.proofs.lemmas.Bool.Decides.{nat_tests}
@@ -19,16 +21,24 @@ use Rattle.irs_cli.specs.declared.commands.Request.{Request}
 use Rattle.irs_cli.specs.declared.commands.Request.TheVariants.{OverFiles, Bulk}
 use Rattle.irs_cli.specs.declared.commands.Command.{Command}
 use Rattle.irs_cli.specs.declared.commands.Named.{Named}
-use Rattle.irs_cli.specs.Commands.{Words, texts, Wanted, Asked, Asks, AsksAs, AsksAccrue, AsksAverage, AsksBulk, AsksInterpolate, AsksOvernight, IsRequest, IsListed, IsCommand, IsCommandAs, asked_by, wanted_by, kind_of, params_of, roles_of, calendars_of, role_at, is_file, kept, files_from}
+use Rattle.irs_cli.specs.Commands.{Words, texts, Wanted, Asked, Asks, AsksAs, AsksAccrue, AsksAverage, AsksBulk}
+use Rattle.irs_cli.specs.Commands.{AsksInterpolate, AsksOvernight, IsRequest, IsListed, IsCommand, IsCommandAs}
+use Rattle.irs_cli.specs.Commands.{asked_by, wanted_by, kind_of, params_of, roles_of, calendars_of, role_at, is_file}
+use Rattle.irs_cli.specs.Commands.{kept, files_from}
 use Rattle.irs_cli.specs.Due.{IsLawfulRequest}
 use Rattle.irs_cli.specs.Params.{IsCountWord, IsDateWord, IsMeanWord, IsSideWord, IsStepWord, IsStreamWord, IsTenorWord}
-use Rattle.irs_cli.proofs.ParamLemmas.{one_at, one_count, one_date, one_mean, one_side, one_step, one_stream, one_tenor, step_lawful, tenor_lawful}
+use Rattle.irs_cli.proofs.ParamLemmas.{one_at, one_count, one_date, one_mean, one_side, one_step, one_stream, one_tenor}
+use Rattle.irs_cli.proofs.ParamLemmas.{step_lawful, tenor_lawful}
 
 pub ap_some : {x y : List ℕ} → x ≡ y → (let o : Option (List ℕ) = Some x in o ≡ Some y)
 ap_some e = ap Some e
 
-pub word_at : (ns : List (String Global)) (i : ℕ) (x : String Global) → i < length ns → x ≡ get_or ns i x → slice_get (texts ns) i ≡ Some (string_bytes x)
-word_at ns i x below e = slice_get-map (λ w. string_bytes w) ns i ∙ ap (λ (o : Option (String Global)). option_map (λ w. string_bytes w) o) (slice_get_read ns (length ns) i x refl below e)
+pub word_at : (ns : List (String Global)) (i : ℕ) (x : String Global) → i < length ns → x ≡ get_or ns i x
+    → slice_get (texts ns) i ≡ Some (string_bytes x)
+word_at ns i x below e =
+    slice_get-map (λ w. string_bytes w) ns i
+    ∙ ap (λ (o : Option (String Global)). option_map (λ w. string_bytes w) o)
+    (slice_get_read ns (length ns) i x refl below e)
 
 drop_suc : (ws : Words) (i : ℕ) (w : List ℕ) → slice_get ws i ≡ Some w → drop i ws ≡ w ∷ drop (suc i) ws
 drop_suc [] i w e = cc
@@ -39,47 +49,70 @@ pub drop_at : (ws : Words) (i : ℕ) (w : List ℕ) → slice_get ws i ≡ Some 
 drop_at ws i w e = let n : suc i ≡ i + 1 = omega arith in drop_suc ws i w e ∙ ap (λ (k : ℕ). w ∷ drop k ws) n
 
 -- the words from a place on: the first of them, and the rest
-files_at : (roles : List Role) (place i : ℕ) (w : List ℕ) (ws : Words) → slice_get ws i ≡ Some w → files_from roles place i (drop i ws) ≡ kept (role_at roles i) place w ++ files_from roles (place + 1) (i + 1) (drop (i + 1) ws)
+files_at : (roles : List Role) (place i : ℕ) (w : List ℕ) (ws : Words) → slice_get ws i ≡ Some w
+    → files_from roles place i (drop i ws) ≡ kept (role_at roles i) place w
+    ++ files_from roles (place + 1) (i + 1) (drop (i + 1) ws)
 files_at roles place i w ws e = ap (λ (l : Words). files_from roles place i l) (drop_at ws i w e)
 
-pub kept_yes : (role : Role) (place : ℕ) (w : List ℕ) → is_file role w ≡ true → kept role place w ≡ record { place = place; role = role; name = w } ∷ []
+pub kept_yes : (role : Role) (place : ℕ) (w : List ℕ) → is_file role w ≡ true
+    → kept role place w ≡ record { place = place; role = role; name = w } ∷ []
 kept_yes role place w e = ap (λ (b : Bool). if b then record { place = place; role = role; name = w } ∷ [] else []) e
 
 pub kept_no : (role : Role) (place : ℕ) (w : List ℕ) → is_file role w ≡ false → kept role place w ≡ []
 kept_no role place w e = ap (λ (b : Bool). if b then record { place = place; role = role; name = w } ∷ [] else []) e
 
-pub step_yes : (roles : List Role) (place i : ℕ) (ws : Words) (fs : List Named) (n : Named) (all : List Wanted) → slice_get ws i ≡ Some n.name.now → n.role ≡ role_at roles i → n.place ≡ place → is_file n.role n.name.now ≡ true → map wanted_by fs ++ files_from roles place i (drop i ws) ≡ all → map wanted_by (fs ++ n ∷ []) ++ files_from roles (place + 1) (i + 1) (drop (i + 1) ws) ≡ all
+pub step_yes : (roles : List Role) (place i : ℕ) (ws : Words) (fs : List Named) (n : Named) (all : List Wanted)
+    → slice_get ws i ≡ Some n.name.now → n.role ≡ role_at roles i → n.place ≡ place → is_file n.role n.name.now ≡ true
+    → map wanted_by fs ++ files_from roles place i (drop i ws) ≡ all
+    → map wanted_by (fs ++ n ∷ []) ++ files_from roles (place + 1) (i + 1) (drop (i + 1) ws) ≡ all
 step_yes roles place i ws fs n all at role p is e =
     let w = n.name.now in
     let rest = files_from roles (place + 1) (i + 1) (drop (i + 1) ws) in
-    let one : kept (role_at roles i) place w ≡ wanted_by n ∷ [] = ap (λ (r : Role). kept r place w) (sym role) ∙ kept_yes n.role place w is ∙ ap (λ (q : ℕ). record { place = q; role = n.role; name = w } ∷ []) (sym p) in
-    let these : files_from roles place i (drop i ws) ≡ wanted_by n ∷ rest = files_at roles place i w ws at ∙ ap (λ (l : List Wanted). l ++ rest) one in
-    ap (λ (l : List Wanted). l ++ rest) (map-append wanted_by fs (n ∷ [])) ∙ append_assoc (map wanted_by fs) (wanted_by n ∷ []) rest ∙ ap (λ (l : List Wanted). map wanted_by fs ++ l) (sym these) ∙ e
+    let one : kept (role_at roles i) place w ≡ wanted_by n ∷ [] =
+    ap (λ (r : Role). kept r place w) (sym role) ∙ kept_yes n.role place w is
+    ∙ ap (λ (q : ℕ). record { place = q; role = n.role; name = w } ∷ []) (sym p) in
+    let these : files_from roles place i (drop i ws) ≡ wanted_by n ∷ rest =
+    files_at roles place i w ws at ∙ ap (λ (l : List Wanted). l ++ rest) one in
+    ap (λ (l : List Wanted). l ++ rest) (map-append wanted_by fs (n ∷ []))
+    ∙ append_assoc (map wanted_by fs) (wanted_by n ∷ []) rest
+    ∙ ap (λ (l : List Wanted). map wanted_by fs ++ l) (sym these) ∙ e
 
-pub step_no : (roles : List Role) (place i : ℕ) (ws : Words) (w : List ℕ) (fs : List Named) (r : Role) (all : List Wanted) → slice_get ws i ≡ Some w → r ≡ role_at roles i → is_file r w ≡ false → map wanted_by fs ++ files_from roles place i (drop i ws) ≡ all → map wanted_by fs ++ files_from roles (place + 1) (i + 1) (drop (i + 1) ws) ≡ all
+pub step_no : (roles : List Role) (place i : ℕ) (ws : Words) (w : List ℕ) (fs : List Named) (r : Role)
+    (all : List Wanted) → slice_get ws i ≡ Some w → r ≡ role_at roles i → is_file r w ≡ false
+    → map wanted_by fs ++ files_from roles place i (drop i ws) ≡ all
+    → map wanted_by fs ++ files_from roles (place + 1) (i + 1) (drop (i + 1) ws) ≡ all
 step_no roles place i ws w fs r all at role not e =
     let rest = files_from roles (place + 1) (i + 1) (drop (i + 1) ws) in
-    let none : kept (role_at roles i) place w ≡ [] = ap (λ (x : Role). kept x place w) (sym role) ∙ kept_no r place w not in
-    let these : files_from roles place i (drop i ws) ≡ rest = files_at roles place i w ws at ∙ ap (λ (l : List Wanted). l ++ rest) none in
+    let none : kept (role_at roles i) place w ≡ [] =
+    ap (λ (x : Role). kept x place w) (sym role) ∙ kept_no r place w not in
+    let these : files_from roles place i (drop i ws) ≡ rest =
+    files_at roles place i w ws at ∙ ap (λ (l : List Wanted). l ++ rest) none in
     ap (λ (l : List Wanted). map wanted_by fs ++ l) (sym these) ∙ e
 
 -- ---- words are one command at most
 
 one_accrue : (ps : Words) (a b : Request) → AsksAccrue ps a → AsksAccrue ps b → b ≡ a
-one_accrue ps a b h k = k.is ∙ ap (λ (d : ℤ). OverFiles (task.Accrue d)) (one_at IsDateWord one_date ps 0 h.date k.date h.is_date k.is_date) ∙ sym h.is
+one_accrue ps a b h k =
+    k.is ∙ ap (λ (d : ℤ). OverFiles (task.Accrue d)) (one_at IsDateWord one_date ps 0 h.date k.date h.is_date k.is_date)
+    ∙ sym h.is
 
 one_bulk : (ps : Words) (a b : Request) → AsksBulk ps a → AsksBulk ps b → b ≡ a
-one_bulk ps a b h k = k.is ∙ ap (λ (n : ℕ). Bulk n) (one_at IsCountWord one_count ps 0 h.count k.count h.is_count k.is_count) ∙ sym h.is
+one_bulk ps a b h k =
+    k.is ∙ ap (λ (n : ℕ). Bulk n) (one_at IsCountWord one_count ps 0 h.count k.count h.is_count k.is_count) ∙ sym h.is
 
 one_overnight : (ps : Words) (a b : Request) → AsksOvernight ps a → AsksOvernight ps b → b ≡ a
-one_overnight ps a b h k = k.is ∙ ap (λ (n : ℕ). OverFiles (task.Overnight n)) (one_at IsStreamWord one_stream ps 0 h.stream k.stream h.is_stream k.is_stream) ∙ sym h.is
+one_overnight ps a b h k =
+    k.is ∙ ap (λ (n : ℕ). OverFiles (task.Overnight n))
+    (one_at IsStreamWord one_stream ps 0 h.stream k.stream h.is_stream k.is_stream) ∙ sym h.is
 
 one_average : (ps : Words) (a b : Request) → AsksAverage ps a → AsksAverage ps b → b ≡ a
 one_average ps a b h k =
     let n = one_at IsStreamWord one_stream ps 0 h.stream k.stream h.is_stream k.is_stream in
     let m = one_at IsMeanWord one_mean ps 1 h.mean k.mean h.is_mean k.is_mean in
     let s = one_at IsStepWord one_step ps 2 h.step k.step h.is_step k.is_step in
-    k.is ∙ ap (λ (x : ℕ). OverFiles (task.Average x k.mean k.step)) n ∙ ap (λ (x : Mean). OverFiles (task.Average h.stream x k.step)) m ∙ ap (λ (x : ℕ). OverFiles (task.Average h.stream h.mean x)) s ∙ sym h.is
+    k.is ∙ ap (λ (x : ℕ). OverFiles (task.Average x k.mean k.step)) n
+    ∙ ap (λ (x : Mean). OverFiles (task.Average h.stream x k.step)) m
+    ∙ ap (λ (x : ℕ). OverFiles (task.Average h.stream h.mean x)) s ∙ sym h.is
 
 one_interpolate : (ps : Words) (a b : Request) → AsksInterpolate ps a → AsksInterpolate ps b → b ≡ a
 one_interpolate ps a b h k =
@@ -87,7 +120,10 @@ one_interpolate ps a b h k =
     let s = one_at IsSideWord one_side ps 1 h.side k.side h.is_side k.is_side in
     let l = one_at IsTenorWord one_tenor ps 2 h.low k.low h.is_low k.is_low in
     let m = one_at IsTenorWord one_tenor ps 3 h.high k.high h.is_high k.is_high in
-    k.is ∙ ap (λ (x : ℕ). OverFiles (task.Interpolate x k.side k.low k.high)) n ∙ ap (λ (x : Side). OverFiles (task.Interpolate h.stream x k.low k.high)) s ∙ ap (λ (x : Frequency). OverFiles (task.Interpolate h.stream h.side x k.high)) l ∙ ap (λ (x : Frequency). OverFiles (task.Interpolate h.stream h.side h.low x)) m ∙ sym h.is
+    k.is ∙ ap (λ (x : ℕ). OverFiles (task.Interpolate x k.side k.low k.high)) n
+    ∙ ap (λ (x : Side). OverFiles (task.Interpolate h.stream x k.low k.high)) s
+    ∙ ap (λ (x : Frequency). OverFiles (task.Interpolate h.stream h.side x k.high)) l
+    ∙ ap (λ (x : Frequency). OverFiles (task.Interpolate h.stream h.side h.low x)) m ∙ sym h.is
 
 one_request : (k : Kind) (ps : Words) (r q : Request) → IsRequest k ps r → IsRequest k ps q → q ≡ r
 one_request kind.Check ps r q h i = i ∙ sym h
@@ -112,30 +148,40 @@ lawful_by kind.Accrue ps r h = subst IsLawfulRequest (sym h.is) tt
 lawful_by kind.Net ps r h = subst IsLawfulRequest (sym h) tt
 lawful_by kind.Overnight ps r h = subst IsLawfulRequest (sym h.is) tt
 lawful_by kind.Average ps r h = subst IsLawfulRequest (sym h.is) (step_lawful h.is_step.word h.step h.is_step.is)
-lawful_by kind.Interpolate ps r h = subst IsLawfulRequest (sym h.is) (tenor_lawful h.is_low.word h.low h.is_low.is, tenor_lawful h.is_high.word h.high h.is_high.is)
+lawful_by kind.Interpolate ps r h =
+    subst IsLawfulRequest (sym h.is) (
+      tenor_lawful h.is_low.word h.low h.is_low.is,
+      tenor_lawful h.is_high.word h.high h.is_high.is,
+    )
 
 abbrev asked : Request → List Wanted → Asked
 asked r fs = record { request = r; files = fs }
 
 one_as : (k : Kind) (ws : Words) (a b : Asked) → AsksAs k ws a → AsksAs k ws b → b ≡ a
-one_as k ws a b h i = ap (λ (r : Request). asked r b.files) (one_request k (take (params_of k) ws) a.request b.request h.request i.request) ∙ ap (λ (f : List Wanted). asked a.request f) (i.files ∙ sym h.files)
+one_as k ws a b h i =
+    ap (λ (r : Request). asked r b.files)
+    (one_request k (take (params_of k) ws) a.request b.request h.request i.request)
+    ∙ ap (λ (f : List Wanted). asked a.request f) (i.files ∙ sym h.files)
 
 same_kind : (w : List ℕ) (k l : Kind) → kind_of w ≡ Some k → kind_of w ≡ Some l → l ≡ k
 same_kind w k l h i = same_Some l k (sym i ∙ h)
 
 pub one_command : (ws : Words) (a b : Asked) → Asks ws a → Asks ws b → b ≡ a
 one_command [] a b h k = absurd h
-one_command (w ∷ ws) a b h k = one_as h.0 ws a b h.2 (subst (λ (x : Kind). AsksAs x ws b) (same_kind w h.0 k.0 h.1 k.1) k.2)
+one_command (w ∷ ws) a b h k =
+    one_as h.0 ws a b h.2 (subst (λ (x : Kind). AsksAs x ws b) (same_kind w h.0 k.0 h.1 k.1) k.2)
 
 -- ---- the command of words
 
 pub unlisted_by : (ws : Words) (o : Option Command) → IsCommand ws (option_map asked_by o) → o ≡ None → IsListed ws → ⊥
 unlisted_by ws o e n = subst (λ (x : Option Command). IsCommand ws (option_map asked_by x)) n e
 
-pub asks_by : (ws : Words) (o : Option Command) (c : Command) → IsCommand ws (option_map asked_by o) → o ≡ Some c → Asks ws (asked_by c)
+pub asks_by : (ws : Words) (o : Option Command) (c : Command) → IsCommand ws (option_map asked_by o) → o ≡ Some c
+    → Asks ws (asked_by c)
 asks_by ws o c e is = subst (λ (x : Option Command). IsCommand ws (option_map asked_by x)) is e
 
-pub command_by : (w : List ℕ) (ws : Words) (k : Kind) (o : Option Asked) → kind_of w ≡ Some k → IsCommandAs k ws o → IsCommand (w ∷ ws) o
+pub command_by : (w : List ℕ) (ws : Words) (k : Kind) (o : Option Asked) → kind_of w ≡ Some k → IsCommandAs k ws o
+    → IsCommand (w ∷ ws) o
 command_by w ws k None e h = λ l. h l.0 (subst (λ (x : Kind). AsksAs x ws l.0) (same_kind w k l.1.0 e l.1.1) l.1.2)
 command_by w ws k (Some a) e h = (k, e, h)
 
@@ -192,11 +238,13 @@ role_plain [] i e less = absurd (omega (arith, less))
 role_plain (r ∷ rs) zero e less = omega (arith, e)
 role_plain (r ∷ rs) (suc i) e less = role_plain rs i (omega (arith, e)) (omega (arith, less))
 
-cals_kept : (r : Role) (place : ℕ) (w : List ℕ) (b : Bool) (xs : List Wanted) → cals ((if b then record { place = place; role = r; name = w } ∷ [] else []) ++ xs) ≤ is_cal r + cals xs
+cals_kept : (r : Role) (place : ℕ) (w : List ℕ) (b : Bool) (xs : List Wanted)
+    → cals ((if b then record { place = place; role = r; name = w } ∷ [] else []) ++ xs) ≤ is_cal r + cals xs
 cals_kept r place w true xs = omega arith
 cals_kept r place w false xs = omega arith
 
-few_from : (roles : List Role) (place i : ℕ) (ws : Words) → all_cals roles ≡ 0 → cals (files_from roles place i ws) ≤ length ws - (length roles - i)
+few_from : (roles : List Role) (place i : ℕ) (ws : Words) → all_cals roles ≡ 0
+    → cals (files_from roles place i ws) ≤ length ws - (length roles - i)
 few_from roles place i [] e = omega arith
 few_from roles place i (w ∷ ws) e =
     let rest = files_from roles (place + 1) (i + 1) ws in
@@ -223,12 +271,16 @@ few_cals ws a h =
     let row = row_fits f.kind in
     let n = length f.words in
     let tests = both (nat_le (p + length roles) n) (nat_le n (p + length roles + calendars_of f.kind)) f.form.fits in
-    let most : n ≤ p + length roles + calendars_of f.kind = at_most n (p + length roles + calendars_of f.kind) tests.1 in
-    let few : cals (files_from roles (p + 1) 0 (drop p f.words)) ≤ length (drop p f.words) - (length roles - 0) = few_from roles (p + 1) 0 (drop p f.words) row.0 in
+    let most : n ≤ p + length roles + calendars_of f.kind =
+    at_most n (p + length roles + calendars_of f.kind) tests.1 in
+    let few : cals (files_from roles (p + 1) 0 (drop p f.words)) ≤ length (drop p f.words) - (length roles - 0) =
+    few_from roles (p + 1) 0 (drop p f.words) row.0 in
     let left : length (drop p f.words) ≡ n - p = length-drop p f.words in
-    let bound : cals (files_from roles (p + 1) 0 (drop p f.words)) ≤ most_calendars = omega (arith, few, left, most, row.1) in
+    let bound : cals (files_from roles (p + 1) 0 (drop p f.words)) ≤ most_calendars =
+    omega (arith, few, left, most, row.1) in
     subst (λ (l : List Wanted). cals l ≤ most_calendars) (sym f.form.files) bound
 
 -- the parameters of a listed command lie in their ranges
 pub lawful_asked : (ws : Words) (a : Asked) → Asks ws a → IsLawfulRequest a.request
-lawful_asked ws a h = let f = formed ws a h in lawful_by f.kind (take (params_of f.kind) f.words) a.request f.form.request
+lawful_asked ws a h = let f = formed ws a h in
+    lawful_by f.kind (take (params_of f.kind) f.words) a.request f.form.request

@@ -25,7 +25,8 @@ module _ (s u : ℕ) (t v : List ℕ) where
   module _ (ws : Words) (told : Told) (h : Due ws told s t) (k : Due ws told u v) where
     words_by : WordsCase ws told → Same
     words_by (no_command never) = both 4 bad_words (h.unlisted never) (k.unlisted never)
-    words_by (long_file a place asks first) = both 8 (too_long place) (h.long a place asks first) (k.long a place asks first)
+    words_by (long_file a place asks first) =
+        both 8 (too_long place) (h.long a place asks first) (k.long a place asks first)
     words_by (all_told a g asks files) = one_of a.request g (h.given a g asks files) (k.given a g asks files)
 
 pub one_answer : (ws : Words) (told : Told) → TellsAll ws told → IsOneAnswer ws told

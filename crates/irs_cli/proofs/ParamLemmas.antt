@@ -1,5 +1,6 @@
 -- A word is one parameter at most, and parameters lie in their ranges.
-use Rattle.std.proofs.Common.{◌≡◌, inl, inr, ℕ, ◌+◌, ◌*◌, ◌-◌, ◌≤◌, List, [], ◌∷◌, Option, Some, None, Bool, true, false, refl, sym, ◌∙◌, ap, subst, arith, ℤ}
+use Rattle.std.proofs.Common.{◌≡◌, inl, inr, ℕ, ◌+◌, ◌*◌, ◌-◌, ◌≤◌, List, [], ◌∷◌, Option, Some, None, Bool, true}
+use Rattle.std.proofs.Common.{false, refl, sym, ◌∙◌, ap, subst, arith, ℤ}
 use Rattle.std.specs.Prelude.{nat_le, ◌&&◌, ◌==◌, if◌then◌else◌}
 use Rattle.std.proofs.lemmas.Bool.{cases_lt}
 use Rattle.std.proofs.lemmas.Bool.Decides.{nat_tests}
@@ -16,19 +17,24 @@ use Rattle.irs_terms.specs.Lawful.{IsLawfulTenor}
 use Rattle.irs_terms.specs.declared.frequency.Frequency.{Frequency}
 use Rattle.irs_terms.specs.declared.frequency.Unit.{Unit as FrequencyUnit}
 use Rattle.irs_terms.specs.declared.frequency.Unit.TheVariants.{D, W, M, Y, T}
-use Rattle.irs_cli.specs.Params.{At, IsCountWord, IsDateWord, IsMeanWord, IsSideWord, IsStepWord, IsStreamWord, IsTenorWord, days_of, mean_name, side_name}
+use Rattle.irs_cli.specs.Params.{At, IsCountWord, IsDateWord, IsMeanWord, IsSideWord, IsStepWord, IsStreamWord}
+use Rattle.irs_cli.specs.Params.{IsTenorWord, days_of, mean_name, side_name}
 
 -- the word at a place is one for one x at most, where a word is
-pub one_at : {X : Type 0} (Is : List ℕ → X → Type 0) → ((w : List ℕ) (x y : X) → Is w x → Is w y → y ≡ x) → (ps : List (List ℕ)) (i : ℕ) (x y : X) → At Is ps i x → At Is ps i y → y ≡ x
+pub one_at : {X : Type 0} (Is : List ℕ → X → Type 0) → ((w : List ℕ) (x y : X) → Is w x → Is w y → y ≡ x)
+    → (ps : List (List ℕ)) (i : ℕ) (x y : X) → At Is ps i x → At Is ps i y → y ≡ x
 one_at Is one ps i x y h k =
     let same : k.word ≡ h.word = same_Some k.word h.word (sym k.there ∙ h.there) in
     one h.word x y h.is (subst (λ (w : List ℕ). Is w y) same k.is)
 
 pub one_date : (w : List ℕ) (d e : ℤ) → IsDateWord w d → IsDateWord w e → e ≡ d
-one_date w d e h k = same_Some e d (day_is w (Some e) (k.in_range, k.is) tt ∙ sym (day_is w (Some d) (h.in_range, h.is) tt))
+one_date w d e h k =
+    same_Some e d (day_is w (Some e) (k.in_range, k.is) tt ∙ sym (day_is w (Some d) (h.in_range, h.is) tt))
 
 pub one_count : (w : List ℕ) (n m : ℕ) → IsCountWord w n → IsCountWord w m → m ≡ n
-one_count w n m h k = decimal_injective m n (let l = k.to_most in omega (arith, l)) (let l = h.to_most in omega (arith, l)) (sym k.is ∙ h.is)
+one_count w n m h k =
+    decimal_injective m n (let l = k.to_most in omega (arith, l)) (let l = h.to_most in
+    omega (arith, l)) (sym k.is ∙ h.is)
 
 one_byte : (x y : ℕ) → (let l : List ℕ = x ∷ [] in l ≡ y ∷ []) → x ≡ y
 one_byte x y e = cc
@@ -71,7 +77,8 @@ both false b e = cc
 at_most : (a b : ℕ) → nat_le a b ≡ true → a ≤ b
 at_most a b e = grind (arith, nat_tests)
 
-digit_if : (t : Bool) (b n : ℕ) → (nat_le 48 b && nat_le b 57) ≡ t → (let o : Option ℕ = if t then Some (b - 48) else None in o ≡ Some n) → (b ≡ 48 + n) × (n ≤ 9)
+digit_if : (t : Bool) (b n : ℕ) → (nat_le 48 b && nat_le b 57) ≡ t
+    → (let o : Option ℕ = if t then Some (b - 48) else None in o ≡ Some n) → (b ≡ 48 + n) × (n ≤ 9)
 digit_if true b n e is =
     let tests = both (nat_le 48 b) (nat_le b 57) e in
     let low = at_most 48 b tests.0 in
@@ -86,7 +93,8 @@ digit_is b n e = digit_if (nat_le 48 b && nat_le b 57) b n refl e
 not_zero : (b : ℕ) → (b == 48) ≡ false → b ≡ 48 → ⊥
 not_zero b e same = grind (arith, nat_tests)
 
-first_if : (t : Bool) (b n : ℕ) → (b == 48) ≡ t → (let o : Option ℕ = if t then None else digit_at b in o ≡ Some n) → (1 ≤ n) × (n ≤ 9)
+first_if : (t : Bool) (b n : ℕ) → (b == 48) ≡ t → (let o : Option ℕ = if t then None else digit_at b in o ≡ Some n)
+    → (1 ≤ n) × (n ≤ 9)
 first_if true b n e is = cc
 first_if false b n e is =
     let d = digit_is b n is in
@@ -99,7 +107,8 @@ first_if false b n e is =
 first_is : (b n : ℕ) → first_digit b ≡ Some n → (1 ≤ n) × (n ≤ 9)
 first_is b n e = first_if (b == 48) b n refl e
 
-tens_is : (o p : Option ℕ) (n : ℕ) → ((x : ℕ) → o ≡ Some x → (1 ≤ x) × (x ≤ 9)) → ((y : ℕ) → p ≡ Some y → y ≤ 9) → tens o p ≡ Some n → (1 ≤ n) × (n ≤ 99)
+tens_is : (o p : Option ℕ) (n : ℕ) → ((x : ℕ) → o ≡ Some x → (1 ≤ x) × (x ≤ 9)) → ((y : ℕ) → p ≡ Some y → y ≤ 9)
+    → tens o p ≡ Some n → (1 ≤ n) × (n ≤ 99)
 tens_is (Some x) (Some y) n f g e =
     let a = f x refl in
     let low = a.0 in
@@ -110,7 +119,8 @@ tens_is (Some x) (Some y) n f g e =
 tens_is (Some x) None n f g e = cc
 tens_is None p n f g e = cc
 
-hundreds_is : (o p q : Option ℕ) (n : ℕ) → ((x : ℕ) → o ≡ Some x → (1 ≤ x) × (x ≤ 9)) → ((y : ℕ) → p ≡ Some y → y ≤ 9) → ((z : ℕ) → q ≡ Some z → z ≤ 9) → hundreds o p q ≡ Some n → (1 ≤ n) × (n ≤ 999)
+hundreds_is : (o p q : Option ℕ) (n : ℕ) → ((x : ℕ) → o ≡ Some x → (1 ≤ x) × (x ≤ 9)) → ((y : ℕ) → p ≡ Some y → y ≤ 9)
+    → ((z : ℕ) → q ≡ Some z → z ≤ 9) → hundreds o p q ≡ Some n → (1 ≤ n) × (n ≤ 999)
 hundreds_is (Some x) (Some y) (Some z) n f g h e =
     let a = f x refl in
     let low = a.0 in
@@ -123,7 +133,10 @@ hundreds_is (Some x) (Some y) None n f g h e = cc
 hundreds_is (Some x) None r n f g h e = cc
 hundreds_is None p r n f g h e = cc
 
-letter_if : (s t u v : Bool) (x : FrequencyUnit) → (let o : Option FrequencyUnit = if s then Some D else (if t then Some W else (if u then Some M else (if v then Some Y else None))) in o ≡ Some x) → x ≡ T → ⊥
+letter_if : (s t u v : Bool) (x : FrequencyUnit)
+    → (let o : Option FrequencyUnit =
+    if s then Some D else (if t then Some W else (if u then Some M else (if v then Some Y else None))) in o ≡ Some x)
+    → x ≡ T → ⊥
 letter_if true t u v x e is = cc
 letter_if false true u v x e is = cc
 letter_if false false true v x e is = cc
@@ -134,28 +147,42 @@ letter_is : (b : ℕ) (x : FrequencyUnit) → unit_at b ≡ Some x → x ≡ T �
 letter_is b x e = letter_if (b == 68) (b == 87) (b == 77) (b == 89) x e
 
 -- a count and a unit that are a tenor
-unit_lawful : (o : Option ℕ) (p : Option FrequencyUnit) (f : Frequency) → ((n : ℕ) → o ≡ Some n → (1 ≤ n) × (n ≤ 999)) → ((u : FrequencyUnit) → p ≡ Some u → u ≡ T → ⊥) → with_unit o p ≡ Some (Some f) → IsLawfulTenor f
+unit_lawful : (o : Option ℕ) (p : Option FrequencyUnit) (f : Frequency) → ((n : ℕ) → o ≡ Some n → (1 ≤ n) × (n ≤ 999))
+    → ((u : FrequencyUnit) → p ≡ Some u → u ≡ T → ⊥) → with_unit o p ≡ Some (Some f) → IsLawfulTenor f
 unit_lawful (Some n) (Some u) f count letter e =
-    let is : record { count = n; unit = u } ≡ f = same_Some (record { count = n; unit = u }) f (same_Some (Some (record { count = n; unit = u })) (Some f) e) in
+    let is : record { count = n; unit = u } ≡ f =
+    same_Some (record { count = n; unit = u }) f (same_Some (Some (record { count = n; unit = u })) (Some f) e) in
     subst IsLawfulTenor is (count n refl, letter u refl)
 unit_lawful (Some n) None f count letter e = cc
 unit_lawful None p f count letter e = cc
 
-dash_none : (b : Bool) (f : Frequency) → (let o : Option (Option Frequency) = if b then Some None else None in o ≡ Some (Some f)) → ⊥
+dash_none : (b : Bool) (f : Frequency) → (let o : Option (Option Frequency) = if b then Some None else None in
+    o ≡ Some (Some f)) → ⊥
 dash_none true f e = cc
 dash_none false f e = cc
 
 pub tenor_lawful : (w : List ℕ) (f : Frequency) → IsTenorWord w f → IsLawfulTenor f
 tenor_lawful [] f h = let e = h.is in cc
 tenor_lawful (a ∷ []) f h = absurd (dash_none (a == 45) f h.is)
-tenor_lawful (a ∷ u ∷ []) f h = unit_lawful (first_digit a) (unit_at u) f (λ n e. let b = first_is a n e in let high = b.1 in (b.0, omega (arith, high))) (letter_is u) h.is
-tenor_lawful (a ∷ b ∷ u ∷ []) f h = unit_lawful (two_digits a b) (unit_at u) f (λ n e. let r = tens_is (first_digit a) (digit_at b) n (first_is a) (λ y d. (digit_is b y d).1) e in let high = r.1 in (r.0, omega (arith, high))) (letter_is u) h.is
-tenor_lawful (a ∷ b ∷ c ∷ u ∷ []) f h = unit_lawful (three_digits a b c) (unit_at u) f (λ n e. hundreds_is (first_digit a) (digit_at b) (digit_at c) n (first_is a) (λ y d. (digit_is b y d).1) (λ z d. (digit_is c z d).1) e) (letter_is u) h.is
+tenor_lawful (a ∷ u ∷ []) f h =
+    unit_lawful (first_digit a) (unit_at u) f (λ n e. let b = first_is a n e in let high = b.1 in
+    (b.0, omega (arith, high))) (letter_is u) h.is
+tenor_lawful (a ∷ b ∷ u ∷ []) f h =
+    unit_lawful (two_digits a b) (unit_at u) f (λ n e. let r =
+    tens_is (first_digit a) (digit_at b) n (first_is a) (λ y d. (digit_is b y d).1) e in let high = r.1 in
+    (r.0, omega (arith, high))) (letter_is u) h.is
+tenor_lawful (a ∷ b ∷ c ∷ u ∷ []) f h =
+    unit_lawful (three_digits a b c) (unit_at u) f
+    (λ n e. hundreds_is (first_digit a) (digit_at b) (digit_at c) n (first_is a) (λ y d. (digit_is b y d).1)
+    (λ z d. (digit_is c z d).1) e) (letter_is u) h.is
 tenor_lawful (a ∷ b ∷ c ∷ d ∷ e ∷ rest) f h = let i = h.is in cc
 
-days_few : (u : FrequencyUnit) (count n : ℕ) → 1 ≤ count → count ≤ 999 → days_of u count ≡ Some n → (1 ≤ n) × (n ≤ most_step)
-days_few D count n low high e = let same : count ≡ n = same_Some count n e in (omega (arith, low, same), omega (arith, high, same))
-days_few W count n low high e = let same : 7 * count ≡ n = same_Some (7 * count) n e in (omega (arith, low, same), omega (arith, high, same))
+days_few : (u : FrequencyUnit) (count n : ℕ) → 1 ≤ count → count ≤ 999 → days_of u count ≡ Some n
+    → (1 ≤ n) × (n ≤ most_step)
+days_few D count n low high e = let same : count ≡ n = same_Some count n e in
+    (omega (arith, low, same), omega (arith, high, same))
+days_few W count n low high e = let same : 7 * count ≡ n = same_Some (7 * count) n e in
+    (omega (arith, low, same), omega (arith, high, same))
 days_few M count n low high e = cc
 days_few Y count n low high e = cc
 days_few T count n low high e = cc

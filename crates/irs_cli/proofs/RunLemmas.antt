@@ -18,7 +18,8 @@ use Rattle.irs_cli.proofs.FileLemmas.{reaches_meet, reaches_with, gathers_none, 
 
 -- ---- words that are no command
 
-pub unlisted_replies : (ws : Words) (told : Told) (failed : Option (List ℕ)) (n : ℕ) → (IsListed ws → ⊥) → Replies ws told failed n n 4 bad_words
+pub unlisted_replies : (ws : Words) (told : Told) (failed : Option (List ℕ)) (n : ℕ) → (IsListed ws → ⊥)
+    → Replies ws told failed n n 4 bad_words
 unlisted_replies ws told failed n none =
     let due : Due ws told 4 bad_words = record {
       unlisted = λ _. (refl, refl);
@@ -40,9 +41,12 @@ unlisted_replies ws told failed n none =
 
 -- ---- a file that can't be read
 
-no_file_replies : (ws : Words) (told : Told) (a : Asked) (failed : Option (List ℕ)) (before now place : ℕ) → Asks ws a → Reaches (NotLong told) (FailedAt failed place) a.files → Rose before now → Replies ws told failed before now 5 (no_file place)
+no_file_replies : (ws : Words) (told : Told) (a : Asked) (failed : Option (List ℕ)) (before now place : ℕ) → Asks ws a
+    → Reaches (NotLong told) (FailedAt failed place) a.files → Rose before now
+    → Replies ws told failed before now 5 (no_file place)
 no_file_replies ws told a failed before now place asks h rose =
-    let none : NoFile ws told failed before now (no_file place) = record { asked = a; asks = asks; place = place; file = h; rose = rose; is_text = refl } in
+    let none : NoFile ws told failed before now (no_file place) =
+    record { asked = a; asks = asks; place = place; file = h; rose = rose; is_text = refl } in
     record {
       is_text = inr none;
       not_put = λ e. omega (arith, e);
@@ -61,28 +65,45 @@ at_some : (o : Option (List ℕ)) (xs : List ℕ) (P : List ℕ → Type 0) → 
 at_some o xs P e h = subst (λ (z : Option (List ℕ)). IfSome z P) e h
 
 not_over : (told : Told) (place q : ℕ) (w : Wanted) → NotLong told w → IsLongAt told q w → ⊥
-not_over told place q w h k = let s : length k.bytes < too_many = at_some (told w.name) k.bytes (λ xs. length xs < too_many) k.is_told h in omega (arith, s, k.long)
+not_over told place q w h k = let s : length k.bytes < too_many =
+    at_some (told w.name) k.bytes (λ xs. length xs < too_many) k.is_told h in omega (arith, s, k.long)
 
 over_told : (told : Told) (place : ℕ) (w : Wanted) (bytes : List ℕ) → IsTold told w.name bytes → OverAt told place w → ⊥
-over_told told place w bytes k h = let l : too_many ≤ length bytes = at_some (told w.name) bytes (λ xs. too_many ≤ length xs) k.0 h.long in omega (arith, l, k.1)
+over_told told place w bytes k h = let l : too_many ≤ length bytes =
+    at_some (told w.name) bytes (λ xs. too_many ≤ length xs) k.0 h.long in omega (arith, l, k.1)
 
 abbrev Tells : Told → Wanted → Type 0
 Tells told w = (bytes : List ℕ) × (told w.name ≡ Some bytes)
 
-long_replies : (ws : Words) (told : Told) (a : Asked) (failed : Option (List ℕ)) (before now place : ℕ) → Asks ws a → Reaches (NotLong told) (OverAt told place) a.files → now ≡ before → Replies ws told failed before now 8 (too_long place)
+long_replies : (ws : Words) (told : Told) (a : Asked) (failed : Option (List ℕ)) (before now place : ℕ) → Asks ws a
+    → Reaches (NotLong told) (OverAt told place) a.files → now ≡ before
+    → Replies ws told failed before now 8 (too_long place)
 long_replies ws told a failed before now place asks h quiet =
     let due : Due ws told 8 (too_long place) = record {
       unlisted = λ unlisted. absurd (unlisted (a, asks));
       long = λ b q other first.
           let e : b ≡ a = one_command ws a b asks other in
-          let same : place ≡ q = reaches_meet (NotLong told) (OverAt told place) (IsShort told) (IsLongAt told q) a.files (λ w over long. sym over.at ∙ long.at) (λ w not long. not_over told place q w not long) (λ w over short. over_told told place w short.0 short.1 over) h (subst (λ (x : Asked). IsFirstLong told x q) e first) in
+          let same : place ≡ q =
+          reaches_meet (NotLong told) (OverAt told place) (IsShort told) (IsLongAt told q) a.files
+          (λ w over long. sym over.at ∙ long.at) (λ w not long. not_over told place q w not long)
+          (λ w over short. over_told told place w short.0 short.1 over) h
+          (subst (λ (x : Asked). IsFirstLong told x q) e first) in
           (refl, ap (λ (n : ℕ). too_long n) same);
       given = λ b g other are.
           let e : b ≡ a = one_command ws a b asks other in
-          absurd (gathers_none (IsTold told) (NotLong told) (OverAt told place) a.files no_files g (λ w bytes k over. over_told told place w bytes k over) (subst (λ (x : Asked). AreTold told x g) e are) h);
-      case = λ tells. long_file a place asks (reaches_with (NotLong told) (OverAt told place) (IsShort told) (IsLongAt told place) (Tells told) a.files
+          absurd (gathers_none (IsTold told) (NotLong told) (OverAt told place) a.files no_files g
+          (λ w bytes k over. over_told told place w bytes k over)
+          (subst (λ (x : Asked). AreTold told x g) e are) h);
+      case = λ tells. long_file a place asks
+          (reaches_with (NotLong told) (OverAt told place) (IsShort told) (IsLongAt told place) (Tells told) a.files
           (λ w t not. (t.0, (t.1, at_some (told w.name) t.0 (λ xs. length xs < too_many) t.1 not)))
-          (λ w t over. record { at = over.at; bytes = t.0; is_told = t.1; long = at_some (told w.name) t.0 (λ xs. too_many ≤ length xs) t.1 over.long })
+          (λ w t over. record {
+            at = over.at;
+            bytes = t.0;
+            is_told = t.1;
+            long =
+                at_some (told w.name) t.0 (λ xs. too_many ≤ length xs) t.1 over.long;
+          })
           (tells a asks) h);
     } in
     record {
@@ -97,9 +118,12 @@ long_replies ws told a failed before now place asks h quiet =
       listed = omega (arith);
     }
 
-pub stopped_replies : (ws : Words) (told : Told) (a : Asked) (failed : Option (List ℕ)) (before now : ℕ) (u : Unfetched) → Asks ws a → Stops told a.files failed before now u → IfRefused (of_fetch u) (Replies ws told failed before now)
-stopped_replies ws told a failed before now (fetching.NoFile place) asks h = no_file_replies ws told a failed before now place asks h.0 h.1
-stopped_replies ws told a failed before now (fetching.TooLong place) asks h = long_replies ws told a failed before now place asks h.0 h.1
+pub stopped_replies : (ws : Words) (told : Told) (a : Asked) (failed : Option (List ℕ)) (before now : ℕ) (u : Unfetched)
+    → Asks ws a → Stops told a.files failed before now u → IfRefused (of_fetch u) (Replies ws told failed before now)
+stopped_replies ws told a failed before now (fetching.NoFile place) asks h =
+    no_file_replies ws told a failed before now place asks h.0 h.1
+stopped_replies ws told a failed before now (fetching.TooLong place) asks h =
+    long_replies ws told a failed before now place asks h.0 h.1
 stopped_replies ws told a failed before now fetching.Memory asks h = tt
 
 -- ---- files that are fetched
@@ -107,7 +131,8 @@ stopped_replies ws told a failed before now fetching.Memory asks h = tt
 held_is : (told : Told) (name x y : List ℕ) → Holds told name x → IsTold told name y → y ≡ x
 held_is told name x y h k = sym (at_some (told name) y (λ xs. x ≡ xs) k.0 h.0)
 
-held_told : (told : Told) (w : Wanted) (bytes : List ℕ) → Tells told w → Holds told w.name bytes → IsTold told w.name bytes
+held_told : (told : Told) (w : Wanted) (bytes : List ℕ) → Tells told w → Holds told w.name bytes
+    → IsTold told w.name bytes
 held_told told w bytes t h =
     let same : bytes ≡ t.0 = at_some (told w.name) t.0 (λ xs. bytes ≡ xs) t.1 h.0 in
     (t.1 ∙ ap Some (sym same), h.1)
@@ -118,18 +143,26 @@ held_long told q w bytes h k =
     let s : length k.bytes < too_many = subst (λ (l : List ℕ). length l < too_many) same h.1 in
     omega (arith, s, k.long)
 
-pub ended_replies : (ws : Words) (told : Told) (a : Asked) (g : Given) (failed : Option (List ℕ)) (before now : ℕ) → Asks ws a → Gathers (Holds told) a.files no_files g → now ≡ before → (status : ℕ) (text : List ℕ) → Ends (DueOf a.request g) status text → Replies ws told failed before now status text
+pub ended_replies : (ws : Words) (told : Told) (a : Asked) (g : Given) (failed : Option (List ℕ)) (before now : ℕ)
+    → Asks ws a → Gathers (Holds told) a.files no_files g → now ≡ before → (status : ℕ) (text : List ℕ)
+    → Ends (DueOf a.request g) status text → Replies ws told failed before now status text
 ended_replies ws told a g failed before now asks held quiet status text h =
     let due : Due ws told status text = record {
       unlisted = λ unlisted. absurd (unlisted (a, asks));
       long = λ b q other first.
           let e : b ≡ a = one_command ws a b asks other in
-          absurd (gathers_none (Holds told) (IsShort told) (IsLongAt told q) a.files no_files g (λ w bytes k long. held_long told q w bytes k long) held (subst (λ (x : Asked). IsFirstLong told x q) e first));
+          absurd (gathers_none (Holds told) (IsShort told) (IsLongAt told q) a.files no_files g
+          (λ w bytes k long. held_long told q w bytes k long) held
+          (subst (λ (x : Asked). IsFirstLong told x q) e first));
       given = λ b k other are.
           let e : b ≡ a = one_command ws a b asks other in
-          let same : k ≡ g = gathers_one (Holds told) (IsTold told) a.files no_files g k (held_is told) held (subst (λ (x : Asked). AreTold told x k) e are) in
+          let same : k ≡ g =
+          gathers_one (Holds told) (IsTold told) a.files no_files g k (held_is told) held
+          (subst (λ (x : Asked). AreTold told x k) e are) in
           rw (e, same) h.due;
-      case = λ tells. all_told a g asks (gathers_with (Holds told) (IsTold told) (Tells told) a.files no_files g (held_told told) (tells a asks) held);
+      case = λ tells. all_told a g asks
+          (gathers_with (Holds told) (IsTold told) (Tells told) a.files no_files g (held_told told)
+          (tells a asks) held);
     } in
     record {
       is_text = inl (status, due);

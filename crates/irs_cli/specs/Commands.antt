@@ -1,5 +1,6 @@
 -- The listed commands: a table, and what it says of words.
-use Rattle.std.specs.Prelude.{◌≡◌, ℕ, ◌+◌, List, [], ◌∷◌, ◌++◌, length, map, take, drop, Option, Some, None, unwrap_or, codes, slice_get, String, string_bytes, Bool, true, not, ◌&&◌, nat_le, ℤ, if◌then◌else◌}
+use Rattle.std.specs.Prelude.{◌≡◌, ℕ, ◌+◌, List, [], ◌∷◌, ◌++◌, length, map, take, drop, Option, Some, None, unwrap_or}
+use Rattle.std.specs.Prelude.{codes, slice_get, String, string_bytes, Bool, true, not, ◌&&◌, nat_le, ℤ, if◌then◌else◌}
 use Rattle.std.specs.Str.{bytes_eq}
 use Rattle.std.specs.declared.alloc.Global.{Global}
 use Rattle.irs_answers.specs.Given.{most_calendars}
@@ -15,7 +16,8 @@ use Rattle.irs_cli.specs.declared.commands.Role.{Role}
 use Rattle.irs_cli.specs.declared.commands.Role.TheVariants.{Document, Fixings, Flows, Calendar}
 use Rattle.irs_cli.specs.declared.commands.Named.{Named}
 use Rattle.irs_cli.specs.declared.commands.Command.{Command}
-use Rattle.irs_cli.specs.Params.{At, IsCountWord, IsDateWord, IsMeanWord, IsSideWord, IsStepWord, IsStreamWord, IsTenorWord}
+use Rattle.irs_cli.specs.Params.{At, IsCountWord, IsDateWord, IsMeanWord, IsSideWord, IsStepWord, IsStreamWord}
+use Rattle.irs_cli.specs.Params.{IsTenorWord}
 
 -- the words behind the program's name, by their bytes
 abbrev pub Words : Type 0
@@ -127,7 +129,8 @@ files_from roles place i (w ∷ ws) = kept (role_at roles i) place w ++ files_fr
 
 -- a command of this kind may have so many words behind its name
 abbrev pub counts : Kind → ℕ → Bool
-counts k n = nat_le (params_of k + length (roles_of k)) n && nat_le n (params_of k + length (roles_of k) + calendars_of k)
+counts k n =
+    nat_le (params_of k + length (roles_of k)) n && nat_le n (params_of k + length (roles_of k) + calendars_of k)
 
 -- `accrue` with its date
 pub record AsksAccrue (ps : Words) (r : Request) : Type 0 where

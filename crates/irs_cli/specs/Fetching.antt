@@ -36,7 +36,8 @@ Stops told ws failed before now Memory = Unit {0}
 -- what the fetch of one file ends with
 abbrev pub StopsOne : Told → Option (List ℕ) → ℕ → ℕ → List ℕ → ℕ → Unfetched → Type 0
 StopsOne told failed before now name place (NoFile p) = (p ≡ place) × (failed ≡ Some name) × Rose before now
-StopsOne told failed before now name place (TooLong p) = (p ≡ place) × IfSome (told name) (λ xs. too_many ≤ length xs) × (now ≡ before)
+StopsOne told failed before now name place (TooLong p) =
+    (p ≡ place) × IfSome (told name) (λ xs. too_many ≤ length xs) × (now ≡ before)
 StopsOne told failed before now name place Memory = Unit {0}
 
 -- what the fetch of one file gives

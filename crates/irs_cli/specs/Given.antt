@@ -12,9 +12,11 @@ Told = List ℕ → Option (List ℕ)
 -- the files with one more
 abbrev pub with_file : Given → Role → List ℕ → Given
 with_file g Document bytes = record { document = bytes; fixings = g.fixings; flows = g.flows; calendars = g.calendars }
-with_file g Fixings bytes = record { document = g.document; fixings = Some bytes; flows = g.flows; calendars = g.calendars }
+with_file g Fixings bytes =
+    record { document = g.document; fixings = Some bytes; flows = g.flows; calendars = g.calendars }
 with_file g Flows bytes = record { document = g.document; fixings = g.fixings; flows = bytes; calendars = g.calendars }
-with_file g Calendar bytes = record { document = g.document; fixings = g.fixings; flows = g.flows; calendars = g.calendars ++ bytes ∷ [] }
+with_file g Calendar bytes =
+    record { document = g.document; fixings = g.fixings; flows = g.flows; calendars = g.calendars ++ bytes ∷ [] }
 
 -- h is g with the files of the list, in order and by role; R holds of each name and its bytes
 abbrev pub Gathers : (R : List ℕ → List ℕ → Type 0) → List Wanted → Given → Given → Type 0

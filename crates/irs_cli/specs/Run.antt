@@ -18,10 +18,12 @@ pub record NoFile (ws : Words) (told : Told) (failed : Option (List ℕ)) (befor
 
 -- the text is the one that is due, or says that a file can't be read
 abbrev pub IsDueText : Words → Told → Option (List ℕ) → ℕ → ℕ → List ℕ → Type 0
-IsDueText ws told failed before now text = ((status : ℕ) × Due ws told status text) ⊎ NoFile ws told failed before now text
+IsDueText ws told failed before now text =
+    ((status : ℕ) × Due ws told status text) ⊎ NoFile ws told failed before now text
 
 -- what a run says before it writes
-pub record Replies (ws : Words) (told : Told) (failed : Option (List ℕ)) (before now : ℕ) (status : ℕ) (text : List ℕ) : Type 0 where
+pub record Replies (ws : Words) (told : Told) (failed : Option (List ℕ)) (before now : ℕ) (status : ℕ)
+    (text : List ℕ) : Type 0 where
   pub is_text : IsDueText ws told failed before now text
   pub not_put : status ≢ 6
   pub not_memory : status ≢ 7

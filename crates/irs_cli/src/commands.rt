@@ -15,7 +15,9 @@
 //! A command is data: how many of its words are parameters, the roles of its files in the order of the
 //! words, and how many calendars may follow.
 ghost use Rattle.std.specs.Prelude.{◌≡◌, ◌≤◌, ◌+◌, map, length, option_map, IfOk, IfSome, IfNone};
-ghost use Rattle.irs_cli.specs.Commands.{texts, kind_of, params_of, roles_of, calendars_of, counts, role_at, is_file, IsRequest, IsCommand, IsCommandAs, asked_by, wanted_by, files_from, most_words};
+ghost use Rattle.irs_cli.specs.Commands.{texts, kind_of, params_of, roles_of, calendars_of, counts, role_at, is_file};
+ghost use Rattle.irs_cli.specs.Commands.{IsRequest, IsCommand, IsCommandAs, asked_by, wanted_by, files_from};
+ghost use Rattle.irs_cli.specs.Commands.{most_words};
 
 use crate::params::{accrue_of, average_of, bulk_of, interpolate_of, overnight_of};
 use irs_answers::Task;
@@ -217,7 +219,8 @@ fn request_of(kind: Kind, params: &[String]) -> Option<Request>
 /// The files that the words behind the parameters name.
 fn files_of<'w>(alloc: Global, kind: Kind, words: &'w [String]) -> Result<Vec<Named<'w>>, Memory>
     requires { length words.now ≤ most_words }
-    ensures { IfOk result (λ v. map wanted_by v.items ≡ files_from (roles_of kind) (params_of kind + 1) 0 (texts words.now)) }
+    ensures { IfOk result (λ v. map wanted_by v.items
+        ≡ files_from (roles_of kind) (params_of kind + 1) 0 (texts words.now)) }
 {
     let roles = kind.roles();
     let mut files = Vec::new(alloc);

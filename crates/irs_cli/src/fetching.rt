@@ -54,7 +54,8 @@ pub(crate) fn fetch_all<F: Files>(
     files: &mut F,
 ) -> Result<TaskFiles, Unfetched>
     ensures told { (n : List ℕ) → F.told files.new n ≡ F.told files.old n }
-    ensures all { FetchesAll (F.told files.old) (F.failed files.new) (F.faults files.old) (F.faults files.new) (map wanted_by names.now) result }
+    ensures all { FetchesAll (F.told files.old) (F.failed files.new) (F.faults files.old) (F.faults files.new)
+        (map wanted_by names.now) result }
 {
     let mut fetched = TaskFiles::new(alloc);
     for named in names {
@@ -72,7 +73,8 @@ fn fetch<F: Files>(
     place: u32,
 ) -> Result<Vec<u8>, Unfetched>
     ensures told { (n : List ℕ) → F.told files.new n ≡ F.told files.old n }
-    ensures one { FetchesOne (F.told files.old) (F.failed files.new) (F.faults files.old) (F.faults files.new) name.now place result }
+    ensures one { FetchesOne (F.told files.old) (F.failed files.new) (F.faults files.old)
+        (F.faults files.new) name.now place result }
 {
     match files.fetch(alloc, name, MOST) {
         Ok(bytes) if bytes.len() < MOST => Ok(bytes),

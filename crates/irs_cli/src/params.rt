@@ -2,7 +2,8 @@
 ghost use Rattle.std.specs.Prelude.{◌≡◌, ◌↔◌, ℕ, ℤ, Some, IfSome, IfNone, IsTrue, slice_get};
 ghost use Rattle.irs_resets.specs.Tenors.{tenor_at};
 ghost use Rattle.irs_cli.specs.Commands.{texts, IsRequest};
-ghost use Rattle.irs_cli.specs.Params.{At, IsCountWord, IsDateWord, IsMeanWord, IsSideWord, IsStepWord, IsStreamWord, IsTenorWord, days_of};
+ghost use Rattle.irs_cli.specs.Params.{At, IsCountWord, IsDateWord, IsMeanWord, IsSideWord, IsStepWord, IsStreamWord};
+ghost use Rattle.irs_cli.specs.Params.{IsTenorWord, days_of};
 ghost use Rattle.irs_cli.specs.declared.commands.Kind.TheVariants as kind;
 ghost use Rattle.irs_cli.specs.declared.commands.Request.{Request as RequestSpec};
 ghost use Rattle.irs_average.specs.declared.means.Mean.{Mean as MeanSpec};

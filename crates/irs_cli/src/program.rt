@@ -43,13 +43,16 @@ pub fn run<F: Files, S: Sink>(alloc: Global, words: &[String], files: &mut F, ou
 
     // The fetch of a word that names a file failed, and the text says which.
     ensures failed { result ≡ 5 → (text : List ℕ)
-        × NoFile (texts words.now) (F.told files.old) (F.failed files.new) (F.faults files.old) (F.faults files.new) text
+        × NoFile (texts words.now) (F.told files.old) (F.failed files.new) (F.faults files.old)
+        (F.faults files.new) text
         × Grew (S.written out.old) (S.written out.new) text }
 
     // A put failed, and a front of the text due was written.
-    ensures put { result ≡ 6 → Rose (S.faults out.old) (S.faults out.new) × ((text : List ℕ) × GrewByFront (S.written out.old) (S.written out.new) text
+    ensures put { result ≡ 6 → Rose (S.faults out.old) (S.faults out.new)
+        × ((text : List ℕ) × GrewByFront (S.written out.old) (S.written out.new) text
         × (((status : ℕ) × Due (texts words.now) (F.told files.old) status text)
-        ⊎ NoFile (texts words.now) (F.told files.old) (F.failed files.new) (F.faults files.old) (F.faults files.new) text)) }
+        ⊎ NoFile (texts words.now) (F.told files.old) (F.failed files.new) (F.faults files.old)
+        (F.faults files.new) text)) }
 
     // Any other status, and exactly its text, are what is due.
     ensures due { result ≢ 5 → result ≢ 6 → result ≢ 7 → (text : List ℕ)
@@ -79,7 +82,9 @@ pub fn run<F: Files, S: Sink>(alloc: Global, words: &[String], files: &mut F, ou
 // What is to be written for the words.
 fn answer<F: Files>(alloc: Global, words: &[String], files: &mut F) -> Result<Reply, Memory>
     ensures told { (n : List ℕ) → F.told files.new n ≡ F.told files.old n }
-    ensures replies { IfOk result (λ r. Replies (texts words.now) (F.told files.old) (F.failed files.new) (F.faults files.old) (F.faults files.new) (reply_status r) (reply_text r)) }
+    ensures replies { IfOk result
+        (λ r. Replies (texts words.now) (F.told files.old) (F.failed files.new) (F.faults files.old)
+        (F.faults files.new) (reply_status r) (reply_text r)) }
 {
     match carry_out(alloc, words, files) {
         Ok(reply) => Ok(reply),
@@ -90,7 +95,8 @@ fn answer<F: Files>(alloc: Global, words: &[String], files: &mut F) -> Result<Re
 // What the command of the words comes to, or why it isn't carried out over its files.
 fn carry_out<F: Files>(alloc: Global, words: &[String], files: &mut F) -> Result<Reply, Refusal>
     ensures told { (n : List ℕ) → F.told files.new n ≡ F.told files.old n }
-    ensures answered { IfAnswered result (Replies (texts words.now) (F.told files.old) (F.failed files.new) (F.faults files.old) (F.faults files.new)) }
+    ensures answered { IfAnswered result
+        (Replies (texts words.now) (F.told files.old) (F.failed files.new) (F.faults files.old) (F.faults files.new)) }
 {
     let Some(command) = command_of(alloc, words)? else {
         return Err(Refusal::BadWords);

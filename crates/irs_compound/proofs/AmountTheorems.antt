@@ -1,6 +1,7 @@
 -- The theorems of the amount of a payment: a period is the first that leaves the range or none leaves
 -- it, the payment has an amount, and only one period is the first.
-use Rattle.std.proofs.Common.{◌≡◌, ◌⊎◌, inl, inr, ℕ, zero, suc, ◌*◌, ◌-◌, ◌<◌, ◌≤◌, ℤ, pos, ◌+ℤ◌, unsigned_abs, List, [], ◌∷◌, length, take, get_or, Option, Some, None, IsSome, IsSomeAnd, refl, arith, rules}
+use Rattle.std.proofs.Common.{◌≡◌, ◌⊎◌, inl, inr, ℕ, zero, suc, ◌*◌, ◌-◌, ◌<◌, ◌≤◌, ℤ, pos, ◌+ℤ◌, unsigned_abs, List}
+use Rattle.std.proofs.Common.{[], ◌∷◌, length, take, get_or, Option, Some, None, IsSome, IsSomeAnd, refl, arith, rules}
 use Rattle.std.specs.Prelude.{nat_lt}
 use Rattle.std.specs.List.{slice_get}
 use Rattle.std.proofs.lemmas.Bool.{cases_lt}
@@ -10,7 +11,9 @@ use Rattle.irs_base.specs.Order.{First, IsDecided}
 use Rattle.irs_base.proofs.Firsts.{lt_false, one_first, tied_last}
 use Rattle.irs_terms.specs.declared.codes.CompCode.{CompCode}
 use Rattle.irs_terms.specs.declared.codes.CompCode.TheVariants.{Simple, Straight, Flat, SpreadExclusive}
-use Rattle.irs_compound.specs.Amounts.{IsFraction, AllPriced, SomeUnpriced, AmountOf, Passes, IsOutOfRange, IsFirstOut, RatesWithin, PartsWithin, SumsWithin, Within, amount, total, kept, kept_of, code_for, most_amount, most_exact}
+use Rattle.irs_compound.specs.Amounts.{IsFraction, AllPriced, SomeUnpriced, AmountOf, Passes, IsOutOfRange, IsFirstOut}
+use Rattle.irs_compound.specs.Amounts.{RatesWithin, PartsWithin, SumsWithin, Within, amount, total, kept, kept_of}
+use Rattle.irs_compound.specs.Amounts.{code_for, most_amount, most_exact}
 use Rattle.irs_compound.specs.AmountLaws.{pays_exists, priced_or_not}
 use Rattle.irs_compound.specs.PartsLaws.{AllFractions, follows_exists, stands_exists, not_passed, number_within}
 use Rattle.irs_compound.specs.declared.periods.PeriodTerm.{PeriodTerm}
@@ -20,7 +23,8 @@ use Rattle.irs_compound.specs.declared.periods.Rates.{Rates}
 -- ---- rates that are there, or absent
 
 -- every period has its rates, or some period has none
-priced_first : (t : PeriodTerm) (ts : List PeriodTerm) (rates : Option Rates) → t.rates ≡ rates → AllPriced ts ⊎ SomeUnpriced ts → AllPriced (t ∷ ts) ⊎ SomeUnpriced (t ∷ ts)
+priced_first : (t : PeriodTerm) (ts : List PeriodTerm) (rates : Option Rates) → t.rates ≡ rates
+    → AllPriced ts ⊎ SomeUnpriced ts → AllPriced (t ∷ ts) ⊎ SomeUnpriced (t ∷ ts)
 priced_first t ts None absent rest = inr (0, t, refl, absent)
 priced_first t ts (Some rates) there (inl priced) =
     let some : IsSome t.rates = rw there (search rules) in
@@ -47,21 +51,27 @@ decides_rates None = inr (λ none. none)
 decides_rates (Some r) = decides_both (decides_size (unsigned_abs r.base) _) (decides_size (unsigned_abs r.all_in) _)
 
 decides_parts : (c : Parts) (sum kept_sum : ℤ) → IsDecided (PartsWithin c sum kept_sum)
-decides_parts c sum kept_sum = elim (decides_both (decides_size (unsigned_abs c.main) most_amount) (decides_size (unsigned_abs c.extra) most_amount)) [
-  | inl parts ↦ elim (decides_both (decides_size (unsigned_abs sum) most_amount) (decides_size (unsigned_abs kept_sum) most_amount)) [
-    | inl sums ↦ inl (parts.0, parts.1, sums.0, sums.1)
-    | inr out ↦ inr (λ w. out (w.2, w.3))
-  ]
-  | inr out ↦ inr (λ w. out (w.0, w.1))
-]
+decides_parts c sum kept_sum =
+    elim (decides_both (decides_size (unsigned_abs c.main) most_amount)
+    (decides_size (unsigned_abs c.extra) most_amount)) [
+      | inl parts ↦
+          elim (decides_both (decides_size (unsigned_abs sum) most_amount)
+          (decides_size (unsigned_abs kept_sum) most_amount)) [
+            | inl sums ↦ inl (parts.0, parts.1, sums.0, sums.1)
+            | inr out ↦ inr (λ w. out (w.2, w.3))
+          ]
+      | inr out ↦ inr (λ w. out (w.0, w.1))
+    ]
 
-decides_sums : (code : CompCode) (p : PeriodTerm) (c : Parts) (sum kept_sum : ℤ) → IsDecided (SumsWithin code p c sum kept_sum)
+decides_sums : (code : CompCode) (p : PeriodTerm) (c : Parts) (sum kept_sum : ℤ)
+    → IsDecided (SumsWithin code p c sum kept_sum)
 decides_sums Simple p c sum kept_sum = decides_size (unsigned_abs sum) (most_exact * unsigned_abs p.frac.den)
 decides_sums Straight p c sum kept_sum = decides_parts c sum kept_sum
 decides_sums Flat p c sum kept_sum = decides_parts c sum kept_sum
 decides_sums SpreadExclusive p c sum kept_sum = decides_parts c sum kept_sum
 
-decides_within : (code : CompCode) (p : PeriodTerm) (c : Parts) (sum kept_sum : ℤ) → IsDecided (Within code p c sum kept_sum)
+decides_within : (code : CompCode) (p : PeriodTerm) (c : Parts) (sum kept_sum : ℤ)
+    → IsDecided (Within code p c sum kept_sum)
 decides_within code p c sum kept_sum = decides_both (decides_rates p.rates) (decides_sums code p c sum kept_sum)
 
 -- ---- the first period that leaves the range
@@ -78,16 +88,29 @@ module _ (code : CompCode) (ps : List PeriodTerm) (fits : AllFractions ps) (pric
       let there : slice_get ps i ≡ Some p = slice_get-get_or ps i blank inside in
       let fraction : IsFraction p.frac = All-get_or (λ (q : PeriodTerm). IsFraction q.frac) ps i blank inside fits in
       let rates : IsSome p.rates = All-get_or (λ (q : PeriodTerm). IsSome q.rates) ps i blank inside priced in
-      let before = follows_exists code [] (take i ps) (All-take (λ (q : PeriodTerm). IsFraction q.frac) i ps fits) (All-take (λ (q : PeriodTerm). IsSome q.rates) i ps priced) in
+      let before =
+      follows_exists code [] (take i ps) (All-take (λ (q : PeriodTerm). IsFraction q.frac) i ps fits)
+      (All-take (λ (q : PeriodTerm). IsSome q.rates) i ps priced) in
       let cs = before.0 in
       let last = stands_exists code p cs fraction rates in
       let c = last.0 in
       elim (decides_within code p c (total cs +ℤ amount c) (kept code cs +ℤ kept_of code c)) [
         | inl within ↦ inr (λ x. not_passed code ps n p cs c fits fraction there before.1 last.1 within x)
-        | inr out ↦ inl (record { from_one = low; earlier = cs; period = p; parts = c; there = there; follows = before.1; stands = last.1; passes = out })
+        | inr out ↦ inl (record {
+          from_one = low;
+          earlier = cs;
+          period = p;
+          parts = c;
+          there = there;
+          follows =
+              before.1;
+          stands = last.1;
+          passes = out;
+        })
       ]
 
-  first_up_to : (k : ℕ) → k ≤ length ps → ((n : ℕ) × First nat_lt (Passes code ps) n) ⊎ ((n : ℕ) → n ≤ k → Passes code ps n → ⊥)
+  first_up_to : (k : ℕ) → k ≤ length ps → ((n : ℕ) × First nat_lt (Passes code ps) n)
+      ⊎ ((n : ℕ) → n ≤ k → Passes code ps n → ⊥)
   first_up_to zero le = inr (λ n up x. let low = x.from_one in omega (arith, up, low))
   first_up_to (suc k) le = elim (first_up_to k (omega (arith, le))) [
     | inl first ↦ inl first
@@ -109,7 +132,8 @@ module _ (code : CompCode) (ps : List PeriodTerm) (fits : AllFractions ps) (pric
 -- ---- the theorems
 
 -- a period is the first that leaves the range, or none leaves it
-pub amount_decided : (code : CompCode) (ps : List PeriodTerm) → AllFractions ps → ((n : ℕ) × IsFirstOut code ps n) ⊎ ((n : ℕ) → IsOutOfRange code ps n → ⊥)
+pub amount_decided : (code : CompCode) (ps : List PeriodTerm) → AllFractions ps
+    → ((n : ℕ) × IsFirstOut code ps n) ⊎ ((n : ℕ) → IsOutOfRange code ps n → ⊥)
 amount_decided code ps fits = elim (decides_priced ps) [
   | inl priced ↦ elim (passes_decided (code_for code ps) ps fits priced) [
     | inl first ↦ inl (first.0, ((priced, first.1.0), λ m out. first.1.1 m out.1))
@@ -119,14 +143,16 @@ amount_decided code ps fits = elim (decides_priced ps) [
 ]
 
 -- the payment has an amount, absent where the rates of a period are
-pub amount_there : (code : CompCode) (ps : List PeriodTerm) (places : ℕ) → AllFractions ps → (m : Option ℤ) × AmountOf code ps places m
+pub amount_there : (code : CompCode) (ps : List PeriodTerm) (places : ℕ) → AllFractions ps
+    → (m : Option ℤ) × AmountOf code ps places m
 amount_there code ps places fits = elim (decides_priced ps) [
   | inl priced ↦ let m = pays_exists (code_for code ps) ps places fits priced in (Some m.0, (priced, m.1))
   | inr unpriced ↦ (None, unpriced)
 ]
 
 -- only one period is the first that leaves the range
-pub one_amount_out : (code : CompCode) (ps : List PeriodTerm) (m n : ℕ) → IsFirstOut code ps m → IsFirstOut code ps n → m ≡ n
+pub one_amount_out : (code : CompCode) (ps : List PeriodTerm) (m n : ℕ) → IsFirstOut code ps m
+    → IsFirstOut code ps n → m ≡ n
 one_amount_out code ps m n = one_first nat_lt tied_last (IsOutOfRange code ps) m n
 
 -- it is one of the periods

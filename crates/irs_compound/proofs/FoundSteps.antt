@@ -1,5 +1,6 @@
 -- The last step that isn't after a day, by how many steps aren't.
-use Rattle.std.proofs.Common.{◌≡◌, ℕ, zero, suc, ◌-◌, ◌<◌, ◌≤◌, ℤ, ◌≤ℤ◌, ◌<ℤ◌, int_le, arith, sym, subst, Bool, true, false, List, [], ◌∷◌, length, get_or, Some, None, All, Contains, inl, inr, refl}
+use Rattle.std.proofs.Common.{◌≡◌, ℕ, zero, suc, ◌-◌, ◌<◌, ◌≤◌, ℤ, ◌≤ℤ◌, ◌<ℤ◌, int_le, arith, sym, subst, Bool, true}
+use Rattle.std.proofs.Common.{false, List, [], ◌∷◌, length, get_or, Some, None, All, Contains, inl, inr, refl}
 use Rattle.std.specs.List.Sorted.{IsPartitionPoint, IsPartitionedBy}
 use Rattle.std.proofs.lemmas.List.Elements.{All-nil, All-get_or, All-from_get_or, Contains-get_or}
 use Rattle.std.proofs.lemmas.Bool.{cases_lt}
@@ -10,7 +11,8 @@ use Rattle.irs_compound.specs.InForce.{LastOf, last_from}
 use Rattle.irs_compound.specs.InForceLaws.{same_day, behind, rest, last_from_is}
 
 -- of steps that rise, none is after one that stands behind it
-rises_to : (steps : List Step) (i k : ℕ) (e : Step) → StepsRise steps → i ≤ k → k < length steps → (get_or steps i e).day ≤ℤ (get_or steps k e).day
+rises_to : (steps : List Step) (i k : ℕ) (e : Step) → StepsRise steps → i ≤ k → k < length steps
+    → (get_or steps i e).day ≤ℤ (get_or steps k e).day
 rises_to [] i k e r l h = absurd (omega arith)
 rises_to (s ∷ ss) zero zero e r l h = same_day s.day
 rises_to (s ∷ ss) zero (suc k) e r l h =
@@ -31,7 +33,8 @@ parted steps d r = λ i k e l h up.
     not_above (get_or steps i e).day d (int_le (get_or steps i e).day d) refl (omega (arith, signed_arith, a, up))
 
 -- a test of all steps by place
-each : (P : Step → Type 0) (steps : List Step) → ((i : ℕ) (e : Step) → i < length steps → P (get_or steps i e)) → All P steps
+each : (P : Step → Type 0) (steps : List Step) → ((i : ℕ) (e : Step) → i < length steps → P (get_or steps i e))
+    → All P steps
 each P [] h = All-nil P
 each P (s ∷ ss) h = All-from_get_or P (s ∷ ss) s (λ i l. h i s l)
 
@@ -40,16 +43,25 @@ abbrev pub Split : List Step → ℤ → ℕ → Type 0
 Split steps d n = IsPartitionPoint (λ s. s.day ≤ℤ d) (λ s. d <ℤ s.day) steps n
 
 -- the same by a test
-pub split : (steps : List Step) (d : ℤ) (n : ℕ) → IsPartitionPoint (λ s. int_le s.day d ≡ true) (λ s. int_le s.day d ≡ false) steps n → Split steps d n
-split steps d n h = (λ k e l m. let a = h.0 k e l m in omega (arith, signed_arith, a), λ k e l m. let a = h.1 k e l m in omega (arith, signed_arith, a))
+pub split : (steps : List Step) (d : ℤ) (n : ℕ)
+    → IsPartitionPoint (λ s. int_le s.day d ≡ true) (λ s. int_le s.day d ≡ false) steps n → Split steps d n
+split steps d n h = (
+  λ k e l m. let a = h.0 k e l m in omega (arith, signed_arith, a),
+  λ k e l m. let a = h.1 k e l m in
+      omega (arith, signed_arith, a),
+)
 
-not_after : (steps : List Step) (d : ℤ) (n i : ℕ) (s : Step) → StepsRise steps → Split steps d (suc n) → n < length steps → i < length steps → s ≡ get_or steps n s → (get_or steps i s).day ≤ℤ d → (get_or steps i s).day ≤ℤ s.day
+not_after : (steps : List Step) (d : ℤ) (n i : ℕ) (s : Step) → StepsRise steps → Split steps d (suc n)
+    → n < length steps → i < length steps → s ≡ get_or steps n s → (get_or steps i s).day ≤ℤ d
+    → (get_or steps i s).day ≤ℤ s.day
 not_after steps d n i s r h l m is below = elim (cases_lt n i) [
   | inl more ↦ let a = h.1 i s (omega (arith, more)) m in absurd (omega (arith, signed_arith, a, below))
-  | inr less ↦ subst (λ (t : Step). (get_or steps i s).day ≤ℤ t.day) (sym is) (rises_to steps i n s r (omega (arith, less)) l)
+  | inr less ↦
+      subst (λ (t : Step). (get_or steps i s).day ≤ℤ t.day) (sym is) (rises_to steps i n s r (omega (arith, less)) l)
 ]
 
-last : (steps : List Step) (d : ℤ) (n : ℕ) (s : Step) → StepsRise steps → Split steps d (suc n) → n < length steps → s ≡ get_or steps n s → LastOf steps d (Some s)
+last : (steps : List Step) (d : ℤ) (n : ℕ) (s : Step) → StepsRise steps → Split steps d (suc n) → n < length steps
+    → s ≡ get_or steps n s → LastOf steps d (Some s)
 last steps d n s r h l is = (
   subst (Contains steps) (sym is) (Contains-get_or steps n s l),
   subst (λ (t : Step). t.day ≤ℤ d) (sym is) (h.0 n s (omega arith) (omega arith)),
@@ -57,11 +69,14 @@ last steps d n s r h l is = (
 )
 
 -- no step isn't after the day
-pub found_none : (steps : List Step) (d : ℤ) (n : ℕ) → StepsRise steps → Split steps d n → n ≡ 0 → None ≡ last_from d None steps
-found_none steps d n r h e = last_from_is steps d None r (each (λ t. d <ℤ t.day) steps (λ i s l. h.1 i s (omega (arith, e)) l))
+pub found_none : (steps : List Step) (d : ℤ) (n : ℕ) → StepsRise steps → Split steps d n → n ≡ 0
+    → None ≡ last_from d None steps
+found_none steps d n r h e =
+    last_from_is steps d None r (each (λ t. d <ℤ t.day) steps (λ i s l. h.1 i s (omega (arith, e)) l))
 
 -- the last of those that aren't
-pub found_some : (steps : List Step) (d : ℤ) (n : ℕ) (s : Step) → StepsRise steps → Split steps d n → n ≤ length steps → 0 < n → s ≡ get_or steps (n - 1) s → Some s ≡ last_from d None steps
+pub found_some : (steps : List Step) (d : ℤ) (n : ℕ) (s : Step) → StepsRise steps → Split steps d n → n ≤ length steps
+    → 0 < n → s ≡ get_or steps (n - 1) s → Some s ≡ last_from d None steps
 found_some steps d n s r h l p is =
     let e : n ≡ suc (n - 1) = omega (arith, p) in
     last_from_is steps d (Some s) r (last steps d (n - 1) s r (subst (Split steps d) e h) (omega (arith, l, p)) is)

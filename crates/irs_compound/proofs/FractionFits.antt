@@ -4,7 +4,8 @@ use Rattle.jiff_core.proofs.SignedLemmas.{signed_arith}
 use Rattle.irs_base.specs.Days.{IsDay}
 use Rattle.irs_terms.specs.declared.results.Frac.{Frac}
 use Rattle.irs_terms.specs.declared.codes.DayCountCode.{DayCountCode}
-use Rattle.irs_terms.specs.declared.codes.DayCountCode.TheVariants.{OneOne, ActActIsda, Act365Fixed, Act360, Thirty360, ThirtyE360, ThirtyE360Isda}
+use Rattle.irs_terms.specs.declared.codes.DayCountCode.TheVariants.{OneOne, ActActIsda, Act365Fixed, Act360, Thirty360}
+use Rattle.irs_terms.specs.declared.codes.DayCountCode.TheVariants.{ThirtyE360, ThirtyE360Isda}
 use Rattle.irs_daycount.specs.Actual.{act_act_denominator}
 use Rattle.irs_daycount.specs.Fractions.{Fraction, IsNumerator, denominator_of}
 use Rattle.irs_daycount.specs.FractionLaws.{one_denominator}
@@ -23,12 +24,15 @@ denominators Thirty360 = (omega (arith, signed_arith), omega (arith, signed_arit
 denominators ThirtyE360 = (omega (arith, signed_arith), omega (arith, signed_arith))
 denominators ThirtyE360Isda = (omega (arith, signed_arith), omega (arith, signed_arith))
 
-pub fraction_fits : (code : DayCountCode) (s e : ℤ) (f : Frac) → IsDay s → IsDay e → IsNumerator s e f.num → f.den ≡ denominator_of code → IsFraction f
+pub fraction_fits : (code : DayCountCode) (s e : ℤ) (f : Frac) → IsDay s → IsDay e → IsNumerator s e f.num
+    → f.den ≡ denominator_of code → IsFraction f
 fraction_fits code s e f a b n is =
     let d : IsDenominator f.den = subst IsDenominator (sym is) (denominators code) in
     (n.0, omega (arith, signed_arith, n.1, a, b), d.0, d.1)
 
 -- so the fraction by a day count is, of days in range of which the first is before the second
-pub fraction_is_fit : (code : DayCountCode) (s e : ℤ) (last : Bool) (f : Frac) → IsDay s → IsDay e → s <ℤ e → Fraction code s e last f → IsFraction f
+pub fraction_is_fit : (code : DayCountCode) (s e : ℤ) (last : Bool) (f : Frac) → IsDay s → IsDay e → s <ℤ e
+    → Fraction code s e last f → IsFraction f
 fraction_is_fit code s e last f start end order h =
-    fraction_fits code s e f start end (fraction_bounded code s e last f start end order h) (one_denominator code s e last f h)
+    fraction_fits code s e f start end (fraction_bounded code s e last f start end order h)
+    (one_denominator code s e last f h)

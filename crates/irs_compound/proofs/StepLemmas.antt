@@ -18,7 +18,10 @@ unpriced o r P e h = subst (λ (x : Option Rates). IsSomeAnd x P) e h
 abbrev pub SumsAfter : CompCode → PeriodTerm → Balance → Parts → Type 0
 SumsAfter code p b c = SumsWithin code p c (after code b c).sum (after code b c).kept
 
-pub takes : (result : Option Balance) (code : CompCode) (p : PeriodTerm) (r : Rates) (before : Balance) (c : Parts) → p.rates ≡ Some r → RatesWithin r → StandsAt code p r before.kept c → SomeIff result (SumsAfter code p before c) (after code before c) → IfSome result (λ next. Takes code p before next)
+pub takes : (result : Option Balance) (code : CompCode) (p : PeriodTerm) (r : Rates) (before : Balance) (c : Parts)
+    → p.rates ≡ Some r → RatesWithin r → StandsAt code p r before.kept c
+    → SomeIff result (SumsAfter code p before c) (after code before c)
+    → IfSome result (λ next. Takes code p before next)
 takes None code p r before c e w h k = tt
 takes (Some b) code p r before c e w h k = record {
   parts = c;
@@ -27,7 +30,9 @@ takes (Some b) code p r before c e w h k = record {
   is = k.1;
 }
 
-pub stops : (result : Option Balance) (code : CompCode) (p : PeriodTerm) (r : Rates) (before : Balance) (c : Parts) → p.rates ≡ Some r → StandsAt code p r before.kept c → SomeIff result (SumsAfter code p before c) (after code before c) → IfNone result (Stops code p before)
+pub stops : (result : Option Balance) (code : CompCode) (p : PeriodTerm) (r : Rates) (before : Balance) (c : Parts)
+    → p.rates ≡ Some r → StandsAt code p r before.kept c
+    → SomeIff result (SumsAfter code p before c) (after code before c) → IfNone result (Stops code p before)
 stops (Some b) code p r before c e h k = tt
 stops None code p r before c e h k = record {
   parts = c;
@@ -35,7 +40,8 @@ stops None code p r before c e h k = record {
   passes = λ w. k w.1;
 }
 
-pub stops_at_rates : (code : CompCode) (p : PeriodTerm) (r : Rates) (before : Balance) (c : Parts) → p.rates ≡ Some r → StandsAt code p r before.kept c → (RatesWithin r → ⊥) → Stops code p before
+pub stops_at_rates : (code : CompCode) (p : PeriodTerm) (r : Rates) (before : Balance) (c : Parts) → p.rates ≡ Some r
+    → StandsAt code p r before.kept c → (RatesWithin r → ⊥) → Stops code p before
 stops_at_rates code p r before c e h k = record {
   parts = c;
   stands = priced p.rates r (λ x. StandsAt code p x before.kept c) e h;

@@ -1,7 +1,10 @@
--- Amounts of the periods of a payment, and of the payment: the 2006 ISDA Definitions, articles 5 and 6. That flat compounding
--- takes the base rate, and compounding with the spread exclusive, are this project's own. Notionals are in units of 10^-4,
+-- Amounts of the periods of a payment, and of the payment: the 2006 ISDA Definitions, articles 5 and 6. That flat
+-- compounding
+-- takes the base rate, and compounding with the spread exclusive, are this project's own. Notionals are in units of
+-- 10^-4,
 -- rates in units of 10^-9.
-use Rattle.std.specs.Prelude.{◌≡◌, ℕ, ℤ, pos, ◌+◌, ◌-◌, ◌*◌, ◌^◌, ◌≤◌, ◌+ℤ◌, ◌-ℤ◌, ◌*ℤ◌, ◌≤ℤ◌, unsigned_abs, List, [], ◌∷◌, ◌++◌, length, All, IsSome, IsSomeAnd, Option, Some, None, slice_get, take, nat_lt}
+use Rattle.std.specs.Prelude.{◌≡◌, ℕ, ℤ, pos, ◌+◌, ◌-◌, ◌*◌, ◌^◌, ◌≤◌, ◌+ℤ◌, ◌-ℤ◌, ◌*ℤ◌, ◌≤ℤ◌, unsigned_abs, List, []}
+use Rattle.std.specs.Prelude.{◌∷◌, ◌++◌, length, All, IsSome, IsSomeAnd, Option, Some, None, slice_get, take, nat_lt}
 use Rattle.irs_base.specs.Limits.{most_notional, most_numerator, most_periods, most_rate}
 use Rattle.irs_base.specs.Order.{First}
 use Rattle.irs_base.specs.Rounding.{Rounded}
@@ -93,14 +96,19 @@ kept code (c ∷ cs) = kept_of code c +ℤ kept code cs
 -- the parts of a period, where `before` is what the earlier periods of the payment left to bear interest.
 -- Without compounding: notional times rate times fraction, exact, in units of 10^-13 over the denominator.
 -- Straight: the notional and all earlier amounts at the rate. Flat: the basic amount is the notional at the rate,
--- the additional one all earlier basic and additional amounts at the base rate. Spread exclusive: the compounded part is
--- the notional and all earlier compounded parts at the base rate, the spread part the notional at the rate less the base
+-- the additional one all earlier basic and additional amounts at the base rate. Spread exclusive: the compounded
+-- part is
+-- the notional and all earlier compounded parts at the base rate, the spread part the notional at the rate less the
+-- base
 -- rate. All to the nearest unit of 10^-6.
 abbrev pub StandsAt : CompCode → PeriodTerm → Rates → ℤ → Parts → Type 0
 StandsAt Simple p r before c = (c.main ≡ p.notional *ℤ r.all_in *ℤ p.frac.num) × (c.extra ≡ pos 0)
 StandsAt Straight p r before c = Interest (pos 100 *ℤ p.notional +ℤ before) r.all_in p.frac c.main × (c.extra ≡ pos 0)
-StandsAt Flat p r before c = Interest (pos 100 *ℤ p.notional) r.all_in p.frac c.main × Interest before r.base p.frac c.extra
-StandsAt SpreadExclusive p r before c = Interest (pos 100 *ℤ p.notional +ℤ before) r.base p.frac c.main × Interest (pos 100 *ℤ p.notional) (r.all_in -ℤ r.base) p.frac c.extra
+StandsAt Flat p r before c =
+    Interest (pos 100 *ℤ p.notional) r.all_in p.frac c.main × Interest before r.base p.frac c.extra
+StandsAt SpreadExclusive p r before c =
+    Interest (pos 100 *ℤ p.notional +ℤ before) r.base p.frac c.main
+    × Interest (pos 100 *ℤ p.notional) (r.all_in -ℤ r.base) p.frac c.extra
 
 -- the parts of a period whose rates are there, behind those of all earlier periods of the payment
 abbrev pub Stands : CompCode → PeriodTerm → List Parts → Parts → Type 0
@@ -121,12 +129,17 @@ Follows code ps cs = FollowsFrom code [] ps cs
 abbrev pub RatesWithin : Rates → Type 0
 RatesWithin r = IsRate r.base × IsRate r.all_in
 
--- neither a part nor one of the sums is above 10^14 units of currency in size; the two parts of a period together may be
+-- neither a part nor one of the sums is above 10^14 units of currency in size; the two parts of a period together
+-- may be
 abbrev pub PartsWithin : Parts → ℤ → ℤ → Type 0
-PartsWithin c sum kept_sum = (unsigned_abs c.main ≤ most_amount) × (unsigned_abs c.extra ≤ most_amount) × (unsigned_abs sum ≤ most_amount) × (unsigned_abs kept_sum ≤ most_amount)
+PartsWithin c sum kept_sum =
+    (unsigned_abs c.main ≤ most_amount) × (unsigned_abs c.extra ≤ most_amount) × (unsigned_abs sum ≤ most_amount)
+    × (unsigned_abs kept_sum ≤ most_amount)
 
--- the amounts through a period: without compounding their exact sum alone is bounded; else the parts of the period, the sum
--- of the amounts and the sum of what bears interest later. With straight and flat compounding the two sums are one; with
+-- the amounts through a period: without compounding their exact sum alone is bounded; else the parts of the period,
+-- the sum
+-- of the amounts and the sum of what bears interest later. With straight and flat compounding the two sums are one;
+-- with
 -- the spread exclusive spread parts may cancel compounded ones, so that each of the two is bounded by itself
 abbrev pub SumsWithin : CompCode → PeriodTerm → Parts → ℤ → ℤ → Type 0
 SumsWithin Simple p c sum kept_sum = unsigned_abs sum ≤ most_exact * unsigned_abs p.frac.den

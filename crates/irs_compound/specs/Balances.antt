@@ -5,7 +5,8 @@ use Rattle.irs_terms.specs.declared.codes.CompCode.TheVariants.{Simple, Straight
 use Rattle.irs_compound.specs.declared.periods.PeriodTerm.{PeriodTerm}
 use Rattle.irs_compound.specs.declared.periods.Parts.{Parts}
 use Rattle.irs_compound.specs.declared.balances.Balance.{Balance}
-use Rattle.irs_compound.specs.Amounts.{StandsAt, Within, amount, total, kept_of, kept, Follows, Passes, denominator, most_amount, most_exact}
+use Rattle.irs_compound.specs.Amounts.{StandsAt, Within, amount, total, kept_of, kept, Follows, Passes, denominator}
+use Rattle.irs_compound.specs.Amounts.{most_amount, most_exact}
 
 -- the balance of the periods before is within its limits
 abbrev pub BalanceFits : CompCode → ℤ → Balance → Type 0

@@ -1,5 +1,6 @@
 -- The rates of a period.
-use Rattle.std.specs.Prelude.{◌≡◌, ℕ, ◌+◌, ◌-◌, ◌*◌, ◌^◌, ℤ, pos, ◌+ℤ◌, ◌*ℤ◌, ◌≤ℤ◌, ◌<ℤ◌, int_lt, if◌then◌else◌, Option, Some, None, option_map}
+use Rattle.std.specs.Prelude.{◌≡◌, ℕ, ◌+◌, ◌-◌, ◌*◌, ◌^◌, ℤ, pos, ◌+ℤ◌, ◌*ℤ◌, ◌≤ℤ◌, ◌<ℤ◌, int_lt, if◌then◌else◌, Option}
+use Rattle.std.specs.Prelude.{Some, None, option_map}
 use Rattle.irs_base.specs.Limits.{most_rate}
 use Rattle.irs_base.specs.Rounding.{Rounded, rounded}
 use Rattle.irs_terms.specs.declared.amounts.Rounding.{Rounding}
@@ -18,10 +19,12 @@ pub record RateAt (rounding : Rounding) (exact rate : ℤ) : Type 0 where
   pub rounds : Rounded rounding.dir exact (pos (10 ^ (18 - rounding.places))) whole
   pub scales : rate ≡ whole *ℤ pos (10 ^ (9 - rounding.places))
 
--- what becomes of a rounded rate by its treatment: it stays, or is 0 where it is below 0 and the method is that of a rate of zero
+-- what becomes of a rounded rate by its treatment: it stays, or is 0 where it is below 0 and the method is that of
+-- a rate of zero
 abbrev pub Treats : Treatment → ℤ → ℤ → Type 0
 Treats AsIs rounded_rate rate = rate ≡ rounded_rate
-Treats ZeroFloor rounded_rate rate = (pos 0 ≤ℤ rounded_rate → rate ≡ rounded_rate) × (rounded_rate <ℤ pos 0 → rate ≡ pos 0)
+Treats ZeroFloor rounded_rate rate =
+    (pos 0 ≤ℤ rounded_rate → rate ≡ rounded_rate) × (rounded_rate <ℤ pos 0 → rate ≡ pos 0)
 
 -- multiplier and spread in force on the period's unadjusted start, and the observed rate, give the rates:
 -- the base rate is multiplier times observed, the rate is that plus the spread, each rounded once from its exact value;
@@ -52,7 +55,8 @@ AreRates (Floating float) start (Some observed) (Some rates) = RatesOf float sta
 
 -- a rounded rate as a function
 abbrev pub rate_at : Rounding → ℤ → ℤ
-rate_at rounding exact = rounded rounding.dir exact (pos (10 ^ (18 - rounding.places))) *ℤ pos (10 ^ (9 - rounding.places))
+rate_at rounding exact =
+    rounded rounding.dir exact (pos (10 ^ (18 - rounding.places))) *ℤ pos (10 ^ (9 - rounding.places))
 
 -- a rounded rate by its treatment as a function
 abbrev pub treated : Treatment → ℤ → ℤ
@@ -71,7 +75,8 @@ exact_base f start observed = value_in_force f.multiplier start *ℤ observed
 unfoldable pub rates_of : FloatTerms → ℤ → ℤ → Rates
 rates_of f start observed = record {
   base = rate_at f.rounding (exact_base f start observed);
-  all_in = treated f.treatment (rate_at f.rounding (exact_base f start observed +ℤ value_in_force f.spread start *ℤ pos (10 ^ 9)));
+  all_in = treated f.treatment
+      (rate_at f.rounding (exact_base f start observed +ℤ value_in_force f.spread start *ℤ pos (10 ^ 9)));
 }
 
 -- the rates of a fixed stream as a function

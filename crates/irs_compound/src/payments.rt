@@ -1,8 +1,10 @@
 //! The amount of a payment by the code of its compounding, with or without all its rates: the 2006
 //! ISDA Definitions, articles 5 and 6.
-ghost use Rattle.std.specs.Prelude.{◌≡◌, ◌⊎◌, ℕ, ℤ, ◌≤◌, List, length, Option, IfOk, IfErr, IfSome, OnOk, MatchBool, unsigned_abs};
+ghost use Rattle.std.specs.Prelude.{◌≡◌, ◌⊎◌, ℕ, ℤ, ◌≤◌, List, length, Option, IfOk, IfErr, IfSome, OnOk, MatchBool};
+ghost use Rattle.std.specs.Prelude.{unsigned_abs};
 ghost use Rattle.irs_compound.specs.declared.periods.Parts.{Parts};
-ghost use Rattle.irs_compound.specs.Amounts.{IsPayment, AllPriced, SomeUnpriced, IsOutOfRange, IsFirstOut, Follows, AmountOf, most_places, most_units};
+ghost use Rattle.irs_compound.specs.Amounts.{IsPayment, AllPriced, SomeUnpriced, IsOutOfRange, IsFirstOut, Follows};
+ghost use Rattle.irs_compound.specs.Amounts.{AmountOf, most_places, most_units};
 
 use crate::amounts::amount_by;
 use crate::compounding::OutOfRange;

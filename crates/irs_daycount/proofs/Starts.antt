@@ -10,20 +10,29 @@ use Rattle.irs_base.proofs.DateWalks.{IsPlaced}
 
 not_before_first : (y : ℕ) → first_year ≤ y → 4_346_751 ≤ day_count (pos y) 1 1
 not_before_first y h = elim (cases_lt first_year y) [
-  | inl l ↦ let k = day_count-later_year (pos first_year) (pos y) (omega (arith, signed_arith)) (omega (arith, signed_arith, l)) in omega (arith, k, day_count-1901)
-  | inr k ↦ let e : y ≡ first_year = omega (arith, h, k) in let f = ap (λ (n : ℕ). day_count (pos n) 1 1) e in omega (arith, f, day_count-1901)
+  | inl l ↦ let k =
+      day_count-later_year (pos first_year) (pos y) (omega (arith, signed_arith)) (omega (arith, signed_arith, l)) in
+      omega (arith, k, day_count-1901)
+  | inr k ↦ let e : y ≡ first_year = omega (arith, h, k) in let f = ap (λ (n : ℕ). day_count (pos n) 1 1) e in
+      omega (arith, f, day_count-1901)
 ]
 
 january : (y : ℕ) → y ≤ last_year → IsCivilDate (pos y) 1 1
-january y h = ((omega (arith, signed_arith, h), omega (arith, signed_arith, h)), (omega arith, omega arith), (omega arith, omega arith))
+january y h = (
+  (omega (arith, signed_arith, h), omega (arith, signed_arith, h)),
+  (omega arith, omega arith),
+  (omega arith, omega arith),
+)
 
-pub start_is_day : (d : ℤ) (y o : ℕ) → IsDay d → IsPlaced d y o → y ≤ last_year → IsDay (days_from_civil (pos y) 1 1) × HasDate (days_from_civil (pos y) 1 1) (pos y) 1 1
+pub start_is_day : (d : ℤ) (y o : ℕ) → IsDay d → IsPlaced d y o → y ≤ last_year
+    → IsDay (days_from_civil (pos y) 1 1) × HasDate (days_from_civil (pos y) 1 1) (pos y) 1 1
 start_is_day d y o day a h =
     let c = days_from_civil-day_count (pos y) 1 1 in
     let low = not_before_first y a.from in
     ((omega (arith, signed_arith, c, low), omega (arith, signed_arith, c, a.there, day)), (january y h, refl))
 
-pub some_start : (r : Option ℤ) (d : ℤ) (y o : ℕ) → IsDay d → IsPlaced d y o → y ≤ last_year → IfNone r ((x : ℤ) → IsDay x → HasDate x (pos y) 1 1 → ⊥) → IsSome r
+pub some_start : (r : Option ℤ) (d : ℤ) (y o : ℕ) → IsDay d → IsPlaced d y o → y ≤ last_year
+    → IfNone r ((x : ℤ) → IsDay x → HasDate x (pos y) 1 1 → ⊥) → IsSome r
 some_start (Some x) d y o day a h k = refl
 some_start None d y o day a h k = let s = start_is_day d y o day a h in absurd (k (days_from_civil (pos y) 1 1) s.0 s.1)
 

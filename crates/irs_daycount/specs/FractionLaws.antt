@@ -3,7 +3,8 @@ use Rattle.std.proofs.Common.{◌≡◌, ℕ, Bool, ℤ, pos, negsuc, ◌-ℤ◌
 use Rattle.jiff_core.proofs.SignedLemmas.{signed_arith}
 use Rattle.irs_terms.specs.declared.results.Frac.{Frac}
 use Rattle.irs_terms.specs.declared.codes.DayCountCode.{DayCountCode}
-use Rattle.irs_terms.specs.declared.codes.DayCountCode.TheVariants.{OneOne, ActActIsda, Act365Fixed, Act360, Thirty360, ThirtyE360, ThirtyE360Isda}
+use Rattle.irs_terms.specs.declared.codes.DayCountCode.TheVariants.{OneOne, ActActIsda, Act365Fixed, Act360, Thirty360}
+use Rattle.irs_terms.specs.declared.codes.DayCountCode.TheVariants.{ThirtyE360, ThirtyE360Isda}
 use Rattle.irs_daycount.specs.Actual.{ActAct, act_act_parts}
 use Rattle.irs_daycount.specs.Fractions.{Days, Fraction, days_of, fraction_of, denominator_of}
 
@@ -19,7 +20,8 @@ act_act_once s e f g a b =
     same_frac f g m (a.den ∙ sym b.den)
 
 -- any two fractions of one period by one code are equal
-pub one_fraction : (code : DayCountCode) (s e : ℤ) (last : Bool) (f g : Frac) → Fraction code s e last f → Fraction code s e last g → f ≡ g
+pub one_fraction : (code : DayCountCode) (s e : ℤ) (last : Bool) (f g : Frac) → Fraction code s e last f
+    → Fraction code s e last g → f ≡ g
 one_fraction OneOne s e last f g a b = same_frac f g (a.0 ∙ sym b.0) (a.1 ∙ sym b.1)
 one_fraction ActActIsda s e last f g a b = act_act_once s e f g a b
 one_fraction Act365Fixed s e last f g a b = same_frac f g (a.0 ∙ sym b.0) (a.1 ∙ sym b.1)
@@ -33,7 +35,8 @@ later (pos n) h = refl
 later (negsuc n) h = absurd (omega (arith, signed_arith, h))
 
 -- the function gives the fraction
-pub fraction_is : (code : DayCountCode) (s e : ℤ) (last : Bool) → s <ℤ e → Fraction code s e last (fraction_of code s e last)
+pub fraction_is : (code : DayCountCode) (s e : ℤ) (last : Bool) → s <ℤ e
+    → Fraction code s e last (fraction_of code s e last)
 unfolding fraction_of
 fraction_is OneOne s e last h = (refl, refl)
 fraction_is ActActIsda s e last h =
@@ -46,10 +49,13 @@ fraction_is ThirtyE360 s e last h = (refl, refl)
 fraction_is ThirtyE360Isda s e last h = (refl, refl)
 
 -- so a fraction of the period is the function's
-pub fraction_value : (code : DayCountCode) (s e : ℤ) (last : Bool) (f : Frac) → s <ℤ e → Fraction code s e last f → f ≡ fraction_of code s e last
-fraction_value code s e last f h x = one_fraction code s e last f (fraction_of code s e last) x (fraction_is code s e last h)
+pub fraction_value : (code : DayCountCode) (s e : ℤ) (last : Bool) (f : Frac) → s <ℤ e → Fraction code s e last f
+    → f ≡ fraction_of code s e last
+fraction_value code s e last f h x =
+    one_fraction code s e last f (fraction_of code s e last) x (fraction_is code s e last h)
 
-pub one_denominator : (code : DayCountCode) (s e : ℤ) (last : Bool) (f : Frac) → Fraction code s e last f → f.den ≡ denominator_of code
+pub one_denominator : (code : DayCountCode) (s e : ℤ) (last : Bool) (f : Frac) → Fraction code s e last f
+    → f.den ≡ denominator_of code
 one_denominator OneOne s e last f a = a.1
 one_denominator ActActIsda s e last f a = a.den
 one_denominator Act365Fixed s e last f a = a.1
@@ -59,7 +65,8 @@ one_denominator ThirtyE360 s e last f a = a.1
 one_denominator ThirtyE360Isda s e last f a = a.1
 
 -- any two numbers of days of one period by one code are equal
-pub one_days : (code : DayCountCode) (s e : ℤ) (last : Bool) (m n : ℤ) → Days code s e last m → Days code s e last n → m ≡ n
+pub one_days : (code : DayCountCode) (s e : ℤ) (last : Bool) (m n : ℤ) → Days code s e last m
+    → Days code s e last n → m ≡ n
 one_days OneOne s e last m n a b = a ∙ sym b
 one_days ActActIsda s e last m n a b = a ∙ sym b
 one_days Act365Fixed s e last m n a b = a ∙ sym b
@@ -80,5 +87,6 @@ days_is ThirtyE360 s e last = refl
 days_is ThirtyE360Isda s e last = refl
 
 -- so a number of days of the period is the function's
-pub days_value : (code : DayCountCode) (s e : ℤ) (last : Bool) (n : ℤ) → Days code s e last n → n ≡ days_of code s e last
+pub days_value : (code : DayCountCode) (s e : ℤ) (last : Bool) (n : ℤ) → Days code s e last n
+    → n ≡ days_of code s e last
 days_value code s e last n x = one_days code s e last n (days_of code s e last) x (days_is code s e last)

@@ -1,8 +1,10 @@
--- The days and the fraction of a period from s to e by its day count, the 2006 ISDA Definitions, section 4.16. `last` says that the period is its stream's last.
+-- The days and the fraction of a period from s to e by its day count, the 2006 ISDA Definitions, section 4.16.
+-- `last` says that the period is its stream's last.
 use Rattle.std.specs.Prelude.{◌≡◌, Bool, ℤ, pos, ◌-ℤ◌, ◌*ℤ◌, ◌≤ℤ◌, unsigned_abs}
 use Rattle.irs_terms.specs.declared.results.Frac.{Frac}
 use Rattle.irs_terms.specs.declared.codes.DayCountCode.{DayCountCode}
-use Rattle.irs_terms.specs.declared.codes.DayCountCode.TheVariants.{OneOne, ActActIsda, Act365Fixed, Act360, Thirty360, ThirtyE360, ThirtyE360Isda}
+use Rattle.irs_terms.specs.declared.codes.DayCountCode.TheVariants.{OneOne, ActActIsda, Act365Fixed, Act360, Thirty360}
+use Rattle.irs_terms.specs.declared.codes.DayCountCode.TheVariants.{ThirtyE360, ThirtyE360Isda}
 use Rattle.irs_daycount.specs.Actual.{ActAct, act_act_parts, act_act_denominator}
 use Rattle.irs_daycount.specs.Thirty.{date_of, bond_days, euro_days, isda_days}
 

@@ -9,7 +9,9 @@ use Rattle.irs_elements.specs.Dates.{day_at, is_text_of, named_day, pair_at, pla
 use Rattle.jiff_core.proofs.CalendarLemmas.{days_in_month_bounds}
 use Rattle.jiff_core.proofs.SignedLemmas.{signed_arith}
 use Rattle.jiff_core.specs.Calendar.{days_from_civil}
-use Rattle.std.proofs.Common.{◌≡◌, inl, inr, ℕ, ◌+◌, ◌-◌, ◌*◌, ◌/◌, ◌%◌, ◌<◌, Bool, true, false, ◌&&◌, ◌==◌, List, [], ◌∷◌, ◌++◌, length, take, ℤ, pos, ◌≤ℤ◌, int_le, slice_index, Option, Some, None, IfSome, IfNone, refl, sym, ap, ◌∙◌, subst, arith, true≢false, if◌then◌else◌}
+use Rattle.std.proofs.Common.{◌≡◌, inl, inr, ℕ, ◌+◌, ◌-◌, ◌*◌, ◌/◌, ◌%◌, ◌<◌, Bool, true, false, ◌&&◌, ◌==◌, List, []}
+use Rattle.std.proofs.Common.{◌∷◌, ◌++◌, length, take, ℤ, pos, ◌≤ℤ◌, int_le, slice_index, Option, Some, None, IfSome}
+use Rattle.std.proofs.Common.{IfNone, refl, sym, ap, ◌∙◌, subst, arith, true≢false, if◌then◌else◌}
 use Rattle.std.proofs.lemmas.Bool.Decides.{nat_tests}
 use Rattle.std.proofs.lemmas.Int.{ints}
 use Rattle.std.proofs.lemmas.List.{take_all, take_more}
@@ -29,7 +31,8 @@ named y m d a b c =
     let e : pair_at (date_text y m d) 0 ≡ y / 100 = two_of (y / 100) (omega arith) in
     let f : pair_at (date_text y m d) 2 ≡ y % 100 = two_of (y % 100) (omega arith) in
     let g : 100 * pair_at (date_text y m d) 0 + pair_at (date_text y m d) 2 ≡ y = omega (arith, e, f) in
-    same_days (100 * pair_at (date_text y m d) 0 + pair_at (date_text y m d) 2) y (pair_at (date_text y m d) 5) m (pair_at (date_text y m d) 8) d g (two_of m b) (two_of d c)
+    same_days (100 * pair_at (date_text y m d) 0 + pair_at (date_text y m d) 2) y (pair_at (date_text y m d) 5) m
+    (pair_at (date_text y m d) 8) d g (two_of m b) (two_of d c)
 
 -- the day of a text is the one that its digits name
 named_is : (s : List ℕ) (d : ℤ) → IsDay d → IsPlainDate s d → named_day s ≡ d
@@ -37,7 +40,8 @@ named_is s d day p =
     let range = year_range d (pos p.year) p.month p.day day p.has in
     let short = days_in_month_bounds (pos p.year) p.month in
     let has = p.has.0 in
-    ap named_day p.is ∙ named p.year p.month p.day (omega (arith, signed_arith, range)) (omega (arith, has)) (omega (arith, has, short)) ∙ sym p.has.1
+    ap named_day p.is ∙ named p.year p.month p.day (omega (arith, signed_arith, range)) (omega (arith, has))
+    (omega (arith, has, short)) ∙ sym p.has.1
 
 -- ---- the text of a day
 
@@ -47,12 +51,14 @@ year_same a b e = cc
 is_its_text : (s : List ℕ) (d : ℤ) → IsDay d → IsPlainDate s d → s ≡ day_text d
 unfolding day_text
 is_its_text s d day p =
-    let same = same_date d (pos p.year) p.month p.day (pos (year_of d)) (month_of d) (day_of_month d) p.has (date_of_day d day) in
+    let same = same_date d (pos p.year) p.month p.day (pos (year_of d)) (month_of d) (day_of_month d) p.has
+    (date_of_day d day) in
     p.is ∙ rw (year_same p.year (year_of d) same.0, same.1, same.2) refl
 
 its_text_is : (s : List ℕ) (d : ℤ) → IsDay d → s ≡ day_text d → IsPlainDate s d
 unfolding day_text
-its_text_is s d day e = record { year = year_of d; month = month_of d; day = day_of_month d; has = date_of_day d day; is = e }
+its_text_is s d day e =
+    record { year = year_of d; month = month_of d; day = day_of_month d; has = date_of_day d day; is = e }
 
 int_le_is : (a b : ℤ) → int_le a b ≡ true → a ≤ℤ b
 int_le_is a b e = grind (arith, ints)
@@ -68,14 +74,19 @@ to_day s d e =
     (day, its_text_is s d day ((bytes_eq-Decides s (day_text d)).0 b.1))
 
 from_day : (s : List ℕ) (d : ℤ) → IsDay d → IsPlainDate s d → is_text_of s d ≡ true
-from_day s d day p = true_both (int_le first_day d) (int_le d last_day && bytes_eq s (day_text d)) (is_int_le first_day d day.0) (true_both (int_le d last_day) (bytes_eq s (day_text d)) (is_int_le d last_day day.1) ((bytes_eq-Decides s (day_text d)).1 (is_its_text s d day p)))
+from_day s d day p =
+    true_both (int_le first_day d) (int_le d last_day && bytes_eq s (day_text d)) (is_int_le first_day d day.0)
+    (true_both (int_le d last_day) (bytes_eq s (day_text d)) (is_int_le d last_day day.1)
+    ((bytes_eq-Decides s (day_text d)).1 (is_its_text s d day p)))
 
 abbrev Plain : List ℕ → ℤ → Type 0
 Plain s d = IsDay d × IsPlainDate s d
 
-plain_tested : (s : List ℕ) (b : Bool) → is_text_of s (named_day s) ≡ b → Exact (Plain s) (if b then Some (named_day s) else None)
+plain_tested : (s : List ℕ) (b : Bool) → is_text_of s (named_day s) ≡ b
+    → Exact (Plain s) (if b then Some (named_day s) else None)
 plain_tested s true e = to_day s (named_day s) e
-plain_tested s false e = λ d p. true≢false (sym (from_day s d p.0 p.1) ∙ ap (is_text_of s) (sym (named_is s d p.0 p.1)) ∙ e)
+plain_tested s false e =
+    λ d p. true≢false (sym (from_day s d p.0 p.1) ∙ ap (is_text_of s) (sym (named_is s d p.0 p.1)) ∙ e)
 
 plain_exact : (s : List ℕ) → Exact (Plain s) (plain_day_at s)
 unfolding plain_day_at
@@ -93,7 +104,8 @@ z_left : (y m day : ℕ) (d : ℤ) → HasDate d (pos y) m day → IsPlainDate (
 z_left y m day d has = record { year = y; month = m; day = day; has = has; is = refl }
 
 dropped : (s : List ℕ) (d : ℤ) → IsDateText s d → IsPlainDate (without_z s) d
-dropped s d (inl p) = subst (λ (x : List ℕ). IsPlainDate (without_z x) d) (sym p.is) (plain_left p.year p.month p.day d p.has)
+dropped s d (inl p) =
+    subst (λ (x : List ℕ). IsPlainDate (without_z x) d) (sym p.is) (plain_left p.year p.month p.day d p.has)
 dropped s d (inr (front, e, p)) =
     let is : s ≡ date_text p.year p.month p.day ++ 90 ∷ [] = e ∙ ap (λ (x : List ℕ). x ++ 90 ∷ []) p.is in
     subst (λ (x : List ℕ). IsPlainDate (without_z x) d) (sym is) (z_left p.year p.month p.day d p.has)
@@ -108,7 +120,8 @@ ends_in_z s e =
     let last : slice_index s 10 ≡ 90 = is_number (slice_index s 10) 90 tests.1 in
     sym (take_all 11 s (omega arith)) ∙ take_more s 10 0 (omega arith) ∙ ap (λ (z : ℕ). take 10 s ++ z ∷ []) last
 
-kept_by : (s : List ℕ) (d : ℤ) (b : Bool) → ((length s == 11) && (slice_index s 10 == 90)) ≡ b → IsPlainDate (if b then take 10 s else s) d → IsDateText s d
+kept_by : (s : List ℕ) (d : ℤ) (b : Bool) → ((length s == 11) && (slice_index s 10 == 90)) ≡ b
+    → IsPlainDate (if b then take 10 s else s) d → IsDateText s d
 kept_by s d true e p = inr (take 10 s, ends_in_z s e, p)
 kept_by s d false e p = inl p
 
@@ -124,12 +137,15 @@ unfolding day_at
 day_exact s = dated_from s (plain_day_at (without_z s)) (plain_exact (without_z s))
 
 one_day : (s : List ℕ) (v w : ℤ) → Dated s v → Dated s w → v ≡ w
-one_day s v w p q = sym (named_is (without_z s) v p.0 (dropped s v p.1)) ∙ named_is (without_z s) w q.0 (dropped s w q.1)
+one_day s v w p q =
+    sym (named_is (without_z s) v p.0 (dropped s v p.1)) ∙ named_is (without_z s) w q.0 (dropped s w q.1)
 
-dated_of : (s : List ℕ) (r : Option ℤ) → IfSome r (λ d. IsDay d × IsDateText s d) → IfNone r ((d : ℤ) → IsDay d → IsDateText s d → ⊥) → Exact (Dated s) r
+dated_of : (s : List ℕ) (r : Option ℤ) → IfSome r (λ d. IsDay d × IsDateText s d)
+    → IfNone r ((d : ℤ) → IsDay d → IsDateText s d → ⊥) → Exact (Dated s) r
 dated_of s None some none = λ d p. none d p.0 p.1
 dated_of s (Some d) some none = some
 
 -- the text names the day that the function gives, and none where it gives none
-pub day_is : (s : List ℕ) (r : Option ℤ) → IfSome r (λ d. IsDay d × IsDateText s d) → IfNone r ((d : ℤ) → IsDay d → IsDateText s d → ⊥) → r ≡ day_at s
+pub day_is : (s : List ℕ) (r : Option ℤ) → IfSome r (λ d. IsDay d × IsDateText s d)
+    → IfNone r ((d : ℤ) → IsDay d → IsDateText s d → ⊥) → r ≡ day_at s
 day_is s r some none = exact_same (Dated s) (day_at s) r (one_day s) (day_exact s) (dated_of s r some none)

@@ -6,7 +6,8 @@ abbrev pub Exact : {A : Type 0} → (A → Type 0) → Option A → Type 0
 Exact {A} P None = (v : A) → P v → ⊥
 Exact P (Some v) = P v
 
-pub exact_same : {A : Type 0} (P : A → Type 0) (o r : Option A) → ((v w : A) → P v → P w → v ≡ w) → Exact P o → Exact P r → r ≡ o
+pub exact_same : {A : Type 0} (P : A → Type 0) (o r : Option A) → ((v w : A) → P v → P w → v ≡ w) → Exact P o
+    → Exact P r → r ≡ o
 exact_same P None None one p q = refl
 exact_same P None (Some w) one p q = absurd (p w q)
 exact_same P (Some v) None one p q = absurd (q v p)

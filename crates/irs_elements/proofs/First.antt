@@ -1,5 +1,6 @@
 -- The first of a set of faults.
-use Rattle.std.proofs.Common.{◌≡◌, ℕ, ◌<◌, ◌≤◌, ◌+◌, subst, Bool, true, false, true≢false, ◌⊎◌, inl, inr, Option, Some, None, refl, sym, ◌∙◌, arith}
+use Rattle.std.proofs.Common.{◌≡◌, ℕ, ◌<◌, ◌≤◌, ◌+◌, subst, Bool, true, false, true≢false, ◌⊎◌, inl, inr, Option, Some}
+use Rattle.std.proofs.Common.{None, refl, sym, ◌∙◌, arith}
 use Rattle.std.specs.Prelude.{if◌then◌else◌, ◌&&◌, ◌||◌, ◌==◌, nat_lt}
 use Rattle.std.proofs.lemmas.Bool.Decides.{nat_tests}
 use Rattle.std.proofs.Math.Nat.{eq-or-lt_of_le}
@@ -9,11 +10,13 @@ use Rattle.irs_base.proofs.FaultOrder.{broken_order}
 use Rattle.irs_base.proofs.Firsts.{first_or as either_first, first_same as same_first, first_one as alone_first}
 
 -- the earlier of the first of two sets is the first of both
-pub first_or : (P Q : Broken → Type 0) (a b : Option Broken) → IsFirst P a → IsFirst Q b → IsFirst (λ f. P f ⊎ Q f) (earlier a b)
+pub first_or : (P Q : Broken → Type 0) (a b : Option Broken) → IsFirst P a → IsFirst Q b
+    → IsFirst (λ f. P f ⊎ Q f) (earlier a b)
 first_or P Q a b p q = either_first is_before broken_order P Q a b p q
 
 -- two sets of the same faults have the same first
-pub first_same : (P Q : Broken → Type 0) (a : Option Broken) → ((f : Broken) → P f → Q f) → ((f : Broken) → Q f → P f) → IsFirst P a → IsFirst Q a
+pub first_same : (P Q : Broken → Type 0) (a : Option Broken) → ((f : Broken) → P f → Q f) → ((f : Broken) → Q f → P f)
+    → IsFirst P a → IsFirst Q a
 first_same P Q a to from p = same_first is_before P Q a to from p
 
 -- one fault alone
@@ -36,7 +39,8 @@ module _ (F : ℕ → Broken → Type 0) where
   joined n f (inl (c, (h, x))) = (c, (omega arith, x))
   joined n f (inr x) = (n, (omega arith, x))
 
-  pub first_more : (n : ℕ) (a b : Option Broken) → IsFirst (Below n) a → IsFirst (F n) b → IsFirst (Below (n + 1)) (earlier a b)
+  pub first_more : (n : ℕ) (a b : Option Broken) → IsFirst (Below n) a → IsFirst (F n) b
+      → IsFirst (Below (n + 1)) (earlier a b)
   first_more n a b p q = first_same _ _ _ (joined n) (split n) (first_or _ _ _ _ p q)
 
   widened : (n : ℕ) (f : Broken) → Below n f → Below (n + 1) f
@@ -45,7 +49,8 @@ module _ (F : ℕ → Broken → Type 0) where
   narrowed : (n : ℕ) → ((f : Broken) → F n f → ⊥) → (f : Broken) → Below (n + 1) f → Below n f
   narrowed n never f x = elim (split n f x) [ inl y ↦ y | inr y ↦ absurd (never f y) ]
 
-  pub first_skip : (n : ℕ) (a : Option Broken) → IsFirst (Below n) a → ((f : Broken) → F n f → ⊥) → IsFirst (Below (n + 1)) a
+  pub first_skip : (n : ℕ) (a : Option Broken) → IsFirst (Below n) a → ((f : Broken) → F n f → ⊥)
+      → IsFirst (Below (n + 1)) a
   first_skip n a p never = first_same _ _ _ (widened n) (narrowed n never) p
 
 -- the same answer

@@ -11,7 +11,9 @@ use Rattle.irs_elements.proofs.Exact.{Exact}
 use Rattle.irs_elements.specs.Decimals.{are_parts, before_point, behind_point}
 use Rattle.irs_elements.specs.Fractions.{IsFirstDigit, IsFraction, carried, fraction_at, fraction_of}
 use Rattle.jiff_core.proofs.SignedLemmas.{signed_arith}
-use Rattle.std.proofs.Common.{◌≡◌, ◌⊎◌, inl, inr, ℕ, zero, suc, ◌+◌, ◌-◌, ◌*◌, ◌^◌, ◌<◌, ◌≤◌, nat_le, Bool, true, false, true≢false, List, [], ◌∷◌, ◌++◌, length, take, drop, ℤ, pos, ◌<ℤ◌, Some, None, if◌then◌else◌, refl, sym, ap, ◌∙◌, subst, arith}
+use Rattle.std.proofs.Common.{◌≡◌, ◌⊎◌, inl, inr, ℕ, zero, suc, ◌+◌, ◌-◌, ◌*◌, ◌^◌, ◌<◌, ◌≤◌, nat_le, Bool, true, false}
+use Rattle.std.proofs.Common.{true≢false, List, [], ◌∷◌, ◌++◌, length, take, drop, ℤ, pos, ◌<ℤ◌, Some, None}
+use Rattle.std.proofs.Common.{if◌then◌else◌, refl, sym, ap, ◌∙◌, subst, arith}
 use Rattle.std.proofs.Math.Nat.{mul-le-mul_left, one-le-pow, pow-succ'}
 use Rattle.std.proofs.lemmas.Bool.Decides.{nat_tests}
 use Rattle.std.proofs.lemmas.List.{length-append, take-append-drop}
@@ -23,10 +25,12 @@ pub cut_once : (text w f x g : List ℕ) → IsCut text w f → IsCut text x g �
 cut_once text w f x g a b = elim a.is [
   | inl none ↦ elim b.is [
     | inl other ↦ (sym none.0 ∙ other.0, none.1 ∙ sym other.1)
-    | inr point ↦ absurd (with_a_point x g (subst (λ (t : List ℕ). has_no_point t ≡ true) (sym none.0 ∙ point) a.no_point))
+    | inr point ↦
+        absurd (with_a_point x g (subst (λ (t : List ℕ). has_no_point t ≡ true) (sym none.0 ∙ point) a.no_point))
   ]
   | inr point ↦ elim b.is [
-    | inl other ↦ absurd (with_a_point w f (subst (λ (t : List ℕ). has_no_point t ≡ true) (sym other.0 ∙ point) b.no_point))
+    | inl other ↦
+        absurd (with_a_point w f (subst (λ (t : List ℕ). has_no_point t ≡ true) (sym other.0 ∙ point) b.no_point))
     | inr second ↦ same_cut w x f g a.no_point b.no_point (sym point ∙ second)
   ]
 ]
@@ -48,7 +52,10 @@ shifted n x a r s t p q = omega (arith, p, q)
 
 apart : (n : ℕ) (ds : List ℕ) → number_after n ds ≡ n * 10 ^ length ds + number_of ds
 apart n [] = omega arith
-apart n (c ∷ cs) = rw (pow-succ' 10 (length cs)) (shifted n (c - 48) (10 ^ length cs) (number_of cs) _ _ (apart (10 * n + (c - 48)) cs) (apart (10 * 0 + (c - 48)) cs))
+apart n (c ∷ cs) =
+    rw (pow-succ' 10 (length cs))
+    (shifted n (c - 48) (10 ^ length cs) (number_of cs) _ _ (apart (10 * n + (c - 48)) cs)
+    (apart (10 * 0 + (c - 48)) cs))
 
 topped : (x a r t : ℕ) → x ≤ 9 → r < a → t ≡ (10 * 0 + x) * a + r → t < 10 * a
 topped x a r t h l e = let m : a * x ≤ a * 9 = mul-le-mul_left a h in omega (arith, m, e, l)
@@ -57,7 +64,8 @@ pub below_power : (ds : List ℕ) → AreDigits ds → number_of ds < 10 ^ lengt
 below_power [] h = omega arith
 below_power (c ∷ cs) h =
     let small : c - 48 ≤ 9 = omega (arith, h.1) in
-    rw (pow-succ' 10 (length cs)) (topped (c - 48) (10 ^ length cs) (number_of cs) _ small (below_power cs h.2) (apart (10 * 0 + (c - 48)) cs))
+    rw (pow-succ' 10 (length cs))
+    (topped (c - 48) (10 ^ length cs) (number_of cs) _ small (below_power cs h.2) (apart (10 * 0 + (c - 48)) cs))
 
 -- ---- a half is carried
 
@@ -74,7 +82,8 @@ high_half x a r n h k l e =
     let o : a * x ≤ a * 9 = mul-le-mul_left a k in
     (omega (arith, m, o, e, l), omega (arith, m, o, e, l))
 
-by_digit : (c a r n : ℕ) (b : Bool) → nat_le 53 c ≡ b → c ≤ 57 → r < a → n ≡ (10 * 0 + (c - 48)) * a + r → IsHalf n (10 * a) (if b then 1 else 0)
+by_digit : (c a r n : ℕ) (b : Bool) → nat_le 53 c ≡ b → c ≤ 57 → r < a → n ≡ (10 * 0 + (c - 48)) * a + r
+    → IsHalf n (10 * a) (if b then 1 else 0)
 by_digit c a r n true e h l k =
     let five : 53 ≤ c = grind (arith, nat_tests) in
     high_half (c - 48) a r n (omega (arith, five)) (omega (arith, h)) l k
@@ -85,7 +94,9 @@ by_digit c a r n false e h l k =
 half_carried : (ds : List ℕ) → AreDigits ds → IsHalf (number_of ds) (10 ^ length ds) (carried ds)
 half_carried [] h = (omega arith, omega arith)
 half_carried (c ∷ cs) h =
-    rw (pow-succ' 10 (length cs)) (by_digit c (10 ^ length cs) (number_of cs) _ (nat_le 53 c) refl h.1 (below_power cs h.2) (apart (10 * 0 + (c - 48)) cs))
+    rw (pow-succ' 10 (length cs))
+    (by_digit c (10 ^ length cs) (number_of cs) _ (nat_le 53 c) refl h.1 (below_power cs h.2)
+    (apart (10 * 0 + (c - 48)) cs))
 
 -- ---- the kept digits and what is carried are the value, rounded
 
@@ -101,22 +112,27 @@ digits_drop (suc n) [] h = h
 digits_drop (suc n) (c ∷ cs) h = digits_drop n cs h.2
 
 value_of : (w f : List ℕ) (p : ℕ) → AreDigits f
-    → Rounded Nearest (pos (number_of (w ++ f) * 10 ^ length (take p f))) (pos (10 ^ length f)) (pos (number_after (number_of w) (take p f) + carried (drop p f)))
+    → Rounded Nearest (pos (number_of (w ++ f) * 10 ^ length (take p f))) (pos (10 ^ length f))
+    (pos (number_after (number_of w) (take p f) + carried (drop p f)))
 value_of w f p h =
     let k = number_after (number_of w) (take p f) in
     let r = drop p f in
     let whole : number_of (w ++ f) ≡ k * 10 ^ length r + number_of r =
-    digits_behind 0 w f ∙ ap (number_after (number_of w)) (sym (take-append-drop p f)) ∙ digits_behind (number_of w) (take p f) r ∙ apart k r in
+    digits_behind 0 w f ∙ ap (number_after (number_of w)) (sym (take-append-drop p f))
+    ∙ digits_behind (number_of w) (take p f) r ∙ apart k r in
     let long : 10 ^ length f ≡ 10 ^ length (take p f) * 10 ^ length r =
-    ap (λ (l : List ℕ). 10 ^ length l) (sym (take-append-drop p f)) ∙ ap (λ (n : ℕ). 10 ^ n) (length-append (take p f) r) ∙ pow-add 10 (length (take p f)) (length r) in
-    rw (whole, long) (rounds k (number_of r) (carried r) (10 ^ length (take p f)) (10 ^ length r) (some_power (length (take p f))) (half_carried r (digits_drop p f h)))
+    ap (λ (l : List ℕ). 10 ^ length l) (sym (take-append-drop p f))
+    ∙ ap (λ (n : ℕ). 10 ^ n) (length-append (take p f) r) ∙ pow-add 10 (length (take p f)) (length r) in
+    rw (whole, long) (rounds k (number_of r) (carried r) (10 ^ length (take p f)) (10 ^ length r)
+    (some_power (length (take p f))) (half_carried r (digits_drop p f h)))
   where
     some_power : (k : ℕ) → 0 < 10 ^ k
     some_power k = let p = one-le-pow k 10 (omega arith) in omega (arith, p)
 
 -- ---- both sides
 
-stated : (s : List ℕ) (b : Bool) → are_parts (before_point s) (behind_point s) ≡ b → Exact (IsFraction s) (if b then Some (fraction_of (before_point s) (behind_point s)) else None)
+stated : (s : List ℕ) (b : Bool) → are_parts (before_point s) (behind_point s) ≡ b
+    → Exact (IsFraction s) (if b then Some (fraction_of (before_point s) (behind_point s)) else None)
 stated s true e =
     let parts = to_parts (before_point s) (behind_point s) e in
     record {
@@ -128,8 +144,19 @@ stated s true e =
       value = value_of (before_point s) (behind_point s) most_places parts.1;
     }
 stated s false e = λ v h.
-    not_parts s (before_point s) (behind_point s) (length h.fraction) (number_of (h.whole ++ h.fraction)) (cut_is s) (λ p. true≢false (sym (from_parts (before_point s) (behind_point s) p) ∙ e))
-    (record { whole = h.whole; fraction = h.fraction; whole_digits = h.parts.0; fraction_digits = h.parts.1; some = h.parts.2; short = h.parts.3; is = h.is; value = refl })
+    not_parts s (before_point s) (behind_point s) (length h.fraction) (number_of (h.whole ++ h.fraction)) (cut_is s)
+    (λ p. true≢false (sym (from_parts (before_point s) (behind_point s) p) ∙ e))
+    (record {
+      whole = h.whole;
+      fraction = h.fraction;
+      whole_digits = h.parts.0;
+      fraction_digits = h.parts.1;
+      some =
+          h.parts.2;
+      short = h.parts.3;
+      is = h.is;
+      value = refl;
+    })
 
 -- the text states the fraction that the function gives, and none where it gives none
 pub fraction_exact : (s : List ℕ) → Exact (IsFraction s) (fraction_at s)
@@ -142,7 +169,8 @@ exact_cut : (s w f : List ℕ) → AreParts w f → ((s ≡ w) × (f ≡ [])) �
 exact_cut s w f p is = record { no_point = no_point w p.0; is = is }
 
 same_dec : (v w : Dec) → v.places ≡ w.places → v.units ≡ w.units → v ≡ w
-same_dec v w p u = ap (λ (n : ℕ). record { units = v.units; places = n }) p ∙ ap (λ (z : ℤ). record { units = z; places = w.places }) u
+same_dec v w p u =
+    ap (λ (n : ℕ). record { units = v.units; places = n }) p ∙ ap (λ (z : ℤ). record { units = z; places = w.places }) u
 
 power_positive : (k : ℕ) → pos 0 <ℤ pos (10 ^ k)
 power_positive k = let p = one-le-pow k 10 (omega arith) in omega (arith, signed_arith, p)
@@ -152,15 +180,20 @@ abbrev IsValue : List ℕ → List ℕ → ℕ → ℤ → Type 0
 IsValue w f p u = Rounded Nearest (pos (number_of (w ++ f) * 10 ^ p)) (pos (10 ^ length f)) u
 
 same_value : (w f x g : List ℕ) (p q : ℕ) (u : ℤ) → w ≡ x → f ≡ g → p ≡ q → IsValue w f p u → IsValue x g q u
-same_value w f x g p q u a b c h = subst (λ (l : List ℕ). IsValue l g q u) a (subst (λ (l : List ℕ). IsValue w l q u) b (subst (λ (n : ℕ). IsValue w f n u) c h))
+same_value w f x g p q u a b c h =
+    subst (λ (l : List ℕ). IsValue l g q u) a
+    (subst (λ (l : List ℕ). IsValue w l q u) b (subst (λ (n : ℕ). IsValue w f n u) c h))
 
 -- a text states one fraction at most
 pub one_fraction : (s : List ℕ) (v w : Dec) → IsFraction s v → IsFraction s w → v ≡ w
 one_fraction s v w a b =
-    let cut = cut_once s a.whole a.fraction b.whole b.fraction (exact_cut s a.whole a.fraction a.parts a.is) (exact_cut s b.whole b.fraction b.parts b.is) in
-    let places : v.places ≡ w.places = a.places ∙ ap (λ (l : List ℕ). length (take most_places l)) cut.1 ∙ sym b.places in
+    let cut = cut_once s a.whole a.fraction b.whole b.fraction (exact_cut s a.whole a.fraction a.parts a.is)
+    (exact_cut s b.whole b.fraction b.parts b.is) in
+    let places : v.places ≡ w.places =
+    a.places ∙ ap (λ (l : List ℕ). length (take most_places l)) cut.1 ∙ sym b.places in
     let value = same_value a.whole a.fraction b.whole b.fraction v.places w.places v.units cut.0 cut.1 places a.value in
-    same_dec v w places (nearest_once (pos (number_of (b.whole ++ b.fraction) * 10 ^ w.places)) (pos (10 ^ length b.fraction)) v.units w.units (power_positive (length b.fraction)) value b.value)
+    same_dec v w places (nearest_once (pos (number_of (b.whole ++ b.fraction) * 10 ^ w.places))
+    (pos (10 ^ length b.fraction)) v.units w.units (power_positive (length b.fraction)) value b.value)
 
 -- ---- digit by digit
 
@@ -169,15 +202,18 @@ longer : (ds : List ℕ) (d : ℕ) (rest : List ℕ) → IsFirstDigit ds d rest 
 longer ds d rest h = ap (λ (l : List ℕ). 10 ^ length l) h.is ∙ pow-succ' 10 (length rest)
 
 -- what the digits behind the first make of m fits what all digits make of n
-pub behind_fits : (n : ℕ) (ds : List ℕ) (d : ℕ) (rest : List ℕ) (m : ℕ) → m ≡ 10 * n + d → IsFirstDigit ds d rest → (m + 1) * 10 ^ length rest ≤ (n + 1) * 10 ^ length ds
+pub behind_fits : (n : ℕ) (ds : List ℕ) (d : ℕ) (rest : List ℕ) (m : ℕ) → m ≡ 10 * n + d → IsFirstDigit ds d rest
+    → (m + 1) * 10 ^ length rest ≤ (n + 1) * 10 ^ length ds
 behind_fits n ds d rest m e h =
     let k : 10 ^ length rest * d ≤ 10 ^ length rest * 9 = mul-le-mul_left (10 ^ length rest) h.small in
     rw (e, longer ds d rest h) (omega (arith, k))
 
-pub spelled_behind : (n : ℕ) (ds : List ℕ) (d : ℕ) (rest : List ℕ) (m : ℕ) → m ≡ 10 * n + d → IsFirstDigit ds d rest → number_after m rest ≡ number_after n ds
+pub spelled_behind : (n : ℕ) (ds : List ℕ) (d : ℕ) (rest : List ℕ) (m : ℕ) → m ≡ 10 * n + d → IsFirstDigit ds d rest
+    → number_after m rest ≡ number_after n ds
 spelled_behind n ds d rest m e h =
     let same : 48 + d - 48 ≡ d = omega arith in
-    ap (λ (x : ℕ). number_after x rest) e ∙ ap (λ (x : ℕ). number_after (10 * n + x) rest) (sym same) ∙ ap (number_after n) (sym h.is)
+    ap (λ (x : ℕ). number_after x rest) e ∙ ap (λ (x : ℕ). number_after (10 * n + x) rest) (sym same)
+    ∙ ap (number_after n) (sym h.is)
 
 pub shorter : (ds : List ℕ) (d : ℕ) (rest : List ℕ) → IsFirstDigit ds d rest → length rest < length ds
 shorter ds d rest h = rw (h.is) (omega arith)
@@ -188,7 +224,8 @@ pub parts_of : (w f : List ℕ) (b : Bool) → b ≡ are_parts w f → b ≡ tru
 parts_of w f b e t = to_parts w f (sym e ∙ t)
 
 -- the fraction of the parts of a text is that of the text
-pub stated_is : (text w f : List ℕ) (b : Bool) → w ≡ before_point text → f ≡ behind_point text → b ≡ are_parts w f → (if b then Some (fraction_of w f) else None) ≡ fraction_at text
+pub stated_is : (text w f : List ℕ) (b : Bool) → w ≡ before_point text → f ≡ behind_point text → b ≡ are_parts w f
+    → (if b then Some (fraction_of w f) else None) ≡ fraction_at text
 unfolding fraction_at
 stated_is text w f b p q e =
     ap (λ (t : Bool). if t then Some (fraction_of w f) else None) e

@@ -1,5 +1,6 @@
 -- The first fault at each step of the walk.
-use Rattle.std.proofs.Common.{◌≡◌, ℕ, ◌+◌, ◌<◌, ◌≤◌, Bool, true, false, ◌⊎◌, inl, inr, List, length, map, Option, Some, None, is_none, option_map, refl, sym, ap, subst, ◌∙◌, arith}
+use Rattle.std.proofs.Common.{◌≡◌, ℕ, ◌+◌, ◌<◌, ◌≤◌, Bool, true, false, ◌⊎◌, inl, inr, List, length, map, Option, Some}
+use Rattle.std.proofs.Common.{None, is_none, option_map, refl, sym, ap, subst, ◌∙◌, arith}
 use Rattle.std.specs.Prelude.{slice_get}
 use Rattle.std.proofs.lemmas.Option.{slice_get_within, slice_get-map}
 use Rattle.std.specs.List.{list_any}
@@ -17,12 +18,17 @@ use Rattle.irs_elements.specs.declared.table.Choice.{Choice}
 use Rattle.irs_elements.specs.declared.walk.Unmet.{Unmet}
 use Rattle.irs_base.specs.declared.places.Rule.{Rule}
 use Rattle.irs_base.specs.declared.places.Rule.TheVariants.{K2, K3, K4, K5, K7}
-use Rattle.irs_elements.specs.Elements.{place, unmet_place, choice_unmet, is_chosen, fault_if, own_rule, name_at, is_unknown, is_element, is_refused, is_required, most, absent_index, index_in, IsMember, ShapeFault, unknown, unmet, odd, no_href, has_odd, lacks_href, FaultAt, own, shape, under, FaultUnder, missing, refused, too_many, inside, FaultAmong, MemberFault}
+use Rattle.irs_elements.specs.Elements.{place, unmet_place, choice_unmet, is_chosen, fault_if, own_rule, name_at}
+use Rattle.irs_elements.specs.Elements.{is_unknown, is_element, is_refused, is_required, most, absent_index, index_in}
+use Rattle.irs_elements.specs.Elements.{IsMember, ShapeFault, unknown, unmet, odd, no_href, has_odd, lacks_href}
+use Rattle.irs_elements.specs.Elements.{FaultAt, own, shape, under, FaultUnder, missing, refused, too_many, inside}
+use Rattle.irs_elements.specs.Elements.{FaultAmong, MemberFault}
 use Rattle.irs_elements.proofs.First.{first_or, first_same, first_one, first_is, first_more, first_skip, Below}
 use Rattle.irs_base.specs.Order.{earlier_broken, IsFirstBroken}
 
 -- the faults that an optional rule makes
-pub first_of_rule : {A : Type 0} (at : A → Broken) (o : Option A) → IsFirstBroken (λ f. (k : A) × ((o ≡ Some k) × (f ≡ at k))) (option_map at o)
+pub first_of_rule : {A : Type 0} (at : A → Broken) (o : Option A)
+    → IsFirstBroken (λ f. (k : A) × ((o ≡ Some k) × (f ≡ at k))) (option_map at o)
 first_of_rule at None = λ f (k, (e, is)). cc
 first_of_rule at (Some k) = first_one _ (at k) (k, (refl, refl)) (λ g (j, (e, is)). cc)
 
@@ -35,10 +41,12 @@ chosen_by None h = refl
 chosen_by (Some u) h = absurd (h u refl)
 
 -- a choice is kept where no way to fail it is there
-pub choice_kept : (names : List (List ℕ)) (ch : Choice) (d : Data) → ((u : Unmet) → choice_unmet names ch d ≡ Some u → ⊥) → is_chosen names ch d ≡ true
+pub choice_kept : (names : List (List ℕ)) (ch : Choice) (d : Data)
+    → ((u : Unmet) → choice_unmet names ch d ≡ Some u → ⊥) → is_chosen names ch d ≡ true
 choice_kept names ch d h = chosen_by (choice_unmet names ch d) h
 
-no_own : (ch : Choice) (d : Data) (ns : List (List ℕ)) (k : Rule) → names_of d ≡ Some ns → own_rule (Object ch) d ≡ Some k → ⊥
+no_own : (ch : Choice) (d : Data) (ns : List (List ℕ)) (k : Rule) → names_of d ≡ Some ns
+    → own_rule (Object ch) d ≡ Some k → ⊥
 no_own ch d ns k h e = let e' : own_rule (Object ch) d ≡ None = rw h refl in cc
 
 no_element : (k : Kind) → is_refused k ≡ true → is_element k ≡ false
@@ -50,64 +58,86 @@ no_element Refused h = refl
 module _ (rows : List Row) (names : List (List ℕ)) (stream : ℕ) where
   -- the four ways in which an object breaks a rule
   abbrev Ways : ℕ → ℕ → Choice → Data → List (List ℕ) → Broken → Type 0
-  Ways r i ch d ns f = (((list_any (is_unknown rows names r) ns ≡ true) × (f ≡ place rows stream K4 r i)) ⊎ ((u : Unmet) × ((choice_unmet names ch d ≡ Some u) × (f ≡ unmet_place rows stream r i u))))
-      ⊎ (((has_odd d ≡ true) × (f ≡ place rows stream K3 r i)) ⊎ ((lacks_href ch d ≡ true) × (f ≡ place rows stream K2 r i)))
+  Ways r i ch d ns f =
+      (((list_any (is_unknown rows names r) ns ≡ true) × (f ≡ place rows stream K4 r i))
+      ⊎ ((u : Unmet) × ((choice_unmet names ch d ≡ Some u) × (f ≡ unmet_place rows stream r i u))))
+      ⊎ (((has_odd d ≡ true) × (f ≡ place rows stream K3 r i))
+      ⊎ ((lacks_href ch d ≡ true) × (f ≡ place rows stream K2 r i)))
 
-  from_shape : (r i : ℕ) (ch : Choice) (d : Data) (ns : List (List ℕ)) → names_of d ≡ Some ns → (f : Broken) → ShapeFault rows names stream r ch i d f → Ways r i ch d ns f
+  from_shape : (r i : ℕ) (ch : Choice) (d : Data) (ns : List (List ℕ)) → names_of d ≡ Some ns → (f : Broken)
+      → ShapeFault rows names stream r ch i d f → Ways r i ch d ns f
   from_shape r i ch d ns h f (unknown _ _ _ _ ms e u) = let same : ms ≡ ns = cc in inl (inl (rw (sym same) u, refl))
   from_shape r i ch d ns h f (unmet _ _ u _ _ e) = inl (inr (u, (e, refl)))
   from_shape r i ch d ns h f (odd _ _ _ _ e) = inr (inl (e, refl))
   from_shape r i ch d ns h f (no_href _ _ _ _ e) = inr (inr (e, refl))
 
-  to_shape : (r i : ℕ) (ch : Choice) (d : Data) (ns : List (List ℕ)) → names_of d ≡ Some ns → (f : Broken) → Ways r i ch d ns f → ShapeFault rows names stream r ch i d f
+  to_shape : (r i : ℕ) (ch : Choice) (d : Data) (ns : List (List ℕ)) → names_of d ≡ Some ns → (f : Broken)
+      → Ways r i ch d ns f → ShapeFault rows names stream r ch i d f
   to_shape r i ch d ns h f (inl (inl (u, is))) = rw is (unknown r i ch d ns h u)
   to_shape r i ch d ns h f (inl (inr (u, (e, is)))) = rw is (unmet r i u ch d e)
   to_shape r i ch d ns h f (inr (inl (e, is))) = rw is (odd r i ch d e)
   to_shape r i ch d ns h f (inr (inr (e, is))) = rw is (no_href r i ch d e)
 
   abbrev pub shape_answer : ℕ → ℕ → Choice → Data → List (List ℕ) → Option Broken
-  shape_answer r i ch d ns = earlier_broken (earlier_broken (fault_if (list_any (is_unknown rows names r) ns) (place rows stream K4 r i)) (option_map (unmet_place rows stream r i) (choice_unmet names ch d)))
-      (earlier_broken (fault_if (has_odd d) (place rows stream K3 r i)) (fault_if (lacks_href ch d) (place rows stream K2 r i)))
+  shape_answer r i ch d ns =
+      earlier_broken (earlier_broken (fault_if (list_any (is_unknown rows names r) ns) (place rows stream K4 r i))
+      (option_map (unmet_place rows stream r i) (choice_unmet names ch d)))
+      (earlier_broken (fault_if (has_odd d) (place rows stream K3 r i))
+      (fault_if (lacks_href ch d) (place rows stream K2 r i)))
 
-  pub shape_first : (r i : ℕ) (ch : Choice) (d : Data) (ns : List (List ℕ)) → names_of d ≡ Some ns → IsFirstBroken (ShapeFault rows names stream r ch i d) (shape_answer r i ch d ns)
+  pub shape_first : (r i : ℕ) (ch : Choice) (d : Data) (ns : List (List ℕ)) → names_of d ≡ Some ns
+      → IsFirstBroken (ShapeFault rows names stream r ch i d) (shape_answer r i ch d ns)
   shape_first r i ch d ns h =
       first_same _ _ _ (to_shape r i ch d ns h) (from_shape r i ch d ns h)
       (first_or _ _ _ _
-      (first_or _ _ _ _ (first_if (place rows stream K4 r i) (list_any (is_unknown rows names r) ns)) (first_of_rule (unmet_place rows stream r i) (choice_unmet names ch d)))
-      (first_or _ _ _ _ (first_if (place rows stream K3 r i) (has_odd d)) (first_if (place rows stream K2 r i) (lacks_href ch d))))
+      (first_or _ _ _ _ (first_if (place rows stream K4 r i) (list_any (is_unknown rows names r) ns))
+      (first_of_rule (unmet_place rows stream r i) (choice_unmet names ch d)))
+      (first_or _ _ _ _ (first_if (place rows stream K3 r i) (has_odd d))
+      (first_if (place rows stream K2 r i) (lacks_href ch d))))
 
   -- ---- a value by itself
 
-  from_own : (r i : ℕ) (kind : Kind) (d : Data) → ((ch : Choice) → kind ≡ Object ch → names_of d ≡ None) → (f : Broken) → FaultAt rows names stream r kind i d f
+  from_own : (r i : ℕ) (kind : Kind) (d : Data) → ((ch : Choice) → kind ≡ Object ch → names_of d ≡ None) → (f : Broken)
+      → FaultAt rows names stream r kind i d f
       → (k : Rule) × ((own_rule kind d ≡ Some k) × (f ≡ place rows stream k r i))
   from_own r i kind d h f (own _ _ k _ _ e) = (k, (e, refl))
   from_own r i kind d h f (shape _ _ ch _ ns _ e s) = let e' = h ch refl in cc
   from_own r i kind d h f (under _ _ c ch _ ns _ row e m u) = let e' = h ch refl in cc
 
-  to_own : (r i : ℕ) (kind : Kind) (d : Data) (f : Broken) → (k : Rule) × ((own_rule kind d ≡ Some k) × (f ≡ place rows stream k r i)) → FaultAt rows names stream r kind i d f
+  to_own : (r i : ℕ) (kind : Kind) (d : Data) (f : Broken)
+      → (k : Rule) × ((own_rule kind d ≡ Some k) × (f ≡ place rows stream k r i))
+      → FaultAt rows names stream r kind i d f
   to_own r i kind d f (k, (e, is)) = rw is (own r i k kind d e)
 
   -- a value that is no object or is not to be one
   pub own_first : (r i : ℕ) (kind : Kind) (d : Data) → ((ch : Choice) → kind ≡ Object ch → names_of d ≡ None)
-      → IsFirstBroken (FaultAt rows names stream r kind i d) (option_map (λ k. place rows stream k r i) (own_rule kind d))
-  own_first r i kind d h = first_same _ _ _ (to_own r i kind d) (from_own r i kind d h) (first_of_rule (λ k. place rows stream k r i) (own_rule kind d))
+      → IsFirstBroken (FaultAt rows names stream r kind i d)
+      (option_map (λ k. place rows stream k r i) (own_rule kind d))
+  own_first r i kind d h =
+      first_same _ _ _ (to_own r i kind d) (from_own r i kind d h)
+      (first_of_rule (λ k. place rows stream k r i) (own_rule kind d))
 
   -- ---- an object
 
-  from_object : (r i : ℕ) (ch : Choice) (d : Data) (ns : List (List ℕ)) → names_of d ≡ Some ns → (f : Broken) → FaultAt rows names stream r (Object ch) i d f
+  from_object : (r i : ℕ) (ch : Choice) (d : Data) (ns : List (List ℕ)) → names_of d ≡ Some ns → (f : Broken)
+      → FaultAt rows names stream r (Object ch) i d f
       → ShapeFault rows names stream r ch i d f ⊎ MemberFault rows names stream r i d f
   from_object r i ch d ns h f (own _ _ k _ _ e) = absurd (no_own ch d ns k h e)
   from_object r i ch d ns h f (shape _ _ _ _ ms _ e s) = inl s
   from_object r i ch d ns h f (under _ _ c _ _ ms _ row e m u) = inr (c, (row, (m, u)))
 
   to_object : (r i : ℕ) (ch : Choice) (d : Data) (ns : List (List ℕ)) → names_of d ≡ Some ns → (f : Broken)
-      → ShapeFault rows names stream r ch i d f ⊎ MemberFault rows names stream r i d f → FaultAt rows names stream r (Object ch) i d f
+      → ShapeFault rows names stream r ch i d f ⊎ MemberFault rows names stream r i d f
+      → FaultAt rows names stream r (Object ch) i d f
   to_object r i ch d ns h f (inl s) = shape r i ch d ns f h s
   to_object r i ch d ns h f (inr (c, (row, (m, u)))) = under r i c ch d ns f row h m u
 
-  pub object_first : (r i : ℕ) (ch : Choice) (d : Data) (ns : List (List ℕ)) (a b : Option Broken) → names_of d ≡ Some ns
-      → IsFirstBroken (ShapeFault rows names stream r ch i d) a → IsFirstBroken (MemberFault rows names stream r i d) b → IsFirstBroken (FaultAt rows names stream r (Object ch) i d) (earlier_broken a b)
-  object_first r i ch d ns a b h p q = first_same _ _ _ (to_object r i ch d ns h) (from_object r i ch d ns h) (first_or _ _ _ _ p q)
+  pub object_first : (r i : ℕ) (ch : Choice) (d : Data) (ns : List (List ℕ)) (a b : Option Broken)
+      → names_of d ≡ Some ns
+      → IsFirstBroken (ShapeFault rows names stream r ch i d) a → IsFirstBroken (MemberFault rows names stream r i d) b
+      → IsFirstBroken (FaultAt rows names stream r (Object ch) i d) (earlier_broken a b)
+  object_first r i ch d ns a b h p q =
+      first_same _ _ _ (to_object r i ch d ns h) (from_object r i ch d ns h) (first_or _ _ _ _ p q)
 
   -- ---- the members of an object
 
@@ -115,115 +145,158 @@ module _ (rows : List Row) (names : List (List ℕ)) (stream : ℕ) where
   abbrev pub RowFault : ℕ → ℕ → Data → ℕ → Broken → Type 0
   RowFault r i d c f = (row : Row) × (IsMember rows names r c row × FaultUnder rows names stream c row i d f)
 
-  to_members : (r i : ℕ) (d : Data) (f : Broken) → Below (RowFault r i d) (length rows) f → MemberFault rows names stream r i d f
+  to_members : (r i : ℕ) (d : Data) (f : Broken) → Below (RowFault r i d) (length rows) f
+      → MemberFault rows names stream r i d f
   to_members r i d f (c, (h, (row, (m, u)))) = (c, (row, (m, u)))
 
-  from_members : (r i : ℕ) (d : Data) (f : Broken) → MemberFault rows names stream r i d f → Below (RowFault r i d) (length rows) f
+  from_members : (r i : ℕ) (d : Data) (f : Broken) → MemberFault rows names stream r i d f
+      → Below (RowFault r i d) (length rows) f
   from_members r i d f (c, (row, (m, u))) = (c, (slice_get_within rows c row m.found, (row, (m, u))))
 
-  pub members_first : (r i : ℕ) (d : Data) (a : Option Broken) → IsFirstBroken (Below (RowFault r i d) (length rows)) a → IsFirstBroken (MemberFault rows names stream r i d) a
+  pub members_first : (r i : ℕ) (d : Data) (a : Option Broken) → IsFirstBroken (Below (RowFault r i d) (length rows)) a
+      → IsFirstBroken (MemberFault rows names stream r i d) a
   members_first r i d a p = first_same _ _ _ (to_members r i d) (from_members r i d) p
 
   one_row : (c : ℕ) (row row' : Row) → slice_get rows c ≡ Some row → slice_get rows c ≡ Some row' → row ≡ row'
   one_row c row row' p q = cc
 
-  from_row : (r i c : ℕ) (d : Data) (row : Row) → IsMember rows names r c row → (f : Broken) → RowFault r i d c f → FaultUnder rows names stream c row i d f
-  from_row r i c d row m f (row', (m', u)) = subst (λ (x : Row). FaultUnder rows names stream c x i d f) (one_row c row' row m'.found m.found) u
+  from_row : (r i c : ℕ) (d : Data) (row : Row) → IsMember rows names r c row → (f : Broken) → RowFault r i d c f
+      → FaultUnder rows names stream c row i d f
+  from_row r i c d row m f (row', (m', u)) =
+      subst (λ (x : Row). FaultUnder rows names stream c x i d f) (one_row c row' row m'.found m.found) u
 
-  pub row_first : (r i c : ℕ) (d : Data) (row : Row) (a : Option Broken) → IsMember rows names r c row → IsFirstBroken (FaultUnder rows names stream c row i d) a → IsFirstBroken (RowFault r i d c) a
+  pub row_first : (r i c : ℕ) (d : Data) (row : Row) (a : Option Broken) → IsMember rows names r c row
+      → IsFirstBroken (FaultUnder rows names stream c row i d) a → IsFirstBroken (RowFault r i d c) a
   row_first r i c d row a m p = first_same _ _ _ (λ f u. (row, (m, u))) (from_row r i c d row m) p
 
   -- ---- a member
 
-  pub under_missing : (c i : ℕ) (row : Row) (d : Data) → is_element row.kind ≡ true → is_required row.count ≡ true → child_of (name_at names c) d ≡ None
-      → IsFirstBroken (FaultUnder rows names stream c row i d) (Some (place rows stream K2 c (absent_index row.count i)))
+  pub under_missing : (c i : ℕ) (row : Row) (d : Data) → is_element row.kind ≡ true → is_required row.count ≡ true
+      → child_of (name_at names c) d ≡ None
+      → IsFirstBroken (FaultUnder rows names stream c row i d)
+      (Some (place rows stream K2 c (absent_index row.count i)))
   under_missing c i row d el rq ab = first_one _ _ (missing c i row d el rq ab) (only c i row d ab)
     where
-      only : (c i : ℕ) (row : Row) (d : Data) → child_of (name_at names c) d ≡ None → (g : Broken) → FaultUnder rows names stream c row i d g → g ≡ place rows stream K2 c (absent_index row.count i)
+      only : (c i : ℕ) (row : Row) (d : Data) → child_of (name_at names c) d ≡ None → (g : Broken)
+          → FaultUnder rows names stream c row i d g → g ≡ place rows stream K2 c (absent_index row.count i)
       only c i row d ab g (missing _ _ _ _ el rq h) = refl
       only c i row d ab g (refused _ _ _ _ m rf h) = cc
       only c i row d ab g (too_many _ _ _ _ m el h t) = cc
       only c i row d ab g (inside _ _ j _ _ m x _ el h le at f) = cc
 
-  pub under_absent : (c i : ℕ) (row : Row) (d : Data) → ((is_element row.kind ≡ true) → is_required row.count ≡ true → ⊥) → child_of (name_at names c) d ≡ None
+  pub under_absent : (c i : ℕ) (row : Row) (d : Data)
+      → ((is_element row.kind ≡ true) → is_required row.count ≡ true → ⊥) → child_of (name_at names c) d ≡ None
       → IsFirstBroken (FaultUnder rows names stream c row i d) None
   under_absent c i row d free ab = none c i row d free ab
     where
-      none : (c i : ℕ) (row : Row) (d : Data) → ((is_element row.kind ≡ true) → is_required row.count ≡ true → ⊥) → child_of (name_at names c) d ≡ None → (g : Broken) → FaultUnder rows names stream c row i d g → ⊥
+      none : (c i : ℕ) (row : Row) (d : Data) → ((is_element row.kind ≡ true) → is_required row.count ≡ true → ⊥)
+          → child_of (name_at names c) d ≡ None → (g : Broken) → FaultUnder rows names stream c row i d g → ⊥
       none c i row d free ab g (missing _ _ _ _ el rq h) = free el rq
       none c i row d free ab g (refused _ _ _ _ m rf h) = cc
       none c i row d free ab g (too_many _ _ _ _ m el h t) = cc
       none c i row d free ab g (inside _ _ j _ _ m x _ el h le at f) = cc
 
-  pub under_refused : (c i : ℕ) (row : Row) (d m : Data) → is_refused row.kind ≡ true → child_of (name_at names c) d ≡ Some m
+  pub under_refused : (c i : ℕ) (row : Row) (d m : Data) → is_refused row.kind ≡ true
+      → child_of (name_at names c) d ≡ Some m
       → IsFirstBroken (FaultUnder rows names stream c row i d) (Some (place rows stream K5 row.parent i))
-  under_refused c i row d m rf h = first_one _ _ (refused c i row d m rf h) (only c i row d m (no_element row.kind rf) h)
+  under_refused c i row d m rf h =
+      first_one _ _ (refused c i row d m rf h) (only c i row d m (no_element row.kind rf) h)
     where
-      only : (c i : ℕ) (row : Row) (d m : Data) → is_element row.kind ≡ false → child_of (name_at names c) d ≡ Some m → (g : Broken) → FaultUnder rows names stream c row i d g → g ≡ place rows stream K5 row.parent i
+      only : (c i : ℕ) (row : Row) (d m : Data) → is_element row.kind ≡ false → child_of (name_at names c) d ≡ Some m
+          → (g : Broken) → FaultUnder rows names stream c row i d g → g ≡ place rows stream K5 row.parent i
       only c i row d m nel ab g (missing _ _ _ _ el rq h) = cc
       only c i row d m nel ab g (refused _ _ _ _ m' rf h) = refl
       only c i row d m nel ab g (too_many _ _ _ _ m' el h t) = cc
       only c i row d m nel ab g (inside _ _ j _ _ m' x _ el h le at f) = cc
 
-  pub under_passed : (c i : ℕ) (row : Row) (d : Data) → is_element row.kind ≡ false → is_refused row.kind ≡ false → IsFirstBroken (FaultUnder rows names stream c row i d) None
+  pub under_passed : (c i : ℕ) (row : Row) (d : Data) → is_element row.kind ≡ false → is_refused row.kind ≡ false
+      → IsFirstBroken (FaultUnder rows names stream c row i d) None
   under_passed c i row d nel nrf = none c i row d nel nrf
     where
-      none : (c i : ℕ) (row : Row) (d : Data) → is_element row.kind ≡ false → is_refused row.kind ≡ false → (g : Broken) → FaultUnder rows names stream c row i d g → ⊥
+      none : (c i : ℕ) (row : Row) (d : Data) → is_element row.kind ≡ false → is_refused row.kind ≡ false → (g : Broken)
+          → FaultUnder rows names stream c row i d g → ⊥
       none c i row d nel nrf g (missing _ _ _ _ el rq h) = cc
       none c i row d nel nrf g (refused _ _ _ _ m' rf h) = cc
       none c i row d nel nrf g (too_many _ _ _ _ m' el h t) = cc
       none c i row d nel nrf g (inside _ _ j _ _ m' x _ el h le at f) = cc
 
-  pub under_many : (c i : ℕ) (row : Row) (d m : Data) → is_element row.kind ≡ true → is_refused row.kind ≡ false → child_of (name_at names c) d ≡ Some m
-      → most row.count < length (items_of m) → IsFirstBroken (FaultUnder rows names stream c row i d) (Some (place rows stream K7 c 0))
+  pub under_many : (c i : ℕ) (row : Row) (d m : Data) → is_element row.kind ≡ true → is_refused row.kind ≡ false
+      → child_of (name_at names c) d ≡ Some m
+      → most row.count < length (items_of m)
+      → IsFirstBroken (FaultUnder rows names stream c row i d) (Some (place rows stream K7 c 0))
   under_many c i row d m el nrf h t = first_one _ _ (too_many c i row d m el h t) (only c i row d m nrf h t)
     where
-      only : (c i : ℕ) (row : Row) (d m : Data) → is_refused row.kind ≡ false → child_of (name_at names c) d ≡ Some m → most row.count < length (items_of m)
+      only : (c i : ℕ) (row : Row) (d m : Data) → is_refused row.kind ≡ false → child_of (name_at names c) d ≡ Some m
+          → most row.count < length (items_of m)
           → (g : Broken) → FaultUnder rows names stream c row i d g → g ≡ place rows stream K7 c 0
       only c i row d m nrf h t g (missing _ _ _ _ el rq h') = cc
       only c i row d m nrf h t g (refused _ _ _ _ m' rf h') = cc
       only c i row d m nrf h t g (too_many _ _ _ _ m' el h' t') = refl
-      only c i row d m nrf h t g (inside _ _ j _ _ m' x _ el h' le at f) = let same : m' ≡ m = cc in let le' : length (items_of m) ≤ most row.count = rw (sym same) le in absurd (omega arith)
+      only c i row d m nrf h t g (inside _ _ j _ _ m' x _ el h' le at f) = let same : m' ≡ m = cc in
+          let le' : length (items_of m) ≤ most row.count = rw (sym same) le in absurd (omega arith)
 
-  pub under_lawful : (c i : ℕ) (row : Row) (d m : Data) (a : Option Broken) → is_element row.kind ≡ true → is_refused row.kind ≡ false → child_of (name_at names c) d ≡ Some m
-      → length (items_of m) ≤ most row.count → IsFirstBroken (FaultAmong rows names stream c row.kind (index_in row.count i) (items_of m)) a → IsFirstBroken (FaultUnder rows names stream c row i d) a
-  under_lawful c i row d m a el nrf h le p = first_same _ _ a (λ f (j, (x, (at, f'))). inside c i j row d m x f el h le at f') (inner c i row d m nrf h le) p
+  pub under_lawful : (c i : ℕ) (row : Row) (d m : Data) (a : Option Broken) → is_element row.kind ≡ true
+      → is_refused row.kind ≡ false → child_of (name_at names c) d ≡ Some m
+      → length (items_of m) ≤ most row.count
+      → IsFirstBroken (FaultAmong rows names stream c row.kind (index_in row.count i) (items_of m)) a
+      → IsFirstBroken (FaultUnder rows names stream c row i d) a
+  under_lawful c i row d m a el nrf h le p =
+      first_same _ _ a (λ f (j, (x, (at, f'))). inside c i j row d m x f el h le at f') (inner c i row d m nrf h le) p
     where
-      inner : (c i : ℕ) (row : Row) (d m : Data) → is_refused row.kind ≡ false → child_of (name_at names c) d ≡ Some m → length (items_of m) ≤ most row.count
-          → (g : Broken) → FaultUnder rows names stream c row i d g → FaultAmong rows names stream c row.kind (index_in row.count i) (items_of m) g
+      inner : (c i : ℕ) (row : Row) (d m : Data) → is_refused row.kind ≡ false → child_of (name_at names c) d ≡ Some m
+          → length (items_of m) ≤ most row.count
+          → (g : Broken) → FaultUnder rows names stream c row i d g
+          → FaultAmong rows names stream c row.kind (index_in row.count i) (items_of m) g
       inner c i row d m nrf h le g (missing _ _ _ _ el rq h') = cc
       inner c i row d m nrf h le g (refused _ _ _ _ m' rf h') = cc
-      inner c i row d m nrf h le g (too_many _ _ _ _ m' el h' t') = let same : m' ≡ m = cc in let t : most row.count < length (items_of m) = rw (sym same) t' in absurd (omega arith)
-      inner c i row d m nrf h le g (inside _ _ j _ _ m' x _ el h' le' at f) = let same : items_of m' ≡ items_of m = cc in (j, (x, (rw (sym same) at, f)))
+      inner c i row d m nrf h le g (too_many _ _ _ _ m' el h' t') = let same : m' ≡ m = cc in
+          let t : most row.count < length (items_of m) = rw (sym same) t' in absurd (omega arith)
+      inner c i row d m nrf h le g (inside _ _ j _ _ m' x _ el h' le' at f) = let same : items_of m' ≡ items_of m =
+          cc in (j, (x, (rw (sym same) at, f)))
 
   -- ---- the values of a member
 
   abbrev pub ItemFault : ℕ → Kind → (ℕ → ℕ) → List Data → ℕ → Broken → Type 0
   ItemFault c kind at ds j f = (x : Data) × ((slice_get ds j ≡ Some x) × FaultAt rows names stream c kind (at j) x f)
 
-  pub among_first : (c : ℕ) (kind : Kind) (at : ℕ → ℕ) (ds : List Data) (a : Option Broken) → IsFirstBroken (Below (ItemFault c kind at ds) (length ds)) a → IsFirstBroken (FaultAmong rows names stream c kind at ds) a
-  among_first c kind at ds a p = first_same _ _ a (λ f (j, (h, (x, (e, f')))). (j, (x, (e, f')))) (λ f (j, (x, (e, f'))). (j, (slice_get_within ds j x e, (x, (e, f'))))) p
+  pub among_first : (c : ℕ) (kind : Kind) (at : ℕ → ℕ) (ds : List Data) (a : Option Broken)
+      → IsFirstBroken (Below (ItemFault c kind at ds) (length ds)) a
+      → IsFirstBroken (FaultAmong rows names stream c kind at ds) a
+  among_first c kind at ds a p =
+      first_same _ _ a (λ f (j, (h, (x, (e, f')))). (j, (x, (e, f'))))
+      (λ f (j, (x, (e, f'))). (j, (slice_get_within ds j x e, (x, (e, f'))))) p
 
-  pub item_first : (c : ℕ) (kind : Kind) (at : ℕ → ℕ) (j : ℕ) (ds : List Data) (x : Data) (a : Option Broken) → slice_get ds j ≡ Some x
+  pub item_first : (c : ℕ) (kind : Kind) (at : ℕ → ℕ) (j : ℕ) (ds : List Data) (x : Data) (a : Option Broken)
+      → slice_get ds j ≡ Some x
       → IsFirstBroken (FaultAt rows names stream c kind (at j) x) a → IsFirstBroken (ItemFault c kind at ds j) a
-  item_first c kind at j ds x a e p = first_same _ _ a (λ f f'. (x, (e, f'))) (λ f (y, (e', f')). let same : y ≡ x = cc in subst (λ (z : Data). FaultAt rows names stream c kind (at j) z f) same f') p
+  item_first c kind at j ds x a e p =
+      first_same _ _ a (λ f f'. (x, (e, f'))) (λ f (y, (e', f')). let same : y ≡ x = cc in
+      subst (λ (z : Data). FaultAt rows names stream c kind (at j) z f) same f') p
 
   -- ---- steps of the two loops
 
-  pub member_step : (r i c : ℕ) (d : Data) (row : Row) (a b s : Option Broken) → slice_get rows c ≡ Some row → row.parent ≡ r → r < c
-      → s ≡ earlier_broken a b → IsFirstBroken (Below (RowFault r i d) c) a → IsFirstBroken (FaultUnder rows names stream c row i d) b → IsFirstBroken (Below (RowFault r i d) (c + 1)) s
+  pub member_step : (r i c : ℕ) (d : Data) (row : Row) (a b s : Option Broken) → slice_get rows c ≡ Some row
+      → row.parent ≡ r → r < c
+      → s ≡ earlier_broken a b → IsFirstBroken (Below (RowFault r i d) c) a
+      → IsFirstBroken (FaultUnder rows names stream c row i d) b → IsFirstBroken (Below (RowFault r i d) (c + 1)) s
   member_step r i c d row a b s found up later e p q =
-      first_is _ _ s e (first_more (RowFault r i d) c a b p (row_first r i c d row b (record { found = found; parent = up; later = later }) q))
+      first_is _ _ s e (first_more (RowFault r i d) c a b p
+      (row_first r i c d row b (record { found = found; parent = up; later = later }) q))
 
-  pub other_step : (r i c : ℕ) (d : Data) (row : Row) (a s : Option Broken) → slice_get rows c ≡ Some row → (row.parent ≡ r → r < c → ⊥)
+  pub other_step : (r i c : ℕ) (d : Data) (row : Row) (a s : Option Broken) → slice_get rows c ≡ Some row
+      → (row.parent ≡ r → r < c → ⊥)
       → s ≡ a → IsFirstBroken (Below (RowFault r i d) c) a → IsFirstBroken (Below (RowFault r i d) (c + 1)) s
   other_step r i c d row a s found apart e p =
-      first_is _ _ s e (first_skip (RowFault r i d) c a p (λ f (row', (m, u)). let same : row' ≡ row = one_row c row' row m.found found in apart (rw (sym same) m.parent) m.later))
+      first_is _ _ s e (first_skip (RowFault r i d) c a p (λ f (row', (m, u)). let same : row' ≡ row =
+      one_row c row' row m.found found in apart (rw (sym same) m.parent) m.later))
 
-  pub item_step : (c : ℕ) (kind : Kind) (at : ℕ → ℕ) (j i : ℕ) (vs : List Value) (v : Value) (a b s : Option Broken) → slice_get vs j ≡ Some v → i ≡ at j
-      → s ≡ earlier_broken a b → IsFirstBroken (Below (ItemFault c kind at (map view vs)) j) a → IsFirstBroken (FaultAt rows names stream c kind i (view v)) b
+  pub item_step : (c : ℕ) (kind : Kind) (at : ℕ → ℕ) (j i : ℕ) (vs : List Value) (v : Value) (a b s : Option Broken)
+      → slice_get vs j ≡ Some v → i ≡ at j
+      → s ≡ earlier_broken a b → IsFirstBroken (Below (ItemFault c kind at (map view vs)) j) a
+      → IsFirstBroken (FaultAt rows names stream c kind i (view v)) b
       → IsFirstBroken (Below (ItemFault c kind at (map view vs)) (j + 1)) s
   item_step c kind at j i vs v a b s found place e p q =
       let seen : slice_get (map view vs) j ≡ Some (view v) = slice_get-map view vs j ∙ ap (option_map view) found in
       let q' : IsFirstBroken (FaultAt rows names stream c kind (at j) (view v)) b = rw (sym place) q in
-      first_is _ _ s e (first_more (ItemFault c kind at (map view vs)) j a b p (item_first c kind at j (map view vs) (view v) b seen q'))
+      first_is _ _ s e (first_more (ItemFault c kind at (map view vs)) j a b p
+      (item_first c kind at j (map view vs) (view v) b seen q'))

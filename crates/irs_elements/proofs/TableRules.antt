@@ -2,7 +2,8 @@
 use Rattle.irs_base.specs.declared.places.Broken.{Broken}
 use Rattle.irs_base.specs.declared.places.Rule.{Rule}
 use Rattle.irs_base.specs.declared.places.Rule.TheVariants.{K2, K3, K4, K5, K6, K7}
-use Rattle.irs_elements.specs.Elements.{FaultAt, FaultUnder, ShapeFault, inside, missing, no_href, odd, own, own_rule, refused, shape, too_many, under, unknown, unmet}
+use Rattle.irs_elements.specs.Elements.{FaultAt, FaultUnder, ShapeFault, inside, missing, no_href, odd, own, own_rule}
+use Rattle.irs_elements.specs.Elements.{refused, shape, too_many, under, unknown, unmet}
 use Rattle.irs_elements.specs.Leaves.{has_value, leaf_rule, out_of_profile, text_of, text_rule}
 use Rattle.irs_elements.specs.declared.table.Choice.{Choice}
 use Rattle.irs_elements.specs.declared.table.Kind.{Kind}
@@ -66,7 +67,8 @@ told o k e h = subst (λ (x : Option Rule). Told x) e h
 -- ---- those of a table
 
 module _ (rows : List Row) (names : List (List ℕ)) (stream : ℕ) where
-  of_shape : (r i : ℕ) (choice : Choice) (d : Data) (f : Broken) → ShapeFault rows names stream r choice i d f → IsOfTables f.rule
+  of_shape : (r i : ℕ) (choice : Choice) (d : Data) (f : Broken) → ShapeFault rows names stream r choice i d f
+      → IsOfTables f.rule
   of_shape r i choice d f (unknown _ _ _ _ ns e u) = tt
   of_shape r i choice d f (odd _ _ _ _ e) = tt
   of_shape r i choice d f (no_href _ _ _ _ e) = tt
@@ -74,12 +76,14 @@ module _ (rows : List Row) (names : List (List ℕ)) (stream : ℕ) where
   of_shape r i choice d f (unmet _ _ Neither _ _ e) = tt
 
   mutual
-    pub of_table : (r i : ℕ) (kind : Kind) (d : Data) (f : Broken) → FaultAt rows names stream r kind i d f → IsOfTables f.rule
+    pub of_table : (r i : ℕ) (kind : Kind) (d : Data) (f : Broken) → FaultAt rows names stream r kind i d f
+        → IsOfTables f.rule
     of_table r i kind d f (own _ _ k _ _ e) = told (own_rule kind d) k e (of_own kind d)
     of_table r i kind d f (shape _ _ choice _ ns _ e s) = of_shape r i choice d f s
     of_table r i kind d f (under _ _ c choice _ ns _ row e m u) = of_member c i row d f u
 
-    of_member : (c i : ℕ) (row : Row) (d : Data) (f : Broken) → FaultUnder rows names stream c row i d f → IsOfTables f.rule
+    of_member : (c i : ℕ) (row : Row) (d : Data) (f : Broken) → FaultUnder rows names stream c row i d f
+        → IsOfTables f.rule
     of_member c i row d f (missing _ _ _ _ el rq h) = tt
     of_member c i row d f (refused _ _ _ _ m el h) = tt
     of_member c i row d f (too_many _ _ _ _ m el h lt) = tt

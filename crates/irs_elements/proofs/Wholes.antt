@@ -6,7 +6,9 @@ use Rattle.irs_elements.proofs.FractionsAt.{below_power}
 use Rattle.irs_elements.specs.Decimals.{dec_at}
 use Rattle.irs_elements.specs.Numbers.{digits_of, has_no_point, is_whole, whole_at}
 use Rattle.jiff_core.proofs.SignedLemmas.{signed_arith}
-use Rattle.std.proofs.Common.{◌≡◌, ◌⊎◌, inl, inr, ℕ, ◌+◌, ◌*◌, ◌^◌, ◌<◌, ◌≤◌, nat_le, Bool, true, false, List, [], ◌∷◌, ◌++◌, length, ℤ, Option, Some, None, if◌then◌else◌, refl, sym, ap, ◌∙◌, subst, arith, unsigned_abs}
+use Rattle.std.proofs.Common.{◌≡◌, ◌⊎◌, inl, inr, ℕ, ◌+◌, ◌*◌, ◌^◌, ◌<◌, ◌≤◌, nat_le, Bool, true, false, List, [], ◌∷◌}
+use Rattle.std.proofs.Common.{◌++◌, length, ℤ, Option, Some, None, if◌then◌else◌, refl, sym, ap, ◌∙◌, subst, arith}
+use Rattle.std.proofs.Common.{unsigned_abs}
 use Rattle.std.proofs.Math.Nat.{mul-le-mul_left, one-le-pow, pow-le-pow_right}
 use Rattle.std.proofs.lemmas.Bool.Decides.{nat_tests}
 use Rattle.std.proofs.lemmas.List.{length-append}
@@ -29,9 +31,11 @@ digits_fit s w f (inr h) = let e = ap length h ∙ length-append w (46 ∷ f) in
 
 unsigned_small : (s : List ℕ) (v : ℕ) → IsUnsigned s 0 v → v < 10 ^ length s
 unsigned_small s v u =
-    let n : number_of (u.whole ++ u.fraction) < 10 ^ length (u.whole ++ u.fraction) = below_power (u.whole ++ u.fraction) (both_digits u.whole u.fraction u.whole_digits u.fraction_digits) in
+    let n : number_of (u.whole ++ u.fraction) < 10 ^ length (u.whole ++ u.fraction) =
+    below_power (u.whole ++ u.fraction) (both_digits u.whole u.fraction u.whole_digits u.fraction_digits) in
     let m = longer_power (length (u.whole ++ u.fraction)) (length s) (digits_fit s u.whole u.fraction u.is) in
-    at_most v (number_of (u.whole ++ u.fraction)) (10 ^ length u.fraction) (10 ^ length s) (one-le-pow (length u.fraction) 10 (omega arith)) u.value (omega (arith, n, m))
+    at_most v (number_of (u.whole ++ u.fraction)) (10 ^ length u.fraction) (10 ^ length s)
+    (one-le-pow (length u.fraction) 10 (omega arith)) u.value (omega (arith, n, m))
 
 dec_small : (s : List ℕ) (z : ℤ) → DecText s 0 z → unsigned_abs z < 10 ^ length s
 dec_small s z (bare _ _ v u) = unsigned_small s v u
@@ -58,7 +62,8 @@ one_more (c ∷ cs) = behind_sign c cs ((c == 43) || (c == 45))
 found : (s : List ℕ) (z : ℤ) (o : Option ℤ) → o ≡ dec_at 0 s → o ≡ Some z → DecText s 0 z
 found s z o e h = subst (λ (x : Option ℤ). Exact (DecText s 0) x) (sym e ∙ h) (dec_exact s 0)
 
-by_test : (s : List ℕ) (z : ℤ) (b : Bool) → is_whole s ≡ b → (if b then dec_at 0 s else None) ≡ Some z → unsigned_abs z < 10 ^ 10
+by_test : (s : List ℕ) (z : ℤ) (b : Bool) → is_whole s ≡ b → (if b then dec_at 0 s else None) ≡ Some z
+    → unsigned_abs z < 10 ^ 10
 by_test s z true e h =
     let n = dec_small s z (found s z (dec_at 0 s) refl h) in
     let l = nine (length (digits_of s)) (both_true (nat_le (length (digits_of s)) 9) (has_no_point s) e).0 in

@@ -5,9 +5,11 @@ use Rattle.irs_base.specs.declared.rounding.Direction.TheVariants.{Up, Down, Nea
 use Rattle.irs_terms.specs.declared.codes.CompCode.{CompCode}
 use Rattle.irs_terms.specs.declared.codes.CompCode.TheVariants.{Simple, Straight, Flat, SpreadExclusive}
 use Rattle.irs_terms.specs.declared.codes.ConvCode.{ConvCode}
-use Rattle.irs_terms.specs.declared.codes.ConvCode.TheVariants.{Following, ModFollowing, Preceding, ModPreceding, Nearest, Unadjusted}
+use Rattle.irs_terms.specs.declared.codes.ConvCode.TheVariants.{Following, ModFollowing, Preceding, ModPreceding}
+use Rattle.irs_terms.specs.declared.codes.ConvCode.TheVariants.{Nearest, Unadjusted}
 use Rattle.irs_terms.specs.declared.codes.DayCountCode.{DayCountCode}
-use Rattle.irs_terms.specs.declared.codes.DayCountCode.TheVariants.{OneOne, ActActIsda, Act365Fixed, Act360, Thirty360, ThirtyE360, ThirtyE360Isda}
+use Rattle.irs_terms.specs.declared.codes.DayCountCode.TheVariants.{OneOne, ActActIsda, Act365Fixed, Act360, Thirty360}
+use Rattle.irs_terms.specs.declared.codes.DayCountCode.TheVariants.{ThirtyE360, ThirtyE360Isda}
 use Rattle.irs_terms.specs.declared.codes.DayKind.{DayKind}
 use Rattle.irs_terms.specs.declared.codes.DayKind.TheVariants.{Business, Calendar}
 use Rattle.irs_terms.specs.declared.codes.Relative.{Relative}
@@ -20,7 +22,8 @@ use Rattle.irs_terms.specs.declared.codes.Treatment.{Treatment}
 use Rattle.irs_terms.specs.declared.codes.Treatment.TheVariants.{AsIs, ZeroFloor}
 use Rattle.irs_terms.specs.declared.frequency.Unit.{Unit as PeriodUnit}
 use Rattle.irs_terms.specs.declared.frequency.Unit.TheVariants.{D, W, M, Y, T}
-use Rattle.std.specs.Prelude.{ℕ, ◌+◌, ◌-◌, ◌*◌, nat_le, Bool, true, false, ◌&&◌, List, [], ◌∷◌, Option, Some, None, codes, if◌then◌else◌}
+use Rattle.std.specs.Prelude.{ℕ, ◌+◌, ◌-◌, ◌*◌, nat_le, Bool, true, false, ◌&&◌, List, [], ◌∷◌, Option, Some, None}
+use Rattle.std.specs.Prelude.{codes, if◌then◌else◌}
 use Rattle.std.specs.Str.{bytes_eq}
 
 -- the value that stands beside the text in a list of codes
@@ -34,7 +37,9 @@ truth_at = among ((codes "true", true) ∷ (codes "1", true) ∷ (codes "false",
 
 -- `businessDayConvention`
 abbrev pub convention_at : List ℕ → Option ConvCode
-convention_at = among ((codes "FOLLOWING", Following) ∷ (codes "MODFOLLOWING", ModFollowing) ∷ (codes "PRECEDING", Preceding) ∷ (codes "MODPRECEDING", ModPreceding) ∷ (codes "NEAREST", Nearest) ∷ (codes "NONE", Unadjusted) ∷ [])
+convention_at =
+    among ((codes "FOLLOWING", Following) ∷ (codes "MODFOLLOWING", ModFollowing) ∷ (codes "PRECEDING", Preceding)
+    ∷ (codes "MODPRECEDING", ModPreceding) ∷ (codes "NEAREST", Nearest) ∷ (codes "NONE", Unadjusted) ∷ [])
 
 -- `period` of a frequency
 abbrev pub unit_at : List ℕ → Option PeriodUnit
@@ -54,7 +59,9 @@ day_kind_at = among ((codes "Business", Business) ∷ (codes "Calendar", Calenda
 
 -- `stubPeriodType`
 abbrev pub stub_kind_at : List ℕ → Option StubKind
-stub_kind_at = among ((codes "ShortInitial", ShortInitial) ∷ (codes "LongInitial", LongInitial) ∷ (codes "ShortFinal", ShortFinal) ∷ (codes "LongFinal", LongFinal) ∷ [])
+stub_kind_at =
+    among ((codes "ShortInitial", ShortInitial) ∷ (codes "LongInitial", LongInitial) ∷ (codes "ShortFinal", ShortFinal)
+    ∷ (codes "LongFinal", LongFinal) ∷ [])
 
 -- `payRelativeTo` and `resetRelativeTo`
 abbrev pub relative_at : List ℕ → Option Relative
@@ -62,11 +69,16 @@ relative_at = among ((codes "CalculationPeriodStartDate", Start) ∷ (codes "Cal
 
 -- `dayCountFraction`
 abbrev pub day_count_at : List ℕ → Option DayCountCode
-day_count_at = among ((codes "1/1", OneOne) ∷ (codes "ACT/ACT.ISDA", ActActIsda) ∷ (codes "ACT/365.FIXED", Act365Fixed) ∷ (codes "ACT/360", Act360) ∷ (codes "30/360", Thirty360) ∷ (codes "30E/360", ThirtyE360) ∷ (codes "30E/360.ISDA", ThirtyE360Isda) ∷ [])
+day_count_at =
+    among ((codes "1/1", OneOne) ∷ (codes "ACT/ACT.ISDA", ActActIsda) ∷ (codes "ACT/365.FIXED", Act365Fixed)
+    ∷ (codes "ACT/360", Act360) ∷ (codes "30/360", Thirty360) ∷ (codes "30E/360", ThirtyE360)
+    ∷ (codes "30E/360.ISDA", ThirtyE360Isda) ∷ [])
 
 -- `compoundingMethod`
 abbrev pub compounding_at : List ℕ → Option CompCode
-compounding_at = among ((codes "None", Simple) ∷ (codes "Straight", Straight) ∷ (codes "Flat", Flat) ∷ (codes "SpreadExclusive", SpreadExclusive) ∷ [])
+compounding_at =
+    among ((codes "None", Simple) ∷ (codes "Straight", Straight) ∷ (codes "Flat", Flat)
+    ∷ (codes "SpreadExclusive", SpreadExclusive) ∷ [])
 
 -- `negativeInterestRateTreatment`
 abbrev pub treatment_at : List ℕ → Option Treatment
@@ -80,7 +92,10 @@ direction_at = among ((codes "Up", Up) ∷ (codes "Down", Down) ∷ (codes "Near
 
 -- the rolls that have a name
 abbrev pub named_roll_at : List ℕ → Option RollCode
-named_roll_at = among ((codes "EOM", Eom) ∷ (codes "IMM", Imm) ∷ (codes "NONE", NoRoll) ∷ (codes "MON", OnWeekday Mon) ∷ (codes "TUE", OnWeekday Tue) ∷ (codes "WED", OnWeekday Wed) ∷ (codes "THU", OnWeekday Thu) ∷ (codes "FRI", OnWeekday Fri) ∷ (codes "SAT", OnWeekday Sat) ∷ (codes "SUN", OnWeekday Sun) ∷ [])
+named_roll_at =
+    among ((codes "EOM", Eom) ∷ (codes "IMM", Imm) ∷ (codes "NONE", NoRoll) ∷ (codes "MON", OnWeekday Mon)
+    ∷ (codes "TUE", OnWeekday Tue) ∷ (codes "WED", OnWeekday Wed) ∷ (codes "THU", OnWeekday Thu)
+    ∷ (codes "FRI", OnWeekday Fri) ∷ (codes "SAT", OnWeekday Sat) ∷ (codes "SUN", OnWeekday Sun) ∷ [])
 
 -- a digit from 1 to 9
 abbrev pub is_first_digit : ℕ → Bool
@@ -94,7 +109,8 @@ day_number_at n = if nat_le n 30 then Some (Dom n) else None
 abbrev pub day_roll_at : List ℕ → Option RollCode
 day_roll_at [] = None
 day_roll_at (a ∷ []) = if is_first_digit a then Some (Dom (a - 48)) else None
-day_roll_at (a ∷ b ∷ []) = if is_first_digit a && nat_le 48 b && nat_le b 57 then day_number_at (10 * (a - 48) + (b - 48)) else None
+day_roll_at (a ∷ b ∷ []) =
+    if is_first_digit a && nat_le 48 b && nat_le b 57 then day_number_at (10 * (a - 48) + (b - 48)) else None
 day_roll_at (a ∷ b ∷ c ∷ rest) = None
 
 -- the first of two values that stands

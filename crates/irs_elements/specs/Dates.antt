@@ -2,7 +2,8 @@
 use Rattle.irs_base.specs.Days.{first_day, last_day}
 use Rattle.irs_base.specs.Texts.{day_text}
 use Rattle.jiff_core.specs.Calendar.{days_from_civil}
-use Rattle.std.specs.Prelude.{ℕ, ◌+◌, ◌-◌, ◌*◌, Bool, ◌&&◌, ◌==◌, List, length, take, slice_index, ℤ, pos, int_le, Option, Some, None, if◌then◌else◌}
+use Rattle.std.specs.Prelude.{ℕ, ◌+◌, ◌-◌, ◌*◌, Bool, ◌&&◌, ◌==◌, List, length, take, slice_index, ℤ, pos, int_le}
+use Rattle.std.specs.Prelude.{Option, Some, None, if◌then◌else◌}
 use Rattle.std.specs.Str.{bytes_eq}
 
 -- the number that the two digits from the place i on spell

@@ -1,7 +1,8 @@
 -- The number that the text of a decimal stands for, as a function of the text.
 use Rattle.irs_base.specs.Decimals.{is_digit, is_zero, number_after, number_of, padded}
 use Rattle.std.specs.List.{list_all}
-use Rattle.std.specs.Prelude.{ℕ, ◌+◌, nat_lt, nat_le, Bool, ◌&&◌, ◌==◌, List, [], ◌∷◌, length, drop, ℤ, pos, neg_ℤ, Option, Some, None, option_map, if◌then◌else◌}
+use Rattle.std.specs.Prelude.{ℕ, ◌+◌, nat_lt, nat_le, Bool, ◌&&◌, ◌==◌, List, [], ◌∷◌, length, drop, ℤ, pos, neg_ℤ}
+use Rattle.std.specs.Prelude.{Option, Some, None, option_map, if◌then◌else◌}
 
 -- what stands before the first point
 abbrev pub before_point : List ℕ → List ℕ
@@ -15,13 +16,21 @@ behind_point (c ∷ cs) = if c == 46 then cs else behind_point cs
 
 -- digits before and behind the point, some in all, and at most 18 before it
 abbrev pub are_parts : List ℕ → List ℕ → Bool
-are_parts whole fraction = list_all is_digit whole && (list_all is_digit fraction && (nat_lt 0 (length whole + length fraction) && nat_le (length whole) 18))
+are_parts whole fraction =
+    list_all is_digit whole
+    && (list_all is_digit fraction && (nat_lt 0 (length whole + length fraction) && nat_le (length whole) 18))
 
 -- in units of 10^-places; nothing but zeros stands past the places
 unfoldable pub unsigned_at : ℕ → List ℕ → Option ℕ
-unsigned_at places s = if are_parts (before_point s) (behind_point s) && list_all is_zero (drop places (behind_point s)) then Some (number_after (number_of (before_point s)) (padded places (behind_point s))) else None
+unsigned_at places s =
+    if are_parts (before_point s) (behind_point s)
+    && list_all is_zero (drop places (behind_point s)) then Some
+    (number_after (number_of (before_point s)) (padded places (behind_point s))) else None
 
 -- the same behind an optional sign
 unfoldable pub dec_at : ℕ → List ℕ → Option ℤ
 dec_at places [] = None
-dec_at places (c ∷ cs) = if c == 43 then option_map pos (unsigned_at places cs) else (if c == 45 then option_map (λ n. neg_ℤ (pos n)) (unsigned_at places cs) else option_map pos (unsigned_at places (c ∷ cs)))
+dec_at places (c ∷ cs) =
+    if c == 43 then option_map pos (unsigned_at places cs) else
+    (if c == 45 then option_map (λ n. neg_ℤ (pos n)) (unsigned_at places cs) else option_map pos
+    (unsigned_at places (c ∷ cs)))

@@ -21,7 +21,8 @@ use Rattle.serde_json.specs.Data.{Data}
 use Rattle.serde_json.specs.Find.{as_str}
 use Rattle.std.specs.Borrow.{Bor}
 use Rattle.std.specs.List.{list_any, enumerate_from}
-use Rattle.std.specs.Prelude.{map, ◌≡◌, ℕ, Bool, true, false, not, ◌&&◌, ◌||◌, ◌==◌, ◌<◌, ◌≤◌, ◌+◌, List, [], length, Option, Some, None, is_some, is_none, slice_get, codes, if◌then◌else◌, nat_lt}
+use Rattle.std.specs.Prelude.{map, ◌≡◌, ℕ, Bool, true, false, not, ◌&&◌, ◌||◌, ◌==◌, ◌<◌, ◌≤◌, ◌+◌, List, [], length}
+use Rattle.std.specs.Prelude.{Option, Some, None, is_some, is_none, slice_get, codes, if◌then◌else◌, nat_lt}
 use Rattle.std.specs.Str.{bytes_eq}
 
 -- ---- counts
@@ -112,7 +113,8 @@ elem_at rows r = elem_in (slice_get rows r)
 
 -- a rule that is broken at row r
 abbrev pub place : List Row → ℕ → Rule → ℕ → ℕ → Broken
-place rows stream rule r index = record { rule = rule; place = record { stream = stream; elem = elem_at rows r; index = index } }
+place rows stream rule r index =
+    record { rule = rule; place = record { stream = stream; elem = elem_at rows r; index = index } }
 
 -- a broken rule, where the test is true
 abbrev pub fault_if : Bool → Broken → Option Broken
@@ -148,7 +150,8 @@ module _ (names : List (List ℕ)) where
   choice_unmet Free d = None
   choice_unmet Reference d = None
   choice_unmet (AtMostOne a b) d = if stands a d && stands b d then Some Both else None
-  choice_unmet (ExactlyOne a b) d = if stands a d && stands b d then Some Both else (if stands a d || stands b d then None else Some Neither)
+  choice_unmet (ExactlyOne a b) d =
+      if stands a d && stands b d then Some Both else (if stands a d || stands b d then None else Some Neither)
 
   -- whether the choice of an object is kept
   abbrev pub is_chosen : Choice → Data → Bool
@@ -157,7 +160,8 @@ module _ (names : List (List ℕ)) where
 module _ (rows : List Row) (names : List (List ℕ)) where
   -- whether a row below the object at row r has the name
   abbrev pub is_known : ℕ → List ℕ → Bool
-  is_known r name = list_any (λ (c, row). nat_lt r c && row.parent == r && bytes_eq (name_at names c) name) (enumerate_from 0 rows)
+  is_known r name =
+      list_any (λ (c, row). nat_lt r c && row.parent == r && bytes_eq (name_at names c) name) (enumerate_from 0 rows)
 
   -- a name that is no attribute's and stands in no row
   abbrev pub is_unknown : ℕ → List ℕ → Bool
@@ -173,12 +177,14 @@ module _ (rows : List Row) (names : List (List ℕ)) (stream : ℕ) where
   -- the rules that an object breaks beside those of its members
   pub data ShapeFault : ℕ → Choice → ℕ → Data → Broken → Type 0 where
     -- it has a member that the table doesn't know
-    unknown : (r i : ℕ) (choice : Choice) (d : Data) (ns : List (List ℕ)) → names_of d ≡ Some ns → list_any (is_unknown rows names r) ns ≡ true
+    unknown : (r i : ℕ) (choice : Choice) (d : Data) (ns : List (List ℕ)) → names_of d ≡ Some ns
+        → list_any (is_unknown rows names r) ns ≡ true
         → ShapeFault r choice i d (place rows stream K4 r i)
     -- `@id` or `@href` is no text
     odd : (r i : ℕ) (choice : Choice) (d : Data) → has_odd d ≡ true → ShapeFault r choice i d (place rows stream K3 r i)
     -- it is a reference without `@href`
-    no_href : (r i : ℕ) (choice : Choice) (d : Data) → lacks_href choice d ≡ true → ShapeFault r choice i d (place rows stream K2 r i)
+    no_href : (r i : ℕ) (choice : Choice) (d : Data) → lacks_href choice d ≡ true
+        → ShapeFault r choice i d (place rows stream K2 r i)
     -- both or neither of two members stand
     unmet : (r i : ℕ) (u : Unmet) (choice : Choice) (d : Data) → choice_unmet names choice d ≡ Some u
         → ShapeFault r choice i d (unmet_place rows stream r i u)
@@ -187,18 +193,22 @@ module _ (rows : List Row) (names : List (List ℕ)) (stream : ℕ) where
     -- the rules that a value breaks which stands at row r with index i
     pub data FaultAt : ℕ → Kind → ℕ → Data → Broken → Type 0 where
       -- by itself
-      own : (r i : ℕ) (k : Rule) (kind : Kind) (d : Data) → own_rule kind d ≡ Some k → FaultAt r kind i d (place rows stream k r i)
+      own : (r i : ℕ) (k : Rule) (kind : Kind) (d : Data) → own_rule kind d ≡ Some k
+          → FaultAt r kind i d (place rows stream k r i)
       -- as an object
-      shape : (r i : ℕ) (choice : Choice) (d : Data) (ns : List (List ℕ)) (f : Broken) → names_of d ≡ Some ns → ShapeFault r choice i d f
+      shape : (r i : ℕ) (choice : Choice) (d : Data) (ns : List (List ℕ)) (f : Broken) → names_of d ≡ Some ns
+          → ShapeFault r choice i d f
           → FaultAt r (Object choice) i d f
       -- by a member
-      under : (r i c : ℕ) (choice : Choice) (d : Data) (ns : List (List ℕ)) (f : Broken) (row : Row) → names_of d ≡ Some ns
+      under : (r i c : ℕ) (choice : Choice) (d : Data) (ns : List (List ℕ)) (f : Broken) (row : Row)
+          → names_of d ≡ Some ns
           → IsMember rows names r c row → FaultUnder c row i d f → FaultAt r (Object choice) i d f
 
     -- those of the member at row c of the object d, which has index i
     pub data FaultUnder : ℕ → Row → ℕ → Data → Broken → Type 0 where
       -- it must stand, and is absent
-      missing : (c i : ℕ) (row : Row) (d : Data) → is_element row.kind ≡ true → is_required row.count ≡ true → child_of (name_at names c) d ≡ None
+      missing : (c i : ℕ) (row : Row) (d : Data) → is_element row.kind ≡ true → is_required row.count ≡ true
+          → child_of (name_at names c) d ≡ None
           → FaultUnder c row i d (place rows stream K2 c (absent_index row.count i))
       -- it is out of the profile, and stands
       refused : (c i : ℕ) (row : Row) (d m : Data) → is_refused row.kind ≡ true → child_of (name_at names c) d ≡ Some m
@@ -207,8 +217,10 @@ module _ (rows : List Row) (names : List (List ℕ)) (stream : ℕ) where
       too_many : (c i : ℕ) (row : Row) (d m : Data) → is_element row.kind ≡ true → child_of (name_at names c) d ≡ Some m
           → most row.count < length (items_of m) → FaultUnder c row i d (place rows stream K7 c 0)
       -- it stands as often as it may, and a rule is broken in what stands there
-      inside : (c i j : ℕ) (row : Row) (d m x : Data) (f : Broken) → is_element row.kind ≡ true → child_of (name_at names c) d ≡ Some m
-          → length (items_of m) ≤ most row.count → slice_get (items_of m) j ≡ Some x → FaultAt c row.kind (index_in row.count i j) x f
+      inside : (c i j : ℕ) (row : Row) (d m x : Data) (f : Broken) → is_element row.kind ≡ true
+          → child_of (name_at names c) d ≡ Some m
+          → length (items_of m) ≤ most row.count → slice_get (items_of m) j ≡ Some x
+          → FaultAt c row.kind (index_in row.count i j) x f
           → FaultUnder c row i d f
 
   -- those of the values ds of the member at row c, of which the j-th has the index at j

@@ -5,7 +5,8 @@ use Rattle.irs_base.specs.Texts.{most_places}
 use Rattle.irs_base.specs.declared.line.Dec.{Dec}
 use Rattle.irs_base.specs.declared.rounding.Direction.TheVariants.{Nearest}
 use Rattle.irs_elements.specs.Decimals.{are_parts, before_point, behind_point}
-use Rattle.std.specs.Prelude.{◌≡◌, ◌⊎◌, ℕ, ◌+◌, ◌*◌, ◌^◌, ◌≤◌, nat_le, List, [], ◌∷◌, ◌++◌, length, take, drop, pos, Option, Some, None, if◌then◌else◌}
+use Rattle.std.specs.Prelude.{◌≡◌, ◌⊎◌, ℕ, ◌+◌, ◌*◌, ◌^◌, ◌≤◌, nat_le, List, [], ◌∷◌, ◌++◌, length, take, drop, pos}
+use Rattle.std.specs.Prelude.{Option, Some, None, if◌then◌else◌}
 
 -- The text is digits with at most one point, at least one digit, at most 18 before the point. v has as
 -- many places as the text has decimals, at most 12, and is the value, rounded Nearest where the text
@@ -40,4 +41,5 @@ fraction_of whole fraction = record {
 
 -- the fraction of a text, with its decimals
 unfoldable pub fraction_at : List ℕ → Option Dec
-fraction_at s = if are_parts (before_point s) (behind_point s) then Some (fraction_of (before_point s) (behind_point s)) else None
+fraction_at s =
+    if are_parts (before_point s) (behind_point s) then Some (fraction_of (before_point s) (behind_point s)) else None

@@ -1,13 +1,21 @@
 -- What the text of a leaf says, and the rule that it breaks where it says nothing.
 use Rattle.irs_base.specs.declared.places.Rule.{Rule}
 use Rattle.irs_base.specs.declared.places.Rule.TheVariants.{K3, K5, K6}
-use Rattle.irs_elements.specs.Codes.{compounding_at, convention_at, day_count_at, day_kind_at, direction_at, offset_unit_at, relative_at, roll_at, stub_kind_at, tenor_unit_at, treatment_at, truth_at, unit_at}
+use Rattle.irs_elements.specs.Codes.{compounding_at, convention_at, day_count_at, day_kind_at, direction_at}
+use Rattle.irs_elements.specs.Codes.{offset_unit_at, relative_at, roll_at, stub_kind_at, tenor_unit_at, treatment_at}
+use Rattle.irs_elements.specs.Codes.{truth_at, unit_at}
 use Rattle.irs_elements.specs.Dates.{day_at}
 use Rattle.irs_elements.specs.Fractions.{fraction_at}
-use Rattle.irs_elements.specs.Numbers.{amount_at, multiplier_at, notional_at, offset_at, precision_at, rate_at, whole_at}
+use Rattle.irs_elements.specs.Numbers.{amount_at, multiplier_at, notional_at, offset_at, precision_at, rate_at}
+use Rattle.irs_elements.specs.Numbers.{whole_at}
 use Rattle.irs_elements.specs.Words.{currency_at, is_center_name, is_index_name}
 use Rattle.irs_elements.specs.declared.table.Leaf.{Leaf as LeafKind}
-use Rattle.irs_elements.specs.declared.table.Leaf.TheVariants.{Date, Multiplier, OffsetDays, Precision, Whole, Notional, Rate, Amount, Fraction, Truth, CenterName, IndexName, CurrencyName, Convention, PeriodUnit, TenorUnit, OffsetUnit, DayType, StubType, Roll, PayRelative, ResetRelative, DayCount, Compounding, Treatment, Direction}
+use Rattle.irs_elements.specs.declared.table.Leaf.TheVariants.{Date, Multiplier, OffsetDays, Precision, Whole, Notional}
+use Rattle.irs_elements.specs.declared.table.Leaf.TheVariants.{Rate, Amount, Fraction, Truth, CenterName, IndexName}
+use Rattle.irs_elements.specs.declared.table.Leaf.TheVariants.{CurrencyName, Convention, PeriodUnit, TenorUnit}
+use Rattle.irs_elements.specs.declared.table.Leaf.TheVariants.{OffsetUnit, DayType, StubType, Roll, PayRelative}
+use Rattle.irs_elements.specs.declared.table.Leaf.TheVariants.{ResetRelative, DayCount, Compounding, Treatment}
+use Rattle.irs_elements.specs.declared.table.Leaf.TheVariants.{Direction}
 use Rattle.irs_json.specs.Leaves.{Leaf, word, whole, truth}
 use Rattle.std.specs.Fmt.{signed_decimal}
 use Rattle.std.specs.List.{list_any}
@@ -73,14 +81,16 @@ out_of_profile StubType = []
 out_of_profile Roll = codes "FRN" ∷ codes "IMMCAD" ∷ codes "IMMAUD" ∷ codes "IMMNZD" ∷ codes "SFE" ∷ codes "TBILL" ∷ []
 out_of_profile PayRelative = codes "ResetDate" ∷ codes "LastPricingDate" ∷ codes "ValuationDate" ∷ []
 out_of_profile ResetRelative = []
-out_of_profile DayCount = codes "ACT/ACT.ICMA" ∷ codes "ACT/ACT.ISMA" ∷ codes "ACT/ACT.AFB" ∷ codes "ACT/365L" ∷ codes "BUS/252" ∷ []
+out_of_profile DayCount =
+    codes "ACT/ACT.ICMA" ∷ codes "ACT/ACT.ISMA" ∷ codes "ACT/ACT.AFB" ∷ codes "ACT/365L" ∷ codes "BUS/252" ∷ []
 out_of_profile Compounding = []
 out_of_profile Treatment = []
 out_of_profile Direction = []
 
 -- a text without a value is out of the profile or outside its grammar
 unfoldable pub text_rule : LeafKind → List ℕ → Option Rule
-text_rule kind s = if has_value kind s then None else (if list_any (bytes_eq s) (out_of_profile kind) then Some K5 else Some K6)
+text_rule kind s =
+    if has_value kind s then None else (if list_any (bytes_eq s) (out_of_profile kind) then Some K5 else Some K6)
 
 -- the rule that a value breaks at a leaf
 abbrev pub leaf_rule : LeafKind → Option Leaf → Option Rule

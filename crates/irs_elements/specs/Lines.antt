@@ -7,7 +7,8 @@ use Rattle.irs_elements.specs.declared.table.Kind.{Kind}
 use Rattle.irs_elements.specs.declared.table.Kind.TheVariants.{Object, Leaf, Passed, Refused}
 use Rattle.irs_elements.specs.declared.table.Leaf.{Leaf as LeafKind}
 use Rattle.irs_elements.specs.declared.table.Row.{Row}
-use Rattle.std.specs.Prelude.{ℕ, ◌+◌, ◌-◌, true, false, ◌==◌, List, [], ◌∷◌, ◌++◌, length, map, take, codes, if◌then◌else◌}
+use Rattle.std.specs.Prelude.{ℕ, ◌+◌, ◌-◌, true, false, ◌==◌, List, [], ◌∷◌, ◌++◌, length, map, take, codes}
+use Rattle.std.specs.Prelude.{if◌then◌else◌}
 use Rattle.std.specs.Str.{bytes_eq}
 
 -- ---- what a table says
@@ -103,12 +104,25 @@ module _ (places rows : List (List ℕ)) where
   kind_of path (leaf k) = Leaf k
 
   abbrev pub row_of : Line → Row
-  row_of l = record { parent = place_of rows l.above; place = place_of places l.path; kind = kind_of l.path l.form; count = l.often }
+  row_of l = record {
+    parent = place_of rows l.above;
+    place = place_of places l.path;
+    kind =
+        kind_of l.path l.form;
+    count = l.often;
+  }
 
   -- the rows of members that are no elements have the place of the whole
   abbrev pub other_rows : ℕ → Kind → List Others → List Row
   other_rows place kind [] = []
-  other_rows place kind (o ∷ os) = map (λ (name : String). record { parent = place_of rows (codes o.above); place = place; kind = kind; count = Maybe }) o.names ++ other_rows place kind os
+  other_rows place kind (o ∷ os) =
+      map (λ (name : String). record {
+        parent = place_of rows (codes o.above);
+        place = place;
+        kind = kind;
+        count =
+            Maybe;
+      }) o.names ++ other_rows place kind os
 
 -- the names of members that are passed over or out of profile
 abbrev pub other_names : List Others → List (List ℕ)
@@ -124,8 +138,11 @@ abbrev pub rows_of : List (List ℕ) → Table → List Row
 rows_of places t =
     let whole : ℕ = place_of places (codes t.whole) in
     let rows : List (List ℕ) = row_paths t in
-    first_row whole ∷ map (row_of places rows) t.lines ++ other_rows places rows whole Passed t.passed ++ other_rows places rows whole Refused t.refused
+    first_row whole ∷ map (row_of places rows) t.lines ++ other_rows places rows whole Passed t.passed
+    ++ other_rows places rows whole Refused t.refused
 
 -- and their names
 abbrev pub names_of : Table → List (List ℕ)
-names_of t = last_name (codes t.whole) ∷ map (λ (l : Line). last_name l.path) t.lines ++ other_names t.passed ++ other_names t.refused
+names_of t =
+    last_name (codes t.whole) ∷ map (λ (l : Line). last_name l.path) t.lines ++ other_names t.passed
+    ++ other_names t.refused

@@ -2,7 +2,8 @@
 use Rattle.irs_elements.specs.Decimals.{dec_at}
 use Rattle.irs_base.specs.Limits.{most_multiplier, most_notional, most_offset, most_rate}
 use Rattle.std.specs.List.{list_all}
-use Rattle.std.specs.Prelude.{ℕ, nat_le, Bool, not, ◌&&◌, ◌||◌, ◌==◌, List, [], ◌∷◌, length, ℤ, pos, neg_ℤ, unsigned_abs, int_le, Option, Some, None, option_map, if◌then◌else◌}
+use Rattle.std.specs.Prelude.{ℕ, nat_le, Bool, not, ◌&&◌, ◌||◌, ◌==◌, List, [], ◌∷◌, length, ℤ, pos, neg_ℤ}
+use Rattle.std.specs.Prelude.{unsigned_abs, int_le, Option, Some, None, option_map, if◌then◌else◌}
 
 -- the number, where it lies from low to high
 abbrev pub within : ℤ → ℤ → Option ℤ → Option ℤ

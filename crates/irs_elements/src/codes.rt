@@ -1,6 +1,8 @@
 //! The codes of FpML: the value that a text has, `None` exactly where it is none of the profile's.
 //! Texts are compared exactly.
-ghost use Rattle.irs_elements.specs.Codes.{compounding_at, convention_at, day_count_at, day_kind_at, day_number_at, day_roll_at, direction_at, named_roll_at, offset_unit_at, relative_at, roll_at, stub_kind_at, tenor_unit_at, treatment_at, truth_at, unit_at};
+ghost use Rattle.irs_elements.specs.Codes.{compounding_at, convention_at, day_count_at, day_kind_at, day_number_at};
+ghost use Rattle.irs_elements.specs.Codes.{day_roll_at, direction_at, named_roll_at, offset_unit_at, relative_at};
+ghost use Rattle.irs_elements.specs.Codes.{roll_at, stub_kind_at, tenor_unit_at, treatment_at, truth_at, unit_at};
 ghost use Rattle.std.specs.Prelude.{◌≡◌};
 
 use irs_base::{DayName, Direction};

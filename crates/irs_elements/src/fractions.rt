@@ -5,7 +5,8 @@ ghost use Rattle.irs_base.specs.Decimals.{AreDigits, IsCut, is_digit, number_aft
 ghost use Rattle.irs_base.specs.Texts.{most_places};
 ghost use Rattle.irs_base.specs.declared.line.Dec.{Dec as DecRecord};
 ghost use Rattle.irs_elements.specs.Decimals.{are_parts as are_parts_of, before_point, behind_point};
-ghost use Rattle.irs_elements.specs.Fractions.{IsFirstDigit, IsFraction, carried, fraction_at, fraction_of as fraction_by};
+ghost use Rattle.irs_elements.specs.Fractions.{IsFirstDigit, IsFraction, carried, fraction_at};
+ghost use Rattle.irs_elements.specs.Fractions.{fraction_of as fraction_by};
 ghost use Rattle.std.specs.List.{list_all};
 ghost use Rattle.std.specs.Prelude.{◌≡◌, ◌+◌, ◌*◌, ◌^◌, ◌<◌, ◌≤◌, [], IfNone, IfSome, drop, length, nat_lt, take};
 

@@ -1,5 +1,6 @@
 //! What the text of a leaf says, and the rule that it breaks where it says nothing.
-ghost use Rattle.irs_elements.specs.Leaves.{has_value as has_value_of, leaf_rule as leaf_rule_of, out_of_profile, text_rule as text_rule_of};
+ghost use Rattle.irs_elements.specs.Leaves.{has_value as has_value_of, leaf_rule as leaf_rule_of, out_of_profile};
+ghost use Rattle.irs_elements.specs.Leaves.{text_rule as text_rule_of};
 ghost use Rattle.irs_json.specs.Leaves.{leaf_of};
 ghost use Rattle.serde_json.specs.View.{view};
 ghost use Rattle.std.specs.List.{list_any};

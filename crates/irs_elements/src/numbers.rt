@@ -2,7 +2,9 @@
 //! range of its kind.
 ghost use Rattle.irs_elements.specs.Dates.{day_at};
 ghost use Rattle.irs_elements.specs.Decimals.{dec_at};
-ghost use Rattle.irs_elements.specs.Numbers.{amount_at, digits_of, has_no_point as no_point_of, is_whole as is_whole_of, multiplier_at, notional_at, offset_at, precision_at, rate_at, whole_at, within as within_of};
+ghost use Rattle.irs_elements.specs.Numbers.{amount_at, digits_of, has_no_point as no_point_of};
+ghost use Rattle.irs_elements.specs.Numbers.{is_whole as is_whole_of, multiplier_at, notional_at, offset_at};
+ghost use Rattle.irs_elements.specs.Numbers.{precision_at, rate_at, whole_at, within as within_of};
 ghost use Rattle.std.specs.Prelude.{◌≡◌, ◌^◌, ◌<◌, ◌≤◌, length, unsigned_abs};
 
 use irs_base::{Day, MOST_RATE, read_date, read_dec};

@@ -2,7 +2,14 @@
 //!
 //! The walk goes down the table and not down the value: each row's members stand behind it. It keeps
 //! nothing on the way, each step answers the first broken rule of its part.
-ghost use Rattle.irs_elements.specs.Elements.{FaultAmong, FaultAt, FaultUnder, MemberFault, ShapeFault, absent_index as absent_index_of, choice_unmet as choice_unmet_of, elem_at, elem_of, fault_if, has_odd, index_in as index_in_of, is_element as is_element_of, is_known as is_known_in, is_odd as is_odd_of, is_refused as is_refused_of, is_required as is_required_of, is_unknown, lacks_href as lacks_href_of, most as most_of, name_at, own_rule as own_rule_of, place, stands as stands_of, texts, unmet_place};
+ghost use Rattle.irs_elements.specs.Elements.{FaultAmong, FaultAt, FaultUnder, MemberFault, ShapeFault};
+ghost use Rattle.irs_elements.specs.Elements.{absent_index as absent_index_of, choice_unmet as choice_unmet_of};
+ghost use Rattle.irs_elements.specs.Elements.{elem_at, elem_of, fault_if, has_odd, index_in as index_in_of};
+ghost use Rattle.irs_elements.specs.Elements.{is_element as is_element_of, is_known as is_known_in};
+ghost use Rattle.irs_elements.specs.Elements.{is_odd as is_odd_of, is_refused as is_refused_of};
+ghost use Rattle.irs_elements.specs.Elements.{is_required as is_required_of, is_unknown, lacks_href as lacks_href_of};
+ghost use Rattle.irs_elements.specs.Elements.{most as most_of, name_at, own_rule as own_rule_of, place};
+ghost use Rattle.irs_elements.specs.Elements.{stands as stands_of, texts, unmet_place};
 ghost use Rattle.irs_json.specs.Carrier.{child_of};
 ghost use Rattle.irs_json.specs.Names.{names_of};
 ghost use Rattle.serde_json.specs.View.{view};
@@ -76,7 +83,8 @@ fn own_rule(kind: Kind, v: &Value) -> Option<Rule>
 }
 
 fn own_fault(table: &Table<'_>, kind: Kind, r: usize, index: u32, v: &Value) -> Option<Broken>
-    ensures { result ≡ option_map (λ k. place table.now.rows.now table.now.stream k r index) (own_rule_of kind (view v.now)) }
+    ensures { result ≡ option_map (λ k. place table.now.rows.now table.now.stream k r index)
+        (own_rule_of kind (view v.now)) }
 {
     match own_rule(kind, v) {
         None => None,
@@ -197,7 +205,8 @@ fn choice_fault(
     index: u32,
     v: &Value,
 ) -> Option<Broken>
-    ensures { result ≡ option_map (unmet_place table.now.rows.now table.now.stream r index) (choice_unmet_of (texts table.now.names.now) choice (view v.now)) }
+    ensures { result ≡ option_map (unmet_place table.now.rows.now table.now.stream r index)
+        (choice_unmet_of (texts table.now.names.now) choice (view v.now)) }
 {
     match choice_unmet(table.names, choice, v) {
         None => None,
@@ -223,7 +232,8 @@ fn has_unknown(table: &Table<'_>, r: usize, mut listed: MemberIter<'_>) -> bool
 }
 
 fn unknown_fault(table: &Table<'_>, r: usize, index: u32, listed: MemberIter<'_>) -> Option<Broken>
-    ensures { result ≡ fault_if (list_any (is_unknown table.now.rows.now (texts table.now.names.now) r) listed.entry) (place table.now.rows.now table.now.stream Rule.K4 r index) }
+    ensures { result ≡ fault_if (list_any (is_unknown table.now.rows.now (texts table.now.names.now) r) listed.entry)
+        (place table.now.rows.now table.now.stream Rule.K4 r index) }
 {
     if has_unknown(table, r, listed) {
         Some(broken(table, Rule::K4, r, index))
@@ -264,7 +274,8 @@ fn lacks_href(choice: Choice, v: &Value) -> bool
 }
 
 fn href_fault(table: &Table<'_>, r: usize, choice: Choice, index: u32, v: &Value) -> Option<Broken>
-    ensures { result ≡ fault_if (lacks_href_of choice (view v.now)) (place table.now.rows.now table.now.stream Rule.K2 r index) }
+    ensures { result ≡ fault_if (lacks_href_of choice (view v.now))
+        (place table.now.rows.now table.now.stream Rule.K2 r index) }
 {
     if lacks_href(choice, v) {
         Some(broken(table, Rule::K2, r, index))
@@ -283,7 +294,9 @@ fn shape_fault(
     listed: MemberIter<'_>,
 ) -> Option<Broken>
     requires { names_of (view v.now) ≡ Some listed }
-    ensures { IsFirstBroken (ShapeFault table.now.rows.now (texts table.now.names.now) table.now.stream r choice index (view v.now)) result }
+    ensures { IsFirstBroken
+        (ShapeFault table.now.rows.now (texts table.now.names.now) table.now.stream r choice index (view v.now))
+        result }
 {
     let unknown = unknown_fault(table, r, index, listed);
     let chosen = choice_fault(table, r, choice, index, v);
@@ -296,7 +309,8 @@ fn shape_fault(
 /// index, in the stream of that number; `None` exactly where none is.
 #[cycle(faults)]
 pub fn first_fault(table: &Table<'_>, r: usize, kind: Kind, index: u32, v: &Value) -> Option<Broken>
-    ensures { IsFirstBroken (FaultAt table.now.rows.now (texts table.now.names.now) table.now.stream r kind index (view v.now)) result }
+    ensures { IsFirstBroken
+        (FaultAt table.now.rows.now (texts table.now.names.now) table.now.stream r kind index (view v.now)) result }
 {
     match kind {
         Kind::Object(choice) => match members(v) {
@@ -315,7 +329,8 @@ pub fn first_fault(table: &Table<'_>, r: usize, kind: Kind, index: u32, v: &Valu
 // The first rule that the members of an object at row r break.
 #[cycle(faults)]
 fn members_fault(table: &Table<'_>, r: usize, index: u32, v: &Value) -> Option<Broken>
-    ensures { IsFirstBroken (MemberFault table.now.rows.now (texts table.now.names.now) table.now.stream r index (view v.now)) result }
+    ensures { IsFirstBroken
+        (MemberFault table.now.rows.now (texts table.now.names.now) table.now.stream r index (view v.now)) result }
 {
     let mut first = None;
     for c in 0..table.rows.len() {
@@ -330,7 +345,8 @@ fn members_fault(table: &Table<'_>, r: usize, index: u32, v: &Value) -> Option<B
 // The first rule that the member at row c breaks.
 #[cycle(faults)]
 fn fault_under(table: &Table<'_>, c: usize, row: Row, index: u32, v: &Value) -> Option<Broken>
-    ensures { IsFirstBroken (FaultUnder table.now.rows.now (texts table.now.names.now) table.now.stream c row index (view v.now)) result }
+    ensures { IsFirstBroken
+        (FaultUnder table.now.rows.now (texts table.now.names.now) table.now.stream c row index (view v.now)) result }
 {
     match child(v, name_of(table.names, c)) {
         None => if is_element(row.kind) && is_required(row.count) {
@@ -358,7 +374,9 @@ fn fault_under(table: &Table<'_>, c: usize, row: Row, index: u32, v: &Value) -> 
 #[cycle(faults)]
 fn fault_among(table: &Table<'_>, c: usize, row: Row, index: u32, list: &[Value]) -> Option<Broken>
     requires { length list.now ≤ most_of row.count }
-    ensures { IsFirstBroken (FaultAmong table.now.rows.now (texts table.now.names.now) table.now.stream c row.kind (index_in_of row.count index) (map view list.now)) result }
+    ensures { IsFirstBroken
+        (FaultAmong table.now.rows.now (texts table.now.names.now) table.now.stream c row.kind
+        (index_in_of row.count index) (map view list.now)) result }
 {
     let mut first = None;
     for j in 0..list.len() {

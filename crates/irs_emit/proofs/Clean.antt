@@ -2,7 +2,9 @@
 use Rattle.irs_base.specs.declared.places.Broken.{Broken}
 use Rattle.irs_base.specs.declared.places.Rule.{Rule}
 use Rattle.irs_base.specs.declared.places.Rule.TheVariants.{K3}
-use Rattle.irs_elements.specs.Elements.{FaultAt, FaultUnder, has_odd, inside, index_in, is_element, is_refused, is_required, is_unknown, missing, most, name_at, no_href, odd, own, refused, shape, too_many, under, unknown, unmet}
+use Rattle.irs_elements.specs.Elements.{FaultAt, FaultUnder, has_odd, inside, index_in, is_element, is_refused}
+use Rattle.irs_elements.specs.Elements.{is_required, is_unknown, missing, most, name_at, no_href, odd, own, refused}
+use Rattle.irs_elements.specs.Elements.{shape, too_many, under, unknown, unmet}
 use Rattle.irs_elements.specs.Leaves.{leaf_rule}
 use Rattle.irs_elements.specs.declared.table.Choice.TheVariants.{Free}
 use Rattle.irs_elements.specs.declared.table.Kind.{Kind}
@@ -14,7 +16,8 @@ use Rattle.irs_json.specs.Leaves.{leaf_of}
 use Rattle.irs_json.specs.Names.{names_of}
 use Rattle.irs_json.specs.Values.{items_of}
 use Rattle.serde_json.specs.Data.{Data}
-use Rattle.std.proofs.Common.{◌≡◌, ℕ, zero, suc, ◌+◌, ◌<◌, ◌≤◌, nat_lt, ◌==◌, ◌&&◌, if◌then◌else◌, Bool, true, false, List, [], ◌∷◌, length, Option, Some, None, refl, sym, ap, ◌∙◌, subst, arith, true≢false}
+use Rattle.std.proofs.Common.{◌≡◌, ℕ, zero, suc, ◌+◌, ◌<◌, ◌≤◌, nat_lt, ◌==◌, ◌&&◌, if◌then◌else◌, Bool, true, false}
+use Rattle.std.proofs.Common.{List, [], ◌∷◌, length, Option, Some, None, refl, sym, ap, ◌∙◌, subst, arith, true≢false}
 use Rattle.std.proofs.lemmas.Bool.Decides.{nat_tests}
 use Rattle.std.specs.List.{list_any}
 use Rattle.std.specs.Prelude.{is_some, slice_get}
@@ -40,13 +43,15 @@ module _ (rows : List Row) (names : List (List ℕ)) (stream : ℕ) where
   pub leaf_free : (r i : ℕ) (k : LeafKind) (d : Data) → leaf_rule k (leaf_of d) ≡ None → NoFault r (Leaf k) i d
   leaf_free r i k d e f (own _ _ rule _ _ h) = none_some rule (leaf_rule k (leaf_of d)) e h
 
-  pub absent_free : (c i : ℕ) (row : Row) (d : Data) → child_of (name_at names c) d ≡ None → is_required row.count ≡ false → MemberFree c row i d
+  pub absent_free : (c i : ℕ) (row : Row) (d : Data) → child_of (name_at names c) d ≡ None
+      → is_required row.count ≡ false → MemberFree c row i d
   absent_free c i row d e q f (missing _ _ _ _ el rq h) = false_true (is_required row.count) q rq
   absent_free c i row d e q f (refused _ _ _ _ m el h) = none_some m (child_of (name_at names c) d) e h
   absent_free c i row d e q f (too_many _ _ _ _ m el h lt) = none_some m (child_of (name_at names c) d) e h
   absent_free c i row d e q f (inside _ _ j _ _ m x _ el h le at g) = none_some m (child_of (name_at names c) d) e h
 
-  pub passed_free : (c i : ℕ) (row : Row) (d : Data) → is_element row.kind ≡ false → is_refused row.kind ≡ false → MemberFree c row i d
+  pub passed_free : (c i : ℕ) (row : Row) (d : Data) → is_element row.kind ≡ false → is_refused row.kind ≡ false
+      → MemberFree c row i d
   passed_free c i row d e q f (missing _ _ _ _ el rq h) = false_true (is_element row.kind) e el
   passed_free c i row d e q f (refused _ _ _ _ m el h) = false_true (is_refused row.kind) q el
   passed_free c i row d e q f (too_many _ _ _ _ m el h lt) = false_true (is_element row.kind) e el
@@ -56,14 +61,22 @@ module _ (rows : List Row) (names : List (List ℕ)) (stream : ℕ) where
   abbrev pub ValuesFree : ℕ → Row → ℕ → List Data → Type 0
   ValuesFree c row i ds = (j : ℕ) (x : Data) → slice_get ds j ≡ Some x → NoFault c row.kind (index_in row.count i j) x
 
-  pub present_free : (c i : ℕ) (row : Row) (d m : Data) → child_of (name_at names c) d ≡ Some m → is_refused row.kind ≡ false → length (items_of m) ≤ most row.count → ValuesFree c row i (items_of m) → MemberFree c row i d
+  pub present_free : (c i : ℕ) (row : Row) (d m : Data) → child_of (name_at names c) d ≡ Some m
+      → is_refused row.kind ≡ false → length (items_of m) ≤ most row.count → ValuesFree c row i (items_of m)
+      → MemberFree c row i d
   present_free c i row d m e q l free f (missing _ _ _ _ el rq h) = none_some m (child_of (name_at names c) d) h e
   present_free c i row d m e q l free f (refused _ _ _ _ n el h) = false_true (is_refused row.kind) q el
-  present_free c i row d m e q l free f (too_many _ _ _ _ n el h lt) = let same = same_some n m (child_of (name_at names c) d) h e in let k = ap (λ x. length (items_of x)) same in absurd (omega (arith, l, lt, k))
-  present_free c i row d m e q l free f (inside _ _ j _ _ n x _ el h le at g) = let same = same_some n m (child_of (name_at names c) d) h e in free j x (ap (λ y. slice_get (items_of y) j) (sym same) ∙ at) f g
+  present_free c i row d m e q l free f (too_many _ _ _ _ n el h lt) = let same =
+      same_some n m (child_of (name_at names c) d) h e in let k = ap (λ x. length (items_of x)) same in
+      absurd (omega (arith, l, lt, k))
+  present_free c i row d m e q l free f (inside _ _ j _ _ n x _ el h le at g) = let same =
+      same_some n m (child_of (name_at names c) d) h e in
+      free j x (ap (λ y. slice_get (items_of y) j) (sym same) ∙ at) f g
 
   pub one_value : (c i : ℕ) (row : Row) (d : Data) → ((k : ℕ) → NoFault c row.kind k d) → ValuesFree c row i (d ∷ [])
-  one_value c i row d free zero x e = subst (λ y. NoFault c row.kind (index_in row.count i zero) y) (same_some d x (Some d) refl e) (free (index_in row.count i zero))
+  one_value c i row d free zero x e =
+      subst (λ y. NoFault c row.kind (index_in row.count i zero) y) (same_some d x (Some d) refl e)
+      (free (index_in row.count i zero))
   one_value c i row d free (suc j) x e = absurd (cc)
 
   -- ---- objects
@@ -88,23 +101,28 @@ module _ (rows : List Row) (names : List (List ℕ)) (stream : ℕ) where
   tested : (a r n : ℕ) → a ≡ r → r < n → ((a == r) && nat_lt r n) ≡ true
   tested a r n e l = grind (arith, nat_tests)
 
-  each_at : (r i : ℕ) (d : Data) (n : ℕ) (rs : List Row) (k : ℕ) (row : Row) → Each r i d n rs → slice_get rs k ≡ Some row → row.parent ≡ r → r < n + k → MemberFree (n + k) row i d
+  each_at : (r i : ℕ) (d : Data) (n : ℕ) (rs : List Row) (k : ℕ) (row : Row) → Each r i d n rs
+      → slice_get rs k ≡ Some row → row.parent ≡ r → r < n + k → MemberFree (n + k) row i d
   each_at r i d n [] k row h e p l = cc
   each_at r i d n (first ∷ rest) zero row h e p l =
       let same : first ≡ row = same_some first row (Some first) refl e in
       let up : n + 0 ≡ n = omega arith in
       let parent : first.parent ≡ r = ap (λ (x : Row). x.parent) same ∙ p in
-      let free = head_of (MemberFree n first i d) (Each r i d (n + 1) rest) ((first.parent == r) && nat_lt r n) (tested first.parent r n parent (omega (arith, l))) h in
+      let free = head_of (MemberFree n first i d) (Each r i d (n + 1) rest) ((first.parent == r) && nat_lt r n)
+      (tested first.parent r n parent (omega (arith, l))) h in
       subst (λ c. MemberFree c row i d) (sym up) (subst (λ (x : Row). MemberFree n x i d) same free)
   each_at r i d n (first ∷ rest) (suc k) row h e p l =
       let up : n + 1 + k ≡ n + suc k = omega arith in
       let later = tail_of (MemberFree n first i d) (Each r i d (n + 1) rest) ((first.parent == r) && nat_lt r n) h in
       subst (λ c. MemberFree c row i d) up (each_at r i d (n + 1) rest k row later e p (omega (arith, l)))
 
-  pub object_free : (r i : ℕ) (d : Data) (ns : List (List ℕ)) → names_of d ≡ Some ns → list_any (is_unknown rows names r) ns ≡ false → has_odd d ≡ false → Each r i d 0 rows → NoFault r (Object Free) i d
+  pub object_free : (r i : ℕ) (d : Data) (ns : List (List ℕ)) → names_of d ≡ Some ns
+      → list_any (is_unknown rows names r) ns ≡ false → has_odd d ≡ false → Each r i d 0 rows
+      → NoFault r (Object Free) i d
   object_free r i d ns e known even each f (own _ _ rule _ _ h) = own_none (names_of d) ns rule e h
     where
-      own_none : (o : Option (List (List ℕ))) (ns : List (List ℕ)) (rule : Rule) → o ≡ Some ns → (if is_some o then None else Some K3) ≡ Some rule → ⊥
+      own_none : (o : Option (List (List ℕ))) (ns : List (List ℕ)) (rule : Rule) → o ≡ Some ns
+          → (if is_some o then None else Some K3) ≡ Some rule → ⊥
       own_none None ns rule e h = cc
       own_none (Some m) ns rule e h = cc
   object_free r i d ns e known even each f (shape _ _ choice _ ms _ g (unknown _ _ _ _ ks h u)) =

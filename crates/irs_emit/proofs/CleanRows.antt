@@ -11,15 +11,18 @@ use Rattle.irs_elements.specs.declared.table.Kind.TheVariants.{Object, Leaf, Pas
 use Rattle.irs_elements.specs.declared.table.Leaf.{Leaf as LeafKind}
 use Rattle.irs_elements.specs.declared.table.Leaf.TheVariants.{Amount, CurrencyName, Date, Fraction, Whole}
 use Rattle.irs_elements.specs.declared.table.Row.{Row}
-use Rattle.irs_emit.proofs.Clean.{MemberFree, NoFault, absent_free, leaf_free, object_free, one_value, passed_free, present_free}
+use Rattle.irs_emit.proofs.Clean.{MemberFree, NoFault, absent_free, leaf_free, object_free, one_value, passed_free}
+use Rattle.irs_emit.proofs.Clean.{present_free}
 use Rattle.irs_elements.specs.Words.{is_currency}
 use Rattle.irs_emit.proofs.LeafTexts.{text_kept}
 use Rattle.irs_emit.proofs.LeavesRead.{currency_ascii}
 use Rattle.irs_terms.specs.declared.currency.Currency.{Currency}
 use Rattle.irs_base.proofs.VisibleTexts.{Visible, day_visible}
-use Rattle.irs_emit.proofs.LeafTextsRead.{count_back, count_visible, currency_back, currency_visible, day_back, fraction_back, number_back, number_visible, trimmed}
+use Rattle.irs_emit.proofs.LeafTextsRead.{count_back, count_visible, currency_back, currency_visible, day_back}
+use Rattle.irs_emit.proofs.LeafTextsRead.{fraction_back, number_back, number_visible, trimmed}
 use Rattle.irs_audit.specs.StatedFlows.{stated_fraction}
-use Rattle.irs_emit.specs.Emitted.{definition_value, exchange_value, fixed_value, floating_value, observation_value, period_members, period_value, put_known}
+use Rattle.irs_emit.specs.Emitted.{definition_value, exchange_value, fixed_value, floating_value, observation_value}
+use Rattle.irs_emit.specs.Emitted.{period_members, period_value, put_known}
 use Rattle.irs_emit.specs.Leaves.{count_leaf, currency_leaf, day_leaf, fraction_leaf, notional_leaf, rate_leaf}
 use Rattle.irs_emit.specs.RowLaws.{IsExchangeShort, IsPeriodShort, IsResetShort, IsShort, IsShortRate}
 use Rattle.irs_json.specs.Carrier.{child_of}
@@ -32,7 +35,8 @@ use Rattle.std.specs.List.{list_any}
 use Rattle.irs_terms.specs.declared.results.Exchange.{Exchange}
 use Rattle.irs_terms.specs.declared.results.Reset.{Reset}
 use Rattle.serde_json.specs.Data.{Data, string, object, no_members, put}
-use Rattle.std.proofs.Common.{◌≡◌, ℕ, ◌^◌, ◌<◌, ◌≤◌, Bool, true, false, List, ℤ, pos, negsuc, ◌≤ℤ◌, codes, unsigned_abs, Option, Some, None, IfSome, option_map, refl, sym, ap, ◌∙◌, subst, arith}
+use Rattle.std.proofs.Common.{◌≡◌, ℕ, ◌^◌, ◌<◌, ◌≤◌, Bool, true, false, List, ℤ, pos, negsuc, ◌≤ℤ◌, codes, unsigned_abs}
+use Rattle.std.proofs.Common.{Option, Some, None, IfSome, option_map, refl, sym, ap, ◌∙◌, subst, arith}
 use Rattle.std.specs.Prelude.{is_some, slice_get, unwrap_or}
 
 -- ---- leaves
@@ -50,32 +54,46 @@ day_kept d h = leaf_kept Date (day_text d) (day_visible d) (ap is_some (day_back
 pub number_kept : (z : ℤ) (p : ℕ) → p ≤ 12 → IsShort z p → leaf_rule Amount (leaf_of (string (dec_text z p))) ≡ None
 number_kept z p l h = leaf_kept Amount (dec_text z p) (number_visible z p h) (ap is_some (number_back z p l h))
 
-pub currency_kept : (c : Currency) → is_currency c.letters ≡ true → leaf_rule CurrencyName (leaf_of (currency_leaf c)) ≡ None
-currency_kept c h = ap (λ s. leaf_rule CurrencyName (leaf_of (string s))) (text_kept c.letters (currency_ascii c.letters h)) ∙ leaf_kept CurrencyName c.letters (currency_visible c.letters h) (ap is_some (currency_back c.letters h))
+pub currency_kept : (c : Currency) → is_currency c.letters ≡ true
+    → leaf_rule CurrencyName (leaf_of (currency_leaf c)) ≡ None
+currency_kept c h =
+    ap (λ s. leaf_rule CurrencyName (leaf_of (string s))) (text_kept c.letters (currency_ascii c.letters h))
+    ∙ leaf_kept CurrencyName c.letters (currency_visible c.letters h) (ap is_some (currency_back c.letters h))
 
 module _ (rows : List Row) (names : List (List ℕ)) (stream : ℕ) where
   -- a leaf that stands once
-  pub leaf_member : (c i : ℕ) (row : Row) (d : Data) (k : LeafKind) (s : List ℕ) → child_of (name_at names c) d ≡ Some (string s) → row.kind ≡ Leaf k → 1 ≤ most row.count → leaf_rule k (leaf_of (string s)) ≡ None → MemberFree rows names stream c row i d
+  pub leaf_member : (c i : ℕ) (row : Row) (d : Data) (k : LeafKind) (s : List ℕ)
+      → child_of (name_at names c) d ≡ Some (string s) → row.kind ≡ Leaf k → 1 ≤ most row.count
+      → leaf_rule k (leaf_of (string s)) ≡ None → MemberFree rows names stream c row i d
   leaf_member c i row d k s e is l none =
       present_free rows names stream c i row d (string s) e (ap is_refused is) l
-      (one_value rows names stream c i row (string s) (λ j. subst (λ kind. NoFault rows names stream c kind j (string s)) (sym is) (leaf_free rows names stream c j k (string s) none)))
+      (one_value rows names stream c i row (string s)
+      (λ j. subst (λ kind. NoFault rows names stream c kind j (string s)) (sym is)
+      (leaf_free rows names stream c j k (string s) none)))
 
   -- one that may be absent
-  pub known_member : {X : Type 0} (c i : ℕ) (row : Row) (d : Data) (k : LeafKind) (text : X → List ℕ) (o : Option X) → child_of (name_at names c) d ≡ option_map (λ x. string (text x)) o → is_required row.count ≡ false → row.kind ≡ Leaf k → 1 ≤ most row.count
+  pub known_member : {X : Type 0} (c i : ℕ) (row : Row) (d : Data) (k : LeafKind) (text : X → List ℕ) (o : Option X)
+      → child_of (name_at names c) d ≡ option_map (λ x. string (text x)) o → is_required row.count ≡ false
+      → row.kind ≡ Leaf k → 1 ≤ most row.count
       → IfSome o (λ x. leaf_rule k (leaf_of (string (text x))) ≡ None) → MemberFree rows names stream c row i d
   known_member c i row d k text None e q is l none = absent_free rows names stream c i row d e q
   known_member c i row d k text (Some x) e q is l none = leaf_member c i row d k (text x) e is l none
 
 -- ---- exchanges
 
-pub exchange_free : (stream i : ℕ) (x : Exchange) → IsExchangeShort x → NoFault FLOW_ROWS flow_code_names stream 1 (Object Free) i (exchange_value x)
+pub exchange_free : (stream i : ℕ) (x : Exchange) → IsExchangeShort x
+    → NoFault FLOW_ROWS flow_code_names stream 1 (Object Free) i (exchange_value x)
 unfolding exchange_value
 exchange_free stream i x h = object_free FLOW_ROWS flow_code_names stream 1 i (exchange_value x) _ refl refl refl (
-  leaf_member FLOW_ROWS flow_code_names stream 2 i _ (exchange_value x) Date (day_text x.unadjusted) refl refl (omega arith) (day_kept x.unadjusted h.unadjusted),
+  leaf_member FLOW_ROWS flow_code_names stream 2 i _ (exchange_value x) Date (day_text x.unadjusted) refl refl
+      (omega arith) (day_kept x.unadjusted h.unadjusted),
   (
-    leaf_member FLOW_ROWS flow_code_names stream 3 i _ (exchange_value x) Date (day_text x.adjusted) refl refl (omega arith) (day_kept x.adjusted h.adjusted),
+    leaf_member FLOW_ROWS flow_code_names stream 3 i _ (exchange_value x) Date (day_text x.adjusted) refl refl
+        (omega arith) (day_kept x.adjusted h.adjusted),
     (
-      leaf_member FLOW_ROWS flow_code_names stream 4 i _ (exchange_value x) Amount (dec_text x.amount.units x.amount.places) refl refl (omega arith) (number_kept x.amount.units x.amount.places h.amount.0 h.amount.1),
+      leaf_member FLOW_ROWS flow_code_names stream 4 i _ (exchange_value x) Amount
+          (dec_text x.amount.units x.amount.places) refl refl (omega arith)
+          (number_kept x.amount.units x.amount.places h.amount.0 h.amount.1),
       (
         passed_free FLOW_ROWS flow_code_names stream 12 i _ (exchange_value x) refl refl,
         (passed_free FLOW_ROWS flow_code_names stream 13 i _ (exchange_value x) refl refl, tt),
@@ -101,9 +119,12 @@ row_at n = unwrap_or (slice_get P n) no_row
 -- ---- resets
 
 abbrev observation_with : ℤ → ℤ → Option ℤ → Data
-observation_with reset fixing o = object (put_known (codes "observedRate") (option_map rate_leaf o) (put (codes "adjustedFixingDate") (day_leaf fixing) (put (codes "resetDate") (day_leaf reset) no_members)))
+observation_with reset fixing o =
+    object (put_known (codes "observedRate") (option_map rate_leaf o)
+    (put (codes "adjustedFixingDate") (day_leaf fixing) (put (codes "resetDate") (day_leaf reset) no_members)))
 
-observation_by : (stream i : ℕ) (a b : ℤ) (o : Option ℤ) → IsDay a → IsDay b → IfSome o IsShortRate → NoFault P N stream 11 (Object Free) i (observation_with a b o)
+observation_by : (stream i : ℕ) (a b : ℤ) (o : Option ℤ) → IsDay a → IsDay b → IfSome o IsShortRate
+    → NoFault P N stream 11 (Object Free) i (observation_with a b o)
 observation_by stream i a b None ha hb k =
     let d = observation_with a b None in
     object_free P N stream 11 i d _ refl refl refl (
@@ -112,7 +133,10 @@ observation_by stream i a b None ha hb k =
         leaf_member P N stream 13 i _ d Date (day_text b) refl refl (omega arith) (day_kept b hb),
         (
           absent_free P N stream 14 i _ d refl refl,
-          (passed_free P N stream 19 i _ d refl refl, (passed_free P N stream 20 i _ d refl refl, (passed_free P N stream 21 i _ d refl refl, tt))),
+          (
+            passed_free P N stream 19 i _ d refl refl,
+            (passed_free P N stream 20 i _ d refl refl, (passed_free P N stream 21 i _ d refl refl, tt)),
+          ),
         ),
       ),
     )
@@ -123,20 +147,28 @@ observation_by stream i a b (Some z) ha hb k =
       (
         leaf_member P N stream 13 i _ d Date (day_text b) refl refl (omega arith) (day_kept b hb),
         (
-          leaf_member P N stream 14 i _ d Amount (dec_text z 9) refl refl (omega arith) (number_kept z 9 (omega arith) k),
-          (passed_free P N stream 19 i _ d refl refl, (passed_free P N stream 20 i _ d refl refl, (passed_free P N stream 21 i _ d refl refl, tt))),
+          leaf_member P N stream 14 i _ d Amount (dec_text z 9) refl refl (omega arith)
+              (number_kept z 9 (omega arith) k),
+          (
+            passed_free P N stream 19 i _ d refl refl,
+            (passed_free P N stream 20 i _ d refl refl, (passed_free P N stream 21 i _ d refl refl, tt)),
+          ),
         ),
       ),
     )
 
-observation_free : (stream i : ℕ) (r : Reset) → IsResetShort r → NoFault P N stream 11 (Object Free) i (observation_value r)
+observation_free : (stream i : ℕ) (r : Reset) → IsResetShort r
+    → NoFault P N stream 11 (Object Free) i (observation_value r)
 unfolding observation_value
 observation_free stream i r h = observation_by stream i r.reset r.fixing r.observed h.reset h.fixing h.observed
 
 abbrev definition_with : Option ℤ → Reset → Data
-definition_with o r = object (put_known (codes "calculatedRate") (option_map rate_leaf o) (put (codes "rateObservation") (observation_value r) no_members))
+definition_with o r =
+    object (put_known (codes "calculatedRate") (option_map rate_leaf o)
+    (put (codes "rateObservation") (observation_value r) no_members))
 
-definition_free : (stream i : ℕ) (o : Option ℤ) (r : Reset) → IfSome o IsShortRate → IsResetShort r → NoFault P N stream 9 (Object Free) i (definition_with o r)
+definition_free : (stream i : ℕ) (o : Option ℤ) (r : Reset) → IfSome o IsShortRate → IsResetShort r
+    → NoFault P N stream 9 (Object Free) i (definition_with o r)
 unfolding observation_value
 definition_free stream i None r k h =
     let d = definition_with None r in
@@ -144,7 +176,8 @@ definition_free stream i None r k h =
     object_free P N stream 9 i d _ refl refl refl (
       absent_free P N stream 10 i _ d refl refl,
       (
-        present_free P N stream 11 i _ d m refl refl (omega arith) (one_value P N stream 11 i (row_at 11) m (λ j. observation_free stream j r h)),
+        present_free P N stream 11 i _ d m refl refl (omega arith)
+            (one_value P N stream 11 i (row_at 11) m (λ j. observation_free stream j r h)),
         (
           passed_free P N stream 17 i _ d refl refl,
           (
@@ -160,7 +193,8 @@ definition_free stream i (Some z) r k h =
     object_free P N stream 9 i d _ refl refl refl (
       leaf_member P N stream 10 i _ d Amount (dec_text z 9) refl refl (omega arith) (number_kept z 9 (omega arith) k),
       (
-        present_free P N stream 11 i _ d m refl refl (omega arith) (one_value P N stream 11 i (row_at 11) m (λ j. observation_free stream j r h)),
+        present_free P N stream 11 i _ d m refl refl (omega arith)
+            (one_value P N stream 11 i (row_at 11) m (λ j. observation_free stream j r h)),
         (
           passed_free P N stream 17 i _ d refl refl,
           (
@@ -177,7 +211,8 @@ count_kept : (n : ℤ) → unsigned_abs n < 10 ^ 9 → leaf_rule Whole (leaf_of 
 count_kept n h = leaf_kept Whole (signed_decimal n) (count_visible n h) (ap is_some (count_back n h))
 
 fraction_kept_by : (z : ℤ) → pos 0 ≤ℤ z → IsShort z 10 → leaf_rule Fraction (leaf_of (string (dec_text z 10))) ≡ None
-fraction_kept_by (pos n) some h = leaf_kept Fraction (dec_text (pos n) 10) (number_visible (pos n) 10 h) (ap is_some (fraction_back n h))
+fraction_kept_by (pos n) some h =
+    leaf_kept Fraction (dec_text (pos n) 10) (number_visible (pos n) 10 h) (ap is_some (fraction_back n h))
 fraction_kept_by (negsuc n) some h = absurd (omega (arith, signed_arith, some))
 
 -- what each calculation period has, beside its rate and its definition
@@ -191,24 +226,31 @@ pub record HasPeriod (x : CalculationPeriod) (d : Data) : Type 0 where
   pub fraction : child_of (name_at N 8) d ≡ Some (fraction_leaf x.frac)
   pub refused : child_of (name_at N 22) d ≡ None
 
-period_by : (stream i : ℕ) (x : CalculationPeriod) (d : Data) (ns : List (List ℕ)) → names_of d ≡ Some ns → list_any (is_unknown P N 0) ns ≡ false → has_odd d ≡ false → HasPeriod x d
-    → MemberFree P N stream 7 (row_at 7) i d → MemberFree P N stream 9 (row_at 9) i d → IsPeriodShort x → NoFault P N stream 0 (Object Free) i d
+period_by : (stream i : ℕ) (x : CalculationPeriod) (d : Data) (ns : List (List ℕ)) → names_of d ≡ Some ns
+    → list_any (is_unknown P N 0) ns ≡ false → has_odd d ≡ false → HasPeriod x d
+    → MemberFree P N stream 7 (row_at 7) i d → MemberFree P N stream 9 (row_at 9) i d → IsPeriodShort x
+    → NoFault P N stream 0 (Object Free) i d
 period_by stream i x d ns e known even has rate definition h = object_free P N stream 0 i d ns e known even (
   leaf_member P N stream 1 i _ d Date (day_text x.start) has.start refl (omega arith) (day_kept x.start h.start),
   (
     leaf_member P N stream 2 i _ d Date (day_text x.«end») has.«end» refl (omega arith) (day_kept x.«end» h.«end»),
     (
-      leaf_member P N stream 3 i _ d Date (day_text x.adjusted_start) has.adjusted_start refl (omega arith) (day_kept x.adjusted_start h.adjusted_start),
+      leaf_member P N stream 3 i _ d Date (day_text x.adjusted_start) has.adjusted_start refl (omega arith)
+          (day_kept x.adjusted_start h.adjusted_start),
       (
-        leaf_member P N stream 4 i _ d Date (day_text x.adjusted_end) has.adjusted_end refl (omega arith) (day_kept x.adjusted_end h.adjusted_end),
+        leaf_member P N stream 4 i _ d Date (day_text x.adjusted_end) has.adjusted_end refl (omega arith)
+            (day_kept x.adjusted_end h.adjusted_end),
         (
-          leaf_member P N stream 5 i _ d Whole (signed_decimal x.days) has.days refl (omega arith) (count_kept x.days h.days),
+          leaf_member P N stream 5 i _ d Whole (signed_decimal x.days) has.days refl (omega arith)
+              (count_kept x.days h.days),
           (
-            leaf_member P N stream 6 i _ d Amount (dec_text x.notional 4) has.notional refl (omega arith) (number_kept x.notional 4 (omega arith) h.notional),
+            leaf_member P N stream 6 i _ d Amount (dec_text x.notional 4) has.notional refl (omega arith)
+                (number_kept x.notional 4 (omega arith) h.notional),
             (
               rate,
               (
-                leaf_member P N stream 8 i _ d Fraction (dec_text (stated_fraction x.frac).units 10) has.fraction refl (omega arith) (fraction_kept_by (stated_fraction x.frac).units h.fraction h.short),
+                leaf_member P N stream 8 i _ d Fraction (dec_text (stated_fraction x.frac).units 10) has.fraction refl
+                    (omega arith) (fraction_kept_by (stated_fraction x.frac).units h.fraction h.short),
                 (
                   definition,
                   (
@@ -231,27 +273,70 @@ period_by stream i x d ns e known even has rate definition h = object_free P N s
 abbrev fixed_with : CalculationPeriod → Option ℤ → Data
 fixed_with x o = object (put_known (codes "fixedRate") (option_map rate_leaf o) (period_members x))
 
-fixed_free : (stream i : ℕ) (x : CalculationPeriod) (o : Option ℤ) → IfSome o IsShortRate → IsPeriodShort x → NoFault P N stream 0 (Object Free) i (fixed_with x o)
+fixed_free : (stream i : ℕ) (x : CalculationPeriod) (o : Option ℤ) → IfSome o IsShortRate → IsPeriodShort x
+    → NoFault P N stream 0 (Object Free) i (fixed_with x o)
 unfolding period_members
 fixed_free stream i x None k h =
     let d = fixed_with x None in
-    let has : HasPeriod x d = record { start = refl; «end» = refl; adjusted_start = refl; adjusted_end = refl; days = refl; notional = refl; fraction = refl; refused = refl } in
-    period_by stream i x d _ refl refl refl has (absent_free P N stream 7 i (row_at 7) d refl refl) (absent_free P N stream 9 i (row_at 9) d refl refl) h
+    let has : HasPeriod x d =
+    record {
+      start = refl;
+      «end» = refl;
+      adjusted_start = refl;
+      adjusted_end = refl;
+      days = refl;
+      notional =
+          refl;
+      fraction = refl;
+      refused = refl;
+    } in
+    period_by stream i x d _ refl refl refl has (absent_free P N stream 7 i (row_at 7) d refl refl)
+    (absent_free P N stream 9 i (row_at 9) d refl refl) h
 fixed_free stream i x (Some z) k h =
     let d = fixed_with x (Some z) in
-    let has : HasPeriod x d = record { start = refl; «end» = refl; adjusted_start = refl; adjusted_end = refl; days = refl; notional = refl; fraction = refl; refused = refl } in
-    period_by stream i x d _ refl refl refl has (leaf_member P N stream 7 i (row_at 7) d Amount (dec_text z 9) refl refl (omega arith) (number_kept z 9 (omega arith) k)) (absent_free P N stream 9 i (row_at 9) d refl refl) h
+    let has : HasPeriod x d =
+    record {
+      start = refl;
+      «end» = refl;
+      adjusted_start = refl;
+      adjusted_end = refl;
+      days = refl;
+      notional =
+          refl;
+      fraction = refl;
+      refused = refl;
+    } in
+    period_by stream i x d _ refl refl refl has
+    (leaf_member P N stream 7 i (row_at 7) d Amount (dec_text z 9) refl refl (omega arith)
+    (number_kept z 9 (omega arith) k)) (absent_free P N stream 9 i (row_at 9) d refl refl) h
 
-floating_free : (stream i : ℕ) (x : CalculationPeriod) (o : Option ℤ) (r : Reset) → IfSome o IsShortRate → IsResetShort r → IsPeriodShort x → NoFault P N stream 0 (Object Free) i (object (put (codes "floatingRateDefinition") (definition_with o r) (period_members x)))
+floating_free : (stream i : ℕ) (x : CalculationPeriod) (o : Option ℤ) (r : Reset) → IfSome o IsShortRate
+    → IsResetShort r → IsPeriodShort x
+    → NoFault P N stream 0 (Object Free) i
+    (object (put (codes "floatingRateDefinition") (definition_with o r) (period_members x)))
 unfolding period_members
 floating_free stream i x o r k g h =
     let m = definition_with o r in
     let d = object (put (codes "floatingRateDefinition") m (period_members x)) in
-    let has : HasPeriod x d = record { start = refl; «end» = refl; adjusted_start = refl; adjusted_end = refl; days = refl; notional = refl; fraction = refl; refused = refl } in
-    period_by stream i x d _ refl refl refl has (absent_free P N stream 7 i (row_at 7) d refl refl) (present_free P N stream 9 i (row_at 9) d m refl refl (omega arith) (one_value P N stream 9 i (row_at 9) m (λ j. definition_free stream j o r k g))) h
+    let has : HasPeriod x d =
+    record {
+      start = refl;
+      «end» = refl;
+      adjusted_start = refl;
+      adjusted_end = refl;
+      days = refl;
+      notional =
+          refl;
+      fraction = refl;
+      refused = refl;
+    } in
+    period_by stream i x d _ refl refl refl has (absent_free P N stream 7 i (row_at 7) d refl refl)
+    (present_free P N stream 9 i (row_at 9) d m refl refl (omega arith)
+    (one_value P N stream 9 i (row_at 9) m (λ j. definition_free stream j o r k g))) h
 
 -- a calculation period has no fault of its table
-pub period_free : (stream i : ℕ) (x : CalculationPeriod) (reset : Option Reset) → IsPeriodShort x → IfSome reset IsResetShort → NoFault P N stream 0 (Object Free) i (period_value x reset)
+pub period_free : (stream i : ℕ) (x : CalculationPeriod) (reset : Option Reset) → IsPeriodShort x
+    → IfSome reset IsResetShort → NoFault P N stream 0 (Object Free) i (period_value x reset)
 unfolding fixed_value floating_value definition_value
 period_free stream i x None h g = fixed_free stream i x x.rate h.rate h
 period_free stream i x (Some r) h g = floating_free stream i x x.rate r h.rate g h

@@ -8,7 +8,8 @@ use Rattle.irs_base.specs.Texts.{date_text, day_text, dec_text, digit_row, two_d
 use Rattle.irs_emit.specs.Leaves.{text_of}
 use Rattle.jiff_core.proofs.CalendarLemmas.{days_in_month_bounds}
 use Rattle.jiff_core.proofs.SignedLemmas.{signed_arith}
-use Rattle.std.proofs.Common.{◌≡◌, ℕ, zero, suc, ◌+◌, ◌/◌, ◌%◌, ◌^◌, ◌<◌, ◌==◌, Bool, true, false, List, [], ◌∷◌, ◌++◌, if◌then◌else◌, ℤ, pos, negsuc, unsigned_abs, FitsSigned, refl, arith}
+use Rattle.std.proofs.Common.{◌≡◌, ℕ, zero, suc, ◌+◌, ◌/◌, ◌%◌, ◌^◌, ◌<◌, ◌==◌, Bool, true, false, List, [], ◌∷◌, ◌++◌}
+use Rattle.std.proofs.Common.{if◌then◌else◌, ℤ, pos, negsuc, unsigned_abs, FitsSigned, refl, arith}
 use Rattle.std.proofs.Math.Nat.{div-le_self}
 use Rattle.std.proofs.lemmas.Fmt.{IsAscii-decimal_wide}
 use Rattle.std.proofs.lemmas.Str.{IsUtf8-from_ascii, IsUtf8-from_is_utf8, is_utf8-from_IsUtf8}
@@ -27,7 +28,9 @@ IsAscii-append (x ∷ a) b h k = IsAscii-cons x (a ++ b) (h 0) (IsAscii-append a
 -- ---- dates
 
 two_ascii : (n : ℕ) → n < 100 → IsAscii (two_digits n)
-two_ascii n l = IsAscii-cons (48 + n / 10) ((48 + n % 10) ∷ []) (omega arith) (IsAscii-cons (48 + n % 10) [] (omega arith) IsAscii-nil)
+two_ascii n l =
+    IsAscii-cons (48 + n / 10) ((48 + n % 10) ∷ []) (omega arith)
+    (IsAscii-cons (48 + n % 10) [] (omega arith) IsAscii-nil)
 
 dash_ascii : (s : List ℕ) → IsAscii s → IsAscii (45 ∷ s)
 dash_ascii s h = IsAscii-cons 45 s (omega arith) h
@@ -35,7 +38,8 @@ dash_ascii s h = IsAscii-cons 45 s (omega arith) h
 date_ascii : (y m d : ℕ) → y < 10000 → m < 100 → d < 100 → IsAscii (date_text y m d)
 date_ascii y m d a b c =
     let day = dash_ascii (two_digits d) (two_ascii d c) in
-    let month = dash_ascii (two_digits m ++ 45 ∷ two_digits d) (IsAscii-append (two_digits m) (45 ∷ two_digits d) (two_ascii m b) day) in
+    let month = dash_ascii (two_digits m ++ 45 ∷ two_digits d)
+    (IsAscii-append (two_digits m) (45 ∷ two_digits d) (two_ascii m b) day) in
     let rest = 45 ∷ (two_digits m ++ 45 ∷ two_digits d) in
     let year = IsAscii-append (two_digits (y % 100)) rest (two_ascii (y % 100) (omega arith)) month in
     IsAscii-append (two_digits (y / 100)) (two_digits (y % 100) ++ rest) (two_ascii (y / 100) (omega arith)) year
@@ -47,7 +51,8 @@ day_ascii d day =
     let range = year_range d (pos (year_of d)) (month_of d) (day_of_month d) day has in
     let short = days_in_month_bounds (pos (year_of d)) (month_of d) in
     let is = has.0 in
-    date_ascii (year_of d) (month_of d) (day_of_month d) (omega (arith, signed_arith, range)) (omega (arith, is)) (omega (arith, is, short))
+    date_ascii (year_of d) (month_of d) (day_of_month d) (omega (arith, signed_arith, range)) (omega (arith, is))
+    (omega (arith, is, short))
 
 pub day_kept : (d : ℤ) → IsDay d → text_of (day_text d) ≡ day_text d
 day_kept d day = text_kept (day_text d) (day_ascii d day)
@@ -61,15 +66,18 @@ row_ascii : (k n : ℕ) → IsAscii (digit_row k n)
 row_ascii zero n = IsAscii-nil
 row_ascii (suc k) n = IsAscii-push (digit_row k (n / 10)) (48 + n % 10) (row_ascii k (n / 10)) (omega arith)
 
-dec_ascii_by : (n places : ℕ) (b : Bool) → n < 2 ^ 128 → IsAscii (if b then decimal n else decimal (n / 10 ^ places) ++ 46 ∷ digit_row places n)
+dec_ascii_by : (n places : ℕ) (b : Bool) → n < 2 ^ 128
+    → IsAscii (if b then decimal n else decimal (n / 10 ^ places) ++ 46 ∷ digit_row places n)
 dec_ascii_by n places true h = decimal_ascii n h
 dec_ascii_by n places false h =
-    IsAscii-append (decimal (n / 10 ^ places)) (46 ∷ digit_row places n) (decimal_ascii (n / 10 ^ places) (omega (arith, div-le_self n (10 ^ places))))
+    IsAscii-append (decimal (n / 10 ^ places)) (46 ∷ digit_row places n)
+    (decimal_ascii (n / 10 ^ places) (omega (arith, div-le_self n (10 ^ places))))
     (IsAscii-cons 46 (digit_row places n) (omega arith) (row_ascii places n))
 
 dec_ascii : (z : ℤ) (places : ℕ) → unsigned_abs z < 2 ^ 128 → IsAscii (dec_text z places)
 dec_ascii (pos n) places h = dec_ascii_by n places (places == 0) h
-dec_ascii (negsuc n) places h = IsAscii-cons 45 (unsigned_dec (suc n) places) (omega arith) (dec_ascii_by (suc n) places (places == 0) h)
+dec_ascii (negsuc n) places h =
+    IsAscii-cons 45 (unsigned_dec (suc n) places) (omega arith) (dec_ascii_by (suc n) places (places == 0) h)
 
 pub number_kept : (z : ℤ) (places : ℕ) → FitsSigned w128 z → text_of (dec_text z places) ≡ dec_text z places
 number_kept z places f = text_kept (dec_text z places) (dec_ascii z places (small_abs z f))

@@ -9,11 +9,14 @@ use Rattle.irs_base.specs.Rounding.{rounded}
 use Rattle.irs_base.specs.declared.rounding.Direction.TheVariants.{Nearest}
 use Rattle.irs_emit.proofs.LeafTexts.{text_kept}
 use Rattle.irs_base.proofs.VisibleTexts.{Visible, day_visible}
-use Rattle.irs_emit.proofs.LeafTextsRead.{count_back, count_visible, currency_back, currency_visible, day_back, fraction_back, number_back, number_visible, visible_text}
-use Rattle.irs_emit.specs.LeafLaws.{DayReadsBack, AmountReadsBack, NotionalReadsBack, RateReadsBack, CountReadsBack, FractionReadsBack, CurrencyReadsBack}
+use Rattle.irs_emit.proofs.LeafTextsRead.{count_back, count_visible, currency_back, currency_visible, day_back}
+use Rattle.irs_emit.proofs.LeafTextsRead.{fraction_back, number_back, number_visible, visible_text}
+use Rattle.irs_emit.specs.LeafLaws.{DayReadsBack, AmountReadsBack, NotionalReadsBack, RateReadsBack, CountReadsBack}
+use Rattle.irs_emit.specs.LeafLaws.{FractionReadsBack, CurrencyReadsBack}
 use Rattle.jiff_core.proofs.SignedLemmas.{signed_arith}
 use Rattle.serde_json.specs.Data.{string}
-use Rattle.std.proofs.Common.{◌≡◌, ℕ, ◌/◌, ◌^◌, ◌<◌, ◌≤◌, ◌-◌, ◌==◌, List, [], ◌∷◌, length, ℤ, pos, negsuc, ◌*ℤ◌, ◌≤ℤ◌, unsigned_abs, true, Option, Some, option_and_then, option_map, ap, ◌∙◌, arith}
+use Rattle.std.proofs.Common.{◌≡◌, ℕ, ◌/◌, ◌^◌, ◌<◌, ◌≤◌, ◌-◌, ◌==◌, List, [], ◌∷◌, length, ℤ, pos, negsuc, ◌*ℤ◌, ◌≤ℤ◌}
+use Rattle.std.proofs.Common.{unsigned_abs, true, Option, Some, option_and_then, option_map, ap, ◌∙◌, arith}
 use Rattle.std.proofs.lemmas.Bool.Decides.{nat_tests}
 use Rattle.std.proofs.lemmas.Str.Ascii.{IsAscii-nil, IsAscii-cons}
 use Rattle.std.specs.Fmt.{signed_decimal}
@@ -29,7 +32,8 @@ said_text f s h = ap (option_and_then f) (visible_text s h)
 pub day_reads : DayReadsBack
 day_reads d h = said_text day_at (day_text d) (day_visible d) ∙ day_back d h
 
-number_reads : (z : ℤ) (p : ℕ) → p ≤ 12 → unsigned_abs z / 10 ^ p < 10 ^ 18 → said amount_at (Some (string (dec_text z p))) ≡ Some (z *ℤ pos (10 ^ (12 - p)))
+number_reads : (z : ℤ) (p : ℕ) → p ≤ 12 → unsigned_abs z / 10 ^ p < 10 ^ 18
+    → said amount_at (Some (string (dec_text z p))) ≡ Some (z *ℤ pos (10 ^ (12 - p)))
 number_reads z p l h = said_text amount_at (dec_text z p) (number_visible z p h) ∙ number_back z p l h
 
 pub amount_reads : AmountReadsBack
@@ -44,8 +48,11 @@ rate_reads z h = number_reads z 9 (omega arith) h
 pub count_reads : CountReadsBack
 count_reads n h = said_text whole_at (signed_decimal n) (count_visible n h) ∙ count_back n h
 
-fraction_read : (z : ℤ) → pos 0 ≤ℤ z → unsigned_abs z / 10 ^ 10 < 10 ^ 18 → option_map stated (said fraction_at (Some (string (dec_text z 10)))) ≡ Some (record { units = z; places = 10 })
-fraction_read (pos n) some h = ap (option_map stated) (said_text fraction_at (dec_text (pos n) 10) (number_visible (pos n) 10 h) ∙ fraction_back n h)
+fraction_read : (z : ℤ) → pos 0 ≤ℤ z → unsigned_abs z / 10 ^ 10 < 10 ^ 18
+    → option_map stated (said fraction_at (Some (string (dec_text z 10)))) ≡ Some (record { units = z; places = 10 })
+fraction_read (pos n) some h =
+    ap (option_map stated) (said_text fraction_at (dec_text (pos n) 10) (number_visible (pos n) 10 h)
+    ∙ fraction_back n h)
 fraction_read (negsuc n) some h = absurd (omega (arith, signed_arith, some))
 
 pub fraction_reads : FractionReadsBack
@@ -56,10 +63,13 @@ below c e = grind (arith, nat_tests)
 
 capitals_ascii : (s : List ℕ) → list_all is_capital s ≡ true → IsAscii s
 capitals_ascii [] h = IsAscii-nil
-capitals_ascii (c ∷ cs) h = let b = both_true (is_capital c) (list_all is_capital cs) h in IsAscii-cons c cs (below c b.0) (capitals_ascii cs b.1)
+capitals_ascii (c ∷ cs) h = let b = both_true (is_capital c) (list_all is_capital cs) h in
+    IsAscii-cons c cs (below c b.0) (capitals_ascii cs b.1)
 
 pub currency_ascii : (s : List ℕ) → is_currency s ≡ true → IsAscii s
 currency_ascii s h = capitals_ascii s (both_true (length s == 3) (list_all is_capital s) h).1
 
 pub currency_reads : CurrencyReadsBack
-currency_reads c h = ap (λ s. said currency_at (Some (string s))) (text_kept c.letters (currency_ascii c.letters h)) ∙ said_text currency_at c.letters (currency_visible c.letters h) ∙ currency_back c.letters h
+currency_reads c h =
+    ap (λ s. said currency_at (Some (string s))) (text_kept c.letters (currency_ascii c.letters h))
+    ∙ said_text currency_at c.letters (currency_visible c.letters h) ∙ currency_back c.letters h

@@ -4,10 +4,13 @@ use Rattle.json.specs.Lex.{Lexeme, token, comma, colon, string_token, lex, betwe
 use Rattle.json.specs.Print.{escape, quoted}
 use Rattle.json.proofs.Printed.Strings.{content-escape, lex-escape}
 use Rattle.json.specs.Json as json
-use Rattle.serde_json.specs.Data.{Data, null, boolean, number, string, array, object, Items, no_items, item, Members, no_members, member, put, depth, items_depth, members_depth}
+use Rattle.serde_json.specs.Data.{Data, null, boolean, number, string, array, object, Items, no_items, item, Members}
+use Rattle.serde_json.specs.Data.{no_members, member, put, depth, items_depth, members_depth}
 use Rattle.serde_json.specs.Read.{of_json, max_depth, read}
-use Rattle.serde_json.specs.Written.{comma_if, compact_text, has_float, items_have_float, items_text, members_have_float, members_text}
-use Rattle.std.proofs.Common.{◌≡◌, ℕ, ◌-◌, ◌<◌, ◌≤◌, List, [], ◌∷◌, ◌++◌, Bool, true, false, ◌||◌, Ordering, Less, Equal, Greater, nat_cmp, refl, sym, ap, ap₂, ◌∙◌, append_assoc, append-nil, arith}
+use Rattle.serde_json.specs.Written.{comma_if, compact_text, has_float, items_have_float, items_text}
+use Rattle.serde_json.specs.Written.{members_have_float, members_text}
+use Rattle.std.proofs.Common.{◌≡◌, ℕ, ◌-◌, ◌<◌, ◌≤◌, List, [], ◌∷◌, ◌++◌, Bool, true, false, ◌||◌, Ordering, Less}
+use Rattle.std.proofs.Common.{Equal, Greater, nat_cmp, refl, sym, ap, ap₂, ◌∙◌, append_assoc, append-nil, arith}
 use Rattle.std.specs.Cmp.Lexicographic.{slice_cmp}
 use Rattle.std.specs.Ordering.{match_ordering}
 use Rattle.std.specs.Prelude.{max, option_and_then}
@@ -32,14 +35,20 @@ abbrev mutual
   MembersBuilt n no_members = Unit {0}
   MembersBuilt n (member k d ms) = Built n d × MembersBuilt n ms
 
-put_by : (n : ℕ) (o : Ordering) (a b c : Members) → MembersBuilt n a → MembersBuilt n b → MembersBuilt n c → MembersBuilt n (match_ordering o a b c)
+put_by : (n : ℕ) (o : Ordering) (a b c : Members) → MembersBuilt n a → MembersBuilt n b → MembersBuilt n c
+    → MembersBuilt n (match_ordering o a b c)
 put_by n Less a b c p q r = p
 put_by n Equal a b c p q r = q
 put_by n Greater a b c p q r = r
 
-pub put_built : (n : ℕ) (k : List ℕ) (d : Data) (ms : Members) → Built n d → MembersBuilt n ms → MembersBuilt n (put k d ms)
+pub put_built : (n : ℕ) (k : List ℕ) (d : Data) (ms : Members) → Built n d → MembersBuilt n ms
+    → MembersBuilt n (put k d ms)
 put_built n k d no_members h t = (h, tt)
-put_built n k d (member l e ms) h t = put_by n (slice_cmp nat_cmp k l) (member k d (member l e ms)) (member l d ms) (member l e (put k d ms)) (h, t) (h, t.1) (t.0, put_built n k d ms h t.1)
+put_built n k d (member l e ms) h t =
+    put_by n (slice_cmp nat_cmp k l) (member k d (member l e ms)) (member l d ms) (member l e (put k d ms)) (h, t) (
+      h,
+      t.1,
+    ) (t.0, put_built n k d ms h t.1)
 
 -- ---- how deep they nest
 
@@ -61,7 +70,8 @@ mutual
 
   members_within : (n : ℕ) (ms : Members) → MembersBuilt n ms → members_depth ms ≤ n
   members_within n no_members h = omega arith
-  members_within n (member k d ms) h = max_within (depth d) (members_depth ms) n (built_depth n d h.0) (members_within n ms h.1)
+  members_within n (member k d ms) h =
+      max_within (depth d) (members_depth ms) n (built_depth n d h.0) (members_within n ms h.1)
 
 -- ---- they have no float
 
@@ -79,11 +89,13 @@ mutual
 
   items_floatless : (n : ℕ) (ds : Items) → ItemsBuilt n ds → items_have_float ds ≡ false
   items_floatless n no_items h = refl
-  items_floatless n (item d ds) h = neither (has_float d) (items_have_float ds) (built_floatless n d h.0) (items_floatless n ds h.1)
+  items_floatless n (item d ds) h =
+      neither (has_float d) (items_have_float ds) (built_floatless n d h.0) (items_floatless n ds h.1)
 
   members_floatless : (n : ℕ) (ms : Members) → MembersBuilt n ms → members_have_float ms ≡ false
   members_floatless n no_members h = refl
-  members_floatless n (member k d ms) h = neither (has_float d) (members_have_float ms) (built_floatless n d h.0) (members_floatless n ms h.1)
+  members_floatless n (member k d ms) h =
+      neither (has_float d) (members_have_float ms) (built_floatless n d h.0) (members_floatless n ms h.1)
 
 -- ---- their lexemes don't depend on what follows
 
@@ -91,7 +103,11 @@ abbrev Lexes : List ℕ → Type 0
 Lexes t = (ls : List Lexeme) × ((r : List ℕ) → lex between (t ++ r) ≡ ls ++ lex between r)
 
 then : (a b : List ℕ) → Lexes a → Lexes b → Lexes (a ++ b)
-then a b x y = (x.0 ++ y.0, λ r. ap (lex between) (append_assoc a b r) ∙ x.1 (b ++ r) ∙ ap (λ l. x.0 ++ l) (y.1 r) ∙ sym (append_assoc x.0 y.0 (lex between r)))
+then a b x y = (
+  x.0 ++ y.0,
+  λ r. ap (lex between) (append_assoc a b r) ∙ x.1 (b ++ r) ∙ ap (λ l. x.0 ++ l) (y.1 r)
+      ∙ sym (append_assoc x.0 y.0 (lex between r)),
+)
 
 nothing : Lexes []
 nothing = ([], λ r. refl)
@@ -141,14 +157,17 @@ mutual
 
   lexes_items : (n : ℕ) (later : Bool) (ds : Items) → ItemsBuilt n ds → Lexes (items_text later ds)
   lexes_items n later no_items h = close_bracket
-  lexes_items n later (item d ds) h = then (comma_if later) (compact_text d ++ items_text true ds) (a_comma later) (then (compact_text d) (items_text true ds) (lexes_value n d h.0) (lexes_items n true ds h.1))
+  lexes_items n later (item d ds) h =
+      then (comma_if later) (compact_text d ++ items_text true ds) (a_comma later)
+      (then (compact_text d) (items_text true ds) (lexes_value n d h.0) (lexes_items n true ds h.1))
 
   lexes_members : (n : ℕ) (later : Bool) (ms : Members) → MembersBuilt n ms → Lexes (members_text later ms)
   lexes_members n later no_members h = close_brace
   lexes_members n later (member k d ms) h =
       let rest = compact_text d ++ members_text true ms in
       let value = then (compact_text d) (members_text true ms) (lexes_value n d h.0) (lexes_members n true ms h.1) in
-      then (comma_if later) (quoted k ++ 58 ∷ rest) (a_comma later) (then (quoted k) (58 ∷ rest) (lexes_quoted k) (a_colon rest value))
+      then (comma_if later) (quoted k ++ 58 ∷ rest) (a_comma later)
+      (then (quoted k) (58 ∷ rest) (lexes_quoted k) (a_colon rest value))
 
 line_feed_lexes : (t : List ℕ) → Lexes t → lex between (t ++ 10 ∷ []) ≡ lex between t
 unfolding lex
@@ -156,4 +175,7 @@ line_feed_lexes t h = h.1 (10 ∷ []) ∙ sym (h.1 []) ∙ ap (lex between) (app
 
 -- the text with a line feed reads as without it
 pub line_feed : (n : ℕ) (d : Data) → Built n d → read (compact_text d ++ 10 ∷ []) ≡ read (compact_text d)
-line_feed n d h = ap (λ ls. option_and_then of_json (option_and_then (λ p. json.if_last p.0 p.1) (json.value max_depth (punctuate fresh ls)))) (line_feed_lexes (compact_text d) (lexes_value n d h))
+line_feed n d h =
+    ap (λ ls. option_and_then of_json
+    (option_and_then (λ p. json.if_last p.0 p.1) (json.value max_depth (punctuate fresh ls))))
+    (line_feed_lexes (compact_text d) (lexes_value n d h))

@@ -1,6 +1,9 @@
--- The rows of every schedule are short: their dates are days, their currency is three capital letters, and their numbers
+-- The rows of every schedule are short: their dates are days, their currency is three capital letters, and their
+-- numbers
 -- have at most 18 digits before the point.
-use Rattle.std.proofs.Common.{◌≡◌, ℕ, zero, suc, ◌+◌, ◌-◌, ◌*◌, ◌/◌, ◌^◌, ◌<◌, ◌≤◌, ◌==◌, true, List, [], ◌∷◌, length, All, Option, Some, None, IfSome, option_map, ℤ, pos, negsuc, ◌*ℤ◌, ◌≤ℤ◌, unsigned_abs, refl, sym, subst, arith}
+use Rattle.std.proofs.Common.{◌≡◌, ℕ, zero, suc, ◌+◌, ◌-◌, ◌*◌, ◌/◌, ◌^◌, ◌<◌, ◌≤◌, ◌==◌, true, List, [], ◌∷◌, length}
+use Rattle.std.proofs.Common.{All, Option, Some, None, IfSome, option_map, ℤ, pos, negsuc, ◌*ℤ◌, ◌≤ℤ◌, unsigned_abs}
+use Rattle.std.proofs.Common.{refl, sym, subst, arith}
 use Rattle.std.specs.Prelude.{slice_get}
 use Rattle.std.specs.List.{list_all}
 use Rattle.std.proofs.Math.Nat.{div-le_of_le-mul}
@@ -17,7 +20,8 @@ use Rattle.irs_base.specs.declared.line.Dec.{Dec}
 use Rattle.irs_base.specs.declared.rounding.Direction.TheVariants.{Nearest}
 use Rattle.irs_terms.specs.Lawful.{IsNotional, IsRate}
 use Rattle.irs_terms.specs.declared.codes.DayCountCode.{DayCountCode}
-use Rattle.irs_terms.specs.declared.codes.DayCountCode.TheVariants.{OneOne, ActActIsda, Act365Fixed, Act360, Thirty360, ThirtyE360, ThirtyE360Isda}
+use Rattle.irs_terms.specs.declared.codes.DayCountCode.TheVariants.{OneOne, ActActIsda, Act365Fixed, Act360, Thirty360}
+use Rattle.irs_terms.specs.declared.codes.DayCountCode.TheVariants.{ThirtyE360, ThirtyE360Isda}
 use Rattle.irs_terms.specs.declared.currency.Currency.{Currency}
 use Rattle.irs_terms.specs.declared.results.Exchange.{Exchange}
 use Rattle.irs_terms.specs.declared.results.Reset.{Reset}
@@ -27,16 +31,19 @@ use Rattle.irs_elements.specs.Words.{is_capital, is_currency}
 use Rattle.irs_audit.specs.StatedFlows.{stated_fraction}
 use Rattle.irs_emit.proofs.Bounds.{above_zero, few}
 use Rattle.irs_emit.specs.PartLaws.{IsPartShort}
-use Rattle.irs_emit.specs.RowLaws.{IsExchangeShort, IsPaymentShort, IsPeriodShort, IsResetShort, IsShort, IsShortAmount, IsShortRate}
+use Rattle.irs_emit.specs.RowLaws.{IsExchangeShort, IsPaymentShort, IsPeriodShort, IsResetShort, IsShort, IsShortAmount}
+use Rattle.irs_emit.specs.RowLaws.{IsShortRate}
 use Rattle.irs_schedule.proofs.WalkLemmas.{covers_within}
-use Rattle.irs_schedule.specs.Parts.{Covers, HasAmount, HasDays, IsAmount, IsCode, IsDatedExchange, IsDatedPayment, IsDatedReset, IsEntry, KeepsBounds, Part}
+use Rattle.irs_schedule.specs.Parts.{Covers, HasAmount, HasDays, IsAmount, IsCode, IsDatedExchange, IsDatedPayment}
+use Rattle.irs_schedule.specs.Parts.{IsDatedReset, IsEntry, KeepsBounds, Part}
 use Rattle.irs_schedule.specs.PeriodViews.{dated_period, period_at}
 use Rattle.irs_schedule.specs.declared.entries.PaymentEntry.{PaymentEntry}
 use Rattle.irs_schedule.specs.declared.entries.PeriodEntry.{PeriodEntry}
 
 -- ---- lists
 
-both : {X : Type 0} (P Q R : X → Type 0) (xs : List X) → ((x : X) → P x → Q x → R x) → Every P xs → Every Q xs → Every R xs
+both : {X : Type 0} (P Q R : X → Type 0) (xs : List X) → ((x : X) → P x → Q x → R x) → Every P xs → Every Q xs
+    → Every R xs
 both P Q R [] law h k = tt
 both P Q R (x ∷ xs) law h k = (law x h.0 k.0, both P Q R xs law h.1 k.1)
 
@@ -45,7 +52,8 @@ at_place P [] j h = tt
 at_place P (x ∷ xs) zero h = h.0
 at_place P (x ∷ xs) (suc j) h = at_place P xs j h.1
 
-of_map : {X Y : Type 0} (f : X → Y) (Q : Y → Type 0) (o : Option X) → IfSome o (λ x. Q (f x)) → IfSome (option_map f o) Q
+of_map : {X Y : Type 0} (f : X → Y) (Q : Y → Type 0) (o : Option X) → IfSome o (λ x. Q (f x))
+    → IfSome (option_map f o) Q
 of_map f Q None h = tt
 of_map f Q (Some x) h = h
 
@@ -79,7 +87,8 @@ few_short : (m : ℤ) → IsFew m → IsShort m 10
 few_short (pos n) h = omega (arith, signed_arith, h)
 few_short (negsuc n) h = absurd (omega (arith, signed_arith, h))
 
-over_code : (code : DayCountCode) (num m : ℤ) → (pos 0 ≤ℤ num) × (num ≤ℤ pos most_numerator) → Rounded Nearest (num *ℤ pos (10 ^ 10)) (denominator_of code) m → IsFew m
+over_code : (code : DayCountCode) (num m : ℤ) → (pos 0 ≤ℤ num) × (num ≤ℤ pos most_numerator)
+    → Rounded Nearest (num *ℤ pos (10 ^ 10)) (denominator_of code) m → IsFew m
 over_code OneOne num m h r = (omega (arith, signed_arith, h, r), omega (arith, signed_arith, h, r))
 over_code ActActIsda num m h r = (omega (arith, signed_arith, h, r), omega (arith, signed_arith, h, r))
 over_code Act365Fixed num m h r = (omega (arith, signed_arith, h, r), omega (arith, signed_arith, h, r))
@@ -92,7 +101,9 @@ fraction_few : (code : DayCountCode) (e : PeriodEntry) → IsEntry code e → Is
 fraction_few code e h =
     let num = e.frac.num *ℤ pos (10 ^ 10) in
     let P : ℤ → Type 0 = λ den. IsFew (rounded Nearest num den) in
-    subst P (sym h.denominator) (over_code code e.frac.num (rounded Nearest num (denominator_of code)) h.numerator (rounded_is Nearest num (denominator_of code) (above_zero code)))
+    subst P (sym h.denominator)
+    (over_code code e.frac.num (rounded Nearest num (denominator_of code)) h.numerator
+    (rounded_is Nearest num (denominator_of code) (above_zero code)))
 
 -- ---- a currency
 
@@ -104,20 +115,29 @@ IsCapital b = (65 ≤ b) × (b ≤ 90)
 
 capitals : (s : List ℕ) → All IsCapital s → list_all is_capital s ≡ true
 capitals [] h = refl
-capitals (c ∷ cs) h = true_both (is_capital c) (list_all is_capital cs) (capital c (All-head IsCapital c cs h)) (capitals cs (All-tail IsCapital c cs h))
+capitals (c ∷ cs) h =
+    true_both (is_capital c) (list_all is_capital cs) (capital c (All-head IsCapital c cs h))
+    (capitals cs (All-tail IsCapital c cs h))
 
 three_is : (n : ℕ) → n ≡ 3 → (n == 3) ≡ true
 three_is n e = grind (arith, nat_tests)
 
 code_is : (currency : Currency) → IsCode currency → is_currency currency.letters ≡ true
-code_is currency h = true_both (length currency.letters == 3) (list_all is_capital currency.letters) (three_is (length currency.letters) h.three) (capitals currency.letters h.capitals)
+code_is currency h =
+    true_both (length currency.letters == 3) (list_all is_capital currency.letters)
+    (three_is (length currency.letters) h.three) (capitals currency.letters h.capitals)
 
 -- ---- rows
 
 exchanges_short : (p : Part) → KeepsBounds p → Every IsExchangeShort p.exchanges
 exchanges_short p h =
     both IsDatedExchange (λ (x : Exchange). IsAmount p.currency x.amount) IsExchangeShort p.exchanges
-    (λ x days amount. record { unadjusted = days.0; adjusted = days.1; amount = amount_short p.currency x.amount amount }) h.dates.exchanges h.exchanged
+    (λ x days amount. record {
+      unadjusted = days.0;
+      adjusted = days.1;
+      amount =
+          amount_short p.currency x.amount amount;
+    }) h.dates.exchanges h.exchanged
 
 -- its periods are in order and among the first n
 abbrev IsSpan : ℕ → PaymentEntry → Type 0
@@ -135,7 +155,8 @@ IsPaidSpan p y = IsSpan (length p.periods) y × HasAmount p.currency y
 
 payments_short : (p : Part) → KeepsBounds p → Every (IsPaymentShort p) p.payments
 payments_short p h =
-    let paid = both (IsSpan (length p.periods)) (HasAmount p.currency) (IsPaidSpan p) p.payments (λ y span amount. (span, amount)) (spans 1 (length p.periods) p.payments (omega arith) h.covers) h.paid in
+    let paid = both (IsSpan (length p.periods)) (HasAmount p.currency) (IsPaidSpan p) p.payments
+    (λ y span amount. (span, amount)) (spans 1 (length p.periods) p.payments (omega arith) h.covers) h.paid in
     both IsDatedPayment (IsPaidSpan p) (IsPaymentShort p) p.payments
     (λ y days paid. record {
       currency = code_is p.currency h.currency;
@@ -150,9 +171,15 @@ payments_short p h =
 resets_short : (p : Part) → KeepsBounds p → Every IsResetShort p.resets
 resets_short p h =
     both IsDatedReset (λ (r : Reset). IfSome r.observed IsRate) IsResetShort p.resets
-    (λ r days observed. record { reset = days.0; fixing = days.1; observed = IfSome_then r.observed observed observed_short }) h.dates.resets h.observed
+    (λ r days observed. record {
+      reset = days.0;
+      fixing = days.1;
+      observed =
+          IfSome_then r.observed observed observed_short;
+    }) h.dates.resets h.observed
 
-period_short : (p : Part) (j : ℕ) (e : PeriodEntry) → HasDays p → IsEntry p.day_count e → IsPeriodShort (dated_period p (j + 1) e)
+period_short : (p : Part) (j : ℕ) (e : PeriodEntry) → HasDays p → IsEntry p.day_count e
+    → IsPeriodShort (dated_period p (j + 1) e)
 period_short p j e days h =
     let fraction = fraction_few p.day_count e h in
     record {
@@ -168,7 +195,10 @@ period_short p j e days h =
     }
 
 periods_short : (p : Part) (j : ℕ) → KeepsBounds p → IfSome (period_at p j) IsPeriodShort
-periods_short p j h = of_map (dated_period p (j + 1)) IsPeriodShort (slice_get p.periods j) (IfSome_then (slice_get p.periods j) (at_place (IsEntry p.day_count) p.periods j h.entries) (λ e entry. period_short p j e h.dates entry))
+periods_short p j h =
+    of_map (dated_period p (j + 1)) IsPeriodShort (slice_get p.periods j)
+    (IfSome_then (slice_get p.periods j) (at_place (IsEntry p.day_count) p.periods j h.entries)
+    (λ e entry. period_short p j e h.dates entry))
 
 part_short : (p : Part) → KeepsBounds p → IsPartShort p
 part_short p h = record {

@@ -1,6 +1,7 @@
 -- The cash flows of a schedule as a JSON value, in FpML's elements: a row for each row of the schedule,
 -- each field of it that is known, and no other. Members stand in the byte order of their names.
-use Rattle.std.specs.Prelude.{ℕ, zero, suc, ◌+◌, ◌-◌, List, [], ◌∷◌, ◌++◌, map, Option, Some, None, option_map, slice_get, codes}
+use Rattle.std.specs.Prelude.{ℕ, zero, suc, ◌+◌, ◌-◌, List, [], ◌∷◌, ◌++◌, map, Option, Some, None, option_map}
+use Rattle.std.specs.Prelude.{slice_get, codes}
 use Rattle.irs_terms.specs.declared.currency.Currency.{Currency}
 use Rattle.irs_terms.specs.declared.results.Exchange.{Exchange}
 use Rattle.irs_terms.specs.declared.results.Reset.{Reset}
@@ -8,7 +9,8 @@ use Rattle.irs_schedule.specs.Parts.{Part}
 use Rattle.irs_schedule.specs.PeriodViews.{period_at}
 use Rattle.irs_schedule.specs.declared.entries.PaymentEntry.{PaymentEntry}
 use Rattle.irs_schedule.specs.declared.views.CalculationPeriod.{CalculationPeriod}
-use Rattle.irs_emit.specs.Leaves.{amount_leaf, count_leaf, currency_leaf, day_leaf, fraction_leaf, notional_leaf, rate_leaf}
+use Rattle.irs_emit.specs.Leaves.{amount_leaf, count_leaf, currency_leaf, day_leaf, fraction_leaf, notional_leaf}
+use Rattle.irs_emit.specs.Leaves.{rate_leaf}
 use Rattle.serde_json.specs.Data.{Data, string, array, object, Members, no_members, put}
 use Rattle.serde_json.specs.View.{items_of}
 use Rattle.serde_json.specs.Written.{compact_text}
@@ -99,7 +101,8 @@ period_values p j (suc n) = period_values p j n ++ one_period p (j + n)
 unfoldable pub payment_value : Part → PaymentEntry → Data
 payment_value p y = object (
     put (codes "adjustedPaymentDate") (day_leaf y.adjusted)
-    (put (codes "calculationPeriod") (array_of (period_values p (y.first_period - 1) (y.last_period + 1 - y.first_period)))
+    (put (codes "calculationPeriod")
+    (array_of (period_values p (y.first_period - 1) (y.last_period + 1 - y.first_period)))
     (put (codes "forecastPaymentAmount") (forecast_value p.currency y)
     (put (codes "unadjustedPaymentDate") (day_leaf y.unadjusted)
     no_members))))

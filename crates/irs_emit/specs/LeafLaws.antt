@@ -7,7 +7,8 @@ use Rattle.irs_elements.specs.Dates.{day_at}
 use Rattle.irs_elements.specs.Fractions.{fraction_at}
 use Rattle.irs_elements.specs.Numbers.{amount_at, whole_at}
 use Rattle.irs_elements.specs.Words.{currency_at, is_currency}
-use Rattle.irs_emit.specs.Leaves.{amount_leaf, count_leaf, currency_leaf, day_leaf, fraction_leaf, notional_leaf, rate_leaf}
+use Rattle.irs_emit.specs.Leaves.{amount_leaf, count_leaf, currency_leaf, day_leaf, fraction_leaf, notional_leaf}
+use Rattle.irs_emit.specs.Leaves.{rate_leaf}
 use Rattle.irs_read.specs.Meaning.{said}
 use Rattle.irs_terms.specs.declared.currency.Currency.{Currency}
 use Rattle.irs_terms.specs.declared.results.Frac.{Frac}
@@ -19,15 +20,21 @@ DayReadsBack = (d : ℤ) → IsDay d → said day_at (Some (day_leaf d)) ≡ Som
 
 -- an amount, a notional and a rate with at most 18 digits before the point
 abbrev pub AmountReadsBack : Type 0
-AmountReadsBack = (v : Dec) → v.places ≤ 12 → unsigned_abs v.units / 10 ^ v.places < 10 ^ 18 → said amount_at (Some (amount_leaf v)) ≡ Some (stated_amount v)
+AmountReadsBack =
+    (v : Dec) → v.places ≤ 12 → unsigned_abs v.units / 10 ^ v.places < 10 ^ 18
+    → said amount_at (Some (amount_leaf v)) ≡ Some (stated_amount v)
 
 -- a notional
 abbrev pub NotionalReadsBack : Type 0
-NotionalReadsBack = (units : ℤ) → unsigned_abs units / 10 ^ 4 < 10 ^ 18 → said amount_at (Some (notional_leaf units)) ≡ Some (stated_number units 4)
+NotionalReadsBack =
+    (units : ℤ) → unsigned_abs units / 10 ^ 4 < 10 ^ 18
+    → said amount_at (Some (notional_leaf units)) ≡ Some (stated_number units 4)
 
 -- a rate
 abbrev pub RateReadsBack : Type 0
-RateReadsBack = (units : ℤ) → unsigned_abs units / 10 ^ 9 < 10 ^ 18 → said amount_at (Some (rate_leaf units)) ≡ Some (stated_number units 9)
+RateReadsBack =
+    (units : ℤ) → unsigned_abs units / 10 ^ 9 < 10 ^ 18
+    → said amount_at (Some (rate_leaf units)) ≡ Some (stated_number units 9)
 
 -- a number of days below 10^9 in size
 abbrev pub CountReadsBack : Type 0
@@ -35,7 +42,9 @@ CountReadsBack = (n : ℤ) → unsigned_abs n < 10 ^ 9 → said whole_at (Some (
 
 -- a fraction that isn't negative and is below 10^18
 abbrev pub FractionReadsBack : Type 0
-FractionReadsBack = (f : Frac) → pos 0 ≤ℤ (stated_fraction f).units → unsigned_abs (stated_fraction f).units / 10 ^ 10 < 10 ^ 18 → option_map stated (said fraction_at (Some (fraction_leaf f))) ≡ Some (stated_fraction f)
+FractionReadsBack =
+    (f : Frac) → pos 0 ≤ℤ (stated_fraction f).units → unsigned_abs (stated_fraction f).units / 10 ^ 10 < 10 ^ 18
+    → option_map stated (said fraction_at (Some (fraction_leaf f))) ≡ Some (stated_fraction f)
 
 -- a currency of three capital letters
 abbrev pub CurrencyReadsBack : Type 0

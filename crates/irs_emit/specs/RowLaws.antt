@@ -68,8 +68,11 @@ ResetReadsBack = (r : Reset) → IsResetShort r → reset_in (observation_value 
 
 -- that of a calculation period the period, with its reset
 abbrev pub PeriodReadsBack : Type 0
-PeriodReadsBack = (x : CalculationPeriod) (reset : Option Reset) → IsPeriodShort x → IfSome reset IsResetShort → period_in (period_value x reset) ≡ stated_period x reset
+PeriodReadsBack =
+    (x : CalculationPeriod) (reset : Option Reset) → IsPeriodShort x → IfSome reset IsResetShort
+    → period_in (period_value x reset) ≡ stated_period x reset
 
 -- and that of a payment the payment, with the number of its periods
 abbrev pub PaymentReadsBack : Type 0
-PaymentReadsBack = (p : Part) (y : PaymentEntry) → IsPaymentShort p y → payment_in (payment_value p y) ≡ stated_payment p.currency y
+PaymentReadsBack =
+    (p : Part) (y : PaymentEntry) → IsPaymentShort p y → payment_in (payment_value p y) ≡ stated_payment p.currency y

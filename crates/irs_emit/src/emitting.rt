@@ -6,7 +6,9 @@ ghost use Rattle.serde_json.specs.Written.{compact_text};
 ghost use Rattle.irs_json.specs.Reading.{Reads};
 ghost use Rattle.irs_emit.specs.Paid.{IsPaid};
 ghost use Rattle.irs_emit.specs.PartLaws.{StatesFlows};
-ghost use Rattle.irs_emit.specs.Emitted.{array_of, cashflows_value, emit_text, emit_value, exchange_value, known_exchanges, object_with, one_period, payment_value, period_values, stream_value};
+ghost use Rattle.irs_emit.specs.Emitted.{array_of, cashflows_value, emit_text, emit_value, exchange_value};
+ghost use Rattle.irs_emit.specs.Emitted.{known_exchanges, object_with, one_period, payment_value, period_values};
+ghost use Rattle.irs_emit.specs.Emitted.{stream_value};
 
 use crate::leaves;
 use crate::rows::{exchange, forecast, period, put_known};

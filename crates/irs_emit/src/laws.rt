@@ -1,5 +1,6 @@
 //! That each leaf reads back as its value, and each row as its flow.
-ghost use Rattle.irs_emit.specs.LeafLaws.{AmountReadsBack, CountReadsBack, CurrencyReadsBack, DayReadsBack, FractionReadsBack, NotionalReadsBack, RateReadsBack};
+ghost use Rattle.irs_emit.specs.LeafLaws.{AmountReadsBack, CountReadsBack, CurrencyReadsBack, DayReadsBack};
+ghost use Rattle.irs_emit.specs.LeafLaws.{FractionReadsBack, NotionalReadsBack, RateReadsBack};
 
 /// By the rules of cash flows each leaf reads back as the value that it was written for: a date, an
 /// amount, a notional, a rate, a number of days, a fraction and a currency. It does nothing but to say so.

@@ -4,7 +4,8 @@
 ghost use Rattle.std.specs.Prelude.{◌≡◌, ◌≤◌, IfOk, pos, ◌^◌, ◌<◌, ◌<ℤ◌, ◌*ℤ◌, unsigned_abs};
 ghost use Rattle.serde_json.specs.Data.{string};
 ghost use Rattle.serde_json.specs.View.{view};
-ghost use Rattle.irs_emit.specs.Leaves.{amount_leaf, count_leaf, currency_leaf, day_leaf, fraction_leaf, notional_leaf, number_leaf, rate_leaf, text_of};
+ghost use Rattle.irs_emit.specs.Leaves.{amount_leaf, count_leaf, currency_leaf, day_leaf, fraction_leaf, notional_leaf};
+ghost use Rattle.irs_emit.specs.Leaves.{number_leaf, rate_leaf, text_of};
 
 use irs_base::{Day, Dec, Direction, Line, Memory, round};
 use irs_terms::{Currency, Frac};

@@ -3,7 +3,8 @@
 ghost use Rattle.std.specs.Prelude.{◌≡◌, ◌≤◌, IfOk, IfSome, OnOk, pos, ◌<ℤ◌, option_map};
 ghost use Rattle.serde_json.specs.View.{members_view, view};
 ghost use Rattle.irs_schedule.specs.RowTexts.{IsFew};
-ghost use Rattle.irs_emit.specs.Emitted.{definition_value, exchange_value, fixed_value, floating_value, forecast_value, observation_value, period_members, period_value, put_known};
+ghost use Rattle.irs_emit.specs.Emitted.{definition_value, exchange_value, fixed_value, floating_value, forecast_value};
+ghost use Rattle.irs_emit.specs.Emitted.{observation_value, period_members, period_value, put_known};
 ghost use Rattle.irs_emit.specs.Leaves.{amount_leaf, rate_leaf};
 
 use crate::leaves;

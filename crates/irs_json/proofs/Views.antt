@@ -18,5 +18,6 @@ present-filled : (vs : List Value) → 0 < length vs → Some (array (items_view
 present-filled [] h = absurd (omega arith)
 present-filled (v ∷ vs) h = refl
 
-pub present-Array : (v : Value) (l : Vec Value Global) → v ≡ Array l → 0 < length l.items → Some (view v) ≡ present (view v)
+pub present-Array : (v : Value) (l : Vec Value Global) → v ≡ Array l → 0 < length l.items
+    → Some (view v) ≡ present (view v)
 present-Array v l is h = rw (is, view-Array l) (present-filled l.items h)

@@ -4,7 +4,8 @@ use Rattle.irs_json.specs.Names.{names_of}
 use Rattle.irs_json.specs.Trim.{trim}
 use Rattle.serde_json.specs.Data.{Num, unsigned, negative, float, Data, null, boolean, number, string, array, object}
 use Rattle.std.specs.List.{list_all}
-use Rattle.std.specs.Prelude.{ℕ, ℤ, pos, Bool, false, ◌||◌, ◌==◌, List, [], ◌∷◌, Option, Some, None, option_and_then, if◌then◌else◌, codes}
+use Rattle.std.specs.Prelude.{ℕ, ℤ, pos, Bool, false, ◌||◌, ◌==◌, List, [], ◌∷◌, Option, Some, None, option_and_then}
+use Rattle.std.specs.Prelude.{if◌then◌else◌, codes}
 use Rattle.std.specs.Str.{bytes_eq}
 
 -- a text, a whole number or a truth value
@@ -40,7 +41,8 @@ is_beside name = bytes_eq name (codes "#text") || is_attribute name
 -- what d says, names being those of its elements where it is an object
 abbrev pub leaf_among : Option (List (List ℕ)) → Data → Option Leaf
 leaf_among None d = bare_leaf d
-leaf_among (Some names) d = if list_all is_beside names then option_and_then bare_leaf (child_of (codes "#text") d) else None
+leaf_among (Some names) d =
+    if list_all is_beside names then option_and_then bare_leaf (child_of (codes "#text") d) else None
 
 -- what d says as a leaf: an object with `#text` and otherwise attributes alone says what its
 -- `#text` says

@@ -1,5 +1,6 @@
 -- The names of the elements that an object holds.
-use Rattle.serde_json.specs.Data.{Data, null, boolean, number, string, array, object, no_items, item, Members, no_members, member}
+use Rattle.serde_json.specs.Data.{Data, null, boolean, number, string, array, object, no_items, item, Members}
+use Rattle.serde_json.specs.Data.{no_members, member}
 use Rattle.std.specs.Prelude.{ℕ, List, [], ◌∷◌, Option, Some, None}
 
 -- the names of the members that don't count as absent, in the order in which they stand

@@ -48,7 +48,8 @@ impl<'a> Iterator for MemberIter<'a> {
 pub fn members<'a>(v: &'a Value) -> Option<MemberIter<'a>>
     ensures names { result ≡ names_of (view v.now) }
     ensures rising { IfSome result (λ names. IsStrictlySortedBy (slice_cmp nat_cmp) names) }
-    ensures found { IfSome result (λ names. (name : List ℕ) → (Contains names name ↔ IsSome (child_of name (view v.now)))) }
+    ensures found { IfSome result (λ names. (name : List ℕ)
+        → (Contains names name ↔ IsSome (child_of name (view v.now)))) }
 {
     match v {
         Value::Object(map) => Some(MemberIter { left: map.iter() }),

@@ -4,7 +4,8 @@ ghost use Rattle.irs_json.specs.Trim.{NoSpaceFirst, NoSpaceLast, is_space, trim_
 
 // The text after a first byte of white space.
 fn after_space(text: &str) -> Option<&str>
-    ensures { MatchOption result (NoSpaceFirst text.now) (λ rest. (x : ℕ) × ((text.now ≡ x ∷ rest.now) × (is_space x ≡ true))) }
+    ensures { MatchOption result (NoSpaceFirst text.now) (λ rest. (x : ℕ)
+        × ((text.now ≡ x ∷ rest.now) × (is_space x ≡ true))) }
 {
     if let Some(rest) = text.strip_prefix(' ') {
         return Some(rest);
@@ -23,7 +24,8 @@ fn after_space(text: &str) -> Option<&str>
 
 // The text before a last byte of white space.
 fn before_space(text: &str) -> Option<&str>
-    ensures { MatchOption result (NoSpaceLast text.now) (λ rest. (x : ℕ) × ((text.now ≡ rest.now ++ x ∷ []) × (is_space x ≡ true))) }
+    ensures { MatchOption result (NoSpaceLast text.now) (λ rest. (x : ℕ)
+        × ((text.now ≡ rest.now ++ x ∷ []) × (is_space x ≡ true))) }
 {
     if let Some(rest) = text.strip_suffix(' ') {
         return Some(rest);

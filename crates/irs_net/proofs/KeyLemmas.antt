@@ -1,5 +1,6 @@
 -- Dates with currencies, in their order.
-use Rattle.std.proofs.Common.{◌≡◌, ◌⊎◌, inl, inr, ℕ, zero, suc, ◌<◌, true, List, [], ◌∷◌, length, get_or, Contains, refl, sym, ap, ap₂, subst, ◌∙◌, ℤ, arith}
+use Rattle.std.proofs.Common.{◌≡◌, ◌⊎◌, inl, inr, ℕ, zero, suc, ◌<◌, true, List, [], ◌∷◌, length, get_or, Contains}
+use Rattle.std.proofs.Common.{refl, sym, ap, ap₂, subst, ◌∙◌, ℤ, arith}
 use Rattle.std.specs.List.{AllByRecursion}
 use Rattle.std.specs.List.Sorted.{IsStrictlySortedBy}
 use Rattle.std.proofs.lemmas.Map.Keys.{sorted_head, sorted_tail}
@@ -14,7 +15,9 @@ use Rattle.irs_net.specs.Nets.{key_order, same_key}
 use Rattle.irs_net.specs.declared.totals.NetKey.{NetKey}
 
 pub keys_total : IsTotalOrder key_order
-keys_total = then_total (on_total (λ (k : NetKey). k.date) int_cmp_total) (on_total (λ (k : NetKey). k.letters) nat_list_cmp_total)
+keys_total =
+    then_total (on_total (λ (k : NetKey). k.date) int_cmp_total)
+    (on_total (λ (k : NetKey). k.letters) nat_list_cmp_total)
 
 pub keys_equiv : IsEquivalence same_key
 keys_equiv = eq_by_cmp_equiv keys_total
@@ -45,7 +48,8 @@ same_keys a b e = tied_keys a b (is_equal (key_order a b) e)
 -- ---- two rising lists with the same members are the same
 
 module _ {K : Type 0} where
-  read_at : (P : K → Type 0) (xs : List K) (k : ℕ) (q : K) → k < length xs → get_or xs k q ≡ q → AllByRecursion P xs → P q
+  read_at : (P : K → Type 0) (xs : List K) (k : ℕ) (q : K) → k < length xs → get_or xs k q ≡ q
+      → AllByRecursion P xs → P q
   read_at P [] k q low e h = absurd (omega (arith, low))
   read_at P (x ∷ xs) zero q low e h = subst P e h.0
   read_at P (x ∷ xs) (suc k) q low e h = read_at P xs k q (omega (arith, low)) e h.1
@@ -53,7 +57,8 @@ module _ {K : Type 0} where
   pub read_all : (P : K → Type 0) (xs : List K) (q : K) → Contains xs q → AllByRecursion P xs → P q
   read_all P xs q c h = read_at P xs c.0 q c.1 c.2 h
 
-  cases_at : (x : K) (xs : List K) (k : ℕ) (q : K) → k < length (x ∷ xs) → get_or (x ∷ xs) k q ≡ q → (x ≡ q) ⊎ Contains xs q
+  cases_at : (x : K) (xs : List K) (k : ℕ) (q : K) → k < length (x ∷ xs) → get_or (x ∷ xs) k q ≡ q
+      → (x ≡ q) ⊎ Contains xs q
   cases_at x xs zero q low e = inl e
   cases_at x xs (suc k) q low e = inr (k, omega (arith, low), e)
 
@@ -71,27 +76,34 @@ module _ {K : Type 0} where
 
 module _ {R : NetKey → NetKey → Ordering} (o : IsTotalOrder R) where
   not_both : (x y : NetKey) → R x y ≡ Less → R y x ≡ Less → ⊥
-  not_both x y a b = let e = o.antisymm x y in let f : Less ≡ ordering_reverse Less = sym a ∙ e ∙ ap ordering_reverse b in absurd (cc)
+  not_both x y a b = let e = o.antisymm x y in
+      let f : Less ≡ ordering_reverse Less = sym a ∙ e ∙ ap ordering_reverse b in absurd (cc)
 
   not_itself : (x y : NetKey) → x ≡ y → R x y ≡ Less → ⊥
-  not_itself x y e a = let f : R y y ≡ Less = subst (λ (z : NetKey). R z y ≡ Less) e a in let g : R y y ≡ Equal = tied_itself o y in absurd (cc)
+  not_itself x y e a = let f : R y y ≡ Less = subst (λ (z : NetKey). R z y ≡ Less) e a in
+      let g : R y y ≡ Equal = tied_itself o y in absurd (cc)
 
-  same_heads : (x : NetKey) (xs : List NetKey) (y : NetKey) (ys : List NetKey) → IsStrictlySortedBy R (x ∷ xs) → IsStrictlySortedBy R (y ∷ ys) → Contains (y ∷ ys) x → Contains (x ∷ xs) y → x ≡ y
+  same_heads : (x : NetKey) (xs : List NetKey) (y : NetKey) (ys : List NetKey) → IsStrictlySortedBy R (x ∷ xs)
+      → IsStrictlySortedBy R (y ∷ ys) → Contains (y ∷ ys) x → Contains (x ∷ xs) y → x ≡ y
   same_heads x xs y ys s t c d = elim (cons_cases y ys x c) [
     | inl e ↦ sym e
     | inr later ↦ elim (cons_cases x xs y d) [
       | inl e ↦ e
-      | inr after ↦ absurd (not_both x y (read_all (λ z. R x z ≡ Less) xs y after (sorted_head R x xs s)) (read_all (λ z. R y z ≡ Less) ys x later (sorted_head R y ys t)))
+      | inr after ↦
+          absurd (not_both x y (read_all (λ z. R x z ≡ Less) xs y after (sorted_head R x xs s))
+          (read_all (λ z. R y z ≡ Less) ys x later (sorted_head R y ys t)))
     ]
   ]
 
-  in_tail : (x : NetKey) (xs : List NetKey) (y : NetKey) (ys : List NetKey) (q : NetKey) → x ≡ y → IsStrictlySortedBy R (x ∷ xs) → Contains xs q → Contains (y ∷ ys) q → Contains ys q
+  in_tail : (x : NetKey) (xs : List NetKey) (y : NetKey) (ys : List NetKey) (q : NetKey) → x ≡ y
+      → IsStrictlySortedBy R (x ∷ xs) → Contains xs q → Contains (y ∷ ys) q → Contains ys q
   in_tail x xs y ys q e s c d = elim (cons_cases y ys q d) [
     | inl same ↦ absurd (not_itself x q (e ∙ same) (read_all (λ z. R x z ≡ Less) xs q c (sorted_head R x xs s)))
     | inr later ↦ later
   ]
 
-  same_lists : (xs ys : List NetKey) → IsStrictlySortedBy R xs → IsStrictlySortedBy R ys → ((q : NetKey) → Contains xs q → Contains ys q) → ((q : NetKey) → Contains ys q → Contains xs q) → xs ≡ ys
+  same_lists : (xs ys : List NetKey) → IsStrictlySortedBy R xs → IsStrictlySortedBy R ys
+      → ((q : NetKey) → Contains xs q → Contains ys q) → ((q : NetKey) → Contains ys q → Contains xs q) → xs ≡ ys
   same_lists [] [] s t to from = refl
   same_lists [] (y ∷ ys) s t to from = absurd (none_in y (from y (head_in y ys)))
   same_lists (x ∷ xs) [] s t to from = absurd (none_in x (to x (head_in x xs)))
@@ -102,5 +114,6 @@ module _ {R : NetKey → NetKey → Ordering} (o : IsTotalOrder R) where
       (λ q c. in_tail y ys x xs q (sym e) t c (from q (tail_in y ys q c))))
 
 -- rising lists of keys with the same members are the same
-pub same_sorted : (xs ys : List NetKey) → IsStrictlySortedBy key_order xs → IsStrictlySortedBy key_order ys → ((q : NetKey) → Contains xs q → Contains ys q) → ((q : NetKey) → Contains ys q → Contains xs q) → xs ≡ ys
+pub same_sorted : (xs ys : List NetKey) → IsStrictlySortedBy key_order xs → IsStrictlySortedBy key_order ys
+    → ((q : NetKey) → Contains xs q → Contains ys q) → ((q : NetKey) → Contains ys q → Contains xs q) → xs ≡ ys
 same_sorted xs ys s t to from = same_lists keys_total xs ys s t to from

@@ -19,7 +19,8 @@ all_of : (P : NetKey → Type 0) (ks : List NetKey) → ((q : NetKey) → Contai
 all_of P [] each = tt
 all_of P (k ∷ ks) each = (each k (head_in k ks), all_of P ks (λ q c. each q (tail_in k ks q c)))
 
-put_before : (k : NetKey) (ks : List NetKey) → ((q : NetKey) → Contains ks q → key_order k q ≡ Less) → IsStrictlySortedBy key_order ks → IsStrictlySortedBy key_order (k ∷ ks)
+put_before : (k : NetKey) (ks : List NetKey) → ((q : NetKey) → Contains ks q → key_order k q ≡ Less)
+    → IsStrictlySortedBy key_order ks → IsStrictlySortedBy key_order (k ∷ ks)
 unfolding IsStrictlySortedBy
 put_before k ks below sorted = (all_of (λ q. key_order k q ≡ Less) ks below, sorted)
 
@@ -31,19 +32,22 @@ record Placed (k : NetKey) (ks : List NetKey) : Type 0 where
   keeps : (q : NetKey) → Contains ks q → Contains keys q
   only : (q : NetKey) → Contains keys q → (k ≡ q) ⊎ Contains ks q
 
-after_head : (x : NetKey) (xs : List NetKey) → IsStrictlySortedBy key_order (x ∷ xs) → (q : NetKey) → Contains xs q → key_order x q ≡ Less
+after_head : (x : NetKey) (xs : List NetKey) → IsStrictlySortedBy key_order (x ∷ xs) → (q : NetKey) → Contains xs q
+    → key_order x q ≡ Less
 after_head x xs sorted q c = read_all (λ y. key_order x y ≡ Less) xs q c (sorted_head key_order x xs sorted)
 
 from_greater : (k x : NetKey) → key_order k x ≡ Greater → key_order x k ≡ Less
 from_greater k x e = keys_total.antisymm x k ∙ ap ordering_reverse e
 
-in_front : (k x : NetKey) (xs : List NetKey) → IsStrictlySortedBy key_order (x ∷ xs) → key_order k x ≡ Less → (q : NetKey) → Contains (x ∷ xs) q → key_order k q ≡ Less
+in_front : (k x : NetKey) (xs : List NetKey) → IsStrictlySortedBy key_order (x ∷ xs) → key_order k x ≡ Less
+    → (q : NetKey) → Contains (x ∷ xs) q → key_order k q ≡ Less
 in_front k x xs sorted low q c = elim (cons_cases x xs q c) [
   | inl same ↦ subst (λ (y : NetKey). key_order k y ≡ Less) same low
   | inr later ↦ keys_total.trans k x q low (after_head x xs sorted q later)
 ]
 
-placed_by : (k x : NetKey) (xs : List NetKey) (o : Ordering) → key_order k x ≡ o → IsStrictlySortedBy key_order (x ∷ xs) → Placed k xs → Placed k (x ∷ xs)
+placed_by : (k x : NetKey) (xs : List NetKey) (o : Ordering) → key_order k x ≡ o → IsStrictlySortedBy key_order (x ∷ xs)
+    → Placed k xs → Placed k (x ∷ xs)
 placed_by k x xs Less e sorted rest = record {
   keys = k ∷ x ∷ xs;
   sorted = put_before k (x ∷ xs) (in_front k x xs sorted e) sorted;
@@ -87,7 +91,8 @@ placed k [] sorted = record {
   keeps = λ q c. absurd (none_in q c);
   only = λ q c. cons_cases k [] q c;
 }
-placed k (x ∷ xs) sorted = placed_by k x xs (key_order k x) refl sorted (placed k xs (sorted_tail key_order x xs sorted))
+placed k (x ∷ xs) sorted =
+    placed_by k x xs (key_order k x) refl sorted (placed k xs (sorted_tail key_order x xs sorted))
 
 -- the dates and currencies of parts, in order
 record Keyed (parts : List NetPart) : Type 0 where

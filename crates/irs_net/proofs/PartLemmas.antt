@@ -1,5 +1,7 @@
 -- The exchanges and payments of a schedule: one stream more, how many there are and how large.
-use Rattle.std.proofs.Common.{◌≡◌, ℕ, zero, suc, ◌+◌, ◌*◌, ◌^◌, ◌<◌, ◌≤◌, Bool, true, false, List, [], ◌∷◌, ◌++◌, length, map, take, get_or, Option, Some, None, IfSome, ℤ, pos, negsuc, unsigned_abs, sym, ap, subst, ◌∙◌, arith, append_assoc, length-append}
+use Rattle.std.proofs.Common.{◌≡◌, ℕ, zero, suc, ◌+◌, ◌*◌, ◌^◌, ◌<◌, ◌≤◌, Bool, true, false, List, [], ◌∷◌, ◌++◌}
+use Rattle.std.proofs.Common.{length, map, take, get_or, Option, Some, None, IfSome, ℤ, pos, negsuc, unsigned_abs, sym}
+use Rattle.std.proofs.Common.{ap, subst, ◌∙◌, arith, append_assoc, length-append}
 use Rattle.std.specs.Prelude.{option_map}
 use Rattle.std.proofs.lemmas.List.{append-nil, length-map}
 use Rattle.irs_base.specs.Limits.{most_exchanges, most_periods}
@@ -14,26 +16,30 @@ use Rattle.irs_net.specs.NetParts.{exchange_part, parts_of, payment_part, signed
 use Rattle.irs_net.specs.NetTotals.{IsSmall, most_parts, most_units}
 use Rattle.irs_net.specs.declared.parts.NetPart.{NetPart}
 
-pub every_at : {X : Type 0} (P : X → Type 0) (xs : List X) (i : ℕ) (x : X) → Every P xs → i < length xs → x ≡ get_or xs i x → P x
+pub every_at : {X : Type 0} (P : X → Type 0) (xs : List X) (i : ℕ) (x : X) → Every P xs → i < length xs
+    → x ≡ get_or xs i x → P x
 every_at P [] i x h low e = absurd (omega (arith, low))
 every_at P (y ∷ ys) zero x h low e = subst P (sym e) h.0
 every_at P (y ∷ ys) (suc i) x h low e = every_at P ys i x h.1 (omega (arith, low)) e
 
 -- ---- one stream more
 
-pub parts_more : (ps : List Part) (bs : List Bool) (i : ℕ) (p : Part) → i < length ps → i < length bs → p ≡ get_or ps i p → parts_of (take (suc i) ps) bs ≡ parts_of (take i ps) bs ++ stream_parts (get_or bs i false) p
+pub parts_more : (ps : List Part) (bs : List Bool) (i : ℕ) (p : Part) → i < length ps → i < length bs
+    → p ≡ get_or ps i p → parts_of (take (suc i) ps) bs ≡ parts_of (take i ps) bs ++ stream_parts (get_or bs i false) p
 parts_more [] bs i p low lower e = absurd (omega (arith, low))
 parts_more (q ∷ qs) [] i p low lower e = absurd (omega (arith, lower))
 parts_more (q ∷ qs) (b ∷ bs) zero p low lower e = append-nil (stream_parts b q) ∙ ap (stream_parts b) (sym e)
 parts_more (q ∷ qs) (b ∷ bs) (suc i) p low lower e =
-    ap (λ (ns : List NetPart). stream_parts b q ++ ns) (parts_more qs bs i p (omega (arith, low)) (omega (arith, lower)) e)
+    ap (λ (ns : List NetPart). stream_parts b q ++ ns)
+    (parts_more qs bs i p (omega (arith, low)) (omega (arith, lower)) e)
     ∙ sym (append_assoc (stream_parts b q) (parts_of (take i qs) bs) (stream_parts (get_or bs i false) p))
 
 -- ---- how many
 
 payments_few : (a n : ℕ) (ys : List PaymentEntry) → Covers a ys n → length ys + a ≤ n + 1
 payments_few a n [] h = omega (arith, h)
-payments_few a n (y ∷ ys) h = let rest = payments_few (y.last_period + 1) n ys h.2 in let first = h.0 in let some = h.1 in omega (arith, rest, first, some)
+payments_few a n (y ∷ ys) h = let rest = payments_few (y.last_period + 1) n ys h.2 in let first = h.0 in
+    let some = h.1 in omega (arith, rest, first, some)
 
 stream_few : (b : Bool) (p : Part) → KeepsBounds p → length (stream_parts b p) ≤ most_exchanges + most_periods
 stream_few b p h =
@@ -47,7 +53,8 @@ stream_few b p h =
     let payments = payments_few 1 (length p.periods) p.payments h.covers in
     omega (arith, both, x, y, exchanges, periods, payments)
 
-streams_few : (ps : List Part) (bs : List Bool) → Every KeepsBounds ps → length (parts_of ps bs) ≤ length ps * (most_exchanges + most_periods)
+streams_few : (ps : List Part) (bs : List Bool) → Every KeepsBounds ps
+    → length (parts_of ps bs) ≤ length ps * (most_exchanges + most_periods)
 streams_few [] bs h = omega arith
 streams_few (p ∷ ps) [] h = omega arith
 streams_few (p ∷ ps) (b ∷ bs) h =
@@ -82,26 +89,32 @@ signed_small false (pos zero) n h = omega (arith, h)
 signed_small false (pos (suc a)) n h = omega (arith, h)
 signed_small false (negsuc a) n h = omega (arith, h)
 
-exchange_small : (currency : Currency) (b : Bool) (x : Exchange) → IsAmount currency x.amount → IsSmall (exchange_part currency b x)
+exchange_small : (currency : Currency) (b : Bool) (x : Exchange) → IsAmount currency x.amount
+    → IsSmall (exchange_part currency b x)
 exchange_small currency b x h = signed_small b x.amount.units most_units (amount_small currency x.amount h)
 
-paid_small : (currency : Currency) (b : Bool) (amount : Option Dec) → IfSome amount (IsAmount currency) → IfSome (option_map (λ (v : Dec). signed b v.units) amount) (λ (units : ℤ). unsigned_abs units ≤ most_units)
+paid_small : (currency : Currency) (b : Bool) (amount : Option Dec) → IfSome amount (IsAmount currency)
+    → IfSome (option_map (λ (v : Dec). signed b v.units) amount) (λ (units : ℤ). unsigned_abs units ≤ most_units)
 paid_small currency b None h = tt
 paid_small currency b (Some v) h = signed_small b v.units most_units (amount_small currency v h)
 
-payment_small : (currency : Currency) (b : Bool) (y : PaymentEntry) → HasAmount currency y → IsSmall (payment_part currency b y)
+payment_small : (currency : Currency) (b : Bool) (y : PaymentEntry) → HasAmount currency y
+    → IsSmall (payment_part currency b y)
 payment_small currency b y h = paid_small currency b y.amount h
 
 stream_small : (b : Bool) (p : Part) → KeepsBounds p → Every IsSmall (stream_parts b p)
 stream_small b p h =
     every_both IsSmall (map (exchange_part p.currency b) p.exchanges) (map (payment_part p.currency b) p.payments)
-    (every_map IsSmall (λ (x : Exchange). IsAmount p.currency x.amount) (exchange_part p.currency b) (exchange_small p.currency b) p.exchanges h.exchanged)
-    (every_map IsSmall (HasAmount p.currency) (payment_part p.currency b) (payment_small p.currency b) p.payments h.paid)
+    (every_map IsSmall (λ (x : Exchange). IsAmount p.currency x.amount) (exchange_part p.currency b)
+    (exchange_small p.currency b) p.exchanges h.exchanged)
+    (every_map IsSmall (HasAmount p.currency) (payment_part p.currency b)
+    (payment_small p.currency b) p.payments h.paid)
 
 streams_small : (ps : List Part) (bs : List Bool) → Every KeepsBounds ps → Every IsSmall (parts_of ps bs)
 streams_small [] bs h = tt
 streams_small (p ∷ ps) [] h = tt
-streams_small (p ∷ ps) (b ∷ bs) h = every_both IsSmall (stream_parts b p) (parts_of ps bs) (stream_small b p h.0) (streams_small ps bs h.1)
+streams_small (p ∷ ps) (b ∷ bs) h =
+    every_both IsSmall (stream_parts b p) (parts_of ps bs) (stream_small b p h.0) (streams_small ps bs h.1)
 
 pub parts_small : (ps : List Part) (bs : List Bool) → IsWithin ps → Every IsSmall (parts_of ps bs)
 parts_small ps bs h = streams_small ps bs h.each

@@ -1,5 +1,7 @@
 -- The sides of streams as they are found are those of the relations.
-use Rattle.std.proofs.Common.{◌≡◌, ◌⊎◌, inl, inr, ℕ, zero, suc, ◌+◌, ◌<◌, ◌≤◌, Bool, true, false, ◌&&◌, ◌≢◌, List, [], ◌∷◌, length, map, get_or, set, get_or-set_other, get_or-set_same, length-set, Option, Some, None, Result, Ok, Err, refl, sym, ap, ap₂, subst, ◌∙◌, arith}
+use Rattle.std.proofs.Common.{◌≡◌, ◌⊎◌, inl, inr, ℕ, zero, suc, ◌+◌, ◌<◌, ◌≤◌, Bool, true, false, ◌&&◌, ◌≢◌, List, []}
+use Rattle.std.proofs.Common.{◌∷◌, length, map, get_or, set, get_or-set_other, get_or-set_same, length-set, Option}
+use Rattle.std.proofs.Common.{Some, None, Result, Ok, Err, refl, sym, ap, ap₂, subst, ◌∙◌, arith}
 use Rattle.std.specs.Prelude.{IfErr, codes, is_some, option_and_then, slice_get, slice_index_or, if◌then◌else◌}
 use Rattle.std.specs.Str.{bytes_eq}
 use Rattle.std.proofs.lemmas.Bool.{cases_order}
@@ -26,7 +28,8 @@ use Rattle.irs_read.specs.Documents.{DocumentFault, Way, the_swap, below}
 use Rattle.irs_read.specs.Meaning.{streams_in}
 use Rattle.irs_read.specs.Swaps.{no_stream, many_streams}
 use Rattle.irs_net.specs.FoundParties.{href_in, pair_of, parties_in, party_in, side_by, side_in}
-use Rattle.irs_net.specs.Parties.{AreSides, BreaksK8, BreaksK8Of, IsBackward, IsForward, IsPaid, IsSide, RefersTo, SidesOf, broken_at}
+use Rattle.irs_net.specs.Parties.{AreSides, BreaksK8, BreaksK8Of, IsBackward, IsForward, IsPaid, IsSide, RefersTo}
+use Rattle.irs_net.specs.Parties.{SidesOf, broken_at}
 use Rattle.irs_net.specs.SidesTo.{SidesTo}
 use Rattle.irs_net.specs.declared.sides.Sides.{Sides}
 
@@ -41,7 +44,8 @@ string_at (Some (string s)) p e = ap (λ (t : List ℕ). Some (string t)) (some_
 string_at (Some (array ds)) p e = absurd (cc)
 string_at (Some (object ms)) p e = absurd (cc)
 
-refers_by : (name : List ℕ) (d : Data) (vs : List Data) (p : List ℕ) → values_in name (Some d) ≡ vs → href_in vs ≡ Some p → RefersTo name d p
+refers_by : (name : List ℕ) (d : Data) (vs : List Data) (p : List ℕ) → values_in name (Some d) ≡ vs
+    → href_in vs ≡ Some p → RefersTo name d p
 refers_by name d [] p e h = absurd (cc)
 refers_by name d (x ∷ []) p e h = record { reference = x; one = e; href = string_at (child_of (codes "@href") x) p h }
 refers_by name d (x ∷ y ∷ rest) p e h = absurd (cc)
@@ -63,7 +67,8 @@ same_text a b e = (bytes_eq-Decides a b).0 e
 text_itself : (a : List ℕ) → bytes_eq a a ≡ true
 text_itself a = (bytes_eq-Decides a a).1 refl
 
-paid_if : (d : Data) (p r : List ℕ) (t : Bool) (pair : Pair) → bytes_eq p r ≡ t → party_in (codes "payerPartyReference") d ≡ Some p → party_in (codes "receiverPartyReference") d ≡ Some r
+paid_if : (d : Data) (p r : List ℕ) (t : Bool) (pair : Pair) → bytes_eq p r ≡ t
+    → party_in (codes "payerPartyReference") d ≡ Some p → party_in (codes "receiverPartyReference") d ≡ Some r
     → (if t then None else Some (p, r)) ≡ Some pair → IsPaid d pair.0 pair.1
 paid_if d p r true pair t e f h = absurd (cc)
 paid_if d p r false pair t e f h =
@@ -74,23 +79,28 @@ paid_if d p r false pair t e f h =
     } in
     subst (λ (q : Pair). IsPaid d q.0 q.1) (some_is (p, r) pair h) is
 
-paid_by : (d : Data) (a b : Option (List ℕ)) (pair : Pair) → party_in (codes "payerPartyReference") d ≡ a → party_in (codes "receiverPartyReference") d ≡ b → pair_of a b ≡ Some pair → IsPaid d pair.0 pair.1
+paid_by : (d : Data) (a b : Option (List ℕ)) (pair : Pair) → party_in (codes "payerPartyReference") d ≡ a
+    → party_in (codes "receiverPartyReference") d ≡ b → pair_of a b ≡ Some pair → IsPaid d pair.0 pair.1
 paid_by d None b pair e f h = absurd (cc)
 paid_by d (Some p) None pair e f h = absurd (cc)
 paid_by d (Some p) (Some r) pair e f h = paid_if d p r (bytes_eq p r) pair refl e f h
 
 paid : (d : Data) (pair : Pair) → parties_in d ≡ Some pair → IsPaid d pair.0 pair.1
-paid d pair h = paid_by d (party_in (codes "payerPartyReference") d) (party_in (codes "receiverPartyReference") d) pair refl refl h
+paid d pair h =
+    paid_by d (party_in (codes "payerPartyReference") d) (party_in (codes "receiverPartyReference") d) pair refl refl h
 
 abbrev some_pair : List ℕ → List ℕ → Option Pair
 some_pair p r = Some (p, r)
 
-pair_if : (p r : List ℕ) (t : Bool) → bytes_eq p r ≡ t → (p ≡ r → ⊥) → (if t then None else some_pair p r) ≡ some_pair p r
+pair_if : (p r : List ℕ) (t : Bool) → bytes_eq p r ≡ t → (p ≡ r → ⊥)
+    → (if t then None else some_pair p r) ≡ some_pair p r
 pair_if p r true e apart = absurd (apart (same_text p r e))
 pair_if p r false e apart = refl
 
 parties_are : (d : Data) (p r : List ℕ) → IsPaid d p r → parties_in d ≡ some_pair p r
-parties_are d p r h = ap₂ pair_of (party_is (codes "payerPartyReference") d p h.by) (party_is (codes "receiverPartyReference") d r h.to) ∙ pair_if p r (bytes_eq p r) refl h.apart
+parties_are d p r h =
+    ap₂ pair_of (party_is (codes "payerPartyReference") d p h.by) (party_is (codes "receiverPartyReference") d r h.to)
+    ∙ pair_if p r (bytes_eq p r) refl h.apart
 
 -- ---- sides
 
@@ -105,24 +115,31 @@ same_order a b = bytes_eq b.0 a.0 && bytes_eq b.1 a.1
 abbrev other_order : Pair → Pair → Bool
 other_order a b = bytes_eq b.0 a.1 && bytes_eq b.1 a.0
 
-side_if : (f s : Data) (a b : Pair) (t u : Bool) (r : Bool) → same_order a b ≡ t → other_order a b ≡ u → IsPaid f a.0 a.1 → IsPaid s b.0 b.1
+side_if : (f s : Data) (a b : Pair) (t u : Bool) (r : Bool) → same_order a b ≡ t → other_order a b ≡ u
+    → IsPaid f a.0 a.1 → IsPaid s b.0 b.1
     → (if t then Some true else (if u then Some false else None)) ≡ Some r → IsSide f s r
 side_if f s a b true u r e o first second h =
     let same = both_of (bytes_eq b.0 a.0) (bytes_eq b.1 a.1) e in
-    let moved : IsPaid s a.0 a.1 = subst (λ (x : List ℕ). IsPaid s x a.1) (same_text b.0 a.0 same.0) (subst (λ (x : List ℕ). IsPaid s b.0 x) (same_text b.1 a.1 same.1) second) in
+    let moved : IsPaid s a.0 a.1 =
+    subst (λ (x : List ℕ). IsPaid s x a.1) (same_text b.0 a.0 same.0)
+    (subst (λ (x : List ℕ). IsPaid s b.0 x) (same_text b.1 a.1 same.1) second) in
     let forward : IsForward f s = record { payer = a.0; receiver = a.1; first_paid = first; paid = moved } in
     subst (IsSide f s) (some_is true r h) forward
 side_if f s a b false true r e o first second h =
     let same = both_of (bytes_eq b.0 a.1) (bytes_eq b.1 a.0) o in
-    let moved : IsPaid s a.1 a.0 = subst (λ (x : List ℕ). IsPaid s x a.0) (same_text b.0 a.1 same.0) (subst (λ (x : List ℕ). IsPaid s b.0 x) (same_text b.1 a.0 same.1) second) in
+    let moved : IsPaid s a.1 a.0 =
+    subst (λ (x : List ℕ). IsPaid s x a.0) (same_text b.0 a.1 same.0)
+    (subst (λ (x : List ℕ). IsPaid s b.0 x) (same_text b.1 a.0 same.1) second) in
     let backward : IsBackward f s = record { payer = a.0; receiver = a.1; first_paid = first; paid = moved } in
     subst (IsSide f s) (some_is false r h) backward
 side_if f s a b false false r e o first second h = absurd (cc)
 
-side_for : (f s : Data) (a b : Option Pair) (r : Bool) → parties_in f ≡ a → parties_in s ≡ b → side_by a b ≡ Some r → IsSide f s r
+side_for : (f s : Data) (a b : Option Pair) (r : Bool) → parties_in f ≡ a → parties_in s ≡ b → side_by a b ≡ Some r
+    → IsSide f s r
 side_for f s None b r e k h = absurd (cc)
 side_for f s (Some a) None r e k h = absurd (cc)
-side_for f s (Some a) (Some b) r e k h = side_if f s a b (same_order a b) (other_order a b) r refl refl (paid f a e) (paid s b k) h
+side_for f s (Some a) (Some b) r e k h =
+    side_if f s a b (same_order a b) (other_order a b) r refl refl (paid f a e) (paid s b k) h
 
 -- a side that is found is the stream's
 pub side_is : (f s : Data) (r : Bool) → side_in f s ≡ Some r → IsSide f s r
@@ -144,7 +161,9 @@ both_true a b = let x = text_itself a in let y = text_itself b in rw (x, y) refl
 pub not_forward : (f s : Data) → side_in f s ≡ None → IsForward f s → ⊥
 not_forward f s h w =
     let a : Pair = (w.payer, w.receiver) in
-    let e : side_by (Some a) (Some a) ≡ None = sym (ap₂ side_by (parties_are f w.payer w.receiver w.first_paid) (parties_are s w.payer w.receiver w.paid)) ∙ h in
+    let e : side_by (Some a) (Some a) ≡ None =
+    sym (ap₂ side_by (parties_are f w.payer w.receiver w.first_paid)
+    (parties_are s w.payer w.receiver w.paid)) ∙ h in
     same_found (same_order a a) (other_order a a) (both_true w.payer w.receiver) e
 
 -- nor backward
@@ -152,27 +171,34 @@ pub not_backward : (f s : Data) → side_in f s ≡ None → IsBackward f s → 
 not_backward f s h w =
     let a : Pair = (w.payer, w.receiver) in
     let b : Pair = (w.receiver, w.payer) in
-    let e : side_by (Some a) (Some b) ≡ None = sym (ap₂ side_by (parties_are f w.payer w.receiver w.first_paid) (parties_are s w.receiver w.payer w.paid)) ∙ h in
+    let e : side_by (Some a) (Some b) ≡ None =
+    sym (ap₂ side_by (parties_are f w.payer w.receiver w.first_paid)
+    (parties_are s w.receiver w.payer w.paid)) ∙ h in
     other_found (same_order a b) (other_order a b) (both_true w.receiver w.payer) e
 
 -- ---- all streams
 
-pub are_sides : (streams : List Data) (sides : Sides) → sides.count ≡ length streams → SidesTo streams (length streams) sides.forward → AreSides streams sides
+pub are_sides : (streams : List Data) (sides : Sides) → sides.count ≡ length streams
+    → SidesTo streams (length streams) sides.forward → AreSides streams sides
 are_sides streams sides count to = record {
   eight = to.count;
   count = count;
-  each = λ first begins i stream there. side_is first stream (slice_index_or sides.forward i false) (to.each first stream i (slice_get_within streams i stream there) begins there);
+  each = λ first begins i stream there. side_is first stream (slice_index_or sides.forward i false)
+      (to.each first stream i (slice_get_within streams i stream there) begins there);
   past = to.past;
 }
 
 -- a stream of the code is one of the document
-pub seen_at : (vs : List Value) (i : ℕ) (v : Value) → i < length vs → v ≡ get_or vs i v → slice_get (map view vs) i ≡ Some (view v)
+pub seen_at : (vs : List Value) (i : ℕ) (v : Value) → i < length vs → v ≡ get_or vs i v
+    → slice_get (map view vs) i ≡ Some (view v)
 seen_at [] i v low e = absurd (omega (arith, low))
 seen_at (w ∷ ws) zero v low e = ap (λ (x : Value). Some (view x)) (sym e)
 seen_at (w ∷ ws) (suc i) v low e = seen_at ws i v (omega (arith, low)) e
 
-side_at : (streams : List Data) (i : ℕ) (forward : List Bool) (f s : Data) (v : Bool) → slice_get streams 0 ≡ Some f → slice_get streams i ≡ Some s → i < 8 → side_in f s ≡ Some v → SidesTo streams i forward
-    → (first stream : Data) (j : ℕ) → j < i + 1 → slice_get streams 0 ≡ Some first → slice_get streams j ≡ Some stream → side_in first stream ≡ Some (slice_index_or (set forward i v) j false)
+side_at : (streams : List Data) (i : ℕ) (forward : List Bool) (f s : Data) (v : Bool) → slice_get streams 0 ≡ Some f
+    → slice_get streams i ≡ Some s → i < 8 → side_in f s ≡ Some v → SidesTo streams i forward
+    → (first stream : Data) (j : ℕ) → j < i + 1 → slice_get streams 0 ≡ Some first → slice_get streams j ≡ Some stream
+    → side_in first stream ≡ Some (slice_index_or (set forward i v) j false)
 side_at streams i forward f s v begins there low found to first stream j within b t = elim (cases_order j i) [
   | inl same ↦
       let eight = to.count in
@@ -187,15 +213,21 @@ side_at streams i forward f s v begins there low found to first stream j within 
   | inr (inr more) ↦ absurd (omega (arith, more, within))
 ]
 
-pub sides_more : (streams : List Data) (i : ℕ) (forward : List Bool) (f s : Data) (v : Bool) → slice_get streams 0 ≡ Some f → slice_get streams i ≡ Some s → i < 8 → side_in f s ≡ Some v → SidesTo streams i forward → SidesTo streams (i + 1) (set forward i v)
+pub sides_more : (streams : List Data) (i : ℕ) (forward : List Bool) (f s : Data) (v : Bool)
+    → slice_get streams 0 ≡ Some f → slice_get streams i ≡ Some s → i < 8 → side_in f s ≡ Some v
+    → SidesTo streams i forward → SidesTo streams (i + 1) (set forward i v)
 sides_more streams i forward f s v begins there low found to = record {
   count = length-set forward i v ∙ to.count;
   each = side_at streams i forward f s v begins there low found to;
-  past = λ j behind. let ne : j ≢ i = λ e. omega (arith, e, behind) in rw get_or-set_other (to.past j (omega (arith, behind)));
+  past = λ j behind. let ne : j ≢ i = λ e. omega (arith, e, behind) in
+      rw get_or-set_other (to.past j (omega (arith, behind)));
 }
 
-pub sides_done : (streams : List Data) (i n : ℕ) (forward : List Bool) → i ≡ n → n ≡ length streams → SidesTo streams i forward → AreSides streams (record { forward = forward; count = n })
-sides_done streams i n forward e k to = are_sides streams (record { forward = forward; count = n }) k (subst (λ (m : ℕ). SidesTo streams m forward) (e ∙ k) to)
+pub sides_done : (streams : List Data) (i n : ℕ) (forward : List Bool) → i ≡ n → n ≡ length streams
+    → SidesTo streams i forward → AreSides streams (record { forward = forward; count = n })
+sides_done streams i n forward e k to =
+    are_sides streams (record { forward = forward; count = n }) k
+    (subst (λ (m : ℕ). SidesTo streams m forward) (e ∙ k) to)
 
 -- ---- the first that breaks K8
 
@@ -217,19 +249,36 @@ le_or_lt i j = elim (cases_order j i) [
   | inr (inr more) ↦ inr (omega (arith, more))
 ]
 
-pub first_k8 : (streams : List Data) (i : ℕ) (forward : List Bool) (first stream : Data) → slice_get streams 0 ≡ Some first → slice_get streams i ≡ Some stream → side_in first stream ≡ None → SidesTo streams i forward
+pub first_k8 : (streams : List Data) (i : ℕ) (forward : List Bool) (first stream : Data)
+    → slice_get streams 0 ≡ Some first → slice_get streams i ≡ Some stream → side_in first stream ≡ None
+    → SidesTo streams i forward
     → First is_before (BreaksK8 streams) (broken_at (i + 1))
 first_k8 streams i forward first stream begins there none to = (
-  record { first = first; begins = begins; place = i; stream = stream; there = there; not_forward = not_forward first stream none; not_backward = not_backward first stream none; is = refl },
+  record {
+    first = first;
+    begins = begins;
+    place = i;
+    stream = stream;
+    there = there;
+    not_forward =
+        not_forward first stream none;
+    not_backward = not_backward first stream none;
+    is = refl;
+  },
   λ y b. elim (le_or_lt i b.place) [
-    | inl before ↦ absurd (not_side b.first b.stream (slice_index_or forward b.place false) (side_is b.first b.stream (slice_index_or forward b.place false) (to.each b.first b.stream b.place before b.begins b.there)) b.not_forward b.not_backward)
-    | inr behind ↦ subst (λ (x : Broken). is_before x (broken_at (i + 1)) ≡ false) (sym b.is) (not_before i b.place behind)
+    | inl before ↦
+        absurd (not_side b.first b.stream (slice_index_or forward b.place false)
+        (side_is b.first b.stream (slice_index_or forward b.place false)
+        (to.each b.first b.stream b.place before b.begins b.there)) b.not_forward b.not_backward)
+    | inr behind ↦
+        subst (λ (x : Broken). is_before x (broken_at (i + 1)) ≡ false) (sym b.is) (not_before i b.place behind)
   ],
 )
 
 -- ---- the streams of a document that breaks no rule
 
-few_if : (d s : Data) (b : Bool) → is_some (names_of s) ≡ b → ((f : Broken) → DocumentFault d f → ⊥) → the_swap d ≡ Ok s → (0 < length (streams_in s)) × (length (streams_in s) ≤ most_streams)
+few_if : (d s : Data) (b : Bool) → is_some (names_of s) ≡ b → ((f : Broken) → DocumentFault d f → ⊥) → the_swap d ≡ Ok s
+    → (0 < length (streams_in s)) × (length (streams_in s) ≤ most_streams)
 few_if d s true e clean found =
     let none : length (streams_in s) ≡ 0 → ⊥ = λ h. clean _ (below s _ found (inr (e, no_stream h))) in
     let many : most_streams < length (streams_in s) → ⊥ = λ h. clean _ (below s _ found (inr (e, many_streams h))) in
@@ -238,7 +287,8 @@ few_if d s false e clean found =
     let kind : own_rule (Object Free) s ≡ Some K3 = rw e refl in
     absurd (clean _ (below s _ found (inl (own 0 0 K3 (Object Free) s kind))))
 
-pub streams_few : (d s : Data) → ((f : Broken) → DocumentFault d f → ⊥) → the_swap d ≡ Ok s → (0 < length (streams_in s)) × (length (streams_in s) ≤ most_streams)
+pub streams_few : (d s : Data) → ((f : Broken) → DocumentFault d f → ⊥) → the_swap d ≡ Ok s
+    → (0 < length (streams_in s)) × (length (streams_in s) ≤ most_streams)
 streams_few d s clean found = few_if d s (is_some (names_of s)) refl clean found
 
 -- ---- of a document
@@ -249,7 +299,8 @@ led_to a = Ok a
 ok_is : (a b : Data) → led_to a ≡ led_to b → a ≡ b
 ok_is a b e = cc
 
-pub first_of : (d s : Data) (vs : List Data) (x : Broken) → the_swap d ≡ Ok s → vs ≡ streams_in s → First is_before (BreaksK8 vs) x → First is_before (BreaksK8Of d) x
+pub first_of : (d s : Data) (vs : List Data) (x : Broken) → the_swap d ≡ Ok s → vs ≡ streams_in s
+    → First is_before (BreaksK8 vs) x → First is_before (BreaksK8Of d) x
 first_of d s vs x found are h = (
   record { swap = s; found = found; breaks = subst (λ (ds : List Data). BreaksK8 ds x) are h.0 },
   λ y b.
@@ -268,8 +319,15 @@ one_pair d a b e h = some_is a b (sym e ∙ h)
 
 not_both : (f s : Data) → IsForward f s → IsBackward f s → ⊥
 not_both f s a b =
-    let first = one_pair f (a.payer, a.receiver) (b.payer, b.receiver) (parties_are f a.payer a.receiver a.first_paid) (parties_are f b.payer b.receiver b.first_paid) in
-    let second = one_pair s (a.payer, a.receiver) (b.receiver, b.payer) (parties_are s a.payer a.receiver a.paid) (parties_are s b.receiver b.payer b.paid) in
+    let first = one_pair f (a.payer, a.receiver) (
+      b.payer,
+      b.receiver,
+    ) (parties_are f a.payer a.receiver a.first_paid) (parties_are f b.payer b.receiver b.first_paid) in
+    let second =
+    one_pair s (a.payer, a.receiver) (
+      b.receiver,
+      b.payer,
+    ) (parties_are s a.payer a.receiver a.paid) (parties_are s b.receiver b.payer b.paid) in
     let payer : a.payer ≡ b.receiver = ap (λ (p : Pair). p.0) second in
     let receiver : a.receiver ≡ b.receiver = ap (λ (p : Pair). p.1) first in
     a.paid.apart (payer ∙ sym receiver)
@@ -291,13 +349,16 @@ there_is [] i low = absurd (omega (arith, low))
 there_is (x ∷ xs) zero low = (x, refl)
 there_is (x ∷ xs) (suc i) low = there_is xs i (omega (arith, low))
 
-same_within : (streams : List Data) (a b : Sides) (i : ℕ) → AreSides streams a → AreSides streams b → i < length streams → get_or a.forward i false ≡ get_or b.forward i false
+same_within : (streams : List Data) (a b : Sides) (i : ℕ) → AreSides streams a → AreSides streams b → i < length streams
+    → get_or a.forward i false ≡ get_or b.forward i false
 same_within streams a b i h k low =
     let first = there_is streams 0 (omega (arith, low)) in
     let own = there_is streams i low in
-    one_side first.0 own.0 (get_or a.forward i false) (get_or b.forward i false) (h.each first.0 first.1 i own.0 own.1) (k.each first.0 first.1 i own.0 own.1)
+    one_side first.0 own.0 (get_or a.forward i false) (get_or b.forward i false) (h.each first.0 first.1 i own.0 own.1)
+    (k.each first.0 first.1 i own.0 own.1)
 
-same_at : (streams : List Data) (a b : Sides) (i : ℕ) → AreSides streams a → AreSides streams b → get_or a.forward i false ≡ get_or b.forward i false
+same_at : (streams : List Data) (a b : Sides) (i : ℕ) → AreSides streams a → AreSides streams b
+    → get_or a.forward i false ≡ get_or b.forward i false
 same_at streams a b i h k = elim (le_or_lt (length streams) i) [
   | inl low ↦ same_within streams a b i h k low
   | inr behind ↦ h.past i behind ∙ sym (k.past i behind)
@@ -307,7 +368,9 @@ abbrev make_sides : List Bool → ℕ → Sides
 make_sides forward count = record { forward = forward; count = count }
 
 pub one_sides : (streams : List Data) (a b : Sides) → AreSides streams a → AreSides streams b → a ≡ b
-one_sides streams a b h k = ap₂ make_sides (same_flags a.forward b.forward (h.eight ∙ sym k.eight) (λ i. same_at streams a b i h k)) (h.count ∙ sym k.count)
+one_sides streams a b h k =
+    ap₂ make_sides (same_flags a.forward b.forward (h.eight ∙ sym k.eight) (λ i. same_at streams a b i h k)) (h.count
+    ∙ sym k.count)
 
 pub one_sides_of : (d : Data) (a b : Sides) → SidesOf d a → SidesOf d b → a ≡ b
 one_sides_of d a b h k =

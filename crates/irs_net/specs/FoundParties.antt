@@ -1,5 +1,6 @@
 -- The parties and the side of a stream, as they are found: each as a value, or none.
-use Rattle.std.specs.Prelude.{ℕ, Bool, true, false, ◌&&◌, List, [], ◌∷◌, Option, Some, None, option_and_then, option_map, codes, if◌then◌else◌}
+use Rattle.std.specs.Prelude.{ℕ, Bool, true, false, ◌&&◌, List, [], ◌∷◌, Option, Some, None, option_and_then}
+use Rattle.std.specs.Prelude.{option_map, codes, if◌then◌else◌}
 use Rattle.std.specs.Str.{bytes_eq}
 use Rattle.irs_elements.specs.Find.{values_in}
 use Rattle.irs_json.specs.Carrier.{child_of}
@@ -29,7 +30,8 @@ pair_of (Some payer) (Some receiver) = if bytes_eq payer receiver then None else
 
 -- the payer and the receiver of a stream
 abbrev pub parties_in : Data → Option (List ℕ × List ℕ)
-parties_in stream = pair_of (party_in (codes "payerPartyReference") stream) (party_in (codes "receiverPartyReference") stream)
+parties_in stream =
+    pair_of (party_in (codes "payerPartyReference") stream) (party_in (codes "receiverPartyReference") stream)
 
 -- the parties of the code
 abbrev pub parties_seen : Option Parties → Option (List ℕ × List ℕ)
@@ -40,7 +42,9 @@ abbrev pub side_by : Option (List ℕ × List ℕ) → Option (List ℕ × List 
 side_by None own = None
 side_by (Some first) None = None
 side_by (Some first) (Some own) =
-    if bytes_eq own.0 first.0 && bytes_eq own.1 first.1 then Some true else (if bytes_eq own.0 first.1 && bytes_eq own.1 first.0 then Some false else None)
+    if bytes_eq own.0 first.0
+    && bytes_eq own.1 first.1 then Some true else (if bytes_eq own.0 first.1
+    && bytes_eq own.1 first.0 then Some false else None)
 
 -- the side of a stream
 abbrev pub side_in : Data → Data → Option Bool

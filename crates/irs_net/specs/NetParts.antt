@@ -14,15 +14,18 @@ signed false units = neg_ℤ units
 
 -- a principal exchange
 abbrev pub exchange_part : Currency → Bool → Exchange → NetPart
-exchange_part currency forward x = record { date = x.adjusted; currency = currency; units = Some (signed forward x.amount.units) }
+exchange_part currency forward x =
+    record { date = x.adjusted; currency = currency; units = Some (signed forward x.amount.units) }
 
 -- a payment, whose amount may not be known
 abbrev pub payment_part : Currency → Bool → PaymentEntry → NetPart
-payment_part currency forward y = record { date = y.adjusted; currency = currency; units = option_map (λ v. signed forward v.units) y.amount }
+payment_part currency forward y =
+    record { date = y.adjusted; currency = currency; units = option_map (λ v. signed forward v.units) y.amount }
 
 -- the exchanges and payments of a stream
 abbrev pub stream_parts : Bool → Part → List NetPart
-stream_parts forward p = map (exchange_part p.currency forward) p.exchanges ++ map (payment_part p.currency forward) p.payments
+stream_parts forward p =
+    map (exchange_part p.currency forward) p.exchanges ++ map (payment_part p.currency forward) p.payments
 
 -- those of all streams, each with its side
 abbrev pub parts_of : List Part → List Bool → List NetPart

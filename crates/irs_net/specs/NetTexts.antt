@@ -6,4 +6,6 @@ use Rattle.irs_net.specs.declared.table.NetRow.{NetRow}
 
 -- `n DATE CURRENCY AMOUNT UNKNOWN` and a line feed
 unfoldable pub net_text : NetRow → List ℕ
-net_text r = (codes "n" ++ 32 ∷ day_text r.date ++ 32 ∷ r.currency.letters ++ 32 ∷ dec_text r.amount.units r.amount.places ++ 32 ∷ decimal r.unknown) ++ codes "\n"
+net_text r =
+    (codes "n" ++ 32 ∷ day_text r.date ++ 32 ∷ r.currency.letters ++ 32 ∷ dec_text r.amount.units r.amount.places
+    ++ 32 ∷ decimal r.unknown) ++ codes "\n"

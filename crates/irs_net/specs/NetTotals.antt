@@ -1,5 +1,6 @@
 -- Totals by date and currency while parts are added, and how large they are.
-use Rattle.std.specs.Prelude.{ℕ, ◌+◌, ◌*◌, ◌^◌, ◌≤◌, List, map, Option, Some, None, is_none, if◌then◌else◌, IfSome, ℤ, pos, ◌+ℤ◌, unsigned_abs}
+use Rattle.std.specs.Prelude.{ℕ, ◌+◌, ◌*◌, ◌^◌, ◌≤◌, List, map, Option, Some, None, is_none, if◌then◌else◌, IfSome, ℤ}
+use Rattle.std.specs.Prelude.{pos, ◌+ℤ◌, unsigned_abs}
 use Rattle.std.specs.List.{list_any}
 use Rattle.irs_base.specs.Limits.{most_exchanges, most_periods, most_streams}
 use Rattle.irs_terms.specs.Currencies.{decimals_of}
@@ -28,15 +29,24 @@ no_total = record { known = pos 0; unknown = 0 }
 
 -- one amount more
 abbrev pub total_with : NetTotal → Option ℤ → NetTotal
-total_with t units = record { known = t.known +ℤ known_units units; unknown = t.unknown + (if is_none units then 1 else 0) }
+total_with t units =
+    record { known = t.known +ℤ known_units units; unknown = t.unknown + (if is_none units then 1 else 0) }
 
 -- the total at a date and a currency, where they have a part
 abbrev pub total_at : List NetPart → NetKey → Option NetTotal
-total_at parts key = if list_any (same_key key) (map part_key parts) then Some (record { known = known_sum key parts; unknown = unknown_count key parts }) else None
+total_at parts key =
+    if list_any (same_key key) (map part_key parts) then Some
+    (record { known = known_sum key parts; unknown = unknown_count key parts }) else None
 
 -- the row of a total
 abbrev pub row_of : NetKey × NetTotal → NetRow
-row_of e = record { date = e.0.date; currency = record { letters = e.0.letters }; amount = dec_of (decimals_of e.0.letters) e.1.known; unknown = e.1.unknown }
+row_of e = record {
+  date = e.0.date;
+  currency = record { letters = e.0.letters };
+  amount =
+      dec_of (decimals_of e.0.letters) e.1.known;
+  unknown = e.1.unknown;
+}
 
 -- the greatest sum of amounts in size
 abbrev pub most_total : ℕ

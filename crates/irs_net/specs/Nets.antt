@@ -1,5 +1,6 @@
 -- The net of a schedule: one row for each date and currency on which something falls due.
-use Rattle.std.specs.Prelude.{◌≡◌, ℕ, ◌+◌, ◌≤◌, Bool, ◌&&◌, List, [], ◌∷◌, map, Contains, Option, Some, None, is_none, if◌then◌else◌, ℤ, pos, ◌+ℤ◌}
+use Rattle.std.specs.Prelude.{◌≡◌, ℕ, ◌+◌, ◌≤◌, Bool, ◌&&◌, List, [], ◌∷◌, map, Contains, Option, Some, None, is_none}
+use Rattle.std.specs.Prelude.{if◌then◌else◌, ℤ, pos, ◌+ℤ◌}
 use Rattle.std.specs.Cmp.Lexicographic.{slice_cmp}
 use Rattle.std.specs.List.Sorted.{IsStrictlySortedBy}
 use Rattle.std.specs.Ordering.{int_cmp, nat_cmp, ordering_then, eq_by_cmp}
@@ -70,12 +71,14 @@ Net parts sides rows = IsNet (parts_of parts sides) rows
 -- what the rows of a currency add up to
 abbrev pub rows_total : Currency → List NetRow → ℤ
 rows_total currency [] = pos 0
-rows_total currency (r ∷ rs) = (if bytes_eq currency.letters r.currency.letters then r.amount.units else pos 0) +ℤ rows_total currency rs
+rows_total currency (r ∷ rs) =
+    (if bytes_eq currency.letters r.currency.letters then r.amount.units else pos 0) +ℤ rows_total currency rs
 
 -- what the known parts of a currency add up to
 abbrev pub parts_total : Currency → List NetPart → ℤ
 parts_total currency [] = pos 0
-parts_total currency (p ∷ ps) = (if bytes_eq currency.letters p.currency.letters then known_units p.units else pos 0) +ℤ parts_total currency ps
+parts_total currency (p ∷ ps) =
+    (if bytes_eq currency.letters p.currency.letters then known_units p.units else pos 0) +ℤ parts_total currency ps
 
 -- the amount of a row has at most 12 decimals
 abbrev pub HasPlaces : NetRow → Type 0

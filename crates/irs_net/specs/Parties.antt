@@ -1,6 +1,7 @@
 -- The two parties of a swap and the sides of its streams: who pays each (FpML payerPartyReference and
 -- receiverPartyReference). That all streams name the same two parties is a rule of this project's own, K8.
-use Rattle.std.specs.Prelude.{◌≡◌, ℕ, ◌+◌, ◌≤◌, Bool, true, false, List, [], ◌∷◌, length, Some, Ok, slice_get, slice_index_or, codes}
+use Rattle.std.specs.Prelude.{◌≡◌, ℕ, ◌+◌, ◌≤◌, Bool, true, false, List, [], ◌∷◌, length, Some, Ok, slice_get}
+use Rattle.std.specs.Prelude.{slice_index_or, codes}
 use Rattle.irs_base.specs.Elements.{payer_party_reference}
 use Rattle.irs_base.specs.Limits.{most_streams}
 use Rattle.irs_base.specs.Faults.{fault_at, in_stream}
@@ -63,7 +64,8 @@ IsSide first stream false = IsBackward first stream
 pub record AreSides (streams : List Data) (sides : Sides) : Type 0 where
   pub eight : length sides.forward ≡ most_streams
   pub count : sides.count ≡ length streams
-  pub each : (first : Data) → slice_get streams 0 ≡ Some first → (i : ℕ) (stream : Data) → slice_get streams i ≡ Some stream → IsSide first stream (slice_index_or sides.forward i false)
+  pub each : (first : Data) → slice_get streams 0 ≡ Some first → (i : ℕ) (stream : Data)
+      → slice_get streams i ≡ Some stream → IsSide first stream (slice_index_or sides.forward i false)
   pub past : (i : ℕ) → length streams ≤ i → slice_index_or sides.forward i false ≡ false
 
 -- the sides of the streams of a document

@@ -70,7 +70,8 @@ ghost use Rattle.std.specs.Prelude.{Some};
 ghost use Rattle.irs_net.specs.FoundParties.{side_by};
 
 fn side_of(first: Parties<'_>, own: Parties<'_>) -> Option<bool>
-    ensures { result ≡ side_by (Some (first.entry.payer.now, first.entry.receiver.now)) (Some (own.entry.payer.now, own.entry.receiver.now)) }
+    ensures { result ≡ side_by (Some (first.entry.payer.now, first.entry.receiver.now))
+        (Some (own.entry.payer.now, own.entry.receiver.now)) }
 {
     if own.payer == first.payer && own.receiver == first.receiver {
         Some(true)

@@ -66,7 +66,8 @@ pub fn read_sides(v: &Value) -> Result<Sides, Broken>
     ensures broken { IfErr result (First is_before (BreaksK8Of (view v.now))) }
     // Any two sides of the streams are equal, and any two first K8 are.
     ensures one { (a b : Sides) → SidesOf (view v.now) a → SidesOf (view v.now) b → a ≡ b }
-    ensures one_broken { (x y : Broken) → First is_before (BreaksK8Of (view v.now)) x → First is_before (BreaksK8Of (view v.now)) y → x ≡ y }
+    ensures one_broken { (x y : Broken) → First is_before (BreaksK8Of (view v.now)) x
+        → First is_before (BreaksK8Of (view v.now)) y → x ≡ y }
 {
     match the_swap(v) {
         Ok(swap) => sides_of(values_at(swap, "swapStream")),

@@ -73,7 +73,8 @@ pub fn net(alloc: Global, s: &Schedule, sides: &Sides) -> Result<NetTable, Memor
     ensures exists { (rows : List NetRow) × Net s.now sides.now.forward rows }
     ensures one { (a b : List NetRow) → Net s.now sides.now.forward a → Net s.now sides.now.forward b → a ≡ b }
     // For each currency the rows add up to the sum of all known amounts.
-    ensures adds_up { (currency : Currency) (rows : List NetRow) → Net s.now sides.now.forward rows → rows_total currency rows ≡ parts_total currency (parts_of s.now sides.now.forward) }
+    ensures adds_up { (currency : Currency) (rows : List NetRow) → Net s.now sides.now.forward rows
+        → rows_total currency rows ≡ parts_total currency (parts_of s.now sides.now.forward) }
     ensures places { IfOk result (Every HasPlaces) }
 {
     let parts = parts_of(alloc, s, sides)?;

@@ -44,7 +44,8 @@ impl FileMap {
         name: &str,
         most: usize,
     ) -> Result<Option<Vec<u8>>, AllocError>
-        ensures { IfOk result (λ o. option_map (λ v. v.items) o ≡ option_map (take most) (bytes_under self.now name.now)) }
+        ensures { IfOk result (λ o. option_map (λ v. v.items) o
+            ≡ option_map (take most) (bytes_under self.now name.now)) }
     {
         let Some(bytes) = self.files.get(name) else {
             return Ok(None);

@@ -53,5 +53,6 @@ pub trait Files {
         ensures told { (n : List ℕ) → told self.new n ≡ told self.old n }
         ensures rose { IsErrOf result FetchErr.Failed → Rose (faults self.old) (faults self.new) }
         ensures failed { IsErrOf result FetchErr.Failed → failed self.new ≡ Some name.now }
-        ensures quiet { (IsErrOf result FetchErr.Failed → ⊥) → (faults self.new ≡ faults self.old) × (failed self.new ≡ failed self.old) };
+        ensures quiet { (IsErrOf result FetchErr.Failed → ⊥)
+            → (faults self.new ≡ faults self.old) × (failed self.new ≡ failed self.old) };
 }

@@ -1,9 +1,11 @@
 //! Files in memory, with calls that are to fail: for tests, and for whoever uses the program as a
 //! library.
-ghost use Rattle.std.specs.Prelude.{◌≡◌, ◌≢◌, ℕ, ◌≤◌, List, [], ◌∷◌, ◌++◌, length, take, Option, Some, None, IfOk, IfSome, IsErrOf, OnOk, OnErr, option_map, string_bytes};
+ghost use Rattle.std.specs.Prelude.{◌≡◌, ◌≢◌, ℕ, ◌≤◌, List, [], ◌∷◌, ◌++◌, length, take, Option, Some, None, IfOk};
+ghost use Rattle.std.specs.Prelude.{IfSome, IsErrOf, OnOk, OnErr, option_map, string_bytes};
 ghost use Rattle.irs_outside.specs.Outside.{Rose, next_count};
 ghost use Rattle.irs_outside.specs.FileMaps.{bytes_under};
-ghost use Rattle.irs_outside.specs.MemFiles.{file_under, marked_calls, calls_so_far, faults_so_far, last_failed, IsMarked};
+ghost use Rattle.irs_outside.specs.MemFiles.{file_under, marked_calls, calls_so_far, faults_so_far, last_failed};
+ghost use Rattle.irs_outside.specs.MemFiles.{IsMarked};
 
 use crate::file_map::FileMap;
 use crate::{FetchErr, Files};
@@ -81,7 +83,8 @@ impl Files for MemFiles {
         ensures told { (n : List ℕ) → file_under self.new n ≡ file_under self.old n }
         ensures rose { IsErrOf result FetchErr.Failed → Rose (faults_so_far self.old) (faults_so_far self.new) }
         ensures failed { IsErrOf result FetchErr.Failed → last_failed self.new ≡ Some name.now }
-        ensures quiet { (IsErrOf result FetchErr.Failed → ⊥) → (faults_so_far self.new ≡ faults_so_far self.old) × (last_failed self.new ≡ last_failed self.old) }
+        ensures quiet { (IsErrOf result FetchErr.Failed → ⊥)
+            → (faults_so_far self.new ≡ faults_so_far self.old) × (last_failed self.new ≡ last_failed self.old) }
         // The call is counted, whatever it answers.
         ensures calls { calls_so_far self.new ≡ next_count (calls_so_far self.old) }
         ensures marked { marked_calls self.new ≡ marked_calls self.old }

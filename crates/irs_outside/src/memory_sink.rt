@@ -1,6 +1,7 @@
 //! A sink in memory, with room that is taken beforehand and a call that is to fail: for tests, and
 //! for whoever uses the program as a library.
-ghost use Rattle.std.specs.Prelude.{◌≡◌, ℕ, ◌+◌, ◌-◌, ◌<◌, ◌≤◌, List, [], ◌++◌, take, length, Option, Some, None, IfOk, OnOk, OnErr};
+ghost use Rattle.std.specs.Prelude.{◌≡◌, ℕ, ◌+◌, ◌-◌, ◌<◌, ◌≤◌, List, [], ◌++◌, take, length, Option, Some, None, IfOk};
+ghost use Rattle.std.specs.Prelude.{OnOk, OnErr};
 ghost use Rattle.irs_outside.specs.Outside.{Rose, GrewByFront, next_count};
 ghost use Rattle.irs_outside.specs.MemSinks.{is_marked_at, IsMarkedPut};
 
@@ -75,7 +76,11 @@ impl MemSink {
     // Appends bytes that fit.
     fn append(&mut self, bytes: &[u8])
         requires { length bytes.now ≤ self.old.left }
-        ensures { self.new ≡ record self.old { written = self.old.written ++ bytes.now; left = self.old.left - length bytes.now } }
+        ensures { self.new ≡ record self.old {
+          written = self.old.written ++ bytes.now;
+          left =
+              self.old.left - length bytes.now;
+        } }
     {
         let end = self.used + bytes.len();
         self.room[self.used..end].copy_from_slice(bytes);
@@ -106,7 +111,9 @@ impl Sink for MemSink {
         ensures rose { OnErr result (Rose self.old.faults self.new.faults) }
         ensures fits { OnOk result ((IsMarkedPut self.old → ⊥) × (length bytes.now ≤ self.old.left)) }
         ensures marked { IsMarkedPut self.old → self.new.written ≡ self.old.written }
-        ensures full { OnErr result ((IsMarkedPut self.old → ⊥) → (self.old.left < length bytes.now) × (self.new.written ≡ self.old.written ++ take self.old.left bytes.now)) }
+        ensures full { OnErr result ((IsMarkedPut self.old → ⊥)
+            → (self.old.left < length bytes.now)
+            × (self.new.written ≡ self.old.written ++ take self.old.left bytes.now)) }
         ensures calls { self.new.calls ≡ next_count self.old.calls }
         ensures same { self.new.marked ≡ self.old.marked }
         ensures room { length self.new.written + self.new.left ≡ length self.old.written + self.old.left }

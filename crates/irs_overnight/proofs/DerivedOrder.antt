@@ -11,7 +11,8 @@ use Rattle.irs_base.proofs.Firsts.{AreTied, false_lt, level_later, level_same, t
 use Rattle.irs_base.proofs.RuleNumbers.{same_rule}
 use Rattle.irs_resets.specs.ResetDates.{IsPeriod}
 use Rattle.irs_overnight.specs.DailyPeriods.{period_at}
-use Rattle.irs_overnight.specs.DerivedRules.{BreaksBasis, BreaksDerived, BreaksPeriod, NotAfter, derived_before, derived_turn, no_basis, not_after_at, period_fault}
+use Rattle.irs_overnight.specs.DerivedRules.{BreaksBasis, BreaksDerived, BreaksPeriod, NotAfter, derived_before}
+use Rattle.irs_overnight.specs.DerivedRules.{derived_turn, no_basis, not_after_at, period_fault}
 use Rattle.irs_overnight.specs.FoundRates.{DailyPeriod, PeriodFails}
 use Rattle.irs_overnight.specs.PeriodTurns.{FirstWay, NoneFails}
 use Rattle.irs_overnight.specs.DailySources.{DailySource}
@@ -47,7 +48,8 @@ inner NoDays OutOfRange = true
 inner OutOfRange NoDays = false
 inner OutOfRange OutOfRange = false
 
-periods_order : (w v : PeriodFault) (j i : ℕ) → derived_before (period_fault w j) (period_fault v i) ≡ level j i (inner w v)
+periods_order : (w v : PeriodFault) (j i : ℕ)
+    → derived_before (period_fault w j) (period_fault v i) ≡ level j i (inner w v)
 periods_order NoDays NoDays j i = refl
 periods_order NoDays OutOfRange j i = refl
 periods_order OutOfRange NoDays j i = refl
@@ -74,26 +76,41 @@ module _ (source : DailySource) (basis : ℕ) (is : basis_of source.day_count �
       let same : b.basis ≡ basis = some_basis b.basis basis (sym b.is_basis ∙ is) in
       subst (λ (n : ℕ). PeriodFails b.why (period_at source n b.number)) same b.fails
 
-  module _ (i : ℕ) (v : PeriodFault) (period : IsPeriod source.adjusted i) (first : FirstWay (period_at source basis i) v) (kept : KeptBelow source basis i) where
+  module _ (i : ℕ) (v : PeriodFault) (period : IsPeriod source.adjusted i)
+      (first : FirstWay (period_at source basis i) v) (kept : KeptBelow source basis i) where
     not_earlier : (f : Fault) → BreaksPeriod source f → derived_before f (period_fault v i) ≡ false
     not_earlier f b =
         let fails = fails_by f b in
         let at : level b.number i (inner b.why v) ≡ false = elim (cases_order b.number i) [
-          | inl same ↦ level_same b.number i (inner b.why v) same (inner_false (period_at source basis i) b.why v first (subst (λ (n : ℕ). PeriodFails b.why (period_at source basis n)) same fails))
+          | inl same ↦
+              level_same b.number i (inner b.why v) same
+              (inner_false (period_at source basis i) b.why v first
+              (subst (λ (n : ℕ). PeriodFails b.why (period_at source basis n)) same fails))
           | inr (inl less) ↦ absurd (kept b.number b.period less b.why fails)
           | inr (inr more) ↦ level_later b.number i (inner b.why v) more
         ] in
-        subst (λ (g : Fault). derived_before g (period_fault v i) ≡ false) (sym b.is) (periods_order b.why v b.number i ∙ at)
+        subst (λ (g : Fault). derived_before g (period_fault v i) ≡ false) (sym b.is)
+        (periods_order b.why v b.number i ∙ at)
 
     -- so it is the first that fails
     pub first_period : First derived_before (BreaksPeriod source) (period_fault v i)
     first_period = (
-      record { basis = basis; is_basis = is; number = i; period = period; why = v; fails = fails_so (period_at source basis i) v first; is = refl },
+      record {
+        basis = basis;
+        is_basis = is;
+        number = i;
+        period = period;
+        why = v;
+        fails =
+            fails_so (period_at source basis i) v first;
+        is = refl;
+      },
       not_earlier,
     )
 
   -- where no period fails no rule of periods is broken
-  pub periods_kept : (i : ℕ) → ((j : ℕ) → IsPeriod source.adjusted j → j < i) → KeptBelow source basis i → (f : Fault) → BreaksPeriod source f → ⊥
+  pub periods_kept : (i : ℕ) → ((j : ℕ) → IsPeriod source.adjusted j → j < i) → KeptBelow source basis i → (f : Fault)
+      → BreaksPeriod source f → ⊥
   periods_kept i all kept f b = kept b.number b.period (all b.number b.period) b.why (fails_by f b)
 
   -- ---- the others
@@ -102,7 +119,8 @@ module _ (source : DailySource) (basis : ℕ) (is : basis_of source.day_count �
   has_basis f b = let e = b.0 in cc (e, is)
 
   -- where fixing dates rise the first of periods is the first of all
-  pub first_of_periods : ((n : ℕ) → NotAfter source.resets n → ⊥) → (f : Fault) → First derived_before (BreaksPeriod source) f → First derived_before (BreaksDerived source) f
+  pub first_of_periods : ((n : ℕ) → NotAfter source.resets n → ⊥) → (f : Fault)
+      → First derived_before (BreaksPeriod source) f → First derived_before (BreaksDerived source) f
   first_of_periods rising f first = (
     inr (inr first.0),
     λ g b. elim b [
@@ -112,7 +130,8 @@ module _ (source : DailySource) (basis : ℕ) (is : basis_of source.day_count �
     ],
   )
 
-  pub derived_kept : ((n : ℕ) → NotAfter source.resets n → ⊥) → ((f : Fault) → BreaksPeriod source f → ⊥) → (f : Fault) → BreaksDerived source f → ⊥
+  pub derived_kept : ((n : ℕ) → NotAfter source.resets n → ⊥) → ((f : Fault) → BreaksPeriod source f → ⊥) → (f : Fault)
+      → BreaksDerived source f → ⊥
   derived_kept rising periods f b = elim b [
     | inl basis ↦ has_basis f basis
     | inr (inl fixing) ↦ rising fixing.number fixing.not_after
@@ -124,13 +143,18 @@ module _ (source : DailySource) (basis : ℕ) (is : basis_of source.day_count �
   after_fixing OutOfRange j n = refl
 
   -- the lowest period whose fixing date isn't later is the first of all
-  pub first_fixing : (n : ℕ) → First nat_lt (NotAfter source.resets) n → First derived_before (BreaksDerived source) (not_after_at n)
+  pub first_fixing : (n : ℕ) → First nat_lt (NotAfter source.resets) n
+      → First derived_before (BreaksDerived source) (not_after_at n)
   first_fixing n first = (
     inr (inl (record { number = n; not_after = first.0; is = refl })),
     λ g b. elim b [
       | inl basis ↦ absurd (has_basis g basis)
-      | inr (inl fixing) ↦ subst (λ (h : Fault). derived_before h (not_after_at n) ≡ false) (sym fixing.is) (level_none fixing.number n (first.1 fixing.number fixing.not_after))
-      | inr (inr period) ↦ subst (λ (h : Fault). derived_before h (not_after_at n) ≡ false) (sym period.is) (after_fixing period.why period.number n)
+      | inr (inl fixing) ↦
+          subst (λ (h : Fault). derived_before h (not_after_at n) ≡ false) (sym fixing.is)
+          (level_none fixing.number n (first.1 fixing.number fixing.not_after))
+      | inr (inr period) ↦
+          subst (λ (h : Fault). derived_before h (not_after_at n) ≡ false) (sym period.is)
+          (after_fixing period.why period.number n)
     ],
   )
 
@@ -139,12 +163,14 @@ after_basis NoDays j = refl
 after_basis OutOfRange j = refl
 
 -- a day count without a basis is the first of all
-pub first_basis : (source : DailySource) → basis_of source.day_count ≡ None → First derived_before (BreaksDerived source) no_basis
+pub first_basis : (source : DailySource) → basis_of source.day_count ≡ None
+    → First derived_before (BreaksDerived source) no_basis
 first_basis source none = (
   inl (none, refl),
   λ g b. elim b [
     | inl basis ↦ subst (λ (h : Fault). derived_before h no_basis ≡ false) (sym basis.1) refl
     | inr (inl fixing) ↦ subst (λ (h : Fault). derived_before h no_basis ≡ false) (sym fixing.is) refl
-    | inr (inr period) ↦ subst (λ (h : Fault). derived_before h no_basis ≡ false) (sym period.is) (after_basis period.why period.number)
+    | inr (inr period) ↦
+        subst (λ (h : Fault). derived_before h no_basis ≡ false) (sym period.is) (after_basis period.why period.number)
   ],
 )

@@ -1,5 +1,7 @@
 -- Factors: there is one behind each number of observations, and how a loop reaches it.
-use Rattle.std.proofs.Common.{◌≡◌, inl, inr, ℕ, ◌+◌, ◌*◌, ◌^◌, ◌<◌, ◌≤◌, List, [], ◌∷◌, ◌++◌, length, take, Option, Some, None, IfSome, IfNone, ℤ, pos, ◌<ℤ◌, ◌*ℤ◌, ◌-ℤ◌, ◌+ℤ◌, refl, sym, subst, ◌∙◌, ap, arith, lit≤}
+use Rattle.std.proofs.Common.{◌≡◌, inl, inr, ℕ, ◌+◌, ◌*◌, ◌^◌, ◌<◌, ◌≤◌, List, [], ◌∷◌, ◌++◌, length, take, Option}
+use Rattle.std.proofs.Common.{Some, None, IfSome, IfNone, ℤ, pos, ◌<ℤ◌, ◌*ℤ◌, ◌-ℤ◌, ◌+ℤ◌, refl, sym, subst, ◌∙◌, ap}
+use Rattle.std.proofs.Common.{arith, lit≤}
 use Rattle.std.specs.Prelude.{get_or, unsigned_abs}
 use Rattle.std.proofs.lemmas.Bool.{cases_lt}
 use Rattle.std.proofs.lemmas.List.{take_more, take_all}
@@ -10,7 +12,8 @@ use Rattle.irs_base.specs.declared.rounding.Direction.TheVariants.{Nearest}
 use Rattle.irs_base.proofs.RoundingLaws.{nearest_once}
 use Rattle.irs_terms.specs.Lawful.{IsRate}
 use Rattle.irs_overnight.specs.Observations.{first_absent}
-use Rattle.irs_overnight.specs.Factors.{FactorPasses, Grows, GrowsBy, IsCompounded, PassesLimit, Reaches, most_factor, one_factor, year_of}
+use Rattle.irs_overnight.specs.Factors.{FactorPasses, Grows, GrowsBy, IsCompounded, PassesLimit, Reaches, most_factor}
+use Rattle.irs_overnight.specs.Factors.{one_factor, year_of}
 use Rattle.irs_overnight.specs.declared.observations.Observation.{Observation}
 
 pub above : (basis : ℕ) → 1 ≤ basis → pos 0 <ℤ year_of basis
@@ -28,8 +31,10 @@ module _ (basis : ℕ) (some : 1 ≤ basis) where
   one_growth : (o : Observation) (f g h : ℤ) → GrowsBy basis o f g → GrowsBy basis o f h → g ≡ h
   one_growth o f g h p q =
       let same : p.rate ≡ q.rate = some_is p.rate q.rate (sym p.observed ∙ q.observed) in
-      let moved : GrowsBy basis o f g = record { rate = q.rate; observed = q.observed; rounded = rw (sym same) p.rounded } in
-      nearest_once (f *ℤ (year_of basis +ℤ q.rate *ℤ o.weight)) (year_of basis) g h (above basis some) moved.rounded q.rounded
+      let moved : GrowsBy basis o f g =
+      record { rate = q.rate; observed = q.observed; rounded = rw (sym same) p.rounded } in
+      nearest_once (f *ℤ (year_of basis +ℤ q.rate *ℤ o.weight)) (year_of basis) g h
+      (above basis some) moved.rounded q.rounded
 
   -- there is one factor behind the observations
   pub one_grown : (os : List Observation) (f g h : ℤ) → Grows basis os f g → Grows basis os f h → g ≡ h
@@ -38,15 +43,18 @@ module _ (basis : ℕ) (some : 1 ≤ basis) where
       let same = one_growth o f p.0 q.0 p.1 q.1 in
       one_grown os q.0 g h (subst (λ (x : ℤ). Grows basis os x g) same p.2) q.2
 
-  grows_push : (os : List Observation) (o : Observation) (f g h : ℤ) → Grows basis os f g → GrowsBy basis o g h → Grows basis (os ++ o ∷ []) f h
+  grows_push : (os : List Observation) (o : Observation) (f g h : ℤ) → Grows basis os f g → GrowsBy basis o g h
+      → Grows basis (os ++ o ∷ []) f h
   grows_push [] o f g h p by = (h, subst (λ (x : ℤ). GrowsBy basis o x h) p by, refl)
   grows_push (x ∷ xs) o f g h p by = (p.0, p.1, grows_push xs o p.0 g h p.2 by)
 
-  module _ (os : List Observation) (k : ℕ) (f g : ℤ) (o : Observation) (low : k < length os) (is : get_or os k o ≡ o) (by : GrowsBy basis o f g) where
+  module _ (os : List Observation) (k : ℕ) (f g : ℤ) (o : Observation) (low : k < length os) (is : get_or os k o ≡ o)
+      (by : GrowsBy basis o f g) where
     pub reaches_more : Reaches basis os k f → Reaches basis os (k + 1) g
     reaches_more r =
         let longer : take (k + 1) os ≡ take k os ++ o ∷ [] = take_more os k o low ∙ ap (λ z. take k os ++ z ∷ []) is in
-        subst (λ (xs : List Observation). Grows basis xs one_factor g) (sym longer) (grows_push (take k os) o one_factor f g r by)
+        subst (λ (xs : List Observation). Grows basis xs one_factor g) (sym longer)
+        (grows_push (take k os) o one_factor f g r by)
 
     pub compounds_more : Compounds basis os k f → unsigned_abs g ≤ most_factor → Compounds basis os (k + 1) g
     compounds_more c within =
@@ -88,13 +96,17 @@ module _ (basis : ℕ) (some : 1 ≤ basis) where
   }
 
   -- there is one rate
-  pub one_compounded : (days : ℤ) (os : List Observation) (x y : ℤ) → pos 0 <ℤ (pos (10 ^ 6) *ℤ days) → IsCompounded basis days os x → IsCompounded basis days os y → x ≡ y
+  pub one_compounded : (days : ℤ) (os : List Observation) (x y : ℤ) → pos 0 <ℤ (pos (10 ^ 6) *ℤ days)
+      → IsCompounded basis days os x → IsCompounded basis days os y → x ≡ y
   one_compounded days os x y positive p q =
       let same : p.factor ≡ q.factor = one_grown os one_factor p.factor q.factor p.grows q.grows in
-      nearest_once ((q.factor -ℤ one_factor) *ℤ pos basis) (pos (10 ^ 6) *ℤ days) x y positive (rw (sym same) p.rounded) q.rounded
+      nearest_once ((q.factor -ℤ one_factor) *ℤ pos basis) (pos (10 ^ 6) *ℤ days) x y positive
+      (rw (sym same) p.rounded) q.rounded
 
   -- the answer that is a factor's rate where that is small
-  module _ (days : ℤ) (os : List Observation) (f r : ℤ) (positive : pos 0 <ℤ (pos (10 ^ 6) *ℤ days)) (grows : Grows basis os one_factor f) (rounded : Rounded Nearest ((f -ℤ one_factor) *ℤ pos basis) (pos (10 ^ 6) *ℤ days) r) where
+  module _ (days : ℤ) (os : List Observation) (f r : ℤ) (positive : pos 0 <ℤ (pos (10 ^ 6) *ℤ days))
+      (grows : Grows basis os one_factor f)
+      (rounded : Rounded Nearest ((f -ℤ one_factor) *ℤ pos basis) (pos (10 ^ 6) *ℤ days) r) where
     compounded_so : IsCompounded basis days os r
     compounded_so = record { factor = f; grows = grows; rounded = rounded }
 
@@ -102,7 +114,8 @@ module _ (basis : ℕ) (some : 1 ≤ basis) where
     rate_some None e = tt
     rate_some (Some x) e = rw e compounded_so
 
-    pub rate_kept : (answer : Option ℤ) → (FactorPasses basis os → ⊥) → IfSome answer (λ x. x ≡ r) → IfSome answer IsRate → IfSome answer (λ _. PassesLimit basis days os → ⊥)
+    pub rate_kept : (answer : Option ℤ) → (FactorPasses basis os → ⊥) → IfSome answer (λ x. x ≡ r)
+        → IfSome answer IsRate → IfSome answer (λ _. PassesLimit basis days os → ⊥)
     rate_kept None none e small = tt
     rate_kept (Some x) none e small = λ h. elim h.passes [
       | inl factor ↦ none factor
@@ -114,6 +127,8 @@ module _ (basis : ℕ) (some : 1 ≤ basis) where
           omega (arith, within, passed)
     ]
 
-    pub rate_none : (answer : Option ℤ) → first_absent os ≡ None → IfNone answer (most_rate < unsigned_abs r) → IfNone answer (PassesLimit basis days os)
-    rate_none None known passes = record { known = known; passes = inr (record { rate = r; is_compounded = compounded_so; passes = passes }) }
+    pub rate_none : (answer : Option ℤ) → first_absent os ≡ None → IfNone answer (most_rate < unsigned_abs r)
+        → IfNone answer (PassesLimit basis days os)
+    rate_none None known passes =
+        record { known = known; passes = inr (record { rate = r; is_compounded = compounded_so; passes = passes }) }
     rate_none (Some x) known passes = tt

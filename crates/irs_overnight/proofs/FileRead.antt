@@ -1,5 +1,7 @@
 -- The text of derived rates is a fixing file that has exactly their rates.
-use Rattle.std.proofs.Common.{◌≡◌, ◌≢◌, ◌⊎◌, ◌==◌, ℕ, zero, suc, ◌+◌, ◌-◌, ◌^◌, ◌<◌, ◌≤◌, List, [], ◌∷◌, ◌++◌, length, map, All, inl, inr, Bool, true, false, Option, Some, ℤ, refl, sym, subst, ap, ◌∙◌, arith, append_assoc, codes}
+use Rattle.std.proofs.Common.{◌≡◌, ◌≢◌, ◌⊎◌, ◌==◌, ℕ, zero, suc, ◌+◌, ◌-◌, ◌^◌, ◌<◌, ◌≤◌, List, [], ◌∷◌, ◌++◌, length}
+use Rattle.std.proofs.Common.{map, All, inl, inr, Bool, true, false, Option, Some, ℤ, refl, sym, subst, ap, ◌∙◌, arith}
+use Rattle.std.proofs.Common.{append_assoc, codes}
 use Rattle.std.specs.Prelude.{get_or, slice_get}
 use Rattle.std.specs.List.{flat_map}
 use Rattle.std.specs.Fmt.{decimal}
@@ -58,7 +60,8 @@ all_unbroken (x ∷ a) h = ((h 0 0 (omega arith)).0, all_unbroken a (λ k d low.
 space : 32 ≤ 32
 space = omega arith
 
-fields_unbroken : (row : DerivedRow) (found : Found) (tenor : Option Frequency) (index : List ℕ) → IsLawfulLine index tenor → IsSmallFound found → row.period < 2 ^ 32 → NoBreak (fields_of row found tenor index)
+fields_unbroken : (row : DerivedRow) (found : Found) (tenor : Option Frequency) (index : List ℕ)
+    → IsLawfulLine index tenor → IsSmallFound found → row.period < 2 ^ 32 → NoBreak (fields_of row found tenor index)
 fields_unbroken row (Rate x) tenor index lawful rate period =
     let a = visible_unbroken (day_text row.fixing) (day_visible row.fixing) in
     let b = visible_unbroken (dec_text x 9) (rate_visible x rate) in
@@ -68,15 +71,25 @@ fields_unbroken row (Rate x) tenor index lawful rate period =
     let abc = break_append (day_text row.fixing ++ 32 ∷ dec_text x 9) (32 ∷ tenor_text tenor) ab (space, c) in
     break_append (day_text row.fixing ++ 32 ∷ dec_text x 9 ++ 32 ∷ tenor_text tenor) (32 ∷ index) abc (space, d)
 fields_unbroken row (Missing d) tenor index lawful rate period =
-    let number = visible_unbroken (decimal row.period) (digits_visible (decimal row.period) (spells_decimal row.period (omega (arith, period))).0) in
+    let number =
+    visible_unbroken (decimal row.period)
+    (digits_visible (decimal row.period) (spells_decimal row.period (omega (arith, period))).0) in
     let day = visible_unbroken (day_text d) (day_visible d) in
-    let words : NoBreak (codes "# missing") = (omega arith, (omega arith, (omega arith, (omega arith, (omega arith, (omega arith, (omega arith, (omega arith, (omega arith, tt))))))))) in
-    break_append (codes "# missing" ++ 32 ∷ decimal row.period) (32 ∷ day_text d) (break_append (codes "# missing") (32 ∷ decimal row.period) words (space, number)) (space, day)
+    let words : NoBreak (codes "# missing") = (
+      omega arith,
+      (
+        omega arith,
+        (omega arith, (omega arith, (omega arith, (omega arith, (omega arith, (omega arith, (omega arith, tt))))))),
+      ),
+    ) in
+    break_append (codes "# missing" ++ 32 ∷ decimal row.period) (32 ∷ day_text d)
+    (break_append (codes "# missing") (32 ∷ decimal row.period) words (space, number)) (space, day)
 
 abbrev line_of : Option Frequency → List ℕ → DerivedRow → List ℕ
 line_of tenor index row = fields_of row row.found tenor index
 
-text_is : (row : DerivedRow) (tenor : Option Frequency) (index : List ℕ) → derived_text_of row tenor index ≡ line_of tenor index row ++ 10 ∷ []
+text_is : (row : DerivedRow) (tenor : Option Frequency) (index : List ℕ)
+    → derived_text_of row tenor index ≡ line_of tenor index row ++ 10 ∷ []
 unfolding derived_text_of
 text_is row tenor index = refl
 
@@ -89,13 +102,17 @@ kept_rest row rows h = record {
 }
 
 module _ (tenor : Option Frequency) (index : List ℕ) (lawful : IsLawfulLine index tenor) where
-  row_lines : (rows : List DerivedRow) → AreKept rows → lines_of (flat_map (λ row. derived_text_of row tenor index) rows) ≡ map (line_of tenor index) rows
+  row_lines : (rows : List DerivedRow) → AreKept rows
+      → lines_of (flat_map (λ row. derived_text_of row tenor index) rows) ≡ map (line_of tenor index) rows
   row_lines [] h = refl
   row_lines (row ∷ rows) h =
       let rest = flat_map (λ (r : DerivedRow). derived_text_of r tenor index) rows in
-      let text : derived_text_of row tenor index ++ rest ≡ line_of tenor index row ++ 10 ∷ rest = ap (λ (t : List ℕ). t ++ rest) (text_is row tenor index) ∙ append_assoc (line_of tenor index row) (10 ∷ []) rest in
+      let text : derived_text_of row tenor index ++ rest ≡ line_of tenor index row ++ 10 ∷ rest =
+      ap (λ (t : List ℕ). t ++ rest) (text_is row tenor index)
+      ∙ append_assoc (line_of tenor index row) (10 ∷ []) rest in
       let unbroken = fields_unbroken row row.found tenor index lawful (h.rates 0 row refl) (h.periods 0 row refl) in
-      ap lines_of text ∙ line_step (line_of tenor index row) rest unbroken ∙ ap (λ (ls : List (List ℕ)). line_of tenor index row ∷ ls) (row_lines rows (kept_rest row rows h))
+      ap lines_of text ∙ line_step (line_of tenor index row) rest unbroken
+      ∙ ap (λ (ls : List (List ℕ)). line_of tenor index row ∷ ls) (row_lines rows (kept_rest row rows h))
 
 -- ---- the file
 
@@ -108,15 +125,21 @@ lines_by rows tenor index = head_line ∷ map (line_of tenor index) rows
 head_step : (rest : List ℕ) → lines_of (codes "# irs-fixings 1\n" ++ rest) ≡ head_line ∷ lines_of rest
 head_step rest = refl
 
-row_at : (tenor : Option Frequency) (index : List ℕ) (rows : List DerivedRow) (k : ℕ) → k < length (map (line_of tenor index) rows) → (row : DerivedRow) × (slice_get rows k ≡ Some row) × (get_or (map (line_of tenor index) rows) k [] ≡ line_of tenor index row)
+row_at : (tenor : Option Frequency) (index : List ℕ) (rows : List DerivedRow) (k : ℕ)
+    → k < length (map (line_of tenor index) rows)
+    → (row : DerivedRow) × (slice_get rows k ≡ Some row)
+    × (get_or (map (line_of tenor index) rows) k [] ≡ line_of tenor index row)
 row_at tenor index [] k low = absurd (omega (arith, low))
 row_at tenor index (row ∷ rows) zero low = (row, refl, refl)
 row_at tenor index (row ∷ rows) (suc k) low = row_at tenor index rows k (omega (arith, low))
 
-at_row : (tenor : Option Frequency) (index : List ℕ) (rows : List DerivedRow) (k : ℕ) (row : DerivedRow) → slice_get rows k ≡ Some row → (k < length (map (line_of tenor index) rows)) × (get_or (map (line_of tenor index) rows) k [] ≡ line_of tenor index row)
+at_row : (tenor : Option Frequency) (index : List ℕ) (rows : List DerivedRow) (k : ℕ) (row : DerivedRow)
+    → slice_get rows k ≡ Some row → (k < length (map (line_of tenor index) rows))
+    × (get_or (map (line_of tenor index) rows) k [] ≡ line_of tenor index row)
 at_row tenor index [] k row at = absurd (cc)
 at_row tenor index (x ∷ rows) zero row at = let e : x ≡ row = cc in (omega arith, ap (line_of tenor index) e)
-at_row tenor index (x ∷ rows) (suc k) row at = let rest = at_row tenor index rows k row at in let low = rest.0 in (omega (arith, low), rest.1)
+at_row tenor index (x ∷ rows) (suc k) row at = let rest = at_row tenor index rows k row at in let low = rest.0 in
+    (omega (arith, low), rest.1)
 
 -- a line is the first one, or that of a row
 pub record IsRowLine (tenor : Option Frequency) (index : List ℕ) (rows : List DerivedRow) (n : ℕ) : Type 0 where
@@ -126,7 +149,9 @@ pub record IsRowLine (tenor : Option Frequency) (index : List ℕ) (rows : List 
   pub at : slice_get rows place ≡ Some row
   pub is : line_at (lines_by rows tenor index) n ≡ line_of tenor index row
 
-which_line : (tenor : Option Frequency) (index : List ℕ) (rows : List DerivedRow) (n : ℕ) → IsLine (lines_by rows tenor index) n → (line_at (lines_by rows tenor index) n ≡ head_line) ⊎ IsRowLine tenor index rows n
+which_line : (tenor : Option Frequency) (index : List ℕ) (rows : List DerivedRow) (n : ℕ)
+    → IsLine (lines_by rows tenor index) n → (line_at (lines_by rows tenor index) n ≡ head_line)
+    ⊎ IsRowLine tenor index rows n
 which_line tenor index rows zero h = absurd (let low = h.0 in omega (arith, low))
 which_line tenor index rows (suc zero) h = inl refl
 which_line tenor index rows (suc (suc k)) h =
@@ -151,64 +176,101 @@ abbrev slot_of : ℤ → Option Frequency → Slot
 slot_of d t = record { date = d; tenor = t }
 
 -- a line spells one rate
-one_spelt : (line name other : List ℕ) (slot : Slot) (d : ℤ) (t : Option Frequency) (x y : ℤ) → Spells line name slot x → Spells line other (slot_of d t) y → (name ≡ other) × (slot ≡ slot_of d t) × (x ≡ y)
+one_spelt : (line name other : List ℕ) (slot : Slot) (d : ℤ) (t : Option Frequency) (x y : ℤ) → Spells line name slot x
+    → Spells line other (slot_of d t) y → (name ≡ other) × (slot ≡ slot_of d t) × (x ≡ y)
 one_spelt line name other slot d t x y p q =
     let date = some_day slot.date d (sym p.date ∙ q.date) in
-    let tenor = some_tenor slot.tenor t (sym p.tenor ∙ q.tenor) in
-    (p.rest ∙ sym q.rest, (λ i. slot_of (date i) (tenor i)), one_decimal _ 9 x y p.rate_text.decimal q.rate_text.decimal)
+    let tenor = some_tenor slot.tenor t (sym p.tenor ∙ q.tenor) in (
+      p.rest ∙ sym q.rest,
+      (λ i. slot_of (date i) (tenor i)),
+      one_decimal _ 9 x y p.rate_text.decimal q.rate_text.decimal,
+    )
 
-module _ (tenor : Option Frequency) (index : List ℕ) (rows : List DerivedRow) (lawful : IsLawfulLine index tenor) (kept : AreKept rows) where
+module _ (tenor : Option Frequency) (index : List ℕ) (rows : List DerivedRow) (lawful : IsLawfulLine index tenor)
+    (kept : AreKept rows) where
   abbrev lines : List (List ℕ)
   lines = lines_by rows tenor index
 
-  spelt_by : (row : DerivedRow) (found : Found) → row.found ≡ found → IsDay row.fixing → IsSmallFound row.found → (name : List ℕ) (slot : Slot) (rate : ℤ) → Spells (line_of tenor index row) name slot rate → (row.found ≡ Rate rate) × (name ≡ index) × (slot ≡ slot_of row.fixing tenor)
+  spelt_by : (row : DerivedRow) (found : Found) → row.found ≡ found → IsDay row.fixing → IsSmallFound row.found
+      → (name : List ℕ) (slot : Slot) (rate : ℤ) → Spells (line_of tenor index row) name slot rate
+      → (row.found ≡ Rate rate) × (name ≡ index) × (slot ≡ slot_of row.fixing tenor)
   spelt_by row (Rate x) e day small name slot rate s =
       let small_rate : IsRate x = subst IsSmallFound e small in
-      let line : Spells (fields_of row (Rate x) tenor index) name slot rate = subst (λ (f : Found). Spells (fields_of row f tenor index) name slot rate) e s in
+      let line : Spells (fields_of row (Rate x) tenor index) name slot rate =
+      subst (λ (f : Found). Spells (fields_of row f tenor index) name slot rate) e s in
       let own = reads_as row (Rate x) tenor index day lawful small_rate in
       let one = one_spelt (fields_of row (Rate x) tenor index) name index slot row.fixing tenor rate x line own in
       (e ∙ ap Rate (sym one.2), one.0, one.1)
   spelt_by row (Missing d) e day small name slot rate s =
-      let line : Spells (fields_of row (Missing d) tenor index) name slot rate = subst (λ (f : Found). Spells (fields_of row f tenor index) name slot rate) e s in
+      let line : Spells (fields_of row (Missing d) tenor index) name slot rate =
+      subst (λ (f : Found). Spells (fields_of row f tenor index) name slot rate) e s in
       absurd (passed_none (fields_of row (Missing d) tenor index) name slot rate refl line)
 
   -- the row of a line that gives a rate
-  fixes_row : (n : ℕ) (name : List ℕ) (slot : Slot) (rate : ℤ) → Fixes lines n name slot rate → (h : HasRate rows tenor index name slot rate) × (n ≡ h.place + 2)
+  fixes_row : (n : ℕ) (name : List ℕ) (slot : Slot) (rate : ℤ) → Fixes lines n name slot rate
+      → (h : HasRate rows tenor index name slot rate) × (n ≡ h.place + 2)
   fixes_row n name slot rate f = elim (which_line tenor index rows n f.is_line) [
-    | inl head ↦ absurd (passed_none head_line name slot rate refl (subst (λ (l : List ℕ). Spells l name slot rate) head f.spelt))
+    | inl head ↦
+        absurd (passed_none head_line name slot rate refl
+        (subst (λ (l : List ℕ). Spells l name slot rate) head f.spelt))
     | inr line ↦
-        let s : Spells (line_of tenor index line.row) name slot rate = subst (λ (l : List ℕ). Spells l name slot rate) line.is f.spelt in
-        let is = spelt_by line.row line.row.found refl (kept.days line.place line.row line.at) (kept.rates line.place line.row line.at) name slot rate s in
-        (record { place = line.place; row = line.row; at = line.at; found = is.0; same_name = is.1; same_slot = is.2 }, line.number)
+        let s : Spells (line_of tenor index line.row) name slot rate =
+        subst (λ (l : List ℕ). Spells l name slot rate) line.is f.spelt in
+        let is = spelt_by line.row line.row.found refl (kept.days line.place line.row line.at)
+        (kept.rates line.place line.row line.at) name slot rate s in (
+          record { place = line.place; row = line.row; at = line.at; found = is.0; same_name = is.1; same_slot = is.2 },
+          line.number,
+        )
   ]
 
-  row_fixes : (name : List ℕ) (slot : Slot) (rate : ℤ) → HasRate rows tenor index name slot rate → (n : ℕ) × Fixes lines n name slot rate
+  row_fixes : (name : List ℕ) (slot : Slot) (rate : ℤ) → HasRate rows tenor index name slot rate
+      → (n : ℕ) × Fixes lines n name slot rate
   row_fixes name slot rate h =
       let there = at_row tenor index rows h.place h.row h.at in
       let low = there.0 in
       let e : h.place + 2 - 1 ≡ suc h.place = omega arith in
-      let line : line_at lines (h.place + 2) ≡ fields_of h.row (Rate rate) tenor index = ap (λ (m : ℕ). get_or lines m []) e ∙ there.1 ∙ ap (λ (f : Found). fields_of h.row f tenor index) h.found in
+      let line : line_at lines (h.place + 2) ≡ fields_of h.row (Rate rate) tenor index =
+      ap (λ (m : ℕ). get_or lines m []) e ∙ there.1 ∙ ap (λ (f : Found). fields_of h.row f tenor index) h.found in
       let small : IsRate rate = subst IsSmallFound h.found (kept.rates h.place h.row h.at) in
-      let own : Spells (fields_of h.row (Rate rate) tenor index) index (slot_of h.row.fixing tenor) rate = reads_as h.row (Rate rate) tenor index (kept.days h.place h.row h.at) lawful small in
-      let named : Spells (fields_of h.row (Rate rate) tenor index) name (slot_of h.row.fixing tenor) rate = subst (λ (i : List ℕ). Spells (fields_of h.row (Rate rate) tenor index) i (slot_of h.row.fixing tenor) rate) (sym h.same_name) own in
-      let spelt : Spells (fields_of h.row (Rate rate) tenor index) name slot rate = subst (λ (q : Slot). Spells (fields_of h.row (Rate rate) tenor index) name q rate) (sym h.same_slot) named in
-      (h.place + 2, record { is_line = (omega arith, omega (arith, low)); spelt = subst (λ (l : List ℕ). Spells l name slot rate) (sym line) spelt })
+      let own : Spells (fields_of h.row (Rate rate) tenor index) index (slot_of h.row.fixing tenor) rate =
+      reads_as h.row (Rate rate) tenor index (kept.days h.place h.row h.at) lawful small in
+      let named : Spells (fields_of h.row (Rate rate) tenor index) name (slot_of h.row.fixing tenor) rate =
+      subst (λ (i : List ℕ). Spells (fields_of h.row (Rate rate) tenor index) i (slot_of h.row.fixing tenor) rate)
+      (sym h.same_name) own in
+      let spelt : Spells (fields_of h.row (Rate rate) tenor index) name slot rate =
+      subst (λ (q : Slot). Spells (fields_of h.row (Rate rate) tenor index) name q rate) (sym h.same_slot) named in (
+        h.place + 2,
+        record {
+          is_line = (omega arith, omega (arith, low));
+          spelt =
+              subst (λ (l : List ℕ). Spells l name slot rate) (sym line) spelt;
+        },
+      )
 
   passed_by : (b : Bool) → b ≡ true → b ≡ false → ⊥
   passed_by b p q = cc
 
-  good_row : (row : DerivedRow) (found : Found) → row.found ≡ found → IsDay row.fixing → IsSmallFound row.found → is_passed (line_of tenor index row) ≡ false → ((name : List ℕ) (slot : Slot) (rate : ℤ) → Spells (line_of tenor index row) name slot rate → ⊥) → ⊥
+  good_row : (row : DerivedRow) (found : Found) → row.found ≡ found → IsDay row.fixing → IsSmallFound row.found
+      → is_passed (line_of tenor index row) ≡ false
+      → ((name : List ℕ) (slot : Slot) (rate : ℤ) → Spells (line_of tenor index row) name slot rate → ⊥) → ⊥
   good_row row (Rate x) e day small not none =
       let small_rate : IsRate x = subst IsSmallFound e small in
-      none index (slot_of row.fixing tenor) x (subst (λ (f : Found). Spells (fields_of row f tenor index) index (slot_of row.fixing tenor) x) (sym e) (reads_as row (Rate x) tenor index day lawful small_rate))
-  good_row row (Missing d) e day small not none = passed_by (is_passed (line_of tenor index row)) (ap (λ (f : Found). is_passed (fields_of row f tenor index)) e) not
+      none index (slot_of row.fixing tenor) x
+      (subst (λ (f : Found). Spells (fields_of row f tenor index) index (slot_of row.fixing tenor) x) (sym e)
+      (reads_as row (Rate x) tenor index day lawful small_rate))
+  good_row row (Missing d) e day small not none =
+      passed_by (is_passed (line_of tenor index row))
+      (ap (λ (f : Found). is_passed (fields_of row f tenor index)) e) not
 
   not_bad : (n : ℕ) → IsBad lines n → ⊥
   not_bad n b = elim (which_line tenor index rows n b.is_line) [
     | inl head ↦ passed_by (is_passed (line_at lines n)) (ap is_passed head) b.bad.not_passed
-    | inr line ↦ good_row line.row line.row.found refl (kept.days line.place line.row line.at) (kept.rates line.place line.row line.at)
+    | inr line ↦
+        good_row line.row line.row.found refl (kept.days line.place line.row line.at)
+        (kept.rates line.place line.row line.at)
         (ap is_passed (sym line.is) ∙ b.bad.not_passed)
-        (λ name slot rate s. b.bad.spells_none name slot rate (subst (λ (l : List ℕ). Spells l name slot rate) (sym line.is) s))
+        (λ name slot rate s. b.bad.spells_none name slot rate
+        (subst (λ (l : List ℕ). Spells l name slot rate) (sym line.is) s))
   ]
 
   not_repeated : (n : ℕ) → Repeats lines n → ⊥
@@ -218,8 +280,10 @@ module _ (tenor : Option Frequency) (index : List ℕ) (rows : List DerivedRow) 
       let before = r.before in
       let a = later.1 in
       let b = first.1 in
-      let order = kept.rise first.0.place later.0.place first.0.row later.0.row (omega (arith, before, a, b)) first.0.at later.0.at in
-      let same : later.0.row.fixing ≡ first.0.row.fixing = ap (λ (q : Slot). q.date) (sym later.0.same_slot ∙ first.0.same_slot) in
+      let order = kept.rise first.0.place later.0.place first.0.row later.0.row
+      (omega (arith, before, a, b)) first.0.at later.0.at in
+      let same : later.0.row.fixing ≡ first.0.row.fixing =
+      ap (λ (q : Slot). q.date) (sym later.0.same_slot ∙ first.0.same_slot) in
       omega (arith, signed_arith, order, same)
 
   not_faulty : (n : ℕ) → IsFaulty lines n → ⊥
@@ -235,6 +299,7 @@ module _ (tenor : Option Frequency) (index : List ℕ) (rows : List DerivedRow) 
     clean = λ n f. not_faulty n (subst (λ (ls : List (List ℕ)). IsFaulty ls n) all_lines f);
     holds = λ name slot rate. (
       λ h. (fixes_row h.0 name slot rate (subst (λ (ls : List (List ℕ)). Fixes ls h.0 name slot rate) all_lines h.1)).0,
-      λ h. let n = row_fixes name slot rate h in (n.0, subst (λ (ls : List (List ℕ)). Fixes ls n.0 name slot rate) (sym all_lines) n.1),
+      λ h. let n = row_fixes name slot rate h in
+          (n.0, subst (λ (ls : List (List ℕ)). Fixes ls n.0 name slot rate) (sym all_lines) n.1),
     );
   }

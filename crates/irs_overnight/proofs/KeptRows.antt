@@ -1,5 +1,6 @@
 -- The rows of a stream without a broken rule keep what a fixing file asks of them.
-use Rattle.std.proofs.Common.{◌≡◌, inl, inr, ℕ, zero, suc, ◌+◌, ◌-◌, ◌^◌, ◌<◌, ◌≤◌, List, [], ◌∷◌, length, All, Some, Result, Ok, Err, IfOk, ℤ, ◌<ℤ◌, ◌≤ℤ◌, refl, sym, subst, arith}
+use Rattle.std.proofs.Common.{◌≡◌, inl, inr, ℕ, zero, suc, ◌+◌, ◌-◌, ◌^◌, ◌<◌, ◌≤◌, List, [], ◌∷◌, length, All, Some}
+use Rattle.std.proofs.Common.{Result, Ok, Err, IfOk, ℤ, ◌<ℤ◌, ◌≤ℤ◌, refl, sym, subst, arith}
 use Rattle.std.specs.Prelude.{slice_get}
 use Rattle.std.proofs.lemmas.Option.{get_or_from_slice_get, slice_get_within}
 use Rattle.jiff_core.proofs.SignedLemmas.{signed_arith}
@@ -20,10 +21,13 @@ use Rattle.irs_overnight.specs.declared.derived.DerivedRow.{DerivedRow}
 use Rattle.irs_overnight.proofs.FileRead.{are_fixings}
 use Rattle.irs_overnight.proofs.SourceLemmas.{every_at, part_floats}
 
-pub numbered_at : (P : ℕ → DerivedRow → Type 0) (n k : ℕ) (rows : List DerivedRow) (row : DerivedRow) → EachNumbered P n rows → slice_get rows k ≡ Some row → P (n + k) row
+pub numbered_at : (P : ℕ → DerivedRow → Type 0) (n k : ℕ) (rows : List DerivedRow) (row : DerivedRow)
+    → EachNumbered P n rows → slice_get rows k ≡ Some row → P (n + k) row
 numbered_at P n k [] row h at = absurd (let low = slice_get_within [] k row at in omega (arith, low))
-numbered_at P n zero (x ∷ rows) row h at = let e : x ≡ row = cc in let same : n ≡ n + 0 = omega arith in subst (λ (m : ℕ). P m row) same (subst (P n) e h.0)
-numbered_at P n (suc k) (x ∷ rows) row h at = let same : n + 1 + k ≡ n + suc k = omega arith in subst (λ (m : ℕ). P m row) same (numbered_at P (n + 1) k rows row h.1 at)
+numbered_at P n zero (x ∷ rows) row h at = let e : x ≡ row = cc in let same : n ≡ n + 0 = omega arith in
+    subst (λ (m : ℕ). P m row) same (subst (P n) e h.0)
+numbered_at P n (suc k) (x ∷ rows) row h at = let same : n + 1 + k ≡ n + suc k = omega arith in
+    subst (λ (m : ℕ). P m row) same (numbered_at P (n + 1) k rows row h.1 at)
 
 -- fixing dates rise where each is after the one before it
 module _ (resets : List Reset) (none : (n : ℕ) → NotAfter resets n → ⊥) where
@@ -32,7 +36,13 @@ module _ (resets : List Reset) (none : (n : ℕ) → NotAfter resets n → ⊥) 
       let a = fixing_at resets i in
       let b = fixing_at resets (i + 1) in
       let before : i + 1 - 1 ≡ i = omega arith in
-      let fails : b ≤ℤ a → ⊥ = λ le. none (i + 1) (record { second = omega (arith, low); within = high; not_after = subst (λ (m : ℕ). fixing_at resets (i + 1) ≤ℤ fixing_at resets m) (sym before) le }) in
+      let fails : b ≤ℤ a → ⊥ =
+      λ le. none (i + 1) (record {
+        second = omega (arith, low);
+        within = high;
+        not_after =
+            subst (λ (m : ℕ). fixing_at resets (i + 1) ≤ℤ fixing_at resets m) (sym before) le;
+      }) in
       elim (order_of a b) [
         | inl less ↦ less
         | inr (inl more) ↦ absurd (fails (omega (arith, signed_arith, more)))
@@ -45,21 +55,26 @@ module _ (resets : List Reset) (none : (n : ℕ) → NotAfter resets n → ⊥) 
       let first = later_after i m low (omega (arith, high)) in
       let second = next_after (i + (m + 1)) (omega (arith, low)) (omega (arith, high)) in
       let place : i + (m + 1) + 1 ≡ i + (suc m + 1) = omega arith in
-      let last : fixing_at resets (i + (m + 1)) <ℤ fixing_at resets (i + (suc m + 1)) = subst (λ (n : ℕ). fixing_at resets (i + (m + 1)) <ℤ fixing_at resets n) place second in
+      let last : fixing_at resets (i + (m + 1)) <ℤ fixing_at resets (i + (suc m + 1)) =
+      subst (λ (n : ℕ). fixing_at resets (i + (m + 1)) <ℤ fixing_at resets n) place second in
       omega (arith, signed_arith, first, last)
 
   rising_at : (i j : ℕ) → 1 ≤ i → i < j → j ≤ length resets → fixing_at resets i <ℤ fixing_at resets j
   rising_at i j low less high =
       let e : i + (j - i - 1 + 1) ≡ j = omega (arith, less) in
-      subst (λ (n : ℕ). fixing_at resets i <ℤ fixing_at resets n) e (later_after i (j - i - 1) low (omega (arith, less, high)))
+      subst (λ (n : ℕ). fixing_at resets i <ℤ fixing_at resets n) e
+      (later_after i (j - i - 1) low (omega (arith, less, high)))
 
 -- the row of period i has its number and its fixing date
 abbrev pub IsDated : List ℤ → List Reset → ℕ → DerivedRow → Type 0
 IsDated adjusted resets i row = IsPeriod adjusted i × (row.period ≡ i) × (row.fixing ≡ fixing_at resets i)
 
-module _ (adjusted : List ℤ) (resets : List Reset) (rows : List DerivedRow) (dated : (k : ℕ) (row : DerivedRow) → slice_get rows k ≡ Some row → IsDated adjusted resets (1 + k) row) (good : All IsInRange rows) (none : (n : ℕ) → NotAfter resets n → ⊥) (many : length adjusted ≡ length resets + 1) (few : length adjusted < 2 ^ 32) where
+module _ (adjusted : List ℤ) (resets : List Reset) (rows : List DerivedRow) (dated : (k : ℕ) (row : DerivedRow)
+    → slice_get rows k ≡ Some row → IsDated adjusted resets (1 + k) row) (good : All IsInRange rows) (none : (n : ℕ)
+    → NotAfter resets n → ⊥) (many : length adjusted ≡ length resets + 1) (few : length adjusted < 2 ^ 32) where
   range_at : (k : ℕ) (row : DerivedRow) → slice_get rows k ≡ Some row → IsInRange row
-  range_at k row at = subst IsInRange (get_or_from_slice_get rows k row row at) (good k row (slice_get_within rows k row at))
+  range_at k row at =
+      subst IsInRange (get_or_from_slice_get rows k row row at) (good k row (slice_get_within rows k row at))
 
   pub kept_rows : AreKept rows
   kept_rows = record {
@@ -74,21 +89,26 @@ module _ (adjusted : List ℤ) (resets : List Reset) (rows : List DerivedRow) (d
         let a = dated j row at in
         let b = dated k later there in
         let high = b.0.1 in
-        let order = rising_at resets none (1 + j) (1 + k) (omega arith) (omega (arith, less)) (omega (arith, high, many)) in
+        let order = rising_at resets none (1 + j) (1 + k) (omega arith) (omega (arith, less))
+        (omega (arith, high, many)) in
         let x = a.2 in
         let y = b.2 in
         omega (arith, signed_arith, order, x, y);
   }
 
-pub lawful_float : (a : Asked) → IsAsked a → (float : FloatTerms) → PaysFloating a.swap a.number float → IsLawfulFloat float
+pub lawful_float : (a : Asked) → IsAsked a → (float : FloatTerms) → PaysFloating a.swap a.number float
+    → IsLawfulFloat float
 lawful_float a h float pays =
     let streams = h.lawful.2 in
     let low = slice_get_within a.swap.streams (a.number - 1) pays.stream pays.at in
-    let stream : IsLawfulStream pays.stream = subst IsLawfulStream (get_or_from_slice_get a.swap.streams (a.number - 1) pays.stream pays.stream pays.at) (streams (a.number - 1) pays.stream low) in
+    let stream : IsLawfulStream pays.stream =
+    subst IsLawfulStream (get_or_from_slice_get a.swap.streams (a.number - 1) pays.stream pays.stream pays.at)
+    (streams (a.number - 1) pays.stream low) in
     subst IsLawfulLeg pays.pays stream.leg
 
 -- the rows print a fixing file
-pub reads_back : (a : Asked) → IsAsked a → Every KeepsBounds a.parts → (rows : List DerivedRow) → IsOvernight a rows → OvernightKept a → All IsInRange rows → ReadsBack a rows
+pub reads_back : (a : Asked) → IsAsked a → Every KeepsBounds a.parts → (rows : List DerivedRow) → IsOvernight a rows
+    → OvernightKept a → All IsInRange rows → ReadsBack a rows
 reads_back a h bounds rows over kept good = λ float pays.
     let part = over.has.part in
     let keeps = every_at KeepsBounds a.parts (a.number - 1) part bounds over.has.at in
@@ -100,14 +120,23 @@ reads_back a h bounds rows over kept good = λ float pays.
     let is = over.has.is in
     let many : length over.source.adjusted ≡ length over.source.resets + 1 = rw is (omega (arith, adjusted, resets)) in
     let short : length over.source.adjusted < 2 ^ 32 = rw is (omega (arith, adjusted, few)) in
-    let none : (n : ℕ) → NotAfter over.source.resets n → ⊥ = λ n not_after. kept (not_after_at n) (record { source = over.source; has = over.has; breaks = inr (inl (record { number = n; not_after = not_after; is = refl })) }) in
-    let dated : (k : ℕ) (row : DerivedRow) → slice_get rows k ≡ Some row → IsDated over.source.adjusted over.source.resets (1 + k) row = λ k row at.
+    let none : (n : ℕ) → NotAfter over.source.resets n → ⊥ =
+    λ n not_after. kept (not_after_at n) (record {
+      source = over.source;
+      has = over.has;
+      breaks =
+          inr (inl (record { number = n; not_after = not_after; is = refl }));
+    }) in
+    let dated : (k : ℕ) (row : DerivedRow) → slice_get rows k ≡ Some row
+    → IsDated over.source.adjusted over.source.resets (1 + k) row = λ k row at.
     let is = numbered_at (IsDerivedRow over.source) 1 k rows row over.derived.each at in
     (is.stands, is.period, is.fixing) in
     let lawful = lawful_float a h float pays in
-    are_fixings float.tenor float.index rows (record { named = lawful.index; lasting = lawful.tenor }) (kept_rows over.source.adjusted over.source.resets rows dated good none many short)
+    are_fixings float.tenor float.index rows (record { named = lawful.index; lasting = lawful.tenor })
+    (kept_rows over.source.adjusted over.source.resets rows dated good none many short)
 
 -- three facts of an answer that is there, as one
-pub ok_three : {X E : Type 0} (r : Result X E) (P Q R S : X → Type 0) → ((x : X) → P x → Q x → R x → S x) → IfOk r P → IfOk r Q → IfOk r R → IfOk r S
+pub ok_three : {X E : Type 0} (r : Result X E) (P Q R S : X → Type 0) → ((x : X) → P x → Q x → R x → S x) → IfOk r P
+    → IfOk r Q → IfOk r R → IfOk r S
 ok_three (Ok x) P Q R S f p q r = f x p q r
 ok_three (Err e) P Q R S f p q r = tt

@@ -1,5 +1,6 @@
 -- The line of a rate spells it, and that of a missing rate is passed over.
-use Rattle.std.proofs.Common.{◌≡◌, ◌≢◌, ℕ, ◌-◌, ◌<◌, ◌≤◌, List, [], ◌∷◌, ◌++◌, length, false, Option, ℤ, refl, sym, ap, ◌∙◌, arith, append_assoc}
+use Rattle.std.proofs.Common.{◌≡◌, ◌≢◌, ℕ, ◌-◌, ◌<◌, ◌≤◌, List, [], ◌∷◌, ◌++◌, length, false, Option, ℤ, refl, sym, ap}
+use Rattle.std.proofs.Common.{◌∙◌, arith, append_assoc}
 use Rattle.std.specs.Prelude.{get_or}
 use Rattle.std.proofs.lemmas.List.{take_all}
 use Rattle.irs_base.specs.Days.{IsDay}
@@ -16,7 +17,8 @@ use Rattle.irs_overnight.specs.declared.derived.DerivedRow.{DerivedRow}
 use Rattle.irs_overnight.specs.declared.derived.Found.{Found}
 use Rattle.irs_overnight.specs.declared.derived.Found.TheVariants.{Rate, Missing}
 use Rattle.irs_base.proofs.VisibleTexts.{Visible, day_visible}
-use Rattle.irs_overnight.proofs.VisibleTexts.{day_back, no_space, rate_back, rate_starts, rate_visible, tenor_back, tenor_starts, tenor_visible, StartsVisible}
+use Rattle.irs_overnight.proofs.VisibleTexts.{day_back, no_space, rate_back, rate_starts, rate_visible, tenor_back}
+use Rattle.irs_overnight.proofs.VisibleTexts.{tenor_starts, tenor_visible, StartsVisible}
 
 -- ---- words
 
@@ -54,13 +56,17 @@ index_trimmed index h =
     let some : 0 < n = omega (arith, h.0) in
     let low : 32 ≤ get_or index (n - 1) 0 = (h.2 (n - 1) 0 (omega (arith, some))).0 in
     let not : get_or index (n - 1) 0 ≢ 32 = h.4 in
-    let solid : is_space (get_or index (n - 1) 0) ≡ false = no_space (get_or index (n - 1) 0) (omega (arith, low, not)) in
-    sym (trimmed_to index n some (omega arith) solid (λ k from within. absurd (omega (arith, from, within)))) ∙ take_all n index (omega arith)
+    let solid : is_space (get_or index (n - 1) 0) ≡ false =
+    no_space (get_or index (n - 1) 0) (omega (arith, low, not)) in
+    sym (trimmed_to index n some (omega arith) solid (λ k from within. absurd (omega (arith, from, within))))
+    ∙ take_all n index (omega arith)
 
 -- ---- lines
 
-module _ (d : ℤ) (x : ℤ) (tenor : Option Frequency) (index : List ℕ) (day : IsDay d) (rate : IsRate x) (lawful : IsLawfulLine index tenor) where
-  pub spells_whole : Spells (day_text d ++ 32 ∷ (dec_text x 9 ++ 32 ∷ (tenor_text tenor ++ 32 ∷ index))) index (record { date = d; tenor = tenor }) x
+module _ (d : ℤ) (x : ℤ) (tenor : Option Frequency) (index : List ℕ) (day : IsDay d) (rate : IsRate x)
+    (lawful : IsLawfulLine index tenor) where
+  pub spells_whole : Spells (day_text d ++ 32 ∷ (dec_text x 9 ++ 32 ∷ (tenor_text tenor ++ 32 ∷ index))) index
+      (record { date = d; tenor = tenor }) x
   spells_whole =
       let t : List ℕ = tenor_text tenor ++ 32 ∷ index in
       let r : List ℕ = dec_text x 9 ++ 32 ∷ t in
@@ -70,10 +76,14 @@ module _ (d : ℤ) (x : ℤ) (tenor : Option Frequency) (index : List ℕ) (day 
       let middle : StartsVisible r = starts_append (dec_text x 9) (32 ∷ t) (rate_starts x rate) in
       let first : word line ≡ day_text d = word_of (day_text d) r (day_visible d) in
       let behind_first : behind_gap line ≡ r = gap_of (day_text d) r (day_visible d) middle in
-      let second : word (behind_gap line) ≡ dec_text x 9 = ap word behind_first ∙ word_of (dec_text x 9) t (rate_visible x rate) in
-      let behind_second : behind_gap (behind_gap line) ≡ t = ap behind_gap behind_first ∙ gap_of (dec_text x 9) t (rate_visible x rate) later in
-      let third : word (behind_gap (behind_gap line)) ≡ tenor_text tenor = ap word behind_second ∙ word_of (tenor_text tenor) index (tenor_visible tenor lawful.lasting) in
-      let behind_third : behind_gap (behind_gap (behind_gap line)) ≡ index = ap behind_gap behind_second ∙ gap_of (tenor_text tenor) index (tenor_visible tenor lawful.lasting) ends in
+      let second : word (behind_gap line) ≡ dec_text x 9 =
+      ap word behind_first ∙ word_of (dec_text x 9) t (rate_visible x rate) in
+      let behind_second : behind_gap (behind_gap line) ≡ t =
+      ap behind_gap behind_first ∙ gap_of (dec_text x 9) t (rate_visible x rate) later in
+      let third : word (behind_gap (behind_gap line)) ≡ tenor_text tenor =
+      ap word behind_second ∙ word_of (tenor_text tenor) index (tenor_visible tenor lawful.lasting) in
+      let behind_third : behind_gap (behind_gap (behind_gap line)) ≡ index =
+      ap behind_gap behind_second ∙ gap_of (tenor_text tenor) index (tenor_visible tenor lawful.lasting) ends in
       record {
         date = rw first (day_back d day);
         rate_text = record { decimal = rw second (rate_back x rate); small = rate };
@@ -83,6 +93,8 @@ module _ (d : ℤ) (x : ℤ) (tenor : Option Frequency) (index : List ℕ) (day 
       }
 
 -- what each line reads as
-pub reads_as : (row : DerivedRow) (found : Found) (tenor : Option Frequency) (index : List ℕ) → IsDay row.fixing → IsLawfulLine index tenor → ReadsAs row found tenor index
-reads_as row (Rate x) tenor index day lawful = λ rate. simp append_assoc (spells_whole row.fixing x tenor index day rate lawful)
+pub reads_as : (row : DerivedRow) (found : Found) (tenor : Option Frequency) (index : List ℕ) → IsDay row.fixing
+    → IsLawfulLine index tenor → ReadsAs row found tenor index
+reads_as row (Rate x) tenor index day lawful =
+    λ rate. simp append_assoc (spells_whole row.fixing x tenor index day rate lawful)
 reads_as row (Missing d) tenor index day lawful = refl

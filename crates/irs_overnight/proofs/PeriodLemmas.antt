@@ -1,8 +1,10 @@
 -- What a period gives: one rate or one missing day, and it fails in no way then.
-use Rattle.std.proofs.Common.{◌≡◌, ℕ, ◌^◌, ◌≤◌, List, [], ◌∷◌, Option, Some, None, ℤ, pos, ◌<ℤ◌, ◌*ℤ◌, ◌-ℤ◌, refl, sym, subst, ◌∙◌, ap, arith}
+use Rattle.std.proofs.Common.{◌≡◌, ℕ, ◌^◌, ◌≤◌, List, [], ◌∷◌, Option, Some, None, ℤ, pos, ◌<ℤ◌, ◌*ℤ◌, ◌-ℤ◌, refl, sym}
+use Rattle.std.proofs.Common.{subst, ◌∙◌, ap, arith}
 use Rattle.jiff_core.proofs.SignedLemmas.{signed_arith}
 use Rattle.irs_terms.specs.declared.codes.DayCountCode.{DayCountCode}
-use Rattle.irs_terms.specs.declared.codes.DayCountCode.TheVariants.{OneOne, ActActIsda, Act365Fixed, Act360, Thirty360, ThirtyE360, ThirtyE360Isda}
+use Rattle.irs_terms.specs.declared.codes.DayCountCode.TheVariants.{OneOne, ActActIsda, Act365Fixed, Act360, Thirty360}
+use Rattle.irs_terms.specs.declared.codes.DayCountCode.TheVariants.{ThirtyE360, ThirtyE360Isda}
 use Rattle.irs_overnight.specs.Factors.{Grows, PassesLimit, one_factor}
 use Rattle.irs_overnight.specs.FoundRates.{DailyPeriod, FindsRate, IsFound, PassesRange}
 use Rattle.irs_overnight.specs.PeriodTurns.{NoneFails}
@@ -45,10 +47,14 @@ basis_range ThirtyE360Isda basis h = absurd (cc)
 pub positive : (days : ℤ) → pos 0 <ℤ days → pos 0 <ℤ (pos (10 ^ 6) *ℤ days)
 positive days h = omega (arith, signed_arith, h)
 
-one_is_found : (basis : ℕ) (days : ℤ) (os : List Observation) (x y : Found) → 1 ≤ basis → pos 0 <ℤ days → IsFound basis days os x → IsFound basis days os y → x ≡ y
-one_is_found basis days os (Rate x) (Rate y) some above p q = ap Rate (one_compounded basis some days os x y (positive days above) p q)
-one_is_found basis days os (Rate x) (Missing d) some above p q = absurd (apart (first_absent os) d (grows_known basis os one_factor p.factor p.grows) q)
-one_is_found basis days os (Missing d) (Rate x) some above p q = absurd (apart (first_absent os) d (grows_known basis os one_factor q.factor q.grows) p)
+one_is_found : (basis : ℕ) (days : ℤ) (os : List Observation) (x y : Found) → 1 ≤ basis → pos 0 <ℤ days
+    → IsFound basis days os x → IsFound basis days os y → x ≡ y
+one_is_found basis days os (Rate x) (Rate y) some above p q =
+    ap Rate (one_compounded basis some days os x y (positive days above) p q)
+one_is_found basis days os (Rate x) (Missing d) some above p q =
+    absurd (apart (first_absent os) d (grows_known basis os one_factor p.factor p.grows) q)
+one_is_found basis days os (Missing d) (Rate x) some above p q =
+    absurd (apart (first_absent os) d (grows_known basis os one_factor q.factor q.grows) p)
 one_is_found basis days os (Missing c) (Missing d) some above p q = ap Missing (some_day c d (sym p ∙ q))
 
 module _ (p : DailyPeriod) (some : 1 ≤ p.basis) (above : pos 0 <ℤ (p.end -ℤ p.start)) where
@@ -56,10 +62,12 @@ module _ (p : DailyPeriod) (some : 1 ≤ p.basis) (above : pos 0 <ℤ (p.end -�
   pub one_found : (x y : Found) → FindsRate p x → FindsRate p y → x ≡ y
   one_found x y a b =
       let same = one_observations p.lines p.days p.start p.end a.observations b.observations a.are b.are in
-      one_is_found p.basis (p.end -ℤ p.start) b.observations x y some above (subst (λ (os : List Observation). IsFound p.basis (p.end -ℤ p.start) os x) same a.is) b.is
+      one_is_found p.basis (p.end -ℤ p.start) b.observations x y some above
+      (subst (λ (os : List Observation). IsFound p.basis (p.end -ℤ p.start) os x) same a.is) b.is
 
 -- the rates of a period don't pass a limit where those of its observations don't
-pub not_passed : (p : DailyPeriod) (os : List Observation) → AreObservations p.lines p.days p.start p.end os → (PassesLimit p.basis (p.end -ℤ p.start) os → ⊥) → PassesRange p → ⊥
+pub not_passed : (p : DailyPeriod) (os : List Observation) → AreObservations p.lines p.days p.start p.end os
+    → (PassesLimit p.basis (p.end -ℤ p.start) os → ⊥) → PassesRange p → ⊥
 not_passed p os are kept h =
     let same = one_observations p.lines p.days p.start p.end h.observations os h.are are in
     kept (subst (λ (xs : List Observation). PassesLimit p.basis (p.end -ℤ p.start) xs) same h.passes)

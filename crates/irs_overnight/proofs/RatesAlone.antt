@@ -36,10 +36,14 @@ SameLines l m = (d : ℤ) → rate_by l d ≡ rate_by m d
 -- ---- observations
 
 module _ (l m : RateLines) (same : SameLines l m) where
-  observed_too : (q : ℤ) (u : List ℤ) (e : ℤ) (k : ℕ) (o : Observation) → IsObservation l q u e k o → IsObservation m q u e k o
-  observed_too q u e k o h = h ∙ ap (λ (r : Option ℤ). record { day = observed_on q u k; weight = next_start u e k -ℤ day_at u k; rate = r }) (same (observed_on q u k))
+  observed_too : (q : ℤ) (u : List ℤ) (e : ℤ) (k : ℕ) (o : Observation) → IsObservation l q u e k o
+      → IsObservation m q u e k o
+  observed_too q u e k o h =
+      h ∙ ap (λ (r : Option ℤ). record { day = observed_on q u k; weight = next_start u e k -ℤ day_at u k; rate = r })
+      (same (observed_on q u k))
 
-  observations_too : (set : DaySet) (s e : ℤ) (os : List Observation) → AreObservations l set s e os → AreObservations m set s e os
+  observations_too : (set : DaySet) (s e : ℤ) (os : List Observation) → AreObservations l set s e os
+      → AreObservations m set s e os
   observations_too set s e os h = record {
     starts = h.starts;
     are_starts = h.are_starts;
@@ -47,16 +51,21 @@ module _ (l m : RateLines) (same : SameLines l m) where
     previous = h.previous;
     observed = record {
       many = h.observed.many;
-      each = numbered_map (IsObservation l h.first h.starts e) (IsObservation m h.first h.starts e) 0 os (λ k o _ _ is. observed_too h.first h.starts e k o is) h.observed.each;
+      each = numbered_map (IsObservation l h.first h.starts e) (IsObservation m h.first h.starts e) 0 os
+          (λ k o _ _ is. observed_too h.first h.starts e k o is) h.observed.each;
     };
   }
 
-  finds_too : (basis : ℕ) (set : DaySet) (s e : ℤ) (found : Found) → FindsRate (daily_period basis l set s e) found → FindsRate (daily_period basis m set s e) found
-  finds_too basis set s e found h = record { observations = h.observations; are = observations_too set s e h.observations h.are; is = h.is }
+  finds_too : (basis : ℕ) (set : DaySet) (s e : ℤ) (found : Found) → FindsRate (daily_period basis l set s e) found
+      → FindsRate (daily_period basis m set s e) found
+  finds_too basis set s e found h =
+      record { observations = h.observations; are = observations_too set s e h.observations h.are; is = h.is }
 
-  fails_too : (why : PeriodFault) (basis : ℕ) (set : DaySet) (s e : ℤ) → PeriodFails why (daily_period basis l set s e) → PeriodFails why (daily_period basis m set s e)
+  fails_too : (why : PeriodFault) (basis : ℕ) (set : DaySet) (s e : ℤ) → PeriodFails why (daily_period basis l set s e)
+      → PeriodFails why (daily_period basis m set s e)
   fails_too NoDays basis set s e h = h
-  fails_too OutOfRange basis set s e h = record { observations = h.observations; are = observations_too set s e h.observations h.are; passes = h.passes }
+  fails_too OutOfRange basis set s e h =
+      record { observations = h.observations; are = observations_too set s e h.observations h.are; passes = h.passes }
 
 -- ---- rates that are compounded
 
@@ -64,21 +73,25 @@ module _ (t u : RateTable) (e : SameRates t u) (part : Part) (index : List ℕ) 
   lines_too : SameLines (daily_lines t index) (daily_lines u index)
   lines_too d = e index (record { date = d; tenor = Some one_day })
 
-  derived_too : (rows : List DerivedRow) → AreDerived (daily_source part index days t) rows → AreDerived (daily_source part index days u) rows
+  derived_too : (rows : List DerivedRow) → AreDerived (daily_source part index days t) rows
+      → AreDerived (daily_source part index days u) rows
   derived_too rows h = record {
     many = h.many;
-    each = numbered_map (IsDerivedRow (daily_source part index days t)) (IsDerivedRow (daily_source part index days u)) 1 rows
+    each = numbered_map (IsDerivedRow (daily_source part index days t))
+        (IsDerivedRow (daily_source part index days u)) 1 rows
         (λ i row _ _ is. record {
           stands = is.stands;
           period = is.period;
           fixing = is.fixing;
           basis = is.basis;
           is_basis = is.is_basis;
-          finds = finds_too (daily_lines t index) (daily_lines u index) lines_too is.basis days (day_at part.adjusted (i - 1)) (day_at part.adjusted i) row.found is.finds;
+          finds = finds_too (daily_lines t index) (daily_lines u index) lines_too is.basis days
+              (day_at part.adjusted (i - 1)) (day_at part.adjusted i) row.found is.finds;
         }) h.each;
   }
 
-  broken_too : (f : Fault) → BreaksDerived (daily_source part index days t) f → BreaksDerived (daily_source part index days u) f
+  broken_too : (f : Fault) → BreaksDerived (daily_source part index days t) f
+      → BreaksDerived (daily_source part index days u) f
   broken_too f (inl h) = inl h
   broken_too f (inr (inl h)) = inr (inl (record { number = h.number; not_after = h.not_after; is = h.is }))
   broken_too f (inr (inr h)) = inr (inr (record {
@@ -87,31 +100,42 @@ module _ (t u : RateTable) (e : SameRates t u) (part : Part) (index : List ℕ) 
     number = h.number;
     period = h.period;
     why = h.why;
-    fails = fails_too (daily_lines t index) (daily_lines u index) lines_too h.why h.basis days (day_at part.adjusted (h.number - 1)) (day_at part.adjusted h.number) h.fails;
+    fails = fails_too (daily_lines t index) (daily_lines u index) lines_too h.why h.basis days
+        (day_at part.adjusted (h.number - 1)) (day_at part.adjusted h.number) h.fails;
     is = h.is;
   }))
 
 module _ (t u : RateTable) (e : SameRates t u) (swap : Swap) (n : ℕ) (parts : List Part) (days : DaySet) where
-  pub overnight_same : (rows : List DerivedRow) → IsOvernight (asked swap n parts days t) rows → IsOvernight (asked swap n parts days u) rows
+  pub overnight_same : (rows : List DerivedRow) → IsOvernight (asked swap n parts days t) rows
+      → IsOvernight (asked swap n parts days u) rows
   overnight_same rows h = record {
     source = daily_source h.has.part h.has.float.index days u;
     has = record { float = h.has.float; pays = h.has.pays; part = h.has.part; at = h.has.at; is = refl };
-    derived = derived_too t u e h.has.part h.has.float.index days rows (subst (λ (s : DailySource). AreDerived s rows) h.has.is h.derived);
+    derived = derived_too t u e h.has.part h.has.float.index days rows
+        (subst (λ (s : DailySource). AreDerived s rows) h.has.is h.derived);
   }
 
-  overnight_breaks : (f : Fault) → BreaksOvernight (asked swap n parts days t) f → BreaksOvernight (asked swap n parts days u) f
+  overnight_breaks : (f : Fault) → BreaksOvernight (asked swap n parts days t) f
+      → BreaksOvernight (asked swap n parts days u) f
   overnight_breaks f h = record {
     source = daily_source h.has.part h.has.float.index days u;
     has = record { float = h.has.float; pays = h.has.pays; part = h.has.part; at = h.has.at; is = refl };
-    breaks = broken_too t u e h.has.part h.has.float.index days f (subst (λ (s : DailySource). BreaksDerived s f) h.has.is h.breaks);
+    breaks = broken_too t u e h.has.part h.has.float.index days f
+        (subst (λ (s : DailySource). BreaksDerived s f) h.has.is h.breaks);
   }
 
-pub overnight_kept : (t u : RateTable) → SameRates t u → (swap : Swap) (n : ℕ) (parts : List Part) (days : DaySet) → OvernightKept (asked swap n parts days t) → OvernightKept (asked swap n parts days u)
+pub overnight_kept : (t u : RateTable) → SameRates t u → (swap : Swap) (n : ℕ) (parts : List Part) (days : DaySet)
+    → OvernightKept (asked swap n parts days t) → OvernightKept (asked swap n parts days u)
 overnight_kept t u e swap n parts days h f b = h f (overnight_breaks u t (same_back t u e) swap n parts days f b)
 
-pub overnight_first : (t u : RateTable) → SameRates t u → (swap : Swap) (n : ℕ) (parts : List Part) (days : DaySet) (x : Broken) → IsFirstDerived (asked swap n parts days t) x → IsFirstDerived (asked swap n parts days u) x
+pub overnight_first : (t u : RateTable) → SameRates t u
+    → (swap : Swap) (n : ℕ) (parts : List Part) (days : DaySet) (x : Broken)
+    → IsFirstDerived (asked swap n parts days t) x → IsFirstDerived (asked swap n parts days u) x
 overnight_first t u e swap n parts days x h = record {
   fault = h.fault;
-  first = (overnight_breaks t u e swap n parts days h.fault h.first.0, λ g b. h.first.1 g (overnight_breaks u t (same_back t u e) swap n parts days g b));
+  first = (
+    overnight_breaks t u e swap n parts days h.fault h.first.0,
+    λ g b. h.first.1 g (overnight_breaks u t (same_back t u e) swap n parts days g b),
+  );
   is = h.is;
 }

@@ -1,5 +1,6 @@
 -- There is one list of derived rates.
-use Rattle.std.proofs.Common.{◌≡◌, inl, inr, ℕ, ◌+◌, ◌-◌, ◌<◌, ◌≤◌, List, length, Some, ℤ, pos, ◌<ℤ◌, ◌≤ℤ◌, sym, subst, ◌∙◌, ap, arith}
+use Rattle.std.proofs.Common.{◌≡◌, inl, inr, ℕ, ◌+◌, ◌-◌, ◌<◌, ◌≤◌, List, length, Some, ℤ, pos, ◌<ℤ◌, ◌≤ℤ◌, sym, subst}
+use Rattle.std.proofs.Common.{◌∙◌, ap, arith}
 use Rattle.std.specs.Prelude.{get_or}
 use Rattle.std.proofs.lemmas.Bool.{cases_lt}
 use Rattle.std.proofs.lemmas.Option.{slice_get-get_or}
@@ -21,7 +22,8 @@ use Rattle.irs_overnight.specs.declared.derived.Found.{Found}
 use Rattle.irs_overnight.proofs.PeriodLemmas.{basis_range, one_found, some_basis}
 
 -- a period ends after it starts
-pub in_order : (adjusted : List ℤ) (i : ℕ) → Rises adjusted → IsPeriod adjusted i → day_at adjusted (i - 1) <ℤ day_at adjusted i
+pub in_order : (adjusted : List ℤ) (i : ℕ) → Rises adjusted → IsPeriod adjusted i
+    → day_at adjusted (i - 1) <ℤ day_at adjusted i
 in_order adjusted i rises period = next_day adjusted i rises period.0 period.1
 
 abbrev pub made : ℕ → ℤ → Found → DerivedRow
@@ -34,10 +36,13 @@ module _ (source : DailySource) (rises : Rises source.adjusted) where
   one_row : (i : ℕ) (x y : DerivedRow) → IsDerivedRow source i x → IsDerivedRow source i y → x ≡ y
   one_row i x y p q =
       let bases : p.basis ≡ q.basis = some_basis p.basis q.basis (sym p.is_basis ∙ q.is_basis) in
-      let moved : FindsRate (period_at source q.basis i) x.found = subst (λ (n : ℕ). FindsRate (period_at source n i) x.found) bases p.finds in
+      let moved : FindsRate (period_at source q.basis i) x.found =
+      subst (λ (n : ℕ). FindsRate (period_at source n i) x.found) bases p.finds in
       let order = in_order source.adjusted i rises q.stands in
-      let found = one_found (period_at source q.basis i) (basis_range source.day_count q.basis q.is_basis).0 (omega (arith, signed_arith, order)) x.found y.found moved q.finds in
-      same_row x.period y.period x.fixing y.fixing x.found y.found (p.period ∙ sym q.period) (p.fixing ∙ sym q.fixing) found
+      let found = one_found (period_at source q.basis i) (basis_range source.day_count q.basis q.is_basis).0
+      (omega (arith, signed_arith, order)) x.found y.found moved q.finds in
+      same_row x.period y.period x.fixing y.fixing x.found y.found (p.period ∙ sym q.period) (p.fixing
+      ∙ sym q.fixing) found
 
   pub one_derived : (xs ys : List DerivedRow) → AreDerived source xs → AreDerived source ys → xs ≡ ys
   one_derived xs ys p q =
@@ -52,23 +57,34 @@ some_reset : (x y : Reset) → Some x ≡ Some y → x ≡ y
 some_reset x y e = cc
 
 -- what stands at a place doesn't hang on what would stand behind the list
-pub read_at : (resets : List Reset) (place : ℕ) (x d : Reset) → place < length resets → x ≡ get_or resets place x → get_or resets place d ≡ x
-read_at resets place x d low is = some_reset (get_or resets place d) x (sym (slice_get-get_or resets place d low) ∙ slice_get-get_or resets place x low ∙ ap (λ (y : Reset). Some y) (sym is))
+pub read_at : (resets : List Reset) (place : ℕ) (x d : Reset) → place < length resets → x ≡ get_or resets place x
+    → get_or resets place d ≡ x
+read_at resets place x d low is =
+    some_reset (get_or resets place d) x (sym (slice_get-get_or resets place d low)
+    ∙ slice_get-get_or resets place x low ∙ ap (λ (y : Reset). Some y) (sym is))
 
 -- one more fixing date that is after the one before it
-pub rises_more : (resets : List Reset) (place : ℕ) (x y : Reset) → 1 ≤ place → place < length resets → x ≡ get_or resets place x → y ≡ get_or resets (place - 1) y → (x.fixing ≤ℤ y.fixing → ⊥) → ((n : ℕ) → n ≤ place → NotAfter resets n → ⊥) → (n : ℕ) → n ≤ place + 1 → NotAfter resets n → ⊥
+pub rises_more : (resets : List Reset) (place : ℕ) (x y : Reset) → 1 ≤ place → place < length resets
+    → x ≡ get_or resets place x → y ≡ get_or resets (place - 1) y → (x.fixing ≤ℤ y.fixing → ⊥)
+    → ((n : ℕ) → n ≤ place → NotAfter resets n → ⊥) → (n : ℕ) → n ≤ place + 1 → NotAfter resets n → ⊥
 rises_more resets place x y some low is_x is_y after before n high h = elim (cases_lt n (place + 1)) [
   | inl less ↦ before n (omega (arith, less)) h
   | inr more ↦
       let e : n ≡ place + 1 = omega (arith, high, more) in
       let here : NotAfter resets (place + 1) = subst (λ (k : ℕ). NotAfter resets k) e h in
       let a : get_or resets place no_reset ≡ x = read_at resets place x no_reset low is_x in
-      let b : get_or resets (place - 1) no_reset ≡ y = read_at resets (place - 1) y no_reset (omega (arith, low)) is_y in
+      let b : get_or resets (place - 1) no_reset ≡ y =
+      read_at resets (place - 1) y no_reset (omega (arith, low)) is_y in
       let same : place + 1 - 1 ≡ place = omega arith in
-      let opened : (get_or resets (place + 1 - 1) no_reset).fixing ≤ℤ (get_or resets (place + 1 - 1 - 1) no_reset).fixing = here.not_after in
-      let stands : (get_or resets place no_reset).fixing ≤ℤ (get_or resets (place - 1) no_reset).fixing = subst (λ (k : ℕ). (get_or resets k no_reset).fixing ≤ℤ (get_or resets (k - 1) no_reset).fixing) same opened in
+      let opened : (get_or resets (place + 1 - 1) no_reset).fixing
+      ≤ℤ (get_or resets (place + 1 - 1 - 1) no_reset).fixing = here.not_after in
+      let stands : (get_or resets place no_reset).fixing ≤ℤ (get_or resets (place - 1) no_reset).fixing =
+      subst (λ (k : ℕ). (get_or resets k no_reset).fixing ≤ℤ (get_or resets (k - 1) no_reset).fixing) same opened in
       after (rw (sym b) (rw (sym a) stands))
 ]
 
-pub day_read : (days : List ℤ) (place : ℕ) (d : ℤ) → place < length days → d ≡ get_or days place d → day_at days place ≡ d
-day_read days place d low is = some_number (get_or days place (pos 0)) d (sym (slice_get-get_or days place (pos 0) low) ∙ slice_get-get_or days place d low ∙ ap (λ (y : ℤ). Some y) (sym is))
+pub day_read : (days : List ℤ) (place : ℕ) (d : ℤ) → place < length days → d ≡ get_or days place d
+    → day_at days place ≡ d
+day_read days place d low is =
+    some_number (get_or days place (pos 0)) d (sym (slice_get-get_or days place (pos 0) low)
+    ∙ slice_get-get_or days place d low ∙ ap (λ (y : ℤ). Some y) (sym is))

@@ -1,5 +1,6 @@
 -- What the daily rates of a stream are compounded from is one thing, and the schedule of the swap has it.
-use Rattle.std.proofs.Common.{◌≡◌, ℕ, zero, suc, ◌-◌, ◌<◌, ◌≤◌, List, [], ◌∷◌, length, Option, Some, None, IsTrue, refl, sym, subst, ◌∙◌, ap, arith}
+use Rattle.std.proofs.Common.{◌≡◌, ℕ, zero, suc, ◌-◌, ◌<◌, ◌≤◌, List, [], ◌∷◌, length, Option, Some, None, IsTrue, refl}
+use Rattle.std.proofs.Common.{sym, subst, ◌∙◌, ap, arith}
 use Rattle.std.specs.Prelude.{get_or, slice_get}
 use Rattle.std.proofs.lemmas.Option.{slice_get_within, slice_get-get_or}
 use Rattle.irs_base.specs.Members.{Every, Pairs}
@@ -19,7 +20,8 @@ use Rattle.irs_schedule.specs.Parts.{KeepsBounds, Part, Rises}
 use Rattle.irs_schedule.specs.Schedules.{IsPart}
 use Rattle.irs_overnight.specs.DerivedRows.{AreDerived}
 use Rattle.irs_overnight.specs.DerivedRules.{BreaksDerived, derived_before}
-use Rattle.irs_overnight.specs.Overnight.{Asked, BreaksOvernight, HasSource, IsAsked, IsFirstDerived, IsOvernight, OvernightKept}
+use Rattle.irs_overnight.specs.Overnight.{Asked, BreaksOvernight, HasSource, IsAsked, IsFirstDerived, IsOvernight}
+use Rattle.irs_overnight.specs.Overnight.{OvernightKept}
 use Rattle.irs_overnight.specs.DailySources.{DailySource, daily_source}
 use Rattle.irs_terms.specs.declared.step_list.StepValues.{StepValues}
 use Rattle.irs_overnight.specs.Sources.{Floats, PaysFloating}
@@ -37,7 +39,8 @@ some_float : (x y : FloatTerms) → Floating x ≡ Floating y → x ≡ y
 some_float x y e = cc
 
 -- a stream pays one floating rate
-pub one_pays : (swap : Swap) (number : ℕ) (f g : FloatTerms) → PaysFloating swap number f → PaysFloating swap number g → f ≡ g
+pub one_pays : (swap : Swap) (number : ℕ) (f g : FloatTerms) → PaysFloating swap number f
+    → PaysFloating swap number g → f ≡ g
 one_pays swap number f g p q =
     let same = same_stream p.stream q.stream (sym p.at ∙ q.at) in
     some_float f g (sym p.pays ∙ ap (λ (s : Stream). s.leg) same ∙ q.pays)
@@ -52,7 +55,8 @@ one_source a x y p q =
     p.is ∙ same ∙ sym q.is
 
 -- the partner of a member
-pub partner : (R : Stream → Part → Type 0) (ss : List Stream) (ps : List Part) (i : ℕ) (s : Stream) → Pairs R ss ps → slice_get ss i ≡ Some s → (p : Part) × (slice_get ps i ≡ Some p) × R s p
+pub partner : (R : Stream → Part → Type 0) (ss : List Stream) (ps : List Part) (i : ℕ) (s : Stream) → Pairs R ss ps
+    → slice_get ss i ≡ Some s → (p : Part) × (slice_get ps i ≡ Some p) × R s p
 partner R [] [] i s pairs at = absurd (cc)
 partner R [] (p ∷ ps) i s pairs at = absurd pairs
 partner R (x ∷ ss) [] i s pairs at = absurd pairs
@@ -63,7 +67,8 @@ partner R (x ∷ ss) (p ∷ ps) (suc i) s pairs at = partner R ss ps i s pairs.1
 pub asked_part : (a : Asked) → IsAsked a → (p : Part) × (slice_get a.parts (a.number - 1) ≡ Some p) × IsTrue p.floating
 asked_part a h =
     let pays = h.floats.1 in
-    let found = partner (λ s p. IsPart (stream_sets h.calendars s) [] s p) a.swap.streams a.parts (a.number - 1) pays.stream h.schedule pays.at in
+    let found = partner (λ s p. IsPart (stream_sets h.calendars s) [] s p) a.swap.streams a.parts
+    (a.number - 1) pays.stream h.schedule pays.at in
     let floats : found.0.floating ≡ is_floating (Floating h.floats.0) = found.2.floating ∙ ap is_floating pays.pays in
     (found.0, found.1, floats)
 
@@ -82,7 +87,8 @@ module _ (a : Asked) (source : DailySource) (has : HasSource a source) where
   pub overnight_kept : ((f : Fault) → BreaksDerived source f → ⊥) → OvernightKept a
   overnight_kept kept f b = kept f (breaks_source f b)
 
-  pub overnight_broken : (f : Fault) (x : Broken) → First derived_before (BreaksDerived source) f → x ≡ in_stream a.number f → IsFirstDerived a x
+  pub overnight_broken : (f : Fault) (x : Broken) → First derived_before (BreaksDerived source) f
+      → x ≡ in_stream a.number f → IsFirstDerived a x
   overnight_broken f x first is = record {
     fault = f;
     first = (record { source = source; has = has; breaks = first.0 }, λ g b. first.1 g (breaks_source g b));
@@ -90,7 +96,8 @@ module _ (a : Asked) (source : DailySource) (has : HasSource a source) where
   }
 
 -- there is one list of rates
-pub one_overnight : (a : Asked) → Every KeepsBounds a.parts → (xs ys : List DerivedRow) → IsOvernight a xs → IsOvernight a ys → xs ≡ ys
+pub one_overnight : (a : Asked) → Every KeepsBounds a.parts → (xs ys : List DerivedRow) → IsOvernight a xs
+    → IsOvernight a ys → xs ≡ ys
 one_overnight a bounds xs ys p q =
     let same = one_source a p.source q.source p.has q.has in
     let part = every_at KeepsBounds a.parts (a.number - 1) q.has.part bounds q.has.at in
@@ -101,7 +108,8 @@ one_overnight a bounds xs ys p q =
 -- and one first rule that is broken
 pub one_broken : (a : Asked) (x y : Broken) → IsFirstDerived a x → IsFirstDerived a y → x ≡ y
 one_broken a x y p q =
-    let same : p.fault ≡ q.fault = one_first derived_before derived_ties (BreaksOvernight a) p.fault q.fault p.first q.first in
+    let same : p.fault ≡ q.fault =
+    one_first derived_before derived_ties (BreaksOvernight a) p.fault q.fault p.first q.first in
     p.is ∙ ap (in_stream a.number) same ∙ sym q.is
 
 pub lacks : (o : Option Stream) (s : Stream) → o ≡ None → o ≡ Some s → ⊥
@@ -109,10 +117,12 @@ lacks o s p q = cc
 
 -- parts stand at the places of the list alone
 pub asked_place : (a : Asked) → IsAsked a → (1 ≤ a.number) × (a.number - 1 < length a.parts)
-asked_place a h = let found = asked_part a h in (h.floats.1.from_one, slice_get_within a.parts (a.number - 1) found.0 found.1)
+asked_place a h = let found = asked_part a h in
+    (h.floats.1.from_one, slice_get_within a.parts (a.number - 1) found.0 found.1)
 
 -- the part that is read there has the source
-pub has_source : (a : Asked) → (h : IsAsked a) → (float : FloatTerms) → PaysFloating a.swap a.number float → (p : Part) → slice_get a.parts (a.number - 1) ≡ Some p → HasSource a (daily_source p float.index a.days a.rates)
+pub has_source : (a : Asked) → (h : IsAsked a) → (float : FloatTerms) → PaysFloating a.swap a.number float → (p : Part)
+    → slice_get a.parts (a.number - 1) ≡ Some p → HasSource a (daily_source p float.index a.days a.rates)
 has_source a h float pays p at = record { float = float; pays = pays; part = p; at = at; is = refl }
 
 pub part_floats : (a : Asked) → IsAsked a → (p : Part) → slice_get a.parts (a.number - 1) ≡ Some p → IsTrue p.floating
@@ -121,14 +131,18 @@ part_floats a h p at =
     subst (λ (x : Part). IsTrue x.floating) (some_part found.0 p (sym found.1 ∙ at)) found.2
 
 -- a part that is read at its place
-pub part_read : (ps qs : List Part) (place : ℕ) (p : Part) → qs ≡ ps → place < length ps → p ≡ get_or qs place p → slice_get ps place ≡ Some p
+pub part_read : (ps qs : List Part) (place : ℕ) (p : Part) → qs ≡ ps → place < length ps → p ≡ get_or qs place p
+    → slice_get ps place ≡ Some p
 part_read ps qs place p same low is =
     let here : p ≡ get_or ps place p = rw same at is in
     slice_get-get_or ps place p low ∙ ap (λ (x : Part). Some x) (sym here)
 
-floats_by : (swap : Swap) (number : ℕ) (s : Stream) (leg : Leg) → 1 ≤ number → slice_get swap.streams (number - 1) ≡ Some s → s.leg ≡ leg → ((Floats swap number → ⊥) → ⊥) → Floats swap number
-floats_by swap number s (Floating float) low at is not_none = (float, record { from_one = low; stream = s; at = at; pays = is })
-floats_by swap number s (Fixed values) low at is not_none = absurd (not_none (λ h. is_fixed s h.1.stream h.0 values (same_stream h.1.stream s (sym h.1.at ∙ at)) h.1.pays is))
+floats_by : (swap : Swap) (number : ℕ) (s : Stream) (leg : Leg) → 1 ≤ number
+    → slice_get swap.streams (number - 1) ≡ Some s → s.leg ≡ leg → ((Floats swap number → ⊥) → ⊥) → Floats swap number
+floats_by swap number s (Floating float) low at is not_none =
+    (float, record { from_one = low; stream = s; at = at; pays = is })
+floats_by swap number s (Fixed values) low at is not_none =
+    absurd (not_none (λ h. is_fixed s h.1.stream h.0 values (same_stream h.1.stream s (sym h.1.at ∙ at)) h.1.pays is))
   where
     is_fixed : (x y : Stream) (f : FloatTerms) (v : StepValues) → y ≡ x → y.leg ≡ Floating f → x.leg ≡ Fixed v → ⊥
     is_fixed x y f v e p q = different (Floating f) (Fixed v) f v refl refl (sym p ∙ ap (λ (z : Stream). z.leg) e ∙ q)
@@ -136,11 +150,14 @@ floats_by swap number s (Fixed values) low at is not_none = absurd (not_none (λ
         different : (a b : Leg) (g : FloatTerms) (w : StepValues) → a ≡ Floating g → b ≡ Fixed w → a ≡ b → ⊥
         different a b g w m n o = cc
 
-floats_read : (swap : Swap) (number : ℕ) (read : Option Stream) → 1 ≤ number → slice_get swap.streams (number - 1) ≡ read → ((Floats swap number → ⊥) → ⊥) → Floats swap number
+floats_read : (swap : Swap) (number : ℕ) (read : Option Stream) → 1 ≤ number
+    → slice_get swap.streams (number - 1) ≡ read → ((Floats swap number → ⊥) → ⊥) → Floats swap number
 floats_read swap number (Some s) low at not_none = floats_by swap number s s.leg low at refl not_none
-floats_read swap number None low at not_none = absurd (not_none (λ h. lacks (slice_get swap.streams (number - 1)) h.1.stream at h.1.at))
+floats_read swap number None low at not_none =
+    absurd (not_none (λ h. lacks (slice_get swap.streams (number - 1)) h.1.stream at h.1.at))
 
 -- where `check_stream` finds nothing the stream floats
 pub floats_there : (swap : Swap) (number : ℕ) → ((Floats swap number → ⊥) → ⊥) → Floats swap number
 floats_there swap zero not_none = absurd (not_none (λ h. let low = h.1.from_one in omega (arith, low)))
-floats_there swap (suc n) not_none = floats_read swap (suc n) (slice_get swap.streams (suc n - 1)) (omega arith) refl not_none
+floats_there swap (suc n) not_none =
+    floats_read swap (suc n) (slice_get swap.streams (suc n - 1)) (omega arith) refl not_none

@@ -1,5 +1,6 @@
 -- The days from which daily rates hold, found day by day.
-use Rattle.std.proofs.Common.{◌≡◌, inl, inr, ℕ, ◌+◌, ◌≤◌, List, [], ◌∷◌, ◌++◌, ℤ, pos, ◌+ℤ◌, ◌-ℤ◌, ◌<ℤ◌, ◌≤ℤ◌, sym, subst, arith, Bool, false, IsTrue}
+use Rattle.std.proofs.Common.{◌≡◌, inl, inr, ℕ, ◌+◌, ◌≤◌, List, [], ◌∷◌, ◌++◌, ℤ, pos, ◌+ℤ◌, ◌-ℤ◌, ◌<ℤ◌, ◌≤ℤ◌, sym}
+use Rattle.std.proofs.Common.{subst, arith, Bool, false, IsTrue}
 use Rattle.jiff_core.proofs.SignedLemmas.{signed_arith}
 use Rattle.irs_base.specs.Listed.{Member}
 use Rattle.irs_base.proofs.Decided.{order_of}
@@ -12,14 +13,19 @@ is_not b p q = cc (p, q)
 
 -- there is one list of starts
 pub one_starts : (set : DaySet) (s e : ℤ) (u v : List ℤ) → AreStarts set s e u → AreStarts set s e v → u ≡ v
-one_starts set s e u v p q = one_rising u v p.rising q.rising (λ d m. q.complete d (p.sound d m)) (λ d m. p.complete d (q.sound d m))
+one_starts set s e u v p q =
+    one_rising u v p.rising q.rising (λ d m. q.complete d (p.sound d m)) (λ d m. p.complete d (q.sound d m))
 
 -- of a period of one day
 pub starts_one : (set : DaySet) (s : ℤ) → AreStarts set s (s +ℤ pos 1) (s ∷ [])
 starts_one set s = record {
   rising = (tt, tt);
   sound = λ d m. elim m [ inl here ↦ inl here | inr none ↦ absurd none ];
-  complete = λ d h. elim h [ inl here ↦ inl here | inr later ↦ absurd (let low = later.0 in let high = later.1 in omega (arith, signed_arith, low, high)) ];
+  complete = λ d h. elim h [
+    | inl here ↦ inl here
+    | inr later ↦
+        absurd (let low = later.0 in let high = later.1 in omega (arith, signed_arith, low, high))
+  ];
 }
 
 module _ (set : DaySet) (s : ℤ) (k : ℕ) (u : List ℤ) (some : 1 ≤ k) (are : AreStarts set s (s +ℤ pos k) u) where
@@ -37,7 +43,11 @@ module _ (set : DaySet) (s : ℤ) (k : ℕ) (u : List ℤ) (some : 1 ≤ k) (are
             | inl first ↦ inl first
             | inr later ↦ let high = later.1 in inr (later.0, omega (arith, signed_arith, high), later.2)
           ]
-          | inr new ↦ inr (omega (arith, signed_arith, new, some), omega (arith, signed_arith, new), subst (λ (x : ℤ). IsGood set x) (sym new) good)
+          | inr new ↦ inr (
+            omega (arith, signed_arith, new, some),
+            omega (arith, signed_arith, new),
+            subst (λ (x : ℤ). IsGood set x) (sym new) good,
+          )
         ];
         complete = λ d h. elim h [
           | inl first ↦ member_old d day u (are.complete d (inl first))
@@ -78,7 +88,14 @@ module _ (set : DaySet) (s : ℤ) (k : ℕ) (u : List ℤ) (some : 1 ≤ k) (are
 module _ (set : DaySet) (s e : ℤ) (order : s <ℤ e) where
   -- the period starts before the cover
   pub leaves_before : s <ℤ set.first → LeavesCover set s e
-  leaves_before low = record { day = s; from = omega (arith, signed_arith); to = order; outside = λ h. let from = h.from in omega (arith, signed_arith, from, low) }
+  leaves_before low =
+      record {
+        day = s;
+        from = omega (arith, signed_arith);
+        to = order;
+        outside = λ h. let from = h.from in
+            omega (arith, signed_arith, from, low);
+      }
 
   -- it ends behind the cover
   pub leaves_past : (set.last +ℤ pos 1) <ℤ e → LeavesCover set s e
@@ -96,6 +113,16 @@ module _ (set : DaySet) (s e : ℤ) (order : s <ℤ e) where
       let to = h.to in
       elim (order_of (set.last +ℤ pos 1) e) [
         | inl past ↦ past
-        | inr (inl inside) ↦ absurd (h.outside (record { from = omega (arith, signed_arith, first, from); to = omega (arith, signed_arith, to, inside) }))
-        | inr (inr last) ↦ absurd (h.outside (record { from = omega (arith, signed_arith, first, from); to = omega (arith, signed_arith, to, last) }))
+        | inr (inl inside) ↦
+            absurd (h.outside (record {
+              from = omega (arith, signed_arith, first, from);
+              to =
+                  omega (arith, signed_arith, to, inside);
+            }))
+        | inr (inr last) ↦
+            absurd (h.outside (record {
+              from = omega (arith, signed_arith, first, from);
+              to =
+                  omega (arith, signed_arith, to, last);
+            }))
       ]

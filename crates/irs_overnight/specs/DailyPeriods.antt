@@ -6,4 +6,5 @@ use Rattle.irs_overnight.specs.DailySources.{DailySource}
 
 -- period i goes from adjusted boundary i - 1 to adjusted boundary i
 abbrev pub period_at : DailySource → ℕ → ℕ → DailyPeriod
-period_at source basis i = daily_period basis source.lines source.days (day_at source.adjusted (i - 1)) (day_at source.adjusted i)
+period_at source basis i =
+    daily_period basis source.lines source.days (day_at source.adjusted (i - 1)) (day_at source.adjusted i)

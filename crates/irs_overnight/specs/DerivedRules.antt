@@ -72,4 +72,5 @@ derived_turn rule = if rule_number rule == 42 then 0 else if rule_number rule ==
 -- by the turn, then by the period, then by the rule
 abbrev pub derived_before : Fault → Fault → Bool
 derived_before f g =
-    level (derived_turn f.rule) (derived_turn g.rule) (level f.index g.index (level (rule_number f.rule) (rule_number g.rule) (nat_lt f.elem g.elem)))
+    level (derived_turn f.rule) (derived_turn g.rule)
+    (level f.index g.index (level (rule_number f.rule) (rule_number g.rule) (nat_lt f.elem g.elem)))

@@ -26,10 +26,12 @@ pub record AreKept (rows : List DerivedRow) : Type 0 where
   pub days : (k : ℕ) (row : DerivedRow) → slice_get rows k ≡ Some row → IsDay row.fixing
   pub rates : (k : ℕ) (row : DerivedRow) → slice_get rows k ≡ Some row → IsSmallFound row.found
   pub periods : (k : ℕ) (row : DerivedRow) → slice_get rows k ≡ Some row → row.period < 2 ^ 32
-  pub rise : (j k : ℕ) (row later : DerivedRow) → j < k → slice_get rows j ≡ Some row → slice_get rows k ≡ Some later → row.fixing <ℤ later.fixing
+  pub rise : (j k : ℕ) (row later : DerivedRow) → j < k → slice_get rows j ≡ Some row → slice_get rows k ≡ Some later
+      → row.fixing <ℤ later.fixing
 
 -- a row has that rate of the index at that date and tenor
-pub record HasRate (rows : List DerivedRow) (tenor : Option Frequency) (index name : List ℕ) (slot : Slot) (rate : ℤ) : Type 0 where
+pub record HasRate (rows : List DerivedRow) (tenor : Option Frequency) (index name : List ℕ) (slot : Slot)
+    (rate : ℤ) : Type 0 where
   pub place : ℕ
   pub row : DerivedRow
   pub at : slice_get rows place ≡ Some row
@@ -40,7 +42,9 @@ pub record HasRate (rows : List DerivedRow) (tenor : Option Frequency) (index na
 -- the text is a fixing file, and its lines give exactly the rates of the rows
 pub record AreFixings (rows : List DerivedRow) (tenor : Option Frequency) (index : List ℕ) : Type 0 where
   pub clean : (n : ℕ) → IsFaulty (lines_of (file_text rows tenor index)) n → ⊥
-  pub holds : (name : List ℕ) (slot : Slot) (rate : ℤ) → ((n : ℕ) × Fixes (lines_of (file_text rows tenor index)) n name slot rate) ↔ HasRate rows tenor index name slot rate
+  pub holds : (name : List ℕ) (slot : Slot) (rate : ℤ)
+      → ((n : ℕ) × Fixes (lines_of (file_text rows tenor index)) n name slot rate)
+      ↔ HasRate rows tenor index name slot rate
 
 -- the fixing date and the rate of a row are in range
 pub record IsInRange (row : DerivedRow) : Type 0 where

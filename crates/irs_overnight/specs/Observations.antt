@@ -1,5 +1,6 @@
 -- The observations of a calculation period: each daily rate with the days for which it holds.
-use Rattle.std.specs.Prelude.{◌≡◌, ℕ, ◌+◌, ◌==◌, List, [], ◌∷◌, length, Option, Some, None, ℤ, ◌-ℤ◌, slice_index_or, if◌then◌else◌}
+use Rattle.std.specs.Prelude.{◌≡◌, ℕ, ◌+◌, ◌==◌, List, [], ◌∷◌, length, Option, Some, None, ℤ, ◌-ℤ◌, slice_index_or}
+use Rattle.std.specs.Prelude.{if◌then◌else◌}
 use Rattle.irs_base.specs.Members.{EachNumbered, day_at}
 use Rattle.irs_calendar.specs.GoodDays.{DaySet, Prev}
 use Rattle.irs_overnight.specs.Sources.{RateLines, rate_by}
@@ -17,7 +18,12 @@ observed_on q u k = if k == 0 then q else day_at u k
 -- o is the observation of the start at place k: its weight is the number of days to the next start
 abbrev pub IsObservation : RateLines → ℤ → List ℤ → ℤ → ℕ → Observation → Type 0
 IsObservation lines q u e k o =
-    o ≡ record { day = observed_on q u k; weight = next_start u e k -ℤ day_at u k; rate = rate_by lines (observed_on q u k) }
+    o ≡ record {
+      day = observed_on q u k;
+      weight = next_start u e k -ℤ day_at u k;
+      rate =
+          rate_by lines (observed_on q u k);
+    }
 
 -- one observation for each start
 pub record AreObserved (lines : RateLines) (q : ℤ) (u : List ℤ) (e : ℤ) (os : List Observation) : Type 0 where

@@ -50,8 +50,10 @@ pub fn overnight<G: GoodDays>(
     ensures ok { let a = asked swap.now stream s.now (G.days days.now) daily.now in IfOk result (IsOvernight a) }
     // The rows print a fixing file that has exactly their rates.
     ensures fixings { let a = asked swap.now stream s.now (G.days days.now) daily.now in IfOk result (ReadsBack a) }
-    ensures kept { let a = asked swap.now stream s.now (G.days days.now) daily.now in IfOk result (λ _. OvernightKept a) }
-    ensures broken { let a = asked swap.now stream s.now (G.days days.now) daily.now in IfBroken result (IsFirstDerived a) }
+    ensures kept { let a = asked swap.now stream s.now (G.days days.now) daily.now in
+        IfOk result (λ _. OvernightKept a) }
+    ensures broken { let a = asked swap.now stream s.now (G.days days.now) daily.now in
+        IfBroken result (IsFirstDerived a) }
     // At every exit: where no rule is broken there is a list of rates; there is at most one, and one rule
     // that is broken first.
     ensures exists { let a = asked swap.now stream s.now (G.days days.now) daily.now in
@@ -78,8 +80,10 @@ fn numbered_rows<G: GoodDays>(
     requires { IsAsked (asked swap.now stream s.now (G.days days.now) daily.now) }
     ensures ok { let a = asked swap.now stream s.now (G.days days.now) daily.now in IfOk result (IsOvernight a) }
     ensures range { IfOk result (All IsInRange) }
-    ensures kept { let a = asked swap.now stream s.now (G.days days.now) daily.now in IfOk result (λ _. OvernightKept a) }
-    ensures broken { let a = asked swap.now stream s.now (G.days days.now) daily.now in IfBroken result (IsFirstDerived a) }
+    ensures kept { let a = asked swap.now stream s.now (G.days days.now) daily.now in
+        IfOk result (λ _. OvernightKept a) }
+    ensures broken { let a = asked swap.now stream s.now (G.days days.now) daily.now in
+        IfBroken result (IsFirstDerived a) }
 {
     let Some(float) = floating_at(swap, stream) else {
         unreachable!()

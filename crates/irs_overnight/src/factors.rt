@@ -1,11 +1,13 @@
 //! Daily rates compounded: each factor is the one before it times 1 and the rate times its days over
 //! the days of a year. The product and its rounding at 15 decimals are this project's own.
-ghost use Rattle.std.specs.Prelude.{◌≡◌, ◌+◌, ◌*◌, ◌^◌, ◌<◌, ◌≤◌, All, IfSome, IfNone, None, pos, ◌<ℤ◌, ◌≤ℤ◌, ◌+ℤ◌, ◌-ℤ◌, ◌*ℤ◌, unsigned_abs};
+ghost use Rattle.std.specs.Prelude.{◌≡◌, ◌+◌, ◌*◌, ◌^◌, ◌<◌, ◌≤◌, All, IfSome, IfNone, None, pos, ◌<ℤ◌, ◌≤ℤ◌, ◌+ℤ◌};
+ghost use Rattle.std.specs.Prelude.{◌-ℤ◌, ◌*ℤ◌, unsigned_abs};
 ghost use Rattle.irs_base.specs.Days.{all_days};
 ghost use Rattle.irs_base.specs.Limits.{most_rate};
 ghost use Rattle.irs_terms.specs.Lawful.{IsRate};
 ghost use Rattle.irs_overnight.specs.Bounds.{IsSmall};
-ghost use Rattle.irs_overnight.specs.Factors.{FactorPasses, Grows, GrowsBy, IsCompounded, PassesLimit, most_factor, one_factor, year_of};
+ghost use Rattle.irs_overnight.specs.Factors.{FactorPasses, Grows, GrowsBy, IsCompounded, PassesLimit, most_factor};
+ghost use Rattle.irs_overnight.specs.Factors.{one_factor, year_of};
 ghost use Rattle.irs_overnight.specs.FileLaw.{IsSmallFound};
 ghost use Rattle.irs_overnight.specs.FoundRates.{IsFound};
 ghost use Rattle.irs_overnight.specs.Observations.{first_absent};

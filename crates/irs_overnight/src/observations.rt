@@ -4,7 +4,8 @@ ghost use Rattle.irs_base.specs.Days.{all_days};
 ghost use Rattle.irs_base.specs.Members.{day_at};
 ghost use Rattle.irs_terms.specs.Lawful.{IsRate};
 ghost use Rattle.irs_overnight.specs.Bounds.{IsSmall};
-ghost use Rattle.irs_overnight.specs.Observations.{AreObservations, AreObserved, IsObservation, first_absent, next_start, observed_on};
+ghost use Rattle.irs_overnight.specs.Observations.{AreObservations, AreObserved, IsObservation, first_absent};
+ghost use Rattle.irs_overnight.specs.Observations.{next_start, observed_on};
 ghost use Rattle.irs_overnight.specs.Sources.{daily_lines, one_day, rate_by};
 ghost use Rattle.irs_overnight.specs.Starts.{LacksDays};
 
@@ -115,7 +116,8 @@ pub(crate) fn observations<G: GoodDays>(
     index: &Text,
 ) -> Result<Option<Vec<Observation>>, Memory>
     requires order { start <ℤ end }
-    ensures some { IfOk result (λ o. IfSome o (λ v. AreObservations (daily_lines daily.now index.now) (G.days days.now) start end v.items)) }
+    ensures some { IfOk result
+        (λ o. IfSome o (λ v. AreObservations (daily_lines daily.now index.now) (G.days days.now) start end v.items)) }
     ensures small { IfOk result (λ o. IfSome o (λ v. All IsSmall v.items)) }
     ensures none { IfOk result (λ o. IfNone o (LacksDays (G.days days.now) start end)) }
     ensures unbroken { IfOk result (λ o. IfSome o (λ _. LacksDays (G.days days.now) start end → ⊥)) }

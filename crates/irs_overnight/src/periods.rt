@@ -129,7 +129,8 @@ fn period_row<G: GoodDays>(
     ensures kept { let source = daily_source part.now index.now (G.days days.now) daily.now in
         IfOk result (λ _. NoneFails (period_at source basis number)) }
     ensures broken { let source = daily_source part.now index.now (G.days days.now) daily.now in
-        IfBroken result (λ f. (why : WayToFail) × FirstWay (period_at source basis number) why × (f ≡ period_fault why number)) }
+        IfBroken result (λ f. (why : WayToFail) × FirstWay (period_at source basis number) why
+        × (f ≡ period_fault why number)) }
 {
     let adjusted = part.adjusted();
     let fixing = fixing_date(part, number);

@@ -1,5 +1,6 @@
 -- The walk along the boundaries, and what its places are.
-use Rattle.std.proofs.Common.{◌≡◌, inl, inr, ℕ, zero, suc, ◌+◌, ◌-◌, ◌<◌, ◌≤◌, List, [], ◌∷◌, ◌++◌, length, arith, refl, sym, ◌∙◌, subst, ap, ℤ, ◌<ℤ◌}
+use Rattle.std.proofs.Common.{◌≡◌, inl, inr, ℕ, zero, suc, ◌+◌, ◌-◌, ◌<◌, ◌≤◌, List, [], ◌∷◌, ◌++◌, length, arith, refl}
+use Rattle.std.proofs.Common.{sym, ◌∙◌, subst, ap, ℤ, ◌<ℤ◌}
 use Rattle.std.proofs.lemmas.Bool.{cases_lt}
 use Rattle.jiff_core.proofs.SignedLemmas.{signed_arith}
 use Rattle.irs_base.specs.Listed.{Member, AllAfter, IsRising, RunsFromTo}
@@ -30,7 +31,8 @@ each_at P [] k h l = absurd (omega arith)
 each_at P (c ∷ cs) zero h l = h.0
 each_at P (c ∷ cs) (suc k) h l = each_at P cs k h.1 (omega arith)
 
-each_push : (P Q : ℕ → Type 0) (cs : List ℕ) (c : ℕ) → ((k : ℕ) → P k → Q k) → EachPlace P cs → Q c → EachPlace Q (cs ++ c ∷ [])
+each_push : (P Q : ℕ → Type 0) (cs : List ℕ) (c : ℕ) → ((k : ℕ) → P k → Q k) → EachPlace P cs → Q c
+    → EachPlace Q (cs ++ c ∷ [])
 each_push P Q [] c f h q = (q, tt)
 each_push P Q (x ∷ cs) c f h q = (f x h.0, each_push P Q cs c f h.1 q)
 
@@ -39,14 +41,22 @@ each_more P Q [] f h = tt
 each_more P Q (x ∷ cs) f h = (f x h.0, each_more P Q cs f h.1)
 
 -- a day of those at the places, by its place
-place_in : (P : ℕ → Type 0) (b : List ℤ) (cs : List ℕ) (d : ℤ) → EachPlace P cs → Member d (days_at b cs) → (c : ℕ) × P c × (day_at b c ≡ d)
+place_in : (P : ℕ → Type 0) (b : List ℤ) (cs : List ℕ) (d : ℤ) → EachPlace P cs → Member d (days_at b cs)
+    → (c : ℕ) × P c × (day_at b c ≡ d)
 place_in P b [] d h m = absurd m
 place_in P b (c ∷ cs) d h (inl here) = (c, h.0, sym here)
 place_in P b (c ∷ cs) d h (inr there) = place_in P b cs d h.1 there
 
 module _ (s : Stream) (b : List ℤ) where
   pub no_cuts : AreCuts s b 1 (0 ∷ [])
-  no_cuts = record { later = []; from_zero = refl; rising = tt; sound = tt; complete = λ place low high _. omega (arith, low, high) }
+  no_cuts = record {
+    later = [];
+    from_zero = refl;
+    rising = tt;
+    sound = tt;
+    complete =
+        λ place low high _. omega (arith, low, high);
+  }
 
   wider : (i c : ℕ) → IsCut s b i c → IsCut s b (i + 1) c
   wider i c h = record { from_one = h.from_one; below = omega (arith, h.below); ends = h.ends }
@@ -63,7 +73,8 @@ module _ (s : Stream) (b : List ℤ) where
     ];
   }
 
-  pub take_cut : (i : ℕ) (cuts : List ℕ) → IsRising b → 1 ≤ i → i < length b → AreCuts s b i cuts → EndsAt s b i → AreCuts s b (i + 1) (cuts ++ i ∷ [])
+  pub take_cut : (i : ℕ) (cuts : List ℕ) → IsRising b → 1 ≤ i → i < length b → AreCuts s b i cuts → EndsAt s b i
+      → AreCuts s b (i + 1) (cuts ++ i ∷ [])
   take_cut i cuts rising low high h on =
       let days = days_at b h.later in
       let pushed = days_at-push b h.later i in
@@ -74,10 +85,12 @@ module _ (s : Stream) (b : List ℤ) where
         later = h.later ++ i ∷ [];
         from_zero = ap (λ cs. cs ++ i ∷ []) h.from_zero;
         rising = subst IsRising (sym pushed) (rising_push (day_at b i) days h.rising below);
-        sound = each_push (IsCut s b i) (IsCut s b (i + 1)) h.later i (wider i) h.sound (record { from_one = low; below = omega arith; ends = on });
+        sound = each_push (IsCut s b i) (IsCut s b (i + 1)) h.later i (wider i) h.sound
+            (record { from_one = low; below = omega arith; ends = on });
         complete = λ place from to ends. subst (Member (day_at b place)) (sym pushed) (elim (cases_lt place i) [
           | inl less ↦ member_old (day_at b place) (day_at b i) days (h.complete place from less ends)
-          | inr more ↦ let same : place ≡ i = omega arith in subst (λ (k : ℕ). Member (day_at b k) (days ++ day_at b i ∷ [])) (sym same) (member_new (day_at b i) days)
+          | inr more ↦ let same : place ≡ i = omega arith in
+              subst (λ (k : ℕ). Member (day_at b k) (days ++ day_at b i ∷ [])) (sym same) (member_new (day_at b i) days)
         ]);
       }
 
@@ -117,7 +130,9 @@ two_boundaries e t b h r =
     ]
 
 -- the payment boundaries at the places behind 0, with the first day in front
-module _ (s : Stream) (b : List ℤ) (run : RunsFromTo (first_day_of s) s.termination.day b) (later : List ℕ) (rising : IsRising (days_at b later)) (sound : EachPlace (IsCut s b (length b)) later) (complete : (place : ℕ) → 1 ≤ place → place < length b → EndsAt s b place → Member (day_at b place) (days_at b later)) where
+module _ (s : Stream) (b : List ℤ) (run : RunsFromTo (first_day_of s) s.termination.day b) (later : List ℕ)
+    (rising : IsRising (days_at b later)) (sound : EachPlace (IsCut s b (length b)) later) (complete : (place : ℕ)
+    → 1 ≤ place → place < length b → EndsAt s b place → Member (day_at b place) (days_at b later)) where
   abbrev pub pay_days : List ℤ
   pay_days = (first_day_of s) ∷ days_at b later
 
@@ -148,7 +163,8 @@ module _ (s : Stream) (b : List ℤ) (run : RunsFromTo (first_day_of s) s.termin
             let at : day_at b 0 ≡ d = subst (λ (k : ℕ). day_at b k ≡ d) same p.2 in
             absurd (omega (arith, signed_arith, first, at, h.after))
       ] in
-      subst (λ (z : ℤ). Member z (days_at b later)) p.2 (complete p.0 low p.1 (subst (λ (z : ℤ). EndsPayment s (pay_anchor s b) z) (sym p.2) h.is))
+      subst (λ (z : ℤ). Member z (days_at b later)) p.2
+      (complete p.0 low p.1 (subst (λ (z : ℤ). EndsPayment s (pay_anchor s b) z) (sym p.2) h.is))
 
   pub pay_listed : PayList s b pay_days
   pay_listed = record {
@@ -176,8 +192,10 @@ module _ (s : Stream) (b : List ℤ) (run : RunsFromTo (first_day_of s) s.termin
       let here = pay_at k (omega arith) in
       let there = pay_at (k + 1) l in
       let less = rises_at pay_days k (k + 1) pay_rising (omega arith) (omega (arith, l, length-pay)) in
-      let order : day_at b (cut_at (0 ∷ later) k) <ℤ day_at b (cut_at (0 ∷ later) (k + 1)) = omega (arith, signed_arith, less, here, there) in
-      elim (place_below b (cut_at (0 ∷ later) k) (cut_at (0 ∷ later) (k + 1)) run.rising (cut_within k (omega arith)) order) [
+      let order : day_at b (cut_at (0 ∷ later) k) <ℤ day_at b (cut_at (0 ∷ later) (k + 1)) =
+      omega (arith, signed_arith, less, here, there) in
+      elim (place_below b (cut_at (0 ∷ later) k) (cut_at (0 ∷ later) (k + 1)) run.rising
+      (cut_within k (omega arith)) order) [
         | inl below ↦ below
         | inr past ↦ absurd (omega (arith, past, cut_within (k + 1) l))
       ]
@@ -196,7 +214,8 @@ module _ (s : Stream) (b : List ℤ) (run : RunsFromTo (first_day_of s) s.termin
       let last : p.0 ≡ n - 1 = elim (cases_lt (p.0 + 1) n) [
         | inl more ↦
             let less = rises_at pay_days p.0 (p.0 + 1) pay_rising (omega arith) (omega (arith, more, length-pay)) in
-            let high = run.to (day_at b (cut_at (0 ∷ later) (p.0 + 1))) (member_at b (cut_at (0 ∷ later) (p.0 + 1)) (cut_within (p.0 + 1) more)) in
+            let high = run.to (day_at b (cut_at (0 ∷ later) (p.0 + 1)))
+            (member_at b (cut_at (0 ∷ later) (p.0 + 1)) (cut_within (p.0 + 1) more)) in
             let at = pay_at (p.0 + 1) more in
             absurd (omega (arith, signed_arith, less, high, at, p.2))
         | inr end ↦ omega (arith, l)
@@ -207,5 +226,6 @@ module _ (s : Stream) (b : List ℤ) (run : RunsFromTo (first_day_of s) s.termin
 
   pub one_pay : (pay : List ℤ) → PayList s b pay → pay ≡ pay_days
   one_pay pay h =
-      let same = one_rising h.later (days_at b later) h.listed.rising rising (λ d m. has_pay d (h.listed.sound d m)) (λ d m. h.listed.complete d (is_pay d m)) in
+      let same = one_rising h.later (days_at b later) h.listed.rising rising (λ d m. has_pay d (h.listed.sound d m))
+      (λ d m. h.listed.complete d (is_pay d m)) in
       h.from_first_day ∙ ap (λ ds. (first_day_of s) ∷ ds) same

@@ -1,5 +1,6 @@
 -- What an offset and an adjustment make of a start: a date, no result, or a day out of range.
-use Rattle.std.proofs.Common.{◌≡◌, inl, inr, ℕ, ◌+◌, ◌-◌, ◌<◌, ◌≤◌, List, [], ◌∷◌, ◌++◌, length, length-append, Option, Some, None, Result, Ok, Err, arith, refl, sym, ◌∙◌, subst, ℤ}
+use Rattle.std.proofs.Common.{◌≡◌, inl, inr, ℕ, ◌+◌, ◌-◌, ◌<◌, ◌≤◌, List, [], ◌∷◌, ◌++◌, length, length-append, Option}
+use Rattle.std.proofs.Common.{Some, None, Result, Ok, Err, arith, refl, sym, ◌∙◌, subst, ℤ}
 use Rattle.std.proofs.lemmas.Bool.{cases_lt}
 use Rattle.irs_terms.specs.declared.codes.DayKind.{DayKind}
 use Rattle.irs_terms.specs.declared.codes.DayKind.TheVariants.{Business, Calendar, Unsaid}
@@ -17,85 +18,123 @@ use Rattle.irs_payments.specs.Cuts.{cut_at}
 use Rattle.irs_payments.specs.Places.{ArePlaces}
 use Rattle.irs_payments.specs.PaymentDates.{IsPaymentDate, MovesNowhere, LacksResult, LeavesRange}
 use Rattle.irs_payments.specs.Payments.{Covers}
-use Rattle.irs_payments.specs.Dating.{date_place, IsCutPayment, NoneLacks, NoneLeaves, ArePaid, LeavesFirst, Dated, Settles, IsOutcome}
+use Rattle.irs_payments.specs.Dating.{date_place, IsCutPayment, NoneLacks, NoneLeaves, ArePaid, LeavesFirst, Dated}
+use Rattle.irs_payments.specs.Dating.{Settles, IsOutcome}
 use Rattle.irs_base.specs.Members.{day_at}
 use Rattle.irs_terms.specs.DayTypes.{IsSaid}
 use Rattle.irs_base.proofs.MemberLemmas.{numbered_push}
 
-kind_leaves : (pay : PayTerms) (set : DaySet) (start : ℤ) (kind : DayKind) → pay.offset.kind ≡ kind → IsSaid pay.offset → MovesNowhere pay set start → no_move_of kind ≡ OutOfRange → kind ≡ Calendar
+kind_leaves : (pay : PayTerms) (set : DaySet) (start : ℤ) (kind : DayKind) → pay.offset.kind ≡ kind → IsSaid pay.offset
+    → MovesNowhere pay set start → no_move_of kind ≡ OutOfRange → kind ≡ Calendar
 kind_leaves pay set start Business e said none h = absurd (cc)
 kind_leaves pay set start Calendar e said none h = refl
-kind_leaves pay set start Unsaid e said none h = elim said [ inl zero ↦ absurd (none start (inl (zero, refl))) | inr kind ↦ absurd (kind e) ]
+kind_leaves pay set start Unsaid e said none h =
+    elim said [ inl zero ↦ absurd (none start (inl (zero, refl))) | inr kind ↦ absurd (kind e) ]
 
-pub leaves_by : (pay : PayTerms) (set : DaySet) (start : ℤ) → IsSaid pay.offset → MovesNowhere pay set start → no_move_of pay.offset.kind ≡ OutOfRange → pay.offset.kind ≡ Calendar
+pub leaves_by : (pay : PayTerms) (set : DaySet) (start : ℤ) → IsSaid pay.offset → MovesNowhere pay set start
+    → no_move_of pay.offset.kind ≡ OutOfRange → pay.offset.kind ≡ Calendar
 leaves_by pay set start said none h = kind_leaves pay set start pay.offset.kind refl said none h
 
-pub paid_lacks : (pay : PayTerms) (set : DaySet) (start r : ℤ) → IsPaymentDate pay set start r → LacksResult pay set start → ⊥
+pub paid_lacks : (pay : PayTerms) (set : DaySet) (start r : ℤ) → IsPaymentDate pay set start r
+    → LacksResult pay set start → ⊥
 paid_lacks pay set start r h (inl none) = none.1 h.moved h.moves
 paid_lacks pay set start r h (inr off) =
     let same = one_moved pay.offset set start h.moved off.moved h.moves off.moves in
     off.none r (subst (λ (x : ℤ). Adjusts pay.adj.code set x r) same h.adjusts)
 
-pub paid_leaves : (pay : PayTerms) (set : DaySet) (start r : ℤ) → IsPaymentDate pay set start r → LeavesRange pay set start → ⊥
+pub paid_leaves : (pay : PayTerms) (set : DaySet) (start r : ℤ) → IsPaymentDate pay set start r
+    → LeavesRange pay set start → ⊥
 paid_leaves pay set start r h none = none.1 h.moved h.moves
 
-pub leaves_lacks : (pay : PayTerms) (set : DaySet) (start : ℤ) → LeavesRange pay set start → LacksResult pay set start → ⊥
+pub leaves_lacks : (pay : PayTerms) (set : DaySet) (start : ℤ) → LeavesRange pay set start
+    → LacksResult pay set start → ⊥
 leaves_lacks pay set start h (inl none) = let kinds : Calendar ≡ Business = sym h.0 ∙ none.0 in absurd (cc)
 leaves_lacks pay set start h (inr off) = h.1 off.moved off.moves
 
-pub one_date : (pay : PayTerms) (set : DaySet) (start r t : ℤ) → IsPaymentDate pay set start r → IsPaymentDate pay set start t → r ≡ t
+pub one_date : (pay : PayTerms) (set : DaySet) (start r t : ℤ) → IsPaymentDate pay set start r
+    → IsPaymentDate pay set start t → r ≡ t
 one_date pay set start r t h k =
     let same = one_moved pay.offset set start h.moved k.moved h.moves k.moves in
     one_adjusts pay.adj.code set k.moved r t (subst (λ (x : ℤ). Adjusts pay.adj.code set x r) same h.adjusts) k.adjusts
 
-pub covers_push : (a n m : ℕ) (ys : List Payment) (y : Payment) → Covers a ys n → y.first_period ≡ n + 1 → y.last_period ≡ m → n < m → Covers a (ys ++ y ∷ []) m
+pub covers_push : (a n m : ℕ) (ys : List Payment) (y : Payment) → Covers a ys n → y.first_period ≡ n + 1
+    → y.last_period ≡ m → n < m → Covers a (ys ++ y ∷ []) m
 covers_push a n m [] y h first last less = (omega (arith, h, first), omega (arith, first, last), omega (arith, last))
-covers_push a n m (z ∷ ys) y h first last less = (h.0, h.1, covers_push (z.last_period + 1) n m ys y h.2 first last less)
+covers_push a n m (z ∷ ys) y h first last less =
+    (h.0, h.1, covers_push (z.last_period + 1) n m ys y h.2 first last less)
 
-none_leaves_more : (s : Stream) (set : DaySet) (a : List ℤ) (cuts : List ℕ) (j : ℕ) → NoneLeaves s set a cuts j → (LeavesRange s.pay set (day_at a (date_place s cuts j)) → ⊥) → NoneLeaves s set a cuts (j + 1)
+none_leaves_more : (s : Stream) (set : DaySet) (a : List ℤ) (cuts : List ℕ) (j : ℕ) → NoneLeaves s set a cuts j
+    → (LeavesRange s.pay set (day_at a (date_place s cuts j)) → ⊥) → NoneLeaves s set a cuts (j + 1)
 none_leaves_more s set a cuts j below here m low high leaves = elim (cases_lt m j) [
   | inl less ↦ below m low less leaves
-  | inr more ↦ let same : m ≡ j = omega arith in here (subst (λ (k : ℕ). LeavesRange s.pay set (day_at a (date_place s cuts k))) same leaves)
+  | inr more ↦ let same : m ≡ j = omega arith in
+      here (subst (λ (k : ℕ). LeavesRange s.pay set (day_at a (date_place s cuts k))) same leaves)
 ]
 
-none_lacks_more : (s : Stream) (set : DaySet) (a : List ℤ) (cuts : List ℕ) (j : ℕ) → NoneLacks s set a cuts j → (LacksResult s.pay set (day_at a (date_place s cuts j)) → ⊥) → NoneLacks s set a cuts (j + 1)
+none_lacks_more : (s : Stream) (set : DaySet) (a : List ℤ) (cuts : List ℕ) (j : ℕ) → NoneLacks s set a cuts j
+    → (LacksResult s.pay set (day_at a (date_place s cuts j)) → ⊥) → NoneLacks s set a cuts (j + 1)
 none_lacks_more s set a cuts j below here m low high lacks = elim (cases_lt m j) [
   | inl less ↦ below m low less lacks
-  | inr more ↦ let same : m ≡ j = omega arith in here (subst (λ (k : ℕ). LacksResult s.pay set (day_at a (date_place s cuts k))) same lacks)
+  | inr more ↦ let same : m ≡ j = omega arith in
+      here (subst (λ (k : ℕ). LacksResult s.pay set (day_at a (date_place s cuts k))) same lacks)
 ]
 
-paid_more : (s : Stream) (set : DaySet) (b a : List ℤ) (cuts : List ℕ) (j : ℕ) (p : Payment) (old : List Payment) → ArePlaces b cuts → 1 ≤ j → j < length cuts → IsCutPayment s set b a cuts j p → ArePaid s set b a cuts j old → ArePaid s set b a cuts (j + 1) (old ++ p ∷ [])
+paid_more : (s : Stream) (set : DaySet) (b a : List ℤ) (cuts : List ℕ) (j : ℕ) (p : Payment) (old : List Payment)
+    → ArePlaces b cuts → 1 ≤ j → j < length cuts → IsCutPayment s set b a cuts j p → ArePaid s set b a cuts j old
+    → ArePaid s set b a cuts (j + 1) (old ++ p ∷ [])
 paid_more s set b a cuts j p old places low high h k =
     let back : j - 1 + 1 ≡ j = omega arith in
     let on : j + 1 - 1 ≡ j = omega arith in
-    let rise : cut_at cuts (j - 1) < cut_at cuts j = subst (λ (m : ℕ). cut_at cuts (j - 1) < cut_at cuts m) back (places.rise (j - 1) (omega arith)) in
+    let rise : cut_at cuts (j - 1) < cut_at cuts j =
+    subst (λ (m : ℕ). cut_at cuts (j - 1) < cut_at cuts m) back (places.rise (j - 1) (omega arith)) in
     record {
-      in_range = none_leaves_more s set a cuts j k.in_range (paid_leaves s.pay set (day_at a (date_place s cuts j)) p.adjusted h.date);
+      in_range = none_leaves_more s set a cuts j k.in_range
+          (paid_leaves s.pay set (day_at a (date_place s cuts j)) p.adjusted h.date);
       count = omega (arith, k.count, length-append old (p ∷ []));
       each = numbered_push (IsCutPayment s set b a cuts) 1 j old p k.each (omega (arith, k.count)) h;
-      covers = subst (λ (m : ℕ). Covers 1 (old ++ p ∷ []) (cut_at cuts m)) (sym on) (covers_push 1 (cut_at cuts (j - 1)) (cut_at cuts j) old p k.covers h.first h.last rise);
+      covers = subst (λ (m : ℕ). Covers 1 (old ++ p ∷ []) (cut_at cuts m)) (sym on)
+          (covers_push 1 (cut_at cuts (j - 1)) (cut_at cuts j) old p k.covers h.first h.last rise);
     }
 
-later_first : (s : Stream) (set : DaySet) (a : List ℤ) (cuts : List ℕ) (j n : ℕ) → LeavesFirst s set a cuts j n → LeavesFirst s set a cuts (j + 1) n
-later_first s set a cuts j n h = record { from_one = h.from_one; below = omega (arith, h.below); leaves = h.leaves; none_before = h.none_before }
+later_first : (s : Stream) (set : DaySet) (a : List ℤ) (cuts : List ℕ) (j n : ℕ) → LeavesFirst s set a cuts j n
+    → LeavesFirst s set a cuts (j + 1) n
+later_first s set a cuts j n h =
+    record { from_one = h.from_one; below = omega (arith, h.below); leaves = h.leaves; none_before = h.none_before }
 
-module _ (s : Stream) (set : DaySet) (b a : List ℤ) (cuts : List ℕ) (j : ℕ) (places : ArePlaces b cuts) (low : 1 ≤ j) (high : j < length cuts) where
-  settled : (payment : Result Payment NoDate) (beyond : Option ℕ) (old : List Payment) → IsOutcome s set b a cuts j payment → Dated s set b a cuts j beyond old → (new : List Payment) (after : Option ℕ) → Settles payment beyond j old new after → Dated s set b a cuts (j + 1) after new
-  settled (Ok p) None old h k new after t = subst (λ (o : Option ℕ). Dated s set b a cuts (j + 1) o new) (sym t.1) (subst (λ (ys : List Payment). ArePaid s set b a cuts (j + 1) ys) (sym t.0) (paid_more s set b a cuts j p old places low high h k))
-  settled (Ok p) (Some n) old h k new after t = subst (λ (o : Option ℕ). Dated s set b a cuts (j + 1) o new) (sym t.1) (later_first s set a cuts j n k)
-  settled (Err OutOfRange) None old h k new after t = subst (λ (o : Option ℕ). Dated s set b a cuts (j + 1) o new) (sym t.1) (record { from_one = low; below = omega arith; leaves = h; none_before = k.in_range })
-  settled (Err OutOfRange) (Some n) old h k new after t = subst (λ (o : Option ℕ). Dated s set b a cuts (j + 1) o new) (sym t.1) (later_first s set a cuts j n k)
+module _ (s : Stream) (set : DaySet) (b a : List ℤ) (cuts : List ℕ) (j : ℕ) (places : ArePlaces b cuts) (low : 1 ≤ j)
+    (high : j < length cuts) where
+  settled : (payment : Result Payment NoDate) (beyond : Option ℕ) (old : List Payment)
+      → IsOutcome s set b a cuts j payment → Dated s set b a cuts j beyond old → (new : List Payment) (after : Option ℕ)
+      → Settles payment beyond j old new after → Dated s set b a cuts (j + 1) after new
+  settled (Ok p) None old h k new after t =
+      subst (λ (o : Option ℕ). Dated s set b a cuts (j + 1) o new) (sym t.1)
+      (subst (λ (ys : List Payment). ArePaid s set b a cuts (j + 1) ys) (sym t.0)
+      (paid_more s set b a cuts j p old places low high h k))
+  settled (Ok p) (Some n) old h k new after t =
+      subst (λ (o : Option ℕ). Dated s set b a cuts (j + 1) o new) (sym t.1) (later_first s set a cuts j n k)
+  settled (Err OutOfRange) None old h k new after t =
+      subst (λ (o : Option ℕ). Dated s set b a cuts (j + 1) o new) (sym t.1)
+      (record { from_one = low; below = omega arith; leaves = h; none_before = k.in_range })
+  settled (Err OutOfRange) (Some n) old h k new after t =
+      subst (λ (o : Option ℕ). Dated s set b a cuts (j + 1) o new) (sym t.1) (later_first s set a cuts j n k)
   settled (Err NoResult) beyond old h k new after t = absurd t
 
-  pub dated_more : (payment : Result Payment NoDate) (beyond : Option ℕ) (old new : List Payment) (after : Option ℕ) → IsOutcome s set b a cuts j payment → Dated s set b a cuts j beyond old → Settles payment beyond j old new after → Dated s set b a cuts (j + 1) after new
+  pub dated_more : (payment : Result Payment NoDate) (beyond : Option ℕ) (old new : List Payment) (after : Option ℕ)
+      → IsOutcome s set b a cuts j payment → Dated s set b a cuts j beyond old → Settles payment beyond j old new after
+      → Dated s set b a cuts (j + 1) after new
   dated_more payment beyond old new after h k t = settled payment beyond old h k new after t
 
-  pub lacks_more : (payment : Result Payment NoDate) (beyond : Option ℕ) (old new : List Payment) (after : Option ℕ) → IsOutcome s set b a cuts j payment → NoneLacks s set a cuts j → Settles payment beyond j old new after → NoneLacks s set a cuts (j + 1)
-  lacks_more (Ok p) beyond old new after h k t = none_lacks_more s set a cuts j k (paid_lacks s.pay set (day_at a (date_place s cuts j)) p.adjusted h.date)
-  lacks_more (Err OutOfRange) beyond old new after h k t = none_lacks_more s set a cuts j k (leaves_lacks s.pay set (day_at a (date_place s cuts j)) h)
+  pub lacks_more : (payment : Result Payment NoDate) (beyond : Option ℕ) (old new : List Payment) (after : Option ℕ)
+      → IsOutcome s set b a cuts j payment → NoneLacks s set a cuts j → Settles payment beyond j old new after
+      → NoneLacks s set a cuts (j + 1)
+  lacks_more (Ok p) beyond old new after h k t =
+      none_lacks_more s set a cuts j k (paid_lacks s.pay set (day_at a (date_place s cuts j)) p.adjusted h.date)
+  lacks_more (Err OutOfRange) beyond old new after h k t =
+      none_lacks_more s set a cuts j k (leaves_lacks s.pay set (day_at a (date_place s cuts j)) h)
   lacks_more (Err NoResult) beyond old new after h k t = absurd t
 
-pub none_dated : (s : Stream) (set : DaySet) (b a : List ℤ) (cuts : List ℕ) → ArePlaces b cuts → Dated s set b a cuts 1 None []
+pub none_dated : (s : Stream) (set : DaySet) (b a : List ℤ) (cuts : List ℕ) → ArePlaces b cuts
+    → Dated s set b a cuts 1 None []
 none_dated s set b a cuts places = record {
   in_range = λ j low high _. omega (arith, low, high);
   count = refl;
@@ -103,6 +142,8 @@ none_dated s set b a cuts places = record {
   covers = omega (arith, places.begins);
 }
 
-pub outcome_err : (s : Stream) (set : DaySet) (b a : List ℤ) (cuts : List ℕ) (j : ℕ) (e : NoDate) → (e ≡ NoResult → LacksResult s.pay set (day_at a (date_place s cuts j))) → (e ≡ OutOfRange → LeavesRange s.pay set (day_at a (date_place s cuts j))) → IsOutcome s set b a cuts j (Err e)
+pub outcome_err : (s : Stream) (set : DaySet) (b a : List ℤ) (cuts : List ℕ) (j : ℕ) (e : NoDate)
+    → (e ≡ NoResult → LacksResult s.pay set (day_at a (date_place s cuts j)))
+    → (e ≡ OutOfRange → LeavesRange s.pay set (day_at a (date_place s cuts j))) → IsOutcome s set b a cuts j (Err e)
 outcome_err s set b a cuts j NoResult lacks leaves = lacks refl
 outcome_err s set b a cuts j OutOfRange lacks leaves = leaves refl

@@ -1,5 +1,6 @@
 -- An exchange is the first that lacks its adjusted day, or none does and there is the list of exchanges.
-use Rattle.std.proofs.Common.{◌≡◌, inl, inr, ℕ, zero, suc, ◌+◌, ◌-◌, ◌^◌, Bool, true, false, List, [], ◌∷◌, ◌++◌, Some, ℤ, pos, ◌-ℤ◌, ◌<ℤ◌, if◌then◌else◌, arith, refl, subst}
+use Rattle.std.proofs.Common.{◌≡◌, inl, inr, ℕ, zero, suc, ◌+◌, ◌-◌, ◌^◌, Bool, true, false, List, [], ◌∷◌, ◌++◌, Some}
+use Rattle.std.proofs.Common.{ℤ, pos, ◌-ℤ◌, ◌<ℤ◌, if◌then◌else◌, arith, refl, subst}
 use Rattle.std.specs.Prelude.{All, slice_get}
 use Rattle.std.specs.Ordering.{int_eq}
 use Rattle.std.proofs.lemmas.List.Elements.{All-append, All-cons}
@@ -20,7 +21,8 @@ use Rattle.irs_adjust.specs.Codes.{Adjusts}
 use Rattle.irs_payments.specs.declared.exchanges.Transfer.{Transfer}
 use Rattle.irs_payments.specs.Transfers.{transfer}
 use Rattle.irs_base.specs.Faults.{fault_at}
-use Rattle.irs_payments.specs.Exchanges.{initial_of, change, changes, intermediate_of, last_value, final_of, transfers_of, IsExchange, AreExchanges, LacksDay, BreaksExchanges}
+use Rattle.irs_payments.specs.Exchanges.{initial_of, change, changes, intermediate_of, last_value, final_of}
+use Rattle.irs_payments.specs.Exchanges.{transfers_of, IsExchange, AreExchanges, LacksDay, BreaksExchanges}
 use Rattle.irs_adjust.proofs.FoundDays.{InRange, IsFound, decides_adjusts}
 use Rattle.irs_base.specs.Order.{First, IsDecided, comes_before}
 use Rattle.irs_base.proofs.FaultOrder.{one_fault}
@@ -44,7 +46,8 @@ dated_part : (b : Bool) (ts : List Transfer) → All IsDated ts → All IsDated 
 dated_part true ts dated = dated
 dated_part false ts dated = dated_none
 
-dated_change : (b : Bool) (step : Step) (amount : ℤ) → IsDay step.day → All IsDated (if b then [] else transfer step.day amount ∷ [])
+dated_change : (b : Bool) (step : Step) (amount : ℤ) → IsDay step.day
+    → All IsDated (if b then [] else transfer step.day amount ∷ [])
 dated_change true step amount day = dated_none
 dated_change false step amount day = dated_one step.day amount day
 
@@ -58,13 +61,19 @@ dated_changes before (step ∷ steps) days =
 pub dated_transfers : (s : Stream) → IsLawfulStream s → All IsDated (transfers_of s)
 dated_transfers s lawful =
     let steps : All (λ s. IsDay s.day) s.notional.steps = λ i d l. (lawful.notional.2 i d l).0 in
-    let a : All IsDated (initial_of s) = dated_part s.exchanges.initial _ (dated_one s.effective.day (pos 0 -ℤ s.notional.initial) lawful.effective.0) in
-    let b : All IsDated (intermediate_of s) = dated_part s.exchanges.intermediate _ (dated_changes s.notional.initial s.notional.steps steps) in
-    let c : All IsDated (final_of s) = dated_part s.exchanges.last _ (dated_one s.termination.day (last_value s.notional.initial s.notional.steps) lawful.termination.0) in
-    All-append IsDated (initial_of s ++ intermediate_of s) (final_of s) (All-append IsDated (initial_of s) (intermediate_of s) a b) c
+    let a : All IsDated (initial_of s) =
+    dated_part s.exchanges.initial _ (dated_one s.effective.day (pos 0 -ℤ s.notional.initial) lawful.effective.0) in
+    let b : All IsDated (intermediate_of s) =
+    dated_part s.exchanges.intermediate _ (dated_changes s.notional.initial s.notional.steps steps) in
+    let c : All IsDated (final_of s) =
+    dated_part s.exchanges.last _
+    (dated_one s.termination.day (last_value s.notional.initial s.notional.steps) lawful.termination.0) in
+    All-append IsDated (initial_of s ++ intermediate_of s) (final_of s)
+    (All-append IsDated (initial_of s) (intermediate_of s) a b) c
 
 -- an exchange on an adjusted day; its amount can always be rounded
-exchange_on : (s : Stream) (set : DaySet) (t : Transfer) (r : ℤ) → Adjusts s.pay.adj.code set t.date r → (x : Exchange) × IsExchange s set t x
+exchange_on : (s : Stream) (set : DaySet) (t : Transfer) (r : ℤ) → Adjusts s.pay.adj.code set t.date r
+    → (x : Exchange) × IsExchange s set t x
 exchange_on s set t r adjusts =
     let places : ℕ = decimals_of s.currency.letters in
     let above : pos 0 <ℤ pos (10 ^ (4 - places)) = omega (arith, signed_arith, ten_power (4 - places)) in
@@ -74,7 +83,9 @@ exchange_on s set t r adjusts =
     )
 
 -- the exchange with the number i + 1
-exchange_of : (s : Stream) (set : DaySet) (i : ℕ) (t : Transfer) → ((f : Fault) → BreaksExchanges s set f → ⊥) → slice_get (transfers_of s) i ≡ Some t → IsFound (Adjusts s.pay.adj.code set t.date) → (x : Exchange) × IsExchange s set t x
+exchange_of : (s : Stream) (set : DaySet) (i : ℕ) (t : Transfer) → ((f : Fault) → BreaksExchanges s set f → ⊥)
+    → slice_get (transfers_of s) i ≡ Some t → IsFound (Adjusts s.pay.adj.code set t.date)
+    → (x : Exchange) × IsExchange s set t x
 exchange_of s set i t kept at (inl found) = exchange_on s set t found.0 found.1
 exchange_of s set i t kept at (inr none) =
     let place : i + 1 - 1 ≡ i = omega arith in
@@ -86,10 +97,12 @@ exchange_of s set i t kept at (inr none) =
 
 module _ (s : Stream) (set : DaySet) (lawful : IsLawfulStream s) (range : InRange set) where
   -- the date of each exchange has its adjusted day, or none
-  date_found : (i : ℕ) (t : Transfer) → slice_get (transfers_of s) i ≡ Some t → IsFound (Adjusts s.pay.adj.code set t.date)
+  date_found : (i : ℕ) (t : Transfer) → slice_get (transfers_of s) i ≡ Some t
+      → IsFound (Adjusts s.pay.adj.code set t.date)
   date_found i t at =
       let within = slice_get_within (transfers_of s) i t at in
-      let day : IsDay t.date = subst IsDated (get_or_from_slice_get (transfers_of s) i t t at) (dated_transfers s lawful i t within) in
+      let day : IsDay t.date =
+      subst IsDated (get_or_from_slice_get (transfers_of s) i t t at) (dated_transfers s lawful i t within) in
       decides_adjusts s.pay.adj.code set t.date day range
 
   -- so the date lacks one, or it doesn't
@@ -105,8 +118,10 @@ module _ (s : Stream) (set : DaySet) (lawful : IsLawfulStream s) (range : InRang
 
   -- where each has one there are the exchanges
   pub exchanges_there : ((f : Fault) → BreaksExchanges s set f → ⊥) → (xs : List Exchange) × AreExchanges s set xs
-  exchanges_there kept = pairs_there (IsExchange s set) (transfers_of s) (λ i t at. exchange_of s set i t kept at (date_found i t at))
+  exchanges_there kept =
+      pairs_there (IsExchange s set) (transfers_of s) (λ i t at. exchange_of s set i t kept at (date_found i t at))
 
 -- at most one exchange is the first without an adjusted day
-pub one_exchanges_rule : (s : Stream) (set : DaySet) (f g : Fault) → First comes_before (BreaksExchanges s set) f → First comes_before (BreaksExchanges s set) g → f ≡ g
+pub one_exchanges_rule : (s : Stream) (set : DaySet) (f g : Fault) → First comes_before (BreaksExchanges s set) f
+    → First comes_before (BreaksExchanges s set) g → f ≡ g
 one_exchanges_rule s set = one_fault (BreaksExchanges s set)

@@ -18,7 +18,8 @@ use Rattle.irs_roll.specs.Rolls.{OnGrid}
 use Rattle.irs_roll.proofs.GridsDecided.{decides_on_grid}
 use Rattle.irs_payments.specs.Grouping.{pay_anchor, IsBadFirst, IsBadLast, BreaksFirst, BreaksLast, BreaksGrouping}
 use Rattle.irs_payments.proofs.CutsThere.{pay_anchor_day}
-use Rattle.irs_payments.proofs.FirstFaults.{FirstOrNone, told, first_left, first_right, first_of_both, not_before_element}
+use Rattle.irs_payments.proofs.FirstFaults.{FirstOrNone, told, first_left, first_right, first_of_both}
+use Rattle.irs_payments.proofs.FirstFaults.{not_before_element}
 use Rattle.irs_payments.proofs.StepLemmas.{decides_member}
 
 abbrev at_first : Fault
@@ -35,13 +36,19 @@ last_alone : (s : Stream) (b : List ℤ) → IsBadLast s b → First comes_befor
 last_alone s b bad = first_one comes_before fault_order (BreaksLast s b) at_last (bad, refl) (λ g h. h.1)
 
 last_late : (s : Stream) (b : List ℤ) (f g : Fault) → BreaksFirst s b f → BreaksLast s b g → comes_before g f ≡ false
-last_late s b f g h k = told f g at_first at_last h.1 k.1 (not_before_element K35 first_payment_date last_regular_payment_date 0 0 (omega arith))
+last_late s b f g h k =
+    told f g at_first at_last h.1 k.1
+    (not_before_element K35 first_payment_date last_regular_payment_date 0 0 (omega arith))
 
 pub first_is_first : (s : Stream) (b : List ℤ) → IsBadFirst s b → First comes_before (BreaksGrouping s b) at_first
-first_is_first s b bad = first_left (BreaksFirst s b) (BreaksLast s b) at_first (first_alone s b bad) (λ g h. last_late s b at_first g (bad, refl) h)
+first_is_first s b bad =
+    first_left (BreaksFirst s b) (BreaksLast s b) at_first (first_alone s b bad)
+    (λ g h. last_late s b at_first g (bad, refl) h)
 
-pub last_is_first : (s : Stream) (b : List ℤ) → (IsBadFirst s b → ⊥) → IsBadLast s b → First comes_before (BreaksGrouping s b) at_last
-last_is_first s b good bad = first_right (BreaksFirst s b) (BreaksLast s b) at_last (λ g h. good h.0) (last_alone s b bad)
+pub last_is_first : (s : Stream) (b : List ℤ) → (IsBadFirst s b → ⊥) → IsBadLast s b
+    → First comes_before (BreaksGrouping s b) at_last
+last_is_first s b good bad =
+    first_right (BreaksFirst s b) (BreaksLast s b) at_last (λ g h. good h.0) (last_alone s b bad)
 
 -- each of the two dates can't stand, or it can
 
@@ -65,27 +72,40 @@ same_some a b o p q = let e : Some a ≡ Some b = sym p ∙ q in cc
 module _ (s : Stream) (b : List ℤ) where
   first_by : (given : Option ℤ) → s.pay.first ≡ given → IsDecided (IsBadFirst s b)
   first_by None is = inr (λ h. let e : None ≡ Some h.first = sym is ∙ h.given in absurd (cc))
-  first_by (Some first) is = elim (decides_both (Member first b) (first_day_of s <ℤ first) (decides_member first b) (decides_before (first_day_of s) first)) [
-    | inl on ↦ inr (λ h. h.off (subst (λ (d : ℤ). Member d b × (first_day_of s <ℤ d)) (same_some first h.first s.pay.first is h.given) on))
-    | inr off ↦ inl (record { first = first; given = is; off = off })
-  ]
+  first_by (Some first) is =
+      elim (decides_both (Member first b) (first_day_of s <ℤ first) (decides_member first b)
+      (decides_before (first_day_of s) first)) [
+        | inl on ↦ inr (λ h.
+            h.off (subst (λ (d : ℤ). Member d b × (first_day_of s <ℤ d))
+            (same_some first h.first s.pay.first is h.given) on))
+        | inr off ↦ inl (record { first = first; given = is; off = off })
+      ]
 
-  last_on : (last : ℤ) → s.pay.last ≡ Some last → (last ≡ s.termination.day → ⊥) → IsDecided (Member last b × OnGrid s.pay.freq s.roll (pay_anchor s b) last) → IsDecided (IsBadLast s b)
+  last_on : (last : ℤ) → s.pay.last ≡ Some last → (last ≡ s.termination.day → ⊥)
+      → IsDecided (Member last b × OnGrid s.pay.freq s.roll (pay_anchor s b) last) → IsDecided (IsBadLast s b)
   last_on last is early (inr off) = inl (record { last = last; given = is; early = early; off = off })
-  last_on last is early (inl on) = inr (λ h. h.off (subst (λ (d : ℤ). Member d b × OnGrid s.pay.freq s.roll (pay_anchor s b) d) (same_some last h.last s.pay.last is h.given) on))
+  last_on last is early (inl on) =
+      inr (λ h. h.off (subst (λ (d : ℤ). Member d b
+      × OnGrid s.pay.freq s.roll (pay_anchor s b) d) (same_some last h.last s.pay.last is h.given) on))
 
-  last_by : (given : Option ℤ) → s.pay.last ≡ given → ((last : ℤ) → s.pay.last ≡ Some last → IsDecided (OnGrid s.pay.freq s.roll (pay_anchor s b) last)) → IsDecided (IsBadLast s b)
+  last_by : (given : Option ℤ) → s.pay.last ≡ given
+      → ((last : ℤ) → s.pay.last ≡ Some last → IsDecided (OnGrid s.pay.freq s.roll (pay_anchor s b) last))
+      → IsDecided (IsBadLast s b)
   last_by None is grid = inr (λ h. let e : None ≡ Some h.last = sym is ∙ h.given in absurd (cc))
   last_by (Some last) is grid = elim (decides_same last s.termination.day) [
     | inl end ↦ inr (λ h. h.early (sym (same_some last h.last s.pay.last is h.given) ∙ end))
-    | inr early ↦ last_on last is early (decides_both (Member last b) (OnGrid s.pay.freq s.roll (pay_anchor s b) last) (decides_member last b) (grid last is))
+    | inr early ↦
+        last_on last is early
+        (decides_both (Member last b) (OnGrid s.pay.freq s.roll (pay_anchor s b) last) (decides_member last b)
+        (grid last is))
   ]
 
   module _ (lawful : IsLawfulStream s) (days : AreDays b) where
     on_grid : (last : ℤ) → s.pay.last ≡ Some last → IsDecided (OnGrid s.pay.freq s.roll (pay_anchor s b) last)
     on_grid last is =
         let day = rw is at lawful.pay.last in
-        decides_on_grid s.pay.freq s.roll (pay_anchor s b) last lawful.pay.freq lawful.roll (pay_anchor_day s b lawful days) day
+        decides_on_grid s.pay.freq s.roll (pay_anchor s b) last lawful.pay.freq lawful.roll
+        (pay_anchor_day s b lawful days) day
 
     first_decided : FirstOrNone (BreaksFirst s b)
     first_decided = elim (first_by s.pay.first refl) [

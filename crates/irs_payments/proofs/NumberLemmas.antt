@@ -1,5 +1,6 @@
 -- A rule that members of a list break: the first of them, or none.
-use Rattle.std.proofs.Common.{◌≡◌, ◌⊎◌, ℕ, zero, suc, ◌+◌, ◌-◌, ◌<◌, ◌≤◌, List, [], ◌∷◌, length, arith, refl, inl, inr, Some, subst}
+use Rattle.std.proofs.Common.{◌≡◌, ◌⊎◌, ℕ, zero, suc, ◌+◌, ◌-◌, ◌<◌, ◌≤◌, List, [], ◌∷◌, length, arith, refl, inl, inr}
+use Rattle.std.proofs.Common.{Some, subst}
 use Rattle.std.specs.List.{slice_get}
 use Rattle.std.proofs.lemmas.Option.{slice_get_within}
 use Rattle.irs_base.specs.Faults.{fault_at}
@@ -22,7 +23,8 @@ module _ {X : Type 0} (rule : Rule) (elem : ℕ) (P : X → Type 0) (xs : List X
       let within = slice_get_within xs (h.number - 1) h.bad.member h.bad.at in
       below h.number (omega (arith, within)) h.bad
 
-  pub first_in : (i : ℕ) (x : X) → slice_get xs i ≡ Some x → P x → NoneOf P xs i → First comes_before (BreaksIn rule elem P xs) (fault_at rule elem (i + 1))
+  pub first_in : (i : ℕ) (x : X) → slice_get xs i ≡ Some x → P x → NoneOf P xs i
+      → First comes_before (BreaksIn rule elem P xs) (fault_at rule elem (i + 1))
   first_in i x at bad below =
       let place : i + 1 - 1 ≡ i = omega arith in (
         record {
@@ -35,7 +37,8 @@ module _ {X : Type 0} (rule : Rule) (elem : ℕ) (P : X → Type 0) (xs : List X
       )
 
   -- of the first i members one is the first that has P, or none has it
-  first_below : ((k : ℕ) (x : X) → slice_get xs k ≡ Some x → IsDecided (P x)) → (i : ℕ) → i ≤ length xs → ((f : Fault) × First comes_before (BreaksIn rule elem P xs) f) ⊎ NoneOf P xs i
+  first_below : ((k : ℕ) (x : X) → slice_get xs k ≡ Some x → IsDecided (P x)) → (i : ℕ) → i ≤ length xs
+      → ((f : Fault) × First comes_before (BreaksIn rule elem P xs) f) ⊎ NoneOf P xs i
   first_below decided zero le = inr (λ n low h. absurd (omega (arith, low, h.from_one)))
   first_below decided (suc i) le = elim (first_below decided i (omega (arith, le))) [
     | inl found ↦ inl found

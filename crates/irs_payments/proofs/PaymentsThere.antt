@@ -32,40 +32,49 @@ use Rattle.irs_payments.proofs.CutsThere.{cuts_there, paid_there}
 use Rattle.irs_payments.proofs.DateLemmas.{paid_lacks, paid_leaves, leaves_lacks}
 use Rattle.irs_payments.proofs.FirstFaults.{FirstOrNone, first_of_both}
 use Rattle.irs_payments.proofs.GroupingLemmas.{grouping_decided}
-use Rattle.irs_payments.proofs.PaymentLemmas.{cuts_places, dates_late, payments_are, payments_first, payments_unbroken, some_cuts}
+use Rattle.irs_payments.proofs.PaymentLemmas.{cuts_places, dates_late, payments_are, payments_first, payments_unbroken}
+use Rattle.irs_payments.proofs.PaymentLemmas.{some_cuts}
 
 -- ---- the date of one payment
 
 -- a start has a payment date, or it lacks a result, or leaves the range
 abbrev DateOrFault : PayTerms → DaySet → ℤ → Type 0
-DateOrFault pay set start = ((r : ℤ) × IsPaymentDate pay set start r) ⊎ (LacksResult pay set start ⊎ LeavesRange pay set start)
+DateOrFault pay set start =
+    ((r : ℤ) × IsPaymentDate pay set start r) ⊎ (LacksResult pay set start ⊎ LeavesRange pay set start)
 
 -- an offset that moves a start nowhere lacks a result or leaves the range
-nowhere_breaks : (pay : PayTerms) (set : DaySet) (start : ℤ) (kind : DayKind) → pay.offset.kind ≡ kind → IsSaid pay.offset → MovesNowhere pay set start → LacksResult pay set start ⊎ LeavesRange pay set start
+nowhere_breaks : (pay : PayTerms) (set : DaySet) (start : ℤ) (kind : DayKind) → pay.offset.kind ≡ kind
+    → IsSaid pay.offset → MovesNowhere pay set start → LacksResult pay set start ⊎ LeavesRange pay set start
 nowhere_breaks pay set start Business e said nowhere = inl (inl (e, nowhere))
 nowhere_breaks pay set start Calendar e said nowhere = inr (e, nowhere)
-nowhere_breaks pay set start Unsaid e said nowhere = elim said [ inl none ↦ absurd (nowhere start (inl (none, refl))) | inr kind ↦ absurd (kind e) ]
+nowhere_breaks pay set start Unsaid e said nowhere =
+    elim said [ inl none ↦ absurd (nowhere start (inl (none, refl))) | inr kind ↦ absurd (kind e) ]
 
-date_or_fault : (pay : PayTerms) (set : DaySet) (start : ℤ) → IsDay start → InRange set → IsSaid pay.offset → DateOrFault pay set start
+date_or_fault : (pay : PayTerms) (set : DaySet) (start : ℤ) → IsDay start → InRange set → IsSaid pay.offset
+    → DateOrFault pay set start
 date_or_fault pay set start day range said = elim (decides_moves pay.offset set start) [
-  | inl moved ↦ elim (decides_adjusts pay.adj.code set moved.0 (moves_day pay.offset set start moved.0 day range moved.1) range) [
-    | inl date ↦ inl (date.0, record { moved = moved.0; moves = moved.1; adjusts = date.1 })
-    | inr none ↦ inr (inl (inr (record { moved = moved.0; moves = moved.1; none = none })))
-  ]
+  | inl moved ↦
+      elim (decides_adjusts pay.adj.code set moved.0 (moves_day pay.offset set start moved.0 day range moved.1) range) [
+        | inl date ↦ inl (date.0, record { moved = moved.0; moves = moved.1; adjusts = date.1 })
+        | inr none ↦ inr (inl (inr (record { moved = moved.0; moves = moved.1; none = none })))
+      ]
   | inr nowhere ↦ inr (nowhere_breaks pay set start pay.offset.kind refl said nowhere)
 ]
 
-decides_lacks : (pay : PayTerms) (set : DaySet) (start : ℤ) → DateOrFault pay set start → IsDecided (LacksResult pay set start)
+decides_lacks : (pay : PayTerms) (set : DaySet) (start : ℤ) → DateOrFault pay set start
+    → IsDecided (LacksResult pay set start)
 decides_lacks pay set start (inl date) = inr (paid_lacks pay set start date.0 date.1)
 decides_lacks pay set start (inr (inl lacks)) = inl lacks
 decides_lacks pay set start (inr (inr leaves)) = inr (leaves_lacks pay set start leaves)
 
-decides_leaves : (pay : PayTerms) (set : DaySet) (start : ℤ) → DateOrFault pay set start → IsDecided (LeavesRange pay set start)
+decides_leaves : (pay : PayTerms) (set : DaySet) (start : ℤ) → DateOrFault pay set start
+    → IsDecided (LeavesRange pay set start)
 decides_leaves pay set start (inl date) = inr (paid_leaves pay set start date.0 date.1)
 decides_leaves pay set start (inr (inl lacks)) = inr (λ leaves. leaves_lacks pay set start leaves lacks)
 decides_leaves pay set start (inr (inr leaves)) = inl leaves
 
-date_there : (pay : PayTerms) (set : DaySet) (start : ℤ) → DateOrFault pay set start → (LacksResult pay set start → ⊥) → (LeavesRange pay set start → ⊥) → (r : ℤ) × IsPaymentDate pay set start r
+date_there : (pay : PayTerms) (set : DaySet) (start : ℤ) → DateOrFault pay set start → (LacksResult pay set start → ⊥)
+    → (LeavesRange pay set start → ⊥) → (r : ℤ) × IsPaymentDate pay set start r
 date_there pay set start (inl date) lacks leaves = date
 date_there pay set start (inr (inl fault)) lacks leaves = absurd (lacks fault)
 date_there pay set start (inr (inr fault)) lacks leaves = absurd (leaves fault)
@@ -92,9 +101,18 @@ first_number : (P : ℕ → Type 0) → ((j : ℕ) → IsDecided (P j)) → (lim
 first_number P decided zero = inr (λ j low high holds. omega (arith, low, high))
 first_number P decided (suc zero) = inr (λ j low high holds. omega (arith, low, high))
 first_number P decided (suc (suc n)) = elim (first_number P decided (suc n)) [
-  | inl found ↦ inl (record { number = found.number; from_one = found.from_one; below = omega (arith, found.below); holds = found.holds; none_before = found.none_before })
+  | inl found ↦
+      inl (record {
+        number = found.number;
+        from_one = found.from_one;
+        below = omega (arith, found.below);
+        holds =
+            found.holds;
+        none_before = found.none_before;
+      })
   | inr none ↦ elim (decided (suc n)) [
-    | inl holds ↦ inl (record { number = suc n; from_one = omega arith; below = omega arith; holds = holds; none_before = none })
+    | inl holds ↦
+        inl (record { number = suc n; from_one = omega arith; below = omega arith; holds = holds; none_before = none })
     | inr not ↦ inr (no_more P (suc n) none not)
   ]
 ]
@@ -107,31 +125,53 @@ DatesFound s set b a =
     ((f : Fault) × First comes_before (BreaksDates s set b a) f) ⊎
     (((ps : List Payment) × ArePayments s set b a ps) × ((f : Fault) → BreaksDates s set b a f → ⊥))
 
-module _ (s : Stream) (set : DaySet) (b a : List ℤ) (cuts : List ℕ) (run : RunsFromTo (first_day_of s) s.termination.day b) (are : AreCuts s b (length b) cuts) (each : (j : ℕ) → DateOrFault s.pay set (day_at a (date_place s cuts j))) where
-  lacks_first : FirstNumber (λ j. LacksResult s.pay set (day_at a (date_place s cuts j))) (length cuts) → DatesFound s set b a
+module _ (s : Stream) (set : DaySet) (b a : List ℤ) (cuts : List ℕ)
+    (run : RunsFromTo (first_day_of s) s.termination.day b) (are : AreCuts s b (length b) cuts) (each : (j : ℕ)
+    → DateOrFault s.pay set (day_at a (date_place s cuts j))) where
+  lacks_first : FirstNumber (λ j. LacksResult s.pay set (day_at a (date_place s cuts j))) (length cuts)
+      → DatesFound s set b a
   lacks_first h =
-      let first : LacksFirst s set a cuts h.number = record { from_one = h.from_one; below = h.below; lacks = h.holds; none_before = h.none_before } in
-      inl (fault_at K33 payment_dates h.number, payments_first s set b a cuts run are h.number (fault_at K33 payment_dates h.number) (inl (first, refl)))
+      let first : LacksFirst s set a cuts h.number =
+      record { from_one = h.from_one; below = h.below; lacks = h.holds; none_before = h.none_before } in
+      inl (
+        fault_at K33 payment_dates h.number,
+        payments_first s set b a cuts run are h.number (fault_at K33 payment_dates h.number) (inl (first, refl)),
+      )
 
-  leaves_first : NoneLacks s set a cuts (length cuts) → FirstNumber (λ j. LeavesRange s.pay set (day_at a (date_place s cuts j))) (length cuts) → DatesFound s set b a
+  leaves_first : NoneLacks s set a cuts (length cuts)
+      → FirstNumber (λ j. LeavesRange s.pay set (day_at a (date_place s cuts j))) (length cuts) → DatesFound s set b a
   leaves_first results h =
-      let first : LeavesFirst s set a cuts (length cuts) h.number = record { from_one = h.from_one; below = h.below; leaves = h.holds; none_before = h.none_before } in
-      inl (fault_at K38 payment_dates h.number, payments_first s set b a cuts run are h.number (fault_at K38 payment_dates h.number) (inr (record { results = results; first = first }, refl)))
+      let first : LeavesFirst s set a cuts (length cuts) h.number =
+      record { from_one = h.from_one; below = h.below; leaves = h.holds; none_before = h.none_before } in
+      inl (
+        fault_at K38 payment_dates h.number,
+        payments_first s set b a cuts run are h.number (fault_at K38 payment_dates h.number)
+            (inr (record { results = results; first = first }, refl)),
+      )
 
   all_dated : NoneLacks s set a cuts (length cuts) → NoneLeaves s set a cuts (length cuts) → DatesFound s set b a
   all_dated lacks leaves =
       let start : ℕ → ℤ = λ j. day_at a (date_place s cuts j) in
-      let paid = paid_there s set b a cuts (cuts_places s b cuts run are) (λ j low high. date_there s.pay set (start j) (each j) (lacks j low high) (leaves j low high)) (some_cuts s b cuts are) in
-      inr ((paid.0, payments_are s set b a cuts run are paid.0 paid.1), payments_unbroken s set b a cuts run are lacks leaves)
+      let paid = paid_there s set b a cuts (cuts_places s b cuts run are)
+      (λ j low high. date_there s.pay set (start j) (each j) (lacks j low high) (leaves j low high))
+      (some_cuts s b cuts are) in
+      inr (
+        (paid.0, payments_are s set b a cuts run are paid.0 paid.1),
+        payments_unbroken s set b a cuts run are lacks leaves,
+      )
 
   dates_found : DatesFound s set b a
-  dates_found = elim (first_number (λ j. LacksResult s.pay set (day_at a (date_place s cuts j))) (λ j. decides_lacks s.pay set (day_at a (date_place s cuts j)) (each j)) (length cuts)) [
-    | inl lacks ↦ lacks_first lacks
-    | inr results ↦ elim (first_number (λ j. LeavesRange s.pay set (day_at a (date_place s cuts j))) (λ j. decides_leaves s.pay set (day_at a (date_place s cuts j)) (each j)) (length cuts)) [
-      | inl leaves ↦ leaves_first results leaves
-      | inr range ↦ all_dated results range
-    ]
-  ]
+  dates_found =
+      elim (first_number (λ j. LacksResult s.pay set (day_at a (date_place s cuts j)))
+      (λ j. decides_lacks s.pay set (day_at a (date_place s cuts j)) (each j)) (length cuts)) [
+        | inl lacks ↦ lacks_first lacks
+        | inr results ↦
+            elim (first_number (λ j. LeavesRange s.pay set (day_at a (date_place s cuts j)))
+            (λ j. decides_leaves s.pay set (day_at a (date_place s cuts j)) (each j)) (length cuts)) [
+              | inl leaves ↦ leaves_first results leaves
+              | inr range ↦ all_dated results range
+            ]
+      ]
 
 -- ---- the payments of a stream
 
@@ -148,14 +188,18 @@ module _ (s : Stream) (set : DaySet) (b a : List ℤ) (over : ArePayable s set b
   stream_dates : DatesFound s set b a
   stream_dates =
       let cuts = cuts_there s b over.lawful over.run over.days in
-      dates_found s set b a cuts.0 over.run cuts.1 (λ j. date_or_fault s.pay set (day_at a (date_place s cuts.0 j)) (day_at_day a (date_place s cuts.0 j) over.adjusted) over.range over.said)
+      dates_found s set b a cuts.0 over.run cuts.1
+      (λ j. date_or_fault s.pay set (day_at a (date_place s cuts.0 j))
+      (day_at_day a (date_place s cuts.0 j) over.adjusted) over.range over.said)
 
   dates_decided : FirstOrNone (BreaksDates s set b a)
   dates_decided = elim stream_dates [ inl first ↦ inl first | inr found ↦ inr found.1 ]
 
   -- a rule is the first that is broken, or none is broken
   pub payments_decided : FirstOrNone (BreaksPayments s set b a)
-  payments_decided = first_of_both (BreaksGrouping s b) (BreaksDates s set b a) (dates_late s set b a) (grouping_decided s b over.lawful over.days) dates_decided
+  payments_decided =
+      first_of_both (BreaksGrouping s b) (BreaksDates s set b a) (dates_late s set b a)
+      (grouping_decided s b over.lawful over.days) dates_decided
 
   -- where none is broken there are payments
   pub payments_there : ((f : Fault) → BreaksPayments s set b a f → ⊥) → (ps : List Payment) × ArePayments s set b a ps
@@ -165,5 +209,6 @@ module _ (s : Stream) (set : DaySet) (b a : List ℤ) (over : ArePayable s set b
   ]
 
 -- at most one rule is the first that is broken
-pub one_payments_rule : (s : Stream) (set : DaySet) (b a : List ℤ) (f g : Fault) → First comes_before (BreaksPayments s set b a) f → First comes_before (BreaksPayments s set b a) g → f ≡ g
+pub one_payments_rule : (s : Stream) (set : DaySet) (b a : List ℤ) (f g : Fault)
+    → First comes_before (BreaksPayments s set b a) f → First comes_before (BreaksPayments s set b a) g → f ≡ g
 one_payments_rule s set b a = one_fault (BreaksPayments s set b a)

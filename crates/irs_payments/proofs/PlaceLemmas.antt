@@ -1,5 +1,6 @@
 -- Places in rising lists of days.
-use Rattle.std.proofs.Common.{◌≡◌, ◌⊎◌, inl, inr, ℕ, zero, suc, ◌<◌, ◌≤◌, List, [], ◌∷◌, length, ℤ, pos, ◌+ℤ◌, ◌<ℤ◌, ◌≤ℤ◌, refl, sym, subst, arith}
+use Rattle.std.proofs.Common.{◌≡◌, ◌⊎◌, inl, inr, ℕ, zero, suc, ◌<◌, ◌≤◌, List, [], ◌∷◌, length, ℤ, pos, ◌+ℤ◌, ◌<ℤ◌}
+use Rattle.std.proofs.Common.{◌≤ℤ◌, refl, sym, subst, arith}
 use Rattle.std.proofs.lemmas.Bool.{cases_lt}
 use Rattle.jiff_core.proofs.SignedLemmas.{signed_arith}
 use Rattle.irs_base.specs.Days.{IsDay, all_days, last_day}
@@ -25,17 +26,20 @@ rises_at (x ∷ xs) zero (suc k) r l h = member_after x (day_at xs k) xs r.0 (me
 rises_at (x ∷ xs) (suc i) (suc k) r l h = rises_at xs i k r.1 (omega arith) (omega arith)
 
 -- the later day has the later place
-pub place_below : (xs : List ℤ) (i k : ℕ) → IsRising xs → i < length xs → day_at xs i <ℤ day_at xs k → i < k ⊎ length xs ≤ k
+pub place_below : (xs : List ℤ) (i k : ℕ) → IsRising xs → i < length xs → day_at xs i <ℤ day_at xs k
+    → i < k ⊎ length xs ≤ k
 place_below xs i k r h l = elim (cases_lt i k) [
   | inl below ↦ inl below
   | inr above ↦ elim (cases_lt k i) [
     | inl less ↦ absurd (omega (arith, signed_arith, l, rises_at xs k i r less h))
-    | inr more ↦ let same : k ≡ i = omega arith in absurd (omega (arith, signed_arith, subst (λ (z : ℕ). day_at xs i <ℤ day_at xs z) same l))
+    | inr more ↦ let same : k ≡ i = omega arith in
+        absurd (omega (arith, signed_arith, subst (λ (z : ℕ). day_at xs i <ℤ day_at xs z) same l))
   ]
 ]
 
 -- a day has one place
-pub place_same : (xs : List ℤ) (i k : ℕ) → IsRising xs → i < length xs → k < length xs → day_at xs i ≡ day_at xs k → i ≡ k
+pub place_same : (xs : List ℤ) (i k : ℕ) → IsRising xs → i < length xs → k < length xs
+    → day_at xs i ≡ day_at xs k → i ≡ k
 place_same xs i k r h l e = elim (cases_lt i k) [
   | inl below ↦ absurd (omega (arith, signed_arith, e, rises_at xs i k r below l))
   | inr above ↦ elim (cases_lt k i) [
@@ -46,7 +50,8 @@ place_same xs i k r h l e = elim (cases_lt i k) [
 
 -- days of the range that rise are not many
 module _ where
-  few_after : (x : ℤ) (xs : List ℤ) → AllAfter x xs → IsRising xs → AreDays xs → IsDay x → (x +ℤ pos (length xs)) ≤ℤ last_day
+  few_after : (x : ℤ) (xs : List ℤ) → AllAfter x xs → IsRising xs → AreDays xs → IsDay x
+      → (x +ℤ pos (length xs)) ≤ℤ last_day
   few_after x [] a r d h = omega (arith, signed_arith, h)
   few_after x (y ∷ ys) a r d h = omega (arith, signed_arith, a.0, few_after y ys r.0 r.1 d.1 d.0)
 

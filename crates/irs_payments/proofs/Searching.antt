@@ -1,5 +1,6 @@
 -- A binary search in a rising list of days.
-use Rattle.std.proofs.Common.{◌≡◌, inl, inr, ℕ, ◌<◌, ◌≤◌, List, length, ℤ, pos, ◌+ℤ◌, ◌≤ℤ◌, subst, arith, rules, get_or, Result, Ok, Err, IsTrue, ◌↔◌}
+use Rattle.std.proofs.Common.{◌≡◌, inl, inr, ℕ, ◌<◌, ◌≤◌, List, length, ℤ, pos, ◌+ℤ◌, ◌≤ℤ◌, subst, arith, rules, get_or}
+use Rattle.std.proofs.Common.{Result, Ok, Err, IsTrue, ◌↔◌}
 use Rattle.std.proofs.lemmas.List.{get_or_past, get_or_default}
 use Rattle.std.proofs.lemmas.Bool.{cases_lt}
 use Rattle.std.specs.Result.{is_ok}
@@ -25,17 +26,32 @@ higher a b x h = grind (arith, signed_arith)
 
 up_to : (xs : List ℤ) (i j : ℕ) (d : ℤ) → IsRising xs → i ≤ j → j < length xs → get_or xs i d ≤ℤ get_or xs j d
 up_to xs i j d r le lt = elim (cases_lt i j) [
-  | inl below ↦ omega (arith, signed_arith, rises_at xs i j r below lt, get_or_default xs i d (pos 0) (omega arith), get_or_default xs j d (pos 0) lt)
-  | inr above ↦ let same : i ≡ j = omega arith in subst (λ (k : ℕ). get_or xs i d ≤ℤ get_or xs k d) same (omega (arith, signed_arith))
+  | inl below ↦
+      omega (
+        arith,
+        signed_arith,
+        rises_at xs i j r below lt,
+        get_or_default xs i d (pos 0) (omega arith),
+        get_or_default xs j d (pos 0) lt,
+      )
+  | inr above ↦ let same : i ≡ j = omega arith in
+      subst (λ (k : ℕ). get_or xs i d ≤ℤ get_or xs k d) same (omega (arith, signed_arith))
 ]
 
-pub searched : (xs : List ℤ) (x : ℤ) (r : Result ℕ ℕ) → IsRising xs → (λ (o : Result ℕ ℕ). IsBinarySearchResult (λ y. int_cmp y x) xs o) r → IsTrue (is_ok r) ↔ Member x xs
+pub searched : (xs : List ℤ) (x : ℤ) (r : Result ℕ ℕ) → IsRising xs
+    → (λ (o : Result ℕ ℕ). IsBinarySearchResult (λ y. int_cmp y x) xs o) r → IsTrue (is_ok r) ↔ Member x xs
 searched xs x (Ok i) rising h = (λ _. found, λ _. search rules)
   where
     found : Member x xs
     found = elim (cases_lt i (length xs)) [
       | inl within ↦ subst (λ (z : ℤ). Member z xs) (equal_is (day_at xs i) x (h (pos 0))) (member_at xs i within)
-      | inr past ↦ absurd (omega (arith, signed_arith, equal_is (get_or xs i (x +ℤ pos 1)) x (h (x +ℤ pos 1)), get_or_past xs i (x +ℤ pos 1) past))
+      | inr past ↦
+          absurd (omega (
+            arith,
+            signed_arith,
+            equal_is (get_or xs i (x +ℤ pos 1)) x (h (x +ℤ pos 1)),
+            get_or_past xs i (x +ℤ pos 1) past,
+          ))
     ]
 searched xs x (Err i) rising h = (λ t. absurd (search rules), λ m. absurd (missing m))
   where

@@ -1,5 +1,6 @@
 -- Payments worked out one after another, from the places at which payment periods end.
-use Rattle.std.specs.Prelude.{◌≡◌, ◌⊎◌, ℕ, ◌+◌, ◌-◌, ◌<◌, ◌≤◌, List, [], ◌∷◌, ◌++◌, length, Option, Some, None, Result, Ok, Err, ℤ}
+use Rattle.std.specs.Prelude.{◌≡◌, ◌⊎◌, ℕ, ◌+◌, ◌-◌, ◌<◌, ◌≤◌, List, [], ◌∷◌, ◌++◌, length, Option, Some, None, Result}
+use Rattle.std.specs.Prelude.{Ok, Err, ℤ}
 use Rattle.irs_base.specs.Elements.{payment_dates}
 use Rattle.irs_base.specs.declared.places.Rule.TheVariants.{K33, K38}
 use Rattle.irs_base.specs.declared.places.Fault.{Fault}
@@ -19,7 +20,8 @@ abbrev pub date_place : Stream → List ℕ → ℕ → ℕ
 date_place s cuts j = cut_at cuts (pay_place s.pay.relative j)
 
 -- p is payment j, by the places at which payment periods end
-pub record IsCutPayment (s : Stream) (set : DaySet) (boundaries adjusted : List ℤ) (cuts : List ℕ) (j : ℕ) (p : Payment) : Type 0 where
+pub record IsCutPayment (s : Stream) (set : DaySet) (boundaries adjusted : List ℤ) (cuts : List ℕ) (j : ℕ)
+    (p : Payment) : Type 0 where
   pub first : p.first_period ≡ cut_at cuts (j - 1) + 1
   pub last : p.last_period ≡ cut_at cuts j
   pub unadjusted : p.unadjusted ≡ day_at boundaries (date_place s cuts j)
@@ -36,7 +38,8 @@ NoneLeaves s set adjusted cuts limit =
     (j : ℕ) → 1 ≤ j → j < limit → LeavesRange s.pay set (day_at adjusted (date_place s cuts j)) → ⊥
 
 -- the payments before the limit
-pub record ArePaid (s : Stream) (set : DaySet) (boundaries adjusted : List ℤ) (cuts : List ℕ) (limit : ℕ) (payments : List Payment) : Type 0 where
+pub record ArePaid (s : Stream) (set : DaySet) (boundaries adjusted : List ℤ) (cuts : List ℕ) (limit : ℕ)
+    (payments : List Payment) : Type 0 where
   pub in_range : NoneLeaves s set adjusted cuts limit
   pub count : length payments + 1 ≡ limit
   pub each : EachNumbered (IsCutPayment s set boundaries adjusted cuts) 1 payments

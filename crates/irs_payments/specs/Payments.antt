@@ -44,7 +44,8 @@ pub record IsPayment (s : Stream) (set : DaySet) (boundaries adjusted pay : List
   pub date : IsPaymentDate s.pay set start p.adjusted
 
 -- the payments of the stream, one for each payment boundary after the first day
-pub record ArePayments (s : Stream) (set : DaySet) (boundaries adjusted : List ℤ) (payments : List Payment) : Type 0 where
+pub record ArePayments (s : Stream) (set : DaySet) (boundaries adjusted : List ℤ)
+    (payments : List Payment) : Type 0 where
   pub pay : List ℤ
   pub listed : PayList s boundaries pay
   pub count : length payments + 1 ≡ length pay

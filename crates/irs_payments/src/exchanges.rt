@@ -5,7 +5,8 @@
 //! begins before it. The dates of exchanges, and the sign where the notional changes at a step,
 //! are rules of this project's own: the payer pays what the notional falls by, and receives what it
 //! rises by.
-ghost use Rattle.std.specs.Prelude.{◌≡◌, ◌⊎◌, ◌-◌, ◌^◌, ◌<◌, ◌≤◌, ◌++◌, length, ℤ, pos, ◌<ℤ◌, ◌≤ℤ◌, List, IfOk, OnOk, OnErr, unsigned_abs};
+ghost use Rattle.std.specs.Prelude.{◌≡◌, ◌⊎◌, ◌-◌, ◌^◌, ◌<◌, ◌≤◌, ◌++◌, length, ℤ, pos, ◌<ℤ◌, ◌≤ℤ◌, List, IfOk, OnOk};
+ghost use Rattle.std.specs.Prelude.{OnErr, unsigned_abs};
 ghost use Rattle.irs_base.specs.Rounding.{Rounded};
 ghost use Rattle.irs_base.specs.declared.rounding.Direction.TheVariants.{Nearest};
 ghost use Rattle.irs_base.specs.declared.places.Fault.{Fault};
@@ -14,7 +15,8 @@ ghost use Rattle.irs_base.specs.Order.{First, comes_before};
 ghost use Rattle.irs_terms.specs.Lawful.{IsLawfulStream, IsLawfulValues, IsNotional};
 ghost use Rattle.irs_base.specs.Limits.{most_notional};
 ghost use Rattle.irs_terms.specs.declared.results.Exchange.{Exchange};
-ghost use Rattle.irs_payments.specs.Exchanges.{initial_of, change, changes, intermediate_of, last_value, final_of, transfers_of, AreExchanges, BreaksExchanges};
+ghost use Rattle.irs_payments.specs.Exchanges.{initial_of, change, changes, intermediate_of, last_value, final_of};
+ghost use Rattle.irs_payments.specs.Exchanges.{transfers_of, AreExchanges, BreaksExchanges};
 
 use crate::PayErr;
 use crate::faults::fault;

@@ -13,7 +13,8 @@ ghost use Rattle.irs_base.specs.Order.{First, comes_before};
 ghost use Rattle.irs_terms.specs.FirstDay.{first_day_of};
 ghost use Rattle.irs_terms.specs.Lawful.{IsLawfulStream, IsLawfulFrequency, IsLawfulRoll};
 ghost use Rattle.irs_roll.specs.Rolls.{OnGrid};
-ghost use Rattle.irs_payments.specs.Grouping.{pay_anchor, IsRegularPay, EndsPayment, IsBadFirst, IsBadLast, BreaksGrouping};
+ghost use Rattle.irs_payments.specs.Grouping.{pay_anchor, IsRegularPay, EndsPayment, IsBadFirst, IsBadLast};
+ghost use Rattle.irs_payments.specs.Grouping.{BreaksGrouping};
 
 use crate::faults::fault;
 use crate::steps::has_day;

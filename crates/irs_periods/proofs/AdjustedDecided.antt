@@ -1,5 +1,6 @@
 -- K33 or K34 is the first rule that adjusted boundaries break, or they break none.
-use Rattle.std.proofs.Common.{◌≡◌, ◌⊎◌, inl, inr, ℕ, zero, suc, ◌-◌, ◌<◌, List, [], ◌∷◌, length, Result, Ok, Err, IfOk, ℤ, ◌≤ℤ◌, ◌<ℤ◌, false, refl, sym, subst, arith}
+use Rattle.std.proofs.Common.{◌≡◌, ◌⊎◌, inl, inr, ℕ, zero, suc, ◌-◌, ◌<◌, List, [], ◌∷◌, length, Result, Ok, Err, IfOk}
+use Rattle.std.proofs.Common.{ℤ, ◌≤ℤ◌, ◌<ℤ◌, false, refl, sym, subst, arith}
 use Rattle.jiff_core.proofs.SignedLemmas.{signed_arith}
 use Rattle.irs_base.specs.declared.stopped.Stopped.{Stopped}
 use Rattle.std.proofs.lemmas.Bool.{cases_lt}
@@ -11,13 +12,16 @@ use Rattle.irs_base.specs.declared.places.Fault.{Fault}
 use Rattle.irs_base.proofs.FaultOrder.{one_fault}
 use Rattle.irs_terms.specs.declared.stream.Stream.{Stream}
 use Rattle.irs_adjust.proofs.FoundDays.{InRange, IsFound, decides_adjusts, decides_le}
-use Rattle.irs_periods.specs.Adjusting.{AdjustedList, AdjustsAt, BoundaryDays, BreaksAdjusted, DoesNotRise, FirstNoResult, FirstNotAfter, MissesResult, NoResult, NotAfter, code_at, days_at, last_of, no_result_at, not_after_at}
+use Rattle.irs_periods.specs.Adjusting.{AdjustedList, AdjustsAt, BoundaryDays, BreaksAdjusted, DoesNotRise}
+use Rattle.irs_periods.specs.Adjusting.{FirstNoResult, FirstNotAfter, MissesResult, NoResult, NotAfter, code_at}
+use Rattle.irs_periods.specs.Adjusting.{days_at, last_of, no_result_at, not_after_at}
 use Rattle.irs_periods.proofs.AdjustedBoundaries.{day_of_days, days_range, adjusted_there}
 use Rattle.irs_periods.proofs.AdjustedLemmas.{one_adjusted, rising_of}
 use Rattle.irs_periods.proofs.FirstAmong.{Among, first_among}
 
 -- at most one rule of the adjusted boundaries is the first that is broken
-pub one_adjusted_rule : (s : Stream) (sets : BoundaryDays) (b : List ℤ) (f g : Fault) → First comes_before (BreaksAdjusted s sets b) f → First comes_before (BreaksAdjusted s sets b) g → f ≡ g
+pub one_adjusted_rule : (s : Stream) (sets : BoundaryDays) (b : List ℤ) (f g : Fault)
+    → First comes_before (BreaksAdjusted s sets b) f → First comes_before (BreaksAdjusted s sets b) g → f ≡ g
 one_adjusted_rule s sets b f g p q = one_fault (BreaksAdjusted s sets b) f g p q
 
 module _ (s : Stream) (sets : BoundaryDays) (b : List ℤ) where
@@ -30,40 +34,56 @@ module _ (s : Stream) (sets : BoundaryDays) (b : List ℤ) where
   results_unbroken a adjusted f h = h.misses.none (day_at a h.number) (adjusted.each h.number h.misses.within)
 
   -- where neither K33 nor K34 is broken the adjusted days rise
-  pub adjusted_rises : ((f : Fault) → BreaksAdjusted s sets b f → ⊥) → (a : List ℤ) → AdjustedList s sets b a → IsRising a
-  adjusted_rises kept a adjusted = rising_of a (λ i flat. kept (not_after_at i) (inr (record { list = a; adjusted = adjusted; number = i; flat = flat; is = refl })))
+  pub adjusted_rises : ((f : Fault) → BreaksAdjusted s sets b f → ⊥) → (a : List ℤ) → AdjustedList s sets b a
+      → IsRising a
+  adjusted_rises kept a adjusted =
+      rising_of a (λ i flat.
+      kept (not_after_at i) (inr (record { list = a; adjusted = adjusted; number = i; flat = flat; is = refl })))
 
   -- where the adjusted days rise neither is broken
-  pub adjusted_unbroken : (a : List ℤ) → AdjustedList s sets b a → ((i : ℕ) → NotAfter a i → ⊥) → (f : Fault) → BreaksAdjusted s sets b f → ⊥
+  pub adjusted_unbroken : (a : List ℤ) → AdjustedList s sets b a → ((i : ℕ) → NotAfter a i → ⊥) → (f : Fault)
+      → BreaksAdjusted s sets b f → ⊥
   adjusted_unbroken a adjusted rises f (inl h) = results_unbroken a adjusted f h
-  adjusted_unbroken a adjusted rises f (inr h) = rises h.number (subst (λ (xs : List ℤ). NotAfter xs h.number) (one_adjusted s sets b h.list a h.adjusted adjusted) h.flat)
+  adjusted_unbroken a adjusted rises f (inr h) =
+      rises h.number (subst (λ (xs : List ℤ). NotAfter xs h.number)
+      (one_adjusted s sets b h.list a h.adjusted adjusted) h.flat)
 
   -- the first K33 comes before every K34
-  first_of_results : (f : Fault) → First comes_before (MissesResult s sets b) f → First comes_before (BreaksAdjusted s sets b) f
+  first_of_results : (f : Fault) → First comes_before (MissesResult s sets b) f
+      → First comes_before (BreaksAdjusted s sets b) f
   first_of_results f first = (inl first.0, none_before)
     where
       later : (g : Fault) → DoesNotRise s sets b g → comes_before g f ≡ false
-      later g h = subst (λ (x : Fault). comes_before g x ≡ false) (sym first.0.is) (subst (λ (x : Fault). comes_before x (no_result_at s (last_of b) first.0.number) ≡ false) (sym h.is) refl)
+      later g h = subst (λ (x : Fault). comes_before g x ≡ false) (sym first.0.is)
+          (subst (λ (x : Fault). comes_before x (no_result_at s (last_of b) first.0.number) ≡ false) (sym h.is) refl)
 
       none_before : (g : Fault) → BreaksAdjusted s sets b g → comes_before g f ≡ false
       none_before g (inl h) = first.1 g h
       none_before g (inr h) = later g h
 
   -- the boundary that is named first
-  pub first_no_result : (i : ℕ) → FirstNoResult s sets b i → First comes_before (BreaksAdjusted s sets b) (no_result_at s (last_of b) i)
-  first_no_result i first = first_of_results (no_result_at s (last_of b) i) (record { number = i; misses = first.0; is = refl }, none_before)
+  pub first_no_result : (i : ℕ) → FirstNoResult s sets b i
+      → First comes_before (BreaksAdjusted s sets b) (no_result_at s (last_of b) i)
+  first_no_result i first =
+      first_of_results (no_result_at s (last_of b) i) (record { number = i; misses = first.0; is = refl }, none_before)
     where
       none_before : (g : Fault) → MissesResult s sets b g → comes_before g (no_result_at s (last_of b) i) ≡ false
-      none_before g h = subst (λ (x : Fault). comes_before x (no_result_at s (last_of b) i) ≡ false) (sym h.is) (first.1 h.number h.misses)
+      none_before g h =
+          subst (λ (x : Fault). comes_before x (no_result_at s (last_of b) i) ≡ false) (sym h.is)
+          (first.1 h.number h.misses)
 
   -- the first adjusted day that isn't after the one before it
-  pub first_not_after : (a : List ℤ) → AdjustedList s sets b a → (i : ℕ) → FirstNotAfter a i → First comes_before (BreaksAdjusted s sets b) (not_after_at i)
-  first_not_after a adjusted i first = (inr (record { list = a; adjusted = adjusted; number = i; flat = first.0; is = refl }), none_before)
+  pub first_not_after : (a : List ℤ) → AdjustedList s sets b a → (i : ℕ) → FirstNotAfter a i
+      → First comes_before (BreaksAdjusted s sets b) (not_after_at i)
+  first_not_after a adjusted i first =
+      (inr (record { list = a; adjusted = adjusted; number = i; flat = first.0; is = refl }), none_before)
     where
       none_before : (g : Fault) → BreaksAdjusted s sets b g → comes_before g (not_after_at i) ≡ false
       none_before g (inl h) = absurd (results_unbroken a adjusted g h)
       none_before g (inr h) =
-          let flat : NotAfter a h.number = subst (λ (xs : List ℤ). NotAfter xs h.number) (one_adjusted s sets b h.list a h.adjusted adjusted) h.flat in
+          let flat : NotAfter a h.number =
+          subst (λ (xs : List ℤ). NotAfter xs h.number)
+          (one_adjusted s sets b h.list a h.adjusted adjusted) h.flat in
           subst (λ (x : Fault). comes_before x (not_after_at i) ≡ false) (sym h.is) (first.1 h.number flat)
 
 -- a day is after the one before it, or it isn't
@@ -76,19 +96,23 @@ decides_not_after a i within = elim (cases_lt 0 i) [
   ]
 ]
 
-module _ (s : Stream) (sets : BoundaryDays) (b : List ℤ) (days : AreDays b) (start : InRange sets.start) (last : InRange sets.end) (middle : InRange sets.middle) where
-  result_or_none : (i : ℕ) → i < length b → IsFound (AdjustsAt s sets (last_of b) i (day_at b i)) → IsDecided (NoResult s sets b i)
+module _ (s : Stream) (sets : BoundaryDays) (b : List ℤ) (days : AreDays b) (start : InRange sets.start)
+    (last : InRange sets.end) (middle : InRange sets.middle) where
+  result_or_none : (i : ℕ) → i < length b → IsFound (AdjustsAt s sets (last_of b) i (day_at b i))
+      → IsDecided (NoResult s sets b i)
   result_or_none i within (inl found) = inr (λ h. h.none found.0 found.1)
   result_or_none i within (inr none) = inl (record { within = within; none = none })
 
   decides_no_result : (i : ℕ) → i < length b → IsDecided (NoResult s sets b i)
   decides_no_result i within = result_or_none i within
-      (decides_adjusts (code_at s (last_of b) i) (days_at sets (last_of b) i) (day_at b i) (day_of_days b i days within) (days_range s sets b days start last middle (last_of b) i))
+      (decides_adjusts (code_at s (last_of b) i) (days_at sets (last_of b) i) (day_at b i) (day_of_days b i days within)
+      (days_range s sets b days start last middle (last_of b) i))
 
   abbrev AmongResults : Fault → Type 0
   AmongResults = Among (no_result_at s (last_of b)) (NoResult s sets b) (length b)
 
-  results_decided : ((f : Fault) × First comes_before (MissesResult s sets b) f) ⊎ ((f : Fault) → MissesResult s sets b f → ⊥)
+  results_decided : ((f : Fault) × First comes_before (MissesResult s sets b) f)
+      ⊎ ((f : Fault) → MissesResult s sets b f → ⊥)
   results_decided = elim (first_among (no_result_at s (last_of b)) (NoResult s sets b) (length b) decides_no_result) [
     | inl found ↦ inl (found.0, (from_among found.0 found.1.0, λ g h. found.1.1 g (to_among g h)))
     | inr none ↦ inr (λ f h. none f (to_among f h))
@@ -100,10 +124,13 @@ module _ (s : Stream) (sets : BoundaryDays) (b : List ℤ) (days : AreDays b) (s
       to_among : (f : Fault) → MissesResult s sets b f → AmongResults f
       to_among f h = record { number = h.number; within = h.misses.within; holds = h.misses; is = h.is }
 
-  by_list : (a : List ℤ) → AdjustedList s sets b a → ((f : Fault) × First comes_before (BreaksAdjusted s sets b) f) ⊎ ((f : Fault) → BreaksAdjusted s sets b f → ⊥)
+  by_list : (a : List ℤ) → AdjustedList s sets b a
+      → ((f : Fault) × First comes_before (BreaksAdjusted s sets b) f) ⊎ ((f : Fault) → BreaksAdjusted s sets b f → ⊥)
   by_list a adjusted = elim (first_among not_after_at (NotAfter a) (length a) (decides_not_after a)) [
     | inl found ↦ inl (found.0, (inr (from_among found.0 found.1.0), none_before found.0 found.1))
-    | inr none ↦ inr (adjusted_unbroken s sets b a adjusted (λ i flat. none (not_after_at i) (record { number = i; within = flat.within; holds = flat; is = refl })))
+    | inr none ↦
+        inr (adjusted_unbroken s sets b a adjusted
+        (λ i flat. none (not_after_at i) (record { number = i; within = flat.within; holds = flat; is = refl })))
   ]
     where
       from_among : (f : Fault) → Among not_after_at (NotAfter a) (length a) f → DoesNotRise s sets b f
@@ -111,18 +138,23 @@ module _ (s : Stream) (sets : BoundaryDays) (b : List ℤ) (days : AreDays b) (s
 
       to_among : (f : Fault) → DoesNotRise s sets b f → Among not_after_at (NotAfter a) (length a) f
       to_among f h =
-          let flat : NotAfter a h.number = subst (λ (xs : List ℤ). NotAfter xs h.number) (one_adjusted s sets b h.list a h.adjusted adjusted) h.flat in
+          let flat : NotAfter a h.number =
+          subst (λ (xs : List ℤ). NotAfter xs h.number)
+          (one_adjusted s sets b h.list a h.adjusted adjusted) h.flat in
           record { number = h.number; within = flat.within; holds = flat; is = h.is }
 
-      none_before : (f : Fault) → First comes_before (Among not_after_at (NotAfter a) (length a)) f → (g : Fault) → BreaksAdjusted s sets b g → comes_before g f ≡ false
+      none_before : (f : Fault) → First comes_before (Among not_after_at (NotAfter a) (length a)) f → (g : Fault)
+          → BreaksAdjusted s sets b g → comes_before g f ≡ false
       none_before f first g (inl h) = absurd (results_unbroken s sets b a adjusted g h)
       none_before f first g (inr h) = first.1 g (to_among g h)
 
   -- a rule of the adjusted boundaries is the first that is broken, or none is broken
-  pub adjusted_decided : ((f : Fault) × First comes_before (BreaksAdjusted s sets b) f) ⊎ ((f : Fault) → BreaksAdjusted s sets b f → ⊥)
+  pub adjusted_decided : ((f : Fault) × First comes_before (BreaksAdjusted s sets b) f)
+      ⊎ ((f : Fault) → BreaksAdjusted s sets b f → ⊥)
   adjusted_decided = elim results_decided [
     | inl found ↦ inl (found.0, first_of_results s sets b found.0 found.1)
-    | inr none ↦ let list = adjusted_there s sets b days start last middle (none_misses s sets b none) in by_list list.0 list.1
+    | inr none ↦ let list = adjusted_there s sets b days start last middle (none_misses s sets b none) in
+        by_list list.0 list.1
   ]
 
   -- where neither K33 nor K34 is broken there is a list of adjusted boundaries that rises
@@ -151,6 +183,7 @@ none_flat xs rising (suc i) h =
     omega (arith, signed_arith, flat, up)
 
 -- an answer of adjusted days that rise breaks no rule
-pub answer_unbroken : (s : Stream) (sets : BoundaryDays) (b : List ℤ) (r : Result (List ℤ) (Stopped Fault)) → IfOk r (AdjustedList s sets b) → IfOk r IsRising → IfOk r (λ _. (f : Fault) → BreaksAdjusted s sets b f → ⊥)
+pub answer_unbroken : (s : Stream) (sets : BoundaryDays) (b : List ℤ) (r : Result (List ℤ) (Stopped Fault))
+    → IfOk r (AdjustedList s sets b) → IfOk r IsRising → IfOk r (λ _. (f : Fault) → BreaksAdjusted s sets b f → ⊥)
 answer_unbroken s sets b (Ok a) adjusted rising = adjusted_unbroken s sets b a adjusted (none_flat a rising)
 answer_unbroken s sets b (Err e) adjusted rising = tt

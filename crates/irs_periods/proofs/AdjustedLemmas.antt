@@ -1,6 +1,7 @@
 -- Adjusted boundaries: there is one list of them, there is none where a boundary has no adjusted day,
 -- and they rise where none isn't after the one before it.
-use Rattle.std.proofs.Common.{◌≡◌, inl, inr, ℕ, zero, suc, ◌-◌, ◌<◌, ◌≤◌, List, [], ◌∷◌, length, arith, refl, sym, ◌∙◌, ap₂, subst, ℤ, pos, ◌+ℤ◌, ◌≤ℤ◌, ◌<ℤ◌}
+use Rattle.std.proofs.Common.{◌≡◌, inl, inr, ℕ, zero, suc, ◌-◌, ◌<◌, ◌≤◌, List, [], ◌∷◌, length, arith, refl, sym, ◌∙◌}
+use Rattle.std.proofs.Common.{ap₂, subst, ℤ, pos, ◌+ℤ◌, ◌≤ℤ◌, ◌<ℤ◌}
 use Rattle.jiff_core.proofs.SignedLemmas.{signed_arith}
 use Rattle.irs_base.specs.Days.{last_day, all_days}
 use Rattle.irs_base.specs.DayLists.{AreDays}
@@ -19,14 +20,17 @@ same_days : (xs ys : List ℤ) → length xs ≡ length ys → ((i : ℕ) → i 
 same_days [] [] e h = refl
 same_days [] (y ∷ ys) e h = absurd (omega (arith, e))
 same_days (x ∷ xs) [] e h = absurd (omega (arith, e))
-same_days (x ∷ xs) (y ∷ ys) e h = ap₂ ◌∷◌ (h zero (omega arith)) (same_days xs ys (omega (arith, e)) (λ i l. h (suc i) (omega (arith, l))))
+same_days (x ∷ xs) (y ∷ ys) e h =
+    ap₂ ◌∷◌ (h zero (omega arith)) (same_days xs ys (omega (arith, e)) (λ i l. h (suc i) (omega (arith, l))))
 
 -- boundaries have at most one list of adjusted days
-pub one_adjusted : (s : Stream) (sets : BoundaryDays) (b x y : List ℤ) → AdjustedList s sets b x → AdjustedList s sets b y → x ≡ y
+pub one_adjusted : (s : Stream) (sets : BoundaryDays) (b x y : List ℤ) → AdjustedList s sets b x
+    → AdjustedList s sets b y → x ≡ y
 one_adjusted s sets b x y p q =
     same_days x y (p.same_length ∙ sym q.same_length) (λ i l.
     let within : i < length b = omega (arith, l, p.same_length) in
-    one_adjusts (code_at s (last_of b) i) (days_at sets (last_of b) i) (day_at b i) (day_at x i) (day_at y i) (p.each i within) (q.each i within))
+    one_adjusts (code_at s (last_of b) i) (days_at sets (last_of b) i) (day_at b i) (day_at x i) (day_at y i)
+    (p.each i within) (q.each i within))
 
 -- a list of days, one for each place
 record Chosen (R : ℕ → ℤ → Type 0) (n : ℕ) : Type 0 where
@@ -45,12 +49,15 @@ choose R (suc n) h =
       each = each_of R n first.0 rest.list first.1 rest.each;
     }
   where
-    each_of : (R : ℕ → ℤ → Type 0) (n : ℕ) (x : ℤ) (xs : List ℤ) → R zero x → ((i : ℕ) → i < n → R (suc i) (day_at xs i)) → (i : ℕ) → i < suc n → R i (day_at (x ∷ xs) i)
+    each_of : (R : ℕ → ℤ → Type 0) (n : ℕ) (x : ℤ) (xs : List ℤ) → R zero x
+        → ((i : ℕ) → i < n → R (suc i) (day_at xs i)) → (i : ℕ) → i < suc n → R i (day_at (x ∷ xs) i)
     each_of R n x xs here later zero l = here
     each_of R n x xs here later (suc i) l = later i (omega (arith, l))
 
 -- where each boundary has an adjusted day there is the list of them
-pub adjusted_exists : (s : Stream) (sets : BoundaryDays) (b : List ℤ) → ((i : ℕ) → i < length b → (r : ℤ) × AdjustsAt s sets (last_of b) i (day_at b i) r) → (a : List ℤ) × AdjustedList s sets b a
+pub adjusted_exists : (s : Stream) (sets : BoundaryDays) (b : List ℤ)
+    → ((i : ℕ) → i < length b → (r : ℤ) × AdjustsAt s sets (last_of b) i (day_at b i) r)
+    → (a : List ℤ) × AdjustedList s sets b a
 adjusted_exists s sets b h =
     let chosen = choose (λ i r. AdjustsAt s sets (last_of b) i (day_at b i) r) (length b) h in
     (chosen.list, record { same_length = chosen.same_length; each = chosen.each })
@@ -63,8 +70,11 @@ two_members x y (z ∷ []) h (inr none) my = absurd none
 two_members x y (z ∷ w ∷ ws) h mx my = omega arith
 
 -- the term has two ends at least
-pub two_boundaries : (s : Stream) (span : Span) (b : List ℤ) → first_day_of s <ℤ termination_of s → Boundaries s span b → 2 ≤ length b
-two_boundaries s span b ends l = two_members (first_day_of s) (termination_of s) b ends (l.complete (first_day_of s) (inl refl)) (l.complete (termination_of s) (inr (inl refl)))
+pub two_boundaries : (s : Stream) (span : Span) (b : List ℤ) → first_day_of s <ℤ termination_of s → Boundaries s span b
+    → 2 ≤ length b
+two_boundaries s span b ends l =
+    two_members (first_day_of s) (termination_of s) b ends (l.complete (first_day_of s) (inl refl))
+    (l.complete (termination_of s) (inr (inl refl)))
 
 room : (x : ℤ) (xs : List ℤ) → IsRising (x ∷ xs) → AreDays (x ∷ xs) → (x +ℤ pos (length xs)) ≤ℤ last_day
 room x [] rising days = omega (arith, signed_arith, days.0)

@@ -39,7 +39,8 @@ decides_on_span on first last d grid = elim (decides_le first d) [
 ]
 
 -- a day is a boundary, or it isn't
-decides_boundary : (on : ℤ → Type 0) (e t first last d : ℤ) → IsDecided (on d) → IsDecided (IsBoundaryBy on e t first last d)
+decides_boundary : (on : ℤ → Type 0) (e t first last d : ℤ) → IsDecided (on d)
+    → IsDecided (IsBoundaryBy on e t first last d)
 decides_boundary on e t first last d grid = elim (decides_same d e) [
   | inl is_e ↦ inl (inl is_e)
   | inr not_e ↦ elim (decides_same d t) [
@@ -57,9 +58,12 @@ module _ (s : Stream) (span : Span) (dates : DatesInOrder s) (regular : Regular 
 
   -- each boundary lies in the term
   pub boundary_in_term : (d : ℤ) → IsBoundary s span d → (first_day_of s ≤ℤ d) × (d ≤ℤ termination_of s)
-  boundary_in_term d (inl is_e) = (omega (arith, signed_arith, is_e), omega (arith, signed_arith, is_e, begins_before_end s dates))
-  boundary_in_term d (inr (inl is_t)) = (omega (arith, signed_arith, is_t, begins_before_end s dates), omega (arith, signed_arith, is_t))
-  boundary_in_term d (inr (inr on)) = (omega (arith, signed_arith, part.before, on.0), omega (arith, signed_arith, part.after, on.1))
+  boundary_in_term d (inl is_e) =
+      (omega (arith, signed_arith, is_e), omega (arith, signed_arith, is_e, begins_before_end s dates))
+  boundary_in_term d (inr (inl is_t)) =
+      (omega (arith, signed_arith, is_t, begins_before_end s dates), omega (arith, signed_arith, is_t))
+  boundary_in_term d (inr (inr on)) =
+      (omega (arith, signed_arith, part.before, on.0), omega (arith, signed_arith, part.after, on.1))
 
   -- the boundaries run from the first day to the termination date
   pub boundaries_run : (b : List ℤ) → Boundaries s span b → RunsFromTo (first_day_of s) s.termination.day b
@@ -71,7 +75,8 @@ module _ (s : Stream) (span : Span) (dates : DatesInOrder s) (regular : Regular 
     to = λ d m. (boundary_in_term d (l.sound d m)).1;
   }
 
-module _ (s : Stream) (span : Span) (lawful : IsLawfulStream s) (dates : DatesInOrder s) (regular : Regular s span) (kept : SpanKept s span) where
+module _ (s : Stream) (span : Span) (lawful : IsLawfulStream s) (dates : DatesInOrder s) (regular : Regular s span)
+    (kept : SpanKept s span) where
   -- the boundaries are days
   pub boundaries_days : (b : List ℤ) → Boundaries s span b → AreDays b
   boundaries_days b l = days_of_members b (λ d m.
@@ -88,5 +93,9 @@ module _ (s : Stream) (span : Span) (lawful : IsLawfulStream s) (dates : DatesIn
   pub boundaries_there : (b : List ℤ) × Boundaries s span b
   boundaries_there =
       let found = listed_between (IsBoundary s span) (first_day_of s) (termination_of s) decides_boundary_of in
-      let within = boundary_in_term s span dates regular kept in
-      (found.0, lists_same (λ d. (first_day_of s ≤ℤ d) × (d ≤ℤ termination_of s) × IsBoundary s span d) (IsBoundary s span) found.0 (λ d w. w.2) (λ d is. ((within d is).0, (within d is).1, is)) found.1)
+      let within = boundary_in_term s span dates regular kept in (
+        found.0,
+        lists_same (λ d. (first_day_of s ≤ℤ d) × (d ≤ℤ termination_of s)
+            × IsBoundary s span d) (IsBoundary s span) found.0 (λ d w. w.2)
+            (λ d is. ((within d is).0, (within d is).1, is)) found.1,
+      )

@@ -36,7 +36,8 @@ module _ (fault : ℕ → Fault) (P : ℕ → Type 0) where
   Answer Q = (answer : Option Fault) × IsFirst comes_before Q answer
 
   here : (n : ℕ) → IsDecided (P n) → Answer (Here n)
-  here n (inl holds) = (Some (fault n), first_one comes_before fault_order (Here n) (fault n) (holds, refl) (λ f h. h.1))
+  here n (inl holds) =
+      (Some (fault n), first_one comes_before fault_order (Here n) (fault n) (holds, refl) (λ f h. h.1))
   here n (inr not) = (None, λ f h. not h.0)
 
   answer_among : (n : ℕ) → ((i : ℕ) → i < n → IsDecided (P i)) → Answer (Among fault P n)
@@ -45,14 +46,17 @@ module _ (fault : ℕ → Fault) (P : ℕ → Type 0) where
       let before = answer_among n (λ i low. decides i (omega (arith, low))) in
       let last = here n (decides n (omega arith)) in (
         earlier comes_before before.0 last.0,
-        first_same comes_before (λ f. Among fault P n f ⊎ Here n f) (Among fault P (suc n)) (earlier comes_before before.0 last.0) (join n) (split n)
+        first_same comes_before (λ f. Among fault P n f
+            ⊎ Here n f) (Among fault P (suc n)) (earlier comes_before before.0 last.0) (join n) (split n)
             (first_or comes_before fault_order (Among fault P n) (Here n) before.0 last.0 before.1 last.1),
       )
 
   -- one of them is the first, or there is none
-  pub first_among : (n : ℕ) → ((i : ℕ) → i < n → IsDecided (P i)) → ((f : Fault) × First comes_before (Among fault P n) f) ⊎ ((f : Fault) → Among fault P n f → ⊥)
+  pub first_among : (n : ℕ) → ((i : ℕ) → i < n → IsDecided (P i))
+      → ((f : Fault) × First comes_before (Among fault P n) f) ⊎ ((f : Fault) → Among fault P n f → ⊥)
   first_among n decides = of_answer (answer_among n decides)
     where
-      of_answer : Answer (Among fault P n) → ((f : Fault) × First comes_before (Among fault P n) f) ⊎ ((f : Fault) → Among fault P n f → ⊥)
+      of_answer : Answer (Among fault P n) → ((f : Fault) × First comes_before (Among fault P n) f)
+          ⊎ ((f : Fault) → Among fault P n f → ⊥)
       of_answer (None, none) = inr none
       of_answer (Some f, first) = inl (f, first)

@@ -1,12 +1,14 @@
 -- Which boundary comes first among those without an adjusted day.
-use Rattle.std.proofs.Common.{◌≡◌, ◌⊎◌, inl, inr, ⊎_elim, ℕ, ◌<◌, ◌≤◌, ◌==◌, if◌then◌else◌, List, length, Option, Some, None, false, arith, sym, ℤ, subst}
+use Rattle.std.proofs.Common.{◌≡◌, ◌⊎◌, inl, inr, ⊎_elim, ℕ, ◌<◌, ◌≤◌, ◌==◌, if◌then◌else◌, List, length, Option, Some}
+use Rattle.std.proofs.Common.{None, false, arith, sym, ℤ, subst}
 use Rattle.std.proofs.lemmas.Bool.{cases_lt}
 use Rattle.std.proofs.lemmas.Bool.Decides.{nat_tests}
 use Rattle.irs_base.specs.Elements.{effective_date, termination_date, period_dates_adjustments, first_period_start_date}
 use Rattle.irs_terms.specs.declared.adjustments.Dated.{Dated}
 use Rattle.irs_terms.specs.declared.stream.Stream.{Stream}
 use Rattle.irs_base.proofs.Firsts.{level_later, level_same, lt_false}
-use Rattle.irs_periods.specs.Adjusting.{BoundaryDays, FirstLaterNoResult, FirstNoResult, FirstNotAfter, HasResult, NoResult, NotAfter, boundary_index, last_of, named_before}
+use Rattle.irs_periods.specs.Adjusting.{BoundaryDays, FirstLaterNoResult, FirstNoResult, FirstNotAfter, HasResult}
+use Rattle.irs_periods.specs.Adjusting.{NoResult, NotAfter, boundary_index, last_of, named_before}
 use Rattle.irs_terms.specs.TermDates.{first_day_element, first_day_element_by}
 
 -- the element by which a boundary is named, `start` being that of boundary 0
@@ -61,7 +63,8 @@ unnamed s last j i none =
         | inl earlier ↦ absurd (none (inl earlier))
         | inr level ↦
             let same : of_j ≡ of_i = omega (arith, rest, level) in
-            level_same of_j of_i _ same (lt_false (boundary_index last j) (boundary_index last i) (λ below. none (inr (same, below))))
+            level_same of_j of_i _ same
+            (lt_false (boundary_index last j) (boundary_index last i) (λ below. none (inr (same, below))))
       ]
     ]
 
@@ -74,9 +77,14 @@ module _ (s : Stream) (sets : BoundaryDays) (b : List ℤ) where
   NotBefore i j = NoResult s sets b j → named_before s (last_of b) j i ≡ false
 
   pub first_last : 0 < last_of b → NoResult s sets b (last_of b) → FirstLaterNoResult s sets b (last_of b)
-  first_last some misses = ((some, misses), λ j h. unnamed s (last_of b) j (last_of b) (λ named. none_before_last (first_day_element s) (last_of b) j h.0 some named))
+  first_last some misses = (
+    (some, misses),
+    λ j h. unnamed s (last_of b) j (last_of b)
+        (λ named. none_before_last (first_day_element s) (last_of b) j h.0 some named),
+  )
 
-  pub first_inner : (i : ℕ) → 0 < i → i < last_of b → NoResult s sets b i → Has (last_of b) → ((j : ℕ) → 1 ≤ j → j < i → Has j) → FirstLaterNoResult s sets b i
+  pub first_inner : (i : ℕ) → 0 < i → i < last_of b → NoResult s sets b i → Has (last_of b)
+      → ((j : ℕ) → 1 ≤ j → j < i → Has j) → FirstLaterNoResult s sets b i
   first_inner i some inner misses at_last before = (
     (some, misses),
     λ j h. unnamed s (last_of b) j i (λ named. ⊎_elim
@@ -97,15 +105,23 @@ module _ (s : Stream) (sets : BoundaryDays) (b : List ℤ) where
 
   -- boundary 0 has an adjusted day
   pub first_behind : (i : ℕ) → Has 0 → FirstLaterNoResult s sets b i → FirstNoResult s sets b i
-  first_behind i at_first h = (h.0.1, λ j. at_place (NotBefore i) j (λ zeroth. absurd (zeroth.none at_first.0 at_first.1)) (λ some misses. h.1 j (some, misses)))
+  first_behind i at_first h = (
+    h.0.1,
+    λ j. at_place (NotBefore i) j (λ zeroth. absurd (zeroth.none at_first.0 at_first.1))
+        (λ some misses. h.1 j (some, misses)),
+  )
 
   -- boundary 0 is named behind the others
-  pub first_before_start : (i : ℕ) (start : Dated) → s.first_start ≡ Some start → FirstLaterNoResult s sets b i → FirstNoResult s sets b i
+  pub first_before_start : (i : ℕ) (start : Dated) → s.first_start ≡ Some start → FirstLaterNoResult s sets b i
+      → FirstNoResult s sets b i
   first_before_start i start given h =
       let behind = subst
       (λ (o : Option Dated). Named (first_day_element_by o) (last_of b) 0 i → ⊥) (sym given)
-      (start_behind (last_of b) i h.0.0) in
-      (h.0.1, λ j. at_place (NotBefore i) j (λ _. unnamed s (last_of b) 0 i behind) (λ some misses. h.1 j (some, misses)))
+      (start_behind (last_of b) i h.0.0) in (
+        h.0.1,
+        λ j. at_place (NotBefore i) j (λ _. unnamed s (last_of b) 0 i behind)
+            (λ some misses. h.1 j (some, misses)),
+      )
 
   -- the others have adjusted days
   pub first_alone : NoResult s sets b 0 → ((i : ℕ) → 0 < i → i < length b → Has i) → FirstNoResult s sets b 0

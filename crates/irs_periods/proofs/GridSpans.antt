@@ -1,5 +1,6 @@
 -- The days of a grid from the first to the last day of a span, listed.
-use Rattle.std.proofs.Common.{◌≡◌, inl, inr, ℕ, zero, suc, ◌+◌, ◌-◌, ◌<◌, [], ◌∷◌, ◌++◌, length, ℤ, pos, ◌+ℤ◌, ◌<ℤ◌, ◌≤ℤ◌, refl, sym, ap, subst, ◌∙◌, arith, length-append}
+use Rattle.std.proofs.Common.{◌≡◌, inl, inr, ℕ, zero, suc, ◌+◌, ◌-◌, ◌<◌, [], ◌∷◌, ◌++◌, length, ℤ, pos, ◌+ℤ◌, ◌<ℤ◌}
+use Rattle.std.proofs.Common.{◌≤ℤ◌, refl, sym, ap, subst, ◌∙◌, arith, length-append}
 use Rattle.std.proofs.lemmas.Bool.{cases_lt}
 use Rattle.jiff_core.proofs.SignedLemmas.{signed_arith}
 use borrow.Author.Differences.{up, down}
@@ -11,9 +12,11 @@ use Rattle.irs_periods.proofs.GridDays.{no_earlier, number_order}
 
 pub length-days_from : (f : ℤ → ℤ) (start : ℤ) (n : ℕ) → length (days_from f start n) ≡ n
 length-days_from f start zero = refl
-length-days_from f start (suc n) = omega (arith, length-days_from f start n, length-append (days_from f start n) (f (start +ℤ pos n) ∷ []))
+length-days_from f start (suc n) =
+    omega (arith, length-days_from f start n, length-append (days_from f start n) (f (start +ℤ pos n) ∷ []))
 
-place_of : (f : ℤ → ℤ) (start : ℤ) (n : ℕ) (d : ℤ) → Member d (days_from f start n) → (j : ℕ) × (j < n) × (d ≡ f (start +ℤ pos j))
+place_of : (f : ℤ → ℤ) (start : ℤ) (n : ℕ) (d : ℤ) → Member d (days_from f start n)
+    → (j : ℕ) × (j < n) × (d ≡ f (start +ℤ pos j))
 place_of f start zero d m = absurd m
 place_of f start (suc n) d m = elim (member_cases d (f (start +ℤ pos n)) (days_from f start n) m) [
   | inl old ↦ let p = place_of f start n d old in (p.0, omega (arith, p.1), p.2)
@@ -30,10 +33,14 @@ at_place f start (suc n) j h = elim (cases_lt j n) [
 module _ (f : ℤ → ℤ) (rises : (j k : ℤ) → j <ℤ k → f j <ℤ f k) where
   rising-days_from : (start : ℤ) (n : ℕ) → IsRising (days_from f start n)
   rising-days_from start zero = tt
-  rising-days_from start (suc n) = rising_push (f (start +ℤ pos n)) (days_from f start n) (rising-days_from start n) (λ d m.
-      let p = place_of f start n d m in subst (λ z. z <ℤ f (start +ℤ pos n)) (sym p.2) (rises (start +ℤ pos p.0) (start +ℤ pos n) (omega (arith, signed_arith, p.1))))
+  rising-days_from start (suc n) =
+      rising_push (f (start +ℤ pos n)) (days_from f start n) (rising-days_from start n) (λ d m.
+      let p = place_of f start n d m in
+      subst (λ z. z <ℤ f (start +ℤ pos n)) (sym p.2)
+      (rises (start +ℤ pos p.0) (start +ℤ pos n) (omega (arith, signed_arith, p.1))))
 
-  module _ (on : ℤ → Type 0) (nth_is_on : (k : ℤ) → on (f k)) (misses_none : (d : ℤ) → on d → (k : ℤ) × (f k ≡ d)) (start : ℤ) (n : ℕ) where
+  module _ (on : ℤ → Type 0) (nth_is_on : (k : ℤ) → on (f k)) (misses_none : (d : ℤ) → on d
+      → (k : ℤ) × (f k ≡ d)) (start : ℤ) (n : ℕ) where
     -- a day between the ends of the span has a number between theirs
     stands : (d : ℤ) → f start ≤ℤ d → d ≤ℤ f (start +ℤ pos n) → (k : ℤ) → f k ≡ d → Member d (days_from f start (n + 1))
     stands d low high k e =
@@ -57,6 +64,13 @@ module _ (f : ℤ → ℤ) (rises : (j k : ℤ) → j <ℤ k → f j <ℤ f k) w
     }
 
 -- how many boundaries there are
-pub length-all_boundaries : (f : ℤ → ℤ) (start : ℤ) (n : ℕ) (e t first last : ℤ) → length (all_boundaries f start n e t first last) ≡ (length (where_before e first e) + (n + 1)) + length (where_before last t t)
+pub length-all_boundaries : (f : ℤ → ℤ) (start : ℤ) (n : ℕ) (e t first last : ℤ)
+    → length (all_boundaries f start n e t first last)
+    ≡ (length (where_before e first e) + (n + 1)) + length (where_before last t t)
 length-all_boundaries f start n e t first last =
-    omega (arith, length-append (where_before e first e ++ days_from f start (n + 1)) (where_before last t t), length-append (where_before e first e) (days_from f start (n + 1)), length-days_from f start (n + 1))
+    omega (
+      arith,
+      length-append (where_before e first e ++ days_from f start (n + 1)) (where_before last t t),
+      length-append (where_before e first e) (days_from f start (n + 1)),
+      length-days_from f start (n + 1),
+    )

@@ -15,7 +15,8 @@ if_memory P (Ok x) h = tt
 if_memory P (Err e) h = if_out_of_memory P e h
 
 -- an answer that is this value where it is one has what the value has
-pub answer_is : {A F : Type 0} (P : A → Type 0) (r : Result A (Stopped F)) (x : A) → IfOk r (λ y. y ≡ x) → P x → IfOk r P
+pub answer_is : {A F : Type 0} (P : A → Type 0) (r : Result A (Stopped F)) (x : A) → IfOk r (λ y. y ≡ x) → P x
+    → IfOk r P
 answer_is P (Ok y) x same h = subst P (sym same) h
 answer_is P (Err e) x same h = tt
 

@@ -4,7 +4,8 @@ use Rattle.jiff_core.proofs.SignedLemmas.{signed_arith}
 use Rattle.irs_periods.specs.Nearest.{FirstFrom, FirstAfter, LastUpTo, LastBefore}
 use Rattle.irs_periods.proofs.GridDays.{cases_ltz, no_earlier}
 
-module _ (f : ℤ → ℤ) (rises : (j k : ℤ) → j <ℤ k → f j <ℤ f k) (on : ℤ → Type 0) (nth_is_on : (k : ℤ) → on (f k)) (misses_none : (d : ℤ) → on d → (k : ℤ) × (f k ≡ d)) where
+module _ (f : ℤ → ℤ) (rises : (j k : ℤ) → j <ℤ k → f j <ℤ f k) (on : ℤ → Type 0) (nth_is_on : (k : ℤ)
+    → on (f k)) (misses_none : (d : ℤ) → on d → (k : ℤ) × (f k ≡ d)) where
   not_below : (k d x : ℤ) → f (k -ℤ pos 1) <ℤ d → d ≤ℤ x → (j : ℤ) → f j ≡ x → f k ≤ℤ x
   not_below k d x before later j e = elim (cases_ltz j k) [
     | inl low ↦
@@ -43,7 +44,8 @@ module _ (f : ℤ → ℤ) (rises : (j k : ℤ) → j <ℤ k → f j <ℤ f k) (
 
   next_least : (k x : ℤ) → f k <ℤ x → (j : ℤ) → f j ≡ x → f (k +ℤ pos 1) ≤ℤ x
   next_least k x later j e = elim (cases_ltz k j) [
-    | inl high ↦ let le = no_earlier f rises (k +ℤ pos 1) j (omega (arith, signed_arith, high)) in omega (arith, signed_arith, le, e)
+    | inl high ↦ let le = no_earlier f rises (k +ℤ pos 1) j (omega (arith, signed_arith, high)) in
+        omega (arith, signed_arith, le, e)
     | inr low ↦ let le = no_earlier f rises j k low in absurd (omega (arith, signed_arith, le, e, later))
   ]
 
@@ -57,7 +59,8 @@ module _ (f : ℤ → ℤ) (rises : (j k : ℤ) → j <ℤ k → f j <ℤ f k) (
 
   before_greatest : (k x : ℤ) → x <ℤ f k → (j : ℤ) → f j ≡ x → x ≤ℤ f (k -ℤ pos 1)
   before_greatest k x earlier j e = elim (cases_ltz j k) [
-    | inl low ↦ let le = no_earlier f rises j (k -ℤ pos 1) (omega (arith, signed_arith, low)) in omega (arith, signed_arith, le, e)
+    | inl low ↦ let le = no_earlier f rises j (k -ℤ pos 1) (omega (arith, signed_arith, low)) in
+        omega (arith, signed_arith, le, e)
     | inr high ↦ let le = no_earlier f rises k j high in absurd (omega (arith, signed_arith, le, e, earlier))
   ]
 

@@ -64,14 +64,16 @@ module _ (on : ℤ → Type 0) where
         ]
       ]
 
-  one_stub : (stub : Option StubKind) (e t f l g m : ℤ) → StubSpan stub on e t f l → StubSpan stub on e t g m → (f ≡ g) × (l ≡ m)
+  one_stub : (stub : Option StubKind) (e t f l g m : ℤ) → StubSpan stub on e t f l → StubSpan stub on e t g m
+      → (f ≡ g) × (l ≡ m)
   one_stub None e t f l g m a b = (a.0 ∙ sym b.0, a.1 ∙ sym b.1)
   one_stub (Some ShortInitial) e t f l g m a b = (one_from e f g a.0 b.0, a.1 ∙ sym b.1)
   one_stub (Some LongInitial) e t f l g m a b = (one_long_first e t f g a.0 b.0, a.1 ∙ sym b.1)
   one_stub (Some ShortFinal) e t f l g m a b = (a.0 ∙ sym b.0, one_up_to t l m a.1 b.1)
   one_stub (Some LongFinal) e t f l g m a b = (a.0 ∙ sym b.0, one_long_last e t l m a.1 b.1)
 
-  one_by : (term : Bool) (x y : Option ℤ) (stub : Option StubKind) (e t f l g m : ℤ) → SpanBy term x y stub on e t f l → SpanBy term x y stub on e t g m → (f ≡ g) × (l ≡ m)
+  one_by : (term : Bool) (x y : Option ℤ) (stub : Option StubKind) (e t f l g m : ℤ) → SpanBy term x y stub on e t f l
+      → SpanBy term x y stub on e t g m → (f ≡ g) × (l ≡ m)
   one_by true x y stub e t f l g m a b = (a.0 ∙ sym b.0, a.1 ∙ sym b.1)
   one_by false None None stub e t f l g m a b = one_stub stub e t f l g m a b
   one_by false None (Some y) stub e t f l g m a b = (a.0 ∙ sym b.0, a.1 ∙ sym b.1)
@@ -81,7 +83,10 @@ module _ (on : ℤ → Type 0) where
 pub one_span : (s : Stream) (a b : Span) → Regular s a → Regular s b → a ≡ b
 one_span s a b p q =
     let anchors : a.anchor ≡ b.anchor = p.anchored ∙ sym q.anchored in
-    let moved = subst (λ (z : ℤ). SpanBy (is_term s.freq.unit) s.first_regular s.last_regular s.stub (OnGrid s.freq s.roll z) (first_day_of s) (termination_of s) a.first a.last) anchors p.spans in
-    let ends = one_by (OnGrid s.freq s.roll b.anchor) (is_term s.freq.unit) s.first_regular s.last_regular s.stub (first_day_of s) (termination_of s) a.first a.last b.first b.last moved q.spans in
+    let moved = subst (λ (z : ℤ). SpanBy (is_term s.freq.unit) s.first_regular s.last_regular s.stub
+    (OnGrid s.freq s.roll z) (first_day_of s) (termination_of s) a.first a.last) anchors p.spans in
+    let ends = one_by (OnGrid s.freq s.roll b.anchor) (is_term s.freq.unit) s.first_regular s.last_regular s.stub
+    (first_day_of s) (termination_of s) a.first a.last b.first b.last moved q.spans in
     let span : ℤ → ℤ → ℤ → Span = λ f l z. record { first = f; last = l; anchor = z } in
-    ap (λ (f : ℤ). span f a.last a.anchor) ends.0 ∙ ap (λ (l : ℤ). span b.first l a.anchor) ends.1 ∙ ap (λ (z : ℤ). span b.first b.last z) anchors
+    ap (λ (f : ℤ). span f a.last a.anchor) ends.0 ∙ ap (λ (l : ℤ). span b.first l a.anchor) ends.1
+    ∙ ap (λ (z : ℤ). span b.first b.last z) anchors

@@ -22,38 +22,46 @@ pub one_boundaries : (s : Stream) (span : Span) (a b : List ℤ) → Boundaries 
 one_boundaries s span a b p q = one_list (IsBoundary s span) a b p q
 
 -- at most one rule of the periods is the first that is broken
-pub one_boundaries_rule : (s : Stream) (span : Span) (f g : Fault) → First comes_before (BreaksPeriods s span) f → First comes_before (BreaksPeriods s span) g → f ≡ g
+pub one_boundaries_rule : (s : Stream) (span : Span) (f g : Fault) → First comes_before (BreaksPeriods s span) f
+    → First comes_before (BreaksPeriods s span) g → f ≡ g
 one_boundaries_rule s span f g p q = one_fault (BreaksPeriods s span) f g p q
 
 -- K32 is the one rule of the periods
-pub first_too_many : (s : Stream) (span : Span) → TooManyPeriods s span → First comes_before (BreaksPeriods s span) too_many_periods
-first_too_many s span many = first_one comes_before fault_order (BreaksPeriods s span) too_many_periods (many, refl) (λ f h. h.1)
+pub first_too_many : (s : Stream) (span : Span) → TooManyPeriods s span
+    → First comes_before (BreaksPeriods s span) too_many_periods
+first_too_many s span many =
+    first_one comes_before fault_order (BreaksPeriods s span) too_many_periods (many, refl) (λ f h. h.1)
 
 -- few boundaries break no rule
-pub few_unbroken : (s : Stream) (span : Span) (b : List ℤ) → Boundaries s span b → length b ≤ most_periods + 1 → (f : Fault) → BreaksPeriods s span f → ⊥
+pub few_unbroken : (s : Stream) (span : Span) (b : List ℤ) → Boundaries s span b → length b ≤ most_periods + 1
+    → (f : Fault) → BreaksPeriods s span f → ⊥
 few_unbroken s span b lists few f h =
     let counts : length h.0.list ≡ length b = ap length (one_boundaries s span h.0.list b h.0.lists lists) in
     let many = h.0.many in
     omega (arith, counts, many, few)
 
 -- where no rule of the periods is broken there are few boundaries
-pub few_boundaries : (s : Stream) (span : Span) (b : List ℤ) → Boundaries s span b → ((f : Fault) → BreaksPeriods s span f → ⊥) → length b ≤ most_periods + 1
+pub few_boundaries : (s : Stream) (span : Span) (b : List ℤ) → Boundaries s span b
+    → ((f : Fault) → BreaksPeriods s span f → ⊥) → length b ≤ most_periods + 1
 few_boundaries s span b lists kept = elim (cases_lt (most_periods + 1) (length b)) [
   | inl many ↦ absurd (kept too_many_periods (record { list = b; lists = lists; many = many }, refl))
   | inr few ↦ few
 ]
 
 -- there are too many periods, or no rule of them is broken
-pub boundaries_decided : (s : Stream) (span : Span) → IsLawfulStream s → DatesInOrder s → Regular s span → SpanKept s span
+pub boundaries_decided : (s : Stream) (span : Span) → IsLawfulStream s → DatesInOrder s → Regular s span
+    → SpanKept s span
     → ((f : Fault) × First comes_before (BreaksPeriods s span) f) ⊎ ((f : Fault) → BreaksPeriods s span f → ⊥)
 boundaries_decided s span lawful dates regular kept =
     let found = boundaries_there s span lawful dates regular kept in
     elim (cases_lt (most_periods + 1) (length found.0)) [
-      | inl many ↦ inl (too_many_periods, first_too_many s span (record { list = found.0; lists = found.1; many = many }))
+      | inl many ↦
+          inl (too_many_periods, first_too_many s span (record { list = found.0; lists = found.1; many = many }))
       | inr few ↦ inr (few_unbroken s span found.0 found.1 few)
     ]
 
 -- an answer of few boundaries breaks no rule
-pub answer_unbroken : (s : Stream) (span : Span) (r : Result (List ℤ) (Stopped Fault)) → IfOk r (Boundaries s span) → IfOk r (λ b. length b ≤ most_periods + 1) → IfOk r (λ _. (f : Fault) → BreaksPeriods s span f → ⊥)
+pub answer_unbroken : (s : Stream) (span : Span) (r : Result (List ℤ) (Stopped Fault)) → IfOk r (Boundaries s span)
+    → IfOk r (λ b. length b ≤ most_periods + 1) → IfOk r (λ _. (f : Fault) → BreaksPeriods s span f → ⊥)
 answer_unbroken s span (Ok b) lists few = few_unbroken s span b lists few
 answer_unbroken s span (Err e) lists few = tt

@@ -28,14 +28,22 @@ timed_unit M h = refl
 timed_unit Y h = refl
 timed_unit T h = absurd (h refl)
 
-module _ (f : ℤ → ℤ) (rises : (j k : ℤ) → j <ℤ k → f j <ℤ f k) (on : ℤ → Type 0) (nth_is_on : (k : ℤ) → on (f k)) (misses_none : (d : ℤ) → on d → (k : ℤ) × (f k ≡ d)) (s : Stream) (span : Span) (dates : DatesInOrder s) (timed : IsTerm s.freq → ⊥) (regular : Regular s span) (kept : SpanKept s span) (zeroth : f (pos 0) ≡ span.anchor) (same : (d : ℤ) → on d ↔ OnGrid s.freq s.roll span.anchor d) where
+module _ (f : ℤ → ℤ) (rises : (j k : ℤ) → j <ℤ k → f j <ℤ f k) (on : ℤ → Type 0) (nth_is_on : (k : ℤ)
+    → on (f k)) (misses_none : (d : ℤ) → on d → (k : ℤ)
+    × (f k ≡ d)) (s : Stream) (span : Span) (dates : DatesInOrder s) (timed : IsTerm s.freq
+    → ⊥) (regular : Regular s span) (kept : SpanKept s span) (zeroth : f (pos 0) ≡ span.anchor) (same : (d : ℤ)
+    → on d ↔ OnGrid s.freq s.roll span.anchor d) where
   in_term : InTerm (OnGrid s.freq s.roll span.anchor) (first_day_of s) (termination_of s) span.first span.last
   in_term =
       let unit = timed_unit s.freq.unit timed in
-      let spans : GivenSpan s.first_regular s.last_regular s.stub (OnGrid s.freq s.roll span.anchor) (first_day_of s) (termination_of s) span.first span.last = rw unit at regular.spans in
-      let anchored : span.anchor ≡ given_anchor s.first_regular s.last_regular s.stub (first_day_of s) (termination_of s) = rw unit at regular.anchored in
+      let spans : GivenSpan s.first_regular s.last_regular s.stub (OnGrid s.freq s.roll span.anchor) (first_day_of s)
+      (termination_of s) span.first span.last = rw unit at regular.spans in
+      let anchored : span.anchor
+      ≡ given_anchor s.first_regular s.last_regular s.stub (first_day_of s) (termination_of s) =
+      rw unit at regular.anchored in
       let on_anchor = (same span.anchor).0 (subst on zeroth (nth_is_on (pos 0))) in
-      given_in_term (OnGrid s.freq s.roll span.anchor) (first_day_of s) (termination_of s) (begins_before_end s dates) s.first_regular s.last_regular s.stub span.first span.last dates.first dates.last
+      given_in_term (OnGrid s.freq s.roll span.anchor) (first_day_of s) (termination_of s)
+      (begins_before_end s dates) s.first_regular s.last_regular s.stub span.first span.last dates.first dates.last
       (subst (λ (d : ℤ). OnGrid s.freq s.roll span.anchor d) anchored on_anchor) spans
 
   pub on_first : on span.first
@@ -47,11 +55,17 @@ module _ (f : ℤ → ℤ) (rises : (j k : ℤ) → j <ℤ k → f j <ℤ f k) (
   module _ (start : ℤ) (n : ℕ) (begins : f start ≡ span.first) (ends : f (start +ℤ pos n) ≡ span.last) where
     pub listed : Boundaries s span (all_boundaries f start n (first_day_of s) (termination_of s) span.first span.last)
     listed =
-        let at_first = subst (λ (z : ℤ). Lists (OnSpan on z (f (start +ℤ pos n))) (days_from f start (n + 1))) begins (span_days f rises on nth_is_on misses_none start n) in
-        let mid : Lists (OnSpan on span.first span.last) (days_from f start (n + 1)) = subst (λ (z : ℤ). Lists (OnSpan on span.first z) (days_from f start (n + 1))) ends at_first in
-        same_boundaries on (OnGrid s.freq s.roll span.anchor) same (first_day_of s) (termination_of s) span.first span.last
+        let at_first =
+        subst (λ (z : ℤ). Lists (OnSpan on z (f (start +ℤ pos n))) (days_from f start (n + 1))) begins
+        (span_days f rises on nth_is_on misses_none start n) in
+        let mid : Lists (OnSpan on span.first span.last) (days_from f start (n + 1)) =
+        subst (λ (z : ℤ). Lists (OnSpan on span.first z) (days_from f start (n + 1))) ends at_first in
+        same_boundaries on (OnGrid s.freq s.roll span.anchor) same (first_day_of s)
+        (termination_of s) span.first span.last
         (all_boundaries f start n (first_day_of s) (termination_of s) span.first span.last)
-        (assembled on (first_day_of s) (termination_of s) span.first span.last (days_from f start (n + 1)) in_term.before in_term.order in_term.after (begins_before_end s dates) on_first on_last mid)
+        (assembled on (first_day_of s) (termination_of s) span.first span.last
+        (days_from f start (n + 1)) in_term.before in_term.order in_term.after
+        (begins_before_end s dates) on_first on_last mid)
 
     pub days : IsDay span.first → IsDay span.last → (j : ℕ) → j ≤ n → IsDay (f (start +ℤ pos j))
     days is_first is_last j h =

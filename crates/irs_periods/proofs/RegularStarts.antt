@@ -28,14 +28,16 @@ least_first e (x ∷ xs) rising (inr there) least =
     absurd (omega (arith, signed_arith, low, high))
 
 -- and the least of those after it is the next
-least_next : (e r : ℤ) (b : List ℤ) → IsRising b → Member e b → Member r b → e <ℤ r → ((d : ℤ) → Member d b → (d ≡ e → ⊥) → r ≤ℤ d) → ((d : ℤ) → Member d b → e ≤ℤ d) → day_at b 1 ≡ r
+least_next : (e r : ℤ) (b : List ℤ) → IsRising b → Member e b → Member r b → e <ℤ r
+    → ((d : ℤ) → Member d b → (d ≡ e → ⊥) → r ≤ℤ d) → ((d : ℤ) → Member d b → e ≤ℤ d) → day_at b 1 ≡ r
 least_next e r [] rising m n less next least = absurd m
 least_next e r (x ∷ xs) rising m (inl here) less next least =
     let first : x ≡ e = least_first e (x ∷ xs) rising m least in
     absurd (omega (arith, signed_arith, first, here, less))
 least_next e r (x ∷ xs) rising m (inr there) less next least =
     let first : x ≡ e = least_first e (x ∷ xs) rising m least in
-    least_first r xs rising.1 there (λ d n. next d (inr n) (λ same. let after = after_member x d xs rising.0 n in omega (arith, signed_arith, after, same, first)))
+    least_first r xs rising.1 there (λ d n. next d (inr n) (λ same. let after = after_member x d xs rising.0 n in
+    omega (arith, signed_arith, after, same, first)))
 
 module _ (s : Stream) (span : Span) (dates : DatesInOrder s) (regular : Regular s span) (kept : SpanKept s span) where
   part : LiesInTerm s span
@@ -52,10 +54,13 @@ module _ (s : Stream) (span : Span) (dates : DatesInOrder s) (regular : Regular 
   regular_start b l =
       let e : ℤ = first_day_of s in
       let at_first : Member e b = l.complete e (inl refl) in
-      let least : (d : ℤ) → Member d b → e ≤ℤ d = λ d m. (boundary_in_term s span dates regular kept d (l.sound d m)).0 in
+      let least : (d : ℤ) → Member d b → e ≤ℤ d =
+      λ d m. (boundary_in_term s span dates regular kept d (l.sound d m)).0 in
       record {
         not_before = part.before;
         no_stub = λ same. least_first e b l.rising at_first least ∙ same;
-        behind_stub = λ less. least_next e span.first b l.rising at_first (l.complete span.first (first_is_boundary s span dates regular kept.fits)) less
+        behind_stub =
+            λ less. least_next e span.first b l.rising at_first
+            (l.complete span.first (first_is_boundary s span dates regular kept.fits)) less
             (λ d m other. from_span d (l.sound d m) other) least;
       }

@@ -41,33 +41,45 @@ module _ (on : ℤ → Type 0) (e t : ℤ) (ends : e <ℤ t) where
 
   long_initial : (first last : ℤ) → on t → LongFirst on e t first → last ≡ t → InTerm on e t first last
   long_initial first last on_t h b = ⊎_elim
-      (λ here. initial first last (subst on (here.0 ∙ sym here.1) h.is_short.is_on) (omega (arith, signed_arith, here.1)) (omega (arith, signed_arith, here.1, ends)) b)
+      (λ here. initial first last (subst on (here.0 ∙ sym here.1) h.is_short.is_on)
+      (omega (arith, signed_arith, here.1)) (omega (arith, signed_arith, here.1, ends)) b)
       (λ apart. ⊎_elim
       (λ next. initial first last next.0.is_on (omega (arith, signed_arith, h.is_short.after, next.0.after)) next.1 b)
-      (λ none. initial first last (subst on (sym none.1) on_t) (omega (arith, signed_arith, none.1, ends)) (omega (arith, signed_arith, none.1)) b)
+      (λ none. initial first last (subst on (sym none.1) on_t) (omega (arith, signed_arith, none.1, ends))
+      (omega (arith, signed_arith, none.1)) b)
       apart.1)
       h.choice
 
   long_final : (first last : ℤ) → on e → first ≡ e → LongLast on e t last → InTerm on e t first last
   long_final first last on_e a h = ⊎_elim
-      (λ here. final first last on_e a (omega (arith, signed_arith, here.1, ends)) (omega (arith, signed_arith, here.1)))
+      (λ here. final first last on_e a (omega (arith, signed_arith, here.1, ends))
+      (omega (arith, signed_arith, here.1)))
       (λ apart. ⊎_elim
       (λ before. final first last on_e a before.1 (omega (arith, signed_arith, h.is_short.before, before.0.before)))
-      (λ none. final first last on_e a (omega (arith, signed_arith, none.1)) (omega (arith, signed_arith, none.1, ends)))
+      (λ none. final first last on_e a (omega (arith, signed_arith, none.1))
+      (omega (arith, signed_arith, none.1, ends)))
       apart.1)
       h.choice
 
-  stub_in_term : (stub : Option StubKind) (first last : ℤ) → on (stub_anchor stub e t) → StubSpan stub on e t first last → InTerm on e t first last
+  stub_in_term : (stub : Option StubKind) (first last : ℤ) → on (stub_anchor stub e t) → StubSpan stub on e t first last
+      → InTerm on e t first last
   stub_in_term None first last is h = whole first last is h.0 h.1
-  stub_in_term (Some ShortInitial) first last is h = initial first last h.0.is_on h.0.after (h.0.least t is (omega (arith, signed_arith, ends))) h.1
+  stub_in_term (Some ShortInitial) first last is h =
+      initial first last h.0.is_on h.0.after (h.0.least t is (omega (arith, signed_arith, ends))) h.1
   stub_in_term (Some LongInitial) first last is h = long_initial first last is h.0 h.1
-  stub_in_term (Some ShortFinal) first last is h = final first last is h.0 (h.1.greatest e is (omega (arith, signed_arith, ends))) h.1.before
+  stub_in_term (Some ShortFinal) first last is h =
+      final first last is h.0 (h.1.greatest e is (omega (arith, signed_arith, ends))) h.1.before
   stub_in_term (Some LongFinal) first last is h = long_final first last is h.0 h.1
 
-  pub given_in_term : (f l : Option ℤ) (stub : Option StubKind) (first last : ℤ) → IfSome f (λ d. (e ≤ℤ d) × (d ≤ℤ t)) → IfSome l (λ d. (given_or f e ≤ℤ d) × (d ≤ℤ t)) → on (given_anchor f l stub e t) → GivenSpan f l stub on e t first last → InTerm on e t first last
+  pub given_in_term : (f l : Option ℤ) (stub : Option StubKind) (first last : ℤ) → IfSome f (λ d. (e ≤ℤ d) × (d ≤ℤ t))
+      → IfSome l (λ d. (given_or f e ≤ℤ d) × (d ≤ℤ t)) → on (given_anchor f l stub e t)
+      → GivenSpan f l stub on e t first last → InTerm on e t first last
   given_in_term None None stub first last lf ll is h = stub_in_term stub first last is h
-  given_in_term None (Some l) stub first last lf ll is h = final first last is h.0 (omega (arith, signed_arith, h.1, ll)) (omega (arith, signed_arith, h.1, ll))
-  given_in_term (Some f) None stub first last lf ll is h = initial first last (subst on (sym h.0) is) (omega (arith, signed_arith, h.0, lf)) (omega (arith, signed_arith, h.0, lf)) h.1
+  given_in_term None (Some l) stub first last lf ll is h =
+      final first last is h.0 (omega (arith, signed_arith, h.1, ll)) (omega (arith, signed_arith, h.1, ll))
+  given_in_term (Some f) None stub first last lf ll is h =
+      initial first last (subst on (sym h.0) is) (omega (arith, signed_arith, h.0, lf))
+      (omega (arith, signed_arith, h.0, lf)) h.1
   given_in_term (Some f) (Some l) stub first last lf ll is h = record {
     before = omega (arith, signed_arith, h.0, lf);
     order = omega (arith, signed_arith, h.0, h.1, ll);

@@ -12,10 +12,13 @@ use Rattle.irs_terms.specs.TermDates.{termination_of}
 no_grid : (s : Stream) (a d : ℤ) → IsTerm s.freq → OnGrid s.freq s.roll a d → ⊥
 no_grid s a d term on = rw term at on
 
-stands : (s : Stream) (span : Span) (d : ℤ) → IsTerm s.freq → IsBoundary s span d → Member d (first_day_of s ∷ termination_of s ∷ [])
-stands s span d term b = ⊎_elim (λ e. inl e) (λ n. ⊎_elim (λ t. inr (inl t)) (λ on. absurd (no_grid s span.anchor d term on.2)) n) b
+stands : (s : Stream) (span : Span) (d : ℤ) → IsTerm s.freq → IsBoundary s span d
+    → Member d (first_day_of s ∷ termination_of s ∷ [])
+stands s span d term b =
+    ⊎_elim (λ e. inl e) (λ n. ⊎_elim (λ t. inr (inl t)) (λ on. absurd (no_grid s span.anchor d term on.2)) n) b
 
-pub term_list : (s : Stream) (span : Span) → IsTerm s.freq → first_day_of s <ℤ termination_of s → Boundaries s span (first_day_of s ∷ termination_of s ∷ [])
+pub term_list : (s : Stream) (span : Span) → IsTerm s.freq → first_day_of s <ℤ termination_of s
+    → Boundaries s span (first_day_of s ∷ termination_of s ∷ [])
 term_list s span term ends = record {
   rising = ((ends, tt), (tt, tt));
   sound = λ d m. ⊎_elim (λ e. inl e) (λ n. ⊎_elim (λ t. inr (inl t)) (λ none. absurd none) n) m;

@@ -6,7 +6,8 @@ use Rattle.irs_terms.specs.declared.stream.Stream.{Stream}
 use Rattle.irs_terms.specs.FirstDay.{first_day_of}
 use Rattle.irs_terms.specs.TermDates.{DatesInOrder, termination_of}
 
-runs : (start : Option Dated) (v : Dated) (t : ℤ) → IfSome start (λ d. d.day <ℤ v.day) → v.day <ℤ t → (unwrap_or start v).day <ℤ t
+runs : (start : Option Dated) (v : Dated) (t : ℤ) → IfSome start (λ d. d.day <ℤ v.day) → v.day <ℤ t
+    → (unwrap_or start v).day <ℤ t
 runs None v t before ends = ends
 runs (Some d) v t before ends = omega (arith, signed_arith, before, ends)
 

@@ -16,7 +16,8 @@ steps_none Ahead = refl
 
 module _ (f : ℤ → ℤ) (rises : (j k : ℤ) → j <ℤ k → f j <ℤ f k) where
   -- a grid day within the bound lies between the bound and the anchor
-  pub within_is_day : (way : Way) (n : ℕ) (bound : ℤ) → IsDay (f (pos 0)) → IsDay bound → Within way bound (f (steps way n)) → IsDay (f (steps way n))
+  pub within_is_day : (way : Way) (n : ℕ) (bound : ℤ) → IsDay (f (pos 0)) → IsDay bound
+      → Within way bound (f (steps way n)) → IsDay (f (steps way n))
   within_is_day Back n bound zeroth b h =
       let le = no_earlier f rises (pos 0 -ℤ pos n) (pos 0) (omega (arith, signed_arith)) in
       (omega (arith, signed_arith, h, b), omega (arith, signed_arith, le, zeroth))
@@ -25,7 +26,8 @@ module _ (f : ℤ → ℤ) (rises : (j k : ℤ) → j <ℤ k → f j <ℤ f k) w
       (omega (arith, signed_arith, le, zeroth), omega (arith, signed_arith, h, b))
 
   -- so many steps lead past every bound
-  pub too_many_steps : (way : Way) (n : ℕ) (bound : ℤ) → all_days ≤ n → IsDay (f (pos 0)) → IsDay bound → Within way bound (f (steps way n)) → ⊥
+  pub too_many_steps : (way : Way) (n : ℕ) (bound : ℤ) → all_days ≤ n → IsDay (f (pos 0)) → IsDay bound
+      → Within way bound (f (steps way n)) → ⊥
   too_many_steps Back n bound many zeroth b h =
       let e : (pos 0 -ℤ pos n) +ℤ pos n ≡ pos 0 = omega (arith, signed_arith) in
       let more = subst (λ (z : ℤ). (f (pos 0 -ℤ pos n) +ℤ pos n) ≤ℤ f z) e (grows f rises n (pos 0 -ℤ pos n)) in
@@ -37,11 +39,13 @@ module _ (f : ℤ → ℤ) (rises : (j k : ℤ) → j <ℤ k → f j <ℤ f k) w
 
   module _ (on : ℤ → Type 0) (nth_is_on : (k : ℤ) → on (f k)) (misses_none : (d : ℤ) → on d → (k : ℤ) × (f k ≡ d)) where
     -- the farthest grid day within the bound ends the span before a short stub
-    pub short_end : (way : Way) (n : ℕ) (bound : ℤ) → Within way bound (f (steps way n)) → (Within way bound (f (steps way (n + 1))) → ⊥) → ShortEnd way on bound (f (steps way n))
+    pub short_end : (way : Way) (n : ℕ) (bound : ℤ) → Within way bound (f (steps way n))
+        → (Within way bound (f (steps way (n + 1))) → ⊥) → ShortEnd way on bound (f (steps way n))
     short_end Back n bound here past =
         let e : pos 0 -ℤ pos (n + 1) ≡ (pos 0 -ℤ pos n) -ℤ pos 1 = omega (arith, signed_arith) in
         let out = subst (λ (z : ℤ). bound ≤ℤ f z → ⊥) e past in
-        first_from f rises on nth_is_on misses_none (pos 0 -ℤ pos n) bound here (below (f ((pos 0 -ℤ pos n) -ℤ pos 1)) bound out)
+        first_from f rises on nth_is_on misses_none (pos 0 -ℤ pos n) bound here
+        (below (f ((pos 0 -ℤ pos n) -ℤ pos 1)) bound out)
       where
         below : (x b : ℤ) → (b ≤ℤ x → ⊥) → x <ℤ b
         below x b h = elim (cases_ltz x b) [ inl lt ↦ lt | inr ge ↦ absurd (h ge) ]
@@ -54,12 +58,14 @@ module _ (f : ℤ → ℤ) (rises : (j k : ℤ) → j <ℤ k → f j <ℤ f k) w
         above x b h = elim (cases_ltz b x) [ inl lt ↦ lt | inr ge ↦ absurd (h ge) ]
 
     -- the bound is on the grid: there is no stub
-    pub long_none : (way : Way) (anchor bound short : ℤ) → ShortEnd way on bound short → short ≡ bound → LongEnd way on anchor bound bound
+    pub long_none : (way : Way) (anchor bound short : ℤ) → ShortEnd way on bound short → short ≡ bound
+        → LongEnd way on anchor bound bound
     long_none Back anchor bound short is e = record { short = short; is_short = is; choice = inl (e, refl) }
     long_none Ahead anchor bound short is e = record { short = short; is_short = is; choice = inl (e, refl) }
 
     -- no whole period lies beside the stub: it is the whole term
-    pub long_whole : (way : Way) (anchor bound : ℤ) → ShortEnd way on bound anchor → (anchor ≡ bound → ⊥) → LongEnd way on anchor bound anchor
+    pub long_whole : (way : Way) (anchor bound : ℤ) → ShortEnd way on bound anchor → (anchor ≡ bound → ⊥)
+        → LongEnd way on anchor bound anchor
     long_whole Back anchor bound is apart = record {
       short = anchor;
       is_short = is;
@@ -72,7 +78,9 @@ module _ (f : ℤ → ℤ) (rises : (j k : ℤ) → j <ℤ k → f j <ℤ f k) w
     }
 
     -- one step nearer to the anchor than the short stub
-    pub long_nearer : (way : Way) (n : ℕ) (anchor bound : ℤ) → f (pos 0) ≡ anchor → 0 < n → ShortEnd way on bound (f (steps way n)) → (f (steps way n) ≡ bound → ⊥) → LongEnd way on anchor bound (f (steps way (n - 1)))
+    pub long_nearer : (way : Way) (n : ℕ) (anchor bound : ℤ) → f (pos 0) ≡ anchor → 0 < n
+        → ShortEnd way on bound (f (steps way n)) → (f (steps way n) ≡ bound → ⊥)
+        → LongEnd way on anchor bound (f (steps way (n - 1)))
     long_nearer Back n anchor bound zeroth some is apart =
         let k : ℤ = pos 0 -ℤ pos n in
         let e : k +ℤ pos 1 ≡ pos 0 -ℤ pos (n - 1) = omega (arith, signed_arith, some) in
@@ -95,7 +103,8 @@ module _ (f : ℤ → ℤ) (rises : (j k : ℤ) → j <ℤ k → f j <ℤ f k) w
         }
 
   -- fewer steps stay within the bound
-  pub within_nearer : (way : Way) (n : ℕ) (bound : ℤ) → Within way bound (f (steps way n)) → Within way bound (f (steps way (n - 1)))
+  pub within_nearer : (way : Way) (n : ℕ) (bound : ℤ) → Within way bound (f (steps way n))
+      → Within way bound (f (steps way (n - 1)))
   within_nearer Back n bound h =
       let le = no_earlier f rises (pos 0 -ℤ pos n) (pos 0 -ℤ pos (n - 1)) (omega (arith, signed_arith)) in
       omega (arith, signed_arith, le, h)

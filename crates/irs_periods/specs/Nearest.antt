@@ -31,11 +31,15 @@ pub record LastBefore (on : ℤ → Type 0) (d r : ℤ) : Type 0 where
 pub record LongFirst (on : ℤ → Type 0) (e t r : ℤ) : Type 0 where
   pub short : ℤ
   pub is_short : FirstFrom on e short
-  pub choice : ((short ≡ e) × (r ≡ e)) ⊎ ((short ≡ e → ⊥) × ((FirstAfter on short r × (r ≤ℤ t)) ⊎ (((x : ℤ) → FirstAfter on short x → x ≤ℤ t → ⊥) × (r ≡ t))))
+  pub choice : ((short ≡ e) × (r ≡ e))
+      ⊎ ((short ≡ e → ⊥) × ((FirstAfter on short r × (r ≤ℤ t))
+      ⊎ (((x : ℤ) → FirstAfter on short x → x ≤ℤ t → ⊥) × (r ≡ t))))
 
 -- r is the last day of the regular span before a long final stub of the term from e to t: the last
 -- grid day at or before t if that is t; else the grid day before it if it isn't before e; else e
 pub record LongLast (on : ℤ → Type 0) (e t r : ℤ) : Type 0 where
   pub short : ℤ
   pub is_short : LastUpTo on t short
-  pub choice : ((short ≡ t) × (r ≡ t)) ⊎ ((short ≡ t → ⊥) × ((LastBefore on short r × (e ≤ℤ r)) ⊎ (((x : ℤ) → LastBefore on short x → e ≤ℤ x → ⊥) × (r ≡ e))))
+  pub choice : ((short ≡ t) × (r ≡ t))
+      ⊎ ((short ≡ t → ⊥) × ((LastBefore on short r × (e ≤ℤ r))
+      ⊎ (((x : ℤ) → LastBefore on short x → e ≤ℤ x → ⊥) × (r ≡ e))))

@@ -64,7 +64,8 @@ GivenSpan (Some f) l stub on e t first last = (first ≡ f) × (last ≡ given_o
 
 -- the first and the last regular day of such a stream, by its grid days
 abbrev pub GivenSpanOf : Stream → (ℤ → Type 0) → ℤ → ℤ → Type 0
-GivenSpanOf s on first last = GivenSpan s.first_regular s.last_regular s.stub on (first_day_of s) (termination_of s) first last
+GivenSpanOf s on first last =
+    GivenSpan s.first_regular s.last_regular s.stub on (first_day_of s) (termination_of s) first last
 
 -- for the term the span is the whole term
 abbrev pub SpanBy : Bool → Option ℤ → Option ℤ → Option StubKind → (ℤ → Type 0) → ℤ → ℤ → ℤ → ℤ → Type 0
@@ -74,4 +75,5 @@ SpanBy false f l stub on e t first last = GivenSpan f l stub on e t first last
 -- the regular span of a stream, and the anchor of its grid
 pub record Regular (s : Stream) (span : Span) : Type 0 where
   pub anchored : span.anchor ≡ anchor_of s
-  pub spans : SpanBy (is_term s.freq.unit) s.first_regular s.last_regular s.stub (OnGrid s.freq s.roll span.anchor) (first_day_of s) (termination_of s) span.first span.last
+  pub spans : SpanBy (is_term s.freq.unit) s.first_regular s.last_regular s.stub (OnGrid s.freq s.roll span.anchor)
+      (first_day_of s) (termination_of s) span.first span.last

@@ -9,7 +9,9 @@ ghost use Rattle.irs_base.specs.declared.places.Rule.TheVariants.{K33};
 ghost use Rattle.irs_base.specs.Order.{First, comes_before};
 ghost use Rattle.irs_terms.specs.TermDates.{DatesInOrder};
 ghost use Rattle.irs_terms.specs.declared.results.Span.{Span};
-ghost use Rattle.irs_periods.specs.Adjusting.{AdjustedList, AdjustsAt, BreaksAdjusted, FirstLaterNoResult, FirstNoResult, FirstNotAfter, EachHasResult, EachLaterHasResult, MissesResult, NotAfter, days_by, no_result_at, not_after_at};
+ghost use Rattle.irs_periods.specs.Adjusting.{AdjustedList, AdjustsAt, BreaksAdjusted, FirstLaterNoResult};
+ghost use Rattle.irs_periods.specs.Adjusting.{FirstNoResult, FirstNotAfter, EachHasResult, EachLaterHasResult};
+ghost use Rattle.irs_periods.specs.Adjusting.{MissesResult, NotAfter, days_by, no_result_at, not_after_at};
 ghost use Rattle.irs_periods.specs.Answers.{IfMemory};
 ghost use Rattle.irs_periods.specs.Boundaries.{Boundaries};
 

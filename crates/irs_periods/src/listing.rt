@@ -2,7 +2,8 @@
 //! `firstPeriodStartDate`, else the effective date), the termination date, and every grid day of the
 //! regular span (2006 ISDA Definitions, 4.13: a Calculation Period runs from one period end date,
 //! included, to the next, excluded). The most periods are this project's own.
-ghost use Rattle.std.specs.Prelude.{◌≡◌, ◌↔◌, ◌⊎◌, ◌<◌, ◌≤◌, ◌+◌, ◌++◌, ℕ, ℤ, List, length, pos, neg_ℤ, ◌+ℤ◌, ◌≤ℤ◌, IfOk};
+ghost use Rattle.std.specs.Prelude.{◌≡◌, ◌↔◌, ◌⊎◌, ◌<◌, ◌≤◌, ◌+◌, ◌++◌, ℕ, ℤ, List, length, pos, neg_ℤ, ◌+ℤ◌, ◌≤ℤ◌};
+ghost use Rattle.std.specs.Prelude.{IfOk};
 ghost use Rattle.jiff_core.specs.Calendar.{IsBetween};
 ghost use Rattle.irs_base.specs.Days.{IsDay, all_days};
 ghost use Rattle.irs_base.specs.Faults.{IfBroken};

@@ -19,8 +19,10 @@ ghost use Rattle.irs_base.specs.Days.{IsDay};
 ghost use Rattle.irs_base.specs.Order.{First, comes_before};
 ghost use Rattle.irs_terms.specs.Lawful.{IsLawfulStream};
 ghost use Rattle.irs_terms.specs.FirstDay.{first_day_of};
-ghost use Rattle.irs_periods.specs.Spans.{GivenSpanOf, Regular, StubSpan, anchor_of, given_anchor_of, is_term, stub_anchor};
-ghost use Rattle.irs_periods.specs.SpanRules.{BreaksSpan, SpanKept, anchor_element, last_element, last_off_grid, roll_misfits};
+ghost use Rattle.irs_periods.specs.Spans.{GivenSpanOf, Regular, StubSpan, anchor_of, given_anchor_of, is_term};
+ghost use Rattle.irs_periods.specs.Spans.{stub_anchor};
+ghost use Rattle.irs_periods.specs.SpanRules.{BreaksSpan, SpanKept, anchor_element, last_element, last_off_grid};
+ghost use Rattle.irs_periods.specs.SpanRules.{roll_misfits};
 ghost use Rattle.irs_terms.specs.Suiting.{IsTerm, FrequencySuits};
 ghost use Rattle.irs_terms.specs.TermDates.{DatesInOrder, first_day_element, termination_of};
 

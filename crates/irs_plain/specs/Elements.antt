@@ -19,7 +19,8 @@ next_holder holder last = if is_adjustments last then holder else last
 -- the path from the name of the holder on
 abbrev pub holder_from : List ℕ → List ℕ → List ℕ → List ℕ
 holder_from holder last [] = holder
-holder_from holder last (b ∷ bs) = if b == 47 then holder_from (next_holder holder last) bs bs else holder_from holder last bs
+holder_from holder last (b ∷ bs) =
+    if b == 47 then holder_from (next_holder holder last) bs bs else holder_from holder last bs
 
 -- the name of the element that holds the last one
 abbrev pub holder : List ℕ → List ℕ

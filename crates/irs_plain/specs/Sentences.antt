@@ -38,7 +38,9 @@ about one two three rule stream path index =
 
 -- `refused RULE STREAM PATH INDEX`
 abbrev pub refused : List ℕ → List (List ℕ)
-refused line = about (second line) (codes ": ") [] (second line) (third line) (fourth line) (number_told (second line) (fifth line))
+refused line =
+    about (second line) (codes ": ") [] (second line) (third line) (fourth line)
+    (number_told (second line) (fifth line))
 
 -- ---- a file at fault
 
@@ -46,25 +48,31 @@ refused line = about (second line) (codes ": ") [] (second line) (third line) (f
 abbrev pub calendar_fault : List ℕ → List ℕ
 calendar_fault fault =
     if bytes_eq fault (codes "repeat") then codes "this centre stands already"
-    else (if bytes_eq fault (codes "toomany") then codes "a centre has at most 20,000 holidays" else codes "this line can't stand here")
+    else (if bytes_eq fault (codes "toomany") then codes "a centre has at most 20,000 holidays" else codes
+    "this line can't stand here")
 
 -- what is wrong with a line of a fixing file
 abbrev pub fixing_fault : List ℕ → List ℕ
-fixing_fault fault = if bytes_eq fault (codes "repeat") then codes "this date, tenor and index stand already" else codes "this line isn't DATE RATE TENOR INDEX"
+fixing_fault fault =
+    if bytes_eq fault (codes "repeat") then codes "this date, tenor and index stand already" else codes
+    "this line isn't DATE RATE TENOR INDEX"
 
 -- `bad calendar FILE LINE FAULT`
 abbrev pub bad_calendar : List (List ℕ) → List ℕ → List (List ℕ)
 bad_calendar words line =
-    codes "calendar file " ∷ third line ∷ codes " (" ∷ calendar_name words (third line) ∷ codes "), line " ∷ fourth line ∷ codes ": " ∷ calendar_fault (fifth line) ∷ []
+    codes "calendar file " ∷ third line ∷ codes " (" ∷ calendar_name words (third line) ∷ codes "), line " ∷ fourth line
+    ∷ codes ": " ∷ calendar_fault (fifth line) ∷ []
 
 -- `bad fixings LINE FAULT`
 abbrev pub bad_fixings : List (List ℕ) → List ℕ → List (List ℕ)
 bad_fixings words line =
-    codes "fixing file (" ∷ fixings_name words ∷ codes "), line " ∷ third line ∷ codes ": " ∷ fixing_fault (fourth line) ∷ []
+    codes "fixing file (" ∷ fixings_name words ∷ codes "), line " ∷ third line ∷ codes ": "
+    ∷ fixing_fault (fourth line) ∷ []
 
 -- `bad flows KIND STREAM PATH INDEX`
 abbrev pub bad_flows : List (List ℕ) → List ℕ → List (List ℕ)
-bad_flows words line = about (codes "cash flows (") (flows_name words) (codes "): ") (third line) (fourth line) (fifth line) (sixth line)
+bad_flows words line =
+    about (codes "cash flows (") (flows_name words) (codes "): ") (third line) (fourth line) (fifth line) (sixth line)
 
 -- a file that is outside its grammar or its limits
 abbrev pub bad_file : List (List ℕ) → List ℕ → List (List ℕ)
@@ -105,7 +113,8 @@ abbrev pub departure : List (List ℕ) → List ℕ → List (List ℕ)
 departure words line =
     codes "the cash flows (" ∷ flows_name words ∷ verb (fifth line)
     ∷ of_field (fifth line) (fifth line) ∷ of_field (fifth line) (codes " of ")
-    ∷ unless_stream (third line) (third line) ∷ unless_stream (third line) (codes " ") ∷ unless_stream (third line) (fourth line)
+    ∷ unless_stream (third line) (third line) ∷ unless_stream (third line) (codes " ")
+    ∷ unless_stream (third line) (fourth line)
     ∷ stream_words (third line) ∷ second line ∷ ending (fifth line) ∷ []
 
 -- ---- every status

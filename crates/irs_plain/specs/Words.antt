@@ -1,5 +1,6 @@
 -- The files that the words of a command line name; the first word is the command.
-use Rattle.std.specs.Prelude.{ℕ, ◌+◌, ◌-◌, ◌*◌, ◌||◌, List, [], ◌∷◌, Option, Some, None, map, slice_get, String, string_bytes, codes, if◌then◌else◌}
+use Rattle.std.specs.Prelude.{ℕ, ◌+◌, ◌-◌, ◌*◌, ◌||◌, List, [], ◌∷◌, Option, Some, None, map, slice_get, String}
+use Rattle.std.specs.Prelude.{string_bytes, codes, if◌then◌else◌}
 use Rattle.std.specs.Str.{bytes_eq}
 use Rattle.std.specs.declared.alloc.Global.{Global}
 
@@ -31,7 +32,8 @@ named words place = word_at words (number place)
 abbrev pub before_calendars : List ℕ → ℕ
 before_calendars command =
     if bytes_eq command (codes "check") then 1
-    else (if bytes_eq command (codes "audit") || bytes_eq command (codes "accrue") || bytes_eq command (codes "overnight") then 3
+    else (if bytes_eq command (codes "audit") || bytes_eq command (codes "accrue")
+    || bytes_eq command (codes "overnight") then 3
     else (if bytes_eq command (codes "average") then 5
     else (if bytes_eq command (codes "interpolate") then 6 else 2)))
 

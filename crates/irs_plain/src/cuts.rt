@@ -1,5 +1,7 @@
 //! Cutting a text at a byte: the fields of a printed line, and the names of a path.
-ghost use Rattle.irs_plain.specs.Cuts.{behind as behind_of, fifth as fifth_of, fourth as fourth_of, front as front_of, length_before as length_before_of, second as second_of, sixth as sixth_of, third as third_of};
+ghost use Rattle.irs_plain.specs.Cuts.{behind as behind_of, fifth as fifth_of, fourth as fourth_of, front as front_of};
+ghost use Rattle.irs_plain.specs.Cuts.{length_before as length_before_of, second as second_of, sixth as sixth_of};
+ghost use Rattle.irs_plain.specs.Cuts.{third as third_of};
 ghost use Rattle.std.specs.Prelude.{◌≡◌, ◌≤◌, length};
 ghost use Rattle.std.specs.Str.{bytes_eq};
 

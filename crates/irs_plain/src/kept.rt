@@ -52,7 +52,8 @@ impl<S: Sink> Sink for Kept<S> {
     fn put(&mut self, bytes: &[u8]) -> Result<(), PutFailed>
         ensures ok { OnOk result (Grew (S.written (sink_of self.old)) (S.written (sink_of self.new)) bytes.now) }
         ensures quiet { OnOk result (S.faults (sink_of self.new) ≡ S.faults (sink_of self.old)) }
-        ensures err { OnErr result (GrewByFront (S.written (sink_of self.old)) (S.written (sink_of self.new)) bytes.now) }
+        ensures err { OnErr result
+            (GrewByFront (S.written (sink_of self.old)) (S.written (sink_of self.new)) bytes.now) }
         ensures rose { OnErr result (Rose (S.faults (sink_of self.old)) (S.faults (sink_of self.new))) }
         ensures kept { front_of self.new ≡ take longest_line (front_of self.old ++ bytes.now) }
     {

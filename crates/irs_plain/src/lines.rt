@@ -1,6 +1,14 @@
 //! The sentence for a line that the program wrote: what it means, with the names of the files that it
 //! speaks of.
-ghost use Rattle.irs_plain.specs.Sentences.{about as about_of, bad_calendar as bad_calendar_of, bad_file as bad_file_of, bad_fixings as bad_fixings_of, bad_flows as bad_flows_of, calendar_fault as calendar_fault_of, departure as departure_of, ending as ending_of, fixing_fault as fixing_fault_of, is_of_field as is_of_field_of, joined, number_told as number_told_of, of_field as of_field_of, refused as refused_of, said, sentence_of, stream_words as stream_words_of, told as told_of, unless_stream as unless_stream_of, unless_zero as unless_zero_of, verb as verb_of};
+ghost use Rattle.irs_plain.specs.Sentences.{about as about_of, bad_calendar as bad_calendar_of};
+ghost use Rattle.irs_plain.specs.Sentences.{bad_file as bad_file_of, bad_fixings as bad_fixings_of};
+ghost use Rattle.irs_plain.specs.Sentences.{bad_flows as bad_flows_of, calendar_fault as calendar_fault_of};
+ghost use Rattle.irs_plain.specs.Sentences.{departure as departure_of, ending as ending_of};
+ghost use Rattle.irs_plain.specs.Sentences.{fixing_fault as fixing_fault_of, is_of_field as is_of_field_of, joined};
+ghost use Rattle.irs_plain.specs.Sentences.{number_told as number_told_of, of_field as of_field_of};
+ghost use Rattle.irs_plain.specs.Sentences.{refused as refused_of, said, sentence_of, stream_words as stream_words_of};
+ghost use Rattle.irs_plain.specs.Sentences.{told as told_of, unless_stream as unless_stream_of};
+ghost use Rattle.irs_plain.specs.Sentences.{unless_zero as unless_zero_of, verb as verb_of};
 ghost use Rattle.irs_plain.specs.Words.{texts};
 ghost use Rattle.std.specs.Prelude.{◌≡◌, [], ◌∷◌};
 
@@ -62,7 +70,9 @@ fn about<'a>(
     path: &'a [u8],
     index: &'a [u8],
 ) -> Sentence<'a>
-    ensures { said result ≡ joined (about_of opening.entry.first.now opening.entry.second.now opening.entry.third.now rule.now stream.now path.now index.now) }
+    ensures { said result
+        ≡ joined (about_of opening.entry.first.now opening.entry.second.now opening.entry.third.now rule.now stream.now
+        path.now index.now) }
 {
     Sentence {
         parts: [

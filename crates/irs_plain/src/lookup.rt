@@ -1,5 +1,6 @@
 //! The words of a rule, by the table.
-ghost use Rattle.irs_plain.specs.Lookup.{after as after_of, before as before_of, place_in as place_in_of, text_at as text_at_of, texts};
+ghost use Rattle.irs_plain.specs.Lookup.{after as after_of, before as before_of, place_in as place_in_of};
+ghost use Rattle.irs_plain.specs.Lookup.{text_at as text_at_of, texts};
 ghost use Rattle.std.specs.Prelude.{◌≡◌, ◌≤◌, length};
 
 use crate::table::{AFTER, BEFORE, RULES};

@@ -3,7 +3,10 @@
 //! `check DOC CAL..`, `schedule DOC FIX CAL..`, `audit DOC FIX FLOWS CAL..`, `emit DOC FIX CAL..`,
 //! `net DOC FIX CAL..`, `accrue DATE DOC FIX CAL..`, `overnight STREAM DOC DAILY CAL..`,
 //! `average STREAM KIND STEP DOC FIX CAL..` and `interpolate STREAM SIDE LOW HIGH DOC FIX CAL..`.
-ghost use Rattle.irs_plain.specs.Words.{calendar_name as calendar_name_of, command as command_of, fixings_name as fixings_name_of, fixings_place as fixings_place_of, flows_name as flows_name_of, named as named_of, number as number_of, texts, word_at as word_at_of, before_calendars as before_calendars_of};
+ghost use Rattle.irs_plain.specs.Words.{calendar_name as calendar_name_of, command as command_of};
+ghost use Rattle.irs_plain.specs.Words.{fixings_name as fixings_name_of, fixings_place as fixings_place_of};
+ghost use Rattle.irs_plain.specs.Words.{flows_name as flows_name_of, named as named_of, number as number_of, texts};
+ghost use Rattle.irs_plain.specs.Words.{word_at as word_at_of, before_calendars as before_calendars_of};
 ghost use Rattle.std.specs.Prelude.{◌≡◌, ◌≤◌};
 
 use crate::cuts::is;

@@ -3,7 +3,8 @@ use Rattle.irs_base.specs.declared.places.Broken.{Broken}
 use Rattle.irs_base.specs.declared.places.Rule.{Rule}
 use Rattle.irs_base.specs.declared.places.Rule.TheVariants.{K2, K3, K5, K6, K7}
 use Rattle.irs_elements.proofs.Exact.{both_true}
-use Rattle.irs_elements.specs.Elements.{FaultAt, IsMember, absent_index, index_in, inside, is_element, is_required, missing, most, name_at, own, place, too_many, under}
+use Rattle.irs_elements.specs.Elements.{FaultAt, IsMember, absent_index, index_in, inside, is_element, is_required}
+use Rattle.irs_elements.specs.Elements.{missing, most, name_at, own, place, too_many, under}
 use Rattle.irs_elements.specs.Find.{member, once, values_in, values_of}
 use Rattle.irs_elements.specs.Leaves.{has_value, leaf_rule, out_of_profile, text_of, text_rule}
 use Rattle.irs_elements.specs.declared.table.Choice.{Choice}
@@ -17,14 +18,21 @@ use Rattle.irs_json.specs.Names.{names_of}
 use Rattle.irs_json.specs.Values.{items_of}
 use Rattle.serde_json.specs.Data.{Data, null, boolean, number, string, array, object, no_items, item}
 use Rattle.serde_json.specs.Find.{get}
-use Rattle.std.proofs.Common.{◌≡◌, ℕ, ◌<◌, ◌≤◌, nat_lt, Bool, true, false, ◌&&◌, ◌==◌, true≢false, ◌⊎◌, inl, inr, List, [], ◌∷◌, length, Option, Some, None, IfSome, option_and_then, slice_get, refl, sym, subst, arith, if◌then◌else◌}
+use Rattle.std.proofs.Common.{◌≡◌, ℕ, ◌<◌, ◌≤◌, nat_lt, Bool, true, false, ◌&&◌, ◌==◌, true≢false, ◌⊎◌, inl, inr, List}
+use Rattle.std.proofs.Common.{[], ◌∷◌, length, Option, Some, None, IfSome, option_and_then, slice_get, refl, sym, subst}
+use Rattle.std.proofs.Common.{arith, if◌then◌else◌}
 use Rattle.std.proofs.lemmas.Bool.{cases_order}
 use Rattle.std.proofs.lemmas.Bool.Decides.{nat_tests}
 use Rattle.std.specs.List.{list_any}
 use Rattle.std.specs.Str.{bytes_eq}
 
 pub le_or_lt : (a b : ℕ) → (a ≤ b) ⊎ (b < a)
-le_or_lt a b = elim (cases_order a b) [ inl e ↦ inl (omega arith) | inr r ↦ elim r [ inl lt ↦ inl (omega arith) | inr gt ↦ inr gt ] ]
+le_or_lt a b =
+    elim (cases_order a b) [
+      | inl e ↦ inl (omega arith)
+      | inr r ↦
+          elim r [ inl lt ↦ inl (omega arith) | inr gt ↦ inr gt ]
+    ]
 
 is_number : (m n : ℕ) → (m == n) ≡ true → m ≡ n
 is_number m n e = grind (arith, nat_tests)
@@ -90,18 +98,24 @@ record Below (r : ℕ) (o : Option Row) : Type 0 where
 
 below_is : (r : ℕ) (o : Option Row) → is_below r o ≡ true → Below r o
 below_is r None e = absurd (true≢false (sym e))
-below_is r (Some row) e = let b = both_true (row.parent == r) (is_element row.kind) e in record { row = row; found = refl; parent = is_number row.parent r b.0; element = b.1 }
+below_is r (Some row) e = let b = both_true (row.parent == r) (is_element row.kind) e in
+    record { row = row; found = refl; parent = is_number row.parent r b.0; element = b.1 }
 
 -- what stands is no empty array
 pub filled : (o : Option Data) (m : Data) → option_and_then present o ≡ Some m → 0 < length (items_of m)
 filled None m e = cc
 filled (Some null) m e = cc
 filled (Some (array no_items)) m e = cc
-filled (Some (array (item d ds))) m e = let s : array (item d ds) ≡ m = cc in subst (λ (x : Data). 0 < length (items_of x)) s (omega arith)
-filled (Some (boolean b)) m e = let s : boolean b ≡ m = cc in subst (λ (x : Data). 0 < length (items_of x)) s (omega arith)
-filled (Some (number n)) m e = let s : number n ≡ m = cc in subst (λ (x : Data). 0 < length (items_of x)) s (omega arith)
-filled (Some (string t)) m e = let s : string t ≡ m = cc in subst (λ (x : Data). 0 < length (items_of x)) s (omega arith)
-filled (Some (object ms)) m e = let s : object ms ≡ m = cc in subst (λ (x : Data). 0 < length (items_of x)) s (omega arith)
+filled (Some (array (item d ds))) m e = let s : array (item d ds) ≡ m = cc in
+    subst (λ (x : Data). 0 < length (items_of x)) s (omega arith)
+filled (Some (boolean b)) m e = let s : boolean b ≡ m = cc in
+    subst (λ (x : Data). 0 < length (items_of x)) s (omega arith)
+filled (Some (number n)) m e = let s : number n ≡ m = cc in
+    subst (λ (x : Data). 0 < length (items_of x)) s (omega arith)
+filled (Some (string t)) m e = let s : string t ≡ m = cc in
+    subst (λ (x : Data). 0 < length (items_of x)) s (omega arith)
+filled (Some (object ms)) m e = let s : object ms ≡ m = cc in
+    subst (λ (x : Data). 0 < length (items_of x)) s (omega arith)
 
 some_rule : (b : Bool) → (if b then Some K5 else Some K6) ≡ None → ⊥
 some_rule true e = cc
@@ -130,18 +144,28 @@ module _ (rows : List Row) (names : List (List ℕ)) where
     pub index : ℕ
     pub none : Unbroken stream c row.kind index d
 
-  pub names_by : (s r i : ℕ) (choice : Choice) (d : Data) (o : Option (List (List ℕ))) → names_of d ≡ o → Unbroken s r (Object choice) i d → (ns : List (List ℕ)) × (names_of d ≡ Some ns)
+  pub names_by : (s r i : ℕ) (choice : Choice) (d : Data) (o : Option (List (List ℕ))) → names_of d ≡ o
+      → Unbroken s r (Object choice) i d → (ns : List (List ℕ)) × (names_of d ≡ Some ns)
   names_by s r i choice d None e none = absurd (none (place rows s K3 r i) (own r i K3 (Object choice) d (rw e refl)))
   names_by s r i choice d (Some ns) e none = (ns, e)
 
-  pub few_by : (s r i c : ℕ) (choice : Choice) (row : Row) (d m : Data) (ns : List (List ℕ)) → names_of d ≡ Some ns → IsMember rows names r c row → is_element row.kind ≡ true
-      → child_of (name_at names c) d ≡ Some m → Unbroken s r (Object choice) i d → (length (items_of m) ≤ most row.count) ⊎ (most row.count < length (items_of m)) → length (items_of m) ≤ most row.count
+  pub few_by : (s r i c : ℕ) (choice : Choice) (row : Row) (d m : Data) (ns : List (List ℕ)) → names_of d ≡ Some ns
+      → IsMember rows names r c row → is_element row.kind ≡ true
+      → child_of (name_at names c) d ≡ Some m → Unbroken s r (Object choice) i d
+      → (length (items_of m) ≤ most row.count) ⊎ (most row.count < length (items_of m))
+      → length (items_of m) ≤ most row.count
   few_by s r i c choice row d m ns n mem el h none (inl le) = le
-  few_by s r i c choice row d m ns n mem el h none (inr lt) = absurd (none (place rows s K7 c 0) (under r i c choice d ns (place rows s K7 c 0) row n mem (too_many c i row d m el h lt)))
+  few_by s r i c choice row d m ns n mem el h none (inr lt) =
+      absurd (none (place rows s K7 c 0)
+      (under r i c choice d ns (place rows s K7 c 0) row n mem (too_many c i row d m el h lt)))
 
-  pub there_by : (s r i c : ℕ) (choice : Choice) (row : Row) (d : Data) (ns : List (List ℕ)) (o : Option Data) → names_of d ≡ Some ns → IsMember rows names r c row → is_element row.kind ≡ true
-      → is_required row.count ≡ true → child_of (name_at names c) d ≡ o → Unbroken s r (Object choice) i d → (m : Data) × (child_of (name_at names c) d ≡ Some m)
-  there_by s r i c choice row d ns None n mem el rq h none = absurd (none (place rows s K2 c (absent_index row.count i)) (under r i c choice d ns (place rows s K2 c (absent_index row.count i)) row n mem (missing c i row d el rq h)))
+  pub there_by : (s r i c : ℕ) (choice : Choice) (row : Row) (d : Data) (ns : List (List ℕ)) (o : Option Data)
+      → names_of d ≡ Some ns → IsMember rows names r c row → is_element row.kind ≡ true
+      → is_required row.count ≡ true → child_of (name_at names c) d ≡ o → Unbroken s r (Object choice) i d
+      → (m : Data) × (child_of (name_at names c) d ≡ Some m)
+  there_by s r i c choice row d ns None n mem el rq h none =
+      absurd (none (place rows s K2 c (absent_index row.count i))
+      (under r i c choice d ns (place rows s K2 c (absent_index row.count i)) row n mem (missing c i row d el rq h)))
   there_by s r i c choice row d ns (Some m) n mem el rq h none = (m, h)
 
   -- an object without faults, and an element below it
@@ -160,11 +184,25 @@ module _ (rows : List Row) (names : List (List ℕ)) where
   joint r c d e clean =
       let first = both_true (nat_lt r c) (object_at (slice_get rows r) && is_below r (slice_get rows c)) e in
       let second = both_true (object_at (slice_get rows r)) (is_below r (slice_get rows c)) first.1 in
-      let (choice, is) = object_kind clean.row.kind (subst (λ (o : Option Row). object_at o ≡ true) clean.found second.0) in
-      let none : Unbroken clean.stream r (Object choice) clean.index d = subst (λ (k : Kind). Unbroken clean.stream r k clean.index d) is clean.none in
+      let (choice, is) =
+      object_kind clean.row.kind (subst (λ (o : Option Row). object_at o ≡ true) clean.found second.0) in
+      let none : Unbroken clean.stream r (Object choice) clean.index d =
+      subst (λ (k : Kind). Unbroken clean.stream r k clean.index d) is clean.none in
       let (ns, named) = names_by clean.stream r clean.index choice d (names_of d) refl none in
       let b = below_is r (slice_get rows c) second.1 in
-      record { stream = clean.stream; index = clean.index; choice = choice; none = none; ns = ns; named = named; row = b.row; member_row = record { found = b.found; parent = b.parent; later = is_less r c first.0 }; element = b.element }
+      record {
+        stream = clean.stream;
+        index = clean.index;
+        choice = choice;
+        none = none;
+        ns = ns;
+        named = named;
+        row =
+            b.row;
+        member_row = record { found = b.found; parent = b.parent; later = is_less r c first.0 };
+        element =
+            b.element;
+      }
 
   -- few values stand there, and each breaks no rule
   abbrev Fine : ℕ → List Data → Type 0
@@ -172,23 +210,28 @@ module _ (rows : List Row) (names : List (List ℕ)) where
 
   fine_items : (r c : ℕ) (d m : Data) → Joint r c d → child_of (name_at names c) d ≡ Some m → Fine c (items_of m)
   fine_items r c d m k h =
-      let few = few_by k.stream r k.index c k.choice k.row d m k.ns k.named k.member_row k.element h k.none (le_or_lt (length (items_of m)) (most k.row.count)) in (
+      let few = few_by k.stream r k.index c k.choice k.row d m k.ns k.named k.member_row k.element h k.none
+      (le_or_lt (length (items_of m)) (most k.row.count)) in (
         subst (λ (o : Option Row). length (items_of m) ≤ most_at o) (sym k.member_row.found) few,
         λ j x at. record {
           row = k.row;
           found = k.member_row.found;
           stream = k.stream;
           index = index_in k.row.count k.index j;
-          none = λ f g. k.none f (under r k.index c k.choice d k.ns f k.row k.named k.member_row (inside c k.index j k.row d m x f k.element h few at g));
+          none = λ f g. k.none f
+              (under r k.index c k.choice d k.ns f k.row k.named k.member_row
+              (inside c k.index j k.row d m x f k.element h few at g));
         },
       )
 
-  fine_found : (r c : ℕ) (d : Data) (p : Option Data) → Joint r c d → child_of (name_at names c) d ≡ p → Fine c (values_of p)
+  fine_found : (r c : ℕ) (d : Data) (p : Option Data) → Joint r c d → child_of (name_at names c) d ≡ p
+      → Fine c (values_of p)
   fine_found r c d None k h = (omega arith, λ j x e. cc)
   fine_found r c d (Some m) k h = fine_items r c d m k h
 
   -- the values of a repeated element
-  pub fine_values : (r c : ℕ) (o : Option Data) → is_child rows r c ≡ true → IfSome o (Clean r) → Fine c (values_in (name_at names c) o)
+  pub fine_values : (r c : ℕ) (o : Option Data) → is_child rows r c ≡ true → IfSome o (Clean r)
+      → Fine c (values_in (name_at names c) o)
   fine_values r c None e clean = (omega arith, λ j x h. cc)
   fine_values r c (Some d) e clean = fine_found r c d (child_of (name_at names c) d) (joint r c d e clean) refl
 
@@ -196,23 +239,30 @@ module _ (rows : List Row) (names : List (List ℕ)) where
   clean_first c ds None h fine = tt
   clean_first c ds (Some x) h fine = fine.1 0 x h
 
-  clean_found : (r c : ℕ) (d : Data) (p : Option Data) → Joint r c d → child_of (name_at names c) d ≡ p → IfSome (option_and_then (λ m. slice_get (items_of m) 0) p) (Clean c)
+  clean_found : (r c : ℕ) (d : Data) (p : Option Data) → Joint r c d → child_of (name_at names c) d ≡ p
+      → IfSome (option_and_then (λ m. slice_get (items_of m) 0) p) (Clean c)
   clean_found r c d None k h = tt
   clean_found r c d (Some m) k h = clean_first c (items_of m) (slice_get (items_of m) 0) refl (fine_items r c d m k h)
 
   -- an element that stands once
-  pub clean_once : (r c : ℕ) (d : Data) → is_child rows r c ≡ true → Clean r d → IfSome (once (name_at names c) d) (Clean c)
+  pub clean_once : (r c : ℕ) (d : Data) → is_child rows r c ≡ true → Clean r d
+      → IfSome (once (name_at names c) d) (Clean c)
   clean_once r c d e clean = clean_found r c d (child_of (name_at names c) d) (joint r c d e clean) refl
 
-  pub clean_member : (r c : ℕ) (o : Option Data) → is_child rows r c ≡ true → IfSome o (Clean r) → IfSome (member (name_at names c) o) (Clean c)
+  pub clean_member : (r c : ℕ) (o : Option Data) → is_child rows r c ≡ true → IfSome o (Clean r)
+      → IfSome (member (name_at names c) o) (Clean c)
   clean_member r c None e clean = tt
   clean_member r c (Some d) e clean = clean_once r c d e clean
 
   -- a required element stands, and with at least one value
-  required : (r c : ℕ) (d : Data) → required_at (slice_get rows c) ≡ true → Joint r c d → (m : Data) × (child_of (name_at names c) d ≡ Some m)
-  required r c d rq k = there_by k.stream r k.index c k.choice k.row d k.ns (child_of (name_at names c) d) k.named k.member_row k.element (subst (λ (o : Option Row). required_at o ≡ true) k.member_row.found rq) refl k.none
+  required : (r c : ℕ) (d : Data) → required_at (slice_get rows c) ≡ true → Joint r c d
+      → (m : Data) × (child_of (name_at names c) d ≡ Some m)
+  required r c d rq k =
+      there_by k.stream r k.index c k.choice k.row d k.ns (child_of (name_at names c) d) k.named k.member_row k.element
+      (subst (λ (o : Option Row). required_at o ≡ true) k.member_row.found rq) refl k.none
 
-  pub some_value : (r c : ℕ) (d : Data) → is_child rows r c ≡ true → required_at (slice_get rows c) ≡ true → Clean r d → 0 < length (values_in (name_at names c) (Some d))
+  pub some_value : (r c : ℕ) (d : Data) → is_child rows r c ≡ true → required_at (slice_get rows c) ≡ true → Clean r d
+      → 0 < length (values_in (name_at names c) (Some d))
   some_value r c d e rq clean =
       let (m, h) = required r c d rq (joint r c d e clean) in
       subst (λ (p : Option Data). 0 < length (values_of p)) (sym h) (filled (get (name_at names c) d) m h)
@@ -221,22 +271,29 @@ module _ (rows : List Row) (names : List (List ℕ)) where
   head_of [] h = absurd (omega arith)
   head_of (x ∷ xs) h = (x, refl)
 
-  pub clean_there : (r c : ℕ) (d : Data) → is_child rows r c ≡ true → required_at (slice_get rows c) ≡ true → Clean r d → (x : Data) × ((once (name_at names c) d ≡ Some x) × Clean c x)
+  pub clean_there : (r c : ℕ) (d : Data) → is_child rows r c ≡ true → required_at (slice_get rows c) ≡ true → Clean r d
+      → (x : Data) × ((once (name_at names c) d ≡ Some x) × Clean c x)
   clean_there r c d e rq clean =
       let k = joint r c d e clean in
       let (m, h) = required r c d rq k in
       let (x, at) = head_of (items_of m) (filled (get (name_at names c) d) m h) in
       (x, (rw h at, (fine_items r c d m k h).1 0 x at))
 
-  pub said_by : (s r i : ℕ) (leaf : LeafKind) (d : Data) (o : Option LeafSaid) (p : Option Rule) → leaf_of d ≡ o → leaf_rule leaf o ≡ p → Unbroken s r (Leaf leaf) i d → Said leaf d
+  pub said_by : (s r i : ℕ) (leaf : LeafKind) (d : Data) (o : Option LeafSaid) (p : Option Rule) → leaf_of d ≡ o
+      → leaf_rule leaf o ≡ p → Unbroken s r (Leaf leaf) i d → Said leaf d
   said_by s r i leaf d o (Some k) h e none = absurd (none (place rows s k r i) (own r i k (Leaf leaf) d (rw h e)))
   said_by s r i leaf d None None h e none = cc
-  said_by s r i leaf d (Some says) None h e none = record { says = says; found = h; valued = value_by leaf (text_of says) (has_value leaf (text_of says)) refl e }
+  said_by s r i leaf d (Some says) None h e none =
+      record { says = says; found = h; valued = value_by leaf (text_of says) (has_value leaf (text_of says)) refl e }
 
-  pub clean_leaf : (c : ℕ) (leaf : LeafKind) (d : Data) → leaf_at (slice_get rows c) ≡ Some leaf → Clean c d → Said leaf d
+  pub clean_leaf : (c : ℕ) (leaf : LeafKind) (d : Data) → leaf_at (slice_get rows c) ≡ Some leaf → Clean c d
+      → Said leaf d
   clean_leaf c leaf d e clean =
       let is = leaf_kind clean.row.kind leaf (subst (λ (o : Option Row). leaf_at o ≡ Some leaf) clean.found e) in
-      said_by clean.stream c clean.index leaf d (leaf_of d) (leaf_rule leaf (leaf_of d)) refl refl (subst (λ (k : Kind). Unbroken clean.stream c k clean.index d) is clean.none)
+      said_by clean.stream c clean.index leaf d (leaf_of d) (leaf_rule leaf (leaf_of d)) refl refl
+      (subst (λ (k : Kind). Unbroken clean.stream c k clean.index d) is clean.none)
 
-  pub clean_from : (c stream index : ℕ) (d : Data) (row : Row) → slice_get rows c ≡ Some row → Unbroken stream c row.kind index d → Clean c d
-  clean_from c stream index d row found none = record { row = row; found = found; stream = stream; index = index; none = none }
+  pub clean_from : (c stream index : ℕ) (d : Data) (row : Row) → slice_get rows c ≡ Some row
+      → Unbroken stream c row.kind index d → Clean c d
+  clean_from c stream index d row found none =
+      record { row = row; found = found; stream = stream; index = index; none = none }

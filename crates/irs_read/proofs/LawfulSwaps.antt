@@ -19,12 +19,14 @@ use Rattle.irs_terms.specs.Lawful.{IsLawful, IsLawfulStream}
 use Rattle.irs_base.specs.Limits.{most_streams}
 use Rattle.irs_terms.specs.declared.stream_list.Swap.{Swap}
 use Rattle.serde_json.specs.Data.{Data}
-use Rattle.std.proofs.Common.{◌≡◌, ℕ, zero, suc, ◌+◌, ◌<◌, ◌≤◌, Bool, true, false, ◌⊎◌, inl, inr, List, map, length, get_or, Some, Ok, is_some, slice_get, All, refl, sym, subst, arith}
+use Rattle.std.proofs.Common.{◌≡◌, ℕ, zero, suc, ◌+◌, ◌<◌, ◌≤◌, Bool, true, false, ◌⊎◌, inl, inr, List, map, length}
+use Rattle.std.proofs.Common.{get_or, Some, Ok, is_some, slice_get, All, refl, sym, subst, arith}
 use Rattle.std.proofs.lemmas.List.{length-map}
 use Rattle.std.proofs.lemmas.List.Elements.{All-map}
 use Rattle.std.proofs.lemmas.Option.{slice_get-get_or}
 
-object_by : (d : Data) (b : Bool) → is_some (names_of d) ≡ b → ((f : Broken) → SwapFault d f → ⊥) → is_some (names_of d) ≡ true
+object_by : (d : Data) (b : Bool) → is_some (names_of d) ≡ b → ((f : Broken) → SwapFault d f → ⊥)
+    → is_some (names_of d) ≡ true
 object_by d true e none = e
 object_by d false e none = absurd (none (place swap_rows 0 K3 0 0) (inl (own 0 0 K3 SWAP d (rw e refl))))
 
@@ -32,32 +34,48 @@ some_by : (ds : List Data) (n : ℕ) → length ds ≡ n → ((f : Broken) → S
 some_by ds zero e none = absurd (none (outside K2 swap_stream) (no_stream e))
 some_by ds (suc n) e none = omega (arith, e)
 
-few_by : (ds : List Data) → (length ds ≤ most_streams) ⊎ (most_streams < length ds) → ((f : Broken) → StreamsFault ds f → ⊥) → length ds ≤ most_streams
+few_by : (ds : List Data) → (length ds ≤ most_streams) ⊎ (most_streams < length ds)
+    → ((f : Broken) → StreamsFault ds f → ⊥) → length ds ≤ most_streams
 few_by ds (inl le) none = le
 few_by ds (inr lt) none = absurd (none (outside K7 swap_stream) (many_streams lt))
 
-each_clean : (ds : List Data) → 0 < length ds → length ds ≤ most_streams → ((f : Broken) → StreamsFault ds f → ⊥) → (j : ℕ) (x : Data) → slice_get ds j ≡ Some x → At 0 x
-each_clean ds lo hi none j x e = clean_from ROWS code_names 0 (j + 1) 0 x _ refl (λ f q. none f (in_stream f lo hi (j, (x, (e, stream_fault q)))))
+each_clean : (ds : List Data) → 0 < length ds → length ds ≤ most_streams → ((f : Broken) → StreamsFault ds f → ⊥)
+    → (j : ℕ) (x : Data) → slice_get ds j ≡ Some x → At 0 x
+each_clean ds lo hi none j x e =
+    clean_from ROWS code_names 0 (j + 1) 0 x _ refl (λ f q. none f (in_stream f lo hi (j, (x, (e, stream_fault q)))))
 
-streams_lawful : (ds : List Data) → ((f : Broken) → StreamsFault ds f → ⊥) → (1 ≤ length ds) × ((length ds ≤ most_streams) × All IsLawfulStream (map (stream_in (lists_of ds)) ds))
+streams_lawful : (ds : List Data) → ((f : Broken) → StreamsFault ds f → ⊥)
+    → (1 ≤ length ds) × ((length ds ≤ most_streams) × All IsLawfulStream (map (stream_in (lists_of ds)) ds))
 streams_lawful ds none =
     let lo = some_by ds (length ds) refl none in
     let hi = few_by ds (le_or_lt (length ds) most_streams) none in
     let clean = each_clean ds lo hi none in
-    let good : GoodLists (lists_of ds) = all_good ds clean in
-    (lo, (hi, All-map IsLawfulStream (stream_in (lists_of ds)) ds (λ k d lt. stream_lawful (lists_of ds) (get_or ds k d) good (clean k (get_or ds k d) (slice_get-get_or ds k d lt)))))
+    let good : GoodLists (lists_of ds) = all_good ds clean in (
+      lo,
+      (
+        hi,
+        All-map IsLawfulStream (stream_in (lists_of ds)) ds
+            (λ k d lt. stream_lawful (lists_of ds) (get_or ds k d) good
+            (clean k (get_or ds k d) (slice_get-get_or ds k d lt))),
+      ),
+    )
 
 swap_lawful : (d : Data) → ((f : Broken) → SwapFault d f → ⊥) → IsLawful (swap_in d)
 swap_lawful d none =
     let there = object_by d (is_some (names_of d)) refl none in
-    let (lo, (hi, all)) = streams_lawful (streams_in d) (λ f q. none f (inr (there, q))) in
-    (omega (arith, lo, length-map (streams_in d) (stream_in (lists_of (streams_in d)))), omega (arith, hi, length-map (streams_in d) (stream_in (lists_of (streams_in d)))), all)
+    let (lo, (hi, all)) = streams_lawful (streams_in d) (λ f q. none f (inr (there, q))) in (
+      omega (arith, lo, length-map (streams_in d) (stream_in (lists_of (streams_in d)))),
+      omega (arith, hi, length-map (streams_in d) (stream_in (lists_of (streams_in d)))),
+      all,
+    )
 
-pub document_lawful : (d at : Data) (s : Swap) → ((f : Broken) → DocumentFault d f → ⊥) → the_swap d ≡ Ok at → s ≡ swap_in at → IsLawful s
+pub document_lawful : (d at : Data) (s : Swap) → ((f : Broken) → DocumentFault d f → ⊥) → the_swap d ≡ Ok at
+    → s ≡ swap_in at → IsLawful s
 document_lawful d at s none found says = subst IsLawful (sym says) (swap_lawful at (λ f q. none f (below at f found q)))
 
 -- nor is anything wanting in it
-swap_stated : (d : Data) → ((f : Broken) → SwapFault d f → ⊥) → (j : ℕ) (x : Data) → slice_get (streams_in d) j ≡ Some x → IsStated stream_rows stream_names x
+swap_stated : (d : Data) → ((f : Broken) → SwapFault d f → ⊥) → (j : ℕ) (x : Data) → slice_get (streams_in d) j ≡ Some x
+    → IsStated stream_rows stream_names x
 swap_stated d none j x e =
     let there = object_by d (is_some (names_of d)) refl none in
     let ds = streams_in d in

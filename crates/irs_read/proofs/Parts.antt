@@ -37,10 +37,38 @@ pub record Same (s t : Stream) : Type 0 where
   pub exchanges : s.exchanges ≡ t.exchanges
 
 -- the stream of these parts
-made : Dated → Option Dated → Dated → Adjustments → Option ℤ → Option ℤ → Option StubKind → Frequency → RollCode → PayTerms → Option ResetTerms → StepValues → Currency → Leg → DayCountCode → CompCode → Option StubTerms → ExchangeFlags → Stream
-made a0 a17 a1 a2 a3 a4 a5 a6 a7 a8 a9 a10 a11 a12 a13 a14 a15 a16 = record { effective = a0; first_start = a17; termination = a1; period_adj = a2; first_regular = a3; last_regular = a4; stub = a5; freq = a6; roll = a7; pay = a8; reset = a9; notional = a10; currency = a11; leg = a12; day_count = a13; compounding = a14; stubs = a15; exchanges = a16 }
+made : Dated → Option Dated → Dated → Adjustments → Option ℤ → Option ℤ → Option StubKind → Frequency → RollCode
+    → PayTerms → Option ResetTerms → StepValues → Currency → Leg → DayCountCode → CompCode → Option StubTerms
+    → ExchangeFlags → Stream
+made a0 a17 a1 a2 a3 a4 a5 a6 a7 a8 a9 a10 a11 a12 a13 a14 a15 a16 =
+    record {
+      effective = a0;
+      first_start = a17;
+      termination = a1;
+      period_adj = a2;
+      first_regular = a3;
+      last_regular =
+          a4;
+      stub = a5;
+      freq = a6;
+      roll = a7;
+      pay = a8;
+      reset = a9;
+      notional = a10;
+      currency = a11;
+      leg = a12;
+      day_count =
+          a13;
+      compounding = a14;
+      stubs = a15;
+      exchanges = a16;
+    }
 
-made_same : (s t : Stream) → Same s t → made s.effective s.first_start s.termination s.period_adj s.first_regular s.last_regular s.stub s.freq s.roll s.pay s.reset s.notional s.currency s.leg s.day_count s.compounding s.stubs s.exchanges ≡ made t.effective t.first_start t.termination t.period_adj t.first_regular t.last_regular t.stub t.freq t.roll t.pay t.reset t.notional t.currency t.leg t.day_count t.compounding t.stubs t.exchanges
+made_same : (s t : Stream) → Same s t
+    → made s.effective s.first_start s.termination s.period_adj s.first_regular s.last_regular s.stub s.freq s.roll
+    s.pay s.reset s.notional s.currency s.leg s.day_count s.compounding s.stubs s.exchanges
+    ≡ made t.effective t.first_start t.termination t.period_adj t.first_regular t.last_regular t.stub t.freq t.roll
+    t.pay t.reset t.notional t.currency t.leg t.day_count t.compounding t.stubs t.exchanges
 made_same s t h = cc
 
 pub same_stream : (s t : Stream) → Same s t → s ≡ t

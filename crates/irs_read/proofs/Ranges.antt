@@ -1,7 +1,8 @@
 -- The values of leaves lie in their ranges, their defaults too.
 use Rattle.irs_base.specs.Days.{IsDay, first_day, last_day}
 use Rattle.irs_elements.proofs.Exact.{both_true}
-use Rattle.irs_elements.specs.Codes.{among, day_number_at, day_roll_at, either, is_first_digit, named_roll_at, roll_at, tenor_unit_at}
+use Rattle.irs_elements.specs.Codes.{among, day_number_at, day_roll_at, either, is_first_digit, named_roll_at, roll_at}
+use Rattle.irs_elements.specs.Codes.{tenor_unit_at}
 use Rattle.irs_elements.specs.Dates.{day_at, is_text_of, named_day, plain_day_at, without_z}
 use Rattle.irs_elements.specs.Decimals.{dec_at}
 use Rattle.irs_elements.specs.Find.{text_in}
@@ -18,18 +19,23 @@ use Rattle.irs_base.specs.declared.day.DayName.TheVariants.{Mon, Tue, Wed, Thu, 
 use Rattle.irs_terms.specs.declared.frequency.Unit.{Unit as PeriodUnit}
 use Rattle.irs_terms.specs.declared.frequency.Unit.TheVariants.{D, W, M, Y, T as Term}
 use Rattle.serde_json.specs.Data.{Data}
-use Rattle.std.proofs.Common.{◌≡◌, ℕ, ◌+◌, ◌-◌, ◌*◌, ◌≤◌, nat_le, Bool, true, false, ◌&&◌, ◌==◌, List, [], ◌∷◌, length, ℤ, pos, negsuc, neg_ℤ, ◌≤ℤ◌, int_le, unsigned_abs, Option, Some, None, IfSome, option_map, option_and_then, unwrap_or, slice_index_or, All, refl, arith, if◌then◌else◌, bytes_eq, codes}
+use Rattle.std.proofs.Common.{◌≡◌, ℕ, ◌+◌, ◌-◌, ◌*◌, ◌≤◌, nat_le, Bool, true, false, ◌&&◌, ◌==◌, List, [], ◌∷◌, length}
+use Rattle.std.proofs.Common.{ℤ, pos, negsuc, neg_ℤ, ◌≤ℤ◌, int_le, unsigned_abs, Option, Some, None, IfSome, option_map}
+use Rattle.std.proofs.Common.{option_and_then, unwrap_or, slice_index_or, All, refl, arith, if◌then◌else◌, bytes_eq}
+use Rattle.std.proofs.Common.{codes}
 use Rattle.std.proofs.lemmas.Bool.Decides.{nat_tests}
 use Rattle.std.proofs.lemmas.Int.{ints}
 use Rattle.std.proofs.lemmas.List.Sums.{AllPass-from_list_all}
 use Rattle.std.specs.List.{list_all}
 
-then_in : {A : Type 0} (P : A → Type 0) (at : List ℕ → Option A) → ((s : List ℕ) → IfSome (at s) P) → (t : Option (List ℕ)) → IfSome (option_and_then at t) P
+then_in : {A : Type 0} (P : A → Type 0) (at : List ℕ → Option A) → ((s : List ℕ) → IfSome (at s) P)
+    → (t : Option (List ℕ)) → IfSome (option_and_then at t) P
 then_in P at h None = tt
 then_in P at h (Some s) = h s
 
 -- what holds of each value of a text holds of a leaf's value
-pub said_in : {A : Type 0} (P : A → Type 0) (at : List ℕ → Option A) → ((s : List ℕ) → IfSome (at s) P) → (o : Option Data) → IfSome (said at o) P
+pub said_in : {A : Type 0} (P : A → Type 0) (at : List ℕ → Option A) → ((s : List ℕ) → IfSome (at s) P)
+    → (o : Option Data) → IfSome (said at o) P
 said_in P at h o = then_in P at h (text_in o)
 
 pub or_in : {A : Type 0} (P : A → Type 0) (o : Option A) (a : A) → IfSome o P → P a → P (unwrap_or o a)
@@ -60,9 +66,11 @@ first_is_day = (omega (arith, ints), omega (arith, ints))
 abbrev Between : ℤ → ℤ → ℤ → Type 0
 Between low high z = (low ≤ℤ z) × (z ≤ℤ high)
 
-within_by : (low high z : ℤ) (b : Bool) → (int_le low z && int_le z high) ≡ b → IfSome (if b then Some z else None) (Between low high)
+within_by : (low high z : ℤ) (b : Bool) → (int_le low z && int_le z high) ≡ b
+    → IfSome (if b then Some z else None) (Between low high)
 within_by low high z false e = tt
-within_by low high z true e = let a = both_true (int_le low z) (int_le z high) e in (int_le_is low z a.0, int_le_is z high a.1)
+within_by low high z true e = let a = both_true (int_le low z) (int_le z high) e in
+    (int_le_is low z a.0, int_le_is z high a.1)
 
 within_range : (low high : ℤ) (o : Option ℤ) → IfSome (within low high o) (Between low high)
 within_range low high None = tt
@@ -72,7 +80,8 @@ if_some : {A : Type 0} (P Q : A → Type 0) → ((a : A) → P a → Q a) → (o
 if_some P Q f None h = tt
 if_some P Q f (Some a) h = f a h
 
-if_mapped : {A B : Type 0} (P : A → Type 0) (Q : B → Type 0) (g : A → B) → ((a : A) → P a → Q (g a)) → (o : Option A) → IfSome o P → IfSome (option_map g o) Q
+if_mapped : {A B : Type 0} (P : A → Type 0) (Q : B → Type 0) (g : A → B) → ((a : A) → P a → Q (g a)) → (o : Option A)
+    → IfSome o P → IfSome (option_map g o) Q
 if_mapped P Q g f None h = tt
 if_mapped P Q g f (Some a) h = f a h
 
@@ -84,7 +93,9 @@ pub notional_range : (s : List ℕ) → IfSome (notional_at s) IsNotional
 notional_range s = within_range (pos 0) (pos most_notional) (dec_at 4 s)
 
 pub rate_range : (s : List ℕ) → IfSome (rate_at s) IsRate
-rate_range s = if_some _ IsRate (λ z h. size most_rate z h) (rate_at s) (within_range (neg_ℤ (pos most_rate)) (pos most_rate) (dec_at 9 s))
+rate_range s =
+    if_some _ IsRate (λ z h. size most_rate z h) (rate_at s)
+    (within_range (neg_ℤ (pos most_rate)) (pos most_rate) (dec_at 9 s))
 
 -- the range of a schedule's values
 abbrev pub InScale : Scale → ℤ → Type 0
@@ -104,17 +115,22 @@ one_up (pos n) h = (omega (arith, ints, h), omega (arith, ints, h))
 one_up (negsuc n) h = absurd (omega (arith, ints, h))
 
 pub multiplier_range : (s : List ℕ) → IfSome (multiplier_at s) (λ n. (1 ≤ n) × (n ≤ most_multiplier))
-multiplier_range s = if_mapped _ _ unsigned_abs one_up (within (pos 1) (pos most_multiplier) (whole_at s)) (within_range (pos 1) (pos most_multiplier) (whole_at s))
+multiplier_range s =
+    if_mapped _ _ unsigned_abs one_up (within (pos 1) (pos most_multiplier) (whole_at s))
+    (within_range (pos 1) (pos most_multiplier) (whole_at s))
 
 pub offset_range : (s : List ℕ) → IfSome (offset_at s) (λ z. unsigned_abs z ≤ most_offset)
-offset_range s = if_some _ _ (λ z h. size most_offset z h) (offset_at s) (within_range (neg_ℤ (pos most_offset)) (pos most_offset) (whole_at s))
+offset_range s =
+    if_some _ _ (λ z h. size most_offset z h) (offset_at s)
+    (within_range (neg_ℤ (pos most_offset)) (pos most_offset) (whole_at s))
 
 nine_up : (z : ℤ) → Between (pos 0) (pos 9) z → unsigned_abs z ≤ 9
 nine_up (pos n) h = omega (arith, ints, h)
 nine_up (negsuc n) h = absurd (omega (arith, ints, h))
 
 pub precision_range : (s : List ℕ) → IfSome (precision_at s) (λ n. n ≤ 9)
-precision_range s = if_mapped _ _ unsigned_abs nine_up (within (pos 0) (pos 9) (whole_at s)) (within_range (pos 0) (pos 9) (whole_at s))
+precision_range s =
+    if_mapped _ _ unsigned_abs nine_up (within (pos 0) (pos 9) (whole_at s)) (within_range (pos 0) (pos 9) (whole_at s))
 
 -- ---- codes
 
@@ -122,19 +138,30 @@ abbrev EachValue : {A : Type 0} → (A → Type 0) → List (List ℕ × A) → 
 EachValue P [] = Unit {0}
 EachValue P (row ∷ rows) = P row.1 × EachValue P rows
 
-among_by : {A : Type 0} (P : A → Type 0) (a : A) (b : Bool) (o : Option A) → P a → IfSome o P → IfSome (if b then Some a else o) P
+among_by : {A : Type 0} (P : A → Type 0) (a : A) (b : Bool) (o : Option A) → P a → IfSome o P
+    → IfSome (if b then Some a else o) P
 among_by P a true o p h = p
 among_by P a false o p h = h
 
-among_range : {A : Type 0} (P : A → Type 0) (rows : List (List ℕ × A)) → EachValue P rows → (s : List ℕ) → IfSome (among rows s) P
+among_range : {A : Type 0} (P : A → Type 0) (rows : List (List ℕ × A)) → EachValue P rows → (s : List ℕ)
+    → IfSome (among rows s) P
 among_range P [] h s = tt
 among_range P (row ∷ rows) h s = among_by P row.1 (bytes_eq s row.0) (among rows s) h.0 (among_range P rows h.1 s)
 
 pub tenor_unit_range : (s : List ℕ) → IfSome (tenor_unit_at s) (λ u. u ≡ Term → ⊥)
-tenor_unit_range s = among_range (λ (u : PeriodUnit). u ≡ Term → ⊥) ((codes "D", D) ∷ (codes "W", W) ∷ (codes "M", M) ∷ (codes "Y", Y) ∷ []) ((λ e. cc), ((λ e. cc), ((λ e. cc), ((λ e. cc), tt)))) s
+tenor_unit_range s =
+    among_range (λ (u : PeriodUnit). u ≡ Term → ⊥)
+    ((codes "D", D) ∷ (codes "W", W) ∷ (codes "M", M) ∷ (codes "Y", Y) ∷ []) (
+      (λ e. cc),
+      ((λ e. cc), ((λ e. cc), ((λ e. cc), tt))),
+    ) s
 
 named_range : (s : List ℕ) → IfSome (named_roll_at s) IsLawfulRoll
-named_range s = among_range IsLawfulRoll ((codes "EOM", Eom) ∷ (codes "IMM", Imm) ∷ (codes "NONE", NoRoll) ∷ (codes "MON", OnWeekday Mon) ∷ (codes "TUE", OnWeekday Tue) ∷ (codes "WED", OnWeekday Wed) ∷ (codes "THU", OnWeekday Thu) ∷ (codes "FRI", OnWeekday Fri) ∷ (codes "SAT", OnWeekday Sat) ∷ (codes "SUN", OnWeekday Sun) ∷ []) (tt, (tt, (tt, (tt, (tt, (tt, (tt, (tt, (tt, (tt, tt)))))))))) s
+named_range s =
+    among_range IsLawfulRoll ((codes "EOM", Eom) ∷ (codes "IMM", Imm) ∷ (codes "NONE", NoRoll)
+    ∷ (codes "MON", OnWeekday Mon) ∷ (codes "TUE", OnWeekday Tue) ∷ (codes "WED", OnWeekday Wed)
+    ∷ (codes "THU", OnWeekday Thu) ∷ (codes "FRI", OnWeekday Fri) ∷ (codes "SAT", OnWeekday Sat)
+    ∷ (codes "SUN", OnWeekday Sun) ∷ []) (tt, (tt, (tt, (tt, (tt, (tt, (tt, (tt, (tt, (tt, tt)))))))))) s
 
 first_digit : (a : ℕ) → is_first_digit a ≡ true → (49 ≤ a) × (a ≤ 57)
 first_digit a e = grind (arith, nat_tests)
@@ -150,9 +177,11 @@ number_by : (n : ℕ) (b : Bool) → nat_le n 30 ≡ b → 1 ≤ n → IfSome (i
 number_by n false e h = tt
 number_by n true e h = (h, small n e)
 
-two_digits : (a b : ℕ) (t : Bool) → (is_first_digit a && nat_le 48 b && nat_le b 57) ≡ t → IfSome (if t then day_number_at (10 * (a - 48) + (b - 48)) else None) IsLawfulRoll
+two_digits : (a b : ℕ) (t : Bool) → (is_first_digit a && nat_le 48 b && nat_le b 57) ≡ t
+    → IfSome (if t then day_number_at (10 * (a - 48) + (b - 48)) else None) IsLawfulRoll
 two_digits a b false e = tt
-two_digits a b true e = let h : 49 ≤ a = grind (arith, nat_tests) in number_by (10 * (a - 48) + (b - 48)) (nat_le (10 * (a - 48) + (b - 48)) 30) refl (omega (arith, h))
+two_digits a b true e = let h : 49 ≤ a = grind (arith, nat_tests) in
+    number_by (10 * (a - 48) + (b - 48)) (nat_le (10 * (a - 48) + (b - 48)) 30) refl (omega (arith, h))
 
 day_roll_range : (s : List ℕ) → IfSome (day_roll_at s) IsLawfulRoll
 day_roll_range [] = tt
@@ -175,7 +204,8 @@ capital b e = grind (arith, nat_tests)
 pub capitals : (s : List ℕ) → list_all is_capital s ≡ true → All (λ b. (65 ≤ b) × (b ≤ 90)) s
 capitals s e = λ k d lt. capital (slice_index_or s k d) (AllPass-from_list_all is_capital s e k d lt)
 
-currency_by : (s : List ℕ) (b : Bool) → is_currency s ≡ b → IfSome (if b then Some (record { letters = s }) else None) IsLawfulCurrency
+currency_by : (s : List ℕ) (b : Bool) → is_currency s ≡ b
+    → IfSome (if b then Some (record { letters = s }) else None) IsLawfulCurrency
 currency_by s false e = tt
 currency_by s true e = capitals s (both_true (length s == 3) (list_all is_capital s) e).1
 

@@ -5,7 +5,8 @@ use Rattle.irs_elements.specs.Elements.{FaultAt}
 use Rattle.irs_elements.specs.declared.table.Kind.{Kind}
 use Rattle.irs_elements.specs.Lines.{Line}
 use Rattle.irs_elements.specs.declared.table.Row.{Row}
-use Rattle.irs_read.specs.StreamLines.{stream_elements, stream_names, stream_rows, stream_table, swap_names, swap_rows, swap_table}
+use Rattle.irs_read.specs.StreamLines.{stream_elements, stream_names, stream_rows, stream_table, swap_names, swap_rows}
+use Rattle.irs_read.specs.StreamLines.{swap_table}
 use Rattle.irs_read.specs.declared.table.TheConstants.{NAMES, ROWS, SWAP_NAMES, SWAP_ROWS}
 use Rattle.serde_json.specs.Data.{Data}
 use Rattle.std.proofs.Common.{◌≡◌, ℕ, List, map, Option, refl, subst}
@@ -39,14 +40,26 @@ unfolding swap_names swap_table
 swap_names_are = refl
 
 -- what holds of a table holds of one that is equal to it, as of the specification's
-pub by_tables : (P : List Row → List (List ℕ) → Type 0) (rows rows' : List Row) (names names' : List (List ℕ)) → rows ≡ rows' → names ≡ names' → P rows names → P rows' names'
-by_tables P rows rows' names names' r n p = subst (λ (ns : List (List ℕ)). P rows' ns) n (subst (λ (rs : List Row). P rs names) r p)
+pub by_tables : (P : List Row → List (List ℕ) → Type 0) (rows rows' : List Row) (names names' : List (List ℕ))
+    → rows ≡ rows' → names ≡ names' → P rows names → P rows' names'
+by_tables P rows rows' names names' r n p =
+    subst (λ (ns : List (List ℕ)). P rows' ns) n (subst (λ (rs : List Row). P rs names) r p)
 
-pub stream_fault : {s r i : ℕ} {k : Kind} {d : Data} {f : Broken} → FaultAt ROWS code_names s r k i d f → FaultAt stream_rows stream_names s r k i d f
-stream_fault {s = s} {r = r} {i = i} {k = k} {d = d} {f = f} q = by_tables (λ rows names. FaultAt rows names s r k i d f) ROWS stream_rows code_names stream_names rows_are names_are q
+pub stream_fault : {s r i : ℕ} {k : Kind} {d : Data} {f : Broken} → FaultAt ROWS code_names s r k i d f
+    → FaultAt stream_rows stream_names s r k i d f
+stream_fault {s = s} {r = r} {i = i} {k = k} {d = d} {f = f} q =
+    by_tables (λ rows names. FaultAt rows names s r k i d f) ROWS stream_rows code_names stream_names rows_are
+    names_are q
 
-pub stream_first : (s r : ℕ) (k : Kind) (i : ℕ) (d : Data) (a : Option Broken) → IsFirstBroken (FaultAt ROWS code_names s r k i d) a → IsFirstBroken (FaultAt stream_rows stream_names s r k i d) a
-stream_first s r k i d a p = by_tables (λ rows names. IsFirstBroken (FaultAt rows names s r k i d) a) ROWS stream_rows code_names stream_names rows_are names_are p
+pub stream_first : (s r : ℕ) (k : Kind) (i : ℕ) (d : Data) (a : Option Broken)
+    → IsFirstBroken (FaultAt ROWS code_names s r k i d) a → IsFirstBroken (FaultAt stream_rows stream_names s r k i d) a
+stream_first s r k i d a p =
+    by_tables (λ rows names. IsFirstBroken (FaultAt rows names s r k i d) a) ROWS stream_rows code_names stream_names
+    rows_are names_are p
 
-pub swap_first : (s r : ℕ) (k : Kind) (i : ℕ) (d : Data) (a : Option Broken) → IsFirstBroken (FaultAt SWAP_ROWS swap_code_names s r k i d) a → IsFirstBroken (FaultAt swap_rows swap_names s r k i d) a
-swap_first s r k i d a p = by_tables (λ rows names. IsFirstBroken (FaultAt rows names s r k i d) a) SWAP_ROWS swap_rows swap_code_names swap_names swap_rows_are swap_names_are p
+pub swap_first : (s r : ℕ) (k : Kind) (i : ℕ) (d : Data) (a : Option Broken)
+    → IsFirstBroken (FaultAt SWAP_ROWS swap_code_names s r k i d) a
+    → IsFirstBroken (FaultAt swap_rows swap_names s r k i d) a
+swap_first s r k i d a p =
+    by_tables (λ rows names. IsFirstBroken (FaultAt rows names s r k i d) a) SWAP_ROWS swap_rows swap_code_names
+    swap_names swap_rows_are swap_names_are p

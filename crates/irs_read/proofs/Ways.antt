@@ -14,7 +14,8 @@ ended_first d f e = first_one _ f (ended f e) (only d f e)
     only d f e g (ended _ h) = cc
     only d f e g (below s _ h q) = cc
 
-pub below_first : (d s : Data) (a : Option Broken) → the_swap d ≡ Ok s → IsFirstBroken (SwapFault s) a → IsFirstBroken (DocumentFault d) a
+pub below_first : (d s : Data) (a : Option Broken) → the_swap d ≡ Ok s → IsFirstBroken (SwapFault s) a
+    → IsFirstBroken (DocumentFault d) a
 below_first d s a e p = first_same _ _ a (λ f q. below s f e q) (only d s e) p
   where
     only : (d s : Data) → the_swap d ≡ Ok s → (g : Broken) → DocumentFault d g → SwapFault s g

@@ -11,7 +11,10 @@ use Rattle.irs_read.proofs.Clean.{Said}
 use Rattle.irs_read.specs.Meaning.{word_in}
 use Rattle.irs_terms.specs.Lawful.{IsLawfulIndex, IsLawfulName}
 use Rattle.serde_json.specs.Data.{Data, null, boolean, number, string, array, object, Num, unsigned, negative, float}
-use Rattle.std.proofs.Common.{◌≡◌, ◌≢◌, ℕ, zero, suc, ◌+◌, ◌-◌, ◌/◌, ◌%◌, ◌≤◌, nat_lt, nat_le, Bool, true, false, ◌&&◌, ◌==◌, true≢false, ◌⊎◌, inl, inr, List, [], ◌∷◌, ◌++◌, length, reverse, get_or, ℤ, pos, negsuc, Option, Some, None, option_map, option_and_then, unwrap_or, slice_index_or, decimal, codes, refl, sym, ap, subst, ◌∙◌, arith, if◌then◌else◌, length-append}
+use Rattle.std.proofs.Common.{◌≡◌, ◌≢◌, ℕ, zero, suc, ◌+◌, ◌-◌, ◌/◌, ◌%◌, ◌≤◌, nat_lt, nat_le, Bool, true, false, ◌&&◌}
+use Rattle.std.proofs.Common.{◌==◌, true≢false, ◌⊎◌, inl, inr, List, [], ◌∷◌, ◌++◌, length, reverse, get_or, ℤ, pos}
+use Rattle.std.proofs.Common.{negsuc, Option, Some, None, option_map, option_and_then, unwrap_or, slice_index_or}
+use Rattle.std.proofs.Common.{decimal, codes, refl, sym, ap, subst, ◌∙◌, arith, if◌then◌else◌, length-append}
 use Rattle.std.proofs.Math.Seq.{get_or-append_seam}
 use Rattle.std.proofs.lemmas.Bool.Decides.{nat_tests}
 use Rattle.std.proofs.lemmas.List.{reverse-append}
@@ -67,7 +70,8 @@ no_space x h e = true≢false (sym (ap is_space e) ∙ h)
 abbrev Front : List ℕ → Type 0
 Front s = (s ≡ []) ⊎ ((x : ℕ) × ((rest : List ℕ) × ((s ≡ x ∷ rest) × (is_space x ≡ false))))
 
-front_by : (x : ℕ) (xs : List ℕ) (b : Bool) → is_space x ≡ b → Front (trim_front xs) → Front (if b then trim_front xs else x ∷ xs)
+front_by : (x : ℕ) (xs : List ℕ) (b : Bool) → is_space x ≡ b → Front (trim_front xs)
+    → Front (if b then trim_front xs else x ∷ xs)
 front_by x xs true e h = h
 front_by x xs false e h = inr (x, (xs, (refl, e)))
 
@@ -79,7 +83,8 @@ front_is (x ∷ xs) = front_by x xs (is_space x) refl (front_is xs)
 abbrev Kept : ℕ → List ℕ → Type 0
 Kept y s = (w : List ℕ) × (s ≡ w ++ y ∷ [])
 
-kept_by : (z y : ℕ) (zs : List ℕ) (b : Bool) → Kept y (trim_front (zs ++ y ∷ [])) → Kept y (if b then trim_front (zs ++ y ∷ []) else z ∷ (zs ++ y ∷ []))
+kept_by : (z y : ℕ) (zs : List ℕ) (b : Bool) → Kept y (trim_front (zs ++ y ∷ []))
+    → Kept y (if b then trim_front (zs ++ y ∷ []) else z ∷ (zs ++ y ∷ []))
 kept_by z y zs true h = h
 kept_by z y zs false h = (z ∷ zs, refl)
 
@@ -107,16 +112,22 @@ back_first : (s : List ℕ) → Front s → get_or (trim_back s) 0 0 ≢ 32
 back_first s (inl e) = rw e (λ h. omega (arith, h))
 back_first s (inr (y, (rest, (e, apart)))) =
     let turned : reverse s ≡ reverse rest ++ y ∷ [] = ap reverse e ∙ reverse-append (y ∷ []) rest in
-    first_of (trim_front (reverse s)) y apart (subst (λ (r : List ℕ). Kept y (trim_front r)) (sym turned) (kept_last (reverse rest) y apart))
+    first_of (trim_front (reverse s)) y apart
+    (subst (λ (r : List ℕ). Kept y (trim_front r)) (sym turned) (kept_last (reverse rest) y apart))
 
 trim_ends : (t : List ℕ) → EndsWell (trim t)
-trim_ends t = (back_first (trim_front t) (front_is t), back_last (trim_front (reverse (trim_front t))) (front_is (reverse (trim_front t))))
+trim_ends t = (
+  back_first (trim_front t) (front_is t),
+  back_last (trim_front (reverse (trim_front t))) (front_is (reverse (trim_front t))),
+)
 
 -- ---- leaves
 
 whole_ends : (n : Num) (l : Leaf) → whole_of n ≡ Some l → EndsWell (text_of l)
-whole_ends (unsigned n) l e = let s : whole (pos n) ≡ l = cc in subst (λ (x : Leaf). EndsWell (text_of x)) s (no_blank_ends (signed_decimal (pos n)) (signed_no_blank (pos n)))
-whole_ends (negative z) l e = let s : whole z ≡ l = cc in subst (λ (x : Leaf). EndsWell (text_of x)) s (no_blank_ends (signed_decimal z) (signed_no_blank z))
+whole_ends (unsigned n) l e = let s : whole (pos n) ≡ l = cc in
+    subst (λ (x : Leaf). EndsWell (text_of x)) s (no_blank_ends (signed_decimal (pos n)) (signed_no_blank (pos n)))
+whole_ends (negative z) l e = let s : whole z ≡ l = cc in
+    subst (λ (x : Leaf). EndsWell (text_of x)) s (no_blank_ends (signed_decimal z) (signed_no_blank z))
 whole_ends (float x) l e = cc
 
 truth_ends : (b : Bool) → EndsWell (text_of (truth b))
@@ -131,7 +142,8 @@ bare_ends (string t) l e = let s : word (trim t) ≡ l = cc in subst (λ (x : Le
 bare_ends (array ds) l e = cc
 bare_ends (object ms) l e = cc
 
-inner_ends : (o : Option Data) (b : Bool) (l : Leaf) → (if b then option_and_then bare_leaf o else None) ≡ Some l → EndsWell (text_of l)
+inner_ends : (o : Option Data) (b : Bool) (l : Leaf) → (if b then option_and_then bare_leaf o else None) ≡ Some l
+    → EndsWell (text_of l)
 inner_ends o false l e = cc
 inner_ends None true l e = cc
 inner_ends (Some d) true l e = bare_ends d l e
@@ -165,19 +177,31 @@ split false b c e = cc
 
 name_lawful : (s : List ℕ) → is_center_name s ≡ true → IsLawfulName s
 name_lawful s e =
-    let (some, (few, all)) = split (nat_lt 0 (length s)) (nat_le (length s) most_name) (list_all is_visible s) e in
-    (more (length s) some, less (length s) most_name few, λ k d lt. visible (slice_index_or s k d) (AllPass-from_list_all is_visible s all k d lt))
+    let (some, (few, all)) = split (nat_lt 0 (length s)) (nat_le (length s) most_name) (list_all is_visible s) e in (
+      more (length s) some,
+      less (length s) most_name few,
+      λ k d lt. visible (slice_index_or s k d) (AllPass-from_list_all is_visible s all k d lt),
+    )
 
 index_lawful : (s : List ℕ) → is_index_name s ≡ true → EndsWell s → IsLawfulIndex s
 index_lawful s e ends =
-    let (some, (few, all)) = split (nat_lt 0 (length s)) (nat_le (length s) most_index) (list_all is_no_control s) e in
-    (more (length s) some, less (length s) most_index few, (λ k d lt. no_control (slice_index_or s k d) (AllPass-from_list_all is_no_control s all k d lt)), ends.0, ends.1)
+    let (some, (few, all)) =
+    split (nat_lt 0 (length s)) (nat_le (length s) most_index) (list_all is_no_control s) e in (
+      more (length s) some,
+      less (length s) most_index few,
+      (λ k d lt. no_control (slice_index_or s k d) (AllPass-from_list_all is_no_control s all k d lt)),
+      ends.0,
+      ends.1,
+    )
 
 word_is : (d : Data) (l : Leaf) → leaf_of d ≡ Some l → word_in (Some d) ≡ text_of l
 word_is d l e = ap (λ (o : Option Leaf). unwrap_or (option_map text_of o) []) e
 
 pub center_lawful : (d : Data) → Said CenterName d → IsLawfulName (word_in (Some d))
-center_lawful d said = subst IsLawfulName (sym (word_is d said.says said.found)) (name_lawful (text_of said.says) said.valued)
+center_lawful d said =
+    subst IsLawfulName (sym (word_is d said.says said.found)) (name_lawful (text_of said.says) said.valued)
 
 pub index_word : (d : Data) → Said IndexName d → IsLawfulIndex (word_in (Some d))
-index_word d said = subst IsLawfulIndex (sym (word_is d said.says said.found)) (index_lawful (text_of said.says) said.valued (leaf_ends d said.says said.found))
+index_word d said =
+    subst IsLawfulIndex (sym (word_is d said.says said.found))
+    (index_lawful (text_of said.says) said.valued (leaf_ends d said.says said.found))

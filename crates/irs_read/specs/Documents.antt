@@ -10,7 +10,8 @@ use Rattle.serde_json.specs.Data.{Data}
 use Rattle.serde_json.specs.View.{view}
 use Rattle.serde_json.specs.declared.value.Value.{Value}
 use Rattle.std.specs.Borrow.{Bor}
-use Rattle.std.specs.Prelude.{◌≡◌, ℕ, Bool, true, false, List, [], ◌∷◌, Some, is_some, codes, Result, Ok, Err, if◌then◌else◌}
+use Rattle.std.specs.Prelude.{◌≡◌, ℕ, Bool, true, false, List, [], ◌∷◌, Some, is_some, codes, Result, Ok, Err}
+use Rattle.std.specs.Prelude.{if◌then◌else◌}
 
 -- where the way leads: to a value, or to the rule that ends it
 abbrev pub Way : Type 0
@@ -66,7 +67,9 @@ has name d = is_some (child_of name d)
 
 -- the way from the root to the swap
 abbrev pub the_swap : Data → Way
-the_swap d = if is_some (names_of d) then by_root (has (codes "swap") d) (has (codes "trade") d) (has (codes "dataDocument") d) d else Err (outside K3 document)
+the_swap d =
+    if is_some (names_of d) then by_root (has (codes "swap") d) (has (codes "trade") d)
+    (has (codes "dataDocument") d) d else Err (outside K3 document)
 
 -- the rules that a document breaks
 pub data DocumentFault (d : Data) : Broken → Type 0 where

@@ -2,7 +2,8 @@
 -- where the leaf is absent.
 use Rattle.irs_base.specs.Days.{first_day}
 use Rattle.irs_base.specs.declared.rounding.Direction.TheVariants.{Nearest}
-use Rattle.irs_elements.specs.Codes.{compounding_at, convention_at, day_count_at, day_kind_at, direction_at, relative_at, roll_at, stub_kind_at, tenor_unit_at, treatment_at, truth_at, unit_at}
+use Rattle.irs_elements.specs.Codes.{compounding_at, convention_at, day_count_at, day_kind_at, direction_at}
+use Rattle.irs_elements.specs.Codes.{relative_at, roll_at, stub_kind_at, tenor_unit_at, treatment_at, truth_at, unit_at}
 use Rattle.irs_elements.specs.Dates.{day_at}
 use Rattle.irs_elements.specs.Find.{member, once, text_in, values_in}
 use Rattle.irs_elements.specs.Numbers.{multiplier_at, notional_at, offset_at, precision_at, rate_at}
@@ -43,7 +44,8 @@ use Rattle.irs_terms.specs.declared.step_list.StepValues.{StepValues}
 use Rattle.irs_terms.specs.declared.stream.Stream.{Stream}
 use Rattle.irs_terms.specs.declared.stream_list.Swap.{Swap}
 use Rattle.serde_json.specs.Data.{Data}
-use Rattle.std.specs.Prelude.{ℕ, List, [], ◌∷◌, map, ℤ, pos, false, Bool, Option, Some, None, option_map, option_and_then, unwrap_or, codes}
+use Rattle.std.specs.Prelude.{ℕ, List, [], ◌∷◌, map, ℤ, pos, false, Bool, Option, Some, None, option_map}
+use Rattle.std.specs.Prelude.{option_and_then, unwrap_or, codes}
 
 -- ---- leaves
 
@@ -88,15 +90,30 @@ no_currency = record { letters = 88 ∷ 88 ∷ 88 ∷ [] }
 
 -- a frequency
 abbrev pub frequency_in : Option Data → Frequency
-frequency_in o = record { count = unwrap_or (said multiplier_at (member (codes "periodMultiplier") o)) 1; unit = unwrap_or (said unit_at (member (codes "period") o)) D }
+frequency_in o =
+    record {
+      count = unwrap_or (said multiplier_at (member (codes "periodMultiplier") o)) 1;
+      unit =
+          unwrap_or (said unit_at (member (codes "period") o)) D;
+    }
 
 -- the tenor of an index
 abbrev pub tenor_in : Data → Frequency
-tenor_in d = record { count = unwrap_or (said multiplier_at (once (codes "periodMultiplier") d)) 1; unit = unwrap_or (said tenor_unit_at (once (codes "period") d)) D }
+tenor_in d =
+    record {
+      count = unwrap_or (said multiplier_at (once (codes "periodMultiplier") d)) 1;
+      unit =
+          unwrap_or (said tenor_unit_at (once (codes "period") d)) D;
+    }
 
 -- an offset; absent is 0 days
 abbrev pub offset_in : Option Data → Offset
-offset_in o = record { days = unwrap_or (said offset_at (member (codes "periodMultiplier") o)) (pos 0); kind = unwrap_or (said day_kind_at (member (codes "dayType") o)) Unsaid }
+offset_in o =
+    record {
+      days = unwrap_or (said offset_at (member (codes "periodMultiplier") o)) (pos 0);
+      kind =
+          unwrap_or (said day_kind_at (member (codes "dayType") o)) Unsaid;
+    }
 
 -- the names of a list of centres
 abbrev pub names_in : Data → List (List ℕ)
@@ -119,11 +136,21 @@ centers_by lists None own = own_centers own
 
 -- business day adjustments; absent is NONE without centres
 abbrev pub adjustments_in : List (Option Data) → Option Data → Adjustments
-adjustments_in lists o = record { code = unwrap_or (said convention_at (member (codes "businessDayConvention") o)) Unadjusted; centers = centers_by lists (member (codes "businessCentersReference") o) (member (codes "businessCenters") o) }
+adjustments_in lists o =
+    record {
+      code = unwrap_or (said convention_at (member (codes "businessDayConvention") o)) Unadjusted;
+      centers =
+          centers_by lists (member (codes "businessCentersReference") o) (member (codes "businessCenters") o);
+    }
 
 -- a date with its adjustments
 abbrev pub dated_in : List (Option Data) → Option Data → Dated
-dated_in lists o = record { day = day_in (member (codes "unadjustedDate") o); adj = adjustments_in lists (member (codes "dateAdjustments") o) }
+dated_in lists o =
+    record {
+      day = day_in (member (codes "unadjustedDate") o);
+      adj =
+          adjustments_in lists (member (codes "dateAdjustments") o);
+    }
 
 -- a date that may be absent
 abbrev pub maybe_dated_in : List (Option Data) → Option Data → Option Dated
@@ -131,11 +158,17 @@ maybe_dated_in lists o = option_map (λ d. dated_in lists (Some d)) o
 
 -- a step
 abbrev pub step_in : Scale → Data → Step
-step_in scale d = record { day = day_in (once (codes "stepDate") d); value = number_in scale (once (codes "stepValue") d) }
+step_in scale d =
+    record { day = day_in (once (codes "stepDate") d); value = number_in scale (once (codes "stepValue") d) }
 
 -- an initial value with its steps
 abbrev pub schedule_in : Scale → Option Data → StepValues
-schedule_in scale o = record { initial = number_in scale (member (codes "initialValue") o); steps = map (step_in scale) (values_in (codes "step") o) }
+schedule_in scale o =
+    record {
+      initial = number_in scale (member (codes "initialValue") o);
+      steps =
+          map (step_in scale) (values_in (codes "step") o);
+    }
 
 -- a value without steps, where there is no schedule
 abbrev pub schedule_or : ℤ → Option Data → StepValues
@@ -146,7 +179,12 @@ schedule_or v (Some d) = schedule_in Rates (Some d)
 
 -- the rounding of a rate; absent is to 9 decimals, to the nearest
 abbrev pub rounding_in : Option Data → Rounding
-rounding_in o = record { dir = unwrap_or (said direction_at (member (codes "roundingDirection") o)) Nearest; places = unwrap_or (said precision_at (member (codes "precision") o)) 9 }
+rounding_in o =
+    record {
+      dir = unwrap_or (said direction_at (member (codes "roundingDirection") o)) Nearest;
+      places =
+          unwrap_or (said precision_at (member (codes "precision") o)) 9;
+    }
 
 -- the terms of a floating rate
 abbrev pub float_in : Data → FloatTerms
@@ -194,7 +232,8 @@ reset_in lists dates d = record {
 
 -- the rate of a stub: of an index where there is one, else stated
 abbrev pub stub_by : Option Data → Option Data → StubRate
-stub_by (Some float) rate = Index (word_in (once (codes "floatingRateIndex") float)) (option_map tenor_in (once (codes "indexTenor") float))
+stub_by (Some float) rate =
+    Index (word_in (once (codes "floatingRateIndex") float)) (option_map tenor_in (once (codes "indexTenor") float))
 stub_by None rate = FixedStub (number_in Rates rate)
 
 -- the rate of a stub
@@ -234,7 +273,9 @@ stream_parts lists d dates freq calc = record {
   pay = pay_in lists dates (once (codes "paymentDates") d);
   reset = option_map (reset_in lists dates) (once (codes "resetDates") d);
   notional = schedule_in Notionals (member (codes "notionalStepSchedule") (member (codes "notionalSchedule") calc));
-  currency = unwrap_or (said currency_at (member (codes "currency") (member (codes "notionalStepSchedule") (member (codes "notionalSchedule") calc)))) no_currency;
+  currency = unwrap_or
+      (said currency_at (member (codes "currency")
+      (member (codes "notionalStepSchedule") (member (codes "notionalSchedule") calc)))) no_currency;
   leg = leg_by (member (codes "floatingRateCalculation") calc) (member (codes "fixedRateSchedule") calc);
   day_count = unwrap_or (said day_count_at (member (codes "dayCountFraction") calc)) OneOne;
   compounding = unwrap_or (said compounding_at (member (codes "compoundingMethod") calc)) Simple;
@@ -244,7 +285,10 @@ stream_parts lists d dates freq calc = record {
 
 -- the stream that d says, with the lists of centres of all streams
 unfoldable pub stream_in : List (Option Data) → Data → Stream
-stream_in lists d = stream_parts lists d (once (codes "calculationPeriodDates") d) (member (codes "calculationPeriodFrequency") (once (codes "calculationPeriodDates") d)) (member (codes "calculation") (once (codes "calculationPeriodAmount") d))
+stream_in lists d =
+    stream_parts lists d (once (codes "calculationPeriodDates") d)
+    (member (codes "calculationPeriodFrequency") (once (codes "calculationPeriodDates") d))
+    (member (codes "calculation") (once (codes "calculationPeriodAmount") d))
 
 -- the streams of a swap
 abbrev pub streams_in : Data → List Data

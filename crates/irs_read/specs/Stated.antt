@@ -40,11 +40,14 @@ pub record IsStated (rows : List Row) (names : List (List ℕ)) (d : Data) : Typ
       → IsMember rows names r c row → is_element row.kind ≡ true → is_required row.count ≡ true
       → is_some (once (name_at names c) y) ≡ true
   -- each leaf has a value of its kind
-  pub said : (r : ℕ) (leaf : LeafKind) (x : Data) → Stands rows names d r (Leaf leaf) x → has_said leaf (text_in (Some x)) ≡ true
+  pub said : (r : ℕ) (leaf : LeafKind) (x : Data) → Stands rows names d r (Leaf leaf) x
+      → has_said leaf (text_in (Some x)) ≡ true
   -- where an object asks that exactly one of two members stands, or at most one, that is so
-  pub chosen : (r : ℕ) (choice : Choice) (y : Data) → Stands rows names d r (Object choice) y → is_chosen names choice y ≡ true
+  pub chosen : (r : ℕ) (choice : Choice) (y : Data) → Stands rows names d r (Object choice) y
+      → is_chosen names choice y ≡ true
   -- where an object names another by `@href`, this is there and a text
-  pub named : (r : ℕ) (y : Data) → Stands rows names d r (Object Reference) y → is_some (attribute (codes "@href") (Some y)) ≡ true
+  pub named : (r : ℕ) (y : Data) → Stands rows names d r (Object Reference) y
+      → is_some (attribute (codes "@href") (Some y)) ≡ true
 
 -- nothing is wanting in the streams of a document
 abbrev pub EachStated : Data → Type 0

@@ -4,9 +4,14 @@
 use Rattle.irs_base.specs.Elements.{calculation_period_dates, cashflows}
 use Rattle.irs_base.specs.Limits.{most_centers, most_steps}
 use Rattle.irs_base.specs.PathList.{printed}
-use Rattle.irs_elements.specs.Lines.{Line, Others, Table, at, at_most_one, exactly_one, leaf, line, names_of, object, reference, rows_of}
+use Rattle.irs_elements.specs.Lines.{Line, Others, Table, at, at_most_one, exactly_one, leaf, line, names_of, object}
+use Rattle.irs_elements.specs.Lines.{reference, rows_of}
 use Rattle.irs_elements.specs.declared.table.Count.TheVariants.{One, Maybe, OneTo, UpTo}
-use Rattle.irs_elements.specs.declared.table.Leaf.TheVariants.{CenterName, Compounding, Convention, CurrencyName, Date, DayCount, DayType, Direction, IndexName, Multiplier, Notional, OffsetDays, OffsetUnit, PayRelative, PeriodUnit, Precision, Rate, ResetRelative, Roll, StubType, TenorUnit, Treatment, Truth}
+use Rattle.irs_elements.specs.declared.table.Leaf.TheVariants.{CenterName, Compounding, Convention, CurrencyName, Date}
+use Rattle.irs_elements.specs.declared.table.Leaf.TheVariants.{DayCount, DayType, Direction, IndexName, Multiplier}
+use Rattle.irs_elements.specs.declared.table.Leaf.TheVariants.{Notional, OffsetDays, OffsetUnit, PayRelative}
+use Rattle.irs_elements.specs.declared.table.Leaf.TheVariants.{PeriodUnit, Precision, Rate, ResetRelative, Roll}
+use Rattle.irs_elements.specs.declared.table.Leaf.TheVariants.{StubType, TenorUnit, Treatment, Truth}
 use Rattle.irs_elements.specs.declared.table.Row.{Row}
 use Rattle.std.specs.Prelude.{ℕ, ◌-◌, List, [], ◌∷◌, drop, take}
 
@@ -15,30 +20,38 @@ lines =
     line "calculationPeriodDates" object One
     ∷ line "calculationPeriodDates/effectiveDate" object One
     ∷ line "calculationPeriodDates/effectiveDate/unadjustedDate" (leaf Date) One
-    ∷ line "calculationPeriodDates/effectiveDate/dateAdjustments" (at_most_one "businessCentersReference" "businessCenters") One
+    ∷ line "calculationPeriodDates/effectiveDate/dateAdjustments"
+    (at_most_one "businessCentersReference" "businessCenters") One
     ∷ line "calculationPeriodDates/effectiveDate/dateAdjustments/businessDayConvention" (leaf Convention) One
     ∷ line "calculationPeriodDates/effectiveDate/dateAdjustments/businessCentersReference" reference Maybe
     ∷ line "calculationPeriodDates/effectiveDate/dateAdjustments/businessCenters" object Maybe
-    ∷ line "calculationPeriodDates/effectiveDate/dateAdjustments/businessCenters/businessCenter" (leaf CenterName) (OneTo most_centers)
+    ∷ line "calculationPeriodDates/effectiveDate/dateAdjustments/businessCenters/businessCenter" (leaf CenterName)
+    (OneTo most_centers)
     ∷ line "calculationPeriodDates/terminationDate" object One
     ∷ line "calculationPeriodDates/terminationDate/unadjustedDate" (leaf Date) One
-    ∷ line "calculationPeriodDates/terminationDate/dateAdjustments" (at_most_one "businessCentersReference" "businessCenters") One
+    ∷ line "calculationPeriodDates/terminationDate/dateAdjustments"
+    (at_most_one "businessCentersReference" "businessCenters") One
     ∷ line "calculationPeriodDates/terminationDate/dateAdjustments/businessDayConvention" (leaf Convention) One
     ∷ line "calculationPeriodDates/terminationDate/dateAdjustments/businessCentersReference" reference Maybe
     ∷ line "calculationPeriodDates/terminationDate/dateAdjustments/businessCenters" object Maybe
-    ∷ line "calculationPeriodDates/terminationDate/dateAdjustments/businessCenters/businessCenter" (leaf CenterName) (OneTo most_centers)
-    ∷ line "calculationPeriodDates/calculationPeriodDatesAdjustments" (at_most_one "businessCentersReference" "businessCenters") One
+    ∷ line "calculationPeriodDates/terminationDate/dateAdjustments/businessCenters/businessCenter" (leaf CenterName)
+    (OneTo most_centers)
+    ∷ line "calculationPeriodDates/calculationPeriodDatesAdjustments"
+    (at_most_one "businessCentersReference" "businessCenters") One
     ∷ line "calculationPeriodDates/calculationPeriodDatesAdjustments/businessDayConvention" (leaf Convention) One
     ∷ line "calculationPeriodDates/calculationPeriodDatesAdjustments/businessCentersReference" reference Maybe
     ∷ line "calculationPeriodDates/calculationPeriodDatesAdjustments/businessCenters" object Maybe
-    ∷ line "calculationPeriodDates/calculationPeriodDatesAdjustments/businessCenters/businessCenter" (leaf CenterName) (OneTo most_centers)
+    ∷ line "calculationPeriodDates/calculationPeriodDatesAdjustments/businessCenters/businessCenter" (leaf CenterName)
+    (OneTo most_centers)
     ∷ line "calculationPeriodDates/firstPeriodStartDate" object Maybe
     ∷ line "calculationPeriodDates/firstPeriodStartDate/unadjustedDate" (leaf Date) One
-    ∷ line "calculationPeriodDates/firstPeriodStartDate/dateAdjustments" (at_most_one "businessCentersReference" "businessCenters") One
+    ∷ line "calculationPeriodDates/firstPeriodStartDate/dateAdjustments"
+    (at_most_one "businessCentersReference" "businessCenters") One
     ∷ line "calculationPeriodDates/firstPeriodStartDate/dateAdjustments/businessDayConvention" (leaf Convention) One
     ∷ line "calculationPeriodDates/firstPeriodStartDate/dateAdjustments/businessCentersReference" reference Maybe
     ∷ line "calculationPeriodDates/firstPeriodStartDate/dateAdjustments/businessCenters" object Maybe
-    ∷ line "calculationPeriodDates/firstPeriodStartDate/dateAdjustments/businessCenters/businessCenter" (leaf CenterName) (OneTo most_centers)
+    ∷ line "calculationPeriodDates/firstPeriodStartDate/dateAdjustments/businessCenters/businessCenter"
+    (leaf CenterName) (OneTo most_centers)
     ∷ line "calculationPeriodDates/firstRegularPeriodStartDate" (leaf Date) Maybe
     ∷ line "calculationPeriodDates/lastRegularPeriodEndDate" (leaf Date) Maybe
     ∷ line "calculationPeriodDates/stubPeriodType" (leaf StubType) Maybe
@@ -90,7 +103,8 @@ lines =
     ∷ line "calculationPeriodAmount/calculation/notionalSchedule/notionalStepSchedule/initialValue" (leaf Notional) One
     ∷ line "calculationPeriodAmount/calculation/notionalSchedule/notionalStepSchedule/step" object (UpTo most_steps)
     ∷ line "calculationPeriodAmount/calculation/notionalSchedule/notionalStepSchedule/step/stepDate" (leaf Date) One
-    ∷ line "calculationPeriodAmount/calculation/notionalSchedule/notionalStepSchedule/step/stepValue" (leaf Notional) One
+    ∷ line "calculationPeriodAmount/calculation/notionalSchedule/notionalStepSchedule/step/stepValue"
+    (leaf Notional) One
     ∷ line "calculationPeriodAmount/calculation/notionalSchedule/notionalStepSchedule/currency" (leaf CurrencyName) One
     ∷ line "calculationPeriodAmount/calculation/fixedRateSchedule" object Maybe
     ∷ line "calculationPeriodAmount/calculation/fixedRateSchedule/initialValue" (leaf Rate) One
@@ -100,13 +114,18 @@ lines =
     ∷ line "calculationPeriodAmount/calculation/floatingRateCalculation" object Maybe
     ∷ line "calculationPeriodAmount/calculation/floatingRateCalculation/floatingRateIndex" (leaf IndexName) One
     ∷ line "calculationPeriodAmount/calculation/floatingRateCalculation/indexTenor" object Maybe
-    ∷ line "calculationPeriodAmount/calculation/floatingRateCalculation/indexTenor/periodMultiplier" (leaf Multiplier) One
+    ∷ line "calculationPeriodAmount/calculation/floatingRateCalculation/indexTenor/periodMultiplier"
+    (leaf Multiplier) One
     ∷ line "calculationPeriodAmount/calculation/floatingRateCalculation/indexTenor/period" (leaf TenorUnit) One
     ∷ line "calculationPeriodAmount/calculation/floatingRateCalculation/floatingRateMultiplierSchedule" object Maybe
-    ∷ line "calculationPeriodAmount/calculation/floatingRateCalculation/floatingRateMultiplierSchedule/initialValue" (leaf Rate) One
-    ∷ line "calculationPeriodAmount/calculation/floatingRateCalculation/floatingRateMultiplierSchedule/step" object (UpTo most_steps)
-    ∷ line "calculationPeriodAmount/calculation/floatingRateCalculation/floatingRateMultiplierSchedule/step/stepDate" (leaf Date) One
-    ∷ line "calculationPeriodAmount/calculation/floatingRateCalculation/floatingRateMultiplierSchedule/step/stepValue" (leaf Rate) One
+    ∷ line "calculationPeriodAmount/calculation/floatingRateCalculation/floatingRateMultiplierSchedule/initialValue"
+    (leaf Rate) One
+    ∷ line "calculationPeriodAmount/calculation/floatingRateCalculation/floatingRateMultiplierSchedule/step" object
+    (UpTo most_steps)
+    ∷ line "calculationPeriodAmount/calculation/floatingRateCalculation/floatingRateMultiplierSchedule/step/stepDate"
+    (leaf Date) One
+    ∷ line "calculationPeriodAmount/calculation/floatingRateCalculation/floatingRateMultiplierSchedule/step/stepValue"
+    (leaf Rate) One
     ∷ line "calculationPeriodAmount/calculation/floatingRateCalculation/spreadSchedule" object Maybe
     ∷ line "calculationPeriodAmount/calculation/floatingRateCalculation/spreadSchedule/initialValue" (leaf Rate) One
     ∷ line "calculationPeriodAmount/calculation/floatingRateCalculation/spreadSchedule/step" object (UpTo most_steps)
@@ -114,9 +133,12 @@ lines =
     ∷ line "calculationPeriodAmount/calculation/floatingRateCalculation/spreadSchedule/step/stepValue" (leaf Rate) One
     ∷ line "calculationPeriodAmount/calculation/floatingRateCalculation/initialRate" (leaf Rate) Maybe
     ∷ line "calculationPeriodAmount/calculation/floatingRateCalculation/finalRateRounding" object Maybe
-    ∷ line "calculationPeriodAmount/calculation/floatingRateCalculation/finalRateRounding/roundingDirection" (leaf Direction) One
-    ∷ line "calculationPeriodAmount/calculation/floatingRateCalculation/finalRateRounding/precision" (leaf Precision) One
-    ∷ line "calculationPeriodAmount/calculation/floatingRateCalculation/negativeInterestRateTreatment" (leaf Treatment) Maybe
+    ∷ line "calculationPeriodAmount/calculation/floatingRateCalculation/finalRateRounding/roundingDirection"
+    (leaf Direction) One
+    ∷ line "calculationPeriodAmount/calculation/floatingRateCalculation/finalRateRounding/precision"
+    (leaf Precision) One
+    ∷ line "calculationPeriodAmount/calculation/floatingRateCalculation/negativeInterestRateTreatment"
+    (leaf Treatment) Maybe
     ∷ line "calculationPeriodAmount/calculation/dayCountFraction" (leaf DayCount) One
     ∷ line "calculationPeriodAmount/calculation/compoundingMethod" (leaf Compounding) Maybe
     ∷ line "stubCalculationPeriodAmount" object Maybe
@@ -149,7 +171,8 @@ stream_elements = take (cashflows - calculation_period_dates) (drop calculation_
 -- the members that are passed over unread
 abbrev passed : List Others
 passed =
-    at "" ("payerPartyReference" ∷ "payerAccountReference" ∷ "receiverPartyReference" ∷ "receiverAccountReference" ∷ "cashflows" ∷ [])
+    at "" ("payerPartyReference" ∷ "payerAccountReference" ∷ "receiverPartyReference" ∷ "receiverAccountReference"
+    ∷ "cashflows" ∷ [])
     ∷ at "resetDates/resetFrequency" ("weeklyRollConvention" ∷ [])
     ∷ []
 
@@ -157,7 +180,8 @@ passed =
 abbrev refused : List Others
 refused =
     at "" ("settlementProvision" ∷ "formula" ∷ [])
-    ∷ at "calculationPeriodDates" ("relativeEffectiveDate" ∷ "relativeTerminationDate" ∷ "firstCompoundingPeriodEndDate" ∷ [])
+    ∷ at "calculationPeriodDates" ("relativeEffectiveDate" ∷ "relativeTerminationDate"
+    ∷ "firstCompoundingPeriodEndDate" ∷ [])
     ∷ at "calculationPeriodDates/effectiveDate" ("adjustedDate" ∷ [])
     ∷ at "calculationPeriodDates/terminationDate" ("adjustedDate" ∷ [])
     ∷ at "calculationPeriodDates/firstPeriodStartDate" ("adjustedDate" ∷ [])
@@ -166,9 +190,14 @@ refused =
     ∷ at "calculationPeriodAmount" ("knownAmountSchedule" ∷ [])
     ∷ at "calculationPeriodAmount/calculation" ("fxLinkedNotionalSchedule" ∷ "discounting" ∷ [])
     ∷ at "calculationPeriodAmount/calculation/notionalSchedule" ("notionalStepParameters" ∷ [])
-    ∷ at "calculationPeriodAmount/calculation/floatingRateCalculation" ("rateTreatment" ∷ "capRateSchedule" ∷ "floorRateSchedule" ∷ "averagingMethod" ∷ [])
-    ∷ at "stubCalculationPeriodAmount/initialStub/floatingRate" ("floatingRateMultiplierSchedule" ∷ "spreadSchedule" ∷ "rateTreatment" ∷ "capRateSchedule" ∷ "floorRateSchedule" ∷ [])
-    ∷ at "stubCalculationPeriodAmount/finalStub/floatingRate" ("floatingRateMultiplierSchedule" ∷ "spreadSchedule" ∷ "rateTreatment" ∷ "capRateSchedule" ∷ "floorRateSchedule" ∷ [])
+    ∷ at "calculationPeriodAmount/calculation/floatingRateCalculation"
+    ("rateTreatment" ∷ "capRateSchedule" ∷ "floorRateSchedule" ∷ "averagingMethod" ∷ [])
+    ∷ at "stubCalculationPeriodAmount/initialStub/floatingRate"
+    ("floatingRateMultiplierSchedule" ∷ "spreadSchedule" ∷ "rateTreatment" ∷ "capRateSchedule"
+    ∷ "floorRateSchedule" ∷ [])
+    ∷ at "stubCalculationPeriodAmount/finalStub/floatingRate"
+    ("floatingRateMultiplierSchedule" ∷ "spreadSchedule" ∷ "rateTreatment" ∷ "capRateSchedule"
+    ∷ "floorRateSchedule" ∷ [])
     ∷ at "stubCalculationPeriodAmount/initialStub" ("stubAmount" ∷ [])
     ∷ at "stubCalculationPeriodAmount/finalStub" ("stubAmount" ∷ [])
     ∷ []
@@ -183,8 +212,10 @@ swap_table = record {
   whole = "swap";
   top = "";
   lines = [];
-  passed = at "" ("swapStream" ∷ "productType" ∷ "productId" ∷ "primaryAssetClass" ∷ "secondaryAssetClass" ∷ "assetClass" ∷ []) ∷ [];
-  refused = at "" ("additionalPayment" ∷ "additionalTerms" ∷ "earlyTerminationProvision" ∷ "cancelableProvision" ∷ "extendibleProvision" ∷ []) ∷ [];
+  passed = at "" ("swapStream" ∷ "productType" ∷ "productId" ∷ "primaryAssetClass" ∷ "secondaryAssetClass"
+      ∷ "assetClass" ∷ []) ∷ [];
+  refused = at "" ("additionalPayment" ∷ "additionalTerms" ∷ "earlyTerminationProvision" ∷ "cancelableProvision"
+      ∷ "extendibleProvision" ∷ []) ∷ [];
 }
 
 -- their rows and names

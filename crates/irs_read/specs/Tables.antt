@@ -5,7 +5,8 @@ use Rattle.irs_elements.specs.declared.table.Choice.TheVariants.{Free, AtMostOne
 use Rattle.irs_elements.specs.declared.table.Kind.{Kind}
 use Rattle.irs_elements.specs.declared.table.Kind.TheVariants.{Object, Leaf, Passed, Refused}
 use Rattle.irs_elements.specs.declared.table.Row.{Row}
-use Rattle.std.specs.Prelude.{ℕ, ◌+◌, nat_lt, Bool, true, false, ◌&&◌, ◌==◌, List, [], ◌∷◌, map, Option, Some, None, slice_get}
+use Rattle.std.specs.Prelude.{ℕ, ◌+◌, nat_lt, Bool, true, false, ◌&&◌, ◌==◌, List, [], ◌∷◌, map, Option, Some, None}
+use Rattle.std.specs.Prelude.{slice_get}
 
 abbrev stands_below : ℕ → Option Row → Bool
 stands_below r None = false
@@ -28,5 +29,7 @@ kind_fits rows r Refused = true
 -- row of the same parent has its name
 abbrev pub is_whole : List Row → ℕ → List Row → List (List ℕ) → Bool
 is_whole all r [] [] = true
-is_whole all r (row ∷ rows) (name ∷ names) = nat_lt row.parent r && kind_fits all r row.kind && no_twin row.parent name (map (λ (x : Row). x.parent) rows) names && is_whole all (r + 1) rows names
+is_whole all r (row ∷ rows) (name ∷ names) =
+    nat_lt row.parent r && kind_fits all r row.kind && no_twin row.parent name (map (λ (x : Row). x.parent) rows) names
+    && is_whole all (r + 1) rows names
 is_whole all r rows names = false

@@ -1,7 +1,10 @@
 //! The way from the root of a document to its swap: the root is an object with exactly one of
 //! `swap`, `trade` (which holds `swap`) and `dataDocument` (which holds `trade`). The carrier's roots
 //! are this project's own.
-ghost use Rattle.irs_read.specs.Documents.{DocumentFault, by_root as by_root_of, document_below as document_below_of, has as has_of, one_object as one_object_of, one_swap as one_swap_of, swap_below as swap_below_of, the_swap as the_swap_of, trade_below as trade_below_of, way_seen};
+ghost use Rattle.irs_read.specs.Documents.{DocumentFault, by_root as by_root_of, document_below as document_below_of};
+ghost use Rattle.irs_read.specs.Documents.{has as has_of, one_object as one_object_of, one_swap as one_swap_of};
+ghost use Rattle.irs_read.specs.Documents.{swap_below as swap_below_of, the_swap as the_swap_of};
+ghost use Rattle.irs_read.specs.Documents.{trade_below as trade_below_of, way_seen};
 ghost use Rattle.serde_json.specs.View.{view};
 ghost use Rattle.std.specs.Prelude.{◌≡◌, map};
 ghost use Rattle.irs_base.specs.Order.{IsFirstBroken};

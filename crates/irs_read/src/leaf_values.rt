@@ -1,10 +1,13 @@
 //! The values of leaves, and their defaults.
-ghost use Rattle.irs_elements.specs.Codes.{compounding_at, convention_at, day_count_at, day_kind_at, direction_at, relative_at, roll_at, stub_kind_at, tenor_unit_at, treatment_at, truth_at, unit_at};
+ghost use Rattle.irs_elements.specs.Codes.{compounding_at, convention_at, day_count_at, day_kind_at, direction_at};
+ghost use Rattle.irs_elements.specs.Codes.{relative_at, roll_at, stub_kind_at, tenor_unit_at, treatment_at, truth_at};
+ghost use Rattle.irs_elements.specs.Codes.{unit_at};
 ghost use Rattle.irs_elements.specs.Dates.{day_at};
 ghost use Rattle.irs_elements.specs.Find.{seen};
 ghost use Rattle.irs_elements.specs.Numbers.{multiplier_at, offset_at, precision_at, rate_at};
 ghost use Rattle.irs_elements.specs.Words.{currency_at};
-ghost use Rattle.irs_read.specs.Meaning.{day_in, number_in, relative_in, said, scale_at, treatment_in, truth_in, word_in};
+ghost use Rattle.irs_read.specs.Meaning.{day_in, number_in, relative_in, said, scale_at, treatment_in, truth_in};
+ghost use Rattle.irs_read.specs.Meaning.{word_in};
 ghost use Rattle.std.specs.Prelude.{◌≡◌, IfOk};
 
 use irs_base::{Day, Direction, Memory, Text};

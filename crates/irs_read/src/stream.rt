@@ -1,6 +1,8 @@
 //! The stream that a value says, where it breaks no rule.
 ghost use Rattle.irs_elements.specs.Find.{seen};
-ghost use Rattle.irs_read.specs.Meaning.{exchanges_in, fix_in, float_in, leg_by, number_in, pay_in, reset_in, rounding_in, stream_in, stream_parts, stub_by, stub_in, stubs_in, swap_in, tenor_in};
+ghost use Rattle.irs_read.specs.Meaning.{exchanges_in, fix_in, float_in, leg_by, number_in, pay_in, reset_in};
+ghost use Rattle.irs_read.specs.Meaning.{rounding_in, stream_in, stream_parts, stub_by, stub_in, stubs_in, swap_in};
+ghost use Rattle.irs_read.specs.Meaning.{tenor_in};
 ghost use Rattle.irs_read.specs.References.{lists_of};
 ghost use Rattle.serde_json.specs.View.{view};
 ghost use Rattle.std.specs.Prelude.{◌≡◌, IfOk, map, option_map};
@@ -150,7 +152,8 @@ fn maybe_reset_terms(
     dates: Option<&Value>,
     v: Option<&Value>,
 ) -> Result<Option<ResetTerms>, Memory>
-    ensures { IfOk result (λ terms. terms ≡ option_map (reset_in (map seen lists.now) (seen dates.entry)) (seen v.entry)) }
+    ensures { IfOk result (λ terms. terms
+        ≡ option_map (reset_in (map seen lists.now) (seen dates.entry)) (seen v.entry)) }
 {
     match v {
         None => Ok(None),
@@ -244,7 +247,8 @@ fn stream_of(
     freq: Option<&Value>,
     calc: Option<&Value>,
 ) -> Result<Stream, Memory>
-    ensures { IfOk result (λ stream. stream ≡ stream_parts (map seen lists.now) (view v.now) (seen dates.entry) (seen freq.entry) (seen calc.entry)) }
+    ensures { IfOk result (λ stream. stream
+        ≡ stream_parts (map seen lists.now) (view v.now) (seen dates.entry) (seen freq.entry) (seen calc.entry)) }
 {
     let notionals = member(member(calc, "notionalSchedule"), "notionalStepSchedule");
     let periods = member(dates, "calculationPeriodDatesAdjustments");

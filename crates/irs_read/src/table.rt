@@ -5,7 +5,8 @@
 //! the members that are passed over, `payerPartyReference` among them, and those that are out of the
 //! profile.
 ghost use Rattle.irs_elements.specs.Lines.{Line};
-ghost use Rattle.irs_read.specs.StreamLines.{stream_elements, stream_names, stream_rows, stream_table, swap_names, swap_rows};
+ghost use Rattle.irs_read.specs.StreamLines.{stream_elements, stream_names, stream_rows, stream_table, swap_names};
+ghost use Rattle.irs_read.specs.StreamLines.{swap_rows};
 ghost use Rattle.irs_read.specs.Tables.{is_whole};
 ghost use Rattle.std.specs.Prelude.{◌≡◌, drop, map, true};
 

@@ -10,10 +10,12 @@ use Rattle.irs_adjust.proofs.CodeLaws.{one_adjusts}
 use Rattle.irs_adjust.proofs.OffsetLaws.{one_moved}
 use Rattle.irs_resets.specs.declared.dates.DateFault.{DateFault}
 use Rattle.irs_resets.specs.declared.dates.DateFault.TheVariants.{NoReset, NoFixing, OutOfRange}
-use Rattle.irs_resets.specs.ResetDates.{ResetDays, IsPeriod, base_day, ResetsOn, FixesBy, FixesOn, IsDates, FixFails, FixingFails, HasFixingFault, Fails, unmoved_fault, IsUnmoved}
+use Rattle.irs_resets.specs.ResetDates.{ResetDays, IsPeriod, base_day, ResetsOn, FixesBy, FixesOn, IsDates, FixFails}
+use Rattle.irs_resets.specs.ResetDates.{FixingFails, HasFixingFault, Fails, unmoved_fault, IsUnmoved}
 use Rattle.irs_terms.specs.DayTypes.{IsSaid}
 
-pub one_reset : (t : ResetTerms) (days : ResetDays) (i : ℕ) (r s : ℤ) → ResetsOn t days i r → ResetsOn t days i s → r ≡ s
+pub one_reset : (t : ResetTerms) (days : ResetDays) (i : ℕ) (r s : ℤ) → ResetsOn t days i r
+    → ResetsOn t days i s → r ≡ s
 one_reset t days i r s p q = one_adjusts t.adj.code days.reset_set (base_day t.relative days.adjusted i) r s p q
 
 one_fix : (fix : FixTerms) (set : DaySet) (r f g : ℤ) → FixesBy fix set r f → FixesBy fix set r g → f ≡ g
@@ -21,14 +23,19 @@ one_fix fix set r f g p q =
     let same = one_moved fix.offset set r p.moved q.moved p.moves q.moves in
     one_adjusts fix.adj.code set q.moved f g (subst (λ (x : ℤ). Adjusts fix.adj.code set x f) same p.adjusts) q.adjusts
 
-pub one_fixing : (fixing : Option FixTerms) (set : DaySet) (r f g : ℤ) → FixesOn fixing set r f → FixesOn fixing set r g → f ≡ g
+pub one_fixing : (fixing : Option FixTerms) (set : DaySet) (r f g : ℤ) → FixesOn fixing set r f
+    → FixesOn fixing set r g → f ≡ g
 one_fixing None set r f g p q = p ∙ sym q
 one_fixing (Some fix) set r f g p q = one_fix fix set r f g p q
 
-pub one_dates : (t : ResetTerms) (days : ResetDays) (i : ℕ) (r f x y : ℤ) → IsDates t days i r f → IsDates t days i x y → (r ≡ x) × (f ≡ y)
+pub one_dates : (t : ResetTerms) (days : ResetDays) (i : ℕ) (r f x y : ℤ) → IsDates t days i r f → IsDates t days i x y
+    → (r ≡ x) × (f ≡ y)
 one_dates t days i r f x y p q =
-    let same = one_reset t days i r x p.resets q.resets in
-    (same, one_fixing t.fixing days.fixing_set x f y (subst (λ (z : ℤ). FixesOn t.fixing days.fixing_set z f) same p.fixes) q.fixes)
+    let same = one_reset t days i r x p.resets q.resets in (
+      same,
+      one_fixing t.fixing days.fixing_set x f y
+          (subst (λ (z : ℤ). FixesOn t.fixing days.fixing_set z f) same p.fixes) q.fixes,
+    )
 
 -- a fixing date that there is doesn't fail
 fix_stands : (e : DateFault) (fix : FixTerms) (set : DaySet) (r f : ℤ) → FixesBy fix set r f → FixFails e fix set r → ⊥
@@ -39,42 +46,52 @@ fix_stands NoFixing fix set r f p (inr unadjusted) =
     unadjusted.2 f (subst (λ (x : ℤ). Adjusts fix.adj.code set x f) same p.adjusts)
 fix_stands OutOfRange fix set r f p h = h.1 p.moved p.moves
 
-fixing_stands : (e : DateFault) (fixing : Option FixTerms) (set : DaySet) (r f : ℤ) → FixesOn fixing set r f → FixingFails e fixing set r → ⊥
+fixing_stands : (e : DateFault) (fixing : Option FixTerms) (set : DaySet) (r f : ℤ) → FixesOn fixing set r f
+    → FixingFails e fixing set r → ⊥
 fixing_stands e None set r f p h = h
 fixing_stands e (Some fix) set r f p h = fix_stands e fix set r f p h
 
-fault_stands : (e : DateFault) (t : ResetTerms) (days : ResetDays) (i : ℕ) (r f : ℤ) → IsDates t days i r f → HasFixingFault e t days i → ⊥
+fault_stands : (e : DateFault) (t : ResetTerms) (days : ResetDays) (i : ℕ) (r f : ℤ) → IsDates t days i r f
+    → HasFixingFault e t days i → ⊥
 fault_stands e t days i r f p h =
     let same = one_reset t days i r h.reset p.resets h.resets in
-    fixing_stands e t.fixing days.fixing_set h.reset f (subst (λ (z : ℤ). FixesOn t.fixing days.fixing_set z f) same p.fixes) h.fails
+    fixing_stands e t.fixing days.fixing_set h.reset f
+    (subst (λ (z : ℤ). FixesOn t.fixing days.fixing_set z f) same p.fixes) h.fails
 
 -- dates that there are don't fail
-pub dates_stand : (e : DateFault) (t : ResetTerms) (days : ResetDays) (i : ℕ) (r f : ℤ) → IsDates t days i r f → Fails e t days i → ⊥
+pub dates_stand : (e : DateFault) (t : ResetTerms) (days : ResetDays) (i : ℕ) (r f : ℤ) → IsDates t days i r f
+    → Fails e t days i → ⊥
 dates_stand NoReset t days i r f p h = h.none r p.resets
 dates_stand NoFixing t days i r f p h = fault_stands NoFixing t days i r f p h
 dates_stand OutOfRange t days i r f p h = fault_stands OutOfRange t days i r f p h
 
 -- a fixing date fails in one way at most
-one_fix_fault : (fix : FixTerms) (set : DaySet) (r : ℤ) → FixFails NoFixing fix set r → FixFails OutOfRange fix set r → ⊥
+one_fix_fault : (fix : FixTerms) (set : DaySet) (r : ℤ) → FixFails NoFixing fix set r
+    → FixFails OutOfRange fix set r → ⊥
 one_fix_fault fix set r (inl unmoved) h = cc (unmoved.0, h.0)
 one_fix_fault fix set r (inr unadjusted) h = h.1 unadjusted.0 unadjusted.1
 
-one_fixing_fault : (fixing : Option FixTerms) (set : DaySet) (r : ℤ) → FixingFails NoFixing fixing set r → FixingFails OutOfRange fixing set r → ⊥
+one_fixing_fault : (fixing : Option FixTerms) (set : DaySet) (r : ℤ) → FixingFails NoFixing fixing set r
+    → FixingFails OutOfRange fixing set r → ⊥
 one_fixing_fault None set r p h = h
 one_fixing_fault (Some fix) set r p h = one_fix_fault fix set r p h
 
-apart : (t : ResetTerms) (days : ResetDays) (i : ℕ) → HasFixingFault NoFixing t days i → HasFixingFault OutOfRange t days i → ⊥
+apart : (t : ResetTerms) (days : ResetDays) (i : ℕ) → HasFixingFault NoFixing t days i
+    → HasFixingFault OutOfRange t days i → ⊥
 apart t days i p q =
     let same = one_reset t days i p.reset q.reset p.resets q.resets in
-    one_fixing_fault t.fixing days.fixing_set q.reset (subst (λ (z : ℤ). FixingFails NoFixing t.fixing days.fixing_set z) same p.fails) q.fails
+    one_fixing_fault t.fixing days.fixing_set q.reset
+    (subst (λ (z : ℤ). FixingFails NoFixing t.fixing days.fixing_set z) same p.fails) q.fails
 
 -- a period fails only where there is that period
-pub period_of : (t : ResetTerms) (days : ResetDays) (why : DateFault) (i : ℕ) → Fails why t days i → IsPeriod days.adjusted i
+pub period_of : (t : ResetTerms) (days : ResetDays) (why : DateFault) (i : ℕ) → Fails why t days i
+    → IsPeriod days.adjusted i
 period_of t days NoReset i h = h.period
 period_of t days NoFixing i h = h.period
 period_of t days OutOfRange i h = h.period
 
-pub one_way : (d e : DateFault) (t : ResetTerms) (days : ResetDays) (i : ℕ) → Fails d t days i → Fails e t days i → d ≡ e
+pub one_way : (d e : DateFault) (t : ResetTerms) (days : ResetDays) (i : ℕ) → Fails d t days i
+    → Fails e t days i → d ≡ e
 one_way NoReset NoReset t days i p q = refl
 one_way NoReset NoFixing t days i p q = absurd (p.none q.reset q.resets)
 one_way NoReset OutOfRange t days i p q = absurd (p.none q.reset q.resets)
@@ -86,11 +103,13 @@ one_way OutOfRange NoFixing t days i p q = absurd (apart t days i q p)
 one_way OutOfRange OutOfRange t days i p q = refl
 
 -- a day that can't be moved is the fault that its kind of days gives
-unmoved_by : (kind : DayKind) (fix : FixTerms) (set : DaySet) (r : ℤ) → fix.offset.kind ≡ kind → IsSaid fix.offset → IsUnmoved fix set r → FixFails (unmoved_fault kind) fix set r
+unmoved_by : (kind : DayKind) (fix : FixTerms) (set : DaySet) (r : ℤ) → fix.offset.kind ≡ kind → IsSaid fix.offset
+    → IsUnmoved fix set r → FixFails (unmoved_fault kind) fix set r
 unmoved_by Business fix set r e said none = inl (e, none)
 unmoved_by Calendar fix set r e said none = (e, none)
 unmoved_by Unsaid fix set r e (inl zero) none = absurd (none r (inl (zero, refl)))
 unmoved_by Unsaid fix set r e (inr said) none = absurd (said e)
 
-pub unmoved_fails : (fix : FixTerms) (set : DaySet) (r : ℤ) → IsSaid fix.offset → IsUnmoved fix set r → FixFails (unmoved_fault fix.offset.kind) fix set r
+pub unmoved_fails : (fix : FixTerms) (set : DaySet) (r : ℤ) → IsSaid fix.offset → IsUnmoved fix set r
+    → FixFails (unmoved_fault fix.offset.kind) fix set r
 unmoved_fails fix set r said none = unmoved_by fix.offset.kind fix set r refl said none

@@ -16,7 +16,8 @@ use Rattle.irs_resets.specs.declared.dates.DateFault.{DateFault}
 use Rattle.irs_resets.specs.declared.dates.DateFault.TheVariants.{NoReset, NoFixing, OutOfRange}
 use Rattle.irs_resets.specs.ResetDates.{ResetDays, Fails}
 use Rattle.irs_resets.specs.Resets.{ResetSource}
-use Rattle.irs_resets.specs.ResetRules.{InitialUnmet, FinalUnmet, BreaksStubs, date_fault, BreaksDates, BreaksDatesIn, BreaksResets}
+use Rattle.irs_resets.specs.ResetRules.{InitialUnmet, FinalUnmet, BreaksStubs, date_fault, BreaksDates, BreaksDatesIn}
+use Rattle.irs_resets.specs.ResetRules.{BreaksResets}
 
 -- ---- dates
 
@@ -26,7 +27,8 @@ rank NoReset = 0
 rank NoFixing = 1
 rank OutOfRange = 2
 
-dates_order : (e d : DateFault) (j i : ℕ) → comes_before (date_fault e j) (date_fault d i) ≡ level (rank e) (rank d) (nat_lt j i)
+dates_order : (e d : DateFault) (j i : ℕ) → comes_before (date_fault e j) (date_fault d i)
+    ≡ level (rank e) (rank d) (nat_lt j i)
 dates_order NoReset NoReset j i = refl
 dates_order NoReset NoFixing j i = refl
 dates_order NoReset OutOfRange j i = refl
@@ -53,19 +55,25 @@ module _ (t : ResetTerms) (days : ResetDays) where
   abbrev pub NoneFails : DateFault → Type 0
   NoneFails why = (i : ℕ) → Fails why t days i → ⊥
 
-  not_earlier : (d : DateFault) (i : ℕ) → First nat_lt (Fails d t days) i → ((e : DateFault) → rank e < rank d → NoneFails e) → (e : DateFault) (j : ℕ) → Fails e t days j → level (rank e) (rank d) (nat_lt j i) ≡ false
+  not_earlier : (d : DateFault) (i : ℕ) → First nat_lt (Fails d t days) i
+      → ((e : DateFault) → rank e < rank d → NoneFails e) → (e : DateFault) (j : ℕ) → Fails e t days j
+      → level (rank e) (rank d) (nat_lt j i) ≡ false
   not_earlier d i first earlier e j fails = elim (cases_order (rank e) (rank d)) [
-    | inl same ↦ level_same (rank e) (rank d) (nat_lt j i) same (first.1 j (subst (λ (w : DateFault). Fails w t days j) (same_rank e d same) fails))
+    | inl same ↦
+        level_same (rank e) (rank d) (nat_lt j i) same
+        (first.1 j (subst (λ (w : DateFault). Fails w t days j) (same_rank e d same) fails))
     | inr (inl less) ↦ absurd (earlier e less j fails)
     | inr (inr more) ↦ level_later (rank e) (rank d) (nat_lt j i) more
   ]
 
   -- where no dates fail in an earlier way, the first that fail so break the first rule
-  first_date : (d : DateFault) (i : ℕ) → ((e : DateFault) → rank e < rank d → NoneFails e) → First nat_lt (Fails d t days) i → First comes_before (BreaksDates t days) (date_fault d i)
+  first_date : (d : DateFault) (i : ℕ) → ((e : DateFault) → rank e < rank d → NoneFails e)
+      → First nat_lt (Fails d t days) i → First comes_before (BreaksDates t days) (date_fault d i)
   first_date d i earlier first = (
     record { number = i; why = d; fails = first.0; is = refl },
     λ g b.
-        let at : comes_before (date_fault b.why b.number) (date_fault d i) ≡ false = dates_order b.why d b.number i ∙ not_earlier d i first earlier b.why b.number b.fails in
+        let at : comes_before (date_fault b.why b.number) (date_fault d i) ≡ false =
+        dates_order b.why d b.number i ∙ not_earlier d i first earlier b.why b.number b.fails in
         subst (λ (h : Fault). comes_before h (date_fault d i) ≡ false) (sym b.is) at,
   )
 
@@ -79,13 +87,16 @@ module _ (t : ResetTerms) (days : ResetDays) where
   before_range resets fixings NoFixing low = fixings
   before_range resets fixings OutOfRange low = absurd (omega (arith, low))
 
-  pub first_reset : (i : ℕ) → First nat_lt (Fails NoReset t days) i → First comes_before (BreaksDates t days) (date_fault NoReset i)
+  pub first_reset : (i : ℕ) → First nat_lt (Fails NoReset t days) i
+      → First comes_before (BreaksDates t days) (date_fault NoReset i)
   first_reset i = first_date NoReset i (λ e low. absurd (omega (arith, low)))
 
-  pub first_fixing : (i : ℕ) → NoneFails NoReset → First nat_lt (Fails NoFixing t days) i → First comes_before (BreaksDates t days) (date_fault NoFixing i)
+  pub first_fixing : (i : ℕ) → NoneFails NoReset → First nat_lt (Fails NoFixing t days) i
+      → First comes_before (BreaksDates t days) (date_fault NoFixing i)
   first_fixing i resets = first_date NoFixing i (before_fixing resets)
 
-  pub first_range : (i : ℕ) → NoneFails NoReset → NoneFails NoFixing → First nat_lt (Fails OutOfRange t days) i → First comes_before (BreaksDates t days) (date_fault OutOfRange i)
+  pub first_range : (i : ℕ) → NoneFails NoReset → NoneFails NoFixing → First nat_lt (Fails OutOfRange t days) i
+      → First comes_before (BreaksDates t days) (date_fault OutOfRange i)
   first_range i resets fixings = first_date OutOfRange i (before_range resets fixings)
 
   none_by : NoneFails NoReset → NoneFails NoFixing → NoneFails OutOfRange → (why : DateFault) → NoneFails why
@@ -94,7 +105,8 @@ module _ (t : ResetTerms) (days : ResetDays) where
   none_by resets fixings ranges OutOfRange = ranges
 
   -- dates that fail in no way break no rule
-  pub dates_unbroken : NoneFails NoReset → NoneFails NoFixing → NoneFails OutOfRange → (f : Fault) → BreaksDates t days f → ⊥
+  pub dates_unbroken : NoneFails NoReset → NoneFails NoFixing → NoneFails OutOfRange → (f : Fault)
+      → BreaksDates t days f → ⊥
   dates_unbroken resets fixings ranges f b = none_by resets fixings ranges b.why b.number b.fails
 
   -- and the other way round
@@ -113,7 +125,8 @@ module _ (s : Stream) (span : Span) where
     ],
   )
 
-  pub first_final : (InitialUnmet s span → ⊥) → FinalUnmet s span → First comes_before (BreaksStubs s span) (fault_at K37 final_stub 0)
+  pub first_final : (InitialUnmet s span → ⊥) → FinalUnmet s span
+      → First comes_before (BreaksStubs s span) (fault_at K37 final_stub 0)
   first_final met unmet = (
     inr (unmet, refl),
     λ g b. elim b [
@@ -129,22 +142,29 @@ module _ (s : Stream) (span : Span) where
 -- ---- both
 
 -- no rule of dates comes before one of stubs
-date_is_later : (why : DateFault) (i : ℕ) → (comes_before (date_fault why i) (fault_at K37 initial_stub 0) ≡ false) × (comes_before (date_fault why i) (fault_at K37 final_stub 0) ≡ false)
+date_is_later : (why : DateFault) (i : ℕ) → (comes_before (date_fault why i) (fault_at K37 initial_stub 0) ≡ false)
+    × (comes_before (date_fault why i) (fault_at K37 final_stub 0) ≡ false)
 date_is_later NoReset i = (refl, refl)
 date_is_later NoFixing i = (refl, refl)
 date_is_later OutOfRange i = (refl, refl)
 
-later : (s : Stream) (span : Span) (f : Fault) (why : DateFault) (i : ℕ) → BreaksStubs s span f → comes_before (date_fault why i) f ≡ false
-later s span f why i (inl h) = subst (λ (x : Fault). comes_before (date_fault why i) x ≡ false) (sym h.1) (date_is_later why i).0
-later s span f why i (inr h) = subst (λ (x : Fault). comes_before (date_fault why i) x ≡ false) (sym h.1) (date_is_later why i).1
+later : (s : Stream) (span : Span) (f : Fault) (why : DateFault) (i : ℕ) → BreaksStubs s span f
+    → comes_before (date_fault why i) f ≡ false
+later s span f why i (inl h) =
+    subst (λ (x : Fault). comes_before (date_fault why i) x ≡ false) (sym h.1) (date_is_later why i).0
+later s span f why i (inr h) =
+    subst (λ (x : Fault). comes_before (date_fault why i) x ≡ false) (sym h.1) (date_is_later why i).1
 
-dates_later : (s : Stream) (span : Span) (reset : Option ResetTerms) (days : ResetDays) (f g : Fault) → BreaksStubs s span f → BreaksDatesIn reset days g → comes_before g f ≡ false
+dates_later : (s : Stream) (span : Span) (reset : Option ResetTerms) (days : ResetDays) (f g : Fault)
+    → BreaksStubs s span f → BreaksDatesIn reset days g → comes_before g f ≡ false
 dates_later s span None days f g stub dates = absurd dates
-dates_later s span (Some t) days f g stub dates = subst (λ (x : Fault). comes_before x f ≡ false) (sym dates.is) (later s span f dates.why dates.number stub)
+dates_later s span (Some t) days f g stub dates =
+    subst (λ (x : Fault). comes_before x f ≡ false) (sym dates.is) (later s span f dates.why dates.number stub)
 
 module _ (source : ResetSource) where
   -- the first broken rule of stubs is the first of all
-  pub first_of_stubs : (f : Fault) → First comes_before (BreaksStubs source.stream source.span) f → First comes_before (BreaksResets source) f
+  pub first_of_stubs : (f : Fault) → First comes_before (BreaksStubs source.stream source.span) f
+      → First comes_before (BreaksResets source) f
   first_of_stubs f first = (
     inl first.0,
     λ g b. elim b [
@@ -154,10 +174,15 @@ module _ (source : ResetSource) where
   )
 
   -- where none of stubs is broken, the answer for dates is the answer for all
-  pub first_of_dates : (answer : Option Fault) → ((f : Fault) → BreaksStubs source.stream source.span f → ⊥) → IsFirst comes_before (BreaksDatesIn source.stream.reset source.days) answer → IsFirst comes_before (BreaksResets source) answer
+  pub first_of_dates : (answer : Option Fault) → ((f : Fault) → BreaksStubs source.stream source.span f → ⊥)
+      → IsFirst comes_before (BreaksDatesIn source.stream.reset source.days) answer
+      → IsFirst comes_before (BreaksResets source) answer
   first_of_dates None met none = λ g b. elim b [ inl stub ↦ met g stub | inr date ↦ none g date ]
-  first_of_dates (Some f) met first = (inr first.0, λ g b. elim b [ inl stub ↦ absurd (met g stub) | inr date ↦ first.1 g date ])
+  first_of_dates (Some f) met first =
+      (inr first.0, λ g b. elim b [ inl stub ↦ absurd (met g stub) | inr date ↦ first.1 g date ])
 
 -- the rules by the terms that the stream has
-pub first_in : (t : ResetTerms) (reset : Option ResetTerms) (days : ResetDays) (answer : Option Fault) → reset ≡ Some t → IsFirst comes_before (BreaksDates t days) answer → IsFirst comes_before (BreaksDatesIn reset days) answer
-first_in t reset days answer e first = subst (λ (o : Option ResetTerms). IsFirst comes_before (BreaksDatesIn o days) answer) (sym e) first
+pub first_in : (t : ResetTerms) (reset : Option ResetTerms) (days : ResetDays) (answer : Option Fault) → reset ≡ Some t
+    → IsFirst comes_before (BreaksDates t days) answer → IsFirst comes_before (BreaksDatesIn reset days) answer
+first_in t reset days answer e first =
+    subst (λ (o : Option ResetTerms). IsFirst comes_before (BreaksDatesIn o days) answer) (sym e) first

@@ -1,5 +1,6 @@
 -- A rule of resets is the first that is broken, or none is broken and there is the list of resets.
-use Rattle.std.proofs.Common.{◌≡◌, ◌⊎◌, inl, inr, ℕ, zero, suc, ◌-◌, ◌<◌, List, [], length, Option, Some, None, ℤ, ◌<ℤ◌, arith, rules, refl, ap, subst, IsSome, IfSome}
+use Rattle.std.proofs.Common.{◌≡◌, ◌⊎◌, inl, inr, ℕ, zero, suc, ◌-◌, ◌<◌, List, [], length, Option, Some, None, ℤ, ◌<ℤ◌}
+use Rattle.std.proofs.Common.{arith, rules, refl, ap, subst, IsSome, IfSome}
 use Rattle.std.specs.Prelude.{nat_lt}
 use Rattle.std.proofs.lemmas.Bool.{cases_lt, cases_eq}
 use Rattle.irs_base.specs.Days.{IsDay}
@@ -29,12 +30,16 @@ use Rattle.irs_adjust.proofs.FoundDays.{InRange, IsFound, decides_adjusts, adjus
 use Rattle.irs_adjust.proofs.MovedDays.{decides_moves, moves_day}
 use Rattle.irs_resets.specs.declared.dates.DateFault.{DateFault}
 use Rattle.irs_resets.specs.declared.dates.DateFault.TheVariants.{NoReset, NoFixing, OutOfRange}
-use Rattle.irs_resets.specs.ResetDates.{ResetDays, IsPeriod, base_day, ResetsOn, FixesOn, FixingFails, Fails, HasDates, Decided, unmoved_fault}
-use Rattle.irs_resets.specs.ResetRules.{GivesInitial, GivesFinal, InitialUnmet, FinalUnmet, BreaksStubs, date_fault, BreaksDates, BreaksDatesIn, BreaksResets}
+use Rattle.irs_resets.specs.ResetDates.{ResetDays, IsPeriod, base_day, ResetsOn, FixesOn, FixingFails, Fails, HasDates}
+use Rattle.irs_resets.specs.ResetDates.{Decided, unmoved_fault}
+use Rattle.irs_resets.specs.ResetRules.{GivesInitial, GivesFinal, InitialUnmet, FinalUnmet, BreaksStubs, date_fault}
+use Rattle.irs_resets.specs.ResetRules.{BreaksDates, BreaksDatesIn, BreaksResets}
 use Rattle.irs_resets.specs.Rates.{RateTable}
 use Rattle.irs_resets.specs.Resets.{ResetSource, IsResetsOf, IsResets}
 use Rattle.irs_resets.proofs.DateLemmas.{unmoved_fails, dates_stand, one_way, period_of}
-use Rattle.irs_resets.proofs.FirstResets.{rank, same_rank, NoneFails, first_reset, first_fixing, first_range, dates_unbroken, none_fails, first_initial, first_final, stubs_unbroken, first_of_stubs, first_of_dates}
+use Rattle.irs_resets.proofs.FirstResets.{rank, same_rank, NoneFails, first_reset, first_fixing, first_range}
+use Rattle.irs_resets.proofs.FirstResets.{dates_unbroken, none_fails, first_initial, first_final, stubs_unbroken}
+use Rattle.irs_resets.proofs.FirstResets.{first_of_stubs, first_of_dates}
 use Rattle.irs_resets.proofs.KindLaws.{decides_less}
 use Rattle.irs_resets.proofs.RowLemmas.{some_resets, has_dates}
 
@@ -44,15 +49,20 @@ use Rattle.irs_resets.proofs.RowLemmas.{some_resets, has_dates}
 abbrev FixingDecided : Option FixTerms → DaySet → ℤ → Type 0
 FixingDecided fixing set r = ((f : ℤ) × FixesOn fixing set r f) ⊎ ((e : DateFault) × FixingFails e fixing set r)
 
-fixes_moved : (fix : FixTerms) (set : DaySet) (r x : ℤ) → Moves fix.offset set r x → IsFound (Adjusts fix.adj.code set x) → FixingDecided (Some fix) set r
+fixes_moved : (fix : FixTerms) (set : DaySet) (r x : ℤ) → Moves fix.offset set r x
+    → IsFound (Adjusts fix.adj.code set x) → FixingDecided (Some fix) set r
 fixes_moved fix set r x moves (inl found) = inl (found.0, record { moved = x; moves = moves; adjusts = found.1 })
 fixes_moved fix set r x moves (inr none) = inr (NoFixing, inr (x, moves, none))
 
-fixes_by : (fix : FixTerms) (set : DaySet) (r : ℤ) → IsSaid fix.offset → IsDay r → InRange set → IsFound (Moves fix.offset set r) → FixingDecided (Some fix) set r
-fixes_by fix set r said day range (inl found) = fixes_moved fix set r found.0 found.1 (decides_adjusts fix.adj.code set found.0 (moves_day fix.offset set r found.0 day range found.1) range)
+fixes_by : (fix : FixTerms) (set : DaySet) (r : ℤ) → IsSaid fix.offset → IsDay r → InRange set
+    → IsFound (Moves fix.offset set r) → FixingDecided (Some fix) set r
+fixes_by fix set r said day range (inl found) =
+    fixes_moved fix set r found.0 found.1
+    (decides_adjusts fix.adj.code set found.0 (moves_day fix.offset set r found.0 day range found.1) range)
 fixes_by fix set r said day range (inr none) = inr (unmoved_fault fix.offset.kind, unmoved_fails fix set r said none)
 
-decides_fixing : (fixing : Option FixTerms) (set : DaySet) (r : ℤ) → IsSaidFixing fixing → IsDay r → InRange set → FixingDecided fixing set r
+decides_fixing : (fixing : Option FixTerms) (set : DaySet) (r : ℤ) → IsSaidFixing fixing → IsDay r → InRange set
+    → FixingDecided fixing set r
 decides_fixing None set r said day range = inl (r, refl)
 decides_fixing (Some fix) set r said day range = fixes_by fix set r said day range (decides_moves fix.offset set r)
 
@@ -71,25 +81,31 @@ pub record InDays (days : ResetDays) : Type 0 where
   pub fixing_set : InRange days.fixing_set
 
 module _ (t : ResetTerms) (days : ResetDays) where
-  fails_by : (e : DateFault) (i : ℕ) (r : ℤ) → IsPeriod days.adjusted i → ResetsOn t days i r → FixingFails e t.fixing days.fixing_set r → Fails e t days i
+  fails_by : (e : DateFault) (i : ℕ) (r : ℤ) → IsPeriod days.adjusted i → ResetsOn t days i r
+      → FixingFails e t.fixing days.fixing_set r → Fails e t days i
   fails_by NoReset i r period resets fails = absurd (no_reset_fault t.fixing days.fixing_set r fails)
   fails_by NoFixing i r period resets fails = record { period = period; reset = r; resets = resets; fails = fails }
   fails_by OutOfRange i r period resets fails = record { period = period; reset = r; resets = resets; fails = fails }
 
-  dates_on : (i : ℕ) (r : ℤ) → IsPeriod days.adjusted i → ResetsOn t days i r → FixingDecided t.fixing days.fixing_set r → Decided t days i
-  dates_on i r period resets (inl found) = inl (r, found.0, record { period = period; resets = resets; fixes = found.1 })
+  dates_on : (i : ℕ) (r : ℤ) → IsPeriod days.adjusted i → ResetsOn t days i r → FixingDecided t.fixing days.fixing_set r
+      → Decided t days i
+  dates_on i r period resets (inl found) =
+      inl (r, found.0, record { period = period; resets = resets; fixes = found.1 })
   dates_on i r period resets (inr fault) = inr (fault.0, fails_by fault.0 i r period resets fault.1)
 
   module _ (said : IsSaidFixing t.fixing) (range : InDays days) where
     dates_by : (i : ℕ) → IsPeriod days.adjusted i → IsFound (ResetsOn t days i) → Decided t days i
     dates_by i period (inl found) =
-        let day = adjusts_day t.adj.code days.reset_set (base_day t.relative days.adjusted i) found.0 (base_is_day t.relative days.adjusted i range.adjusted) range.reset_set found.1 in
+        let day = adjusts_day t.adj.code days.reset_set (base_day t.relative days.adjusted i) found.0
+        (base_is_day t.relative days.adjusted i range.adjusted) range.reset_set found.1 in
         dates_on i found.0 period found.1 (decides_fixing t.fixing days.fixing_set found.0 said day range.fixing_set)
     dates_by i period (inr none) = inr (NoReset, record { period = period; none = none })
 
     -- a period has its dates, or they fail
     pub decides_dates : (i : ℕ) → IsPeriod days.adjusted i → Decided t days i
-    decides_dates i period = dates_by i period (decides_adjusts t.adj.code days.reset_set (base_day t.relative days.adjusted i) (base_is_day t.relative days.adjusted i range.adjusted) range.reset_set)
+    decides_dates i period =
+        dates_by i period (decides_adjusts t.adj.code days.reset_set (base_day t.relative days.adjusted i)
+        (base_is_day t.relative days.adjusted i range.adjusted) range.reset_set)
 
 -- ---- the first period whose dates fail so, or none
 
@@ -97,7 +113,8 @@ module _ (t : ResetTerms) (days : ResetDays) where
 abbrev FirstOrNone : (ℕ → Type 0) → Type 0
 FirstOrNone P = ((i : ℕ) × First nat_lt P i) ⊎ ((i : ℕ) → P i → ⊥)
 
-first_below : (P : ℕ → Type 0) (n : ℕ) → ((i : ℕ) → i < n → IsDecided (P i)) → ((i : ℕ) × First nat_lt P i) ⊎ ((i : ℕ) → i < n → P i → ⊥)
+first_below : (P : ℕ → Type 0) (n : ℕ) → ((i : ℕ) → i < n → IsDecided (P i))
+    → ((i : ℕ) × First nat_lt P i) ⊎ ((i : ℕ) → i < n → P i → ⊥)
 first_below P zero decides = inr (λ i below p. omega (arith, below))
 first_below P (suc n) decides = elim (first_below P n (λ i below. decides i (omega (arith, below)))) [
   | inl found ↦ inl found
@@ -114,7 +131,8 @@ first_below P (suc n) decides = elim (first_below P n (λ i below. decides i (om
 
 -- whether P holds of any number, where it holds of numbers below n alone
 first_of : (P : ℕ → Type 0) (n : ℕ) → ((i : ℕ) → P i → i < n) → ((i : ℕ) → i < n → IsDecided (P i)) → FirstOrNone P
-first_of P n within decides = elim (first_below P n decides) [ inl found ↦ inl found | inr none ↦ inr (λ i p. none i (within i p) p) ]
+first_of P n within decides =
+    elim (first_below P n decides) [ inl found ↦ inl found | inr none ↦ inr (λ i p. none i (within i p) p) ]
 
 -- ---- the rules of dates
 
@@ -123,8 +141,10 @@ abbrev pub BrokenOrNone : (Fault → Type 0) → Type 0
 BrokenOrNone Breaks = ((f : Fault) × First comes_before Breaks f) ⊎ ((f : Fault) → Breaks f → ⊥)
 
 module _ (t : ResetTerms) (days : ResetDays) (said : IsSaidFixing t.fixing) (range : InDays days) where
-  by_failure : (why : DateFault) (i : ℕ) (found : DateFault) → Fails found t days i → (rank found ≡ rank why) ⊎ (rank found ≡ rank why → ⊥) → IsDecided (Fails why t days i)
-  by_failure why i found fails (inl same) = inl (subst (λ (e : DateFault). Fails e t days i) (same_rank found why same) fails)
+  by_failure : (why : DateFault) (i : ℕ) (found : DateFault) → Fails found t days i
+      → (rank found ≡ rank why) ⊎ (rank found ≡ rank why → ⊥) → IsDecided (Fails why t days i)
+  by_failure why i found fails (inl same) =
+      inl (subst (λ (e : DateFault). Fails e t days i) (same_rank found why same) fails)
   by_failure why i found fails (inr other) = inr (λ h. other (ap rank (one_way found why t days i fails h)))
 
   fails_by_dates : (why : DateFault) (i : ℕ) → Decided t days i → IsDecided (Fails why t days i)
@@ -133,13 +153,17 @@ module _ (t : ResetTerms) (days : ResetDays) (said : IsSaidFixing t.fixing) (ran
 
   decides_fails : (why : DateFault) (i : ℕ) → i < length days.adjusted → IsDecided (Fails why t days i)
   decides_fails why zero below = inr (λ h. let period = (period_of t days why zero h).0 in omega (arith, period))
-  decides_fails why (suc i) below = fails_by_dates why (suc i) (decides_dates t days said range (suc i) (omega arith, below))
+  decides_fails why (suc i) below =
+      fails_by_dates why (suc i) (decides_dates t days said range (suc i) (omega arith, below))
 
   first_failure : (why : DateFault) → FirstOrNone (Fails why t days)
-  first_failure why = first_of (Fails why t days) (length days.adjusted) (λ i h. (period_of t days why i h).1) (decides_fails why)
+  first_failure why =
+      first_of (Fails why t days) (length days.adjusted) (λ i h. (period_of t days why i h).1) (decides_fails why)
 
-  by_range : NoneFails t days NoReset → NoneFails t days NoFixing → FirstOrNone (Fails OutOfRange t days) → BrokenOrNone (BreaksDates t days)
-  by_range resets fixings (inl found) = inl (date_fault OutOfRange found.0, first_range t days found.0 resets fixings found.1)
+  by_range : NoneFails t days NoReset → NoneFails t days NoFixing → FirstOrNone (Fails OutOfRange t days)
+      → BrokenOrNone (BreaksDates t days)
+  by_range resets fixings (inl found) =
+      inl (date_fault OutOfRange found.0, first_range t days found.0 resets fixings found.1)
   by_range resets fixings (inr none) = inr (dates_unbroken t days resets fixings none)
 
   by_fixing : NoneFails t days NoReset → FirstOrNone (Fails NoFixing t days) → BrokenOrNone (BreaksDates t days)
@@ -157,9 +181,11 @@ module _ (t : ResetTerms) (days : ResetDays) (said : IsSaidFixing t.fixing) (ran
   dates_there : ((f : Fault) → BreaksDates t days f → ⊥) → (i : ℕ) → IsPeriod days.adjusted i → HasDates t days i
   dates_there none i period =
       let fails = none_fails t days none in
-      has_dates t days i (decides_dates t days said range i period) (fails NoReset i) (fails NoFixing i) (fails OutOfRange i)
+      has_dates t days i (decides_dates t days said range i period) (fails NoReset i) (fails NoFixing i)
+      (fails OutOfRange i)
 
-dates_decided_in : (reset : Option ResetTerms) (days : ResetDays) → IfSome reset (λ t. IsSaidFixing t.fixing) → InDays days → BrokenOrNone (BreaksDatesIn reset days)
+dates_decided_in : (reset : Option ResetTerms) (days : ResetDays) → IfSome reset (λ t. IsSaidFixing t.fixing)
+    → InDays days → BrokenOrNone (BreaksDatesIn reset days)
 dates_decided_in None days said range = inr (λ f h. h)
 dates_decided_in (Some t) days said range = dates_decided t days said range
 
@@ -178,12 +204,14 @@ gives_final None = inr (λ h. h)
 gives_final (Some stubs) = decides_some stubs.last
 
 module _ (s : Stream) (span : Span) where
-  initial_decided : IsDecided (GivesInitial s.stubs) → IsDecided (first_day_of s <ℤ span.first) → IsDecided (InitialUnmet s span)
+  initial_decided : IsDecided (GivesInitial s.stubs) → IsDecided (first_day_of s <ℤ span.first)
+      → IsDecided (InitialUnmet s span)
   initial_decided (inl given) (inl before) = inr (λ h. h.no_stub before)
   initial_decided (inl given) (inr no_stub) = inl (record { given = given; no_stub = no_stub })
   initial_decided (inr none) there = inr (λ h. none h.given)
 
-  final_decided : IsDecided (GivesFinal s.stubs) → IsDecided (span.last <ℤ s.termination.day) → IsDecided (FinalUnmet s span)
+  final_decided : IsDecided (GivesFinal s.stubs) → IsDecided (span.last <ℤ s.termination.day)
+      → IsDecided (FinalUnmet s span)
   final_decided (inl given) (inl before) = inr (λ h. h.no_stub before)
   final_decided (inl given) (inr no_stub) = inl (record { given = given; no_stub = no_stub })
   final_decided (inr none) there = inr (λ h. none h.given)
@@ -194,32 +222,44 @@ module _ (s : Stream) (span : Span) where
   stubs_by (inr met) (inr also) = inr (stubs_unbroken s span met also)
 
   stubs_decided : BrokenOrNone (BreaksStubs s span)
-  stubs_decided = stubs_by (initial_decided (gives_initial s.stubs) (decides_less (first_day_of s) span.first)) (final_decided (gives_final s.stubs) (decides_less span.last s.termination.day))
+  stubs_decided =
+      stubs_by (initial_decided (gives_initial s.stubs) (decides_less (first_day_of s) span.first))
+      (final_decided (gives_final s.stubs) (decides_less span.last s.termination.day))
 
 -- ---- the resets of a stream
 
 module _ (source : ResetSource) where
-  by_dates : ((f : Fault) → BreaksStubs source.stream source.span f → ⊥) → BrokenOrNone (BreaksDatesIn source.stream.reset source.days) → BrokenOrNone (BreaksResets source)
+  by_dates : ((f : Fault) → BreaksStubs source.stream source.span f → ⊥)
+      → BrokenOrNone (BreaksDatesIn source.stream.reset source.days) → BrokenOrNone (BreaksResets source)
   by_dates met (inl first) = inl (first.0, first_of_dates source (Some first.0) met first.1)
   by_dates met (inr none) = inr (first_of_dates source None met none)
 
-  by_stubs : BrokenOrNone (BreaksStubs source.stream source.span) → BrokenOrNone (BreaksDatesIn source.stream.reset source.days) → BrokenOrNone (BreaksResets source)
+  by_stubs : BrokenOrNone (BreaksStubs source.stream source.span)
+      → BrokenOrNone (BreaksDatesIn source.stream.reset source.days) → BrokenOrNone (BreaksResets source)
   by_stubs (inl first) dates = inl (first.0, first_of_stubs source first.0 first.1)
   by_stubs (inr met) dates = by_dates met dates
 
   -- a rule of resets is the first that is broken, or none is
   pub resets_decided : IsSaidReset source.stream → InDays source.days → BrokenOrNone (BreaksResets source)
-  resets_decided said range = by_stubs (stubs_decided source.stream source.span) (dates_decided_in source.stream.reset source.days said range)
+  resets_decided said range =
+      by_stubs (stubs_decided source.stream source.span) (dates_decided_in source.stream.reset source.days said range)
 
   module _ (rates : RateTable) (range : InDays source.days) where
-    floating_there : (float : FloatTerms) (reset : Option ResetTerms) → IsSome reset → IfSome reset (λ t. IsSaidFixing t.fixing) → ((f : Fault) → BreaksDatesIn reset source.days f → ⊥) → (rows : List Reset) × IsResetsOf (Floating float) reset source rates rows
+    floating_there : (float : FloatTerms) (reset : Option ResetTerms) → IsSome reset
+        → IfSome reset (λ t. IsSaidFixing t.fixing) → ((f : Fault) → BreaksDatesIn reset source.days f → ⊥)
+        → (rows : List Reset) × IsResetsOf (Floating float) reset source rates rows
     floating_there float None some said none = absurd (search rules)
-    floating_there float (Some t) some said none = some_resets source rates float t (dates_there t source.days said range none)
+    floating_there float (Some t) some said none =
+        some_resets source rates float t (dates_there t source.days said range none)
 
-    there_of : (leg : Leg) (reset : Option ResetTerms) → FitsResets leg reset → IfSome reset (λ t. IsSaidFixing t.fixing) → ((f : Fault) → BreaksDatesIn reset source.days f → ⊥) → (rows : List Reset) × IsResetsOf leg reset source rates rows
+    there_of : (leg : Leg) (reset : Option ResetTerms) → FitsResets leg reset
+        → IfSome reset (λ t. IsSaidFixing t.fixing) → ((f : Fault) → BreaksDatesIn reset source.days f → ⊥)
+        → (rows : List Reset) × IsResetsOf leg reset source rates rows
     there_of (Fixed values) reset fits said none = ([], refl)
     there_of (Floating float) reset fits said none = floating_there float reset fits said none
 
     -- where no rule is broken there is the list of resets
-    pub resets_there : FitsLeg source.stream → IsSaidReset source.stream → ((f : Fault) → BreaksResets source f → ⊥) → (rows : List Reset) × IsResets source rates rows
-    resets_there fits said none = there_of source.stream.leg source.stream.reset fits.resets said (λ f h. none f (inr h))
+    pub resets_there : FitsLeg source.stream → IsSaidReset source.stream → ((f : Fault) → BreaksResets source f → ⊥)
+        → (rows : List Reset) × IsResets source rates rows
+    resets_there fits said none =
+        there_of source.stream.leg source.stream.reset fits.resets said (λ f h. none f (inr h))

@@ -1,5 +1,6 @@
 -- Lists of resets: one at most, and one where each period has its dates.
-use Rattle.std.proofs.Common.{◌≡◌, inl, inr, ℕ, zero, suc, ◌+◌, ◌-◌, ◌<◌, ◌≤◌, List, [], ◌∷◌, length, Option, Some, None, ℤ, pos, ◌≤ℤ◌, ◌-ℤ◌, refl, sym, ap, ap₂, subst, ◌∙◌, arith}
+use Rattle.std.proofs.Common.{◌≡◌, inl, inr, ℕ, zero, suc, ◌+◌, ◌-◌, ◌<◌, ◌≤◌, List, [], ◌∷◌, length, Option, Some}
+use Rattle.std.proofs.Common.{None, ℤ, pos, ◌≤ℤ◌, ◌-ℤ◌, refl, sym, ap, ap₂, subst, ◌∙◌, arith}
 use Rattle.jiff_core.proofs.SignedLemmas.{signed_arith}
 use Rattle.irs_base.specs.Days.{all_days, first_day, last_day}
 use Rattle.irs_base.specs.DayLists.{AreDays}
@@ -28,7 +29,8 @@ pub many_rows : (rows number a : ℕ) → rows + 1 ≡ number → (1 < number �
 many_rows rows number a e within walked = grind (arith, e, within, walked)
 
 -- n rows from the number i on, where each of these numbers has one
-some_list : (R : ℕ → Reset → Type 0) (n i : ℕ) → ((k : ℕ) → i ≤ k → k < i + n → (row : Reset) × R k row) → (rows : List Reset) × (length rows ≡ n) × EachNumbered R i rows
+some_list : (R : ℕ → Reset → Type 0) (n i : ℕ) → ((k : ℕ) → i ≤ k → k < i + n → (row : Reset) × R k row)
+    → (rows : List Reset) × (length rows ≡ n) × EachNumbered R i rows
 some_list R zero i h = ([], refl, tt)
 some_list R (suc n) i h =
     let first = h i (omega arith) (omega arith) in
@@ -44,10 +46,14 @@ module _ (source : ResetSource) (rates : RateTable) where
     pub one_row : (i : ℕ) (x y : Reset) → IsReset source f t rates i x → IsReset source f t rates i y → x ≡ y
     one_row i x y p q =
         let same = one_dates t source.days i x.reset x.fixing y.reset y.fixing p.dates q.dates in
-        let kinds : p.kind ≡ q.kind = one_kind source.stream source.span (count_of source) i p.kind q.kind p.is_kind q.is_kind in
-        let by_kind : IsObserved q.kind f source.stream.stubs rates x.fixing x.observed = subst (λ (k : PeriodKind). IsObserved k f source.stream.stubs rates x.fixing x.observed) kinds p.observed in
-        let by_day : IsObserved q.kind f source.stream.stubs rates y.fixing x.observed = subst (λ (d : ℤ). IsObserved q.kind f source.stream.stubs rates d x.observed) same.1 by_kind in
-        let e : x.observed ≡ y.observed = one_observed f q.kind source.stream.stubs rates y.fixing x.observed y.observed by_day q.observed in
+        let kinds : p.kind ≡ q.kind =
+        one_kind source.stream source.span (count_of source) i p.kind q.kind p.is_kind q.is_kind in
+        let by_kind : IsObserved q.kind f source.stream.stubs rates x.fixing x.observed =
+        subst (λ (k : PeriodKind). IsObserved k f source.stream.stubs rates x.fixing x.observed) kinds p.observed in
+        let by_day : IsObserved q.kind f source.stream.stubs rates y.fixing x.observed =
+        subst (λ (d : ℤ). IsObserved q.kind f source.stream.stubs rates d x.observed) same.1 by_kind in
+        let e : x.observed ≡ y.observed =
+        one_observed f q.kind source.stream.stubs rates y.fixing x.observed y.observed by_day q.observed in
         let make : ℤ → ℤ → Option ℤ → Reset = λ r g o. record { reset = r; fixing = g; observed = o } in
         ap (λ r. make r x.fixing x.observed) same.0 ∙ ap₂ (λ g o. make y.reset g o) same.1 e
 
@@ -55,18 +61,26 @@ module _ (source : ResetSource) (rates : RateTable) where
     one_has xs ys p q = one_numbered (IsReset source f t rates) one_row 1 xs ys (p.many ∙ sym q.many) p.each q.each
 
     -- where each period has its dates there is a list of resets
-    pub some_resets : ((i : ℕ) → IsPeriod source.days.adjusted i → HasDates t source.days i) → (rows : List Reset) × HasResets source f t rates rows
+    pub some_resets : ((i : ℕ) → IsPeriod source.days.adjusted i → HasDates t source.days i)
+        → (rows : List Reset) × HasResets source f t rates rows
     some_resets h =
         let row : (k : ℕ) → 1 ≤ k → k < 1 + count_of source → (r : Reset) × IsReset source f t rates k r = λ k low high.
         let d = h k (low, omega (arith, low, high)) in
         let kind = kind_there source.stream source.span (count_of source) k in (
           record { reset = d.0; fixing = d.1; observed = observed_rate kind.0 f source.stream.stubs rates d.1 },
-          record { dates = d.2; kind = kind.0; is_kind = kind.1; observed = is_observed f kind.0 source.stream.stubs rates d.1 },
+          record {
+            dates = d.2;
+            kind = kind.0;
+            is_kind = kind.1;
+            observed =
+                is_observed f kind.0 source.stream.stubs rates d.1;
+          },
         ) in
         let l = some_list (IsReset source f t rates) (count_of source) 1 row in
         (l.0, record { many = l.1; each = l.2 })
 
-  one_of : (leg : Leg) (reset : Option ResetTerms) (xs ys : List Reset) → IsResetsOf leg reset source rates xs → IsResetsOf leg reset source rates ys → xs ≡ ys
+  one_of : (leg : Leg) (reset : Option ResetTerms) (xs ys : List Reset) → IsResetsOf leg reset source rates xs
+      → IsResetsOf leg reset source rates ys → xs ≡ ys
   one_of (Fixed values) reset xs ys p q = p ∙ sym q
   one_of (Floating f) None xs ys p q = absurd p
   one_of (Floating f) (Some t) xs ys p q = one_has f t xs ys p q
@@ -76,20 +90,35 @@ module _ (source : ResetSource) (rates : RateTable) where
   one_resets xs ys p q = one_of source.stream.leg source.stream.reset xs ys p q
 
   -- the resets by the terms that the stream has
-  pub resets_in : (f : FloatTerms) (t : ResetTerms) (rows : List Reset) → source.stream.leg ≡ Floating f → source.stream.reset ≡ Some t → HasResets source f t rates rows → IsResets source rates rows
+  pub resets_in : (f : FloatTerms) (t : ResetTerms) (rows : List Reset) → source.stream.leg ≡ Floating f
+      → source.stream.reset ≡ Some t → HasResets source f t rates rows → IsResets source rates rows
   resets_in f t rows d e h =
-      let by_terms : IsResetsOf (Floating f) source.stream.reset source rates rows = subst (λ (o : Option ResetTerms). IsResetsOf (Floating f) o source rates rows) (sym e) h in
+      let by_terms : IsResetsOf (Floating f) source.stream.reset source rates rows =
+      subst (λ (o : Option ResetTerms). IsResetsOf (Floating f) o source rates rows) (sym e) h in
       subst (λ (l : Leg). IsResetsOf l source.stream.reset source rates rows) (sym d) by_terms
 
 -- tables with the same rates give the same resets
-module _ (source : ResetSource) (u v : RateTable) (same : (index : List ℕ) (slot : Slot) → rate_at u index slot ≡ rate_at v index slot) where
-  has_same : (f : FloatTerms) (t : ResetTerms) (rows : List Reset) → HasResets source f t u rows → HasResets source f t v rows
+module _ (source : ResetSource) (u v : RateTable) (same : (index : List ℕ) (slot : Slot)
+    → rate_at u index slot ≡ rate_at v index slot) where
+  has_same : (f : FloatTerms) (t : ResetTerms) (rows : List Reset) → HasResets source f t u rows
+      → HasResets source f t v rows
   has_same f t rows h =
       let row : (m : ℕ) (x : Reset) → IsReset source f t u m x → IsReset source f t v m x = λ m x r.
-      record { dates = r.dates; kind = r.kind; is_kind = r.is_kind; observed = observed_same u v same r.kind f source.stream.stubs x.fixing x.observed r.observed } in
-      record { many = h.many; each = numbered_map (IsReset source f t u) (IsReset source f t v) 1 rows (λ m x low high r. row m x r) h.each }
+      record {
+        dates = r.dates;
+        kind = r.kind;
+        is_kind = r.is_kind;
+        observed =
+            observed_same u v same r.kind f source.stream.stubs x.fixing x.observed r.observed;
+      } in
+      record {
+        many = h.many;
+        each =
+            numbered_map (IsReset source f t u) (IsReset source f t v) 1 rows (λ m x low high r. row m x r) h.each;
+      }
 
-  same_of : (leg : Leg) (reset : Option ResetTerms) (rows : List Reset) → IsResetsOf leg reset source u rows → IsResetsOf leg reset source v rows
+  same_of : (leg : Leg) (reset : Option ResetTerms) (rows : List Reset) → IsResetsOf leg reset source u rows
+      → IsResetsOf leg reset source v rows
   same_of (Fixed values) reset rows h = h
   same_of (Floating f) None rows h = absurd h
   same_of (Floating f) (Some t) rows h = has_same f t rows h
@@ -98,17 +127,20 @@ module _ (source : ResetSource) (u v : RateTable) (same : (index : List ℕ) (sl
   resets_same rows h = same_of source.stream.leg source.stream.reset rows h
 
 -- dates that fail in no way are there
-none_fails : (t : ResetTerms) (days : ResetDays) (i : ℕ) → (Fails NoReset t days i → ⊥) → (Fails NoFixing t days i → ⊥) → (Fails OutOfRange t days i → ⊥) → (why : DateFault) → Fails why t days i → ⊥
+none_fails : (t : ResetTerms) (days : ResetDays) (i : ℕ) → (Fails NoReset t days i → ⊥) → (Fails NoFixing t days i → ⊥)
+    → (Fails OutOfRange t days i → ⊥) → (why : DateFault) → Fails why t days i → ⊥
 none_fails t days i p q r NoReset h = p h
 none_fails t days i p q r NoFixing h = q h
 none_fails t days i p q r OutOfRange h = r h
 
-pub has_dates : (t : ResetTerms) (days : ResetDays) (i : ℕ) → Decided t days i → (Fails NoReset t days i → ⊥) → (Fails NoFixing t days i → ⊥) → (Fails OutOfRange t days i → ⊥) → HasDates t days i
+pub has_dates : (t : ResetTerms) (days : ResetDays) (i : ℕ) → Decided t days i → (Fails NoReset t days i → ⊥)
+    → (Fails NoFixing t days i → ⊥) → (Fails OutOfRange t days i → ⊥) → HasDates t days i
 has_dates t days i (inl h) p q r = h
 has_dates t days i (inr h) p q r = absurd (none_fails t days i p q r h.0 h.1)
 
 -- rising days are few
-after_few : (x : ℤ) (xs : List ℤ) → AllAfter x xs → IsRising xs → AreDays xs → first_day ≤ℤ x → x ≤ℤ last_day → (pos (length xs) ≤ℤ (last_day -ℤ x))
+after_few : (x : ℤ) (xs : List ℤ) → AllAfter x xs → IsRising xs → AreDays xs → first_day ≤ℤ x → x ≤ℤ last_day
+    → (pos (length xs) ≤ℤ (last_day -ℤ x))
 after_few x [] after rising days low high = omega (arith, signed_arith, high)
 after_few x (y ∷ ys) after rising days low high =
     let rest = after_few y ys rising.0 rising.1 days.1 days.0.0 days.0.1 in

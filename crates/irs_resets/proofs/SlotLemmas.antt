@@ -1,5 +1,6 @@
 -- The order of slots tells them apart.
-use Rattle.std.proofs.Common.{◌≡◌, ℕ, Bool, true, ◌&&◌, ◌==◌, Option, Some, None, ℤ, refl, arith, ap₂, ◌∙◌, List, [], ◌∷◌, cond}
+use Rattle.std.proofs.Common.{◌≡◌, ℕ, Bool, true, ◌&&◌, ◌==◌, Option, Some, None, ℤ, refl, arith, ap₂, ◌∙◌, List, []}
+use Rattle.std.proofs.Common.{◌∷◌, cond}
 use Rattle.std.proofs.lemmas.Bool.Decides.{nat_tests}
 use Rattle.std.specs.Ordering.{int_eq, is_eq, int_cmp, nat_cmp, ordering_then}
 use Rattle.std.specs.Option.{option_cmp}
@@ -59,7 +60,9 @@ unit_cmp-is T Y = refl
 unit_cmp-is T T = refl
 
 frequency_cmp-is : (a b : Frequency) → is_eq (of_frequency.it a b) ≡ ((a.count == b.count) && is_unit a.unit b.unit)
-frequency_cmp-is a b = both_equal (nat_cmp a.count b.count) (of_unit.it a.unit b.unit) ∙ ap₂ (λ x y. x && y) (count_cmp-is a.count b.count) (unit_cmp-is a.unit b.unit)
+frequency_cmp-is a b =
+    both_equal (nat_cmp a.count b.count) (of_unit.it a.unit b.unit)
+    ∙ ap₂ (λ x y. x && y) (count_cmp-is a.count b.count) (unit_cmp-is a.unit b.unit)
 
 tenor_cmp-is : (a b : Option Frequency) → is_eq (option_cmp of_frequency.it a b) ≡ is_tenor a b
 tenor_cmp-is None None = refl
@@ -68,14 +71,18 @@ tenor_cmp-is (Some a) None = refl
 tenor_cmp-is (Some a) (Some b) = frequency_cmp-is a b
 
 pub slot_cmp-is : (a b : Slot) → is_eq (slot_cmp a b) ≡ is_slot a b
-slot_cmp-is a b = both_equal (int_cmp a.date b.date) (option_cmp of_frequency.it a.tenor b.tenor) ∙ ap₂ (λ x y. x && y) (date_cmp-is a.date b.date) (tenor_cmp-is a.tenor b.tenor)
+slot_cmp-is a b =
+    both_equal (int_cmp a.date b.date) (option_cmp of_frequency.it a.tenor b.tenor)
+    ∙ ap₂ (λ x y. x && y) (date_cmp-is a.date b.date) (tenor_cmp-is a.tenor b.tenor)
 
 -- a look-up by one of two tests that answer alike
-pub lookup_alike : {K X : Type 0} (f g : K → Bool) → ((k : K) → f k ≡ g k) → (es : List (K × X)) → lookup f es ≡ lookup g es
+pub lookup_alike : {K X : Type 0} (f g : K → Bool) → ((k : K) → f k ≡ g k) → (es : List (K × X))
+    → lookup f es ≡ lookup g es
 lookup_alike f g h [] = refl
 lookup_alike f g h (e ∷ es) = ap₂ (λ t r. cond t (Some e.1) r) (h e.0) (lookup_alike f g h es)
 
-pub slot_lookup : (slot : Slot) (es : List (Slot × ℤ)) → lookup (λ k. is_eq (slot_cmp slot k)) es ≡ lookup (is_slot slot) es
+pub slot_lookup : (slot : Slot) (es : List (Slot × ℤ))
+    → lookup (λ k. is_eq (slot_cmp slot k)) es ≡ lookup (is_slot slot) es
 slot_lookup slot es = lookup_alike (λ k. is_eq (slot_cmp slot k)) (is_slot slot) (slot_cmp-is slot) es
 
 -- what passes the test is the same

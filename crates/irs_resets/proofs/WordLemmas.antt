@@ -1,5 +1,6 @@
 -- Where a word ends.
-use Rattle.std.proofs.Common.{◌≡◌, ℕ, zero, suc, ◌-◌, ◌<◌, ◌≤◌, Bool, true, false, ◌&&◌, List, [], ◌∷◌, take, drop, length, get_or, arith, refl, ap}
+use Rattle.std.proofs.Common.{◌≡◌, ℕ, zero, suc, ◌-◌, ◌<◌, ◌≤◌, Bool, true, false, ◌&&◌, List, [], ◌∷◌, take, drop}
+use Rattle.std.proofs.Common.{length, get_or, arith, refl, ap}
 use Rattle.irs_base.specs.Fields.{is_space}
 use Rattle.irs_resets.specs.Words.{word, behind_word, without_gap, trimmed, is_blank}
 
@@ -10,7 +11,8 @@ NoneBefore bytes i = (k : ℕ) → k < i → is_space (get_or bytes k 0) ≡ fal
 abbrev pub AllBefore : List ℕ → ℕ → Type 0
 AllBefore bytes i = (k : ℕ) → k < i → is_space (get_or bytes k 0) ≡ true
 
-pub word_here : (bytes : List ℕ) (i : ℕ) → i < length bytes → is_space (get_or bytes i 0) ≡ true → NoneBefore bytes i → (take i bytes ≡ word bytes) × (drop i bytes ≡ behind_word bytes)
+pub word_here : (bytes : List ℕ) (i : ℕ) → i < length bytes → is_space (get_or bytes i 0) ≡ true → NoneBefore bytes i
+    → (take i bytes ≡ word bytes) × (drop i bytes ≡ behind_word bytes)
 word_here [] i within gap none = absurd (omega (arith, within))
 word_here (b ∷ bs) zero within gap none = (rw gap refl, rw gap refl)
 word_here (b ∷ bs) (suc i) within gap none =
@@ -25,7 +27,8 @@ word_alone (b ∷ bs) none =
     let rest = word_alone bs (λ k h. none (suc k) (omega (arith, h))) in
     (rw first (ap (λ (l : List ℕ). b ∷ l) rest.0), rw first rest.1)
 
-pub gap_here : (bytes : List ℕ) (i : ℕ) → i < length bytes → is_space (get_or bytes i 0) ≡ false → AllBefore bytes i → drop i bytes ≡ without_gap bytes
+pub gap_here : (bytes : List ℕ) (i : ℕ) → i < length bytes → is_space (get_or bytes i 0) ≡ false → AllBefore bytes i
+    → drop i bytes ≡ without_gap bytes
 gap_here [] i within solid all = absurd (omega (arith, within))
 gap_here (b ∷ bs) zero within solid all = rw solid refl
 gap_here (b ∷ bs) (suc i) within solid all =
@@ -62,13 +65,21 @@ trimmed_blank [] all = refl
 trimmed_blank (b ∷ bs) all = rw (blank (b ∷ bs) all) refl
 
 -- what is trimmed ends at the last byte that is no space
-pub trimmed_here : (bytes : List ℕ) (i : ℕ) → i < length bytes → is_space (get_or bytes i 0) ≡ false → AllFrom bytes (suc i) → take (suc i) bytes ≡ trimmed bytes
+pub trimmed_here : (bytes : List ℕ) (i : ℕ) → i < length bytes → is_space (get_or bytes i 0) ≡ false
+    → AllFrom bytes (suc i) → take (suc i) bytes ≡ trimmed bytes
 trimmed_here [] i within solid all = absurd (omega (arith, within))
-trimmed_here (b ∷ bs) zero within solid all = rw (not_blank (b ∷ bs) zero within solid) (ap (λ (l : List ℕ). b ∷ l) (trimmed_blank bs (λ k from to. all (suc k) (omega arith) (omega (arith, to)))))
-trimmed_here (b ∷ bs) (suc i) within solid all = rw (not_blank (b ∷ bs) (suc i) within solid) (ap (λ (l : List ℕ). b ∷ l) (trimmed_here bs i (omega (arith, within)) solid (λ k from to. all (suc k) (omega (arith, from)) (omega (arith, to)))))
+trimmed_here (b ∷ bs) zero within solid all =
+    rw (not_blank (b ∷ bs) zero within solid)
+    (ap (λ (l : List ℕ). b ∷ l) (trimmed_blank bs (λ k from to. all (suc k) (omega arith) (omega (arith, to)))))
+trimmed_here (b ∷ bs) (suc i) within solid all =
+    rw (not_blank (b ∷ bs) (suc i) within solid)
+    (ap (λ (l : List ℕ). b ∷ l)
+    (trimmed_here bs i (omega (arith, within)) solid
+    (λ k from to. all (suc k) (omega (arith, from)) (omega (arith, to)))))
 
 -- the same by the number of bytes that stay
-pub trimmed_to : (bytes : List ℕ) (n : ℕ) → 0 < n → n ≤ length bytes → is_space (get_or bytes (n - 1) 0) ≡ false → AllFrom bytes n → take n bytes ≡ trimmed bytes
+pub trimmed_to : (bytes : List ℕ) (n : ℕ) → 0 < n → n ≤ length bytes → is_space (get_or bytes (n - 1) 0) ≡ false
+    → AllFrom bytes n → take n bytes ≡ trimmed bytes
 trimmed_to bytes zero some within solid all = absurd (omega (arith, some))
 trimmed_to bytes (suc i) some within solid all =
     let e : suc i - 1 ≡ i = omega arith in

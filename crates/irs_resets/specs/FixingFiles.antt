@@ -1,5 +1,6 @@
 -- What a fixing file holds, and its first line that is at fault. Lines count from 1.
-use Rattle.std.specs.Prelude.{◌≡◌, ◌⊎◌, ◌↔◌, ℕ, ◌-◌, ◌<◌, ◌≤◌, false, IsTrue, List, [], length, slice_index_or, Some, None, IsSome, ℤ}
+use Rattle.std.specs.Prelude.{◌≡◌, ◌⊎◌, ◌↔◌, ℕ, ◌-◌, ◌<◌, ◌≤◌, false, IsTrue, List, [], length, slice_index_or, Some}
+use Rattle.std.specs.Prelude.{None, IsSome, ℤ}
 use Rattle.irs_base.specs.Lines.{lines_of}
 use Rattle.irs_resets.specs.declared.store.Slot.{Slot}
 use Rattle.irs_resets.specs.Words.{is_passed}
@@ -52,7 +53,8 @@ pub record IsFirstFault (P : ℕ → Type 0) (lines : List (List ℕ)) (n : ℕ)
 -- no line is at fault, and the rates are exactly those that the lines give
 pub record IsFixingFile (bytes : List ℕ) (table : RateTable) : Type 0 where
   pub clean : (n : ℕ) → IsFaulty (lines_of bytes) n → ⊥
-  pub holds : (index : List ℕ) (slot : Slot) (rate : ℤ) → (rate_at table index slot ≡ Some rate) ↔ ((n : ℕ) × Fixes (lines_of bytes) n index slot rate)
+  pub holds : (index : List ℕ) (slot : Slot) (rate : ℤ)
+      → (rate_at table index slot ≡ Some rate) ↔ ((n : ℕ) × Fixes (lines_of bytes) n index slot rate)
 
 -- a line more is read: it is passed over, or its rate is put where there was none
 pub record TakesLine (old : RateTable) (line : List ℕ) (new : RateTable) : Type 0 where

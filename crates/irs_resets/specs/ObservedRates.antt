@@ -9,7 +9,8 @@ use Rattle.irs_terms.specs.declared.results.Span.{Span}
 use Rattle.irs_terms.specs.declared.stream.Stream.{Stream}
 use Rattle.irs_terms.specs.FirstDay.{first_day_of}
 use Rattle.irs_resets.specs.declared.observed.PeriodKind.{PeriodKind}
-use Rattle.irs_resets.specs.declared.observed.PeriodKind.TheVariants.{InitialStub, FinalStub, FirstRegular, LaterRegular}
+use Rattle.irs_resets.specs.declared.observed.PeriodKind.TheVariants.{InitialStub, FinalStub, FirstRegular}
+use Rattle.irs_resets.specs.declared.observed.PeriodKind.TheVariants.{LaterRegular}
 use Rattle.irs_resets.specs.Rates.{RateTable, rate_at}
 
 -- ---- what a period is
@@ -47,18 +48,22 @@ pub data RateSource : Type 0 where
 -- the rate or index that is given for the stub that the period is
 abbrev pub GivesStub : PeriodKind → Option StubTerms → StubRate → Type 0
 GivesStub kind None given = ⊥
-GivesStub kind (Some stubs) given = ((kind ≡ InitialStub) × (stubs.initial ≡ Some given)) ⊎ ((kind ≡ FinalStub) × (stubs.last ≡ Some given))
+GivesStub kind (Some stubs) given =
+    ((kind ≡ InitialStub) × (stubs.initial ≡ Some given)) ⊎ ((kind ≡ FinalStub) × (stubs.last ≡ Some given))
 
 -- where the rate of a period of that kind comes from
 pub data ComesFrom (kind : PeriodKind) (float : FloatTerms) (stubs : Option StubTerms) : RateSource → Type 0 where
   -- a stub's own rate
   own_rate : (rate : ℤ) → GivesStub kind stubs (Fixed rate) → ComesFrom kind float stubs (Stated rate)
   -- a stub's own index, and no other where that has no line
-  own_index : (index : List ℕ) (tenor : Option Frequency) → GivesStub kind stubs (Index index tenor) → ComesFrom kind float stubs (Line index tenor)
+  own_index : (index : List ℕ) (tenor : Option Frequency) → GivesStub kind stubs (Index index tenor)
+      → ComesFrom kind float stubs (Line index tenor)
   -- the initial rate of the first regular period
-  initial_rate : (rate : ℤ) → kind ≡ FirstRegular → float.initial_rate ≡ Some rate → ComesFrom kind float stubs (Stated rate)
+  initial_rate : (rate : ℤ) → kind ≡ FirstRegular → float.initial_rate ≡ Some rate
+      → ComesFrom kind float stubs (Stated rate)
   -- else the index of the stream
-  stream_index : ((given : StubRate) → GivesStub kind stubs given → ⊥) → (kind ≡ FirstRegular → float.initial_rate ≡ None) → ComesFrom kind float stubs (Line float.index float.tenor)
+  stream_index : ((given : StubRate) → GivesStub kind stubs given → ⊥)
+      → (kind ≡ FirstRegular → float.initial_rate ≡ None) → ComesFrom kind float stubs (Line float.index float.tenor)
 
 -- the rate of that source on the fixing date d; a line that isn't there has none
 abbrev pub rate_from : RateSource → RateTable → ℤ → Option ℤ
@@ -66,7 +71,8 @@ rate_from (Stated rate) rates d = Some rate
 rate_from (Line index tenor) rates d = rate_at rates index (record { date = d; tenor = tenor })
 
 -- the observed rate of a period of that kind with the fixing date d
-pub record IsObserved (kind : PeriodKind) (float : FloatTerms) (stubs : Option StubTerms) (rates : RateTable) (d : ℤ) (rate : Option ℤ) : Type 0 where
+pub record IsObserved (kind : PeriodKind) (float : FloatTerms) (stubs : Option StubTerms) (rates : RateTable) (d : ℤ)
+    (rate : Option ℤ) : Type 0 where
   pub source : RateSource
   pub comes_from : ComesFrom kind float stubs source
   pub is : rate ≡ rate_from source rates d

@@ -1,5 +1,6 @@
 -- Rates by index, date and tenor.
-use Rattle.std.specs.Prelude.{◌≡◌, ℕ, Bool, true, false, ◌&&◌, ◌==◌, Option, Some, None, ℤ, List, [], ◌∷◌, IfSome, if◌then◌else◌}
+use Rattle.std.specs.Prelude.{◌≡◌, ℕ, Bool, true, false, ◌&&◌, ◌==◌, Option, Some, None, ℤ, List, [], ◌∷◌, IfSome}
+use Rattle.std.specs.Prelude.{if◌then◌else◌}
 use Rattle.std.specs.Ordering.{int_eq}
 use Rattle.std.specs.Map.{lookup}
 use Rattle.std.specs.Str.{bytes_eq}
@@ -49,11 +50,14 @@ rate_at table index slot = rate_of (lookup (bytes_eq index) table) slot
 
 -- new has the rate there, and at every other place what old has
 abbrev pub AddsTo : SlotRates → Slot → ℤ → SlotRates → Type 0
-AddsTo old slot rate new = (q : Slot) → lookup (is_slot q) new ≡ (if is_slot slot q then Some rate else lookup (is_slot q) old)
+AddsTo old slot rate new =
+    (q : Slot) → lookup (is_slot q) new ≡ (if is_slot slot q then Some rate else lookup (is_slot q) old)
 
 -- the table has this rate too, and else what it had
 abbrev pub Adds : RateTable → List ℕ → Slot → ℤ → RateTable → Type 0
-Adds old index slot rate new = (i : List ℕ) (q : Slot) → rate_at new i q ≡ (if bytes_eq index i && is_slot slot q then Some rate else rate_at old i q)
+Adds old index slot rate new =
+    (i : List ℕ) (q : Slot)
+    → rate_at new i q ≡ (if bytes_eq index i && is_slot slot q then Some rate else rate_at old i q)
 
 -- each key as its bytes
 abbrev pub by_bytes : {Y X : Type 0} → List (Vec ℕ Y × X) → List (List ℕ × X)

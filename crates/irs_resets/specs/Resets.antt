@@ -24,7 +24,8 @@ pub record ResetSource : Type 0 where
 
 -- what the resets of a stream are worked out from
 abbrev pub source_of : Stream → Span → List ℤ → DaySet → DaySet → ResetSource
-source_of s span adjusted reset_set fixing_set = record { stream = s; span = span; days = days_by adjusted reset_set fixing_set }
+source_of s span adjusted reset_set fixing_set =
+    record { stream = s; span = span; days = days_by adjusted reset_set fixing_set }
 
 -- how many calculation periods there are
 abbrev pub count_of : ResetSource → ℕ
@@ -35,14 +36,16 @@ abbrev pub IsKindOf : ResetSource → ℕ → PeriodKind → Type 0
 IsKindOf source i kind = IsKind source.stream source.span (count_of source) i kind
 
 -- the reset of period i by the terms t of its dates: the dates, and the observed rate
-pub record IsReset (source : ResetSource) (float : FloatTerms) (t : ResetTerms) (rates : RateTable) (i : ℕ) (row : Reset) : Type 0 where
+pub record IsReset (source : ResetSource) (float : FloatTerms) (t : ResetTerms) (rates : RateTable) (i : ℕ)
+    (row : Reset) : Type 0 where
   pub dates : IsDates t source.days i row.reset row.fixing
   pub kind : PeriodKind
   pub is_kind : IsKindOf source i kind
   pub observed : IsObserved kind float source.stream.stubs rates row.fixing row.observed
 
 -- one reset for each period
-pub record HasResets (source : ResetSource) (float : FloatTerms) (t : ResetTerms) (rates : RateTable) (rows : List Reset) : Type 0 where
+pub record HasResets (source : ResetSource) (float : FloatTerms) (t : ResetTerms) (rates : RateTable)
+    (rows : List Reset) : Type 0 where
   pub many : length rows ≡ count_of source
   pub each : EachNumbered (IsReset source float t rates) 1 rows
 

@@ -35,7 +35,8 @@ three_digits a b c = hundreds (first_digit a) (digit_at b) (digit_at c)
 
 -- D, W, M and Y
 abbrev pub unit_at : ℕ → Option FrequencyUnit
-unit_at b = if b == 68 then Some D else (if b == 87 then Some W else (if b == 77 then Some M else (if b == 89 then Some Y else None)))
+unit_at b = if b == 68 then Some D else
+    (if b == 87 then Some W else (if b == 77 then Some M else (if b == 89 then Some Y else None)))
 
 -- a tenor of this count and unit, where both are there
 abbrev pub with_unit : Option ℕ → Option FrequencyUnit → Option (Option Frequency)

@@ -6,7 +6,8 @@
 ghost use Rattle.std.specs.Prelude.{◌≡◌, ◌⊎◌, ◌↔◌, ◌<◌, ◌^◌, ℕ, ℤ, pos, length, IsTrue, IfOk, IfErr, IfNone, nat_lt};
 ghost use Rattle.irs_terms.specs.declared.codes.DayKind.TheVariants.{Unsaid};
 ghost use Rattle.irs_base.specs.Order.{IsFirst};
-ghost use Rattle.irs_resets.specs.ResetDates.{days_by, base_day, IsPeriod, ResetsOn, FixesOn, FixesBy, IsDates, FixingFails, FixFails, Fails, Decided, unmoved_fault};
+ghost use Rattle.irs_resets.specs.ResetDates.{days_by, base_day, IsPeriod, ResetsOn, FixesOn, FixesBy, IsDates};
+ghost use Rattle.irs_resets.specs.ResetDates.{FixingFails, FixFails, Fails, Decided, unmoved_fault};
 ghost use Rattle.irs_terms.specs.DayTypes.{IsSaidFixing, IsSaid};
 
 use irs_adjust::{adjust_by, move_by};

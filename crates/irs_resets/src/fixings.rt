@@ -8,7 +8,8 @@ ghost use Rattle.irs_base.specs.Limits.{most_bytes};
 ghost use Rattle.irs_base.specs.Lines.{lines_of};
 ghost use Rattle.irs_terms.specs.Lawful.{IsRate};
 ghost use Rattle.irs_resets.specs.Rates.{rate_at};
-ghost use Rattle.irs_resets.specs.FixingFiles.{ReadsLine, IsBadLine, StandsAlready, IsBad, Repeats, IsFirstFault, IsFixingFile};
+ghost use Rattle.irs_resets.specs.FixingFiles.{ReadsLine, IsBadLine, StandsAlready, IsBad, Repeats, IsFirstFault};
+ghost use Rattle.irs_resets.specs.FixingFiles.{IsFixingFile};
 ghost use Rattle.irs_resets.specs.declared.fixings.FixErr.TheVariants.{Memory as OfMemory};
 
 use crate::fixing_line::fixing_line;
@@ -91,8 +92,10 @@ impl Fixings {
         requires { length bytes.now ≤ most_bytes }
         // The file has no line at fault, and the fixings are exactly what its lines spell.
         ensures ok { IfOk result (IsFixingFile bytes.now) }
-        ensures syntax { (n : ℕ) → IsErrOf result (FixErr.Syntax n) → IsFirstFault (IsBad (lines_of bytes.now)) (lines_of bytes.now) n }
-        ensures repeat { (n : ℕ) → IsErrOf result (FixErr.Repeat n) → IsFirstFault (Repeats (lines_of bytes.now)) (lines_of bytes.now) n }
+        ensures syntax { (n : ℕ) → IsErrOf result (FixErr.Syntax n)
+            → IsFirstFault (IsBad (lines_of bytes.now)) (lines_of bytes.now) n }
+        ensures repeat { (n : ℕ) → IsErrOf result (FixErr.Repeat n)
+            → IsFirstFault (Repeats (lines_of bytes.now)) (lines_of bytes.now) n }
     {
         let mut table = Table::new(alloc);
         let mut rest = bytes;

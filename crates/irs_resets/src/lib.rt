@@ -13,7 +13,7 @@ mod words;
 
 pub use fixings::{FixErr, Fixings};
 pub use rows::{ResErr, resets};
-pub use tenors::tenor;
+pub use tenors::{IndexTenor, tenor};
 
 #[cfg(test)]
 mod tests;

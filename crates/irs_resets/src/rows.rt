@@ -1,6 +1,7 @@
 //! The resets of a floating stream, one for each calculation period (2006 ISDA Definitions, article
 //! 6; FpML `resetDates`).
-ghost use Rattle.std.specs.Prelude.{◌≡◌, ◌<◌, ◌^◌, ◌⊎◌, ◌↔◌, ℕ, List, Some, length, IsTrue, IfOk, IfSome, IfNone, IsErrOf, All};
+ghost use Rattle.std.specs.Prelude.{◌≡◌, ◌<◌, ◌^◌, ◌⊎◌, ◌↔◌, ℕ, List, Some, length, IsTrue, IfOk, IfSome, IfNone};
+ghost use Rattle.std.specs.Prelude.{IsErrOf, All};
 ghost use Rattle.irs_base.specs.Faults.{IfBroken};
 ghost use Rattle.irs_base.specs.Listed.{IsRising};
 ghost use Rattle.irs_base.specs.Order.{First, IsFirst, comes_before};
@@ -13,7 +14,8 @@ ghost use Rattle.irs_terms.specs.Lawful.{IsLawfulFloat, IsLawfulStubs, IsLawfulS
 ghost use Rattle.irs_terms.specs.Legs.{FitsLeg};
 ghost use Rattle.irs_resets.specs.ResetDates.{days_by, IsPeriod, HasDates, IsDates};
 ghost use Rattle.irs_resets.specs.Resets.{source_of, HasSmallRate, HasResets, IsResets};
-ghost use Rattle.irs_resets.specs.ResetRules.{GivesInitial, GivesFinal, InitialUnmet, FinalUnmet, BreaksStubs, date_fault, BreaksDates, BreaksResets};
+ghost use Rattle.irs_resets.specs.ResetRules.{GivesInitial, GivesFinal, InitialUnmet, FinalUnmet, BreaksStubs};
+ghost use Rattle.irs_resets.specs.ResetRules.{date_fault, BreaksDates, BreaksResets};
 
 use crate::Fixings;
 use crate::dates::{DateFault, Dates, first_with, period_dates};
@@ -160,7 +162,8 @@ fn first_fault<G: GoodDays>(
     requires few { length adjusted.now < 2 ^ 32 }
     requires offset { IsSaidFixing terms.now.fixing }
     requires reset { s.now.reset ≡ Some terms.now }
-    ensures first { let source = source_of s.now span.now adjusted.now (G.days reset_days.now) (G.days fixing_days.now) in
+    ensures first { let source =
+        source_of s.now span.now adjusted.now (G.days reset_days.now) (G.days fixing_days.now) in
         IsFirst comes_before (BreaksResets source) result }
     ensures has { let days = days_by adjusted.now (G.days reset_days.now) (G.days fixing_days.now) in
         IfNone result ((i : ℕ) → IsPeriod adjusted.now i → HasDates terms.now days i) }
@@ -247,11 +250,14 @@ fn floating_resets<G: GoodDays>(
     ensures ok { let source = source_of s.now span.now adjusted.now (G.days reset_days.now) (G.days fixing_days.now) in
         IfOk result (IsResets source fixings.now) }
     ensures small { IfOk result (All HasSmallRate) }
-    ensures unbroken { let source = source_of s.now span.now adjusted.now (G.days reset_days.now) (G.days fixing_days.now) in
+    ensures unbroken { let source =
+        source_of s.now span.now adjusted.now (G.days reset_days.now) (G.days fixing_days.now) in
         IfOk result (λ _. (f : BrokenRule) → BreaksResets source f → ⊥) }
-    ensures memory { let source = source_of s.now span.now adjusted.now (G.days reset_days.now) (G.days fixing_days.now) in
+    ensures memory { let source =
+        source_of s.now span.now adjusted.now (G.days reset_days.now) (G.days fixing_days.now) in
         IsErrOf result OfMemory → (f : BrokenRule) → BreaksResets source f → ⊥ }
-    ensures broken { let source = source_of s.now span.now adjusted.now (G.days reset_days.now) (G.days fixing_days.now) in
+    ensures broken { let source =
+        source_of s.now span.now adjusted.now (G.days reset_days.now) (G.days fixing_days.now) in
         IfBroken result (First comes_before (BreaksResets source)) }
 {
     let days = adjusted.as_slice();
@@ -289,11 +295,14 @@ fn leg_resets<G: GoodDays>(
     ensures ok { let source = source_of s.now span.now adjusted.now (G.days reset_days.now) (G.days fixing_days.now) in
         IfOk result (IsResets source fixings.now) }
     ensures small { IfOk result (All HasSmallRate) }
-    ensures unbroken { let source = source_of s.now span.now adjusted.now (G.days reset_days.now) (G.days fixing_days.now) in
+    ensures unbroken { let source =
+        source_of s.now span.now adjusted.now (G.days reset_days.now) (G.days fixing_days.now) in
         IfOk result (λ _. (f : BrokenRule) → BreaksResets source f → ⊥) }
-    ensures memory { let source = source_of s.now span.now adjusted.now (G.days reset_days.now) (G.days fixing_days.now) in
+    ensures memory { let source =
+        source_of s.now span.now adjusted.now (G.days reset_days.now) (G.days fixing_days.now) in
         IsErrOf result OfMemory → (f : BrokenRule) → BreaksResets source f → ⊥ }
-    ensures broken { let source = source_of s.now span.now adjusted.now (G.days reset_days.now) (G.days fixing_days.now) in
+    ensures broken { let source =
+        source_of s.now span.now adjusted.now (G.days reset_days.now) (G.days fixing_days.now) in
         IfBroken result (First comes_before (BreaksResets source)) }
 {
     match (&s.leg, &s.reset) {
@@ -337,25 +346,34 @@ pub fn resets<G: GoodDays>(
     ensures ok { let source = source_of s.now span.now adjusted.now (G.days reset_days.now) (G.days fixing_days.now) in
         IfOk result (IsResets source fixings.now) }
     ensures small { IfOk result (All HasSmallRate) }
-    ensures unbroken { let source = source_of s.now span.now adjusted.now (G.days reset_days.now) (G.days fixing_days.now) in
+    ensures unbroken { let source =
+        source_of s.now span.now adjusted.now (G.days reset_days.now) (G.days fixing_days.now) in
         IfOk result (λ _. (f : BrokenRule) → BreaksResets source f → ⊥) }
     // Want of memory hides no broken rule.
-    ensures memory { let source = source_of s.now span.now adjusted.now (G.days reset_days.now) (G.days fixing_days.now) in
+    ensures memory { let source =
+        source_of s.now span.now adjusted.now (G.days reset_days.now) (G.days fixing_days.now) in
         IsErrOf result OfMemory → (f : BrokenRule) → BreaksResets source f → ⊥ }
     // The first broken rule.
-    ensures broken { let source = source_of s.now span.now adjusted.now (G.days reset_days.now) (G.days fixing_days.now) in
+    ensures broken { let source =
+        source_of s.now span.now adjusted.now (G.days reset_days.now) (G.days fixing_days.now) in
         IfBroken result (First comes_before (BreaksResets source)) }
     // A rule is the first broken one, or none is broken.
-    ensures decided { let source = source_of s.now span.now adjusted.now (G.days reset_days.now) (G.days fixing_days.now) in
-        ((f : BrokenRule) × First comes_before (BreaksResets source) f) ⊎ ((f : BrokenRule) → BreaksResets source f → ⊥) }
+    ensures decided { let source =
+        source_of s.now span.now adjusted.now (G.days reset_days.now) (G.days fixing_days.now) in
+        ((f : BrokenRule) × First comes_before (BreaksResets source) f)
+        ⊎ ((f : BrokenRule) → BreaksResets source f → ⊥) }
     // Where no rule is broken there are resets, also where memory ran out.
-    ensures exists { let source = source_of s.now span.now adjusted.now (G.days reset_days.now) (G.days fixing_days.now) in
+    ensures exists { let source =
+        source_of s.now span.now adjusted.now (G.days reset_days.now) (G.days fixing_days.now) in
         ((f : BrokenRule) → BreaksResets source f → ⊥) → (rows : List ResetRow) × IsResets source fixings.now rows }
     // There is one list of resets, and one first broken rule.
     ensures one { let source = source_of s.now span.now adjusted.now (G.days reset_days.now) (G.days fixing_days.now) in
-        (rows others : List ResetRow) → IsResets source fixings.now rows → IsResets source fixings.now others → rows ≡ others }
-    ensures one_broken { let source = source_of s.now span.now adjusted.now (G.days reset_days.now) (G.days fixing_days.now) in
-        (f g : BrokenRule) → First comes_before (BreaksResets source) f → First comes_before (BreaksResets source) g → f ≡ g }
+        (rows others : List ResetRow) → IsResets source fixings.now rows → IsResets source fixings.now others
+        → rows ≡ others }
+    ensures one_broken { let source =
+        source_of s.now span.now adjusted.now (G.days reset_days.now) (G.days fixing_days.now) in
+        (f g : BrokenRule) → First comes_before (BreaksResets source) f → First comes_before (BreaksResets source) g
+        → f ≡ g }
 {
     // hands the prover the range of the boundaries
     let _days = adjusted.as_slice();

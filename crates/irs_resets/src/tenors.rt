@@ -1,9 +1,14 @@
 //! The tenor of a line of a fixing file: `-`, or a number from 1 to 999 without leading zeros
 //! followed by D, W, M or Y.
 ghost use Rattle.std.specs.Prelude.{◌≡◌, ◌≤◌, IfSome};
-ghost use Rattle.irs_resets.specs.Tenors.{digit_at, first_digit, unit_at, two_digits, three_digits, with_unit, tenor_at};
+ghost use Rattle.irs_resets.specs.Tenors.{digit_at, first_digit, unit_at, two_digits, three_digits, with_unit};
+ghost use Rattle.irs_resets.specs.Tenors.{tenor_at};
 
 use irs_terms::{Frequency, Unit};
+
+/// The tenor of a floating rate index (FpML `indexTenor`): none, written `-`, where the index has
+/// none, as an overnight rate.
+pub type IndexTenor = Option<Frequency>;
 
 fn digit(b: u8) -> Option<u16>
     ensures value { result ≡ digit_at b }
@@ -54,7 +59,7 @@ fn unit(b: u8) -> Option<Unit>
     }
 }
 
-fn frequency(count: Option<u16>, unit: Option<Unit>) -> Option<Option<Frequency>>
+fn frequency(count: Option<u16>, unit: Option<Unit>) -> Option<IndexTenor>
     ensures { result ≡ with_unit count unit }
 {
     match (count, unit) {
@@ -63,8 +68,8 @@ fn frequency(count: Option<u16>, unit: Option<Unit>) -> Option<Option<Frequency>
     }
 }
 
-/// The tenor that a word spells; the inner `None` is the tenor `-`.
-pub fn tenor(word: &[u8]) -> Option<Option<Frequency>>
+/// The tenor that a word spells; `None` where it spells none.
+pub fn tenor(word: &[u8]) -> Option<IndexTenor>
     ensures { result ≡ tenor_at word.now }
 {
     match word {

@@ -14,7 +14,8 @@ use Rattle.irs_terms.specs.declared.frequency.Unit.{Unit as FrequencyUnit}
 use Rattle.irs_terms.specs.declared.frequency.Unit.TheVariants.{D, W, M, Y, T}
 use Rattle.irs_terms.specs.Lawful.{IsLawfulFrequency, IsLawfulRoll}
 use Rattle.irs_roll.specs.RollDays.{last_day_of, third_wednesday}
-use Rattle.irs_roll.specs.RollDayLaws.{last_day-is, last_day_only, numbered-is, numbered_only, third_wednesday-is, third_wednesday_only}
+use Rattle.irs_roll.specs.RollDayLaws.{last_day-is, last_day_only, numbered-is, numbered_only, third_wednesday-is}
+use Rattle.irs_roll.specs.RollDayLaws.{third_wednesday_only}
 use Rattle.irs_roll.specs.Grids.{IsMultiple, OnMonths}
 use Rattle.irs_roll.specs.StepLaws.{no_whole_steps}
 use Rattle.irs_roll.specs.Rolls.{IsRollDay, OnGridBy, OnGrid}
@@ -29,18 +30,24 @@ decides_multiple step z some =
     ]
 
 -- grids of months, for any one day that each month has
-module _ (rolls : ℤ → ℤ → Type 0) (day : ℤ → ℤ) (is : (m : ℤ) → rolls m (day m)) (only : (m d : ℤ) → rolls m d → d ≡ day m) where
+module _ (rolls : ℤ → ℤ → Type 0) (day : ℤ → ℤ) (is : (m : ℤ) → rolls m (day m)) (only : (m d : ℤ) → rolls m d
+    → d ≡ day m) where
   -- the day of a grid is the roll day of its month
   on_roll : (step : ℕ) (anchor d month : ℤ) → InMonth d month → OnMonths rolls step anchor d → d ≡ day month
-  on_roll step anchor d month here h = only month d (subst (λ (m : ℤ). rolls m d) (same_month d h.on.month month h.on.of_day here) h.on.rolls)
+  on_roll step anchor d month here h =
+      only month d (subst (λ (m : ℤ). rolls m d) (same_month d h.on.month month h.on.of_day here) h.on.rolls)
 
   -- its month lies a whole multiple of the step from that of the anchor
-  on_apart : (step : ℕ) (anchor d start month : ℤ) → InMonth anchor start → InMonth d month → OnMonths rolls step anchor d → IsMultiple step (month -ℤ start)
+  on_apart : (step : ℕ) (anchor d start month : ℤ) → InMonth anchor start → InMonth d month
+      → OnMonths rolls step anchor d → IsMultiple step (month -ℤ start)
   on_apart step anchor d start month begins here h =
-      let at_start = subst (λ (s : ℤ). IsMultiple step (h.on.month -ℤ s)) (same_month anchor h.start start h.of_anchor begins) h.on.apart in
+      let at_start =
+      subst (λ (s : ℤ). IsMultiple step (h.on.month -ℤ s))
+      (same_month anchor h.start start h.of_anchor begins) h.on.apart in
       subst (λ (m : ℤ). IsMultiple step (m -ℤ start)) (same_month d h.on.month month h.on.of_day here) at_start
 
-  on_there : (step : ℕ) (anchor d start month : ℤ) → InMonth anchor start → InMonth d month → d ≡ day month → IsMultiple step (month -ℤ start) → OnMonths rolls step anchor d
+  on_there : (step : ℕ) (anchor d start month : ℤ) → InMonth anchor start → InMonth d month → d ≡ day month
+      → IsMultiple step (month -ℤ start) → OnMonths rolls step anchor d
   on_there step anchor d start month begins here rolled apart = record {
     start = start;
     of_anchor = begins;
@@ -52,7 +59,8 @@ module _ (rolls : ℤ → ℤ → Type 0) (day : ℤ → ℤ) (is : (m : ℤ) �
     };
   }
 
-  decides_in : (step : ℕ) (anchor d start month : ℤ) → 0 < step → InMonth anchor start → InMonth d month → IsDecided (OnMonths rolls step anchor d)
+  decides_in : (step : ℕ) (anchor d start month : ℤ) → 0 < step → InMonth anchor start → InMonth d month
+      → IsDecided (OnMonths rolls step anchor d)
   decides_in step anchor d start month some begins here = elim (decides_same d (day month)) [
     | inr other ↦ inr (λ h. other (on_roll step anchor d month here h))
     | inl rolled ↦ elim (decides_multiple step (month -ℤ start) some) [
@@ -61,27 +69,40 @@ module _ (rolls : ℤ → ℤ → Type 0) (day : ℤ → ℤ) (is : (m : ℤ) �
     ]
   ]
 
-  pub decides_on_months : (step : ℕ) (anchor d : ℤ) → 0 < step → IsDay anchor → IsDay d → IsDecided (OnMonths rolls step anchor d)
+  pub decides_on_months : (step : ℕ) (anchor d : ℤ) → 0 < step → IsDay anchor → IsDay d
+      → IsDecided (OnMonths rolls step anchor d)
   decides_on_months step anchor d some from day =
       let start = has_month anchor from in
       let month = has_month d day in
       decides_in step anchor d start.0 month.0 some start.1 month.1
 
 -- months by each of the roll codes; a code without a roll day of months has no day on its grid
-decides_by_roll : (roll : RollCode) (step : ℕ) (anchor d : ℤ) → IsLawfulRoll roll → 0 < step → IsDay anchor → IsDay d → IsDecided (OnMonths (IsRollDay roll) step anchor d)
-decides_by_roll Eom step anchor d lawful some from day = decides_on_months (IsRollDay Eom) last_day_of last_day-is last_day_only step anchor d some from day
-decides_by_roll (Dom n) step anchor d lawful some from day = decides_on_months (IsRollDay (Dom n)) (day_in_month n) (λ m. numbered-is n m lawful.0) (numbered_only n) step anchor d some from day
-decides_by_roll Imm step anchor d lawful some from day = decides_on_months (IsRollDay Imm) third_wednesday third_wednesday-is third_wednesday_only step anchor d some from day
+decides_by_roll : (roll : RollCode) (step : ℕ) (anchor d : ℤ) → IsLawfulRoll roll → 0 < step → IsDay anchor → IsDay d
+    → IsDecided (OnMonths (IsRollDay roll) step anchor d)
+decides_by_roll Eom step anchor d lawful some from day =
+    decides_on_months (IsRollDay Eom) last_day_of last_day-is last_day_only step anchor d some from day
+decides_by_roll (Dom n) step anchor d lawful some from day =
+    decides_on_months (IsRollDay (Dom n)) (day_in_month n) (λ m. numbered-is n m lawful.0)
+    (numbered_only n) step anchor d some from day
+decides_by_roll Imm step anchor d lawful some from day =
+    decides_on_months (IsRollDay Imm) third_wednesday third_wednesday-is third_wednesday_only step anchor d some
+    from day
 decides_by_roll (OnWeekday name) step anchor d lawful some from day = inr (λ h. h.on.rolls)
 decides_by_roll NoRoll step anchor d lawful some from day = inr (λ h. h.on.rolls)
 
-decides_by_unit : (unit : FrequencyUnit) (count : ℕ) (roll : RollCode) (anchor d : ℤ) → 1 ≤ count → IsLawfulRoll roll → IsDay anchor → IsDay d → IsDecided (OnGridBy unit count roll anchor d)
+decides_by_unit : (unit : FrequencyUnit) (count : ℕ) (roll : RollCode) (anchor d : ℤ) → 1 ≤ count → IsLawfulRoll roll
+    → IsDay anchor → IsDay d → IsDecided (OnGridBy unit count roll anchor d)
 decides_by_unit D count roll anchor d some lawful from day = decides_multiple count (d -ℤ anchor) (omega (arith, some))
-decides_by_unit W count roll anchor d some lawful from day = decides_multiple (7 * count) (d -ℤ anchor) (omega (arith, some))
-decides_by_unit M count roll anchor d some lawful from day = decides_by_roll roll count anchor d lawful (omega (arith, some)) from day
-decides_by_unit Y count roll anchor d some lawful from day = decides_by_roll roll (12 * count) anchor d lawful (omega (arith, some)) from day
+decides_by_unit W count roll anchor d some lawful from day =
+    decides_multiple (7 * count) (d -ℤ anchor) (omega (arith, some))
+decides_by_unit M count roll anchor d some lawful from day =
+    decides_by_roll roll count anchor d lawful (omega (arith, some)) from day
+decides_by_unit Y count roll anchor d some lawful from day =
+    decides_by_roll roll (12 * count) anchor d lawful (omega (arith, some)) from day
 decides_by_unit T count roll anchor d some lawful from day = inr (λ h. h)
 
 -- a day in range is on the grid of a lawful frequency and roll, or it isn't
-pub decides_on_grid : (freq : Frequency) (roll : RollCode) (anchor d : ℤ) → IsLawfulFrequency freq → IsLawfulRoll roll → IsDay anchor → IsDay d → IsDecided (OnGrid freq roll anchor d)
-decides_on_grid freq roll anchor d lawful_freq lawful_roll from day = decides_by_unit freq.unit freq.count roll anchor d lawful_freq.0 lawful_roll from day
+pub decides_on_grid : (freq : Frequency) (roll : RollCode) (anchor d : ℤ) → IsLawfulFrequency freq → IsLawfulRoll roll
+    → IsDay anchor → IsDay d → IsDecided (OnGrid freq roll anchor d)
+decides_on_grid freq roll anchor d lawful_freq lawful_roll from day =
+    decides_by_unit freq.unit freq.count roll anchor d lawful_freq.0 lawful_roll from day

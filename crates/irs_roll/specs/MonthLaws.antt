@@ -1,5 +1,6 @@
 -- Grids of months, for any one day that each month has.
-use Rattle.std.proofs.Common.{◌≡◌, ℕ, ◌*◌, ◌<◌, ◌≤◌, arith, refl, sym, ◌∙◌, ap, subst, FitsSigned, w32, w64, ℤ, pos, ◌+ℤ◌, ◌-ℤ◌, ◌*ℤ◌, ◌≤ℤ◌, ◌<ℤ◌}
+use Rattle.std.proofs.Common.{◌≡◌, ℕ, ◌*◌, ◌<◌, ◌≤◌, arith, refl, sym, ◌∙◌, ap, subst, FitsSigned, w32, w64, ℤ, pos}
+use Rattle.std.proofs.Common.{◌+ℤ◌, ◌-ℤ◌, ◌*ℤ◌, ◌≤ℤ◌, ◌<ℤ◌}
 use Rattle.jiff_core.proofs.SignedLemmas.{signed_arith}
 use Rattle.irs_base.specs.Days.{IsDay, first_month, last_month}
 use Rattle.irs_base.specs.Months.{InMonth, dim, month_start}
@@ -16,7 +17,8 @@ module _ (day : ℤ → ℤ) (stays : (m : ℤ) → InMonth (day m) m) where
   roll_range : (m : ℤ) → IsDay (day m) → (pos first_month ≤ℤ m) × (m ≤ℤ pos last_month)
   roll_range m r = month_range m (day m) r (stays m)
 
-  pub roll_far_steps : (s : ℕ) (a k : ℤ) → FitsSigned w32 a → (FitsSigned w64 (k *ℤ pos s) → ⊥) → IsDay (day (kth a s k)) → ⊥
+  pub roll_far_steps : (s : ℕ) (a k : ℤ) → FitsSigned w32 a → (FitsSigned w64 (k *ℤ pos s) → ⊥)
+      → IsDay (day (kth a s k)) → ⊥
   roll_far_steps s a k here wide r = wide (omega (arith, signed_arith, here, roll_range (kth a s k) r))
 
   pub roll_far : (m : ℤ) → (FitsSigned w64 m → ⊥) → IsDay (day m) → ⊥
@@ -26,7 +28,8 @@ module _ (day : ℤ → ℤ) (stays : (m : ℤ) → InMonth (day m) m) where
 pub kth_month : (s : ℕ) (start month k : ℤ) → month -ℤ start ≡ k *ℤ pos s → kth start s k ≡ month
 kth_month s start month k apart = omega (arith, signed_arith, apart)
 
-module _ (rolls : ℤ → ℤ → Type 0) (day : ℤ → ℤ) (is : (m : ℤ) → rolls m (day m)) (only : (m d : ℤ) → rolls m d → d ≡ day m) (stays : (m : ℤ) → InMonth (day m) m) where
+module _ (rolls : ℤ → ℤ → Type 0) (day : ℤ → ℤ) (is : (m : ℤ) → rolls m (day m)) (only : (m d : ℤ) → rolls m d
+    → d ≡ day m) (stays : (m : ℤ) → InMonth (day m) m) where
   pub from_kth : (step : ℕ) (start k : ℤ) → OnMonthsFrom rolls step start (day (kth start step k))
   from_kth step start k = record {
     month = kth start step k;
@@ -35,19 +38,23 @@ module _ (rolls : ℤ → ℤ → Type 0) (day : ℤ → ℤ) (is : (m : ℤ) �
     apart = record { times = k; is = omega (arith, signed_arith) };
   }
 
-  pub roll_is_on : (step : ℕ) (anchor start k : ℤ) → InMonth anchor start → OnMonths rolls step anchor (day (kth start step k))
+  pub roll_is_on : (step : ℕ) (anchor start k : ℤ) → InMonth anchor start
+      → OnMonths rolls step anchor (day (kth start step k))
   roll_is_on step anchor start k begins = record { start = start; of_anchor = begins; on = from_kth step start k }
 
   -- the anchor has one month
-  pub from_start : (step : ℕ) (anchor start d : ℤ) → InMonth anchor start → OnMonths rolls step anchor d → OnMonthsFrom rolls step start d
+  pub from_start : (step : ℕ) (anchor start d : ℤ) → InMonth anchor start → OnMonths rolls step anchor d
+      → OnMonthsFrom rolls step start d
   from_start step anchor start d begins h =
       let same = same_month anchor h.start start h.of_anchor begins in
       subst (λ (s : ℤ). OnMonthsFrom rolls step s d) same h.on
 
   pub kth-from : (step : ℕ) (start d : ℤ) → OnMonthsFrom rolls step start d → (k : ℤ) × (day (kth start step k) ≡ d)
-  kth-from step start d h = (h.apart.times, ap day (kth_month step start h.month h.apart.times h.apart.is) ∙ sym (only h.month d h.rolls))
+  kth-from step start d h =
+      (h.apart.times, ap day (kth_month step start h.month h.apart.times h.apart.is) ∙ sym (only h.month d h.rolls))
 
-  pub roll_misses_none : (step : ℕ) (anchor start d : ℤ) → InMonth anchor start → OnMonths rolls step anchor d → (k : ℤ) × (day (kth start step k) ≡ d)
+  pub roll_misses_none : (step : ℕ) (anchor start d : ℤ) → InMonth anchor start → OnMonths rolls step anchor d
+      → (k : ℤ) × (day (kth start step k) ≡ d)
   roll_misses_none step anchor start d begins h = kth-from step start d (from_start step anchor start d begins h)
 
   pub roll_at : (s : ℕ) (start month d k : ℤ) → month -ℤ start ≡ k *ℤ pos s → day month ≡ d → day (kth start s k) ≡ d
@@ -57,10 +64,13 @@ module _ (rolls : ℤ → ℤ → Type 0) (day : ℤ → ℤ) (is : (m : ℤ) �
   pub rolls_on : (s : ℕ) (start d month : ℤ) → InMonth d month → OnMonthsFrom rolls s start d → day month ≡ d
   rolls_on s start d month here h = ap day (same_month d month h.month here h.of_day) ∙ sym (only h.month d h.rolls)
 
-  pub roll_off_range : (s : ℕ) (start d month : ℤ) → InMonth d month → IsDay d → (IsDay (day month) → ⊥) → OnMonthsFrom rolls s start d → ⊥
-  roll_off_range s start d month here in_range out h = out (subst IsDay (sym (rolls_on s start d month here h)) in_range)
+  pub roll_off_range : (s : ℕ) (start d month : ℤ) → InMonth d month → IsDay d → (IsDay (day month) → ⊥)
+      → OnMonthsFrom rolls s start d → ⊥
+  roll_off_range s start d month here in_range out h =
+      out (subst IsDay (sym (rolls_on s start d month here h)) in_range)
 
-  pub roll_off_steps : (s : ℕ) (start d month : ℤ) → InMonth d month → (IsMultiple s (month -ℤ start) → ⊥) → OnMonthsFrom rolls s start d → ⊥
+  pub roll_off_steps : (s : ℕ) (start d month : ℤ) → InMonth d month → (IsMultiple s (month -ℤ start) → ⊥)
+      → OnMonthsFrom rolls s start d → ⊥
   roll_off_steps s start d month here out h =
       let same = same_month d month h.month here h.of_day in
       out (subst (λ (m : ℤ). IsMultiple s (m -ℤ start)) (sym same) h.apart)

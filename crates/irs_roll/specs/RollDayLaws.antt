@@ -1,5 +1,6 @@
 -- Each month has one last day, one day with a number and one third Wednesday.
-use Rattle.std.proofs.Common.{◌≡◌, ◌⊎◌, inl, inr, ℕ, ◌+◌, ◌-◌, ◌%◌, ◌<◌, ◌≤◌, arith, refl, sym, ◌∙◌, ap, ℤ, pos, ◌+ℤ◌, ◌-ℤ◌, ◌≤ℤ◌, ◌<ℤ◌}
+use Rattle.std.proofs.Common.{◌≡◌, ◌⊎◌, inl, inr, ℕ, ◌+◌, ◌-◌, ◌%◌, ◌<◌, ◌≤◌, arith, refl, sym, ◌∙◌, ap, ℤ, pos, ◌+ℤ◌}
+use Rattle.std.proofs.Common.{◌-ℤ◌, ◌≤ℤ◌, ◌<ℤ◌}
 use Rattle.std.proofs.lemmas.Bool.{cases_lt}
 use Rattle.jiff_core.proofs.SignedLemmas.{signed_arith}
 use Rattle.jiff_core.proofs.CalendarLemmas.{weekday_number-add, weekday_number_bound}
@@ -86,13 +87,23 @@ pub third_wednesday-is : (m : ℤ) → IsThirdWednesday m (third_wednesday m)
 third_wednesday-is m = record {
   wednesday = third_wednesday-weekday m;
   in_month = third_wednesday-in_month m;
-  two_before = record { from = omega (arith, signed_arith, from_15th m); to = omega (arith, signed_arith, to_21st m, dim_bounds m) };
+  two_before =
+      record {
+        from = omega (arith, signed_arith, from_15th m);
+        to =
+            omega (arith, signed_arith, to_21st m, dim_bounds m);
+      };
   no_third = λ h. omega (arith, signed_arith, to_21st m, h.from);
 }
 
 third_by_21st : (m d : ℤ) → IsThirdWednesday m d → d ≤ℤ (month_start m +ℤ pos 20)
 third_by_21st m d h = elim (cases_ltz (month_start m +ℤ pos 20) d) [
-  | inl past ↦ absurd (h.no_third (record { from = omega (arith, signed_arith, past); to = omega (arith, signed_arith, h.in_month.to) }))
+  | inl past ↦
+      absurd (h.no_third (record {
+        from = omega (arith, signed_arith, past);
+        to =
+            omega (arith, signed_arith, h.in_month.to);
+      }))
   | inr rest ↦ elim rest [ inl before ↦ omega (arith, signed_arith, before) | inr e ↦ omega (arith, signed_arith, e) ]
 ]
 

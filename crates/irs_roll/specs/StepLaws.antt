@@ -1,5 +1,7 @@
 -- Whole multiples of a step, and the days of a grid of days.
-use Rattle.std.proofs.Common.{◌≡◌, ◌⊎◌, inl, inr, ℕ, ◌+◌, ◌*◌, ◌<◌, ◌≤◌, arith, rules, Option, Some, None, IfSome, IfNone, IsTrue, is_some, ◌↔◌, mul-le-mul, ◌^◌, neg_ℤ, FitsSigned, w64, ℤ, pos, ◌+ℤ◌, ◌-ℤ◌, ◌*ℤ◌, ◌≤ℤ◌, ◌<ℤ◌}
+use Rattle.std.proofs.Common.{◌≡◌, ◌⊎◌, inl, inr, ℕ, ◌+◌, ◌*◌, ◌<◌, ◌≤◌, arith, rules, Option, Some, None, IfSome}
+use Rattle.std.proofs.Common.{IfNone, IsTrue, is_some, ◌↔◌, mul-le-mul, ◌^◌, neg_ℤ, FitsSigned, w64, ℤ, pos, ◌+ℤ◌, ◌-ℤ◌}
+use Rattle.std.proofs.Common.{◌*ℤ◌, ◌≤ℤ◌, ◌<ℤ◌}
 use Rattle.jiff_core.proofs.SignedLemmas.{signed_arith, int_div_euclid-parts}
 use Rattle.jiff_core.specs.Calendar.{IsBetween}
 use Rattle.std.specs.Int.{int_div_euclid}
@@ -16,7 +18,8 @@ mul_more s a b c d h k =
     omega (arith, mul_at_most s (a + d + 1) (c + b) more)
 
 pub kth_rises : (start : ℤ) (s : ℕ) (j k : ℤ) → 0 < s → j <ℤ k → kth start s j <ℤ kth start s k
-kth_rises start s j k h below = omega (arith, signed_arith, mul_more s (up j) (down j) (up k) (down k) h (omega (arith, signed_arith)))
+kth_rises start s j k h below =
+    omega (arith, signed_arith, mul_more s (up j) (down j) (up k) (down k) h (omega (arith, signed_arith)))
 
 pub OnDays-kth : (step : ℕ) (anchor k : ℤ) → OnDays step anchor (kth anchor step k)
 OnDays-kth step anchor k = record { times = k; is = omega (arith, signed_arith) }
@@ -36,19 +39,30 @@ cases_ltz a b = grind (arith, signed_arith)
 -- between two neighbours among the multiples there is no other
 no_multiple_between : (s : ℕ) (q t a : ℤ) → 0 < s → (q *ℤ pos s) <ℤ a → a <ℤ (q *ℤ pos s +ℤ pos s) → a ≡ t *ℤ pos s → ⊥
 no_multiple_between s q t a h low high e = elim (cases_ltz t (q +ℤ pos 1)) [
-  | inl below ↦ omega (arith, signed_arith, e, mul_at_most s (up t + down q) (up q + down t) (omega (arith, signed_arith)))
-  | inr rest ↦ omega (arith, signed_arith, e, mul_at_most s (up q + down t + 1) (up t + down q) (elim rest [ inl above ↦ omega (arith, signed_arith) | inr same ↦ omega (arith, signed_arith, same) ]))
+  | inl below ↦
+      omega (arith, signed_arith, e, mul_at_most s (up t + down q) (up q + down t) (omega (arith, signed_arith)))
+  | inr rest ↦
+      omega (
+        arith,
+        signed_arith,
+        e,
+        mul_at_most s (up q + down t + 1) (up t + down q)
+            (elim rest [ inl above ↦ omega (arith, signed_arith) | inr same ↦ omega (arith, signed_arith, same) ]),
+      )
 ]
 
-steps_close : (a q : ℤ) (s : ℕ) → 0 < s → q ≡ int_div_euclid a (pos s) → ((q *ℤ pos s) ≤ℤ a) × (a <ℤ (q *ℤ pos s +ℤ pos s))
+steps_close : (a q : ℤ) (s : ℕ) → 0 < s → q ≡ int_div_euclid a (pos s)
+    → ((q *ℤ pos s) ≤ℤ a) × (a <ℤ (q *ℤ pos s +ℤ pos s))
 steps_close a q s h e =
     let parts = int_div_euclid-parts a s h in
     (rw e (omega (arith, signed_arith, parts)), rw e (omega (arith, signed_arith, parts)))
 
-pub steps_fit : (a q : ℤ) (s : ℕ) → 0 < s → q ≡ int_div_euclid a (pos s) → IsBetween (neg_ℤ (pos 1_099_511_627_776)) (pos 1_099_511_627_776) a → s < 2 ^ 32 → FitsSigned w64 (q *ℤ pos s)
+pub steps_fit : (a q : ℤ) (s : ℕ) → 0 < s → q ≡ int_div_euclid a (pos s)
+    → IsBetween (neg_ℤ (pos 1_099_511_627_776)) (pos 1_099_511_627_776) a → s < 2 ^ 32 → FitsSigned w64 (q *ℤ pos s)
 steps_fit a q s h e near small = omega (arith, signed_arith, steps_close a q s h e, near)
 
-pub no_whole_steps : (a q : ℤ) (s : ℕ) → 0 < s → q ≡ int_div_euclid a (pos s) → (q *ℤ pos s ≡ a → ⊥) → IsMultiple s a → ⊥
+pub no_whole_steps : (a q : ℤ) (s : ℕ) → 0 < s → q ≡ int_div_euclid a (pos s) → (q *ℤ pos s ≡ a → ⊥)
+    → IsMultiple s a → ⊥
 no_whole_steps a q s h e apart multiple =
     let close = steps_close a q s h e in
     elim (cases_ltz (q *ℤ pos s) a) [
@@ -57,7 +71,8 @@ no_whole_steps a q s h e apart multiple =
     ]
 
 -- whether a day has a number
-pub on_by_index : (o : Option ℤ) (P : ℤ → Type 0) (Q : Type 0) → IfSome o P → IfNone o (Q → ⊥) → ((k : ℤ) → P k → Q) → IsTrue (is_some o) ↔ Q
+pub on_by_index : (o : Option ℤ) (P : ℤ → Type 0) (Q : Type 0) → IfSome o P → IfNone o (Q → ⊥) → ((k : ℤ) → P k → Q)
+    → IsTrue (is_some o) ↔ Q
 on_by_index None P Q some none on = (λ t. absurd (search rules), λ q. absurd (none q))
 on_by_index (Some k) P Q some none on = (λ t. on k some, λ q. search rules)
 

@@ -59,7 +59,8 @@ impl MonthGrid<DayNumber> {
         requires number { (1 ≤ day) × (day ≤ 30) }
         requires fits { (m : ℤ) → InMonth anchor m → IsNumbered day m anchor }
         ensures first { ⟦<MonthGrid<DayNumber> as Grid>⟧.at result (pos 0) ≡ anchor }
-        ensures on { (d : ℤ) → ⟦<MonthGrid<DayNumber> as Grid>⟧.on result d ↔ OnMonths (IsNumbered day) months anchor d }
+        ensures on { (d : ℤ) → ⟦<MonthGrid<DayNumber> as Grid>⟧.on result d
+            ↔ OnMonths (IsNumbered day) months anchor d }
     {
         MonthGrid::of(anchor, months, DayNumber::new(day))
     }
@@ -109,11 +110,14 @@ impl<R: Roll> Grid for MonthGrid<R> {
         self.index(d).is_some()
     }
 
-    ghost nth_is_on = { λ g k. roll_is_on (R.rolls g.roll) (R.day g.roll) (R.is g.roll) (R.only g.roll) (R.stays g.roll) g.months g.anchor g.start k g.begins };
+    ghost nth_is_on = { λ g k. roll_is_on (R.rolls g.roll) (R.day g.roll) (R.is g.roll) (R.only g.roll)
+        (R.stays g.roll) g.months g.anchor g.start k g.begins };
 
-    ghost rises = { λ g j k h. roll_rises (R.day g.roll) (R.stays g.roll) (kth g.start g.months j) (kth g.start g.months k) (kth_rises g.start g.months j k g.step h) };
+    ghost rises = { λ g j k h. roll_rises (R.day g.roll) (R.stays g.roll) (kth g.start g.months j) (kth g.start g.months k)
+        (kth_rises g.start g.months j k g.step h) };
 
-    ghost misses_none = { λ g d h. roll_misses_none (R.rolls g.roll) (R.day g.roll) (R.is g.roll) (R.only g.roll) (R.stays g.roll) g.months g.anchor g.start d g.begins h };
+    ghost misses_none = { λ g d h. roll_misses_none (R.rolls g.roll) (R.day g.roll) (R.is g.roll) (R.only g.roll)
+        (R.stays g.roll) g.months g.anchor g.start d g.begins h };
 }
 
 /// How many steps of months lie between the month `start`, counted from January of the year 0, and a

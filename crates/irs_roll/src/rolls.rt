@@ -5,7 +5,8 @@ ghost use Rattle.irs_base.specs.Days.{IsDay, weekday_at};
 ghost use Rattle.irs_base.specs.Months.{InMonth, day_in_month};
 ghost use Rattle.irs_base.proofs.MonthLemmas.{day_in_month-in_month};
 ghost use Rattle.irs_roll.specs.RollDays.{IsLastDay, IsNumbered, IsThirdWednesday, last_day_of, third_wednesday};
-ghost use Rattle.irs_roll.specs.RollDayLaws.{last_day-is, last_day_only, last_day-in_month, numbered-is, numbered_only, third_wednesday-is, third_wednesday_only, third_wednesday-in_month};
+ghost use Rattle.irs_roll.specs.RollDayLaws.{last_day-is, last_day_only, last_day-in_month, numbered-is, numbered_only};
+ghost use Rattle.irs_roll.specs.RollDayLaws.{third_wednesday-is, third_wednesday_only, third_wednesday-in_month};
 
 use irs_base::{Day, DayName, month_day, plus, weekday};
 

@@ -3,7 +3,8 @@ ghost use Rattle.std.specs.Prelude.{◌≡◌, ◌↔◌, ◌<◌, ℤ, pos};
 ghost use Rattle.irs_roll.specs.Grids.{OnMonths, OnRollDay};
 ghost use Rattle.irs_roll.specs.Rolls.{Fits, IsRollDay, OnGrid};
 ghost use Rattle.irs_roll.specs.StepLaws.{kth_rises, OnDays-kth, kth-OnDays};
-ghost use Rattle.irs_roll.specs.KindLaws.{number_is_on, number_rises, number_misses_none, end_is_on, end_rises, end_misses_none, wednesday_is_on, wednesday_rises, wednesday_misses_none};
+ghost use Rattle.irs_roll.specs.KindLaws.{number_is_on, number_rises, number_misses_none, end_is_on, end_rises};
+ghost use Rattle.irs_roll.specs.KindLaws.{end_misses_none, wednesday_is_on, wednesday_rises, wednesday_misses_none};
 ghost use Rattle.irs_terms.specs.Suiting.{IsTerm, RollsMonths, Suits};
 
 use crate::{EveryDays, Grid, MonthDay, MonthEnd, ThirdWednesday};
@@ -83,7 +84,8 @@ impl Grid for StreamGrid {
 
     ghost misses_none = { elim [
       | Days g ↦ λ d h. kth-OnDays g.days g.anchor d h
-      | Numbers g ↦ λ d h. number_misses_none g.months g.anchor g.start g.begins g.roll.number g.roll.counts_from_one d h
+      | Numbers g ↦
+          λ d h. number_misses_none g.months g.anchor g.start g.begins g.roll.number g.roll.counts_from_one d h
       | Ends g ↦ λ d h. end_misses_none g.months g.anchor g.start g.begins d h
       | Wednesdays g ↦ λ d h. wednesday_misses_none g.months g.anchor g.start g.begins d h
     ] };

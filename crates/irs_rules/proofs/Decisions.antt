@@ -1,5 +1,6 @@
 -- What the rules of the terms ask is decided, so what isn't broken is kept.
-use Rattle.std.proofs.Common.{◌≡◌, inl, inr, ℕ, zero, suc, Bool, true, false, List, Option, Some, None, IfSome, slice_get, ℤ, pos, ◌≤ℤ◌, ◌<ℤ◌, refl, arith}
+use Rattle.std.proofs.Common.{◌≡◌, inl, inr, ℕ, zero, suc, Bool, true, false, List, Option, Some, None, IfSome}
+use Rattle.std.proofs.Common.{slice_get, ℤ, pos, ◌≤ℤ◌, ◌<ℤ◌, refl, arith}
 use Rattle.std.specs.Prelude.{IsTrue}
 use Rattle.jiff_core.proofs.SignedLemmas.{signed_arith}
 use Rattle.irs_base.specs.Order.{IsDecided}
@@ -136,19 +137,24 @@ decides_stubs (Floating float) stubs = inl tt
 
 -- ---- steps
 
-step_holds : (from to : ℤ) (steps : List Step) (i : ℕ) (step : Step) → ((IsStepInside from to steps i step → ⊥) → ⊥) → IsStepInside from to steps i step
+step_holds : (from to : ℤ) (steps : List Step) (i : ℕ) (step : Step) → ((IsStepInside from to steps i step → ⊥) → ⊥)
+    → IsStepInside from to steps i step
 step_holds from to steps i step never = record {
   after_start = holds (decides_less from step.day) (λ fails. never (λ h. fails h.after_start));
   before_end = holds (decides_less step.day to) (λ fails. never (λ h. fails h.before_end));
-  in_order = holds (decides_given _ (step_before steps i) (λ before. decides_less before.day step.day)) (λ fails. never (λ h. fails h.in_order));
+  in_order = holds (decides_given _ (step_before steps i) (λ before. decides_less before.day step.day))
+      (λ fails. never (λ h. fails h.in_order));
 }
 
-given_holds : {A : Type 0} (P : A → Type 0) (o : Option A) → ((x : A) → ((P x → ⊥) → ⊥) → P x) → ((IfSome o P → ⊥) → ⊥) → IfSome o P
+given_holds : {A : Type 0} (P : A → Type 0) (o : Option A) → ((x : A) → ((P x → ⊥) → ⊥) → P x) → ((IfSome o P → ⊥) → ⊥)
+    → IfSome o P
 given_holds P None holds_at never = tt
 given_holds P (Some x) holds_at never = holds_at x never
 
-pub stands_holds : (from to : ℤ) (steps : List Step) (i : ℕ) → ((StepStands from to steps i → ⊥) → ⊥) → StepStands from to steps i
-stands_holds from to steps i never = given_holds (IsStepInside from to steps i) (slice_get steps i) (step_holds from to steps i) never
+pub stands_holds : (from to : ℤ) (steps : List Step) (i : ℕ) → ((StepStands from to steps i → ⊥) → ⊥)
+    → StepStands from to steps i
+stands_holds from to steps i never =
+    given_holds (IsStepInside from to steps i) (slice_get steps i) (step_holds from to steps i) never
 
 -- ---- centres
 

@@ -11,14 +11,20 @@ use Rattle.irs_rules.specs.Order.{is_before_here, IsFirstFault}
 use Rattle.irs_rules.specs.Breaks.{Breaks, BreaksItem}
 
 pub order_here : IsOrder is_before_here
-order_here = level_order (λ (f : Fault). rule_number f.rule) _ (level_order (λ (f : Fault). f.elem) _ (rank_order (λ (f : Fault). f.index)))
+order_here =
+    level_order (λ (f : Fault). rule_number f.rule) _
+    (level_order (λ (f : Fault). f.elem) _ (rank_order (λ (f : Fault). f.index)))
 
 -- the answer of `earlier` is the first of both sets
-pub either : (P Q : Fault → Type 0) (a b r : Option Fault) → r ≡ earlier is_before_here a b → IsFirstFault P a → IsFirstFault Q b → IsFirstFault (λ f. P f ⊎ Q f) r
-either P Q a b r e p q = subst (λ (o : Option Fault). IsFirstFault (λ f. P f ⊎ Q f) o) (sym e) (first_or is_before_here order_here P Q a b p q)
+pub either : (P Q : Fault → Type 0) (a b r : Option Fault) → r ≡ earlier is_before_here a b → IsFirstFault P a
+    → IsFirstFault Q b → IsFirstFault (λ f. P f ⊎ Q f) r
+either P Q a b r e p q =
+    subst (λ (o : Option Fault). IsFirstFault (λ f. P f ⊎ Q f) o) (sym e)
+    (first_or is_before_here order_here P Q a b p q)
 
 -- a test of an element that says what the definition says
-pub says : (rule : Rule) (elem : ℕ) (Kept : Type 0) (test : Bool) (a : Option Fault) → (IsTrue test ↔ Kept) → IsFirstFault (Breaks rule elem (IsTrue test)) a → IsFirstFault (Breaks rule elem Kept) a
+pub says : (rule : Rule) (elem : ℕ) (Kept : Type 0) (test : Bool) (a : Option Fault) → (IsTrue test ↔ Kept)
+    → IsFirstFault (Breaks rule elem (IsTrue test)) a → IsFirstFault (Breaks rule elem Kept) a
 says rule elem Kept test a same p = first_same is_before_here (Breaks rule elem (IsTrue test)) (Breaks rule elem Kept) a
     (λ f x. record { place = x.place; broken = λ kept. x.broken (same.1 kept) })
     (λ f x. record { place = x.place; broken = λ test. x.broken (same.0 test) }) p
@@ -27,24 +33,29 @@ says rule elem Kept test a same p = first_same is_before_here (Breaks rule elem 
 pub keeps : (rule : Rule) (elem : ℕ) (Kept : Type 0) → Kept → IsFirstFault (Breaks rule elem Kept) None
 keeps rule elem Kept kept = λ f x. x.broken kept
 
-later : (rule : Rule) (elem i j : ℕ) → (j < i → ⊥) → is_before_here (fault_at rule elem (j + 1)) (fault_at rule elem (i + 1)) ≡ false
+later : (rule : Rule) (elem i j : ℕ) → (j < i → ⊥)
+    → is_before_here (fault_at rule elem (j + 1)) (fault_at rule elem (i + 1)) ≡ false
 later rule elem i j h =
     let index : nat_lt (j + 1) (i + 1) ≡ false = lt_false (j + 1) (i + 1) (λ less. h (omega (arith, less))) in
     level_same (rule_number rule) (rule_number rule) (level elem elem (nat_lt (j + 1) (i + 1))) refl
     (level_same elem elem (nat_lt (j + 1) (i + 1)) refl index)
 
 -- the item doesn't keep it, and each before it does
-pub item_first : (rule : Rule) (elem : ℕ) (Kept : ℕ → Type 0) (i : ℕ) → (Kept i → ⊥) → ((k : ℕ) → k < i → Kept k) → IsFirstFault (BreaksItem rule elem Kept) (Some (fault_at rule elem (i + 1)))
+pub item_first : (rule : Rule) (elem : ℕ) (Kept : ℕ → Type 0) (i : ℕ) → (Kept i → ⊥) → ((k : ℕ) → k < i → Kept k)
+    → IsFirstFault (BreaksItem rule elem Kept) (Some (fault_at rule elem (i + 1)))
 item_first rule elem Kept i broken before = (
   record { item = i; place = refl; broken = broken },
-  λ g y. subst (λ (h : Fault). is_before_here h (fault_at rule elem (i + 1)) ≡ false) (sym y.place) (later rule elem i y.item (λ h. y.broken (before y.item h))),
+  λ g y. subst (λ (h : Fault). is_before_here h (fault_at rule elem (i + 1)) ≡ false) (sym y.place)
+      (later rule elem i y.item (λ h. y.broken (before y.item h))),
 )
 
 -- every item keeps it
-pub no_item : (rule : Rule) (elem : ℕ) (Kept : ℕ → Type 0) → ((k : ℕ) → Kept k) → IsFirstFault (BreaksItem rule elem Kept) None
+pub no_item : (rule : Rule) (elem : ℕ) (Kept : ℕ → Type 0) → ((k : ℕ) → Kept k)
+    → IsFirstFault (BreaksItem rule elem Kept) None
 no_item rule elem Kept kept = λ f y. y.broken (kept y.item)
 
 -- an answer decides: one is the first, or there is none
-pub first_decided : {X : Type 0} (before : X → X → Bool) (P : X → Type 0) (a : Option X) → IsFirst before P a → ((x : X) × First before P x) ⊎ ((x : X) → P x → ⊥)
+pub first_decided : {X : Type 0} (before : X → X → Bool) (P : X → Type 0) (a : Option X) → IsFirst before P a
+    → ((x : X) × First before P x) ⊎ ((x : X) → P x → ⊥)
 first_decided before P None none = inr none
 first_decided before P (Some x) first = inl (x, first)

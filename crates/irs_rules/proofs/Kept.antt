@@ -1,5 +1,6 @@
 -- A stream that breaks no rule of the terms keeps what the calls of a schedule ask of it.
-use Rattle.std.proofs.Common.{◌≡◌, inl, inr, ℕ, zero, suc, ◌+◌, ◌≤ℤ◌, ◌<ℤ◌, List, [], ◌∷◌, Option, Some, None, IfSome, slice_get, unwrap_or, ℤ, refl, subst}
+use Rattle.std.proofs.Common.{◌≡◌, inl, inr, ℕ, zero, suc, ◌+◌, ◌≤ℤ◌, ◌<ℤ◌, List, [], ◌∷◌, Option, Some, None, IfSome}
+use Rattle.std.proofs.Common.{slice_get, unwrap_or, ℤ, refl, subst}
 use Rattle.std.proofs.lemmas.Option.{slice_get_within, get_or_from_slice_get}
 use Rattle.irs_base.specs.declared.places.Rule.{Rule}
 use Rattle.irs_base.specs.declared.places.Rule.TheVariants.{K12, K13, K14, K17, K18, K19}
@@ -23,7 +24,8 @@ use Rattle.irs_terms.specs.Legs.{FitsLeg, FitsResets, FitsStubs}
 use Rattle.irs_terms.specs.Needs.{names_by, names_with, reset_names, fixing_names}
 use Rattle.irs_terms.specs.StepDates.{StepsRise, LegStepsRise, StepStands, IsStepInside}
 use Rattle.irs_terms.specs.Suiting.{FrequencySuits}
-use Rattle.irs_terms.specs.TermDates.{DatesInOrder, EndsAfterStart, StartsBefore, FirstRegularInside, LastRegularInside, given_or, termination_of}
+use Rattle.irs_terms.specs.TermDates.{DatesInOrder, EndsAfterStart, StartsBefore, FirstRegularInside, LastRegularInside}
+use Rattle.irs_terms.specs.TermDates.{given_or, termination_of}
 use Rattle.irs_rules.specs.Breaks.{Breaks, BreaksItem}
 use Rattle.irs_rules.specs.Centers.{AreFound, IsFoundAt, start_names}
 use Rattle.irs_rules.specs.Names.{BreaksK12}
@@ -31,15 +33,19 @@ use Rattle.irs_rules.specs.Dates.{BreaksK13, BreaksK14}
 use Rattle.irs_rules.specs.Amounts.{BreaksK17, BreaksK18, BreaksK18InLeg, BreaksK19}
 use Rattle.irs_rules.specs.TermsKept.{TermsKept}
 use Rattle.irs_rules.specs.TermsRules.{BreaksStream, BreaksTerms}
-use Rattle.irs_rules.proofs.Decisions.{holds, decides_both, decides_given, decides_less, decides_upto, decides_said, decides_said_fixing, decides_resets, decides_stubs, decides_found, frequency_holds, stands_holds}
+use Rattle.irs_rules.proofs.Decisions.{holds, decides_both, decides_given, decides_less, decides_upto, decides_said}
+use Rattle.irs_rules.proofs.Decisions.{decides_said_fixing, decides_resets, decides_stubs, decides_found}
+use Rattle.irs_rules.proofs.Decisions.{frequency_holds, stands_holds}
 
 -- what an element keeps can't fail, where the rule isn't broken there
 not_broken : (rule : Rule) (elem : ℕ) (Kept : Type 0) → ((f : Fault) → Breaks rule elem Kept f → ⊥) → (Kept → ⊥) → ⊥
 not_broken rule elem Kept never fails = never (fault_at rule elem 0) (record { place = refl; broken = fails })
 
 -- nor what an item of a repeated element keeps
-no_item_broken : (rule : Rule) (elem : ℕ) (Kept : ℕ → Type 0) → ((f : Fault) → BreaksItem rule elem Kept f → ⊥) → (i : ℕ) → (Kept i → ⊥) → ⊥
-no_item_broken rule elem Kept never i fails = never (fault_at rule elem (i + 1)) (record { item = i; place = refl; broken = fails })
+no_item_broken : (rule : Rule) (elem : ℕ) (Kept : ℕ → Type 0) → ((f : Fault) → BreaksItem rule elem Kept f → ⊥)
+    → (i : ℕ) → (Kept i → ⊥) → ⊥
+no_item_broken rule elem Kept never i fails =
+    never (fault_at rule elem (i + 1)) (record { item = i; place = refl; broken = fails })
 
 -- what is decided is kept, where the rule isn't broken
 kept_at : (rule : Rule) (elem : ℕ) (Kept : Type 0) → IsDecided Kept → ((f : Fault) → Breaks rule elem Kept f → ⊥) → Kept
@@ -52,28 +58,34 @@ decides_inside from to day = decides_given _ day (λ d. decides_both (decides_up
 
 dates_in_order : (s : Stream) → ((f : Fault) → BreaksK13 s f → ⊥) → DatesInOrder s
 dates_in_order s never = record {
-  ends = kept_at K13 elements.termination_date (EndsAfterStart s) (decides_less s.effective.day (termination_of s)) (λ f h. never f (inl h));
+  ends = kept_at K13 elements.termination_date (EndsAfterStart s) (decides_less s.effective.day (termination_of s))
+      (λ f h. never f (inl h));
   starts = kept_at K13 elements.first_period_start_date (StartsBefore s)
       (decides_given _ s.first_start (λ start. decides_less start.day s.effective.day)) (λ f h. never f (inr (inl h)));
   first = kept_at K13 elements.first_regular_period_start_date (FirstRegularInside s)
       (decides_inside (first_day_of s) (termination_of s) s.first_regular) (λ f h. never f (inr (inr (inl h))));
   last = kept_at K13 elements.last_regular_period_end_date (LastRegularInside s)
-      (decides_inside (given_or s.first_regular (first_day_of s)) (termination_of s) s.last_regular) (λ f h. never f (inr (inr (inr h))));
+      (decides_inside (given_or s.first_regular (first_day_of s)) (termination_of s) s.last_regular)
+      (λ f h. never f (inr (inr (inr h))));
 }
 
 -- ---- K17, K19
 
 is_said : (s : Stream) → ((f : Fault) → BreaksK17 s f → ⊥) → IsSaid s.pay.offset
-is_said s never = kept_at K17 elements.payment_days_offset (IsSaid s.pay.offset) (decides_said s.pay.offset) (λ f h. never f (inl h))
+is_said s never =
+    kept_at K17 elements.payment_days_offset (IsSaid s.pay.offset) (decides_said s.pay.offset) (λ f h. never f (inl h))
 
 is_said_reset : (s : Stream) → ((f : Fault) → BreaksK17 s f → ⊥) → IsSaidReset s
 is_said_reset s never =
-    kept_at K17 elements.fixing_dates (IsSaidReset s) (decides_given _ s.reset (λ terms. decides_said_fixing terms.fixing)) (λ f h. never f (inr h))
+    kept_at K17 elements.fixing_dates (IsSaidReset s)
+    (decides_given _ s.reset (λ terms. decides_said_fixing terms.fixing)) (λ f h. never f (inr h))
 
 fits_leg : (s : Stream) → ((f : Fault) → BreaksK19 s f → ⊥) → FitsLeg s
 fits_leg s never = record {
-  resets = kept_at K19 elements.reset_dates (FitsResets s.leg s.reset) (decides_resets s.leg s.reset) (λ f h. never f (inl h));
-  stubs = kept_at K19 elements.stub_amount (FitsStubs s.leg s.stubs) (decides_stubs s.leg s.stubs) (λ f h. never f (inr h));
+  resets = kept_at K19 elements.reset_dates (FitsResets s.leg s.reset) (decides_resets s.leg s.reset)
+      (λ f h. never f (inl h));
+  stubs = kept_at K19 elements.stub_amount (FitsStubs s.leg s.stubs) (decides_stubs s.leg s.stubs)
+      (λ f h. never f (inr h));
 }
 
 -- ---- K18
@@ -82,18 +94,25 @@ fits_leg s never = record {
 pub steps_rise : (from to : ℤ) (steps : List Step) → ((i : ℕ) → StepStands from to steps i) → StepsRise steps
 steps_rise from to steps stands = rise steps (λ i s t here next. in_order i s t here next)
   where
-    rise : (steps : List Step) → ((i : ℕ) (s t : Step) → slice_get steps i ≡ Some s → slice_get steps (suc i) ≡ Some t → s.day <ℤ t.day) → StepsRise steps
+    rise : (steps : List Step)
+        → ((i : ℕ) (s t : Step) → slice_get steps i ≡ Some s → slice_get steps (suc i) ≡ Some t → s.day <ℤ t.day)
+        → StepsRise steps
     rise [] ordered = tt
     rise (s ∷ []) ordered = tt
-    rise (s ∷ t ∷ ss) ordered = (ordered zero s t refl refl, rise (t ∷ ss) (λ i a b here next. ordered (suc i) a b here next))
+    rise (s ∷ t ∷ ss) ordered =
+        (ordered zero s t refl refl, rise (t ∷ ss) (λ i a b here next. ordered (suc i) a b here next))
 
     in_order : (i : ℕ) (s t : Step) → slice_get steps i ≡ Some s → slice_get steps (suc i) ≡ Some t → s.day <ℤ t.day
     in_order i s t here next =
-        let inside : IsStepInside from to steps (suc i) t = subst (λ (o : Option Step). IfSome o (IsStepInside from to steps (suc i))) next (stands (suc i)) in
+        let inside : IsStepInside from to steps (suc i) t =
+        subst (λ (o : Option Step). IfSome o (IsStepInside from to steps (suc i))) next (stands (suc i)) in
         subst (λ (o : Option Step). IfSome o (λ before. before.day <ℤ t.day)) here inside.in_order
 
-rise_at : (elem : ℕ) (from to : ℤ) (steps : List Step) → ((f : Fault) → BreaksItem K18 elem (StepStands from to steps) f → ⊥) → StepsRise steps
-rise_at elem from to steps never = steps_rise from to steps (λ i. stands_holds from to steps i (no_item_broken K18 elem (StepStands from to steps) never i))
+rise_at : (elem : ℕ) (from to : ℤ) (steps : List Step)
+    → ((f : Fault) → BreaksItem K18 elem (StepStands from to steps) f → ⊥) → StepsRise steps
+rise_at elem from to steps never =
+    steps_rise from to steps
+    (λ i. stands_holds from to steps i (no_item_broken K18 elem (StepStands from to steps) never i))
 
 leg_rises : (from to : ℤ) (leg : Leg) → ((f : Fault) → BreaksK18InLeg from to leg f → ⊥) → LegStepsRise leg
 leg_rises from to (Fixed rates) never = rise_at elements.fixed_rate_step_date from to rates.steps never
@@ -104,19 +123,24 @@ leg_rises from to (Floating float) never = (
 
 -- ---- K12
 
-none_missing : (cal : List Section) (k : ℕ) (names : List (List ℕ)) → ((i : ℕ) → IsFoundAt cal (Some names) i) → first_missing cal k names ≡ None
+none_missing : (cal : List Section) (k : ℕ) (names : List (List ℕ)) → ((i : ℕ) → IsFoundAt cal (Some names) i)
+    → first_missing cal k names ≡ None
 none_missing cal k [] found = refl
 none_missing cal k (n ∷ ns) found = rw (found zero) (none_missing cal (k + 1) ns (λ i. found (suc i)))
 
-all_found : (cal : List Section) (names : Option (List (List ℕ))) → ((i : ℕ) → IsFoundAt cal names i) → AreFound cal names
+all_found : (cal : List Section) (names : Option (List (List ℕ))) → ((i : ℕ) → IsFoundAt cal names i)
+    → AreFound cal names
 all_found cal None found = tt
 all_found cal (Some names) found = none_missing cal 1 names found
 
-found_at : (elem : ℕ) (cal : List Section) (names : Option (List (List ℕ))) → ((f : Fault) → BreaksItem K12 elem (IsFoundAt cal names) f → ⊥) → AreFound cal names
-found_at elem cal names never = all_found cal names (λ i. holds (decides_found cal names i) (no_item_broken K12 elem (IsFoundAt cal names) never i))
+found_at : (elem : ℕ) (cal : List Section) (names : Option (List (List ℕ)))
+    → ((f : Fault) → BreaksItem K12 elem (IsFoundAt cal names) f → ⊥) → AreFound cal names
+found_at elem cal names never =
+    all_found cal names (λ i. holds (decides_found cal names i) (no_item_broken K12 elem (IsFoundAt cal names) never i))
 
 -- the first boundary's adjustments are those of firstPeriodStartDate, else of the effective date
-found_at_first : (cal : List Section) (start : Option Dated) (effective : Dated) → AreFound cal (start_names start) → AreFound cal (names_by effective.adj)
+found_at_first : (cal : List Section) (start : Option Dated) (effective : Dated) → AreFound cal (start_names start)
+    → AreFound cal (names_by effective.adj)
     → AreFound cal (names_by (unwrap_or start effective).adj)
 found_at_first cal None effective first rest = rest
 found_at_first cal (Some date) effective first rest = first
@@ -124,7 +148,8 @@ found_at_first cal (Some date) effective first rest = first
 -- ---- all rules together
 
 -- a lawful stream that breaks no rule of the terms keeps them
-pub stream_keeps : (cal : List Section) (s : Stream) → IsLawfulStream s → ((f : Fault) → BreaksStream cal s f → ⊥) → TermsKept cal s
+pub stream_keeps : (cal : List Section) (s : Stream) → IsLawfulStream s → ((f : Fault) → BreaksStream cal s f → ⊥)
+    → TermsKept cal s
 stream_keeps cal s lawful never =
     let no12 : (f : Fault) → BreaksK12 cal s f → ⊥ = λ f h. never f (inl (inr (inr h))) in
     let no13 : (f : Fault) → BreaksK13 s f → ⊥ = λ f h. never f (inr (inl (inl h))) in
@@ -134,28 +159,52 @@ stream_keeps cal s lawful never =
     let no19 : (f : Fault) → BreaksK19 s f → ⊥ = λ f h. never f (inr (inr (inr (inr (inl h))))) in
     record {
       dates = dates_in_order s no13;
-      frequency = frequency_holds s lawful.roll (not_broken K14 elements.calculation_period_frequency (FrequencySuits s) no14);
+      frequency = frequency_holds s lawful.roll
+          (not_broken K14 elements.calculation_period_frequency (FrequencySuits s) no14);
       said = is_said s no17;
       said_reset = is_said_reset s no17;
       legs = fits_leg s no19;
-      notional_rises = rise_at elements.notional_step_date s.effective.day (termination_of s) s.notional.steps (λ f h. no18 f (inl h));
+      notional_rises =
+          rise_at elements.notional_step_date s.effective.day (termination_of s) s.notional.steps
+          (λ f h. no18 f (inl h));
       leg_rises = leg_rises s.effective.day (termination_of s) s.leg (λ f h. no18 f (inr h));
       start_found = found_at_first cal s.first_start s.effective
-          (found_at elements.first_period_start_adjustments cal (start_names s.first_start) (λ f h. no12 f (inr (inr (inr (inl h))))))
+          (found_at elements.first_period_start_adjustments cal (start_names s.first_start)
+          (λ f h. no12 f (inr (inr (inr (inl h))))))
           (found_at elements.effective_date_adjustments cal (names_by s.effective.adj) (λ f h. no12 f (inl h)));
-      end_found = found_at elements.termination_date_adjustments cal (names_by s.termination.adj) (λ f h. no12 f (inr (inl h)));
-      middle_found = found_at elements.period_dates_adjustments cal (names_by s.period_adj) (λ f h. no12 f (inr (inr (inl h))));
-      payment_found = found_at elements.payment_dates_adjustments cal (names_with s.pay.offset s.pay.adj) (λ f h. no12 f (inr (inr (inr (inr (inl h))))));
-      reset_found = found_at elements.reset_dates_adjustments cal (reset_names s.reset) (λ f h. no12 f (inr (inr (inr (inr (inr (inr h)))))));
-      fixing_found = found_at elements.fixing_dates cal (fixing_names s.reset) (λ f h. no12 f (inr (inr (inr (inr (inr (inl h)))))));
+      end_found = found_at elements.termination_date_adjustments cal (names_by s.termination.adj)
+          (λ f h. no12 f (inr (inl h)));
+      middle_found =
+          found_at elements.period_dates_adjustments cal (names_by s.period_adj) (λ f h. no12 f (inr (inr (inl h))));
+      payment_found =
+          found_at elements.payment_dates_adjustments cal (names_with s.pay.offset s.pay.adj)
+          (λ f h. no12 f (inr (inr (inr (inr (inl h))))));
+      reset_found =
+          found_at elements.reset_dates_adjustments cal (reset_names s.reset)
+          (λ f h. no12 f (inr (inr (inr (inr (inr (inr h)))))));
+      fixing_found =
+          found_at elements.fixing_dates cal (fixing_names s.reset)
+          (λ f h. no12 f (inr (inr (inr (inr (inr (inl h)))))));
     }
 
 -- each stream of a lawful swap is lawful
-pub lawful_stream : (swap : Swap) → IsLawful swap → (i : ℕ) (s : Stream) → slice_get swap.streams i ≡ Some s → IsLawfulStream s
-lawful_stream swap lawful i s there = subst IsLawfulStream (get_or_from_slice_get swap.streams i s s there) (lawful.2 i s (slice_get_within swap.streams i s there))
+pub lawful_stream : (swap : Swap) → IsLawful swap → (i : ℕ) (s : Stream) → slice_get swap.streams i ≡ Some s
+    → IsLawfulStream s
+lawful_stream swap lawful i s there =
+    subst IsLawfulStream (get_or_from_slice_get swap.streams i s s there)
+    (lawful.2 i s (slice_get_within swap.streams i s there))
 
 -- each stream of a lawful swap that breaks no rule of the terms keeps them
-pub terms_kept : (swap : Swap) (cal : List Section) → IsLawful swap → ((f : Broken) → BreaksTerms swap cal f → ⊥) → (i : ℕ) (s : Stream) → slice_get swap.streams i ≡ Some s → TermsKept cal s
+pub terms_kept : (swap : Swap) (cal : List Section) → IsLawful swap → ((f : Broken) → BreaksTerms swap cal f → ⊥)
+    → (i : ℕ) (s : Stream) → slice_get swap.streams i ≡ Some s → TermsKept cal s
 terms_kept swap cal lawful never i s there =
     stream_keeps cal s (lawful_stream swap lawful i s there)
-    (λ f h. never (in_stream (i + 1) f) (record { position = i; stream = s; there = there; fault = f; numbered = refl; breaks = h }))
+    (λ f h. never (in_stream (i + 1) f) (record {
+      position = i;
+      stream = s;
+      there = there;
+      fault = f;
+      numbered =
+          refl;
+      breaks = h;
+    }))

@@ -20,11 +20,13 @@ larger_than_part whole part zero some h e = absurd (omega arith)
 larger_than_part whole part (suc zero) some h e = absurd (omega arith)
 larger_than_part whole part (suc (suc n)) some h e = omega arith
 
-pub larger_times : (whole part : ℕ) → part < whole → ((times : ℕ) × IsTimes whole part times) → (times : ℕ) × (1 < times) × IsTimes whole part times
+pub larger_times : (whole part : ℕ) → part < whole → ((times : ℕ) × IsTimes whole part times)
+    → (times : ℕ) × (1 < times) × IsTimes whole part times
 larger_times whole part h (times, e) = (times, more_than_once whole part times h e, e)
 
 pub times_larger : (whole part : ℕ) → 0 < part → ((times : ℕ) × (1 < times) × IsTimes whole part times) → part < whole
 times_larger whole part some (times, h, e) = larger_than_part whole part times some h e
 
-pub times_any : (whole part : ℕ) → ((times : ℕ) × (1 < times) × IsTimes whole part times) → (times : ℕ) × IsTimes whole part times
+pub times_any : (whole part : ℕ) → ((times : ℕ) × (1 < times) × IsTimes whole part times)
+    → (times : ℕ) × IsTimes whole part times
 times_any whole part (times, h, e) = (times, e)

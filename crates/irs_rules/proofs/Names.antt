@@ -13,13 +13,15 @@ use Rattle.irs_rules.specs.Breaks.{BreaksItem}
 use Rattle.irs_rules.specs.Centers.{IsFoundAt}
 use Rattle.irs_rules.specs.Order.{IsFirstFault}
 
-pub names_lawful : (needed : Bool) (centers : Centers) → IsLawfulCenters centers → IfSome (names_for needed centers) IsLawfulNames
+pub names_lawful : (needed : Bool) (centers : Centers) → IsLawfulCenters centers
+    → IfSome (names_for needed centers) IsLawfulNames
 names_lawful false centers lawful = tt
 names_lawful true Absent lawful = tt
 names_lawful true (Listed names) lawful = lawful
 names_lawful true Dangling lawful = tt
 
-fixing_of_lawful : (fixing : Option FixTerms) → IfSome fixing IsLawfulFix → IfSome (fixing_names_of fixing) IsLawfulNames
+fixing_of_lawful : (fixing : Option FixTerms) → IfSome fixing IsLawfulFix
+    → IfSome (fixing_names_of fixing) IsLawfulNames
 fixing_of_lawful None lawful = tt
 fixing_of_lawful (Some fixing) lawful = names_lawful _ fixing.adj.centers lawful.1
 
@@ -28,6 +30,9 @@ fixing_lawful None lawful = tt
 fixing_lawful (Some terms) lawful = fixing_of_lawful terms.fixing lawful.fixing
 
 -- the first that isn't found, of names that are equal
-pub same_names : (elem : ℕ) (cal : List Section) (names others : Option (List (List ℕ))) (a : Option Fault) → names ≡ others
-    → IsFirstFault (BreaksItem K12 elem (IsFoundAt cal names)) a → IsFirstFault (BreaksItem K12 elem (IsFoundAt cal others)) a
-same_names elem cal names others a same first = subst (λ (o : Option (List (List ℕ))). IsFirstFault (BreaksItem K12 elem (IsFoundAt cal o)) a) same first
+pub same_names : (elem : ℕ) (cal : List Section) (names others : Option (List (List ℕ))) (a : Option Fault)
+    → names ≡ others
+    → IsFirstFault (BreaksItem K12 elem (IsFoundAt cal names)) a
+    → IsFirstFault (BreaksItem K12 elem (IsFoundAt cal others)) a
+same_names elem cal names others a same first =
+    subst (λ (o : Option (List (List ℕ))). IsFirstFault (BreaksItem K12 elem (IsFoundAt cal o)) a) same first

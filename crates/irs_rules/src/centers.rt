@@ -3,7 +3,8 @@
 ghost use Rattle.std.specs.Prelude.{◌↔◌, IsTrue, IsSomeAnd};
 ghost use Rattle.irs_base.specs.Elements.{first_period_start_adjustments, fixing_dates};
 ghost use Rattle.irs_base.specs.declared.places.Rule.TheVariants.{K11};
-ghost use Rattle.irs_terms.specs.Centers.{FixingHasCenters, HasCenters, HasCentersBy, HasCentersFor, HasCentersWith, StartHasCenters};
+ghost use Rattle.irs_terms.specs.Centers.{FixingHasCenters, HasCenters, HasCentersBy, HasCentersFor, HasCentersWith};
+ghost use Rattle.irs_terms.specs.Centers.{StartHasCenters};
 ghost use Rattle.irs_rules.specs.Order.{IsFirstFault};
 ghost use Rattle.irs_rules.specs.Breaks.{Breaks};
 ghost use Rattle.irs_rules.specs.Names.{BreaksK11, BreaksK11InResets};

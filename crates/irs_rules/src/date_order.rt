@@ -2,7 +2,8 @@
 //! the given regular dates lie from the first day of the first period to the termination date, and
 //! the last regular date isn't before the first.
 ghost use Rattle.std.specs.Prelude.{◌≡◌, ◌↔◌, ◌≤ℤ◌, IsTrue, IfSome};
-ghost use Rattle.irs_terms.specs.TermDates.{EndsAfterStart, FirstRegularInside, LastRegularInside, StartsBefore, given_or};
+ghost use Rattle.irs_terms.specs.TermDates.{EndsAfterStart, FirstRegularInside, LastRegularInside, StartsBefore};
+ghost use Rattle.irs_terms.specs.TermDates.{given_or};
 ghost use Rattle.irs_rules.specs.Order.{IsFirstFault};
 ghost use Rattle.irs_rules.specs.Dates.{BreaksK13};
 

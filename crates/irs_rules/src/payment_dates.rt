@@ -3,7 +3,9 @@ ghost use Rattle.std.specs.Prelude.{◌≤ℤ◌, ◌↔◌, IsTrue, IsSome, IfS
 ghost use Rattle.irs_terms.specs.Frequencies.{GroupsPeriods};
 ghost use Rattle.irs_terms.specs.Lawful.{IsLawfulStream};
 ghost use Rattle.irs_terms.specs.Lengths.{IsPositive};
-ghost use Rattle.irs_terms.specs.PaymentDates.{AsksInitialStub, FirstPaymentStands, HasInitialKind, HasRegularPayments, IsFirstPayment, IsInitial, IsLastPayment, IsPaymentInside, LastPaymentStands, NeedsFirstPayment, StartsLater};
+ghost use Rattle.irs_terms.specs.PaymentDates.{AsksInitialStub, FirstPaymentStands, HasInitialKind, HasRegularPayments};
+ghost use Rattle.irs_terms.specs.PaymentDates.{IsFirstPayment, IsInitial, IsLastPayment, IsPaymentInside};
+ghost use Rattle.irs_terms.specs.PaymentDates.{LastPaymentStands, NeedsFirstPayment, StartsLater};
 ghost use Rattle.irs_rules.specs.Order.{IsFirstFault};
 ghost use Rattle.irs_rules.specs.Dates.{BreaksK16};
 

@@ -1,7 +1,8 @@
 //! K10: a reference names its target, and a `businessCentersReference` exactly one list of centres
 //! of the swap. It is considered where no days are needed too.
 ghost use Rattle.std.specs.Prelude.{◌↔◌, IsTrue, IfSome, IsSomeAnd};
-ghost use Rattle.irs_base.specs.Elements.{first_period_start_centers_reference, fixing_dates_centers_reference, stub_amount_reference};
+ghost use Rattle.irs_base.specs.Elements.{first_period_start_centers_reference, fixing_dates_centers_reference};
+ghost use Rattle.irs_base.specs.Elements.{stub_amount_reference};
 ghost use Rattle.irs_base.specs.declared.places.Rule.TheVariants.{K10};
 ghost use Rattle.irs_terms.specs.References.{FixingNamesOneList, NamesOneList, NamesTarget, StartNamesOneList};
 ghost use Rattle.irs_rules.specs.Order.{IsFirstFault};

@@ -5,7 +5,8 @@ ghost use Rattle.irs_base.specs.declared.places.Broken.{Broken};
 ghost use Rattle.irs_terms.specs.Lawful.{IsLawful, IsLawfulStream};
 ghost use Rattle.irs_rules.specs.Order.{IsFirstFault};
 ghost use Rattle.irs_rules.specs.TermsKept.{AllKept};
-ghost use Rattle.irs_rules.specs.TermsRules.{BreaksAmounts, BreaksDates, BreaksNames, BreaksNone, BreaksStream, IsFirstBroken, IsTermsAnswer};
+ghost use Rattle.irs_rules.specs.TermsRules.{BreaksAmounts, BreaksDates, BreaksNames, BreaksNone, BreaksStream};
+ghost use Rattle.irs_rules.specs.TermsRules.{IsFirstBroken, IsTermsAnswer};
 
 use crate::centers::element_without_centers;
 use crate::date_order::date_out_of_order;

@@ -1,5 +1,7 @@
 -- The good days of the centres that elements name: their range, and the table that has them.
-use Rattle.std.proofs.Common.{◌≡◌, inl, inr, ◌||◌, slice_get, ℕ, ◌+◌, ◌<◌, ◌≤◌, Bool, true, false, if◌then◌else◌, List, [], ◌∷◌, ◌++◌, Option, Some, None, IfSome, Contains, map, get_or, ℤ, ◌≤ℤ◌, ◌<ℤ◌, length, refl, sym, ◌∙◌, ap, subst, arith}
+use Rattle.std.proofs.Common.{◌≡◌, inl, inr, ◌||◌, slice_get, ℕ, ◌+◌, ◌<◌, ◌≤◌, Bool, true, false, if◌then◌else◌, List}
+use Rattle.std.proofs.Common.{[], ◌∷◌, ◌++◌, Option, Some, None, IfSome, Contains, map, get_or, ℤ, ◌≤ℤ◌, ◌<ℤ◌, length}
+use Rattle.std.proofs.Common.{refl, sym, ◌∙◌, ap, subst, arith}
 use Rattle.std.proofs.lemmas.List.{get_or-map, length-map, map_push}
 use Rattle.std.proofs.lemmas.Bool.{cases_lt}
 use Rattle.std.proofs.lemmas.Option.{get_or_from_slice_get}
@@ -19,10 +21,12 @@ use Rattle.irs_calendar.specs.declared.sections.Section.{Section}
 use Rattle.irs_calendar.specs.GoodDays.{InCover}
 use Rattle.irs_calendar.specs.Selected.{later, earlier, latest_first, earliest_last, sections_named}
 use Rattle.irs_schedule.specs.DaySets.{days_of_names}
-use Rattle.irs_schedule.specs.CenterDays.{NamedCenters, centers_named, FoundCenters, CanFind, HasStream, Grows, HasMore, HasMoreOf}
+use Rattle.irs_schedule.specs.CenterDays.{NamedCenters, centers_named, FoundCenters, CanFind, HasStream, Grows, HasMore}
+use Rattle.irs_schedule.specs.CenterDays.{HasMoreOf}
 use Rattle.irs_rules.specs.TermsKept.{TermsKept}
 use Rattle.irs_terms.specs.FirstDay.{first_date_of}
-use Rattle.irs_terms.specs.Needs.{adjusts_days, counts_days, fixing_names, fixing_names_of, names_by, names_for, names_with, reset_names}
+use Rattle.irs_terms.specs.Needs.{adjusts_days, counts_days, fixing_names, fixing_names_of, names_by, names_for}
+use Rattle.irs_terms.specs.Needs.{names_with, reset_names}
 use Rattle.irs_terms.proofs.FirstDays.{first_date_lawful}
 
 -- the range
@@ -52,58 +56,81 @@ earlier_to a b =
 
 latest_from : (d : ℤ) (ss : List Section) → d ≤ℤ latest_first d ss
 latest_from d [] = same d
-latest_from d (s ∷ ss) = trans d (later d s.first) (latest_first (later d s.first) ss) (later_from d s.first) (latest_from (later d s.first) ss)
+latest_from d (s ∷ ss) =
+    trans d (later d s.first) (latest_first (later d s.first) ss) (later_from d s.first)
+    (latest_from (later d s.first) ss)
 
 earliest_to : (d : ℤ) (ss : List Section) → earliest_last d ss ≤ℤ d
 earliest_to d [] = same d
-earliest_to d (s ∷ ss) = trans (earliest_last (earlier d s.last) ss) (earlier d s.last) d (earliest_to (earlier d s.last) ss) (earlier_to d s.last)
+earliest_to d (s ∷ ss) =
+    trans (earliest_last (earlier d s.last) ss) (earlier d s.last) d (earliest_to (earlier d s.last) ss)
+    (earlier_to d s.last)
 
 -- the days of a cover are in the range of dates
-pub days_in_range : (cal : List Section) (names : Option (List (List ℕ))) (d : ℤ) → InCover (days_of_names cal names) d → IsDay d
+pub days_in_range : (cal : List Section) (names : Option (List (List ℕ))) (d : ℤ) → InCover (days_of_names cal names) d
+    → IsDay d
 days_in_range cal None d inside = (inside.from, inside.to)
 days_in_range cal (Some names) d inside =
-    let ss = sections_named cal names in
-    (trans first_day (latest_first first_day ss) d (latest_from first_day ss) inside.from, trans d (earliest_last last_day ss) last_day inside.to (earliest_to last_day ss))
+    let ss = sections_named cal names in (
+      trans first_day (latest_first first_day ss) d (latest_from first_day ss) inside.from,
+      trans d (earliest_last last_day ss) last_day inside.to (earliest_to last_day ss),
+    )
 
 -- a lawful element lists at most 16 names
-few_names : (needed : Bool) (centers : Centers) → IsLawfulCenters centers → IfSome (names_for needed centers) (λ listed. length listed ≤ most_centers)
+few_names : (needed : Bool) (centers : Centers) → IsLawfulCenters centers
+    → IfSome (names_for needed centers) (λ listed. length listed ≤ most_centers)
 few_names false centers lawful = tt
 few_names true Absent lawful = tt
 few_names true (Listed names) lawful = lawful.1
 few_names true Dangling lawful = tt
 
-few_in_fixing : (fixing : Option FixTerms) → IfSome fixing IsLawfulFix → IfSome (fixing_names_of fixing) (λ listed. length listed ≤ most_centers)
+few_in_fixing : (fixing : Option FixTerms) → IfSome fixing IsLawfulFix
+    → IfSome (fixing_names_of fixing) (λ listed. length listed ≤ most_centers)
 few_in_fixing None lawful = tt
-few_in_fixing (Some fix) lawful = few_names (adjusts_days fix.adj.code || counts_days fix.offset) fix.adj.centers lawful.1
+few_in_fixing (Some fix) lawful =
+    few_names (adjusts_days fix.adj.code || counts_days fix.offset) fix.adj.centers lawful.1
 
-few_for_fixing : (reset : Option ResetTerms) → IfSome reset IsLawfulReset → IfSome (fixing_names reset) (λ listed. length listed ≤ most_centers)
+few_for_fixing : (reset : Option ResetTerms) → IfSome reset IsLawfulReset
+    → IfSome (fixing_names reset) (λ listed. length listed ≤ most_centers)
 few_for_fixing None lawful = tt
 few_for_fixing (Some terms) lawful = few_in_fixing terms.fixing lawful.fixing
 
-few_for_reset : (reset : Option ResetTerms) → IfSome reset IsLawfulReset → IfSome (reset_names reset) (λ listed. length listed ≤ most_centers)
+few_for_reset : (reset : Option ResetTerms) → IfSome reset IsLawfulReset
+    → IfSome (reset_names reset) (λ listed. length listed ≤ most_centers)
 few_for_reset None lawful = tt
 few_for_reset (Some terms) lawful = few_names (adjusts_days terms.adj.code) terms.adj.centers lawful.centers
 
 -- the calendars have the centres of each element of a stream that keeps the terms
 
-pub finds_start : (cal : List Section) (s : Stream) → IsLawfulStream s → TermsKept cal s → CanFind cal (names_by (first_date_of s).adj)
+pub finds_start : (cal : List Section) (s : Stream) → IsLawfulStream s → TermsKept cal s
+    → CanFind cal (names_by (first_date_of s).adj)
 finds_start cal s lawful kept =
     let adj = (first_date_of s).adj in
     (few_names (adjusts_days adj.code) adj.centers (first_date_lawful s lawful).1, kept.start_found)
 
-pub finds_end : (cal : List Section) (s : Stream) → IsLawfulStream s → TermsKept cal s → CanFind cal (names_by s.termination.adj)
-finds_end cal s lawful kept = (few_names (adjusts_days s.termination.adj.code) s.termination.adj.centers lawful.termination.1, kept.end_found)
+pub finds_end : (cal : List Section) (s : Stream) → IsLawfulStream s → TermsKept cal s
+    → CanFind cal (names_by s.termination.adj)
+finds_end cal s lawful kept =
+    (few_names (adjusts_days s.termination.adj.code) s.termination.adj.centers lawful.termination.1, kept.end_found)
 
-pub finds_middle : (cal : List Section) (s : Stream) → IsLawfulStream s → TermsKept cal s → CanFind cal (names_by s.period_adj)
-finds_middle cal s lawful kept = (few_names (adjusts_days s.period_adj.code) s.period_adj.centers lawful.centers, kept.middle_found)
+pub finds_middle : (cal : List Section) (s : Stream) → IsLawfulStream s → TermsKept cal s
+    → CanFind cal (names_by s.period_adj)
+finds_middle cal s lawful kept =
+    (few_names (adjusts_days s.period_adj.code) s.period_adj.centers lawful.centers, kept.middle_found)
 
-pub finds_payment : (cal : List Section) (s : Stream) → IsLawfulStream s → TermsKept cal s → CanFind cal (names_with s.pay.offset s.pay.adj)
-finds_payment cal s lawful kept = (few_names (adjusts_days s.pay.adj.code || counts_days s.pay.offset) s.pay.adj.centers lawful.pay.centers, kept.payment_found)
+pub finds_payment : (cal : List Section) (s : Stream) → IsLawfulStream s → TermsKept cal s
+    → CanFind cal (names_with s.pay.offset s.pay.adj)
+finds_payment cal s lawful kept = (
+  few_names (adjusts_days s.pay.adj.code || counts_days s.pay.offset) s.pay.adj.centers lawful.pay.centers,
+  kept.payment_found,
+)
 
-pub finds_reset : (cal : List Section) (s : Stream) → IsLawfulStream s → TermsKept cal s → CanFind cal (reset_names s.reset)
+pub finds_reset : (cal : List Section) (s : Stream) → IsLawfulStream s → TermsKept cal s
+    → CanFind cal (reset_names s.reset)
 finds_reset cal s lawful kept = (few_for_reset s.reset lawful.reset, kept.reset_found)
 
-pub finds_fixing : (cal : List Section) (s : Stream) → IsLawfulStream s → TermsKept cal s → CanFind cal (fixing_names s.reset)
+pub finds_fixing : (cal : List Section) (s : Stream) → IsLawfulStream s → TermsKept cal s
+    → CanFind cal (fixing_names s.reset)
 finds_fixing cal s lawful kept = (few_for_fixing s.reset lawful.reset, kept.fixing_found)
 
 -- the table
@@ -114,11 +141,13 @@ lists_of found = map {A = NamedCenters} {B = Option (List (List ℕ))} (λ days.
 within_lists : (found : List NamedCenters) (k : ℕ) → k < length (lists_of found) → k < length found
 within_lists found k within = subst (λ (n : ℕ). k < n) (length-map found (λ days. days.names)) within
 
-list_at : (found : List NamedCenters) (k : ℕ) (days : NamedCenters) (names : Option (List (List ℕ))) → k < length found → get_or (lists_of found) k names ≡ (get_or found k days).names
+list_at : (found : List NamedCenters) (k : ℕ) (days : NamedCenters) (names : Option (List (List ℕ))) → k < length found
+    → get_or (lists_of found) k names ≡ (get_or found k days).names
 list_at found k days names within = get_or-map (λ (d : NamedCenters). d.names) found k days names within
 
 -- an item with these names
-pub among : (found : List NamedCenters) (names : Option (List (List ℕ))) (k : ℕ) (days : NamedCenters) → k < length found → days ≡ get_or found k days → days.names ≡ names → Contains (lists_of found) names
+pub among : (found : List NamedCenters) (names : Option (List (List ℕ))) (k : ℕ) (days : NamedCenters)
+    → k < length found → days ≡ get_or found k days → days.names ≡ names → Contains (lists_of found) names
 among found names k days within is named = (
   k,
   subst (λ (n : ℕ). k < n) (sym (length-map found (λ d. d.names))) within,
@@ -126,23 +155,34 @@ among found names k days within is named = (
 )
 
 -- no item has these names
-pub not_among : (found : List NamedCenters) (names : Option (List (List ℕ))) → ((k : ℕ) (days : NamedCenters) → k < length found → (get_or found k days).names ≡ names → ⊥) → Contains (lists_of found) names → ⊥
+pub not_among : (found : List NamedCenters) (names : Option (List (List ℕ)))
+    → ((k : ℕ) (days : NamedCenters) → k < length found → (get_or found k days).names ≡ names → ⊥)
+    → Contains (lists_of found) names → ⊥
 not_among found names never there =
     let within = within_lists found there.0 there.1 in
-    never there.0 (centers_named [] names) within (sym (list_at found there.0 (centers_named [] names) names within) ∙ there.2)
+    never there.0 (centers_named [] names) within (sym (list_at found there.0 (centers_named [] names) names within)
+    ∙ there.2)
 
 -- one more item
-pub more : (cal : List Section) (found : List NamedCenters) (days : NamedCenters) (names : Option (List (List ℕ))) → days.names ≡ names
-    → HasMore names (record { sections = cal; lists = lists_of found }) (record { sections = cal; lists = lists_of (found ++ days ∷ []) })
+pub more : (cal : List Section) (found : List NamedCenters) (days : NamedCenters) (names : Option (List (List ℕ)))
+    → days.names ≡ names
+    → HasMore names (record { sections = cal; lists = lists_of found })
+    (record { sections = cal; lists = lists_of (found ++ days ∷ []) })
 more cal found days names named =
-    let longer : lists_of (found ++ days ∷ []) ≡ lists_of found ++ days.names ∷ [] = map_push {X = NamedCenters} {Y = Option (List (List ℕ))} (λ d. d.names) found days in
+    let longer : lists_of (found ++ days ∷ []) ≡ lists_of found ++ days.names ∷ [] =
+    map_push {X = NamedCenters} {Y = Option (List (List ℕ))} (λ d. d.names) found days in
     rw (longer, named) (record {
-      grows = record { sections = refl; kept = λ listed there. Contains-append_left (lists_of found) (names ∷ []) listed there };
+      grows = record {
+        sections = refl;
+        kept =
+            λ listed there. Contains-append_left (lists_of found) (names ∷ []) listed there;
+      };
       added = Contains-push (lists_of found) names;
     })
 
 grows_on : (a b c : FoundCenters) → Grows a b → Grows b c → Grows a c
-grows_on a b c once again = record { sections = again.sections ∙ once.sections; kept = λ names there. again.kept names (once.kept names there) }
+grows_on a b c once again =
+    record { sections = again.sections ∙ once.sections; kept = λ names there. again.kept names (once.kept names there) }
 
 -- a table that grows has the streams that it had
 stream_kept : (s : Stream) (old now : FoundCenters) → Grows old now → HasStream old s → HasStream now s
@@ -156,8 +196,10 @@ stream_kept s old now grows has = record {
 }
 
 -- a stream whose six lists were added one after another
-pub all_added : (s : Stream) (t0 t1 t2 t3 t4 t5 t6 : FoundCenters) → HasMore (names_by (first_date_of s).adj) t0 t1 → HasMore (names_by s.termination.adj) t1 t2 → HasMore (names_by s.period_adj) t2 t3
-    → HasMore (names_with s.pay.offset s.pay.adj) t3 t4 → HasMore (reset_names s.reset) t4 t5 → HasMore (fixing_names s.reset) t5 t6 → HasMoreOf s t0 t6
+pub all_added : (s : Stream) (t0 t1 t2 t3 t4 t5 t6 : FoundCenters) → HasMore (names_by (first_date_of s).adj) t0 t1
+    → HasMore (names_by s.termination.adj) t1 t2 → HasMore (names_by s.period_adj) t2 t3
+    → HasMore (names_with s.pay.offset s.pay.adj) t3 t4 → HasMore (reset_names s.reset) t4 t5
+    → HasMore (fixing_names s.reset) t5 t6 → HasMoreOf s t0 t6
 all_added s t0 t1 t2 t3 t4 t5 t6 start end middle payment reset fixing =
     let from5 = fixing.grows in
     let from4 = grows_on t4 t5 t6 reset.grows from5 in
@@ -177,8 +219,10 @@ all_added s t0 t1 t2 t3 t4 t5 t6 start end middle payment reset fixing =
     }
 
 -- the streams before the n-th, and the n-th
-pub one_more_stream : (streams : List Stream) (n : ℕ) (x : Stream) (old now : FoundCenters) → n < length streams → x ≡ get_or streams n x → HasMoreOf x old now
-    → ((i : ℕ) (s : Stream) → i < n → slice_get streams i ≡ Some s → HasStream old s) → (i : ℕ) (s : Stream) → i < n + 1 → slice_get streams i ≡ Some s → HasStream now s
+pub one_more_stream : (streams : List Stream) (n : ℕ) (x : Stream) (old now : FoundCenters) → n < length streams
+    → x ≡ get_or streams n x → HasMoreOf x old now
+    → ((i : ℕ) (s : Stream) → i < n → slice_get streams i ≡ Some s → HasStream old s) → (i : ℕ) (s : Stream) → i < n + 1
+    → slice_get streams i ≡ Some s → HasStream now s
 one_more_stream streams n x old now within is more before i s below there =
     elim (cases_lt i n) [
       | inl earlier ↦ stream_kept s old now more.grows (before i s earlier there)

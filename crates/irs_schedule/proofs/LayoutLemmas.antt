@@ -20,7 +20,8 @@ use Rattle.irs_schedule.proofs.StreamRanges.{AreInRange}
 use Rattle.irs_terms.specs.FirstDay.{first_day_of}
 use Rattle.irs_base.specs.Listed.{RunsFromTo}
 
-module _ (cal : List Section) (sets : StreamSets) (s : Stream) (lawful : IsLawfulStream s) (terms : TermsKept cal s) (l : Layout) (is : IsKeptLayout sets s l) where
+module _ (cal : List Section) (sets : StreamSets) (s : Stream) (lawful : IsLawfulStream s) (terms : TermsKept cal s)
+    (l : Layout) (is : IsKeptLayout sets s l) where
   pub layout_runs : RunsFromTo (first_day_of s) s.termination.day l.unadjusted
   layout_runs = boundaries_run s l.span terms.dates is.regular is.kept l.unadjusted is.unadjusted
 
@@ -31,9 +32,14 @@ module _ (cal : List Section) (sets : StreamSets) (s : Stream) (lawful : IsLawfu
   pub layout_some : 2 ≤ length l.unadjusted
   layout_some = two_boundaries s l.span l.unadjusted (begins_before_end s terms.dates) is.unadjusted
 
-  pub layout_covers : (ps : List Payment) → ArePayments s sets.payment l.unadjusted l.adjusted ps → Covers 1 ps (length l.unadjusted - 1)
-  layout_covers ps are = every_payments_cover s sets.payment l.unadjusted l.adjusted lawful (begins_before_end s terms.dates) layout_runs layout_days ps are
+  pub layout_covers : (ps : List Payment) → ArePayments s sets.payment l.unadjusted l.adjusted ps
+      → Covers 1 ps (length l.unadjusted - 1)
+  layout_covers ps are =
+      every_payments_cover s sets.payment l.unadjusted l.adjusted lawful
+      (begins_before_end s terms.dates) layout_runs layout_days ps are
 
   -- where the good days are days in range, so are the adjusted boundaries
   pub layout_adjusted_days : AreInRange sets → AreDays l.adjusted
-  layout_adjusted_days ranges = adjusted_days s sets.boundaries l.unadjusted layout_days ranges.start ranges.end ranges.middle l.adjusted is.adjusted
+  layout_adjusted_days ranges =
+      adjusted_days s sets.boundaries l.unadjusted layout_days ranges.start ranges.end ranges.middle l.adjusted
+      is.adjusted

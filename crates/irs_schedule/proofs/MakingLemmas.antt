@@ -1,5 +1,6 @@
 -- The parts of a swap's streams, made one after another.
-use Rattle.std.proofs.Common.{◌≡◌, ◌⊎◌, inl, inr, ℕ, zero, suc, ◌+◌, ◌<◌, ◌≤◌, List, [], ◌∷◌, ◌++◌, length, length-append, take, Some, refl, sym, ap, subst, ◌∙◌, arith}
+use Rattle.std.proofs.Common.{◌≡◌, ◌⊎◌, inl, inr, ℕ, zero, suc, ◌+◌, ◌<◌, ◌≤◌, List, [], ◌∷◌, ◌++◌, length}
+use Rattle.std.proofs.Common.{length-append, take, Some, refl, sym, ap, subst, ◌∙◌, arith}
 use Rattle.std.specs.Prelude.{slice_get}
 use Rattle.std.proofs.lemmas.List.{take_all}
 use Rattle.std.proofs.lemmas.Option.{slice_get_within}
@@ -36,36 +37,47 @@ below_next : (m n : ℕ) → m < n + 1 → (m < n) ⊎ (m ≡ n)
 below_next zero zero h = inr refl
 below_next zero (suc n) h = inl (omega arith)
 below_next (suc m) zero h = absurd (omega (arith, h))
-below_next (suc m) (suc n) h = elim (below_next m n (omega (arith, h))) [ inl low ↦ inl (omega (arith, low)) | inr e ↦ inr (ap suc e) ]
+below_next (suc m) (suc n) h =
+    elim (below_next m n (omega (arith, h))) [ inl low ↦ inl (omega (arith, low)) | inr e ↦ inr (ap suc e) ]
 
 some_inj : (x y : Stream) → Some x ≡ Some y → x ≡ y
 some_inj x y e = search e
 
-module _ (swap : Swap) (cal : List Section) (fix : RateTable) (i : ℕ) (parts : List Part) (s : Stream) (at : slice_get swap.streams i ≡ Some s) (made : Made swap cal fix i parts) where
+module _ (swap : Swap) (cal : List Section) (fix : RateTable) (i : ℕ) (parts : List Part) (s : Stream)
+    (at : slice_get swap.streams i ≡ Some s) (made : Made swap cal fix i parts) where
   -- one part more
-  pub made_more : (p : Part) → IsPartOf cal fix s p → KeepsBounds p → StreamKept (stream_sets cal s) fix s → Made swap cal fix (i + 1) (parts ++ p ∷ [])
+  pub made_more : (p : Part) → IsPartOf cal fix s p → KeepsBounds p → StreamKept (stream_sets cal s) fix s
+      → Made swap cal fix (i + 1) (parts ++ p ∷ [])
   made_more p is bounds kept = record {
-    count = let grown : length (parts ++ p ∷ []) ≡ length parts + 1 = simp length-append in grown ∙ ap (λ (n : ℕ). n + 1) made.count;
+    count = let grown : length (parts ++ p ∷ []) ≡ length parts + 1 = simp length-append in
+        grown ∙ ap (λ (n : ℕ). n + 1) made.count;
     pairs = pairs_more (IsPartOf cal fix) swap.streams i parts s p at made.pairs is;
     each = every_more KeepsBounds parts p made.each bounds;
     kept = λ k t low there. elim (below_next k i low) [
       | inl before ↦ made.kept k t before there
-      | inr here ↦ subst (λ (u : Stream). StreamKept (stream_sets cal u) fix u) (some_inj s t (sym at ∙ ap (slice_get swap.streams) (sym here) ∙ there)) kept
+      | inr here ↦
+          subst (λ (u : Stream). StreamKept (stream_sets cal u) fix u)
+          (some_inj s t (sym at ∙ ap (slice_get swap.streams) (sym here) ∙ there)) kept
     ];
   }
 
   -- a rule broken by the stream at the place i
-  pub made_broken : (x : Broken) (f : Fault) → StreamBroken (stream_sets cal s) fix s f → x ≡ in_stream (i + 1) f → DatedBroken swap cal fix x
-  made_broken x f breaks is = record { position = i; stream = s; there = at; fault = f; breaks = breaks; kept_before = made.kept; is = is }
+  pub made_broken : (x : Broken) (f : Fault) → StreamBroken (stream_sets cal s) fix s f → x ≡ in_stream (i + 1) f
+      → DatedBroken swap cal fix x
+  made_broken x f breaks is =
+      record { position = i; stream = s; there = at; fault = f; breaks = breaks; kept_before = made.kept; is = is }
 
-module _ (swap : Swap) (cal : List Section) (fix : RateTable) (i : ℕ) (parts : List Part) (all : length swap.streams ≤ i) (made : Made swap cal fix i parts) where
+module _ (swap : Swap) (cal : List Section) (fix : RateTable) (i : ℕ) (parts : List Part)
+    (all : length swap.streams ≤ i) (made : Made swap cal fix i parts) where
   pub made_schedule : IsSchedule swap cal fix parts
-  made_schedule = subst (λ (ss : List Stream). Pairs (IsPartOf cal fix) ss parts) (take_all i swap.streams all) made.pairs
+  made_schedule =
+      subst (λ (ss : List Stream). Pairs (IsPartOf cal fix) ss parts) (take_all i swap.streams all) made.pairs
 
   pub made_kept : DatedKept swap cal fix
   made_kept k s at = made.kept k s (let within = slice_get_within swap.streams k s at in omega (arith, within, all)) at
 
-pub made_within : (swap : Swap) (cal : List Section) (fix : RateTable) (i : ℕ) (parts : List Part) → IsLawful swap → length swap.streams ≤ i → i ≤ length swap.streams → Made swap cal fix i parts → IsWithin parts
+pub made_within : (swap : Swap) (cal : List Section) (fix : RateTable) (i : ℕ) (parts : List Part) → IsLawful swap
+    → length swap.streams ≤ i → i ≤ length swap.streams → Made swap cal fix i parts → IsWithin parts
 made_within swap cal fix i parts lawful low high made = record {
   some = let e = made.count in let some = lawful.0 in omega (arith, e, some, low);
   few = let e = made.count in let few = lawful.1 in omega (arith, e, few, high);
@@ -73,7 +85,9 @@ made_within swap cal fix i parts lawful low high made = record {
 }
 
 -- the sets of a stream by its elements
-pub sets_same : (a b : StreamSets) → a.boundaries.start ≡ b.boundaries.start → a.boundaries.end ≡ b.boundaries.end → a.boundaries.middle ≡ b.boundaries.middle → a.payment ≡ b.payment → a.reset ≡ b.reset → a.fixing ≡ b.fixing → a ≡ b
+pub sets_same : (a b : StreamSets) → a.boundaries.start ≡ b.boundaries.start → a.boundaries.end ≡ b.boundaries.end
+    → a.boundaries.middle ≡ b.boundaries.middle → a.payment ≡ b.payment → a.reset ≡ b.reset
+    → a.fixing ≡ b.fixing → a ≡ b
 sets_same a b start end middle payment reset fixing = λ i. record {
   boundaries = record { start = start i; end = end i; middle = middle i };
   payment = payment i;

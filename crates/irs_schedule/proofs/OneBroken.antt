@@ -17,20 +17,28 @@ use Rattle.irs_schedule.specs.DaySets.{StreamSets, stream_sets}
 use Rattle.irs_schedule.proofs.Turns.{one_turn}
 
 -- the first broken rules of a stream are of one part, and of that part there is one
-pub one_stream : (sets : StreamSets) (fix : RateTable) (s : Stream) (f g : Fault) → StreamBroken sets fix s f → StreamBroken sets fix s g → f ≡ g
+pub one_stream : (sets : StreamSets) (fix : RateTable) (s : Stream) (f g : Fault) → StreamBroken sets fix s f
+    → StreamBroken sets fix s g → f ≡ g
 one_stream sets fix s f g h k = elim (cases_order (turn_of h.part) (turn_of k.part)) [
-  | inl same ↦ one_fault (BreaksPart sets fix s k.part) f g (subst (λ (p : DatedPart). First comes_before (BreaksPart sets fix s p) f) (one_turn h.part k.part same) h.first) k.first
+  | inl same ↦
+      one_fault (BreaksPart sets fix s k.part) f g
+      (subst (λ (p : DatedPart). First comes_before (BreaksPart sets fix s p) f)
+      (one_turn h.part k.part same) h.first) k.first
   | inr (inl below) ↦ absurd (k.kept_before h.part f below h.first.0)
   | inr (inr above) ↦ absurd (h.kept_before k.part g above k.first.0)
 ]
 
-module _ (swap : Swap) (cal : List Section) (fix : RateTable) (x y : Broken) (h : DatedBroken swap cal fix x) (k : DatedBroken swap cal fix y) where
+module _ (swap : Swap) (cal : List Section) (fix : RateTable) (x y : Broken) (h : DatedBroken swap cal fix x)
+    (k : DatedBroken swap cal fix y) where
   -- of one stream
   at_one : h.position ≡ k.position → x ≡ y
   at_one places =
-      let streams : h.stream ≡ k.stream = same_Some h.stream k.stream (sym h.there ∙ ap (slice_get swap.streams) places ∙ k.there) in
-      let moved : StreamBroken (stream_sets cal k.stream) fix k.stream h.fault = subst (λ (s : Stream). StreamBroken (stream_sets cal s) fix s h.fault) streams h.breaks in
-      let faults : h.fault ≡ k.fault = one_stream (stream_sets cal k.stream) fix k.stream h.fault k.fault moved k.breaks in
+      let streams : h.stream ≡ k.stream =
+      same_Some h.stream k.stream (sym h.there ∙ ap (slice_get swap.streams) places ∙ k.there) in
+      let moved : StreamBroken (stream_sets cal k.stream) fix k.stream h.fault =
+      subst (λ (s : Stream). StreamBroken (stream_sets cal s) fix s h.fault) streams h.breaks in
+      let faults : h.fault ≡ k.fault =
+      one_stream (stream_sets cal k.stream) fix k.stream h.fault k.fault moved k.breaks in
       h.is ∙ (λ i. in_stream (places i + 1) (faults i)) ∙ sym k.is
 
   both_first : x ≡ y
@@ -40,5 +48,6 @@ module _ (swap : Swap) (cal : List Section) (fix : RateTable) (x y : Broken) (h 
     | inr (inr above) ↦ absurd (h.kept_before k.position k.stream above k.there k.breaks.part k.fault k.breaks.first.0)
   ]
 
-pub one_broken : (swap : Swap) (cal : List Section) (fix : RateTable) (x y : Broken) → DatedBroken swap cal fix x → DatedBroken swap cal fix y → x ≡ y
+pub one_broken : (swap : Swap) (cal : List Section) (fix : RateTable) (x y : Broken) → DatedBroken swap cal fix x
+    → DatedBroken swap cal fix y → x ≡ y
 one_broken swap cal fix x y h k = both_first swap cal fix x y h k

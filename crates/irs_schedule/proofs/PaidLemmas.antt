@@ -1,5 +1,6 @@
 -- Payments with their amounts, one after another, and the first period of all of them that leaves the range.
-use Rattle.std.proofs.Common.{◌≡◌, ℕ, zero, suc, ◌+◌, ◌<◌, ◌≤◌, ◌++◌, inl, inr, List, [], ◌∷◌, length, map, take, Some, refl, sym, ap, ap₂, subst, ◌∙◌, arith, ℤ}
+use Rattle.std.proofs.Common.{◌≡◌, ℕ, zero, suc, ◌+◌, ◌<◌, ◌≤◌, ◌++◌, inl, inr, List, [], ◌∷◌, length, map, take, Some}
+use Rattle.std.proofs.Common.{refl, sym, ap, ap₂, subst, ◌∙◌, arith, ℤ}
 use Rattle.std.specs.List.{slice_get}
 use Rattle.std.proofs.lemmas.Bool.{cases_lt}
 use Rattle.std.proofs.lemmas.List.{map-append, take_more, take_all}
@@ -29,7 +30,8 @@ covers_low n last (p ∷ ps) h =
     omega (arith, rest, first, order)
 
 -- each of them begins at n or behind it
-covers_from : (n last : ℕ) (ps : List Payment) (j : ℕ) (q : Payment) → Covers n ps last → slice_get ps j ≡ Some q → n ≤ q.first_period
+covers_from : (n last : ℕ) (ps : List Payment) (j : ℕ) (q : Payment) → Covers n ps last → slice_get ps j ≡ Some q
+    → n ≤ q.first_period
 covers_from n last [] j q h e = absurd (nothing_at j q e)
 covers_from n last (p ∷ ps) zero q h e =
     let same = ap (λ (r : Payment). r.first_period) (same_Some p q e) in
@@ -47,13 +49,19 @@ pub record LiesFrom (n last : ℕ) (q : Payment) : Type 0 where
   pub order : q.first_period ≤ q.last_period
   pub high : q.last_period ≤ last
 
-pub covers_at : (n last : ℕ) (ps : List Payment) (j : ℕ) (q : Payment) → Covers n ps last → slice_get ps j ≡ Some q → LiesFrom n last q
+pub covers_at : (n last : ℕ) (ps : List Payment) (j : ℕ) (q : Payment) → Covers n ps last → slice_get ps j ≡ Some q
+    → LiesFrom n last q
 covers_at n last [] j q h e = absurd (nothing_at j q e)
 covers_at n last (p ∷ ps) zero q h e =
     let rest = covers_low (p.last_period + 1) last ps h.2 in
     let first = h.0 in
     let order = h.1 in
-    subst (LiesFrom n last) (same_Some p q e) (record { low = omega (arith, first); order = order; high = omega (arith, rest) })
+    subst (LiesFrom n last) (same_Some p q e) (record {
+      low = omega (arith, first);
+      order = order;
+      high =
+          omega (arith, rest);
+    })
 covers_at n last (p ∷ ps) (suc j) q h e =
     let rest = covers_at (p.last_period + 1) last ps j q h.2 e in
     let low = rest.low in
@@ -62,14 +70,16 @@ covers_at n last (p ∷ ps) (suc j) q h e =
     record { low = omega (arith, low, first, order); order = rest.order; high = rest.high }
 
 -- the periods of an earlier payment come before those of a later one
-pub covers_in_order : (n last : ℕ) (ps : List Payment) (i j : ℕ) (p q : Payment) → Covers n ps last → i < j → slice_get ps i ≡ Some p → slice_get ps j ≡ Some q → p.last_period < q.first_period
+pub covers_in_order : (n last : ℕ) (ps : List Payment) (i j : ℕ) (p q : Payment) → Covers n ps last → i < j
+    → slice_get ps i ≡ Some p → slice_get ps j ≡ Some q → p.last_period < q.first_period
 covers_in_order n last [] i j p q h less d e = absurd (nothing_at i p d)
 covers_in_order n last (r ∷ ps) i zero p q h less d e = absurd (omega (arith, less))
 covers_in_order n last (r ∷ ps) zero (suc j) p q h less d e =
     let same = ap (λ (x : Payment). x.last_period) (same_Some r p d) in
     let rest = covers_from (r.last_period + 1) last ps j q h.2 e in
     omega (arith, same, rest)
-covers_in_order n last (r ∷ ps) (suc i) (suc j) p q h less d e = covers_in_order (r.last_period + 1) last ps i j p q h.2 (omega (arith, less)) d e
+covers_in_order n last (r ∷ ps) (suc i) (suc j) p q h less d e =
+    covers_in_order (r.last_period + 1) last ps i j p q h.2 (omega (arith, less)) d e
 
 module _ (s : Stream) (b a : List ℤ) (rs : List Reset) where
   -- the first i payments with their amounts, where none of their periods leaves the range
@@ -83,15 +93,22 @@ module _ (s : Stream) (b a : List ℤ) (rs : List Reset) where
   none_paid ps = record { payments = refl; amounts = tt; bounds = tt; within = λ j q less e k x. omega (arith, less) }
 
   -- one more payment with its amount
-  pub one_more_paid : (ps : List Payment) (i : ℕ) (es : List PaymentEntry) (p : Payment) (y : PaymentEntry) → ArePaid ps i es → slice_get ps i ≡ Some p
-      → payment_of y ≡ p → IsAmountFor s b a rs p y.amount → HasAmount s.currency y → ((k : ℕ) → PassesIn s b a rs p k → ⊥) → ArePaid ps (i + 1) (es ++ y ∷ [])
+  pub one_more_paid : (ps : List Payment) (i : ℕ) (es : List PaymentEntry) (p : Payment) (y : PaymentEntry)
+      → ArePaid ps i es → slice_get ps i ≡ Some p
+      → payment_of y ≡ p → IsAmountFor s b a rs p y.amount → HasAmount s.currency y
+      → ((k : ℕ) → PassesIn s b a rs p k → ⊥) → ArePaid ps (i + 1) (es ++ y ∷ [])
   one_more_paid ps i es p y h there is amount bound within =
-      let longer : take (i + 1) ps ≡ take i ps ++ p ∷ [] = take_more ps i p (slice_get_within ps i p there) ∙ ap (λ (q : Payment). take i ps ++ q ∷ []) (get_or_from_slice_get ps i p p there) in
-      let pushed : take i ps ++ p ∷ [] ≡ map payment_of es ++ payment_of y ∷ [] = ap₂ (λ (qs : List Payment) (q : Payment). qs ++ q ∷ []) (sym h.payments) (sym is) in
-      let own : IsAmountFor s b a rs (payment_of y) y.amount = subst (λ (q : Payment). IsAmountFor s b a rs q y.amount) (sym is) amount in
+      let longer : take (i + 1) ps ≡ take i ps ++ p ∷ [] =
+      take_more ps i p (slice_get_within ps i p there)
+      ∙ ap (λ (q : Payment). take i ps ++ q ∷ []) (get_or_from_slice_get ps i p p there) in
+      let pushed : take i ps ++ p ∷ [] ≡ map payment_of es ++ payment_of y ∷ [] =
+      ap₂ (λ (qs : List Payment) (q : Payment). qs ++ q ∷ []) (sym h.payments) (sym is) in
+      let own : IsAmountFor s b a rs (payment_of y) y.amount =
+      subst (λ (q : Payment). IsAmountFor s b a rs q y.amount) (sym is) amount in
       record {
         payments = map-append payment_of es (y ∷ []) ∙ sym pushed ∙ sym longer;
-        amounts = every_both (λ (e : PaymentEntry). IsAmountFor s b a rs (payment_of e) e.amount) es (y ∷ []) h.amounts (own, tt);
+        amounts = every_both (λ (e : PaymentEntry). IsAmountFor s b a rs (payment_of e) e.amount) es (y ∷ []) h.amounts
+            (own, tt);
         bounds = every_both (HasAmount s.currency) es (y ∷ []) h.bounds (bound, tt);
         within = λ j q less e k x. elim (cases_lt j i) [
           | inl before ↦ h.within j q before e k x
@@ -103,16 +120,19 @@ module _ (s : Stream) (b a : List ℤ) (rs : List Reset) where
       }
 
   -- all payments with their amounts
-  pub all_paid : (ps : List Payment) (i : ℕ) (es : List PaymentEntry) → length ps ≤ i → ArePaid ps i es → map payment_of es ≡ ps
+  pub all_paid : (ps : List Payment) (i : ℕ) (es : List PaymentEntry) → length ps ≤ i → ArePaid ps i es
+      → map payment_of es ≡ ps
   all_paid ps i es le h = h.payments ∙ take_all i ps le
 
-  pub none_passes : (ps : List Payment) (i : ℕ) (es : List PaymentEntry) → length ps ≤ i → ArePaid ps i es → (k : ℕ) → PassesAt s b a rs ps k → ⊥
+  pub none_passes : (ps : List Payment) (i : ℕ) (es : List PaymentEntry) → length ps ≤ i → ArePaid ps i es → (k : ℕ)
+      → PassesAt s b a rs ps k → ⊥
   none_passes ps i es le h k x =
       let inside = slice_get_within ps x.number x.payment x.there in
       h.within x.number x.payment (omega (arith, inside, le)) x.there k x.within
 
   -- the first period of the next payment that leaves the range is the first of all
-  pub first_of_all : (ps : List Payment) (i : ℕ) (es : List PaymentEntry) (p : Payment) (last k : ℕ) → Covers 1 ps last → ArePaid ps i es → slice_get ps i ≡ Some p → PassesFirstIn s b a rs p k → PassesFirst s b a rs ps k
+  pub first_of_all : (ps : List Payment) (i : ℕ) (es : List PaymentEntry) (p : Payment) (last k : ℕ) → Covers 1 ps last
+      → ArePaid ps i es → slice_get ps i ≡ Some p → PassesFirstIn s b a rs p k → PassesFirst s b a rs ps k
   first_of_all ps i es p last k covers h there first = record {
     passes = record { number = i; payment = p; there = there; within = first.passes };
     none_before = λ m less x. elim (cases_lt x.number i) [

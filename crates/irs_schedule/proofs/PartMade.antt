@@ -44,7 +44,8 @@ part_made s l dated es = record {
   resets = dated.resets;
 }
 
-pub part_stands : (sets : StreamSets) (fix : RateTable) (s : Stream) (l : Layout) (dated : Dated) (es : List PaymentEntry) → 2 ≤ length l.unadjusted → IsKeptLayout sets s l → AreDated sets fix s l dated
+pub part_stands : (sets : StreamSets) (fix : RateTable) (s : Stream) (l : Layout) (dated : Dated)
+    (es : List PaymentEntry) → 2 ≤ length l.unadjusted → IsKeptLayout sets s l → AreDated sets fix s l dated
     → ArePaid s l.unadjusted l.adjusted dated.resets dated.payments es → IsPart sets fix s (part_made s l dated es)
 part_stands sets fix s l dated es some h d paid = record {
   currency = refl;
@@ -55,10 +56,13 @@ part_stands sets fix s l dated es some h d paid = record {
   unadjusted = refl;
   adjusted = refl;
   exchanges = d.exchanges;
-  payments = subst (λ (ps : List Payment). ArePayments s sets.payment l.unadjusted l.adjusted ps) (sym paid.payments) d.payments;
+  payments = subst (λ (ps : List Payment). ArePayments s sets.payment l.unadjusted l.adjusted ps)
+      (sym paid.payments) d.payments;
   amounts = paid.amounts;
-  count = let n = length_periods (kept_of s) l.unadjusted l.adjusted dated.resets in let same = h.adjusted.same_length in omega (arith, n, same, some);
-  periods = entries_stand s (kept_of s) l.unadjusted l.adjusted dated.resets refl h.rises (let same = h.adjusted.same_length in omega (arith, same, some));
+  count = let n = length_periods (kept_of s) l.unadjusted l.adjusted dated.resets in
+      let same = h.adjusted.same_length in omega (arith, n, same, some);
+  periods = entries_stand s (kept_of s) l.unadjusted l.adjusted dated.resets refl h.rises (let same =
+      h.adjusted.same_length in omega (arith, same, some));
   resets = d.resets;
 }
 
@@ -69,9 +73,13 @@ pub record ReachDays (sets : StreamSets) : Type 0 where
   pub fixing : InRange sets.fixing
 
 -- what was worked out for a stream makes its part
-pub makes_part : (sets : StreamSets) (fix : RateTable) (s : Stream) (l : Layout) (d : Dated) (es : List PaymentEntry) (terms : KeptTerms)
-    → terms ≡ kept_of s → IsLawfulStream s → StepsRise s.notional.steps → LegStepsRise s.leg → ReachDays sets → AreDays l.unadjusted → AreDays l.adjusted
-    → 2 ≤ length l.unadjusted → IsKeptLayout sets s l → AreDated sets fix s l d → ArePaid s l.unadjusted l.adjusted d.resets d.payments es → MakePart terms l.unadjusted l.adjusted d.exchanges es d.resets
+pub makes_part : (sets : StreamSets) (fix : RateTable) (s : Stream) (l : Layout) (d : Dated) (es : List PaymentEntry)
+    (terms : KeptTerms)
+    → terms ≡ kept_of s → IsLawfulStream s → StepsRise s.notional.steps → LegStepsRise s.leg → ReachDays sets
+    → AreDays l.unadjusted → AreDays l.adjusted
+    → 2 ≤ length l.unadjusted → IsKeptLayout sets s l → AreDated sets fix s l d
+    → ArePaid s l.unadjusted l.adjusted d.resets d.payments es
+    → MakePart terms l.unadjusted l.adjusted d.exchanges es d.resets
 makes_part sets fix s l d es terms e lawful notional_rises leg_rises reach days moved some laid dated paid =
     let last = length l.unadjusted - 1 in
     let count = resets_by_leg sets s l fix d.resets dated.resets in
@@ -93,7 +101,9 @@ makes_part sets fix s l d es terms e lawful notional_rises leg_rises reach days 
       exchange_days = exchanges_dated s sets.payment d.exchanges lawful reach.payment dated.exchanges;
       covers = covers_paid 1 last es (subst (λ (ps : List Payment). Covers 1 ps last) (sym paid.payments) dated.covers);
       paid = paid.bounds;
-      payment_days = payments_dated s sets.payment l.unadjusted l.adjusted es reach.payment days moved (subst (ArePayments s sets.payment l.unadjusted l.adjusted) (sym paid.payments) dated.payments);
+      payment_days =
+          payments_dated s sets.payment l.unadjusted l.adjusted es reach.payment days moved
+          (subst (ArePayments s sets.payment l.unadjusted l.adjusted) (sym paid.payments) dated.payments);
       resets_count = subst R laid.adjusted.same_length count;
       observed = every_all HasSmallRate d.resets dated.small;
       reset_days = resets_dated (resets_over sets s l) fix d.resets reach.reset reach.fixing moved dated.resets;

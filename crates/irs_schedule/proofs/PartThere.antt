@@ -13,7 +13,8 @@ use Rattle.irs_payments.specs.Payments.{ArePayments}
 use Rattle.irs_resets.specs.Rates.{RateTable}
 use Rattle.irs_resets.specs.Resets.{IsResets}
 use Rattle.irs_rules.specs.TermsRules.{BreaksTerms}
-use Rattle.irs_schedule.specs.DatedRules.{DatedKept, StreamKept, in_exchanges, in_payments, in_periods, in_resets, in_span, resets_over}
+use Rattle.irs_schedule.specs.DatedRules.{DatedKept, StreamKept, in_exchanges, in_payments, in_periods, in_resets}
+use Rattle.irs_schedule.specs.DatedRules.{in_span, resets_over}
 use Rattle.irs_schedule.specs.DaySets.{StreamSets, stream_sets}
 use Rattle.irs_schedule.specs.KeptTerms.{is_floating}
 use Rattle.irs_schedule.specs.declared.layouts.Layout.{Layout}
@@ -32,7 +33,8 @@ use Rattle.irs_schedule.proofs.StreamRanges.{AreInRange, sets_in_range}
 use Rattle.irs_rules.proofs.Kept.{lawful_stream, terms_kept}
 use Rattle.irs_schedule.proofs.TermsThere.{amounts_there, entries_there}
 
-module _ (cal : List Section) (sets : StreamSets) (fix : RateTable) (s : Stream) (lawful : IsLawfulStream s) (terms : TermsKept cal s) (ranges : AreInRange sets) (kept : StreamKept sets fix s) where
+module _ (cal : List Section) (sets : StreamSets) (fix : RateTable) (s : Stream) (lawful : IsLawfulStream s)
+    (terms : TermsKept cal s) (ranges : AreInRange sets) (kept : StreamKept sets fix s) where
   exchanges_by : (xs : List Exchange) × AreExchanges s sets.payment xs
   exchanges_by = exchanges_there s sets.payment lawful ranges.payment (kept in_exchanges)
 
@@ -50,16 +52,24 @@ module _ (cal : List Section) (sets : StreamSets) (fix : RateTable) (s : Stream)
 
     resets_by : (rs : List Reset) × IsResets (resets_over sets s l) fix rs
     resets_by = resets_there (resets_over sets s l) fix
-        (record { adjusted = layout_adjusted_days cal sets s lawful terms l is ranges; reset_set = ranges.reset; fixing_set = ranges.fixing })
-        terms.legs terms.said_reset (λ f breaks. kept in_resets f (record { layout = l; is_layout = layout_is sets s l is; breaks = breaks }))
+        (record {
+          adjusted = layout_adjusted_days cal sets s lawful terms l is ranges;
+          reset_set =
+              ranges.reset;
+          fixing_set = ranges.fixing;
+        })
+        terms.legs terms.said_reset
+        (λ f breaks. kept in_resets f (record { layout = l; is_layout = layout_is sets s l is; breaks = breaks }))
 
     -- the part with these payments, resets and exchanges
-    part_over : (ps : List Payment) → ArePayments s sets.payment l.unadjusted l.adjusted ps → (rs : List Reset) → IsResets (resets_over sets s l) fix rs
+    part_over : (ps : List Payment) → ArePayments s sets.payment l.unadjusted l.adjusted ps → (rs : List Reset)
+        → IsResets (resets_over sets s l) fix rs
         → (xs : List Exchange) → AreExchanges s sets.payment xs → (p : Part) × IsPart sets fix s p
     part_over ps are_payments rs are_resets xs are_exchanges =
         let some = layout_some cal sets s lawful terms l is in
         let same_length = is.adjusted.same_length in
-        let paid = amounts_there s l.unadjusted l.adjusted rs is.rises (layout_adjusted_days cal sets s lawful terms l is ranges) 1 (length l.unadjusted - 1) ps (omega arith)
+        let paid = amounts_there s l.unadjusted l.adjusted rs is.rises
+        (layout_adjusted_days cal sets s lawful terms l is ranges) 1 (length l.unadjusted - 1) ps (omega arith)
         (layout_covers cal sets s lawful terms l is ps are_payments) (omega (arith, some, same_length)) in
         let periods = entries_there s l.unadjusted l.adjusted rs is.rises (omega (arith, some, same_length)) in (
           record {
@@ -82,7 +92,8 @@ module _ (cal : List Section) (sets : StreamSets) (fix : RateTable) (s : Stream)
             unadjusted = refl;
             adjusted = refl;
             exchanges = are_exchanges;
-            payments = subst (λ (qs : List Payment). ArePayments s sets.payment l.unadjusted l.adjusted qs) (sym paid.1) are_payments;
+            payments = subst (λ (qs : List Payment). ArePayments s sets.payment l.unadjusted l.adjusted qs)
+                (sym paid.1) are_payments;
             amounts = paid.2;
             count = let count = periods.1 in omega (arith, count, same_length);
             periods = periods.2;
@@ -104,11 +115,15 @@ module _ (cal : List Section) (sets : StreamSets) (fix : RateTable) (s : Stream)
       part_on l.0 l.1
 
 -- a lawful stream that keeps its terms and breaks no rule of dates and amounts has its part
-pub part_there : (cal : List Section) (fix : RateTable) (s : Stream) → IsLawfulStream s → TermsKept cal s → StreamKept (stream_sets cal s) fix s → (p : Part) × IsPart (stream_sets cal s) fix s p
+pub part_there : (cal : List Section) (fix : RateTable) (s : Stream) → IsLawfulStream s → TermsKept cal s
+    → StreamKept (stream_sets cal s) fix s → (p : Part) × IsPart (stream_sets cal s) fix s p
 part_there cal fix s lawful terms kept = part_by cal (stream_sets cal s) fix s lawful terms (sets_in_range cal s) kept
 
 -- a lawful swap that breaks no rule of its terms, and none of dates and amounts, has a schedule
-pub schedule_there : (swap : Swap) (cal : List Section) (fix : RateTable) → IsLawful swap → ((f : Broken) → BreaksTerms swap cal f → ⊥) → DatedKept swap cal fix → (parts : List Part) × IsSchedule swap cal fix parts
+pub schedule_there : (swap : Swap) (cal : List Section) (fix : RateTable) → IsLawful swap
+    → ((f : Broken) → BreaksTerms swap cal f → ⊥) → DatedKept swap cal fix
+    → (parts : List Part) × IsSchedule swap cal fix parts
 schedule_there swap cal fix lawful unbroken kept =
     pairs_there (λ s p. IsPart (stream_sets cal s) fix s p) swap.streams (λ i s there.
-    part_there cal fix s (lawful_stream swap lawful i s there) (terms_kept swap cal lawful unbroken i s there) (kept i s there))
+    part_there cal fix s (lawful_stream swap lawful i s there) (terms_kept swap cal lawful unbroken i s there)
+    (kept i s there))

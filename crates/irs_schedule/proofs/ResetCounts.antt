@@ -13,10 +13,12 @@ use Rattle.irs_schedule.specs.KeptTerms.{is_floating}
 use Rattle.irs_schedule.specs.declared.layouts.Layout.{Layout}
 
 module _ (sets : StreamSets) (s : Stream) (l : Layout) (fix : RateTable) (rows : List Reset) where
-  by_leg : (leg : Leg) → many_by (resets_over sets s l) fix rows leg ≡ (if is_floating leg then length l.adjusted - 1 else 0)
+  by_leg : (leg : Leg) → many_by (resets_over sets s l) fix rows leg
+      ≡ (if is_floating leg then length l.adjusted - 1 else 0)
   by_leg (Fixed values) = refl
   by_leg (Floating float) = refl
 
   -- one for each period where it floats, none where its rate is fixed
-  pub resets_by_leg : IsResets (resets_over sets s l) fix rows → length rows ≡ (if is_floating s.leg then length l.adjusted - 1 else 0)
+  pub resets_by_leg : IsResets (resets_over sets s l) fix rows
+      → length rows ≡ (if is_floating s.leg then length l.adjusted - 1 else 0)
   resets_by_leg has = resets_count (resets_over sets s l) fix rows has ∙ by_leg s.leg

@@ -1,5 +1,6 @@
 -- The terms and the entry of each period are there, and so is the amount of each payment.
-use Rattle.std.proofs.Common.{◌≡◌, ℕ, ◌+◌, ◌-◌, ◌<◌, ◌≤◌, ◌==◌, List, [], ◌∷◌, length, map, Option, Some, None, ℤ, ◌<ℤ◌, arith, refl, ap}
+use Rattle.std.proofs.Common.{◌≡◌, ℕ, ◌+◌, ◌-◌, ◌<◌, ◌≤◌, ◌==◌, List, [], ◌∷◌, length, map, Option, Some, None, ℤ, ◌<ℤ◌}
+use Rattle.std.proofs.Common.{arith, refl, ap}
 use Rattle.std.proofs.lemmas.List.Elements.{All-nil, All-cons}
 use Rattle.irs_base.specs.declared.line.Dec.{Dec}
 use Rattle.irs_base.specs.DayLists.{AreDays}
@@ -26,9 +27,11 @@ use Rattle.irs_base.specs.Members.{EachNumbered, Every, day_at}
 use Rattle.irs_base.proofs.MemberLemmas.{numbered_there}
 
 -- periods with fractions of day counts have an amount, which is absent where the rate of one of them is
-amount_by : (s : Stream) (ts : List PeriodTerm) (m : Option ℤ) → AmountOf s.compounding ts (decimals_of s.currency.letters) m → (x : Option Dec) × IsAmountBy s ts x
+amount_by : (s : Stream) (ts : List PeriodTerm) (m : Option ℤ)
+    → AmountOf s.compounding ts (decimals_of s.currency.letters) m → (x : Option Dec) × IsAmountBy s ts x
 amount_by s ts None absent = (None, absent)
-amount_by s ts (Some units) pays = (Some (record { units = units; places = decimals_of s.currency.letters }), (refl, pays))
+amount_by s ts (Some units) pays =
+    (Some (record { units = units; places = decimals_of s.currency.letters }), (refl, pays))
 
 covers_on : (n last : ℕ) (ps : List Payment) → Covers n ps last → n ≤ last + 1
 covers_on n last [] h = omega (arith, h)
@@ -50,30 +53,38 @@ module _ (s : Stream) (b a : List ℤ) (rs : List Reset) (rising : IsRising a) w
   entry_there i low high = (period_by (kept_of s) b a rs i, entry_stands s b a rs i rising low high)
 
   -- what a schedule says of all the periods
-  pub entries_there : 1 ≤ length a → (es : List PeriodEntry) × (length es + 1 ≡ length a) × EachNumbered (IsPeriodEntry s b a rs) 1 es
+  pub entries_there : 1 ≤ length a → (es : List PeriodEntry) × (length es + 1 ≡ length a)
+      × EachNumbered (IsPeriodEntry s b a rs) 1 es
   entries_there some =
-      let es = numbered_there (IsPeriodEntry s b a rs) (length a - 1) 1 (λ i low high. entry_there i low (omega (arith, high, low))) in
+      let es = numbered_there (IsPeriodEntry s b a rs) (length a - 1) 1
+      (λ i low high. entry_there i low (omega (arith, high, low))) in
       (es.0, omega (arith, es.1, some), es.2)
 
   -- the terms of the periods of a payment
-  pub terms_there : (p : Payment) → 1 ≤ p.first_period → p.first_period ≤ p.last_period → p.last_period < length a → (ts : List PeriodTerm) × AreTerms s b a rs p ts
+  pub terms_there : (p : Payment) → 1 ≤ p.first_period → p.first_period ≤ p.last_period → p.last_period < length a
+      → (ts : List PeriodTerm) × AreTerms s b a rs p ts
   terms_there p low order high =
-      let ts = numbered_there (IsPeriodTerm s b a rs) (p.last_period + 1 - p.first_period) p.first_period (λ i from to. term_there i (omega (arith, low, from)) (omega (arith, order, high, to))) in
+      let ts = numbered_there (IsPeriodTerm s b a rs) (p.last_period + 1 - p.first_period) p.first_period
+      (λ i from to. term_there i (omega (arith, low, from)) (omega (arith, order, high, to))) in
       (ts.0, record { count = omega (arith, ts.1, order); each = ts.2 })
 
   module _ (days : AreDays a) where
     term_fits : (i : ℕ) (t : PeriodTerm) → 1 ≤ i → i < length a → IsPeriodTerm s b a rs i t → IsFraction t.frac
     term_fits i t low high h =
-        fraction_is_fit s.day_count (day_at a (i - 1)) (day_at a i) (i == length a - 1) t.frac (day_of_days a (i - 1) days (omega (arith, high))) (day_of_days a i days high) (in_order i low high) h.frac
+        fraction_is_fit s.day_count (day_at a (i - 1)) (day_at a i) (i == length a - 1) t.frac
+        (day_of_days a (i - 1) days (omega (arith, high))) (day_of_days a i days high) (in_order i low high) h.frac
 
     -- the fractions of periods between days that rise are those of a day count
-    pub terms_fit : (n : ℕ) (ts : List PeriodTerm) → 1 ≤ n → n + length ts ≤ length a → EachNumbered (IsPeriodTerm s b a rs) n ts → AllFractions ts
+    pub terms_fit : (n : ℕ) (ts : List PeriodTerm) → 1 ≤ n → n + length ts ≤ length a
+        → EachNumbered (IsPeriodTerm s b a rs) n ts → AllFractions ts
     terms_fit n [] low high h = All-nil (λ (t : PeriodTerm). IsFraction t.frac)
     terms_fit n (t ∷ ts) low high h =
-        All-cons (λ (u : PeriodTerm). IsFraction u.frac) t ts (term_fits n t low (omega (arith, high)) h.0) (terms_fit (n + 1) ts (omega arith) (omega (arith, high)) h.1)
+        All-cons (λ (u : PeriodTerm). IsFraction u.frac) t ts (term_fits n t low (omega (arith, high)) h.0)
+        (terms_fit (n + 1) ts (omega arith) (omega (arith, high)) h.1)
 
     -- the amount of a payment, present or absent
-    pub amount_there : (p : Payment) → 1 ≤ p.first_period → p.first_period ≤ p.last_period → p.last_period < length a → (x : Option Dec) × IsAmountFor s b a rs p x
+    pub amount_there : (p : Payment) → 1 ≤ p.first_period → p.first_period ≤ p.last_period → p.last_period < length a
+        → (x : Option Dec) × IsAmountFor s b a rs p x
     amount_there p low order high =
         let ts = terms_there p low order high in
         let fits = terms_fit p.first_period ts.0 low (let count = ts.1.count in omega (arith, count, high)) ts.1.each in
@@ -82,7 +93,9 @@ module _ (s : Stream) (b a : List ℤ) (rs : List Reset) (rising : IsRising a) w
         (x.0, record { terms = ts.0; are_terms = ts.1; is_amount = x.1 })
 
     -- payments that cover the periods from n on, each with its amount
-    pub amounts_there : (n last : ℕ) (ps : List Payment) → 1 ≤ n → Covers n ps last → last < length a → (ys : List PaymentEntry) × (map payment_of ys ≡ ps) × Every (λ y. IsAmountFor s b a rs (payment_of y) y.amount) ys
+    pub amounts_there : (n last : ℕ) (ps : List Payment) → 1 ≤ n → Covers n ps last → last < length a
+        → (ys : List PaymentEntry) × (map payment_of ys ≡ ps)
+        × Every (λ y. IsAmountFor s b a rs (payment_of y) y.amount) ys
     amounts_there n last [] low covers high = ([], refl, tt)
     amounts_there n last (p ∷ ps) low covers high =
         let begins = covers.0 in
@@ -90,5 +103,13 @@ module _ (s : Stream) (b a : List ℤ) (rs : List Reset) (rising : IsRising a) w
         let on = covers_on (p.last_period + 1) last ps covers.2 in
         let x = amount_there p (omega (arith, begins, low)) order (omega (arith, on, high)) in
         let rest = amounts_there (p.last_period + 1) last ps (omega arith) covers.2 high in
-        let y : PaymentEntry = record { unadjusted = p.unadjusted; adjusted = p.adjusted; first_period = p.first_period; last_period = p.last_period; amount = x.0 } in
+        let y : PaymentEntry =
+        record {
+          unadjusted = p.unadjusted;
+          adjusted = p.adjusted;
+          first_period = p.first_period;
+          last_period =
+              p.last_period;
+          amount = x.0;
+        } in
         (y ∷ rest.0, ap (λ (qs : List Payment). p ∷ qs) rest.1, (x.1, rest.2))

@@ -6,7 +6,8 @@ use Rattle.irs_schedule.specs.Parts.{Part}
 use Rattle.irs_schedule.specs.PeriodViews.{period_at, dated_period}
 use Rattle.irs_schedule.specs.RowsOf.{no_period}
 
-pub period_is : (p : Part) (j : ℕ) → j < length p.periods → period_at p j ≡ Some (dated_period p (j + 1) (slice_index_or p.periods (j + 1 - 1) no_period))
+pub period_is : (p : Part) (j : ℕ) → j < length p.periods
+    → period_at p j ≡ Some (dated_period p (j + 1) (slice_index_or p.periods (j + 1 - 1) no_period))
 period_is p j h =
     let back : j + 1 - 1 ≡ j = omega arith in
     let there = slice_get-get_or p.periods j no_period h in

@@ -14,17 +14,27 @@ append_nil : {X : Type 0} (xs : List X) → xs ++ [] ≡ xs
 append_nil [] = refl
 append_nil (x ∷ xs) = ap (λ ys. x ∷ ys) (append_nil xs)
 
-pub at_reset : (k : ℕ) (p : Part) (i e j : ℕ) (xs : List Exchange) (m : ℕ) (ys : List PaymentEntry) → walk_left k p true i e j xs m ys ≡ reset_row k p (i - 1) ∷ walk_left k p false i e j xs m ys
+pub at_reset : (k : ℕ) (p : Part) (i e j : ℕ) (xs : List Exchange) (m : ℕ) (ys : List PaymentEntry)
+    → walk_left k p true i e j xs m ys ≡ reset_row k p (i - 1) ∷ walk_left k p false i e j xs m ys
 at_reset k p i e j xs m ys = refl
 
-pub at_period : (k : ℕ) (p : Part) (i e j : ℕ) (xs : List Exchange) (m : ℕ) (ys : List PaymentEntry) → i < e → walk_left k p false i e j xs m ys ≡ period_row k p i ∷ walk_left k p p.floating (i + 1) e j xs m ys
+pub at_period : (k : ℕ) (p : Part) (i e j : ℕ) (xs : List Exchange) (m : ℕ) (ys : List PaymentEntry) → i < e
+    → walk_left k p false i e j xs m ys ≡ period_row k p i ∷ walk_left k p p.floating (i + 1) e j xs m ys
 at_period k p i e j xs m ys h = let back : i + 1 - 1 ≡ i = omega arith in rw (range_first i e h, back) refl
 
-pub at_exchange : (k : ℕ) (p : Part) (i e j : ℕ) (x : Exchange) (xs : List Exchange) (m : ℕ) (ys : List PaymentEntry) → e ≤ i → walk_left k p false i e j (x ∷ xs) m ys ≡ exchange_row k (j, x) ∷ walk_left k p false i e (j + 1) xs m ys
+pub at_exchange : (k : ℕ) (p : Part) (i e j : ℕ) (x : Exchange) (xs : List Exchange) (m : ℕ) (ys : List PaymentEntry)
+    → e ≤ i → walk_left k p false i e j (x ∷ xs) m ys ≡ exchange_row k (j, x) ∷ walk_left k p false i e (j + 1) xs m ys
 at_exchange k p i e j x xs m ys h = let none : e - i ≡ 0 = omega arith in rw none refl
 
-pub at_payment : (k : ℕ) (p : Part) (i e j m : ℕ) (y : PaymentEntry) (ys : List PaymentEntry) → e ≤ i → walk_left k p false i e j [] m (y ∷ ys) ≡ payment_row k m y ∷ walk_left k p false y.first_period (y.last_period + 1) j [] (m + 1) ys
-at_payment k p i e j m y ys h = let none : e - i ≡ 0 = omega arith in rw (none, append_nil (flat_map (period_rows k p) (range_with_len y.first_period (y.last_period + 1 - y.first_period)))) refl
+pub at_payment : (k : ℕ) (p : Part) (i e j m : ℕ) (y : PaymentEntry) (ys : List PaymentEntry) → e ≤ i
+    → walk_left k p false i e j [] m (y ∷ ys) ≡ payment_row k m y
+    ∷ walk_left k p false y.first_period (y.last_period + 1) j [] (m + 1) ys
+at_payment k p i e j m y ys h = let none : e - i ≡ 0 = omega arith in
+    rw (
+      none,
+      append_nil
+          (flat_map (period_rows k p) (range_with_len y.first_period (y.last_period + 1 - y.first_period))),
+    ) refl
 
 pub at_end : (k : ℕ) (p : Part) (i e j m : ℕ) → e ≤ i → walk_left k p false i e j [] m [] ≡ []
 at_end k p i e j m h = let none : e - i ≡ 0 = omega arith in rw none refl

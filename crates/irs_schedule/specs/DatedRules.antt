@@ -126,5 +126,6 @@ pub record DatedBroken (swap : Swap) (cal : List Section) (fix : RateTable) (x :
   pub there : slice_get swap.streams position ≡ Some stream
   pub fault : Fault
   pub breaks : StreamBroken (stream_sets cal stream) fix stream fault
-  pub kept_before : (i : ℕ) (s : Stream) → i < position → slice_get swap.streams i ≡ Some s → StreamKept (stream_sets cal s) fix s
+  pub kept_before : (i : ℕ) (s : Stream) → i < position → slice_get swap.streams i ≡ Some s
+      → StreamKept (stream_sets cal s) fix s
   pub is : x ≡ in_stream (position + 1) fault

@@ -48,4 +48,11 @@ pub record StreamSets : Type 0 where
 
 -- those of the centres that its elements name
 abbrev pub stream_sets : List Section → Stream → StreamSets
-stream_sets cal s = record { boundaries = boundary_days cal s; payment = payment_days cal s; reset = reset_days cal s; fixing = fixing_days cal s }
+stream_sets cal s =
+    record {
+      boundaries = boundary_days cal s;
+      payment = payment_days cal s;
+      reset = reset_days cal s;
+      fixing =
+          fixing_days cal s;
+    }

@@ -1,4 +1,5 @@
--- What a part is made of, and what it keeps: the bounds of what is seen, and those of the values that its periods are worked out of.
+-- What a part is made of, and what it keeps: the bounds of what is seen, and those of the values that its periods
+-- are worked out of.
 use Rattle.std.specs.Prelude.{◌≡◌, ◌+◌, ◌-◌, ◌≤◌, List, length, IfSome, ℤ, if◌then◌else◌}
 use Rattle.irs_base.specs.Limits.{most_exchanges, most_periods}
 use Rattle.irs_base.specs.Members.{Every}
@@ -10,11 +11,13 @@ use Rattle.irs_schedule.specs.declared.entries.PaymentEntry.{PaymentEntry}
 use Rattle.irs_schedule.specs.declared.kept_terms.KeptTerms.{KeptTerms}
 use Rattle.irs_schedule.specs.declared.streams.StreamPart.TheInside.{Inside}
 use Rattle.irs_schedule.specs.KeptTerms.{is_floating}
-use Rattle.irs_schedule.specs.Parts.{Covers, HasAmount, IsAmount, IsDatedExchange, IsDatedPayment, IsDatedReset, KeepsBounds, Rises}
+use Rattle.irs_schedule.specs.Parts.{Covers, HasAmount, IsAmount, IsDatedExchange, IsDatedPayment, IsDatedReset}
+use Rattle.irs_schedule.specs.Parts.{KeepsBounds, Rises}
 use Rattle.irs_schedule.specs.Views.{part_of}
 
 -- boundaries, exchanges, payments and resets that make a part by lawful terms, whose schedules of steps rise
-pub record MakePart (terms : KeptTerms) (unadjusted adjusted : List ℤ) (exchanges : List Exchange) (payments : List PaymentEntry) (resets : List Reset) : Type 0 where
+pub record MakePart (terms : KeptTerms) (unadjusted adjusted : List ℤ) (exchanges : List Exchange)
+    (payments : List PaymentEntry) (resets : List Reset) : Type 0 where
   pub currency : IsLawfulCurrency terms.currency
   pub notional : IsLawfulValues IsNotional terms.notional
   pub leg : IsLawfulLeg terms.leg

@@ -10,7 +10,8 @@ use Rattle.irs_schedule.specs.Schedules.{payment_of}
 use Rattle.irs_base.specs.Members.{Every}
 
 -- each payment has its amount, which lies within the bounds, and no period leaves its range
-pub record ArePaid (s : Stream) (b a : List ℤ) (rs : List Reset) (ps : List Payment) (es : List PaymentEntry) : Type 0 where
+pub record ArePaid (s : Stream) (b a : List ℤ) (rs : List Reset) (ps : List Payment)
+    (es : List PaymentEntry) : Type 0 where
   pub payments : map payment_of es ≡ ps
   pub amounts : Every (λ y. IsAmountFor s b a rs (payment_of y) y.amount) es
   pub bounds : Every (HasAmount s.currency) es

@@ -1,5 +1,6 @@
 -- What is seen of a schedule: a list of parts, one a stream, and the bounds that each part keeps.
-use Rattle.std.specs.Prelude.{IfSome, unsigned_abs, ◌≡◌, ℕ, ◌+◌, ◌*◌, ◌^◌, ◌<◌, ◌≤◌, List, [], ◌∷◌, length, Bool, if◌then◌else◌, ℤ, pos, ◌<ℤ◌, ◌≤ℤ◌}
+use Rattle.std.specs.Prelude.{IfSome, unsigned_abs, ◌≡◌, ℕ, ◌+◌, ◌*◌, ◌^◌, ◌<◌, ◌≤◌, List, [], ◌∷◌, length, Bool}
+use Rattle.std.specs.Prelude.{if◌then◌else◌, ℤ, pos, ◌<ℤ◌, ◌≤ℤ◌}
 use Rattle.irs_base.specs.DayLists.{AreDays}
 use Rattle.irs_base.specs.Days.{IsDay}
 use Rattle.irs_base.specs.declared.line.Dec.{Dec}
@@ -41,7 +42,8 @@ Rises (x ∷ xs) = RisesFrom x xs
 -- the payments cover the periods from this one to the last, in order: each begins behind the one before it
 abbrev pub Covers : ℕ → List PaymentEntry → ℕ → Type 0
 Covers next [] last = next ≡ last + 1
-Covers next (p ∷ ps) last = (p.first_period ≡ next) × (p.first_period ≤ p.last_period) × Covers (p.last_period + 1) ps last
+Covers next (p ∷ ps) last =
+    (p.first_period ≡ next) × (p.first_period ≤ p.last_period) × Covers (p.last_period + 1) ps last
 
 -- the code of a currency: three capital letters
 pub record IsCode (currency : Currency) : Type 0 where

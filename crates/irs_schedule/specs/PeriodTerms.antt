@@ -1,6 +1,7 @@
 -- What is worked out for the calculation periods of a stream, and the amounts of its payments.
 -- Periods are counted from 1. b are the unadjusted boundaries, a the adjusted ones, rs the resets.
-use Rattle.std.specs.Prelude.{◌≡◌, ℕ, ◌+◌, ◌-◌, ◌==◌, ◌<◌, ◌≤◌, All, List, length, Option, Some, None, option_map, slice_get, ℤ}
+use Rattle.std.specs.Prelude.{◌≡◌, ℕ, ◌+◌, ◌-◌, ◌==◌, ◌<◌, ◌≤◌, All, List, length, Option, Some, None, option_map}
+use Rattle.std.specs.Prelude.{slice_get, ℤ}
 use Rattle.irs_base.specs.DayLists.{AreDays}
 use Rattle.irs_base.specs.Listed.{IsRising}
 use Rattle.irs_base.specs.declared.line.Dec.{Dec}
@@ -48,7 +49,9 @@ dec_of places units = record { units = units; places = places }
 -- its periods is
 abbrev pub IsAmountBy : Stream → List PeriodTerm → Option Dec → Type 0
 IsAmountBy s terms None = AmountOf s.compounding terms (decimals_of s.currency.letters) None
-IsAmountBy s terms (Some v) = (v.places ≡ decimals_of s.currency.letters) × AmountOf s.compounding terms (decimals_of s.currency.letters) (Some v.units)
+IsAmountBy s terms (Some v) =
+    (v.places ≡ decimals_of s.currency.letters)
+    × AmountOf s.compounding terms (decimals_of s.currency.letters) (Some v.units)
 
 -- the amount of a payment, by the terms of its periods
 pub record IsAmountFor (s : Stream) (b a : List ℤ) (rs : List Reset) (p : Payment) (amount : Option Dec) : Type 0 where

@@ -21,7 +21,8 @@ start_of boundaries i = day_at boundaries (i - 1)
 abbrev pub observed_of : List Reset → ℕ → Option ℤ
 observed_of resets i = option_and_then (λ r. r.observed) (slice_get resets (i - 1))
 
--- a period from its adjusted start to its adjusted end, by whether it is the last one, its unadjusted start and its observed rate
+-- a period from its adjusted start to its adjusted end, by whether it is the last one, its unadjusted start and its
+-- observed rate
 abbrev pub entry_by : KeptTerms → ℤ → ℤ → Bool → ℤ → Option ℤ → PeriodEntry
 entry_by terms from to last start observed = record {
   days = days_of terms.day_count from to last;
@@ -30,11 +31,14 @@ entry_by terms from to last start observed = record {
   rate = option_map (λ r. r.all_in) (rates_by terms.leg start observed);
 }
 
--- period i runs from adjusted boundary i - 1 to adjusted boundary i; notional and rate are those on its unadjusted start
+-- period i runs from adjusted boundary i - 1 to adjusted boundary i; notional and rate are those on its unadjusted
+-- start
 abbrev pub period_by : KeptTerms → List ℤ → List ℤ → List Reset → ℕ → PeriodEntry
 period_by terms unadjusted adjusted resets i =
-    entry_by terms (start_of adjusted i) (day_at adjusted i) (i == count_of adjusted) (start_of unadjusted i) (observed_of resets i)
+    entry_by terms (start_of adjusted i) (day_at adjusted i) (i == count_of adjusted) (start_of unadjusted i)
+    (observed_of resets i)
 
 -- the periods between adjusted boundaries
 abbrev pub periods_by : KeptTerms → List ℤ → List ℤ → List Reset → List PeriodEntry
-periods_by terms unadjusted adjusted resets = map (period_by terms unadjusted adjusted resets) (range_with_len 1 (count_of adjusted))
+periods_by terms unadjusted adjusted resets =
+    map (period_by terms unadjusted adjusted resets) (range_with_len 1 (count_of adjusted))

@@ -5,7 +5,8 @@ use Rattle.std.specs.List.{flat_map}
 use Rattle.irs_base.specs.Texts.{day_text, dec_text}
 use Rattle.irs_base.specs.declared.line.Dec.{Dec}
 use Rattle.irs_terms.specs.declared.codes.DayCountCode.{DayCountCode}
-use Rattle.irs_terms.specs.declared.codes.DayCountCode.TheVariants.{OneOne, ActActIsda, Act365Fixed, Act360, Thirty360, ThirtyE360, ThirtyE360Isda}
+use Rattle.irs_terms.specs.declared.codes.DayCountCode.TheVariants.{OneOne, ActActIsda, Act365Fixed, Act360, Thirty360}
+use Rattle.irs_terms.specs.declared.codes.DayCountCode.TheVariants.{ThirtyE360, ThirtyE360Isda}
 use Rattle.irs_schedule.specs.declared.row.Row.{Row}
 use Rattle.irs_schedule.specs.declared.row.Row.TheVariants.{Stream, Exchange, Payment, Period, Reset}
 use Rattle.irs_schedule.specs.Parts.{Part}
@@ -37,13 +38,22 @@ rate_or_dash (Some v) = dec_text v 9
 
 -- the fields of a line, behind one space each
 abbrev pub fields_of : Row → List ℕ
-fields_of (Stream k currency day_count floating) = codes "stream" ++ 32 ∷ decimal k ++ 32 ∷ currency.letters ++ 32 ∷ code_text day_count ++ 32 ∷ kind_text floating
-fields_of (Exchange k j unadjusted adjusted amount) = codes "x" ++ 32 ∷ decimal k ++ 32 ∷ decimal j ++ 32 ∷ day_text unadjusted ++ 32 ∷ day_text adjusted ++ 32 ∷ dec_text amount.units amount.places
-fields_of (Payment k j unadjusted adjusted first last amount) = codes "p" ++ 32 ∷ decimal k ++ 32 ∷ decimal j ++ 32 ∷ day_text unadjusted ++ 32 ∷ day_text adjusted ++ 32 ∷ decimal first ++ 32 ∷ decimal last ++ 32 ∷ dec_or_dash amount
+fields_of (Stream k currency day_count floating) =
+    codes "stream" ++ 32 ∷ decimal k ++ 32 ∷ currency.letters ++ 32 ∷ code_text day_count ++ 32 ∷ kind_text floating
+fields_of (Exchange k j unadjusted adjusted amount) =
+    codes "x" ++ 32 ∷ decimal k ++ 32 ∷ decimal j ++ 32 ∷ day_text unadjusted ++ 32 ∷ day_text adjusted
+    ++ 32 ∷ dec_text amount.units amount.places
+fields_of (Payment k j unadjusted adjusted first last amount) =
+    codes "p" ++ 32 ∷ decimal k ++ 32 ∷ decimal j ++ 32 ∷ day_text unadjusted ++ 32 ∷ day_text adjusted
+    ++ 32 ∷ decimal first ++ 32 ∷ decimal last ++ 32 ∷ dec_or_dash amount
 fields_of (Period k i start end adjusted_start adjusted_end days frac notional rate) =
-    codes "c" ++ 32 ∷ decimal k ++ 32 ∷ decimal i ++ 32 ∷ day_text start ++ 32 ∷ day_text end ++ 32 ∷ day_text adjusted_start ++ 32 ∷ day_text adjusted_end
-    ++ 32 ∷ signed_decimal days ++ 32 ∷ signed_decimal frac.num ++ 47 ∷ signed_decimal frac.den ++ 32 ∷ dec_text notional 4 ++ 32 ∷ rate_or_dash rate
-fields_of (Reset k i reset fixing observed) = codes "r" ++ 32 ∷ decimal k ++ 32 ∷ decimal i ++ 32 ∷ day_text reset ++ 32 ∷ day_text fixing ++ 32 ∷ rate_or_dash observed
+    codes "c" ++ 32 ∷ decimal k ++ 32 ∷ decimal i ++ 32 ∷ day_text start ++ 32 ∷ day_text end
+    ++ 32 ∷ day_text adjusted_start ++ 32 ∷ day_text adjusted_end
+    ++ 32 ∷ signed_decimal days ++ 32 ∷ signed_decimal frac.num ++ 47 ∷ signed_decimal frac.den
+    ++ 32 ∷ dec_text notional 4 ++ 32 ∷ rate_or_dash rate
+fields_of (Reset k i reset fixing observed) =
+    codes "r" ++ 32 ∷ decimal k ++ 32 ∷ decimal i ++ 32 ∷ day_text reset ++ 32 ∷ day_text fixing
+    ++ 32 ∷ rate_or_dash observed
 
 -- the line of a row, with its LF
 unfoldable pub row_text_of : Row → List ℕ

@@ -6,7 +6,8 @@ use Rattle.irs_schedule.specs.declared.entries.PaymentEntry.{PaymentEntry}
 use Rattle.irs_schedule.specs.declared.entries.PeriodEntry.{PeriodEntry}
 use Rattle.irs_terms.specs.declared.results.Reset.{Reset}
 use Rattle.irs_schedule.specs.declared.row.Row.{Row}
-use Rattle.irs_schedule.specs.declared.row.Row.TheVariants.{Stream, Exchange as ExchangeRow, Payment, Period, Reset as ResetRow}
+use Rattle.irs_schedule.specs.declared.row.Row.TheVariants.{Stream, Exchange as ExchangeRow, Payment, Period}
+use Rattle.irs_schedule.specs.declared.row.Row.TheVariants.{Reset as ResetRow}
 use Rattle.irs_schedule.specs.Parts.{Part}
 use Rattle.irs_schedule.specs.PeriodViews.{dated_period}
 use Rattle.irs_schedule.specs.declared.views.CalculationPeriod.{CalculationPeriod}
@@ -42,7 +43,9 @@ payment_row k j y = Payment k j y.unadjusted y.adjusted y.first_period y.last_pe
 
 -- a payment, and behind it its periods
 abbrev pub payment_rows : ℕ → Part → ℕ × PaymentEntry → List Row
-payment_rows k p y = payment_row k y.0 y.1 ∷ flat_map (period_rows k p) (range_with_len y.1.first_period (y.1.last_period + 1 - y.1.first_period))
+payment_rows k p y =
+    payment_row k y.0 y.1 ∷ flat_map (period_rows k p)
+    (range_with_len y.1.first_period (y.1.last_period + 1 - y.1.first_period))
 
 -- an exchange with its number
 abbrev pub exchange_row : ℕ → ℕ × Exchange → Row
@@ -54,7 +57,9 @@ stream_row k p = Stream k p.currency p.day_count p.floating
 
 -- a stream, then its exchanges, then its payments
 abbrev pub part_rows : ℕ × Part → List Row
-part_rows s = stream_row s.0 s.1 ∷ (map (exchange_row s.0) (enumerate_from 1 s.1.exchanges) ++ flat_map (payment_rows s.0 s.1) (enumerate_from 1 s.1.payments))
+part_rows s =
+    stream_row s.0 s.1 ∷ (map (exchange_row s.0) (enumerate_from 1 s.1.exchanges)
+    ++ flat_map (payment_rows s.0 s.1) (enumerate_from 1 s.1.payments))
 
 -- a stream has its own row, one for each exchange, and of each period at most those of a payment, of
 -- the period itself and of its reset

@@ -19,7 +19,14 @@ use Rattle.irs_base.specs.Members.{EachNumbered, Pairs, Every}
 
 -- the payment without its amount
 abbrev pub payment_of : PaymentEntry → Payment
-payment_of y = record { unadjusted = y.unadjusted; adjusted = y.adjusted; first_period = y.first_period; last_period = y.last_period }
+payment_of y =
+    record {
+      unadjusted = y.unadjusted;
+      adjusted = y.adjusted;
+      first_period = y.first_period;
+      last_period =
+          y.last_period;
+    }
 
 -- p is the part of the stream: every list and every field stands in its relation
 pub record IsPart (sets : StreamSets) (fix : RateTable) (s : Stream) (p : Part) : Type 0 where

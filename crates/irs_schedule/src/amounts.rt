@@ -8,7 +8,8 @@ ghost use Rattle.irs_payments.specs.Payments.{Covers};
 ghost use Rattle.irs_schedule.specs.DatedRules.{passed_at};
 ghost use Rattle.irs_schedule.specs.FirstPassed.{IsFirstPassed};
 ghost use Rattle.irs_schedule.specs.Parts.{HasAmount, IsAmount};
-ghost use Rattle.irs_schedule.specs.PeriodTerms.{IsPeriodTerm, AreTerms, IsAmountBy, IsAmountFor, NonePasses, PassesIn, PassesAt, PassesFirstIn, IsTable, dec_of};
+ghost use Rattle.irs_schedule.specs.PeriodTerms.{IsPeriodTerm, AreTerms, IsAmountBy, IsAmountFor, NonePasses, PassesIn};
+ghost use Rattle.irs_schedule.specs.PeriodTerms.{PassesAt, PassesFirstIn, IsTable, dec_of};
 ghost use Rattle.irs_base.specs.Faults.{IfBroken};
 ghost use Rattle.irs_schedule.specs.Schedules.{payment_of};
 ghost use Rattle.irs_base.specs.Members.{Every};
@@ -46,10 +47,14 @@ pub(crate) fn paid(
     requires table { IsTable table.now.unadjusted.now table.now.adjusted.now table.now.resets.now }
     requires covers { Covers 1 payments.now (length table.now.unadjusted.now - 1) }
     ensures payments { IfOk result (λ es. map payment_of es.items ≡ payments.now) }
-    ensures amounts { IfOk result (λ es. Every (λ y. IsAmountFor s.now table.now.unadjusted.now table.now.adjusted.now table.now.resets.now (payment_of y) y.amount) es.items) }
+    ensures amounts { IfOk result
+        (λ es. Every (λ y. IsAmountFor s.now table.now.unadjusted.now table.now.adjusted.now table.now.resets.now
+        (payment_of y) y.amount) es.items) }
     ensures bounds { IfOk result (λ es. Every (HasAmount s.now.currency) es.items) }
-    ensures within { IfOk result (λ _. (i : ℕ) → PassesAt s.now table.now.unadjusted.now table.now.adjusted.now table.now.resets.now payments.now i → ⊥) }
-    ensures broken { IfBroken result (IsFirstPassed s.now table.now.unadjusted.now table.now.adjusted.now table.now.resets.now payments.now) }
+    ensures within { IfOk result (λ _. (i : ℕ)
+        → PassesAt s.now table.now.unadjusted.now table.now.adjusted.now table.now.resets.now payments.now i → ⊥) }
+    ensures broken { IfBroken result
+        (IsFirstPassed s.now table.now.unadjusted.now table.now.adjusted.now table.now.resets.now payments.now) }
 {
     let mut entries = Vec::new(alloc);
     for payment in payments {
@@ -73,10 +78,15 @@ fn paid_by(
     requires some { payment.now.first_period ≤ payment.now.last_period }
     requires to_end { payment.now.last_period < length table.now.unadjusted.now }
     ensures payment { IfOk result (λ y. payment_of y ≡ payment.now) }
-    ensures amount { IfOk result (λ y. IsAmountFor s.now table.now.unadjusted.now table.now.adjusted.now table.now.resets.now payment.now y.amount) }
+    ensures amount { IfOk result
+        (λ y. IsAmountFor s.now table.now.unadjusted.now table.now.adjusted.now table.now.resets.now payment.now
+        y.amount) }
     ensures bound { IfOk result (HasAmount s.now.currency) }
-    ensures within { IfOk result (λ _. (i : ℕ) → PassesIn s.now table.now.unadjusted.now table.now.adjusted.now table.now.resets.now payment.now i → ⊥) }
-    ensures broken { IfBroken result (λ x. (i : ℕ) × PassesFirstIn s.now table.now.unadjusted.now table.now.adjusted.now table.now.resets.now payment.now i × (x ≡ passed_at i)) }
+    ensures within { IfOk result (λ _. (i : ℕ)
+        → PassesIn s.now table.now.unadjusted.now table.now.adjusted.now table.now.resets.now payment.now i → ⊥) }
+    ensures broken { IfBroken result (λ x. (i : ℕ)
+        × PassesFirstIn s.now table.now.unadjusted.now table.now.adjusted.now table.now.resets.now payment.now i
+        × (x ≡ passed_at i)) }
 {
     let terms = terms_of(alloc, s, table, payment)?;
     let amount = amount_of(s, &terms, payment.first_period)?;
@@ -108,7 +118,8 @@ fn amount_of(
     ensures amount { IfOk result (IsAmountBy s.now terms.now) }
     ensures bound { IfOk result (λ v. IfSome v (IsAmount s.now.currency)) }
     ensures within { IfOk result (λ _. NonePasses s.now.compounding terms.now) }
-    ensures broken { IfBroken result (λ f. (n : ℕ) × IsFirstOut s.now.compounding terms.now n × (f ≡ passed_at (first_period + n - 1))) }
+    ensures broken { IfBroken result (λ f. (n : ℕ) × IsFirstOut s.now.compounding terms.now n
+        × (f ≡ passed_at (first_period + n - 1))) }
 {
     let places = s.currency.places();
     match payment_amount(s.compounding, terms, places) {
@@ -148,7 +159,9 @@ fn terms_of(
     requires from_one { 1 ≤ payment.now.first_period }
     requires some { payment.now.first_period ≤ payment.now.last_period }
     requires to_end { payment.now.last_period < length table.now.unadjusted.now }
-    ensures { IfOk result (λ ts. AreTerms s.now table.now.unadjusted.now table.now.adjusted.now table.now.resets.now payment.now ts.items) }
+    ensures { IfOk result
+        (λ ts. AreTerms s.now table.now.unadjusted.now table.now.adjusted.now table.now.resets.now payment.now
+        ts.items) }
 {
     let mut terms = Vec::new(alloc);
     for number in payment.first_period..payment.last_period + 1 {

@@ -44,9 +44,11 @@ pub fn make_schedule(
     ensures broken { IfBroken result (DatedBroken swap.now cal.now fix.now) }
     // At every exit: where no rule is broken there is a schedule, and only one.
     ensures exists { DatedKept swap.now cal.now fix.now → (s : List Part) × IsSchedule swap.now cal.now fix.now s }
-    ensures one { DatedKept swap.now cal.now fix.now → (s t : List Part) → IsSchedule swap.now cal.now fix.now s → IsSchedule swap.now cal.now fix.now t → s ≡ t }
+    ensures one { DatedKept swap.now cal.now fix.now → (s t : List Part) → IsSchedule swap.now cal.now fix.now s
+        → IsSchedule swap.now cal.now fix.now t → s ≡ t }
     // And at most one broken rule comes first.
-    ensures one_broken { (x y : BrokenRule) → DatedBroken swap.now cal.now fix.now x → DatedBroken swap.now cal.now fix.now y → x ≡ y }
+    ensures one_broken { (x y : BrokenRule) → DatedBroken swap.now cal.now fix.now x
+        → DatedBroken swap.now cal.now fix.now y → x ≡ y }
 {
     schedule_of(alloc, swap, cal, fix)
 }
@@ -104,7 +106,8 @@ fn numbered_part(
     ensures ok { IfOk result (IsPart (sets_of days.now) fix.now s.now) }
     ensures bounds { IfOk result KeepsBounds }
     ensures unbroken { IfOk result (λ _. StreamKept (sets_of days.now) fix.now s.now) }
-    ensures broken { IfBroken result (λ x. (f : FaultRecord) × StreamBroken (sets_of days.now) fix.now s.now f × (x ≡ in_stream number f)) }
+    ensures broken { IfBroken result (λ x. (f : FaultRecord) × StreamBroken (sets_of days.now) fix.now s.now f
+        × (x ≡ in_stream number f)) }
 {
     match stream_part(alloc, s, days, fix) {
         Ok(part) => Ok(part),

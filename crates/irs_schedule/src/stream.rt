@@ -76,8 +76,10 @@ fn entries_of(
     requires laid { (sets : StreamSets) × IsKeptLayout sets s.now layout.now }
     requires covers { Covers 1 dated.now.payments (length layout.now.unadjusted - 1) }
     requires small { All HasSmallRate dated.now.resets }
-    ensures entries { IfOk result (λ es. ArePaid s.now layout.now.unadjusted layout.now.adjusted dated.now.resets dated.now.payments es.items) }
-    ensures broken { IfBroken result (IsFirstPassed s.now layout.now.unadjusted layout.now.adjusted dated.now.resets dated.now.payments) }
+    ensures entries { IfOk result
+        (λ es. ArePaid s.now layout.now.unadjusted layout.now.adjusted dated.now.resets dated.now.payments es.items) }
+    ensures broken { IfBroken result
+        (IsFirstPassed s.now layout.now.unadjusted layout.now.adjusted dated.now.resets dated.now.payments) }
 {
     let table = PeriodTable {
         unadjusted: layout.unadjusted.as_slice(),

@@ -5,7 +5,8 @@
 ghost use Rattle.std.specs.Prelude.{◌≡◌, ℕ, ◌+◌, ◌<◌, ◌≤◌, List, [], ◌∷◌, ◌++◌, length, ℤ, pos, IfSome};
 ghost use Rattle.std.specs.Fmt.{decimal, signed_decimal};
 ghost use Rattle.irs_base.specs.Texts.{day_text, dec_text};
-ghost use Rattle.irs_schedule.specs.RowTexts.{row_text_of, fields_of, code_text, kind_text, dec_or_dash, rate_or_dash, HasPlaces, IsFew};
+ghost use Rattle.irs_schedule.specs.RowTexts.{row_text_of, fields_of, code_text, kind_text, dec_or_dash, rate_or_dash};
+ghost use Rattle.irs_schedule.specs.RowTexts.{HasPlaces, IsFew};
 
 use crate::Row;
 use irs_base::{Day, Dec, Line};

@@ -42,7 +42,8 @@ impl<'a> Model for StreamRows<'a> {
 
 impl<'a> StreamRows<'a> {
     pub(crate) fn new(part: &'a StreamPart, stream: u8) -> StreamRows<'a>
-        ensures { result ≡ map (exchange_row stream) (enumerate_from 1 part.now.exchanges) ++ flat_map (payment_rows stream part.now) (enumerate_from 1 part.now.payments) }
+        ensures { result ≡ map (exchange_row stream) (enumerate_from 1 part.now.exchanges)
+            ++ flat_map (payment_rows stream part.now) (enumerate_from 1 part.now.payments) }
     {
         StreamRows {
             part,

@@ -6,7 +6,8 @@ use Rattle.irs_terms.specs.Lawful.{IsLawfulDated, IsLawfulStream}
 use Rattle.irs_terms.specs.declared.adjustments.Dated.{Dated}
 use Rattle.irs_terms.specs.declared.stream.Stream.{Stream}
 
-given_lawful : (given : Option Dated) (effective : Dated) → IfSome given IsLawfulDated → IsLawfulDated effective → IsLawfulDated (unwrap_or given effective)
+given_lawful : (given : Option Dated) (effective : Dated) → IfSome given IsLawfulDated → IsLawfulDated effective
+    → IsLawfulDated (unwrap_or given effective)
 given_lawful None effective none lawful = lawful
 given_lawful (Some d) effective lawful also = lawful
 

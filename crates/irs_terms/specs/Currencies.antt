@@ -13,4 +13,6 @@ with_three_decimals = codes "BHD" ∷ codes "KWD" ∷ codes "OMR" ∷ codes "JOD
 
 -- every other currency has two
 abbrev pub decimals_of : List ℕ → ℕ
-decimals_of letters = if list_any (bytes_eq letters) without_decimals then 0 else (if list_any (bytes_eq letters) with_three_decimals then 3 else 2)
+decimals_of letters =
+    if list_any (bytes_eq letters) without_decimals then 0 else
+    (if list_any (bytes_eq letters) with_three_decimals then 3 else 2)

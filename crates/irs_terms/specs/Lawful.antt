@@ -1,7 +1,8 @@
 -- Lawful terms: every value lies in the range that its element allows.
 use Rattle.std.specs.Prelude.{◌≡◌, ◌≢◌, ℕ, ◌-◌, ◌≤◌, List, length, get_or, All, IfSome, ℤ, pos, ◌≤ℤ◌, unsigned_abs}
 use Rattle.irs_base.specs.Days.{IsDay}
-use Rattle.irs_base.specs.Limits.{most_centers, most_index, most_multiplier, most_name, most_notional, most_offset, most_rate, most_steps, most_streams}
+use Rattle.irs_base.specs.Limits.{most_centers, most_index, most_multiplier, most_name, most_notional, most_offset}
+use Rattle.irs_base.specs.Limits.{most_rate, most_steps, most_streams}
 use Rattle.irs_terms.specs.declared.frequency.Unit.TheVariants.{T}
 use Rattle.irs_terms.specs.declared.frequency.Frequency.{Frequency}
 use Rattle.irs_terms.specs.declared.codes.RollCode.{RollCode}
@@ -64,7 +65,9 @@ IsLawfulDated d = IsDay d.day × IsLawfulCenters d.adj.centers
 
 -- the index of a rate: 1 to 128 bytes, none of them a control byte, and no white space at its ends
 abbrev pub IsLawfulIndex : List ℕ → Type 0
-IsLawfulIndex index = (1 ≤ length index) × (length index ≤ most_index) × All (λ b. (32 ≤ b) × (b ≢ 127)) index × (get_or index 0 0 ≢ 32) × (get_or index (length index - 1) 0 ≢ 32)
+IsLawfulIndex index =
+    (1 ≤ length index) × (length index ≤ most_index) × All (λ b. (32 ≤ b) × (b ≢ 127)) index × (get_or index 0 0 ≢ 32)
+    × (get_or index (length index - 1) 0 ≢ 32)
 
 -- 0 to 10^13, in units of 10^-4
 abbrev pub IsNotional : ℤ → Type 0
@@ -76,7 +79,8 @@ IsRate v = unsigned_abs v ≤ most_rate
 
 -- at most 4,000 steps, each on a day, and every value in the range of its kind
 abbrev pub IsLawfulValues : (ℤ → Type 0) → StepValues → Type 0
-IsLawfulValues InRange values = InRange values.initial × (length values.steps ≤ most_steps) × All (λ s. IsDay s.day × InRange s.value) values.steps
+IsLawfulValues InRange values =
+    InRange values.initial × (length values.steps ≤ most_steps) × All (λ s. IsDay s.day × InRange s.value) values.steps
 
 -- payment terms whose values lie in their ranges
 pub record IsLawfulPay (p : PayTerms) : Type 0 where

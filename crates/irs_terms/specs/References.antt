@@ -2,7 +2,8 @@
 -- dateRelativeTo, businessCentersReference).
 use Rattle.std.specs.Prelude.{Option, IfSome}
 use Rattle.irs_terms.specs.declared.adjustments.Centers.{Centers}
-use Rattle.irs_terms.specs.declared.adjustments.Centers.TheVariants.{Absent as NoCenters, Listed, Dangling as NamesNoList}
+use Rattle.irs_terms.specs.declared.adjustments.Centers.TheVariants.{Absent as NoCenters, Listed}
+use Rattle.irs_terms.specs.declared.adjustments.Centers.TheVariants.{Dangling as NamesNoList}
 use Rattle.irs_terms.specs.declared.adjustments.Dated.{Dated}
 use Rattle.irs_terms.specs.declared.codes.RefState.{RefState}
 use Rattle.irs_terms.specs.declared.codes.RefState.TheVariants.{Absent, Good, Dangling}

@@ -39,7 +39,8 @@ FirstRegularInside s = IfSome s.first_regular (λ f. (first_day_of s ≤ℤ f) �
 -- the last regular date, where it is given, isn't after the termination date, nor before the first
 -- regular date, or the first day where none is given
 abbrev pub LastRegularInside : Stream → Type 0
-LastRegularInside s = IfSome s.last_regular (λ l. (given_or s.first_regular (first_day_of s) ≤ℤ l) × (l ≤ℤ termination_of s))
+LastRegularInside s =
+    IfSome s.last_regular (λ l. (given_or s.first_regular (first_day_of s) ≤ℤ l) × (l ≤ℤ termination_of s))
 
 -- K13 isn't broken: the dates of the term and of its regular part are in order
 pub record DatesInOrder (s : Stream) : Type 0 where

@@ -12,5 +12,9 @@ returns c =
     let fd : FitsSigned w64 c.args.frac.den = search rules in
     let fu : FitsSigned w128 c.interest.result.units = search rules in
     let v : c.unsigned_abs.result ≡ unsigned_abs c.in_ok-rate.rate = simp to_z-of_z at c.unsigned_abs.ensures.value in
-    let h : IsInterest c.places.result c.args.notional c.in_ok-rate.rate c.args.frac c.interest.result = simp to_z-of_z at c.interest.ensures in
-    (c.in_ok-rate.rate, record { is = search rules; within = omega (arith, v, c.if-unsigned_abs-gt-MOST_RATE.false) }, rw c.places.ensures at h)
+    let h : IsInterest c.places.result c.args.notional c.in_ok-rate.rate c.args.frac c.interest.result =
+    simp to_z-of_z at c.interest.ensures in (
+      c.in_ok-rate.rate,
+      record { is = search rules; within = omega (arith, v, c.if-unsigned_abs-gt-MOST_RATE.false) },
+      rw c.places.ensures at h,
+    )

@@ -15,11 +15,14 @@ product-requires-2 c =
     let ft : FitsSigned w128 c.from-2.result = search rules in
     let r : c.from.result ≡ c.args.rate = simp to_z-of_z at c.from.ensures in
     let m : c.from-2.result ≡ c.args.num = simp to_z-of_z at c.from-2.ensures in
-    let s : unsigned_abs c.product.result ≡ unsigned_abs c.args.notional * unsigned_abs c.args.rate = rw r at (simp to_z-of_z at c.product.ensures.size) in
+    let s : unsigned_abs c.product.result ≡ unsigned_abs c.args.notional * unsigned_abs c.args.rate =
+    rw r at (simp to_z-of_z at c.product.ensures.size) in
     let b = size_between c.args.notional most_notional c.requires.notional.0 c.requires.notional.1 in
-    let p = product_of_two (unsigned_abs c.args.notional) (unsigned_abs c.args.rate) most_notional most_rate b c.requires.rate in
+    let p = product_of_two (unsigned_abs c.args.notional)
+    (unsigned_abs c.args.rate) most_notional most_rate b c.requires.rate in
     let n = size_between c.args.num most_numerator c.requires.num_low c.requires.num_high in
-    let e = product_of_two (unsigned_abs c.product.result) (unsigned_abs c.args.num) (most_notional * most_rate) most_numerator (omega (arith, s, p)) n in
+    let e = product_of_two (unsigned_abs c.product.result) (unsigned_abs c.args.num)
+    (most_notional * most_rate) most_numerator (omega (arith, s, p)) n in
     simp to_z-of_z (rw m (omega (arith, e)))
 
 pub returns-clause-size : goal.returns-clause-size
@@ -33,10 +36,14 @@ returns-clause-size c =
     let ft : FitsSigned w128 c.from-2.result = search rules in
     let r : c.from.result ≡ c.args.rate = simp to_z-of_z at c.from.ensures in
     let m : c.from-2.result ≡ c.args.num = simp to_z-of_z at c.from-2.ensures in
-    let s : unsigned_abs c.product.result ≡ unsigned_abs c.args.notional * unsigned_abs c.args.rate = rw r at (simp to_z-of_z at c.product.ensures.size) in
-    let t : unsigned_abs c.product-2.result ≡ unsigned_abs c.product.result * unsigned_abs c.args.num = rw m at (simp to_z-of_z at c.product-2.ensures.size) in
+    let s : unsigned_abs c.product.result ≡ unsigned_abs c.args.notional * unsigned_abs c.args.rate =
+    rw r at (simp to_z-of_z at c.product.ensures.size) in
+    let t : unsigned_abs c.product-2.result ≡ unsigned_abs c.product.result * unsigned_abs c.args.num =
+    rw m at (simp to_z-of_z at c.product-2.ensures.size) in
     let b = size_between c.args.notional most_notional c.requires.notional.0 c.requires.notional.1 in
-    let p = product_of_two (unsigned_abs c.args.notional) (unsigned_abs c.args.rate) most_notional most_rate b c.requires.rate in
+    let p = product_of_two (unsigned_abs c.args.notional)
+    (unsigned_abs c.args.rate) most_notional most_rate b c.requires.rate in
     let n = size_between c.args.num most_numerator c.requires.num_low c.requires.num_high in
-    let e = product_of_two (unsigned_abs c.product.result) (unsigned_abs c.args.num) (most_notional * most_rate) most_numerator (omega (arith, s, p)) n in
+    let e = product_of_two (unsigned_abs c.product.result) (unsigned_abs c.args.num)
+    (most_notional * most_rate) most_numerator (omega (arith, s, p)) n in
     simp to_z-of_z (omega (arith, e, t))

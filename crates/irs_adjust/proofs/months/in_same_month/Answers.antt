@@ -23,6 +23,8 @@ returns c =
           let same : m ≡ n = equal_true m n (sym e ∙ t) in
           record { month = n; of_first = subst (InMonth c.args.a) same first.month; of_second = second.month },
       λ h.
-          let same : m ≡ n = same_month c.args.a m h.month first.month h.of_first ∙ same_month c.args.b h.month n h.of_second second.month in
+          let same : m ≡ n =
+          same_month c.args.a m h.month first.month h.of_first
+          ∙ same_month c.args.b h.month n h.of_second second.month in
           e ∙ true_equal m n same,
     )

@@ -9,4 +9,7 @@ returns-in_err-plus-in-Ahead-clause-none g c =
 pub returns-in_err-plus-in-Back-clause-none : goal.returns-in_err-plus-in-Back-clause-none
 returns-in_err-plus-in-Back-clause-none g c =
     let out = c.in_err-plus-in-Back.ensures in
-    rw (c.from_residual-in_err-plus-in-Back.ensures, c.in-Back.is) (λ r prev. out (c.requires (c.args.d -ℤ pos 1) prev.starts))
+    rw (
+      c.from_residual-in_err-plus-in-Back.ensures,
+      c.in-Back.is,
+    ) (λ r prev. out (c.requires (c.args.d -ℤ pos 1) prev.starts))

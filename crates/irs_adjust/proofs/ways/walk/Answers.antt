@@ -13,7 +13,8 @@ loop-i-init g c =
     let last : c.cover-first.result.1 ≡ s.last = ap (λ (p : ℤ × ℤ). p.1) c.cover-first.ensures.ends in
     let low = lt_false c.args.d c.cover-first.result.0 (sym (c.if-lt.ensures {u = tt})) in
     let high = lt_false c.cover-first.result.1 c.args.d (sym (c.if-lt-2.ensures {u = tt})) in
-    let starts : InCover s c.args.d = record { from = omega (arith, signed_arith, low, first); to = omega (arith, signed_arith, high, last) } in
+    let starts : InCover s c.args.d =
+    record { from = omega (arith, signed_arith, low, first); to = omega (arith, signed_arith, high, last) } in
     record {
       reached = reached_none c.args.way s c.args.d starts;
       good = λ none. absurd (omega (arith, none));
@@ -23,14 +24,18 @@ pub loop-i-preserved : goal.loop-i-preserved
 loop-i-preserved g c =
     let s : DaySet = g.G.GoodDays.days c.args.g.now in
     record {
-      reached = rw add-one (reached_more c.args.way s c.args.d c.loop-i._i c.loop-i.day c.in_ok-day.day c.loop-i.invariant.reached c.in_ok-day.ensures.some);
+      reached = rw add-one
+          (reached_more c.args.way s c.args.d c.loop-i._i c.loop-i.day c.in_ok-day.day c.loop-i.invariant.reached
+          c.in_ok-day.ensures.some);
       good = λ _. (gap_of c.args.way s c.loop-i.day c.in_ok-day.day c.in_ok-day.ensures.some).good;
     }
 
 pub returns-in_err-day-clause-none : goal.returns-in_err-day-clause-none
 returns-in_err-day-clause-none g c =
     let s : DaySet = g.G.GoodDays.days c.args.g.now in
-    rw c.from_residual.ensures (none_moved c.args.way s c.args.d c.loop-i._i c.args.n c.loop-i.day c.loop-i-test.true c.loop-i.invariant.reached c.in_err-day.ensures.none)
+    rw c.from_residual.ensures
+    (none_moved c.args.way s c.args.d c.loop-i._i c.args.n c.loop-i.day c.loop-i-test.true
+    c.loop-i.invariant.reached c.in_err-day.ensures.none)
 
 pub returns-clause-some : goal.returns-clause-some
 returns-clause-some g c =

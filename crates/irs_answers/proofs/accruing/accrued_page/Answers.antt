@@ -12,13 +12,16 @@ loop-index-preserved c =
     let a = c.accrued.result in
     let before = c.loop-index.invariant.lines in
     let line = c.bytes.result.now in
-    let less : i < length parts = omega (arith, c.loop-index-test.true, c.stream_count-index-end.ensures.count, c.loop-index.auto.index-end) in
+    let less : i < length parts =
+    omega (arith, c.loop-index-test.true, c.stream_count-index-end.ensures.count, c.loop-index.auto.index-end) in
     let next : line ≡ accrual_text (i + 1) a = c.bytes.ensures.bytes ∙ c.accrued_text.ensures in
-    let grown : c.extend_from_slice.new.self.items ≡ c.loop-index.text.items ++ line = c.in_ok-extend_from_slice.ensures.items in
+    let grown : c.extend_from_slice.new.self.items ≡ c.loop-index.text.items ++ line =
+    c.in_ok-extend_from_slice.ensures.items in
     record {
       lines = (
         before.0 ++ accrual_text (i + 1) a,
         accrued_next d parts i a before.0 less c.accrued.ensures.accrual c.accrued.ensures.one before.1,
-        grown ∙ ap (λ (l : List _). l ++ line) before.2 ∙ append_assoc (accrued_header d) before.0 line ∙ ap (λ (l : List _). accrued_header d ++ (before.0 ++ l)) next,
+        grown ∙ ap (λ (l : List _). l ++ line) before.2 ∙ append_assoc (accrued_header d) before.0 line
+            ∙ ap (λ (l : List _). accrued_header d ++ (before.0 ++ l)) next,
       );
     }

@@ -8,7 +8,8 @@ use Rattle.irs_answers.specs.Derived.{DueAverage, DueAveraged, FloatingStream}
 use Rattle.irs_overnight.specs.declared.derived.DerivedRow.{DerivedRow}
 use Rattle.irs_answers.specs.Messages.{refused}
 use Rattle.irs_answers.specs.Outcomes.{Ends, of_stopped}
-use Rattle.irs_answers.proofs.DerivedLemmas.{averaged_first, averaged_rows, ends_done, float_lawful, overnight_asked, refuse_stopped, stream_kept}
+use Rattle.irs_answers.proofs.DerivedLemmas.{averaged_first, averaged_rows, ends_done, float_lawful, overnight_asked}
+use Rattle.irs_answers.proofs.DerivedLemmas.{refuse_stopped, stream_kept}
 use Rattle.irs_answers.proofs.StepLemmas.{answered_by}
 use Rattle.irs_answers.proofs.derived.average_answer.Goals as goal
 
@@ -22,7 +23,14 @@ pub average-requires : goal.average-requires
 average-requires c =
     let f = c.args.found.now in
     let x : FloatingStream = record { stream = c.in_ok-stream.stream.now; float = c.in_ok-stream.float.now } in
-    record { stream = overnight_asked f.swap f.calendars f.schedule c.requires.unfixed c.args.number x c.in_ok-stream.ensures.floats _ f.fixings c.in_ok-days.ensures; some = c.requires.some; few = c.requires.few }
+    record {
+      stream =
+          overnight_asked f.swap f.calendars f.schedule c.requires.unfixed c.args.number x
+          c.in_ok-stream.ensures.floats _
+          f.fixings c.in_ok-days.ensures;
+      some = c.requires.some;
+      few = c.requires.few;
+    }
 
 pub returns-in_err-rows : goal.returns-in_err-rows
 returns-in_err-rows c =
@@ -32,16 +40,21 @@ returns-in_err-rows c =
     let made = c.from_residual-in_err-rows in
     let e = c.in_err-rows.field-0.0 in
     let due = λ (d : DaySet). averaged (asked f.swap n f.schedule d f.fixings) c.args.mean c.args.step in
-    let next = λ (y : FloatingStream) (status : ℕ) (text : List ℕ). DueAveraged (due (reset_days f.calendars y.stream)) y.float status text in
-    answered_by made.result (of_stopped e) (Ends (DueAverage n c.args.mean c.args.step f.swap f.calendars f.fixings f.schedule)) made.ensures.0 made.ensures.1
+    let next = λ (y : FloatingStream) (status : ℕ) (text : List ℕ).
+    DueAveraged (due (reset_days f.calendars y.stream)) y.float status text in
+    answered_by made.result (of_stopped e)
+    (Ends (DueAverage n c.args.mean c.args.step f.swap f.calendars f.fixings f.schedule)) made.ensures.0
+    made.ensures.1
     (refuse_stopped f.swap n next x c.in_ok-stream.ensures.floats (IsFirstOfAverage _) e c.in_err-rows.ensures.broken
-    (λ b first. subst (λ (d : DaySet). DueAveraged (due d) x.float 2 (refused b)) c.in_ok-days.ensures (averaged_first _ x.float b first c.in_err-rows.ensures.one_broken)))
+    (λ b first. subst (λ (d : DaySet). DueAveraged (due d) x.float 2 (refused b)) c.in_ok-days.ensures
+    (averaged_first _ x.float b first c.in_err-rows.ensures.one_broken)))
 
 pub fixings_page-requires : goal.fixings_page-requires
 fixings_page-requires c =
     let f = c.args.found.now in
     let x : FloatingStream = record { stream = c.in_ok-stream.stream.now; float = c.in_ok-stream.float.now } in
-    (float_lawful f.swap f.calendars f.schedule c.requires.unfixed c.args.number x c.in_ok-stream.ensures.floats).index.1
+    (float_lawful f.swap f.calendars f.schedule c.requires.unfixed c.args.number x
+    c.in_ok-stream.ensures.floats).index.1
 
 pub returns : goal.returns
 returns c =
@@ -49,9 +62,15 @@ returns c =
     let n = c.args.number in
     let x : FloatingStream = record { stream = c.in_ok-stream.stream.now; float = c.in_ok-stream.float.now } in
     let due = λ (d : DaySet). averaged (asked f.swap n f.schedule d f.fixings) c.args.mean c.args.step in
-    let next = λ (y : FloatingStream) (status : ℕ) (text : List ℕ). DueAveraged (due (reset_days f.calendars y.stream)) y.float status text in
+    let next = λ (y : FloatingStream) (status : ℕ) (text : List ℕ).
+    DueAveraged (due (reset_days f.calendars y.stream)) y.float status text in
     let rows = c.in_ok-rows.rows in
     let text = file_text rows x.float.tenor x.float.index in
-    let done = averaged_rows _ x.float rows c.in_ok-rows.ensures.kept c.in_ok-rows.ensures.ok c.in_ok-rows.ensures.one in
-    let printed = ends_done f.swap n next x c.in_ok-stream.ensures.floats text (subst (λ (d : DaySet). DueAveraged (due d) x.float 0 text) c.in_ok-days.ensures done) in
-    subst (λ (t : List ℕ). Ends (DueAverage n c.args.mean c.args.step f.swap f.calendars f.fixings f.schedule) 0 t) (sym (c.in_ok-text.ensures ∙ ap (λ (l : List DerivedRow). file_text l x.float.tenor x.float.index) c.as_slice.ensures)) printed
+    let done = averaged_rows _ x.float rows c.in_ok-rows.ensures.kept c.in_ok-rows.ensures.ok
+    c.in_ok-rows.ensures.one in
+    let printed =
+    ends_done f.swap n next x c.in_ok-stream.ensures.floats text
+    (subst (λ (d : DaySet). DueAveraged (due d) x.float 0 text) c.in_ok-days.ensures done) in
+    subst (λ (t : List ℕ). Ends (DueAverage n c.args.mean c.args.step f.swap f.calendars f.fixings f.schedule) 0 t)
+    (sym (c.in_ok-text.ensures
+    ∙ ap (λ (l : List DerivedRow). file_text l x.float.tenor x.float.index) c.as_slice.ensures)) printed

@@ -5,5 +5,6 @@ use Rattle.irs_answers.proofs.derived.fixings_page.Given as goal
 
 abbrev pub invariant-loop-row : goal.invariant-loop-row
 invariant-loop-row l = record {
-  text : l.text.items ≡ codes "# irs-fixings 1\n" ++ flat_map (λ row. derived_text_of row l.tenor l.index) (take l.row-index l.rows);
+  text : l.text.items ≡ codes "# irs-fixings 1\n"
+      ++ flat_map (λ row. derived_text_of row l.tenor l.index) (take l.row-index l.rows);
 }

@@ -5,4 +5,5 @@ pub returns-in-Some-clause-none : goal.returns-in-Some-clause-none
 returns-in-Some-clause-none c = λ x k. c.in-Some.ensures.0 (floats_by c.args.swap.now c.args.number x k)
 
 pub unreachable-requires : goal.unreachable-requires
-unreachable-requires c = c.in_default.ensures (λ f. let x = stream_by c.args.swap.now c.args.number f in c.in-None.ensures.none x.0 x.1)
+unreachable-requires c =
+    c.in_default.ensures (λ f. let x = stream_by c.args.swap.now c.args.number f in c.in-None.ensures.none x.0 x.1)

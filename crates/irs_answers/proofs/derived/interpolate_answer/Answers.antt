@@ -4,7 +4,8 @@ use Rattle.irs_overnight.specs.FileLaw.{file_text}
 use Rattle.irs_answers.specs.Derived.{DueInterpolate, DueStub, FloatingStream}
 use Rattle.irs_answers.specs.Outcomes.{Ends}
 use Rattle.irs_answers.specs.declared.refusals.Refusal.TheVariants.{Rule}
-use Rattle.irs_answers.proofs.DerivedLemmas.{ends_done, refuse_broken, stub_broken, stub_is_asked, stub_printed, stub_short}
+use Rattle.irs_answers.proofs.DerivedLemmas.{ends_done, refuse_broken, stub_broken, stub_is_asked, stub_printed}
+use Rattle.irs_answers.proofs.DerivedLemmas.{stub_short}
 use Rattle.irs_answers.proofs.StepLemmas.{answered_by}
 use Rattle.irs_answers.proofs.derived.interpolate_answer.Goals as goal
 
@@ -12,7 +13,8 @@ pub interpolate-requires : goal.interpolate-requires
 interpolate-requires c =
     let f = c.args.found.now in
     let q = c.requires in
-    stub_is_asked f.swap f.calendars f.schedule q.unfixed c.args.number _ c.in_ok-floating.ensures.floats c.args.side c.args.low c.args.high f.fixings q.low q.high
+    stub_is_asked f.swap f.calendars f.schedule q.unfixed c.args.number _ c.in_ok-floating.ensures.floats c.args.side
+    c.args.low c.args.high f.fixings q.low q.high
 
 pub returns-in_err-row : goal.returns-in_err-row
 returns-in_err-row c =
@@ -22,14 +24,19 @@ returns-in_err-row c =
     let e = c.in_err-row.field-0.0 in
     let a = stub_asked f.swap n c.args.side c.args.low c.args.high f.schedule f.fixings in
     let next = λ (y : FloatingStream) (status : ℕ) (text : List ℕ). DueStub a status text in
-    answered_by made.result (Rule e) (Ends (DueInterpolate n c.args.side c.args.low c.args.high f.swap f.fixings f.schedule)) made.ensures.0 made.ensures.1
-    (refuse_broken f.swap n next _ c.in_ok-floating.ensures.floats e (stub_broken a e c.in_err-row.ensures.broken c.in_err-row.ensures.one_broken))
+    answered_by made.result (Rule e)
+    (Ends (DueInterpolate n c.args.side c.args.low c.args.high f.swap f.fixings f.schedule)) made.ensures.0
+    made.ensures.1
+    (refuse_broken f.swap n next _ c.in_ok-floating.ensures.floats e
+    (stub_broken a e c.in_err-row.ensures.broken c.in_err-row.ensures.one_broken))
 
 pub unreachable-requires : goal.unreachable-requires
 unreachable-requires c = let has = c.in_ok-row.ensures.ok.has in c.in_default.ensures.none _ _ has.gives
 
 pub fixings_page-requires : goal.fixings_page-requires
-fixings_page-requires c = let f = c.args.found.now in stub_short f.swap c.args.number c.args.side c.in-Some.index.now c.in-Some.tenor c.requires.unfixed.lawful c.in-Some.ensures.some
+fixings_page-requires c = let f = c.args.found.now in
+    stub_short f.swap c.args.number c.args.side c.in-Some.index.now c.in-Some.tenor c.requires.unfixed.lawful
+    c.in-Some.ensures.some
 
 pub returns : goal.returns
 returns c =
@@ -41,5 +48,7 @@ returns c =
     let index = c.in-Some.index.now in
     let tenor = c.in-Some.tenor in
     let text = file_text (row ∷ []) tenor index in
-    let done = stub_printed a row index tenor c.in_ok-row.ensures.kept c.in_ok-row.ensures.ok c.in_ok-row.ensures.one c.in-Some.ensures.some in
-    subst (λ (t : List ℕ). Ends (DueInterpolate n c.args.side c.args.low c.args.high f.swap f.fixings f.schedule) 0 t) (sym c.in_ok-fixings_page.ensures) (ends_done f.swap n next _ c.in_ok-floating.ensures.floats text done)
+    let done = stub_printed a row index tenor c.in_ok-row.ensures.kept c.in_ok-row.ensures.ok c.in_ok-row.ensures.one
+    c.in-Some.ensures.some in
+    subst (λ (t : List ℕ). Ends (DueInterpolate n c.args.side c.args.low c.args.high f.swap f.fixings f.schedule) 0 t)
+    (sym c.in_ok-fixings_page.ensures) (ends_done f.swap n next _ c.in_ok-floating.ensures.floats text done)

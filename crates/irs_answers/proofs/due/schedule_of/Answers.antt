@@ -11,9 +11,18 @@ returns-in_err-make_schedule-in-None-clause-refused c =
     let swap = c.args.swap.now in
     let cal = c.args.calendars.now in
     let table = c.args.fixings.now in
-    refused_by c.from_residual.result (of_stopped e) (λ r. IfRefused r (IsUnscheduled swap cal table)) c.from_residual.ensures.0 c.from_residual.ensures.1 (refuse_making swap cal table e c.in-None.ensures.first c.in_err-make_schedule-in-None.ensures.broken)
+    refused_by c.from_residual.result (of_stopped e)
+    (λ r. IfRefused r (IsUnscheduled swap cal table)) c.from_residual.ensures.0 c.from_residual.ensures.1
+    (refuse_making swap cal table e c.in-None.ensures.first c.in_err-make_schedule-in-None.ensures.broken)
 
 pub returns-in-Some-clause-refused : goal.returns-in-Some-clause-refused
 returns-in-Some-clause-refused c =
-    let b = c.in-Some.broken in
-    (b, inl (record { is = c.in-Some.ensures.first; only = λ t first. same_Some t b (c.in-Some.ensures.one (Some t) first) }), (refl, refl))
+    let b = c.in-Some.broken in (
+      b,
+      inl (record {
+        is = c.in-Some.ensures.first;
+        only =
+            λ t first. same_Some t b (c.in-Some.ensures.one (Some t) first);
+      }),
+      (refl, refl),
+    )

@@ -9,7 +9,10 @@ returns-in_err-flows-clause-fault c =
     let e = c.in_err-flows.field-0.0 in
     let bytes = c.args.bytes.now in
     let s = c.args.schedule.now in
-    failed_by c.from_residual.result e (λ x. IfRefused (Flows x) (Ends (DueFlows bytes s))) c.from_residual.ensures.0 c.from_residual.ensures.1 (refuse_flows bytes s e c.in_err-flows.ensures.fault)
+    failed_by c.from_residual.result e (λ x. IfRefused (Flows x) (Ends (DueFlows bytes s))) c.from_residual.ensures.0
+    c.from_residual.ensures.1 (refuse_flows bytes s e c.in_err-flows.ensures.fault)
 
 pub returns-clause-verdict : goal.returns-clause-verdict
-returns-clause-verdict c = due_verdict c.args.bytes.now c.args.schedule.now _ c.audit.result c.in_ok-flows.ensures.spells c.audit.ensures.verdict c.audit.ensures.only
+returns-clause-verdict c =
+    due_verdict c.args.bytes.now c.args.schedule.now _ c.audit.result c.in_ok-flows.ensures.spells
+    c.audit.ensures.verdict c.audit.ensures.only

@@ -8,4 +8,5 @@ returns-in-Some c =
     place_found c.args.theirs.now c.args.ours.now c.loop-place.place c.in-Some.d c.loop-place.invariant here
 
 pub returns : goal.returns
-returns c = none_at_all c.args.theirs.now c.args.ours.now (λ d h. c.loop-place.invariant d (omega (arith, h, c.loop-place-test.false)))
+returns c = none_at_all c.args.theirs.now c.args.ours.now
+    (λ d h. c.loop-place.invariant d (omega (arith, h, c.loop-place-test.false)))

@@ -12,8 +12,10 @@ returns-then-stated-lt-LEAST_ROUNDED c =
     let fa : FitsSigned w128 c.from-den.result = search rules in
     let fb : FitsSigned w128 c.scaled-num.result = search rules in
     let d : c.from-den.result ≡ c.args.frac.den = simp to_z-of_z at c.from-den.ensures in
-    let n : c.scaled-num.result ≡ (c.args.frac.num *ℤ pos (10 ^ c.args.stated.places)) = simp to_z-of_z at c.scaled-num.ensures.value in
-    exact_fraction c.args.frac c.args.stated c.is_multiple.result c.if-stated-lt-LEAST_ROUNDED.true (rw (← d, ← n) (simp to_z-of_z at c.is_multiple.ensures))
+    let n : c.scaled-num.result ≡ (c.args.frac.num *ℤ pos (10 ^ c.args.stated.places)) =
+    simp to_z-of_z at c.scaled-num.ensures.value in
+    exact_fraction c.args.frac c.args.stated c.is_multiple.result c.if-stated-lt-LEAST_ROUNDED.true
+    (rw (← d, ← n) (simp to_z-of_z at c.is_multiple.ensures))
 
 pub returns-else-stated-lt-LEAST_ROUNDED : goal.returns-else-stated-lt-LEAST_ROUNDED
 returns-else-stated-lt-LEAST_ROUNDED c =
@@ -24,6 +26,9 @@ returns-else-stated-lt-LEAST_ROUNDED c =
     let fb : FitsSigned w128 c.scaled-num.result = search rules in
     let fr : FitsSigned w128 c.round.result = search rules in
     let d : c.from-den.result ≡ c.args.frac.den = simp to_z-of_z at c.from-den.ensures in
-    let n : c.scaled-num.result ≡ (c.args.frac.num *ℤ pos (10 ^ c.args.stated.places)) = simp to_z-of_z at c.scaled-num.ensures.value in
+    let n : c.scaled-num.result ≡ (c.args.frac.num *ℤ pos (10 ^ c.args.stated.places)) =
+    simp to_z-of_z at c.scaled-num.ensures.value in
     let is = simp to_z-of_z at c.round.ensures.relation in
-    near_fraction c.args.frac c.args.stated c.round.result _ c.if-stated-lt-LEAST_ROUNDED.false (omega arith) c.requires.denominator.0 (rw (← d, ← n) is) (same_bits w128 c.round.result c.args.stated.units fr fu)
+    near_fraction c.args.frac c.args.stated c.round.result _ c.if-stated-lt-LEAST_ROUNDED.false
+    (omega arith) c.requires.denominator.0 (rw (← d, ← n) is)
+    (same_bits w128 c.round.result c.args.stated.units fr fu)

@@ -30,5 +30,7 @@ returns-else-rest-eq0 c =
     let fq : FitsSigned w128 q = c.ranges.q in
     let fr : FitsSigned w128 c.rest.result = search rules in
     let r : c.rest.result ≡ int_rem_euclid p q = simp to_z-of_z at c.rest.ensures in
-    let d = divides p q m c.requires in
-    (λ t. absurd (c.if-rest-eq0.false (equal_bits (of_z w128 c.rest.result) 0 t)), λ f. absurd (c.if-rest-eq0.false (ap (of_z w128) (r ∙ (d.1 f).0))))
+    let d = divides p q m c.requires in (
+      λ t. absurd (c.if-rest-eq0.false (equal_bits (of_z w128 c.rest.result) 0 t)),
+      λ f. absurd (c.if-rest-eq0.false (ap (of_z w128) (r ∙ (d.1 f).0))),
+    )

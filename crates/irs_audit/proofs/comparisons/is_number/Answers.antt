@@ -14,4 +14,5 @@ returns c =
     let fu : FitsSigned w128 c.args.units = c.ranges.units in
     let fs : FitsSigned w128 c.args.stated = c.ranges.stated in
     let fp : FitsSigned w128 c.power_of_ten.result = search rules in
-    number_decided c.args.units c.args.stated c.args.places c.is_multiple.result c.requires (rw (← c.power_of_ten.ensures) (simp to_z-of_z at c.is_multiple.ensures))
+    number_decided c.args.units c.args.stated c.args.places c.is_multiple.result c.requires
+    (rw (← c.power_of_ten.ensures) (simp to_z-of_z at c.is_multiple.ensures))

@@ -10,7 +10,8 @@ overflow_mul-result c =
     let fa : FitsSigned w128 c.from.result = search rules in
     let fb : FitsSigned w128 c.power_of_ten.result = search rules in
     let n : c.from.result ≡ c.args.num = simp to_z-of_z at c.from.ensures in
-    simp to_z-of_z (rw (n, c.power_of_ten.ensures) (scaled_fits c.args.num c.args.places c.requires.places c.requires.num))
+    simp to_z-of_z (rw (n, c.power_of_ten.ensures)
+    (scaled_fits c.args.num c.args.places c.requires.places c.requires.num))
 
 pub returns-clause-value : goal.returns-clause-value
 returns-clause-value c =
@@ -18,7 +19,8 @@ returns-clause-value c =
     let fa : FitsSigned w128 c.from.result = search rules in
     let fb : FitsSigned w128 c.power_of_ten.result = search rules in
     let n : c.from.result ≡ c.args.num = simp to_z-of_z at c.from.ensures in
-    let fp : FitsSigned w128 (c.from.result *ℤ c.power_of_ten.result) = rw (n, c.power_of_ten.ensures) (scaled_fits c.args.num c.args.places c.requires.places c.requires.num) in
+    let fp : FitsSigned w128 (c.from.result *ℤ c.power_of_ten.result) =
+    rw (n, c.power_of_ten.ensures) (scaled_fits c.args.num c.args.places c.requires.places c.requires.num) in
     simp to_z-of_z (rw (n, c.power_of_ten.ensures) refl)
 
 pub returns-clause-size : goal.returns-clause-size
@@ -27,5 +29,7 @@ returns-clause-size c =
     let fa : FitsSigned w128 c.from.result = search rules in
     let fb : FitsSigned w128 c.power_of_ten.result = search rules in
     let n : c.from.result ≡ c.args.num = simp to_z-of_z at c.from.ensures in
-    let fp : FitsSigned w128 (c.from.result *ℤ c.power_of_ten.result) = rw (n, c.power_of_ten.ensures) (scaled_fits c.args.num c.args.places c.requires.places c.requires.num) in
-    simp to_z-of_z (rw (n, c.power_of_ten.ensures) (scaled_within c.args.num c.args.places c.requires.places c.requires.num))
+    let fp : FitsSigned w128 (c.from.result *ℤ c.power_of_ten.result) =
+    rw (n, c.power_of_ten.ensures) (scaled_fits c.args.num c.args.places c.requires.places c.requires.num) in
+    simp to_z-of_z (rw (n, c.power_of_ten.ensures)
+    (scaled_within c.args.num c.args.places c.requires.places c.requires.num))

@@ -5,4 +5,7 @@ use Rattle.irs_audit.specs.Verdicts.{stream_rows}
 use Rattle.irs_audit.proofs.counts.row_count.Goals as goal
 
 pub returns : goal.returns
-returns c = sum_by_from_yields_List stream_rows c.args.parts.now c.map.result c.sum.result c.sum.ensures.ran (YieldsList-from_map _ stream_rows (YieldsList-at c.map.ensures.source (YieldsList-from_slice c.args.parts.now c.iter.ensures.rest)) c.map.ensures.closure (λ x r q k. search rules))
+returns c = sum_by_from_yields_List stream_rows c.args.parts.now c.map.result c.sum.result c.sum.ensures.ran
+    (YieldsList-from_map _ stream_rows
+    (YieldsList-at c.map.ensures.source (YieldsList-from_slice c.args.parts.now c.iter.ensures.rest))
+    c.map.ensures.closure (λ x r q k. search rules))

@@ -6,5 +6,6 @@ use Rattle.std.proofs.Common.{arith, length, map}
 
 pub returns-then-left-count : goal.returns-then-left-count
 returns-then-left-count c =
-    let fits = count_fits c.args.payments.now c.loop-p.p c.index-payments-p.result c.values_at-count.result.now c.loop-p-test.true c.index-payments-p.is c.values_at-count.ensures in
+    let fits = count_fits c.args.payments.now c.loop-p.p c.index-payments-p.result c.values_at-count.result.now
+    c.loop-p-test.true c.index-payments-p.is c.values_at-count.ensures in
     many_test (length (periods_of (map view c.args.payments.now))) (omega (arith, fits, c.loop-p.invariant))

@@ -13,6 +13,10 @@ use Rattle.irs_base.specs.Order.{IsFirstBroken}
 pub returns : goal.returns
 returns c =
     let d = view c.args.v.now in
-    let periods = subst (λ (l : List Data). IsFirstBroken (PeriodsFault c.args.stream (periods_of l)) c.periods_fault.result) c.payments_of.ensures c.periods_fault.ensures in
+    let periods =
+    subst (λ (l : List Data). IsFirstBroken (PeriodsFault c.args.stream (periods_of l)) c.periods_fault.result)
+    c.payments_of.ensures c.periods_fault.ensures in
     first_is (CashflowsFault c.args.stream d) _ c.earlier.result c.earlier.ensures
-    (first_or (FaultAt flow_rows flow_names c.args.stream 0 FLOWS 0 d) (PeriodsFault c.args.stream (periods_of (payments_in (Some d)))) c.first_fault-own.result c.periods_fault.result (flow_first _ _ _ _ _ _ c.first_fault-own.ensures) periods)
+    (first_or (FaultAt flow_rows flow_names c.args.stream 0 FLOWS 0 d)
+    (PeriodsFault c.args.stream (periods_of (payments_in (Some d)))) c.first_fault-own.result c.periods_fault.result
+    (flow_first _ _ _ _ _ _ c.first_fault-own.ensures) periods)

@@ -5,4 +5,6 @@ use Rattle.std.proofs.Common.{◌≡◌, length, map, take}
 use Rattle.irs_base.specs.Order.{IsFirstBroken}
 
 abbrev pub invariant-loop-p : goal.invariant-loop-p
-invariant-loop-p l = (IsFirstBroken (PeriodsFrom l.stream 0 (periods_of (map view (take l.p l.payments)))) l.first) × (l.before ≡ length (periods_of (map view (take l.p l.payments))))
+invariant-loop-p l =
+    (IsFirstBroken (PeriodsFrom l.stream 0 (periods_of (map view (take l.p l.payments)))) l.first)
+    × (l.before ≡ length (periods_of (map view (take l.p l.payments))))

@@ -6,7 +6,11 @@ use Rattle.std.proofs.Common.{ap, arith, map, ◌∙◌}
 use Rattle.std.proofs.lemmas.List.{length-map}
 
 pub returns-then-list : goal.returns-then-list
-returns-then-list c = few_is (map view c.values-list.result.now) (omega (arith, length-map c.values-list.result.now view)) ∙ ap few c.values-list.ensures
+returns-then-list c =
+    few_is (map view c.values-list.result.now) (omega (arith, length-map c.values-list.result.now view))
+    ∙ ap few c.values-list.ensures
 
 pub returns-else-list : goal.returns-else-list
-returns-else-list c = many_is (map view c.values-list.result.now) (omega (arith, length-map c.values-list.result.now view)) ∙ ap few c.values-list.ensures
+returns-else-list c =
+    many_is (map view c.values-list.result.now) (omega (arith, length-map c.values-list.result.now view))
+    ∙ ap few c.values-list.ensures

@@ -14,5 +14,8 @@ pub returns : goal.returns
 returns c =
     let d = view c.args.v.now in
     first_is (PeriodFault c.args.stream c.args.number d) _ c.earlier.result c.earlier.ensures
-    (first_or (FaultAt period_rows period_names c.args.stream 0 PERIOD c.args.number d) (Only (has_both_rates d) (at c.args.stream K7 flow_period)) c.first_fault-own.result c.both_rates_fault.result (period_first _ _ _ _ _ _ c.first_fault-own.ensures)
-    (only_first (has_both_rates d) (at c.args.stream K7 flow_period) c.both_rates_fault.result c.both_rates_fault.ensures))
+    (first_or (FaultAt period_rows period_names c.args.stream 0 PERIOD c.args.number d)
+    (Only (has_both_rates d) (at c.args.stream K7 flow_period)) c.first_fault-own.result c.both_rates_fault.result
+    (period_first _ _ _ _ _ _ c.first_fault-own.ensures)
+    (only_first (has_both_rates d) (at c.args.stream K7 flow_period) c.both_rates_fault.result
+    c.both_rates_fault.ensures))

@@ -7,4 +7,5 @@ use Rattle.std.proofs.Common.{◌+◌, map}
 use Rattle.irs_base.specs.Order.{IsFirstBroken}
 
 abbrev pub invariant-loop-j : goal.invariant-loop-j
-invariant-loop-j l = IsFirstBroken (Below (Each (λ j. PeriodFault l.stream (l.before + j + 1)) (map view l.list)) l.j) l.first
+invariant-loop-j l =
+    IsFirstBroken (Below (Each (λ j. PeriodFault l.stream (l.before + j + 1)) (map view l.list)) l.j) l.first

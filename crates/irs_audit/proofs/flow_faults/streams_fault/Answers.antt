@@ -5,10 +5,15 @@ use Rattle.std.proofs.Common.{Some, ap, arith, map}
 use Rattle.std.proofs.lemmas.List.{length-map}
 
 pub returns-then-list-eq0 : goal.returns-then-list-eq0
-returns-then-list-eq0 c = none_first (map view c.args.list.now) _ (omega (arith, length-map c.args.list.now view)) (ap Some c.at.ensures)
+returns-then-list-eq0 c =
+    none_first (map view c.args.list.now) _ (omega (arith, length-map c.args.list.now view)) (ap Some c.at.ensures)
 
 pub returns-then-list-gt-MOST_STREAMS : goal.returns-then-list-gt-MOST_STREAMS
-returns-then-list-gt-MOST_STREAMS c = too_many_first (map view c.args.list.now) _ (omega (arith, length-map c.args.list.now view)) (ap Some c.at-then-list-gt-MOST_STREAMS.ensures)
+returns-then-list-gt-MOST_STREAMS c =
+    too_many_first (map view c.args.list.now) _ (omega (arith, length-map c.args.list.now view))
+    (ap Some c.at-then-list-gt-MOST_STREAMS.ensures)
 
 pub returns-else-list-gt-MOST_STREAMS : goal.returns-else-list-gt-MOST_STREAMS
-returns-else-list-gt-MOST_STREAMS c = each_first (map view c.args.list.now) _ (omega (arith, length-map c.args.list.now view)) (omega (arith, length-map c.args.list.now view)) c.each_stream_fault.ensures
+returns-else-list-gt-MOST_STREAMS c =
+    each_first (map view c.args.list.now) _ (omega (arith, length-map c.args.list.now view))
+    (omega (arith, length-map c.args.list.now view)) c.each_stream_fault.ensures

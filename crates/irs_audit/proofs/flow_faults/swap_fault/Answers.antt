@@ -7,9 +7,15 @@ use Rattle.serde_json.specs.View.{view}
 use Rattle.std.proofs.Common.{sym, ◌∙◌, Some, codes}
 
 pub returns-in-None : goal.returns-in-None
-returns-in-None c = object_none (OwnFault 0 swap (view c.args.v.now)) (StreamsFault (values_in (codes "swapStream") (Some (view c.args.v.now)))) (view c.args.v.now) c.own_fault-own.result (sym c.members.ensures.names ∙ c.in-None.is) c.own_fault-own.ensures
+returns-in-None c =
+    object_none (OwnFault 0 swap (view c.args.v.now))
+    (StreamsFault (values_in (codes "swapStream") (Some (view c.args.v.now))))
+    (view c.args.v.now) c.own_fault-own.result (sym c.members.ensures.names ∙ c.in-None.is) c.own_fault-own.ensures
 
 pub returns-in-Some : goal.returns-in-Some
 returns-in-Some c =
-    object_some (OwnFault 0 swap (view c.args.v.now)) (StreamsFault (values_in (codes "swapStream") (Some (view c.args.v.now)))) (view c.args.v.now) _ c.own_fault-own.result c.streams_fault.result c.earlier.result (sym c.members.ensures.names ∙ c.in-Some.is) c.earlier.ensures c.own_fault-own.ensures
+    object_some (OwnFault 0 swap (view c.args.v.now))
+    (StreamsFault (values_in (codes "swapStream") (Some (view c.args.v.now))))
+    (view c.args.v.now) _ c.own_fault-own.result c.streams_fault.result c.earlier.result
+    (sym c.members.ensures.names ∙ c.in-Some.is) c.earlier.ensures c.own_fault-own.ensures
     (rw c.values_at.ensures at c.streams_fault.ensures)

@@ -5,4 +5,6 @@ use Rattle.std.proofs.lemmas.Option.{slice_get_read}
 
 pub stream_flows-requires : goal.stream_flows-requires
 stream_flows-requires c =
-    few_at c.args.found.now c.loop-j.j c.index-found-j.result (slice_get_read c.args.found.now (length c.args.found.now) c.loop-j.j c.index-found-j.result refl c.loop-j-test.true c.index-found-j.is) c.requires
+    few_at c.args.found.now c.loop-j.j c.index-found-j.result
+    (slice_get_read c.args.found.now (length c.args.found.now) c.loop-j.j c.index-found-j.result refl
+    c.loop-j-test.true c.index-found-j.is) c.requires

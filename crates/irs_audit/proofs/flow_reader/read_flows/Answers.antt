@@ -8,13 +8,16 @@ use Rattle.serde_json.specs.View.{view}
 use Rattle.std.proofs.Common.{subst, sym}
 
 pub returns-in-Some-clause-fault : goal.returns-in-Some-clause-fault
-returns-in-Some-clause-fault c = subst (λ (e : FlowErr). IsFirstFault (view c.args.v.now) e) (sym c.shape.ensures) (first_shape (view c.args.v.now) c.in-Some.fault c.in-Some.ensures)
+returns-in-Some-clause-fault c =
+    subst (λ (e : FlowErr). IsFirstFault (view c.args.v.now) e) (sym c.shape.ensures)
+    (first_shape (view c.args.v.now) c.in-Some.fault c.in-Some.ensures)
 
 pub flows_of-requires : goal.flows_of-requires
 flows_of-requires c = flows_few (view c.args.v.now) (view c.in-Ok.found.now) (sym c.in-Ok.ensures) c.in_default.ensures
 
 pub returns-in-Err-clause-fault : goal.returns-in-Err-clause-fault
-returns-in-Err-clause-fault c = absurd (c.in_default.ensures c.in-Err.fault (ended c.in-Err.fault (sym c.in-Err.ensures)))
+returns-in-Err-clause-fault c =
+    absurd (c.in_default.ensures c.in-Err.fault (ended c.in-Err.fault (sym c.in-Err.ensures)))
 
 pub returns-in_ok-flows_of-in-Ok-clause-stated : goal.returns-in_ok-flows_of-in-Ok-clause-stated
 returns-in_ok-flows_of-in-Ok-clause-stated c = flows_stated (view c.args.v.now) c.in_default.ensures

@@ -2,4 +2,6 @@ use Rattle.irs_audit.proofs.FieldLemmas.{reset_first}
 use Rattle.irs_audit.proofs.row_fields.reset_field.Goals as goal
 
 pub returns : goal.returns
-returns c = rw c.first_of.ensures (reset_first c.args.x.now c.args.y.now _ _ _ c.day_is_wrong.ensures c.day_is_not_right.ensures c.known_rate_departs.ensures)
+returns c = rw c.first_of.ensures
+    (reset_first c.args.x.now c.args.y.now _ _ _ c.day_is_wrong.ensures c.day_is_not_right.ensures
+    c.known_rate_departs.ensures)

@@ -7,5 +7,7 @@ use Rattle.irs_audit.proofs.stating.exchanges.Goals as goal
 pub amount-requires : goal.amount-requires
 amount-requires c =
     let there : slice_get c.args.part.now.exchanges c.loop-x.x-index ≡ Some c.x-item.result =
-    rw (← c.exchanges-x-items.ensures.value) (slice_get_read c.exchanges-x-items.result.now (length c.exchanges-x-items.result.now) c.loop-x.x-index c.x-item.result refl c.loop-x-test.true c.x-item.is) in
+    rw (← c.exchanges-x-items.ensures.value)
+    (slice_get_read c.exchanges-x-items.result.now
+    (length c.exchanges-x-items.result.now) c.loop-x.x-index c.x-item.result refl c.loop-x-test.true c.x-item.is) in
     exchange_statable c.args.part.now c.loop-x.x-index c.x-item.result c.exchanges-x-items.ensures.bounds there

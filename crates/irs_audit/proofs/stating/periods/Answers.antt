@@ -8,7 +8,8 @@ use Rattle.irs_audit.proofs.stating.periods.Goals.{in-Some+in_ok-push, in_defaul
 
 pub period-requires-in-Some : goal.period-requires-in-Some
 period-requires-in-Some c =
-    let there : period_at c.args.part.now c.loop-place.place ≡ Some c.in-Some.x = sym c.period.ensures.value ∙ c.in-Some.is in
+    let there : period_at c.args.part.now c.loop-place.place ≡ Some c.in-Some.x =
+    sym c.period.ensures.value ∙ c.in-Some.is in
     record {
       start = refl;
       fraction = period_small c.args.part.now c.loop-place.place c.in-Some.x c.period.ensures.bounds there;
@@ -18,10 +19,13 @@ period-requires-in-Some c =
 pub loop-place-preserved : goal.loop-place-preserved
 loop-place-preserved c = elim c.match-period.branch [
   | in-Some+in_ok-push w ↦
-      let there : period_at c.args.part.now c.loop-place.place ≡ Some w.in-Some.x = sym c.period.ensures.value ∙ w.in-Some.is in
+      let there : period_at c.args.part.now c.loop-place.place ≡ Some w.in-Some.x =
+      sym c.period.ensures.value ∙ w.in-Some.is in
       rw (w.list-is, w.in_ok-push.ensures.items, w.period-in-Some.ensures, w.reset_at.ensures)
-      (one_period_more c.args.part.now c.loop-place.place w.in-Some.x c.loop-place.list.items there ∙ c.loop-place.invariant)
+      (one_period_more c.args.part.now c.loop-place.place w.in-Some.x c.loop-place.list.items there
+      ∙ c.loop-place.invariant)
   | in_default w ↦
-      let low : c.loop-place.place < length c.args.part.now.periods = rw (← c.periods-place-end.ensures.count) c.loop-place-test.true in
+      let low : c.loop-place.place < length c.args.part.now.periods =
+      rw (← c.periods-place-end.ensures.count) c.loop-place-test.true in
       absurd (period_there c.args.part.now c.loop-place.place low (sym c.period.ensures.value ∙ w.in_default.is))
 ]

@@ -13,15 +13,22 @@ use Rattle.irs_average.proofs.mean_rows.mean_rows.Goals as goal
 
 pub returns-in_default-clause-broken : goal.returns-in_default-clause-broken
 returns-in_default-clause-broken g c =
-    let source : MeanSource = mean_source c.args.part.now (averaging_by c.args.kind c.args.step (g.G.GoodDays.days c.args.days.now) (own_lines c.args.fix.now c.args.float.now)) in
+    let source : MeanSource =
+    mean_source c.args.part.now
+    (averaging_by c.args.kind c.args.step (g.G.GoodDays.days c.args.days.now)
+    (own_lines c.args.fix.now c.args.float.now)) in
     let number = c.loop-number.number in
     let within : number < length source.adjusted = rw c.adjusted-number-end.ensures.value at c.loop-number-test.true in
     let lacks : LacksDay (mean_period_at source number) = rw c.in_default.is at c.in_ok-found.ensures.none in
-    subst (First derived_before (BreaksSamples source)) (sym c.lacking.ensures) (first_lacking source number (c.loop-number.auto.number, within) lacks c.loop-number.invariant.kept)
+    subst (First derived_before (BreaksSamples source)) (sym c.lacking.ensures)
+    (first_lacking source number (c.loop-number.auto.number, within) lacks c.loop-number.invariant.kept)
 
 pub loop-number-preserved : goal.loop-number-preserved
 loop-number-preserved g c =
-    let source : MeanSource = mean_source c.args.part.now (averaging_by c.args.kind c.args.step (g.G.GoodDays.days c.args.days.now) (own_lines c.args.fix.now c.args.float.now)) in
+    let source : MeanSource =
+    mean_source c.args.part.now
+    (averaging_by c.args.kind c.args.step (g.G.GoodDays.days c.args.days.now)
+    (own_lines c.args.fix.now c.args.float.now)) in
     let number = c.loop-number.number in
     let row = c.in-Some.row in
     let within : number < length source.adjusted = rw c.adjusted-number-end.ensures.value at c.loop-number-test.true in

@@ -13,7 +13,9 @@ returns-clause-is c =
     let fits_high : FitsSigned w64 c.in-Some-Some.high = search rules in
     let fits_width : FitsSigned w64 c.days_between-width.result = search rules in
     let fits_days : FitsSigned w64 c.days_between-days.result = search rules in
-    let rounded : Rounded Nearest (weighed c.in-Some-Some.low c.in-Some-Some.high c.days_between-width.result c.days_between-days.result) c.days_between-width.result c.on_line.result = simp to_z-of_z at c.on_line.ensures.rounded in
+    let rounded : Rounded Nearest
+    (weighed c.in-Some-Some.low c.in-Some-Some.high c.days_between-width.result c.days_between-days.result)
+    c.days_between-width.result c.on_line.result = simp to_z-of_z at c.on_line.ensures.rounded in
     let width : c.days_between-width.result ≡ c.args.far -ℤ c.args.near = c.days_between-width.ensures.value in
     let days : c.days_between-days.result ≡ c.args.end -ℤ c.args.near = c.days_between-days.ensures.value in
     simp to_z-of_z (record {

@@ -13,5 +13,7 @@ as_rate-requires c =
     let fits_high : FitsSigned w64 c.args.high = c.ranges.high in
     let fits_width : FitsSigned w64 c.args.width = c.ranges.width in
     let fits_days : FitsSigned w64 c.args.days = c.ranges.days in
-    let rounded : Rounded Nearest (weighed c.args.low c.args.high c.args.width c.args.days) c.args.width c.rounded_line.result = simp to_z-of_z at c.rounded_line.ensures in
-    simp to_z-of_z (line_small c.args.low c.args.high c.args.width c.args.days c.rounded_line.result c.requires.width.0 c.requires.days.0 c.requires.days.1 rounded c.requires.low c.requires.high)
+    let rounded : Rounded Nearest (weighed c.args.low c.args.high c.args.width c.args.days) c.args.width
+    c.rounded_line.result = simp to_z-of_z at c.rounded_line.ensures in
+    simp to_z-of_z (line_small c.args.low c.args.high c.args.width c.args.days c.rounded_line.result c.requires.width.0
+    c.requires.days.0 c.requires.days.1 rounded c.requires.low c.requires.high)

@@ -14,10 +14,16 @@ returns-clause-some c =
     let fits_months : FitsSigned w64 c.from.result = search rules in
     let month : c.from-month.result ≡ c.month_index.result = simp to_z-of_z at c.from-month.ensures in
     let months : c.from.result ≡ pos c.args.months = c.from.ensures in
-    let sum : to_z w64 (of_z w64 (to_z w64 (of_z w64 c.from-month.result) +ℤ to_z w64 (of_z w64 c.from.result))) ≡ c.month_index.result +ℤ pos c.args.months = omega (arith, signed_arith, month, months, c.month_index.ensures.range) in
+    let sum : to_z w64 (of_z w64 (to_z w64 (of_z w64 c.from-month.result) +ℤ to_z w64 (of_z w64 c.from.result)))
+    ≡ c.month_index.result +ℤ pos c.args.months =
+    omega (arith, signed_arith, month, months, c.month_index.ensures.range) in
     let x : ℤ = day_in_month c.civil_of.result.day (c.month_index.result +ℤ pos c.args.months) in
-    let found : SomeIff c.month_day.result (IsDay x) x = subst (λ (m : ℤ). SomeIff c.month_day.result (IsDay (day_in_month c.civil_of.result.day m)) (day_in_month c.civil_of.result.day m)) sum c.month_day.ensures in
-    months_some c.args.start c.args.months c.month_day.result x found (months_end c.args.start c.month_index.result c.civil_of.result c.args.months c.civil_of.ensures.day c.month_index.ensures.month c.civil_of.ensures.date)
+    let found : SomeIff c.month_day.result (IsDay x) x =
+    subst (λ (m : ℤ). SomeIff c.month_day.result (IsDay (day_in_month c.civil_of.result.day m))
+    (day_in_month c.civil_of.result.day m)) sum c.month_day.ensures in
+    months_some c.args.start c.args.months c.month_day.result x found
+    (months_end c.args.start c.month_index.result c.civil_of.result c.args.months c.civil_of.ensures.day
+    c.month_index.ensures.month c.civil_of.ensures.date)
 
 pub returns-clause-none : goal.returns-clause-none
 returns-clause-none c =
@@ -26,7 +32,13 @@ returns-clause-none c =
     let fits_months : FitsSigned w64 c.from.result = search rules in
     let month : c.from-month.result ≡ c.month_index.result = simp to_z-of_z at c.from-month.ensures in
     let months : c.from.result ≡ pos c.args.months = c.from.ensures in
-    let sum : to_z w64 (of_z w64 (to_z w64 (of_z w64 c.from-month.result) +ℤ to_z w64 (of_z w64 c.from.result))) ≡ c.month_index.result +ℤ pos c.args.months = omega (arith, signed_arith, month, months, c.month_index.ensures.range) in
+    let sum : to_z w64 (of_z w64 (to_z w64 (of_z w64 c.from-month.result) +ℤ to_z w64 (of_z w64 c.from.result)))
+    ≡ c.month_index.result +ℤ pos c.args.months =
+    omega (arith, signed_arith, month, months, c.month_index.ensures.range) in
     let x : ℤ = day_in_month c.civil_of.result.day (c.month_index.result +ℤ pos c.args.months) in
-    let found : SomeIff c.month_day.result (IsDay x) x = subst (λ (m : ℤ). SomeIff c.month_day.result (IsDay (day_in_month c.civil_of.result.day m)) (day_in_month c.civil_of.result.day m)) sum c.month_day.ensures in
-    months_none c.args.start c.args.months c.month_day.result x found (months_end c.args.start c.month_index.result c.civil_of.result c.args.months c.civil_of.ensures.day c.month_index.ensures.month c.civil_of.ensures.date)
+    let found : SomeIff c.month_day.result (IsDay x) x =
+    subst (λ (m : ℤ). SomeIff c.month_day.result (IsDay (day_in_month c.civil_of.result.day m))
+    (day_in_month c.civil_of.result.day m)) sum c.month_day.ensures in
+    months_none c.args.start c.args.months c.month_day.result x found
+    (months_end c.args.start c.month_index.result c.civil_of.result c.args.months c.civil_of.ensures.day
+    c.month_index.ensures.month c.civil_of.ensures.date)

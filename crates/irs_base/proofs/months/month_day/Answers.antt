@@ -11,4 +11,5 @@ returns-then-m-lt-FIRST_MONTH c = λ r. omega (arith, signed_arith, day_in_month
 pub returns : goal.returns
 returns c =
     let e = cast_of c.args.m c.ranges.m (omega (arith, signed_arith)) in
-    subst (λ (z : ℤ). SomeIff c.day_of_month.result (IsDay (day_in_month c.args.n z)) (day_in_month c.args.n z)) e c.day_of_month.ensures
+    subst (λ (z : ℤ). SomeIff c.day_of_month.result (IsDay (day_in_month c.args.n z)) (day_in_month c.args.n z)) e
+    c.day_of_month.ensures

@@ -10,7 +10,9 @@ use Rattle.irs_bulk.proofs.BulkRunLemmas.{one_bulk}
 use Rattle.irs_bulk.proofs.runs.bulk.Goals as goal
 
 -- the reply of a refusal is what is due
-replied : {E : Type 0} (r : Result Reply E) (e : Refusal) (P : ℕ → List ℕ → Type 0) → IfOk r (λ x. answer_of e ≡ Some (reply_status x, reply_text x)) → IfRefused e P → IfOk r (λ x. P (reply_status x) (reply_text x))
+replied : {E : Type 0} (r : Result Reply E) (e : Refusal) (P : ℕ → List ℕ → Type 0)
+    → IfOk r (λ x. answer_of e ≡ Some (reply_status x, reply_text x)) → IfRefused e P
+    → IfOk r (λ x. P (reply_status x) (reply_text x))
 replied (Ok x) e P h k = ends_by e x P h k
 replied (Err m) e P h k = tt
 
@@ -21,4 +23,5 @@ pub returns-in-Err-clause-one : goal.returns-in-Err-clause-one
 returns-in-Err-clause-one c = λ s u t v h k. one_bulk s u t v c.args.n h k
 
 pub returns-in-Err-clause-due : goal.returns-in-Err-clause-due
-returns-in-Err-clause-due c = replied c.reply.result c.in-Err.refusal (Ends (DueBulk c.args.n)) c.reply.ensures c.in-Err.ensures
+returns-in-Err-clause-due c =
+    replied c.reply.result c.in-Err.refusal (Ends (DueBulk c.args.n)) c.reply.ensures c.in-Err.ensures

@@ -12,14 +12,16 @@ returns-in_err-schedule-clause-refused c =
     let e = c.in_err-schedule.field-0.0 in
     let made = c.from_residual in
     let k = c.args.k in
-    refused_by made.result e (λ r. IfRefused r (Ends (DueAt k))) made.ensures.0 made.ensures.1 (refused_document k e c.in_err-schedule.ensures.refused)
+    refused_by made.result e (λ r. IfRefused r (Ends (DueAt k))) made.ensures.0 made.ensures.1
+    (refused_document k e c.in_err-schedule.ensures.refused)
 
 pub returns-in_err-plain-clause-refused : goal.returns-in_err-plain-clause-refused
 returns-in_err-plain-clause-refused c =
     let e = c.in_err-plain.field-0.0 in
     let made = c.from_residual-in_err-plain in
     let k = c.args.k in
-    refused_by made.result e (λ r. IfRefused r (Ends (DueAt k))) made.ensures.0 made.ensures.1 (refused_plain k c.in_ok-schedule.schedule e c.in_ok-schedule.ensures.schedule c.in_err-plain.ensures.refused)
+    refused_by made.result e (λ r. IfRefused r (Ends (DueAt k))) made.ensures.0 made.ensures.1
+    (refused_plain k c.in_ok-schedule.schedule e c.in_ok-schedule.ensures.schedule c.in_err-plain.ensures.refused)
 
 pub returns-clause-adds : goal.returns-clause-adds
 returns-clause-adds c = record {
@@ -28,6 +30,8 @@ returns-clause-adds c = record {
   plain = c.in_ok-plain.plain;
   of_plain = c.in_ok-plain.ensures.schedule;
   verdict = c.audit.result;
-  is_verdict = subst (λ (f : List FlowPart). IsVerdict f c.in_ok-schedule.schedule c.audit.result) c.in_ok-flows.ensures.value c.audit.ensures.verdict;
+  is_verdict =
+      subst (λ (f : List FlowPart). IsVerdict f c.in_ok-schedule.schedule c.audit.result) c.in_ok-flows.ensures.value
+      c.audit.ensures.verdict;
   adds = c.totals_by.ensures.value;
 }

@@ -9,7 +9,8 @@ use Rattle.irs_bulk.proofs.runs.run.Goals as goal
 pub returns-in_err-totals : goal.returns-in_err-totals
 returns-in_err-totals c =
     let made = c.from_residual in
-    answered_by made.result c.in_err-totals.field-0.0 (Ends (DueBulk c.args.n)) made.ensures.0 made.ensures.1 c.in_err-totals.ensures.refused
+    answered_by made.result c.in_err-totals.field-0.0
+    (Ends (DueBulk c.args.n)) made.ensures.0 made.ensures.1 c.in_err-totals.ensures.refused
 
 pub returns : goal.returns
 returns c =

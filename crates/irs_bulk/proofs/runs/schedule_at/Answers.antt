@@ -7,12 +7,17 @@ use Rattle.irs_bulk.proofs.runs.schedule_at.Goals as goal
 
 pub returns-in-Ok-clause-schedule : goal.returns-in-Ok-clause-schedule
 returns-in-Ok-clause-schedule c =
-    schedule_by c.args.plain c.args.k c.in_ok-swap.swap c.in-Ok.calendars c.none.result c.in_ok-swap.ensures.spells (subst IsCalendar c.in-Ok.is c.requires.calendar) c.none.ensures c.schedule_of-in-Ok.result c.schedule_of-in-Ok.ensures.schedule
+    schedule_by c.args.plain c.args.k c.in_ok-swap.swap c.in-Ok.calendars c.none.result c.in_ok-swap.ensures.spells
+    (subst IsCalendar c.in-Ok.is c.requires.calendar) c.none.ensures c.schedule_of-in-Ok.result
+    c.schedule_of-in-Ok.ensures.schedule
 
 pub returns-in-Ok-clause-refused : goal.returns-in-Ok-clause-refused
 returns-in-Ok-clause-refused c =
-    unscheduled_by c.args.plain c.args.k c.in_ok-swap.swap c.in-Ok.calendars c.none.result c.in_ok-swap.ensures.spells (subst IsCalendar c.in-Ok.is c.requires.calendar) c.none.ensures c.schedule_of-in-Ok.result c.schedule_of-in-Ok.ensures.refused
+    unscheduled_by c.args.plain c.args.k c.in_ok-swap.swap c.in-Ok.calendars c.none.result c.in_ok-swap.ensures.spells
+    (subst IsCalendar c.in-Ok.is c.requires.calendar) c.none.ensures c.schedule_of-in-Ok.result
+    c.schedule_of-in-Ok.ensures.refused
 
 pub returns-clause-refused : goal.returns-clause-refused
 returns-clause-refused c =
-    refuse_calendars Schedule (files_of c.args.plain c.args.k) c.in_ok-swap.swap None c.in-Err.fault c.in_ok-swap.ensures.spells (subst IsCalendar c.in-Err.is c.requires.calendar)
+    refuse_calendars Schedule (files_of c.args.plain c.args.k) c.in_ok-swap.swap None c.in-Err.fault
+    c.in_ok-swap.ensures.spells (subst IsCalendar c.in-Err.is c.requires.calendar)

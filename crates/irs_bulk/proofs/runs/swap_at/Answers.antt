@@ -18,7 +18,9 @@ returns-in_err-document-clause-refused c =
     let k = c.args.k in
     let text : c.deref.result.now ≡ document_text plain k = c.deref.ensures.value ∙ c.in_ok-bulk_doc.ensures in
     refused_by made.result (of_json e) (λ r. IfRefused r (Ends (DueSchedule plain k))) made.ensures.0 made.ensures.1
-    (refuse_json Schedule (files_of plain k) e (λ q v reads. c.in_err-document.ensures.not_json (ap Err q) v (subst (λ (l : List ℕ). Reads l v) (sym text) reads)))
+    (refuse_json Schedule (files_of plain k) e
+    (λ q v reads. c.in_err-document.ensures.not_json (ap Err q) v
+    (subst (λ (l : List ℕ). Reads l v) (sym text) reads)))
 
 pub returns-in_err-read_swap-clause-refused : goal.returns-in_err-read_swap-clause-refused
 returns-in_err-read_swap-clause-refused c =
@@ -29,10 +31,18 @@ returns-in_err-read_swap-clause-refused c =
     let text : c.deref.result.now ≡ document_text plain k = c.deref.ensures.value ∙ c.in_ok-bulk_doc.ensures in
     let v : Data = view c.in_ok-document.document in
     refused_by made.result (of_stopped e) (λ r. IfRefused r (Ends (DueSchedule plain k))) made.ensures.0 made.ensures.1
-    (refuse_read Schedule (files_of plain k) v e (subst (λ (l : List ℕ). Reads l v) text c.in_ok-document.ensures.reads) c.in_err-read_swap.ensures.broken)
+    (refuse_read Schedule (files_of plain k) v e (subst (λ (l : List ℕ). Reads l v) text c.in_ok-document.ensures.reads)
+    c.in_err-read_swap.ensures.broken)
 
 pub returns-clause-spells : goal.returns-clause-spells
 returns-clause-spells c =
-    let text : c.deref.result.now ≡ document_text c.args.plain c.args.k = c.deref.ensures.value ∙ c.in_ok-bulk_doc.ensures in
+    let text : c.deref.result.now ≡ document_text c.args.plain c.args.k =
+    c.deref.ensures.value ∙ c.in_ok-bulk_doc.ensures in
     let v : Data = view c.in_ok-document.document in
-    record { value = v; reads = subst (λ (l : List ℕ). Reads l v) text c.in_ok-document.ensures.reads; means = c.in_ok-read_swap.ensures.means; has_sides = refl }
+    record {
+      value = v;
+      reads = subst (λ (l : List ℕ). Reads l v) text c.in_ok-document.ensures.reads;
+      means =
+          c.in_ok-read_swap.ensures.means;
+      has_sides = refl;
+    }

@@ -14,7 +14,8 @@ returns-in-Err-clause-refused c =
     let e = c.in-Err.refusal in
     let n = c.args.n in
     let k = c.loop-before.before in
-    let here : IfRefused e (Ends (DueAt (suc k))) = subst (λ (i : ℕ). IfRefused e (Ends (DueAt i))) (next_is k) c.in-Err.ensures.refused in
+    let here : IfRefused e (Ends (DueAt (suc k))) =
+    subst (λ (i : ℕ). IfRefused e (Ends (DueAt i))) (next_is k) c.in-Err.ensures.refused in
     bulk_refused n k c.loop-before.totals e c.loop-before-test.true c.loop-before.invariant.sums here
 
 pub loop-before-preserved : goal.loop-before-preserved
@@ -25,7 +26,8 @@ loop-before-preserved c =
     let adds : Adds (suc k) u = subst (λ (i : ℕ). Adds i u) (next_is k) c.in-Ok.ensures.adds in
     let sums : AreSums (suc k) (both_totals t u) = sums_more k t u c.loop-before.invariant.sums adds in
     record {
-      sums = subst (λ (i : ℕ). AreSums i c.with-totals.result) (sym (next_is k)) (subst (λ (x : Totals). AreSums (suc k) x) (sym c.with-totals.ensures.value) sums);
+      sums = subst (λ (i : ℕ). AreSums i c.with-totals.result) (sym (next_is k))
+          (subst (λ (x : Totals). AreSums (suc k) x) (sym c.with-totals.ensures.value) sums);
       run = c.with-totals.ensures.run;
       documents = search (arith, c.with-totals.ensures.value, c.loop-before.invariant.documents, c.in-Ok.ensures.one);
     }

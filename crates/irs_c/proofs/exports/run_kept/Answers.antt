@@ -10,7 +10,8 @@ use Rattle.irs_c.specs.declared.given.File.{File}
 use Rattle.irs_c.proofs.exports.run_kept.Goals as goal
 
 -- what was written to an empty sink is what it keeps
-kept : (ws : Words) (s : ℕ) (fs gs : List File) (before after : List ℕ) → gs ≡ fs → before ≡ [] → (text : List ℕ) × Due ws (file_in gs) s text × Grew (Some before) (Some after) text → Due ws (file_in fs) s after
+kept : (ws : Words) (s : ℕ) (fs gs : List File) (before after : List ℕ) → gs ≡ fs → before ≡ []
+    → (text : List ℕ) × Due ws (file_in gs) s text × Grew (Some before) (Some after) text → Due ws (file_in fs) s after
 kept ws s fs gs before after same empty (text, due, grew) =
     let is : text ≡ after = grind arith in
     subst (λ (t : List ℕ). Due ws (file_in fs) s t) is (subst (λ (xs : List File). Due ws (file_in xs) s text) same due)
@@ -18,21 +19,38 @@ kept ws s fs gs before after same empty (text, due, grew) =
 -- the file of the fetch that failed isn't there
 reached : (gs hs : List File) (failed : Option (List ℕ)) (place : ℕ) (ws : List Wanted)
     → ((n : List ℕ) → file_in hs n ≡ file_in gs n) → ((n : List ℕ) → failed ≡ Some n → file_in hs n ≡ None)
-    → Reaches (NotLong (file_in gs)) (FailedAt failed place) ws → Reaches (NotLong (file_in gs)) (AbsentAt (file_in gs) place) ws
+    → Reaches (NotLong (file_in gs)) (FailedAt failed place) ws
+    → Reaches (NotLong (file_in gs)) (AbsentAt (file_in gs) place) ws
 reached gs hs failed place [] told none h = absurd h
-reached gs hs failed place (w ∷ ws) told none (inl h) = inl (record { at = h.at; none = sym (told w.name) ∙ none w.name h.is_failed })
+reached gs hs failed place (w ∷ ws) told none (inl h) =
+    inl (record { at = h.at; none = sym (told w.name) ∙ none w.name h.is_failed })
 reached gs hs failed place (w ∷ ws) told none (inr h) = inr (h.0, reached gs hs failed place ws told none h.1)
 
-absent : (ws : Words) (fs gs hs : List File) (failed : Option (List ℕ)) (faults now : ℕ) (before after : List ℕ) → gs ≡ fs
-    → ((n : List ℕ) → file_in hs n ≡ file_in gs n) → ((n : List ℕ) → failed ≡ Some n → file_in hs n ≡ None) → before ≡ []
-    → (text : List ℕ) × NoFile ws (file_in gs) failed faults now text × Grew (Some before) (Some after) text → IsAbsent ws (file_in fs) after
+absent : (ws : Words) (fs gs hs : List File) (failed : Option (List ℕ)) (faults now : ℕ) (before after : List ℕ)
+    → gs ≡ fs
+    → ((n : List ℕ) → file_in hs n ≡ file_in gs n) → ((n : List ℕ) → failed ≡ Some n → file_in hs n ≡ None)
+    → before ≡ []
+    → (text : List ℕ) × NoFile ws (file_in gs) failed faults now text × Grew (Some before) (Some after) text
+    → IsAbsent ws (file_in fs) after
 absent ws fs gs hs failed faults now before after same told none empty (text, missed, grew) =
     let is : text ≡ after = grind arith in
-    subst (λ (t : List ℕ). IsAbsent ws (file_in fs) t) is (subst (λ (xs : List File). IsAbsent ws (file_in xs) text) same
-    (record { asked = missed.asked; asks = missed.asks; place = missed.place; file = reached gs hs failed missed.place missed.asked.files told none missed.file; is_text = missed.is_text }))
+    subst (λ (t : List ℕ). IsAbsent ws (file_in fs) t) is
+    (subst (λ (xs : List File). IsAbsent ws (file_in xs) text) same
+    (record {
+      asked = missed.asked;
+      asks = missed.asks;
+      place = missed.place;
+      file =
+          reached gs hs failed missed.place missed.asked.files told none missed.file;
+      is_text = missed.is_text;
+    }))
 
 pub returns-clause-due : goal.returns-clause-due
-returns-clause-due c ne5 = kept _ _ _ _ _ _ c.new-source.ensures c.new-kept.ensures (c.run-status.ensures.due ne5 c.if-status-eq6.false c.if-status-eq7.false)
+returns-clause-due c ne5 =
+    kept _ _ _ _ _ _ c.new-source.ensures c.new-kept.ensures
+    (c.run-status.ensures.due ne5 c.if-status-eq6.false c.if-status-eq7.false)
 
 pub returns-clause-absent : goal.returns-clause-absent
-returns-clause-absent c is5 = absent _ _ _ _ _ _ _ _ _ c.new-source.ensures c.run-status.ensures.told c.run-status.new.files.absent c.new-kept.ensures (c.run-status.ensures.failed is5)
+returns-clause-absent c is5 =
+    absent _ _ _ _ _ _ _ _ _ c.new-source.ensures c.run-status.ensures.told c.run-status.new.files.absent
+    c.new-kept.ensures (c.run-status.ensures.failed is5)

@@ -4,4 +4,6 @@ use Rattle.irs_calendar.proofs.CoverLemmas.{sections_at}
 use Rattle.irs_calendar.proofs.calendars.pick.Given as goal
 
 abbrev pub invariant-loop-name : goal.invariant-loop-name
-invariant-loop-name l = Picks l.sections (sections_at l.picked.items) l.number (drop l.name-index l.names) l.names × (l.number ≡ l.name-index + 1)
+invariant-loop-name l =
+    Picks l.sections (sections_at l.picked.items) l.number (drop l.name-index l.names) l.names
+    × (l.number ≡ l.name-index + 1)

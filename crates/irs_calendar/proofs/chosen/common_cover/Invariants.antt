@@ -6,6 +6,8 @@ use Rattle.irs_calendar.proofs.chosen.common_cover.Given as goal
 
 abbrev pub invariant-loop-s : goal.invariant-loop-s
 invariant-loop-s l = record {
-  first : latest_first l.first (sections_at (drop l.s-index l.sections)) ≡ latest_first first_day (sections_at l.sections);
-  last : earliest_last l.last (sections_at (drop l.s-index l.sections)) ≡ earliest_last last_day (sections_at l.sections);
+  first : latest_first l.first (sections_at (drop l.s-index l.sections))
+      ≡ latest_first first_day (sections_at l.sections);
+  last : earliest_last l.last (sections_at (drop l.s-index l.sections))
+      ≡ earliest_last last_day (sections_at l.sections);
 }

@@ -8,4 +8,9 @@ returns-then-rest-eq0 c = none_left c.args.word c.args.k c.requires c.if-rest-eq
 
 pub returns-else-rest-eq0 : goal.returns-else-rest-eq0
 returns-else-rest-eq0 c =
-    lowest_left c.args.word c.args.k _ c.requires (omega (arith, c.ranges.word.fits)) (omega (arith, c.if-rest-eq0.false)) (omega (arith, c.ranges.word.fits, div-le_self c.args.word (2 ^ c.args.k))) refl
+    lowest_left c.args.word c.args.k _ c.requires (omega (arith, c.ranges.word.fits))
+    (omega (arith, c.if-rest-eq0.false)) (omega (
+      arith,
+      c.ranges.word.fits,
+      div-le_self c.args.word (2 ^ c.args.k),
+    )) refl

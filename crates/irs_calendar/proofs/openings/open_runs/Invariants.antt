@@ -8,7 +8,8 @@ use Rattle.irs_calendar.proofs.openings.open_runs.Given as goal
 
 abbrev pub invariant-loop-k : goal.invariant-loop-k
 invariant-loop-k l = record {
-  among : Among (all_open (map {A = Bor Section} {B = Section} (λ s. s.now) l.sections)) l.first l.days l.k l.runs.items;
+  among : Among (all_open (map {A = Bor Section} {B = Section} (λ s. s.now) l.sections)) l.first l.days l.k
+      l.runs.items;
   known : l.k < l.listed → IsNext (is_marked l.marks.items) l.k l.listed l.days;
   weekend : IsWeekend (map {A = Bor Section} {B = Section} (λ s. s.now) l.sections) l.first l.days l.k l.weekend;
 }

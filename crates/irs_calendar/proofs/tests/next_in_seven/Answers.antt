@@ -22,4 +22,6 @@ at_most k few = elim (cases_le k) [
         too_many n (omega (arith, e, h))
 
 pub returns : goal.returns
-returns g c = at_most _ (subst (λ (n : ℕ). 2 ^ (c.next_good_counted.new.steps - c.args.steps.now) ≤ 4 * n + 2) c.requires c.next_good_counted.ensures.cost)
+returns g c =
+    at_most _ (subst (λ (n : ℕ). 2 ^ (c.next_good_counted.new.steps - c.args.steps.now) ≤ 4 * n + 2) c.requires
+    c.next_good_counted.ensures.cost)

@@ -4,4 +4,5 @@ use Rattle.irs_calendar.specs.Weekends.{off_on}
 use Rattle.irs_calendar.proofs.weekends.is_off.Given as goal
 
 abbrev pub invariant-loop-s : goal.invariant-loop-s
-invariant-loop-s l = off_on (map {A = Bor Section} {B = Section} (λ s. s.now) (take l.s-index l.sections)) l.place ≡ false
+invariant-loop-s l =
+    off_on (map {A = Bor Section} {B = Section} (λ s. s.now) (take l.s-index l.sections)) l.place ≡ false

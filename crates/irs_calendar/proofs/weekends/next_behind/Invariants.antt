@@ -6,5 +6,7 @@ use Rattle.irs_calendar.proofs.weekends.next_behind.Given as goal
 abbrev pub invariant-loop-p : goal.invariant-loop-p
 invariant-loop-p l = record {
   each : length l.next ≡ 7;
-  old : (q : ℕ) → q < l.p → (slice_index_or l.shut q 0 ≤ slice_index_or l.next q 0) × IsStretch (off_on (map {A = Bor Section} {B = Section} (λ s. s.now) l.sections)) false ((q + slice_index_or l.shut q 0) % 7) (slice_index_or l.next q 0 - slice_index_or l.shut q 0);
+  old : (q : ℕ) → q < l.p → (slice_index_or l.shut q 0 ≤ slice_index_or l.next q 0)
+      × IsStretch (off_on (map {A = Bor Section} {B = Section} (λ s. s.now) l.sections)) false
+      ((q + slice_index_or l.shut q 0) % 7) (slice_index_or l.next q 0 - slice_index_or l.shut q 0);
 }

@@ -9,5 +9,7 @@ pub loop-p-preserved : goal.loop-p-preserved
 loop-p-preserved c =
     record {
       each = length-set c.loop-p.shut c.loop-p.p c.stretch.result ∙ c.loop-p.invariant.each;
-      old = table_more (λ q n. IsStretch (off_on (map {A = Bor Section} {B = Section} (λ s. s.now) c.args.sections.now)) true q (n)) c.loop-p.shut c.loop-p.p c.stretch.result (omega (arith, c.loop-p.invariant.each, c.loop-p-test.true)) c.stretch.ensures c.loop-p.invariant.old;
+      old = table_more (λ q n. IsStretch (off_on (map {A = Bor Section} {B = Section} (λ s. s.now) c.args.sections.now))
+          true q (n)) c.loop-p.shut c.loop-p.p c.stretch.result
+          (omega (arith, c.loop-p.invariant.each, c.loop-p-test.true)) c.stretch.ensures c.loop-p.invariant.old;
     }

@@ -6,5 +6,7 @@ use Rattle.irs_calendar.proofs.weekends.shut_from.Given as goal
 abbrev pub invariant-loop-p : goal.invariant-loop-p
 invariant-loop-p l = record {
   each : length l.shut ≡ 7;
-  old : (q : ℕ) → q < l.p → IsStretch (off_on (map {A = Bor Section} {B = Section} (λ s. s.now) l.sections)) true q (slice_index_or l.shut q 0);
+  old : (q : ℕ) → q < l.p
+      → IsStretch (off_on (map {A = Bor Section} {B = Section} (λ s. s.now) l.sections)) true q
+      (slice_index_or l.shut q 0);
 }

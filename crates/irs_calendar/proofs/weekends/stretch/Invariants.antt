@@ -6,7 +6,8 @@ use Rattle.irs_calendar.proofs.weekends.stretch.Given as goal
 abbrev pub invariant-loop-n : goal.invariant-loop-n
 invariant-loop-n l = record {
   few : l.n ≤ 7;
-  same : (i : ℕ) → i < l.n → off_on (map {A = Bor Section} {B = Section} (λ s. s.now) l.sections) ((l.place + i) % 7) ≡ l.closed;
+  same : (i : ℕ) → i < l.n → off_on (map {A = Bor Section} {B = Section} (λ s. s.now) l.sections) ((l.place + i) % 7)
+      ≡ l.closed;
 }
 
 abbrev pub decreases-loop-n : goal.decreases-loop-n

@@ -4,7 +4,8 @@ use Rattle.irs_calendar.specs.Words.{weekend_of, no_days}
 use Rattle.irs_calendar.proofs.words.weekend.Given as goal
 
 abbrev pub invariant-loop-name : goal.invariant-loop-name
-invariant-loop-name l = (weekend_of (Some l.days) (fields l.rest) ≡ weekend_of (Some no_days) (fields l.names)) × (length l.days ≡ 7)
+invariant-loop-name l =
+    (weekend_of (Some l.days) (fields l.rest) ≡ weekend_of (Some no_days) (fields l.names)) × (length l.days ≡ 7)
 
 abbrev pub decreases-loop-name : goal.decreases-loop-name
 decreases-loop-name l = length l.rest

@@ -5,5 +5,6 @@ use Rattle.irs_cli.proofs.commands.files_of.Given as goal
 abbrev pub invariant-loop-index : goal.invariant-loop-index
 invariant-loop-index l = record {
   place : l.place ≡ params_of l.fn.kind + 1 + l.index;
-  files : map wanted_by l.files.items ++ files_from (roles_of l.fn.kind) l.place l.index (drop l.index (texts l.words)) ≡ files_from (roles_of l.fn.kind) (params_of l.fn.kind + 1) 0 (texts l.words);
+  files : map wanted_by l.files.items ++ files_from (roles_of l.fn.kind) l.place l.index (drop l.index (texts l.words))
+      ≡ files_from (roles_of l.fn.kind) (params_of l.fn.kind + 1) 0 (texts l.words);
 }

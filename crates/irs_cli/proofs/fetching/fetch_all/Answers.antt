@@ -15,8 +15,12 @@ returns-in_err-bytes-clause-all g c =
     let failed = g.F.Files.failed c.fetch.new.files in
     let e = c.in_err-bytes.field-0.0 in
     let l = c.loop-named in
-    all_by told failed before now (map wanted_by c.args.names.now) c.from_residual.result e c.from_residual.ensures.0 c.from_residual.ensures.1
-    (stops_at told c.args.names.now l.named-index _ (given_by l.fetched) failed before now e c.loop-named-test.true l.invariant.held (stops_before told later failed before mid now _ _ e l.invariant.told l.invariant.quiet c.in_err-bytes.ensures.one))
+    all_by told failed before now (map wanted_by c.args.names.now) c.from_residual.result e c.from_residual.ensures.0
+    c.from_residual.ensures.1
+    (stops_at told c.args.names.now l.named-index _
+    (given_by l.fetched) failed before now e c.loop-named-test.true l.invariant.held
+    (stops_before told later failed before mid now _ _ e l.invariant.told l.invariant.quiet
+    c.in_err-bytes.ensures.one))
 
 pub loop-named-preserved : goal.loop-named-preserved
 loop-named-preserved g c =
@@ -27,5 +31,7 @@ loop-named-preserved g c =
     record {
       told = λ n. c.fetch.ensures.told n ∙ l.invariant.told n;
       quiet = c.in_ok-bytes.ensures.one.1 ∙ l.invariant.quiet;
-      held = held_more told c.args.names.now l.named-index _ (given_by l.fetched) (given_by c.put_file.new.files) got c.loop-named-test.true l.invariant.held (holds_before told later _ got l.invariant.told c.in_ok-bytes.ensures.one.0) c.in_ok-put_file.ensures;
+      held = held_more told c.args.names.now l.named-index _ (given_by l.fetched)
+          (given_by c.put_file.new.files) got c.loop-named-test.true l.invariant.held
+          (holds_before told later _ got l.invariant.told c.in_ok-bytes.ensures.one.0) c.in_ok-put_file.ensures;
     }

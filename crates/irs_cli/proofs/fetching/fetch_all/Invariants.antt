@@ -9,5 +9,6 @@ abbrev pub invariant-loop-named : goal.invariant-loop-named
 invariant-loop-named g l = record {
   told : (n : List ℕ) → g.F.Files.told l.files n ≡ g.F.Files.told l.fn.files n;
   quiet : g.F.Files.faults l.files ≡ g.F.Files.faults l.fn.files;
-  held : Gathers (Holds (g.F.Files.told l.fn.files)) (map wanted_by (take l.named-index l.names)) no_files (given_by l.fetched);
+  held : Gathers (Holds (g.F.Files.told l.fn.files)) (map wanted_by (take l.named-index l.names)) no_files
+      (given_by l.fetched);
 }

@@ -16,7 +16,9 @@ use Rattle.irs_cli.proofs.program.carry_out.Goals as goal
 pub returns-in_default-clause-answered : goal.returns-in_default-clause-answered
 returns-in_default-clause-answered g c =
     let ws = texts c.args.words.now in
-    unlisted_replies ws (g.F.Files.told c.args.files.now) (g.F.Files.failed c.args.files.now) (g.F.Files.faults c.args.files.now) (unlisted_by ws c.in_ok-command.field-0 c.in_ok-command.ensures c.in_default.is)
+    unlisted_replies ws (g.F.Files.told c.args.files.now) (g.F.Files.failed c.args.files.now)
+    (g.F.Files.faults c.args.files.now)
+    (unlisted_by ws c.in_ok-command.field-0 c.in_ok-command.ensures c.in_default.is)
 
 pub returns-in_err-fetched-clause-answered : goal.returns-in_err-fetched-clause-answered
 returns-in_err-fetched-clause-answered g c =
@@ -29,8 +31,11 @@ returns-in_err-fetched-clause-answered g c =
     let now = g.F.Files.faults c.fetch_all.new.files in
     let k = c.in-Some.command in
     let asks : Asks ws (asked_by k) = asks_by ws c.in_ok-command.field-0 k c.in_ok-command.ensures c.in-Some.is in
-    let stops : Stops told (asked_by k).files failed before now e = subst (λ (l : List Named). Stops told (map wanted_by l) failed before now e) c.deref.ensures.value c.in_err-fetched.ensures.all in
-    answered_by made.result (of_fetch e) (Replies ws told failed before now) made.ensures.0 made.ensures.1 (stopped_replies ws told (asked_by k) failed before now e asks stops)
+    let stops : Stops told (asked_by k).files failed before now e =
+    subst (λ (l : List Named). Stops told (map wanted_by l) failed before now e) c.deref.ensures.value
+    c.in_err-fetched.ensures.all in
+    answered_by made.result (of_fetch e) (Replies ws told failed before now) made.ensures.0 made.ensures.1
+    (stopped_replies ws told (asked_by k) failed before now e asks stops)
 
 pub reply_to-requires-clause-within : goal.reply_to-requires-clause-within
 reply_to-requires-clause-within g c =
@@ -39,7 +44,9 @@ reply_to-requires-clause-within g c =
     let k = c.in-Some.command in
     let asks : Asks ws (asked_by k) = asks_by ws c.in_ok-command.field-0 k c.in_ok-command.ensures c.in-Some.is in
     let f = given_by c.in_ok-fetched.fetched in
-    let held : Gathers (Holds told) (asked_by k).files no_files f = subst (λ (l : List Named). Gathers (Holds told) (map wanted_by l) no_files f) c.deref.ensures.value c.in_ok-fetched.ensures.all.0 in
+    let held : Gathers (Holds told) (asked_by k).files no_files f =
+    subst (λ (l : List Named). Gathers (Holds told) (map wanted_by l) no_files f) c.deref.ensures.value
+    c.in_ok-fetched.ensures.all.0 in
     gathers_within (Holds told) (asked_by k).files f (λ name bytes h. h.1) (few_cals ws (asked_by k) asks) held
 
 pub reply_to-requires-clause-lawful : goal.reply_to-requires-clause-lawful
@@ -55,6 +62,10 @@ returns-clause-answered g c =
     let k = c.in-Some.command in
     let asks : Asks ws (asked_by k) = asks_by ws c.in_ok-command.field-0 k c.in_ok-command.ensures c.in-Some.is in
     let f = given_by c.in_ok-fetched.fetched in
-    let held : Gathers (Holds told) (asked_by k).files no_files f = subst (λ (l : List Named). Gathers (Holds told) (map wanted_by l) no_files f) c.deref.ensures.value c.in_ok-fetched.ensures.all.0 in
+    let held : Gathers (Holds told) (asked_by k).files no_files f =
+    subst (λ (l : List Named). Gathers (Holds told) (map wanted_by l) no_files f) c.deref.ensures.value
+    c.in_ok-fetched.ensures.all.0 in
     let reply = c.in_ok-reply_to.field-0 in
-    ended_replies ws told (asked_by k) f (g.F.Files.failed c.fetch_all.new.files) (g.F.Files.faults c.args.files.now) (g.F.Files.faults c.fetch_all.new.files) asks held c.in_ok-fetched.ensures.all.1 (reply_status reply) (reply_text reply) c.in_ok-reply_to.ensures
+    ended_replies ws told (asked_by k) f (g.F.Files.failed c.fetch_all.new.files) (g.F.Files.faults c.args.files.now)
+    (g.F.Files.faults c.fetch_all.new.files) asks held c.in_ok-fetched.ensures.all.1 (reply_status reply)
+    (reply_text reply) c.in_ok-reply_to.ensures

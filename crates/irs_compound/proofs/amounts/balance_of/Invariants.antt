@@ -3,4 +3,5 @@ use Rattle.irs_compound.specs.Balances.{Balances}
 use Rattle.irs_compound.proofs.amounts.balance_of.Given as goal
 
 abbrev pub invariant-loop-p : goal.invariant-loop-p
-invariant-loop-p l = record { counts : l.position ≡ l.p-index; balances : Balances l.code l.periods l.p-index l.balance }
+invariant-loop-p l =
+    record { counts : l.position ≡ l.p-index; balances : Balances l.code l.periods l.p-index l.balance }

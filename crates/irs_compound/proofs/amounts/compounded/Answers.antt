@@ -12,8 +12,10 @@ returns-clause-amount c =
     let blank : PeriodTerm = record { notional = pos 0; rates = None; frac = record { num = pos 0; den = pos 0 } } in
     let fr : FitsSigned w128 c.rounded_sum.result = search rules in
     let fd : FitsSigned w64 (get_or ps 0 blank).frac.den = search rules in
-    let r : RoundedAt c.args.code (get_or ps 0 blank).frac.den c.in_ok-balance.balance.sum c.args.places c.rounded_sum.result = simp to_z-of_z at c.rounded_sum.ensures in
-    simp to_z-of_z (pays_from c.args.code ps (get_or ps 0 blank).frac.den c.in_ok-balance.balance c.args.places c.rounded_sum.result (first_denominator ps blank c.requires.payment.0) c.in_ok-balance.ensures.ok r)
+    let r : RoundedAt c.args.code (get_or ps 0 blank).frac.den c.in_ok-balance.balance.sum c.args.places
+    c.rounded_sum.result = simp to_z-of_z at c.rounded_sum.ensures in
+    simp to_z-of_z (pays_from c.args.code ps (get_or ps 0 blank).frac.den c.in_ok-balance.balance c.args.places
+    c.rounded_sum.result (first_denominator ps blank c.requires.payment.0) c.in_ok-balance.ensures.ok r)
 
 pub returns-clause-within : goal.returns-clause-within
 returns-clause-within c = none_passes c.args.code c.args.periods.now c.in_ok-balance.balance c.in_ok-balance.ensures.ok

@@ -18,25 +18,34 @@ returns-in-Flat-clause-some c =
     let p = c.args.p.now in
     let r = c.unwrap-rates.result in
     let fb : FitsSigned w128 c.args.before.kept = search rules in
-    rw c.in-Flat.is (takes c.add_parts-in-Flat.result Flat p r c.args.before c.flat_parts.result c.unwrap-rates.ensures c.if-not-are_within.ensures (simp to_z-of_z at c.flat_parts.ensures) (rw c.in-Flat.is at c.add_parts-in-Flat.ensures))
+    rw c.in-Flat.is (takes c.add_parts-in-Flat.result Flat p r c.args.before c.flat_parts.result c.unwrap-rates.ensures
+    c.if-not-are_within.ensures (simp to_z-of_z at c.flat_parts.ensures)
+    (rw c.in-Flat.is at c.add_parts-in-Flat.ensures))
 
 pub returns-in-Flat-clause-none : goal.returns-in-Flat-clause-none
 returns-in-Flat-clause-none c =
     let p = c.args.p.now in
     let r = c.unwrap-rates.result in
     let fb : FitsSigned w128 c.args.before.kept = search rules in
-    rw c.in-Flat.is (stops c.add_parts-in-Flat.result Flat p r c.args.before c.flat_parts.result c.unwrap-rates.ensures (simp to_z-of_z at c.flat_parts.ensures) (rw c.in-Flat.is at c.add_parts-in-Flat.ensures))
+    rw c.in-Flat.is (stops c.add_parts-in-Flat.result Flat p r c.args.before c.flat_parts.result c.unwrap-rates.ensures
+    (simp to_z-of_z at c.flat_parts.ensures) (rw c.in-Flat.is at c.add_parts-in-Flat.ensures))
 
 pub returns-in-SpreadExclusive-clause-some : goal.returns-in-SpreadExclusive-clause-some
 returns-in-SpreadExclusive-clause-some c =
     let p = c.args.p.now in
     let r = c.unwrap-rates.result in
     let fb : FitsSigned w128 c.args.before.kept = search rules in
-    rw c.in-SpreadExclusive.is (takes c.add_parts-in-SpreadExclusive.result SpreadExclusive p r c.args.before c.exclusive_parts.result c.unwrap-rates.ensures c.if-not-are_within.ensures (simp to_z-of_z at c.exclusive_parts.ensures) (rw c.in-SpreadExclusive.is at c.add_parts-in-SpreadExclusive.ensures))
+    rw c.in-SpreadExclusive.is
+    (takes c.add_parts-in-SpreadExclusive.result SpreadExclusive p r c.args.before c.exclusive_parts.result
+    c.unwrap-rates.ensures c.if-not-are_within.ensures (simp to_z-of_z at c.exclusive_parts.ensures)
+    (rw c.in-SpreadExclusive.is at c.add_parts-in-SpreadExclusive.ensures))
 
 pub returns-in-SpreadExclusive-clause-none : goal.returns-in-SpreadExclusive-clause-none
 returns-in-SpreadExclusive-clause-none c =
     let p = c.args.p.now in
     let r = c.unwrap-rates.result in
     let fb : FitsSigned w128 c.args.before.kept = search rules in
-    rw c.in-SpreadExclusive.is (stops c.add_parts-in-SpreadExclusive.result SpreadExclusive p r c.args.before c.exclusive_parts.result c.unwrap-rates.ensures (simp to_z-of_z at c.exclusive_parts.ensures) (rw c.in-SpreadExclusive.is at c.add_parts-in-SpreadExclusive.ensures))
+    rw c.in-SpreadExclusive.is
+    (stops c.add_parts-in-SpreadExclusive.result SpreadExclusive p r c.args.before c.exclusive_parts.result
+    c.unwrap-rates.ensures (simp to_z-of_z at c.exclusive_parts.ensures)
+    (rw c.in-SpreadExclusive.is at c.add_parts-in-SpreadExclusive.ensures))

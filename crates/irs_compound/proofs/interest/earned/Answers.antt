@@ -16,9 +16,11 @@ product-requires-2 c =
     let ft : FitsSigned w128 c.from-2.result = search rules in
     let r : c.from.result ≡ c.args.rate = simp to_z-of_z at c.from.ensures in
     let m : c.from-2.result ≡ c.args.frac.num = simp to_z-of_z at c.from-2.ensures in
-    let s : unsigned_abs c.product.result ≡ unsigned_abs c.args.balance * unsigned_abs c.args.rate = rw r at (simp to_z-of_z at c.product.ensures.size) in
+    let s : unsigned_abs c.product.result ≡ unsigned_abs c.args.balance * unsigned_abs c.args.rate =
+    rw r at (simp to_z-of_z at c.product.ensures.size) in
     let n = size_between c.args.frac.num most_numerator c.requires.fraction_fits.0 c.requires.fraction_fits.1 in
-    let e = product_of_two (unsigned_abs c.product.result) (unsigned_abs c.args.frac.num) (most_balance * most_rate) most_numerator (omega (arith, s, c.requires.product_fits)) n in
+    let e = product_of_two (unsigned_abs c.product.result) (unsigned_abs c.args.frac.num)
+    (most_balance * most_rate) most_numerator (omega (arith, s, c.requires.product_fits)) n in
     simp to_z-of_z (rw m (omega (arith, e)))
 
 pub returns-clause-size : goal.returns-clause-size
@@ -32,8 +34,11 @@ returns-clause-size c =
     let ft : FitsSigned w128 c.from-2.result = search rules in
     let r : c.from.result ≡ c.args.rate = simp to_z-of_z at c.from.ensures in
     let m : c.from-2.result ≡ c.args.frac.num = simp to_z-of_z at c.from-2.ensures in
-    let s : unsigned_abs c.product.result ≡ unsigned_abs c.args.balance * unsigned_abs c.args.rate = rw r at (simp to_z-of_z at c.product.ensures.size) in
-    let t : unsigned_abs c.product-2.result ≡ unsigned_abs c.product.result * unsigned_abs c.args.frac.num = rw m at (simp to_z-of_z at c.product-2.ensures.size) in
+    let s : unsigned_abs c.product.result ≡ unsigned_abs c.args.balance * unsigned_abs c.args.rate =
+    rw r at (simp to_z-of_z at c.product.ensures.size) in
+    let t : unsigned_abs c.product-2.result ≡ unsigned_abs c.product.result * unsigned_abs c.args.frac.num =
+    rw m at (simp to_z-of_z at c.product-2.ensures.size) in
     let n = size_between c.args.frac.num most_numerator c.requires.fraction_fits.0 c.requires.fraction_fits.1 in
-    let e = product_of_two (unsigned_abs c.product.result) (unsigned_abs c.args.frac.num) (most_balance * most_rate) most_numerator (omega (arith, s, c.requires.product_fits)) n in
+    let e = product_of_two (unsigned_abs c.product.result) (unsigned_abs c.args.frac.num)
+    (most_balance * most_rate) most_numerator (omega (arith, s, c.requires.product_fits)) n in
     simp to_z-of_z (omega (arith, e, t))

@@ -8,7 +8,8 @@ use Rattle.irs_compound.proofs.AmountBounds.{amount_small}
 use Rattle.irs_compound.proofs.payments.amount_if_priced.Goals as goal
 
 pub returns-then-not-all_priced-clause-within : goal.returns-then-not-all_priced-clause-within
-returns-then-not-all_priced-clause-within c = λ n out. priced_or_not c.args.periods.now out.0 c.if-not-all_priced.ensures
+returns-then-not-all_priced-clause-within c =
+    λ n out. priced_or_not c.args.periods.now out.0 c.if-not-all_priced.ensures
 
 pub returns-in-Ok-clause-within : goal.returns-in-Ok-clause-within
 returns-in-Ok-clause-within c = λ n out. c.in-Ok.ensures.within n out.1
@@ -19,12 +20,16 @@ returns-in-Ok-clause-size c =
     let priced = c.if-not-all_priced.ensures {u = tt} in
     let pays = (c.in-Ok.ensures {u = tt}).amount in
     let none = (c.in-Ok.ensures {u = tt}).within in
-    simp to_z-of_z (amount_small c.args.code c.args.periods.now c.args.places (Some c.in-Ok.amount) c.requires.payment c.requires.places_fit (λ n out. none n out.1) (priced, pays))
+    simp to_z-of_z (amount_small c.args.code c.args.periods.now c.args.places
+    (Some c.in-Ok.amount) c.requires.payment c.requires.places_fit (λ n out. none n out.1) (priced, pays))
 
 pub returns-in-Err-clause-position : goal.returns-in-Err-clause-position
 returns-in-Err-clause-position c =
-    let passes = (c.in-Err.ensures {u = tt}).out.0 in
-    (passes.from_one, number_within (code_for c.args.code c.args.periods.now) c.args.periods.now c.in-Err.out.period passes)
+    let passes = (c.in-Err.ensures {u = tt}).out.0 in (
+      passes.from_one,
+      number_within (code_for c.args.code c.args.periods.now) c.args.periods.now
+          c.in-Err.out.period passes,
+    )
 
 pub returns-in-Err-clause-out : goal.returns-in-Err-clause-out
 returns-in-Err-clause-out c =

@@ -6,7 +6,8 @@ use Rattle.irs_compound.proofs.products.+ten_to.Goals as goal
 
 pub returns-else-n-eq0 : goal.returns-else-n-eq0
 returns-else-n-eq0 t c =
-    let e : pos 10 *ℤ c.ten_to.result ≡ pos (10 ^ c.args.n) = ap (λ (x : ℤ). pos 10 *ℤ x) c.ten_to.ensures.value ∙ ten_next c.args.n (omega arith) in
+    let e : pos 10 *ℤ c.ten_to.result ≡ pos (10 ^ c.args.n) =
+    ap (λ (x : ℤ). pos 10 *ℤ x) c.ten_to.ensures.value ∙ ten_next c.args.n (omega arith) in
     let f : FitsSigned w128 c.ten_to.result = search rules in
     let g : FitsSigned w128 (pos 10 *ℤ c.ten_to.result) = rw e (ten_fits c.args.n c.requires) in
     record {

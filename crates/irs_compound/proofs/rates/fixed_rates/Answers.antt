@@ -14,7 +14,9 @@ returns-clause-value c =
     fixed_rates_value c.args.values.now c.args.start rate c.fixed_from.result c.rate_in_force.ensures.value base all_in
 
 pub returns-clause-rates : goal.returns-clause-rates
-returns-clause-rates c = subst (FixedRatesOf c.args.values.now c.args.start) (sym (returns-clause-value c)) (fixed_rates_are c.args.values.now c.args.start)
+returns-clause-rates c =
+    subst (FixedRatesOf c.args.values.now c.args.start) (sym (returns-clause-value c))
+    (fixed_rates_are c.args.values.now c.args.start)
 
 pub returns-clause-one : goal.returns-clause-one
 returns-clause-one c = λ r a b x y. one_fixed_rates c.args.values.now c.args.start a b r x y

@@ -9,8 +9,10 @@ use Rattle.irs_compound.proofs.rates.period_rates.Goals as goal
 pub returns-clause-rates : goal.returns-clause-rates
 returns-clause-rates c =
     let f : FitsSigned w64 c.args.observed = c.ranges.observed in
-    let e : c.rates_on.result ≡ rates_of c.args.f.now c.args.start c.args.observed = simp to_z-of_z at c.rates_on.ensures.value in
-    subst (λ (r : Rates). RatesOf c.args.f.now c.args.start c.args.observed r) (sym e) (rates_are c.args.f.now c.args.start c.args.observed)
+    let e : c.rates_on.result ≡ rates_of c.args.f.now c.args.start c.args.observed =
+    simp to_z-of_z at c.rates_on.ensures.value in
+    subst (λ (r : Rates). RatesOf c.args.f.now c.args.start c.args.observed r) (sym e)
+    (rates_are c.args.f.now c.args.start c.args.observed)
 
 pub returns-clause-one : goal.returns-clause-one
 returns-clause-one c = λ r q a b x y. one_rates c.args.f.now c.args.start c.args.observed a b r q x y

@@ -8,12 +8,14 @@ use Rattle.irs_compound.proofs.rates.rates_by.Goals as goal
 pub returns-clause-rates : goal.returns-clause-rates
 returns-clause-rates c =
     let leg = c.args.leg.now in
-    subst (AreRates leg c.args.start c.args.observed) (sym c.leg_rates.ensures) (rates_by_are leg c.args.start c.args.observed)
+    subst (AreRates leg c.args.start c.args.observed) (sym c.leg_rates.ensures)
+    (rates_by_are leg c.args.start c.args.observed)
 
 pub returns-clause-size : goal.returns-clause-size
 returns-clause-size c =
     let IsSmall : Option Rates → Type 0 = λ x. IfSome x (λ r. unsigned_abs r.all_in ≤ most_rounded_rate) in
-    subst IsSmall (sym c.leg_rates.ensures) (rate_size c.args.leg.now c.args.start c.args.observed c.requires.leg c.requires.observed_fits)
+    subst IsSmall (sym c.leg_rates.ensures)
+    (rate_size c.args.leg.now c.args.start c.args.observed c.requires.leg c.requires.observed_fits)
 
 pub returns-clause-one : goal.returns-clause-one
 returns-clause-one c = λ r x y a b. one_leg_rates c.args.leg.now c.args.start c.args.observed x y r a b

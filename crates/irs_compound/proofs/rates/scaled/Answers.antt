@@ -18,7 +18,8 @@ pub product-requires : goal.product-requires
 product-requires c =
     let fw : FitsSigned w128 c.args.whole = c.ranges.whole in
     let ft : FitsSigned w128 c.ten_to.result = search rules in
-    let z = scaled_size c.args.places (unsigned_abs c.ten_to.result) (unsigned_abs c.args.whole) c.requires.places_fit (ap unsigned_abs c.ten_to.ensures.value) c.requires.whole_fits in
+    let z = scaled_size c.args.places (unsigned_abs c.ten_to.result) (unsigned_abs c.args.whole) c.requires.places_fit
+    (ap unsigned_abs c.ten_to.ensures.value) c.requires.whole_fits in
     simp to_z-of_z (omega (arith, z))
 
 pub returns-clause-size : goal.returns-clause-size
@@ -26,6 +27,8 @@ returns-clause-size c =
     let fw : FitsSigned w128 c.args.whole = c.ranges.whole in
     let ft : FitsSigned w128 c.ten_to.result = search rules in
     let fp : FitsSigned w128 c.product.result = search rules in
-    let z = scaled_size c.args.places (unsigned_abs c.ten_to.result) (unsigned_abs c.args.whole) c.requires.places_fit (ap unsigned_abs c.ten_to.ensures.value) c.requires.whole_fits in
-    let s : unsigned_abs c.product.result ≡ unsigned_abs c.args.whole * unsigned_abs c.ten_to.result = simp to_z-of_z at c.product.ensures.size in
+    let z = scaled_size c.args.places (unsigned_abs c.ten_to.result) (unsigned_abs c.args.whole) c.requires.places_fit
+    (ap unsigned_abs c.ten_to.ensures.value) c.requires.whole_fits in
+    let s : unsigned_abs c.product.result ≡ unsigned_abs c.args.whole * unsigned_abs c.ten_to.result =
+    simp to_z-of_z at c.product.ensures.size in
     simp to_z-of_z (omega (arith, z, s))

@@ -16,5 +16,7 @@ returns c =
     let fm : FitsSigned w128 multiplier = search rules in
     let fs : FitsSigned w128 spread = search rules in
     let base : rates.base ≡ rate_at f.rounding (multiplier *ℤ observed) = simp to_z-of_z at c.rates_from.ensures.base in
-    let all_in : rates.all_in ≡ all_in_at f (multiplier *ℤ observed +ℤ spread *ℤ pos (10 ^ 9)) = simp to_z-of_z at c.rates_from.ensures.all_in in
-    rates_value f c.args.start observed multiplier spread rates c.rate_by_halves-multiplier.ensures.value c.rate_by_halves-spread.ensures.value base all_in
+    let all_in : rates.all_in ≡ all_in_at f (multiplier *ℤ observed +ℤ spread *ℤ pos (10 ^ 9)) =
+    simp to_z-of_z at c.rates_from.ensures.all_in in
+    rates_value f c.args.start observed multiplier spread rates c.rate_by_halves-multiplier.ensures.value
+    c.rate_by_halves-spread.ensures.value base all_in

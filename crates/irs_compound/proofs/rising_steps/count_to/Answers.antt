@@ -8,4 +8,5 @@ returns-clause-count c =
     let steps = c.args.steps.now in
     let d = c.args.d in
     let n = c.partition_point.result in
-    split steps d n (IsPartitionPoint-from_clause (λ s. int_le s.day d) steps n c.partition_point.ensures.partitioned (parted steps d c.requires) (λ a r q k. search rules))
+    split steps d n (IsPartitionPoint-from_clause (λ s. int_le s.day d) steps n c.partition_point.ensures.partitioned
+    (parted steps d c.requires) (λ a r q k. search rules))

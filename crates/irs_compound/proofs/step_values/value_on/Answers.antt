@@ -12,4 +12,5 @@ returns-in-None c =
 pub returns-in-Some : goal.returns-in-Some
 returns-in-Some c =
     let f : FitsSigned w128 c.in-Some.step.value = search rules in
-    simp to_z-of_z (last_value c.args.values.now c.args.d (Some c.in-Some.step) (rw c.as_slice.ensures at c.in-Some.ensures))
+    simp to_z-of_z (last_value c.args.values.now c.args.d (Some c.in-Some.step)
+    (rw c.as_slice.ensures at c.in-Some.ensures))

@@ -15,7 +15,8 @@ unwrap-requires c =
     let f : FitsSigned w32 c.civil_of-year.result.year = search rules in
     let e : c.civil_of-year.result.year ≡ pos y = c.civil_of-year.ensures.exact.0 in
     let low : y ≤ last_year = omega (arith, signed_arith, e, c.civil_of-year.ensures.range) in
-    some_start c.day_of.result c.args.d y (year_part c.args.d).1 day (year_place c.args.d day) low (rw e at (simp to_z-of_z at c.day_of.ensures.none))
+    some_start c.day_of.result c.args.d y (year_part c.args.d).1 day (year_place c.args.d day) low
+    (rw e at (simp to_z-of_z at c.day_of.ensures.none))
 
 pub returns : goal.returns
 returns c =
@@ -23,7 +24,8 @@ returns c =
     let y = (year_part c.args.d).0 in
     let f : FitsSigned w32 c.civil_of-year.result.year = search rules in
     let e : c.civil_of-year.result.year ≡ pos y = c.civil_of-year.ensures.exact.0 in
-    let some : IfSome c.day_of.result (λ d. HasDate d (pos y) 1 1) = rw e at (simp to_z-of_z at c.day_of.ensures.some) in
+    let some : IfSome c.day_of.result (λ d. HasDate d (pos y) 1 1) =
+    rw e at (simp to_z-of_z at c.day_of.ensures.some) in
     let start : HasDate c.unwrap.result (pos y) 1 1 = rw c.unwrap.ensures at some in
     record {
       start = start_before c.args.d c.unwrap.result y (year_part c.args.d).1 (year_place c.args.d day) start;

@@ -8,10 +8,12 @@ with_digit-requires-clause-fits t c = some_room c.args.n (length c.args.digits.n
 
 pub number_behind-requires : goal.number_behind-requires
 number_behind-requires t c = (
-  (let l = shorter c.args.digits.now c.in-Some.digit c.in-Some.rest.now c.in-Some.ensures.some in omega (arith, c.decreases, l)),
+  (let l = shorter c.args.digits.now c.in-Some.digit c.in-Some.rest.now c.in-Some.ensures.some in
+      omega (arith, c.decreases, l)),
   (
     c.in-Some.ensures.some.rest_digits,
-    (let k = behind_fits c.args.n c.args.digits.now c.in-Some.digit c.in-Some.rest.now c.with_digit.result c.with_digit.ensures c.in-Some.ensures.some in omega (arith, k, c.requires.fits)),
+    (let k = behind_fits c.args.n c.args.digits.now c.in-Some.digit c.in-Some.rest.now c.with_digit.result
+        c.with_digit.ensures c.in-Some.ensures.some in omega (arith, k, c.requires.fits)),
   ),
 )
 
@@ -19,8 +21,12 @@ pub returns-in-Some : goal.returns-in-Some
 returns-in-Some t c =
     let h = c.in-Some.ensures.some in
     record {
-      value = c.number_behind.ensures.value ∙ spelled_behind c.args.n c.args.digits.now c.in-Some.digit c.in-Some.rest.now c.with_digit.result c.with_digit.ensures h;
-      below = (let k = behind_fits c.args.n c.args.digits.now c.in-Some.digit c.in-Some.rest.now c.with_digit.result c.with_digit.ensures h in omega (arith, k, c.number_behind.ensures.below));
+      value = c.number_behind.ensures.value
+          ∙ spelled_behind c.args.n c.args.digits.now c.in-Some.digit c.in-Some.rest.now c.with_digit.result
+          c.with_digit.ensures h;
+      below = (let k =
+          behind_fits c.args.n c.args.digits.now c.in-Some.digit c.in-Some.rest.now c.with_digit.result
+          c.with_digit.ensures h in omega (arith, k, c.number_behind.ensures.below));
     }
 
 pub returns-in-None : goal.returns-in-None

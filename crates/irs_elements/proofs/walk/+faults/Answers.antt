@@ -1,4 +1,5 @@
-use Rattle.std.proofs.Common.{◌≡◌, ℕ, List, get_or, length, map, Option, Some, None, option_map, refl, sym, ap, ◌∙◌, arith}
+use Rattle.std.proofs.Common.{◌≡◌, ℕ, List, get_or, length, map, Option, Some, None, option_map, refl, sym, ap, ◌∙◌}
+use Rattle.std.proofs.Common.{arith}
 use Rattle.std.specs.Prelude.{slice_get}
 use Rattle.serde_json.specs.View.{view}
 use Rattle.std.proofs.lemmas.List.{length-map}
@@ -16,14 +17,18 @@ use Rattle.irs_elements.specs.declared.table.Choice.TheVariants.{Free}
 use Rattle.irs_elements.specs.declared.table.Count.TheVariants.{One}
 use Rattle.irs_elements.specs.Elements.{texts, name_at, place, own_rule, FaultAt, index_in}
 use Rattle.irs_elements.proofs.First.{first_is}
-use Rattle.irs_elements.proofs.Steps.{own_first, object_first, members_first, under_missing, under_refused, under_many, under_lawful, among_first, member_step, other_step, item_step}
+use Rattle.irs_elements.proofs.Steps.{own_first, object_first, members_first, under_missing, under_refused, under_many}
+use Rattle.irs_elements.proofs.Steps.{under_lawful, among_first, member_step, other_step, item_step}
 use Rattle.irs_elements.proofs.walk.+faults.Goals as goal
-use Rattle.irs_elements.proofs.walk.+faults.Goals.{members_fault-then-r-c+then-row-r, members_fault-else-r-c, members_fault-else-r-c-via-then-r-c+else-row-r, members_fault-else-r-c-via-else-r-c}
+use Rattle.irs_elements.proofs.walk.+faults.Goals.{members_fault-then-r-c+then-row-r, members_fault-else-r-c}
+use Rattle.irs_elements.proofs.walk.+faults.Goals.{members_fault-else-r-c-via-then-r-c+else-row-r}
+use Rattle.irs_elements.proofs.walk.+faults.Goals.{members_fault-else-r-c-via-else-r-c}
 
 abbrev some_row : Row
 some_row = record { parent = 0; place = 0; kind = Object Free; count = One }
 
-absent_child : (n : ℕ) (names : List (List ℕ)) (d : Data) (name : List ℕ) (r : Option (Bor Value)) → name ≡ name_at names n → option_map (λ c. view c.now) r ≡ child_of name d → r ≡ None
+absent_child : (n : ℕ) (names : List (List ℕ)) (d : Data) (name : List ℕ) (r : Option (Bor Value))
+    → name ≡ name_at names n → option_map (λ c. view c.now) r ≡ child_of name d → r ≡ None
     → child_of (name_at names n) d ≡ None
 absent_child n names d name r e h is = ap (λ m. child_of m d) (sym e) ∙ sym h ∙ ap (option_map (λ c. view c.now)) is
 
@@ -31,75 +36,132 @@ pub first_fault-returns-in-None : goal.first_fault-returns-in-None
 first_fault-returns-in-None t c =
     let absent : names_of (view c.args.v.now) ≡ None = sym c.members.ensures.names ∙ c.in-None.is in
     let kind = Object c.in-Object.choice in
-    rw c.in-Object.is (first_is (FaultAt c.args.table.now.rows.now (texts c.args.table.now.names.now) c.args.table.now.stream c.args.r kind c.args.index (view c.args.v.now)) (option_map (λ k. place c.args.table.now.rows.now c.args.table.now.stream k c.args.r c.args.index) (own_rule kind (view c.args.v.now))) c.own_fault.result c.own_fault.ensures
-    (own_first c.args.table.now.rows.now (texts c.args.table.now.names.now) c.args.table.now.stream c.args.r c.args.index kind (view c.args.v.now) (λ ch e. absent)))
+    rw c.in-Object.is (first_is
+    (FaultAt c.args.table.now.rows.now (texts c.args.table.now.names.now) c.args.table.now.stream c.args.r kind
+    c.args.index (view c.args.v.now))
+    (option_map (λ k. place c.args.table.now.rows.now c.args.table.now.stream k c.args.r c.args.index)
+    (own_rule kind (view c.args.v.now))) c.own_fault.result c.own_fault.ensures
+    (own_first c.args.table.now.rows.now (texts c.args.table.now.names.now) c.args.table.now.stream c.args.r
+    c.args.index kind (view c.args.v.now) (λ ch e. absent)))
 
 pub first_fault-returns-in-Leaf : goal.first_fault-returns-in-Leaf
 first_fault-returns-in-Leaf t c =
-    first_is (FaultAt c.args.table.now.rows.now (texts c.args.table.now.names.now) c.args.table.now.stream c.args.r c.args.kind c.args.index (view c.args.v.now)) (option_map (λ k. place c.args.table.now.rows.now c.args.table.now.stream k c.args.r c.args.index) (own_rule c.args.kind (view c.args.v.now))) c.own_fault-in-Leaf.result c.own_fault-in-Leaf.ensures (own_first c.args.table.now.rows.now (texts c.args.table.now.names.now) c.args.table.now.stream c.args.r c.args.index c.args.kind (view c.args.v.now) (λ ch e. cc (c.in-Leaf.is)))
+    first_is (FaultAt c.args.table.now.rows.now (texts c.args.table.now.names.now) c.args.table.now.stream c.args.r
+    c.args.kind c.args.index (view c.args.v.now))
+    (option_map (λ k. place c.args.table.now.rows.now c.args.table.now.stream k c.args.r c.args.index)
+    (own_rule c.args.kind (view c.args.v.now))) c.own_fault-in-Leaf.result c.own_fault-in-Leaf.ensures
+    (own_first c.args.table.now.rows.now (texts c.args.table.now.names.now) c.args.table.now.stream c.args.r
+    c.args.index c.args.kind (view c.args.v.now) (λ ch e. cc (c.in-Leaf.is)))
 
 pub first_fault-returns-in-Some : goal.first_fault-returns-in-Some
 first_fault-returns-in-Some t c =
     let there : names_of (view c.args.v.now) ≡ Some c.in-Some.listed = sym c.members.ensures.names ∙ c.in-Some.is in
-    rw (c.earlier.ensures, c.in-Object.is) (object_first c.args.table.now.rows.now (texts c.args.table.now.names.now) c.args.table.now.stream c.args.r c.args.index c.in-Object.choice (view c.args.v.now) c.in-Some.listed _ _ there c.shape_fault-shape.ensures c.members_fault.ensures)
+    rw (
+      c.earlier.ensures,
+      c.in-Object.is,
+    ) (object_first c.args.table.now.rows.now
+    (texts c.args.table.now.names.now) c.args.table.now.stream c.args.r c.args.index c.in-Object.choice
+    (view c.args.v.now) c.in-Some.listed _ _ there c.shape_fault-shape.ensures c.members_fault.ensures)
 
 pub members_fault-returns : goal.members_fault-returns
 members_fault-returns t c =
     let last : c.loop-c.c ≡ length c.args.table.now.rows.now = omega arith in
-    members_first c.args.table.now.rows.now (texts c.args.table.now.names.now) c.args.table.now.stream c.args.r c.args.index (view c.args.v.now) _ (rw last at c.loop-c.invariant)
+    members_first c.args.table.now.rows.now (texts c.args.table.now.names.now) c.args.table.now.stream c.args.r
+    c.args.index (view c.args.v.now) _ (rw last at c.loop-c.invariant)
 
 pub members_fault-loop-c-preserved : goal.members_fault-loop-c-preserved
 members_fault-loop-c-preserved t c =
-    let found : slice_get c.args.table.now.rows.now c.loop-c.c ≡ Some (get_or c.args.table.now.rows.now c.loop-c.c some_row) = slice_get-get_or c.args.table.now.rows.now c.loop-c.c some_row c.loop-c-test.true in
-    let other = other_step c.args.table.now.rows.now (texts c.args.table.now.names.now) c.args.table.now.stream c.args.r c.args.index c.loop-c.c (view c.args.v.now) (get_or c.args.table.now.rows.now c.loop-c.c some_row) c.loop-c.first c.if-r-c.first found in
+    let found : slice_get c.args.table.now.rows.now c.loop-c.c
+    ≡ Some (get_or c.args.table.now.rows.now c.loop-c.c some_row) =
+    slice_get-get_or c.args.table.now.rows.now c.loop-c.c some_row c.loop-c-test.true in
+    let other = other_step c.args.table.now.rows.now
+    (texts c.args.table.now.names.now) c.args.table.now.stream c.args.r c.args.index c.loop-c.c (view c.args.v.now)
+    (get_or c.args.table.now.rows.now c.loop-c.c some_row) c.loop-c.first c.if-r-c.first found in
     elim c.if-r-c.branch [
-      | members_fault-then-r-c+then-row-r w ↦ member_step c.args.table.now.rows.now (texts c.args.table.now.names.now) c.args.table.now.stream c.args.r c.args.index c.loop-c.c (view c.args.v.now) _ _ _ _ found w.if-row-r.true w.if-r-c.true
+      | members_fault-then-r-c+then-row-r w ↦
+          member_step c.args.table.now.rows.now (texts c.args.table.now.names.now) c.args.table.now.stream c.args.r
+          c.args.index c.loop-c.c (view c.args.v.now) _ _ _ _ found w.if-row-r.true w.if-r-c.true
           (w.first-is ∙ w.earlier-first.ensures) c.loop-c.invariant w.fault_under.ensures
       | members_fault-else-r-c w ↦ elim w.else-r-c.branch [
-        | members_fault-else-r-c-via-then-r-c+else-row-r w' ↦ other (λ e lt. w'.if-row-r.false e) w.first-is c.loop-c.invariant
-        | members_fault-else-r-c-via-else-r-c w' ↦ other (λ e lt. absurd (omega (arith, lt, w'.if-r-c.false))) w.first-is c.loop-c.invariant
+        | members_fault-else-r-c-via-then-r-c+else-row-r w' ↦
+            other (λ e lt. w'.if-row-r.false e) w.first-is c.loop-c.invariant
+        | members_fault-else-r-c-via-else-r-c w' ↦
+            other (λ e lt. absurd (omega (arith, lt, w'.if-r-c.false))) w.first-is c.loop-c.invariant
       ]
     ]
 
 pub fault_under-returns-then-is_required : goal.fault_under-returns-then-is_required
 fault_under-returns-then-is_required t c =
-    let absent : child_of (name_at (texts c.args.table.now.names.now) c.args.c) (view c.args.v.now) ≡ None = absent_child c.args.c (texts c.args.table.now.names.now) (view c.args.v.now) _ _ c.name_of.ensures c.child.ensures c.in-None.is in
-    first_is _ _ _ (ap Some c.broken.ensures ∙ ap (λ i. Some (place c.args.table.now.rows.now c.args.table.now.stream K2 c.args.c i)) c.absent_index-at.ensures) (under_missing c.args.table.now.rows.now (texts c.args.table.now.names.now) c.args.table.now.stream c.args.c c.args.index c.args.row (view c.args.v.now) (sym c.is_element.ensures ∙ c.if-is_element.true) (sym c.is_required.ensures ∙ c.if-is_required.true) absent)
+    let absent : child_of (name_at (texts c.args.table.now.names.now) c.args.c) (view c.args.v.now) ≡ None =
+    absent_child c.args.c (texts c.args.table.now.names.now)
+    (view c.args.v.now) _ _ c.name_of.ensures c.child.ensures c.in-None.is in
+    first_is _ _ _ (ap Some c.broken.ensures
+    ∙ ap (λ i. Some (place c.args.table.now.rows.now c.args.table.now.stream K2 c.args.c i))
+    c.absent_index-at.ensures)
+    (under_missing c.args.table.now.rows.now (texts c.args.table.now.names.now) c.args.table.now.stream c.args.c
+    c.args.index c.args.row (view c.args.v.now) (sym c.is_element.ensures
+    ∙ c.if-is_element.true) (sym c.is_required.ensures ∙ c.if-is_required.true) absent)
 
-found_child : (n : ℕ) (names : List (List ℕ)) (d : Data) (name : List ℕ) (r : Option (Bor Value)) (v : Bor Value) → name ≡ name_at names n → option_map (λ c. view c.now) r ≡ child_of name d → r ≡ Some v
+found_child : (n : ℕ) (names : List (List ℕ)) (d : Data) (name : List ℕ) (r : Option (Bor Value)) (v : Bor Value)
+    → name ≡ name_at names n → option_map (λ c. view c.now) r ≡ child_of name d → r ≡ Some v
     → child_of (name_at names n) d ≡ Some (view v.now)
 found_child n names d name r v e h is = ap (λ m. child_of m d) (sym e) ∙ sym h ∙ ap (option_map (λ c. view c.now)) is
 
 pub fault_under-returns-then-is_refused : goal.fault_under-returns-then-is_refused
 fault_under-returns-then-is_refused t c =
-    let found : child_of (name_at (texts c.args.table.now.names.now) c.args.c) (view c.args.v.now) ≡ Some (view c.in-Some.member.now) = found_child c.args.c (texts c.args.table.now.names.now) (view c.args.v.now) _ _ _ c.name_of.ensures c.child.ensures c.in-Some.is in
-    first_is _ _ _ (ap Some c.broken-then-is_refused.ensures) (under_refused c.args.table.now.rows.now (texts c.args.table.now.names.now) c.args.table.now.stream c.args.c c.args.index c.args.row (view c.args.v.now) _ (sym c.is_refused.ensures ∙ c.if-is_refused.true) found)
+    let found : child_of (name_at (texts c.args.table.now.names.now) c.args.c) (view c.args.v.now)
+    ≡ Some (view c.in-Some.member.now) =
+    found_child c.args.c (texts c.args.table.now.names.now)
+    (view c.args.v.now) _ _ _ c.name_of.ensures c.child.ensures c.in-Some.is in
+    first_is _ _ _ (ap Some c.broken-then-is_refused.ensures)
+    (under_refused c.args.table.now.rows.now (texts c.args.table.now.names.now) c.args.table.now.stream c.args.c
+    c.args.index c.args.row (view c.args.v.now) _ (sym c.is_refused.ensures ∙ c.if-is_refused.true) found)
 
 longer : (vs : List Value) (d : Data) → map view vs ≡ items_of d → length vs ≡ length (items_of d)
 longer vs d e = sym (length-map vs view) ∙ ap length e
 
 pub fault_under-returns-then-list-most : goal.fault_under-returns-then-list-most
 fault_under-returns-then-list-most t c =
-    let found : child_of (name_at (texts c.args.table.now.names.now) c.args.c) (view c.args.v.now) ≡ Some (view c.in-Some.member.now) = found_child c.args.c (texts c.args.table.now.names.now) (view c.args.v.now) _ _ _ c.name_of.ensures c.child.ensures c.in-Some.is in
-    let listed : map view c.as_slice-list.result.now ≡ items_of (view c.in-Some.member.now) = ap (map view) c.as_slice-list.ensures ∙ c.items.ensures in
+    let found : child_of (name_at (texts c.args.table.now.names.now) c.args.c) (view c.args.v.now)
+    ≡ Some (view c.in-Some.member.now) =
+    found_child c.args.c (texts c.args.table.now.names.now)
+    (view c.args.v.now) _ _ _ c.name_of.ensures c.child.ensures c.in-Some.is in
+    let listed : map view c.as_slice-list.result.now ≡ items_of (view c.in-Some.member.now) =
+    ap (map view) c.as_slice-list.ensures ∙ c.items.ensures in
     let same = longer c.as_slice-list.result.now (view c.in-Some.member.now) listed in
-    first_is _ _ _ (ap Some c.broken-then-list-most.ensures) (under_many c.args.table.now.rows.now (texts c.args.table.now.names.now) c.args.table.now.stream c.args.c c.args.index c.args.row (view c.args.v.now) _ (sym c.is_element-else-is_refused.ensures ∙ c.if-is_element-2.true) (sym c.is_refused.ensures ∙ c.if-is_refused.false) found
+    first_is _ _ _ (ap Some c.broken-then-list-most.ensures)
+    (under_many c.args.table.now.rows.now (texts c.args.table.now.names.now) c.args.table.now.stream c.args.c
+    c.args.index c.args.row (view c.args.v.now) _ (sym c.is_element-else-is_refused.ensures
+    ∙ c.if-is_element-2.true) (sym c.is_refused.ensures ∙ c.if-is_refused.false) found
     (omega (arith, same, c.most.ensures, c.if-list-most.true)))
 
 pub fault_under-returns-else-list-most : goal.fault_under-returns-else-list-most
 fault_under-returns-else-list-most t c =
-    let found : child_of (name_at (texts c.args.table.now.names.now) c.args.c) (view c.args.v.now) ≡ Some (view c.in-Some.member.now) = found_child c.args.c (texts c.args.table.now.names.now) (view c.args.v.now) _ _ _ c.name_of.ensures c.child.ensures c.in-Some.is in
-    let listed : map view c.as_slice-list.result.now ≡ items_of (view c.in-Some.member.now) = ap (map view) c.as_slice-list.ensures ∙ c.items.ensures in
+    let found : child_of (name_at (texts c.args.table.now.names.now) c.args.c) (view c.args.v.now)
+    ≡ Some (view c.in-Some.member.now) =
+    found_child c.args.c (texts c.args.table.now.names.now)
+    (view c.args.v.now) _ _ _ c.name_of.ensures c.child.ensures c.in-Some.is in
+    let listed : map view c.as_slice-list.result.now ≡ items_of (view c.in-Some.member.now) =
+    ap (map view) c.as_slice-list.ensures ∙ c.items.ensures in
     let same = longer c.as_slice-list.result.now (view c.in-Some.member.now) listed in
-    under_lawful c.args.table.now.rows.now (texts c.args.table.now.names.now) c.args.table.now.stream c.args.c c.args.index c.args.row (view c.args.v.now) _ _ (sym c.is_element-else-is_refused.ensures ∙ c.if-is_element-2.true) (sym c.is_refused.ensures ∙ c.if-is_refused.false) found
+    under_lawful c.args.table.now.rows.now (texts c.args.table.now.names.now) c.args.table.now.stream c.args.c
+    c.args.index c.args.row (view c.args.v.now) _ _ (sym c.is_element-else-is_refused.ensures
+    ∙ c.if-is_element-2.true) (sym c.is_refused.ensures ∙ c.if-is_refused.false) found
     (omega (arith, same, c.most.ensures, c.if-list-most.false)) (rw listed at c.fault_among.ensures)
 
 pub fault_among-returns : goal.fault_among-returns
 fault_among-returns t c =
     let last : c.loop-j.j ≡ length (map view c.args.list.now) = omega (arith, length-map c.args.list.now view) in
-    among_first c.args.table.now.rows.now (texts c.args.table.now.names.now) c.args.table.now.stream c.args.c c.args.row.kind (index_in c.args.row.count c.args.index) (map view c.args.list.now) _ (rw last at c.loop-j.invariant)
+    among_first c.args.table.now.rows.now (texts c.args.table.now.names.now) c.args.table.now.stream c.args.c
+    c.args.row.kind (index_in c.args.row.count c.args.index) (map view c.args.list.now) _
+    (rw last at c.loop-j.invariant)
 
 pub fault_among-loop-j-preserved : goal.fault_among-loop-j-preserved
 fault_among-loop-j-preserved t c =
-    let found : slice_get c.args.list.now c.loop-j.j ≡ Some c.index-list-j.result = slice_get_read c.args.list.now (length c.args.list.now) c.loop-j.j c.index-list-j.result refl c.loop-j-test.true c.index-list-j.is in
-    item_step c.args.table.now.rows.now (texts c.args.table.now.names.now) c.args.table.now.stream c.args.c c.args.row.kind (index_in c.args.row.count c.args.index) c.loop-j.j c.index_in-at.result c.args.list.now c.index-list-j.result _ _ _ found c.index_in-at.ensures c.earlier-first.ensures c.loop-j.invariant c.first_fault.ensures
+    let found : slice_get c.args.list.now c.loop-j.j ≡ Some c.index-list-j.result =
+    slice_get_read c.args.list.now (length c.args.list.now) c.loop-j.j c.index-list-j.result refl c.loop-j-test.true
+    c.index-list-j.is in
+    item_step c.args.table.now.rows.now (texts c.args.table.now.names.now) c.args.table.now.stream c.args.c
+    c.args.row.kind (index_in c.args.row.count c.args.index) c.loop-j.j c.index_in-at.result c.args.list.now
+    c.index-list-j.result _ _ _ found c.index_in-at.ensures c.earlier-first.ensures c.loop-j.invariant
+    c.first_fault.ensures

@@ -7,10 +7,15 @@ use Rattle.irs_base.specs.Order.{IsFirstBroken}
 use Rattle.irs_elements.proofs.walk.+faults.Given as goal
 
 abbrev pub invariant-members_fault-loop-c : goal.invariant-members_fault-loop-c
-invariant-members_fault-loop-c l = IsFirstBroken (Below (RowFault l.table.rows.now (texts l.table.names.now) l.table.stream l.r l.index (view l.v)) l.c) l.first
+invariant-members_fault-loop-c l =
+    IsFirstBroken (Below (RowFault l.table.rows.now (texts l.table.names.now) l.table.stream l.r l.index (view l.v))
+    l.c) l.first
 
 abbrev pub invariant-fault_among-loop-j : goal.invariant-fault_among-loop-j
-invariant-fault_among-loop-j l = IsFirstBroken (Below (ItemFault l.table.rows.now (texts l.table.names.now) l.table.stream l.c l.row.kind (index_in l.row.count l.index) (map view l.list)) l.j) l.first
+invariant-fault_among-loop-j l =
+    IsFirstBroken (Below
+    (ItemFault l.table.rows.now (texts l.table.names.now) l.table.stream l.c l.row.kind (index_in l.row.count l.index)
+    (map view l.list)) l.j) l.first
 
 abbrev pub decreases-first_fault : goal.decreases-first_fault
 decreases-first_fault l = 4 * (length l.table.now.rows.now - l.r) + 1

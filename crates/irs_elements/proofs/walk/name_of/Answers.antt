@@ -5,11 +5,17 @@ use Rattle.std.proofs.lemmas.Option.{slice_get-map, slice_get_past, slice_get_re
 use Rattle.irs_elements.specs.Elements.{texts, name_at, name_in}
 use Rattle.irs_elements.proofs.walk.name_of.Goals as goal
 
-seen : (names : List (Bor (List ℕ))) (c : ℕ) (o : Option (Bor (List ℕ))) → slice_get names c ≡ o → name_in (option_map (λ n. n.now) o) ≡ name_at (texts names) c
-seen names c o e = ap (λ m. name_in (option_map (λ n. n.now) m)) (sym e) ∙ ap name_in (sym (slice_get-map (λ n. n.now) names c))
+seen : (names : List (Bor (List ℕ))) (c : ℕ) (o : Option (Bor (List ℕ))) → slice_get names c ≡ o
+    → name_in (option_map (λ n. n.now) o) ≡ name_at (texts names) c
+seen names c o e =
+    ap (λ m. name_in (option_map (λ n. n.now) m)) (sym e) ∙ ap name_in (sym (slice_get-map (λ n. n.now) names c))
 
 pub returns-in-None : goal.returns-in-None
-returns-in-None c = seen c.args.names.now c.args.c None (slice_get_past c.args.names.now c.args.c c.in-None.ensures.lookup.3)
+returns-in-None c =
+    seen c.args.names.now c.args.c None (slice_get_past c.args.names.now c.args.c c.in-None.ensures.lookup.3)
 
 pub returns-in-Some : goal.returns-in-Some
-returns-in-Some c = seen c.args.names.now c.args.c (Some c.in-Some.name.now) (slice_get_read c.args.names.now (length c.args.names.now) c.args.c c.in-Some.name.now refl c.in-Some.ensures.lookup.3.0 c.in-Some.ensures.lookup.1)
+returns-in-Some c =
+    seen c.args.names.now c.args.c (Some c.in-Some.name.now)
+    (slice_get_read c.args.names.now (length c.args.names.now) c.args.c c.in-Some.name.now refl
+    c.in-Some.ensures.lookup.3.0 c.in-Some.ensures.lookup.1)

@@ -16,6 +16,8 @@ returns c =
     let fr : FitsSigned w128 c.round-units.result = search rules in
     let d : c.from.result ≡ c.args.f.den = simp to_z-of_z at c.from.ensures in
     let n : c.scaled.result ≡ (c.args.f.num *ℤ pos (10 ^ 10)) = simp to_z-of_z at c.scaled.ensures.value in
-    let r : c.round-units.result ≡ rounded Nearest c.scaled.result c.from.result = simp to_z-of_z at c.round-units.ensures.value in
-    let is : IfOk c.number.result (λ v. view v ≡ number_leaf c.round-units.result 10) = simp to_z-of_z at c.number.ensures in
+    let r : c.round-units.result ≡ rounded Nearest c.scaled.result c.from.result =
+    simp to_z-of_z at c.round-units.ensures.value in
+    let is : IfOk c.number.result (λ v. view v ≡ number_leaf c.round-units.result 10) =
+    simp to_z-of_z at c.number.ensures in
     subst (λ z. IfOk c.number.result (λ v. view v ≡ number_leaf z 10)) (r ∙ ap₂ (rounded Nearest) n d) is

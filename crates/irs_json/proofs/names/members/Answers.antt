@@ -6,4 +6,5 @@ pub returns-in-Object-clause-rising : goal.returns-in-Object-clause-rising
 returns-in-Object-clause-rising c = rw c.iter.ensures.rest (names_rise _ c.iter.ensures.ordered)
 
 pub returns-in-Object-clause-found : goal.returns-in-Object-clause-found
-returns-in-Object-clause-found c = rw (c.iter.ensures.rest, c.in-Object.is, view-Object c.in-Object.map) (names_are_found _ c.iter.ensures.ordered)
+returns-in-Object-clause-found c =
+    rw (c.iter.ensures.rest, c.in-Object.is, view-Object c.in-Object.map) (names_are_found _ c.iter.ensures.ordered)

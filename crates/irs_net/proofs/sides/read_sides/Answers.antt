@@ -13,7 +13,8 @@ sides_of-requires-clause-some c =
     let d = view c.args.v.now in
     let s = view c.in-Ok.swap.now in
     let few = streams_few d s c.requires.clean (sym c.in-Ok.ensures) in
-    let e : length c.values_at.result.now ≡ length (streams_in s) = sym (length-map c.values_at.result.now view) ∙ ap length c.values_at.ensures in
+    let e : length c.values_at.result.now ≡ length (streams_in s) =
+    sym (length-map c.values_at.result.now view) ∙ ap length c.values_at.ensures in
     omega (arith, few, e)
 
 pub sides_of-requires-clause-few : goal.sides_of-requires-clause-few
@@ -21,7 +22,8 @@ sides_of-requires-clause-few c =
     let d = view c.args.v.now in
     let s = view c.in-Ok.swap.now in
     let few = streams_few d s c.requires.clean (sym c.in-Ok.ensures) in
-    let e : length c.values_at.result.now ≡ length (streams_in s) = sym (length-map c.values_at.result.now view) ∙ ap length c.values_at.ensures in
+    let e : length c.values_at.result.now ≡ length (streams_in s) =
+    sym (length-map c.values_at.result.now view) ∙ ap length c.values_at.ensures in
     omega (arith, few, e)
 
 pub unreachable-requires : goal.unreachable-requires
@@ -32,7 +34,8 @@ returns-clause-broken c =
     let d = view c.args.v.now in
     let s = view c.in-Ok.swap.now in
     let vs = map view c.values_at.result.now in
-    if_err c.sides_of.result (First is_before (BreaksK8 vs)) (First is_before (BreaksK8Of d)) (λ x h. first_of d s vs x (sym c.in-Ok.ensures) c.values_at.ensures h) c.sides_of.ensures.broken
+    if_err c.sides_of.result (First is_before (BreaksK8 vs)) (First is_before (BreaksK8Of d))
+    (λ x h. first_of d s vs x (sym c.in-Ok.ensures) c.values_at.ensures h) c.sides_of.ensures.broken
 
 pub returns-clause-one : goal.returns-clause-one
 returns-clause-one c = λ a b h k. one_sides_of (view c.args.v.now) a b h k

@@ -15,24 +15,33 @@ returns-clause-some c =
     let fits : FitsSigned w128 c.rate_of.result = search rules in
     let fits_days : FitsSigned w64 c.args.days = c.ranges.days in
     let fits_factor : FitsSigned w128 c.in_ok-factor.factor = search rules in
-    let rounded : Rounded Nearest ((c.in_ok-factor.factor -ℤ one_factor) *ℤ pos c.args.basis) (pos (10 ^ 6) *ℤ c.args.days) c.rate_of.result = simp to_z-of_z at c.rate_of.ensures in
+    let rounded : Rounded Nearest ((c.in_ok-factor.factor -ℤ one_factor) *ℤ pos c.args.basis)
+    (pos (10 ^ 6) *ℤ c.args.days) c.rate_of.result = simp to_z-of_z at c.rate_of.ensures in
     let some : IfSome c.small_rate.result (λ x. x ≡ c.rate_of.result) = simp to_z-of_z at c.small_rate.ensures.some in
-    rate_some c.args.basis c.requires.range.0 c.args.days c.args.observations.now c.in_ok-factor.factor c.rate_of.result (positive c.args.days c.requires.days.0) c.in_ok-factor.ensures.some rounded c.small_rate.result some
+    rate_some c.args.basis c.requires.range.0 c.args.days c.args.observations.now c.in_ok-factor.factor c.rate_of.result
+    (positive c.args.days c.requires.days.0) c.in_ok-factor.ensures.some rounded c.small_rate.result some
 
 pub returns-clause-kept : goal.returns-clause-kept
 returns-clause-kept c =
     let fits : FitsSigned w128 c.rate_of.result = search rules in
     let fits_days : FitsSigned w64 c.args.days = c.ranges.days in
     let fits_factor : FitsSigned w128 c.in_ok-factor.factor = search rules in
-    let rounded : Rounded Nearest ((c.in_ok-factor.factor -ℤ one_factor) *ℤ pos c.args.basis) (pos (10 ^ 6) *ℤ c.args.days) c.rate_of.result = simp to_z-of_z at c.rate_of.ensures in
+    let rounded : Rounded Nearest ((c.in_ok-factor.factor -ℤ one_factor) *ℤ pos c.args.basis)
+    (pos (10 ^ 6) *ℤ c.args.days) c.rate_of.result = simp to_z-of_z at c.rate_of.ensures in
     let some : IfSome c.small_rate.result (λ x. x ≡ c.rate_of.result) = simp to_z-of_z at c.small_rate.ensures.some in
-    rate_kept c.args.basis c.requires.range.0 c.args.days c.args.observations.now c.in_ok-factor.factor c.rate_of.result (positive c.args.days c.requires.days.0) c.in_ok-factor.ensures.some rounded c.small_rate.result c.in_ok-factor.ensures.kept some c.small_rate.ensures.small
+    rate_kept c.args.basis c.requires.range.0 c.args.days c.args.observations.now c.in_ok-factor.factor c.rate_of.result
+    (positive c.args.days c.requires.days.0) c.in_ok-factor.ensures.some rounded c.small_rate.result
+    c.in_ok-factor.ensures.kept some c.small_rate.ensures.small
 
 pub returns-clause-none : goal.returns-clause-none
 returns-clause-none c =
     let fits : FitsSigned w128 c.rate_of.result = search rules in
     let fits_days : FitsSigned w64 c.args.days = c.ranges.days in
     let fits_factor : FitsSigned w128 c.in_ok-factor.factor = search rules in
-    let rounded : Rounded Nearest ((c.in_ok-factor.factor -ℤ one_factor) *ℤ pos c.args.basis) (pos (10 ^ 6) *ℤ c.args.days) c.rate_of.result = simp to_z-of_z at c.rate_of.ensures in
-    let none : IfNone c.small_rate.result (most_rate < unsigned_abs c.rate_of.result) = simp to_z-of_z at c.small_rate.ensures.none in
-    rate_none c.args.basis c.requires.range.0 c.args.days c.args.observations.now c.in_ok-factor.factor c.rate_of.result (positive c.args.days c.requires.days.0) c.in_ok-factor.ensures.some rounded c.small_rate.result c.requires.known none
+    let rounded : Rounded Nearest ((c.in_ok-factor.factor -ℤ one_factor) *ℤ pos c.args.basis)
+    (pos (10 ^ 6) *ℤ c.args.days) c.rate_of.result = simp to_z-of_z at c.rate_of.ensures in
+    let none : IfNone c.small_rate.result (most_rate < unsigned_abs c.rate_of.result) =
+    simp to_z-of_z at c.small_rate.ensures.none in
+    rate_none c.args.basis c.requires.range.0 c.args.days c.args.observations.now c.in_ok-factor.factor c.rate_of.result
+    (positive c.args.days c.requires.days.0) c.in_ok-factor.ensures.some rounded c.small_rate.result
+    c.requires.known none

@@ -18,19 +18,26 @@ use Rattle.irs_overnight.proofs.periods.period_rows.Goals as goal
 
 pub returns-in_err-row-clause-broken : goal.returns-in_err-row-clause-broken
 returns-in_err-row-clause-broken g c =
-    let source : DailySource = daily_source c.args.part.now c.args.index.now (g.G.GoodDays.days c.args.days.now) c.args.daily.now in
+    let source : DailySource =
+    daily_source c.args.part.now c.args.index.now (g.G.GoodDays.days c.args.days.now) c.args.daily.now in
     let number = c.loop-number.number in
     let within : number < length source.adjusted = rw c.adjusted-number-end.ensures.value at c.loop-number-test.true in
     let p = err_from_is_err_and c.from_residual.result c.from_residual.ensures.1 in
-    let P : Fault → Type 0 = λ f. (why : PeriodFault) × FirstWay (period_at source c.args.basis number) why × (f ≡ period_fault why number) in
+    let P : Fault → Type 0 =
+    λ f. (why : PeriodFault) × FirstWay (period_at source c.args.basis number) why
+    × (f ≡ period_fault why number) in
     let Q : Fault → Type 0 = First derived_before (BreaksPeriod source) in
     rw (p.1, p.2) (handed_on c.in_err-row.field-0.0 P Q
-    (λ f h. subst Q (sym h.2) (first_period source c.args.basis c.requires.basis number h.0 (c.loop-number.auto.number, within) h.1 c.loop-number.invariant.kept))
+    (λ f h. subst Q (sym h.2) (first_period source c.args.basis c.requires.basis number h.0 (
+      c.loop-number.auto.number,
+      within,
+    ) h.1 c.loop-number.invariant.kept))
     c.in_err-row.ensures.broken)
 
 pub loop-number-preserved : goal.loop-number-preserved
 loop-number-preserved g c =
-    let source : DailySource = daily_source c.args.part.now c.args.index.now (g.G.GoodDays.days c.args.days.now) c.args.daily.now in
+    let source : DailySource =
+    daily_source c.args.part.now c.args.index.now (g.G.GoodDays.days c.args.days.now) c.args.daily.now in
     let number = c.loop-number.number in
     let row = c.in_ok-row.row in
     let within : number < length source.adjusted = rw c.adjusted-number-end.ensures.value at c.loop-number-test.true in
@@ -38,7 +45,8 @@ loop-number-preserved g c =
     rw c.in_ok-push.ensures.ok (record {
       many = omega (arith, length-append c.loop-number.rows (row ∷ []), c.loop-number.invariant.many);
       within = λ _. omega (arith, within);
-      each = numbered_push (IsDerivedRow source) 1 number c.loop-number.rows row c.loop-number.invariant.each next c.in_ok-row.ensures.ok;
+      each = numbered_push (IsDerivedRow source) 1 number c.loop-number.rows row c.loop-number.invariant.each next
+          c.in_ok-row.ensures.ok;
       range = All-push IsInRange c.loop-number.rows row c.loop-number.invariant.range c.in_ok-row.ensures.range;
       kept = λ j p low. elim (cases_lt j number) [
         | inl less ↦ c.loop-number.invariant.kept j p less

@@ -10,14 +10,23 @@ use Rattle.irs_overnight.proofs.rules.derived_rows.Goals as goal
 
 pub returns-clause-kept : goal.returns-clause-kept
 returns-clause-kept g c =
-    let source : DailySource = daily_source c.args.part.now c.args.index.now (g.G.GoodDays.days c.args.days.now) c.args.daily.now in
-    let is : basis_of source.day_count ≡ Some c.in-Some.basis = rw c.day_count.ensures at (sym c.in-Some.ensures.value) in
-    let rising : (n : ℕ) → NotAfter source.resets n → ⊥ = rw c.resets.ensures.value at c.in_default-first_unrising.ensures in
-    IfOk-weaker c.period_rows.result _ _ (λ _ periods. derived_kept source c.in-Some.basis is rising periods) c.period_rows.ensures.kept
+    let source : DailySource =
+    daily_source c.args.part.now c.args.index.now (g.G.GoodDays.days c.args.days.now) c.args.daily.now in
+    let is : basis_of source.day_count ≡ Some c.in-Some.basis =
+    rw c.day_count.ensures at (sym c.in-Some.ensures.value) in
+    let rising : (n : ℕ) → NotAfter source.resets n → ⊥ =
+    rw c.resets.ensures.value at c.in_default-first_unrising.ensures in
+    IfOk-weaker c.period_rows.result _ _ (λ _ periods. derived_kept source c.in-Some.basis is rising periods)
+    c.period_rows.ensures.kept
 
 pub returns-clause-broken : goal.returns-clause-broken
 returns-clause-broken g c =
-    let source : DailySource = daily_source c.args.part.now c.args.index.now (g.G.GoodDays.days c.args.days.now) c.args.daily.now in
-    let is : basis_of source.day_count ≡ Some c.in-Some.basis = rw c.day_count.ensures at (sym c.in-Some.ensures.value) in
-    let rising : (n : ℕ) → NotAfter source.resets n → ⊥ = rw c.resets.ensures.value at c.in_default-first_unrising.ensures in
-    handed_back c.period_rows.result (First derived_before (BreaksPeriod source)) (First derived_before (BreaksDerived source)) (λ f first. first_of_periods source c.in-Some.basis is rising f first) c.period_rows.ensures.broken
+    let source : DailySource =
+    daily_source c.args.part.now c.args.index.now (g.G.GoodDays.days c.args.days.now) c.args.daily.now in
+    let is : basis_of source.day_count ≡ Some c.in-Some.basis =
+    rw c.day_count.ensures at (sym c.in-Some.ensures.value) in
+    let rising : (n : ℕ) → NotAfter source.resets n → ⊥ =
+    rw c.resets.ensures.value at c.in_default-first_unrising.ensures in
+    handed_back c.period_rows.result (First derived_before (BreaksPeriod source))
+    (First derived_before (BreaksDerived source))
+    (λ f first. first_of_periods source c.in-Some.basis is rising f first) c.period_rows.ensures.broken

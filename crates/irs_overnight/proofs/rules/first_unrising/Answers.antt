@@ -9,6 +9,10 @@ pub loop-place-preserved : goal.loop-place-preserved
 loop-place-preserved c =
     let x = c.index-resets-place.result in
     let y = c.index-resets-place-in-loop-place.result in
-    let tested : is_le (int_cmp x.fixing y.fixing) ≡ false = rw (sym c.index-resets-place.is, sym c.index-resets-place-in-loop-place.is) at (sym (c.if-le.ensures {u = tt})) in
+    let tested : is_le (int_cmp x.fixing y.fixing) ≡ false =
+    rw (sym c.index-resets-place.is, sym c.index-resets-place-in-loop-place.is) at
+    (sym (c.if-le.ensures {u = tt})) in
     let later = le_false x.fixing y.fixing tested in
-    rises_more c.args.resets.now c.loop-place.place x y c.loop-place.auto.place c.loop-place-test.true c.index-resets-place.is c.index-resets-place-in-loop-place.is (λ h. omega (arith, signed_arith, h, later)) c.loop-place.invariant
+    rises_more c.args.resets.now c.loop-place.place x y c.loop-place.auto.place c.loop-place-test.true
+    c.index-resets-place.is c.index-resets-place-in-loop-place.is
+    (λ h. omega (arith, signed_arith, h, later)) c.loop-place.invariant

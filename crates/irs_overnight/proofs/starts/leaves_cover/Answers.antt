@@ -9,7 +9,8 @@ returns-then-lt g c =
     let set : DaySet = g.G.GoodDays.days c.args.days.now in
     let ends = c.cover-first.ensures.ends in
     let first : c.cover-first.result.0 ≡ set.first = cc ends in
-    let low : c.args.start <ℤ c.cover-first.result.0 = lt_true c.args.start c.cover-first.result.0 (sym (c.if-lt.ensures {u = tt})) in
+    let low : c.args.start <ℤ c.cover-first.result.0 =
+    lt_true c.args.start c.cover-first.result.0 (sym (c.if-lt.ensures {u = tt})) in
     (λ _. leaves_before set c.args.start c.args.end c.requires.order (rw (sym first) low), λ _. refl)
 
 pub returns : goal.returns
@@ -18,7 +19,10 @@ returns g c =
     let ends = c.cover-first.ensures.ends in
     let first : c.cover-first.result.0 ≡ set.first = cc ends in
     let last : c.cover-first.result.1 ≡ set.last = cc ends in
-    let low : c.cover-first.result.0 ≤ℤ c.args.start = lt_false c.args.start c.cover-first.result.0 (sym (c.if-lt.ensures {u = tt})) in (
-      λ t. let high : (c.cover-first.result.1 +ℤ pos 1) <ℤ c.args.end = c.ends_past.ensures.0 t in leaves_past set c.args.start c.args.end c.requires.order (rw (sym last) high),
-      λ h. c.ends_past.ensures.1 (rw last (past_if set c.args.start c.args.end c.requires.order (rw (sym first) low) h)),
+    let low : c.cover-first.result.0 ≤ℤ c.args.start =
+    lt_false c.args.start c.cover-first.result.0 (sym (c.if-lt.ensures {u = tt})) in (
+      λ t. let high : (c.cover-first.result.1 +ℤ pos 1) <ℤ c.args.end = c.ends_past.ensures.0 t in
+          leaves_past set c.args.start c.args.end c.requires.order (rw (sym last) high),
+      λ h. c.ends_past.ensures.1
+          (rw last (past_if set c.args.start c.args.end c.requires.order (rw (sym first) low) h)),
     )

@@ -6,5 +6,8 @@ use Rattle.irs_payments.proofs.dating.payment_date.Goals as goal
 pub returns-in_default-clause-leaves : goal.returns-in_default-clause-leaves
 returns-in_default-clause-leaves g c = λ e.
     let same : c.no_move.result ≡ OutOfRange = cc in
-    let none = c.in_default.ensures.none in
-    (leaves_by c.args.pay.now (g.G.GoodDays.days c.args.days.now) c.args.start c.requires none (sym c.no_move.ensures ∙ same), none)
+    let none = c.in_default.ensures.none in (
+      leaves_by c.args.pay.now (g.G.GoodDays.days c.args.days.now) c.args.start c.requires none (sym c.no_move.ensures
+          ∙ same),
+      none,
+    )

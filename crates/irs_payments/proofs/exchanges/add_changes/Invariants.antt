@@ -6,5 +6,6 @@ use Rattle.irs_payments.proofs.exchanges.add_changes.Given as goal
 abbrev pub invariant-loop-step : goal.invariant-loop-step
 invariant-loop-step l = record {
   before : IsNotional l.before;
-  transfers : l.transfers.items ++ changes l.before (drop l.step-index l.steps) ≡ l.fn.transfers.items ++ changes l.notional.initial l.notional.steps;
+  transfers : l.transfers.items ++ changes l.before (drop l.step-index l.steps)
+      ≡ l.fn.transfers.items ++ changes l.notional.initial l.notional.steps;
 }

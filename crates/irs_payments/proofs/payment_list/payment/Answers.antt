@@ -19,7 +19,9 @@ returns-in-Err g c =
     let k = c.pay_place.result in
     let low : k < length cuts = omega (arith, c.pay_place.ensures, place_low s.pay.relative j, c.requires.within) in
     let inside : cut_at cuts k < length a = omega (arith, c.requires.places.within k low, c.requires.adjusted) in
-    let start : c.index-adjusted-place.result ≡ day_at a (date_place s cuts j) = c.index-adjusted-place.is ∙ get_or_default a (cut_at cuts k) c.index-adjusted-place.result (pos 0) inside ∙ ap (λ (m : ℕ). day_at a (cut_at cuts m)) c.pay_place.ensures in
+    let start : c.index-adjusted-place.result ≡ day_at a (date_place s cuts j) =
+    c.index-adjusted-place.is ∙ get_or_default a (cut_at cuts k) c.index-adjusted-place.result (pos 0) inside
+    ∙ ap (λ (m : ℕ). day_at a (cut_at cuts m)) c.pay_place.ensures in
     let err : NoDate → Result ℤ NoDate = λ x. Err x in
     outcome_err s set c.args.unadjusted.now a cuts j c.in-Err.reason
     (λ e. subst (λ (z : ℤ). LacksResult s.pay set z) start (c.in-Err.ensures.lacks (ap err e)))

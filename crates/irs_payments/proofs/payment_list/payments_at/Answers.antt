@@ -5,7 +5,9 @@ use Rattle.irs_payments.proofs.payment_list.payments_at.Goals as goal
 
 pub loop-j-init : goal.loop-j-init
 loop-j-init g c = record {
-  dated = rw c.new-list.ensures (none_dated c.args.s.now (g.G.GoodDays.days c.args.days.now) c.args.unadjusted.now c.args.adjusted.now c.args.places.now c.requires.places);
+  dated = rw c.new-list.ensures
+      (none_dated c.args.s.now (g.G.GoodDays.days c.args.days.now) c.args.unadjusted.now c.args.adjusted.now
+      c.args.places.now c.requires.places);
   none = λ j low high _. omega (arith, low, high);
 }
 
@@ -18,8 +20,10 @@ loop-j-preserved g c =
     let cuts = c.args.places.now in
     let settles = (c.in_ok-beyond.ensures {u = tt}).settles in
     record {
-      dated = dated_more s set b a cuts c.loop-j.j c.requires.places c.loop-j.auto.j c.loop-j-test.true c.payment-payment.result _ _ _ _ c.payment-payment.ensures c.loop-j.invariant.dated settles;
-      none = lacks_more s set b a cuts c.loop-j.j c.requires.places c.loop-j.auto.j c.loop-j-test.true c.payment-payment.result _ _ _ _ c.payment-payment.ensures c.loop-j.invariant.none settles;
+      dated = dated_more s set b a cuts c.loop-j.j c.requires.places c.loop-j.auto.j c.loop-j-test.true
+          c.payment-payment.result _ _ _ _ c.payment-payment.ensures c.loop-j.invariant.dated settles;
+      none = lacks_more s set b a cuts c.loop-j.j c.requires.places c.loop-j.auto.j c.loop-j-test.true
+          c.payment-payment.result _ _ _ _ c.payment-payment.ensures c.loop-j.invariant.none settles;
     }
 
 pub returns-in-None-clause-paid : goal.returns-in-None-clause-paid
@@ -30,5 +34,7 @@ returns-in-None-clause-paid g c =
     let a = c.args.adjusted.now in
     let cuts = c.args.places.now in
     let whole : c.loop-j.j ≡ length cuts = omega (arith, c.loop-j.auto.j-end c.requires.some, c.loop-j-test.false) in
-    let dated : ArePaid s set b a cuts c.loop-j.j c.loop-j.list = subst (λ (o : Option ℕ). Dated s set b a cuts c.loop-j.j o c.loop-j.list) c.in-None.is c.loop-j.invariant.dated in
+    let dated : ArePaid s set b a cuts c.loop-j.j c.loop-j.list =
+    subst (λ (o : Option ℕ). Dated s set b a cuts c.loop-j.j o c.loop-j.list) c.in-None.is
+    c.loop-j.invariant.dated in
     subst (λ (k : ℕ). ArePaid s set b a cuts k c.loop-j.list) whole dated

@@ -15,19 +15,25 @@ returns-then-not-has_day-clause-broken c =
     let steps = c.args.steps.now in
     let i = c.loop-i.i in
     let step = c.index-steps-i.result in
-    let at : slice_get steps i ≡ Some step = slice_get-get_or steps i step c.loop-i-test.true ∙ ap Some (sym c.index-steps-i.is) in
+    let at : slice_get steps i ≡ Some step =
+    slice_get-get_or steps i step c.loop-i-test.true ∙ ap Some (sym c.index-steps-i.is) in
     let off : IsOff b step = λ (on : Member step.day b).
     let both : true ≡ false = sym (c.has_day.ensures.1 on) ∙ c.if-not-has_day.true in
     absurd (cc) in
-    subst (First comes_before (BreaksUnder b c.args.elem steps)) (sym c.fault.ensures) (first_in K36 c.args.elem (IsOff b) steps i step at off c.loop-i.invariant)
+    subst (First comes_before (BreaksUnder b c.args.elem steps)) (sym c.fault.ensures)
+    (first_in K36 c.args.elem (IsOff b) steps i step at off c.loop-i.invariant)
 
 pub loop-i-preserved : goal.loop-i-preserved
 loop-i-preserved c =
     let steps = c.args.steps.now in
     let i = c.loop-i.i in
     let step = c.index-steps-i.result in
-    let at : slice_get steps i ≡ Some step = slice_get-get_or steps i step c.loop-i-test.true ∙ ap Some (sym c.index-steps-i.is) in
-    none_of_more (IsOff c.args.boundaries.now) steps i step at (λ off. off (c.has_day.ensures.0 c.if-not-has_day.false)) c.loop-i.invariant
+    let at : slice_get steps i ≡ Some step =
+    slice_get-get_or steps i step c.loop-i-test.true ∙ ap Some (sym c.index-steps-i.is) in
+    none_of_more (IsOff c.args.boundaries.now) steps i step at
+    (λ off. off (c.has_day.ensures.0 c.if-not-has_day.false)) c.loop-i.invariant
 
 pub returns-clause-unbroken : goal.returns-clause-unbroken
-returns-clause-unbroken c = none_in K36 c.args.elem (IsOff c.args.boundaries.now) c.args.steps.now c.loop-i.i c.loop-i-test.false c.loop-i.invariant
+returns-clause-unbroken c =
+    none_in K36 c.args.elem (IsOff c.args.boundaries.now) c.args.steps.now c.loop-i.i c.loop-i-test.false
+    c.loop-i.invariant

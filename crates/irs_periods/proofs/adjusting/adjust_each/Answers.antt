@@ -12,4 +12,5 @@ unreachable-requires g c =
     let within : i < length b = c.loop-i-test.true in
     let here = get_or_read b i c.index-days-i.result within c.index-days-i.is (pos 0) in
     let found = c.requires.each i within in
-    c.in-None.ensures.none found.0 (subst (λ (d : ℤ). AdjustsAt c.args.s.now sets (last_of b) i d found.0) (sym here) found.1)
+    c.in-None.ensures.none found.0
+    (subst (λ (d : ℤ). AdjustsAt c.args.s.now sets (last_of b) i d found.0) (sym here) found.1)

@@ -6,5 +6,7 @@ use Rattle.irs_periods.proofs.adjusting.adjust_each.Given as goal
 abbrev pub invariant-loop-i : goal.invariant-loop-i
 invariant-loop-i g l = record {
   so_far : length l.list ≡ l.i;
-  each : (j : ℕ) → j < l.i → AdjustsAt l.s (days_by g.G.GoodDays.days l.start l.end l.middle) (last_of l.days) j (day_at l.days j) (day_at l.list j);
+  each : (j : ℕ) → j < l.i
+      → AdjustsAt l.s (days_by g.G.GoodDays.days l.start l.end l.middle) (last_of l.days) j (day_at l.days j)
+      (day_at l.list j);
 }

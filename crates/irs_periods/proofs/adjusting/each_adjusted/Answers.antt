@@ -1,7 +1,8 @@
 use Rattle.std.proofs.Common.{◌≡◌, ◌-◌, ◌∙◌, List, length, ℕ, ℤ, arith, ap, sym, subst}
 use Rattle.irs_base.specs.Order.{First, comes_before}
 use Rattle.irs_base.specs.declared.places.Fault.{Fault}
-use Rattle.irs_periods.specs.Adjusting.{AdjustedList, BreaksAdjusted, FirstNoResult, FirstNotAfter, MissesResult, days_by, last_of, no_result_at}
+use Rattle.irs_periods.specs.Adjusting.{AdjustedList, BreaksAdjusted, FirstNoResult, FirstNotAfter, MissesResult}
+use Rattle.irs_periods.specs.Adjusting.{days_by, last_of, no_result_at}
 use Rattle.irs_periods.proofs.AdjustedDecided.{first_no_result, first_not_after, results_unbroken}
 use Rattle.irs_periods.proofs.MemoryAnswers.{if_memory}
 use Rattle.irs_periods.proofs.AdjustedLemmas.{adjusted_exists, two_boundaries, few_days, rising_of}
@@ -10,12 +11,14 @@ use Rattle.irs_periods.proofs.adjusting.each_adjusted.Goals as goal
 
 pub first_without-requires : goal.first_without-requires
 first_without-requires g c =
-    let two = two_boundaries c.args.s.now c.requires.listed.0 c.args.unadjusted.now (begins_before_end c.args.s.now c.requires.dates) c.requires.listed.1 in
+    let two = two_boundaries c.args.s.now c.requires.listed.0 c.args.unadjusted.now
+    (begins_before_end c.args.s.now c.requires.dates) c.requires.listed.1 in
     omega (arith, two, ap length c.as_slice-days.ensures.value)
 
 pub adjust_each-requires-clause-some : goal.adjust_each-requires-clause-some
 adjust_each-requires-clause-some g c =
-    let two = two_boundaries c.args.s.now c.requires.listed.0 c.args.unadjusted.now (begins_before_end c.args.s.now c.requires.dates) c.requires.listed.1 in
+    let two = two_boundaries c.args.s.now c.requires.listed.0 c.args.unadjusted.now
+    (begins_before_end c.args.s.now c.requires.dates) c.requires.listed.1 in
     omega (arith, two, ap length c.as_slice-days.ensures.value)
 
 pub no_result-requires : goal.no_result-requires
@@ -26,7 +29,14 @@ no_result-requires g c =
 pub not_after-requires : goal.not_after-requires
 not_after-requires g c =
     let few = few_days c.args.unadjusted.now c.requires.listed.1.rising c.as_slice-days.ensures.days in
-    omega (arith, few, ap length c.as_slice-days.ensures.value, ap length c.as_slice.ensures.value, c.in_ok-list.ensures.ok.same_length, c.in-Some-first_not_after.ensures.some.0.within)
+    omega (
+      arith,
+      few,
+      ap length c.as_slice-days.ensures.value,
+      ap length c.as_slice.ensures.value,
+      c.in_ok-list.ensures.ok.same_length,
+      c.in-Some-first_not_after.ensures.some.0.within,
+    )
 
 pub returns-in-Some-clause-broken : goal.returns-in-Some-clause-broken
 returns-in-Some-clause-broken g c =
@@ -35,9 +45,12 @@ returns-in-Some-clause-broken g c =
     let days = g.G.GoodDays.days in
     let sets = days_by days c.args.start.now c.args.end.now c.args.middle.now in
     let i = c.in-Some.number in
-    let first : FirstNoResult s sets b i = subst (λ (xs : List ℤ). FirstNoResult s sets xs i) c.as_slice-days.ensures.value c.in-Some.ensures.some in
-    let last : length c.as_slice-days.result.now - 1 ≡ last_of b = ap (λ (xs : List ℤ). last_of xs) c.as_slice-days.ensures.value in
-    let is : c.no_result.result ≡ no_result_at s (last_of b) i = c.no_result.ensures ∙ ap (λ (n : ℕ). no_result_at s n i) last in
+    let first : FirstNoResult s sets b i =
+    subst (λ (xs : List ℤ). FirstNoResult s sets xs i) c.as_slice-days.ensures.value c.in-Some.ensures.some in
+    let last : length c.as_slice-days.result.now - 1 ≡ last_of b =
+    ap (λ (xs : List ℤ). last_of xs) c.as_slice-days.ensures.value in
+    let is : c.no_result.result ≡ no_result_at s (last_of b) i =
+    c.no_result.ensures ∙ ap (λ (n : ℕ). no_result_at s n i) last in
     subst (First comes_before (BreaksAdjusted s sets b)) (sym is) (first_no_result s sets b i first)
 
 pub returns-in-Some-clause-memory : goal.returns-in-Some-clause-memory
@@ -50,7 +63,9 @@ returns-in_err-list-clause-memory g c =
     let days = g.G.GoodDays.days in
     let sets = days_by days c.args.start.now c.args.end.now c.args.middle.now in
     let list = adjusted_exists s sets c.as_slice-days.result.now c.in_default.ensures.none in
-    let unbroken = subst (λ (xs : List ℤ). (f : Fault) → MissesResult s sets xs f → ⊥) c.as_slice-days.ensures.value (results_unbroken s sets c.as_slice-days.result.now list.0 list.1) in
+    let unbroken =
+    subst (λ (xs : List ℤ). (f : Fault) → MissesResult s sets xs f
+    → ⊥) c.as_slice-days.ensures.value (results_unbroken s sets c.as_slice-days.result.now list.0 list.1) in
     if_memory ((f : Fault) → MissesResult s sets b f → ⊥) c.from_residual.result unbroken
 
 pub returns-in-Some-first_not_after-clause-broken : goal.returns-in-Some-first_not_after-clause-broken
@@ -61,9 +76,12 @@ returns-in-Some-first_not_after-clause-broken g c =
     let sets = days_by days c.args.start.now c.args.end.now c.args.middle.now in
     let list = c.in_ok-list.list in
     let i = c.in-Some-first_not_after.number in
-    let first : FirstNotAfter list i = subst (λ (xs : List ℤ). FirstNotAfter xs i) c.as_slice.ensures.value c.in-Some-first_not_after.ensures.some in
-    let adjusted : AdjustedList s sets b list = subst (λ (xs : List ℤ). AdjustedList s sets xs list) c.as_slice-days.ensures.value c.in_ok-list.ensures.ok in
-    subst (First comes_before (BreaksAdjusted s sets b)) (sym c.not_after.ensures) (first_not_after s sets b list adjusted i first)
+    let first : FirstNotAfter list i =
+    subst (λ (xs : List ℤ). FirstNotAfter xs i) c.as_slice.ensures.value c.in-Some-first_not_after.ensures.some in
+    let adjusted : AdjustedList s sets b list =
+    subst (λ (xs : List ℤ). AdjustedList s sets xs list) c.as_slice-days.ensures.value c.in_ok-list.ensures.ok in
+    subst (First comes_before (BreaksAdjusted s sets b)) (sym c.not_after.ensures)
+    (first_not_after s sets b list adjusted i first)
 
 pub returns-in-None-clause-rising : goal.returns-in-None-clause-rising
 returns-in-None-clause-rising g c = rising_of c.in_ok-list.list (rw c.as_slice.ensures.value at c.in-None.ensures.none)

@@ -14,8 +14,13 @@ returns-in-Some-clause-some g c =
     let days = g.G.GoodDays.days in
     let sets = days_by days c.args.start.now c.args.end.now c.args.middle.now in
     let zeroth = get_or_read b 0 c.index-days-0.result (omega (arith, c.requires)) c.index-days-0.is (pos 0) in
-    let at_first : (r : ℤ) × AdjustsAt s sets (last_of b) 0 (day_at b 0) r = (c.in-Some._first, subst (λ (d : ℤ). AdjustsAt s sets (last_of b) 0 d c.in-Some._first) zeroth c.in-Some.ensures.some) in
-    IfSome_then c.later_without-later.result c.later_without-later.ensures.some (λ i h. first_behind s sets b i at_first h)
+    let at_first : (r : ℤ) × AdjustsAt s sets (last_of b) 0 (day_at b 0) r = (
+      c.in-Some._first,
+      subst (λ (d : ℤ). AdjustsAt s sets (last_of b) 0 d c.in-Some._first) zeroth
+          c.in-Some.ensures.some,
+    ) in
+    IfSome_then c.later_without-later.result c.later_without-later.ensures.some
+    (λ i h. first_behind s sets b i at_first h)
 
 pub returns-in-Some-clause-none : goal.returns-in-Some-clause-none
 returns-in-Some-clause-none g c =
@@ -24,8 +29,13 @@ returns-in-Some-clause-none g c =
     let days = g.G.GoodDays.days in
     let sets = days_by days c.args.start.now c.args.end.now c.args.middle.now in
     let zeroth = get_or_read b 0 c.index-days-0.result (omega (arith, c.requires)) c.index-days-0.is (pos 0) in
-    let at_first : (r : ℤ) × AdjustsAt s sets (last_of b) 0 (day_at b 0) r = (c.in-Some._first, subst (λ (d : ℤ). AdjustsAt s sets (last_of b) 0 d c.in-Some._first) zeroth c.in-Some.ensures.some) in
-    IfNone_then c.later_without-later.result c.later_without-later.ensures.none (λ later. each_place s sets b at_first later)
+    let at_first : (r : ℤ) × AdjustsAt s sets (last_of b) 0 (day_at b 0) r = (
+      c.in-Some._first,
+      subst (λ (d : ℤ). AdjustsAt s sets (last_of b) 0 d c.in-Some._first) zeroth
+          c.in-Some.ensures.some,
+    ) in
+    IfNone_then c.later_without-later.result c.later_without-later.ensures.none
+    (λ later. each_place s sets b at_first later)
 
 pub returns-in-Some-None-clause-some : goal.returns-in-Some-None-clause-some
 returns-in-Some-None-clause-some g c =

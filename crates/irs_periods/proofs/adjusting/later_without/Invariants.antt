@@ -4,4 +4,6 @@ use Rattle.irs_base.specs.Members.{day_at}
 use Rattle.irs_periods.proofs.adjusting.later_without.Given as goal
 
 abbrev pub invariant-loop-i : goal.invariant-loop-i
-invariant-loop-i g l = (j : ℕ) → 1 ≤ j → j < l.i → (r : ℤ) × AdjustsAt l.s (days_by g.G.GoodDays.days l.start l.end l.middle) (last_of l.days) j (day_at l.days j) r
+invariant-loop-i g l =
+    (j : ℕ) → 1 ≤ j → j < l.i
+    → (r : ℤ) × AdjustsAt l.s (days_by g.G.GoodDays.days l.start l.end l.middle) (last_of l.days) j (day_at l.days j) r

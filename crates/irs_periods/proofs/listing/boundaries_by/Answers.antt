@@ -4,13 +4,17 @@ use Rattle.irs_periods.proofs.RegularStarts.{regular_start}
 use Rattle.irs_periods.proofs.listing.boundaries_by.Goals as goal
 
 pub returns-clause-unbroken : goal.returns-clause-unbroken
-returns-clause-unbroken c = answer_unbroken c.args.s.now c.args.span.now c.by_frequency.result c.by_frequency.ensures.ok c.by_frequency.ensures.few
+returns-clause-unbroken c =
+    answer_unbroken c.args.s.now c.args.span.now c.by_frequency.result c.by_frequency.ensures.ok
+    c.by_frequency.ensures.few
 
 pub returns-clause-decided : goal.returns-clause-decided
-returns-clause-decided c = boundaries_decided c.args.s.now c.args.span.now c.requires.lawful c.requires.dates c.requires.span c.requires.kept
+returns-clause-decided c =
+    boundaries_decided c.args.s.now c.args.span.now c.requires.lawful c.requires.dates c.requires.span c.requires.kept
 
 pub returns-clause-exists : goal.returns-clause-exists
-returns-clause-exists c = boundaries_there c.args.s.now c.args.span.now c.requires.lawful c.requires.dates c.requires.span c.requires.kept
+returns-clause-exists c =
+    boundaries_there c.args.s.now c.args.span.now c.requires.lawful c.requires.dates c.requires.span c.requires.kept
 
 pub returns-clause-one : goal.returns-clause-one
 returns-clause-one c = one_boundaries c.args.s.now c.args.span.now

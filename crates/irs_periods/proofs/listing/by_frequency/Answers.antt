@@ -12,5 +12,6 @@ returns-then-is_whole_term-clause-memory c =
     let s = c.args.s.now in
     let span = c.args.span.now in
     let b = first_day_of s ∷ termination_of s ∷ [] in
-    let lists = term_list s span (c.is_whole_term.ensures.exact.0 c.if-is_whole_term.true) (begins_before_end s c.requires.dates) in
+    let lists = term_list s span (c.is_whole_term.ensures.exact.0 c.if-is_whole_term.true)
+    (begins_before_end s c.requires.dates) in
     if_memory _ c.whole_term.result (few_unbroken s span b lists (omega arith))

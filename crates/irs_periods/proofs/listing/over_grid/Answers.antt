@@ -17,9 +17,11 @@ returns-then-steps-stubs-clause-broken g c =
     let span = c.args.span.now in
     let f : ℤ → ℤ = g.G.Grid.at c.args.grid.now in
     let part = c.regular_part-start in
-    let front = subst (λ (z : ℤ). c.stub.result ≡ length (where_before z span.first (first_day_of s))) c.first_day.ensures.value (c.stub.ensures.same (first_day_of s)) in
+    let front = subst (λ (z : ℤ). c.stub.result ≡ length (where_before z span.first (first_day_of s)))
+    c.first_day.ensures.value (c.stub.ensures.same (first_day_of s)) in
     let back = c.stub-2.ensures.same (termination_of s) in
-    let long = length-all_boundaries f part.result.0 part.result.1 (first_day_of s) (termination_of s) span.first span.last in
+    let long = length-all_boundaries f part.result.0 part.result.1 (first_day_of s)
+    (termination_of s) span.first span.last in
     let many : TooManyPeriods s span = record {
       list = boundaries_on f part.result.0 part.result.1 s span;
       lists = part.ensures.listed;
@@ -45,14 +47,19 @@ returns-clause-few g c =
     let f : ℤ → ℤ = g.G.Grid.at c.args.grid.now in
     let part = c.regular_part-start in
     let start : ℤ = to_z w64 (of_z w64 part.result.0) in
-    let front = subst (λ (z : ℤ). c.stub.result ≡ length (where_before z span.first (first_day_of s))) c.first_day.ensures.value (c.stub.ensures.same (first_day_of s)) in
+    let front = subst (λ (z : ℤ). c.stub.result ≡ length (where_before z span.first (first_day_of s)))
+    c.first_day.ensures.value (c.stub.ensures.same (first_day_of s)) in
     let back = c.stub-2.ensures.same (termination_of s) in
     let long = length-all_boundaries f start part.result.1 (first_day_of s) (termination_of s) span.first span.last in
-    let few : length (boundaries_on f start part.result.1 s span) ≤ most_periods + 1 = omega (arith, long, front, back, c.stub.ensures.most, c.stub-2.ensures.most, c.if-steps-stubs.false) in
-    answer_is (λ b. length b ≤ most_periods + 1) c.list_days.result (boundaries_on f start part.result.1 s span) c.list_days.ensures.ok few
+    let few : length (boundaries_on f start part.result.1 s span) ≤ most_periods + 1 =
+    omega (arith, long, front, back, c.stub.ensures.most, c.stub-2.ensures.most, c.if-steps-stubs.false) in
+    answer_is (λ b. length b ≤ most_periods + 1) c.list_days.result
+    (boundaries_on f start part.result.1 s span) c.list_days.ensures.ok few
 
 pub returns-clause-broken : goal.returns-clause-broken
-returns-clause-broken g c = never_broken (First comes_before (BreaksPeriods c.args.s.now c.args.span.now)) c.list_days.result c.list_days.ensures.memory
+returns-clause-broken g c =
+    never_broken (First comes_before (BreaksPeriods c.args.s.now c.args.span.now)) c.list_days.result
+    c.list_days.ensures.memory
 
 pub returns-clause-memory : goal.returns-clause-memory
 returns-clause-memory g c =
@@ -60,8 +67,12 @@ returns-clause-memory g c =
     let span = c.args.span.now in
     let f : ℤ → ℤ = g.G.Grid.at c.args.grid.now in
     let part = c.regular_part-start in
-    let front = subst (λ (z : ℤ). c.stub.result ≡ length (where_before z span.first (first_day_of s))) c.first_day.ensures.value (c.stub.ensures.same (first_day_of s)) in
+    let front = subst (λ (z : ℤ). c.stub.result ≡ length (where_before z span.first (first_day_of s)))
+    c.first_day.ensures.value (c.stub.ensures.same (first_day_of s)) in
     let back = c.stub-2.ensures.same (termination_of s) in
-    let long = length-all_boundaries f part.result.0 part.result.1 (first_day_of s) (termination_of s) span.first span.last in
-    let few : length (boundaries_on f part.result.0 part.result.1 s span) ≤ most_periods + 1 = omega (arith, long, front, back, c.stub.ensures.most, c.stub-2.ensures.most, c.if-steps-stubs.false) in
-    if_memory _ c.list_days.result (few_unbroken s span (boundaries_on f part.result.0 part.result.1 s span) part.ensures.listed few)
+    let long = length-all_boundaries f part.result.0 part.result.1 (first_day_of s)
+    (termination_of s) span.first span.last in
+    let few : length (boundaries_on f part.result.0 part.result.1 s span) ≤ most_periods + 1 =
+    omega (arith, long, front, back, c.stub.ensures.most, c.stub-2.ensures.most, c.if-steps-stubs.false) in
+    if_memory _ c.list_days.result
+    (few_unbroken s span (boundaries_on f part.result.0 part.result.1 s span) part.ensures.listed few)

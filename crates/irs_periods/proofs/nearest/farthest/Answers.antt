@@ -12,5 +12,6 @@ loop-high-init g c =
       order = omega arith;
       top = omega arith;
       here = subst (λ (z : ℤ). Within c.args.way c.args.bound (f z)) (sym (steps_none c.args.way)) c.requires.begins;
-      past = λ h. too_many_steps f (g.met.G.Grid.rises grid) c.args.way all_days c.args.bound (omega arith) c.requires.anchor c.requires.bound h;
+      past = λ h. too_many_steps f (g.met.G.Grid.rises grid) c.args.way all_days c.args.bound
+          (omega arith) c.requires.anchor c.requires.bound h;
     }

@@ -5,5 +5,7 @@ pub returns-in_default : goal.returns-in_default
 returns-in_default g c =
     let grid = c.args.grid.now in (
       λ t. cc,
-      λ h. absurd (c.in_default.ensures (within_is_day (g.G.Grid.at grid) (g.met.G.Grid.rises grid) c.args.way c.args.n c.args.bound c.requires.anchor c.requires.bound h)),
+      λ h. absurd (c.in_default.ensures
+          (within_is_day (g.G.Grid.at grid) (g.met.G.Grid.rises grid) c.args.way c.args.n c.args.bound c.requires.anchor
+          c.requires.bound h)),
     )

@@ -9,4 +9,6 @@ returns g c =
     let laws = g.met.G.Grid in
     let on = g.G.Grid.on grid in
     subst (λ (z : ℤ). ShortEnd c.args.way on c.args.bound z) (sym c.day_within.ensures)
-    (short_end (g.G.Grid.at grid) (laws.rises grid) on (laws.nth_is_on grid) (laws.misses_none grid) c.args.way c.farthest.result c.args.bound c.farthest.ensures.within c.farthest.ensures.last)
+    (short_end (g.G.Grid.at grid) (laws.rises grid) on (laws.nth_is_on grid)
+    (laws.misses_none grid) c.args.way c.farthest.result c.args.bound c.farthest.ensures.within
+    c.farthest.ensures.last)

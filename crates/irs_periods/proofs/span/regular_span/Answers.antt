@@ -4,7 +4,9 @@ use Rattle.irs_periods.proofs.SpanThere.{span_there}
 use Rattle.irs_periods.proofs.span.regular_span.Goals as goal
 
 pub returns-clause-unbroken : goal.returns-clause-unbroken
-returns-clause-unbroken c = answer_unbroken c.args.s.now c.span_by_frequency.result c.span_by_frequency.ensures.ok c.span_by_frequency.ensures.kept
+returns-clause-unbroken c =
+    answer_unbroken c.args.s.now c.span_by_frequency.result c.span_by_frequency.ensures.ok
+    c.span_by_frequency.ensures.kept
 
 pub returns-clause-decided : goal.returns-clause-decided
 returns-clause-decided c = span_decided c.args.s.now c.requires.lawful c.requires.dates

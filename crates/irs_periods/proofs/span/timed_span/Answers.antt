@@ -16,7 +16,10 @@ returns-clause-ok c =
     let s = c.args.s.now in
     record {
       anchored = c.anchor-anchor.ensures;
-      spans = rw c.requires.timed (given_span_same _ (OnGrid s.freq s.roll c.anchor-anchor.result) c.new-grid.ensures.on s.first_regular s.last_regular s.stub (first_day_of s) (termination_of s) c.ends-first.result.0 c.ends-first.result.1 c.ends-first.ensures);
+      spans = rw c.requires.timed
+          (given_span_same _ (OnGrid s.freq s.roll c.anchor-anchor.result) c.new-grid.ensures.on s.first_regular
+          s.last_regular s.stub (first_day_of s) (termination_of s) c.ends-first.result.0 c.ends-first.result.1
+          c.ends-first.ensures);
     }
 
 pub returns-then-not-on_grid-clause-broken : goal.returns-then-not-on_grid-clause-broken
@@ -28,17 +31,26 @@ returns-then-not-on_grid-clause-broken c =
     let timed : IsTerm s.freq → ⊥ = λ h. let same = rw h at c.requires.timed in cc in
     let regular : Regular s span = record {
       anchored = c.anchor-anchor.ensures;
-      spans = rw c.requires.timed (given_span_same _ (OnGrid s.freq s.roll anchor) c.new-grid.ensures.on s.first_regular s.last_regular s.stub (first_day_of s) (termination_of s) c.ends-first.result.0 c.ends-first.result.1 c.ends-first.ensures);
+      spans = rw c.requires.timed
+          (given_span_same _ (OnGrid s.freq s.roll anchor) c.new-grid.ensures.on s.first_regular s.last_regular s.stub
+          (first_day_of s) (termination_of s) c.ends-first.result.0 c.ends-first.result.1 c.ends-first.ensures);
     } in
     let off : OnGrid s.freq s.roll anchor c.ends-first.result.1 → ⊥ = λ on.
     let is = c.on_grid.ensures.1 ((c.new-grid.ensures.on c.ends-first.result.1).1 on) in cc in
-    rw c.off_grid.ensures (first_off_grid s (λ k30. k30.misfits (subst (Fits s.roll s.freq) c.anchor-anchor.ensures fit)) (record { timed = timed; span = span; regular = regular; off = off }))
+    rw c.off_grid.ensures
+    (first_off_grid s (λ k30. k30.misfits (subst (Fits s.roll s.freq) c.anchor-anchor.ensures fit))
+    (record { timed = timed; span = span; regular = regular; off = off }))
 
 pub returns-then-not-fits-clause-broken : goal.returns-then-not-fits-clause-broken
 returns-then-not-fits-clause-broken c =
     let s = c.args.s.now in
     let timed : IsTerm s.freq → ⊥ = λ h. let same = rw h at c.requires.timed in cc in
-    let misfits : RollMisfits s = record { timed = timed; misfits = λ k. let is = c.fits.ensures.1 (subst (Fits s.roll s.freq) (sym c.anchor-anchor.ensures) k) in cc } in
+    let misfits : RollMisfits s =
+    record {
+      timed = timed;
+      misfits = λ k. let is =
+          c.fits.ensures.1 (subst (Fits s.roll s.freq) (sym c.anchor-anchor.ensures) k) in cc;
+    } in
     rw c.misfit.ensures (first_misfit s misfits)
 
 pub ends-first-requires-clause-order : goal.ends-first-requires-clause-order

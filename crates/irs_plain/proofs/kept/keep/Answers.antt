@@ -6,5 +6,6 @@ use Rattle.irs_plain.proofs.kept.keep.Goals as goal
 pub returns : goal.returns
 returns c =
     kept_more longest_line c.min.result c.args.front.now c.args.bytes.now c.push.new.self c.bytes.ensures.fits
-    (c.min.ensures ∙ ap (λ (xs : List ℕ). min (longest_line - length xs) (length c.args.bytes.now)) c.bytes.ensures.bytes)
+    (c.min.ensures ∙ ap (λ (xs : List ℕ). min (longest_line - length xs) (length c.args.bytes.now))
+    c.bytes.ensures.bytes)
     c.push.ensures

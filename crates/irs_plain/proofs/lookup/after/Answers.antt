@@ -9,4 +9,5 @@ returns c =
     c.text_at.ensures
     ∙ ap (λ (list : List (List ℕ)). text_at list c.place_in.result (codes " breaks this rule")) after_are
     ∙ ap (λ (place : ℕ). text_at texts_after place (codes " breaks this rule")) c.place_in.ensures.value
-    ∙ ap (λ (list : List (List ℕ)). text_at texts_after (place_in list c.args.rule.now) (codes " breaks this rule")) rules_are
+    ∙ ap (λ (list : List (List ℕ)). text_at texts_after (place_in list c.args.rule.now) (codes " breaks this rule"))
+    rules_are

@@ -5,4 +5,5 @@ use Rattle.std.proofs.Common.{◌≡◌, drop, map}
 use Rattle.std.specs.Prelude.{find}
 
 abbrev pub invariant-loop-list : goal.invariant-loop-list
-invariant-loop-list l = find (has_id l.id) (map seen (drop l.list-index l.lists)) ≡ find (has_id l.id) (map seen l.lists)
+invariant-loop-list l =
+    find (has_id l.id) (map seen (drop l.list-index l.lists)) ≡ find (has_id l.id) (map seen l.lists)

@@ -4,7 +4,8 @@ use Rattle.irs_elements.specs.Find.{member, seen}
 use Rattle.irs_elements.specs.Words.{currency_at}
 use Rattle.irs_read.proofs.Parts.{both, same_stream}
 use Rattle.irs_read.proofs.stream.stream_of.Goals as goal
-use Rattle.irs_read.specs.Meaning.{adjustments_in, dated_in, exchanges_in, leg_by, maybe_dated_in, no_currency, pay_in, reset_in, said, schedule_in, stubs_in}
+use Rattle.irs_read.specs.Meaning.{adjustments_in, dated_in, exchanges_in, leg_by, maybe_dated_in, no_currency, pay_in}
+use Rattle.irs_read.specs.Meaning.{reset_in, said, schedule_in, stubs_in}
 use Rattle.irs_read.specs.declared.leaf_values.Scale.TheVariants.{Notionals}
 use Rattle.irs_terms.specs.declared.codes.CompCode.TheVariants.{Simple}
 use Rattle.irs_terms.specs.declared.codes.DayCountCode.TheVariants.{OneOne}
@@ -30,10 +31,15 @@ returns c =
       pay = c.in_ok-pay.ensures ∙ ap (pay_in lists dates) c.once.ensures;
       reset = c.in_ok-reset.ensures ∙ ap (option_map (reset_in lists dates)) c.once-2.ensures;
       notional = c.in_ok-notional.ensures ∙ ap (schedule_in Notionals) notionals;
-      currency = c.unwrap_or-2.ensures ∙ ap (λ o. unwrap_or o no_currency) (c.currency.ensures ∙ ap (said currency_at) (c.member-9.ensures ∙ ap (member (codes "currency")) notionals));
+      currency = c.unwrap_or-2.ensures
+          ∙ ap (λ o. unwrap_or o no_currency) (c.currency.ensures
+          ∙ ap (said currency_at) (c.member-9.ensures ∙ ap (member (codes "currency")) notionals));
       leg = c.in_ok-leg.ensures ∙ both leg_by _ _ _ _ c.member-float.ensures c.member-4.ensures;
-      day_count = c.unwrap_or-3.ensures ∙ ap (λ o. unwrap_or o OneOne) (c.day_count.ensures ∙ ap (said day_count_at) c.member-10.ensures);
-      compounding = c.unwrap_or-4.ensures ∙ ap (λ o. unwrap_or o Simple) (c.compounding.ensures ∙ ap (said compounding_at) c.member-11.ensures);
+      day_count = c.unwrap_or-3.ensures
+          ∙ ap (λ o. unwrap_or o OneOne) (c.day_count.ensures ∙ ap (said day_count_at) c.member-10.ensures);
+      compounding =
+          c.unwrap_or-4.ensures
+          ∙ ap (λ o. unwrap_or o Simple) (c.compounding.ensures ∙ ap (said compounding_at) c.member-11.ensures);
       stubs = c.in_ok-stubs.ensures ∙ ap (option_map (stubs_in dates)) c.once-3.ensures;
       exchanges = c.exchanges.ensures ∙ ap exchanges_in c.once-4.ensures;
     })

@@ -10,8 +10,11 @@ use Rattle.std.specs.Prelude.{slice_get}
 
 pub loop-j-preserved : goal.loop-j-preserved
 loop-j-preserved c =
-    let found : slice_get c.args.list.now c.loop-j.j ≡ Some c.index-list-j.result = slice_get_read c.args.list.now (length c.args.list.now) c.loop-j.j c.index-list-j.result refl c.loop-j-test.true c.index-list-j.is in
-    each_step StreamFault c.args.list.now c.loop-j.j c.index-list-j.result _ _ _ found c.earlier-first.ensures c.loop-j.invariant (stream_first _ _ _ _ _ _ c.first_fault.ensures)
+    let found : slice_get c.args.list.now c.loop-j.j ≡ Some c.index-list-j.result =
+    slice_get_read c.args.list.now (length c.args.list.now) c.loop-j.j c.index-list-j.result refl c.loop-j-test.true
+    c.index-list-j.is in
+    each_step StreamFault c.args.list.now c.loop-j.j c.index-list-j.result _ _ _ found c.earlier-first.ensures
+    c.loop-j.invariant (stream_first _ _ _ _ _ _ c.first_fault.ensures)
 
 pub returns : goal.returns
 returns c =

@@ -6,10 +6,16 @@ use Rattle.std.proofs.Common.{Some, ap, arith, map}
 use Rattle.std.proofs.lemmas.List.{length-map}
 
 pub returns-then-list-eq0 : goal.returns-then-list-eq0
-returns-then-list-eq0 c = first_is _ _ _ (ap Some c.outside.ensures) (none_first (map view c.args.list.now) (omega (arith, length-map c.args.list.now view)))
+returns-then-list-eq0 c =
+    first_is _ _ _ (ap Some c.outside.ensures)
+    (none_first (map view c.args.list.now) (omega (arith, length-map c.args.list.now view)))
 
 pub returns-then-list-gt-MOST_STREAMS : goal.returns-then-list-gt-MOST_STREAMS
-returns-then-list-gt-MOST_STREAMS c = first_is _ _ _ (ap Some c.outside-then-list-gt-MOST_STREAMS.ensures) (many_first (map view c.args.list.now) (omega (arith, length-map c.args.list.now view)))
+returns-then-list-gt-MOST_STREAMS c =
+    first_is _ _ _ (ap Some c.outside-then-list-gt-MOST_STREAMS.ensures)
+    (many_first (map view c.args.list.now) (omega (arith, length-map c.args.list.now view)))
 
 pub returns-else-list-gt-MOST_STREAMS : goal.returns-else-list-gt-MOST_STREAMS
-returns-else-list-gt-MOST_STREAMS c = each_first (map view c.args.list.now) _ (omega (arith, length-map c.args.list.now view)) (omega (arith, length-map c.args.list.now view)) c.each_stream_fault.ensures
+returns-else-list-gt-MOST_STREAMS c =
+    each_first (map view c.args.list.now) _ (omega (arith, length-map c.args.list.now view))
+    (omega (arith, length-map c.args.list.now view)) c.each_stream_fault.ensures

@@ -5,7 +5,9 @@ use Rattle.irs_resets.proofs.dates.first_with.Goals as goal
 
 pub loop-number-preserved : goal.loop-number-preserved
 loop-number-preserved g c =
-    let days : ResetDays = days_by c.args.adjusted.now (g.G.GoodDays.days c.args.reset_days.now) (g.G.GoodDays.days c.args.fixing_days.now) in
+    let days : ResetDays =
+    days_by c.args.adjusted.now (g.G.GoodDays.days c.args.reset_days.now)
+    (g.G.GoodDays.days c.args.fixing_days.now) in
     record {
       none = λ i some low f. elim (below i c.loop-number.number low) [
         | inl old ↦ c.loop-number.invariant.none i some old f

@@ -6,12 +6,22 @@ use Rattle.irs_resets.proofs.dates.has_fault.Goals as goal
 
 pub returns-in-Ok-clause-fault : goal.returns-in-Ok-clause-fault
 returns-in-Ok-clause-fault g c =
-    let days : ResetDays = days_by c.args.adjusted.now (g.G.GoodDays.days c.args.reset_days.now) (g.G.GoodDays.days c.args.fixing_days.now) in
-    (λ h. absurd (cc), λ f. absurd (dates_stand c.args.fault c.args.terms.now days c.args.number c.in-Ok.field-0.reset c.in-Ok.field-0.fixing c.in-Ok.ensures.ok f))
+    let days : ResetDays =
+    days_by c.args.adjusted.now (g.G.GoodDays.days c.args.reset_days.now)
+    (g.G.GoodDays.days c.args.fixing_days.now) in (
+      λ h. absurd (cc),
+      λ f.
+          absurd (dates_stand c.args.fault c.args.terms.now days c.args.number c.in-Ok.field-0.reset
+          c.in-Ok.field-0.fixing c.in-Ok.ensures.ok f),
+    )
 
 pub returns-in-Err-clause-fault : goal.returns-in-Err-clause-fault
 returns-in-Err-clause-fault g c =
-    let days : ResetDays = days_by c.args.adjusted.now (g.G.GoodDays.days c.args.reset_days.now) (g.G.GoodDays.days c.args.fixing_days.now) in (
-      λ h. subst (λ (e : DateFault). Fails e c.args.terms.now days c.args.number) (c.is_same.ensures.0 h) c.in-Err.ensures.fault,
-      λ f. c.is_same.ensures.1 (one_way c.in-Err.found c.args.fault c.args.terms.now days c.args.number c.in-Err.ensures.fault f),
+    let days : ResetDays =
+    days_by c.args.adjusted.now (g.G.GoodDays.days c.args.reset_days.now)
+    (g.G.GoodDays.days c.args.fixing_days.now) in (
+      λ h. subst (λ (e : DateFault). Fails e c.args.terms.now days c.args.number)
+          (c.is_same.ensures.0 h) c.in-Err.ensures.fault,
+      λ f. c.is_same.ensures.1
+          (one_way c.in-Err.found c.args.fault c.args.terms.now days c.args.number c.in-Err.ensures.fault f),
     )

@@ -9,7 +9,8 @@ use Rattle.irs_resets.proofs.fixing_line.fixing_line.Goals as goal
 pub returns-clause-some : goal.returns-clause-some
 returns-clause-some c =
     let rate = c.in_ok-rate.ensures.some in
-    let whole : to_z w64 (of_z w64 c.in_ok-rate.rate) ≡ c.in_ok-rate.rate = omega (arith, ints, signed_arith, rate.small) in
+    let whole : to_z w64 (of_z w64 c.in_ok-rate.rate) ≡ c.in_ok-rate.rate =
+    omega (arith, ints, signed_arith, rate.small) in
     let second = c.first_word-2.ensures.word ∙ ap word c.first_word.ensures.rest in
     let rest2 = c.first_word-2.ensures.rest ∙ ap behind_gap c.first_word.ensures.rest in
     let third = c.first_word-3.ensures.word ∙ ap word rest2 in

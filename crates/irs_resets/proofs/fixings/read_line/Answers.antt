@@ -7,6 +7,15 @@ use Rattle.irs_resets.proofs.fixings.read_line.Goals as goal
 pub returns-clause-ok : goal.returns-clause-ok
 returns-clause-ok c =
     let spelt = c.in-Some.ensures.some in
-    let whole : to_z w64 (of_z w64 c.in-Some.fixing.rate) ≡ c.in-Some.fixing.rate = omega (arith, ints, signed_arith, spelt.rate_text.small) in
+    let whole : to_z w64 (of_z w64 c.in-Some.fixing.rate) ≡ c.in-Some.fixing.rate =
+    omega (arith, ints, signed_arith, spelt.rate_text.small) in
     let absent = sym c.rate.ensures ∙ no_rate c.rate.result (sym c.is_some.ensures ∙ c.if-is_some.false) in
-    inr (record { index = c.in-Some.fixing.index.now; slot = c.in-Some.fixing.slot; rate = c.in-Some.fixing.rate; spelt = spelt; absent = absent; adds = λ i q. rw whole at (c.in_ok-add.ensures i q) })
+    inr (record {
+      index = c.in-Some.fixing.index.now;
+      slot = c.in-Some.fixing.slot;
+      rate =
+          c.in-Some.fixing.rate;
+      spelt = spelt;
+      absent = absent;
+      adds = λ i q. rw whole at (c.in_ok-add.ensures i q);
+    })

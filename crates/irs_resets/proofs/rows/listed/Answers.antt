@@ -11,15 +11,33 @@ use Rattle.irs_resets.proofs.rows.listed.Goals as goal
 
 pub loop-number-preserved : goal.loop-number-preserved
 loop-number-preserved g c =
-    let source : ResetSource = source_of c.args.s.now c.args.span.now c.args.adjusted.now (g.G.GoodDays.days c.args.reset_days.now) (g.G.GoodDays.days c.args.fixing_days.now) in
+    let source : ResetSource =
+    source_of c.args.s.now c.args.span.now c.args.adjusted.now (g.G.GoodDays.days c.args.reset_days.now)
+    (g.G.GoodDays.days c.args.fixing_days.now) in
     let R : ℕ → Reset → Type 0 = IsReset source c.args.float.now c.args.terms.now c.args.fixings.now in
-    let row : Reset = record { reset = c.dates_of-dates.result.reset; fixing = c.dates_of-dates.result.fixing; observed = c.observed-rate.result } in
+    let row : Reset =
+    record {
+      reset = c.dates_of-dates.result.reset;
+      fixing = c.dates_of-dates.result.fixing;
+      observed =
+          c.observed-rate.result;
+    } in
     let next : 1 + length c.loop-number.rows ≡ c.loop-number.number = omega (arith, c.loop-number.invariant.many) in
     let kind : PeriodKind = c.period_kind-kind.result in
-    let same : c.observed-rate.result ≡ observed_rate kind c.args.float.now c.args.s.now.stubs c.args.fixings.now c.dates_of-dates.result.fixing = c.observed-rate.ensures.value in
-    let observed : IsObserved kind c.args.float.now c.args.s.now.stubs c.args.fixings.now c.dates_of-dates.result.fixing c.observed-rate.result =
+    let same : c.observed-rate.result
+    ≡ observed_rate kind c.args.float.now c.args.s.now.stubs c.args.fixings.now c.dates_of-dates.result.fixing =
+    c.observed-rate.ensures.value in
+    let observed : IsObserved kind c.args.float.now c.args.s.now.stubs c.args.fixings.now c.dates_of-dates.result.fixing
+    c.observed-rate.result =
     rw same (is_observed c.args.float.now kind c.args.s.now.stubs c.args.fixings.now c.dates_of-dates.result.fixing) in
-    let is : R c.loop-number.number row = record { dates = c.dates_of-dates.ensures; kind = kind; is_kind = c.period_kind-kind.ensures; observed = observed } in
+    let is : R c.loop-number.number row =
+    record {
+      dates = c.dates_of-dates.ensures;
+      kind = kind;
+      is_kind = c.period_kind-kind.ensures;
+      observed =
+          observed;
+    } in
     rw c.in_ok-push.ensures.ok (record {
       many = omega (arith, length-append c.loop-number.rows (row ∷ []), c.loop-number.invariant.many);
       within = λ _. omega (arith, c.loop-number-test.true);
@@ -28,4 +46,11 @@ loop-number-preserved g c =
     })
 
 pub returns-clause-ok : goal.returns-clause-ok
-returns-clause-ok g c = record { many = many_rows (length c.loop-number.rows) c.loop-number.number (length c.args.adjusted.now) c.loop-number.invariant.many c.loop-number.invariant.within c.loop-number-test.false; each = c.loop-number.invariant.each }
+returns-clause-ok g c =
+    record {
+      many =
+          many_rows (length c.loop-number.rows) c.loop-number.number
+          (length c.args.adjusted.now) c.loop-number.invariant.many c.loop-number.invariant.within
+          c.loop-number-test.false;
+      each = c.loop-number.invariant.each;
+    }

@@ -6,7 +6,8 @@ use Rattle.irs_resets.proofs.words.skip_gap.Goals as goal
 pub returns-then-not-is_gap : goal.returns-then-not-is_gap
 returns-then-not-is_gap c =
     rw (whole_rest c.args.bytes.now c.loop-i.i (omega arith))
-    (gap_here c.args.bytes.now c.loop-i.i c.loop-i-test.true (sym c.is_gap.ensures ∙ c.if-not-is_gap.true) c.loop-i.invariant)
+    (gap_here c.args.bytes.now c.loop-i.i c.loop-i-test.true (sym c.is_gap.ensures
+    ∙ c.if-not-is_gap.true) c.loop-i.invariant)
 
 pub returns : goal.returns
 returns c = gap_alone c.args.bytes.now (λ k h. c.loop-i.invariant k (omega (arith, h)))

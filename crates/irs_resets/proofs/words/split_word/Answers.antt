@@ -5,7 +5,8 @@ use Rattle.irs_resets.proofs.words.split_word.Goals as goal
 
 pub returns-then-is_gap : goal.returns-then-is_gap
 returns-then-is_gap c =
-    let here = word_here c.args.bytes.now c.loop-i.i c.loop-i-test.true (sym c.is_gap.ensures ∙ c.if-is_gap.true) c.loop-i.invariant in
+    let here = word_here c.args.bytes.now c.loop-i.i c.loop-i-test.true (sym c.is_gap.ensures
+    ∙ c.if-is_gap.true) c.loop-i.invariant in
     record { word = here.0; rest = rw (whole_rest c.args.bytes.now c.loop-i.i (omega arith)) here.1 }
 
 pub returns : goal.returns

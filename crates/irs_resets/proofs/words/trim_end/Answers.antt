@@ -5,6 +5,8 @@ use Rattle.irs_resets.proofs.words.trim_end.Goals.{then-loop-n-test+else-is_gap,
 
 pub returns : goal.returns
 returns c = elim c.loop-n-test.branch [
-  | then-loop-n-test+else-is_gap w ↦ trimmed_to c.args.bytes.now c.loop-n.n w.loop-n-test.true c.loop-n.invariant.within (sym w.is_gap.ensures ∙ w.if-is_gap.false) c.loop-n.invariant.gap
+  | then-loop-n-test+else-is_gap w ↦
+      trimmed_to c.args.bytes.now c.loop-n.n w.loop-n-test.true c.loop-n.invariant.within (sym w.is_gap.ensures
+      ∙ w.if-is_gap.false) c.loop-n.invariant.gap
   | else-loop-n-test w ↦ trimmed_none c.args.bytes.now c.loop-n.n w.loop-n-test.false c.loop-n.invariant.gap
 ]

@@ -18,10 +18,12 @@ returns-in_default g c =
     let roll = c.args.roll.now in
     let month = c.month_index.result in
     let told = c.month_index.ensures in
-    let at_month : to_z w64 (of_z w64 c.from.result) ≡ month = omega (arith, signed_arith, c.from.ensures, told.range) in (
+    let at_month : to_z w64 (of_z w64 c.from.result) ≡ month =
+    omega (arith, signed_arith, c.from.ensures, told.range) in (
       λ t. cc,
       λ h.
-          let is : c.args.d ≡ r.day roll month = laws.only roll month c.args.d (rolls_in (r.rolls roll) c.args.d month h told.month) in
+          let is : c.args.d ≡ r.day roll month =
+          laws.only roll month c.args.d (rolls_in (r.rolls roll) c.args.d month h told.month) in
           absurd (c.in_default.ensures (subst IsDay (is ∙ ap (r.day roll) (sym at_month)) told.day)),
     )
 
@@ -32,8 +34,10 @@ returns g c =
     let roll = c.args.roll.now in
     let month = c.month_index.result in
     let told = c.month_index.ensures in
-    let at_month : to_z w64 (of_z w64 c.from.result) ≡ month = omega (arith, signed_arith, c.from.ensures, told.range) in
-    let rolled : c.in-Some.rolled ≡ r.day roll month = subst (λ (z : ℤ). c.in-Some.rolled ≡ r.day roll z) at_month (c.in-Some.ensures {u = tt}).1 in (
+    let at_month : to_z w64 (of_z w64 c.from.result) ≡ month =
+    omega (arith, signed_arith, c.from.ensures, told.range) in
+    let rolled : c.in-Some.rolled ≡ r.day roll month =
+    subst (λ (z : ℤ). c.in-Some.rolled ≡ r.day roll z) at_month (c.in-Some.ensures {u = tt}).1 in (
       λ t.
           let same : c.in-Some.rolled ≡ c.args.d = same_of c.in-Some.rolled c.args.d (sym c.eq.ensures ∙ t) in
           record {
@@ -42,6 +46,7 @@ returns g c =
             rolls = subst (λ (z : ℤ). r.rolls roll month z) (sym rolled ∙ same) (laws.is roll month);
           },
       λ h.
-          let is : c.args.d ≡ r.day roll month = laws.only roll month c.args.d (rolls_in (r.rolls roll) c.args.d month h told.month) in
+          let is : c.args.d ≡ r.day roll month =
+          laws.only roll month c.args.d (rolls_in (r.rolls roll) c.args.d month h told.month) in
           c.eq.ensures ∙ equal_of c.in-Some.rolled c.args.d (rolled ∙ sym is),
     )

@@ -20,6 +20,7 @@ returns g c =
     rw c.is_some.ensures (on_by_index c.steps_to.result _ (OnMonths (r.rolls roll) months anchor c.args.d) steps.some
     (none_then c.steps_to.result _ _ steps.none (λ out h.
     out (subst (λ (z : ℤ). OnMonthsFrom (r.rolls roll) months z c.args.d) (sym start)
-    (from_start (r.rolls roll) day (laws.is roll) (laws.only roll) (laws.stays roll) months anchor month c.args.d begins h))))
+    (from_start (r.rolls roll) day (laws.is roll) (laws.only roll)
+    (laws.stays roll) months anchor month c.args.d begins h))))
     (λ k e. subst (OnMonths (r.rolls roll) months anchor) (subst (λ (z : ℤ). day (kth z months k) ≡ c.args.d) start e)
     (roll_is_on (r.rolls roll) day (laws.is roll) (laws.only roll) (laws.stays roll) months anchor month k begins)))

@@ -1,4 +1,5 @@
-use Rattle.std.proofs.Common.{rules, arith, ◌≡◌, ◌<◌, ℤ, pos, ◌*ℤ◌, FitsSigned, w64, ◌<ℤ◌, ◌+ℤ◌, to_z-of_z, to_z, of_z, ◌∙◌, ap}
+use Rattle.std.proofs.Common.{rules, arith, ◌≡◌, ◌<◌, ℤ, pos, ◌*ℤ◌, FitsSigned, w64, ◌<ℤ◌, ◌+ℤ◌, to_z-of_z, to_z, of_z}
+use Rattle.std.proofs.Common.{◌∙◌, ap}
 use Rattle.jiff_core.proofs.SignedLemmas.{signed_arith}
 use Rattle.irs_roll.specs.Grids.{IsMultiple}
 use Rattle.irs_roll.specs.StepLaws.{steps_fit, no_whole_steps}
@@ -6,7 +7,8 @@ use Rattle.irs_roll.proofs.steps.whole_steps.Goals as goal
 
 pub overflow_mul-steps : goal.overflow_mul-steps
 overflow_mul-steps c =
-    let step : to_z w64 (of_z w64 c.from-step.result) ≡ pos c.args.step = omega (arith, signed_arith, c.from-step.ensures) in
+    let step : to_z w64 (of_z w64 c.from-step.result) ≡ pos c.args.step =
+    omega (arith, signed_arith, c.from-step.ensures) in
     let apart : to_z w64 (of_z w64 c.args.apart) ≡ c.args.apart = to_z-of_z c.ranges.apart in
     let q = c.div_euclid-steps.result in
     let fits : FitsSigned w64 q = record { sfits = c.div_euclid-steps.type_inv } in
@@ -16,7 +18,8 @@ overflow_mul-steps c =
 
 pub returns-then-steps-step-clause-none : goal.returns-then-steps-step-clause-none
 returns-then-steps-step-clause-none c =
-    let step : to_z w64 (of_z w64 c.from-step.result) ≡ pos c.args.step = omega (arith, signed_arith, c.from-step.ensures) in
+    let step : to_z w64 (of_z w64 c.from-step.result) ≡ pos c.args.step =
+    omega (arith, signed_arith, c.from-step.ensures) in
     let apart : to_z w64 (of_z w64 c.args.apart) ≡ c.args.apart = to_z-of_z c.ranges.apart in
     let q = c.div_euclid-steps.result in
     let fits : FitsSigned w64 q = record { sfits = c.div_euclid-steps.type_inv } in

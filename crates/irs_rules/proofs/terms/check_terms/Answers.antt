@@ -11,8 +11,11 @@ use Rattle.irs_rules.proofs.terms.check_terms.Goals as goal
 pub returns : goal.returns
 returns c = record {
   first = c.first_in_swap.ensures;
-  one = λ other h. one_answer is_before broken_ties (BreaksTerms c.args.swap.now c.args.cal.now) other c.first_in_swap.result h c.first_in_swap.ensures;
+  one = λ other h. one_answer is_before broken_ties
+      (BreaksTerms c.args.swap.now c.args.cal.now) other c.first_in_swap.result h c.first_in_swap.ensures;
   kept = λ none. terms_kept c.args.swap.now c.args.cal.now c.requires
-      (subst (λ (o : Option Broken). IsFirst is_before (BreaksTerms c.args.swap.now c.args.cal.now) o) none c.first_in_swap.ensures);
-  decided = first_decided is_before (BreaksTerms c.args.swap.now c.args.cal.now) c.first_in_swap.result c.first_in_swap.ensures;
+      (subst (λ (o : Option Broken). IsFirst is_before (BreaksTerms c.args.swap.now c.args.cal.now) o) none
+      c.first_in_swap.ensures);
+  decided = first_decided is_before (BreaksTerms c.args.swap.now c.args.cal.now) c.first_in_swap.result
+      c.first_in_swap.ensures;
 }

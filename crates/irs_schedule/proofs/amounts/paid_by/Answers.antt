@@ -12,7 +12,10 @@ pub amount_of-requires : goal.amount_of-requires
 amount_of-requires c =
     let table = c.args.table.now in
     let p = c.args.payment.now in
-    let payment = is_payment c.args.s.now table.unadjusted.now table.adjusted.now table.resets.now c.requires.lawful c.requires.table p c.in_ok-terms.terms.items c.requires.from_one c.requires.some c.requires.to_end (c.in_ok-terms.ensures {u = tt}) in
+    let payment =
+    is_payment c.args.s.now table.unadjusted.now table.adjusted.now table.resets.now c.requires.lawful
+    c.requires.table p c.in_ok-terms.terms.items c.requires.from_one c.requires.some c.requires.to_end
+    (c.in_ok-terms.ensures {u = tt}) in
     record {
       payment = rw c.deref.ensures.value payment;
       small = omega (arith, c.requires.some, c.requires.to_end, c.requires.table.few);
@@ -45,7 +48,8 @@ returns-in_err-amount c =
     let p = c.args.payment.now in
     let ts = c.deref.result.now in
     let are : AreTerms s b a rs p ts = rw c.deref.ensures.value (c.in_ok-terms.ensures {u = tt}) in
-    let Stops : Fault → Type 0 = λ x. (n : ℕ) × IsFirstOut s.compounding ts n × (x ≡ passed_at (p.first_period + n - 1)) in
+    let Stops : Fault → Type 0 =
+    λ x. (n : ℕ) × IsFirstOut s.compounding ts n × (x ≡ passed_at (p.first_period + n - 1)) in
     let Breaks : Fault → Type 0 = λ x. (i : ℕ) × PassesFirstIn s b a rs p i × (x ≡ passed_at i) in
     let from = err_from_is_err_and c.from_residual-in_err-amount.result c.from_residual-in_err-amount.ensures.1 in
     rw (from.1, from.2) (record {
@@ -53,5 +57,7 @@ returns-in_err-amount c =
       amount = tt;
       bound = tt;
       within = tt;
-      broken = handed_on c.in_err-amount.field-0.0 Stops Breaks (λ x h. (p.first_period + h.0 - 1, first_in s b a rs c.requires.rises p ts are h.0 h.1, h.2)) (c.in_err-amount.ensures {u = tt}).broken;
+      broken = handed_on c.in_err-amount.field-0.0 Stops Breaks
+          (λ x h. (p.first_period + h.0 - 1, first_in s b a rs c.requires.rises p ts are h.0 h.1, h.2))
+          (c.in_err-amount.ensures {u = tt}).broken;
     })

@@ -11,7 +11,10 @@ loop-number-preserved c =
     let longer : c.push.new.self.items ≡ terms ++ c.period_term.result ∷ [] = c.in_ok-push.ensures.items in
     record {
       count = omega (arith, count, ap length longer, length-append terms (c.period_term.result ∷ []));
-      each = rw longer (numbered_push (IsPeriodTerm c.args.s.now table.unadjusted.now table.adjusted.now table.resets.now) c.args.payment.now.first_period c.loop-number.number terms c.period_term.result c.loop-number.invariant.each count c.period_term.ensures);
+      each = rw longer (numbered_push
+          (IsPeriodTerm c.args.s.now table.unadjusted.now table.adjusted.now table.resets.now)
+          c.args.payment.now.first_period c.loop-number.number terms c.period_term.result c.loop-number.invariant.each
+          count c.period_term.ensures);
     }
 
 pub returns : goal.returns

@@ -6,5 +6,6 @@ use Rattle.irs_schedule.proofs.amounts.terms_of.Given as goal
 abbrev pub invariant-loop-number : goal.invariant-loop-number
 invariant-loop-number l = record {
   count : l.fn.payment.first_period + length l.terms.items ≡ l.number;
-  each : EachNumbered (IsPeriodTerm l.s l.table.unadjusted.now l.table.adjusted.now l.table.resets.now) l.fn.payment.first_period l.terms.items;
+  each : EachNumbered (IsPeriodTerm l.s l.table.unadjusted.now l.table.adjusted.now l.table.resets.now)
+      l.fn.payment.first_period l.terms.items;
 }

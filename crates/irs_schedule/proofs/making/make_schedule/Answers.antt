@@ -8,7 +8,8 @@ pub schedule_of-requires-clause-kept : goal.schedule_of-requires-clause-kept
 schedule_of-requires-clause-kept c = terms_kept c.args.swap.now c.args.cal.now c.requires.lawful c.requires.terms
 
 pub returns-clause-exists : goal.returns-clause-exists
-returns-clause-exists c = schedule_there c.args.swap.now c.args.cal.now c.args.fix.now c.requires.lawful c.requires.terms
+returns-clause-exists c =
+    schedule_there c.args.swap.now c.args.cal.now c.args.fix.now c.requires.lawful c.requires.terms
 
 pub returns-clause-one : goal.returns-clause-one
 returns-clause-one c = one_schedule c.args.swap.now c.args.cal.now c.args.fix.now c.requires.lawful c.requires.terms

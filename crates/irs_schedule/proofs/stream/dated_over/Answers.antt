@@ -18,7 +18,8 @@ returns-in_err-payments-clause-broken c =
     let s = c.args.s.now in
     let l = c.args.layout.now in
     let fix = c.args.fix.now in
-    rw (p.1, p.2) (handed_on c.in_err-payments.field-0.0 (First comes_before (BreaksPayments s sets.payment l.unadjusted l.adjusted)) (StreamBroken sets fix s)
+    rw (p.1, p.2) (handed_on c.in_err-payments.field-0.0
+    (First comes_before (BreaksPayments s sets.payment l.unadjusted l.adjusted)) (StreamBroken sets fix s)
     (payments_first sets fix s l c.requires.layout)
     c.in_err-payments.ensures.broken)
 
@@ -26,16 +27,20 @@ pub payments-requires-clause-term : goal.payments-requires-clause-term
 payments-requires-clause-term c = begins_before_end c.args.s.now c.requires.kept.1.dates
 
 pub payments-requires-clause-boundaries : goal.payments-requires-clause-boundaries
-payments-requires-clause-boundaries c = layout_runs c.requires.kept.0 (sets_of c.args.days.now) c.args.s.now c.requires.lawful c.requires.kept.1 c.args.layout.now c.requires.layout
+payments-requires-clause-boundaries c =
+    layout_runs c.requires.kept.0 (sets_of c.args.days.now) c.args.s.now c.requires.lawful c.requires.kept.1
+    c.args.layout.now c.requires.layout
 
 pub returns-in_err-check_steps-clause-broken : goal.returns-in_err-check_steps-clause-broken
 returns-in_err-check_steps-clause-broken c =
-    let p = err_from_is_err_and c.from_residual-in_err-check_steps.result c.from_residual-in_err-check_steps.ensures.1 in
+    let p = err_from_is_err_and c.from_residual-in_err-check_steps.result
+    c.from_residual-in_err-check_steps.ensures.1 in
     let sets = sets_of c.args.days.now in
     let s = c.args.s.now in
     let l = c.args.layout.now in
     let fix = c.args.fix.now in
-    rw (p.1, p.2) (steps_first sets fix s l c.requires.layout c.in_ok-payments.ensures.unbroken c.in_err-check_steps.field-0.0 c.in_err-check_steps.ensures.broken)
+    rw (p.1, p.2) (steps_first sets fix s l c.requires.layout c.in_ok-payments.ensures.unbroken
+    c.in_err-check_steps.field-0.0 c.in_err-check_steps.ensures.broken)
 
 pub returns-in_err-exchanges-clause-broken : goal.returns-in_err-exchanges-clause-broken
 returns-in_err-exchanges-clause-broken c =
@@ -44,8 +49,10 @@ returns-in_err-exchanges-clause-broken c =
     let s = c.args.s.now in
     let l = c.args.layout.now in
     let fix = c.args.fix.now in
-    rw (p.1, p.2) (handed_on c.in_err-exchanges.field-0.0 (First comes_before (BreaksExchanges s sets.payment)) (StreamBroken sets fix s)
-    (exchanges_first sets fix s l c.requires.layout c.in_ok-payments.ensures.unbroken c.in_ok-check_steps.ensures.unbroken)
+    rw (p.1, p.2) (handed_on c.in_err-exchanges.field-0.0 (First comes_before (BreaksExchanges s sets.payment))
+    (StreamBroken sets fix s)
+    (exchanges_first sets fix s l c.requires.layout c.in_ok-payments.ensures.unbroken
+    c.in_ok-check_steps.ensures.unbroken)
     c.in_err-exchanges.ensures.broken)
 
 pub returns-in_err-resets-clause-broken : goal.returns-in_err-resets-clause-broken
@@ -55,8 +62,10 @@ returns-in_err-resets-clause-broken c =
     let s = c.args.s.now in
     let l = c.args.layout.now in
     let fix = c.args.fix.now in
-    rw (p.1, p.2) (handed_on c.in_err-resets.field-0.0 (First comes_before (BreaksResets (resets_over sets s l))) (StreamBroken sets fix s)
-    (resets_first sets fix s l c.requires.layout c.in_ok-payments.ensures.unbroken c.in_ok-check_steps.ensures.unbroken c.in_ok-exchanges.ensures.unbroken)
+    rw (p.1, p.2) (handed_on c.in_err-resets.field-0.0 (First comes_before (BreaksResets (resets_over sets s l)))
+    (StreamBroken sets fix s)
+    (resets_first sets fix s l c.requires.layout c.in_ok-payments.ensures.unbroken c.in_ok-check_steps.ensures.unbroken
+    c.in_ok-exchanges.ensures.unbroken)
     c.in_err-resets.ensures.broken)
 
 pub returns-clause-ok : goal.returns-clause-ok
@@ -70,5 +79,6 @@ returns-clause-ok c =
       exchanges = c.in_ok-exchanges.ensures.ok;
       resets = c.in_ok-resets.ensures.ok;
       small = c.in_ok-resets.ensures.small;
-      kept = kept_resets sets c.args.fix.now s l c.requires.layout c.in_ok-payments.ensures.unbroken c.in_ok-check_steps.ensures.unbroken c.in_ok-exchanges.ensures.unbroken c.in_ok-resets.ensures.unbroken;
+      kept = kept_resets sets c.args.fix.now s l c.requires.layout c.in_ok-payments.ensures.unbroken
+          c.in_ok-check_steps.ensures.unbroken c.in_ok-exchanges.ensures.unbroken c.in_ok-resets.ensures.unbroken;
     }

@@ -14,7 +14,8 @@ returns-in_err-span-clause-broken c = λ fix.
     let p = err_from_is_err_and c.from_residual.result c.from_residual.ensures.1 in
     let sets = sets_of c.args.days.now in
     let s = c.args.s.now in
-    rw (p.1, p.2) (stream_first sets fix s in_span (kept_none sets fix s) c.in_err-span.field-0.0 c.in_err-span.ensures.broken)
+    rw (p.1, p.2) (stream_first sets fix s in_span
+    (kept_none sets fix s) c.in_err-span.field-0.0 c.in_err-span.ensures.broken)
 
 pub returns-in_err-unadjusted-clause-broken : goal.returns-in_err-unadjusted-clause-broken
 returns-in_err-unadjusted-clause-broken c = λ fix.
@@ -23,8 +24,10 @@ returns-in_err-unadjusted-clause-broken c = λ fix.
     let s = c.args.s.now in
     let span = c.in_ok-span.span in
     let is = c.in_ok-span.ensures in
-    rw (p.1, p.2) (handed_on c.in_err-unadjusted.field-0.0 (First comes_before (BreaksPeriods s span)) (StreamBroken sets fix s)
-    (λ f first. stream_first sets fix s in_periods (kept_span sets fix s span is.ok is.kept) f (periods_first sets s span is.ok f first))
+    rw (p.1, p.2) (handed_on c.in_err-unadjusted.field-0.0 (First comes_before (BreaksPeriods s span))
+    (StreamBroken sets fix s)
+    (λ f first. stream_first sets fix s in_periods (kept_span sets fix s span is.ok is.kept) f
+    (periods_first sets s span is.ok f first))
     c.in_err-unadjusted.ensures.broken)
 
 pub returns-in_err-moved-clause-broken : goal.returns-in_err-moved-clause-broken
@@ -36,8 +39,10 @@ returns-in_err-moved-clause-broken c = λ fix.
     let is = c.in_ok-span.ensures in
     let b = c.in_ok-unadjusted.unadjusted in
     let listed = c.in_ok-unadjusted.ensures in
-    rw (p.1, p.2) (handed_on c.in_err-moved.field-0.0 (First comes_before (BreaksAdjusted s sets.boundaries b)) (StreamBroken sets fix s)
-    (λ f first. stream_first sets fix s in_periods (kept_span sets fix s span is.ok is.kept) f (adjusted_first sets s span is.ok b listed.ok listed.unbroken f first))
+    rw (p.1, p.2) (handed_on c.in_err-moved.field-0.0 (First comes_before (BreaksAdjusted s sets.boundaries b))
+    (StreamBroken sets fix s)
+    (λ f first. stream_first sets fix s in_periods (kept_span sets fix s span is.ok is.kept) f
+    (adjusted_first sets s span is.ok b listed.ok listed.unbroken f first))
     c.in_err-moved.ensures.broken)
 
 pub returns-clause-ok : goal.returns-clause-ok

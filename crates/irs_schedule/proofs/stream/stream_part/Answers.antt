@@ -35,7 +35,8 @@ returns-in_err-entries-clause-broken c =
     let l = c.in_ok-layout.layout in
     let d = c.in_ok-dated.dated in
     let dated = c.in_ok-dated.ensures.ok in
-    rw (p.1, p.2) (handed_on c.in_err-entries.field-0.0 (IsFirstPassed s l.unadjusted l.adjusted d.resets d.payments) (StreamBroken sets fix s)
+    rw (p.1, p.2) (handed_on c.in_err-entries.field-0.0 (IsFirstPassed s l.unadjusted l.adjusted d.resets d.payments)
+    (StreamBroken sets fix s)
     (amounts_first sets fix s l c.in_ok-layout.ensures.ok d.payments d.resets dated.payments dated.resets dated.kept)
     c.in_err-entries.ensures.broken)
 
@@ -47,10 +48,19 @@ new-requires c =
     let l = c.in_ok-layout.layout in
     let laid = c.in_ok-layout.ensures.ok in
     let terms = c.in_ok-terms.ensures in
-    let is : c.in_ok-terms.terms ≡ kept_of s = λ i. record { currency = terms.currency i; day_count = terms.day_count i; notional = terms.notional i; leg = terms.leg i } in
+    let is : c.in_ok-terms.terms ≡ kept_of s =
+    λ i. record {
+      currency = terms.currency i;
+      day_count = terms.day_count i;
+      notional = terms.notional i;
+      leg =
+          terms.leg i;
+    } in
     let some = two_boundaries s l.span l.unadjusted (begins_before_end s terms_kept.dates) laid.unadjusted in
-    makes_part (sets_of days) c.args.fix.now s l c.in_ok-dated.dated c.in_ok-entries.entries.items c.in_ok-terms.terms is c.requires.lawful terms_kept.notional_rises terms_kept.leg_rises (reach days)
-    c.as_slice-days.ensures.days c.as_slice-moved.ensures.days some laid c.in_ok-dated.ensures.ok c.in_ok-entries.ensures.entries
+    makes_part (sets_of days) c.args.fix.now s l c.in_ok-dated.dated c.in_ok-entries.entries.items c.in_ok-terms.terms
+    is c.requires.lawful terms_kept.notional_rises terms_kept.leg_rises (reach days)
+    c.as_slice-days.ensures.days c.as_slice-moved.ensures.days some laid c.in_ok-dated.ensures.ok
+    c.in_ok-entries.ensures.entries
 
 pub returns-clause-ok : goal.returns-clause-ok
 returns-clause-ok c =
@@ -60,8 +70,16 @@ returns-clause-ok c =
     let sets = sets_of c.args.days.now in
     let terms = c.in_ok-terms.ensures in
     let is = c.new.ensures in
-    let some = two_boundaries s l.span l.unadjusted (begins_before_end c.args.s.now c.requires.kept.1.dates) c.in_ok-layout.ensures.ok.unadjusted in
-    let kept : c.in_ok-terms.terms ≡ kept_of s = λ i. record { currency = terms.currency i; day_count = terms.day_count i; notional = terms.notional i; leg = terms.leg i } in
+    let some = two_boundaries s l.span l.unadjusted
+    (begins_before_end c.args.s.now c.requires.kept.1.dates) c.in_ok-layout.ensures.ok.unadjusted in
+    let kept : c.in_ok-terms.terms ≡ kept_of s =
+    λ i. record {
+      currency = terms.currency i;
+      day_count = terms.day_count i;
+      notional = terms.notional i;
+      leg =
+          terms.leg i;
+    } in
     let floating = is.floating ∙ ap is_floating terms.leg in
     let periods = is.periods ∙ ap (λ (t : KeptTerms). periods_by t l.unadjusted l.adjusted d.resets) kept in
     let currency = is.currency ∙ terms.currency in
@@ -77,7 +95,9 @@ returns-clause-ok c =
       periods = periods i;
       resets = is.resets i;
     } in
-    subst (λ (p : Part). IsPart sets c.args.fix.now s p) (sym made) (part_stands sets c.args.fix.now s l d c.in_ok-entries.entries.items some c.in_ok-layout.ensures.ok c.in_ok-dated.ensures.ok c.in_ok-entries.ensures.entries)
+    subst (λ (p : Part). IsPart sets c.args.fix.now s p) (sym made)
+    (part_stands sets c.args.fix.now s l d c.in_ok-entries.entries.items some c.in_ok-layout.ensures.ok
+    c.in_ok-dated.ensures.ok c.in_ok-entries.ensures.entries)
 
 pub returns-clause-unbroken : goal.returns-clause-unbroken
 returns-clause-unbroken c =
@@ -87,4 +107,5 @@ returns-clause-unbroken c =
     let d = c.in_ok-dated.dated in
     let dated = c.in_ok-dated.ensures.ok in
     let sets = sets_of c.args.days.now in
-    kept_amounts sets fix s l c.in_ok-layout.ensures.ok d.payments d.resets dated.payments dated.resets dated.kept c.in_ok-entries.ensures.entries.within
+    kept_amounts sets fix s l c.in_ok-layout.ensures.ok d.payments d.resets dated.payments dated.resets dated.kept
+    c.in_ok-entries.ensures.entries.within

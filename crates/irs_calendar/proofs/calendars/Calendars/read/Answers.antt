@@ -11,15 +11,18 @@ use Rattle.irs_calendar.specs.FirstFaults.{IsFirstFault}
 use Rattle.irs_calendar.proofs.FaultLemmas.{fault_is_first, one_first_fault, faulty_spell_none, spelt_or_faulty}
 use Rattle.irs_calendar.proofs.calendars.Calendars.read.Goals as goal
 
-both_ends : (o : Option Spot) (read : Result (List Section) Spot) (ss : List Section) → SpotFails o read → IsSome o → read ≡ Ok ss → ⊥
+both_ends : (o : Option Spot) (read : Result (List Section) Spot) (ss : List Section) → SpotFails o read → IsSome o
+    → read ≡ Ok ss → ⊥
 both_ends None read ss fails some read_ok = absurd (cc some)
 both_ends (Some s) read ss fails some read_ok = differ (sym fails ∙ read_ok)
   where
     differ : ◌≡◌ {A = Result (List Section) Spot} (Err s) (Ok ss) → ⊥
     differ e = cc e
 
-refused : (e : CalErr) (files : List (List ℕ)) → SpotFails (spot_of e) (calendars_in 1 [] files) → IsSome (spot_of e) → (ss : List Section) → CalFiles files ss → ⊥
-refused e files fails some ss spelt = both_ends (spot_of e) (calendars_in 1 [] files) ss fails some (spelt_is_read files ss spelt)
+refused : (e : CalErr) (files : List (List ℕ)) → SpotFails (spot_of e) (calendars_in 1 [] files) → IsSome (spot_of e)
+    → (ss : List Section) → CalFiles files ss → ⊥
+refused e files fails some ss spelt =
+    both_ends (spot_of e) (calendars_in 1 [] files) ss fails some (spelt_is_read files ss spelt)
 
 pub returns-in_err-sections-clause-refused : goal.returns-in_err-sections-clause-refused
 returns-in_err-sections-clause-refused c =
@@ -27,14 +30,16 @@ returns-in_err-sections-clause-refused c =
     rw (p.1, p.2) (refused c.in_err-sections.field-0.0 (texts c.args.files.now) c.in_err-sections.ensures)
 
 pub invariant_of-result : goal.invariant_of-result
-invariant_of-result c = calendars_apart 1 [] (texts c.args.files.now) c.in_ok-sections.sections tt c.in_ok-sections.ensures
+invariant_of-result c =
+    calendars_apart 1 [] (texts c.args.files.now) c.in_ok-sections.sections tt c.in_ok-sections.ensures
 
 pub returns-clause-spelt : goal.returns-clause-spelt
 returns-clause-spelt c =
     let apart = calendars_apart 1 [] (texts c.args.files.now) c.in_ok-sections.sections tt c.in_ok-sections.ensures in
     read_is_spelt (texts c.args.files.now) c.in_ok-sections.sections apart c.in_ok-sections.ensures
 
-first_of : (o : Option Spot) (files : List (List ℕ)) → SpotFails o (calendars_in 1 [] files) → IfSome o (IsFirstFault files)
+first_of : (o : Option Spot) (files : List (List ℕ)) → SpotFails o (calendars_in 1 [] files)
+    → IfSome o (IsFirstFault files)
 first_of None files fails = tt
 first_of (Some s) files fails = fault_is_first files s fails
 

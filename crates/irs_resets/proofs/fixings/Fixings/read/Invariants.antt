@@ -5,7 +5,11 @@ use Rattle.irs_resets.proofs.FileLemmas.{ReadTo}
 use Rattle.irs_resets.proofs.fixings.Fixings.read.Given as goal
 
 abbrev pub invariant-loop-rest : goal.invariant-loop-rest
-invariant-loop-rest l = record { so_far : ReadTo (lines_of l.bytes) l.number (lines_of l.rest) l.table; room : l.number + length l.rest ≤ most_bytes + 1 }
+invariant-loop-rest l =
+    record {
+      so_far : ReadTo (lines_of l.bytes) l.number (lines_of l.rest) l.table;
+      room : l.number + length l.rest ≤ most_bytes + 1;
+    }
 
 abbrev pub decreases-loop-rest : goal.decreases-loop-rest
 decreases-loop-rest l = length l.rest

@@ -12,4 +12,5 @@ returns-clause-none g c =
     let fits : FitsSigned w32 s.start = search rules in
     none_then c.steps_to.result _ _ c.steps_to.ensures.none (λ out h.
     out (subst (λ (z : ℤ). OnMonthsFrom (r.rolls s.roll) s.months z c.args.d) (sym (to_z-of_z fits))
-    (from_start (r.rolls s.roll) (r.day s.roll) (laws.is s.roll) (laws.only s.roll) (laws.stays s.roll) s.months s.anchor s.start c.args.d s.begins h)))
+    (from_start (r.rolls s.roll) (r.day s.roll) (laws.is s.roll) (laws.only s.roll)
+    (laws.stays s.roll) s.months s.anchor s.start c.args.d s.begins h)))

@@ -6,10 +6,12 @@ pub new-requires-clause-fits : goal.new-requires-clause-fits
 new-requires-clause-fits c = λ m h. rolls_in IsLastDay c.args.anchor m (rw c.in-Eom.is at c.requires.fits) h
 
 pub new-requires-in-Dom-clause-fits : goal.new-requires-in-Dom-clause-fits
-new-requires-in-Dom-clause-fits c = λ m h. rolls_in (IsNumbered c.in-Dom.day) c.args.anchor m (rw c.in-Dom.is at c.requires.fits) h
+new-requires-in-Dom-clause-fits c =
+    λ m h. rolls_in (IsNumbered c.in-Dom.day) c.args.anchor m (rw c.in-Dom.is at c.requires.fits) h
 
 pub new-requires-in-Imm-clause-fits : goal.new-requires-in-Imm-clause-fits
-new-requires-in-Imm-clause-fits c = λ m h. rolls_in IsThirdWednesday c.args.anchor m (rw c.in-Imm.is at c.requires.fits) h
+new-requires-in-Imm-clause-fits c =
+    λ m h. rolls_in IsThirdWednesday c.args.anchor m (rw c.in-Imm.is at c.requires.fits) h
 
 pub returns-in-Eom-clause-on : goal.returns-in-Eom-clause-on
 returns-in-Eom-clause-on c = rw c.in-Eom.is c.new.ensures.on

@@ -4,4 +4,5 @@ use Rattle.irs_schedule.proofs.center_table.CenterTable.get.Given as goal
 
 -- the items before this one have other names
 abbrev pub invariant-loop-days : goal.invariant-loop-days
-invariant-loop-days l = (k : ℕ) (days : NamedCenters) → k < l.days-index → (get_or l.days-items k days).names ≡ option_copied l.names → ⊥
+invariant-loop-days l =
+    (k : ℕ) (days : NamedCenters) → k < l.days-index → (get_or l.days-items k days).names ≡ option_copied l.names → ⊥

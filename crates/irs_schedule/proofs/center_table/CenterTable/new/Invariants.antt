@@ -5,4 +5,9 @@ use Rattle.irs_schedule.proofs.center_table.CenterTable.new.Given as goal
 
 -- the table has the streams before this one
 abbrev pub invariant-loop-s : goal.invariant-loop-s
-invariant-loop-s l = record { sections : l.table.sections ≡ l.cal; streams : (i : ℕ) (s : Stream) → i < l.s-index → slice_get l.s-items i ≡ Some s → HasStream l.table s }
+invariant-loop-s l =
+    record {
+      sections : l.table.sections ≡ l.cal;
+      streams : (i : ℕ) (s : Stream) → i < l.s-index
+          → slice_get l.s-items i ≡ Some s → HasStream l.table s;
+    }

@@ -11,7 +11,8 @@ entry_by-requires-clause-order c =
     let b = c.self.invariant.bounds in
     let P : Part → Type 0 = λ p. c.args.number ≤ length p.periods in
     let high = subst P (sym c.self.view_is) c.requires.high in
-    let order : day_at s.adjusted (c.args.number - 1) <ℤ day_at s.adjusted c.args.number = next_day s.adjusted c.args.number b.adjusted_rises c.requires.low (omega (arith, high, b.adjusted)) in
+    let order : day_at s.adjusted (c.args.number - 1) <ℤ day_at s.adjusted c.args.number =
+    next_day s.adjusted c.args.number b.adjusted_rises c.requires.low (omega (arith, high, b.adjusted)) in
     rw (c.day_at.ensures, c.day_at-2.ensures, c.as_slice.ensures.value, c.as_slice-2.ensures.value) order
 
 pub returns : goal.returns
@@ -19,6 +20,19 @@ returns c =
     let s = c.self.inside in
     let P : Part → Type 0 = λ p. c.args.number ≤ length p.periods in
     let high = subst P (sym c.self.view_is) c.requires.high in
-    let within : c.args.number ≤ count_of s.adjusted = omega (arith, high, length_periods s.terms s.unadjusted s.adjusted s.resets) in
+    let within : c.args.number ≤ count_of s.adjusted =
+    omega (arith, high, length_periods s.terms s.unadjusted s.adjusted s.resets) in
     let h = entry_at s.terms s.unadjusted s.adjusted s.resets c.args.number c.requires.low within in
-    rw (← c.self.view_is) (c.entry_by.ensures ∙ rw (c.day_at.ensures, c.day_at-2.ensures, c.day_at-3.ensures, c.observed_at.ensures.value, c.len.ensures, c.as_slice.ensures.value, c.as_slice-2.ensures.value, c.as_slice-3.ensures.value, c.as_slice-4.ensures) refl ∙ sym h)
+    rw (← c.self.view_is) (c.entry_by.ensures
+    ∙ rw (
+      c.day_at.ensures,
+      c.day_at-2.ensures,
+      c.day_at-3.ensures,
+      c.observed_at.ensures.value,
+      c.len.ensures,
+      c.as_slice.ensures.value,
+      c.as_slice-2.ensures.value,
+      c.as_slice-3.ensures.value,
+      c.as_slice-4.ensures,
+    ) refl
+    ∙ sym h)

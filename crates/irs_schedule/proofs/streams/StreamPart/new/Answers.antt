@@ -6,11 +6,29 @@ use Rattle.irs_schedule.proofs.streams.StreamPart.new.Goals as goal
 
 pub invariant_of-result : goal.invariant_of-result
 invariant_of-result c =
-    let s : Inside = record { terms = c.args.terms; unadjusted = c.args.unadjusted; adjusted = c.args.adjusted; exchanges = c.args.exchanges; payments = c.args.payments; resets = c.args.resets } in
+    let s : Inside =
+    record {
+      terms = c.args.terms;
+      unadjusted = c.args.unadjusted;
+      adjusted = c.args.adjusted;
+      exchanges =
+          c.args.exchanges;
+      payments = c.args.payments;
+      resets = c.args.resets;
+    } in
     kept s c.requires c.as_slice-days.ensures.days c.as_slice-moved.ensures.days (search rules)
 
 pub returns-clause-bounds : goal.returns-clause-bounds
 returns-clause-bounds c =
-    let s : Inside = record { terms = c.args.terms; unadjusted = c.args.unadjusted; adjusted = c.args.adjusted; exchanges = c.args.exchanges; payments = c.args.payments; resets = c.args.resets } in
+    let s : Inside =
+    record {
+      terms = c.args.terms;
+      unadjusted = c.args.unadjusted;
+      adjusted = c.args.adjusted;
+      exchanges =
+          c.args.exchanges;
+      payments = c.args.payments;
+      resets = c.args.resets;
+    } in
     let k : IsKept s = kept s c.requires c.as_slice-days.ensures.days c.as_slice-moved.ensures.days (search rules) in
     k.bounds
