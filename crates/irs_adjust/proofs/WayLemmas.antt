@@ -3,6 +3,7 @@ use Rattle.std.proofs.Common.{◌≡◌, ◌⊎◌, inl, inr, ℕ, zero, suc, �
 use Rattle.std.proofs.Common.{pos, ◌+ℤ◌, ◌-ℤ◌, ◌≤ℤ◌, Bool, true, false}
 use Rattle.jiff_core.proofs.SignedLemmas.{signed_arith}
 use Rattle.std.proofs.lemmas.Bool.{cases_lt}
+use Rattle.std.proofs.lemmas.Bool.{cases_Bool}
 use borrow.Author.Differences.{up, down}
 use Rattle.irs_calendar.specs.GoodDays.{DaySet, InCover, IsGood}
 use Rattle.irs_adjust.specs.declared.ways.Way.{Way}
@@ -81,10 +82,6 @@ next_of Back s x y gap = record {
 
 -- counts of good days
 
-good_or_not : (b : Bool) → (b ≡ true) ⊎ (b ≡ false)
-good_or_not true = inl refl
-good_or_not false = inr refl
-
 -- the count over two stretches is the sum of theirs
 pub good_days-add : (way : Way) (s : DaySet) (d : ℤ) (a b : ℕ)
     → good_days way s d (a + b) ≡ good_days way s d a + good_days way s (away way d a) b
@@ -104,7 +101,7 @@ none_counted way s d (suc n) none =
     rw last (omega (arith, before))
 
 not_good : (s : DaySet) (x : ℤ) → InCover s x → (IsGood s x → ⊥) → s.test x ≡ false
-not_good s x inside bad = elim (good_or_not (s.test x)) [
+not_good s x inside bad = elim (cases_Bool (s.test x)) [
   | inl passes ↦ absurd (bad (record { inside = inside; passes = passes }))
   | inr fails ↦ fails
 ]
@@ -130,7 +127,7 @@ record FirstPlace (t : ℕ → Bool) (n : ℕ) : Type 0 where
 first_place : (t : ℕ → Bool) (n : ℕ) → t n ≡ true → FirstPlace t n
 first_place t zero holds =
     record { place = 0; within = omega arith; holds = holds; none = λ j h. absurd (omega (arith, h)) }
-first_place t (suc n) holds = elim (good_or_not (t 0)) [
+first_place t (suc n) holds = elim (cases_Bool (t 0)) [
   | inl at ↦ record { place = 0; within = omega arith; holds = at; none = λ j h. absurd (omega (arith, h)) }
   | inr fails ↦
       let rest = first_place (λ i. t (suc i)) n holds in

@@ -1,4 +1,3 @@
-pub mod Statuses
 pub mod Tasks
 pub mod Given
 pub mod Messages

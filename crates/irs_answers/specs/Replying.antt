@@ -3,7 +3,7 @@ use Rattle.std.specs.Prelude.{ℕ, List}
 use Rattle.irs_schedule.specs.RowTexts.{text_of}
 use Rattle.irs_answers.specs.declared.replies.Reply.{Reply}
 use Rattle.irs_answers.specs.declared.replies.Reply.TheVariants.{Text, Rows}
-use Rattle.irs_answers.specs.Statuses.{status_number}
+use Rattle.irs_base.specs.Statuses.{status_number}
 
 -- the status of a reply
 abbrev pub reply_status : Reply → ℕ

@@ -13,12 +13,10 @@ mod messages;
 mod netting;
 mod refusals;
 mod replies;
-mod statuses;
 mod tasks;
 
 pub use due::{Found, find, reply_of, schedule_of};
 pub use files::TaskFiles;
 pub use refusals::Refusal;
 pub use replies::Reply;
-pub use statuses::Status;
 pub use tasks::Task;

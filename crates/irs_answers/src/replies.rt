@@ -3,14 +3,13 @@ ghost use Rattle.std.specs.Prelude.{◌≡◌, ◌++◌, ◌∷◌, codes, decim
 ghost use Rattle.irs_answers.specs.Outcomes.{answer_of, fixings_answer, calendars_answer, flows_answer};
 ghost use Rattle.irs_answers.specs.FlowMessages.{verdict_status, verdict_text};
 ghost use Rattle.irs_answers.specs.Replying.{reply_status, reply_text};
-ghost use Rattle.irs_answers.specs.Statuses.{status_number};
+ghost use Rattle.irs_base.specs.Statuses.{status_number};
 
 use crate::flow_messages::{departure_text, flows_text, yes_text};
 use crate::messages::{calendar_text, numbered_text, refused_text};
 use crate::refusals::Refusal;
-use crate::statuses::Status;
 use irs_audit::{FlowErr, Verdict};
-use irs_base::Memory;
+use irs_base::{Memory, Status};
 use irs_calendar::CalErr;
 use irs_resets::FixErr;
 use irs_schedule::Schedule;

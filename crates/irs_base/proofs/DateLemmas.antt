@@ -1,6 +1,7 @@
 -- The day of a date, as a function.
 use Rattle.std.proofs.Common.{◌≡◌, ◌⊎◌, inl, inr, ℕ, ◌<◌, ◌≤◌, Bool, true, false, ◌&&◌, Option, Some, None, IfSome}
 use Rattle.std.proofs.Common.{IfNone, nat_le, arith, refl, sym, ap, subst, ℤ, pos}
+use Rattle.std.proofs.lemmas.Bool.{cases_Bool}
 use Rattle.std.specs.Ordering.{int_cmp, is_le}
 use Rattle.jiff_core.specs.Calendar.{IsCivilDate, days_in_month, days_from_civil}
 use Rattle.jiff_core.proofs.SignedLemmas.{signed_arith}
@@ -43,10 +44,6 @@ civil_is_true y m d small h =
       (nat_is_le 1 d ds.0, nat_is_le d (days_in_month (pos y) m) ds.1),
     )
 
-pub true_or_false : (b : Bool) → (b ≡ true) ⊎ (b ≡ false)
-true_or_false true = inl refl
-true_or_false false = inr refl
-
 pub day_is : (r : Option ℤ) (y m d : ℕ) (z : ℤ) → z ≡ pos y → y < 10000 → IfSome r (λ n. HasDate n z m d)
     → IfSome r (λ n. IsDay n) → IfNone r ((n : ℤ) → IsDay n → HasDate n z m d → ⊥) → r ≡ day_number y m d
 day_is (Some n) y m d z e small some range none =
@@ -58,7 +55,7 @@ day_is (Some n) y m d z e small some range none =
     rw t (ap (λ (x : ℤ). Some x) h.1)
 day_is None y m d z e small some range none =
     let days : ℤ = days_from_civil (pos y) m d in
-    elim (true_or_false (is_civil y m d && is_in_range days)) [
+    elim (cases_Bool (is_civil y m d && is_in_range days)) [
       | inl t ↦
           let b = both_true (is_civil y m d) (is_in_range days) t in
           let date : HasDate days (pos y) m d = (civil_is_true y m d small b.0, refl) in

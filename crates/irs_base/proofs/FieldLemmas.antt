@@ -2,9 +2,50 @@
 use Rattle.std.proofs.Common.{◌≡◌, ℕ, zero, suc, ◌+◌, ◌-◌, ◌<◌, ◌≤◌, true, false, List, [], ◌∷◌, take, drop, length}
 use Rattle.std.proofs.Common.{get_or, arith, refl, ◌∙◌, ap, length-drop}
 use Rattle.std.proofs.Math.Seq.{drop-cons}
+use Rattle.std.proofs.lemmas.Bool.{cases_Bool}
 use Rattle.std.proofs.lemmas.List.{take_all}
 use Rattle.irs_base.specs.Lines.{with_byte}
-use Rattle.irs_base.specs.Fields.{is_space, begins_space, fields}
+use Rattle.irs_base.specs.Fields.{is_space, begins_space, without_gap, fields}
+
+-- each byte before the place parts fields
+abbrev pub AllBefore : List ℕ → ℕ → Type 0
+AllBefore bytes i = (k : ℕ) → k < i → is_space (get_or bytes k 0) ≡ true
+
+pub gap_here : (bytes : List ℕ) (i : ℕ) → i < length bytes → is_space (get_or bytes i 0) ≡ false → AllBefore bytes i
+    → drop i bytes ≡ without_gap bytes
+gap_here [] i within solid all = absurd (omega (arith, within))
+gap_here (b ∷ bs) zero within solid all = rw solid refl
+gap_here (b ∷ bs) (suc i) within solid all =
+    let first : is_space b ≡ true = all 0 (omega arith) in
+    rw first (gap_here bs i (omega (arith, within)) solid (λ k h. all (suc k) (omega (arith, h))))
+
+pub gap_alone : (bytes : List ℕ) → AllBefore bytes (length bytes) → [] ≡ without_gap bytes
+gap_alone [] all = refl
+gap_alone (b ∷ bs) all =
+    let first : is_space b ≡ true = all 0 (omega arith) in
+    rw first (gap_alone bs (λ k h. all (suc k) (omega (arith, h))))
+
+-- without its gap a text has the same fields, begins with one, and isn't longer
+pub same_fields : (bytes : List ℕ) → fields (without_gap bytes) ≡ fields bytes
+same_fields [] = refl
+same_fields (b ∷ bs) = elim (cases_Bool (is_space b)) [
+  | inl gap ↦ rw gap (same_fields bs)
+  | inr solid ↦ rw solid refl
+]
+
+pub begins_solid : (bytes : List ℕ) → begins_space (without_gap bytes) ≡ false
+begins_solid [] = refl
+begins_solid (b ∷ bs) = elim (cases_Bool (is_space b)) [
+  | inl gap ↦ rw gap (begins_solid bs)
+  | inr solid ↦ rw solid solid
+]
+
+pub not_longer : (bytes : List ℕ) → length (without_gap bytes) ≤ length bytes
+not_longer [] = omega arith
+not_longer (b ∷ bs) = elim (cases_Bool (is_space b)) [
+  | inl gap ↦ rw gap (omega (arith, not_longer bs))
+  | inr solid ↦ rw solid (omega arith)
+]
 
 -- a gap in front changes nothing
 pub skip_one : (bytes : List ℕ) (i : ℕ) → i < length bytes → is_space (get_or bytes i 0) ≡ true

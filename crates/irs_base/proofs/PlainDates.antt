@@ -3,6 +3,7 @@ use Rattle.std.proofs.Common.{◌≡◌, inl, inr, ℕ, ◌+◌, ◌-◌, ◌*�
 use Rattle.std.proofs.Common.{◌∷◌, length, slice_index, Option, Some, None, IfSome, IfNone, ℤ, pos, refl, sym, ap}
 use Rattle.std.proofs.Common.{subst, ◌∙◌, arith}
 use Rattle.std.proofs.lemmas.Bool.Decides.{nat_tests}
+use Rattle.std.proofs.lemmas.Bool.{cases_Bool}
 use Rattle.jiff_core.specs.Calendar.{days_from_civil}
 use Rattle.jiff_core.proofs.SignedLemmas.{signed_arith}
 use Rattle.jiff_core.proofs.CalendarLemmas.{days_in_month_bounds}
@@ -12,7 +13,7 @@ use Rattle.irs_base.specs.Texts.{two_digits, date_text, IsPlainDate}
 use Rattle.irs_base.proofs.Orders.{both_true}
 use Rattle.irs_base.proofs.Dates.{year_range}
 use Rattle.irs_base.proofs.DateTexts.{plain_text}
-use Rattle.irs_base.proofs.DateLemmas.{day_is, range_is_true, civil_is_true, true_or_false}
+use Rattle.irs_base.proofs.DateLemmas.{day_is, range_is_true, civil_is_true}
 
 pair_two : (n : ℕ) → n < 100 → pair_at (48 + n / 10) (48 + n % 10) ≡ Some n
 pair_two n h =
@@ -47,7 +48,7 @@ nat_some : (m n : ℕ) → Some m ≡ Some n → m ≡ n
 nat_some m n e = cc
 
 two_of : (a b n : ℕ) → pair_at a b ≡ Some n → (n < 100) × (two_digits n ≡ a ∷ b ∷ [])
-two_of a b n e = elim (true_or_false (is_digit a && is_digit b)) [
+two_of a b n e = elim (cases_Bool (is_digit a && is_digit b)) [
   | inl t ↦
       let p = both_true (is_digit a) (is_digit b) t in
       let q = both_true (nat_le 48 a) (nat_le a 57) p.0 in
@@ -98,7 +99,7 @@ parts_there (Some w) None c e d h = absurd cc
 parts_there None b c e d h = absurd cc
 
 day_there : (y m d : ℕ) (x : ℤ) → y < 10000 → day_number y m d ≡ Some x → IsDay x × HasDate x (pos y) m d
-day_there y m d x small e = elim (true_or_false (is_civil y m d && is_in_range (days_from_civil (pos y) m d))) [
+day_there y m d x small e = elim (cases_Bool (is_civil y m d && is_in_range (days_from_civil (pos y) m d))) [
   | inl t ↦
       let b = both_true (is_civil y m d) (is_in_range (days_from_civil (pos y) m d)) t in
       let same : days_from_civil (pos y) m d ≡ x = int_some (days_from_civil (pos y) m d) x (rw t at e) in
@@ -115,7 +116,7 @@ day_there y m d x small e = elim (true_or_false (is_civil y m d && is_in_range (
 -- and a text that gives a day is that of its date
 pub is_plain : (text : List ℕ) (d : ℤ) → date_at text ≡ Some d → IsDay d × IsPlainDate text d
 is_plain text d e =
-    elim (true_or_false ((length text == 10) && ((slice_index text 4 == 45) && (slice_index text 7 == 45)))) [
+    elim (cases_Bool ((length text == 10) && ((slice_index text 4 == 45) && (slice_index text 7 == 45)))) [
       | inl t ↦
           let b = both_true (length text == 10) ((slice_index text 4 == 45) && (slice_index text 7 == 45)) t in
           let c = both_true (slice_index text 4 == 45) (slice_index text 7 == 45) b.1 in

@@ -11,6 +11,11 @@ abbrev pub begins_space : List ℕ → Bool
 begins_space [] = false
 begins_space (b ∷ bs) = is_space b
 
+-- the bytes from the first one on that is neither space nor tab
+abbrev pub without_gap : List ℕ → List ℕ
+without_gap [] = []
+without_gap (b ∷ bs) = if is_space b then without_gap bs else b ∷ bs
+
 -- a field ends before this rest of a line
 abbrev pub ends_field : List ℕ → Bool
 ends_field [] = true

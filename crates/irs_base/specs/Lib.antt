@@ -17,4 +17,5 @@ pub mod PathList
 pub mod Paths
 pub mod Rules
 pub mod Faults
+pub mod Statuses
 pub mod Order

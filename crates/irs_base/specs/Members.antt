@@ -15,6 +15,13 @@ abbrev pub EachNumbered : {X : Type 0} → (ℕ → X → Type 0) → ℕ → Li
 EachNumbered P n [] = Unit {0}
 EachNumbered P n (x ∷ xs) = P n x × EachNumbered P (n + 1) xs
 
+-- the members cover the numbers from `next` to `last` in order, each at least one of them: `from` and `to`
+-- say which a member covers
+abbrev pub CoverNumbers : {X : Type 0} → (X → ℕ) → (X → ℕ) → ℕ → List X → ℕ → Type 0
+CoverNumbers from to next [] last = next ≡ last + 1
+CoverNumbers from to next (x ∷ xs) last =
+    (from x ≡ next) × (from x ≤ to x) × CoverNumbers from to (to x + 1) xs last
+
 -- the lists are as long as each other, and R holds of the members at each place
 abbrev pub Pairs : {X Y : Type 0} → (X → Y → Type 0) → List X → List Y → Type 0
 Pairs R [] [] = Unit {0}

@@ -1,6 +1,6 @@
 //! The fields of a line of a file, parted by spaces and tabs (this project's own).
 ghost use Rattle.std.specs.Prelude.{◌≡◌, ◌<◌, ◌≤◌, ◌∷◌, [], false, length, MatchOption};
-ghost use Rattle.irs_base.specs.Fields.{is_space, begins_space, fields};
+ghost use Rattle.irs_base.specs.Fields.{is_space, begins_space, without_gap, fields};
 
 /// Whether a byte parts fields: a space or a tab.
 pub fn is_gap(b: u8) -> bool
@@ -9,10 +9,9 @@ pub fn is_gap(b: u8) -> bool
     b == b' ' || b == b'\t'
 }
 
-fn skip_gap(bytes: &[u8]) -> &[u8]
-    ensures same { fields result.now ≡ fields bytes.now }
-    ensures begins { begins_space result.now ≡ false }
-    ensures length { length result.now ≤ length bytes.now }
+/// The bytes from the first one on that parts no fields; none where all do.
+pub fn skip_gap(bytes: &[u8]) -> &[u8]
+    ensures { result.now ≡ without_gap bytes.now }
 {
     for (i, b) in bytes.iter().enumerate() {
         if !is_gap(*b) {
@@ -37,6 +36,7 @@ fn split_field(bytes: &[u8]) -> (&[u8], &[u8])
 }
 
 /// The first field of a line, and what stands behind it.
+#[tactic(auto, using(crate::proofs::FieldLemmas::same_fields, crate::proofs::FieldLemmas::begins_solid, crate::proofs::FieldLemmas::not_longer))]
 pub fn first_field(bytes: &[u8]) -> Option<(&[u8], &[u8])>
     ensures fields { MatchOption result (fields bytes.now ≡ []) (λ p. fields bytes.now ≡ p.0.now ∷ fields p.1.now) }
     ensures shorter { MatchOption result (fields bytes.now ≡ []) (λ p. length p.1.now < length bytes.now) }

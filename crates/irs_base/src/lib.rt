@@ -18,6 +18,7 @@ mod places;
 mod putting;
 mod reading;
 mod rounding;
+mod statuses;
 mod stopped;
 #[cfg(test)]
 mod tests;
@@ -27,7 +28,7 @@ pub use day::{Civil, Day, DayName, FIRST_DAY, LAST_DAY, ahead, civil_of, day_of,
 pub use day_list::DayList;
 pub use decimals::read_dec;
 pub use elements::{ELEMENTS, Elem, PATHS, paths_listed, table_fits};
-pub use fields::{first_field, is_gap};
+pub use fields::{first_field, is_gap, skip_gap};
 pub use file_dates::date;
 pub use limits::{
     ALL_DAYS, MOST_BYTES, MOST_CENTERS, MOST_EXCHANGES, MOST_FILES, MOST_HOLIDAYS, MOST_INDEX,
@@ -41,5 +42,6 @@ pub use names::Names;
 pub use places::{Broken, Fault, Place, Rule};
 pub use reading::read_date;
 pub use rounding::{Direction, round};
+pub use statuses::Status;
 pub use stopped::Stopped;
 pub use text::Text;

@@ -15,9 +15,9 @@ ghost use Rattle.irs_bulk.specs.BulkRuns.{IsScheduleOf, agree_of, first_of, one_
 ghost use Rattle.irs_bulk.specs.Documents.{document_text, most_bulk};
 
 use crate::{Totals, bulk_calendar, bulk_doc, bulk_text};
-use irs_answers::{Refusal, Reply, Status, schedule_of};
+use irs_answers::{Refusal, Reply, schedule_of};
 use irs_audit::{Verdict, audit, flows_of, sums_of};
-use irs_base::{Line, Memory};
+use irs_base::{Line, Memory, Status};
 use irs_calendar::{CalErr, Calendars};
 use irs_json::parse;
 use irs_read::read_swap;

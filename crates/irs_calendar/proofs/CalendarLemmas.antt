@@ -4,6 +4,7 @@ use Rattle.std.proofs.Common.{◌≤◌, List, [], ◌∷◌, ◌++◌, map, dro
 use Rattle.std.proofs.Common.{Global, append_assoc, arith, refl, sym, ◌∙◌, ap, subst}
 use Rattle.std.proofs.Math.Seq.{drop-cons}
 use Rattle.std.proofs.lemmas.List.{append-nil}
+use Rattle.std.proofs.lemmas.Bool.{cases_Bool}
 use Rattle.irs_calendar.specs.declared.sections.Section.{Section}
 use Rattle.irs_calendar.specs.Files.{sections_of}
 use Rattle.std.specs.Str.{bytes_eq}
@@ -64,14 +65,10 @@ next_name names i n within is =
 -- a section with that name is found where one has it
 pub found_is : (ss : List Section) (n : List ℕ) → is_named n ss ≡ is_some (section_named ss n)
 found_is [] n = refl
-found_is (s ∷ ss) n = elim (true_or_false (bytes_eq s.name n)) [
+found_is (s ∷ ss) n = elim (cases_Bool (bytes_eq s.name n)) [
   | inl t ↦ rw t refl
   | inr f ↦ rw f (found_is ss n)
 ]
-  where
-    true_or_false : (b : Bool) → (b ≡ true) ⊎ (b ≡ false)
-    true_or_false true = inl refl
-    true_or_false false = inr refl
 
 -- what is picked so far, and what the names that are left pick
 pub record Picks (ss front : List Section) (k : ℕ) (left names : List (List ℕ)) : Type 0 where

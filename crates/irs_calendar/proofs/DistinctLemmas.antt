@@ -3,6 +3,7 @@ use Rattle.std.proofs.Common.{◌≡◌, ◌⊎◌, inl, inr, ℕ, ◌+◌, Bool
 use Rattle.std.proofs.Common.{nat_le, length, refl, sym, ap, subst, ℤ, IfOk}
 use Rattle.std.specs.Str.{bytes_eq}
 use Rattle.std.proofs.lemmas.Slice.Eq.{bytes_eq-Decides}
+use Rattle.std.proofs.lemmas.Bool.{cases_Bool}
 use Rattle.irs_calendar.specs.declared.sections.Section.{Section}
 use Rattle.irs_calendar.specs.declared.part.Part.{Part}
 use Rattle.irs_calendar.specs.declared.part.Part.TheVariants.{Between, Named, Covered, Open}
@@ -18,10 +19,6 @@ use Rattle.irs_calendar.specs.Files.{Place, numbered, then_read, sections_in, se
 use Rattle.irs_base.specs.Lines.{lines_of}
 use Rattle.irs_calendar.specs.Calendars.{Spot, in_file, then_file, calendars_in, GivesAll}
 use Rattle.irs_calendar.proofs.RisingLemmas.{not_true}
-
-true_or_false : (b : Bool) → (b ≡ true) ⊎ (b ≡ false)
-true_or_false true = inl refl
-true_or_false false = inr refl
 
 pub or_false : (a b : Bool) → (a || b) ≡ false → (a ≡ false) × (b ≡ false)
 or_false true b h = absurd (cc)
@@ -61,7 +58,7 @@ pub record Apart (s : State) : Type 0 where
   pub part : IsNew s.done s.part
 
 begun_apart : (done : List Section) (n : List ℕ) (t : State) → AreDistinct done → begun done n ≡ Ok t → Apart t
-begun_apart done n t h e = elim (true_or_false (is_named n done)) [
+begun_apart done n t h e = elim (cases_Bool (is_named n done)) [
   | inl yes' ↦ absurd (let k = rw yes' at e in cc k)
   | inr new ↦ subst Apart (same_ok (rw new at e)) (record { done = h; part = new })
 ]
@@ -98,10 +95,10 @@ holiday_apart : (done : List Section) (part : Part) (d : ℤ) (t : State) → Ar
 holiday_apart done Between d t h k e = absurd (cc e)
 holiday_apart done (Named m) d t h k e = absurd (cc e)
 holiday_apart done (Covered m a b) d t h k e = absurd (cc e)
-holiday_apart done (Open s) d t h k e = elim (true_or_false (fits_section s d)) [
+holiday_apart done (Open s) d t h k e = elim (cases_Bool (fits_section s d)) [
   | inl fits ↦
       let e' = rw fits at e in
-      elim (true_or_false (nat_le most_holidays (length s.holidays))) [
+      elim (cases_Bool (nat_le most_holidays (length s.holidays))) [
         | inl full ↦ absurd (let x = rw full at e' in cc x)
         | inr room ↦ subst Apart (same_state (rw room at e')) (record { done = h; part = k })
       ]

@@ -3,6 +3,7 @@ use Rattle.std.proofs.Common.{◌≡◌, ◌⊎◌, inl, inr, ℕ, suc, ◌+◌,
 use Rattle.std.proofs.Common.{Result, Ok, Err, nat_le, append_assoc, arith, refl, sym, ◌∙◌, ap, subst, ℤ}
 use Rattle.std.specs.Ordering.{int_cmp, is_le}
 use Rattle.std.proofs.lemmas.List.{append-nil}
+use Rattle.std.proofs.lemmas.Bool.{cases_Bool}
 use Rattle.jiff_core.specs.Calendar.{days_from_civil, day_count, days_of_years, days_of_months}
 use Rattle.irs_base.specs.Limits.{most_holidays}
 use Rattle.irs_base.specs.Lines.{lines_of}
@@ -24,7 +25,7 @@ use Rattle.irs_calendar.specs.Grammar.{RisesWithin, CalFiles}
 use Rattle.irs_calendar.specs.FirstFaults.{Spells, CanGoOn, IsRepeat, IsOneTooMany, IsKind, IsFaultBehind, IsFirstFault}
 use Rattle.irs_calendar.proofs.DistinctLemmas.{same_state, then_ok, numbered_ok, then_file_ok, file_ok, calendars_apart}
 use Rattle.irs_calendar.proofs.DistinctLemmas.{sections_apart}
-use Rattle.irs_calendar.proofs.GrammarLemmas.{true_or_false, reads_continue, lines_read, rises_more, rises_to}
+use Rattle.irs_calendar.proofs.GrammarLemmas.{reads_continue, lines_read, rises_more, rises_to}
 use Rattle.irs_calendar.proofs.GrammarLemmas.{lawful_back, read_is_spelt, spelt_is_read}
 
 -- a file's beginning
@@ -71,7 +72,7 @@ reaches_none s =
     plus_none n = omega arith
 
 begun_grown : (done : List Section) (n : List ℕ) (t : State) → begun done n ≡ Ok t → t.done ≡ done
-begun_grown done n t e = elim (true_or_false (is_named n done)) [
+begun_grown done n t e = elim (cases_Bool (is_named n done)) [
   | inl named ↦ absurd (let k = rw named at e in cc k)
   | inr new ↦ ap (λ (u : State). u.done) (sym (same_state (rw new at e)))
 ]
@@ -108,10 +109,10 @@ holiday_grown : (done : List Section) (part : Part) (d : ℤ) (t : State) → af
 holiday_grown done Between d t e = absurd (cc e)
 holiday_grown done (Named m) d t e = absurd (cc e)
 holiday_grown done (Covered m a b) d t e = absurd (cc e)
-holiday_grown done (Open s) d t e = elim (true_or_false (fits_section s d)) [
+holiday_grown done (Open s) d t e = elim (cases_Bool (fits_section s d)) [
   | inl fits ↦
       let e' = rw fits at e in
-      elim (true_or_false (nat_le most_holidays (length s.holidays))) [
+      elim (cases_Bool (nat_le most_holidays (length s.holidays))) [
         | inl full ↦ absurd (let x = rw full at e' in cc x)
         | inr room ↦ same_done done t (ap (λ (u : State). u.done) (sym (same_state (rw room at e'))))
       ]
@@ -132,7 +133,7 @@ not_between : (t u : State) → t ≡ u → (u.part ≡ Between → ⊥) → t.p
 not_between t u e never = subst (λ (x : State). x.part ≡ Between → ⊥) (sym e) never
 
 begun_begins : (done : List Section) (n : List ℕ) (t : State) → begun done n ≡ Ok t → t.part ≡ Between → ⊥
-begun_begins done n t e = elim (true_or_false (is_named n done)) [
+begun_begins done n t e = elim (cases_Bool (is_named n done)) [
   | inl named ↦ absurd (let k = rw named at e in cc k)
   | inr new ↦ not_between t (record { done = done; part = Named n }) (sym (same_state (rw new at e))) (λ k. cc k)
 ]
@@ -169,10 +170,10 @@ holiday_begins : (done : List Section) (part : Part) (d : ℤ) (t : State) → a
 holiday_begins done Between d t e = absurd (cc e)
 holiday_begins done (Named m) d t e = absurd (cc e)
 holiday_begins done (Covered m a b) d t e = absurd (cc e)
-holiday_begins done (Open s) d t e = elim (true_or_false (fits_section s d)) [
+holiday_begins done (Open s) d t e = elim (cases_Bool (fits_section s d)) [
   | inl fits ↦
       let e' = rw fits at e in
-      elim (true_or_false (nat_le most_holidays (length s.holidays))) [
+      elim (cases_Bool (nat_le most_holidays (length s.holidays))) [
         | inl full ↦ absurd (let x = rw full at e' in cc x)
         | inr room ↦
             not_between t (record { done = done; part = Open (record s { holidays = s.holidays ++ d ∷ [] }) })
@@ -399,7 +400,7 @@ goes_no_further files lines earlier t l f c r e go =
 -- a repeated centre
 
 begun_repeat : (done : List Section) (n : List ℕ) → begun done n ≡ Err Repeat → is_named n done ≡ true
-begun_repeat done n e = elim (true_or_false (is_named n done)) [
+begun_repeat done n e = elim (cases_Bool (is_named n done)) [
   | inl named ↦ named
   | inr new ↦ absurd (let k = rw new at e in cc k)
 ]
@@ -434,10 +435,10 @@ holiday_never_repeat : (done : List Section) (part : Part) (d : ℤ) → after_h
 holiday_never_repeat done Between d e = cc e
 holiday_never_repeat done (Named m) d e = cc e
 holiday_never_repeat done (Covered m a b) d e = cc e
-holiday_never_repeat done (Open s) d e = elim (true_or_false (fits_section s d)) [
+holiday_never_repeat done (Open s) d e = elim (cases_Bool (fits_section s d)) [
   | inl fits ↦
       let e' = rw fits at e in
-      elim (true_or_false (nat_le most_holidays (length s.holidays))) [
+      elim (cases_Bool (nat_le most_holidays (length s.holidays))) [
         | inl full ↦ let x = rw full at e' in cc x
         | inr room ↦ let x = rw room at e' in cc x
       ]
@@ -462,7 +463,7 @@ line_repeat done part Wrong e = absurd (cc e)
 -- a holiday too many
 
 begun_never_many : (done : List Section) (n : List ℕ) → begun done n ≡ Err TooMany → ⊥
-begun_never_many done n e = elim (true_or_false (is_named n done)) [
+begun_never_many done n e = elim (cases_Bool (is_named n done)) [
   | inl named ↦ let k = rw named at e in cc k
   | inr new ↦ let k = rw new at e in cc k
 ]
@@ -486,10 +487,10 @@ holiday_many : (done : List Section) (part : Part) (d : ℤ) → after_holiday d
 holiday_many done Between d e = absurd (cc e)
 holiday_many done (Named m) d e = absurd (cc e)
 holiday_many done (Covered m a b) d e = absurd (cc e)
-holiday_many done (Open s) d e = elim (true_or_false (fits_section s d)) [
+holiday_many done (Open s) d e = elim (cases_Bool (fits_section s d)) [
   | inl fits ↦
       let e' = rw fits at e in
-      elim (true_or_false (nat_le most_holidays (length s.holidays))) [
+      elim (cases_Bool (nat_le most_holidays (length s.holidays))) [
         | inl full ↦ record { section = s; day = d; at_hand = refl; says = refl; fits = fits; full = full }
         | inr room ↦ absurd (let x = rw room at e' in cc x)
       ]

@@ -5,6 +5,7 @@ use Rattle.std.proofs.Common.{pos, ◌+ℤ◌, ◌≤ℤ◌}
 use Rattle.std.specs.Ordering.{int_cmp, is_le, is_lt}
 use Rattle.std.specs.Str.{bytes_eq}
 use Rattle.std.proofs.lemmas.List.{append-nil}
+use Rattle.std.proofs.lemmas.Bool.{cases_Bool}
 use Rattle.jiff_core.proofs.SignedLemmas.{signed_arith}
 use Rattle.irs_base.specs.Lines.{lines_of}
 use Rattle.irs_base.proofs.Orders.{le_true, true_le, lt_true, true_lt, both_true}
@@ -25,10 +26,6 @@ use Rattle.irs_calendar.specs.Grammar.{with_said, said_lines, section_lines, spe
 use Rattle.irs_calendar.specs.Grammar.{AreSpelt, joined, CalFiles}
 use Rattle.irs_calendar.proofs.DistinctLemmas.{numbered_ok, then_ok, file_ok, then_file_ok, same_state, or_false}
 use Rattle.irs_calendar.proofs.DistinctLemmas.{turned}
-
-pub true_or_false : (b : Bool) → (b ≡ true) ⊎ (b ≡ false)
-true_or_false true = inl refl
-true_or_false false = inr refl
 
 -- holidays that rise
 
@@ -92,7 +89,7 @@ record Steps (s t : State) (said : Said) : Type 0 where
 
 begun_ok : (done : List Section) (n : List ℕ) (t : State) → begun done n ≡ Ok t
     → t ≡ record { done = done; part = Named n }
-begun_ok done n t e = elim (true_or_false (is_named n done)) [
+begun_ok done n t e = elim (cases_Bool (is_named n done)) [
   | inl named ↦ absurd (let k = rw named at e in cc k)
   | inr new ↦ sym (same_state (rw new at e))
 ]
@@ -151,10 +148,10 @@ holiday_steps : (done : List Section) (part : Part) (d : ℤ) (t : State) → Is
 holiday_steps done Between d t lawful e = absurd (cc e)
 holiday_steps done (Named m) d t lawful e = absurd (cc e)
 holiday_steps done (Covered m a b) d t lawful e = absurd (cc e)
-holiday_steps done (Open s) d t lawful e = elim (true_or_false (fits_section s d)) [
+holiday_steps done (Open s) d t lawful e = elim (cases_Bool (fits_section s d)) [
   | inl fits ↦
       let e' = rw fits at e in
-      elim (true_or_false (nat_le most_holidays (length s.holidays))) [
+      elim (cases_Bool (nat_le most_holidays (length s.holidays))) [
         | inl full ↦ absurd (let x = rw full at e' in cc x)
         | inr room ↦
             let from = both_true (is_le (int_cmp s.first d)) (is_le (int_cmp d s.last)

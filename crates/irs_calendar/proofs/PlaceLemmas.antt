@@ -10,16 +10,13 @@ use Rattle.std.specs.Str.{bytes_eq}
 use Rattle.std.proofs.lemmas.Map.Text.{is_eq-slice_cmp}
 use Rattle.std.proofs.lemmas.Option.{same_Some}
 use Rattle.std.proofs.lemmas.Slice.Eq.{bytes_eq-Decides}
+use Rattle.std.proofs.lemmas.Bool.{cases_Bool}
 use Rattle.irs_calendar.specs.declared.sections.Section.{Section}
 use Rattle.irs_calendar.specs.Sections.{is_named, section_named, AreDistinct}
 use Rattle.irs_calendar.specs.Places.{place_in, IsIndex}
 use Rattle.irs_calendar.proofs.RunLemmas.{place_any}
 use Rattle.irs_calendar.proofs.CalendarLemmas.{found_is}
 use Rattle.irs_calendar.proofs.DistinctLemmas.{turned, named_behind}
-
-true_or_false : (b : Bool) → (b ≡ true) ⊎ (b ≡ false)
-true_or_false true = inl refl
-true_or_false false = inr refl
 
 abbrev is_key : List ℕ → Vec ℕ Global → Bool
 is_key name k = is_eq (slice_cmp nat_cmp name k.items)
@@ -44,11 +41,11 @@ inserted (e ∷ es) k v name = by_order (inserted es k v name) (order k e.0) ref
         (bytes_eq-Decides k.items e.0.items).0 (sym (is_eq-slice_cmp k.items e.0.items) ∙ ap is_eq o) in
         let here : is_key name e.0 ≡ bytes_eq name k.items =
         is_eq-slice_cmp name e.0.items ∙ ap (bytes_eq name) (sym same) in
-        elim (true_or_false (bytes_eq name k.items)) [
+        elim (cases_Bool (bytes_eq name k.items)) [
           | inl t ↦ rw (here, t) refl
           | inr f ↦ rw (here, f) refl
         ]
-    by_order rest Greater o = elim (true_or_false (bytes_eq name k.items)) [
+    by_order rest Greater o = elim (cases_Bool (bytes_eq name k.items)) [
       | inl t ↦
           let same : name ≡ k.items = (bytes_eq-Decides name k.items).0 t in
           let other : is_key name e.0 ≡ false =
@@ -71,7 +68,7 @@ last_is (t ∷ ts) s = last_is ts s
 pub index_with : (m n : BTreeMap (Vec ℕ Global) ℕ) (ss : List Section) (s : Section) (k : Vec ℕ Global) → IsIndex m ss
     → n.entries ≡ insert_entry order m.entries k (length ss) → k.items ≡ s.name → IsIndex n (ss ++ s ∷ [])
 index_with m n ss s k index entries named = record {
-  found = λ name i at. elim (true_or_false (bytes_eq name k.items)) [
+  found = λ name i at. elim (cases_Bool (bytes_eq name k.items)) [
     | inl t ↦
         let e : Some (length ss) ≡ Some i =
         subst (λ (b : Bool). (if b then Some (length ss) else place_in m name) ≡ Some i) t (sym (here name) ∙ at) in
@@ -86,7 +83,7 @@ index_with m n ss s k index entries named = record {
         ∙ at)) in
         (old.0, front_stays ss s old.0 i old.1, old.2)
   ];
-  missing = λ name at. elim (true_or_false (bytes_eq name k.items)) [
+  missing = λ name at. elim (cases_Bool (bytes_eq name k.items)) [
     | inl t ↦ absurd (some_none (length ss)
         (subst (λ (b : Bool). (if b then Some (length ss) else place_in m name) ≡ None) t (sym (here name) ∙ at)))
     | inr f ↦
@@ -124,7 +121,7 @@ found_at (t ∷ ts) zero s name apart at named =
     let hit : bytes_eq t.name name ≡ true =
     (bytes_eq-Decides t.name name).1 (ap (λ (x : Section). x.name) same ∙ named) in
     rw hit at
-found_at (t ∷ ts) (suc i) s name apart at named = elim (true_or_false (bytes_eq t.name name)) [
+found_at (t ∷ ts) (suc i) s name apart at named = elim (cases_Bool (bytes_eq t.name name)) [
   | inl hit ↦
       let same = (bytes_eq-Decides t.name name).0 hit in
       let twice = named_at ts i s t.name at (named ∙ sym same) in

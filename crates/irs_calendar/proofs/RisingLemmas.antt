@@ -3,6 +3,7 @@ use Rattle.std.proofs.Common.{◌≡◌, ◌⊎◌, inl, inr, ℕ, zero, suc, �
 use Rattle.std.proofs.Common.{length, slice_get, Some, arith, refl, sym, ◌∙◌, subst, ℤ, ◌<ℤ◌}
 use Rattle.std.specs.Ordering.{int_cmp, is_lt, is_le, int_eq}
 use Rattle.std.proofs.lemmas.Option.{slice_get_within, same_Some}
+use Rattle.std.proofs.lemmas.Bool.{cases_Bool}
 use Rattle.jiff_core.proofs.SignedLemmas.{signed_arith}
 use Rattle.irs_calendar.specs.declared.sections.Section.{Section}
 use Rattle.irs_calendar.specs.Rising.{IsRising, IsAfter, all_before}
@@ -44,7 +45,7 @@ fits_after s d h =
 -- it is enough to be above the last one
 pub last_before : (days : List ℤ) (d x : ℤ) (n : ℕ) → IsRising days → suc n ≡ length days → slice_get days n ≡ Some x
     → is_lt (int_cmp x d) ≡ all_before d days
-last_before days d x n rising len at = elim (true_or_false (is_lt (int_cmp x d))) [
+last_before days d x n rising len at = elim (cases_Bool (is_lt (int_cmp x d))) [
   | inl low ↦ low ∙ sym
       (all_after days d (λ i y there. elim (cases_le i n (omega (arith, len, slice_get_within days i y there))) [
         | inl front ↦ omega (arith, signed_arith, rising.rises i n y x front there at, lt_true x d low)
@@ -57,9 +58,5 @@ last_before days d x n rising len at = elim (true_or_false (is_lt (int_cmp x d))
       omega (arith, signed_arith, low, lt_false x d high)))
 ]
   where
-    true_or_false : (b : Bool) → (b ≡ true) ⊎ (b ≡ false)
-    true_or_false true = inl refl
-    true_or_false false = inr refl
-
     cases_le : (i j : ℕ) → i ≤ j → (i < j) ⊎ (i ≡ j)
     cases_le i j h = grind arith

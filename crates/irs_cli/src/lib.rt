@@ -14,7 +14,7 @@ mod tests;
 #[cfg(test)]
 mod tests_puts;
 
-pub use irs_answers::Status;
+pub use irs_base::Status;
 pub use irs_bulk::{bulk_calendar, bulk_doc};
 pub use irs_outside::{
     FetchErr, Files, MemFiles, MemSink, PutFailed, RealFiles, RealSink, Sink, SureFiles, SureSink,

@@ -17,8 +17,8 @@ use crate::fetching::fetch_all;
 use crate::putting::put_reply;
 use crate::refusals::Refusal;
 use crate::{Files, Sink};
-use irs_answers::{Reply, Status, TaskFiles, reply_of};
-use irs_base::Memory;
+use irs_answers::{Reply, TaskFiles, reply_of};
+use irs_base::{Memory, Status};
 use irs_bulk::bulk;
 use std::alloc::Global;
 

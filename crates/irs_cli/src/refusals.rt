@@ -5,8 +5,8 @@ ghost use Rattle.irs_cli.specs.Outcomes.{answer_of, of_fetch};
 ghost use Rattle.irs_cli.specs.declared.refusals.Refusal.TheVariants.{Memory as OfMemory};
 
 use crate::fetching::Unfetched;
-use irs_answers::{Reply, Status};
-use irs_base::Memory;
+use irs_answers::Reply;
+use irs_base::{Memory, Status};
 use std::alloc::Global;
 
 /// Why a request isn't carried out over files.

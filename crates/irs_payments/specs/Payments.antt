@@ -11,7 +11,7 @@ use Rattle.irs_calendar.specs.GoodDays.{DaySet}
 use Rattle.irs_base.specs.Faults.{fault_at}
 use Rattle.irs_payments.specs.Grouping.{PayList, BreaksGrouping}
 use Rattle.irs_payments.specs.PaymentDates.{IsPaymentDate, LacksResult, LeavesRange}
-use Rattle.irs_base.specs.Members.{day_at, EachNumbered}
+use Rattle.irs_base.specs.Members.{day_at, CoverNumbers, EachNumbered}
 
 -- the place among the payment boundaries of the unadjusted date of payment j: the payment period's
 -- end, or its start under CalculationPeriodStartDate
@@ -53,9 +53,8 @@ pub record ArePayments (s : Stream) (set : DaySet) (boundaries adjusted : List �
 
 -- the payments cover the periods from `next` to `last`, one behind the other, each at least one
 abbrev pub Covers : ℕ → List Payment → ℕ → Type 0
-Covers next [] last = next ≡ last + 1
-Covers next (p ∷ ps) last =
-    (p.first_period ≡ next) × (p.first_period ≤ p.last_period) × Covers (p.last_period + 1) ps last
+Covers next payments last =
+    CoverNumbers (λ (p : Payment). p.first_period) (λ (p : Payment). p.last_period) next payments last
 
 -- the date of payment j is to be worked out from this start
 pub record PaysFrom (s : Stream) (boundaries adjusted : List ℤ) (j : ℕ) (start : ℤ) : Type 0 where

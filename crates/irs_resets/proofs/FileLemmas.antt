@@ -13,6 +13,7 @@ use Rattle.irs_terms.specs.declared.frequency.Frequency.{Frequency}
 use Rattle.irs_resets.specs.declared.store.Slot.{Slot}
 use Rattle.irs_resets.specs.Words.{word, is_passed}
 use Rattle.std.proofs.lemmas.Slice.Eq.{bytes_eq-Decides}
+use Rattle.std.proofs.lemmas.Bool.{cases_Bool}
 use Rattle.irs_base.proofs.Orders.{both_true}
 use Rattle.irs_resets.proofs.SlotLemmas.{slot_same, slot_itself}
 use Rattle.irs_base.specs.Lines.{lines_of}
@@ -31,10 +32,6 @@ pub record ReadTo (lines : List (List ℕ)) (number : ℕ) (left : List (List �
       → (n : ℕ) × (n < number) × Fixes lines n index slot rate
   pub complete : (index : List ℕ) (slot : Slot) (rate : ℤ) (n : ℕ) → n < number → Fixes lines n index slot rate
       → rate_at table index slot ≡ Some rate
-
-true_or_false : (b : Bool) → (b ≡ true) ⊎ (b ≡ false)
-true_or_false true = inl refl
-true_or_false false = inr refl
 
 -- a line spells one rate
 one_rate : (line i j : List ℕ) (s t : Slot) (rate other : ℤ) → Spells line i s rate → Spells line j t other
@@ -59,7 +56,7 @@ no_date false y m d day h = cc
 pub passed_none : (line index : List ℕ) (slot : Slot) (rate : ℤ) → is_passed line ≡ true
     → Spells line index slot rate → ⊥
 passed_none [] index slot rate passed s = let d = s.date in cc
-passed_none (b ∷ bs) index slot rate passed s = elim (true_or_false (is_space b)) [
+passed_none (b ∷ bs) index slot rate passed s = elim (cases_Bool (is_space b)) [
   | inl gap ↦ let d : date_at [] ≡ Some slot.date = rw gap at s.date in cc
   | inr solid ↦
       let d : date_at (b ∷ word bs) ≡ Some slot.date = rw solid at s.date in
@@ -220,7 +217,7 @@ takes lines k line more old new r t =
       complete = λ i q rate n low f. elim (below n k low) [
         | inl before ↦
             let kept = r.complete i q rate n before f in
-            elim (true_or_false (bytes_eq t.index i && is_slot t.slot q)) [
+            elim (cases_Bool (bytes_eq t.index i && is_slot t.slot q)) [
               | inl same ↦ let p = same_place t.index i t.slot q same in
                   absurd (stood old t.index i t.slot q rate t.absent p.0 p.1 kept)
               | inr other ↦

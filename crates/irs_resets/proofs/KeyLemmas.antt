@@ -9,13 +9,10 @@ use Rattle.std.specs.BTreeMap.{BTreeMap, UpdatesBy, get_by}
 use Rattle.std.specs.Map.{lookup, IsKeyTest, AreApart, KeepsOthers}
 use Rattle.std.proofs.lemmas.Map.Text.{is_eq-slice_cmp}
 use Rattle.std.proofs.lemmas.Slice.Eq.{bytes_eq-Decides}
+use Rattle.std.proofs.lemmas.Bool.{cases_Bool}
 use Rattle.std.specs.declared.vec.Vec.{Vec}
 use Rattle.irs_resets.specs.declared.store.Slot.{Slot}
 use Rattle.irs_resets.specs.Rates.{SlotRates, rate_of, is_slot, AddsTo, by_bytes}
-
-true_or_false : (b : Bool) → (b ≡ true) ⊎ (b ≡ false)
-true_or_false true = inl refl
-true_or_false false = inr refl
 
 apart : (bs cs ks : List ℕ) → bytes_eq bs cs ≡ false → is_eq (slice_cmp nat_cmp bs ks) ≡ true
     → is_eq (slice_cmp nat_cmp cs ks) ≡ false
@@ -33,7 +30,7 @@ module _ {K : Type 0} (eq : K → K → Bool) (test : K → Bool) where
 pub updates_bytes : {K X : Type 0} (f : K → List ℕ) (bs : List ℕ) (m n : BTreeMap K X) (w : Option X)
     → UpdatesBy (λ x y. slice_cmp nat_cmp (f x) (f y)) (λ k. slice_cmp nat_cmp bs (f k)) m n w → (cs : List ℕ)
     → get_by (λ k. slice_cmp nat_cmp cs (f k)) n ≡ cond (bytes_eq bs cs) w (get_by (λ k. slice_cmp nat_cmp cs (f k)) m)
-updates_bytes {K} {X} f bs m n w h cs = elim (true_or_false (bytes_eq bs cs)) [
+updates_bytes {K} {X} f bs m n w h cs = elim (cases_Bool (bytes_eq bs cs)) [
   | inl same ↦
       rw same (subst (λ (l : List ℕ). get_by (λ k. slice_cmp nat_cmp l (f k)) n ≡ w)
       ((bytes_eq-Decides bs cs).0 same) h.1)
@@ -55,7 +52,7 @@ pub put_back : (index i : List ℕ) (slot q : Slot) (rate : ℤ) (g0 g1 g2 : Lis
     → ((cs : List ℕ) → g2 cs ≡ cond (bytes_eq index cs) (Some grown) (g1 cs))
     → ((s : Slot) → lookup (is_slot s) rates ≡ rate_of (g0 index) s) → AddsTo rates slot rate grown
     → rate_of (g2 i) q ≡ cond (bytes_eq index i && is_slot slot q) (Some rate) (rate_of (g0 i) q)
-put_back index i slot q rate g0 g1 g2 rates grown out back were adds = elim (true_or_false (bytes_eq index i)) [
+put_back index i slot q rate g0 g1 g2 rates grown out back were adds = elim (cases_Bool (bytes_eq index i)) [
   | inl same ↦
       let here : g2 i ≡ Some grown = rw same at (back i) in
       let e : g0 index ≡ g0 i = ap g0 ((bytes_eq-Decides index i).0 same) in

@@ -2,14 +2,11 @@
 use Rattle.std.proofs.Common.{◌≡◌, ℕ, zero, suc, ◌-◌, ◌<◌, ◌≤◌, Bool, true, false, ◌&&◌, List, [], ◌∷◌, take, drop}
 use Rattle.std.proofs.Common.{length, get_or, arith, refl, ap}
 use Rattle.irs_base.specs.Fields.{is_space}
-use Rattle.irs_resets.specs.Words.{word, behind_word, without_gap, trimmed, is_blank}
+use Rattle.irs_resets.specs.Words.{word, behind_word, trimmed, is_blank}
 
 -- no byte before the place is a space
 abbrev pub NoneBefore : List ℕ → ℕ → Type 0
 NoneBefore bytes i = (k : ℕ) → k < i → is_space (get_or bytes k 0) ≡ false
-
-abbrev pub AllBefore : List ℕ → ℕ → Type 0
-AllBefore bytes i = (k : ℕ) → k < i → is_space (get_or bytes k 0) ≡ true
 
 pub word_here : (bytes : List ℕ) (i : ℕ) → i < length bytes → is_space (get_or bytes i 0) ≡ true → NoneBefore bytes i
     → (take i bytes ≡ word bytes) × (drop i bytes ≡ behind_word bytes)
@@ -26,20 +23,6 @@ word_alone (b ∷ bs) none =
     let first : is_space b ≡ false = none 0 (omega arith) in
     let rest = word_alone bs (λ k h. none (suc k) (omega (arith, h))) in
     (rw first (ap (λ (l : List ℕ). b ∷ l) rest.0), rw first rest.1)
-
-pub gap_here : (bytes : List ℕ) (i : ℕ) → i < length bytes → is_space (get_or bytes i 0) ≡ false → AllBefore bytes i
-    → drop i bytes ≡ without_gap bytes
-gap_here [] i within solid all = absurd (omega (arith, within))
-gap_here (b ∷ bs) zero within solid all = rw solid refl
-gap_here (b ∷ bs) (suc i) within solid all =
-    let first : is_space b ≡ true = all 0 (omega arith) in
-    rw first (gap_here bs i (omega (arith, within)) solid (λ k h. all (suc k) (omega (arith, h))))
-
-pub gap_alone : (bytes : List ℕ) → AllBefore bytes (length bytes) → [] ≡ without_gap bytes
-gap_alone [] all = refl
-gap_alone (b ∷ bs) all =
-    let first : is_space b ≡ true = all 0 (omega arith) in
-    rw first (gap_alone bs (λ k h. all (suc k) (omega (arith, h))))
 
 -- the bytes from the place on are spaces
 abbrev pub AllFrom : List ℕ → ℕ → Type 0

@@ -1,7 +1,7 @@
 -- The words of a line.
 use Rattle.std.specs.Prelude.{ℕ, Bool, false, ◌||◌, ◌==◌, List, [], ◌∷◌, if◌then◌else◌}
 use Rattle.std.specs.List.{list_all}
-use Rattle.irs_base.specs.Fields.{is_space}
+use Rattle.irs_base.specs.Fields.{is_space, without_gap}
 
 -- the bytes before the first space or tab
 abbrev pub word : List ℕ → List ℕ
@@ -12,11 +12,6 @@ word (b ∷ bs) = if is_space b then [] else b ∷ word bs
 abbrev pub behind_word : List ℕ → List ℕ
 behind_word [] = []
 behind_word (b ∷ bs) = if is_space b then b ∷ bs else behind_word bs
-
--- the bytes from the first one on that is neither space nor tab
-abbrev pub without_gap : List ℕ → List ℕ
-without_gap [] = []
-without_gap (b ∷ bs) = if is_space b then without_gap bs else b ∷ bs
 
 -- what follows the first word and the gap behind it
 abbrev pub behind_gap : List ℕ → List ℕ

@@ -4,9 +4,9 @@
 ghost use Rattle.std.specs.Prelude.{◌≡◌};
 ghost use Rattle.std.specs.List.{list_all};
 ghost use Rattle.irs_base.specs.Fields.{is_space};
-ghost use Rattle.irs_resets.specs.Words.{word, behind_word, without_gap, behind_gap, trimmed, is_passed};
+ghost use Rattle.irs_resets.specs.Words.{word, behind_word, behind_gap, trimmed, is_passed};
 
-use irs_base::is_gap;
+use irs_base::{is_gap, skip_gap};
 
 // The bytes before the first space or tab, and those from there on.
 fn split_word(bytes: &[u8]) -> (&[u8], &[u8])
@@ -19,17 +19,6 @@ fn split_word(bytes: &[u8]) -> (&[u8], &[u8])
         }
     }
     (bytes, &[])
-}
-
-fn skip_gap(bytes: &[u8]) -> &[u8]
-    ensures { result.now ≡ without_gap bytes.now }
-{
-    for (i, b) in bytes.iter().enumerate() {
-        if !is_gap(*b) {
-            return &bytes[i..];
-        }
-    }
-    &[]
 }
 
 /// The first word, and what stands behind the gap that follows it.

@@ -15,7 +15,7 @@ use Rattle.irs_compound.specs.PeriodRates.{most_rounded_rate}
 use Rattle.irs_schedule.specs.declared.entries.PaymentEntry.{PaymentEntry}
 use Rattle.irs_schedule.specs.declared.entries.PeriodEntry.{PeriodEntry}
 use Rattle.irs_base.specs.Limits.{most_exchanges, most_numerator, most_periods, most_streams}
-use Rattle.irs_base.specs.Members.{Every}
+use Rattle.irs_base.specs.Members.{CoverNumbers, Every}
 
 -- one stream: period i goes from boundary i - 1 to boundary i, reset i is that of period i
 pub record Part : Type 0 where
@@ -41,9 +41,8 @@ Rises (x ∷ xs) = RisesFrom x xs
 
 -- the payments cover the periods from this one to the last, in order: each begins behind the one before it
 abbrev pub Covers : ℕ → List PaymentEntry → ℕ → Type 0
-Covers next [] last = next ≡ last + 1
-Covers next (p ∷ ps) last =
-    (p.first_period ≡ next) × (p.first_period ≤ p.last_period) × Covers (p.last_period + 1) ps last
+Covers next payments last =
+    CoverNumbers (λ (p : PaymentEntry). p.first_period) (λ (p : PaymentEntry). p.last_period) next payments last
 
 -- the code of a currency: three capital letters
 pub record IsCode (currency : Currency) : Type 0 where

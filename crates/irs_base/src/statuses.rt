@@ -1,6 +1,6 @@
 //! The exit statuses, which are this project's own.
 ghost use Rattle.std.specs.Prelude.{◌≡◌};
-ghost use Rattle.irs_answers.specs.Statuses.{status_number};
+ghost use Rattle.irs_base.specs.Statuses.{status_number};
 
 /// How a run ends.
 #[derive(Clone, Copy, Debug, PartialEq, Eq)]

@@ -1,8 +1,8 @@
 -- The numbers of the exit statuses.
 use Rattle.std.specs.Prelude.{ℕ}
-use Rattle.irs_answers.specs.declared.statuses.Status.{Status}
-use Rattle.irs_answers.specs.declared.statuses.Status.TheVariants.{Done, NotAgreed, RuleBroken, BadFile, BadWords}
-use Rattle.irs_answers.specs.declared.statuses.Status.TheVariants.{NoFile, PutFailed, NoMemory, TooLong, NotText}
+use Rattle.irs_base.specs.declared.statuses.Status.{Status}
+use Rattle.irs_base.specs.declared.statuses.Status.TheVariants.{Done, NotAgreed, RuleBroken, BadFile, BadWords}
+use Rattle.irs_base.specs.declared.statuses.Status.TheVariants.{NoFile, PutFailed, NoMemory, TooLong, NotText}
 
 -- the number of a status
 abbrev pub status_number : Status → ℕ

@@ -1,7 +1,7 @@
 use Rattle.std.proofs.Common.{arith, sym, ◌∙◌}
 use Rattle.irs_base.proofs.FieldLemmas.{whole_rest}
-use Rattle.irs_resets.proofs.WordLemmas.{gap_here, gap_alone}
-use Rattle.irs_resets.proofs.words.skip_gap.Goals as goal
+use Rattle.irs_base.proofs.FieldLemmas.{gap_here, gap_alone}
+use Rattle.irs_base.proofs.fields.skip_gap.Goals as goal
 
 pub returns-then-not-is_gap : goal.returns-then-not-is_gap
 returns-then-not-is_gap c =
