@@ -10,7 +10,9 @@ use irs_schedule::{CalculationPeriod, StreamPart};
 /// A calculation period and its number, from 1.
 #[derive(Clone, Copy)]
 pub(crate) struct RunningPeriod {
+    /// Its place among the stream's calculation periods, from 1.
     pub(crate) number: u32,
+    /// Its dates, notional, rate and fraction.
     pub(crate) period: CalculationPeriod,
 }
 

@@ -15,7 +15,9 @@ use irs_terms::{DayCountCode, Frac};
 /// Days and their fraction, not reduced.
 #[derive(Clone, Copy)]
 pub(crate) struct Share {
+    /// The days that have run, by the day count.
     pub(crate) days: i64,
+    /// The same days as a fraction of a year by the day count.
     pub(crate) frac: Frac,
 }
 

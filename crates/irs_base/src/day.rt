@@ -29,12 +29,19 @@ pub struct Civil {
 /// A day of the week.
 #[derive(Clone, Copy, Debug, PartialEq, Eq)]
 pub enum DayName {
+    /// Monday, the first day of the week (ISO 8601).
     Mon,
+    /// Tuesday.
     Tue,
+    /// Wednesday.
     Wed,
+    /// Thursday.
     Thu,
+    /// Friday.
     Fri,
+    /// Saturday.
     Sat,
+    /// Sunday, the last day of the week.
     Sun,
 }
 

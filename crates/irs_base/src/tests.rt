@@ -1,3 +1,4 @@
+//! Days, decimals, rounding, lists, lines and paths at their edges, each a table of facts.
 use super::*;
 use std::test::*;
 

@@ -9,6 +9,7 @@ use std::alloc::Global;
 #[repr(C)]
 #[derive(Drop)]
 pub struct Bytes<'a> {
+    /// The bytes; they stay the caller's.
     pub at: &'a [u8],
 }
 
@@ -16,7 +17,9 @@ pub struct Bytes<'a> {
 #[repr(C)]
 #[derive(Drop)]
 pub struct File<'a> {
+    /// Its name, the bytes of a word of the call.
     pub name: Bytes<'a>,
+    /// What it holds.
     pub bytes: Bytes<'a>,
 }
 
@@ -31,6 +34,7 @@ pub(crate) struct GivenFiles<'a> {
 }
 
 impl<'a> GivenFiles<'a> {
+    /// The lent files, none of which has failed.
     pub(crate) fn new(files: &'a [File<'a>]) -> GivenFiles<'a>
         ensures { result.files.now ≡ files.now }
     {

@@ -7,11 +7,14 @@ use std::alloc::Global;
 /// What was put, and how often a put failed for want of memory.
 #[derive(Drop)]
 pub(crate) struct Kept {
+    /// All bytes that were put, in order.
     pub(crate) text: Vec<u8>,
+    /// How many puts failed; it stays at its most, 2^64 - 1.
     pub(crate) faults: u64,
 }
 
 impl Kept {
+    /// A sink in which nothing was put.
     pub(crate) fn new(alloc: Global) -> Kept
         ensures { result.text.items ≡ [] }
     {

@@ -16,7 +16,9 @@ use std::alloc::Global;
 /// The first line at fault, or no memory.
 #[derive(Debug, Drop)]
 pub enum FileErr {
+    /// What is wrong, and the number of the line, from 1.
     Fault(Fault, u32),
+    /// There was no memory.
     Memory,
 }
 

@@ -30,7 +30,9 @@ pub enum Fault {
 /// A fault, or want of memory.
 #[derive(Debug, Drop)]
 pub enum StepErr {
+    /// What is wrong with the line.
     Fault(Fault),
+    /// There was no memory.
     Memory,
 }
 

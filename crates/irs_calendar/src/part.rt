@@ -19,7 +19,9 @@ pub enum Part {
 /// The sections that are done, those of earlier files included, and the section at hand.
 #[derive(Drop)]
 pub struct State {
+    /// The sections whose last line was read, in order.
     pub done: SectionList,
+    /// The section at hand, as far as it was read.
     pub part: Part,
 }
 

@@ -9,7 +9,9 @@ use std::sync::ledger::Ledger;
 /// A first and a last day, every day between them being good.
 #[derive(Clone, Copy, Debug, PartialEq, Eq)]
 pub struct Run {
+    /// The first good day of the run.
     pub first: Day,
+    /// The last one; it is included.
     pub last: Day,
 }
 

@@ -10,7 +10,9 @@ use std::sync::ledger::Ledger;
 /// Which end of a run is compared with a day.
 #[derive(Clone, Copy)]
 pub enum End {
+    /// The first day: a run comes before the days from its first one on.
     First,
+    /// The last day: a run comes before the days that are later than its last one.
     Last,
 }
 

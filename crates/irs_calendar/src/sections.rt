@@ -9,11 +9,15 @@ use irs_base::{Day, FIRST_DAY, Text};
 /// What a file says of one centre.
 #[derive(Drop)]
 pub struct Section {
+    /// The centre, as `center` names it (FpML `businessCenter`).
     pub name: Text,
+    /// The first day of its cover.
     pub first: Day,
+    /// The last day of its cover; it is included.
     pub last: Day,
-    /// From Monday.
+    /// Which weekdays are closed, from Monday.
     pub weekend: [bool; 7],
+    /// The days that are closed whatever weekday they are.
     pub holidays: Holidays,
 }
 

@@ -10,7 +10,9 @@ use irs_base::Day;
 /// A closed weekday: how many days it lies after a first one, and its place in the week.
 #[derive(Clone, Copy)]
 pub struct Weekend {
+    /// How many days after the first one it lies.
     pub day: u32,
+    /// Its weekday: 0 for Monday to 6 for Sunday.
     pub place: usize,
 }
 

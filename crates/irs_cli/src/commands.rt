@@ -27,15 +27,25 @@ use std::alloc::Global;
 /// A command by its name.
 #[derive(Clone, Copy, Debug, PartialEq, Eq)]
 pub(crate) enum Kind {
+    /// `check`: whether a document keeps every rule.
     Check,
+    /// `schedule`: the schedule of a document.
     Schedule,
+    /// `audit`: whether cash flows agree with a schedule.
     Audit,
+    /// `bulk`: the sums over many schedules.
     Bulk,
+    /// `emit`: a schedule as cash flows (FpML `cashflows`).
     Emit,
+    /// `accrue`: what has accrued on a day.
     Accrue,
+    /// `net`: what falls due between the two parties.
     Net,
+    /// `overnight`: rates of daily rates, compounded.
     Overnight,
+    /// `average`: averages of observed rates.
     Average,
+    /// `interpolate`: the rate of a stub between those of two tenors.
     Interpolate,
 }
 
@@ -51,24 +61,33 @@ pub(crate) enum Request {
 /// What a file is to a command.
 #[derive(Clone, Copy, Debug, PartialEq, Eq)]
 pub(crate) enum Role {
+    /// The document of the swap.
     Document,
+    /// The observed rates; `-` stands for none.
     Fixings,
+    /// The cash flows to audit.
     Flows,
+    /// A calendar.
     Calendar,
 }
 
 /// A file that is wanted: the place of its word behind the command, from 1, its role and its name.
 #[derive(Clone, Copy)]
 pub(crate) struct Named<'w> {
+    /// The place of its word behind the command, from 1.
     pub(crate) place: u32,
+    /// What the file is to the command.
     pub(crate) role: Role,
+    /// The word.
     pub(crate) name: &'w str,
 }
 
 /// A listed command: what is asked for, and the files in the order of the words.
 #[derive(Drop)]
 pub(crate) struct Command<'w> {
+    /// What is asked for.
     pub(crate) request: Request,
+    /// The files that the words name, in the order of the words.
     pub(crate) files: Vec<Named<'w>>,
 }
 

@@ -31,6 +31,7 @@ fn text(alloc: Global, bytes: &[u8]) -> Result<Value, Memory>
     }
 }
 
+/// A date: `YYYY-MM-DD`.
 #[tactic(auto, using(crate::proofs::LeafTexts::day_kept))]
 pub(crate) fn day(alloc: Global, d: Day) -> Result<Value, Memory>
     ensures { IfOk result (λ v. view v ≡ day_leaf d) }
@@ -52,6 +53,7 @@ fn number(alloc: Global, units: i128, places: u8) -> Result<Value, Memory>
     text(alloc, line.bytes())
 }
 
+/// An amount, with the currency's decimals.
 pub(crate) fn amount(alloc: Global, v: Dec) -> Result<Value, Memory>
     requires { v.places ≤ 12 }
     ensures { IfOk result (λ leaf. view leaf ≡ amount_leaf v) }
@@ -59,12 +61,14 @@ pub(crate) fn amount(alloc: Global, v: Dec) -> Result<Value, Memory>
     number(alloc, v.units, v.places)
 }
 
+/// A notional in units of 10^-4.
 pub(crate) fn notional(alloc: Global, units: i128) -> Result<Value, Memory>
     ensures { IfOk result (λ v. view v ≡ notional_leaf units) }
 {
     number(alloc, units, NOTIONAL_PLACES)
 }
 
+/// A rate in units of 10^-9.
 pub(crate) fn rate(alloc: Global, units: i64) -> Result<Value, Memory>
     ensures { IfOk result (λ v. view v ≡ rate_leaf units) }
 {
@@ -79,6 +83,7 @@ fn scaled(num: i64) -> i128
     i128::from(num) * 10_000_000_000
 }
 
+/// A fraction to 10 decimals, a half going up.
 pub(crate) fn fraction(alloc: Global, f: Frac) -> Result<Value, Memory>
     requires { pos 0 <ℤ f.den }
     ensures { IfOk result (λ v. view v ≡ fraction_leaf f) }
@@ -87,6 +92,7 @@ pub(crate) fn fraction(alloc: Global, f: Frac) -> Result<Value, Memory>
     number(alloc, units, FRACTION_PLACES)
 }
 
+/// A whole number, as a number of days.
 #[tactic(auto, using(irs_base::proofs::TextLengths::length_signed, irs_base::proofs::TextLengths::small_abs, crate::proofs::LeafTexts::count_kept))]
 pub(crate) fn count(alloc: Global, n: i64) -> Result<Value, Memory>
     ensures { IfOk result (λ v. view v ≡ count_leaf n) }
@@ -96,6 +102,7 @@ pub(crate) fn count(alloc: Global, n: i64) -> Result<Value, Memory>
     text(alloc, line.bytes())
 }
 
+/// A currency, by its letters.
 pub(crate) fn currency(alloc: Global, c: Currency) -> Result<Value, Memory>
     ensures { IfOk result (λ v. view v ≡ currency_leaf c) }
 {

@@ -17,7 +17,7 @@ pub fn child<'a>(v: &'a Value, name: &str) -> Option<&'a Value>
     }
 }
 
-// The value, unless it counts as absent.
+/// The value, unless it counts as absent.
 pub(crate) fn present(v: &Value) -> Option<&Value>
     ensures { option_map (λ c. view c.now) result ≡ present_of (view v.now) }
 {

@@ -1,3 +1,4 @@
+//! What counts as a leaf, as an absent member and as no JSON.
 use crate::{JsonErr, LeafValue, child, items, leaf, members, parse};
 use std::test::Fail;
 

@@ -62,6 +62,7 @@ fn trimmed_back(text: &str) -> &str
     left
 }
 
+/// The text without the white space at its ends.
 pub(crate) fn trimmed(text: &str) -> &str
     ensures { result.now ≡ trim_of text.now }
 {

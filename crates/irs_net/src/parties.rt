@@ -10,7 +10,9 @@ use irs_json::{Value, child};
 /// Who pays a stream, and to whom.
 #[derive(Clone, Copy)]
 pub(crate) struct Parties<'a> {
+    /// The `@href` of `payerPartyReference`.
     pub(crate) payer: &'a str,
+    /// The `@href` of `receiverPartyReference`.
     pub(crate) receiver: &'a str,
 }
 

@@ -16,8 +16,11 @@ use std::alloc::Global;
 /// decimals where it is known, positive where the party pays it that pays stream 1.
 #[derive(Clone, Copy, Debug, PartialEq, Eq)]
 pub(crate) struct NetPart {
+    /// The adjusted date on which it falls due.
     pub(crate) date: Day,
+    /// The currency in which it is paid.
     pub(crate) currency: Currency,
+    /// The amount in units of the currency's last decimal; `None` where a rate lacks.
     pub(crate) units: Option<i128>,
 }
 

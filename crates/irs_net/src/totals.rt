@@ -14,14 +14,18 @@ use std::collections::BTreeMap;
 /// A date and the letters of a currency, in the order of rows.
 #[derive(Clone, Copy, Debug, PartialEq, Eq, PartialOrd, Ord)]
 pub(crate) struct NetKey {
+    /// The adjusted date; it orders rows first.
     pub(crate) date: Day,
+    /// The three capital letters of the currency (ISO 4217).
     pub(crate) letters: [u8; 3],
 }
 
 /// The sum of the amounts that are known, and how many aren't.
 #[derive(Clone, Copy, Debug, PartialEq, Eq)]
 pub(crate) struct NetTotal {
+    /// The sum of the known amounts, in units of the currency's last decimal.
     pub(crate) known: i128,
+    /// How many amounts aren't known.
     pub(crate) unknown: u32,
 }
 

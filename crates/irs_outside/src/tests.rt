@@ -1,4 +1,4 @@
-// Files and sinks in memory, and a real file.
+//! Files and sinks in memory, and a real file.
 use crate::{Files, MemFiles, MemSink, RealFiles, Sink, SureFiles, SureSink};
 use std::fs;
 use std::test::Fail;

@@ -14,8 +14,11 @@ pub enum Found {
 /// The rate of a calculation period, counted from 1, with its fixing date.
 #[derive(Clone, Copy, Debug, PartialEq, Eq)]
 pub struct DerivedRow {
+    /// The number of the calculation period, from 1.
     pub period: u32,
+    /// The fixing date of the period (FpML `fixingDates`).
     pub fixing: Day,
+    /// The rate, or the first day that lacks one.
     pub found: Found,
 }
 

@@ -26,8 +26,11 @@ pub(crate) const ONE_DAY: Frequency = Frequency {
 /// the number of days for which it holds.
 #[derive(Clone, Copy, Debug, PartialEq, Eq)]
 pub struct Observation {
+    /// The day on which the rate was observed.
     pub day: Day,
+    /// For how many calendar days it holds.
     pub weight: i64,
+    /// The rate in units of 10^-9; `None` where the file has no line for the day.
     pub rate: Option<i64>,
 }
 

@@ -27,8 +27,11 @@ use std::alloc::Global;
 /// resets.
 #[derive(Clone, Copy)]
 pub(crate) struct PeriodTable<'a> {
+    /// The boundaries before adjustment, one more than there are periods.
     pub(crate) unadjusted: &'a [Day],
+    /// The same boundaries, adjusted.
     pub(crate) adjusted: &'a [Day],
+    /// The reset of each period; none where the rate is fixed.
     pub(crate) resets: &'a [Reset],
 }
 

@@ -12,9 +12,13 @@ use std::alloc::Global;
 /// units of 10^-9.
 #[derive(Debug, Drop)]
 pub(crate) struct KeptTerms {
+    /// The currency of the notional (FpML `currency`).
     pub(crate) currency: Currency,
+    /// How days become a fraction (2006 ISDA Definitions, section 4.16).
     pub(crate) day_count: DayCountCode,
+    /// The notional and its steps, in units of 10^-4 (FpML `notionalSchedule`).
     pub(crate) notional: StepValues,
+    /// The fixed or the floating rate, in units of 10^-9.
     pub(crate) leg: Leg,
 }
 

@@ -30,6 +30,7 @@ impl Model for Schedule {
 }
 
 impl Schedule {
+    /// The schedule of these parts, one for each stream in order.
     pub(crate) fn of_parts(parts: Vec<StreamPart>) -> Schedule
         requires { IsWithin parts.items }
         ensures { result ≡ parts.items }

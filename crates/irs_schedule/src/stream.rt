@@ -27,8 +27,11 @@ use std::alloc::Global;
 /// The payments, the principal exchanges and the resets of a stream.
 #[derive(Debug, Drop)]
 pub(crate) struct Dated {
+    /// The payments, in order of their periods.
     pub(crate) payments: Payments,
+    /// The principal exchanges, in order.
     pub(crate) exchanges: Exchanges,
+    /// The reset of each period; none where the rate is fixed.
     pub(crate) resets: Resets,
 }
 

@@ -41,6 +41,7 @@ impl<'a> Model for StreamRows<'a> {
 }
 
 impl<'a> StreamRows<'a> {
+    /// The rows of the stream with this number, from 1, before the first one.
     pub(crate) fn new(part: &'a StreamPart, stream: u8) -> StreamRows<'a>
         ensures { result ≡ map (exchange_row stream) (enumerate_from 1 part.now.exchanges)
             ++ flat_map (payment_rows stream part.now) (enumerate_from 1 part.now.payments) }

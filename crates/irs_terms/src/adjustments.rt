@@ -5,7 +5,9 @@ use irs_base::{Day, Names};
 /// A number of days, from -60 to 60, by which a date is moved (FpML `Offset`).
 #[derive(Clone, Copy, Debug, PartialEq, Eq)]
 pub struct Offset {
+    /// How many days on, or back where it is negative (FpML `periodMultiplier`).
     pub days: i16,
+    /// Which days are counted (FpML `dayType`).
     pub kind: DayKind,
 }
 
@@ -23,13 +25,17 @@ pub enum Centers {
 /// How days that aren't good are moved, and by whose calendars (FpML `BusinessDayAdjustments`).
 #[derive(Debug, Drop)]
 pub struct Adjustments {
+    /// How a day that isn't good is moved (FpML `businessDayConvention`).
     pub code: ConvCode,
+    /// The centres whose calendars say which days are good (FpML `businessCenters`).
     pub centers: Centers,
 }
 
 /// An unadjusted date with its adjustments (FpML `AdjustableDate`).
 #[derive(Debug, Drop)]
 pub struct Dated {
+    /// The date before adjustment (FpML `unadjustedDate`).
     pub day: Day,
+    /// How it is adjusted (FpML `dateAdjustments`).
     pub adj: Adjustments,
 }

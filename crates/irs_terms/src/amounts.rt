@@ -6,7 +6,9 @@ use irs_base::{Direction, Text};
 /// How a rate is rounded: to so many decimals, in which direction (FpML `finalRateRounding`).
 #[derive(Clone, Copy, Debug, PartialEq, Eq)]
 pub struct Rounding {
+    /// The direction (FpML `roundingDirection`).
     pub dir: Direction,
+    /// How many decimals of the rate stay (FpML `precision`).
     pub places: u8,
 }
 
@@ -61,7 +63,10 @@ pub struct StubTerms {
 /// Which principal amounts are exchanged (FpML `principalExchanges`).
 #[derive(Clone, Copy, Debug, PartialEq, Eq)]
 pub struct ExchangeFlags {
+    /// The notional at the effective date (FpML `initialExchange`).
     pub initial: bool,
+    /// The change of the notional at each of its steps (FpML `intermediateExchange`).
     pub intermediate: bool,
+    /// The notional at the termination date (FpML `finalExchange`).
     pub last: bool,
 }

@@ -79,9 +79,13 @@ pub enum Treatment {
 /// `stubPeriodType`).
 #[derive(Clone, Copy, Debug, PartialEq, Eq)]
 pub enum StubKind {
+    /// `ShortInitial`: the first period, shorter than a regular one.
     ShortInitial,
+    /// `LongInitial`: the first period, longer than a regular one.
     LongInitial,
+    /// `ShortFinal`: the last period, shorter than a regular one.
     ShortFinal,
+    /// `LongFinal`: the last period, longer than a regular one.
     LongFinal,
 }
 

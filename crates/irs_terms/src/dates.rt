@@ -24,7 +24,9 @@ pub struct PayTerms {
 /// When a rate is observed (FpML `fixingDates`).
 #[derive(Debug, Drop)]
 pub struct FixTerms {
+    /// How far the fixing date lies from the reset date (FpML `periodMultiplier`, `dayType`).
     pub offset: Offset,
+    /// How it is adjusted (FpML `businessDayConvention`, `businessCenters`).
     pub adj: Adjustments,
 }
 

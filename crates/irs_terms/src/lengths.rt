@@ -8,7 +8,9 @@ use crate::{Frequency, Unit};
 /// The length of a frequency.
 #[derive(Clone, Copy, Debug, PartialEq, Eq)]
 pub enum Length {
+    /// So many days; a week counts 7.
     Days(u32),
+    /// So many months; a year counts 12.
     Months(u32),
     /// The whole term, with the multiplier that is given.
     Term(u32),

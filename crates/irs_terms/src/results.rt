@@ -6,15 +6,20 @@ use irs_base::{Day, Dec};
 /// of the term for frequency T).
 #[derive(Clone, Copy, Debug, PartialEq, Eq)]
 pub struct Span {
+    /// Where the first regular period begins, before adjustment.
     pub first: Day,
+    /// Where the last regular period ends, before adjustment.
     pub last: Day,
+    /// The date that the grid of regular dates goes by.
     pub anchor: Day,
 }
 
 /// A day count fraction, not reduced.
 #[derive(Clone, Copy, Debug, PartialEq, Eq)]
 pub struct Frac {
+    /// The numerator.
     pub num: i64,
+    /// The denominator, above 0.
     pub den: i64,
 }
 
@@ -22,9 +27,13 @@ pub struct Frac {
 /// calculation period.
 #[derive(Clone, Copy, Debug, PartialEq, Eq)]
 pub struct Payment {
+    /// The boundary by which it is due, before offset and adjustment.
     pub unadjusted: Day,
+    /// The date on which it is paid.
     pub adjusted: Day,
+    /// The number of the first period that it pays, from 1.
     pub first_period: u32,
+    /// The number of the last one; it is included.
     pub last_period: u32,
 }
 
@@ -32,8 +41,11 @@ pub struct Payment {
 /// the stream's payer pays it.
 #[derive(Clone, Copy, Debug, PartialEq, Eq)]
 pub struct Exchange {
+    /// The date before adjustment.
     pub unadjusted: Day,
+    /// The date on which it is paid.
     pub adjusted: Day,
+    /// The amount in the decimals of the currency, positive where the stream's payer pays it.
     pub amount: Dec,
 }
 
@@ -41,8 +53,11 @@ pub struct Exchange {
 /// 10^-9 where it is known.
 #[derive(Clone, Copy, Debug, PartialEq, Eq)]
 pub struct Reset {
+    /// The date from which the rate counts (FpML `resetDates`).
     pub reset: Day,
+    /// The date on which it is observed (FpML `fixingDates`).
     pub fixing: Day,
+    /// The observed rate in units of 10^-9; `None` where it isn't known.
     pub observed: Option<i64>,
 }
 

@@ -6,7 +6,9 @@ use irs_base::Day;
 /// 10^-9 (FpML `step`).
 #[derive(Clone, Copy, Debug, PartialEq, Eq)]
 pub struct Step {
+    /// The day from which the value holds (FpML `stepDate`).
     pub day: Day,
+    /// The value (FpML `stepValue`).
     pub value: i128,
 }
 
@@ -16,6 +18,8 @@ pub type StepList = Listed<Step>;
 /// An initial value and its steps.
 #[derive(Debug, Drop)]
 pub struct StepValues {
+    /// The value until the first step (FpML `initialValue`), in the unit of its steps.
     pub initial: i128,
+    /// The steps, in order of their days.
     pub steps: StepList,
 }

@@ -7,5 +7,6 @@ pub type StreamList = Listed<Stream>;
 /// The terms of a swap: 1 to 8 streams (FpML `Swap`).
 #[derive(Debug, Drop)]
 pub struct Swap {
+    /// The streams, in the order of the document (FpML `swapStream`).
     pub streams: StreamList,
 }

@@ -1,3 +1,4 @@
+//! The decimals of currencies, a table of facts, and the lists of terms.
 use super::*;
 use irs_base::{Day, Dec};
 use std::test::*;
