@@ -1,6 +1,7 @@
 -- Where a field ends.
 use Rattle.std.proofs.Common.{◌≡◌, ℕ, zero, suc, ◌+◌, ◌-◌, ◌<◌, ◌≤◌, true, false, List, [], ◌∷◌, take, drop, length}
-use Rattle.std.proofs.Common.{get_or, arith, refl, ◌∙◌, ap, length-drop}
+use Rattle.std.proofs.Common.{inl, inr, ◌==◌, get_or, arith, refl, sym, ◌∙◌, ap, length-drop}
+use Rattle.std.proofs.lemmas.Bool.Decides.{nat_tests}
 use Rattle.std.proofs.Math.Seq.{drop-cons}
 use Rattle.std.proofs.lemmas.Bool.{cases_Bool}
 use Rattle.std.proofs.lemmas.List.{take_all}
@@ -30,8 +31,16 @@ pub same_fields : (bytes : List ℕ) → fields (without_gap bytes) ≡ fields b
 same_fields [] = refl
 same_fields (b ∷ bs) = elim (cases_Bool (is_space b)) [
   | inl gap ↦ rw gap (same_fields bs)
-  | inr solid ↦ rw solid refl
+  | inr solid ↦ rw (solid, solid) refl
 ]
+
+-- with nothing behind its gap a text has no fields
+pub none_behind : (bytes rest : List ℕ) → rest ≡ without_gap bytes → (length rest == 0) ≡ true → fields bytes ≡ []
+none_behind bytes [] e none = sym (same_fields bytes) ∙ ap fields (sym e)
+none_behind bytes (b ∷ bs) e none = absurd (nat_eq-suc-zero (length bs) none)
+  where
+    nat_eq-suc-zero : (n : ℕ) → (suc n == 0) ≡ true → ⊥
+    nat_eq-suc-zero n h = grind (arith, nat_tests, h)
 
 pub begins_solid : (bytes : List ℕ) → begins_space (without_gap bytes) ≡ false
 begins_solid [] = refl
