@@ -4,3 +4,4 @@ pub mod OffsetLaws
 pub mod SameSets
 pub mod FoundDays
 pub mod MovedDays
+pub mod MoveLaws

@@ -3,3 +3,4 @@ pub mod ConventionLaws
 pub mod Codes
 pub mod Ways
 pub mod Offsets
+pub mod MovedDays

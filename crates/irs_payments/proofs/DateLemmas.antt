@@ -2,60 +2,20 @@
 use Rattle.std.proofs.Common.{◌≡◌, inl, inr, ℕ, ◌+◌, ◌-◌, ◌<◌, ◌≤◌, List, [], ◌∷◌, ◌++◌, length, length-append, Option}
 use Rattle.std.proofs.Common.{Some, None, Result, Ok, Err, arith, refl, sym, ◌∙◌, subst, ℤ}
 use Rattle.std.proofs.lemmas.Bool.{cases_lt}
-use Rattle.irs_terms.specs.declared.codes.DayKind.{DayKind}
-use Rattle.irs_terms.specs.declared.codes.DayKind.TheVariants.{Business, Calendar, Unsaid}
-use Rattle.irs_terms.specs.declared.dates.PayTerms.{PayTerms}
 use Rattle.irs_terms.specs.declared.results.Payment.{Payment}
 use Rattle.irs_terms.specs.declared.stream.Stream.{Stream}
 use Rattle.irs_calendar.specs.GoodDays.{DaySet}
-use Rattle.irs_adjust.specs.Codes.{Adjusts}
-use Rattle.irs_adjust.proofs.CodeLaws.{one_adjusts}
-use Rattle.irs_adjust.proofs.OffsetLaws.{one_moved}
-use Rattle.irs_payments.specs.declared.dating.NoDate.{NoDate}
-use Rattle.irs_payments.specs.declared.dating.NoDate.TheVariants.{NoResult, OutOfRange}
-use Rattle.irs_payments.specs.NoDates.{no_move_of}
+use Rattle.irs_adjust.proofs.MoveLaws.{date_in_range, date_not_lacking, one_failure}
+use Rattle.irs_adjust.specs.declared.moved.NoDate.{NoDate}
+use Rattle.irs_adjust.specs.declared.moved.NoDate.TheVariants.{NoResult, OutOfRange}
 use Rattle.irs_payments.specs.Cuts.{cut_at}
 use Rattle.irs_payments.specs.Places.{ArePlaces}
-use Rattle.irs_payments.specs.PaymentDates.{IsPaymentDate, MovesNowhere, LacksResult, LeavesRange}
+use Rattle.irs_payments.specs.PaymentDates.{IsPaymentDate, LacksResult, LeavesRange}
 use Rattle.irs_payments.specs.Payments.{Covers}
 use Rattle.irs_payments.specs.Dating.{date_place, IsCutPayment, NoneLacks, NoneLeaves, ArePaid, LeavesFirst, Dated}
 use Rattle.irs_payments.specs.Dating.{Settles, IsOutcome}
 use Rattle.irs_base.specs.Members.{day_at}
-use Rattle.irs_terms.specs.DayTypes.{IsSaid}
 use Rattle.irs_base.proofs.MemberLemmas.{numbered_push}
-
-kind_leaves : (pay : PayTerms) (set : DaySet) (start : ℤ) (kind : DayKind) → pay.offset.kind ≡ kind → IsSaid pay.offset
-    → MovesNowhere pay set start → no_move_of kind ≡ OutOfRange → kind ≡ Calendar
-kind_leaves pay set start Business e said none h = absurd (cc)
-kind_leaves pay set start Calendar e said none h = refl
-kind_leaves pay set start Unsaid e said none h =
-    elim said [ inl zero ↦ absurd (none start (inl (zero, refl))) | inr kind ↦ absurd (kind e) ]
-
-pub leaves_by : (pay : PayTerms) (set : DaySet) (start : ℤ) → IsSaid pay.offset → MovesNowhere pay set start
-    → no_move_of pay.offset.kind ≡ OutOfRange → pay.offset.kind ≡ Calendar
-leaves_by pay set start said none h = kind_leaves pay set start pay.offset.kind refl said none h
-
-pub paid_lacks : (pay : PayTerms) (set : DaySet) (start r : ℤ) → IsPaymentDate pay set start r
-    → LacksResult pay set start → ⊥
-paid_lacks pay set start r h (inl none) = none.1 h.moved h.moves
-paid_lacks pay set start r h (inr off) =
-    let same = one_moved pay.offset set start h.moved off.moved h.moves off.moves in
-    off.none r (subst (λ (x : ℤ). Adjusts pay.adj.code set x r) same h.adjusts)
-
-pub paid_leaves : (pay : PayTerms) (set : DaySet) (start r : ℤ) → IsPaymentDate pay set start r
-    → LeavesRange pay set start → ⊥
-paid_leaves pay set start r h none = none.1 h.moved h.moves
-
-pub leaves_lacks : (pay : PayTerms) (set : DaySet) (start : ℤ) → LeavesRange pay set start
-    → LacksResult pay set start → ⊥
-leaves_lacks pay set start h (inl none) = let kinds : Calendar ≡ Business = sym h.0 ∙ none.0 in absurd (cc)
-leaves_lacks pay set start h (inr off) = h.1 off.moved off.moves
-
-pub one_date : (pay : PayTerms) (set : DaySet) (start r t : ℤ) → IsPaymentDate pay set start r
-    → IsPaymentDate pay set start t → r ≡ t
-one_date pay set start r t h k =
-    let same = one_moved pay.offset set start h.moved k.moved h.moves k.moves in
-    one_adjusts pay.adj.code set k.moved r t (subst (λ (x : ℤ). Adjusts pay.adj.code set x r) same h.adjusts) k.adjusts
 
 pub covers_push : (a n m : ℕ) (ys : List Payment) (y : Payment) → Covers a ys n → y.first_period ≡ n + 1
     → y.last_period ≡ m → n < m → Covers a (ys ++ y ∷ []) m
@@ -89,7 +49,7 @@ paid_more s set b a cuts j p old places low high h k =
     subst (λ (m : ℕ). cut_at cuts (j - 1) < cut_at cuts m) back (places.rise (j - 1) (omega arith)) in
     record {
       in_range = none_leaves_more s set a cuts j k.in_range
-          (paid_leaves s.pay set (day_at a (date_place s cuts j)) p.adjusted h.date);
+          (date_in_range s.pay.offset s.pay.adj.code set (day_at a (date_place s cuts j)) p.adjusted h.date);
       count = omega (arith, k.count, length-append old (p ∷ []));
       each = numbered_push (IsCutPayment s set b a cuts) 1 j old p k.each (omega (arith, k.count)) h;
       covers = subst (λ (m : ℕ). Covers 1 (old ++ p ∷ []) (cut_at cuts m)) (sym on)
@@ -128,9 +88,10 @@ module _ (s : Stream) (set : DaySet) (b a : List ℤ) (cuts : List ℕ) (j : ℕ
       → IsOutcome s set b a cuts j payment → NoneLacks s set a cuts j → Settles payment beyond j old new after
       → NoneLacks s set a cuts (j + 1)
   lacks_more (Ok p) beyond old new after h k t =
-      none_lacks_more s set a cuts j k (paid_lacks s.pay set (day_at a (date_place s cuts j)) p.adjusted h.date)
+      none_lacks_more s set a cuts j k
+      (date_not_lacking s.pay.offset s.pay.adj.code set (day_at a (date_place s cuts j)) p.adjusted h.date)
   lacks_more (Err OutOfRange) beyond old new after h k t =
-      none_lacks_more s set a cuts j k (leaves_lacks s.pay set (day_at a (date_place s cuts j)) h)
+      none_lacks_more s set a cuts j k (one_failure s.pay.offset s.pay.adj.code set (day_at a (date_place s cuts j)) h)
   lacks_more (Err NoResult) beyond old new after h k t = absurd t
 
 pub none_dated : (s : Stream) (set : DaySet) (b a : List ℤ) (cuts : List ℕ) → ArePlaces b cuts

@@ -26,7 +26,7 @@ use Rattle.irs_payments.specs.Dating.{date_place, IsCutPayment, NoneLacks, NoneL
 use Rattle.irs_payments.specs.Dating.{IsDateFault}
 use Rattle.irs_payments.proofs.PlaceLemmas.{rises_at, place_below, place_same}
 use Rattle.irs_payments.proofs.FirstFaults.{told, not_before_index, not_before_rule, not_before_turn}
-use Rattle.irs_payments.proofs.DateLemmas.{one_date}
+use Rattle.irs_adjust.proofs.MoveLaws.{one_date}
 use Rattle.irs_payments.proofs.CutLemmas.{pay_listed, pay_at, length-pay, cut_places, cut_last, one_pay}
 use Rattle.irs_base.specs.Members.{day_at, EachNumbered}
 use Rattle.irs_base.proofs.MemberLemmas.{numbered_map, one_numbered}
@@ -314,7 +314,7 @@ one_payment s set b a pay rising j p q h k =
     ∙ unadjusted ∙ sym k.starts.at) in
     let start : h.start ≡ k.start = sym h.starts.is ∙ ap (λ (m : ℕ). day_at a m) place ∙ k.starts.is in
     let adjusted : p.adjusted ≡ q.adjusted =
-    one_date s.pay set k.start p.adjusted q.adjusted
+    one_date s.pay.offset s.pay.adj.code set k.start p.adjusted q.adjusted
     (subst (λ (z : ℤ). IsPaymentDate s.pay set z p.adjusted) start h.date) k.date in
     λ i. record { unadjusted = unadjusted i; adjusted = adjusted i; first_period = first i; last_period = last i }
 

@@ -15,21 +15,18 @@ use Rattle.irs_base.proofs.FaultOrder.{one_fault}
 use Rattle.irs_terms.specs.DayTypes.{IsSaid}
 use Rattle.irs_terms.specs.FirstDay.{first_day_of}
 use Rattle.irs_terms.specs.Lawful.{IsLawfulStream}
-use Rattle.irs_terms.specs.declared.codes.DayKind.{DayKind}
-use Rattle.irs_terms.specs.declared.codes.DayKind.TheVariants.{Business, Calendar, Unsaid}
 use Rattle.irs_terms.specs.declared.dates.PayTerms.{PayTerms}
 use Rattle.irs_terms.specs.declared.results.Payment.{Payment}
 use Rattle.irs_terms.specs.declared.stream.Stream.{Stream}
 use Rattle.irs_calendar.specs.GoodDays.{DaySet}
-use Rattle.irs_adjust.proofs.FoundDays.{InRange, decides_adjusts}
-use Rattle.irs_adjust.proofs.MovedDays.{decides_moves, moves_day}
+use Rattle.irs_adjust.proofs.FoundDays.{InRange}
+use Rattle.irs_adjust.proofs.MoveLaws.{DateOrFailure, date_in_range, date_not_lacking, date_or_failure, one_failure}
 use Rattle.irs_payments.specs.Cuts.{AreCuts}
 use Rattle.irs_payments.specs.Dating.{NoneLacks, NoneLeaves, LacksFirst, LeavesFirst, date_place}
 use Rattle.irs_payments.specs.Grouping.{BreaksGrouping}
-use Rattle.irs_payments.specs.PaymentDates.{IsPaymentDate, LacksResult, LeavesRange, MovesNowhere}
+use Rattle.irs_payments.specs.PaymentDates.{IsPaymentDate, LacksResult, LeavesRange}
 use Rattle.irs_payments.specs.Payments.{ArePayments, BreaksDates, BreaksPayments}
 use Rattle.irs_payments.proofs.CutsThere.{cuts_there, paid_there}
-use Rattle.irs_payments.proofs.DateLemmas.{paid_lacks, paid_leaves, leaves_lacks}
 use Rattle.irs_payments.proofs.FirstFaults.{FirstOrNone, first_of_both}
 use Rattle.irs_payments.proofs.GroupingLemmas.{grouping_decided}
 use Rattle.irs_payments.proofs.PaymentLemmas.{cuts_places, dates_late, payments_are, payments_first, payments_unbroken}
@@ -39,38 +36,19 @@ use Rattle.irs_payments.proofs.PaymentLemmas.{some_cuts}
 
 -- a start has a payment date, or it lacks a result, or leaves the range
 abbrev DateOrFault : PayTerms → DaySet → ℤ → Type 0
-DateOrFault pay set start =
-    ((r : ℤ) × IsPaymentDate pay set start r) ⊎ (LacksResult pay set start ⊎ LeavesRange pay set start)
-
--- an offset that moves a start nowhere lacks a result or leaves the range
-nowhere_breaks : (pay : PayTerms) (set : DaySet) (start : ℤ) (kind : DayKind) → pay.offset.kind ≡ kind
-    → IsSaid pay.offset → MovesNowhere pay set start → LacksResult pay set start ⊎ LeavesRange pay set start
-nowhere_breaks pay set start Business e said nowhere = inl (inl (e, nowhere))
-nowhere_breaks pay set start Calendar e said nowhere = inr (e, nowhere)
-nowhere_breaks pay set start Unsaid e said nowhere =
-    elim said [ inl none ↦ absurd (nowhere start (inl (none, refl))) | inr kind ↦ absurd (kind e) ]
-
-date_or_fault : (pay : PayTerms) (set : DaySet) (start : ℤ) → IsDay start → InRange set → IsSaid pay.offset
-    → DateOrFault pay set start
-date_or_fault pay set start day range said = elim (decides_moves pay.offset set start) [
-  | inl moved ↦
-      elim (decides_adjusts pay.adj.code set moved.0 (moves_day pay.offset set start moved.0 day range moved.1) range) [
-        | inl date ↦ inl (date.0, record { moved = moved.0; moves = moved.1; adjusts = date.1 })
-        | inr none ↦ inr (inl (inr (record { moved = moved.0; moves = moved.1; none = none })))
-      ]
-  | inr nowhere ↦ inr (nowhere_breaks pay set start pay.offset.kind refl said nowhere)
-]
+DateOrFault pay set start = DateOrFailure pay.offset pay.adj.code set start
 
 decides_lacks : (pay : PayTerms) (set : DaySet) (start : ℤ) → DateOrFault pay set start
     → IsDecided (LacksResult pay set start)
-decides_lacks pay set start (inl date) = inr (paid_lacks pay set start date.0 date.1)
+decides_lacks pay set start (inl date) = inr (date_not_lacking pay.offset pay.adj.code set start date.0 date.1)
 decides_lacks pay set start (inr (inl lacks)) = inl lacks
-decides_lacks pay set start (inr (inr leaves)) = inr (leaves_lacks pay set start leaves)
+decides_lacks pay set start (inr (inr leaves)) = inr (one_failure pay.offset pay.adj.code set start leaves)
 
 decides_leaves : (pay : PayTerms) (set : DaySet) (start : ℤ) → DateOrFault pay set start
     → IsDecided (LeavesRange pay set start)
-decides_leaves pay set start (inl date) = inr (paid_leaves pay set start date.0 date.1)
-decides_leaves pay set start (inr (inl lacks)) = inr (λ leaves. leaves_lacks pay set start leaves lacks)
+decides_leaves pay set start (inl date) = inr (date_in_range pay.offset pay.adj.code set start date.0 date.1)
+decides_leaves pay set start (inr (inl lacks)) =
+    inr (λ leaves. one_failure pay.offset pay.adj.code set start leaves lacks)
 decides_leaves pay set start (inr (inr leaves)) = inl leaves
 
 date_there : (pay : PayTerms) (set : DaySet) (start : ℤ) → DateOrFault pay set start → (LacksResult pay set start → ⊥)
@@ -189,7 +167,7 @@ module _ (s : Stream) (set : DaySet) (b a : List ℤ) (over : ArePayable s set b
   stream_dates =
       let cuts = cuts_there s b over.lawful over.run over.days in
       dates_found s set b a cuts.0 over.run cuts.1
-      (λ j. date_or_fault s.pay set (day_at a (date_place s cuts.0 j))
+      (λ j. date_or_failure s.pay.offset s.pay.adj.code set (day_at a (date_place s cuts.0 j))
       (day_at_day a (date_place s cuts.0 j) over.adjusted) over.range over.said)
 
   dates_decided : FirstOrNone (BreaksDates s set b a)

@@ -7,8 +7,8 @@ use Rattle.irs_base.specs.declared.places.Fault.{Fault}
 use Rattle.irs_terms.specs.declared.results.Payment.{Payment}
 use Rattle.irs_terms.specs.declared.stream.Stream.{Stream}
 use Rattle.irs_calendar.specs.GoodDays.{DaySet}
-use Rattle.irs_payments.specs.declared.dating.NoDate.{NoDate}
-use Rattle.irs_payments.specs.declared.dating.NoDate.TheVariants.{NoResult, OutOfRange}
+use Rattle.irs_adjust.specs.declared.moved.NoDate.{NoDate}
+use Rattle.irs_adjust.specs.declared.moved.NoDate.TheVariants.{NoResult, OutOfRange}
 use Rattle.irs_base.specs.Faults.{fault_at}
 use Rattle.irs_payments.specs.Cuts.{cut_at}
 use Rattle.irs_payments.specs.PaymentDates.{IsPaymentDate, LacksResult, LeavesRange}

@@ -6,6 +6,5 @@ pub mod Grouping
 pub mod Cuts
 pub mod Places
 pub mod PaymentDates
-pub mod NoDates
 pub mod Payments
 pub mod Dating

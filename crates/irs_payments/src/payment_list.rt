@@ -19,9 +19,10 @@ ghost use Rattle.irs_base.specs.Listed.{RunsFromTo};
 
 use crate::PayErr;
 use crate::cuts::payment_places;
-use crate::dating::{NoDate, pay_place, payment_date};
+use crate::dating::pay_place;
 use crate::faults::fault;
 use crate::grouping::check_grouping;
+use irs_adjust::{NoDate, move_and_adjust};
 use irs_base::{Day, DayList, Elem, Rule};
 use irs_calendar::GoodDays;
 use irs_terms::{Payment, Payments, Span, Stream};
@@ -45,7 +46,7 @@ fn payment<G: GoodDays>(
     ensures { IsOutcome s.now (G.days days.now) unadjusted.now adjusted.now places.now j result }
 {
     let place = places[pay_place(s.pay.relative, j)];
-    match payment_date(&s.pay, days, adjusted[place]) {
+    match move_and_adjust(s.pay.offset, s.pay.adj.code, days, adjusted[place]) {
         Ok(date) => Ok(Payment {
             unadjusted: unadjusted[place],
             adjusted: date,

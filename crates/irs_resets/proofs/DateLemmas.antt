@@ -1,27 +1,24 @@
 -- A period has one reset date and one fixing date, and its dates fail in one way at most.
 use Rattle.std.proofs.Common.{◌≡◌, inl, inr, ℕ, Option, Some, None, ℤ, sym, subst, ◌∙◌, refl}
-use Rattle.irs_terms.specs.declared.codes.DayKind.{DayKind}
-use Rattle.irs_terms.specs.declared.codes.DayKind.TheVariants.{Business, Calendar, Unsaid}
 use Rattle.irs_terms.specs.declared.dates.FixTerms.{FixTerms}
 use Rattle.irs_terms.specs.declared.dates.ResetTerms.{ResetTerms}
 use Rattle.irs_calendar.specs.GoodDays.{DaySet}
-use Rattle.irs_adjust.specs.Codes.{Adjusts}
+use Rattle.irs_adjust.specs.MovedDays.{LacksResult, LeavesRange}
+use Rattle.irs_adjust.specs.declared.moved.NoDate.{NoDate}
+use Rattle.irs_adjust.specs.declared.moved.NoDate.TheVariants as moves
 use Rattle.irs_adjust.proofs.CodeLaws.{one_adjusts}
-use Rattle.irs_adjust.proofs.OffsetLaws.{one_moved}
+use Rattle.irs_adjust.proofs.MoveLaws.{date_in_range, date_not_lacking, one_date, one_failure}
 use Rattle.irs_resets.specs.declared.dates.DateFault.{DateFault}
 use Rattle.irs_resets.specs.declared.dates.DateFault.TheVariants.{NoReset, NoFixing, OutOfRange}
 use Rattle.irs_resets.specs.ResetDates.{ResetDays, IsPeriod, base_day, ResetsOn, FixesBy, FixesOn, IsDates, FixFails}
-use Rattle.irs_resets.specs.ResetDates.{FixingFails, HasFixingFault, Fails, unmoved_fault, IsUnmoved}
-use Rattle.irs_terms.specs.DayTypes.{IsSaid}
+use Rattle.irs_resets.specs.ResetDates.{FixingFails, HasFixingFault, Fails, fault_of}
 
 pub one_reset : (t : ResetTerms) (days : ResetDays) (i : ℕ) (r s : ℤ) → ResetsOn t days i r
     → ResetsOn t days i s → r ≡ s
 one_reset t days i r s p q = one_adjusts t.adj.code days.reset_set (base_day t.relative days.adjusted i) r s p q
 
 one_fix : (fix : FixTerms) (set : DaySet) (r f g : ℤ) → FixesBy fix set r f → FixesBy fix set r g → f ≡ g
-one_fix fix set r f g p q =
-    let same = one_moved fix.offset set r p.moved q.moved p.moves q.moves in
-    one_adjusts fix.adj.code set q.moved f g (subst (λ (x : ℤ). Adjusts fix.adj.code set x f) same p.adjusts) q.adjusts
+one_fix fix set r f g p q = one_date fix.offset fix.adj.code set r f g p q
 
 pub one_fixing : (fixing : Option FixTerms) (set : DaySet) (r f g : ℤ) → FixesOn fixing set r f
     → FixesOn fixing set r g → f ≡ g
@@ -40,11 +37,8 @@ one_dates t days i r f x y p q =
 -- a fixing date that there is doesn't fail
 fix_stands : (e : DateFault) (fix : FixTerms) (set : DaySet) (r f : ℤ) → FixesBy fix set r f → FixFails e fix set r → ⊥
 fix_stands NoReset fix set r f p h = h
-fix_stands NoFixing fix set r f p (inl unmoved) = unmoved.1 p.moved p.moves
-fix_stands NoFixing fix set r f p (inr unadjusted) =
-    let same = one_moved fix.offset set r p.moved unadjusted.0 p.moves unadjusted.1 in
-    unadjusted.2 f (subst (λ (x : ℤ). Adjusts fix.adj.code set x f) same p.adjusts)
-fix_stands OutOfRange fix set r f p h = h.1 p.moved p.moves
+fix_stands NoFixing fix set r f p h = date_not_lacking fix.offset fix.adj.code set r f p h
+fix_stands OutOfRange fix set r f p h = date_in_range fix.offset fix.adj.code set r f p h
 
 fixing_stands : (e : DateFault) (fixing : Option FixTerms) (set : DaySet) (r f : ℤ) → FixesOn fixing set r f
     → FixingFails e fixing set r → ⊥
@@ -68,8 +62,7 @@ dates_stand OutOfRange t days i r f p h = fault_stands OutOfRange t days i r f p
 -- a fixing date fails in one way at most
 one_fix_fault : (fix : FixTerms) (set : DaySet) (r : ℤ) → FixFails NoFixing fix set r
     → FixFails OutOfRange fix set r → ⊥
-one_fix_fault fix set r (inl unmoved) h = cc (unmoved.0, h.0)
-one_fix_fault fix set r (inr unadjusted) h = h.1 unadjusted.0 unadjusted.1
+one_fix_fault fix set r lacks leaves = one_failure fix.offset fix.adj.code set r leaves lacks
 
 one_fixing_fault : (fixing : Option FixTerms) (set : DaySet) (r : ℤ) → FixingFails NoFixing fixing set r
     → FixingFails OutOfRange fixing set r → ⊥
@@ -102,14 +95,9 @@ one_way OutOfRange NoReset t days i p q = absurd (q.none p.reset p.resets)
 one_way OutOfRange NoFixing t days i p q = absurd (apart t days i q p)
 one_way OutOfRange OutOfRange t days i p q = refl
 
--- a day that can't be moved is the fault that its kind of days gives
-unmoved_by : (kind : DayKind) (fix : FixTerms) (set : DaySet) (r : ℤ) → fix.offset.kind ≡ kind → IsSaid fix.offset
-    → IsUnmoved fix set r → FixFails (unmoved_fault kind) fix set r
-unmoved_by Business fix set r e said none = inl (e, none)
-unmoved_by Calendar fix set r e said none = (e, none)
-unmoved_by Unsaid fix set r e (inl zero) none = absurd (none r (inl (zero, refl)))
-unmoved_by Unsaid fix set r e (inr said) none = absurd (said e)
-
-pub unmoved_fails : (fix : FixTerms) (set : DaySet) (r : ℤ) → IsSaid fix.offset → IsUnmoved fix set r
-    → FixFails (unmoved_fault fix.offset.kind) fix set r
-unmoved_fails fix set r said none = unmoved_by fix.offset.kind fix set r refl said none
+-- a fixing date fails as the two steps that lead to it do
+pub fails_by : (fix : FixTerms) (set : DaySet) (r : ℤ) (reason : NoDate)
+    → (reason ≡ moves.NoResult → LacksResult fix.offset fix.adj.code set r)
+    → (reason ≡ moves.OutOfRange → LeavesRange fix.offset set r) → FixFails (fault_of reason) fix set r
+fails_by fix set r moves.NoResult lacks leaves = lacks refl
+fails_by fix set r moves.OutOfRange lacks leaves = leaves refl

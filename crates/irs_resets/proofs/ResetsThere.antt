@@ -20,23 +20,21 @@ use Rattle.irs_terms.specs.declared.amounts.StubTerms.{StubTerms}
 use Rattle.irs_terms.specs.declared.stream.Stream.{Stream}
 use Rattle.irs_terms.specs.declared.results.Span.{Span}
 use Rattle.irs_terms.specs.declared.results.Reset.{Reset}
-use Rattle.irs_terms.specs.DayTypes.{IsSaidFixing, IsSaid, IsSaidReset}
+use Rattle.irs_terms.specs.DayTypes.{IsSaidFixing, IsSaidReset}
 use Rattle.irs_terms.specs.FirstDay.{first_day_of}
 use Rattle.irs_terms.specs.Legs.{FitsResets, FitsLeg}
 use Rattle.irs_calendar.specs.GoodDays.{DaySet}
-use Rattle.irs_adjust.specs.Codes.{Adjusts}
-use Rattle.irs_adjust.specs.Offsets.{Moves}
 use Rattle.irs_adjust.proofs.FoundDays.{InRange, IsFound, decides_adjusts, adjusts_day}
-use Rattle.irs_adjust.proofs.MovedDays.{decides_moves, moves_day}
+use Rattle.irs_adjust.proofs.MoveLaws.{DateOrFailure, date_or_failure}
 use Rattle.irs_resets.specs.declared.dates.DateFault.{DateFault}
 use Rattle.irs_resets.specs.declared.dates.DateFault.TheVariants.{NoReset, NoFixing, OutOfRange}
 use Rattle.irs_resets.specs.ResetDates.{ResetDays, IsPeriod, base_day, ResetsOn, FixesOn, FixingFails, Fails, HasDates}
-use Rattle.irs_resets.specs.ResetDates.{Decided, unmoved_fault}
+use Rattle.irs_resets.specs.ResetDates.{Decided}
 use Rattle.irs_resets.specs.ResetRules.{GivesInitial, GivesFinal, InitialUnmet, FinalUnmet, BreaksStubs, date_fault}
 use Rattle.irs_resets.specs.ResetRules.{BreaksDates, BreaksDatesIn, BreaksResets}
 use Rattle.irs_resets.specs.Rates.{RateTable}
 use Rattle.irs_resets.specs.Resets.{ResetSource, IsResetsOf, IsResets}
-use Rattle.irs_resets.proofs.DateLemmas.{unmoved_fails, dates_stand, one_way, period_of}
+use Rattle.irs_resets.proofs.DateLemmas.{dates_stand, one_way, period_of}
 use Rattle.irs_resets.proofs.FirstResets.{rank, same_rank, NoneFails, first_reset, first_fixing, first_range}
 use Rattle.irs_resets.proofs.FirstResets.{dates_unbroken, none_fails, first_initial, first_final, stubs_unbroken}
 use Rattle.irs_resets.proofs.FirstResets.{first_of_stubs, first_of_dates}
@@ -49,22 +47,17 @@ use Rattle.irs_resets.proofs.RowLemmas.{some_resets, has_dates}
 abbrev FixingDecided : Option FixTerms → DaySet → ℤ → Type 0
 FixingDecided fixing set r = ((f : ℤ) × FixesOn fixing set r f) ⊎ ((e : DateFault) × FixingFails e fixing set r)
 
-fixes_moved : (fix : FixTerms) (set : DaySet) (r x : ℤ) → Moves fix.offset set r x
-    → IsFound (Adjusts fix.adj.code set x) → FixingDecided (Some fix) set r
-fixes_moved fix set r x moves (inl found) = inl (found.0, record { moved = x; moves = moves; adjusts = found.1 })
-fixes_moved fix set r x moves (inr none) = inr (NoFixing, inr (x, moves, none))
-
-fixes_by : (fix : FixTerms) (set : DaySet) (r : ℤ) → IsSaid fix.offset → IsDay r → InRange set
-    → IsFound (Moves fix.offset set r) → FixingDecided (Some fix) set r
-fixes_by fix set r said day range (inl found) =
-    fixes_moved fix set r found.0 found.1
-    (decides_adjusts fix.adj.code set found.0 (moves_day fix.offset set r found.0 day range found.1) range)
-fixes_by fix set r said day range (inr none) = inr (unmoved_fault fix.offset.kind, unmoved_fails fix set r said none)
+fixing_by : (fix : FixTerms) (set : DaySet) (r : ℤ) → DateOrFailure fix.offset fix.adj.code set r
+    → FixingDecided (Some fix) set r
+fixing_by fix set r (inl date) = inl date
+fixing_by fix set r (inr (inl lacks)) = inr (NoFixing, lacks)
+fixing_by fix set r (inr (inr leaves)) = inr (OutOfRange, leaves)
 
 decides_fixing : (fixing : Option FixTerms) (set : DaySet) (r : ℤ) → IsSaidFixing fixing → IsDay r → InRange set
     → FixingDecided fixing set r
 decides_fixing None set r said day range = inl (r, refl)
-decides_fixing (Some fix) set r said day range = fixes_by fix set r said day range (decides_moves fix.offset set r)
+decides_fixing (Some fix) set r said day range =
+    fixing_by fix set r (date_or_failure fix.offset fix.adj.code set r day range said)
 
 no_reset_fault : (fixing : Option FixTerms) (set : DaySet) (r : ℤ) → FixingFails NoReset fixing set r → ⊥
 no_reset_fault None set r fails = fails

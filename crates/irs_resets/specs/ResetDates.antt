@@ -3,13 +3,13 @@ use Rattle.std.specs.Prelude.{◌≡◌, ◌⊎◌, ℕ, ◌-◌, ◌<◌, ◌�
 use Rattle.irs_base.specs.Members.{day_at}
 use Rattle.irs_terms.specs.declared.codes.Relative.{Relative}
 use Rattle.irs_terms.specs.declared.codes.Relative.TheVariants.{Start, End}
-use Rattle.irs_terms.specs.declared.codes.DayKind.{DayKind}
-use Rattle.irs_terms.specs.declared.codes.DayKind.TheVariants.{Business, Calendar, Unsaid}
 use Rattle.irs_terms.specs.declared.dates.FixTerms.{FixTerms}
 use Rattle.irs_terms.specs.declared.dates.ResetTerms.{ResetTerms}
 use Rattle.irs_calendar.specs.GoodDays.{DaySet}
 use Rattle.irs_adjust.specs.Codes.{Adjusts}
-use Rattle.irs_adjust.specs.Offsets.{Moves}
+use Rattle.irs_adjust.specs.MovedDays.{MovesAndAdjusts, LacksResult, LeavesRange}
+use Rattle.irs_adjust.specs.declared.moved.NoDate.{NoDate}
+use Rattle.irs_adjust.specs.declared.moved.NoDate.TheVariants as moves
 use Rattle.irs_resets.specs.declared.dates.DateFault.{DateFault}
 use Rattle.irs_resets.specs.declared.dates.DateFault.TheVariants.{NoReset, NoFixing, OutOfRange}
 
@@ -38,10 +38,8 @@ abbrev pub ResetsOn : ResetTerms → ResetDays → ℕ → ℤ → Type 0
 ResetsOn t days i r = Adjusts t.adj.code days.reset_set (base_day t.relative days.adjusted i) r
 
 -- f is the reset date r moved by the offset, and then adjusted
-pub record FixesBy (fix : FixTerms) (set : DaySet) (r f : ℤ) : Type 0 where
-  pub moved : ℤ
-  pub moves : Moves fix.offset set r moved
-  pub adjusts : Adjusts fix.adj.code set moved f
+abbrev pub FixesBy : FixTerms → DaySet → ℤ → ℤ → Type 0
+FixesBy fix set r f = MovesAndAdjusts fix.offset fix.adj.code set r f
 
 -- f is the fixing date of the reset date r; without `fixingDates` it is r itself
 abbrev pub FixesOn : Option FixTerms → DaySet → ℤ → ℤ → Type 0
@@ -54,27 +52,11 @@ pub record IsDates (t : ResetTerms) (days : ResetDays) (i : ℕ) (reset fixing :
   pub resets : ResetsOn t days i reset
   pub fixes : FixesOn t.fixing days.fixing_set reset fixing
 
--- the offset moves the reset date to no day
-abbrev pub IsUnmoved : FixTerms → DaySet → ℤ → Type 0
-IsUnmoved fix set r = (x : ℤ) → Moves fix.offset set r x → ⊥
-
--- the day to which the offset moves it has no adjusted day
-abbrev pub IsUnadjusted : FixTerms → DaySet → ℤ → Type 0
-IsUnadjusted fix set r = (x : ℤ) × Moves fix.offset set r x × ((f : ℤ) → Adjusts fix.adj.code set x f → ⊥)
-
--- the Business offset or the adjustment has no result
-abbrev pub IsUnfixed : FixTerms → DaySet → ℤ → Type 0
-IsUnfixed fix set r = ((fix.offset.kind ≡ Business) × IsUnmoved fix set r) ⊎ IsUnadjusted fix set r
-
--- the Calendar offset leaves the range of dates
-abbrev pub LeavesRange : FixTerms → DaySet → ℤ → Type 0
-LeavesRange fix set r = (fix.offset.kind ≡ Calendar) × IsUnmoved fix set r
-
 -- the fixing date of the reset date r fails in this way
 abbrev pub FixFails : DateFault → FixTerms → DaySet → ℤ → Type 0
 FixFails NoReset fix set r = ⊥
-FixFails NoFixing fix set r = IsUnfixed fix set r
-FixFails OutOfRange fix set r = LeavesRange fix set r
+FixFails NoFixing fix set r = LacksResult fix.offset fix.adj.code set r
+FixFails OutOfRange fix set r = LeavesRange fix.offset set r
 
 -- a fixing date has no result
 abbrev pub FixingFails : DateFault → Option FixTerms → DaySet → ℤ → Type 0
@@ -107,8 +89,7 @@ HasDates t days i = (reset : ℤ) × (fixing : ℤ) × IsDates t days i reset fi
 abbrev pub Decided : ResetTerms → ResetDays → ℕ → Type 0
 Decided t days i = HasDates t days i ⊎ ((why : DateFault) × Fails why t days i)
 
--- the fault where a day can't be moved
-abbrev pub unmoved_fault : DayKind → DateFault
-unmoved_fault Business = NoFixing
-unmoved_fault Calendar = OutOfRange
-unmoved_fault Unsaid = NoFixing
+-- what the failure of a day that is moved and adjusted is for a fixing date
+abbrev pub fault_of : NoDate → DateFault
+fault_of moves.NoResult = NoFixing
+fault_of moves.OutOfRange = OutOfRange

@@ -4,16 +4,15 @@
 //! date is the reset date moved by the offset of `fixingDates` and then adjusted, or the reset date
 //! itself. The order of these steps is this project's own.
 ghost use Rattle.std.specs.Prelude.{◌≡◌, ◌⊎◌, ◌↔◌, ◌<◌, ◌^◌, ℕ, ℤ, pos, length, IsTrue, IfOk, IfErr, IfNone, nat_lt};
-ghost use Rattle.irs_terms.specs.declared.codes.DayKind.TheVariants.{Unsaid};
 ghost use Rattle.irs_base.specs.Order.{IsFirst};
 ghost use Rattle.irs_resets.specs.ResetDates.{days_by, base_day, IsPeriod, ResetsOn, FixesOn, FixesBy, IsDates};
-ghost use Rattle.irs_resets.specs.ResetDates.{FixingFails, FixFails, Fails, Decided, unmoved_fault};
+ghost use Rattle.irs_resets.specs.ResetDates.{FixingFails, FixFails, Fails, Decided, fault_of};
 ghost use Rattle.irs_terms.specs.DayTypes.{IsSaidFixing, IsSaid};
 
-use irs_adjust::{adjust_by, move_by};
+use irs_adjust::{NoDate, adjust_by, move_and_adjust};
 use irs_base::Day;
 use irs_calendar::GoodDays;
-use irs_terms::{DayKind, FixTerms, Relative, ResetTerms};
+use irs_terms::{FixTerms, Relative, ResetTerms};
 
 /// The dates of a reset.
 #[derive(Clone, Copy, Debug, PartialEq, Eq)]
@@ -46,14 +45,13 @@ fn base(relative: Relative, adjusted: &[Day], number: usize) -> Day
     }
 }
 
-// What it means that there is no moved day.
-fn unmoved(kind: DayKind) -> DateFault
-    ensures { result ≡ unmoved_fault kind }
+// What the failure of the two steps is for a fixing date.
+fn fault_of(reason: NoDate) -> DateFault
+    ensures { result ≡ fault_of reason }
 {
-    match kind {
-        DayKind::Business => DateFault::NoFixing,
-        DayKind::Calendar => DateFault::OutOfRange,
-        DayKind::Unsaid => DateFault::NoFixing,
+    match reason {
+        NoDate::NoResult => DateFault::NoFixing,
+        NoDate::OutOfRange => DateFault::OutOfRange,
     }
 }
 
@@ -62,12 +60,9 @@ fn fix_by<G: GoodDays>(fix: &FixTerms, days: &G, reset: Day) -> Result<Day, Date
     ensures ok { IfOk result (FixesBy fix.now (G.days days.now) reset) }
     ensures fault { IfErr result (λ e. FixFails e fix.now (G.days days.now) reset) }
 {
-    let Some(moved) = move_by(fix.offset, days, reset) else {
-        return Err(unmoved(fix.offset.kind));
-    };
-    match adjust_by(fix.adj.code, days, moved) {
-        Some(fixing) => Ok(fixing),
-        None => Err(DateFault::NoFixing),
+    match move_and_adjust(fix.offset, fix.adj.code, days, reset) {
+        Ok(fixing) => Ok(fixing),
+        Err(reason) => Err(fault_of(reason)),
     }
 }
 

@@ -1,0 +1,53 @@
+//! A day that is moved by an offset and then adjusted, as a payment date is (FpML
+//! `paymentDaysOffset`, `paymentDatesAdjustments`) and a fixing date (FpML `fixingDates`). This order
+//! of the two steps is this project's own.
+ghost use Rattle.std.specs.Prelude.{◌≡◌, IfOk, IsErrOf};
+ghost use Rattle.irs_adjust.specs.MovedDays.{MovesAndAdjusts, LacksResult, LeavesRange, no_move_of};
+ghost use Rattle.irs_terms.specs.DayTypes.{IsSaid};
+
+use crate::by_code::adjust_by;
+use crate::offsets::move_by;
+use irs_base::Day;
+use irs_calendar::GoodDays;
+use irs_terms::{ConvCode, DayKind, Offset};
+
+/// Why a day that is moved and then adjusted comes to no date.
+#[derive(Clone, Copy, Debug, PartialEq, Eq)]
+pub enum NoDate {
+    /// The Business offset or the adjustment has no result.
+    NoResult,
+    /// The Calendar offset leaves the range of dates.
+    OutOfRange,
+}
+
+/// The start moved by the offset and then adjusted by the convention, over the good days of `days`,
+/// or why there is no such date. No memory is taken.
+pub fn move_and_adjust<G: GoodDays>(
+    offset: Offset,
+    code: ConvCode,
+    days: &G,
+    start: Day,
+) -> Result<Day, NoDate>
+    requires { IsSaid offset }
+    ensures date { IfOk result (MovesAndAdjusts offset code (G.days days.now) start) }
+    ensures lacks { IsErrOf result NoDate.NoResult → LacksResult offset code (G.days days.now) start }
+    ensures leaves { IsErrOf result NoDate.OutOfRange → LeavesRange offset (G.days days.now) start }
+{
+    let Some(moved) = move_by(offset, days, start) else {
+        return Err(no_move(offset.kind));
+    };
+    match adjust_by(code, days, moved) {
+        Some(adjusted) => Ok(adjusted),
+        None => Err(NoDate::NoResult),
+    }
+}
+
+// Why an offset of this kind has no result.
+fn no_move(kind: DayKind) -> NoDate
+    ensures { result ≡ no_move_of kind }
+{
+    match kind {
+        DayKind::Business => NoDate::NoResult,
+        DayKind::Calendar | DayKind::Unsaid => NoDate::OutOfRange,
+    }
+}
