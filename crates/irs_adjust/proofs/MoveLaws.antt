@@ -11,8 +11,8 @@ use Rattle.irs_calendar.specs.GoodDays.{DaySet}
 use Rattle.irs_adjust.specs.Codes.{Adjusts}
 use Rattle.irs_adjust.specs.MovedDays.{MovesAndAdjusts, MovesNowhere, LacksResult, LeavesRange, no_move_of}
 use Rattle.irs_adjust.specs.declared.moved.NoDate.TheVariants.{OutOfRange}
-use Rattle.irs_adjust.proofs.CodeLaws.{decides_adjusts, one_adjusts}
-use Rattle.irs_adjust.proofs.FoundDays.{InRange}
+use Rattle.irs_adjust.proofs.CodeLaws.{one_adjusts}
+use Rattle.irs_adjust.proofs.FoundDays.{InRange, decides_adjusts}
 use Rattle.irs_adjust.proofs.MovedDays.{decides_moves, moves_day}
 use Rattle.irs_adjust.proofs.OffsetLaws.{one_moved}
 
