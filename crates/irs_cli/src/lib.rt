@@ -12,7 +12,7 @@ mod rows;
 #[cfg(test)]
 mod tests;
 #[cfg(test)]
-mod tests_puts;
+mod tests_faults;
 
 pub use irs_base::Status;
 pub use irs_bulk::{bulk_calendar, bulk_doc};

@@ -1,11 +1,11 @@
 // The program over files and sinks in memory. What it prints of documents at large is tested above.
-use crate::{MemFiles, MemSink, RealFiles, SureFiles, SureSink, run};
+use crate::{MemFiles, MemSink, RealFiles, Sink, SureFiles, SureSink, run};
 use std::alloc::{AllocError, Global};
 use std::fs;
 use std::process::Abort;
 use std::test::Fail;
 
-const DOCUMENT: &str = r#"{"swap":{"swapStream":{
+pub(crate) const DOCUMENT: &str = r#"{"swap":{"swapStream":{
 "calculationPeriodDates":{"@id":"cpd",
 "effectiveDate":{"unadjustedDate":"2024-01-15","dateAdjustments":{"businessDayConvention":"NONE"}},
 "terminationDate":{"unadjustedDate":"2025-01-15","dateAdjustments":{"businessDayConvention":"NONE"}},
@@ -35,7 +35,7 @@ end
 ";
 
 // Its cash flows.
-const FLOWS: &str =
+pub(crate) const FLOWS: &str =
     r#"{"swap":{"swapStream":{"cashflows":{"cashflowsMatchParameters":"true","paymentCalculationPeriod":[
 {"adjustedPaymentDate":"2024-07-15","calculationPeriod":{"adjustedStartDate":"2024-01-15",
 "adjustedEndDate":"2024-07-15","notionalAmount":"1000000","calculationPeriodNumberOfDays":"182",
@@ -47,7 +47,7 @@ const FLOWS: &str =
 "forecastPaymentAmount":{"currency":"USD","amount":"25555.56"}}]}}}}
 "#;
 
-fn words(alloc: Global, all: &[&str]) -> Result<Vec<String>, AllocError> {
+pub(crate) fn words(alloc: Global, all: &[&str]) -> Result<Vec<String>, AllocError> {
     let mut words = Vec::new(alloc);
     for word in all {
         words.push(String::from_str(alloc, word)?)?;
@@ -174,31 +174,38 @@ fn flows_that_do_and_do_not_agree(rt: HostRuntime) -> Result<(), Fail> {
 }
 
 #[test]
-fn sinks_that_fail(rt: HostRuntime) -> Result<(), Fail> {
+fn the_first_put_fails(rt: HostRuntime) -> Result<(), Fail> {
     let alloc = rt.alloc();
     let mut files = all_files(alloc)?;
     let asked = words(alloc, &["schedule", "B", "-"])?;
     let mut out = MemSink::with_room(alloc, 1000)?;
-    out.fail_at(3);
+    out.fail_at(1);
     assert_eq!(rt; run(alloc, &asked, &mut files, &mut out), 6);
-    assert_eq!(rt; out.bytes(), &SCHEDULE.as_bytes()[..42]);
-    let mut short = MemSink::with_room(alloc, 20)?;
-    assert_eq!(rt; run(alloc, &asked, &mut files, &mut short), 6);
-    assert_eq!(rt; short.bytes(), &SCHEDULE.as_bytes()[..20]);
+    assert_eq!(rt; out.bytes(), b"".as_slice());
     Ok(())
 }
 
+// A name that doesn't stand is an empty file, which has no fixings.
 #[test]
 fn files_and_sinks_that_never_fail(rt: HostRuntime) -> Result<(), Fail> {
     let alloc = rt.alloc();
     let mut files = SureFiles::new(alloc);
     files.add("B", DOCUMENT.as_bytes())?;
-    let mut sure = SureSink::new();
-    let asked = words(alloc, &["schedule", "B", "empty"])?;
-    assert_eq!(rt; run(alloc, &asked, &mut files, &mut sure), 0);
-    let mut out = MemSink::with_room(alloc, 1000)?;
-    assert_eq!(rt; run(alloc, &asked, &mut files, &mut out), 0);
-    assert_eq!(rt; out.bytes(), SCHEDULE.as_bytes());
+    let mut counted = SureSink::new();
+    assert!(rt; counted.put(SCHEDULE.as_bytes()).is_ok());
+    for fixings in ["-", "empty"] {
+        let asked = words(alloc, &["schedule", "B", fixings])?;
+        let mut sure = SureSink::new();
+        assert_eq!(rt;
+            run(alloc, &asked, &mut files, &mut sure),
+            0,
+            "at {fixings}"
+        );
+        assert_eq!(rt; sure, counted, "at {fixings}");
+        let mut out = MemSink::with_room(alloc, 1000)?;
+        assert_eq!(rt; run(alloc, &asked, &mut files, &mut out), 0, "at {fixings}");
+        assert_eq!(rt; out.bytes(), SCHEDULE.as_bytes(), "at {fixings}");
+    }
     Ok(())
 }
 
