@@ -71,8 +71,7 @@ fn verdict(s: &Schedule, f: &Flows) -> Verdict
 /// Whether the flows agree with the schedule (FpML 5, `cashflows` of an InterestRateStream; the rules of
 /// agreement are this project's own). `No` comes exactly where a row or a field departs, with the first
 /// departure by stream, kind of row, row and field; `Yes` counts the schedule's exchanges, payments,
-/// calculation periods and resets, and its payments without amount. It takes no memory, and time linear
-/// in the rows.
+/// calculation periods and resets, and its payments without amount. It takes no memory.
 pub fn audit(s: &Schedule, f: &Flows) -> Verdict
     ensures verdict { IsVerdict f.now s.now result }
     ensures no { IsNo result ↔ ((d : Departure) × Departs f.now s.now d) }

@@ -116,7 +116,7 @@ fn all_days(parts: &[StreamPart]) -> i128
     days
 }
 
-/// What a run over many schedules adds up of one. It takes no memory, and time linear in its rows.
+/// What a run over many schedules adds up of one. It takes no memory.
 pub fn sums_of(s: &Schedule) -> Sums
     ensures value { result ≡ sums_in s.now }
     ensures rows { result.rows < 2 ^ 32 }
