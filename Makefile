@@ -1,10 +1,11 @@
 # `make` proves and builds the program, with a line a crate, leaves it as ./irs, and prints the schedule
 # of the shipped example. `make try DOC=FILE` prints the schedule of a document by the program as it
 # stands, unproved, for whoever wants to look before the proofs are done. `make examples` runs the
-# program on every example and compares. `make test` is the gate. They need the kit's command `rt` and
-# nothing else. `make faults` makes each allocation of the program fail in turn, `make hostile` runs it on
-# the largest and the worst inputs, `make bench` counts what it takes; they want a C compiler, Python and,
-# for the counts, valgrind. `make library` builds the library for C, and `make bindings` tries it.
+# program on every example, and on those of docs/RULES.md, and compares. `make test` is the gate. They need the
+# kit's command `rt` and nothing else. `make faults` makes each allocation of the program fail in turn,
+# `make hostile` runs it on the largest and the worst inputs, `make bench` counts what it takes; they want a C
+# compiler, Python and, for the counts, valgrind. `make library` builds the library for C, and `make bindings`
+# tries it.
 .PHONY: all irs try examples faults hostile bench library bindings test clean
 DOC ?= examples/fixed_leg/terms.json
 
@@ -23,6 +24,7 @@ try:
 
 examples: irs
 	examples/compare
+	tools/rules
 
 faults: irs
 	tools/faults
