@@ -1,4 +1,4 @@
-// The program over files and sinks in memory. What it prints of documents at large is tested above.
+//! The program over files and sinks in memory. What it prints of documents at large is tested above.
 use crate::{MemFiles, MemSink, RealFiles, Sink, SureFiles, SureSink, run};
 use std::alloc::{AllocError, Global};
 use std::fs;

@@ -1,4 +1,4 @@
-// Faults: puts and fetches that fail, and a document that is cut.
+//! Faults: puts and fetches that fail, and a document that is cut.
 use crate::tests::{DOCUMENT as B, FLOWS, words};
 use crate::{MemFiles, MemSink, run};
 use std::alloc::Global;
