@@ -3,7 +3,7 @@ use Rattle.irs_adjust.specs.declared.moved.NoDate.{NoDate}
 use Rattle.irs_resets.proofs.DateLemmas.{fails_by}
 use Rattle.irs_resets.proofs.dates.fix_by.Goals as goal
 
-pub returns-in-Err-clause-fault : goal.returns-in_Err-clause-fault
+pub returns-in-Err-clause-fault : goal.returns-in-Err-clause-fault
 returns-in-Err-clause-fault g c =
     let err : NoDate → Result ℤ NoDate = λ x. Err x in
     rw c.fault_of.ensures
