@@ -1,7 +1,6 @@
 -- A day that an offset moves and a convention then adjusts comes to one date, or fails in one way.
 use Rattle.std.proofs.Common.{◌≡◌, ◌⊎◌, inl, inr, ℤ, refl, sym, ◌∙◌, subst}
 use Rattle.irs_base.specs.Days.{IsDay}
-use Rattle.irs_base.specs.Order.{IsDecided}
 use Rattle.irs_terms.specs.DayTypes.{IsSaid}
 use Rattle.irs_terms.specs.declared.adjustments.Offset.{Offset}
 use Rattle.irs_terms.specs.declared.codes.ConvCode.{ConvCode}
