@@ -1,6 +1,6 @@
 -- What an offset and an adjustment make of a start: a date, no result, or a day out of range.
 use Rattle.std.proofs.Common.{◌≡◌, inl, inr, ℕ, ◌+◌, ◌-◌, ◌<◌, ◌≤◌, List, [], ◌∷◌, ◌++◌, length, length-append, Option}
-use Rattle.std.proofs.Common.{Some, None, Result, Ok, Err, arith, refl, sym, ◌∙◌, subst, ℤ}
+use Rattle.std.proofs.Common.{Some, None, Result, Ok, Err, arith, refl, sym, subst, ℤ}
 use Rattle.std.proofs.lemmas.Bool.{cases_lt}
 use Rattle.irs_terms.specs.declared.results.Payment.{Payment}
 use Rattle.irs_terms.specs.declared.stream.Stream.{Stream}
@@ -10,7 +10,7 @@ use Rattle.irs_adjust.specs.declared.moved.NoDate.{NoDate}
 use Rattle.irs_adjust.specs.declared.moved.NoDate.TheVariants.{NoResult, OutOfRange}
 use Rattle.irs_payments.specs.Cuts.{cut_at}
 use Rattle.irs_payments.specs.Places.{ArePlaces}
-use Rattle.irs_payments.specs.PaymentDates.{IsPaymentDate, LacksResult, LeavesRange}
+use Rattle.irs_payments.specs.PaymentDates.{LacksResult, LeavesRange}
 use Rattle.irs_payments.specs.Payments.{Covers}
 use Rattle.irs_payments.specs.Dating.{date_place, IsCutPayment, NoneLacks, NoneLeaves, ArePaid, LeavesFirst, Dated}
 use Rattle.irs_payments.specs.Dating.{Settles, IsOutcome}

@@ -1,7 +1,6 @@
 -- A rule of a stream's payments is the first that is broken, or none is and there are payments.
 use Rattle.std.proofs.Common.{◌≡◌, ◌⊎◌, inl, inr, ℕ, zero, suc, ◌<◌, ◌≤◌, List, length, ℤ, refl, arith}
 use Rattle.std.proofs.lemmas.Bool.{cases_lt}
-use Rattle.irs_base.specs.Days.{IsDay}
 use Rattle.irs_base.specs.DayLists.{AreDays}
 use Rattle.irs_base.specs.Elements.{payment_dates}
 use Rattle.irs_base.specs.Faults.{fault_at}
