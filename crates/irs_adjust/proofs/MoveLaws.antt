@@ -30,6 +30,11 @@ module _ (offset : Offset) (code : ConvCode) (set : DaySet) (start : ℤ) where
   pub date_in_range : (r : ℤ) → MovesAndAdjusts offset code set start r → LeavesRange offset set start → ⊥
   date_in_range r h none = none.1 h.moved h.moves
 
+  pub either_fails : (r : ℤ) → MovesAndAdjusts offset code set start r
+      → LacksResult offset code set start ⊎ LeavesRange offset set start → ⊥
+  either_fails r h (inl lacks) = date_not_lacking r h lacks
+  either_fails r h (inr leaves) = date_in_range r h leaves
+
   pub one_failure : LeavesRange offset set start → LacksResult offset code set start → ⊥
   one_failure h (inl none) = let kinds : Calendar ≡ Business = sym h.0 ∙ none.0 in absurd (cc)
   one_failure h (inr off) = h.1 off.moved off.moves

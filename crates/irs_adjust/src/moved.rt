@@ -1,7 +1,7 @@
 //! A day that is moved by an offset and then adjusted, as a payment date is (FpML
 //! `paymentDaysOffset`, `paymentDatesAdjustments`) and a fixing date (FpML `fixingDates`). This order
 //! of the two steps is this project's own.
-ghost use Rattle.std.specs.Prelude.{◌≡◌, IfOk, IsErrOf};
+ghost use Rattle.std.specs.Prelude.{◌≡◌, ◌⊎◌, ℤ, IfOk, IsErrOf};
 ghost use Rattle.irs_adjust.specs.MovedDays.{MovesAndAdjusts, LacksResult, LeavesRange, no_move_of};
 ghost use Rattle.irs_terms.specs.DayTypes.{IsSaid};
 
@@ -32,6 +32,11 @@ pub fn move_and_adjust<G: GoodDays>(
     ensures date { IfOk result (MovesAndAdjusts offset code (G.days days.now) start) }
     ensures lacks { IsErrOf result NoDate.NoResult → LacksResult offset code (G.days days.now) start }
     ensures leaves { IsErrOf result NoDate.OutOfRange → LeavesRange offset (G.days days.now) start }
+    // There is at most one such date, and none where there is a failure.
+    ensures one { (r t : ℤ) → MovesAndAdjusts offset code (G.days days.now) start r
+        → MovesAndAdjusts offset code (G.days days.now) start t → r ≡ t }
+    ensures either { (r : ℤ) → MovesAndAdjusts offset code (G.days days.now) start r
+        → LacksResult offset code (G.days days.now) start ⊎ LeavesRange offset (G.days days.now) start → ⊥ }
 {
     let Some(moved) = move_by(offset, days, start) else {
         return Err(no_move(offset.kind));
