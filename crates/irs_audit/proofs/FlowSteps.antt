@@ -1,5 +1,5 @@
 -- The first fault at each step of the reading of cash flows.
-use Rattle.irs_audit.specs.FlowFaults.{FlowFault, OnceFault, Only, OwnFault, PeriodFault, PeriodsFault, PeriodsFrom}
+use Rattle.irs_audit.specs.FlowFaults.{FaultIf, FlowFault, OnceFault, OwnFault, PeriodFault, PeriodsFault, PeriodsFrom}
 use Rattle.irs_audit.specs.FlowFaults.{StreamFault, StreamsFault, SwapFault, at, below, ended, few, in_period}
 use Rattle.irs_audit.specs.FlowFaults.{in_stream, is_sound, many_periods, many_streams, no_stream, periods_in}
 use Rattle.irs_audit.specs.FlowFaults.{periods_of}
@@ -29,8 +29,8 @@ use Rattle.irs_base.specs.Order.{IsFirstBroken, earlier_broken}
 
 -- ---- one fault, where a test is true
 
-pub only_first : (b : Bool) (x : Broken) (a : Option Broken) → a ≡ fault_if b x → IsFirstBroken (Only b x) a
-only_first b x a e = first_is (Only b x) (fault_if b x) a e (first_if x b)
+pub fault_if_first : (b : Bool) (x : Broken) (a : Option Broken) → a ≡ fault_if b x → IsFirstBroken (FaultIf b x) a
+fault_if_first b x a e = first_is (FaultIf b x) (fault_if b x) a e (first_if x b)
 
 pub alone : (x : Broken) (a : Option Broken) → a ≡ Some x → IsFirstBroken (λ f. f ≡ x) a
 alone x a e = first_is (λ f. f ≡ x) (Some x) a e (first_one (λ f. f ≡ x) x refl (λ g h. h))
@@ -231,11 +231,11 @@ below_first d s a e p = first_same _ _ a (λ f q. below s f e q) (only d s e) p
 -- ---- steps of the loops
 
 pub own_none : (stream elem : ℕ) (d : Data) → is_sound d ≡ true → IsFirstBroken (OwnFault stream elem d) None
-own_none stream elem d h = only_first (not (is_sound d)) (at stream K3 elem) None (rw h refl)
+own_none stream elem d h = fault_if_first (not (is_sound d)) (at stream K3 elem) None (rw h refl)
 
 pub own_some : (stream elem : ℕ) (d : Data) (a : Option Broken) → is_sound d ≡ false → a ≡ Some (at stream K3 elem)
     → IsFirstBroken (OwnFault stream elem d) a
-own_some stream elem d a h e = only_first (not (is_sound d)) (at stream K3 elem) a (rw h e)
+own_some stream elem d a h e = fault_if_first (not (is_sound d)) (at stream K3 elem) a (rw h e)
 
 -- the first fault of the periods of one payment more
 pub payment_step : (stream : ℕ) (vs : List Value) (i : ℕ) (v : Value) (before : ℕ) (ds : List Data)

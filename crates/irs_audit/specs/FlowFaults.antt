@@ -23,8 +23,8 @@ abbrev pub at : ℕ → Rule → ℕ → Broken
 at stream rule elem = record { rule = rule; place = record { stream = stream; elem = elem; index = 0 } }
 
 -- the fault x, where the test is true
-abbrev pub Only : Bool → Broken → Broken → Type 0
-Only b x f = (b ≡ true) × (f ≡ x)
+abbrev pub FaultIf : Bool → Broken → Broken → Type 0
+FaultIf b x f = (b ≡ true) × (f ≡ x)
 
 -- ---- an object of which most members are passed over
 
@@ -34,7 +34,7 @@ is_sound d = is_some (names_of d) && not (has_odd d)
 
 -- it isn't
 abbrev pub OwnFault : ℕ → ℕ → Data → Broken → Type 0
-OwnFault stream elem d = Only (not (is_sound d)) (at stream K3 elem)
+OwnFault stream elem d = FaultIf (not (is_sound d)) (at stream K3 elem)
 
 -- ---- calculation periods
 
@@ -58,7 +58,7 @@ has_both_rates d = is_some (child_of (codes "fixedRate") d) && has_calculated_ra
 abbrev pub PeriodFault : ℕ → ℕ → Data → Broken → Type 0
 PeriodFault stream number d f =
     FaultAt period_rows period_names stream 0 (Object Free) number d f
-    ⊎ Only (has_both_rates d) (at stream K7 flow_period) f
+    ⊎ FaultIf (has_both_rates d) (at stream K7 flow_period) f
 
 -- the calculation periods of a payment
 abbrev pub periods_in : Data → List Data

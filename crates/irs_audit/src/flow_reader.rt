@@ -28,7 +28,36 @@ fn kind_of(rule: Rule) -> ShapeKind
         Rule::K5 => ShapeKind::Profile,
         Rule::K6 => ShapeKind::Value,
         Rule::K7 => ShapeKind::Count,
-        _ => ShapeKind::NotJson,
+        Rule::K8
+        | Rule::K10
+        | Rule::K11
+        | Rule::K12
+        | Rule::K13
+        | Rule::K14
+        | Rule::K15
+        | Rule::K16
+        | Rule::K17
+        | Rule::K18
+        | Rule::K19
+        | Rule::K20
+        | Rule::K21
+        | Rule::K30
+        | Rule::K31
+        | Rule::K32
+        | Rule::K33
+        | Rule::K34
+        | Rule::K35
+        | Rule::K36
+        | Rule::K37
+        | Rule::K38
+        | Rule::K39
+        | Rule::K40
+        | Rule::K41
+        | Rule::K42
+        | Rule::K43
+        | Rule::K44
+        | Rule::K45
+        | Rule::K46 => ShapeKind::NotJson,
     }
 }
 

@@ -1,7 +1,7 @@
 use Rattle.irs_audit.proofs.FlowLaws.{period_first}
-use Rattle.irs_audit.proofs.FlowSteps.{only_first}
+use Rattle.irs_audit.proofs.FlowSteps.{fault_if_first}
 use Rattle.irs_audit.proofs.flow_faults.period_fault.Goals as goal
-use Rattle.irs_audit.specs.FlowFaults.{Only, PeriodFault, at, has_both_rates}
+use Rattle.irs_audit.specs.FlowFaults.{FaultIf, PeriodFault, at, has_both_rates}
 use Rattle.irs_audit.specs.FlowLines.{period_names, period_rows}
 use Rattle.irs_audit.specs.declared.flow_table.TheConstants.{PERIOD}
 use Rattle.irs_base.specs.Elements.{flow_period}
@@ -15,7 +15,7 @@ returns c =
     let d = view c.args.v.now in
     first_is (PeriodFault c.args.stream c.args.number d) _ c.earlier.result c.earlier.ensures
     (first_or (FaultAt period_rows period_names c.args.stream 0 PERIOD c.args.number d)
-    (Only (has_both_rates d) (at c.args.stream K7 flow_period)) c.first_fault-own.result c.both_rates_fault.result
+    (FaultIf (has_both_rates d) (at c.args.stream K7 flow_period)) c.first_fault-own.result c.both_rates_fault.result
     (period_first _ _ _ _ _ _ c.first_fault-own.ensures)
-    (only_first (has_both_rates d) (at c.args.stream K7 flow_period) c.both_rates_fault.result
+    (fault_if_first (has_both_rates d) (at c.args.stream K7 flow_period) c.both_rates_fault.result
     c.both_rates_fault.ensures))
