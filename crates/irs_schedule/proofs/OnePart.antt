@@ -20,8 +20,9 @@ use Rattle.irs_schedule.specs.declared.entries.PeriodEntry.{PeriodEntry}
 use Rattle.irs_schedule.specs.declared.layouts.Layout.{Layout}
 use Rattle.irs_schedule.specs.Layouts.{IsKeptLayout}
 use Rattle.irs_schedule.specs.Parts.{Part}
-use Rattle.irs_schedule.specs.PeriodTerms.{IsAmountFor, IsPeriodEntry}
-use Rattle.irs_schedule.specs.Schedules.{IsPart, IsSchedule, payment_of}
+use Rattle.irs_schedule.specs.PeriodTerms.{IsPeriodEntry}
+use Rattle.irs_schedule.specs.Schedules.{IsPart, IsPaymentEntry, IsSchedule, payment_of}
+use Rattle.irs_schedule.specs.StreamDates.{layout_dates}
 use Rattle.irs_rules.specs.TermsKept.{TermsKept}
 use Rattle.irs_schedule.proofs.LayoutLemmas.{layout_adjusted_days, layout_covers, layout_some}
 use Rattle.irs_schedule.proofs.LayoutRules.{layout_kept, one_layout}
@@ -37,9 +38,9 @@ record ListsOver (sets : StreamSets) (fix : RateTable) (s : Stream) (l : Layout)
   unadjusted : p.unadjusted ≡ l.unadjusted
   adjusted : p.adjusted ≡ l.adjusted
   payments : ArePayments s sets.payment l.unadjusted l.adjusted (map payment_of p.payments)
-  amounts : Every (λ y. IsAmountFor s l.unadjusted l.adjusted p.resets (payment_of y) y.amount) p.payments
+  amounts : Every (IsPaymentEntry (layout_dates s l p.resets)) p.payments
   count : length p.periods + 1 ≡ length l.unadjusted
-  periods : EachNumbered (IsPeriodEntry s l.unadjusted l.adjusted p.resets) 1 p.periods
+  periods : EachNumbered (IsPeriodEntry (layout_dates s l p.resets)) 1 p.periods
   resets : IsResets (resets_over sets s l) fix p.resets
 
 -- those of a part stand in them over its own layout
@@ -69,8 +70,7 @@ module _ (cal : List Section) (sets : StreamSets) (s : Stream) (lawful : IsLawfu
   one_amounts : (rs : List Reset) (xs ys : List PaymentEntry)
       → ArePayments s sets.payment l.unadjusted l.adjusted (map payment_of xs)
       → ArePayments s sets.payment l.unadjusted l.adjusted (map payment_of ys)
-      → Every (λ y. IsAmountFor s l.unadjusted l.adjusted rs (payment_of y) y.amount) xs
-      → Every (λ y. IsAmountFor s l.unadjusted l.adjusted rs (payment_of y) y.amount) ys → xs ≡ ys
+      → Every (IsPaymentEntry (layout_dates s l rs)) xs → Every (IsPaymentEntry (layout_dates s l rs)) ys → xs ≡ ys
   one_amounts rs xs ys paid_xs paid_ys amounts_xs amounts_ys =
       let last = length l.unadjusted - 1 in
       let some = layout_some cal sets s lawful terms l is in
@@ -82,18 +82,18 @@ module _ (cal : List Section) (sets : StreamSets) (s : Stream) (lawful : IsLawfu
       (layout_covers cal sets s lawful terms l is (map payment_of xs) paid_xs) in
       let inside : last < length l.adjusted = let same_length = is.adjusted.same_length in
       omega (arith, some, same_length) in
-      one_paid s l.unadjusted l.adjusted rs terms.notional_rises terms.leg_rises
+      one_paid (layout_dates s l rs) terms.notional_rises terms.leg_rises
       (layout_adjusted_days cal sets s lawful terms l is ranges) is.rises last xs ys inside same within amounts_xs
       amounts_ys
 
   -- and so have periods
   one_entries : (rs : List Reset) (xs ys : List PeriodEntry) → length xs + 1 ≡ length l.unadjusted
       → length ys + 1 ≡ length l.unadjusted
-      → EachNumbered (IsPeriodEntry s l.unadjusted l.adjusted rs) 1 xs
-      → EachNumbered (IsPeriodEntry s l.unadjusted l.adjusted rs) 1 ys → xs ≡ ys
+      → EachNumbered (IsPeriodEntry (layout_dates s l rs)) 1 xs
+      → EachNumbered (IsPeriodEntry (layout_dates s l rs)) 1 ys → xs ≡ ys
   one_entries rs xs ys count_xs count_ys each_xs each_ys =
-      one_numbered (IsPeriodEntry s l.unadjusted l.adjusted rs)
-      (one_entry s l.unadjusted l.adjusted rs terms.notional_rises terms.leg_rises) 1 xs ys
+      one_numbered (IsPeriodEntry (layout_dates s l rs))
+      (one_entry (layout_dates s l rs) terms.notional_rises terms.leg_rises) 1 xs ys
       (omega (arith, count_xs, count_ys)) each_xs each_ys
 
   -- two parts over the layout
@@ -103,12 +103,12 @@ module _ (cal : List Section) (sets : StreamSets) (s : Stream) (lawful : IsLawfu
 
     same_payments : p.payments ≡ q.payments
     same_payments = one_amounts p.resets p.payments q.payments over_p.payments over_q.payments over_p.amounts
-        (subst (λ (rs : List Reset). Every (λ y. IsAmountFor s l.unadjusted l.adjusted rs (payment_of y) y.amount)
-        q.payments) (sym same_resets) over_q.amounts)
+        (subst (λ (rs : List Reset). Every (IsPaymentEntry (layout_dates s l rs)) q.payments) (sym same_resets)
+        over_q.amounts)
 
     same_periods : p.periods ≡ q.periods
     same_periods = one_entries p.resets p.periods q.periods over_p.count over_q.count over_p.periods
-        (subst (λ (rs : List Reset). EachNumbered (IsPeriodEntry s l.unadjusted l.adjusted rs) 1 q.periods)
+        (subst (λ (rs : List Reset). EachNumbered (IsPeriodEntry (layout_dates s l rs)) 1 q.periods)
         (sym same_resets) over_q.periods)
 
 -- a stream that breaks no rule has one part by good days that are days in range

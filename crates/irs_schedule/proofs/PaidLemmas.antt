@@ -1,18 +1,21 @@
 -- Payments with their amounts, one after another, and the first period of all of them that leaves the range.
 use Rattle.std.proofs.Common.{◌≡◌, ℕ, zero, suc, ◌+◌, ◌<◌, ◌≤◌, ◌++◌, inl, inr, List, [], ◌∷◌, length, map, take, Some}
-use Rattle.std.proofs.Common.{refl, sym, ap, ap₂, subst, ◌∙◌, arith, ℤ}
+use Rattle.std.proofs.Common.{refl, sym, ap, ap₂, subst, ◌∙◌, arith}
+use Rattle.std.specs.Prelude.{nat_lt}
 use Rattle.std.specs.List.{slice_get}
 use Rattle.std.proofs.lemmas.Bool.{cases_lt}
 use Rattle.std.proofs.lemmas.List.{map-append, take_more, take_all}
 use Rattle.std.proofs.lemmas.Option.{slice_get_within, get_or_from_slice_get, same_Some}
 use Rattle.irs_terms.specs.declared.results.Payment.{Payment}
-use Rattle.irs_terms.specs.declared.results.Reset.{Reset}
-use Rattle.irs_terms.specs.declared.stream.Stream.{Stream}
 use Rattle.irs_compound.proofs.AmountTheorems.{out_from_one}
 use Rattle.irs_payments.specs.Payments.{Covers}
 use Rattle.irs_schedule.specs.Parts.{HasAmount}
-use Rattle.irs_schedule.specs.PeriodTerms.{IsAmountFor, PassesIn, PassesAt, PassesFirst, PassesFirstIn}
-use Rattle.irs_schedule.specs.Schedules.{payment_of}
+use Rattle.irs_base.specs.Order.{First}
+use Rattle.irs_base.proofs.Firsts.{false_lt, lt_false}
+use Rattle.irs_schedule.specs.PeriodTerms.{IsAmountFor, PassesIn, PassesAt}
+use Rattle.irs_schedule.specs.Schedules.{IsPaymentEntry, payment_of}
+use Rattle.irs_schedule.specs.StreamDates.{StreamDates}
+use Rattle.irs_schedule.proofs.AmountLemmas.{passes_within}
 use Rattle.irs_schedule.specs.declared.entries.PaymentEntry.{PaymentEntry}
 use Rattle.irs_schedule.proofs.PlaceLemmas.{every_both}
 use Rattle.irs_base.specs.Members.{Every}
@@ -81,13 +84,13 @@ covers_in_order n last (r ∷ ps) zero (suc j) p q h less d e =
 covers_in_order n last (r ∷ ps) (suc i) (suc j) p q h less d e =
     covers_in_order (r.last_period + 1) last ps i j p q h.2 (omega (arith, less)) d e
 
-module _ (s : Stream) (b a : List ℤ) (rs : List Reset) where
+module _ (d : StreamDates) where
   -- the first i payments with their amounts, where none of their periods leaves the range
   pub record ArePaid (ps : List Payment) (i : ℕ) (es : List PaymentEntry) : Type 0 where
     pub payments : map payment_of es ≡ take i ps
-    pub amounts : Every (λ y. IsAmountFor s b a rs (payment_of y) y.amount) es
-    pub bounds : Every (HasAmount s.currency) es
-    pub within : (j : ℕ) (q : Payment) → j < i → slice_get ps j ≡ Some q → (k : ℕ) → PassesIn s b a rs q k → ⊥
+    pub amounts : Every (IsPaymentEntry d) es
+    pub bounds : Every (HasAmount d.stream.currency) es
+    pub within : (j : ℕ) (q : Payment) → j < i → slice_get ps j ≡ Some q → (k : ℕ) → PassesIn d q k → ⊥
 
   pub none_paid : (ps : List Payment) → ArePaid ps 0 []
   none_paid ps = record { payments = refl; amounts = tt; bounds = tt; within = λ j q less e k x. omega (arith, less) }
@@ -95,27 +98,25 @@ module _ (s : Stream) (b a : List ℤ) (rs : List Reset) where
   -- one more payment with its amount
   pub one_more_paid : (ps : List Payment) (i : ℕ) (es : List PaymentEntry) (p : Payment) (y : PaymentEntry)
       → ArePaid ps i es → slice_get ps i ≡ Some p
-      → payment_of y ≡ p → IsAmountFor s b a rs p y.amount → HasAmount s.currency y
-      → ((k : ℕ) → PassesIn s b a rs p k → ⊥) → ArePaid ps (i + 1) (es ++ y ∷ [])
+      → payment_of y ≡ p → IsAmountFor d p y.amount → HasAmount d.stream.currency y
+      → ((k : ℕ) → PassesIn d p k → ⊥) → ArePaid ps (i + 1) (es ++ y ∷ [])
   one_more_paid ps i es p y h there is amount bound within =
       let longer : take (i + 1) ps ≡ take i ps ++ p ∷ [] =
       take_more ps i p (slice_get_within ps i p there)
       ∙ ap (λ (q : Payment). take i ps ++ q ∷ []) (get_or_from_slice_get ps i p p there) in
       let pushed : take i ps ++ p ∷ [] ≡ map payment_of es ++ payment_of y ∷ [] =
       ap₂ (λ (qs : List Payment) (q : Payment). qs ++ q ∷ []) (sym h.payments) (sym is) in
-      let own : IsAmountFor s b a rs (payment_of y) y.amount =
-      subst (λ (q : Payment). IsAmountFor s b a rs q y.amount) (sym is) amount in
+      let own : IsPaymentEntry d y = subst (λ (q : Payment). IsAmountFor d q y.amount) (sym is) amount in
       record {
         payments = map-append payment_of es (y ∷ []) ∙ sym pushed ∙ sym longer;
-        amounts = every_both (λ (e : PaymentEntry). IsAmountFor s b a rs (payment_of e) e.amount) es (y ∷ []) h.amounts
-            (own, tt);
-        bounds = every_both (HasAmount s.currency) es (y ∷ []) h.bounds (bound, tt);
+        amounts = every_both (IsPaymentEntry d) es (y ∷ []) h.amounts (own, tt);
+        bounds = every_both (HasAmount d.stream.currency) es (y ∷ []) h.bounds (bound, tt);
         within = λ j q less e k x. elim (cases_lt j i) [
           | inl before ↦ h.within j q before e k x
           | inr from ↦
               let at : j ≡ i = omega (arith, less, from) in
               let same : q ≡ p = same_Some q p (sym e ∙ ap (slice_get ps) at ∙ there) in
-              within k (subst (λ (r : Payment). PassesIn s b a rs r k) same x)
+              within k (subst (λ (r : Payment). PassesIn d r k) same x)
         ];
       }
 
@@ -125,29 +126,29 @@ module _ (s : Stream) (b a : List ℤ) (rs : List Reset) where
   all_paid ps i es le h = h.payments ∙ take_all i ps le
 
   pub none_passes : (ps : List Payment) (i : ℕ) (es : List PaymentEntry) → length ps ≤ i → ArePaid ps i es → (k : ℕ)
-      → PassesAt s b a rs ps k → ⊥
+      → PassesAt d ps k → ⊥
   none_passes ps i es le h k x =
       let inside = slice_get_within ps x.number x.payment x.there in
       h.within x.number x.payment (omega (arith, inside, le)) x.there k x.within
 
   -- the first period of the next payment that leaves the range is the first of all
   pub first_of_all : (ps : List Payment) (i : ℕ) (es : List PaymentEntry) (p : Payment) (last k : ℕ) → Covers 1 ps last
-      → ArePaid ps i es → slice_get ps i ≡ Some p → PassesFirstIn s b a rs p k → PassesFirst s b a rs ps k
-  first_of_all ps i es p last k covers h there first = record {
-    passes = record { number = i; payment = p; there = there; within = first.passes };
-    none_before = λ m less x. elim (cases_lt x.number i) [
+      → ArePaid ps i es → slice_get ps i ≡ Some p → First nat_lt (PassesIn d p) k → First nat_lt (PassesAt d ps) k
+  first_of_all ps i es p last k covers h there first = (
+    record { number = i; payment = p; there = there; within = first.0 },
+    λ m x. lt_false m k (λ less. elim (cases_lt x.number i) [
       | inl before ↦ h.within x.number x.payment before x.there m x.within
       | inr from ↦ elim (cases_lt i x.number) [
         | inl behind ↦
             let order = covers_in_order 1 last ps i x.number p x.payment covers behind there x.there in
             let at = x.within.is in
-            let end = first.to_end in
-            let low = out_from_one s.compounding x.within.terms x.within.number x.within.out in
+            let end = passes_within d p k first.0 in
+            let low = out_from_one d.stream.compounding x.within.terms x.within.number x.within.out in
             omega (arith, order, at, end, less, low)
         | inr to ↦
             let at : x.number ≡ i = omega (arith, from, to) in
             let same : x.payment ≡ p = same_Some x.payment p (sym x.there ∙ ap (slice_get ps) at ∙ there) in
-            first.none_before m less (subst (λ (r : Payment). PassesIn s b a rs r m) same x.within)
+            false_lt m k (first.1 m (subst (λ (r : Payment). PassesIn d r m) same x.within)) less
       ]
-    ];
-  }
+    ]),
+  )

@@ -24,6 +24,7 @@ use Rattle.irs_schedule.specs.PaidEntries.{ArePaid}
 use Rattle.irs_schedule.specs.Parts.{Part}
 use Rattle.irs_schedule.specs.Periods.{periods_by}
 use Rattle.irs_schedule.specs.Schedules.{IsPart}
+use Rattle.irs_schedule.specs.StreamDates.{layout_dates}
 use Rattle.irs_schedule.specs.declared.entries.PaymentEntry.{PaymentEntry}
 use Rattle.irs_schedule.specs.declared.layouts.Layout.{Layout}
 use Rattle.irs_schedule.specs.declared.stream.Dated.{Dated}
@@ -46,7 +47,7 @@ part_made s l dated es = record {
 
 pub part_stands : (sets : StreamSets) (fix : RateTable) (s : Stream) (l : Layout) (dated : Dated)
     (es : List PaymentEntry) → 2 ≤ length l.unadjusted → IsKeptLayout sets s l → AreDated sets fix s l dated
-    → ArePaid s l.unadjusted l.adjusted dated.resets dated.payments es → IsPart sets fix s (part_made s l dated es)
+    → ArePaid (layout_dates s l dated.resets) dated.payments es → IsPart sets fix s (part_made s l dated es)
 part_stands sets fix s l dated es some h d paid = record {
   currency = refl;
   day_count = refl;
@@ -61,7 +62,7 @@ part_stands sets fix s l dated es some h d paid = record {
   amounts = paid.amounts;
   count = let n = length_periods (kept_of s) l.unadjusted l.adjusted dated.resets in
       let same = h.adjusted.same_length in omega (arith, n, same, some);
-  periods = entries_stand s (kept_of s) l.unadjusted l.adjusted dated.resets refl h.rises (let same =
+  periods = entries_stand (layout_dates s l dated.resets) (kept_of s) refl h.rises (let same =
       h.adjusted.same_length in omega (arith, same, some));
   resets = d.resets;
 }
@@ -78,7 +79,7 @@ pub makes_part : (sets : StreamSets) (fix : RateTable) (s : Stream) (l : Layout)
     → terms ≡ kept_of s → IsLawfulStream s → StepsRise s.notional.steps → LegStepsRise s.leg → ReachDays sets
     → AreDays l.unadjusted → AreDays l.adjusted
     → 2 ≤ length l.unadjusted → IsKeptLayout sets s l → AreDated sets fix s l d
-    → ArePaid s l.unadjusted l.adjusted d.resets d.payments es
+    → ArePaid (layout_dates s l d.resets) d.payments es
     → MakePart terms l.unadjusted l.adjusted d.exchanges es d.resets
 makes_part sets fix s l d es terms e lawful notional_rises leg_rises reach days moved some laid dated paid =
     let last = length l.unadjusted - 1 in

@@ -21,6 +21,7 @@ use Rattle.irs_schedule.specs.declared.layouts.Layout.{Layout}
 use Rattle.irs_schedule.specs.Layouts.{IsKeptLayout}
 use Rattle.irs_schedule.specs.Parts.{Part}
 use Rattle.irs_schedule.specs.Schedules.{IsPart, IsSchedule}
+use Rattle.irs_schedule.specs.StreamDates.{layout_dates}
 use Rattle.irs_rules.specs.TermsKept.{TermsKept}
 use Rattle.irs_base.proofs.MemberLemmas.{pairs_there}
 use Rattle.irs_payments.proofs.ExchangesThere.{exchanges_there}
@@ -68,10 +69,10 @@ module _ (cal : List Section) (sets : StreamSets) (fix : RateTable) (s : Stream)
     part_over ps are_payments rs are_resets xs are_exchanges =
         let some = layout_some cal sets s lawful terms l is in
         let same_length = is.adjusted.same_length in
-        let paid = amounts_there s l.unadjusted l.adjusted rs is.rises
+        let paid = amounts_there (layout_dates s l rs) is.rises
         (layout_adjusted_days cal sets s lawful terms l is ranges) 1 (length l.unadjusted - 1) ps (omega arith)
         (layout_covers cal sets s lawful terms l is ps are_payments) (omega (arith, some, same_length)) in
-        let periods = entries_there s l.unadjusted l.adjusted rs is.rises (omega (arith, some, same_length)) in (
+        let periods = entries_there (layout_dates s l rs) is.rises (omega (arith, some, same_length)) in (
           record {
             currency = s.currency;
             day_count = s.day_count;

@@ -27,6 +27,8 @@ use Rattle.irs_schedule.specs.DatedRules.{in_steps, passed_at, resets_over, turn
 use Rattle.irs_schedule.specs.FirstPassed.{IsFirstPassed}
 use Rattle.irs_schedule.specs.Layouts.{IsKeptLayout}
 use Rattle.irs_schedule.specs.PeriodTerms.{PassesAt}
+use Rattle.irs_schedule.specs.StreamDates.{layout_dates}
+use Rattle.irs_base.proofs.Firsts.{false_lt}
 use Rattle.irs_schedule.specs.declared.layouts.Layout.{Layout}
 use Rattle.irs_schedule.proofs.LayoutRules.{layout_is, layout_unbroken, over_first, over_unbroken}
 
@@ -149,17 +151,17 @@ module _ (sets : StreamSets) (fix : RateTable) (s : Stream) where
     module _ (ps : List Payment) (rs : List Reset)
         (are_payments : ArePayments s sets.payment l.unadjusted l.adjusted ps)
         (are_resets : IsResets (resets_over sets s l) fix rs) where
-      passes_here : (f : Fault) (h : BreaksAmounts sets fix s l f) → PassesAt s l.unadjusted l.adjusted rs ps h.period
+      passes_here : (f : Fault) (h : BreaksAmounts sets fix s l f) → PassesAt (layout_dates s l rs) ps h.period
       passes_here f h =
           let payments : h.payments ≡ ps =
           one_payments s sets.payment l.unadjusted l.adjusted is.unadjusted.rising h.payments ps h.are_payments
           are_payments in
           let resets : h.resets ≡ rs = one_resets (resets_over sets s l) fix h.resets rs h.are_resets are_resets in
-          subst (λ (qs : List Payment). PassesAt s l.unadjusted l.adjusted rs qs h.period) payments
-          (subst (λ (qs : List Reset). PassesAt s l.unadjusted l.adjusted qs h.payments h.period) resets h.passes)
+          subst (λ (qs : List Payment). PassesAt (layout_dates s l rs) qs h.period) payments
+          (subst (λ (qs : List Reset). PassesAt (layout_dates s l qs) h.payments h.period) resets h.passes)
 
       -- where no period leaves its range no rule of the amounts is broken
-      pub kept_amounts : KeptBefore sets fix s 6 → ((i : ℕ) → PassesAt s l.unadjusted l.adjusted rs ps i → ⊥)
+      pub kept_amounts : KeptBefore sets fix s 6 → ((i : ℕ) → PassesAt (layout_dates s l rs) ps i → ⊥)
           → StreamKept sets fix s
       kept_amounts before none =
           kept_all (kept_next in_amounts before
@@ -167,7 +169,7 @@ module _ (sets : StreamSets) (fix : RateTable) (s : Stream) where
           (λ f h. none h.period (passes_here f h))))
 
       -- the first period that leaves it is the first broken rule
-      passed_first : (f : Fault) → IsFirstPassed s l.unadjusted l.adjusted rs ps f
+      passed_first : (f : Fault) → IsFirstPassed (PassesAt (layout_dates s l rs) ps) f
           → First comes_before (BreaksAmounts sets fix s l) f
       passed_first f h = (
         record {
@@ -177,15 +179,15 @@ module _ (sets : StreamSets) (fix : RateTable) (s : Stream) where
           are_resets = are_resets;
           period =
               h.0;
-          passes = h.1.passes;
+          passes = h.1.0;
           is = h.2;
         },
         λ g k. told f g (passed_at h.0) (passed_at k.period) h.2 k.is
             (not_before_index K39 calculation_period_amount k.period h.0
-            (λ less. h.1.none_before k.period less (passes_here g k))),
+            (false_lt k.period h.0 (h.1.1 k.period (passes_here g k)))),
       )
 
-      pub amounts_first : KeptBefore sets fix s 6 → (f : Fault) → IsFirstPassed s l.unadjusted l.adjusted rs ps f
+      pub amounts_first : KeptBefore sets fix s 6 → (f : Fault) → IsFirstPassed (PassesAt (layout_dates s l rs) ps) f
           → StreamBroken sets fix s f
       amounts_first before f h =
           stream_first in_amounts before f

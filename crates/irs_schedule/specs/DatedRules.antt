@@ -25,6 +25,7 @@ use Rattle.irs_resets.specs.Resets.{IsResets, ResetSource, source_of}
 use Rattle.irs_schedule.specs.DaySets.{StreamSets, stream_sets}
 use Rattle.irs_schedule.specs.Layouts.{IsLayout}
 use Rattle.irs_schedule.specs.PeriodTerms.{PassesAt}
+use Rattle.irs_schedule.specs.StreamDates.{layout_dates}
 use Rattle.irs_schedule.specs.declared.layouts.Layout.{Layout}
 
 -- the parts in which the dates and amounts of a stream are worked out, in their order
@@ -87,7 +88,7 @@ pub record BreaksAmounts (sets : StreamSets) (fix : RateTable) (s : Stream) (l :
   pub resets : List Reset
   pub are_resets : IsResets (resets_over sets s l) fix resets
   pub period : ℕ
-  pub passes : PassesAt s l.unadjusted l.adjusted resets payments period
+  pub passes : PassesAt (layout_dates s l resets) payments period
   pub is : f ≡ passed_at period
 
 -- the rules that a part of the stream breaks

@@ -1,6 +1,6 @@
 -- What is worked out for the calculation periods of a stream, and the amounts of its payments.
--- Periods are counted from 1. b are the unadjusted boundaries, a the adjusted ones, rs the resets.
-use Rattle.std.specs.Prelude.{◌≡◌, ℕ, ◌+◌, ◌-◌, ◌==◌, ◌<◌, ◌≤◌, All, List, length, Option, Some, None, option_map}
+-- Periods are counted from 1. d is what they are worked out of.
+use Rattle.std.specs.Prelude.{◌≡◌, ℕ, ◌+◌, ◌-◌, ◌==◌, ◌≤◌, All, List, length, Option, Some, None, option_map}
 use Rattle.std.specs.Prelude.{slice_get, ℤ}
 use Rattle.irs_base.specs.DayLists.{AreDays}
 use Rattle.irs_base.specs.Listed.{IsRising}
@@ -8,7 +8,6 @@ use Rattle.irs_base.specs.declared.line.Dec.{Dec}
 use Rattle.irs_terms.specs.Currencies.{decimals_of}
 use Rattle.irs_terms.specs.declared.codes.CompCode.{CompCode}
 use Rattle.irs_terms.specs.declared.results.Payment.{Payment}
-use Rattle.irs_terms.specs.declared.results.Reset.{Reset}
 use Rattle.irs_terms.specs.declared.stream.Stream.{Stream}
 use Rattle.irs_daycount.specs.Fractions.{Days, Fraction}
 use Rattle.irs_compound.specs.InForce.{InForce}
@@ -19,27 +18,30 @@ use Rattle.irs_base.specs.Limits.{most_periods}
 use Rattle.irs_resets.specs.Resets.{HasSmallRate}
 use Rattle.irs_schedule.specs.declared.entries.PeriodEntry.{PeriodEntry}
 use Rattle.irs_schedule.specs.Periods.{observed_of}
+use Rattle.irs_schedule.specs.StreamDates.{StreamDates}
 use Rattle.irs_base.specs.Members.{EachNumbered, day_at}
 
 -- notional, rates and fraction of period i; the last period is the last of the stream
-pub record IsPeriodTerm (s : Stream) (b a : List ℤ) (rs : List Reset) (i : ℕ) (t : PeriodTerm) : Type 0 where
-  pub notional : InForce s.notional (day_at b (i - 1)) t.notional
-  pub rates : AreRates s.leg (day_at b (i - 1)) (observed_of rs i) t.rates
-  pub frac : Fraction s.day_count (day_at a (i - 1)) (day_at a i) (i == length a - 1) t.frac
+pub record IsPeriodTerm (d : StreamDates) (i : ℕ) (t : PeriodTerm) : Type 0 where
+  pub notional : InForce d.stream.notional (day_at d.unadjusted (i - 1)) t.notional
+  pub rates : AreRates d.stream.leg (day_at d.unadjusted (i - 1)) (observed_of d.resets i) t.rates
+  pub frac : Fraction d.stream.day_count (day_at d.adjusted (i - 1)) (day_at d.adjusted i)
+      (i == length d.adjusted - 1) t.frac
 
 -- what a schedule says of period i
-pub record IsPeriodEntry (s : Stream) (b a : List ℤ) (rs : List Reset) (i : ℕ) (e : PeriodEntry) : Type 0 where
+pub record IsPeriodEntry (d : StreamDates) (i : ℕ) (e : PeriodEntry) : Type 0 where
   pub term : PeriodTerm
-  pub is_term : IsPeriodTerm s b a rs i term
-  pub days : Days s.day_count (day_at a (i - 1)) (day_at a i) (i == length a - 1) e.days
+  pub is_term : IsPeriodTerm d i term
+  pub days : Days d.stream.day_count (day_at d.adjusted (i - 1)) (day_at d.adjusted i)
+      (i == length d.adjusted - 1) e.days
   pub frac : e.frac ≡ term.frac
   pub notional : e.notional ≡ term.notional
   pub rate : e.rate ≡ option_map (λ r. r.all_in) term.rates
 
 -- the terms of the periods of a payment, in order
-pub record AreTerms (s : Stream) (b a : List ℤ) (rs : List Reset) (p : Payment) (terms : List PeriodTerm) : Type 0 where
+pub record AreTerms (d : StreamDates) (p : Payment) (terms : List PeriodTerm) : Type 0 where
   pub count : p.first_period + length terms ≡ p.last_period + 1
-  pub each : EachNumbered (IsPeriodTerm s b a rs) p.first_period terms
+  pub each : EachNumbered (IsPeriodTerm d) p.first_period terms
 
 -- so many units of so many decimals
 abbrev pub dec_of : ℕ → ℤ → Dec
@@ -54,46 +56,34 @@ IsAmountBy s terms (Some v) =
     × AmountOf s.compounding terms (decimals_of s.currency.letters) (Some v.units)
 
 -- the amount of a payment, by the terms of its periods
-pub record IsAmountFor (s : Stream) (b a : List ℤ) (rs : List Reset) (p : Payment) (amount : Option Dec) : Type 0 where
+pub record IsAmountFor (d : StreamDates) (p : Payment) (amount : Option Dec) : Type 0 where
   pub terms : List PeriodTerm
-  pub are_terms : AreTerms s b a rs p terms
-  pub is_amount : IsAmountBy s terms amount
+  pub are_terms : AreTerms d p terms
+  pub is_amount : IsAmountBy d.stream terms amount
 
 -- no period leaves its range in a payment whose rates are all there
 abbrev pub NonePasses : CompCode → List PeriodTerm → Type 0
 NonePasses code terms = (number : ℕ) → IsOutOfRange code terms number → ⊥
 
 -- at period i of the payment, whose rates are all there, a rate or an amount leaves its range
-pub record PassesIn (s : Stream) (b a : List ℤ) (rs : List Reset) (payment : Payment) (i : ℕ) : Type 0 where
+pub record PassesIn (d : StreamDates) (payment : Payment) (i : ℕ) : Type 0 where
   pub terms : List PeriodTerm
-  pub are_terms : AreTerms s b a rs payment terms
+  pub are_terms : AreTerms d payment terms
   pub number : ℕ
-  pub out : IsOutOfRange s.compounding terms number
+  pub out : IsOutOfRange d.stream.compounding terms number
   pub is : i + 1 ≡ payment.first_period + number
 
--- the first such period of the payment
-pub record PassesFirstIn (s : Stream) (b a : List ℤ) (rs : List Reset) (payment : Payment) (i : ℕ) : Type 0 where
-  pub passes : PassesIn s b a rs payment i
-  pub none_before : (k : ℕ) → k < i → PassesIn s b a rs payment k → ⊥
-  pub to_end : i ≤ payment.last_period
-
 -- at period i of one of the payments, whose rates are all there, a rate or an amount leaves its range
-pub record PassesAt (s : Stream) (b a : List ℤ) (rs : List Reset) (ps : List Payment) (i : ℕ) : Type 0 where
+pub record PassesAt (d : StreamDates) (ps : List Payment) (i : ℕ) : Type 0 where
   pub number : ℕ
   pub payment : Payment
   pub there : slice_get ps number ≡ Some payment
-  pub within : PassesIn s b a rs payment i
+  pub within : PassesIn d payment i
 
--- the first such period of all of them
-pub record PassesFirst (s : Stream) (b a : List ℤ) (rs : List Reset) (ps : List Payment) (i : ℕ) : Type 0 where
-  pub passes : PassesAt s b a rs ps i
-  pub none_before : (k : ℕ) → k < i → PassesAt s b a rs ps k → ⊥
-
--- the lists that periods are worked out of: the adjusted boundaries are days that rise, one for each
--- unadjusted boundary, and observed rates are small
-pub record IsTable (b a : List ℤ) (rs : List Reset) : Type 0 where
-  pub few : length b ≤ most_periods + 1
-  pub same_length : length a ≡ length b
-  pub rises : IsRising a
-  pub days : AreDays a
-  pub small : All HasSmallRate rs
+-- the adjusted boundaries are days that rise, one for each unadjusted boundary, and observed rates are small
+pub record IsTable (d : StreamDates) : Type 0 where
+  pub few : length d.unadjusted ≤ most_periods + 1
+  pub same_length : length d.adjusted ≡ length d.unadjusted
+  pub rises : IsRising d.adjusted
+  pub days : AreDays d.adjusted
+  pub small : All HasSmallRate d.resets

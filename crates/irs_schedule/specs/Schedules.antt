@@ -15,6 +15,7 @@ use Rattle.irs_schedule.specs.DaySets.{StreamSets, stream_sets}
 use Rattle.irs_schedule.specs.declared.layouts.Layout.{Layout}
 use Rattle.irs_schedule.specs.Layouts.{IsLayout}
 use Rattle.irs_schedule.specs.PeriodTerms.{IsPeriodEntry, IsAmountFor}
+use Rattle.irs_schedule.specs.StreamDates.{StreamDates, part_dates}
 use Rattle.irs_base.specs.Members.{EachNumbered, Pairs, Every}
 
 -- the payment without its amount
@@ -28,6 +29,10 @@ payment_of y =
           y.last_period;
     }
 
+-- what a schedule says of a payment: the amount that its periods give
+abbrev pub IsPaymentEntry : StreamDates → PaymentEntry → Type 0
+IsPaymentEntry d y = IsAmountFor d (payment_of y) y.amount
+
 -- p is the part of the stream: every list and every field stands in its relation
 pub record IsPart (sets : StreamSets) (fix : RateTable) (s : Stream) (p : Part) : Type 0 where
   pub currency : p.currency ≡ s.currency
@@ -39,9 +44,9 @@ pub record IsPart (sets : StreamSets) (fix : RateTable) (s : Stream) (p : Part) 
   pub adjusted : p.adjusted ≡ layout.adjusted
   pub exchanges : AreExchanges s sets.payment p.exchanges
   pub payments : ArePayments s sets.payment p.unadjusted p.adjusted (map payment_of p.payments)
-  pub amounts : Every (λ y. IsAmountFor s p.unadjusted p.adjusted p.resets (payment_of y) y.amount) p.payments
+  pub amounts : Every (IsPaymentEntry (part_dates s p)) p.payments
   pub count : length p.periods + 1 ≡ length p.unadjusted
-  pub periods : EachNumbered (IsPeriodEntry s p.unadjusted p.adjusted p.resets) 1 p.periods
+  pub periods : EachNumbered (IsPeriodEntry (part_dates s p)) 1 p.periods
   pub resets : IsResets (source_of s layout.span p.adjusted sets.reset sets.fixing) fix p.resets
 
 -- one part for each stream of the swap, in order

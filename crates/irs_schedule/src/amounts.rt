@@ -9,9 +9,10 @@ ghost use Rattle.irs_schedule.specs.DatedRules.{passed_at};
 ghost use Rattle.irs_schedule.specs.FirstPassed.{IsFirstPassed};
 ghost use Rattle.irs_schedule.specs.Parts.{HasAmount, IsAmount};
 ghost use Rattle.irs_schedule.specs.PeriodTerms.{IsPeriodTerm, AreTerms, IsAmountBy, IsAmountFor, NonePasses, PassesIn};
-ghost use Rattle.irs_schedule.specs.PeriodTerms.{PassesAt, PassesFirstIn, IsTable, dec_of};
+ghost use Rattle.irs_schedule.specs.PeriodTerms.{PassesAt, IsTable, dec_of};
+ghost use Rattle.irs_schedule.specs.StreamDates.{table_dates};
 ghost use Rattle.irs_base.specs.Faults.{IfBroken};
-ghost use Rattle.irs_schedule.specs.Schedules.{payment_of};
+ghost use Rattle.irs_schedule.specs.Schedules.{IsPaymentEntry, payment_of};
 ghost use Rattle.irs_base.specs.Members.{Every};
 ghost use Rattle.irs_terms.specs.StepDates.{AllStepsRise};
 
@@ -47,17 +48,13 @@ pub(crate) fn paid(
 ) -> Result<Vec<PaymentEntry>, Stopped<Fault>>
     requires lawful { IsLawfulStream s.now }
     requires rises { AllStepsRise s.now }
-    requires table { IsTable table.now.unadjusted.now table.now.adjusted.now table.now.resets.now }
+    requires table { IsTable (table_dates s.now table.now) }
     requires covers { Covers 1 payments.now (length table.now.unadjusted.now - 1) }
     ensures payments { IfOk result (λ es. map payment_of es.items ≡ payments.now) }
-    ensures amounts { IfOk result
-        (λ es. Every (λ y. IsAmountFor s.now table.now.unadjusted.now table.now.adjusted.now table.now.resets.now
-        (payment_of y) y.amount) es.items) }
+    ensures amounts { IfOk result (λ es. Every (IsPaymentEntry (table_dates s.now table.now)) es.items) }
     ensures bounds { IfOk result (λ es. Every (HasAmount s.now.currency) es.items) }
-    ensures within { IfOk result (λ _. (i : ℕ)
-        → PassesAt s.now table.now.unadjusted.now table.now.adjusted.now table.now.resets.now payments.now i → ⊥) }
-    ensures broken { IfBroken result
-        (IsFirstPassed s.now table.now.unadjusted.now table.now.adjusted.now table.now.resets.now payments.now) }
+    ensures within { IfOk result (λ _. (i : ℕ) → PassesAt (table_dates s.now table.now) payments.now i → ⊥) }
+    ensures broken { IfBroken result (IsFirstPassed (PassesAt (table_dates s.now table.now) payments.now)) }
 {
     let mut entries = Vec::new(alloc);
     for payment in payments {
@@ -76,20 +73,15 @@ fn paid_by(
 ) -> Result<PaymentEntry, Stopped<Fault>>
     requires lawful { IsLawfulStream s.now }
     requires rises { AllStepsRise s.now }
-    requires table { IsTable table.now.unadjusted.now table.now.adjusted.now table.now.resets.now }
+    requires table { IsTable (table_dates s.now table.now) }
     requires from_one { 1 ≤ payment.now.first_period }
     requires some { payment.now.first_period ≤ payment.now.last_period }
     requires to_end { payment.now.last_period < length table.now.unadjusted.now }
     ensures payment { IfOk result (λ y. payment_of y ≡ payment.now) }
-    ensures amount { IfOk result
-        (λ y. IsAmountFor s.now table.now.unadjusted.now table.now.adjusted.now table.now.resets.now payment.now
-        y.amount) }
+    ensures amount { IfOk result (λ y. IsAmountFor (table_dates s.now table.now) payment.now y.amount) }
     ensures bound { IfOk result (HasAmount s.now.currency) }
-    ensures within { IfOk result (λ _. (i : ℕ)
-        → PassesIn s.now table.now.unadjusted.now table.now.adjusted.now table.now.resets.now payment.now i → ⊥) }
-    ensures broken { IfBroken result (λ x. (i : ℕ)
-        × PassesFirstIn s.now table.now.unadjusted.now table.now.adjusted.now table.now.resets.now payment.now i
-        × (x ≡ passed_at i)) }
+    ensures within { IfOk result (λ _. (i : ℕ) → PassesIn (table_dates s.now table.now) payment.now i → ⊥) }
+    ensures broken { IfBroken result (IsFirstPassed (PassesIn (table_dates s.now table.now) payment.now)) }
 {
     let terms = terms_of(alloc, s, table, payment)?;
     let amount = amount_of(s, &terms, payment.first_period)?;
@@ -158,13 +150,11 @@ fn terms_of(
 ) -> Result<Vec<PeriodTerm>, Memory>
     requires lawful { IsLawfulStream s.now }
     requires rises { AllStepsRise s.now }
-    requires table { IsTable table.now.unadjusted.now table.now.adjusted.now table.now.resets.now }
+    requires table { IsTable (table_dates s.now table.now) }
     requires from_one { 1 ≤ payment.now.first_period }
     requires some { payment.now.first_period ≤ payment.now.last_period }
     requires to_end { payment.now.last_period < length table.now.unadjusted.now }
-    ensures { IfOk result
-        (λ ts. AreTerms s.now table.now.unadjusted.now table.now.adjusted.now table.now.resets.now payment.now
-        ts.items) }
+    ensures { IfOk result (λ ts. AreTerms (table_dates s.now table.now) payment.now ts.items) }
 {
     let mut terms = Vec::new(alloc);
     for number in payment.first_period..payment.last_period + 1 {
@@ -177,10 +167,10 @@ fn terms_of(
 fn period_term(s: &Stream, table: &PeriodTable<'_>, number: usize) -> PeriodTerm
     requires lawful { IsLawfulStream s.now }
     requires rises { AllStepsRise s.now }
-    requires table { IsTable table.now.unadjusted.now table.now.adjusted.now table.now.resets.now }
+    requires table { IsTable (table_dates s.now table.now) }
     requires low { 1 ≤ number }
     requires high { number < length table.now.unadjusted.now }
-    ensures { IsPeriodTerm s.now table.now.unadjusted.now table.now.adjusted.now table.now.resets.now number result }
+    ensures { IsPeriodTerm (table_dates s.now table.now) number result }
 {
     let start = day_at(table.unadjusted, number - 1);
     PeriodTerm {

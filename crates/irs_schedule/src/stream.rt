@@ -80,9 +80,9 @@ fn entries_of(
     requires covers { Covers 1 dated.now.payments (length layout.now.unadjusted - 1) }
     requires small { All HasSmallRate dated.now.resets }
     ensures entries { IfOk result
-        (λ es. ArePaid s.now layout.now.unadjusted layout.now.adjusted dated.now.resets dated.now.payments es.items) }
+        (λ es. ArePaid (layout_dates s.now layout.now dated.now.resets) dated.now.payments es.items) }
     ensures broken { IfBroken result
-        (IsFirstPassed s.now layout.now.unadjusted layout.now.adjusted dated.now.resets dated.now.payments) }
+        (IsFirstPassed (PassesAt (layout_dates s.now layout.now dated.now.resets) dated.now.payments)) }
 {
     let table = PeriodTable {
         unadjusted: layout.unadjusted.as_slice(),
@@ -142,4 +142,6 @@ ghost use Rattle.irs_schedule.specs.DaySets.{StreamSets};
 ghost use Rattle.irs_schedule.specs.FirstPassed.{IsFirstPassed};
 ghost use Rattle.irs_schedule.specs.PaidEntries.{ArePaid};
 ghost use Rattle.irs_schedule.specs.Parts.{KeepsBounds};
+ghost use Rattle.irs_schedule.specs.PeriodTerms.{PassesAt};
+ghost use Rattle.irs_schedule.specs.StreamDates.{layout_dates};
 ghost use Rattle.std.specs.Prelude.{All};

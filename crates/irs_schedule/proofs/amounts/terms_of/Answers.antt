@@ -1,18 +1,18 @@
 use Rattle.std.proofs.Common.{◌≡◌, ◌++◌, [], ◌∷◌, length, length-append, ap, arith}
 use Rattle.irs_schedule.specs.PeriodTerms.{IsPeriodTerm}
+use Rattle.irs_schedule.specs.StreamDates.{table_dates}
 use Rattle.irs_base.proofs.MemberLemmas.{numbered_push}
 use Rattle.irs_schedule.proofs.amounts.terms_of.Goals as goal
 
 pub loop-number-preserved : goal.loop-number-preserved
 loop-number-preserved c =
-    let table = c.args.table.now in
     let terms = c.loop-number.terms.items in
     let count = c.loop-number.invariant.count in
     let longer : c.push.new.self.items ≡ terms ++ c.period_term.result ∷ [] = c.in_ok-push.ensures.items in
     record {
       count = omega (arith, count, ap length longer, length-append terms (c.period_term.result ∷ []));
       each = rw longer (numbered_push
-          (IsPeriodTerm c.args.s.now table.unadjusted.now table.adjusted.now table.resets.now)
+          (IsPeriodTerm (table_dates c.args.s.now c.args.table.now))
           c.args.payment.now.first_period c.loop-number.number terms c.period_term.result c.loop-number.invariant.each
           count c.period_term.ensures);
     }

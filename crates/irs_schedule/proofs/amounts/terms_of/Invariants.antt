@@ -1,11 +1,11 @@
 use Rattle.std.proofs.Common.{◌≡◌, ◌+◌, length}
 use Rattle.irs_schedule.specs.PeriodTerms.{IsPeriodTerm}
+use Rattle.irs_schedule.specs.StreamDates.{table_dates}
 use Rattle.irs_base.specs.Members.{EachNumbered}
 use Rattle.irs_schedule.proofs.amounts.terms_of.Given as goal
 
 abbrev pub invariant-loop-number : goal.invariant-loop-number
 invariant-loop-number l = record {
   count : l.fn.payment.first_period + length l.terms.items ≡ l.number;
-  each : EachNumbered (IsPeriodTerm l.s l.table.unadjusted.now l.table.adjusted.now l.table.resets.now)
-      l.fn.payment.first_period l.terms.items;
+  each : EachNumbered (IsPeriodTerm (table_dates l.s l.table)) l.fn.payment.first_period l.terms.items;
 }

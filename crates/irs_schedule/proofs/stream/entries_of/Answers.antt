@@ -2,6 +2,7 @@ use Rattle.std.proofs.Common.{List, ℤ, IfOk, subst}
 use Rattle.irs_terms.specs.declared.results.Payment.{Payment}
 use Rattle.irs_terms.specs.declared.results.Reset.{Reset}
 use Rattle.irs_schedule.specs.PaidEntries.{ArePaid}
+use Rattle.irs_schedule.specs.StreamDates.{dates_of}
 use Rattle.irs_base.proofs.HandedAnswers.{ok_four}
 use Rattle.irs_schedule.proofs.stream.entries_of.Goals as goal
 
@@ -9,7 +10,7 @@ pub returns-clause-entries : goal.returns-clause-entries
 returns-clause-entries c =
     let s = c.args.s.now in
     let P : List ℤ → List ℤ → List Reset → List Payment → Type 0 =
-    λ b a rs ps. IfOk c.paid.result (λ es. ArePaid s b a rs ps es.items) in
+    λ b a rs ps. IfOk c.paid.result (λ es. ArePaid (dates_of s b a rs) ps es.items) in
     let raw : P c.as_slice.result.now c.as_slice-2.result.now c.as_slice-3.result.now c.as_slice-4.result.now =
     ok_four c.paid.result _ _ _ _ _ (λ es payments amounts bounds within. record {
       payments = payments;

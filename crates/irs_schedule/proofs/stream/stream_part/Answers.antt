@@ -6,9 +6,11 @@ use Rattle.irs_schedule.specs.DatedRules.{StreamBroken}
 use Rattle.irs_schedule.specs.FirstPassed.{IsFirstPassed}
 use Rattle.irs_schedule.specs.KeptTerms.{is_floating}
 use Rattle.irs_schedule.specs.Parts.{Part}
+use Rattle.irs_schedule.specs.PeriodTerms.{PassesAt}
 use Rattle.irs_schedule.specs.Periods.{periods_by}
 use Rattle.irs_schedule.specs.Schedules.{IsPart}
 use Rattle.irs_schedule.specs.StageSets.{sets_of}
+use Rattle.irs_schedule.specs.StreamDates.{layout_dates}
 use Rattle.irs_schedule.specs.declared.center_table.StreamDays.{StreamDays}
 use Rattle.irs_schedule.specs.declared.kept_terms.KeptTerms.{KeptTerms}
 use Rattle.irs_schedule.proofs.CenterLemmas.{days_in_range}
@@ -35,8 +37,8 @@ returns-in_err-entries-clause-broken c =
     let l = c.in_ok-layout.layout in
     let d = c.in_ok-dated.dated in
     let dated = c.in_ok-dated.ensures.ok in
-    rw (p.1, p.2) (handed_on c.in_err-entries.field-0.0 (IsFirstPassed s l.unadjusted l.adjusted d.resets d.payments)
-    (StreamBroken sets fix s)
+    rw (p.1, p.2) (handed_on c.in_err-entries.field-0.0
+    (IsFirstPassed (PassesAt (layout_dates s l d.resets) d.payments)) (StreamBroken sets fix s)
     (amounts_first sets fix s l c.in_ok-layout.ensures.ok d.payments d.resets dated.payments dated.resets dated.kept)
     c.in_err-entries.ensures.broken)
 

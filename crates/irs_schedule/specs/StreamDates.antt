@@ -1,0 +1,35 @@
+-- What the calculation periods of a stream are worked out of, as one value.
+use Rattle.std.specs.Prelude.{List, ℤ}
+use Rattle.irs_terms.specs.declared.results.Reset.{Reset}
+use Rattle.irs_terms.specs.declared.stream.Stream.{Stream}
+use Rattle.irs_schedule.specs.Parts.{Part}
+use Rattle.irs_schedule.specs.declared.amounts.PeriodTable.{PeriodTable}
+use Rattle.irs_schedule.specs.declared.layouts.Layout.{Layout}
+
+-- what the periods of a stream are worked out of: its terms, its unadjusted and adjusted boundaries, and its resets
+pub record StreamDates : Type 0 where
+  pub stream : Stream
+  pub unadjusted : List ℤ
+  pub adjusted : List ℤ
+  pub resets : List Reset
+
+-- the stream with these boundaries, unadjusted and adjusted, and these resets
+abbrev pub dates_of : Stream → List ℤ → List ℤ → List Reset → StreamDates
+dates_of s unadjusted adjusted resets = record {
+  stream = s;
+  unadjusted = unadjusted;
+  adjusted = adjusted;
+  resets = resets;
+}
+
+-- the stream with the boundaries of a layout and these resets
+abbrev pub layout_dates : Stream → Layout → List Reset → StreamDates
+layout_dates s l resets = dates_of s l.unadjusted l.adjusted resets
+
+-- the stream with the boundaries and the resets of its part
+abbrev pub part_dates : Stream → Part → StreamDates
+part_dates s p = dates_of s p.unadjusted p.adjusted p.resets
+
+-- the stream with those of a table
+abbrev pub table_dates : Stream → PeriodTable → StreamDates
+table_dates s table = dates_of s table.unadjusted.now table.adjusted.now table.resets.now
