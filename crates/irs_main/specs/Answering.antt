@@ -1,57 +1,41 @@
--- What the program does around a run: its text about itself, and what it says of a status.
+-- What the program does around a run: its texts about itself, and what it says of a status.
 use Rattle.std.specs.Prelude.{◌≡◌, ◌≢◌, ◌⊎◌, ℕ, ◌==◌, ◌<◌, List, [], ◌∷◌, ◌++◌, Option, Some, None, codes, if◌then◌else◌}
 use Rattle.std.specs.Str.{bytes_eq}
 use Rattle.irs_outside.specs.Outside.{Grew, GrewByFront, Rose}
 use Rattle.irs_plain.specs.Sentences.{sentence_of}
 use Rattle.irs_cli.specs.Commands.{IsListed}
 use Rattle.irs_cli.specs.Due.{Due, IsOneAnswer}
-use Rattle.irs_cli.specs.Given.{Told, TellsAll}
+use Rattle.irs_cli.specs.Given.{TellsAll}
 use Rattle.irs_cli.specs.Run.{NoFile}
 
--- the text that a single word asks for: `--help` or `--version`; all other words ask for neither
-abbrev pub itself_of : (help version : List ℕ) → List (List ℕ) → Option (List ℕ)
+-- ---- the program itself
+
+-- the text that the one word `--help` or `--version` asks for; any other words ask for neither
+abbrev pub itself_of : (help version : List ℕ) → (words : List (List ℕ)) → Option (List ℕ)
 itself_of help version [] = None
 itself_of help version (word ∷ []) =
     if bytes_eq word (codes "--help") then Some help
     else (if bytes_eq word (codes "--version") then Some version else None)
 itself_of help version (word ∷ another ∷ others) = None
 
--- texts with a line feed behind each
-abbrev pub lines_of : List (List ℕ) → List ℕ
-lines_of [] = []
-lines_of (line ∷ lines) = (line ++ codes "\n") ++ lines_of lines
-
--- what stands behind the sentence: the listed commands, where the words are none of them
-abbrev pub listing_of : (commands : List (List ℕ)) → ℕ → List ℕ
-listing_of commands status = if status == 4 then lines_of commands else []
-
--- what is said of a status and of what was printed with it: of 0 nothing
-abbrev pub explanation_of : (commands words : List (List ℕ)) → ℕ → List ℕ → List ℕ
-explanation_of commands words status printed =
-    if status == 0 then []
-    else (sentence_of words status printed ++ codes "\n") ++ listing_of commands status
-
--- all of a text was put and no put failed, or one failed and a front of the text was put
-abbrev pub Explained : List ℕ → Option (List ℕ) → Option (List ℕ) → ℕ → ℕ → Type 0
-Explained text old now before after =
-    (Grew old now text × (after ≡ before)) ⊎ (GrewByFront old now text × Rose before after)
-
--- a text was put and the status is 0, or a put failed, a front of the text was put, and the status is 6
-abbrev pub Printed : List ℕ → Option (List ℕ) → Option (List ℕ) → ℕ → ℕ → ℕ → Type 0
+-- the text was put and the status is 0; or a put failed, a front of the text was put, and the status is 6
+abbrev pub Printed : (text : List ℕ) → (old now : Option (List ℕ)) → (before after : ℕ) → (status : ℕ) → Type 0
 Printed text old now before after status =
     ((status ≡ 0) × Grew old now text × (after ≡ before))
     ⊎ ((status ≡ 6) × GrewByFront old now text × Rose before after)
 
--- what a run of the words comes to, over the files and the sink before and after it
+-- ---- any other words
+
+-- what a run of the words comes to: status, files and sink as the clauses of `run` have them
 pub record Ran
-    (words : List (List ℕ)) (told : Told) (name : Option (List ℕ)) (files_before files_after : ℕ)
-    (old now : Option (List ℕ)) (out_before out_after : ℕ) (status : ℕ) : Type 0 where
+    (words : List (List ℕ)) (told : List ℕ → Option (List ℕ)) (name : Option (List ℕ)) (files_before files_after : ℕ)
+    (old now : Option (List ℕ)) (before after : ℕ) (status : ℕ) : Type 0 where
   -- want of memory: nothing was written
   pub memory : status ≡ 7 → now ≡ old
   -- the fetch of a word that names a file failed, and the text says which
   pub failed : status ≡ 5 → (text : List ℕ) × NoFile words told name files_before files_after text × Grew old now text
   -- a put failed, and a front of the text due was written
-  pub put : status ≡ 6 → Rose out_before out_after × ((text : List ℕ) × GrewByFront old now text
+  pub put : status ≡ 6 → Rose before after × ((text : List ℕ) × GrewByFront old now text
       × (((s : ℕ) × Due words told s text) ⊎ NoFile words told name files_before files_after text))
   -- any other status, and exactly its text, are what is due
   pub due : status ≢ 5 → status ≢ 6 → status ≢ 7 → (text : List ℕ) × Due words told status text × Grew old now text
@@ -62,4 +46,26 @@ pub record Ran
   pub unlisted : (IsListed words → ⊥) → status ≢ 6 → status ≢ 7 → status ≡ 4
   -- a fault of the files or of the sink is told by the status
   pub files_cause : files_before < files_after → status ≢ 6 → status ≢ 7 → status ≡ 5
-  pub out_cause : out_before < out_after → status ≡ 6
+  pub out_cause : before < after → status ≡ 6
+
+-- ---- what is said
+
+-- texts with a line feed behind each
+abbrev pub lines_of : List (List ℕ) → List ℕ
+lines_of [] = []
+lines_of (line ∷ lines) = (line ++ codes "\n") ++ lines_of lines
+
+-- what stands behind the sentence: the listed commands, where the words are none of them
+abbrev pub listing_of : (commands : List (List ℕ)) → (status : ℕ) → List ℕ
+listing_of commands status = if status == 4 then lines_of commands else []
+
+-- what is said of a status and of the line that was printed with it; of 0 nothing is
+unfoldable pub explanation_of : (commands words : List (List ℕ)) → (status : ℕ) → (line : List ℕ) → List ℕ
+explanation_of commands words status line =
+    if status == 0 then []
+    else (sentence_of words status line ++ codes "\n") ++ listing_of commands status
+
+-- the text was put and no put failed, or one failed and a front of the text was put
+abbrev pub Explained : (text : List ℕ) → (old now : Option (List ℕ)) → (before after : ℕ) → Type 0
+Explained text old now before after =
+    (Grew old now text × (after ≡ before)) ⊎ (GrewByFront old now text × Rose before after)

@@ -1,8 +1,8 @@
-//! What the program does around `run`: it answers what is asked about itself, and explains each status
-//! but 0.
+//! What the program does around `run`: it answers what is asked about itself, and says what each status
+//! but 0 means.
 //!
 //! Words, texts and statuses are this project's own.
-ghost use Rattle.std.specs.Prelude.{◌≡◌, ℕ, ◌<◌, List, Option, Some, None, map, option_map, OnOk, OnErr};
+ghost use Rattle.std.specs.Prelude.{◌≡◌, ℕ, ◌<◌, List, Some, None, map, option_map, OnOk, OnErr};
 ghost use Rattle.irs_outside.specs.Outside.{Grew, GrewByFront, Rose};
 ghost use Rattle.irs_plain.specs.Kept.{front_of, sink_of};
 ghost use Rattle.irs_plain.specs.Words.{texts};
@@ -19,12 +19,12 @@ const BAD_WORDS: u8 = 4;
 /// The status where the text can't be written.
 const NOT_WRITTEN: u8 = 6;
 
-/// Answers the words, and says on `errors` what a status other than 0 means.
+/// Answers the words: prints what they ask for, and says on `errors` what a status other than 0 means.
 ///
 /// The single word `--help` or `--version` is answered with its text and 0, or 6 where a put failed. All
-/// other words are those of `run`, and so are text and status. On every status but 0 the sentence for it
-/// goes to `errors`, as a line, and for words that are no listed command the listed commands, a line each;
-/// nothing more behind a put on `errors` that failed.
+/// other words are run, as `run` says. On every status but 0 the sentence for it goes to `errors` as a
+/// line, and behind it, for words that are no listed command, the listed commands, a line each. Nothing
+/// is put on `errors` behind a put that failed.
 pub fn answer<F: Files, S: Sink, E: Sink>(
     alloc: Global,
     words: &[String],
@@ -36,20 +36,25 @@ pub fn answer<F: Files, S: Sink, E: Sink>(
     ensures listed { result < 9 }
     ensures told { (n : List ℕ) → F.told files.new n ≡ F.told files.old n }
 
-    // The words ask about the program itself: its text is printed, and no file is asked for.
+    // The words ask about the program itself: that text is printed, and no file is fetched.
     ensures itself { (text : List ℕ) → itself_of HELP.now VERSION.now (texts words.now) ≡ Some text
-        → Printed text (S.written (sink_of out.old)) (S.written (sink_of out.new)) (S.faults (sink_of out.old)) (S.faults (sink_of out.new)) result
-        × (F.faults files.new ≡ F.faults files.old) }
+        → Printed text (S.written (sink_of out.old)) (S.written (sink_of out.new))
+        (S.faults (sink_of out.old)) (S.faults (sink_of out.new)) result
+        × (files.new ≡ files.old) }
 
     // Any other words are run.
     ensures ran { itself_of HELP.now VERSION.now (texts words.now) ≡ None
         → Ran (texts words.now) (F.told files.old) (F.failed files.new) (F.faults files.old) (F.faults files.new)
-            (S.written (sink_of out.old)) (S.written (sink_of out.new)) (S.faults (sink_of out.old)) (S.faults (sink_of out.new)) result }
+        (S.written (sink_of out.old)) (S.written (sink_of out.new))
+        (S.faults (sink_of out.old)) (S.faults (sink_of out.new)) result }
 
-    // What the status means is said, with the front of what was put, and of status 0 nothing.
-    ensures explained { Explained (explanation_of (map (λ c. c.now) COMMANDS) (texts words.now) result (front_of out.new))
+    // What the status and the first bytes that were put mean is said.
+    ensures explained { Explained
+        (explanation_of (map (λ c. c.now) COMMANDS) (texts words.now) result (front_of out.new))
         (E.written errors.old) (E.written errors.new) (E.faults errors.old) (E.faults errors.new) }
-    ensures silent { result ≡ 0 → (E.written errors.new ≡ E.written errors.old) × (E.faults errors.new ≡ E.faults errors.old) }
+
+    // Where all is done nothing is put there.
+    ensures silent { result ≡ 0 → errors.new ≡ errors.old }
 {
     let status = match about_itself(words) {
         Some(text) => print(out, text),
@@ -75,7 +80,7 @@ fn about_itself(words: &[String]) -> Option<&'static str>
     }
 }
 
-// Prints what the program says of itself.
+// Prints a text, and answers the status.
 fn print<S: Sink>(out: &mut S, text: &str) -> u8
     ensures { Printed text.now (S.written out.old) (S.written out.new) (S.faults out.old) (S.faults out.new) result }
 {
@@ -85,11 +90,12 @@ fn print<S: Sink>(out: &mut S, text: &str) -> u8
     }
 }
 
-/// Says what was written with this status, as far as `errors` takes it.
+/// Says what a status and the line that was printed with it mean, as far as `errors` takes it.
 pub(crate) fn explain<E: Sink>(errors: &mut E, words: &[String], status: u8, line: &[u8])
-    ensures said { Explained (explanation_of (map (λ c. c.now) COMMANDS) (texts words.now) status line.now)
+    ensures said { Explained
+        (explanation_of (map (λ c. c.now) COMMANDS) (texts words.now) status line.now)
         (E.written errors.old) (E.written errors.new) (E.faults errors.old) (E.faults errors.new) }
-    ensures silent { status ≡ 0 → (E.written errors.new ≡ E.written errors.old) × (E.faults errors.new ≡ E.faults errors.old) }
+    ensures silent { status ≡ 0 → errors.new ≡ errors.old }
 {
     if status != 0 {
         let _ = tell(errors, words, status, line);
@@ -99,9 +105,11 @@ pub(crate) fn explain<E: Sink>(errors: &mut E, words: &[String], status: u8, lin
 // Puts the sentence for a status other than 0 and, where the words are no listed command, the listed ones.
 fn tell<E: Sink>(errors: &mut E, words: &[String], status: u8, line: &[u8]) -> Result<(), PutFailed>
     requires { 0 < status }
-    ensures ok { OnOk result (Grew (E.written errors.old) (E.written errors.new) (explanation_of (map (λ c. c.now) COMMANDS) (texts words.now) status line.now)) }
+    ensures ok { OnOk result (Grew (E.written errors.old) (E.written errors.new)
+        (explanation_of (map (λ c. c.now) COMMANDS) (texts words.now) status line.now)) }
     ensures quiet { OnOk result (E.faults errors.new ≡ E.faults errors.old) }
-    ensures err { OnErr result (GrewByFront (E.written errors.old) (E.written errors.new) (explanation_of (map (λ c. c.now) COMMANDS) (texts words.now) status line.now)) }
+    ensures err { OnErr result (GrewByFront (E.written errors.old) (E.written errors.new)
+        (explanation_of (map (λ c. c.now) COMMANDS) (texts words.now) status line.now)) }
     ensures rose { OnErr result (Rose (E.faults errors.old) (E.faults errors.new)) }
 {
     put_parts(errors, &meaning(words, status, line).parts)?;

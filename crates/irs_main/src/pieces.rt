@@ -8,9 +8,11 @@ use irs_cli::{PutFailed, Sink};
 
 /// Puts parts, one behind the other.
 pub(crate) fn put_parts<S: Sink>(out: &mut S, parts: &[&[u8]]) -> Result<(), PutFailed>
-    ensures ok { OnOk result (Grew (S.written out.old) (S.written out.new) (joined (map (λ p. p.now) parts.now))) }
+    ensures ok { OnOk result
+        (Grew (S.written out.old) (S.written out.new) (joined (map (λ p. p.now) parts.now))) }
     ensures quiet { OnOk result (S.faults out.new ≡ S.faults out.old) }
-    ensures err { OnErr result (GrewByFront (S.written out.old) (S.written out.new) (joined (map (λ p. p.now) parts.now))) }
+    ensures err { OnErr result
+        (GrewByFront (S.written out.old) (S.written out.new) (joined (map (λ p. p.now) parts.now))) }
     ensures rose { OnErr result (Rose (S.faults out.old) (S.faults out.new)) }
 {
     for part in parts {
@@ -21,9 +23,11 @@ pub(crate) fn put_parts<S: Sink>(out: &mut S, parts: &[&[u8]]) -> Result<(), Put
 
 /// Puts texts, each with a line feed behind it.
 pub(crate) fn put_lines<S: Sink>(out: &mut S, lines: &[&str]) -> Result<(), PutFailed>
-    ensures ok { OnOk result (Grew (S.written out.old) (S.written out.new) (lines_of (map (λ l. l.now) lines.now))) }
+    ensures ok { OnOk result
+        (Grew (S.written out.old) (S.written out.new) (lines_of (map (λ l. l.now) lines.now))) }
     ensures quiet { OnOk result (S.faults out.new ≡ S.faults out.old) }
-    ensures err { OnErr result (GrewByFront (S.written out.old) (S.written out.new) (lines_of (map (λ l. l.now) lines.now))) }
+    ensures err { OnErr result
+        (GrewByFront (S.written out.old) (S.written out.new) (lines_of (map (λ l. l.now) lines.now))) }
     ensures rose { OnErr result (Rose (S.faults out.old) (S.faults out.new)) }
 {
     for line in lines {

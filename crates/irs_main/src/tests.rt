@@ -73,7 +73,11 @@ fn words_and_what_is_said(rt: HostRuntime) -> Result<(), Fail> {
     let alloc = rt.alloc();
     for (line, room, wanted) in [
         ("check B", 100, (0, "ok\n", "")),
-        ("check gone", 100, (5, "no file 1\n", "no such file: gone\n")),
+        (
+            "check gone",
+            100,
+            (5, "no file 1\n", "no such file: gone\n"),
+        ),
         ("--version", 100, (0, VERSION, "")),
         ("--version", 10, (6, VERSION, NOT_WRITTEN)),
         ("check B", 2, (6, "ok\n", NOT_WRITTEN)),
