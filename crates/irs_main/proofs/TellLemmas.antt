@@ -1,6 +1,6 @@
 -- What is said of a status, put piece by piece: the sentence, its end, and the listed commands.
 use Rattle.std.proofs.Common.{◌≡◌, ℕ, ◌<◌, List, [], ◌++◌, codes, Option, inl, refl, sym, ◌∙◌, ap, subst, append_assoc}
-use Rattle.std.proofs.Common.{arith}
+use Rattle.std.proofs.Common.{◌==◌, if◌then◌else◌, arith}
 use Rattle.irs_outside.specs.Outside.{Grew, GrewByFront}
 use Rattle.irs_plain.specs.Sentences.{sentence_of}
 use Rattle.irs_cli.proofs.PutLemmas.{Through, first_part, through_last, through_last_part, through_more, through_part}
@@ -21,6 +21,9 @@ listed_at commands status is = ap (λ (n : ℕ). listing_of commands n) is
 not_listed_at : (commands : List (List ℕ)) (status : ℕ) → ¬ (status ≡ 4) → listing_of commands status ≡ []
 not_listed_at commands status other = grind arith
 
+at_positive : (status : ℕ) (text : List ℕ) → 0 < status → (if status == 0 then [] else text) ≡ text
+at_positive status text positive = grind arith
+
 module _ (commands words : List (List ℕ)) (status : ℕ) (line : List ℕ) where
   abbrev sentence : List ℕ
   sentence = sentence_of words status line
@@ -34,7 +37,7 @@ module _ (commands words : List (List ℕ)) (status : ℕ) (line : List ℕ) whe
   -- of any other status there is a sentence and what stands behind it
   said_is : 0 < status → text ≡ (sentence ++ codes "\n") ++ listing
   unfolding explanation_of
-  said_is positive = grind arith
+  said_is positive = at_positive status ((sentence ++ codes "\n") ++ listing) positive
 
   module _ (positive : 0 < status) (parts : List ℕ) (is : parts ≡ sentence) where
     said_by : text ≡ parts ++ (codes "\n" ++ listing)

@@ -9,15 +9,9 @@ ghost use Rattle.irs_plain.specs.Words.{texts};
 ghost use Rattle.irs_main.specs.Answering.{Explained, Printed, Ran, explanation_of, itself_of};
 
 use crate::pieces::{put_lines, put_parts};
-use irs_cli::{Files, PutFailed, Sink, run};
+use irs_cli::{Files, PutFailed, Sink, Status, run};
 use irs_plain::{COMMANDS, HELP, Kept, VERSION, meaning};
 use std::alloc::Global;
-
-/// The status for words that are no listed command.
-const BAD_WORDS: u8 = 4;
-
-/// The status where the text can't be written.
-const NOT_WRITTEN: u8 = 6;
 
 /// Answers the words: prints what they ask for, and says on `errors` what a status other than 0 means.
 ///
@@ -85,8 +79,8 @@ fn print<S: Sink>(out: &mut S, text: &str) -> u8
     ensures { Printed text.now (S.written out.old) (S.written out.new) (S.faults out.old) (S.faults out.new) result }
 {
     match out.put(text.as_bytes()) {
-        Ok(()) => 0,
-        Err(_) => NOT_WRITTEN,
+        Ok(()) => Status::Done.number(),
+        Err(_) => Status::PutFailed.number(),
     }
 }
 
@@ -114,7 +108,7 @@ fn tell<E: Sink>(errors: &mut E, words: &[String], status: u8, line: &[u8]) -> R
 {
     put_parts(errors, &meaning(words, status, line).parts)?;
     errors.put(b"\n")?;
-    if status == BAD_WORDS {
+    if status == Status::BadWords.number() {
         put_lines(errors, &COMMANDS)?;
     }
     Ok(())

@@ -4,16 +4,10 @@ ghost use Rattle.std.specs.Prelude.{◌≡◌, ◌⊎◌, ◌<◌, IfErr};
 
 use crate::answering::{answer, explain};
 use crate::standard_error::StandardError;
-use irs_cli::{RealFiles, RealSink};
+use irs_cli::{RealFiles, RealSink, Status};
 use irs_plain::Kept;
 use std::env;
 use std::io::ErrorKind;
-
-/// The status for want of memory.
-const NO_MEMORY: u8 = 7;
-
-/// The status for a word that isn't text.
-const NO_TEXT: u8 = 9;
 
 /// Does what the words of the command line ask for, and answers the exit status: that of `answer`, or,
 /// where the words can't be gathered, 7 for want of memory and 9 for a word that isn't text.
@@ -41,13 +35,13 @@ fn words_of(rt: &HostRuntime) -> Result<Vec<String>, u8>
 {
     let args = match env::args(rt) {
         Ok(args) => args,
-        Err(e) if e.kind() == ErrorKind::OutOfMemory => return Err(NO_MEMORY),
-        Err(_) => return Err(NO_TEXT),
+        Err(e) if e.kind() == ErrorKind::OutOfMemory => return Err(Status::NoMemory.number()),
+        Err(_) => return Err(Status::NotText.number()),
     };
     let mut words = Vec::new(rt.alloc());
     for word in args.skip(1) {
         if words.push(word).is_err() {
-            return Err(NO_MEMORY);
+            return Err(Status::NoMemory.number());
         }
     }
     Ok(words)

@@ -1,7 +1,7 @@
 //! The program over files and sinks in memory: what it prints, what it says, and the status.
 use crate::answer;
 use irs_cli::{MemFiles, MemSink};
-use irs_plain::Kept;
+use irs_plain::{HELP, Kept};
 use std::alloc::{AllocError, Global};
 use std::process::Abort;
 use std::test::Fail;
@@ -47,7 +47,7 @@ fn words_of(alloc: Global, line: &str) -> Result<Vec<String>, AllocError> {
     Ok(words)
 }
 
-// The status of the words, what is printed where there is room for so many bytes, and what is said.
+// The status of the words, what is put where there is room for so many bytes, and what is said.
 fn expect(
     rt: &impl Abort,
     alloc: Global,
@@ -55,7 +55,7 @@ fn expect(
     room: usize,
     wanted: (u8, &str, &str),
 ) -> Result<(), Fail> {
-    let (status, printed, said) = wanted;
+    let (status, put, said) = wanted;
     let mut files = MemFiles::new(alloc);
     files.add("B", DOCUMENT.as_bytes())?;
     let mut out = Kept::new(MemSink::with_room(alloc, room)?);
@@ -63,7 +63,7 @@ fn expect(
     let words = words_of(alloc, line)?;
     let answered = answer(alloc, &words, &mut files, &mut out, &mut errors);
     assert_eq!(rt; answered, status, "at {line}");
-    assert_eq!(rt; out.front(), printed.as_bytes(), "at {line}");
+    assert_eq!(rt; out.front(), put.as_bytes(), "at {line}");
     assert_eq!(rt; errors.bytes(), said.as_bytes(), "at {line}");
     Ok(())
 }
@@ -78,6 +78,7 @@ fn words_and_what_is_said(rt: HostRuntime) -> Result<(), Fail> {
             100,
             (5, "no file 1\n", "no such file: gone\n"),
         ),
+        ("--help", 3000, (0, &HELP[..512], "")),
         ("--version", 100, (0, VERSION, "")),
         ("--version", 10, (6, VERSION, NOT_WRITTEN)),
         ("check B", 2, (6, "ok\n", NOT_WRITTEN)),
@@ -85,6 +86,22 @@ fn words_and_what_is_said(rt: HostRuntime) -> Result<(), Fail> {
         ("--help me", 100, (4, "bad words\n", LISTING)),
     ] {
         expect(&rt, alloc, line, room, wanted)?;
+    }
+    Ok(())
+}
+
+// What is said ends where standard error can't be written, and the status is the same.
+#[test]
+fn said_as_far_as_there_is_room(rt: HostRuntime) -> Result<(), Fail> {
+    let alloc = rt.alloc();
+    let words = words_of(alloc, "what now")?;
+    for room in [0, 20, 57, 100] {
+        let mut files = MemFiles::new(alloc);
+        let mut out = Kept::new(MemSink::with_room(alloc, 100)?);
+        let mut errors = MemSink::with_room(alloc, room)?;
+        let answered = answer(alloc, &words, &mut files, &mut out, &mut errors);
+        assert_eq!(rt; answered, 4, "at {room}");
+        assert_eq!(rt; errors.bytes(), &LISTING.as_bytes()[..room], "at {room}");
     }
     Ok(())
 }

@@ -1,3 +1,4 @@
+use Rattle.std.proofs.Common.{sym, ◌∙◌}
 use Rattle.irs_plain.specs.Words.{texts}
 use Rattle.irs_cli.proofs.PutLemmas.{on_err}
 use Rattle.irs_main.proofs.TellLemmas.{end_failed, listing_failed, listing_put, sentence_alone, sentence_failed}
@@ -22,17 +23,17 @@ returns-in_err-put_lines-clause-err g c =
     (listing_failed _ (texts c.args.words.now) c.args.status c.args.line.now c.requires _ c.meaning.ensures
     (g.E.Sink.written c.args.errors.now) (g.E.Sink.written c.put_parts.new.out) (g.E.Sink.written c.put.new.self)
     (g.E.Sink.written c.put_lines.new.out) c.in_ok-put_parts.ensures.ok c.in_ok-put.ensures.ok
-    c.if-status-eq-BAD_WORDS.true c.in_err-put_lines.ensures.err)
+    (c.if-status-number.true ∙ c.number.ensures) c.in_err-put_lines.ensures.err)
 
 pub returns-in_ok-put_lines-clause-ok : goal.returns-in_ok-put_lines-clause-ok
 returns-in_ok-put_lines-clause-ok g c =
     listing_put _ (texts c.args.words.now) c.args.status c.args.line.now c.requires _ c.meaning.ensures
     (g.E.Sink.written c.args.errors.now) (g.E.Sink.written c.put_parts.new.out) (g.E.Sink.written c.put.new.self)
     (g.E.Sink.written c.put_lines.new.out) c.in_ok-put_parts.ensures.ok c.in_ok-put.ensures.ok
-    c.if-status-eq-BAD_WORDS.true c.in_ok-put_lines.ensures.ok
+    (c.if-status-number.true ∙ c.number.ensures) c.in_ok-put_lines.ensures.ok
 
-pub returns-else-status-eq-BAD_WORDS-clause-ok : goal.returns-else-status-eq-BAD_WORDS-clause-ok
-returns-else-status-eq-BAD_WORDS-clause-ok g c =
+pub returns-else-status-number-clause-ok : goal.returns-else-status-number-clause-ok
+returns-else-status-number-clause-ok g c =
     sentence_alone _ (texts c.args.words.now) c.args.status c.args.line.now c.requires _ c.meaning.ensures
     (g.E.Sink.written c.args.errors.now) (g.E.Sink.written c.put_parts.new.out) (g.E.Sink.written c.put.new.self)
-    c.in_ok-put_parts.ensures.ok c.in_ok-put.ensures.ok c.if-status-eq-BAD_WORDS.false
+    c.in_ok-put_parts.ensures.ok c.in_ok-put.ensures.ok (λ e. c.if-status-number.false (e ∙ sym c.number.ensures))
