@@ -36,6 +36,7 @@ fn text(alloc: Global, bytes: &[u8]) -> Result<Value, Memory>
 pub(crate) fn day(alloc: Global, d: Day) -> Result<Value, Memory>
     ensures { IfOk result (λ v. view v ≡ day_leaf d) }
 {
+    // The number is known to lie in the range of dates from here on.
     let _number = d.number();
     let mut line = Line::new();
     line.push_day(d);

@@ -1,0 +1,84 @@
+-- What is said of a status, put piece by piece: the sentence, its end, and the listed commands.
+use Rattle.std.proofs.Common.{◌≡◌, ℕ, ◌<◌, List, [], ◌++◌, codes, Option, inl, refl, sym, ◌∙◌, ap, subst, append_assoc}
+use Rattle.std.proofs.Common.{◌==◌, if◌then◌else◌, arith}
+use Rattle.irs_outside.specs.Outside.{Grew, GrewByFront}
+use Rattle.irs_plain.specs.Sentences.{sentence_of}
+use Rattle.irs_cli.proofs.PutLemmas.{Through, first_part, through_last, through_last_part, through_more, through_part}
+use Rattle.irs_main.proofs.PieceLemmas.{grew_nothing, through_all}
+use Rattle.irs_main.specs.Answering.{Explained, explanation_of, lines_of, listing_of}
+
+-- of 0 nothing is said
+pub nothing_said : (commands words : List (List ℕ)) (status : ℕ) (line : List ℕ) (a : Option (List ℕ)) (faults : ℕ)
+    → status ≡ 0 → Explained (explanation_of commands words status line) a a faults faults
+unfolding explanation_of
+nothing_said commands words status line a faults none =
+    let E : ℕ → Type 0 = λ n. Explained (explanation_of commands words n line) a a faults faults in
+    subst E (sym none) (inl (grew_nothing a, refl))
+
+listed_at : (commands : List (List ℕ)) (status : ℕ) → status ≡ 4 → listing_of commands status ≡ lines_of commands
+listed_at commands status is = ap (λ (n : ℕ). listing_of commands n) is
+
+not_listed_at : (commands : List (List ℕ)) (status : ℕ) → ¬ (status ≡ 4) → listing_of commands status ≡ []
+not_listed_at commands status other = grind arith
+
+at_positive : (status : ℕ) (text : List ℕ) → 0 < status → (if status == 0 then [] else text) ≡ text
+at_positive status text positive = grind arith
+
+module _ (commands words : List (List ℕ)) (status : ℕ) (line : List ℕ) where
+  abbrev sentence : List ℕ
+  sentence = sentence_of words status line
+
+  abbrev listing : List ℕ
+  listing = listing_of commands status
+
+  abbrev text : List ℕ
+  text = explanation_of commands words status line
+
+  -- of any other status there is a sentence and what stands behind it
+  said_is : 0 < status → text ≡ (sentence ++ codes "\n") ++ listing
+  unfolding explanation_of
+  said_is positive = at_positive status ((sentence ++ codes "\n") ++ listing) positive
+
+  module _ (positive : 0 < status) (parts : List ℕ) (is : parts ≡ sentence) where
+    said_by : text ≡ parts ++ (codes "\n" ++ listing)
+    said_by =
+        said_is positive ∙ append_assoc sentence (codes "\n") listing
+        ∙ ap (λ (l : List ℕ). l ++ (codes "\n" ++ listing)) (sym is)
+
+    -- the sentence wasn't put whole
+    pub sentence_failed : (a b : Option (List ℕ)) → GrewByFront a b parts → GrewByFront a b text
+    sentence_failed a b k =
+        let G : List ℕ → Type 0 = λ t. GrewByFront a b t in
+        subst G (sym said_by) (first_part a b parts (codes "\n" ++ listing) k)
+
+    -- the sentence was put: its end and what stands behind it are left
+    sentence_put : (a b : Option (List ℕ)) → Grew a b parts → Through a b (codes "\n" ++ listing) text
+    sentence_put a b h = record { front = parts; grew = h; is = said_by }
+
+    -- its end wasn't put
+    pub end_failed : (a b c : Option (List ℕ)) → Grew a b parts → GrewByFront b c (codes "\n") → GrewByFront a c text
+    end_failed a b c h k = through_part a b c (codes "\n") listing text (sentence_put a b h) k
+
+    -- its end was put: what stands behind it is left
+    end_put : (a b c : Option (List ℕ)) → Grew a b parts → Grew b c (codes "\n") → Through a c listing text
+    end_put a b c h k = through_more a b c (codes "\n") listing text (sentence_put a b h) k
+
+    -- the listed commands weren't put whole
+    pub listing_failed : (a b c d : Option (List ℕ)) → Grew a b parts → Grew b c (codes "\n") → status ≡ 4
+        → GrewByFront c d (lines_of commands) → GrewByFront a d text
+    listing_failed a b c d h k bad m =
+        let G : List ℕ → Type 0 = λ t. GrewByFront c d t in
+        through_last_part a c d listing text (end_put a b c h k) (subst G (sym (listed_at commands status bad)) m)
+
+    -- the listed commands were put
+    pub listing_put : (a b c d : Option (List ℕ)) → Grew a b parts → Grew b c (codes "\n") → status ≡ 4
+        → Grew c d (lines_of commands) → Grew a d text
+    listing_put a b c d h k bad m =
+        let G : List ℕ → Type 0 = λ t. Grew c d t in
+        through_last a c d listing text (end_put a b c h k) (subst G (sym (listed_at commands status bad)) m)
+
+    -- there is nothing more to put
+    pub sentence_alone : (a b c : Option (List ℕ)) → Grew a b parts → Grew b c (codes "\n") → ¬ (status ≡ 4)
+        → Grew a c text
+    sentence_alone a b c h k other =
+        through_all a c listing text (not_listed_at commands status other) (end_put a b c h k)

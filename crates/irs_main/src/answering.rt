@@ -1,0 +1,116 @@
+//! What the program does around `run`: it answers what is asked about itself, and says what each status
+//! but 0 means.
+//!
+//! Words, texts and statuses are this project's own.
+ghost use Rattle.std.specs.Prelude.{◌≡◌, ℕ, ◌<◌, List, Some, None, map, option_map, OnOk, OnErr};
+ghost use Rattle.irs_outside.specs.Outside.{Grew, GrewByFront, Rose};
+ghost use Rattle.irs_plain.specs.Kept.{front_of, sink_of};
+ghost use Rattle.irs_plain.specs.Words.{texts};
+ghost use Rattle.irs_main.specs.Answering.{Explained, Printed, Ran, explanation_of, itself_of};
+
+use crate::pieces::{put_lines, put_parts};
+use irs_cli::{Files, PutFailed, Sink, Status, run};
+use irs_plain::{COMMANDS, HELP, Kept, VERSION, meaning};
+use std::alloc::Global;
+
+/// Answers the words: prints what they ask for, and says on `errors` what a status other than 0 means.
+///
+/// The single word `--help` or `--version` is answered with its text and 0, or 6 where a put failed. All
+/// other words are run, as `run` says. On every status but 0 the sentence for it goes to `errors` as a
+/// line, and behind it, for words that are no listed command, the listed commands, a line each. Nothing
+/// is put on `errors` behind a put that failed.
+pub fn answer<F: Files, S: Sink, E: Sink>(
+    alloc: Global,
+    words: &[String],
+    files: &mut F,
+    out: &mut Kept<S>,
+    errors: &mut E,
+) -> u8
+    // The statuses are 0 to 8, and what the files tell is the same afterwards.
+    ensures listed { result < 9 }
+    ensures told { (n : List ℕ) → F.told files.new n ≡ F.told files.old n }
+
+    // The words ask about the program itself: that text is printed, and no file is fetched.
+    ensures itself { (text : List ℕ) → itself_of HELP.now VERSION.now (texts words.now) ≡ Some text
+        → Printed text (S.written (sink_of out.old)) (S.written (sink_of out.new))
+        (S.faults (sink_of out.old)) (S.faults (sink_of out.new)) result
+        × (files.new ≡ files.old) }
+
+    // Any other words are run.
+    ensures ran { itself_of HELP.now VERSION.now (texts words.now) ≡ None
+        → Ran (texts words.now) (F.told files.old) (F.failed files.new) (F.faults files.old) (F.faults files.new)
+        (S.written (sink_of out.old)) (S.written (sink_of out.new))
+        (S.faults (sink_of out.old)) (S.faults (sink_of out.new)) result }
+
+    // What the status and the first bytes that were put mean is said.
+    ensures explained { Explained
+        (explanation_of (map (λ c. c.now) COMMANDS) (texts words.now) result (front_of out.new))
+        (E.written errors.old) (E.written errors.new) (E.faults errors.old) (E.faults errors.new) }
+
+    // Where all is done nothing is put there.
+    ensures silent { result ≡ 0 → errors.new ≡ errors.old }
+{
+    let status = match about_itself(words) {
+        Some(text) => print(out, text),
+        None => run(alloc, words, files, out),
+    };
+    explain(errors, words, status, out.front());
+    status
+}
+
+// What the program says of itself, where its one word asks for that.
+fn about_itself(words: &[String]) -> Option<&'static str>
+    ensures { option_map (λ t. t.now) result ≡ itself_of HELP.now VERSION.now (texts words.now) }
+{
+    let [word] = words else {
+        return None;
+    };
+    if word.as_str() == "--help" {
+        Some(HELP)
+    } else if word.as_str() == "--version" {
+        Some(VERSION)
+    } else {
+        None
+    }
+}
+
+// Prints a text, and answers the status.
+fn print<S: Sink>(out: &mut S, text: &str) -> u8
+    ensures { Printed text.now (S.written out.old) (S.written out.new) (S.faults out.old) (S.faults out.new) result }
+{
+    match out.put(text.as_bytes()) {
+        Ok(()) => Status::Done.number(),
+        Err(_) => Status::PutFailed.number(),
+    }
+}
+
+/// Says what a status and the line that was printed with it mean, as far as `errors` takes it.
+pub(crate) fn explain<E: Sink>(errors: &mut E, words: &[String], status: u8, line: &[u8])
+    ensures said { Explained
+        (explanation_of (map (λ c. c.now) COMMANDS) (texts words.now) status line.now)
+        (E.written errors.old) (E.written errors.new) (E.faults errors.old) (E.faults errors.new) }
+    ensures silent { status ≡ 0 → errors.new ≡ errors.old }
+{
+    if status != 0 {
+        // A standard error that can't be written changes no answer.
+        let _ = tell(errors, words, status, line);
+    }
+}
+
+// Puts the sentence for a status other than 0 and, where the words are no listed command, the listed ones.
+fn tell<E: Sink>(errors: &mut E, words: &[String], status: u8, line: &[u8]) -> Result<(), PutFailed>
+    requires { 0 < status }
+    ensures ok { OnOk result (Grew (E.written errors.old) (E.written errors.new)
+        (explanation_of (map (λ c. c.now) COMMANDS) (texts words.now) status line.now)) }
+    ensures quiet { OnOk result (E.faults errors.new ≡ E.faults errors.old) }
+    ensures err { OnErr result (GrewByFront (E.written errors.old) (E.written errors.new)
+        (explanation_of (map (λ c. c.now) COMMANDS) (texts words.now) status line.now)) }
+    ensures rose { OnErr result (Rose (E.faults errors.old) (E.faults errors.new)) }
+{
+    put_parts(errors, &meaning(words, status, line).parts)?;
+    errors.put(b"\n")?;
+    if status == Status::BadWords.number() {
+        put_lines(errors, &COMMANDS)?;
+    }
+    Ok(())
+}

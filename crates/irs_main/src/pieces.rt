@@ -1,0 +1,48 @@
+//! Putting a text in pieces: nothing is put behind a put that failed.
+ghost use Rattle.std.specs.Prelude.{◌≡◌, ◌++◌, codes, map, OnOk, OnErr};
+ghost use Rattle.irs_outside.specs.Outside.{Grew, GrewByFront, Rose};
+ghost use Rattle.irs_plain.specs.Sentences.{joined};
+ghost use Rattle.irs_main.specs.Answering.{lines_of};
+
+use irs_cli::{PutFailed, Sink};
+
+/// Puts parts, one behind the other.
+pub(crate) fn put_parts<S: Sink>(out: &mut S, parts: &[&[u8]]) -> Result<(), PutFailed>
+    ensures ok { OnOk result
+        (Grew (S.written out.old) (S.written out.new) (joined (map (λ p. p.now) parts.now))) }
+    ensures quiet { OnOk result (S.faults out.new ≡ S.faults out.old) }
+    ensures err { OnErr result
+        (GrewByFront (S.written out.old) (S.written out.new) (joined (map (λ p. p.now) parts.now))) }
+    ensures rose { OnErr result (Rose (S.faults out.old) (S.faults out.new)) }
+{
+    for part in parts {
+        out.put(part)?;
+    }
+    Ok(())
+}
+
+/// Puts texts, each with a line feed behind it.
+pub(crate) fn put_lines<S: Sink>(out: &mut S, lines: &[&str]) -> Result<(), PutFailed>
+    ensures ok { OnOk result
+        (Grew (S.written out.old) (S.written out.new) (lines_of (map (λ l. l.now) lines.now))) }
+    ensures quiet { OnOk result (S.faults out.new ≡ S.faults out.old) }
+    ensures err { OnErr result
+        (GrewByFront (S.written out.old) (S.written out.new) (lines_of (map (λ l. l.now) lines.now))) }
+    ensures rose { OnErr result (Rose (S.faults out.old) (S.faults out.new)) }
+{
+    for line in lines {
+        put_line(out, line)?;
+    }
+    Ok(())
+}
+
+// Puts a text and a line feed.
+fn put_line<S: Sink>(out: &mut S, line: &str) -> Result<(), PutFailed>
+    ensures ok { OnOk result (Grew (S.written out.old) (S.written out.new) (line.now ++ codes "\n")) }
+    ensures quiet { OnOk result (S.faults out.new ≡ S.faults out.old) }
+    ensures err { OnErr result (GrewByFront (S.written out.old) (S.written out.new) (line.now ++ codes "\n")) }
+    ensures rose { OnErr result (Rose (S.faults out.old) (S.faults out.new)) }
+{
+    out.put(line.as_bytes())?;
+    out.put(b"\n")
+}

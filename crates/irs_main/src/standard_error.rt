@@ -1,0 +1,38 @@
+//! The standard error of the system: a trusted edge.
+ghost use Rattle.std.specs.Prelude.{◌≡◌, ℕ, List, Option, None};
+
+use irs_cli::{PutFailed, Sink};
+use std::io::{Stderr, Write};
+
+/// The standard error. It tells nothing of what was written.
+#[derive(Drop)]
+pub struct StandardError {
+    to: Stderr,
+    faults: u64,
+}
+
+impl StandardError {
+    /// Nothing was put yet.
+    pub fn new(rt: &HostRuntime) -> StandardError {
+        StandardError {
+            to: rt.stderr(),
+            faults: 0,
+        }
+    }
+}
+
+impl Sink for StandardError {
+    ghost written = { λ s. None };
+
+    ghost faults = { λ s. s.faults };
+
+    fn put(&mut self, bytes: &[u8]) -> Result<(), PutFailed> {
+        match self.to.write_all(bytes) {
+            Ok(()) => Ok(()),
+            Err(_) => {
+                self.faults = self.faults.saturating_add(1);
+                Err(PutFailed)
+            }
+        }
+    }
+}
