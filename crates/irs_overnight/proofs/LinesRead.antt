@@ -9,7 +9,8 @@ use Rattle.irs_base.specs.Texts.{day_text, dec_text}
 use Rattle.irs_terms.specs.Lawful.{IsLawfulIndex, IsRate}
 use Rattle.irs_terms.specs.declared.frequency.Frequency.{Frequency}
 use Rattle.irs_resets.specs.FixingLines.{Spells}
-use Rattle.irs_resets.specs.Words.{behind_gap, behind_word, trimmed, without_gap, word}
+use Rattle.irs_base.specs.Fields.{without_gap}
+use Rattle.irs_resets.specs.Words.{behind_gap, behind_word, trimmed, word}
 use Rattle.irs_resets.proofs.WordLemmas.{trimmed_to}
 use Rattle.irs_overnight.specs.Reading.{IsLawfulLine, ReadsAs}
 use Rattle.irs_overnight.specs.Texts.{tenor_text}
