@@ -19,7 +19,7 @@ static long long half_up(__int128 p, __int128 q) {
 static void count_cents(const char *name, const DayCounter &day_count, long year, bool months_of_30, double unit) {
     const ClosestRounding cents(2);
     const Date start(15, January, 2024);
-    long all = 0, halves = 0, others = 0;
+    long all = 0, halves = 0, others = 0, other_halves = 0;
     for (long n = 1; n <= 1000; n++)
         for (long rate = 5; rate <= 1000; rate += 5)
             for (int months : {3, 6, 12}) {
@@ -28,11 +28,14 @@ static void count_cents(const char *name, const DayCounter &day_count, long year
                 const __int128 over = (__int128)n * (long)unit * rate * days, under = 100 * year;
                 const FixedRateCoupon coupon(end, n * unit, rate / 10000.0, day_count, start, end);
                 all++;
-                halves += 2 * (over % under) == under;
-                others += llround(cents(coupon.amount()) * 100) != half_up(over, under);
+                const bool half = 2 * (over % under) == under;
+                const bool other = llround(cents(coupon.amount()) * 100) != half_up(over, under);
+                halves += half;
+                others += other;
+                other_halves += half && other;
             }
     printf("%-8s 1 to 1,000 times %7.0f: %ld coupons, %ld on half a cent, ", name, unit, all, halves);
-    printf("%ld to another cent\n", others);
+    printf("%ld to another cent, %ld of these on half a cent\n", others, other_halves);
 }
 
 static void dates(const char *name, const Schedule &schedule) {
