@@ -1,7 +1,9 @@
-//! The crates as a library: a document becomes a schedule, which is asked for the next payment behind a
-//! day in each stream, and for the verdict on another party's cash flows.
+//! The crates as a library: a document becomes a schedule, of which two rows are printed, and which is asked
+//! for the next payment behind a day in each stream, and for the verdict on another party's cash flows.
 //! docs/LIBRARY.md goes through it step by step.
 #![tactic(auto)]
+
+ghost use Rattle.irs_schedule.specs.RowTexts.{HasPlaces};
 
 use anyhow::{Context, Result, bail};
 use irs_audit::{Verdict, audit, read_flows};
@@ -11,7 +13,7 @@ use irs_json::parse;
 use irs_read::read_swap;
 use irs_resets::Fixings;
 use irs_rules::check_terms;
-use irs_schedule::{PaymentEntry, Schedule, make_schedule};
+use irs_schedule::{PaymentEntry, Row, Schedule, make_schedule, row_text};
 use std::alloc::Global;
 use std::fs;
 
@@ -29,6 +31,28 @@ fn schedule_of(alloc: Global, document: &[u8]) -> Result<Schedule> {
         Some(_) => bail!("the terms break a rule"),
         None => Ok(make_schedule(alloc, &swap, &calendars, &fixings)?),
     }
+}
+
+// A row of the schedule, as its text has it; the line is used again for each row.
+fn print_row(rt: &HostRuntime, row: &Row, line: &mut Line) -> Result<()>
+    requires { HasPlaces row.now }
+{
+    row_text(row, line);
+    print!(rt; "{}", str::from_utf8(line.bytes())?)?;
+    Ok(())
+}
+
+// The first two rows: the header of the first stream and what falls due first.
+fn print_first_rows(rt: &HostRuntime, schedule: &Schedule) -> Result<()> {
+    let mut line = Line::new();
+    let mut rows = schedule.rows();
+    if let Some(row) = rows.next() {
+        print_row(rt, &row, &mut line)?;
+    }
+    if let Some(row) = rows.next() {
+        print_row(rt, &row, &mut line)?;
+    }
+    Ok(())
 }
 
 // The first payment of a stream that is due behind a day, by its adjusted date; payments stand in order.
@@ -57,6 +81,7 @@ fn print_verdict(rt: &HostRuntime, schedule: &Schedule, flows: &[u8]) -> Result<
 
 fn main(rt: HostRuntime) -> Result<()> {
     let schedule = schedule_of(rt.alloc(), &fs::read(&rt, "B.json")?)?;
+    print_first_rows(&rt, &schedule)?;
     let today = read_date(TODAY.as_bytes()).context("no such day")?;
     for part in schedule.streams() {
         if let Some(payment) = next_payment(part.payments(), today) {
