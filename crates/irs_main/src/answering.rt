@@ -52,7 +52,7 @@ pub fn answer<F: Files, S: Sink, E: Sink>(
 {
     let status = match about_itself(words) {
         Some(text) => print(out, text),
-        None => run(alloc, words, files, out),
+        None => run_words(alloc, words, files, out),
     };
     explain(errors, words, status, out.front());
     status
@@ -82,6 +82,22 @@ fn print<S: Sink>(out: &mut S, text: &str) -> u8
         Ok(()) => Status::Done.number(),
         Err(_) => Status::PutFailed.number(),
     }
+}
+
+// Runs the words.
+fn run_words<F: Files, S: Sink>(
+    alloc: Global,
+    words: &[String],
+    files: &mut F,
+    out: &mut Kept<S>,
+) -> u8
+    ensures listed { result < 9 }
+    ensures told { (n : List ℕ) → F.told files.new n ≡ F.told files.old n }
+    ensures ran { Ran (texts words.now) (F.told files.old) (F.failed files.new) (F.faults files.old)
+        (F.faults files.new) (S.written (sink_of out.old)) (S.written (sink_of out.new))
+        (S.faults (sink_of out.old)) (S.faults (sink_of out.new)) result }
+{
+    run(alloc, words, files, out)
 }
 
 /// Says what a status and the line that was printed with it mean, as far as `errors` takes it.
