@@ -78,7 +78,6 @@ fn words_and_what_is_said(rt: HostRuntime) -> Result<(), Fail> {
             100,
             (5, "no file 1\n", "no such file: gone\n"),
         ),
-        ("--help", 3000, (0, &HELP[..512], "")),
         ("--version", 100, (0, VERSION, "")),
         ("--version", 10, (6, VERSION, NOT_WRITTEN)),
         ("check B", 2, (6, "ok\n", NOT_WRITTEN)),
@@ -90,18 +89,37 @@ fn words_and_what_is_said(rt: HostRuntime) -> Result<(), Fail> {
     Ok(())
 }
 
+#[test]
+fn help_is_printed(rt: HostRuntime) -> Result<(), Fail> {
+    let alloc = rt.alloc();
+    let mut files = MemFiles::new(alloc);
+    let mut out = Kept::new(MemSink::with_room(alloc, 3000)?);
+    let mut errors = MemSink::with_room(alloc, 1000)?;
+    let words = words_of(alloc, "--help")?;
+    let answered = answer(alloc, &words, &mut files, &mut out, &mut errors);
+    assert_eq!(rt; answered, 0);
+    assert_eq!(rt; out.front(), &HELP.as_bytes()[..512]);
+    assert_eq!(rt; errors.bytes().len(), 0);
+    Ok(())
+}
+
 // What is said ends where standard error can't be written, and the status is the same.
 #[test]
 fn said_as_far_as_there_is_room(rt: HostRuntime) -> Result<(), Fail> {
     let alloc = rt.alloc();
     let words = words_of(alloc, "what now")?;
-    for room in [0, 20, 57, 100] {
+    for (room, said) in [
+        (0, &LISTING.as_bytes()[..0]),
+        (20, &LISTING.as_bytes()[..20]),
+        (57, &LISTING.as_bytes()[..57]),
+        (100, &LISTING.as_bytes()[..100]),
+    ] {
         let mut files = MemFiles::new(alloc);
         let mut out = Kept::new(MemSink::with_room(alloc, 100)?);
         let mut errors = MemSink::with_room(alloc, room)?;
         let answered = answer(alloc, &words, &mut files, &mut out, &mut errors);
         assert_eq!(rt; answered, 4, "at {room}");
-        assert_eq!(rt; errors.bytes(), &LISTING.as_bytes()[..room], "at {room}");
+        assert_eq!(rt; errors.bytes(), said, "at {room}");
     }
     Ok(())
 }
