@@ -1,6 +1,6 @@
 -- The words and files that a C caller lends.
-use Rattle.std.specs.Prelude.{◌≡◌, ℕ, List, [], ◌∷◌, map, Some, None, if◌then◌else◌}
-use Rattle.std.specs.Str.{bytes_eq}
+use Rattle.std.specs.Prelude.{◌≡◌, ℕ, List, [], ◌∷◌, map, All, Some, None, if◌then◌else◌}
+use Rattle.std.specs.Str.{IsUtf8, bytes_eq}
 use Rattle.irs_cli.specs.Commands.{Words, Wanted, Asked, Asks}
 use Rattle.irs_cli.specs.Fetching.{NotLong}
 use Rattle.irs_cli.specs.Given.{Told, Reaches}
@@ -11,6 +11,10 @@ use Rattle.irs_c.specs.declared.given.File.{File}
 -- the words, by their bytes
 abbrev pub words_in : List Bytes → Words
 words_in ws = map (λ w. w.at.now) ws
+
+-- each word is UTF-8
+abbrev pub AreText : List Bytes → Type 0
+AreText ws = All (λ w. IsUtf8 w.at.now) ws
 
 -- the bytes of the first file of this name
 abbrev pub file_in : List File → Told

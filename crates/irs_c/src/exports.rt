@@ -1,10 +1,9 @@
 //! What C calls. The form of the call is this project's own; `bindings/irs.h` has it in C's words.
-ghost use Rattle.std.specs.Prelude.{◌≡◌, ◌≢◌, ◌⊎◌, ℕ, ◌<◌, List, ◌++◌, length, take, drop, map, All, OnOk, IfOk, IfErr};
-ghost use Rattle.std.specs.Str.{IsUtf8};
+ghost use Rattle.std.specs.Prelude.{◌≡◌, ◌≢◌, ◌⊎◌, ℕ, ◌<◌, List, ◌++◌, length, take, drop, map, OnOk, IfOk, IfErr};
 ghost use Rattle.irs_cli.specs.Commands.{texts, IsListed};
 ghost use Rattle.irs_cli.specs.Due.{Due, IsOneAnswer};
 ghost use Rattle.irs_cli.specs.Given.{TellsAll};
-ghost use Rattle.irs_c.specs.Given.{words_in, file_in, IsAbsent};
+ghost use Rattle.irs_c.specs.Given.{words_in, file_in, AreText, IsAbsent};
 ghost use Rattle.irs_c.specs.Shown.{Shown};
 ghost use Rattle.irs_plain.specs.Sentences.{joined as joined_of, sentence_of};
 
@@ -32,8 +31,10 @@ pub extern "C" fn irs_run(
 ) -> u8
     // Want of memory, or a word that isn't UTF-8: no text.
     ensures memory { result ≡ 7 → (out.new ≡ out.old) × (needed.new ≡ 0) }
-    ensures not_text { result ≡ 9 → (All (λ w. IsUtf8 w.at.now) words.now → ⊥) × (out.new ≡ out.old)
+    ensures not_text { result ≡ 9 → (AreText words.now → ⊥) × (out.new ≡ out.old)
         × (needed.new ≡ 0) }
+    // Any other status comes only where each word is UTF-8.
+    ensures text { result ≢ 7 → result ≢ 9 → AreText words.now }
     // A file that the words name isn't lent, and the text says which.
     ensures absent { result ≡ 5 → (text : List ℕ)
         × IsAbsent (words_in words.now) (file_in files.now) text
@@ -77,8 +78,10 @@ pub extern "C" fn irs_meaning(
 ) -> u8
     // Want of memory, or a word that isn't UTF-8: no sentence.
     ensures memory { result ≡ 7 → (out.new ≡ out.old) × (needed.new ≡ 0) }
-    ensures not_text { result ≡ 9 → (All (λ w. IsUtf8 w.at.now) words.now → ⊥) × (out.new ≡ out.old)
+    ensures not_text { result ≡ 9 → (AreText words.now → ⊥) × (out.new ≡ out.old)
         × (needed.new ≡ 0) }
+    // The sentence comes only where each word is UTF-8.
+    ensures text { result ≡ 0 → AreText words.now }
     ensures done { result ≡ 0 → Shown out.old out.new needed.new (sentence_of (words_in words.now) status line.now) }
     ensures listed { (result ≡ 0) ⊎ ((result ≡ 7) ⊎ (result ≡ 9)) }
 {
@@ -98,7 +101,8 @@ pub extern "C" fn irs_meaning(
 // The sentence, or 7 or 9 where there is none.
 fn sentence(alloc: Global, words: &[Bytes<'_>], status: u8, line: &[u8]) -> Result<Vec<u8>, u8>
     ensures done { IfOk result (λ t. t.items ≡ sentence_of (words_in words.now) status line.now) }
-    ensures not_text { IfErr result (λ s. s ≡ 9 → All (λ w. IsUtf8 w.at.now) words.now → ⊥) }
+    ensures text { IfOk result (λ _. AreText words.now) }
+    ensures not_text { IfErr result (λ s. s ≡ 9 → AreText words.now → ⊥) }
     ensures err { IfErr result (λ s. (s ≡ 7) ⊎ (s ≡ 9)) }
 {
     let words = words_of(alloc, words)?;
@@ -133,7 +137,8 @@ fn answer(alloc: Global, words: &[Bytes<'_>], files: &[File<'_>]) -> Result<(u8,
     ensures due { IfOk result (λ r. r.0 ≢ 5 → Due (words_in words.now) (file_in files.now) r.0 r.1.items) }
     ensures absent { IfOk result (λ r. r.0 ≡ 5 → IsAbsent (words_in words.now) (file_in files.now) r.1.items) }
     ensures ok { IfOk result (λ r. (r.0 < 9) × (r.0 ≢ 6) × (r.0 ≢ 7)) }
-    ensures not_text { IfErr result (λ s. s ≡ 9 → All (λ w. IsUtf8 w.at.now) words.now → ⊥) }
+    ensures text { IfOk result (λ _. AreText words.now) }
+    ensures not_text { IfErr result (λ s. s ≡ 9 → AreText words.now → ⊥) }
     ensures err { IfErr result (λ s. (s ≡ 7) ⊎ (s ≡ 9)) }
 {
     let words = words_of(alloc, words)?;
@@ -159,7 +164,8 @@ fn run_kept(alloc: Global, words: &[String], files: &[File<'_>]) -> Result<(u8, 
 // The words as text, or 9 where one isn't UTF-8, or 7 for want of memory.
 fn words_of(alloc: Global, words: &[Bytes<'_>]) -> Result<Vec<String>, u8>
     ensures ok { IfOk result (λ v. texts v.items ≡ words_in words.now) }
-    ensures not_text { IfErr result (λ s. s ≡ 9 → All (λ w. IsUtf8 w.at.now) words.now → ⊥) }
+    ensures text { IfOk result (λ _. AreText words.now) }
+    ensures not_text { IfErr result (λ s. s ≡ 9 → AreText words.now → ⊥) }
     ensures err { IfErr result (λ s. (s ≡ 7) ⊎ (s ≡ 9)) }
 {
     let mut made = Vec::new(alloc);
