@@ -1,5 +1,5 @@
 -- The day of a date, as a function.
-use Rattle.std.proofs.Common.{◌≡◌, ◌⊎◌, inl, inr, ℕ, ◌<◌, ◌≤◌, Bool, true, false, ◌&&◌, Option, Some, None, IfSome}
+use Rattle.std.proofs.Common.{◌≡◌, inl, inr, ℕ, ◌<◌, ◌≤◌, Bool, true, ◌&&◌, Option, Some, None, IfSome}
 use Rattle.std.proofs.Common.{IfNone, nat_le, arith, refl, sym, ap, subst, ℤ, pos}
 use Rattle.std.proofs.lemmas.Bool.{cases_Bool}
 use Rattle.std.specs.Ordering.{int_cmp, is_le}

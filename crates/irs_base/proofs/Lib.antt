@@ -9,6 +9,7 @@ pub mod DayListLemmas
 pub mod Rising
 pub mod RoundingLemmas
 pub mod RoundingLaws
+pub mod Powers
 pub mod TextLemmas
 pub mod TextLengths
 pub mod VisibleTexts

@@ -1,12 +1,11 @@
 //! Days: the dates of the proleptic Gregorian calendar from 1901-01-01 to 2299-12-31, counted from
 //! 1970-01-01.
 //!
-//! The range is this project's own; the calendar is that of ISO 8601, by `jiff`.
+//! The range is this project's own; the calendar is that of ISO 8601, by `jiff`'s core.
 ghost use Rattle.std.specs.Prelude.{◌≡◌, ◌≤◌, ℤ, pos, negsuc, ◌+ℤ◌, ◌≤ℤ◌, IfSome, IfNone, SomeIff};
 ghost use Rattle.irs_base.specs.Days.{IsDay, first_day, first_year, last_day, last_year, weekday_at};
 
-use jiff::ToSpan;
-use jiff::civil::{Date, Weekday};
+use jiff_core::civil::{Date, Weekday};
 use std::marker::Model;
 
 /// The number of the first day, 1901-01-01.
@@ -87,7 +86,7 @@ impl Day {
 
 ghost use Rattle.irs_base.specs.Civils.{IsCivilOf, place_in_week};
 ghost use Rattle.irs_base.specs.DateOf.{year_of, month_of, day_of_month};
-ghost use Rattle.jiff.specs.Words.{epoch_day};
+ghost use Rattle.jiff_core.specs.Date.{epoch_day};
 ghost use Rattle.jiff_core.specs.Calendar.{IsCivilDate, IsBetween};
 
 /// The day of a date; `None` exactly where no day in range has it.
@@ -106,20 +105,22 @@ pub fn day_of(c: Civil) -> Option<Day>
     let Ok(date) = Date::new(year, month, day) else {
         return None;
     };
-    let number = date.to_plain().to_unix_epoch_day();
+    let number = date.to_unix_epoch_day();
     if number < FIRST_DAY || number > LAST_DAY {
         return None;
     }
     Some(Day { number })
 }
 
+// The number of days from -9999-01-01, the first date of `jiff`, to 1970-01-01.
+const EPOCH: i32 = 4_371_587;
+
 fn date_of(d: Day) -> Date
     ensures value { epoch_day result ≡ d }
     ensures civil { IsCivilDate result.year result.month result.day }
     ensures day { IsDay d }
 {
-    let epoch = Date::constant(1970, 1, 1);
-    epoch.saturating_add((d.number as i64).days())
+    Date::from_days_since_min((d.number + EPOCH) as u32)
 }
 
 /// The date of a day.
@@ -132,9 +133,9 @@ pub fn civil_of(d: Day) -> Civil
 {
     let date = date_of(d);
     Civil {
-        year: i32::from(date.year()),
-        month: date.month() as u8,
-        day: date.day() as u8,
+        year: i32::from(date.year),
+        month: date.month,
+        day: date.day,
     }
 }
 

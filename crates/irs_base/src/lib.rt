@@ -5,6 +5,7 @@
 mod day;
 mod day_list;
 mod decimals;
+mod digits;
 mod elements;
 mod fields;
 mod file_dates;

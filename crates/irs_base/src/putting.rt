@@ -5,6 +5,7 @@ ghost use Rattle.std.specs.Prelude.{◌≡◌, ◌+◌, ◌<◌, ◌≤◌, ◌�
 ghost use Rattle.std.specs.Fmt.{decimal, signed_decimal};
 ghost use Rattle.irs_base.specs.Texts.{day_text, dec_text, most_places};
 
+use crate::line::{push_number, push_signed_number};
 use crate::{Day, Dec, Line};
 
 impl Line {
@@ -36,7 +37,8 @@ impl Line {
         ensures text { self.new ≡ self.old ++ mark ∷ signed_decimal n }
         ensures grows { length self.new ≤ length self.old + 41 }
     {
-        self.put_whole(mark, i128::from(n));
+        self.push(&[mark]);
+        push_signed_number(self, n);
     }
 
     /// Puts a space and a number that counts.
@@ -45,7 +47,8 @@ impl Line {
         ensures text { self.new ≡ self.old ++ 32 ∷ decimal n }
         ensures grows { length self.new ≤ length self.old + 41 }
     {
-        self.put_whole(b' ', i128::from(n));
+        self.push(b" ");
+        push_number(self, u64::from(n));
     }
 
     /// Puts a space and a day: `YYYY-MM-DD`.

@@ -1,5 +1,5 @@
 //! The exit statuses, which are this project's own.
-ghost use Rattle.std.specs.Prelude.{◌≡◌};
+ghost use Rattle.std.specs.Prelude.{◌≡◌, IfSome, IfNone};
 ghost use Rattle.irs_base.specs.Statuses.{status_number};
 
 /// How a run ends.
@@ -43,6 +43,26 @@ impl Status {
             Status::NoMemory => 7,
             Status::TooLong => 8,
             Status::NotText => 9,
+        }
+    }
+
+    /// The status with that number; `None` exactly where no status has it.
+    pub fn of(number: u8) -> Option<Status>
+        ensures some { IfSome result (λ s. status_number s ≡ number) }
+        ensures none { IfNone result ((s : Status) → status_number s ≡ number → ⊥) }
+    {
+        match number {
+            0 => Some(Status::Done),
+            1 => Some(Status::NotAgreed),
+            2 => Some(Status::RuleBroken),
+            3 => Some(Status::BadFile),
+            4 => Some(Status::BadWords),
+            5 => Some(Status::NoFile),
+            6 => Some(Status::PutFailed),
+            7 => Some(Status::NoMemory),
+            8 => Some(Status::TooLong),
+            9 => Some(Status::NotText),
+            _ => None,
         }
     }
 }

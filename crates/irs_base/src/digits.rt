@@ -1,0 +1,48 @@
+//! Decimal digits: two and four at a time, and the powers of ten that cut a number before its last ones.
+ghost use Rattle.std.specs.Prelude.{◌≡◌, ◌/◌, ◌%◌, ◌<◌, ◌≤◌, ◌^◌, ◌++◌};
+ghost use Rattle.irs_base.specs.Texts.{most_places, two_digits};
+
+// The powers of ten, from 10^0 to 10^12.
+const POWERS: [u64; 13] = [
+    1,
+    10,
+    100,
+    1_000,
+    10_000,
+    100_000,
+    1_000_000,
+    10_000_000,
+    100_000_000,
+    1_000_000_000,
+    10_000_000_000,
+    100_000_000_000,
+    1_000_000_000_000,
+];
+
+/// 10^places.
+#[tactic(auto, using(crate::proofs::Powers::power_at))]
+pub fn ten_to(places: u8) -> u64
+    requires { places ≤ most_places }
+    ensures value { result ≡ 10 ^ places }
+    ensures above { 0 < result }
+{
+    POWERS[places as usize]
+}
+
+/// A number below 100 in two digits.
+pub fn two_digits(n: u8) -> [u8; 2]
+    requires { n < 100 }
+    ensures { result ≡ two_digits n }
+{
+    [b'0' + n / 10, b'0' + n % 10]
+}
+
+/// A number below 10,000 in four digits.
+pub fn four_digits(n: u16) -> [u8; 4]
+    requires { n < 10_000 }
+    ensures { result ≡ two_digits (n / 100) ++ two_digits (n % 100) }
+{
+    let front = two_digits((n / 100) as u8);
+    let back = two_digits((n % 100) as u8);
+    [front[0], front[1], back[0], back[1]]
+}
