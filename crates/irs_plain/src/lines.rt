@@ -16,6 +16,7 @@ use crate::cuts::{fifth, fourth, front, is, second, sixth, third};
 use crate::elements::{holder, name_words, possessive};
 use crate::lookup::{after, before};
 use crate::words::{calendar_name, fixings_name, flows_name, named};
+use irs_base::Status;
 
 /// The most parts of a sentence.
 const PARTS: usize = 13;
@@ -288,29 +289,35 @@ fn departure<'a>(words: &'a [String], line: &'a [u8]) -> Sentence<'a>
 
 // ---- every status
 
-// The sentence for a line without its end.
+// The sentence for a line without its end; an empty one for a number that is no status.
+#[tactic(auto, using(crate::proofs::StatusLemmas::silent))]
 fn told<'a>(words: &'a [String], status: u8, line: &'a [u8]) -> Sentence<'a>
     ensures { said result ≡ joined (told_of (texts words.now) status line.now) }
 {
-    match status {
-        1 => departure(words, line),
-        2 => refused(line),
-        3 => bad_file(words, line),
-        4 => short(
+    match Status::of(status) {
+        Some(Status::NotAgreed) => departure(words, line),
+        Some(Status::RuleBroken) => refused(line),
+        Some(Status::BadFile) => bad_file(words, line),
+        Some(Status::BadWords) => short(
             b"these words are no listed command: ",
             b"irs --help lists them",
             b"",
         ),
-        5 => short(b"no such file: ", named(words, third(line)), b""),
-        6 => short(b"the text couldn't be written to standard output", b"", b""),
-        7 => short(b"there wasn't enough memory", b"", b""),
-        8 => short(
+        Some(Status::NoFile) => short(b"no such file: ", named(words, third(line)), b""),
+        Some(Status::PutFailed) => short(
+            b"the text couldn't be written to standard output",
+            b"",
+            b"",
+        ),
+        Some(Status::NoMemory) => short(b"there wasn't enough memory", b"", b""),
+        Some(Status::TooLong) => short(
             named(words, third(line)),
             b" has more than 4,194,304 bytes",
             b"",
         ),
-        9 => short(b"a word of the command line isn't text", b"", b""),
-        _ => short(b"", b"", b""),
+        Some(Status::NotText) => short(b"a word of the command line isn't text", b"", b""),
+        Some(Status::Done) => short(b"", b"", b""),
+        None => short(b"", b"", b""),
     }
 }
 
