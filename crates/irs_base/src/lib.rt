@@ -35,7 +35,7 @@ pub use limits::{
     ALL_DAYS, MOST_BYTES, MOST_CENTERS, MOST_EXCHANGES, MOST_FILES, MOST_HOLIDAYS, MOST_INDEX,
     MOST_NAME, MOST_PERIODS, MOST_RATE, MOST_ROWS, MOST_STEPS, MOST_STREAMS, limits_stated,
 };
-pub use line::{Dec, LONGEST_LINE, Line};
+pub use line::{Dec, LONGEST_LINE, Line, day_digits};
 pub use lines::split_line;
 pub use memory::Memory;
 pub use months::{month_day, month_index};
