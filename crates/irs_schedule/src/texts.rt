@@ -9,7 +9,7 @@ ghost use Rattle.irs_schedule.specs.RowTexts.{row_text_of, fields_of, code_text,
 ghost use Rattle.irs_schedule.specs.RowTexts.{HasPlaces, IsFew};
 
 use crate::Row;
-use irs_base::{Day, Dec, Line};
+use irs_base::{Day, Dec, Line, day_digits};
 use irs_terms::{DayCountCode, Frac};
 
 fn put_optional(line: &mut Line, v: Option<Dec>)
@@ -24,13 +24,41 @@ fn put_optional(line: &mut Line, v: Option<Dec>)
     }
 }
 
-fn put_span(line: &mut Line, start: Day, end: Day)
+// The text of an adjusted day. Mostly it is the day that was to be adjusted, whose text is at hand.
+fn adjusted_digits(adjusted: Day, unadjusted: Day, digits: [u8; 10]) -> [u8; 10]
+    requires { digits ≡ day_text unadjusted }
+    ensures { result ≡ day_text adjusted }
+{
+    if adjusted == unadjusted {
+        digits
+    } else {
+        day_digits(adjusted)
+    }
+}
+
+// A day before and after its adjustment.
+fn put_moved(line: &mut Line, unadjusted: Day, adjusted: Day)
     requires { length line.old + 22 ≤ 512 }
-    ensures text { line.new ≡ line.old ++ 32 ∷ day_text start ++ 32 ∷ day_text end }
+    ensures text { line.new ≡ line.old ++ 32 ∷ day_text unadjusted ++ 32 ∷ day_text adjusted }
     ensures grows { length line.new ≡ length line.old + 22 }
 {
-    line.put_day(start);
-    line.put_day(end);
+    let digits = day_digits(unadjusted);
+    line.put_field(&digits);
+    line.put_field(&adjusted_digits(adjusted, unadjusted, digits));
+}
+
+// The start and the end of a period, and both after their adjustment.
+fn put_span(line: &mut Line, start: Day, end: Day, adjusted_start: Day, adjusted_end: Day)
+    requires { length line.old + 44 ≤ 512 }
+    ensures text { line.new ≡ line.old ++ 32 ∷ day_text start ++ 32 ∷ day_text end
+        ++ 32 ∷ day_text adjusted_start ++ 32 ∷ day_text adjusted_end }
+    ensures grows { length line.new ≡ length line.old + 44 }
+{
+    let (from, to) = (day_digits(start), day_digits(end));
+    line.put_field(&from);
+    line.put_field(&to);
+    line.put_field(&adjusted_digits(adjusted_start, start, from));
+    line.put_field(&adjusted_digits(adjusted_end, end, to));
 }
 
 fn put_frac(line: &mut Line, frac: Frac)
@@ -117,8 +145,7 @@ fn put_fields(row: &Row, line: &mut Line)
             line.push(b"x");
             line.put_number(u32::from(stream));
             line.put_number(number);
-            line.put_day(unadjusted);
-            line.put_day(adjusted);
+            put_moved(line, unadjusted, adjusted);
             line.put_dec(amount);
         }
         Row::Payment {
@@ -133,8 +160,7 @@ fn put_fields(row: &Row, line: &mut Line)
             line.push(b"p");
             line.put_number(u32::from(stream));
             line.put_number(number);
-            line.put_day(unadjusted);
-            line.put_day(adjusted);
+            put_moved(line, unadjusted, adjusted);
             line.put_number(first_period);
             line.put_number(last_period);
             put_optional(line, amount);
@@ -152,8 +178,7 @@ fn put_fields(row: &Row, line: &mut Line)
             rate,
         } => {
             put_head(line, b"c", stream, number);
-            put_span(line, start, end);
-            put_span(line, adjusted_start, adjusted_end);
+            put_span(line, start, end, adjusted_start, adjusted_end);
             line.put_signed(b' ', days);
             put_frac(line, frac);
             put_notional(line, notional);
