@@ -37,15 +37,40 @@ def swap(streams):
     return '{"swap":{"swapStream":[%s]}}' % ",".join(streams)
 
 
+def parties(one, document):
+    """The stream with a payer and a receiver, which `net` asks for."""
+    references = '{"payerPartyReference":{"@href":"p%d"},"receiverPartyReference":{"@href":"p%d"},'
+    return references % (one, 3 - one) + document[1:]
+
+
+def derived(years, center):
+    """A floating stream of one period of that many years, whose fixings are derived from others."""
+    moved = adjustments("FOLLOWING", [center])
+    none = adjustments("NONE", [])
+    return (
+        '{"calculationPeriodDates":{"@id":"c","effectiveDate":{"unadjustedDate":"2000-01-03","dateAdjustments":%s},'
+        '"terminationDate":{"unadjustedDate":"%d-01-03","dateAdjustments":%s},'
+        '"calculationPeriodDatesAdjustments":%s,'
+        '"calculationPeriodFrequency":{"periodMultiplier":"1","period":"T","rollConvention":"NONE"}},'
+        '"paymentDates":{"paymentFrequency":{"periodMultiplier":"1","period":"T"},'
+        '"payRelativeTo":"CalculationPeriodEndDate","paymentDatesAdjustments":%s},'
+        '"resetDates":{"@id":"r","calculationPeriodDatesReference":{"@href":"c"},'
+        '"resetRelativeTo":"CalculationPeriodStartDate","resetFrequency":{"periodMultiplier":"1","period":"T"},'
+        '"resetDatesAdjustments":%s},'
+        '"calculationPeriodAmount":{"calculation":{"notionalSchedule":{"notionalStepSchedule":'
+        '{"initialValue":"1000","currency":"USD"}},"floatingRateCalculation":{"floatingRateIndex":"USD-TEST-INDEX",'
+        '"indexTenor":{"periodMultiplier":"3","period":"M"}},"dayCountFraction":"ACT/360"}}}'
+    ) % (none, 2000 + years, none, none, none, moved)
+
+
 def calendar(name, holidays):
     first = date(1901, 1, 1)
     days = "".join("%s\n" % (first + timedelta(days=5 * n)) for n in range(holidays))
     return "center %s\ncover 1901-01-01 2299-12-31\nweekend SAT SUN\n%s" % (name, days)
 
 
-def fixings(lines):
-    first = date(1950, 1, 1)
-    return "".join("%s 0.05 3M USD-TEST-INDEX\n" % (first + timedelta(days=n)) for n in range(lines))
+def fixings(lines, tenor="3M", first=date(1950, 1, 1)):
+    return "".join("%s 0.03 %s USD-TEST-INDEX\n" % (first + timedelta(days=n), tenor) for n in range(lines))
 
 
 def flows(rows):
