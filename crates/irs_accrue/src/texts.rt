@@ -3,37 +3,13 @@
 //!
 //! The format is this project's own. Amounts have the decimals of their currency; what isn't known is
 //! `-`.
-ghost use Rattle.std.specs.Prelude.{◌≡◌, ◌+◌, ◌<◌, ◌≤◌, [], ◌∷◌, ◌++◌, codes, length, IfSome};
-ghost use Rattle.std.specs.Fmt.{decimal, signed_decimal};
-ghost use Rattle.irs_base.specs.Texts.{dec_text};
-ghost use Rattle.irs_schedule.specs.RowTexts.{IsFew, dec_or_dash};
+ghost use Rattle.std.specs.Prelude.{◌≡◌, ◌+◌, ◌≤◌, ◌++◌, length};
 ghost use Rattle.irs_accrue.specs.Accruals.{HasPlaces};
 ghost use Rattle.irs_accrue.specs.AccrualTexts.{accrual_fields, accrual_text};
 
 use crate::Accrual;
-use irs_base::{Dec, Line};
-use irs_terms::Frac;
-
-fn put_frac(line: &mut Line, frac: Frac)
-    requires { length line.old + 82 ≤ 512 }
-    ensures text { line.new ≡ line.old ++ 32 ∷ signed_decimal frac.num ++ 47 ∷ signed_decimal frac.den }
-    ensures grows { length line.new ≤ length line.old + 82 }
-{
-    line.put_signed(b' ', frac.num);
-    line.put_signed(b'/', frac.den);
-}
-
-fn put_amount(line: &mut Line, amount: Option<Dec>)
-    requires places { IfSome amount IsFew }
-    requires room { length line.old + 54 ≤ 512 }
-    ensures text { line.new ≡ line.old ++ 32 ∷ dec_or_dash amount }
-    ensures grows { length line.new ≤ length line.old + 54 }
-{
-    match amount {
-        Some(v) => line.put_dec(v),
-        None => line.push(b" -"),
-    }
-}
+use irs_base::Line;
+use irs_schedule::{put_frac, put_optional};
 
 // The fields behind the stream's number.
 fn put_fields(line: &mut Line, a: &Accrual)
@@ -53,7 +29,7 @@ fn put_fields(line: &mut Line, a: &Accrual)
             line.put_number(period);
             line.put_signed(b' ', days);
             put_frac(line, frac);
-            put_amount(line, amount);
+            put_optional(line, amount);
         }
     }
 }

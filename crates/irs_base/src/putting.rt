@@ -5,7 +5,7 @@ ghost use Rattle.std.specs.Prelude.{◌≡◌, ◌+◌, ◌<◌, ◌≤◌, ◌�
 ghost use Rattle.std.specs.Fmt.{decimal, signed_decimal};
 ghost use Rattle.irs_base.specs.Texts.{day_text, dec_text, most_places};
 
-use crate::line::{push_number, push_signed_number};
+use crate::line::push_signed_number;
 use crate::{Day, Dec, Line};
 
 impl Line {
@@ -42,13 +42,14 @@ impl Line {
     }
 
     /// Puts a space and a number that counts.
+    #[tactic(auto, using(crate::proofs::TextLemmas::appended))]
     pub fn put_number(&mut self, n: u32)
         requires { length self.old + 41 ≤ 512 }
         ensures text { self.new ≡ self.old ++ 32 ∷ decimal n }
         ensures grows { length self.new ≤ length self.old + 41 }
     {
         self.push(b" ");
-        push_number(self, u64::from(n));
+        self.push_number(n);
     }
 
     /// Puts a space and a day: `YYYY-MM-DD`.

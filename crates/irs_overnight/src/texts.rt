@@ -1,7 +1,7 @@
 //! The lines of a fixing file that derived rates print: DATE RATE TENOR INDEX, or a comment for a rate
 //! that is missing. The format is this project's own.
 ghost use Rattle.std.specs.Prelude.{◌≡◌, ◌+◌, ◌<◌, ◌≤◌, List, [], ◌∷◌, ◌++◌, length};
-ghost use Rattle.std.specs.Fmt.{decimal, signed_decimal};
+ghost use Rattle.std.specs.Fmt.{decimal};
 ghost use Rattle.irs_base.specs.Limits.{most_index};
 ghost use Rattle.irs_base.specs.Texts.{day_text, dec_text};
 ghost use Rattle.irs_overnight.specs.Reading.{IsLawfulLine, ReadsAs};
@@ -25,40 +25,12 @@ fn unit_text(unit: Unit) -> &'static str
 }
 
 // Each of these puts a text behind what the line holds.
-fn put_whole(line: &mut Line, n: i128)
-    requires { length line.old + 40 ≤ 512 }
-    ensures text { line.new ≡ line.old ++ signed_decimal n }
-    ensures grows { length line.new ≤ length line.old + 40 }
-{
-    line.push_whole(n);
-}
-
-fn put_number(line: &mut Line, n: u32)
-    requires { length line.old + 40 ≤ 512 }
-    ensures text { line.new ≡ line.old ++ decimal n }
-    ensures grows { length line.new ≤ length line.old + 40 }
-{
-    put_whole(line, i128::from(n));
-}
-
-#[tactic(auto, using(irs_base::proofs::TextLengths::length_dec))]
-fn put_rate(line: &mut Line, rate: i64)
-    requires { length line.old + 50 ≤ 512 }
-    ensures text { line.new ≡ line.old ++ dec_text rate 9 }
-    ensures grows { length line.new ≤ length line.old + 50 }
-{
-    line.push_dec(Dec {
-        units: i128::from(rate),
-        places: 9,
-    });
-}
-
 fn put_frequency(line: &mut Line, f: Frequency)
     requires { length line.old + 41 ≤ 512 }
     ensures text { line.new ≡ line.old ++ (decimal f.count ++ unit_text f.unit) }
     ensures grows { length line.new ≤ length line.old + 41 }
 {
-    put_number(line, u32::from(f.count));
+    line.push_number(u32::from(f.count));
     line.push(unit_text(f.unit).as_bytes());
 }
 
@@ -82,26 +54,24 @@ fn put_fixing(line: &mut Line, d: Day, rate: i64, tenor: Option<Frequency>, inde
     ensures fits { length line.new < 512 }
 {
     line.push_day(d);
-    line.push(b" ");
-    put_rate(line, rate);
+    line.put_dec(Dec {
+        units: i128::from(rate),
+        places: 9,
+    });
     line.push(b" ");
     put_tenor(line, tenor);
-    line.push(b" ");
-    line.push(index.as_slice());
+    line.put_field(index.as_slice());
 }
 
 // # missing PERIOD DATE
-#[tactic(auto, using(irs_base::proofs::TextLemmas::appended))]
 fn put_missing(line: &mut Line, period: u32, d: Day)
     requires empty { line.old ≡ [] }
     ensures text { line.new ≡ codes "# missing" ++ 32 ∷ decimal period ++ 32 ∷ day_text d }
     ensures fits { length line.new < 512 }
 {
     line.push(b"# missing");
-    line.push(b" ");
-    put_number(line, period);
-    line.push(b" ");
-    line.push_day(d);
+    line.put_number(period);
+    line.put_day(d);
 }
 
 fn put_fields(row: &DerivedRow, tenor: Option<Frequency>, index: &Text, line: &mut Line)

@@ -24,5 +24,5 @@ pub use making::{SchedErr, make_schedule};
 pub use row::Row;
 pub use schedule::{Rows, Schedule};
 pub use streams::StreamPart;
-pub use texts::row_text;
+pub use texts::{put_frac, put_optional, row_text};
 pub use views::CalculationPeriod;

@@ -12,7 +12,8 @@ use crate::Row;
 use irs_base::{Day, Dec, Line, day_digits};
 use irs_terms::{DayCountCode, Frac};
 
-fn put_optional(line: &mut Line, v: Option<Dec>)
+/// Puts a space and a decimal, or a space and `-` where there is none.
+pub fn put_optional(line: &mut Line, v: Option<Dec>)
     requires places { IfSome v IsFew }
     requires room { length line.old + 54 ≤ 512 }
     ensures text { line.new ≡ line.old ++ 32 ∷ dec_or_dash v }
@@ -61,7 +62,8 @@ fn put_span(line: &mut Line, start: Day, end: Day, adjusted_start: Day, adjusted
     line.put_field(&adjusted_digits(adjusted_end, end, to));
 }
 
-fn put_frac(line: &mut Line, frac: Frac)
+/// Puts a space and a fraction, not reduced, as `NUMERATOR/DENOMINATOR`.
+pub fn put_frac(line: &mut Line, frac: Frac)
     requires { length line.old + 82 ≤ 512 }
     ensures text { line.new ≡ line.old ++ 32 ∷ signed_decimal frac.num ++ 47 ∷ signed_decimal frac.den }
     ensures grows { length line.new ≤ length line.old + 82 }
