@@ -3,7 +3,6 @@ use Rattle.std.proofs.Common.{◌≡◌, ℕ, zero, suc, ◌-◌, ◌^◌, ◌<�
 use Rattle.std.proofs.Common.{eq-zero-or-pos, eqb→eq}
 use lib.Ieee.Fits.{and_l, and_r}
 use Rattle.irs_base.specs.declared.digits.TheConstants.{POWERS}
-use Rattle.irs_base.specs.Texts.{most_places}
 
 abbrev are_powers : ℕ → Bool
 are_powers zero = true
@@ -17,5 +16,5 @@ below (suc n) k t h =
       | inr g ↦ below n k (and_r _ (are_powers n) t) (omega arith)
     ]
 
-pub power_at : (k : ℕ) → k ≤ most_places → get_or POWERS k 0 ≡ 10 ^ k
-power_at k h = below 13 k tt (omega (arith, h))
+pub power_at : (k : ℕ) → k ≤ 18 → get_or POWERS k 0 ≡ 10 ^ k
+power_at k h = below 19 k tt (omega (arith, h))

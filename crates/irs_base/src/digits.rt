@@ -1,9 +1,9 @@
 //! Decimal digits: two and four at a time, and the powers of ten that cut a number before its last ones.
 ghost use Rattle.std.specs.Prelude.{◌≡◌, ◌/◌, ◌%◌, ◌<◌, ◌≤◌, ◌^◌, ◌++◌};
-ghost use Rattle.irs_base.specs.Texts.{most_places, two_digits};
+ghost use Rattle.irs_base.specs.Texts.{two_digits};
 
-// The powers of ten, from 10^0 to 10^12.
-const POWERS: [u64; 13] = [
+// The powers of ten, from 10^0 to 10^18.
+const POWERS: [u64; 19] = [
     1,
     10,
     100,
@@ -17,16 +17,22 @@ const POWERS: [u64; 13] = [
     10_000_000_000,
     100_000_000_000,
     1_000_000_000_000,
+    10_000_000_000_000,
+    100_000_000_000_000,
+    1_000_000_000_000_000,
+    10_000_000_000_000_000,
+    100_000_000_000_000_000,
+    1_000_000_000_000_000_000,
 ];
 
-/// 10^places.
+/// 10^n, for n up to 18: what fits 64 bits.
 #[tactic(auto, using(crate::proofs::Powers::power_at))]
-pub fn ten_to(places: u8) -> u64
-    requires { places ≤ most_places }
-    ensures value { result ≡ 10 ^ places }
+pub fn power_of_ten(n: u8) -> u64
+    requires { n ≤ 18 }
+    ensures value { result ≡ 10 ^ n }
     ensures above { 0 < result }
 {
-    POWERS[places as usize]
+    POWERS[n as usize]
 }
 
 /// A number below 100 in two digits.
