@@ -24,3 +24,6 @@ pub mod FaultOrder
 pub mod MemberLemmas
 pub mod Decided
 pub mod HandedAnswers
+pub mod EveryLemmas
+pub mod CoverLemmas
+pub mod HandedOut

@@ -2,9 +2,9 @@
 //! periods, and the reset frequency is as long as the calculation frequency.
 ghost use Rattle.std.specs.Prelude.{◌↔◌, IsTrue};
 ghost use Rattle.irs_terms.specs.Frequencies.{HasWholePeriods, PaymentSuits, ResetSuits};
-ghost use Rattle.irs_terms.specs.Lawful.{IsLawfulRoll, IsLawfulStream};
+ghost use Rattle.irs_terms.specs.Lawful.{IsLawfulStream};
 ghost use Rattle.irs_terms.specs.Lengths.{IsPositive};
-ghost use Rattle.irs_terms.specs.Suiting.{FrequencySuits, IsTerm, RollsMonths, RollsWeeks, SuitsBy};
+ghost use Rattle.irs_terms.specs.Suiting.{FrequencySuits, IsTerm};
 ghost use Rattle.irs_rules.specs.Order.{IsFirstFault};
 ghost use Rattle.irs_rules.specs.Dates.{BreaksK14, BreaksK15, IsTermAlone};
 ghost use Rattle.irs_rules.specs.Amounts.{BreaksK20};
@@ -12,7 +12,7 @@ ghost use Rattle.irs_rules.specs.Amounts.{BreaksK20};
 use crate::faults::fault_unless;
 use crate::multiples::is_multiple;
 use irs_base::{Elem, Fault, Rule};
-use irs_terms::{Length, RollCode, Stream, Unit};
+use irs_terms::{Length, Stream, Unit, suits};
 
 /// K14: the calculation frequency, where the roll doesn't suit it.
 pub(crate) fn roll_misfit(s: &Stream) -> Option<Fault>
@@ -30,7 +30,7 @@ fn frequency_suits(s: &Stream) -> bool
     requires { IsLawfulStream s.now }
     ensures { IsTrue result ↔ FrequencySuits s.now }
 {
-    suits(s.freq.unit, s.roll) && fits_term(s)
+    suits(s.freq, s.roll) && fits_term(s)
 }
 
 /// Whether the term, where it is the calculation frequency, stands once and alone.
@@ -44,44 +44,6 @@ fn is_term_alone(s: &Stream) -> bool
     ensures { IsTrue result ↔ IsTermAlone s.now }
 {
     s.freq.count == 1 && s.first_regular.is_none() && s.last_regular.is_none()
-}
-
-fn suits(unit: Unit, roll: RollCode) -> bool
-    requires { IsLawfulRoll roll }
-    ensures { IsTrue result ↔ SuitsBy unit roll }
-{
-    match unit {
-        Unit::D => roll == RollCode::NoRoll,
-        Unit::W => rolls_weeks(roll),
-        Unit::M => rolls_months(roll),
-        Unit::Y => rolls_months(roll),
-        Unit::T => true,
-    }
-}
-
-fn rolls_months(roll: RollCode) -> bool
-    requires { IsLawfulRoll roll }
-    ensures { IsTrue result ↔ RollsMonths roll }
-{
-    match roll {
-        RollCode::Eom => true,
-        RollCode::Dom(_) => true,
-        RollCode::Imm => true,
-        RollCode::OnWeekday(_) => false,
-        RollCode::NoRoll => false,
-    }
-}
-
-fn rolls_weeks(roll: RollCode) -> bool
-    ensures { IsTrue result ↔ RollsWeeks roll }
-{
-    match roll {
-        RollCode::Eom => false,
-        RollCode::Dom(_) => false,
-        RollCode::Imm => false,
-        RollCode::OnWeekday(_) => true,
-        RollCode::NoRoll => true,
-    }
 }
 
 /// K15: the payment frequency, where a payment doesn't have whole calculation periods.

@@ -1,1 +1,3 @@
 pub mod FirstDays
+pub mod NeedLemmas
+pub mod CurrencyLemmas

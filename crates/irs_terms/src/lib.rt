@@ -15,6 +15,7 @@ mod results;
 mod step_list;
 mod stream;
 mod stream_list;
+mod suiting;
 #[cfg(test)]
 mod tests;
 
@@ -34,3 +35,4 @@ pub use results::{Exchange, Exchanges, Frac, Payment, Payments, Reset, Resets, S
 pub use step_list::{Step, StepList, StepValues};
 pub use stream::Stream;
 pub use stream_list::{StreamList, Swap};
+pub use suiting::suits;
