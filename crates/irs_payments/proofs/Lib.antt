@@ -12,3 +12,4 @@ pub mod CutsThere
 pub mod GroupingLemmas
 pub mod PaymentsThere
 pub mod PaymentsCover
+pub mod DatedPayments
