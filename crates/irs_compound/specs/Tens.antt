@@ -1,9 +1,6 @@
 -- Powers of ten.
-use Rattle.std.proofs.Common.{◌≡◌, ℕ, suc, zero, ◌-◌, ◌^◌, ◌<◌, ◌≤◌, ℤ, pos, negsuc, ◌≤ℤ◌, ◌*ℤ◌, ◌<ℤ◌, arith, refl}
-use Rattle.std.proofs.Common.{FitsSigned}
+use Rattle.std.proofs.Common.{ℕ, suc, zero, ◌^◌, ◌<◌, ◌≤◌, ℤ, pos, negsuc, ◌≤ℤ◌, ◌*ℤ◌, ◌<ℤ◌, arith}
 use Rattle.jiff_core.proofs.SignedLemmas.{signed_arith}
-use Rattle.std.specs.Int.{w128}
-use Rattle.std.proofs.Math.Nat.{pow-succ'}
 
 pub ten_above : (n : ℕ) → 0 < 10 ^ n
 ten_above zero = omega arith
@@ -13,14 +10,6 @@ pub ten_order : (m n : ℕ) → m ≤ n → 10 ^ m ≤ 10 ^ n
 ten_order zero n h = let k = ten_above n in omega (arith, k)
 ten_order (suc m) zero h = absurd (omega (arith, h))
 ten_order (suc m) (suc n) h = let k = ten_order m n (omega (arith, h)) in omega (arith, k)
-
--- the next power
-pub ten_next : (n : ℕ) → 0 < n → pos 10 *ℤ pos (10 ^ (n - 1)) ≡ pos (10 ^ n)
-ten_next zero h = absurd (omega (arith, h))
-ten_next (suc n) h = let e : suc n - 1 ≡ n = omega arith in rw (e, pow-succ') refl
-
-pub ten_fits : (n : ℕ) → n ≤ 18 → FitsSigned w128 (pos (10 ^ n))
-ten_fits n h = let k = ten_order n 18 h in omega (arith, signed_arith, k)
 
 pub ten_positive : (n : ℕ) → pos 0 <ℤ pos (10 ^ n)
 ten_positive n = let h = ten_above n in omega (arith, signed_arith, h)

@@ -4,13 +4,14 @@
 //! one denominator, 365 * 366, a day of a leap year has 365 parts and any other day 366. So each
 //! whole year has 133590 parts, and the numerator is the difference of two places: no year and no
 //! day in between is looked at.
-ghost use Rattle.std.specs.Prelude.{◌≡◌, ◌≤◌, pos, ◌<ℤ◌, ◌≤ℤ◌, ◌+ℤ◌, ◌-ℤ◌};
+ghost use Rattle.std.specs.Prelude.{◌≡◌, ◌≤◌, ◌+◌, ◌-◌, ◌<ℤ◌, ◌-ℤ◌};
+ghost use Rattle.std.specs.Int.{IsInRange};
+ghost use Rattle.jiff_core.specs.Calendar.{IsCivilDate, day_of_year, days_of_months};
 ghost use Rattle.irs_base.specs.Days.{IsDay, last_year};
-ghost use Rattle.irs_base.specs.DateOf.{year_part};
 ghost use Rattle.irs_daycount.specs.Actual.{ActAct};
 ghost use Rattle.irs_daycount.specs.Places.{most_place, place_at, place_of};
 
-use irs_base::{Civil, Day, civil_of, day_of};
+use irs_base::{Civil, Day, civil_of};
 use irs_terms::Frac;
 use jiff_core::civil::is_leap_year;
 
@@ -41,9 +42,8 @@ fn place(d: Day) -> u32
     ensures range { result ≤ most_place }
     ensures day { IsDay d }
 {
-    // Hands the prover the range of the day.
-    let _number = d.number();
-    place_at(year(d), days_into_year(d))
+    let date = civil_of(d);
+    place_at(date.year as u32, days_into_year(date))
 }
 
 fn place_at(year: u32, days: u32) -> u32
@@ -59,39 +59,26 @@ fn place_at(year: u32, days: u32) -> u32
     }
 }
 
-fn year(d: Day) -> u32
-    ensures value { result ≡ (year_part d).0 }
-    ensures range { result ≤ last_year }
-{
-    civil_of(d).year as u32
-}
-
-// The days since 1 January of the day's year.
-fn days_into_year(d: Day) -> u32
-    ensures value { result ≡ (year_part d).1 }
+// The days of the date's year before it.
+fn days_into_year(date: Civil) -> u32
+    requires { IsCivilDate date.year date.month date.day }
+    ensures value { result + 1 ≡ day_of_year date.year date.month date.day }
     ensures range { result ≤ 365 }
 {
-    days_from(first_of_year(d), d)
+    days_before_month(date.year as i16, date.month) + u32::from(date.day) - 1
 }
 
-fn first_of_year(d: Day) -> Day
-    ensures start { d ≡ result +ℤ pos (year_part d).1 }
-    ensures range { (year_part d).1 ≤ 365 }
+// The days of the year before the month.
+fn days_before_month(year: i16, month: u8) -> u32
+    requires { IsInRange 1 12 month }
+    ensures value { result ≡ days_of_months year (month - 1) }
+    ensures range { result ≤ 366 }
 {
-    // Hands the prover the range of the day.
-    let _number = d.number();
-    let year = civil_of(d).year;
-    day_of(Civil {
-        year,
-        month: 1,
-        day: 1,
-    })
-    .unwrap()
-}
-
-fn days_from(s: Day, e: Day) -> u32
-    requires { s ≤ℤ e }
-    ensures { e ≡ s +ℤ pos result }
-{
-    (e.number() - s.number()) as u32
+    const COMMON: [u32; 12] = [0, 31, 59, 90, 120, 151, 181, 212, 243, 273, 304, 334];
+    let leap_day = if month > 2 && is_leap_year(year) {
+        1
+    } else {
+        0
+    };
+    COMMON[month as usize - 1] + leap_day
 }

@@ -117,3 +117,30 @@ fn actual_days_over_one_denominator(rt: HostRuntime) -> Result<(), Fail> {
     }
     Ok(())
 }
+
+#[test]
+fn days_and_fraction_at_once(rt: HostRuntime) -> Result<(), Fail> {
+    // From 2024-01-31 to 2024-02-29. Each row: code, last period, days, numerator, denominator.
+    let rows: [(DayCountCode, bool, i64, i64, i64); 8] = [
+        (DayCountCode::OneOne, false, 29, 1, 1),
+        (DayCountCode::ActActIsda, false, 29, 365 * 29, 133_590),
+        (DayCountCode::Act365Fixed, false, 29, 29, 365),
+        (DayCountCode::Act360, false, 29, 29, 360),
+        (DayCountCode::Thirty360, false, 29, 29, 360),
+        (DayCountCode::ThirtyE360, false, 29, 29, 360),
+        (DayCountCode::ThirtyE360Isda, false, 30, 30, 360),
+        (DayCountCode::ThirtyE360Isda, true, 29, 29, 360),
+    ];
+    let (s, e) = (day((2024, 1, 31))?, day((2024, 2, 29))?);
+    if s >= e {
+        return Err("the end isn't after the start".into());
+    }
+    for (code, last, days, num, den) in rows {
+        assert_eq!(rt;
+            days_and_fraction(code, s, e, last),
+            (days, Frac { num, den }),
+            "{code:?}"
+        );
+    }
+    Ok(())
+}
