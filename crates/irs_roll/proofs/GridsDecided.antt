@@ -1,7 +1,6 @@
 -- Whether a day lies on a grid is decided: it does, or it doesn't.
-use Rattle.std.proofs.Common.{◌≡◌, ◌⊎◌, inl, inr, ℕ, ◌*◌, ◌<◌, ◌≤◌, ℤ, pos, ◌-ℤ◌, ◌*ℤ◌, ◌<ℤ◌, arith, refl, sym, subst}
+use Rattle.std.proofs.Common.{◌≡◌, inl, inr, ℕ, ◌*◌, ◌<◌, ◌≤◌, ℤ, pos, ◌-ℤ◌, ◌*ℤ◌, arith, refl, sym, subst}
 use Rattle.std.specs.Int.{int_div_euclid}
-use Rattle.jiff_core.proofs.SignedLemmas.{signed_arith}
 use Rattle.irs_base.specs.Days.{IsDay}
 use Rattle.irs_base.specs.Months.{InMonth, day_in_month}
 use Rattle.irs_base.proofs.MonthLemmas.{has_month, same_month}

@@ -1,9 +1,9 @@
 -- Grids of months, for any one day that each month has.
-use Rattle.std.proofs.Common.{◌≡◌, ℕ, ◌*◌, ◌<◌, ◌≤◌, arith, refl, sym, ◌∙◌, ap, subst, FitsSigned, w32, w64, ℤ, pos}
-use Rattle.std.proofs.Common.{◌+ℤ◌, ◌-ℤ◌, ◌*ℤ◌, ◌≤ℤ◌, ◌<ℤ◌}
+use Rattle.std.proofs.Common.{◌≡◌, ℕ, arith, sym, ◌∙◌, ap, subst, FitsSigned, w32, w64, ℤ, pos}
+use Rattle.std.proofs.Common.{◌-ℤ◌, ◌*ℤ◌, ◌≤ℤ◌, ◌<ℤ◌}
 use Rattle.jiff_core.proofs.SignedLemmas.{signed_arith}
 use Rattle.irs_base.specs.Days.{IsDay, first_month, last_month}
-use Rattle.irs_base.specs.Months.{InMonth, dim, month_start}
+use Rattle.irs_base.specs.Months.{InMonth}
 use Rattle.irs_base.proofs.MonthLemmas.{month_start-later, same_month, month_range}
 use Rattle.irs_roll.specs.Grids.{IsMultiple, OnMonthsFrom, OnMonths, OnRollDay, kth}
 

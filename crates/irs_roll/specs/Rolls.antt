@@ -1,8 +1,7 @@
 -- The grid that a frequency and a roll convention give from an anchor (FpML
 -- calculationPeriodFrequency, paymentFrequency, rollConvention).
-use Rattle.std.specs.Prelude.{◌≡◌, ℕ, ◌*◌, ◌≤◌, ℤ}
+use Rattle.std.specs.Prelude.{◌≡◌, ℕ, ◌*◌, ℤ}
 use Rattle.irs_base.specs.Days.{weekday_at}
-use Rattle.irs_base.specs.Months.{InMonth}
 use Rattle.irs_base.specs.Civils.{place_in_week}
 use Rattle.irs_terms.specs.declared.codes.RollCode.{RollCode}
 use Rattle.irs_terms.specs.declared.codes.RollCode.TheVariants.{Eom, Dom, Imm, OnWeekday, NoRoll}

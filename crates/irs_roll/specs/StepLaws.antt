@@ -1,6 +1,6 @@
 -- Whole multiples of a step, and the days of a grid of days.
 use Rattle.std.proofs.Common.{◌≡◌, ◌⊎◌, inl, inr, ℕ, ◌+◌, ◌*◌, ◌<◌, ◌≤◌, arith, rules, Option, Some, None, IfSome}
-use Rattle.std.proofs.Common.{IfNone, IsTrue, is_some, ◌↔◌, mul-le-mul, ◌^◌, neg_ℤ, FitsSigned, w64, ℤ, pos, ◌+ℤ◌, ◌-ℤ◌}
+use Rattle.std.proofs.Common.{IfNone, IsTrue, is_some, ◌↔◌, mul-le-mul, ◌^◌, neg_ℤ, FitsSigned, w64, ℤ, pos, ◌+ℤ◌}
 use Rattle.std.proofs.Common.{◌*ℤ◌, ◌≤ℤ◌, ◌<ℤ◌}
 use Rattle.jiff_core.proofs.SignedLemmas.{signed_arith, int_div_euclid-parts}
 use Rattle.jiff_core.specs.Calendar.{IsBetween}

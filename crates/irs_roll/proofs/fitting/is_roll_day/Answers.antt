@@ -1,7 +1,6 @@
 use Rattle.std.proofs.Common.{arith, ◌≡◌, ℤ, true, int_eq, to_z, of_z, w64, subst, sym, ap, ◌∙◌}
 use Rattle.jiff_core.proofs.SignedLemmas.{signed_arith}
 use Rattle.irs_base.specs.Days.{IsDay}
-use Rattle.irs_roll.specs.Grids.{OnRollDay}
 use Rattle.irs_roll.specs.MonthLaws.{rolls_in}
 use Rattle.irs_roll.proofs.fitting.is_roll_day.Goals as goal
 

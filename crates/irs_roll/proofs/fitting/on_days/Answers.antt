@@ -1,4 +1,4 @@
-use Rattle.std.proofs.Common.{arith, ◌≡◌, ℤ, pos, ◌-ℤ◌, ◌*ℤ◌, to_z, of_z, w64, subst, sym, ◌∙◌}
+use Rattle.std.proofs.Common.{arith, ◌≡◌, ◌-ℤ◌, to_z, of_z, w64, subst, sym, ◌∙◌}
 use Rattle.jiff_core.proofs.SignedLemmas.{signed_arith}
 use Rattle.irs_roll.specs.Grids.{IsMultiple}
 use Rattle.irs_roll.specs.StepLaws.{on_by_index, none_then}

@@ -1,9 +1,7 @@
-use Rattle.std.proofs.Common.{rules, arith, ◌≡◌, ℤ, pos, ◌-ℤ◌, ◌*ℤ◌, FitsSigned, w64, w32, to_z, of_z, to_z-of_z, sym}
-use Rattle.std.proofs.Common.{ap, ◌∙◌, subst, IfNone}
+use Rattle.std.proofs.Common.{rules, arith, ◌≡◌, ℤ, ◌-ℤ◌, FitsSigned, w64, w32, to_z, of_z, to_z-of_z, sym}
+use Rattle.std.proofs.Common.{ap, ◌∙◌}
 use Rattle.std.proofs.lemmas.Option.{IfSome_then}
 use Rattle.jiff_core.proofs.SignedLemmas.{signed_arith}
-use Rattle.irs_base.specs.Days.{IsDay}
-use Rattle.irs_roll.specs.Grids.{kth, IsMultiple, OnMonthsFrom}
 use Rattle.irs_roll.specs.StepLaws.{none_then}
 use Rattle.irs_roll.specs.MonthLaws.{roll_at, roll_off_range, roll_off_steps, rolls_on}
 use Rattle.irs_roll.proofs.month_grid.steps_to.Goals as goal

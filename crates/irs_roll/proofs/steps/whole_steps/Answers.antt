@@ -1,7 +1,6 @@
-use Rattle.std.proofs.Common.{rules, arith, ◌≡◌, ◌<◌, ℤ, pos, ◌*ℤ◌, FitsSigned, w64, ◌<ℤ◌, ◌+ℤ◌, to_z-of_z, to_z, of_z}
-use Rattle.std.proofs.Common.{◌∙◌, ap}
+use Rattle.std.proofs.Common.{arith, ◌≡◌, pos, FitsSigned, w64, to_z-of_z, to_z, of_z}
+use Rattle.std.proofs.Common.{ap}
 use Rattle.jiff_core.proofs.SignedLemmas.{signed_arith}
-use Rattle.irs_roll.specs.Grids.{IsMultiple}
 use Rattle.irs_roll.specs.StepLaws.{steps_fit, no_whole_steps}
 use Rattle.irs_roll.proofs.steps.whole_steps.Goals as goal
 

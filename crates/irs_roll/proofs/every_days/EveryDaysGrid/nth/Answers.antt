@@ -1,6 +1,5 @@
-use Rattle.std.proofs.Common.{rules, arith, ◌≡◌, ℤ, pos, FitsSigned, w64, to_z, of_z, to_z-of_z}
+use Rattle.std.proofs.Common.{arith, ◌≡◌, pos, w64, to_z, of_z, to_z-of_z}
 use Rattle.jiff_core.proofs.SignedLemmas.{signed_arith}
-use Rattle.irs_roll.specs.Grids.{kth}
 use Rattle.irs_roll.specs.StepLaws.{too_far}
 use Rattle.irs_roll.proofs.every_days.EveryDaysGrid.nth.Goals as goal
 

@@ -1,4 +1,4 @@
-use Rattle.std.proofs.Common.{ℕ, ℤ, subst, sym}
+use Rattle.std.proofs.Common.{ℕ, subst, sym}
 use Rattle.irs_roll.specs.Grids.{OnMonths}
 use Rattle.irs_roll.specs.RollDays.{IsNumbered}
 use Rattle.irs_roll.proofs.month_grid.MonthGrid+DayNumber.new.Goals as goal

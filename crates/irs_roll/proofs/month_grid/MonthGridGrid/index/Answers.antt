@@ -1,4 +1,4 @@
-use Rattle.std.proofs.Common.{rules, ◌≡◌, ℤ, subst, FitsSigned, w32, to_z, of_z, to_z-of_z, sym}
+use Rattle.std.proofs.Common.{rules, ℤ, subst, FitsSigned, w32, to_z-of_z, sym}
 use Rattle.irs_roll.specs.Grids.{OnMonthsFrom}
 use Rattle.irs_roll.specs.StepLaws.{none_then}
 use Rattle.irs_roll.specs.MonthLaws.{from_start}

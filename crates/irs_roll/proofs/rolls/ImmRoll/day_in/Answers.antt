@@ -1,4 +1,4 @@
-use Rattle.std.proofs.Common.{ℤ, ◌≡◌, w64, to_z, of_z, to_z-of_z}
+use Rattle.std.proofs.Common.{◌≡◌, w64, to_z, of_z, to_z-of_z}
 use Rattle.irs_roll.specs.RollDayLaws.{third_wednesday_range}
 use Rattle.irs_roll.proofs.rolls.ImmRoll.day_in.Goals as goal
 
