@@ -1,5 +1,5 @@
 -- Reading file by file, and picking name by name.
-use Rattle.std.proofs.Common.{◌≡◌, ◌⊎◌, inl, inr, Bool, true, false, is_some, if◌then◌else◌, ℕ, zero, suc, ◌+◌, ◌<◌}
+use Rattle.std.proofs.Common.{◌≡◌, inl, inr, Bool, true, false, is_some, if◌then◌else◌, ℕ, zero, suc, ◌+◌, ◌<◌}
 use Rattle.std.proofs.Common.{◌≤◌, List, [], ◌∷◌, ◌++◌, map, drop, length, get_or, Option, Some, None, Result, Ok, Vec}
 use Rattle.std.proofs.Common.{Global, append_assoc, arith, refl, sym, ◌∙◌, ap, subst}
 use Rattle.std.proofs.Math.Seq.{drop-cons}

@@ -1,5 +1,5 @@
 -- Reading line by line gives the sections that the files spell, and gives some wherever they spell some.
-use Rattle.std.proofs.Common.{◌≡◌, ◌⊎◌, inl, inr, ℕ, suc, ◌+◌, ◌<◌, ◌≤◌, Bool, true, false, ◌&&◌, ◌||◌, List, [], ◌∷◌}
+use Rattle.std.proofs.Common.{◌≡◌, inl, inr, ℕ, suc, ◌+◌, ◌<◌, ◌≤◌, Bool, true, false, ◌&&◌, ◌||◌, List, [], ◌∷◌}
 use Rattle.std.proofs.Common.{◌++◌, map, length, Result, Ok, nat_le, append_assoc, arith, refl, sym, ◌∙◌, ap, subst, ℤ}
 use Rattle.std.proofs.Common.{pos, ◌+ℤ◌, ◌≤ℤ◌}
 use Rattle.std.specs.Ordering.{int_cmp, is_le, is_lt}
