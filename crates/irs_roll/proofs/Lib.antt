@@ -1,1 +1,2 @@
+mod DatesOnRolls
 pub mod GridsDecided

@@ -7,6 +7,12 @@ pub record IsMultiple (step : ℕ) (z : ℤ) : Type 0 where
   pub times : ℤ
   pub is : z ≡ times *ℤ pos step
 
+-- so many months lie from the month of the anchor to this one
+pub record MonthsTo (anchor month apart : ℤ) : Type 0 where
+  pub start : ℤ
+  pub of_anchor : InMonth anchor start
+  pub is : apart ≡ month -ℤ start
+
 -- the day is the roll day of its month, which lies a whole multiple of the step from the month `start`
 pub record OnMonthsFrom (is_roll : ℤ → ℤ → Type 0) (step : ℕ) (start d : ℤ) : Type 0 where
   pub month : ℤ

@@ -7,10 +7,10 @@ ghost use Rattle.irs_roll.specs.Grids.{OnDays, OnMonths, OnRollDay};
 ghost use Rattle.irs_roll.specs.Rolls.{Fits, FitsWeek, IsRollDay, OnGrid};
 ghost use Rattle.irs_terms.specs.Suiting.{IsTerm, RollsMonths, RollsWeeks, Suits};
 
-use crate::month_grid::steps_to;
+use crate::Anchor;
 use crate::rolls::{DayNumber, EndOfMonth, Imm, Roll};
-use crate::steps::whole_steps;
-use irs_base::{Day, month_index, weekday};
+use crate::steps::is_multiple;
+use irs_base::{Day, civil_of, weekday};
 use irs_terms::{Frequency, RollCode, Unit};
 
 /// Whether the roll suits the frequency: months and years roll on EOM, IMM or a day number from 1
@@ -86,10 +86,7 @@ fn fits_month(roll: RollCode, anchor: Day) -> bool
 fn is_roll_day<R: Roll>(roll: &R, d: Day) -> bool
     ensures { IsTrue result ↔ OnRollDay (R.rolls roll.now) d }
 {
-    let Some(rolled) = roll.day_in(i64::from(month_index(d))) else {
-        return false;
-    };
-    rolled == d
+    roll.rolls_on(d, civil_of(d))
 }
 
 /// Whether the day is on the grid of the frequency and the roll from the anchor, for every anchor
@@ -101,6 +98,16 @@ pub fn on_grid_of(freq: Frequency, roll: RollCode, anchor: Day, d: Day) -> bool
     requires roll { IsLawfulRoll roll }
     ensures { IsTrue result ↔ OnGrid freq roll anchor d }
 {
+    on_grid_from(freq, roll, &Anchor::new(anchor), d)
+}
+
+/// The same for many days that are asked about one anchor, under the same conditions.
+pub fn on_grid_from(freq: Frequency, roll: RollCode, anchor: &Anchor, d: Day) -> bool
+    requires term { ¬ (IsTerm freq) }
+    requires step { 0 < freq.count }
+    requires roll { IsLawfulRoll roll }
+    ensures { IsTrue result ↔ OnGrid freq roll anchor.now d }
+{
     let count = u32::from(freq.count);
     match freq.unit {
         Unit::D => on_days(count, anchor, d),
@@ -111,17 +118,17 @@ pub fn on_grid_of(freq: Frequency, roll: RollCode, anchor: Day, d: Day) -> bool
     }
 }
 
-fn on_days(days: u32, anchor: Day, d: Day) -> bool
+fn on_days(days: u32, anchor: &Anchor, d: Day) -> bool
     requires { 0 < days }
-    ensures { IsTrue result ↔ OnDays days anchor d }
+    ensures { IsTrue result ↔ OnDays days anchor.now d }
 {
-    whole_steps(i64::from(d.number() - anchor.number()), days).is_some()
+    is_multiple(i64::from(d.number() - anchor.day().number()), days)
 }
 
-fn on_roll_days(roll: RollCode, months: u32, anchor: Day, d: Day) -> bool
+fn on_roll_days(roll: RollCode, months: u32, anchor: &Anchor, d: Day) -> bool
     requires step { 0 < months }
     requires roll { IsLawfulRoll roll }
-    ensures { IsTrue result ↔ OnMonths (IsRollDay roll) months anchor d }
+    ensures { IsTrue result ↔ OnMonths (IsRollDay roll) months anchor.now d }
 {
     match roll {
         RollCode::Eom => on_months(&EndOfMonth, months, anchor, d),
@@ -131,9 +138,11 @@ fn on_roll_days(roll: RollCode, months: u32, anchor: Day, d: Day) -> bool
     }
 }
 
-fn on_months<R: Roll>(roll: &R, months: u32, anchor: Day, d: Day) -> bool
+// The months are looked at first: most days that are asked about lie in no month of the grid.
+fn on_months<R: Roll>(roll: &R, months: u32, anchor: &Anchor, d: Day) -> bool
     requires { 0 < months }
-    ensures { IsTrue result ↔ OnMonths (R.rolls roll.now) months anchor d }
+    ensures { IsTrue result ↔ OnMonths (R.rolls roll.now) months anchor.now d }
 {
-    steps_to(roll, months, month_index(anchor), d).is_some()
+    let date = civil_of(d);
+    is_multiple(anchor.months_to(date), months) && roll.rolls_on(d, date)
 }

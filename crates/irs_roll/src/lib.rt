@@ -2,6 +2,7 @@
 //! and end.
 #![tactic(auto)]
 
+mod anchor;
 mod every_days;
 mod fitting;
 mod grid;
@@ -12,8 +13,9 @@ mod stream_grid;
 #[cfg(test)]
 mod tests;
 
+pub use anchor::Anchor;
 pub use every_days::EveryDays;
-pub use fitting::{fits, on_grid_of, suits};
+pub use fitting::{fits, on_grid_from, on_grid_of, suits};
 pub use grid::Grid;
 pub use month_grid::{MonthDay, MonthEnd, MonthGrid, ThirdWednesday};
 pub use rolls::{DayNumber, EndOfMonth, Imm, Roll};

@@ -122,7 +122,7 @@ impl<R: Roll> Grid for MonthGrid<R> {
 
 /// How many steps of months lie between the month `start`, counted from January of the year 0, and a
 /// roll day; `None` exactly off the grid.
-pub fn steps_to<R: Roll>(roll: &R, months: u32, start: i32, d: Day) -> Option<i64>
+fn steps_to<R: Roll>(roll: &R, months: u32, start: i32, d: Day) -> Option<i64>
     requires step { 0 < months }
     ensures some { IfSome result (λ k. R.day roll.now (kth start months k) ≡ d) }
     ensures none { IfNone result (OnMonthsFrom (R.rolls roll.now) months start d → ⊥) }

@@ -1,14 +1,18 @@
 //! The roll day of a month: the last day, the day with a number, or the third Wednesday, on which
 //! the contracts of the money market's futures roll (IMM).
-ghost use Rattle.std.specs.Prelude.{◌≡◌, ◌<◌, ◌-◌, ◌%◌, ℤ, pos, SomeIff};
-ghost use Rattle.irs_base.specs.Days.{IsDay, weekday_at};
+ghost use Rattle.std.specs.Prelude.{◌≡◌, ◌↔◌, ◌<◌, ◌≤◌, ◌-◌, ◌%◌, min, ℤ, pos, IsTrue, SomeIff};
+ghost use Rattle.jiff_core.specs.Calendar.{IsBetween, days_in_month as length_of_month};
+ghost use Rattle.irs_base.specs.Civils.{IsCivilOf};
+ghost use Rattle.irs_base.specs.Days.{IsDay, first_year, last_year, weekday_at};
 ghost use Rattle.irs_base.specs.Months.{InMonth, day_in_month};
 ghost use Rattle.irs_base.proofs.MonthLemmas.{day_in_month-in_month};
+ghost use Rattle.irs_roll.specs.Grids.{OnRollDay};
 ghost use Rattle.irs_roll.specs.RollDays.{IsLastDay, IsNumbered, IsThirdWednesday, last_day_of, third_wednesday};
 ghost use Rattle.irs_roll.specs.RollDayLaws.{last_day-is, last_day_only, last_day-in_month, numbered-is, numbered_only};
 ghost use Rattle.irs_roll.specs.RollDayLaws.{third_wednesday-is, third_wednesday_only, third_wednesday-in_month};
 
-use irs_base::{Day, DayName, month_day, plus, weekday};
+use irs_base::{Civil, Day, DayName, month_day, plus, weekday};
+use jiff_core::civil::days_in_month;
 
 /// A rule that gives each month one roll day. Months count from January of the year 0.
 pub trait Roll {
@@ -21,6 +25,12 @@ pub trait Roll {
     /// The roll day of a month; `None` exactly where it lies outside the range of dates.
     fn day_in(&self, month: i64) -> Option<Day>
         ensures { SomeIff result (IsDay (day self.now month)) (day self.now month) };
+
+    /// Whether a day is the roll day of its month. The condition is that the date is that of the day.
+    fn rolls_on(&self, d: Day, date: Civil) -> bool
+        requires day { IsDay d }
+        requires date { IsCivilOf d date }
+        ensures { IsTrue result ↔ OnRollDay (rolls self.now) d };
 
     /// That day is the roll day.
     ghost is: { (r : Self) (m : ℤ) → rolls r m (day r m) };
@@ -49,6 +59,14 @@ impl DayNumber {
     }
 }
 
+// Whether a date has that number in its month, or is its last day where the month is shorter.
+fn has_number(date: Civil, number: u8) -> bool
+    requires { IsBetween (pos first_year) (pos last_year) date.year }
+    ensures { IsTrue result ↔ (date.day ≡ min number (length_of_month date.year date.month)) }
+{
+    date.day == number.min(days_in_month(date.year as i16, date.month))
+}
+
 impl Roll for DayNumber {
     ghost rolls = { λ r m d. IsNumbered r.number m d };
 
@@ -56,6 +74,10 @@ impl Roll for DayNumber {
 
     fn day_in(&self, month: i64) -> Option<Day> {
         month_day(month, self.number)
+    }
+
+    fn rolls_on(&self, _d: Day, date: Civil) -> bool {
+        has_number(date, self.number)
     }
 
     ghost is = { λ r m. numbered-is r.number m r.counts_from_one };
@@ -76,6 +98,10 @@ impl Roll for EndOfMonth {
 
     fn day_in(&self, month: i64) -> Option<Day> {
         month_day(month, 31)
+    }
+
+    fn rolls_on(&self, _d: Day, date: Civil) -> bool {
+        has_number(date, 31)
     }
 
     ghost is = { λ _ m. last_day-is m };
@@ -104,6 +130,13 @@ fn to_wednesday(d: Day) -> i64
     }
 }
 
+// Whether a day with that place in its month is a Wednesday from the 15th to the 21st.
+fn is_third_wednesday(place: u8, d: Day) -> bool
+    ensures { IsTrue result ↔ (((15 ≤ place) × (place ≤ 21)) × (weekday_at d ≡ 2)) }
+{
+    15 <= place && place <= 21 && weekday(d) == DayName::Wed
+}
+
 impl Roll for Imm {
     ghost rolls = { λ _ m d. IsThirdWednesday m d };
 
@@ -113,6 +146,10 @@ impl Roll for Imm {
     fn day_in(&self, month: i64) -> Option<Day> {
         let fifteenth = month_day(month, 15)?;
         plus(fifteenth, to_wednesday(fifteenth))
+    }
+
+    fn rolls_on(&self, d: Day, date: Civil) -> bool {
+        is_third_wednesday(date.day, d)
     }
 
     ghost is = { λ _ m. third_wednesday-is m };

@@ -1,5 +1,5 @@
 //! Whole steps: how often a step goes into a distance, days before the anchor included.
-ghost use Rattle.std.specs.Prelude.{◌≡◌, ◌<◌, ℤ, pos, neg_ℤ, ◌*ℤ◌, IfSome, IfNone};
+ghost use Rattle.std.specs.Prelude.{◌≡◌, ◌<◌, ℤ, pos, neg_ℤ, ◌*ℤ◌, ◌↔◌, IfSome, IfNone, IsTrue};
 ghost use Rattle.jiff_core.specs.Calendar.{IsBetween};
 ghost use Rattle.irs_roll.specs.Grids.{IsMultiple};
 
@@ -16,4 +16,13 @@ pub fn whole_steps(apart: i64, step: u32) -> Option<i64>
         return None;
     }
     Some(steps)
+}
+
+/// Whether `apart` is a whole number of steps.
+pub fn is_multiple(apart: i64, step: u32) -> bool
+    requires step { 0 < step }
+    requires near { IsBetween (neg_ℤ (pos 1_099_511_627_776)) (pos 1_099_511_627_776) apart }
+    ensures { IsTrue result ↔ IsMultiple step apart }
+{
+    whole_steps(apart, step).is_some()
 }

@@ -27,4 +27,5 @@ fn a_grid_of_quarters(rt: HostRuntime) {
     assert_eq!(rt; grid.index(next), Some(1));
     assert!(rt; grid.on_grid(next));
     assert!(rt; on_grid_of(freq, roll, anchor, next));
+    assert!(rt; on_grid_from(freq, roll, &Anchor::new(anchor), next));
 }

@@ -1,26 +1,39 @@
-use Rattle.std.proofs.Common.{arith, ◌≡◌, ℤ, to_z, of_z, w32, subst, sym}
+use Rattle.std.proofs.Common.{arith, ◌≡◌, to_z, of_z, w64, subst, sym}
 use Rattle.jiff_core.proofs.SignedLemmas.{signed_arith}
-use Rattle.irs_roll.specs.Grids.{kth, OnMonths, OnMonthsFrom}
-use Rattle.irs_roll.specs.StepLaws.{on_by_index, none_then}
-use Rattle.irs_roll.specs.MonthLaws.{roll_is_on, from_start}
+use Rattle.irs_base.specs.Days.{month_index_of}
+use Rattle.irs_base.proofs.MonthLemmas.{date_in_month}
+use Rattle.irs_roll.specs.Grids.{IsMultiple}
+use Rattle.irs_roll.proofs.DatesOnRolls.{both_on, whole_of, rolls_of}
 use Rattle.irs_roll.proofs.fitting.on_months.Goals as goal
 
-pub returns : goal.returns
-returns g c =
-    let r = g.R.Roll in
-    let laws = g.met.R.Roll in
-    let roll = c.args.roll.now in
-    let anchor = c.args.anchor in
-    let months = c.args.months in
-    let month = c.month_index.result in
-    let begins = c.month_index.ensures.month in
-    let start : to_z w32 (of_z w32 month) ≡ month = omega (arith, signed_arith, c.month_index.ensures.range) in
-    let steps = c.steps_to.ensures in
-    let day : ℤ → ℤ = r.day roll in
-    rw c.is_some.ensures (on_by_index c.steps_to.result _ (OnMonths (r.rolls roll) months anchor c.args.d) steps.some
-    (none_then c.steps_to.result _ _ steps.none (λ out h.
-    out (subst (λ (z : ℤ). OnMonthsFrom (r.rolls roll) months z c.args.d) (sym start)
-    (from_start (r.rolls roll) day (laws.is roll) (laws.only roll)
-    (laws.stays roll) months anchor month c.args.d begins h))))
-    (λ k e. subst (OnMonths (r.rolls roll) months anchor) (subst (λ (z : ℤ). day (kth z months k) ≡ c.args.d) start e)
-    (roll_is_on (r.rolls roll) day (laws.is roll) (laws.only roll) (laws.stays roll) months anchor month k begins)))
+pub returns-then-is_multiple : goal.returns-then-is_multiple
+returns-then-is_multiple g c =
+    let rolls = g.R.Roll.rolls c.args.roll.now in
+    let d = c.args.d in
+    let date = c.civil_of-date.result in
+    let told = c.civil_of-date.ensures in
+    let at = date_in_month d date.year date.month date.day told.day told.date in
+    let month = month_index_of date.year date.month in
+    let apart : to_z w64 (of_z w64 c.months_to.result) ≡ c.months_to.result =
+    omega (arith, signed_arith, c.months_to.ensures.near) in
+    let whole = subst (IsMultiple c.args.months) apart (c.is_multiple.ensures.0 c.if-is_multiple.true) in (
+      λ t. both_on rolls c.args.months c.args.anchor.now d month c.months_to.result at.in_month
+          c.months_to.ensures.months whole (c.rolls_on.ensures.0 t),
+      λ h. c.rolls_on.ensures.1 (rolls_of rolls c.args.months c.args.anchor.now d h),
+    )
+
+pub returns-else-is_multiple : goal.returns-else-is_multiple
+returns-else-is_multiple g c =
+    let rolls = g.R.Roll.rolls c.args.roll.now in
+    let d = c.args.d in
+    let date = c.civil_of-date.result in
+    let told = c.civil_of-date.ensures in
+    let at = date_in_month d date.year date.month date.day told.day told.date in
+    let month = month_index_of date.year date.month in
+    let apart : to_z w64 (of_z w64 c.months_to.result) ≡ c.months_to.result =
+    omega (arith, signed_arith, c.months_to.ensures.near) in (
+      λ t. let off = c.if-is_multiple.false in absurd (cc (t, off)),
+      λ h. c.is_multiple.ensures.1 (subst (IsMultiple c.args.months) (sym apart)
+          (whole_of rolls c.args.months c.args.anchor.now d month c.months_to.result at.in_month
+          c.months_to.ensures.months h)),
+    )
