@@ -1,6 +1,7 @@
 -- Runs that grow by one run after another.
 use Rattle.std.proofs.Common.{◌≡◌, ◌⊎◌, inl, inr, ℕ, zero, suc, ◌+◌, ◌<◌, ◌≤◌, Bool, true, false, ◌||◌, List, [], ◌∷◌}
 use Rattle.std.proofs.Common.{◌++◌, slice_get, Some, arith, refl, sym, subst, ℤ, pos, ◌+ℤ◌, ◌-ℤ◌, ◌≤ℤ◌, ◌<ℤ◌}
+use Rattle.std.proofs.lemmas.Bool.{or_cases}
 use Rattle.std.specs.List.{list_any}
 use Rattle.std.specs.Ordering.{int_cmp, is_le}
 use Rattle.jiff_core.proofs.SignedLemmas.{signed_arith, one_part, unsigned_abs-parts}
@@ -160,15 +161,11 @@ holds_any (r ∷ rs) x h = elim h [
 
 any_holds : (rs : List Run) (x : ℤ) → list_any (holds_day x) rs ≡ true → Holds x rs
 any_holds [] x h = absurd (cc)
-any_holds (r ∷ rs) x h = elim (cases_or (holds_day x r) (list_any (holds_day x) rs) h) [
+any_holds (r ∷ rs) x h = elim (or_cases (holds_day x r) (list_any (holds_day x) rs) h) [
   | inl here ↦ let b = both_true (is_le (int_cmp r.first x)) (is_le (int_cmp x r.last)) here in
       inl (le_true r.first x b.0, le_true x r.last b.1)
   | inr rest ↦ inr (any_holds rs x rest)
 ]
-  where
-    cases_or : (a b : Bool) → (a || b) ≡ true → (a ≡ true) ⊎ (b ≡ true)
-    cases_or true b h = inl refl
-    cases_or false b h = inr h
 
 pub represents : (test : ℤ → Bool) (c : CoveredRuns) (limit k : ℕ) → c.last +ℤ pos 1 ≡ c.first +ℤ pos limit → limit ≤ k
     → Among test c.first limit k c.runs → Represents test c

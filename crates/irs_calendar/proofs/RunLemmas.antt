@@ -1,6 +1,7 @@
 -- Good days and the runs that hold them.
 use Rattle.std.proofs.Common.{◌≡◌, ◌⊎◌, inl, inr, ℕ, zero, suc, ◌+◌, ◌*◌, ◌^◌, ◌<◌, Bool, true, false, ◌||◌, List, []}
 use Rattle.std.proofs.Common.{◌∷◌, length, slice_get, Some, arith, refl, sym, ◌∙◌, ap, subst, ℤ, pos, ◌+ℤ◌, ◌≤ℤ◌, ◌<ℤ◌}
+use Rattle.std.proofs.lemmas.Bool.{or_cases}
 use Rattle.std.specs.List.{list_any}
 use Rattle.std.specs.Ordering.{int_cmp, is_le, is_lt}
 use Rattle.std.proofs.lemmas.Option.{slice_get_within, same_Some}
@@ -17,14 +18,10 @@ use Rattle.irs_calendar.specs.Splits.{comes_before, IsDownward, Splits}
 pub any_place : {A : Type 0} (p : A → Bool) (xs : List A) → list_any p xs ≡ true
     → (i : ℕ) × (x : A) × (slice_get xs i ≡ Some x) × (p x ≡ true)
 any_place p [] h = absurd (cc)
-any_place p (x ∷ xs) h = elim (cases_or (p x) (list_any p xs) h) [
+any_place p (x ∷ xs) h = elim (or_cases (p x) (list_any p xs) h) [
   | inl first ↦ (0, x, refl, first)
   | inr later ↦ let r = any_place p xs later in (suc r.0, r.1, r.2, r.3)
 ]
-  where
-    cases_or : (a b : Bool) → (a || b) ≡ true → (a ≡ true) ⊎ (b ≡ true)
-    cases_or true b h = inl refl
-    cases_or false b h = inr h
 
 pub place_any : {A : Type 0} (p : A → Bool) (xs : List A) (i : ℕ) (x : A) → slice_get xs i ≡ Some x → p x ≡ true
     → list_any p xs ≡ true
