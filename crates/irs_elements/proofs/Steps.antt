@@ -145,17 +145,23 @@ module _ (rows : List Row) (names : List (List ℕ)) (stream : ℕ) where
   abbrev pub RowFault : ℕ → ℕ → Data → ℕ → Broken → Type 0
   RowFault r i d c f = (row : Row) × (IsMember rows names r c row × FaultUnder rows names stream c row i d f)
 
-  to_members : (r i : ℕ) (d : Data) (f : Broken) → Below (RowFault r i d) (length rows) f
-      → MemberFault rows names stream r i d f
-  to_members r i d f (c, (h, (row, (m, u)))) = (c, (row, (m, u)))
+  -- no member of row r stands before it
+  pub none_before : (r i : ℕ) (d : Data) → IsFirstBroken (Below (RowFault r i d) r) None
+  none_before r i d = λ f (c, (h, (row, (m, u)))). absurd (omega (arith, h, m.later))
 
-  from_members : (r i : ℕ) (d : Data) (f : Broken) → MemberFault rows names stream r i d f
-      → Below (RowFault r i d) (length rows) f
-  from_members r i d f (c, (row, (m, u))) = (c, (slice_get_within rows c row m.found, (row, (m, u))))
+  to_members : (r i n : ℕ) (d : Data) (f : Broken) → Below (RowFault r i d) n f → MemberFault rows names stream r i d f
+  to_members r i n d f (c, (h, (row, (m, u)))) = (c, (row, (m, u)))
 
-  pub members_first : (r i : ℕ) (d : Data) (a : Option Broken) → IsFirstBroken (Below (RowFault r i d) (length rows)) a
+  from_members : (r i n : ℕ) (d : Data) → length rows ≤ n → (f : Broken) → MemberFault rows names stream r i d f
+      → Below (RowFault r i d) n f
+  from_members r i n d all f (c, (row, (m, u))) =
+      let within : c < length rows = slice_get_within rows c row m.found in
+      (c, (omega (arith, within, all), (row, (m, u))))
+
+  pub members_first : (r i n : ℕ) (d : Data) (a : Option Broken) → length rows ≤ n
+      → IsFirstBroken (Below (RowFault r i d) n) a
       → IsFirstBroken (MemberFault rows names stream r i d) a
-  members_first r i d a p = first_same _ _ _ (to_members r i d) (from_members r i d) p
+  members_first r i n d a all p = first_same _ _ _ (to_members r i n d) (from_members r i n d all) p
 
   one_row : (c : ℕ) (row row' : Row) → slice_get rows c ≡ Some row → slice_get rows c ≡ Some row' → row ≡ row'
   one_row c row row' p q = cc

@@ -333,7 +333,7 @@ fn members_fault(table: &Table<'_>, r: usize, index: u32, v: &Value) -> Option<B
         (MemberFault table.now.rows.now (texts table.now.names.now) table.now.stream r index (view v.now)) result }
 {
     let mut first = None;
-    for c in 0..table.rows.len() {
+    for c in r..table.rows.len() {
         let row = table.rows[c];
         if r < c && row.parent == r {
             first = earlier(first, fault_under(table, c, row, index, v));

@@ -1,4 +1,4 @@
-use Rattle.std.proofs.Common.{◌≡◌, ℕ, List, get_or, length, map, Option, Some, None, option_map, refl, sym, ap, ◌∙◌}
+use Rattle.std.proofs.Common.{◌≡◌, ◌≤◌, ℕ, List, get_or, length, map, Option, Some, None, option_map, refl, sym, ap, ◌∙◌}
 use Rattle.std.proofs.Common.{arith}
 use Rattle.std.specs.Prelude.{slice_get}
 use Rattle.serde_json.specs.View.{view}
@@ -17,8 +17,9 @@ use Rattle.irs_elements.specs.declared.table.Choice.TheVariants.{Free}
 use Rattle.irs_elements.specs.declared.table.Count.TheVariants.{One}
 use Rattle.irs_elements.specs.Elements.{texts, name_at, place, own_rule, FaultAt, index_in}
 use Rattle.irs_elements.proofs.First.{first_is}
-use Rattle.irs_elements.proofs.Steps.{own_first, object_first, members_first, under_missing, under_refused, under_many}
-use Rattle.irs_elements.proofs.Steps.{under_lawful, among_first, member_step, other_step, item_step}
+use Rattle.irs_elements.proofs.Steps.{own_first, object_first, none_before, members_first, under_missing}
+use Rattle.irs_elements.proofs.Steps.{under_refused, under_many, under_lawful, among_first, member_step, other_step}
+use Rattle.irs_elements.proofs.Steps.{item_step}
 use Rattle.irs_elements.proofs.walk.+faults.Goals as goal
 use Rattle.irs_elements.proofs.walk.+faults.Goals.{members_fault-then-r-c+then-row-r, members_fault-else-r-c}
 use Rattle.irs_elements.proofs.walk.+faults.Goals.{members_fault-else-r-c-via-then-r-c+else-row-r}
@@ -63,11 +64,16 @@ first_fault-returns-in-Some t c =
     (texts c.args.table.now.names.now) c.args.table.now.stream c.args.r c.args.index c.in-Object.choice
     (view c.args.v.now) c.in-Some.listed _ _ there c.shape_fault-shape.ensures c.members_fault.ensures)
 
+pub members_fault-loop-c-init : goal.members_fault-loop-c-init
+members_fault-loop-c-init t c =
+    none_before c.args.table.now.rows.now (texts c.args.table.now.names.now) c.args.table.now.stream c.args.r
+    c.args.index (view c.args.v.now)
+
 pub members_fault-returns : goal.members_fault-returns
 members_fault-returns t c =
-    let last : c.loop-c.c ≡ length c.args.table.now.rows.now = omega arith in
+    let all : length c.args.table.now.rows.now ≤ c.loop-c.c = omega arith in
     members_first c.args.table.now.rows.now (texts c.args.table.now.names.now) c.args.table.now.stream c.args.r
-    c.args.index (view c.args.v.now) _ (rw last at c.loop-c.invariant)
+    c.args.index _ (view c.args.v.now) _ all c.loop-c.invariant
 
 pub members_fault-loop-c-preserved : goal.members_fault-loop-c-preserved
 members_fault-loop-c-preserved t c =
