@@ -1,5 +1,6 @@
 pub mod First
 pub mod Steps
+pub mod Attributes
 pub mod Exact
 pub mod DecimalsAt
 pub mod DatesAt

@@ -4,17 +4,18 @@
 //! nothing on the way, each step answers the first broken rule of its part.
 ghost use Rattle.irs_elements.specs.Elements.{FaultAmong, FaultAt, FaultUnder, MemberFault, ShapeFault};
 ghost use Rattle.irs_elements.specs.Elements.{absent_index as absent_index_of, choice_unmet as choice_unmet_of};
-ghost use Rattle.irs_elements.specs.Elements.{elem_at, elem_of, fault_if, has_odd, index_in as index_in_of};
+ghost use Rattle.irs_elements.specs.Elements.{elem_at, elem_of, fault_if, has_odd as has_odd_of, index_in as index_in_of};
 ghost use Rattle.irs_elements.specs.Elements.{is_element as is_element_of, is_known as is_known_in};
 ghost use Rattle.irs_elements.specs.Elements.{is_odd as is_odd_of, is_refused as is_refused_of};
 ghost use Rattle.irs_elements.specs.Elements.{is_required as is_required_of, is_unknown, lacks_href as lacks_href_of};
 ghost use Rattle.irs_elements.specs.Elements.{most as most_of, name_at, own_rule as own_rule_of, place};
 ghost use Rattle.irs_elements.specs.Elements.{stands as stands_of, texts, unmet_place};
 ghost use Rattle.irs_json.specs.Carrier.{child_of};
+ghost use Rattle.irs_json.specs.Leaves.{is_attribute};
 ghost use Rattle.irs_json.specs.Names.{names_of};
 ghost use Rattle.serde_json.specs.View.{view};
 ghost use Rattle.std.specs.List.{list_any};
-ghost use Rattle.std.specs.Prelude.{◌≡◌, ◌+◌, ◌<◌, ◌≤◌, Some, length, map, option_map};
+ghost use Rattle.std.specs.Prelude.{◌≡◌, ◌+◌, ◌<◌, ◌≤◌, Some, false, length, map, option_map};
 ghost use Rattle.irs_base.specs.Order.{IsFirstBroken};
 
 use crate::leaves::leaf_rule;
@@ -252,10 +253,33 @@ fn is_odd(v: &Value, name: &str) -> bool
     }
 }
 
-fn odd_fault(table: &Table<'_>, r: usize, index: u32, v: &Value) -> Option<Broken>
-    ensures { result ≡ fault_if (has_odd (view v.now)) (place table.now.rows.now table.now.stream Rule.K3 r index) }
+fn any_attribute(mut names: MemberIter<'_>) -> bool
+    ensures { result ≡ list_any is_attribute names.entry }
 {
-    if is_odd(v, "@id") || is_odd(v, "@href") {
+    names.any(|name| is_attribute_name(name))
+}
+
+// Whether an object has an attribute. Most have none, and so none that is odd.
+fn has_attribute(v: &Value) -> bool
+    ensures { result ≡ false → has_odd_of (view v.now) ≡ false }
+{
+    match members(v) {
+        None => false,
+        Some(names) => any_attribute(names),
+    }
+}
+
+// Whether `@id` or `@href` is there and is no text.
+fn has_odd(v: &Value) -> bool
+    ensures { result ≡ has_odd_of (view v.now) }
+{
+    has_attribute(v) && (is_odd(v, "@id") || is_odd(v, "@href"))
+}
+
+fn odd_fault(table: &Table<'_>, r: usize, index: u32, v: &Value) -> Option<Broken>
+    ensures { result ≡ fault_if (has_odd_of (view v.now)) (place table.now.rows.now table.now.stream Rule.K3 r index) }
+{
+    if has_odd(v) {
         Some(broken(table, Rule::K3, r, index))
     } else {
         None
@@ -335,7 +359,7 @@ fn members_fault(table: &Table<'_>, r: usize, index: u32, v: &Value) -> Option<B
     let mut first = None;
     for c in r..table.rows.len() {
         let row = table.rows[c];
-        if r < c && row.parent == r {
+        if row.parent == r && r < c {
             first = earlier(first, fault_under(table, c, row, index, v));
         }
     }

@@ -21,9 +21,9 @@ use Rattle.irs_elements.proofs.Steps.{own_first, object_first, none_before, memb
 use Rattle.irs_elements.proofs.Steps.{under_refused, under_many, under_lawful, among_first, member_step, other_step}
 use Rattle.irs_elements.proofs.Steps.{item_step}
 use Rattle.irs_elements.proofs.walk.+faults.Goals as goal
-use Rattle.irs_elements.proofs.walk.+faults.Goals.{members_fault-then-r-c+then-row-r, members_fault-else-r-c}
-use Rattle.irs_elements.proofs.walk.+faults.Goals.{members_fault-else-r-c-via-then-r-c+else-row-r}
-use Rattle.irs_elements.proofs.walk.+faults.Goals.{members_fault-else-r-c-via-else-r-c}
+use Rattle.irs_elements.proofs.walk.+faults.Goals.{members_fault-then-row-r+then-r-c, members_fault-else-row-r}
+use Rattle.irs_elements.proofs.walk.+faults.Goals.{members_fault-else-row-r-via-then-row-r+else-r-c}
+use Rattle.irs_elements.proofs.walk.+faults.Goals.{members_fault-else-row-r-via-else-row-r}
 
 abbrev some_row : Row
 some_row = record { parent = 0; place = 0; kind = Object Free; count = One }
@@ -82,17 +82,17 @@ members_fault-loop-c-preserved t c =
     slice_get-get_or c.args.table.now.rows.now c.loop-c.c some_row c.loop-c-test.true in
     let other = other_step c.args.table.now.rows.now
     (texts c.args.table.now.names.now) c.args.table.now.stream c.args.r c.args.index c.loop-c.c (view c.args.v.now)
-    (get_or c.args.table.now.rows.now c.loop-c.c some_row) c.loop-c.first c.if-r-c.first found in
-    elim c.if-r-c.branch [
-      | members_fault-then-r-c+then-row-r w ↦
+    (get_or c.args.table.now.rows.now c.loop-c.c some_row) c.loop-c.first c.if-row-r.first found in
+    elim c.if-row-r.branch [
+      | members_fault-then-row-r+then-r-c w ↦
           member_step c.args.table.now.rows.now (texts c.args.table.now.names.now) c.args.table.now.stream c.args.r
           c.args.index c.loop-c.c (view c.args.v.now) _ _ _ _ found w.if-row-r.true w.if-r-c.true
           (w.first-is ∙ w.earlier-first.ensures) c.loop-c.invariant w.fault_under.ensures
-      | members_fault-else-r-c w ↦ elim w.else-r-c.branch [
-        | members_fault-else-r-c-via-then-r-c+else-row-r w' ↦
-            other (λ e lt. w'.if-row-r.false e) w.first-is c.loop-c.invariant
-        | members_fault-else-r-c-via-else-r-c w' ↦
+      | members_fault-else-row-r w ↦ elim w.else-row-r.branch [
+        | members_fault-else-row-r-via-then-row-r+else-r-c w' ↦
             other (λ e lt. absurd (omega (arith, lt, w'.if-r-c.false))) w.first-is c.loop-c.invariant
+        | members_fault-else-row-r-via-else-row-r w' ↦
+            other (λ e lt. w'.if-row-r.false e) w.first-is c.loop-c.invariant
       ]
     ]
 
