@@ -1,6 +1,6 @@
 -- An object without attributes has no odd one.
-use Rattle.std.proofs.Common.{◌≡◌, ℕ, List, Bool, true, false, true≢false, Option, Some, None, IsSome, refl, sym, ap, ◌∙◌}
-use Rattle.std.specs.Prelude.{codes, is_some}
+use Rattle.std.proofs.Common.{◌≡◌, ℕ, List, true, false, true≢false, Option, Some, None, IsSome, refl, sym, ap, ◌∙◌}
+use Rattle.std.specs.Prelude.{codes}
 use Rattle.std.specs.List.{list_any, Contains}
 use Rattle.std.proofs.lemmas.List.Folds.{list_any_at}
 use Rattle.irs_json.specs.Carrier.{child_of}

@@ -1,8 +1,6 @@
 -- The first of a set of faults.
-use Rattle.std.proofs.Common.{◌≡◌, ℕ, ◌<◌, ◌≤◌, ◌+◌, subst, Bool, true, false, true≢false, ◌⊎◌, inl, inr, Option, Some}
-use Rattle.std.proofs.Common.{None, refl, sym, ◌∙◌, arith}
-use Rattle.std.specs.Prelude.{if◌then◌else◌, ◌&&◌, ◌||◌, ◌==◌, nat_lt}
-use Rattle.std.proofs.lemmas.Bool.Decides.{nat_tests}
+use Rattle.std.proofs.Common.{◌≡◌, ℕ, ◌<◌, ◌≤◌, ◌+◌, subst, ◌⊎◌, inl, inr, Option, Some}
+use Rattle.std.proofs.Common.{None, sym, arith}
 use Rattle.std.proofs.Math.Nat.{eq-or-lt_of_le}
 use Rattle.irs_base.specs.declared.places.Broken.{Broken}
 use Rattle.irs_base.specs.Order.{is_before, earlier_broken as earlier, IsFirstBroken as IsFirst}

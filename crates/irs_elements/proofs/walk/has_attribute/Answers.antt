@@ -1,4 +1,4 @@
-use Rattle.std.proofs.Common.{◌≡◌, sym, ◌∙◌}
+use Rattle.std.proofs.Common.{sym, ◌∙◌}
 use Rattle.serde_json.specs.View.{view}
 use Rattle.irs_elements.proofs.Attributes.{no_attribute_is_odd, no_object_is_odd}
 use Rattle.irs_elements.proofs.walk.has_attribute.Goals as goal
