@@ -2,6 +2,8 @@
 ghost use Rattle.std.specs.Prelude.{◌≡◌, ◌<◌, ◌≤◌, ◌^◌, ◌*◌, pos, ◌<ℤ◌, ◌≤ℤ◌, ◌*ℤ◌, unsigned_abs};
 ghost use Rattle.irs_daycount.specs.Actual.{act_act_denominator};
 
+use irs_base::power_of_ten;
+
 /// A product that fits.
 pub fn product(a: i128, b: i128) -> i128
     requires { unsigned_abs a * unsigned_abs b < 2 ^ 127 }
@@ -19,34 +21,6 @@ pub fn ten_to(n: u8) -> i128
     ensures size { unsigned_abs result ≤ 10 ^ 18 }
 {
     i128::from(power_of_ten(n))
-}
-
-// All powers of ten that are asked for fit 64 bits, so that they stand in one table.
-fn power_of_ten(n: u8) -> u64
-    requires { n ≤ 18 }
-    ensures { result ≡ 10 ^ n }
-{
-    match n {
-        0 => 1,
-        1 => 10,
-        2 => 100,
-        3 => 1_000,
-        4 => 10_000,
-        5 => 100_000,
-        6 => 1_000_000,
-        7 => 10_000_000,
-        8 => 100_000_000,
-        9 => 1_000_000_000,
-        10 => 10_000_000_000,
-        11 => 100_000_000_000,
-        12 => 1_000_000_000_000,
-        13 => 10_000_000_000_000,
-        14 => 100_000_000_000_000,
-        15 => 1_000_000_000_000_000,
-        16 => 10_000_000_000_000_000,
-        17 => 100_000_000_000_000_000,
-        _ => 1_000_000_000_000_000_000,
-    }
 }
 
 /// A denominator in units of 10^-n.

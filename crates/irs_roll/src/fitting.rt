@@ -1,49 +1,16 @@
-//! Whether a roll suits a frequency and fits an anchor, and whether a day is on the grid of any
-//! anchor. Which rolls suit which frequency is FpML's `rollConvention`; that NONE fits every day is
-//! this project's own.
+//! Whether a roll fits an anchor, and whether a day is on the grid of any anchor. That NONE fits every
+//! day is this project's own.
 ghost use Rattle.std.specs.Prelude.{◌≡◌, ◌↔◌, ◌<◌, ℤ, IsTrue};
 ghost use Rattle.irs_terms.specs.Lawful.{IsLawfulRoll};
 ghost use Rattle.irs_roll.specs.Grids.{OnDays, OnMonths, OnRollDay};
 ghost use Rattle.irs_roll.specs.Rolls.{Fits, FitsWeek, IsRollDay, OnGrid};
-ghost use Rattle.irs_terms.specs.Suiting.{IsTerm, RollsMonths, RollsWeeks, Suits};
+ghost use Rattle.irs_terms.specs.Suiting.{IsTerm, RollsMonths, Suits};
 
 use crate::Anchor;
 use crate::rolls::{DayNumber, EndOfMonth, Imm, Roll};
 use crate::steps::is_multiple;
 use irs_base::{Day, civil_of, weekday};
 use irs_terms::{Frequency, RollCode, Unit};
-
-/// Whether the roll suits the frequency: months and years roll on EOM, IMM or a day number from 1
-/// to 30, weeks on a weekday or NONE, days on NONE; nothing is asked of the roll of the term.
-pub fn suits(freq: Frequency, roll: RollCode) -> bool
-    ensures { IsTrue result ↔ Suits freq roll }
-{
-    match freq.unit {
-        Unit::D => roll == RollCode::NoRoll,
-        Unit::W => rolls_weeks(roll),
-        Unit::M | Unit::Y => rolls_months(roll),
-        Unit::T => true,
-    }
-}
-
-fn rolls_weeks(roll: RollCode) -> bool
-    ensures { IsTrue result ↔ RollsWeeks roll }
-{
-    match roll {
-        RollCode::OnWeekday(_) | RollCode::NoRoll => true,
-        RollCode::Eom | RollCode::Dom(_) | RollCode::Imm => false,
-    }
-}
-
-fn rolls_months(roll: RollCode) -> bool
-    ensures { IsTrue result ↔ RollsMonths roll }
-{
-    match roll {
-        RollCode::Eom | RollCode::Imm => true,
-        RollCode::Dom(number) => 1 <= number && number <= 30,
-        RollCode::OnWeekday(_) | RollCode::NoRoll => false,
-    }
-}
 
 /// Whether the roll fits the anchor: in months and years the anchor is the roll day of its month,
 /// in weeks it falls on the weekday of the roll, and with NONE every day fits. The conditions are

@@ -15,8 +15,9 @@ mod tests;
 
 pub use anchor::Anchor;
 pub use every_days::EveryDays;
-pub use fitting::{fits, on_grid_from, on_grid_of, suits};
+pub use fitting::{fits, on_grid_from, on_grid_of};
 pub use grid::Grid;
+pub use irs_terms::suits;
 pub use month_grid::{MonthDay, MonthEnd, MonthGrid, ThirdWednesday};
 pub use rolls::{DayNumber, EndOfMonth, Imm, Roll};
 pub use stream_grid::StreamGrid;
