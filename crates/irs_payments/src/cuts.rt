@@ -20,7 +20,7 @@ pub fn payment_places(alloc: Global, s: &Stream, boundaries: &[Day]) -> Result<V
     let mut places = Vec::new(alloc);
     places.push(0)?;
     for i in 1..boundaries.len() {
-        if ends_payment(s, anchor, boundaries[i]) {
+        if ends_payment(s, &anchor, boundaries[i]) {
             places.push(i)?;
         }
     }

@@ -19,11 +19,18 @@ ghost use Rattle.irs_payments.specs.Grouping.{BreaksGrouping};
 use crate::faults::fault;
 use crate::steps::has_day;
 use irs_base::{Day, Elem, Fault, Rule};
-use irs_roll::on_grid_of;
+use irs_roll::{Anchor, on_grid_from};
 use irs_terms::{Frequency, RollCode, Stream, Unit};
 
 /// The anchor of the payment grid.
-pub fn payment_anchor(s: &Stream, boundaries: &[Day]) -> Day
+pub fn payment_anchor(s: &Stream, boundaries: &[Day]) -> Anchor
+    requires { 1 < length boundaries.now }
+    ensures { result ≡ pay_anchor s.now boundaries.now }
+{
+    Anchor::new(anchor_day(s, boundaries))
+}
+
+fn anchor_day(s: &Stream, boundaries: &[Day]) -> Day
     requires { 1 < length boundaries.now }
     ensures { result ≡ pay_anchor s.now boundaries.now }
 {
@@ -38,13 +45,13 @@ pub fn payment_anchor(s: &Stream, boundaries: &[Day]) -> Day
 }
 
 // Whether the day is on the grid; the term has none.
-fn is_on_grid(freq: Frequency, roll: RollCode, anchor: Day, d: Day) -> bool
+fn is_on_grid(freq: Frequency, roll: RollCode, anchor: &Anchor, d: Day) -> bool
     requires freq { IsLawfulFrequency freq }
     requires roll { IsLawfulRoll roll }
-    ensures { IsTrue result ↔ OnGrid freq roll anchor d }
+    ensures { IsTrue result ↔ OnGrid freq roll anchor.now d }
 {
     match freq.unit {
-        Unit::D | Unit::W | Unit::M | Unit::Y => on_grid_of(freq, roll, anchor, d),
+        Unit::D | Unit::W | Unit::M | Unit::Y => on_grid_from(freq, roll, anchor, d),
         Unit::T => false,
     }
 }
@@ -69,17 +76,17 @@ fn is_to(last: Option<Day>, d: Day) -> bool
     }
 }
 
-fn is_regular(s: &Stream, anchor: Day, d: Day) -> bool
+fn is_regular(s: &Stream, anchor: &Anchor, d: Day) -> bool
     requires { IsLawfulStream s.now }
-    ensures { IsTrue result ↔ IsRegularPay s.now anchor d }
+    ensures { IsTrue result ↔ IsRegularPay s.now anchor.now d }
 {
     is_from(s.pay.first, d) && is_to(s.pay.last, d) && is_on_grid(s.pay.freq, s.roll, anchor, d)
 }
 
 /// Whether a payment period ends at this boundary.
-pub fn ends_payment(s: &Stream, anchor: Day, d: Day) -> bool
+pub fn ends_payment(s: &Stream, anchor: &Anchor, d: Day) -> bool
     requires { IsLawfulStream s.now }
-    ensures { IsTrue result ↔ EndsPayment s.now anchor d }
+    ensures { IsTrue result ↔ EndsPayment s.now anchor.now d }
 {
     d == s.termination.day || is_regular(s, anchor, d)
 }
@@ -98,7 +105,7 @@ fn is_grid_boundary(s: &Stream, boundaries: &[Day], d: Day) -> bool
     ensures { IsTrue result ↔ (Member d boundaries.now ×
         OnGrid s.now.pay.freq s.now.roll (pay_anchor s.now boundaries.now) d) }
 {
-    has_day(boundaries, d) && is_on_grid(s.pay.freq, s.roll, payment_anchor(s, boundaries), d)
+    has_day(boundaries, d) && is_on_grid(s.pay.freq, s.roll, &payment_anchor(s, boundaries), d)
 }
 
 fn is_bad_first(s: &Stream, boundaries: &[Day]) -> bool
