@@ -9,3 +9,4 @@ pub mod RowLemmas
 pub mod FirstResets
 pub mod ResetsThere
 pub mod ResetLemmas
+pub mod DatedResets
