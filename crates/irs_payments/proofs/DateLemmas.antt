@@ -12,9 +12,14 @@ use Rattle.irs_payments.specs.Cuts.{cut_at}
 use Rattle.irs_payments.specs.Places.{ArePlaces}
 use Rattle.irs_payments.specs.PaymentDates.{LacksResult, LeavesRange}
 use Rattle.irs_payments.specs.Payments.{Covers}
-use Rattle.irs_payments.specs.Dating.{date_place, IsCutPayment, NoneLacks, NoneLeaves, ArePaid, LeavesFirst, Dated}
-use Rattle.irs_payments.specs.Dating.{Settles, IsOutcome}
+use Rattle.irs_payments.specs.Dating.{date_place, IsCutPayment, NoneLacks, NoneLeaves, ArePaid, Dated}
+use Rattle.irs_payments.specs.Dating.{LeavesAt, LeavesFirst, LacksAt, LacksFirst, Settles, IsOutcome, IsDateFault}
+use Rattle.irs_base.specs.Elements.{payment_dates}
+use Rattle.irs_base.specs.Faults.{fault_at}
+use Rattle.irs_base.specs.declared.places.Fault.{Fault}
+use Rattle.irs_base.specs.declared.places.Rule.TheVariants.{K33}
 use Rattle.irs_base.specs.Members.{day_at}
+use Rattle.irs_base.proofs.Firsts.{lt_false, false_lt}
 use Rattle.irs_base.proofs.MemberLemmas.{numbered_push}
 
 pub covers_push : (a n m : ℕ) (ys : List Payment) (y : Payment) → Covers a ys n → y.first_period ≡ n + 1
@@ -56,10 +61,36 @@ paid_more s set b a cuts j p old places low high h k =
           (covers_push 1 (cut_at cuts (j - 1)) (cut_at cuts j) old p k.covers h.first h.last rise);
     }
 
+pub leaves_first : (s : Stream) (set : DaySet) (a : List ℤ) (cuts : List ℕ) (limit n : ℕ)
+    → LeavesAt s set a cuts limit n → NoneLeaves s set a cuts n → LeavesFirst s set a cuts limit n
+leaves_first s set a cuts limit n here none =
+    (here, λ j at. lt_false j n (λ less. none j at.from_one less at.leaves))
+
+pub lacks_first : (s : Stream) (set : DaySet) (a : List ℤ) (cuts : List ℕ) (n : ℕ) → LacksAt s set a cuts n
+    → NoneLacks s set a cuts n → LacksFirst s set a cuts n
+lacks_first s set a cuts n here none = (here, λ j at. lt_false j n (λ less. none j at.from_one less at.lacks))
+
+-- none before the first leaves the range
+pub none_leaves : (s : Stream) (set : DaySet) (a : List ℤ) (cuts : List ℕ) (limit n : ℕ)
+    → LeavesFirst s set a cuts limit n → NoneLeaves s set a cuts n
+none_leaves s set a cuts limit n first j low less leaves =
+    false_lt j n
+    (first.1 j (record { from_one = low; below = omega (arith, less, first.0.below); leaves = leaves })) less
+
+-- none before the first lacks a result
+pub none_lacks : (s : Stream) (set : DaySet) (a : List ℤ) (cuts : List ℕ) (n : ℕ) → LacksFirst s set a cuts n
+    → NoneLacks s set a cuts n
+none_lacks s set a cuts n first j low less lacks =
+    false_lt j n
+    (first.1 j (record { from_one = low; below = omega (arith, less, first.0.below); lacks = lacks })) less
+
 later_first : (s : Stream) (set : DaySet) (a : List ℤ) (cuts : List ℕ) (j n : ℕ) → LeavesFirst s set a cuts j n
     → LeavesFirst s set a cuts (j + 1) n
 later_first s set a cuts j n h =
-    record { from_one = h.from_one; below = omega (arith, h.below); leaves = h.leaves; none_before = h.none_before }
+    let at = h.0 in
+    leaves_first s set a cuts (j + 1) n
+    (record { from_one = at.from_one; below = omega (arith, at.below); leaves = at.leaves })
+    (none_leaves s set a cuts j n h)
 
 module _ (s : Stream) (set : DaySet) (b a : List ℤ) (cuts : List ℕ) (j : ℕ) (places : ArePlaces b cuts) (low : 1 ≤ j)
     (high : j < length cuts) where
@@ -74,7 +105,7 @@ module _ (s : Stream) (set : DaySet) (b a : List ℤ) (cuts : List ℕ) (j : ℕ
       subst (λ (o : Option ℕ). Dated s set b a cuts (j + 1) o new) (sym t.1) (later_first s set a cuts j n k)
   settled (Err OutOfRange) None old h k new after t =
       subst (λ (o : Option ℕ). Dated s set b a cuts (j + 1) o new) (sym t.1)
-      (record { from_one = low; below = omega arith; leaves = h; none_before = k.in_range })
+      (leaves_first s set a cuts (j + 1) j (record { from_one = low; below = omega arith; leaves = h }) k.in_range)
   settled (Err OutOfRange) (Some n) old h k new after t =
       subst (λ (o : Option ℕ). Dated s set b a cuts (j + 1) o new) (sym t.1) (later_first s set a cuts j n k)
   settled (Err NoResult) beyond old h k new after t = absurd t
@@ -108,3 +139,11 @@ pub outcome_err : (s : Stream) (set : DaySet) (b a : List ℤ) (cuts : List ℕ)
     → (e ≡ OutOfRange → LeavesRange s.pay set (day_at a (date_place s cuts j))) → IsOutcome s set b a cuts j (Err e)
 outcome_err s set b a cuts j NoResult lacks leaves = lacks refl
 outcome_err s set b a cuts j OutOfRange lacks leaves = leaves refl
+
+-- the first payment that lacks a result breaks K33
+pub lacking_breaks : (s : Stream) (set : DaySet) (b a : List ℤ) (cuts : List ℕ) (j : ℕ) (payment : Result Payment NoDate)
+    → 1 ≤ j → j < length cuts → IsOutcome s set b a cuts j payment → NoneLacks s set a cuts j → (f : Fault)
+    → (payment ≡ Err NoResult) × (f ≡ fault_at K33 payment_dates j) → (n : ℕ) × IsDateFault s set a cuts n f
+lacking_breaks s set b a cuts j payment low high outcome none f h =
+    let lacks = subst (IsOutcome s set b a cuts j) h.0 outcome in
+    (j, inl (lacks_first s set a cuts j (record { from_one = low; below = high; lacks = lacks }) none, h.1))

@@ -24,6 +24,7 @@ use Rattle.irs_payments.specs.Payments.{pay_place, CoversPeriods, IsPayment, Are
 use Rattle.irs_payments.specs.Payments.{IsLeaving, BreaksDates}
 use Rattle.irs_payments.specs.Dating.{date_place, IsCutPayment, NoneLacks, NoneLeaves, ArePaid, LacksFirst, OnlyLeaves}
 use Rattle.irs_payments.specs.Dating.{IsDateFault}
+use Rattle.irs_payments.proofs.DateLemmas.{none_lacks, none_leaves}
 use Rattle.irs_payments.proofs.PlaceLemmas.{rises_at, place_below, place_same}
 use Rattle.irs_payments.proofs.FirstFaults.{told, not_before_index, not_before_rule, not_before_turn}
 use Rattle.irs_adjust.proofs.MoveLaws.{one_date}
@@ -168,8 +169,8 @@ module _ (s : Stream) (set : DaySet) (b a : List ℤ) (run : RunsFromTo (first_d
         record {
           start = day_at a (date_place s (0 ∷ later) n);
           pays =
-              starts_at n h.from_one h.below;
-          lacks = h.lacks;
+              starts_at n h.0.from_one h.0.below;
+          lacks = h.0.lacks;
         },
         refl,
       );
@@ -179,7 +180,7 @@ module _ (s : Stream) (set : DaySet) (b a : List ℤ) (run : RunsFromTo (first_d
           told (fault_at K33 payment_dates n) g (fault_at K33 payment_dates n)
           (fault_at K33 payment_dates k.number) refl c.1
           (not_before_index K33 payment_dates k.number n
-          (λ less. h.none_before k.number c.0.pays.from_one less (lacks_at k.number c.0)))
+          (λ less. none_lacks s set a (0 ∷ later) n h k.number c.0.pays.from_one less (lacks_at k.number c.0)))
       | inr c ↦
           told (fault_at K33 payment_dates n) g (fault_at K33 payment_dates n)
           (fault_at K38 payment_dates k.number) refl c.1
@@ -196,8 +197,8 @@ module _ (s : Stream) (set : DaySet) (b a : List ℤ) (run : RunsFromTo (first_d
         record {
           start = day_at a (date_place s (0 ∷ later) n);
           pays =
-              starts_at n h.first.from_one h.first.below;
-          leaves = h.first.leaves;
+              starts_at n h.first.0.from_one h.first.0.below;
+          leaves = h.first.0.leaves;
         },
         refl,
       );
@@ -209,7 +210,8 @@ module _ (s : Stream) (set : DaySet) (b a : List ℤ) (run : RunsFromTo (first_d
           told (fault_at K38 payment_dates n) g (fault_at K38 payment_dates n)
           (fault_at K38 payment_dates k.number) refl c.1
           (not_before_index K38 payment_dates k.number n
-          (λ less. h.first.none_before k.number c.0.pays.from_one less (leaves_at k.number c.0)))
+          (λ less. none_leaves s set a (0 ∷ later) (length (0 ∷ later)) n h.first k.number c.0.pays.from_one less
+          (leaves_at k.number c.0)))
     ],
   )
 

@@ -22,6 +22,7 @@ use Rattle.irs_adjust.proofs.FoundDays.{InRange}
 use Rattle.irs_adjust.proofs.MoveLaws.{DateOrFailure, date_in_range, date_not_lacking, date_or_failure, one_failure}
 use Rattle.irs_payments.specs.Cuts.{AreCuts}
 use Rattle.irs_payments.specs.Dating.{NoneLacks, NoneLeaves, LacksFirst, LeavesFirst, date_place}
+use Rattle.irs_payments.proofs.DateLemmas.{lacks_first, leaves_first}
 use Rattle.irs_payments.specs.Grouping.{BreaksGrouping}
 use Rattle.irs_payments.specs.PaymentDates.{IsPaymentDate, LacksResult, LeavesRange}
 use Rattle.irs_payments.specs.Payments.{ArePayments, BreaksDates, BreaksPayments}
@@ -105,21 +106,23 @@ DatesFound s set b a =
 module _ (s : Stream) (set : DaySet) (b a : List ℤ) (cuts : List ℕ)
     (run : RunsFromTo (first_day_of s) s.termination.day b) (are : AreCuts s b (length b) cuts) (each : (j : ℕ)
     → DateOrFault s.pay set (day_at a (date_place s cuts j))) where
-  lacks_first : FirstNumber (λ j. LacksResult s.pay set (day_at a (date_place s cuts j))) (length cuts)
+  lacking : FirstNumber (λ j. LacksResult s.pay set (day_at a (date_place s cuts j))) (length cuts)
       → DatesFound s set b a
-  lacks_first h =
+  lacking h =
       let first : LacksFirst s set a cuts h.number =
-      record { from_one = h.from_one; below = h.below; lacks = h.holds; none_before = h.none_before } in
+      lacks_first s set a cuts h.number (record { from_one = h.from_one; below = h.below; lacks = h.holds })
+      h.none_before in
       inl (
         fault_at K33 payment_dates h.number,
         payments_first s set b a cuts run are h.number (fault_at K33 payment_dates h.number) (inl (first, refl)),
       )
 
-  leaves_first : NoneLacks s set a cuts (length cuts)
+  leaving : NoneLacks s set a cuts (length cuts)
       → FirstNumber (λ j. LeavesRange s.pay set (day_at a (date_place s cuts j))) (length cuts) → DatesFound s set b a
-  leaves_first results h =
+  leaving results h =
       let first : LeavesFirst s set a cuts (length cuts) h.number =
-      record { from_one = h.from_one; below = h.below; leaves = h.holds; none_before = h.none_before } in
+      leaves_first s set a cuts (length cuts) h.number
+      (record { from_one = h.from_one; below = h.below; leaves = h.holds }) h.none_before in
       inl (
         fault_at K38 payment_dates h.number,
         payments_first s set b a cuts run are h.number (fault_at K38 payment_dates h.number)
@@ -141,11 +144,11 @@ module _ (s : Stream) (set : DaySet) (b a : List ℤ) (cuts : List ℕ)
   dates_found =
       elim (first_number (λ j. LacksResult s.pay set (day_at a (date_place s cuts j)))
       (λ j. decides_lacks s.pay set (day_at a (date_place s cuts j)) (each j)) (length cuts)) [
-        | inl lacks ↦ lacks_first lacks
+        | inl lacks ↦ lacking lacks
         | inr results ↦
             elim (first_number (λ j. LeavesRange s.pay set (day_at a (date_place s cuts j)))
             (λ j. decides_leaves s.pay set (day_at a (date_place s cuts j)) (each j)) (length cuts)) [
-              | inl leaves ↦ leaves_first results leaves
+              | inl leaves ↦ leaving results leaves
               | inr range ↦ all_dated results range
             ]
       ]

@@ -1,7 +1,8 @@
 -- Payments worked out one after another, from the places at which payment periods end.
 use Rattle.std.specs.Prelude.{◌≡◌, ◌⊎◌, ℕ, ◌+◌, ◌-◌, ◌<◌, ◌≤◌, List, [], ◌∷◌, ◌++◌, length, Option, Some, None, Result}
-use Rattle.std.specs.Prelude.{Ok, Err, ℤ}
+use Rattle.std.specs.Prelude.{Ok, Err, ℤ, nat_lt}
 use Rattle.irs_base.specs.Elements.{payment_dates}
+use Rattle.irs_base.specs.Order.{First}
 use Rattle.irs_base.specs.declared.places.Rule.TheVariants.{K33, K38}
 use Rattle.irs_base.specs.declared.places.Fault.{Fault}
 use Rattle.irs_terms.specs.declared.results.Payment.{Payment}
@@ -45,12 +46,15 @@ pub record ArePaid (s : Stream) (set : DaySet) (boundaries adjusted : List ℤ) 
   pub each : EachNumbered (IsCutPayment s set boundaries adjusted cuts) 1 payments
   pub covers : Covers 1 payments (cut_at cuts (limit - 1))
 
+-- payment j, one before the limit, leaves the range
+pub record LeavesAt (s : Stream) (set : DaySet) (adjusted : List ℤ) (cuts : List ℕ) (limit j : ℕ) : Type 0 where
+  pub from_one : 1 ≤ j
+  pub below : j < limit
+  pub leaves : LeavesRange s.pay set (day_at adjusted (date_place s cuts j))
+
 -- payment n is the first before the limit that leaves the range
-pub record LeavesFirst (s : Stream) (set : DaySet) (adjusted : List ℤ) (cuts : List ℕ) (limit n : ℕ) : Type 0 where
-  pub from_one : 1 ≤ n
-  pub below : n < limit
-  pub leaves : LeavesRange s.pay set (day_at adjusted (date_place s cuts n))
-  pub none_before : NoneLeaves s set adjusted cuts n
+abbrev pub LeavesFirst : Stream → DaySet → List ℤ → List ℕ → ℕ → ℕ → Type 0
+LeavesFirst s set adjusted cuts limit n = First nat_lt (LeavesAt s set adjusted cuts limit) n
 
 -- the payments before the limit, or the first of them that leaves the range
 abbrev pub Dated : Stream → DaySet → List ℤ → List ℤ → List ℕ → ℕ → Option ℕ → List Payment → Type 0
@@ -76,12 +80,15 @@ IsOutcome s set boundaries adjusted cuts j (Err OutOfRange) =
 IsOutcome s set boundaries adjusted cuts j (Err NoResult) =
     LacksResult s.pay set (day_at adjusted (date_place s cuts j))
 
+-- payment j lacks a result
+pub record LacksAt (s : Stream) (set : DaySet) (adjusted : List ℤ) (cuts : List ℕ) (j : ℕ) : Type 0 where
+  pub from_one : 1 ≤ j
+  pub below : j < length cuts
+  pub lacks : LacksResult s.pay set (day_at adjusted (date_place s cuts j))
+
 -- payment n is the first that lacks a result
-pub record LacksFirst (s : Stream) (set : DaySet) (adjusted : List ℤ) (cuts : List ℕ) (n : ℕ) : Type 0 where
-  pub from_one : 1 ≤ n
-  pub below : n < length cuts
-  pub lacks : LacksResult s.pay set (day_at adjusted (date_place s cuts n))
-  pub none_before : NoneLacks s set adjusted cuts n
+abbrev pub LacksFirst : Stream → DaySet → List ℤ → List ℕ → ℕ → Type 0
+LacksFirst s set adjusted cuts n = First nat_lt (LacksAt s set adjusted cuts) n
 
 -- none lacks a result, and payment n is the first that leaves the range
 pub record OnlyLeaves (s : Stream) (set : DaySet) (adjusted : List ℤ) (cuts : List ℕ) (n : ℕ) : Type 0 where

@@ -1,6 +1,8 @@
 use Rattle.std.proofs.Common.{◌≡◌, ℕ, arith, length, subst, Option}
-use Rattle.irs_payments.specs.Dating.{Dated, ArePaid}
-use Rattle.irs_payments.proofs.DateLemmas.{dated_more, lacks_more, none_dated}
+use Rattle.std.proofs.lemmas.Result.{err_from_is_err_and}
+use Rattle.irs_base.proofs.HandedAnswers.{handed_on}
+use Rattle.irs_payments.specs.Dating.{Dated, ArePaid, IsDateFault}
+use Rattle.irs_payments.proofs.DateLemmas.{dated_more, lacks_more, none_dated, lacking_breaks}
 use Rattle.irs_payments.proofs.payment_list.payments_at.Goals as goal
 
 pub loop-j-init : goal.loop-j-init
@@ -38,3 +40,16 @@ returns-in-None-clause-paid g c =
     subst (λ (o : Option ℕ). Dated s set b a cuts c.loop-j.j o c.loop-j.list) c.in-None.is
     c.loop-j.invariant.dated in
     subst (λ (k : ℕ). ArePaid s set b a cuts k c.loop-j.list) whole dated
+
+pub returns-in_err-beyond-clause-broken : goal.returns-in_err-beyond-clause-broken
+returns-in_err-beyond-clause-broken g c =
+    let s = c.args.s.now in
+    let set = g.G.GoodDays.days c.args.days.now in
+    let b = c.args.unadjusted.now in
+    let a = c.args.adjusted.now in
+    let cuts = c.args.places.now in
+    let p = err_from_is_err_and c.from_residual.result c.from_residual.ensures.1 in
+    rw (p.1, p.2)
+    (handed_on c.in_err-beyond.field-0.0 _ (λ f. (n : ℕ) × IsDateFault s set a cuts n f)
+    (lacking_breaks s set b a cuts c.loop-j.j c.payment-payment.result c.loop-j.auto.j c.loop-j-test.true
+    c.payment-payment.ensures c.loop-j.invariant.none) c.in_err-beyond.ensures.lacks)
