@@ -6,3 +6,4 @@ pub mod AmountTheorems
 pub mod AmountBounds
 pub mod RateSizes
 pub mod FoundSteps
+pub mod PeriodSizes
