@@ -6,8 +6,9 @@ ghost use Rattle.irs_read.specs.Documents.{has as has_of, one_object as one_obje
 ghost use Rattle.irs_read.specs.Documents.{swap_below as swap_below_of, the_swap as the_swap_of};
 ghost use Rattle.irs_read.specs.Documents.{trade_below as trade_below_of, way_seen};
 ghost use Rattle.serde_json.specs.View.{view};
-ghost use Rattle.std.specs.Prelude.{◌≡◌, map};
-ghost use Rattle.irs_base.specs.Order.{IsFirstBroken};
+ghost use Rattle.std.specs.Prelude.{◌≡◌, IfErr, IfOk, Ok, map};
+ghost use Rattle.irs_base.specs.Order.{First, IsFirstBroken, is_before};
+ghost use Rattle.irs_base.specs.declared.places.Broken.{Broken as BrokenRule};
 
 use crate::swap::{first_in_swap, outside};
 use irs_base::{Broken, Elem, Rule};
@@ -103,12 +104,27 @@ pub fn the_swap(v: &Value) -> Result<&Value, Broken>
     }
 }
 
+/// The swap of a document that breaks no rule, or the first rule that it breaks.
+pub(crate) fn clean_swap(v: &Value) -> Result<&Value, Broken>
+    ensures found { IfOk result (λ swap. the_swap_of (view v.now) ≡ Ok (view swap.now)) }
+    ensures clean { IfOk result (λ _. (f : BrokenRule) → DocumentFault (view v.now) f → ⊥) }
+    ensures broken { IfErr result (First is_before (DocumentFault (view v.now))) }
+{
+    match the_swap(v) {
+        Err(broken) => Err(broken),
+        Ok(swap) => match first_in_swap(swap) {
+            None => Ok(swap),
+            Some(broken) => Err(broken),
+        },
+    }
+}
+
 /// The first rule that a document breaks; `None` exactly where it breaks none.
 pub fn first_in_document(v: &Value) -> Option<Broken>
     ensures { IsFirstBroken (DocumentFault (view v.now)) result }
 {
-    match the_swap(v) {
-        Ok(swap) => first_in_swap(swap),
+    match clean_swap(v) {
+        Ok(_) => None,
         Err(broken) => Some(broken),
     }
 }

@@ -8,7 +8,7 @@ ghost use Rattle.irs_terms.specs.Lawful.{IsLawful};
 ghost use Rattle.serde_json.specs.View.{view};
 ghost use Rattle.std.specs.Prelude.{IfOk};
 
-use crate::document::{first_in_document, the_swap};
+use crate::document::clean_swap;
 use crate::stream::swap_of;
 use irs_base::{Broken, Stopped};
 use irs_json::Value;
@@ -28,10 +28,7 @@ pub fn read_swap(alloc: Global, v: &Value) -> Result<Swap, ReadErr>
     ensures stated { IfOk result (λ _. EachStated (view v.now)) }
     ensures broken { IfBroken result (First is_before (DocumentFault (view v.now))) }
 {
-    if let Some(broken) = first_in_document(v) {
-        return Err(ReadErr::Broken(broken));
-    }
-    match the_swap(v) {
+    match clean_swap(v) {
         Err(broken) => Err(ReadErr::Broken(broken)),
         Ok(found) => Ok(swap_of(alloc, found)?),
     }
