@@ -1,3 +1,4 @@
 pub mod Views
 pub mod Trims
 pub mod NamesInOrder
+pub mod OneByOne
