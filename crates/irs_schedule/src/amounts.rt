@@ -23,6 +23,7 @@ use irs_compound::{PeriodTerm, in_force_of_rising, payment_amount, rates_of_risi
 use irs_daycount::fraction_by;
 use irs_terms::{Payment, Reset, Stream};
 use std::alloc::Global;
+use std::slice;
 
 /// What the periods of a stream are worked out of: its unadjusted and adjusted boundaries, and its
 /// resets.
@@ -83,9 +84,57 @@ fn paid_by(
     ensures within { IfOk result (λ _. (i : ℕ) → PassesIn (table_dates s.now table.now) payment.now i → ⊥) }
     ensures broken { IfBroken result (IsFirstPassed (PassesIn (table_dates s.now table.now) payment.now)) }
 {
-    let terms = terms_of(alloc, s, table, payment)?;
-    let amount = amount_of(s, &terms, payment.first_period)?;
+    let amount = amount_for(alloc, s, table, payment)?;
     Ok(entry_of(*payment, amount))
+}
+
+// What a payment pays, or K39 at the first of its periods that breaks it. One period takes no memory.
+fn amount_for(
+    alloc: Global,
+    s: &Stream,
+    table: &PeriodTable<'_>,
+    payment: &Payment,
+) -> Result<Option<Dec>, Stopped<Fault>>
+    requires lawful { IsLawfulStream s.now }
+    requires rises { AllStepsRise s.now }
+    requires table { IsTable (table_dates s.now table.now) }
+    requires from_one { 1 ≤ payment.now.first_period }
+    requires some { payment.now.first_period ≤ payment.now.last_period }
+    requires to_end { payment.now.last_period < length table.now.unadjusted.now }
+    ensures amount { IfOk result (IsAmountFor (table_dates s.now table.now) payment.now) }
+    ensures bound { IfOk result (λ v. IfSome v (IsAmount s.now.currency)) }
+    ensures within { IfOk result (λ _. (i : ℕ) → PassesIn (table_dates s.now table.now) payment.now i → ⊥) }
+    ensures broken { IfBroken result (IsFirstPassed (PassesIn (table_dates s.now table.now) payment.now)) }
+{
+    if payment.first_period == payment.last_period {
+        let term = period_term(s, table, payment.first_period as usize);
+        amount_over(s, table, payment, slice::from_ref(&term))
+    } else {
+        let terms = terms_of(alloc, s, table, payment)?;
+        amount_over(s, table, payment, &terms)
+    }
+}
+
+// The same by the terms of its periods.
+fn amount_over(
+    s: &Stream,
+    table: &PeriodTable<'_>,
+    payment: &Payment,
+    terms: &[PeriodTerm],
+) -> Result<Option<Dec>, Stopped<Fault>>
+    requires lawful { IsLawfulStream s.now }
+    requires rises { AllStepsRise s.now }
+    requires table { IsTable (table_dates s.now table.now) }
+    requires from_one { 1 ≤ payment.now.first_period }
+    requires some { payment.now.first_period ≤ payment.now.last_period }
+    requires to_end { payment.now.last_period < length table.now.unadjusted.now }
+    requires terms { AreTerms (table_dates s.now table.now) payment.now terms.now }
+    ensures amount { IfOk result (IsAmountFor (table_dates s.now table.now) payment.now) }
+    ensures bound { IfOk result (λ v. IfSome v (IsAmount s.now.currency)) }
+    ensures within { IfOk result (λ _. (i : ℕ) → PassesIn (table_dates s.now table.now) payment.now i → ⊥) }
+    ensures broken { IfBroken result (IsFirstPassed (PassesIn (table_dates s.now table.now) payment.now)) }
+{
+    amount_of(s, terms, payment.first_period)
 }
 
 // The payment with this amount.
