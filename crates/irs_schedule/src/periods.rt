@@ -12,7 +12,7 @@ use crate::PeriodEntry;
 use crate::kept_terms::KeptTerms;
 use irs_base::Day;
 use irs_compound::{in_force_of_rising, rates_of_rising};
-use irs_daycount::{days_by, fraction_by};
+use irs_daycount::days_and_fraction;
 use irs_terms::{Leg, Reset};
 
 /// A period by its adjusted start and end, by whether it is its stream's last, and by its unadjusted
@@ -32,9 +32,10 @@ pub(crate) fn entry_by(
     requires observed { IfSome observed IsRate }
     ensures { result ≡ entry_by terms.now from to last start observed }
 {
+    let (days, frac) = days_and_fraction(terms.day_count, from, to, last);
     PeriodEntry {
-        days: days_by(terms.day_count, from, to, last),
-        frac: fraction_by(terms.day_count, from, to, last),
+        days,
+        frac,
         notional: in_force_of_rising(&terms.notional, start),
         rate: rate_by(&terms.leg, start, observed),
     }
