@@ -1,5 +1,5 @@
 -- What the rules of a part say over the one layout of a stream.
-use Rattle.std.proofs.Common.{◌≡◌, ◌⊎◌, inl, inr, List, Ok, false, subst, arith, ℤ}
+use Rattle.std.proofs.Common.{◌≡◌, ◌⊎◌, inl, inr, List, Ok, false, subst, arith, ℤ, length, ◌≤◌, ◌+◌}
 use Rattle.irs_base.specs.Elements.{calculation_period_dates, calculation_period_frequency}
 use Rattle.irs_base.specs.Order.{First, comes_before}
 use Rattle.irs_base.specs.declared.places.Fault.{Fault}
@@ -13,16 +13,19 @@ use Rattle.irs_periods.specs.Adjusting.{no_result_at, not_after_at}
 use Rattle.irs_periods.specs.Boundaries.{Boundaries, BreaksPeriods, too_many_periods}
 use Rattle.irs_periods.specs.SpanRules.{BreaksSpan}
 use Rattle.irs_periods.specs.Spans.{Regular}
-use Rattle.irs_periods.proofs.AdjustedDecided.{answer_unbroken, adjusted_rises}
+use Rattle.irs_periods.proofs.AdjustedDecided.{answer_unbroken, adjusted_rises, rising_there}
 use Rattle.irs_periods.proofs.AdjustedLemmas.{one_adjusted}
 use Rattle.irs_periods.proofs.OneSpan.{one_span}
 use Rattle.irs_periods.proofs.PeriodsDecided.{few_boundaries, few_unbroken, one_boundaries}
-use Rattle.irs_periods.proofs.SpanThere.{regular_kept}
+use Rattle.irs_periods.proofs.SpanThere.{regular_kept, span_there}
 use Rattle.irs_payments.proofs.FirstFaults.{told, not_before_turn}
 use Rattle.irs_schedule.specs.DatedRules.{BreaksBoundaries, BreaksLayout, BreaksOver}
 use Rattle.irs_schedule.specs.DaySets.{StreamSets}
 use Rattle.irs_schedule.specs.Layouts.{IsKeptLayout, IsLayout}
 use Rattle.irs_schedule.specs.declared.layouts.Layout.{Layout}
+use Rattle.irs_schedule.proofs.LayoutLemmas.{AreInRange}
+use Rattle.irs_periods.proofs.BoundariesThere.{boundaries_days, boundaries_there}
+use Rattle.irs_base.specs.Limits.{most_periods}
 
 -- a layout that breaks no rule is a layout
 pub layout_is : (sets : StreamSets) (s : Stream) (l : Layout) → IsKeptLayout sets s l → IsLayout sets s l
@@ -102,26 +105,46 @@ layout_unbroken sets s l is f h =
     answer_unbroken s sets.boundaries l.unadjusted (Ok l.adjusted) is.adjusted is.rises f
     (over_boundaries sets s l.span is.regular l.unadjusted is.unadjusted few f h)
 
--- where no rule of the span and of the boundaries is broken, a layout is kept
-pub layout_kept : (sets : StreamSets) (s : Stream) (l : Layout) → IsLawfulStream s → DatesInOrder s
-    → ((f : Fault) → BreaksSpan s f → ⊥) → ((f : Fault) → BreaksLayout sets s f → ⊥) → IsLayout sets s l
-    → IsKeptLayout sets s l
-layout_kept sets s l lawful dates span_unbroken unbroken is = record {
-  regular = is.regular;
-  kept = regular_kept s lawful dates span_unbroken l.span is.regular;
-  unadjusted = is.unadjusted;
-  few = few_boundaries s l.span l.unadjusted is.unadjusted
-      (λ f many. unbroken f (record { span = l.span; regular = is.regular; breaks = inl many }));
-  adjusted = is.adjusted;
-  rises = adjusted_rises s sets.boundaries l.unadjusted
-      (λ f breaks. unbroken f (record {
-        span = l.span;
-        regular = is.regular;
-        breaks =
-            inr (record { boundaries = l.unadjusted; listed = is.unadjusted; breaks = breaks });
-      })) l.adjusted
-      is.adjusted;
-}
+-- ---- where no rule of the span and of the boundaries is broken
+
+module _ (sets : StreamSets) (s : Stream) (lawful : IsLawfulStream s) (dates : DatesInOrder s)
+    (span_unbroken : (f : Fault) → BreaksSpan s f → ⊥) (unbroken : (f : Fault) → BreaksLayout sets s f → ⊥) where
+  kept_few : (span : Span) → Regular s span → (b : List ℤ) → Boundaries s span b → length b ≤ most_periods + 1
+  kept_few span regular b listed =
+      few_boundaries s span b listed
+      (λ f many. unbroken f (record { span = span; regular = regular; breaks = inl many }))
+
+  kept_adjusted : (span : Span) → Regular s span → (b : List ℤ) → Boundaries s span b → (f : Fault)
+      → BreaksAdjusted s sets.boundaries b f → ⊥
+  kept_adjusted span regular b listed f breaks =
+      unbroken f (record {
+        span = span;
+        regular = regular;
+        breaks = inr (record { boundaries = b; listed = listed; breaks = breaks });
+      })
+
+  -- a layout is kept
+  pub layout_kept : (l : Layout) → IsLayout sets s l → IsKeptLayout sets s l
+  layout_kept l is = record {
+    regular = is.regular;
+    kept = regular_kept s lawful dates span_unbroken l.span is.regular;
+    unadjusted = is.unadjusted;
+    few = kept_few l.span is.regular l.unadjusted is.unadjusted;
+    adjusted = is.adjusted;
+    rises = adjusted_rises s sets.boundaries l.unadjusted (kept_adjusted l.span is.regular l.unadjusted is.unadjusted)
+        l.adjusted is.adjusted;
+  }
+
+  -- and there is one
+  pub layout_there : AreInRange sets → (l : Layout) × IsKeptLayout sets s l
+  layout_there range =
+      let span = span_there s lawful dates span_unbroken in
+      let b = boundaries_there s span.0 lawful dates span.1 span.2 in
+      let days = boundaries_days s span.0 lawful dates span.1 span.2 b.0 b.1 in
+      let a = rising_there s sets.boundaries b.0 days range.start range.end range.middle
+      (kept_adjusted span.0 span.1 b.0 b.1) in
+      let l : Layout = record { span = span.0; unadjusted = b.0; adjusted = a.0 } in
+      (l, layout_kept l (record { regular = span.1; unadjusted = b.1; adjusted = a.1 }))
 
 -- ---- the rules of what is worked out over the layout
 

@@ -41,13 +41,9 @@ module _ (swap : Swap) (cal : List Section) (fix : RateTable) (x y : Broken) (h 
       one_stream (stream_sets cal k.stream) fix k.stream h.fault k.fault moved k.breaks in
       h.is ∙ (λ i. in_stream (places i + 1) (faults i)) ∙ sym k.is
 
-  both_first : x ≡ y
-  both_first = elim (cases_order h.position k.position) [
+  pub one_broken : x ≡ y
+  one_broken = elim (cases_order h.position k.position) [
     | inl same ↦ at_one same
     | inr (inl below) ↦ absurd (k.kept_before h.position h.stream below h.there h.breaks.part h.fault h.breaks.first.0)
     | inr (inr above) ↦ absurd (h.kept_before k.position k.stream above k.there k.breaks.part k.fault k.breaks.first.0)
   ]
-
-pub one_broken : (swap : Swap) (cal : List Section) (fix : RateTable) (x y : Broken) → DatedBroken swap cal fix x
-    → DatedBroken swap cal fix y → x ≡ y
-one_broken swap cal fix x y h k = both_first swap cal fix x y h k

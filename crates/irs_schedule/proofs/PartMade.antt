@@ -1,111 +1,118 @@
 -- The part that is made of what was worked out for a stream.
-use Rattle.std.proofs.Common.{◌≡◌, ◌-◌, ◌≤◌, List, length, refl, sym, subst, arith, ℕ, if◌then◌else◌}
+use Rattle.std.proofs.Common.{◌≡◌, ◌-◌, ◌≤◌, ◌∙◌, List, length, map, refl, sym, subst, arith, ℕ, if◌then◌else◌}
 use Rattle.irs_base.specs.DayLists.{AreDays}
+use Rattle.irs_base.specs.Days.{IsDay}
+use Rattle.irs_base.specs.Members.{Every}
+use Rattle.irs_base.proofs.CoverLemmas.{covers_made}
+use Rattle.irs_base.proofs.EveryLemmas.{every_all, every_made}
 use Rattle.irs_terms.specs.Lawful.{IsLawfulStream}
-use Rattle.irs_terms.specs.StepDates.{StepsRise, LegStepsRise}
-use Rattle.irs_adjust.proofs.FoundDays.{InRange}
-use Rattle.irs_payments.specs.Payments.{Covers}
-use Rattle.irs_resets.specs.Resets.{HasSmallRate}
-use Rattle.irs_schedule.specs.DatedRules.{resets_over}
-use Rattle.irs_schedule.specs.Keeping.{MakePart}
-use Rattle.irs_schedule.specs.declared.kept_terms.KeptTerms.{KeptTerms}
-use Rattle.irs_schedule.proofs.BoundLemmas.{rises_of, every_all, covers_paid, exchanges_bounded, exchanges_few}
-use Rattle.irs_schedule.proofs.PartDays.{exchanges_dated, payments_dated, resets_dated}
-use Rattle.irs_schedule.proofs.ResetCounts.{resets_by_leg}
+use Rattle.irs_terms.specs.StepDates.{AllStepsRise}
+use Rattle.irs_terms.specs.declared.amounts.Leg.{Leg}
+use Rattle.irs_terms.specs.declared.amounts.Leg.TheVariants.{Fixed, Floating}
+use Rattle.irs_terms.specs.declared.results.Exchange.{Exchange}
 use Rattle.irs_terms.specs.declared.results.Payment.{Payment}
+use Rattle.irs_terms.specs.declared.results.Reset.{Reset}
 use Rattle.irs_terms.specs.declared.stream.Stream.{Stream}
-use Rattle.irs_payments.specs.Payments.{ArePayments}
+use Rattle.irs_payments.specs.Exchanges.{AreExchanges}
+use Rattle.irs_payments.specs.Payments.{ArePayments, Covers}
+use Rattle.irs_payments.proofs.DatedPayments.{exchanges_bounded, exchanges_dated, exchanges_few, payments_dated}
 use Rattle.irs_resets.specs.Rates.{RateTable}
+use Rattle.irs_resets.specs.Resets.{HasSmallRate, IsResets}
+use Rattle.irs_resets.proofs.DatedResets.{resets_dated}
+use Rattle.irs_resets.proofs.ResetLemmas.{many_by, resets_count}
 use Rattle.irs_schedule.specs.DatedLists.{AreDated}
+use Rattle.irs_schedule.specs.DatedRules.{resets_over}
 use Rattle.irs_schedule.specs.DaySets.{StreamSets}
+use Rattle.irs_schedule.specs.Keeping.{MakePart}
 use Rattle.irs_schedule.specs.KeptTerms.{is_floating}
 use Rattle.irs_schedule.specs.Layouts.{IsKeptLayout}
 use Rattle.irs_schedule.specs.PaidEntries.{ArePaid}
-use Rattle.irs_schedule.specs.Parts.{Part}
+use Rattle.irs_schedule.specs.Parts.{IsAmount, Part}
 use Rattle.irs_schedule.specs.Periods.{periods_by}
-use Rattle.irs_schedule.specs.Schedules.{IsPart}
+use Rattle.irs_schedule.specs.Schedules.{IsPart, IsPaymentEntry, payment_of}
 use Rattle.irs_schedule.specs.StreamDates.{layout_dates}
 use Rattle.irs_schedule.specs.declared.entries.PaymentEntry.{PaymentEntry}
 use Rattle.irs_schedule.specs.declared.layouts.Layout.{Layout}
 use Rattle.irs_schedule.specs.declared.stream.Dated.{Dated}
-use Rattle.irs_schedule.proofs.EntryLemmas.{kept_of, entries_stand}
+use Rattle.irs_schedule.proofs.LayoutLemmas.{AreInRange}
 use Rattle.irs_schedule.proofs.LayoutRules.{layout_is}
-use Rattle.irs_schedule.proofs.PeriodLemmas.{length_periods}
+use Rattle.irs_schedule.proofs.PeriodLemmas.{length_periods, rises_of}
+use Rattle.irs_schedule.proofs.TermsThere.{entries_stand, kept_of}
 
-abbrev pub part_made : Stream → Layout → Dated → List PaymentEntry → Part
-part_made s l dated es = record {
+abbrev pub part_made : Stream → Layout → List Exchange → List PaymentEntry → List Reset → Part
+part_made s l xs es rs = record {
   currency = s.currency;
   day_count = s.day_count;
   floating = is_floating s.leg;
   unadjusted = l.unadjusted;
   adjusted = l.adjusted;
-  exchanges = dated.exchanges;
+  exchanges = xs;
   payments = es;
-  periods = periods_by (kept_of s) l.unadjusted l.adjusted dated.resets;
-  resets = dated.resets;
+  periods = periods_by (kept_of s) l.unadjusted l.adjusted rs;
+  resets = rs;
 }
 
-pub part_stands : (sets : StreamSets) (fix : RateTable) (s : Stream) (l : Layout) (dated : Dated)
-    (es : List PaymentEntry) → 2 ≤ length l.unadjusted → IsKeptLayout sets s l → AreDated sets fix s l dated
-    → ArePaid (layout_dates s l dated.resets) dated.payments es → IsPart sets fix s (part_made s l dated es)
-part_stands sets fix s l dated es some h d paid = record {
-  currency = refl;
-  day_count = refl;
-  floating = refl;
-  layout = l;
-  is_layout = layout_is sets s l h;
-  unadjusted = refl;
-  adjusted = refl;
-  exchanges = d.exchanges;
-  payments = subst (λ (ps : List Payment). ArePayments s sets.payment l.unadjusted l.adjusted ps)
-      (sym paid.payments) d.payments;
-  amounts = paid.amounts;
-  count = let n = length_periods (kept_of s) l.unadjusted l.adjusted dated.resets in
-      let same = h.adjusted.same_length in omega (arith, n, same, some);
-  periods = entries_stand (layout_dates s l dated.resets) (kept_of s) refl h.rises (let same =
-      h.adjusted.same_length in omega (arith, same, some));
-  resets = d.resets;
-}
+-- one for each period where it floats, none where its rate is fixed
+resets_by_leg : (sets : StreamSets) (s : Stream) (l : Layout) (fix : RateTable) (rs : List Reset) (leg : Leg)
+    → many_by (resets_over sets s l) fix rs leg ≡ (if is_floating leg then length l.adjusted - 1 else 0)
+resets_by_leg sets s l fix rs (Fixed values) = refl
+resets_by_leg sets s l fix rs (Floating float) = refl
 
--- the good days of payments, of resets and of fixings lie in the range
-pub record ReachDays (sets : StreamSets) : Type 0 where
-  pub payment : InRange sets.payment
-  pub reset : InRange sets.reset
-  pub fixing : InRange sets.fixing
+module _ (sets : StreamSets) (fix : RateTable) (s : Stream) (l : Layout) (some : 2 ≤ length l.unadjusted)
+    (laid : IsKeptLayout sets s l) where
+  -- lists that stand in their relations over a layout make a part of the stream
+  pub part_stands : (xs : List Exchange) (es : List PaymentEntry) (rs : List Reset) → AreExchanges s sets.payment xs
+      → ArePayments s sets.payment l.unadjusted l.adjusted (map payment_of es)
+      → Every (IsPaymentEntry (layout_dates s l rs)) es → IsResets (resets_over sets s l) fix rs
+      → IsPart sets fix s (part_made s l xs es rs)
+  part_stands xs es rs exchanges payments amounts resets = record {
+    currency = refl;
+    day_count = refl;
+    floating = refl;
+    layout = l;
+    is_layout = layout_is sets s l laid;
+    unadjusted = refl;
+    adjusted = refl;
+    exchanges = exchanges;
+    payments = payments;
+    amounts = amounts;
+    count = let n = length_periods (kept_of s) l.unadjusted l.adjusted rs in
+        omega (arith, n, laid.adjusted.same_length, some);
+    periods = entries_stand (layout_dates s l rs) laid.rises (omega (arith, laid.adjusted.same_length, some));
+    resets = resets;
+  }
 
--- what was worked out for a stream makes its part
-pub makes_part : (sets : StreamSets) (fix : RateTable) (s : Stream) (l : Layout) (d : Dated) (es : List PaymentEntry)
-    (terms : KeptTerms)
-    → terms ≡ kept_of s → IsLawfulStream s → StepsRise s.notional.steps → LegStepsRise s.leg → ReachDays sets
-    → AreDays l.unadjusted → AreDays l.adjusted
-    → 2 ≤ length l.unadjusted → IsKeptLayout sets s l → AreDated sets fix s l d
-    → ArePaid (layout_dates s l d.resets) d.payments es
-    → MakePart terms l.unadjusted l.adjusted d.exchanges es d.resets
-makes_part sets fix s l d es terms e lawful notional_rises leg_rises reach days moved some laid dated paid =
-    let last = length l.unadjusted - 1 in
-    let count = resets_by_leg sets s l fix d.resets dated.resets in
-    let R : ℕ → Type 0 = λ n. length d.resets ≡ (if is_floating s.leg then n - 1 else 0) in
-    let P : KeptTerms → Type 0 = λ t. MakePart t l.unadjusted l.adjusted d.exchanges es d.resets in
-    subst P (sym e) (record {
-      currency = lawful.currency;
-      notional = lawful.notional;
-      leg = lawful.leg;
-      notional_rises = notional_rises;
-      leg_rises = leg_rises;
-      some = some;
-      few = laid.few;
-      same_count = laid.adjusted.same_length;
-      rises = rises_of l.unadjusted laid.unadjusted.rising;
-      adjusted_rises = rises_of l.adjusted laid.rises;
-      exchanges_few = exchanges_few s sets.payment d.exchanges lawful dated.exchanges;
-      exchanged = exchanges_bounded s sets.payment d.exchanges lawful dated.exchanges;
-      exchange_days = exchanges_dated s sets.payment d.exchanges lawful reach.payment dated.exchanges;
-      covers = covers_paid 1 last es (subst (λ (ps : List Payment). Covers 1 ps last) (sym paid.payments) dated.covers);
-      paid = paid.bounds;
-      payment_days =
-          payments_dated s sets.payment l.unadjusted l.adjusted es reach.payment days moved
-          (subst (ArePayments s sets.payment l.unadjusted l.adjusted) (sym paid.payments) dated.payments);
-      resets_count = subst R laid.adjusted.same_length count;
-      observed = every_all HasSmallRate d.resets dated.small;
-      reset_days = resets_dated (resets_over sets s l) fix d.resets reach.reset reach.fixing moved dated.resets;
-    })
+  -- and they keep its bounds
+  pub makes_part : (d : Dated) (es : List PaymentEntry) → IsLawfulStream s → AllStepsRise s → AreInRange sets
+      → AreDays l.unadjusted → AreDays l.adjusted → AreDated sets fix s l d
+      → ArePaid (layout_dates s l d.resets) d.payments es
+      → MakePart (kept_of s) l.unadjusted l.adjusted d.exchanges es d.resets
+  makes_part d es lawful rises range days moved dated paid = record {
+    currency = lawful.currency;
+    notional = lawful.notional;
+    leg = lawful.leg;
+    notional_rises = rises.0;
+    leg_rises = rises.1;
+    some = some;
+    few = laid.few;
+    same_count = laid.adjusted.same_length;
+    rises = rises_of l.unadjusted laid.unadjusted.rising;
+    adjusted_rises = rises_of l.adjusted laid.rises;
+    exchanges_few = exchanges_few s sets.payment d.exchanges lawful dated.exchanges;
+    exchanged = exchanges_bounded s sets.payment d.exchanges lawful dated.exchanges (IsAmount s.currency)
+        (λ v places size. record { places = places; size = size });
+    exchange_days = exchanges_dated s sets.payment d.exchanges lawful dated.exchanges range.payment;
+    covers = let last = length l.unadjusted - 1 in
+        covers_made (λ (p : Payment). p.first_period) (λ (p : Payment). p.last_period) payment_of 1 last es
+        (subst (λ (ps : List Payment). Covers 1 ps last) (sym paid.payments) dated.covers);
+    paid = paid.bounds;
+    payment_days = every_made (λ (p : Payment). IsDay p.unadjusted × IsDay p.adjusted) payment_of es
+        (payments_dated s sets.payment l.unadjusted l.adjusted (map payment_of es) range.payment days moved
+        (subst (ArePayments s sets.payment l.unadjusted l.adjusted) (sym paid.payments) dated.payments));
+    resets_count =
+        subst (λ (n : ℕ). length d.resets ≡ (if is_floating s.leg then n - 1 else 0)) laid.adjusted.same_length
+        (resets_count (resets_over sets s l) fix d.resets dated.resets ∙ resets_by_leg sets s l fix d.resets s.leg);
+    observed = every_all HasSmallRate d.resets dated.small;
+    reset_days = resets_dated (resets_over sets s l) fix
+        (record { adjusted = moved; reset_set = range.reset; fixing_set = range.fixing }) d.resets dated.resets;
+  }

@@ -1,114 +1,145 @@
 -- The terms and the entry of each period are there, and so is the amount of each payment.
-use Rattle.std.proofs.Common.{◌≡◌, ℕ, ◌+◌, ◌-◌, ◌<◌, ◌≤◌, ◌==◌, List, [], ◌∷◌, length, map, Option, Some, None, ℤ, ◌<ℤ◌}
-use Rattle.std.proofs.Common.{arith, refl, ap}
-use Rattle.std.proofs.lemmas.List.Elements.{All-nil, All-cons}
-use Rattle.irs_base.specs.declared.line.Dec.{Dec}
+use Rattle.std.proofs.Common.{◌≡◌, ℕ, ◌+◌, ◌-◌, ◌<◌, ◌≤◌, ◌==◌, List, length, map, Option, Some, None, option_map, ℤ}
+use Rattle.std.proofs.Common.{arith, refl, subst}
+use Rattle.std.specs.List.{range_with_len}
+use Rattle.std.proofs.lemmas.List.FromFn.{length-map-range_with_len}
 use Rattle.irs_base.specs.DayLists.{AreDays}
 use Rattle.irs_base.specs.Listed.{IsRising}
+use Rattle.irs_base.specs.Members.{EachNumbered, Every, day_at}
+use Rattle.irs_base.specs.declared.line.Dec.{Dec}
+use Rattle.irs_base.proofs.CoverLemmas.{LieAmong, covers_each}
+use Rattle.irs_base.proofs.DayListLemmas.{day_at_day}
+use Rattle.irs_base.proofs.EveryLemmas.{all_numbered, made_there, numbered_computed}
 use Rattle.irs_terms.specs.Currencies.{decimals_of}
 use Rattle.irs_terms.specs.declared.results.Payment.{Payment}
 use Rattle.irs_terms.specs.declared.stream.Stream.{Stream}
+use Rattle.irs_daycount.specs.Fractions.{fraction_of}
+use Rattle.irs_daycount.specs.FractionLaws.{fraction_is, days_is}
 use Rattle.irs_compound.specs.Amounts.{IsFraction, AmountOf}
+use Rattle.irs_compound.specs.InForce.{value_in_force}
+use Rattle.irs_compound.specs.InForceLaws.{in_force_is}
 use Rattle.irs_compound.specs.PartsLaws.{AllFractions}
+use Rattle.irs_compound.specs.PeriodRates.{rates_by}
+use Rattle.irs_compound.specs.RateLaws.{rates_by_are}
 use Rattle.irs_compound.specs.declared.periods.PeriodTerm.{PeriodTerm}
 use Rattle.irs_compound.proofs.AmountTheorems.{amount_there as amount_there_of}
 use Rattle.irs_compound.proofs.FractionFits.{fraction_is_fit}
 use Rattle.irs_payments.specs.Payments.{Covers}
 use Rattle.irs_payments.proofs.PlaceLemmas.{rises_at}
 use Rattle.irs_schedule.specs.declared.entries.PaymentEntry.{PaymentEntry}
-use Rattle.irs_schedule.specs.declared.entries.PeriodEntry.{PeriodEntry}
-use Rattle.irs_schedule.specs.PeriodTerms.{IsPeriodTerm, IsPeriodEntry, AreTerms, IsAmountBy, IsAmountFor}
+use Rattle.irs_schedule.specs.declared.kept_terms.KeptTerms.{KeptTerms}
+use Rattle.irs_schedule.specs.Periods.{count_of, observed_of, period_by, periods_by}
+use Rattle.irs_schedule.specs.PeriodTerms.{IsPeriodTerm, IsPeriodEntry, AreTerms, IsAmountBy, IsAmountFor, dec_of}
 use Rattle.irs_schedule.specs.Schedules.{IsPaymentEntry, payment_of}
 use Rattle.irs_schedule.specs.StreamDates.{StreamDates}
-use Rattle.irs_schedule.proofs.EntryLemmas.{term_by, term_stands, entry_for, entry_stands}
-use Rattle.irs_periods.proofs.AdjustedBoundaries.{day_of_days}
-use Rattle.irs_base.specs.Members.{EachNumbered, Every, day_at}
-use Rattle.irs_base.proofs.MemberLemmas.{numbered_there}
 
--- periods with fractions of day counts have an amount, which is absent where the rate of one of them is
-amount_by : (s : Stream) (ts : List PeriodTerm) (m : Option ℤ)
-    → AmountOf s.compounding ts (decimals_of s.currency.letters) m → (x : Option Dec) × IsAmountBy s ts x
-amount_by s ts None absent = (None, absent)
-amount_by s ts (Some units) pays =
-    (Some (record { units = units; places = decimals_of s.currency.letters }), (refl, pays))
+-- what is kept of a stream
+abbrev pub kept_of : Stream → KeptTerms
+kept_of s = record { currency = s.currency; day_count = s.day_count; notional = s.notional; leg = s.leg }
 
-covers_on : (n last : ℕ) (ps : List Payment) → Covers n ps last → n ≤ last + 1
-covers_on n last [] h = omega (arith, h)
-covers_on n last (p ∷ ps) h =
-    let rest = covers_on (p.last_period + 1) last ps h.2 in
-    omega (arith, rest, h.0, h.1)
+-- the terms of period i as a function
+abbrev pub term_by : StreamDates → ℕ → PeriodTerm
+term_by d i = record {
+  notional = value_in_force d.stream.notional (day_at d.unadjusted (i - 1));
+  rates = rates_by d.stream.leg (day_at d.unadjusted (i - 1)) (observed_of d.resets i);
+  frac = fraction_of d.stream.day_count (day_at d.adjusted (i - 1)) (day_at d.adjusted i) (i == count_of d.adjusted);
+}
+
+-- the terms of the periods of a payment
+abbrev terms_by : StreamDates → Payment → List PeriodTerm
+terms_by d p = map (term_by d) (range_with_len p.first_period (p.last_period + 1 - p.first_period))
+
+-- the amount in the decimals of the currency
+pub amount_by : (s : Stream) (ts : List PeriodTerm) (places : ℕ) (units : Option ℤ)
+    → places ≡ decimals_of s.currency.letters → AmountOf s.compounding ts places units
+    → IsAmountBy s ts (option_map (dec_of places) units)
+amount_by s ts places None e h = subst (λ (k : ℕ). AmountOf s.compounding ts k None) e h
+amount_by s ts places (Some m) e h = (e, subst (λ (k : ℕ). AmountOf s.compounding ts k (Some m)) e h)
 
 module _ (d : StreamDates) (rising : IsRising d.adjusted) where
-  -- a period ends after it starts
-  in_order : (i : ℕ) → 1 ≤ i → i < length d.adjusted → day_at d.adjusted (i - 1) <ℤ day_at d.adjusted i
-  in_order i low high = rises_at d.adjusted (i - 1) i rising (omega (arith, low)) high
+  term_stands : (i : ℕ) → 1 ≤ i → i < length d.adjusted → IsPeriodTerm d i (term_by d i)
+  term_stands i low high =
+      let a = d.adjusted in
+      record {
+        notional = in_force_is d.stream.notional (day_at d.unadjusted (i - 1));
+        rates = rates_by_are d.stream.leg (day_at d.unadjusted (i - 1)) (observed_of d.resets i);
+        frac = fraction_is d.stream.day_count (day_at a (i - 1)) (day_at a i) (i == length a - 1)
+            (rises_at a (i - 1) i rising (omega (arith, low)) high);
+      }
 
-  -- the value in force, the rates and the fraction of a period
-  pub term_there : (i : ℕ) → 1 ≤ i → i < length d.adjusted → (t : PeriodTerm) × IsPeriodTerm d i t
-  term_there i low high = (term_by d i, term_stands d i rising low high)
-
-  -- what a schedule says of a period
-  pub entry_there : (i : ℕ) → 1 ≤ i → i < length d.adjusted → (e : PeriodEntry) × IsPeriodEntry d i e
-  entry_there i low high = (entry_for d i, entry_stands d i rising low high)
-
-  -- what a schedule says of all the periods
-  pub entries_there : 1 ≤ length d.adjusted → (es : List PeriodEntry) × (length es + 1 ≡ length d.adjusted)
-      × EachNumbered (IsPeriodEntry d) 1 es
-  entries_there some =
-      let es = numbered_there (IsPeriodEntry d) (length d.adjusted - 1) 1
-      (λ i low high. entry_there i low (omega (arith, high, low))) in
-      (es.0, omega (arith, es.1, some), es.2)
-
-  -- the terms of the periods of a payment
-  pub terms_there : (p : Payment) → 1 ≤ p.first_period → p.first_period ≤ p.last_period
-      → p.last_period < length d.adjusted → (ts : List PeriodTerm) × AreTerms d p ts
-  terms_there p low order high =
-      let ts = numbered_there (IsPeriodTerm d) (p.last_period + 1 - p.first_period) p.first_period
-      (λ i from to. term_there i (omega (arith, low, from)) (omega (arith, order, high, to))) in
-      (ts.0, record { count = omega (arith, ts.1, order); each = ts.2 })
+  -- what a part works out for its periods stands in the relations
+  pub entries_stand : 1 ≤ length d.adjusted
+      → EachNumbered (IsPeriodEntry d) 1 (periods_by (kept_of d.stream) d.unadjusted d.adjusted d.resets)
+  entries_stand some =
+      let a = d.adjusted in
+      numbered_computed (IsPeriodEntry d) (period_by (kept_of d.stream) d.unadjusted a d.resets) 1 (count_of a)
+      (λ i low high. record {
+        term = term_by d i;
+        is_term = term_stands i low (omega (arith, high, some));
+        days = days_is d.stream.day_count (day_at a (i - 1)) (day_at a i) (i == length a - 1);
+        frac = refl;
+        notional = refl;
+        rate = refl;
+      })
 
   module _ (days : AreDays d.adjusted) where
-    term_fits : (i : ℕ) (t : PeriodTerm) → 1 ≤ i → i < length d.adjusted → IsPeriodTerm d i t → IsFraction t.frac
+    pub term_fits : (i : ℕ) (t : PeriodTerm) → 1 ≤ i → i < length d.adjusted → IsPeriodTerm d i t → IsFraction t.frac
     term_fits i t low high h =
         let a = d.adjusted in
         fraction_is_fit d.stream.day_count (day_at a (i - 1)) (day_at a i) (i == length a - 1) t.frac
-        (day_of_days a (i - 1) days (omega (arith, high))) (day_of_days a i days high) (in_order i low high) h.frac
+        (day_at_day a (i - 1) days) (day_at_day a i days) (rises_at a (i - 1) i rising (omega (arith, low)) high) h.frac
 
     -- the fractions of periods between days that rise are those of a day count
     pub terms_fit : (n : ℕ) (ts : List PeriodTerm) → 1 ≤ n → n + length ts ≤ length d.adjusted
         → EachNumbered (IsPeriodTerm d) n ts → AllFractions ts
-    terms_fit n [] low high h = All-nil (λ (t : PeriodTerm). IsFraction t.frac)
-    terms_fit n (t ∷ ts) low high h =
-        All-cons (λ (u : PeriodTerm). IsFraction u.frac) t ts (term_fits n t low (omega (arith, high)) h.0)
-        (terms_fit (n + 1) ts (omega arith) (omega (arith, high)) h.1)
+    terms_fit n ts low high =
+        all_numbered (IsPeriodTerm d) (λ (t : PeriodTerm). IsFraction t.frac) n ts
+        (λ i t from to h. term_fits i t (omega (arith, low, from)) (omega (arith, high, to)) h)
 
-    -- the amount of a payment, present or absent
-    pub amount_there : (p : Payment) → 1 ≤ p.first_period → p.first_period ≤ p.last_period
-        → p.last_period < length d.adjusted → (x : Option Dec) × IsAmountFor d p x
-    amount_there p low order high =
-        let ts = terms_there p low order high in
-        let fits = terms_fit p.first_period ts.0 low (let count = ts.1.count in omega (arith, count, high)) ts.1.each in
-        let m = amount_there_of d.stream.compounding ts.0 (decimals_of d.stream.currency.letters) fits in
-        let x = amount_by d.stream ts.0 m.0 m.1 in
-        (x.0, record { terms = ts.0; are_terms = ts.1; is_amount = x.1 })
+    module _ (last : ℕ) (high : last < length d.adjusted) where
+      terms_there : (p : Payment) → LieAmong 1 last p.first_period p.last_period → AreTerms d p (terms_by d p)
+      terms_there p lies = record {
+        count = omega (
+          arith,
+          length-map-range_with_len (term_by d) p.first_period (p.last_period + 1 - p.first_period),
+          lies.order,
+        );
+        each = numbered_computed (IsPeriodTerm d) (term_by d) p.first_period (p.last_period + 1 - p.first_period)
+            (λ i from to.
+            term_stands i (omega (arith, lies.from, from)) (omega (arith, lies.order, lies.to, high, to)));
+      }
 
-    -- payments that cover the periods from n on, each with its amount
-    pub amounts_there : (n last : ℕ) (ps : List Payment) → 1 ≤ n → Covers n ps last → last < length d.adjusted
-        → (ys : List PaymentEntry) × (map payment_of ys ≡ ps) × Every (IsPaymentEntry d) ys
-    amounts_there n last [] low covers high = ([], refl, tt)
-    amounts_there n last (p ∷ ps) low covers high =
-        let begins = covers.0 in
-        let order = covers.1 in
-        let on = covers_on (p.last_period + 1) last ps covers.2 in
-        let x = amount_there p (omega (arith, begins, low)) order (omega (arith, on, high)) in
-        let rest = amounts_there (p.last_period + 1) last ps (omega arith) covers.2 high in
-        let y : PaymentEntry =
-        record {
-          unadjusted = p.unadjusted;
-          adjusted = p.adjusted;
-          first_period = p.first_period;
-          last_period =
-              p.last_period;
-          amount = x.0;
-        } in
-        (y ∷ rest.0, ap (λ (qs : List Payment). p ∷ qs) rest.1, (x.1, rest.2))
+      -- the amount of a payment, present or absent
+      amount_there : (p : Payment) → LieAmong 1 last p.first_period p.last_period → (x : Option Dec) × IsAmountFor d p x
+      amount_there p lies =
+          let are : AreTerms d p (terms_by d p) = terms_there p lies in
+          let places = decimals_of d.stream.currency.letters in
+          let fits =
+          terms_fit p.first_period (terms_by d p) lies.from (omega (arith, are.count, lies.to, high)) are.each in
+          let m = amount_there_of d.stream.compounding (terms_by d p) places fits in (
+            option_map (dec_of places) m.0,
+            record {
+              terms = terms_by d p;
+              are_terms = are;
+              is_amount = amount_by d.stream (terms_by d p) places m.0 refl m.1;
+            },
+          )
+
+      -- payments that cover the periods, each with its amount
+      pub amounts_there : (ps : List Payment) → Covers 1 ps last
+          → (ys : List PaymentEntry) × (map payment_of ys ≡ ps) × Every (IsPaymentEntry d) ys
+      amounts_there ps covers =
+          made_there payment_of (λ (p : Payment). LieAmong 1 last p.first_period p.last_period) (IsPaymentEntry d)
+          (λ p lies.
+          let x = amount_there p lies in
+          let y : PaymentEntry =
+          record {
+            unadjusted = p.unadjusted;
+            adjusted = p.adjusted;
+            first_period = p.first_period;
+            last_period = p.last_period;
+            amount = x.0;
+          } in
+          (y, refl, x.1)) ps
+          (covers_each (λ (p : Payment). p.first_period) (λ (p : Payment). p.last_period) 1 1 last ps (omega arith)
+          covers)

@@ -1,5 +1,6 @@
 use Rattle.std.proofs.Common.{refl}
-use Rattle.irs_schedule.proofs.AmountLemmas.{amount_by, amount_fits}
+use Rattle.irs_schedule.proofs.AmountLemmas.{amount_fits}
+use Rattle.irs_schedule.proofs.TermsThere.{amount_by}
 use Rattle.irs_schedule.proofs.amounts.amount_of.Goals as goal
 
 pub returns-in-Ok : goal.returns-in-Ok

@@ -33,7 +33,6 @@ returns c =
       bound = c.amount_of.ensures.bound;
       within = IfOk-weaker result (λ _. NonePasses d.stream.compounding ts) (λ _. (i : ℕ) → PassesIn d p i → ⊥)
           (λ v h. none_in d c.requires.rises p ts are h) c.amount_of.ensures.within;
-      broken = handed_back result Stops (IsFirstPassed (PassesIn d p))
-          (λ x h. (p.first_period + h.0 - 1, first_in d c.requires.rises p ts are h.0 h.1, h.2))
+      broken = handed_back result Stops (IsFirstPassed (PassesIn d p)) (first_in d c.requires.rises p ts are)
           c.amount_of.ensures.broken;
     }

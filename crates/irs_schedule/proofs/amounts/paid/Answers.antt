@@ -1,35 +1,28 @@
-use Rattle.std.proofs.Common.{◌≡◌, ◌-◌, arith, length, ap, sym, ◌∙◌, Some}
-use Rattle.std.specs.List.{slice_get}
-use Rattle.std.proofs.lemmas.Option.{slice_get-get_or}
-use Rattle.std.proofs.lemmas.Result.{err_from_is_err_and}
-use Rattle.irs_schedule.specs.FirstPassed.{IsFirstPassed}
-use Rattle.irs_schedule.specs.PeriodTerms.{PassesAt, PassesIn}
+use Rattle.std.proofs.Common.{◌-◌, arith, length, refl}
+use Rattle.std.proofs.lemmas.Option.{slice_get_read}
+use Rattle.irs_base.proofs.CoverLemmas.{LieAmong, covers_at}
+use Rattle.irs_base.proofs.HandedOut.{handed_out}
+use Rattle.irs_terms.specs.declared.results.Payment.{Payment}
 use Rattle.irs_schedule.specs.StreamDates.{table_dates}
-use Rattle.irs_base.proofs.HandedAnswers.{handed_on}
-use Rattle.irs_schedule.proofs.PaidLemmas.{none_paid, one_more_paid, all_paid, none_passes, first_of_all, covers_at}
-use Rattle.irs_schedule.proofs.PaidLemmas.{LiesFrom}
+use Rattle.irs_schedule.proofs.PaidLemmas.{none_paid, one_more_paid, all_paid, none_passes, first_of_all}
 use Rattle.irs_schedule.proofs.amounts.paid.Goals as goal
 
 pub paid_by-requires : goal.paid_by-requires
 paid_by-requires c =
-    let b = c.args.table.now.unadjusted.now in
     let ps = c.args.payments.now in
     let i = c.loop-payment.payment-index in
     let p = c.payment-item.result in
-    let there : slice_get ps i ≡ Some p =
-    slice_get-get_or ps i p c.loop-payment-test.true ∙ ap Some (sym c.payment-item.is) in
-    let lies : LiesFrom 1 (length b - 1) p = covers_at 1 (length b - 1) ps i p c.requires.covers there in
-    let low = lies.low in
-    let order = lies.order in
-    let high = lies.high in
+    let there = slice_get_read ps (length ps) i p refl c.loop-payment-test.true c.payment-item.is in
+    let lies : LieAmong 1 (length c.args.table.now.unadjusted.now - 1) p.first_period p.last_period =
+    covers_at (λ (q : Payment). q.first_period) (λ (q : Payment). q.last_period) 1
+    (length c.args.table.now.unadjusted.now - 1) ps i p c.requires.covers there in
     record {
       lawful = c.requires.lawful;
       rises = c.requires.rises;
       table = c.requires.table;
-      from_one = low;
-      some =
-          order;
-      to_end = omega (arith, low, order, high);
+      from_one = lies.from;
+      some = lies.order;
+      to_end = omega (arith, lies.from, lies.order, lies.to);
     }
 
 pub loop-payment-init : goal.loop-payment-init
@@ -41,8 +34,7 @@ loop-payment-preserved c =
     let ps = c.args.payments.now in
     let i = c.loop-payment.payment-index in
     let p = c.payment-item.result in
-    let there : slice_get ps i ≡ Some p =
-    slice_get-get_or ps i p c.loop-payment-test.true ∙ ap Some (sym c.payment-item.is) in
+    let there = slice_get_read ps (length ps) i p refl c.loop-payment-test.true c.payment-item.is in
     let entry = c.in_ok-entry.ensures {u = tt} in
     rw (c.in_ok-push.ensures {u = tt}).items
     (one_more_paid (table_dates c.args.s.now c.args.table.now) ps i c.loop-payment.entries.items p c.in_ok-entry.entry
@@ -65,26 +57,14 @@ returns c =
       broken = tt;
     }
 
-pub returns-in_err-entry : goal.returns-in_err-entry
-returns-in_err-entry c =
+pub returns-in_err-entry-clause-broken : goal.returns-in_err-entry-clause-broken
+returns-in_err-entry-clause-broken c =
     let d = table_dates c.args.s.now c.args.table.now in
     let ps = c.args.payments.now in
     let i = c.loop-payment.payment-index in
     let p = c.payment-item.result in
-    let there : slice_get ps i ≡ Some p =
-    slice_get-get_or ps i p c.loop-payment-test.true ∙ ap Some (sym c.payment-item.is) in
-    let from = err_from_is_err_and c.from_residual.result c.from_residual.ensures.1 in
-    rw (from.1, from.2) (record {
-      payments = tt;
-      amounts = tt;
-      bounds = tt;
-      within = tt;
-      broken = handed_on c.in_err-entry.field-0.0 (IsFirstPassed (PassesIn d p)) (IsFirstPassed (PassesAt d ps))
-          (λ x h. (
-            h.0,
-            first_of_all d ps i c.loop-payment.entries.items p
-                (length d.unadjusted - 1) h.0 c.requires.covers c.loop-payment.invariant there h.1,
-            h.2,
-          ))
-          (c.in_err-entry.ensures {u = tt}).broken;
-    })
+    let there = slice_get_read ps (length ps) i p refl c.loop-payment-test.true c.payment-item.is in
+    handed_out c.from_residual.result c.in_err-entry.field-0.0 _ _ c.from_residual.ensures.1
+    (first_of_all d ps i c.loop-payment.entries.items p (length d.unadjusted - 1) c.requires.covers
+    c.loop-payment.invariant there)
+    (c.in_err-entry.ensures {u = tt}).broken

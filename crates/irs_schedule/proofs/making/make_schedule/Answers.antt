@@ -1,6 +1,5 @@
 use Rattle.irs_schedule.proofs.OneBroken.{one_broken}
-use Rattle.irs_schedule.proofs.OnePart.{one_schedule}
-use Rattle.irs_schedule.proofs.PartThere.{schedule_there}
+use Rattle.irs_schedule.proofs.OnePart.{one_schedule, schedule_there}
 use Rattle.irs_rules.proofs.Kept.{terms_kept}
 use Rattle.irs_schedule.proofs.making.make_schedule.Goals as goal
 

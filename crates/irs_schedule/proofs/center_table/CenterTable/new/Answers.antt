@@ -1,18 +1,14 @@
-use Rattle.std.proofs.Common.{◌≡◌, List, Some, length, slice_get, refl, sym, ◌∙◌, subst, arith}
+use Rattle.std.proofs.Common.{length, refl, ◌∙◌, arith}
 use Rattle.std.proofs.lemmas.Option.{slice_get_read, slice_get_within}
-use Rattle.irs_terms.specs.declared.stream.Stream.{Stream}
 use Rattle.irs_schedule.proofs.CenterLemmas.{one_more_stream}
 use Rattle.irs_schedule.proofs.center_table.CenterTable.new.Goals as goal
 
 pub add_stream-requires-clause-kept : goal.add_stream-requires-clause-kept
 add_stream-requires-clause-kept c =
-    let i = c.loop-s.s-index in
-    let s = c.s-item.result in
-    let listed : slice_get c.as_slice-s-items.result.now i ≡ Some s =
-    slice_get_read c.as_slice-s-items.result.now (length c.as_slice-s-items.result.now) i s refl c.loop-s-test.true
-    c.s-item.is in
-    let there = subst (λ (ss : List Stream). slice_get ss i ≡ Some s) c.as_slice-s-items.ensures listed in
-    rw c.loop-s.invariant.sections (c.requires.kept i s there)
+    let listed = slice_get_read c.as_slice-s-items.result.now (length c.as_slice-s-items.result.now) c.loop-s.s-index
+    c.s-item.result refl c.loop-s-test.true c.s-item.is in
+    rw c.loop-s.invariant.sections
+    (c.requires.kept c.loop-s.s-index c.s-item.result (rw c.as_slice-s-items.ensures at listed))
 
 pub loop-s-preserved : goal.loop-s-preserved
 loop-s-preserved c = record {
@@ -25,8 +21,7 @@ pub returns : goal.returns
 returns c = record {
   sections = c.loop-s.invariant.sections;
   streams = λ i s there.
-      let listed : slice_get c.as_slice-s-items.result.now i ≡ Some s =
-      subst (λ (ss : List Stream). slice_get ss i ≡ Some s) (sym c.as_slice-s-items.ensures) there in
+      let listed = rw (← c.as_slice-s-items.ensures) at there in
       let within = slice_get_within c.as_slice-s-items.result.now i s listed in
       c.loop-s.invariant.streams i s (omega arith) listed;
 }
