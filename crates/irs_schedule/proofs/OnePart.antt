@@ -85,7 +85,8 @@ module _ (cal : List Section) (sets : StreamSets) (fix : RateTable) (s : Stream)
         (record { adjusted = moved; reset_set = range.reset; fixing_set = range.fixing }) terms.legs terms.said_reset
         (λ f breaks. kept in_resets f (record { layout = l; is_layout = layout_is sets s l is; breaks = breaks })) in
         let paid = amounts_there (layout_dates s l rs.0) is.rises moved (length l.unadjusted - 1)
-        (omega (arith, some, is.adjusted.same_length)) ps.0 (layout_covers sets s lawful terms.dates l is ps.0 ps.1) in (
+        (omega (arith, some, is.adjusted.same_length)) ps.0
+        (layout_covers sets s lawful terms.dates l is ps.0 ps.1) in (
           part_made s l xs.0 paid.0 rs.0,
           part_stands sets fix s l some is xs.0 paid.0 rs.0 xs.1
               (subst (λ (qs : List Payment). ArePayments s sets.payment l.unadjusted l.adjusted qs) (sym paid.1) ps.1)
