@@ -1,6 +1,5 @@
-use Rattle.std.proofs.Common.{◌≡◌, ◌+◌, ◌-◌, ℕ, Option, arith}
-use Rattle.std.proofs.lemmas.Result.{IfOk-weaker, on_ok_weaker}
-use Rattle.irs_base.specs.declared.line.Dec.{Dec}
+use Rattle.std.proofs.Common.{◌≡◌, ◌+◌, ◌-◌, ℕ, arith}
+use Rattle.std.proofs.lemmas.Result.{IfOk-weaker}
 use Rattle.irs_base.specs.declared.places.Fault.{Fault}
 use Rattle.irs_schedule.specs.DatedRules.{passed_at}
 use Rattle.irs_compound.specs.Amounts.{IsFirstOut}
