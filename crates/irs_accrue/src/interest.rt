@@ -57,7 +57,7 @@ fn ten_to(n: u8) -> i128
     requires { n ≤ 13 }
     ensures { result ≡ pos (10 ^ n) }
 {
-    i128::from(10u64.pow(u32::from(n)))
+    i128::from(irs_base::power_of_ten(n))
 }
 
 // What the notional earns, times the denominator, in units of 10^-13.

@@ -3,18 +3,16 @@ use Rattle.std.proofs.Common.{◌≡◌, ℕ, ◌+◌, ◌-◌, ◌*◌, ◌^◌
 use Rattle.std.proofs.Common.{◌+ℤ◌, unsigned_abs, FitsSigned, Option, Some, inl, inr, sym, ◌∙◌, ap, arith}
 use Rattle.std.specs.Int.{w64}
 use Rattle.std.specs.List.{fold}
-use Rattle.std.specs.Prelude.{slice_get, unwrap_or, IfSome}
+use Rattle.std.specs.Prelude.{option_map, slice_get, IfSome}
 use Rattle.std.proofs.lemmas.List.{drop_more}
-use Rattle.std.proofs.lemmas.Option.{slice_get_cases}
+use Rattle.std.proofs.lemmas.Option.{same_Some, slice_get_cases}
 use Rattle.std.proofs.Math.Nat.{mul-le-mul}
 use Rattle.jiff_core.proofs.SignedLemmas.{unsigned_abs-product}
 use Rattle.irs_base.specs.Limits.{most_periods}
 use Rattle.irs_base.specs.declared.line.Dec.{Dec}
 use Rattle.irs_schedule.specs.Parts.{Part, KeepsBounds, IsWithin}
-use Rattle.irs_schedule.specs.PeriodViews.{dated_period, period_at}
 use Rattle.irs_schedule.specs.declared.entries.PaymentEntry.{PaymentEntry}
 use Rattle.irs_schedule.specs.declared.entries.PeriodEntry.{PeriodEntry}
-use Rattle.irs_schedule.specs.declared.views.CalculationPeriod.{CalculationPeriod}
 use Rattle.irs_audit.specs.Comparisons.{IsStatableDec}
 use Rattle.irs_audit.specs.StatedFlows.{stated_amount}
 use Rattle.irs_audit.specs.Sums.{days_from, known_or_zero, most_amount, paid_from, payment_rows}
@@ -51,13 +49,13 @@ paid_more t ys i y low is =
     sym (ap (paid_from t) rest)
 
 -- the days of the period at a place
-pub days_there : (p : Part) (j : ℕ) (x : CalculationPeriod) → period_at p j ≡ Some x
-    → IfSome (slice_get p.periods j) (λ e. x.days ≡ e.days)
-days_there p j x h = elim (slice_get_cases p.periods j).1 [
+pub days_there : (es : List PeriodEntry) (j : ℕ) (d : ℤ) → option_map (λ e. e.days) (slice_get es j) ≡ Some d
+    → IfSome (slice_get es j) (λ e. d ≡ e.days)
+days_there es j d h = elim (slice_get_cases es j).1 [
   | inl w ↦
       let there = w.2 in
-      let same : Some (dated_period p (j + 1) w.0) ≡ Some x = rw there at h in
-      rw there (sym (ap (λ (o : Option CalculationPeriod). (unwrap_or o x).days) same))
+      let same : Some w.0.days ≡ Some d = rw there at h in
+      rw there (sym (same_Some w.0.days d same))
   | inr w ↦ absurd (let none = w.1 in let bad = rw none at h in cc)
 ]
 

@@ -40,7 +40,7 @@ pub(crate) fn power_of_ten(n: u8) -> i128
     requires { n ≤ 12 }
     ensures { result ≡ pos (10 ^ n) }
 {
-    i128::from(10u64.pow(u32::from(n)))
+    i128::from(irs_base::power_of_ten(n))
 }
 
 // Whether a stated number is `units` units of 10^-places.

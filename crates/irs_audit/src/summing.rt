@@ -85,8 +85,8 @@ fn days_at(part: &StreamPart, place: usize) -> i128
     ensures value { IfSome (slice_get part.now.periods place) (λ e. result ≡ e.days) }
     ensures size { unsigned_abs result ≤ most_amount }
 {
-    match part.period(place) {
-        Some(x) => i128::from(x.days),
+    match part.days(place) {
+        Some(days) => i128::from(days),
         None => 0,
     }
 }

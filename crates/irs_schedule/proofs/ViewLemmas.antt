@@ -1,5 +1,5 @@
 -- A period with its dates.
-use Rattle.std.proofs.Common.{◌≡◌, ℕ, ◌+◌, ◌-◌, ◌<◌, length, Some, sym, ap, arith}
+use Rattle.std.proofs.Common.{◌≡◌, ℕ, ◌+◌, ◌-◌, ◌<◌, length, Some, option_map, slice_get, sym, ap, arith}
 use Rattle.std.specs.Prelude.{slice_index_or}
 use Rattle.std.proofs.lemmas.Option.{slice_get-get_or}
 use Rattle.irs_schedule.specs.Parts.{Part}
@@ -12,3 +12,10 @@ period_is p j h =
     let back : j + 1 - 1 ≡ j = omega arith in
     let there = slice_get-get_or p.periods j no_period h in
     rw there (ap (λ (i : ℕ). Some (dated_period p (j + 1) (slice_index_or p.periods i no_period))) (sym back))
+
+pub days_are : (p : Part) (j : ℕ) → j < length p.periods
+    → option_map (λ e. e.days) (slice_get p.periods j) ≡ Some (slice_index_or p.periods (j + 1 - 1) no_period).days
+days_are p j h =
+    let back : j + 1 - 1 ≡ j = omega arith in
+    let there = slice_get-get_or p.periods j no_period h in
+    rw there (ap (λ (i : ℕ). Some (slice_index_or p.periods i no_period).days) (sym back))

@@ -1,6 +1,6 @@
 //! The amounts of a stream's payments: what their calculation periods pay by the stream's compounding,
 //! rounded to the decimals of its currency (2006 ISDA Definitions, articles 5, 6 and 8).
-ghost use Rattle.std.specs.Prelude.{◌≡◌, ℕ, ◌+◌, ◌-◌, ◌<◌, ◌≤◌, map, length, IfOk, IfSome, option_map};
+ghost use Rattle.std.specs.Prelude.{◌≡◌, ℕ, ◌+◌, ◌-◌, ◌<◌, ◌≤◌, [], map, length, IfOk, IfSome, option_map};
 ghost use Rattle.irs_terms.specs.Lawful.{IsLawfulStream};
 ghost use Rattle.irs_compound.specs.Amounts.{IsFirstOut, IsPayment};
 ghost use Rattle.irs_base.specs.Limits.{most_periods};
@@ -57,12 +57,19 @@ pub(crate) fn paid(
     ensures within { IfOk result (λ _. (i : ℕ) → PassesAt (table_dates s.now table.now) payments.now i → ⊥) }
     ensures broken { IfBroken result (IsFirstPassed (PassesAt (table_dates s.now table.now) payments.now)) }
 {
-    let mut entries = Vec::new(alloc);
+    let mut entries = room_for(alloc, payments.len())?;
     for payment in payments {
         let entry = paid_by(alloc, s, table, payment)?;
         entries.push(entry)?;
     }
     Ok(entries)
+}
+
+// Room for so many payments.
+fn room_for(alloc: Global, count: usize) -> Result<Vec<PaymentEntry>, Memory>
+    ensures { IfOk result (λ es. es.items ≡ []) }
+{
+    Ok(Vec::with_capacity(alloc, count)?)
 }
 
 // A payment with its amount, or K39 at the first of its periods that breaks it.

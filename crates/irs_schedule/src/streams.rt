@@ -7,6 +7,7 @@ use crate::periods::{day_at, entry_by, observed_at};
 use crate::views::dated_period;
 use crate::{PaymentEntry, PeriodEntry, Row};
 use irs_base::{Day, DayList};
+use irs_daycount::days_by;
 use irs_terms::{Currency, DayCountCode, Exchange, Exchanges, Reset, Resets};
 use std::marker::Model;
 
@@ -161,6 +162,23 @@ impl StreamPart {
             end == self.adjusted.len() - 1,
             day_at(self.unadjusted.as_slice(), end - 1),
             observed_at(self.resets.as_slice(), end - 1),
+        )
+    }
+
+    /// The days of a period alone, counted from 1.
+    pub(crate) fn entry_days(&self, number: u32) -> i64
+        requires low { 0 < number }
+        requires high { number ≤ length self.now.periods }
+        ensures { (slice_index_or self.now.periods (number - 1) no_period).days ≡ result }
+    {
+        let end = number as usize;
+        let last = end == self.adjusted.len() - 1;
+        let boundaries = self.adjusted.as_slice();
+        days_by(
+            self.terms.day_count,
+            day_at(boundaries, end - 1),
+            day_at(boundaries, end),
+            last,
         )
     }
 

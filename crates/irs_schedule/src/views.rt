@@ -1,5 +1,5 @@
 //! A calculation period of a stream, with its dates.
-ghost use Rattle.std.specs.Prelude.{◌≡◌, ◌-◌, ◌<◌, ◌≤◌, length, slice_index_or};
+ghost use Rattle.std.specs.Prelude.{◌≡◌, ◌-◌, ◌<◌, ◌≤◌, length, option_map, slice_get, slice_index_or};
 ghost use Rattle.irs_schedule.specs.Parts.{KeepsBounds};
 ghost use Rattle.irs_schedule.specs.PeriodViews.{dated_period, period_at};
 ghost use Rattle.irs_schedule.specs.RowsOf.{no_period};
@@ -61,6 +61,19 @@ impl StreamPart {
     {
         if place < self.periods() {
             Some(dated_period(self, place as u32 + 1))
+        } else {
+            None
+        }
+    }
+
+    /// The days of the calculation period at a place, counted from 0; `None` exactly past the last.
+    #[tactic(auto, using(crate::proofs::ViewLemmas::days_are))]
+    pub fn days(&self, place: usize) -> Option<i64>
+        ensures value { result ≡ option_map (λ e. e.days) (slice_get self.now.periods place) }
+        ensures bounds { KeepsBounds self.now }
+    {
+        if place < self.periods() {
+            Some(self.entry_days(place as u32 + 1))
         } else {
             None
         }

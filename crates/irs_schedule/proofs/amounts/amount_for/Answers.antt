@@ -1,6 +1,4 @@
-use Rattle.std.proofs.Common.{◌≡◌, ◌+◌, ◌∷◌, [], length, arith}
-use Rattle.irs_schedule.specs.PeriodTerms.{AreTerms}
-use Rattle.irs_schedule.specs.StreamDates.{table_dates}
+use Rattle.std.proofs.Common.{arith}
 use Rattle.irs_schedule.proofs.amounts.amount_for.Goals as goal
 
 pub amount_over-requires : goal.amount_over-requires

@@ -27,7 +27,7 @@ paid_by-requires c =
 
 pub loop-payment-init : goal.loop-payment-init
 loop-payment-init c =
-    rw c.new-entries.ensures.items (none_paid (table_dates c.args.s.now c.args.table.now) c.args.payments.now)
+    rw (c.in_ok-entries.ensures {u = tt}) (none_paid (table_dates c.args.s.now c.args.table.now) c.args.payments.now)
 
 pub loop-payment-preserved : goal.loop-payment-preserved
 loop-payment-preserved c =
@@ -64,7 +64,7 @@ returns-in_err-entry-clause-broken c =
     let i = c.loop-payment.payment-index in
     let p = c.payment-item.result in
     let there = slice_get_read ps (length ps) i p refl c.loop-payment-test.true c.payment-item.is in
-    handed_out c.from_residual.result c.in_err-entry.field-0.0 _ _ c.from_residual.ensures.1
+    handed_out c.from_residual-in_err-entry.result c.in_err-entry.field-0.0 _ _ c.from_residual-in_err-entry.ensures.1
     (first_of_all d ps i c.loop-payment.entries.items p (length d.unadjusted - 1) c.requires.covers
     c.loop-payment.invariant there)
     (c.in_err-entry.ensures {u = tt}).broken
