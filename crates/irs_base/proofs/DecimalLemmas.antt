@@ -86,6 +86,28 @@ pub with_a_point : (w f : List ℕ) → has_no_point (w ++ 46 ∷ f) ≡ true �
 with_a_point [] f h = point_first f h
 with_a_point (y ∷ ys) f h = with_a_point ys f (no_point_behind y (ys ++ 46 ∷ f) h)
 
+-- a text is cut in one way
+pub cut_once : (text w f x g : List ℕ) → IsCut text w f → IsCut text x g → (w ≡ x) × (f ≡ g)
+cut_once text w f x g a b = elim a.is [
+  | inl none ↦ elim b.is [
+    | inl other ↦ (sym none.0 ∙ other.0, none.1 ∙ sym other.1)
+    | inr point ↦
+        absurd (with_a_point x g (subst (λ (t : List ℕ). has_no_point t ≡ true) (sym none.0 ∙ point) a.no_point))
+  ]
+  | inr point ↦ elim b.is [
+    | inl other ↦
+        absurd (with_a_point w f (subst (λ (t : List ℕ). has_no_point t ≡ true) (sym other.0 ∙ point) b.no_point))
+    | inr second ↦ same_cut w x f g a.no_point b.no_point (sym point ∙ second)
+  ]
+]
+
+-- so where its parts are none of a decimal, no other cut's are
+pub not_cut_parts : (text w f : List ℕ) → IsCut text w f → (AreParts w f → ⊥) → (x g : List ℕ) → IsCut text x g
+    → AreParts x g → ⊥
+not_cut_parts text w f cut none x g other parts =
+    let same = cut_once text x g w f other cut in
+    none (subst (λ (l : List ℕ). AreParts w l) same.1 (subst (λ (l : List ℕ). AreParts l g) same.0 parts))
+
 -- the parts of a decimal are those at its first point
 pub cut_parts : (text w f : List ℕ) (places v : ℕ) → IsCut text w f → (u : IsUnsigned text places v)
     → (u.whole ≡ w) × (u.fraction ≡ f)
@@ -195,6 +217,13 @@ unsigned_is text w f p cut parts zeros =
       is = cut.is;
       value = padded_value n p f zeros ∙ ap (λ (k : ℕ). k * 10 ^ p) (sym same);
     }
+
+-- and what has no parts is none
+pub no_parts : (text : List ℕ) (p v : ℕ) → ((w f : List ℕ) → IsCut text w f → AreParts w f → ⊥)
+    → IsUnsigned text p v → ⊥
+no_parts text p v none u =
+    none u.whole u.fraction (record { no_point = no_point u.whole u.whole_digits; is = u.is })
+    (u.whole_digits, u.fraction_digits, u.some, u.short)
 
 -- and what is refused is none
 pub not_parts : (text w f : List ℕ) (p v : ℕ) → IsCut text w f → (AreParts w f → ⊥) → IsUnsigned text p v → ⊥

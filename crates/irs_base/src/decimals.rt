@@ -55,6 +55,22 @@ fn cut_at_point(text: &[u8]) -> (&[u8], &[u8])
     (text, &[])
 }
 
+/// The digits before and behind the point of a decimal without sign. `None` comes exactly where the text
+/// isn't one: digits with at most one point, at least one digit, at most 18 before the point. The limit is
+/// this project's own.
+pub fn decimal_parts(text: &[u8]) -> Option<(&[u8], &[u8])>
+    ensures cut { IfSome result (λ p. IsCut text.now p.0.now p.1.now) }
+    ensures parts { IfSome result (λ p. AreParts p.0.now p.1.now) }
+    ensures none { IfNone result ((w f : List ℕ) → IsCut text.now w f → AreParts w f → ⊥) }
+{
+    let (whole, fraction) = cut_at_point(text);
+    if are_parts(whole, fraction) {
+        Some((whole, fraction))
+    } else {
+        None
+    }
+}
+
 // The first digit, a zero where there is none, and those behind it.
 fn first_digit(digits: &[u8]) -> (u8, &[u8])
     requires { AreDigits digits.now }
@@ -76,9 +92,10 @@ fn with_digit(n: u128, digit: u8) -> u128
     10 * n + u128::from(digit)
 }
 
-// The number that the first digits spell behind those of n, zeros standing for digits that lack.
+/// The number that the first `count` digits spell behind those of n, zeros standing for digits that lack;
+/// it is below 10^30.
 #[tactic(auto, using(crate::proofs::DecimalLemmas::room_left))]
-fn number_behind(n: u128, digits: &[u8], count: u8) -> u128
+pub fn number_behind(n: u128, digits: &[u8], count: u8) -> u128
     requires digits { AreDigits digits.now }
     requires fits { (n + 1) * 10 ^ count ≤ 10 ^ 30 }
     ensures value { result ≡ number_after n (padded count digits.now) }
@@ -97,10 +114,7 @@ fn read_unsigned(text: &[u8], places: u8) -> Option<u128>
     ensures below { IfSome result (λ v. v < 10 ^ 30) }
     ensures none { IfNone result ((v : ℕ) → IsUnsigned text.now places v → ⊥) }
 {
-    let (whole, fraction) = cut_at_point(text);
-    if !are_parts(whole, fraction) {
-        return None;
-    }
+    let (whole, fraction) = decimal_parts(text)?;
     if !are_zeros_past(fraction, places) {
         return None;
     }

@@ -1,6 +1,6 @@
 //! Decimal digits: two and four at a time, and the powers of ten that cut a number before its last ones.
 ghost use Rattle.std.specs.Prelude.{◌≡◌, ◌/◌, ◌%◌, ◌<◌, ◌≤◌, ◌^◌, ◌++◌};
-ghost use Rattle.irs_base.specs.Texts.{two_digits};
+ghost use Rattle.irs_base.specs.Texts.{digit_row, two_digits};
 
 // The powers of ten, from 10^0 to 10^18.
 const POWERS: [u64; 19] = [
@@ -51,4 +51,17 @@ pub fn four_digits(n: u16) -> [u8; 4]
     let front = two_digits((n / 100) as u8);
     let back = two_digits((n % 100) as u8);
     [front[0], front[1], back[0], back[1]]
+}
+
+/// The last nine digits of a number.
+#[tactic(auto, using(crate::proofs::TextLemmas::row_of_nine))]
+pub fn nine_digits(n: u64) -> [u8; 9]
+    ensures { result ≡ digit_row 9 n }
+{
+    let first = b'0' + (n / 100_000_000 % 10) as u8;
+    let middle = four_digits((n / 10_000 % 10_000) as u16);
+    let back = four_digits((n % 10_000) as u16);
+    [
+        first, middle[0], middle[1], middle[2], middle[3], back[0], back[1], back[2], back[3],
+    ]
 }

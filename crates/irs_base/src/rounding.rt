@@ -17,14 +17,16 @@ pub enum Direction {
     Nearest,
 }
 
-// The quotient below and the rest.
+// The quotient below and the rest, by one division.
 fn divide(p: i128, q: i128) -> (i128, i128)
     requires divisor { pos 0 <ℤ q }
+    requires fits { 2 * unsigned_abs p + unsigned_abs q < 2 ^ 127 }
     ensures sum { p ≡ q *ℤ result.0 +ℤ result.1 }
     ensures rest { (pos 0 ≤ℤ result.1) × (result.1 <ℤ q) }
     ensures small { unsigned_abs result.0 ≤ unsigned_abs p }
 {
-    (p.div_euclid(q), p.rem_euclid(q))
+    let below = p.div_euclid(q);
+    (below, p - q * below)
 }
 
 // The rest is compared with what lacks to the divisor, since twice the divisor may not fit.

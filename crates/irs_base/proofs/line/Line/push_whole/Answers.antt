@@ -14,3 +14,12 @@ returns-in-Ok-clause-grows c =
       length_signed c.args.n (small_abs c.args.n f),
       simp (few.1, to_z-of_z, length-append) at (ap length c.push_signed_number.ensures),
     )
+
+pub returns-in-Err-clause-grows : goal.returns-in-Err-clause-grows
+returns-in-Err-clause-grows c =
+    let f : FitsSigned w128 c.args.n = c.ranges.n in
+    omega (
+      arith,
+      length_signed c.args.n (small_abs c.args.n f),
+      simp (to_z-of_z, length-append) at (ap length c.push_wide_number.ensures),
+    )
