@@ -3,6 +3,7 @@ use Rattle.std.proofs.Common.{◌≡◌, inl, inr, ℕ, zero, suc, ◌+◌, ◌-
 use Rattle.std.proofs.Common.{false, not, ◌&&◌, ◌==◌, List, [], ◌∷◌, ◌++◌, length, drop, refl, sym, ap, ap₂, subst, ◌∙◌}
 use Rattle.std.proofs.Common.{arith}
 use Rattle.irs_base.proofs.Orders.{both_true as both}
+use Rattle.irs_base.proofs.VisibleTexts.{digits_behind}
 use Rattle.std.specs.List.{list_all}
 use Rattle.std.proofs.Math.Nat.{mul-le-mul, mul-le-mul_left, mul-le-mul_right, pow-succ', one-le-pow}
 use Rattle.std.proofs.Math.Nat.{le_of_mul-le-mul_right, pow-le-pow_right}
@@ -126,11 +127,6 @@ cut_parts text w f places v cut u = elim cut.is [
   ]
 ]
 
--- digits behind digits
-number_behind_both : (n : ℕ) (w f : List ℕ) → number_after n (w ++ f) ≡ number_after (number_after n w) f
-number_behind_both n [] f = refl
-number_behind_both n (c ∷ cs) f = number_behind_both (10 * n + (c - 48)) cs f
-
 pub padded_whole : (w : List ℕ) → padded (length w) w ≡ w
 padded_whole [] = refl
 padded_whole (c ∷ cs) = ap (λ (l : List ℕ). c ∷ l) (padded_whole cs)
@@ -206,7 +202,7 @@ pub unsigned_is : (text w f : List ℕ) (p : ℕ) → IsCut text w f → ArePart
 unsigned_is text w f p cut parts zeros =
     let n : ℕ = number_after 0 (padded (length w) w) in
     let same : number_of (w ++ f) ≡ number_after n f =
-    number_behind_both 0 w f ∙ ap (λ (l : List ℕ). number_after (number_after 0 l) f) (sym (padded_whole w)) in
+    digits_behind 0 w f ∙ ap (λ (l : List ℕ). number_after (number_after 0 l) f) (sym (padded_whole w)) in
     record {
       whole = w;
       fraction = f;
@@ -237,7 +233,7 @@ pub not_zeros : (text w f : List ℕ) (p v : ℕ) → IsCut text w f → (list_a
 not_zeros text w f p v cut h u =
     let parts = cut_parts text w f p v cut u in
     let e : v * 10 ^ length u.fraction ≡ number_after (number_after 0 u.whole) u.fraction * 10 ^ p =
-    u.value ∙ ap (λ (k : ℕ). k * 10 ^ p) (number_behind_both 0 u.whole u.fraction) in
+    u.value ∙ ap (λ (k : ℕ). k * 10 ^ p) (digits_behind 0 u.whole u.fraction) in
     h (subst (λ (l : List ℕ). list_all is_zero (drop p l) ≡ true) parts.1
     (zeros_needed v (number_after 0 u.whole) p u.fraction u.fraction_digits e))
 

@@ -1,7 +1,8 @@
 -- The function of a stated fraction's text gives the one fraction that the text states.
-use Rattle.irs_base.proofs.DecimalLemmas.{no_point, not_parts, same_cut, with_a_point}
+use Rattle.irs_base.proofs.DecimalLemmas.{cut_once, no_point, not_parts, padded_whole}
 use Rattle.irs_base.proofs.RoundingLaws.{nearest_once}
-use Rattle.irs_base.specs.Decimals.{AreDigits, AreParts, IsCut, has_no_point, number_after, number_of}
+use Rattle.irs_base.proofs.VisibleTexts.{digits_behind}
+use Rattle.irs_base.specs.Decimals.{AreDigits, AreParts, IsCut, number_after, number_of, padded}
 use Rattle.irs_base.specs.Rounding.{Rounded}
 use Rattle.irs_base.specs.Texts.{most_places}
 use Rattle.irs_base.specs.declared.line.Dec.{Dec}
@@ -9,31 +10,17 @@ use Rattle.irs_base.specs.declared.rounding.Direction.TheVariants.{Nearest}
 use Rattle.irs_elements.proofs.DecimalsAt.{cut_is, from_parts, to_parts}
 use Rattle.irs_elements.proofs.Exact.{Exact}
 use Rattle.irs_elements.specs.Decimals.{are_parts, before_point, behind_point}
-use Rattle.irs_elements.specs.Fractions.{IsFirstDigit, IsFraction, carried, fraction_at, fraction_of}
+use Rattle.irs_elements.specs.Fractions.{IsFraction, carried, fraction_at, fraction_of}
 use Rattle.jiff_core.proofs.SignedLemmas.{signed_arith}
 use Rattle.std.proofs.Common.{◌≡◌, ◌⊎◌, inl, inr, ℕ, zero, suc, ◌+◌, ◌-◌, ◌*◌, ◌^◌, ◌<◌, ◌≤◌, nat_le, Bool, true, false}
 use Rattle.std.proofs.Common.{true≢false, List, [], ◌∷◌, ◌++◌, length, take, drop, ℤ, pos, ◌<ℤ◌, Some, None}
-use Rattle.std.proofs.Common.{if◌then◌else◌, refl, sym, ap, ◌∙◌, subst, arith}
+use Rattle.std.proofs.Common.{if◌then◌else◌, refl, sym, ap, ap₂, ◌∙◌, subst, arith}
 use Rattle.std.proofs.Math.Nat.{mul-le-mul_left, one-le-pow, pow-succ'}
 use Rattle.std.proofs.lemmas.Bool.Decides.{nat_tests}
 use Rattle.std.proofs.lemmas.List.{length-append, take-append-drop}
 use Rattle.std.proofs.lemmas.Nat.{pow-add}
 
--- ---- a text is cut in one way
-
-pub cut_once : (text w f x g : List ℕ) → IsCut text w f → IsCut text x g → (w ≡ x) × (f ≡ g)
-cut_once text w f x g a b = elim a.is [
-  | inl none ↦ elim b.is [
-    | inl other ↦ (sym none.0 ∙ other.0, none.1 ∙ sym other.1)
-    | inr point ↦
-        absurd (with_a_point x g (subst (λ (t : List ℕ). has_no_point t ≡ true) (sym none.0 ∙ point) a.no_point))
-  ]
-  | inr point ↦ elim b.is [
-    | inl other ↦
-        absurd (with_a_point w f (subst (λ (t : List ℕ). has_no_point t ≡ true) (sym other.0 ∙ point) b.no_point))
-    | inr second ↦ same_cut w x f g a.no_point b.no_point (sym point ∙ second)
-  ]
-]
+-- ---- the parts of a text
 
 pub whole_is : (text w f : List ℕ) → IsCut text w f → w ≡ before_point text
 whole_is text w f h = (cut_once text w f (before_point text) (behind_point text) h (cut_is text)).0
@@ -42,10 +29,6 @@ pub decimals_are : (text w f : List ℕ) → IsCut text w f → f ≡ behind_poi
 decimals_are text w f h = (cut_once text w f (before_point text) (behind_point text) h (cut_is text)).1
 
 -- ---- what digits spell behind others
-
-pub digits_behind : (n : ℕ) (w f : List ℕ) → number_after n (w ++ f) ≡ number_after (number_after n w) f
-digits_behind n [] f = refl
-digits_behind n (c ∷ cs) f = digits_behind (10 * n + (c - 48)) cs f
 
 shifted : (n x a r s t : ℕ) → s ≡ (10 * n + x) * a + r → t ≡ (10 * 0 + x) * a + r → s ≡ n * (10 * a) + t
 shifted n x a r s t p q = omega (arith, p, q)
@@ -195,39 +178,37 @@ one_fraction s v w a b =
     same_dec v w places (nearest_once (pos (number_of (b.whole ++ b.fraction) * 10 ^ w.places))
     (pos (10 ^ length b.fraction)) v.units w.units (power_positive (length b.fraction)) value b.value)
 
--- ---- digit by digit
-
--- the power of all digits
-longer : (ds : List ℕ) (d : ℕ) (rest : List ℕ) → IsFirstDigit ds d rest → 10 ^ length ds ≡ 10 * 10 ^ length rest
-longer ds d rest h = ap (λ (l : List ℕ). 10 ^ length l) h.is ∙ pow-succ' 10 (length rest)
-
--- what the digits behind the first make of m fits what all digits make of n
-pub behind_fits : (n : ℕ) (ds : List ℕ) (d : ℕ) (rest : List ℕ) (m : ℕ) → m ≡ 10 * n + d → IsFirstDigit ds d rest
-    → (m + 1) * 10 ^ length rest ≤ (n + 1) * 10 ^ length ds
-behind_fits n ds d rest m e h =
-    let k : 10 ^ length rest * d ≤ 10 ^ length rest * 9 = mul-le-mul_left (10 ^ length rest) h.small in
-    rw (e, longer ds d rest h) (omega (arith, k))
-
-pub spelled_behind : (n : ℕ) (ds : List ℕ) (d : ℕ) (rest : List ℕ) (m : ℕ) → m ≡ 10 * n + d → IsFirstDigit ds d rest
-    → number_after m rest ≡ number_after n ds
-spelled_behind n ds d rest m e h =
-    let same : 48 + d - 48 ≡ d = omega arith in
-    ap (λ (x : ℕ). number_after x rest) e ∙ ap (λ (x : ℕ). number_after (10 * n + x) rest) (sym same)
-    ∙ ap (number_after n) (sym h.is)
-
-pub shorter : (ds : List ℕ) (d : ℕ) (rest : List ℕ) → IsFirstDigit ds d rest → length rest < length ds
-shorter ds d rest h = rw (h.is) (omega arith)
-
 -- ---- the test of the parts
 
-pub parts_of : (w f : List ℕ) (b : Bool) → b ≡ are_parts w f → b ≡ true → AreParts w f
-parts_of w f b e t = to_parts w f (sym e ∙ t)
-
 -- the fraction of the parts of a text is that of the text
-pub stated_is : (text w f : List ℕ) (b : Bool) → w ≡ before_point text → f ≡ behind_point text → b ≡ are_parts w f
+stated_is : (text w f : List ℕ) (b : Bool) → w ≡ before_point text → f ≡ behind_point text → b ≡ are_parts w f
     → (if b then Some (fraction_of w f) else None) ≡ fraction_at text
 unfolding fraction_at
 stated_is text w f b p q e =
     ap (λ (t : Bool). if t then Some (fraction_of w f) else None) e
     ∙ ap (λ (l : List ℕ). if are_parts l f then Some (fraction_of l f) else None) p
     ∙ ap (λ (l : List ℕ). if are_parts (before_point text) l then Some (fraction_of (before_point text) l) else None) q
+
+pub fraction_is : (text w f : List ℕ) → IsCut text w f → AreParts w f → Some (fraction_of w f) ≡ fraction_at text
+fraction_is text w f cut parts =
+    stated_is text w f true (whole_is text w f cut) (decimals_are text w f cut) (sym (from_parts w f parts))
+
+not_true : (b : Bool) → (b ≡ true → ⊥) → b ≡ false
+not_true true never = absurd (never refl)
+not_true false never = refl
+
+-- a text without parts states none
+pub no_fraction : (text : List ℕ) → ((w f : List ℕ) → IsCut text w f → AreParts w f → ⊥) → None ≡ fraction_at text
+no_fraction text none =
+    let w = before_point text in
+    let f = behind_point text in
+    let fails = not_true (are_parts w f) (λ e. none w f (cut_is text) (to_parts w f e)) in
+    stated_is text w f false refl refl (sym fails)
+
+-- ---- what the digits of both parts spell
+
+pub units_are : (w k : List ℕ) (n m c d : ℕ) → n ≡ number_after 0 (padded (length w) w)
+    → m ≡ number_after n (padded (length k) k) → c ≡ d → m + c ≡ number_after (number_after 0 w) k + d
+units_are w k n m c d first second carry =
+    ap₂ ◌+◌ (second ∙ ap (number_after n) (padded_whole k)
+    ∙ ap (λ (x : ℕ). number_after x k) (first ∙ ap (number_after 0) (padded_whole w))) carry

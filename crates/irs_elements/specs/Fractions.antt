@@ -21,12 +21,6 @@ pub record IsFraction (text : List ℕ) (v : Dec) : Type 0 where
 
 -- ---- as a function of the text
 
--- the digits begin with that of the number n, and rest stands behind it
-pub record IsFirstDigit (digits : List ℕ) (n : ℕ) (rest : List ℕ) : Type 0 where
-  pub small : n ≤ 9
-  pub is : digits ≡ (48 + n) ∷ rest
-  pub rest_digits : AreDigits rest
-
 -- 1 where the first of the digits is 5 or more
 abbrev pub carried : List ℕ → ℕ
 carried [] = 0

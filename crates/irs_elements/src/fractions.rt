@@ -1,95 +1,17 @@
 //! Day count fractions as cash flows state them (FpML `dayCountYearFraction`): a decimal without
 //! sign, at most 18 digits before its point and any number behind it. The limits are this project's
 //! own.
-ghost use Rattle.irs_base.specs.Decimals.{AreDigits, IsCut, is_digit, number_after};
+ghost use Rattle.irs_base.specs.Decimals.{AreDigits, number_after};
 ghost use Rattle.irs_base.specs.Texts.{most_places};
 ghost use Rattle.irs_base.specs.declared.line.Dec.{Dec as DecRecord};
-ghost use Rattle.irs_elements.specs.Decimals.{are_parts as are_parts_of, before_point, behind_point};
-ghost use Rattle.irs_elements.specs.Fractions.{IsFirstDigit, IsFraction, carried, fraction_at};
+ghost use Rattle.irs_elements.specs.Fractions.{IsFraction, carried, fraction_at};
 ghost use Rattle.irs_elements.specs.Fractions.{fraction_of as fraction_by};
-ghost use Rattle.std.specs.List.{list_all};
 ghost use Rattle.std.specs.Prelude.{◌≡◌, ◌+◌, ◌*◌, ◌^◌, ◌<◌, ◌≤◌, [], IfNone, IfSome, drop, length, nat_lt, take};
 
-use irs_base::Dec;
-
-/// The most digits before the point.
-const MOST_DIGITS: usize = 18;
+use irs_base::{Dec, decimal_parts, number_behind};
 
 /// The most decimals that are kept.
 const MOST_PLACES: usize = 12;
-
-fn are_digits(bytes: &[u8]) -> bool
-    ensures { result ≡ list_all is_digit bytes.now }
-{
-    bytes.iter().all(|b| b'0' <= *b && *b <= b'9')
-}
-
-fn is_some_digit(whole: &[u8], decimals: &[u8]) -> bool
-    ensures { result ≡ nat_lt 0 (length whole.now + length decimals.now) }
-{
-    !(whole.is_empty() && decimals.is_empty())
-}
-
-// Digits before and behind the point, some in all, and at most 18 before it.
-fn are_parts(whole: &[u8], decimals: &[u8]) -> bool
-    ensures { result ≡ are_parts_of whole.now decimals.now }
-{
-    are_digits(whole)
-        && (are_digits(decimals) && (is_some_digit(whole, decimals) && whole.len() <= MOST_DIGITS))
-}
-
-// A text is cut at its first point, if it has one.
-fn cut(text: &[u8]) -> (&[u8], &[u8])
-    ensures { IsCut text.now result.0.now result.1.now }
-{
-    for (i, b) in text.iter().enumerate() {
-        if *b == b'.' {
-            return (&text[..i], &text[i + 1..]);
-        }
-    }
-    (text, &[])
-}
-
-// What stands before the first point, and behind it.
-fn cut_at_point(text: &[u8]) -> (&[u8], &[u8])
-    ensures whole { result.0.now ≡ before_point text.now }
-    ensures decimals { result.1.now ≡ behind_point text.now }
-{
-    cut(text)
-}
-
-fn with_digit(n: u128, digit: u8) -> u128
-    requires digit { digit ≤ 9 }
-    requires fits { n < 10 ^ 30 }
-    ensures { result ≡ 10 * n + digit }
-{
-    10 * n + u128::from(digit)
-}
-
-// The first digit, and those behind it.
-fn first_digit(digits: &[u8]) -> Option<(u8, &[u8])>
-    requires { AreDigits digits.now }
-    ensures some { IfSome result (λ cut. IsFirstDigit digits.now cut.0 cut.1.now) }
-    ensures none { IfNone result (digits.now ≡ []) }
-{
-    match digits {
-        [] => None,
-        [first, rest @ ..] => Some((*first - b'0', rest)),
-    }
-}
-
-// The number that the digits spell behind those of n.
-fn number_behind(n: u128, digits: &[u8]) -> u128
-    requires digits { AreDigits digits.now }
-    requires fits { (n + 1) * 10 ^ length digits.now ≤ 10 ^ 30 }
-    ensures value { result ≡ number_after n digits.now }
-    ensures below { result + 1 ≤ (n + 1) * 10 ^ length digits.now }
-{
-    match first_digit(digits) {
-        None => n,
-        Some((digit, rest)) => number_behind(with_digit(n, digit), rest),
-    }
-}
 
 // 1 where the first of the digits is 5 or more.
 fn carry(digits: &[u8]) -> u128
@@ -123,7 +45,8 @@ fn units(whole: &[u8], kept: &[u8], left: &[u8]) -> u128
     ensures value { result ≡ number_after (number_after 0 whole.now) kept.now + carried left.now }
     ensures below { result ≤ 10 ^ 30 }
 {
-    number_behind(number_behind(0, whole), kept) + carry(left)
+    let number = number_behind(0, whole, whole.len() as u8);
+    number_behind(number, kept, kept.len() as u8) + carry(left)
 }
 
 fn fraction_of(whole: &[u8], decimals: &[u8]) -> Dec
@@ -154,10 +77,8 @@ pub fn fraction(text: &[u8]) -> Option<Dec>
 fn stated(text: &[u8]) -> Option<Dec>
     ensures { result ≡ fraction_at text.now }
 {
-    let (whole, decimals) = cut_at_point(text);
-    if are_parts(whole, decimals) {
-        Some(fraction_of(whole, decimals))
-    } else {
-        None
+    match decimal_parts(text) {
+        Some((whole, decimals)) => Some(fraction_of(whole, decimals)),
+        None => None,
     }
 }

@@ -1,7 +1,7 @@
 -- The first bytes of what was put.
 use Rattle.std.proofs.Common.{◌≡◌, ◌⊎◌, inl, inr, ℕ, ◌+◌, ◌-◌, ◌<◌, ◌≤◌, min, List, ◌++◌, length, take, sym, ◌∙◌, ap}
 use Rattle.std.proofs.Common.{arith}
-use Rattle.std.proofs.lemmas.List.{take_all}
+use Rattle.std.proofs.lemmas.List.{append-nil, take_all}
 use Rattle.std.proofs.Math.Seq.{take-append-add}
 
 cases_le : (a b : ℕ) → (a ≤ b) ⊎ (b < a)
@@ -20,3 +20,11 @@ kept_more n m xs ys zs fits is same =
     let e : length xs + (n - length xs) ≡ n = omega (arith, fits) in
     same ∙ ap (λ k. xs ++ take k ys) is ∙ ap (λ t. xs ++ t) (take_few (n - length xs) ys)
     ∙ sym (take-append-add xs ys (n - length xs)) ∙ ap (λ k. take k (xs ++ ys)) e
+
+-- where there is no room left, nothing is kept of what is put
+pub kept_full : (n : ℕ) (xs ys front : List ℕ) → front ≡ xs → length xs ≤ n → n - length front ≤ 0
+    → xs ≡ take n (xs ++ ys)
+kept_full n xs ys front same fits full =
+    let none : 0 ≡ min (n - length xs) (length ys) =
+    let e : length front ≡ length xs = ap length same in omega (arith, full, e) in
+    kept_more n 0 xs ys xs fits none (sym (append-nil xs))

@@ -15,12 +15,14 @@ pub struct Kept<S> {
     front: Line,
 }
 
-// Appends what there is room for.
+// Appends what there is room for; mostly there is none left.
 fn keep(front: &mut Line, bytes: &[u8])
     ensures { front.new ≡ take longest_line (front.old ++ bytes.now) }
 {
     let room = LONGEST_LINE - front.bytes().len();
-    front.push(&bytes[..room.min(bytes.len())]);
+    if room > 0 {
+        front.push(&bytes[..room.min(bytes.len())]);
+    }
 }
 
 impl<S: Sink> Kept<S> {
