@@ -1,9 +1,9 @@
 -- There is one first broken rule, and one first line of a file of fixings that is at fault.
 use Rattle.std.proofs.Common.{◌≡◌, inl, inr, ℕ, List, Option, Some, None, ap, subst}
-use Rattle.std.proofs.lemmas.Bool.{cases_order}
+use Rattle.std.specs.Prelude.{nat_lt}
 use Rattle.irs_base.specs.Lines.{lines_of}
 use Rattle.irs_base.proofs.FaultOrder.{broken_ties}
-use Rattle.irs_base.proofs.Firsts.{one_first as one_of_order}
+use Rattle.irs_base.proofs.Firsts.{one_first as one_of_order, tied_last}
 use Rattle.irs_base.specs.Order.{First, is_before}
 use Rattle.irs_base.specs.declared.places.Broken.{Broken}
 use Rattle.irs_resets.specs.FixingFiles.{IsFirstFault, IsBad, Repeats, IsFaulty, IsFixingFile}
@@ -19,37 +19,26 @@ one_first P f g h k = one_of_order is_before broken_ties P g f k h
 
 -- ---- lines of fixings
 
-same_line : (P Q : ℕ → Type 0) (ls : List (List ℕ)) (m n : ℕ) → ((k : ℕ) → P k → IsFaulty ls k)
-    → ((k : ℕ) → Q k → IsFaulty ls k) → IsFirstFault P ls m → IsFirstFault Q ls n → m ≡ n
-same_line P Q ls m n p q h k = elim (cases_order m n) [
-  | inl same ↦ same
-  | inr (inl less) ↦ absurd (k.none_before m less (p m h.fault))
-  | inr (inr more) ↦ absurd (h.none_before n more (q n k.fault))
-]
+same_line : (P Q : ℕ → Type 0) (ls : List (List ℕ)) (m n : ℕ) → IsFirstFault P ls m → IsFirstFault Q ls n → m ≡ n
+same_line P Q ls m n h k = one_of_order nat_lt tied_last (IsFaulty ls) m n h.1 k.1
 
 -- a line that spells no fixing repeats none
 not_both : (ls : List (List ℕ)) (n : ℕ) → IsBad ls n → Repeats ls n → ⊥
 not_both ls n h k = h.bad.spells_none k.index k.slot k.rate k.here.spelt
 
-is_bad : (ls : List (List ℕ)) (k : ℕ) → IsBad ls k → IsFaulty ls k
-is_bad ls k h = inl h
-
-is_repeat : (ls : List (List ℕ)) (k : ℕ) → Repeats ls k → IsFaulty ls k
-is_repeat ls k h = inr h
-
 one_fault : (bytes : List ℕ) (f g : FixErr) → IsFixingFault bytes f → IsFixingFault bytes g → g ≡ f
 one_fault bytes (Syntax m) (Syntax n) h k = let ls = lines_of bytes in
-    ap (λ (x : ℕ). Syntax x) (same_line (IsBad ls) (IsBad ls) ls n m (is_bad ls) (is_bad ls) k h)
+    ap (λ (x : ℕ). Syntax x) (same_line (IsBad ls) (IsBad ls) ls n m k h)
 one_fault bytes (Repeat m) (Repeat n) h k = let ls = lines_of bytes in
-    ap (λ (x : ℕ). Repeat x) (same_line (Repeats ls) (Repeats ls) ls n m (is_repeat ls) (is_repeat ls) k h)
+    ap (λ (x : ℕ). Repeat x) (same_line (Repeats ls) (Repeats ls) ls n m k h)
 one_fault bytes (Syntax m) (Repeat n) h k =
     let ls = lines_of bytes in
-    let e : m ≡ n = same_line (IsBad ls) (Repeats ls) ls m n (is_bad ls) (is_repeat ls) h k in
-    absurd (not_both ls n (subst (λ (x : ℕ). IsBad ls x) e h.fault) k.fault)
+    let e : m ≡ n = same_line (IsBad ls) (Repeats ls) ls m n h k in
+    absurd (not_both ls n (subst (λ (x : ℕ). IsBad ls x) e h.0) k.0)
 one_fault bytes (Repeat m) (Syntax n) h k =
     let ls = lines_of bytes in
-    let e : n ≡ m = same_line (IsBad ls) (Repeats ls) ls n m (is_bad ls) (is_repeat ls) k h in
-    absurd (not_both ls m (subst (λ (x : ℕ). IsBad ls x) e k.fault) h.fault)
+    let e : n ≡ m = same_line (IsBad ls) (Repeats ls) ls n m k h in
+    absurd (not_both ls m (subst (λ (x : ℕ). IsBad ls x) e k.0) h.0)
 one_fault bytes Memory g h k = absurd h
 one_fault bytes (Syntax m) Memory h k = absurd k
 one_fault bytes (Repeat m) Memory h k = absurd k
@@ -59,8 +48,8 @@ one_fixings_fault None f g h k = absurd h
 one_fixings_fault (Some bytes) f g h k = one_fault bytes f g h k
 
 fault_none : (bytes : List ℕ) (f : FixErr) (t : RateTable) → IsFixingFault bytes f → IsFixingFile bytes t → ⊥
-fault_none bytes (Syntax n) t h k = k.clean n (inl h.fault)
-fault_none bytes (Repeat n) t h k = k.clean n (inr h.fault)
+fault_none bytes (Syntax n) t h k = k.clean n (inl h.0)
+fault_none bytes (Repeat n) t h k = k.clean n (inr h.0)
 fault_none bytes Memory t h k = h
 
 -- a file with a line at fault gives no rates

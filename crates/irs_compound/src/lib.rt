@@ -17,7 +17,7 @@ mod step_values;
 pub use compounding::{Compounding, Flat, OutOfRange, Simple, SpreadExclusive, Straight};
 pub use payments::payment_amount;
 pub use periods::{Parts, PeriodTerm, Rates};
-pub use rates::{fixed_rates, period_rates, rates_by};
+pub use rates::{fixed_rates, period_rates};
 pub use rising_rates::rates_of_rising;
 pub use rising_steps::in_force_of_rising;
 pub use step_values::in_force;

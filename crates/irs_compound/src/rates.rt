@@ -5,22 +5,22 @@
 //! exact value (2006 ISDA Definitions, article 8). Under FpML's ZeroInterestRateMethod a rate below 0
 //! is then 0, and the base rate stays. That the base rate is rounded as the rate is, and what the
 //! treatment is of, are this project's own.
-ghost use Rattle.std.specs.Prelude.{◌≡◌, ℤ, ◌+◌, ◌-◌, ◌*◌, ◌≤◌, ◌^◌, pos, ◌+ℤ◌, ◌*ℤ◌, unsigned_abs, Option, IfSome};
+ghost use Rattle.std.specs.Prelude.{◌≡◌, ℤ, ◌+◌, ◌-◌, ◌*◌, ◌≤◌, ◌^◌, pos, ◌+ℤ◌, ◌*ℤ◌, unsigned_abs};
 ghost use Rattle.irs_base.specs.Rounding.{rounded, Rounded};
-ghost use Rattle.irs_terms.specs.Lawful.{IsRate, IsLawfulValues, IsLawfulFloat, IsLawfulLeg};
+ghost use Rattle.irs_terms.specs.Lawful.{IsRate, IsLawfulValues, IsLawfulFloat};
 ghost use Rattle.irs_base.specs.Limits.{most_rate};
 ghost use Rattle.irs_compound.specs.declared.periods.Rates.{Rates};
 ghost use Rattle.irs_compound.specs.InForce.{value_in_force};
-ghost use Rattle.irs_compound.specs.PeriodRates.{RatesOf, FixedRatesOf, AreRates, rate_at, treated, all_in_at};
-ghost use Rattle.irs_compound.specs.PeriodRates.{rates_of, fixed_rates_of, rates_by, most_exact_base, most_exact_rate};
+ghost use Rattle.irs_compound.specs.PeriodRates.{RatesOf, FixedRatesOf, rate_at, treated, all_in_at};
+ghost use Rattle.irs_compound.specs.PeriodRates.{rates_of, fixed_rates_of, most_exact_base, most_exact_rate};
 ghost use Rattle.irs_compound.specs.PeriodRates.{most_rounded_rate};
-ghost use Rattle.irs_terms.specs.StepDates.{StepsRise, LegStepsRise};
+ghost use Rattle.irs_terms.specs.StepDates.{StepsRise};
 
 use crate::periods::Rates;
 use crate::products::{product, ten_to};
 use crate::step_values::in_force;
 use irs_base::{Day, round};
-use irs_terms::{FloatTerms, Leg, Rounding, StepValues, Treatment};
+use irs_terms::{FloatTerms, Rounding, StepValues, Treatment};
 
 /// The rates of a period whose unadjusted start is `start` and whose observed rate is `observed`,
 /// which is at most 10 in size; rates are in units of 10^-9.
@@ -51,33 +51,6 @@ pub fn fixed_rates(values: &StepValues, start: Day) -> Rates
         → FixedRatesOf values.now start a → FixedRatesOf values.now start b → a ≡ b }
 {
     fixed_from(rate_in_force(values, start))
-}
-
-/// The rates of a period by the leg of its stream, whose unadjusted start is `start`: on a fixed stream
-/// those of the rate in force; on a floating one those of the observed rate, which is at most 10 in
-/// size, and `None` exactly where there is none. Rates are in units of 10^-9.
-pub fn rates_by(leg: &Leg, start: Day, observed: Option<i64>) -> Option<Rates>
-    requires leg { IsLawfulLeg leg.now }
-    requires observed_fits { IfSome observed IsRate }
-    ensures rates { AreRates leg.now start observed result }
-    ensures value { result ≡ rates_by leg.now start observed }
-    ensures size { IfSome result (λ r. unsigned_abs r.all_in ≤ most_rounded_rate) }
-    // Where the steps rise there is one such pair of rates, or none.
-    ensures one { LegStepsRise leg.now → (x y : Option Rates)
-        → AreRates leg.now start observed x → AreRates leg.now start observed y → x ≡ y }
-{
-    leg_rates(leg, start, observed)
-}
-
-fn leg_rates(leg: &Leg, start: Day, observed: Option<i64>) -> Option<Rates>
-    requires leg { IsLawfulLeg leg.now }
-    requires observed_fits { IfSome observed IsRate }
-    ensures { result ≡ rates_by leg.now start observed }
-{
-    match leg {
-        Leg::Fixed(values) => Some(fixed_rates(values, start)),
-        Leg::Floating(float) => Some(period_rates(float, start, observed?)),
-    }
 }
 
 /// Both rates are this one, which is at most 10 in size.

@@ -14,9 +14,10 @@ use irs_base::Day;
 use irs_terms::{FloatTerms, Leg, StepValues};
 
 /// The rates of a period by the leg of its stream, of which the days of the steps rise, as the rules of
-/// the terms ask. They are those of `rates_by`, which looks at each step: `None` comes exactly where a
-/// floating leg has no observed rate. `start` is the period's unadjusted start; rates are in units of
-/// 10^-9.
+/// the terms ask: on a fixed stream those of the rate in force, on a floating one those of the observed
+/// rate, which is at most 10 in size, and `None` exactly where there is none. They are those of
+/// `fixed_rates` and `period_rates`, which look at each step. `start` is the period's unadjusted start;
+/// rates are in units of 10^-9.
 pub fn rates_of_rising(leg: &Leg, start: Day, observed: Option<i64>) -> Option<Rates>
     requires leg { IsLawfulLeg leg.now }
     requires rises { LegStepsRise leg.now }

@@ -30,12 +30,15 @@ fn value_by_halves(values: &StepValues, d: Day) -> i128
     }
 }
 
-// The last of the steps that aren't after the day.
+// The last of the steps that aren't after the day; most schedules have no step.
 #[tactic(auto, using(crate::proofs::FoundSteps::found_none, crate::proofs::FoundSteps::found_some))]
 fn last_by_halves(steps: &[Step], d: Day) -> Option<Step>
     requires { StepsRise steps.now }
     ensures { result ≡ last_from d None steps.now }
 {
+    if steps.is_empty() {
+        return None;
+    }
     let count = count_to(steps, d);
     if count == 0 {
         None

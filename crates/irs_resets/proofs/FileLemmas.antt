@@ -2,7 +2,7 @@
 use Rattle.std.proofs.Common.{◌≡◌, ◌⊎◌, inl, inr, ℕ, zero, suc, ◌+◌, ◌-◌, ◌<◌, ◌≤◌, Bool, true, false, ◌&&◌, List, []}
 use Rattle.std.proofs.Common.{◌∷◌, length, drop, Option, Some, None, IsSome, is_some, IfSome, ℤ, refl, sym, ap₂, subst}
 use Rattle.std.proofs.Common.{◌∙◌, arith, cond, ◌||◌, ◌==◌}
-use Rattle.std.specs.Prelude.{slice_index_or, slice_index}
+use Rattle.std.specs.Prelude.{nat_lt, slice_index_or, slice_index}
 use Rattle.std.specs.Str.{bytes_eq}
 use Rattle.irs_base.proofs.DecimalLemmas.{one_decimal}
 use Rattle.std.specs.Prelude.{if◌then◌else◌}
@@ -14,9 +14,11 @@ use Rattle.irs_resets.specs.declared.store.Slot.{Slot}
 use Rattle.irs_resets.specs.Words.{word, is_passed}
 use Rattle.std.proofs.lemmas.Slice.Eq.{bytes_eq-Decides}
 use Rattle.std.proofs.lemmas.Bool.{cases_Bool}
+use Rattle.irs_base.proofs.Firsts.{lt_false}
 use Rattle.irs_base.proofs.Orders.{both_true}
 use Rattle.irs_resets.proofs.SlotLemmas.{slot_same, slot_itself}
 use Rattle.irs_base.specs.Lines.{lines_of}
+use Rattle.irs_base.specs.Order.{First}
 use Rattle.irs_terms.specs.Lawful.{IsRate}
 use Rattle.irs_resets.specs.Rates.{RateTable, rate_at, is_slot, AreSmall}
 use Rattle.irs_resets.specs.FixingLines.{Spells, second_text}
@@ -245,11 +247,17 @@ reads lines k line left more old new r e (inl passed) =
 reads lines k line left more old new r e (inr taken) =
     takes lines k line more old new (subst (λ (l : List (List ℕ)). ReadTo lines k l old) e r) taken
 
+-- a fault of the next line is the first, since none stands before it
+first_faulty : (lines : List (List ℕ)) (n : ℕ) → IsFaulty lines n → ((k : ℕ) → k < n → IsFaulty lines k → ⊥)
+    → First nat_lt (IsFaulty lines) n
+first_faulty lines n here none = (here, λ k f. lt_false k n (λ less. none k less f))
+
 pub bad_first : (lines : List (List ℕ)) (k : ℕ) (line : List ℕ) (left more : List (List ℕ)) (table : RateTable)
     → ReadTo lines k left table → left ≡ line ∷ more → IsBadLine line → IsFirstFault (IsBad lines) lines k
 bad_first lines k line left more table r e bad =
     let next = next_line lines k line more r.some (r.rest ∙ e) in
-    record { fault = record { is_line = next.is_line; bad = subst IsBadLine (sym next.is) bad }; none_before = r.clean }
+    let fault : IsBad lines k = record { is_line = next.is_line; bad = subst IsBadLine (sym next.is) bad } in
+    (fault, first_faulty lines k (inl fault) r.clean)
 
 pub repeat_first : (lines : List (List ℕ)) (k : ℕ) (line : List ℕ) (left more : List (List ℕ)) (table : RateTable)
     → ReadTo lines k left table → left ≡ line ∷ more → StandsAlready table line → IsFirstFault (Repeats lines) lines k
@@ -257,21 +265,17 @@ repeat_first lines k line left more table r e s =
     let next = next_line lines k line more r.some (r.rest ∙ e) in
     let v = some_rate (rate_at table s.index s.slot) s.there in
     let p = r.sound s.index s.slot v.0 v.1 in
-    record {
-      fault = record {
-        index = s.index;
-        slot = s.slot;
-        rate = s.rate;
-        here =
-            here_line lines k line more s.index s.slot s.rate next s.spelt;
-        earlier = p.0;
-        before = p.1;
-        old_rate =
-            v.0;
-        there = p.2;
-      };
-      none_before = r.clean;
-    }
+    let fault : Repeats lines k = record {
+      index = s.index;
+      slot = s.slot;
+      rate = s.rate;
+      here = here_line lines k line more s.index s.slot s.rate next s.spelt;
+      earlier = p.0;
+      before = p.1;
+      old_rate = v.0;
+      there = p.2;
+    } in
+    (fault, first_faulty lines k (inr fault) r.clean)
 
 -- the whole file
 pub whole_file : (bytes rest : List ℕ) (k : ℕ) (table : RateTable) → ReadTo (lines_of bytes) k (lines_of rest) table

@@ -1,7 +1,8 @@
 -- What a fixing file holds, and its first line that is at fault. Lines count from 1.
 use Rattle.std.specs.Prelude.{◌≡◌, ◌⊎◌, ◌↔◌, ℕ, ◌-◌, ◌<◌, ◌≤◌, false, IsTrue, List, [], length, slice_index_or, Some}
-use Rattle.std.specs.Prelude.{None, IsSome, ℤ}
+use Rattle.std.specs.Prelude.{None, IsSome, ℤ, nat_lt}
 use Rattle.irs_base.specs.Lines.{lines_of}
+use Rattle.irs_base.specs.Order.{First}
 use Rattle.irs_resets.specs.declared.store.Slot.{Slot}
 use Rattle.irs_resets.specs.Words.{is_passed}
 use Rattle.irs_resets.specs.FixingLines.{Spells}
@@ -45,10 +46,9 @@ pub record Repeats (lines : List (List ℕ)) (n : ℕ) : Type 0 where
 abbrev pub IsFaulty : List (List ℕ) → ℕ → Type 0
 IsFaulty lines n = IsBad lines n ⊎ Repeats lines n
 
--- the line n is at fault in this way, and no line before it is at fault in any
-pub record IsFirstFault (P : ℕ → Type 0) (lines : List (List ℕ)) (n : ℕ) : Type 0 where
-  pub fault : P n
-  pub none_before : (k : ℕ) → k < n → IsFaulty lines k → ⊥
+-- the line n is at fault in this way, and it is the first line that is at fault in any
+abbrev pub IsFirstFault : (ℕ → Type 0) → List (List ℕ) → ℕ → Type 0
+IsFirstFault P lines n = P n × First nat_lt (IsFaulty lines) n
 
 -- no line is at fault, and the rates are exactly those that the lines give
 pub record IsFixingFile (bytes : List ℕ) (table : RateTable) : Type 0 where
