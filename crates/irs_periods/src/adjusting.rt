@@ -90,10 +90,12 @@ fn each_adjusted<G: GoodDays>(
         IfBroken result (First comes_before Breaks) }
 {
     let days = unadjusted.as_slice();
-    if let Some(number) = first_without(s, days, start, end, middle) {
-        return Err(PerErr::Broken(no_result(s, days.len() - 1, number)));
-    }
-    let list = adjust_each(alloc, s, days, start, end, middle)?;
+    let Some(list) = adjust_each(alloc, s, days, start, end, middle) else {
+        return match first_without(s, days, start, end, middle) {
+            Some(number) => Err(PerErr::Broken(no_result(s, days.len() - 1, number))),
+            None => Err(PerErr::Memory),
+        };
+    };
     match first_not_after(list.as_slice()) {
         Some(number) => Err(PerErr::Broken(not_after(number))),
         None => Ok(list),
@@ -171,7 +173,7 @@ fn later_without<G: GoodDays>(
     None
 }
 
-// Each boundary adjusted, where each has an adjusted day.
+// Each boundary adjusted; there is no list where one has no adjusted day, or where memory ran out.
 fn adjust_each<G: GoodDays>(
     alloc: Global,
     s: &Stream,
@@ -179,21 +181,19 @@ fn adjust_each<G: GoodDays>(
     start: &G,
     end: &G,
     middle: &G,
-) -> Result<DayList, PerErr>
-    requires some { 0 < length days.now }
-    requires each { EachHasResult s.now (days_by G.days start.now end.now middle.now) days.now }
-    ensures ok { IfOk result (AdjustedList s.now (days_by G.days start.now end.now middle.now) days.now) }
-    ensures memory { IfBroken result (λ _. ⊥) }
+) -> Option<DayList>
+    requires { 0 < length days.now }
+    ensures { IfSome result (AdjustedList s.now (days_by G.days start.now end.now middle.now) days.now) }
 {
     let last = days.len() - 1;
     let mut list = DayList::new(alloc);
     for i in 0..days.len() {
-        match adjust_at(s, start, end, middle, last, i, days[i]) {
-            Some(d) => list.push(d)?,
-            None => unreachable!(),
-        }
+        let adjusted = adjust_at(s, start, end, middle, last, i, days[i])?;
+        let Ok(()) = list.push(adjusted) else {
+            return None;
+        };
     }
-    Ok(list)
+    Some(list)
 }
 
 // The first day that isn't after the one before it.

@@ -10,3 +10,4 @@ pub mod FirstResets
 pub mod ResetsThere
 pub mod ResetLemmas
 pub mod DatedResets
+pub mod ListedResets

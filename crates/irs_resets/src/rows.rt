@@ -12,15 +12,15 @@ ghost use Rattle.irs_terms.specs.declared.results.Reset.{Reset as ResetRow};
 ghost use Rattle.irs_terms.specs.DayTypes.{IsSaidFixing, IsSaidReset};
 ghost use Rattle.irs_terms.specs.Lawful.{IsLawfulFloat, IsLawfulStubs, IsLawfulStream};
 ghost use Rattle.irs_terms.specs.Legs.{FitsLeg};
-ghost use Rattle.irs_resets.specs.ResetDates.{days_by, IsPeriod, HasDates, IsDates};
+ghost use Rattle.irs_resets.specs.ResetDates.{days_by, IsPeriod, HasDates};
 ghost use Rattle.irs_resets.specs.Resets.{source_of, HasSmallRate, HasResets, IsResets};
 ghost use Rattle.irs_resets.specs.ResetRules.{GivesInitial, GivesFinal, InitialUnmet, FinalUnmet, BreaksStubs};
 ghost use Rattle.irs_resets.specs.ResetRules.{date_fault, BreaksDates, BreaksResets};
 
 use crate::Fixings;
-use crate::dates::{DateFault, Dates, first_with, period_dates};
+use crate::dates::{DateFault, first_with, period_dates};
 use crate::observed::{observed, period_kind};
-use irs_base::{Day, DayList, Elem, Fault, Memory, Rule, Stopped};
+use irs_base::{Day, DayList, Elem, Fault, Rule, Stopped};
 use irs_calendar::GoodDays;
 use irs_terms::{FloatTerms, Leg, Reset, ResetTerms, Resets, Span, Stream, StubTerms};
 use std::alloc::Global;
@@ -174,28 +174,7 @@ fn first_fault<G: GoodDays>(
     date_broken(terms, adjusted, reset_days, fixing_days)
 }
 
-// The dates of a period that has them.
-fn dates_of<G: GoodDays>(
-    terms: &ResetTerms,
-    adjusted: &[Day],
-    number: usize,
-    reset_days: &G,
-    fixing_days: &G,
-) -> Dates
-    requires period { IsPeriod adjusted.now number }
-    requires offset { IsSaidFixing terms.now.fixing }
-    requires has { let days = days_by adjusted.now (G.days reset_days.now) (G.days fixing_days.now) in
-        HasDates terms.now days number }
-    ensures { let days = days_by adjusted.now (G.days reset_days.now) (G.days fixing_days.now) in
-        IsDates terms.now days number result.reset result.fixing }
-{
-    match period_dates(terms, adjusted, number, reset_days, fixing_days) {
-        Ok(dates) => dates,
-        Err(_) => unreachable!(),
-    }
-}
-
-// One reset for each period, where each has its dates.
+// One reset for each period; there is no list where a period lacks a date, or where memory ran out.
 fn listed<G: GoodDays>(
     alloc: Global,
     s: &Stream,
@@ -206,28 +185,31 @@ fn listed<G: GoodDays>(
     reset_days: &G,
     fixing_days: &G,
     fixings: &Fixings,
-) -> Result<Resets, Memory>
+) -> Option<Resets>
     requires offset { IsSaidFixing terms.now.fixing }
     requires float { IsLawfulFloat float.now }
     requires stubs { IfSome s.now.stubs IsLawfulStubs }
-    requires has { let days = days_by adjusted.now (G.days reset_days.now) (G.days fixing_days.now) in
-        (i : ℕ) → IsPeriod adjusted.now i → HasDates terms.now days i }
-    ensures ok { let source = source_of s.now span.now adjusted.now (G.days reset_days.now) (G.days fixing_days.now) in
-        IfOk result (HasResets source float.now terms.now fixings.now) }
-    ensures small { IfOk result (All HasSmallRate) }
+    ensures some { let source = source_of s.now span.now adjusted.now (G.days reset_days.now) (G.days fixing_days.now) in
+        IfSome result (HasResets source float.now terms.now fixings.now) }
+    ensures small { IfSome result (All HasSmallRate) }
 {
     let mut rows = Resets::new(alloc);
     for number in 1..adjusted.len() {
-        let dates = dates_of(terms, adjusted, number, reset_days, fixing_days);
+        let Ok(dates) = period_dates(terms, adjusted, number, reset_days, fixing_days) else {
+            return None;
+        };
         let kind = period_kind(s, span, adjusted.len() - 1, number);
         let rate = observed(kind, float, &s.stubs, fixings, dates.fixing);
-        rows.push(Reset {
+        let row = Reset {
             reset: dates.reset,
             fixing: dates.fixing,
             observed: rate,
-        })?;
+        };
+        let Ok(()) = rows.push(row) else {
+            return None;
+        };
     }
-    Ok(rows)
+    Some(rows)
 }
 
 // The resets of a floating stream.
@@ -261,21 +243,25 @@ fn floating_resets<G: GoodDays>(
         IfBroken result (First comes_before (BreaksResets source)) }
 {
     let days = adjusted.as_slice();
-    if let Some(fault) = first_fault(s, terms, span, days, reset_days, fixing_days) {
-        return Err(ResErr::Broken(fault));
+    if stub_fault(s, span).is_none() {
+        if let Some(rows) = listed(
+            alloc,
+            s,
+            float,
+            terms,
+            span,
+            days,
+            reset_days,
+            fixing_days,
+            fixings,
+        ) {
+            return Ok(rows);
+        }
     }
-    let rows = listed(
-        alloc,
-        s,
-        float,
-        terms,
-        span,
-        days,
-        reset_days,
-        fixing_days,
-        fixings,
-    )?;
-    Ok(rows)
+    match first_fault(s, terms, span, days, reset_days, fixing_days) {
+        Some(fault) => Err(ResErr::Broken(fault)),
+        None => Err(ResErr::Memory),
+    }
 }
 
 // The resets by the leg: a fixed stream has none.

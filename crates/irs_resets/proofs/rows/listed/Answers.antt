@@ -17,36 +17,36 @@ loop-number-preserved g c =
     let R : ℕ → Reset → Type 0 = IsReset source c.args.float.now c.args.terms.now c.args.fixings.now in
     let row : Reset =
     record {
-      reset = c.dates_of-dates.result.reset;
-      fixing = c.dates_of-dates.result.fixing;
+      reset = c.in-Ok.dates.reset;
+      fixing = c.in-Ok.dates.fixing;
       observed =
           c.observed-rate.result;
     } in
     let next : 1 + length c.loop-number.rows ≡ c.loop-number.number = omega (arith, c.loop-number.invariant.many) in
     let kind : PeriodKind = c.period_kind-kind.result in
     let same : c.observed-rate.result
-    ≡ observed_rate kind c.args.float.now c.args.s.now.stubs c.args.fixings.now c.dates_of-dates.result.fixing =
+    ≡ observed_rate kind c.args.float.now c.args.s.now.stubs c.args.fixings.now c.in-Ok.dates.fixing =
     c.observed-rate.ensures.value in
-    let observed : IsObserved kind c.args.float.now c.args.s.now.stubs c.args.fixings.now c.dates_of-dates.result.fixing
+    let observed : IsObserved kind c.args.float.now c.args.s.now.stubs c.args.fixings.now c.in-Ok.dates.fixing
     c.observed-rate.result =
-    rw same (is_observed c.args.float.now kind c.args.s.now.stubs c.args.fixings.now c.dates_of-dates.result.fixing) in
+    rw same (is_observed c.args.float.now kind c.args.s.now.stubs c.args.fixings.now c.in-Ok.dates.fixing) in
     let is : R c.loop-number.number row =
     record {
-      dates = c.dates_of-dates.ensures;
+      dates = c.in-Ok.ensures.ok;
       kind = kind;
       is_kind = c.period_kind-kind.ensures;
       observed =
           observed;
     } in
-    rw c.in_ok-push.ensures.ok (record {
+    rw c.in-Ok-push.ensures.ok (record {
       many = omega (arith, length-append c.loop-number.rows (row ∷ []), c.loop-number.invariant.many);
       within = λ _. omega (arith, c.loop-number-test.true);
       each = numbered_push R 1 c.loop-number.number c.loop-number.rows row c.loop-number.invariant.each next is;
       small = All-push HasSmallRate c.loop-number.rows row c.loop-number.invariant.small c.observed-rate.ensures.small;
     })
 
-pub returns-clause-ok : goal.returns-clause-ok
-returns-clause-ok g c =
+pub returns-clause-some : goal.returns-clause-some
+returns-clause-some g c =
     record {
       many =
           many_rows (length c.loop-number.rows) c.loop-number.number
