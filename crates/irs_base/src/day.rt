@@ -112,6 +112,16 @@ pub fn day_of(c: Civil) -> Option<Day>
     Some(Day { number })
 }
 
+/// The day of a date in range.
+pub(crate) fn day_of_date(date: Date) -> Day
+    requires { IsDay (epoch_day date) }
+    ensures { result ≡ epoch_day date }
+{
+    Day {
+        number: date.to_unix_epoch_day(),
+    }
+}
+
 // The number of days from -9999-01-01, the first date of `jiff`, to 1970-01-01.
 const EPOCH: i32 = 4_371_587;
 

@@ -4,8 +4,9 @@ ghost use Rattle.irs_base.specs.Days.{IsDay, first_month, last_month};
 ghost use Rattle.irs_base.specs.Months.{InMonth, day_in_month};
 ghost use Rattle.jiff_core.specs.Calendar.{IsBetween};
 
-use crate::{Civil, Day, civil_of, day_of};
-use jiff_core::civil::days_in_month;
+use crate::day::day_of_date;
+use crate::{Day, civil_of};
+use jiff_core::civil::Date;
 
 /// The month of January 1901.
 const FIRST_MONTH: i64 = 22_812;
@@ -23,22 +24,6 @@ pub fn month_index(d: Day) -> i32
     12 * c.year + i32::from(c.month) - 1
 }
 
-fn day_of_month(index: u32, n: u8) -> Option<Day>
-    requires number { 0 < n }
-    requires low { first_month ≤ index }
-    requires high { index ≤ last_month }
-    ensures { SomeIff result (IsDay (day_in_month n (pos index))) (day_in_month n (pos index)) }
-{
-    let year = index / 12;
-    let month = (index % 12 + 1) as u8;
-    let day = n.min(days_in_month(year as i16, month));
-    day_of(Civil {
-        year: year as i32,
-        month,
-        day,
-    })
-}
-
 /// The day of a month with that number, or its last day where the month is shorter; `None` exactly
 /// where that day isn't in range.
 pub fn month_day(m: i64, n: u8) -> Option<Day>
@@ -48,5 +33,16 @@ pub fn month_day(m: i64, n: u8) -> Option<Day>
     if m < FIRST_MONTH || m > LAST_MONTH {
         return None;
     }
-    day_of_month(m as u32, n)
+    Some(day_of_month(m as u32, n))
+}
+
+// The same for a month of the range, all of whose days are in range.
+fn day_of_month(index: u32, n: u8) -> Day
+    requires number { 0 < n }
+    requires low { first_month ≤ index }
+    requires high { index ≤ last_month }
+    ensures { result ≡ day_in_month n (pos index) }
+{
+    let date = Date::constrain((index / 12) as i16, (index % 12 + 1) as u8, n);
+    day_of_date(date)
 }
