@@ -9,6 +9,7 @@ ghost use Rattle.irs_plain.specs.Sentences.{joined as joined_of, sentence_of};
 
 use crate::given::{Bytes, File, GivenFiles};
 use crate::kept::Kept;
+use irs_base::Status;
 use irs_cli::run;
 use irs_plain::meaning;
 use std::alloc::Global;
@@ -89,7 +90,7 @@ pub extern "C" fn irs_meaning(
         Ok(text) => {
             show(&text, out);
             *needed = text.len();
-            0
+            Status::Done.number()
         }
         Err(status) => {
             *needed = 0;
@@ -128,7 +129,7 @@ fn append(text: &mut Vec<u8>, part: &[u8]) -> Result<(), u8>
 {
     match text.extend_from_slice(part) {
         Ok(()) => Ok(()),
-        Err(_) => Err(7),
+        Err(_) => Err(Status::NoMemory.number()),
     }
 }
 
@@ -155,8 +156,8 @@ fn run_kept(alloc: Global, words: &[String], files: &[File<'_>]) -> Result<(u8, 
     let mut source = GivenFiles::new(files);
     let mut kept = Kept::new(alloc);
     let status = run(alloc, words, &mut source, &mut kept);
-    if status == 6 || status == 7 {
-        return Err(7);
+    if status == Status::PutFailed.number() || status == Status::NoMemory.number() {
+        return Err(Status::NoMemory.number());
     }
     Ok((status, kept.text))
 }
@@ -171,13 +172,13 @@ fn words_of(alloc: Global, words: &[Bytes<'_>]) -> Result<Vec<String>, u8>
     let mut made = Vec::new(alloc);
     for word in words {
         let Ok(word) = str::from_utf8(word.at) else {
-            return Err(9);
+            return Err(Status::NotText.number());
         };
         let Ok(word) = String::from_str(alloc, word) else {
-            return Err(7);
+            return Err(Status::NoMemory.number());
         };
         if made.push(word).is_err() {
-            return Err(7);
+            return Err(Status::NoMemory.number());
         }
     }
     Ok(made)

@@ -48,7 +48,8 @@ absent ws fs gs hs failed faults now before after same told none empty (text, mi
 pub returns-clause-due : goal.returns-clause-due
 returns-clause-due c ne5 =
     kept _ _ _ _ _ _ c.new-source.ensures c.new-kept.ensures
-    (c.run-status.ensures.due ne5 c.if-status-eq6.false c.if-status-eq7.false)
+    (c.run-status.ensures.due ne5 (rw c.number.ensures at c.if-status-number.false)
+    (rw c.number-else-status-number.ensures at c.if-status-number-2.false))
 
 pub returns-clause-absent : goal.returns-clause-absent
 returns-clause-absent c is5 =
