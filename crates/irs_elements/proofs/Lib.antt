@@ -7,3 +7,4 @@ pub mod DatesAt
 pub mod FractionsAt
 pub mod Wholes
 pub mod TableRules
+pub mod KnownNames

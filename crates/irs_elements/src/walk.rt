@@ -15,7 +15,8 @@ ghost use Rattle.irs_json.specs.Leaves.{is_attribute};
 ghost use Rattle.irs_json.specs.Names.{names_of};
 ghost use Rattle.serde_json.specs.View.{view};
 ghost use Rattle.std.specs.List.{list_any};
-ghost use Rattle.std.specs.Prelude.{◌≡◌, ◌+◌, ◌<◌, ◌≤◌, Some, false, length, map, option_map};
+ghost use Rattle.std.specs.Prelude.{◌≡◌, ◌+◌, ◌<◌, ◌≤◌, ◌&&◌, ◌==◌, nat_lt, Some, false, length, map, option_map};
+ghost use Rattle.std.specs.Str.{bytes_eq};
 ghost use Rattle.irs_base.specs.Order.{IsFirstBroken};
 
 use crate::leaves::leaf_rule;
@@ -216,13 +217,24 @@ fn choice_fault(
     }
 }
 
-// Whether a row below the object at row r has the name.
+// Whether the row at c stands below the object at row r and has the name.
+fn is_named(table: &Table<'_>, r: usize, c: usize, row: Row, name: &str) -> bool
+    ensures { result ≡ (nat_lt r c && row.parent == r && bytes_eq (name_at (texts table.now.names.now) c) name.now) }
+{
+    r < c && row.parent == r && name_of(table.names, c) == name
+}
+
+// Whether a row below the object at row r has the name; these rows stand behind its own.
 fn is_known(table: &Table<'_>, r: usize, name: &str) -> bool
     ensures { result ≡ is_known_in table.now.rows.now (texts table.now.names.now) r name.now }
 {
-    table.rows.iter().enumerate().any(|(c, row)| r < c
-        && row.parent == r
-        && name_of(table.names, c) == name)
+    for c in r..table.rows.len() {
+        let row = table.rows[c];
+        if is_named(table, r, c, row, name) {
+            return true;
+        }
+    }
+    false
 }
 
 // Whether an object at row r has a member that the table doesn't know.

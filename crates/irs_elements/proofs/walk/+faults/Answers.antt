@@ -13,10 +13,9 @@ use Rattle.serde_json.specs.declared.value.Value.{Value}
 use Rattle.irs_base.specs.declared.places.Rule.TheVariants.{K2}
 use Rattle.irs_elements.specs.declared.table.Row.{Row}
 use Rattle.irs_elements.specs.declared.table.Kind.TheVariants.{Object}
-use Rattle.irs_elements.specs.declared.table.Choice.TheVariants.{Free}
-use Rattle.irs_elements.specs.declared.table.Count.TheVariants.{One}
 use Rattle.irs_elements.specs.Elements.{texts, name_at, place, own_rule, FaultAt, index_in}
 use Rattle.irs_elements.proofs.First.{first_is}
+use Rattle.irs_elements.proofs.KnownNames.{some_row}
 use Rattle.irs_elements.proofs.Steps.{own_first, object_first, none_before, members_first, under_missing}
 use Rattle.irs_elements.proofs.Steps.{under_refused, under_many, under_lawful, among_first, member_step, other_step}
 use Rattle.irs_elements.proofs.Steps.{item_step}
@@ -24,9 +23,6 @@ use Rattle.irs_elements.proofs.walk.+faults.Goals as goal
 use Rattle.irs_elements.proofs.walk.+faults.Goals.{members_fault-then-row-r+then-r-c, members_fault-else-row-r}
 use Rattle.irs_elements.proofs.walk.+faults.Goals.{members_fault-else-row-r-via-then-row-r+else-r-c}
 use Rattle.irs_elements.proofs.walk.+faults.Goals.{members_fault-else-row-r-via-else-row-r}
-
-abbrev some_row : Row
-some_row = record { parent = 0; place = 0; kind = Object Free; count = One }
 
 absent_child : (n : ℕ) (names : List (List ℕ)) (d : Data) (name : List ℕ) (r : Option (Bor Value))
     → name ≡ name_at names n → option_map (λ c. view c.now) r ≡ child_of name d → r ≡ None
