@@ -21,10 +21,11 @@ use Rattle.irs_audit.specs.declared.flows.FlowExchange.{FlowExchange}
 use Rattle.irs_audit.specs.declared.flows.FlowPayment.{FlowPayment}
 use Rattle.irs_audit.specs.declared.flows.FlowPeriod.{FlowPeriod}
 use Rattle.irs_audit.specs.declared.flows.FlowReset.{FlowReset}
-use Rattle.irs_audit.specs.DepartureOrder.{IsFirstField}
+use Rattle.irs_audit.specs.DepartureOrder.{field_before}
 use Rattle.irs_audit.specs.FieldDepartures.{ExchangeDeparts, PaymentDeparts, PeriodDeparts, ResetDeparts}
 use Rattle.irs_audit.specs.FieldTables.{first_true}
 use Rattle.irs_audit.proofs.TableLemmas.{Stands, table_first}
+use Rattle.irs_base.specs.Order.{IsFirst}
 
 abbrev exchange_table : Bool → Bool → Bool → List (Field × Bool)
 exchange_table a b c =
@@ -41,7 +42,7 @@ pub exchange_first : (x : Exchange) (y : FlowExchange) (a b c : Bool)
     → (IsTrue a ↔ ExchangeDeparts x y UnadjustedPrincipalExchangeDate)
     → (IsTrue b ↔ ExchangeDeparts x y AdjustedPrincipalExchangeDate)
     → (IsTrue c ↔ ExchangeDeparts x y PrincipalExchangeAmount)
-    → IsFirstField (ExchangeDeparts x y) (first_true (exchange_table a b c))
+    → IsFirst field_before (ExchangeDeparts x y) (first_true (exchange_table a b c))
 exchange_first x y a b c p q r =
     table_first (ExchangeDeparts x y) (exchange_table a b c) (p, (q, (r, tt))) (
       omega arith,
@@ -66,7 +67,7 @@ pub payment_first : (currency : Currency) (x : PaymentEntry) (y : FlowPayment) (
     → (IsTrue b ↔ PaymentDeparts currency x y AdjustedPaymentDate)
     → (IsTrue c ↔ PaymentDeparts currency x y PeriodCount)
     → (IsTrue d ↔ PaymentDeparts currency x y CurrencyField) → (IsTrue e ↔ PaymentDeparts currency x y Amount)
-    → IsFirstField (PaymentDeparts currency x y) (first_true (payment_table a b c d e))
+    → IsFirst field_before (PaymentDeparts currency x y) (first_true (payment_table a b c d e))
 payment_first currency x y a b c d e p q r s t =
     table_first (PaymentDeparts currency x y) (payment_table a b c d e) (p, (q, (r, (s, (t, tt))))) (
       omega arith,
@@ -95,7 +96,7 @@ pub period_first : (x : CalculationPeriod) (y : FlowPeriod) (a b c d e f g h : B
     → (IsTrue c ↔ PeriodDeparts x y AdjustedStartDate) → (IsTrue d ↔ PeriodDeparts x y AdjustedEndDate)
     → (IsTrue e ↔ PeriodDeparts x y CalculationPeriodNumberOfDays) → (IsTrue f ↔ PeriodDeparts x y NotionalAmount)
     → (IsTrue g ↔ PeriodDeparts x y Rate) → (IsTrue h ↔ PeriodDeparts x y DayCountYearFraction)
-    → IsFirstField (PeriodDeparts x y) (first_true (period_table a b c d e f g h))
+    → IsFirst field_before (PeriodDeparts x y) (first_true (period_table a b c d e f g h))
 period_first x y a b c d e f g h p q r s t u v w =
     table_first (PeriodDeparts x y) (period_table a b c d e f g h) (p, (q, (r, (s, (t, (u, (v, (w, tt)))))))) (
       omega arith,
@@ -118,7 +119,7 @@ reset_all x y a b c _ h = absurd h
 pub reset_first : (x : Reset) (y : FlowReset) (a b c : Bool)
     → (IsTrue a ↔ ResetDeparts x y ResetDate) → (IsTrue b ↔ ResetDeparts x y AdjustedFixingDate)
     → (IsTrue c ↔ ResetDeparts x y ObservedRate)
-    → IsFirstField (ResetDeparts x y) (first_true (reset_table a b c))
+    → IsFirst field_before (ResetDeparts x y) (first_true (reset_table a b c))
 reset_first x y a b c p q r =
     table_first (ResetDeparts x y) (reset_table a b c) (p, (q, (r, tt))) (
       omega arith,

@@ -1,5 +1,7 @@
--- The first departure of a set: there is one at most, and it is the first of two sets that follow one another.
-use Rattle.std.proofs.Common.{◌≡◌, ℕ, ◌≤◌, Option, Some, None, ◌⊎◌, inl, inr, refl, sym, ◌∙◌, ap, arith, if◌then◌else◌}
+-- The orders of departures and of fields: no two departures share a place, and what is the first of two sets of which
+-- one follows the other.
+use Rattle.std.proofs.Common.{◌≡◌, ℕ, ◌≤◌, false, Option, Some, None, ◌⊎◌, inl, inr, refl, sym, ◌∙◌, ap, arith}
+use Rattle.std.proofs.Common.{if◌then◌else◌}
 use Rattle.std.specs.Prelude.{◌==◌}
 use Rattle.std.specs.Option.{option_or}
 use Rattle.irs_audit.specs.declared.departures.Departure.{Departure}
@@ -17,7 +19,9 @@ use Rattle.irs_audit.specs.declared.departures.Field.TheVariants.{AdjustedStartD
 use Rattle.irs_audit.specs.declared.departures.Field.TheVariants.{CalculationPeriodNumberOfDays, NotionalAmount, Rate}
 use Rattle.irs_audit.specs.declared.departures.Field.TheVariants.{DayCountYearFraction}
 use Rattle.irs_audit.specs.declared.departures.Field.TheVariants.{ResetDate, AdjustedFixingDate, ObservedRate}
-use Rattle.irs_audit.specs.DepartureOrder.{kind_place, field_place, Level, NotAfter, IsFirst}
+use Rattle.irs_audit.specs.DepartureOrder.{kind_place, field_place, field_before, departs_before}
+use Rattle.irs_base.specs.Order.{IsFirst}
+use Rattle.irs_base.proofs.Firsts.{AreTied, first_same, lt_false, tied, tied_last}
 
 -- the kind at a place
 abbrev kind_at : ℕ → RowKind
@@ -74,44 +78,30 @@ field_is ObservedRate = refl
 field_once : (f g : Field) → field_place f ≡ field_place g → f ≡ g
 field_once f g e = sym (field_is f) ∙ ap field_at e ∙ field_is g
 
-level_both : (a b : ℕ) (S T : Type 0) → Level a b S → Level b a T → (a ≡ b) × S × T
-level_both a b S T (inl l) (inl m) = absurd (omega (arith, l, m))
-level_both a b S T (inl l) (inr m) = absurd (let e = m.0 in omega (arith, l, e))
-level_both a b S T (inr l) (inl m) = absurd (let e = l.0 in omega (arith, e, m))
-level_both a b S T (inr l) (inr m) = (l.0, l.1, m.1)
-
 same_departure : (d e : Departure) → d.stream ≡ e.stream → d.kind ≡ e.kind → d.row ≡ e.row → d.field ≡ e.field → d ≡ e
 same_departure d e a b c f = λ i. record { stream = a i; kind = b i; row = c i; field = f i }
 
-both_ways : (m n : ℕ) → m ≤ n → n ≤ m → m ≡ n
-both_ways m n h k = omega (arith, h, k)
+-- two departures of which neither comes before the other are one
+pub departure_ties : AreTied departs_before
+departure_ties d e p q =
+    let streams = tied d.stream e.stream _ _ p q in
+    let kinds = tied (kind_place d.kind) (kind_place e.kind) _ _ streams.1 streams.2 in
+    let rows = tied d.row e.row _ _ kinds.1 kinds.2 in
+    let fields : field_place d.field ≡ field_place e.field = tied_last _ _ rows.1 rows.2 in
+    same_departure d e streams.0 (kind_once d.kind e.kind kinds.0) rows.0 (field_once d.field e.field fields)
 
--- two departures of which neither comes after the other are one
-same_place : (d e : Departure) → NotAfter d e → NotAfter e d → d ≡ e
-same_place d e h k =
-    let s = level_both d.stream e.stream _ _ h k in
-    let t = level_both (kind_place d.kind) (kind_place e.kind) _ _ s.1 s.2 in
-    let r = level_both d.row e.row _ _ t.1 t.2 in
-    same_departure d e s.0 (kind_once d.kind e.kind t.0) r.0 (field_once d.field e.field (both_ways _ _ r.1 r.2))
+-- a field whose place isn't below that of another doesn't come before it
+pub not_lower : (f g : Field) → field_place f ≤ field_place g → field_before g f ≡ false
+not_lower f g h = lt_false (field_place g) (field_place f) (λ less. omega (arith, h, less))
 
--- a set has one first departure at most
-pub first_is_one : (P : Departure → Type 0) (d e : Departure) → IsFirst P (Some d) → IsFirst P (Some e) → d ≡ e
-first_is_one P d e h k = same_place d e (h.1 e k.0) (k.1 d h.0)
-
-behind : (P Q : Departure → Type 0) (b : Option Departure) → ((d : Departure) → P d → ⊥) → IsFirst Q b
-    → IsFirst (λ d. P d ⊎ Q d) b
-behind P Q None h k = λ d x. elim x [ inl y ↦ h d y | inr y ↦ k d y ]
-behind P Q (Some e) h k = (inr k.0, λ d x. elim x [ inl y ↦ absurd (h d y) | inr y ↦ k.1 d y ])
-
--- the first of two sets, each of the one before each of the other; the second need be searched only where the first
--- is empty
-pub first_or : (P Q : Departure → Type 0) (a b : Option Departure) → ((d e : Departure) → P d → Q e → NotAfter d e)
-    → IsFirst P a → (((d : Departure) → P d → ⊥) → IsFirst Q b) → IsFirst (λ d. P d ⊎ Q d) (option_or a b)
-first_or P Q None b order h then_b = behind P Q b h (then_b h)
-first_or P Q (Some d) b order h then_b = (inl h.0, λ e x. elim x [ inl y ↦ h.1 e y | inr y ↦ order d e h.0 y ])
-
--- sets of the same departures have the same first
-pub first_same : (P Q : Departure → Type 0) (o : Option Departure) → ((d : Departure) → P d → Q d)
-    → ((d : Departure) → Q d → P d) → IsFirst P o → IsFirst Q o
-first_same P Q None to from h = λ d q. h d (from d q)
-first_same P Q (Some d) to from h = (to d h.0, λ e q. h.1 e (from e q))
+-- the first of two sets, none of the second before one of the first; the second need be searched only where the
+-- first is empty
+pub first_of_both : (P Q : Departure → Type 0) (a b : Option Departure)
+    → ((d e : Departure) → P d → Q e → departs_before e d ≡ false) → IsFirst departs_before P a
+    → (((d : Departure) → P d → ⊥) → IsFirst departs_before Q b)
+    → IsFirst departs_before (λ d. P d ⊎ Q d) (option_or a b)
+first_of_both P Q None b order h then_b =
+    first_same departs_before Q (λ d. P d ⊎ Q d) b (λ d q. inr q) (λ d x. elim x [ inl p ↦ absurd (h d p) | inr q ↦ q ])
+    (then_b h)
+first_of_both P Q (Some d) b order h then_b =
+    (inl h.0, λ e x. elim x [ inl y ↦ h.1 e y | inr y ↦ order d e h.0 y ])

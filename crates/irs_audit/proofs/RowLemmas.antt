@@ -9,39 +9,24 @@ use Rattle.irs_schedule.specs.Parts.{Part, KeepsBounds}
 use Rattle.irs_schedule.specs.PeriodViews.{period_at}
 use Rattle.irs_audit.specs.declared.departures.Departure.{Departure}
 use Rattle.irs_audit.specs.declared.departures.Field.{Field}
-use Rattle.irs_audit.specs.declared.departures.Field.TheVariants.{Missing, Extra}
+use Rattle.irs_audit.specs.declared.departures.Field.TheVariants.{Extra}
 use Rattle.irs_audit.specs.declared.departures.RowKind.{RowKind}
 use Rattle.irs_audit.specs.declared.departures.RowKind.TheVariants.{Stream, Exchange, Payment, Period, Reset}
 use Rattle.irs_audit.specs.Agreement.{RowDeparts, KindDeparts}
-use Rattle.irs_audit.specs.DepartureOrder.{kind_place, field_place, Level, NotAfter, IsFirst, IsFirstField}
+use Rattle.irs_audit.specs.DepartureOrder.{kind_place, field_before, departs_before}
 use Rattle.irs_audit.specs.FieldDepartures.{ExchangeDeparts, PaymentDeparts, PeriodDeparts}
 use Rattle.irs_audit.specs.FlowParts.{FlowPart}
 use Rattle.irs_audit.specs.RowSets.{AmongRows, AmongStream}
-use Rattle.irs_audit.proofs.OrderLemmas.{first_or, first_same}
-
--- the first field of a row that one of both may lack
-abbrev pub FirstOfRow : {X Y : Type 0} → (X → Y → Field → Type 0) → Option X → Option Y → Option Field → Type 0
-FirstOfRow Fields (Some x) (Some y) o = IsFirstField (Fields x y) o
-FirstOfRow Fields (Some x) None o = o ≡ Some Missing
-FirstOfRow Fields None (Some y) o = o ≡ Some Extra
-FirstOfRow Fields None None o = o ≡ None
-
-moved : (n : ℕ) (f g : Field) → g ≡ f → n ≤ field_place f → n ≤ field_place g
-moved n f g e h = let Q : Field → Type 0 = λ k. n ≤ field_place k in subst Q (sym e) h
-
-pub row_first : {X Y : Type 0} (Fields : X → Y → Field → Type 0) (x : Option X) (y : Option Y) (o : Option Field)
-    → FirstOfRow Fields x y o → IsFirstField (RowDeparts Fields x y) o
-row_first Fields (Some x) (Some y) o h = h
-row_first Fields (Some x) None o h = rw h (refl, λ g e. moved 0 Missing g e (omega arith))
-row_first Fields None (Some y) o h = rw h (refl, λ g e. moved 1 Extra g e (omega arith))
-row_first Fields None None o h = rw h (λ f p. p)
+use Rattle.irs_audit.proofs.OrderLemmas.{first_of_both}
+use Rattle.irs_base.specs.Order.{First, IsFirst, level}
+use Rattle.irs_base.proofs.Firsts.{first_same, level_same, level_later}
 
 module _ (kind : RowKind) (p : Part) (g : FlowPart) where
   -- no row of the kind before place i departs
   abbrev pub NoneBelow : ℕ → Type 0
   NoneBelow i = (j : ℕ) (f : Field) → j < i → KindDeparts kind p g j f → ⊥
 
-  pub none_more : (i : ℕ) → NoneBelow i → IsFirstField (KindDeparts kind p g i) None → NoneBelow (i + 1)
+  pub none_more : (i : ℕ) → NoneBelow i → IsFirst field_before (KindDeparts kind p g i) None → NoneBelow (i + 1)
   none_more i below here j f h d =
       elim (cases_order j i) [
         | inl e ↦
@@ -54,22 +39,24 @@ module _ (kind : RowKind) (p : Part) (g : FlowPart) where
   pub none_before : NoneBelow 0
   none_before j f h d = omega (arith, h)
 
-  pub none_found : (k last : ℕ) → NoneBelow last → IsFirst (AmongRows k kind p g last) None
+  pub none_found : (k last : ℕ) → NoneBelow last → IsFirst departs_before (AmongRows k kind p g last) None
   none_found k last below = λ d m. let low = m.low in let high = m.high in
       below (d.row - 1) d.field (omega (arith, low, high)) m.departs
 
-  found_order : (i : ℕ) (field : Field) → NoneBelow i → IsFirstField (KindDeparts kind p g i) (Some field)
+  found_order : (i : ℕ) (field : Field) → NoneBelow i → First field_before (KindDeparts kind p g i) field
       → (row : ℕ) (f : Field) → 0 < row → KindDeparts kind p g (row - 1) f
-      → Level (i + 1) row (field_place field ≤ field_place f)
+      → level row (i + 1) (field_before f field) ≡ false
   found_order i field below here row f low d = elim (cases_order (row - 1) i) [
-    | inl e ↦ inr (omega (arith, low, e), here.1 f (let Q : ℕ → Type 0 = λ n. KindDeparts kind p g n f in subst Q e d))
+    | inl e ↦ level_same row (i + 1) _ (omega (arith, low, e))
+        (here.1 f (let Q : ℕ → Type 0 = λ n. KindDeparts kind p g n f in subst Q e d))
     | inr (inl l) ↦ absurd (below (row - 1) f l d)
-    | inr (inr l) ↦ inl (omega (arith, low, l))
+    | inr (inr l) ↦ level_later row (i + 1) _ (omega (arith, low, l))
   ]
 
   pub row_found : (k last i : ℕ) (field : Field) → i < last → NoneBelow i
-      → IsFirstField (KindDeparts kind p g i) (Some field)
-      → IsFirst (AmongRows k kind p g last) (Some (record { stream = k; kind = kind; row = i + 1; field = field }))
+      → First field_before (KindDeparts kind p g i) field
+      → First departs_before (AmongRows k kind p g last)
+      (record { stream = k; kind = kind; row = i + 1; field = field })
   row_found k last i field within below here =
       let back : i + 1 - 1 ≡ i = omega arith in
       let Q : ℕ → Type 0 = λ n. KindDeparts kind p g n field in (
@@ -81,10 +68,9 @@ module _ (kind : RowKind) (p : Part) (g : FlowPart) where
           departs =
               subst Q (sym back) here.0;
         },
-        λ e m. inr (
-          sym m.stream,
-          inr (ap kind_place (sym m.is_kind), found_order i field below here e.row e.field m.low m.departs),
-        ),
+        λ e m. level_same e.stream k _ m.stream
+            (level_same (kind_place e.kind) (kind_place kind) _ (ap kind_place m.is_kind)
+            (found_order i field below here e.row e.field m.low m.departs)),
       )
 
 -- all departures of a kind
@@ -111,12 +97,14 @@ extra_at k kind p g n x =
     record { stream = refl; is_kind = refl; low = omega arith; high = omega arith; departs = subst Q (sym back) x }
 
 later_row : (k : ℕ) (kind : RowKind) (d e : Departure) → d.stream ≡ k → d.kind ≡ kind → e.stream ≡ k → e.kind ≡ kind
-    → d.row < e.row → NotAfter d e
-later_row k kind d e a b c f h = inr (a ∙ sym c, inr (ap kind_place b ∙ sym (ap kind_place f), inl h))
+    → d.row < e.row → departs_before e d ≡ false
+later_row k kind d e a b c f h =
+    level_same e.stream d.stream _ (c ∙ sym a)
+    (level_same (kind_place e.kind) (kind_place d.kind) _ (ap kind_place (f ∙ sym b)) (level_later e.row d.row _ h))
 
 pub extended : (k : ℕ) (kind : RowKind) (p : Part) (g : FlowPart) (n : ℕ) (o : Option Departure)
     → ((j : ℕ) (f : Field) → n ≤ j → KindDeparts kind p g j f → KindDeparts kind p g n Extra)
-    → IsFirst (AmongRows k kind p g (n + 1)) o → IsFirst (OfKind k kind p g) o
+    → IsFirst departs_before (AmongRows k kind p g (n + 1)) o → IsFirst departs_before (OfKind k kind p g) o
 extended k kind p g n None past h = λ d m. elim (cases_lt (n + 1) d.row) [
   | inl l ↦ h (record { stream = k; kind = kind; row = n + 1; field = Extra })
       (extra_at k kind p g n (past (d.row - 1) d.field (omega (arith, l)) m.departs))
@@ -193,10 +181,11 @@ resets_few p h = few_if p.floating (length p.resets) (length p.periods) h.resets
 
 within_periods : (k : ℕ) (p : Part) (g : FlowPart) (o : Option Departure) → KeepsBounds p
     → ((j : ℕ) (f : Field) → KindDeparts Period p g j f → ⊥)
-    → IsFirst (AmongRows k Reset p g (length p.periods)) o → IsFirst (OfKind k Reset p g) o
+    → IsFirst departs_before (AmongRows k Reset p g (length p.periods)) o
+    → IsFirst departs_before (OfKind k Reset p g) o
 within_periods k p g o bounds never h =
     let n = length p.periods in
-    first_same (AmongRows k Reset p g n) (OfKind k Reset p g) o (all_rows k Reset p g n)
+    first_same departs_before (AmongRows k Reset p g n) (OfKind k Reset p g) o (all_rows k Reset p g n)
     (λ d m. elim (cases_lt n d.row) [
       | inl l ↦ absurd (never (d.row - 1) Extra
           (resets_past p g (d.row - 1) d.field (resets_few p bounds) (omega (arith, l)) m.departs))
@@ -204,11 +193,12 @@ within_periods k p g o bounds never h =
     ]) h
 
 by_kind : (k : ℕ) (a b : RowKind) (p : Part) (g : FlowPart) (d e : Departure) → kind_place a < kind_place b
-    → OfKind k a p g d → OfKind k b p g e → NotAfter d e
+    → OfKind k a p g d → OfKind k b p g e → departs_before e d ≡ false
 by_kind k a b p g d e h m n =
     let c = ap kind_place m.is_kind in
     let f = ap kind_place n.is_kind in
-    inr (m.stream ∙ sym n.stream, inl (omega (arith, c, f, h)))
+    level_same e.stream d.stream _ (n.stream ∙ sym m.stream)
+    (level_later (kind_place e.kind) (kind_place d.kind) _ (omega (arith, c, f, h)))
 
 module _ (k : ℕ) (p : Part) (g : FlowPart) where
   abbrev UpToPayments : Departure → Type 0
@@ -251,24 +241,25 @@ module _ (k : ℕ) (p : Part) (g : FlowPart) where
 
   -- the first of the four kinds in order is the first of the stream
   pub stream_first : (a b c d : Option Departure) → KeepsBounds p
-      → IsFirst (AmongRows k Exchange p g (length p.exchanges + 1)) a
-      → IsFirst (AmongRows k Payment p g (length p.payments + 1)) b
-      → IsFirst (AmongRows k Period p g (length p.periods + 1)) c → IsFirst (AmongRows k Reset p g (length p.periods)) d
-      → IsFirst (AmongStream k p g) (option_or (option_or (option_or a b) c) d)
+      → IsFirst departs_before (AmongRows k Exchange p g (length p.exchanges + 1)) a
+      → IsFirst departs_before (AmongRows k Payment p g (length p.payments + 1)) b
+      → IsFirst departs_before (AmongRows k Period p g (length p.periods + 1)) c
+      → IsFirst departs_before (AmongRows k Reset p g (length p.periods)) d
+      → IsFirst departs_before (AmongStream k p g) (option_or (option_or (option_or a b) c) d)
   stream_first a b c d bounds ha hb hc hd =
       let X = extended k Exchange p g (length p.exchanges) a (exchanges_past p g) ha in
       let P = extended k Payment p g (length p.payments) b (payments_past p g) hb in
       let C = extended k Period p g (length p.periods) c (periods_past p g) hc in
-      let XP = first_or (OfKind k Exchange p g) (OfKind k Payment p g) a b
+      let XP = first_of_both (OfKind k Exchange p g) (OfKind k Payment p g) a b
       (λ d e m n. by_kind k Exchange Payment p g d e (omega arith) m n) X (λ _. P) in
-      let XPC = first_or UpToPayments (OfKind k Period p g) (option_or a b) c
+      let XPC = first_of_both UpToPayments (OfKind k Period p g) (option_or a b) c
       (λ d e m n. elim m [
         | inl x ↦ by_kind k Exchange Period p g d e (omega arith) x n
         | inr x ↦
             by_kind k Payment Period p g d e (omega arith) x n
       ])
       XP (λ _. C) in
-      let each = first_or UpToPeriods (OfKind k Reset p g) (option_or (option_or a b) c) d
+      let each = first_of_both UpToPeriods (OfKind k Reset p g) (option_or (option_or a b) c) d
       (λ d e m n. elim m [
         | inl y ↦ elim y [
           | inl x ↦ by_kind k Exchange Reset p g d e (omega arith) x n
@@ -278,4 +269,5 @@ module _ (k : ℕ) (p : Part) (g : FlowPart) where
         | inr x ↦ by_kind k Period Reset p g d e (omega arith) x n
       ])
       XPC (λ never. within_periods k p g d bounds (period_at_row never) hd) in
-      first_same OfEach (AmongStream k p g) (option_or (option_or (option_or a b) c) d) from_each to_each each
+      first_same departs_before OfEach (AmongStream k p g) (option_or (option_or (option_or a b) c) d) from_each to_each
+      each

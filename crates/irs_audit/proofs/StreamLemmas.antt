@@ -1,54 +1,20 @@
 -- The first departure among the streams.
-use Rattle.std.proofs.Common.{◌≡◌, ℕ, ◌+◌, ◌-◌, ◌≤◌, List, length, Option, Some, None, inl, inr, refl, sym, ap, subst}
-use Rattle.std.proofs.Common.{arith}
+use Rattle.std.proofs.Common.{◌≡◌, ℕ, false, ◌+◌, ◌-◌, ◌≤◌, List, length, None, inl, inr, refl, sym, subst, arith}
 use Rattle.std.specs.Prelude.{slice_get}
 use Rattle.std.proofs.lemmas.Bool.{cases_lt, cases_order}
 use Rattle.std.proofs.lemmas.Option.{slice_get_past, slice_get-get_or, slice_get_cases}
 use Rattle.irs_schedule.specs.Parts.{Part}
 use Rattle.irs_audit.specs.declared.departures.Departure.{Departure}
 use Rattle.irs_audit.specs.declared.departures.Field.{Field}
-use Rattle.irs_audit.specs.declared.departures.Field.TheVariants.{Missing, Extra}
+use Rattle.irs_audit.specs.declared.departures.Field.TheVariants.{Extra}
 use Rattle.irs_audit.specs.declared.departures.RowKind.{RowKind}
 use Rattle.irs_audit.specs.declared.departures.RowKind.TheVariants.{Stream}
 use Rattle.irs_audit.specs.Agreement.{StreamDeparts, Departs}
-use Rattle.irs_audit.specs.DepartureOrder.{kind_place, field_place, NotAfter, IsFirst}
+use Rattle.irs_audit.specs.DepartureOrder.{departs_before}
 use Rattle.irs_audit.specs.FlowParts.{FlowPart}
-use Rattle.irs_audit.specs.RowSets.{AmongStream}
 use Rattle.irs_audit.specs.StreamSets.{OfStream}
-use Rattle.irs_audit.proofs.OrderLemmas.{first_same}
-
--- the departures of a stream that both have are those of its rows
-pub both_first : (k : ℕ) (p : Part) (g : FlowPart) (o : Option Departure) → IsFirst (AmongStream k p g) o
-    → IsFirst (OfStream k (Some p) (Some g)) o
-both_first k p g o h =
-    first_same (AmongStream k p g) (OfStream k (Some p) (Some g)) o
-    (λ d m. record { stream = m.stream; departs = (m.low, m.departs) })
-    (λ d m. record { stream = m.stream; low = m.departs.0; departs = m.departs.1 })
-    h
-
-whole_order : (k : ℕ) (field : Field) (e : Departure) → e.stream ≡ k → e.kind ≡ Stream → e.row ≡ 0 → e.field ≡ field
-    → NotAfter (record { stream = k; kind = Stream; row = 0; field = field }) e
-whole_order k field e a b c f =
-    let Q : Field → Type 0 = λ x. field_place field ≤ field_place x in
-    inr (sym a, inr (sym (ap kind_place b), inr (sym c, subst Q (sym f) (omega arith))))
-
--- a stream that only the schedule has
-pub missing_first : (k : ℕ) (p : Part)
-    → IsFirst (OfStream k (Some p) None) (Some (record { stream = k; kind = Stream; row = 0; field = Missing }))
-missing_first k p = (
-  record { stream = refl; departs = (refl, refl, refl) },
-  λ e m. let d = m.departs in
-      whole_order k Missing e m.stream d.0 d.1 d.2,
-)
-
--- one that only the flows have
-pub extra_first : (k : ℕ) (g : FlowPart)
-    → IsFirst (OfStream k None (Some g)) (Some (record { stream = k; kind = Stream; row = 0; field = Extra }))
-extra_first k g = (
-  record { stream = refl; departs = (refl, refl, refl) },
-  λ e m. let d = m.departs in
-      whole_order k Extra e m.stream d.0 d.1 d.2,
-)
+use Rattle.irs_base.specs.Order.{First, IsFirst}
+use Rattle.irs_base.proofs.Firsts.{level_later}
 
 module _ (f : List FlowPart) (s : List Part) where
   -- no stream up to the one of number i departs
@@ -74,21 +40,23 @@ module _ (f : List FlowPart) (s : List Part) where
   pub none_before : NoneUpTo 0
   none_before d h m = let low = m.0 in omega (arith, h, low)
 
-  pub none_more : (i : ℕ) → NoneUpTo i → IsFirst (OfPlace i) None → NoneUpTo (i + 1)
+  pub none_more : (i : ℕ) → NoneUpTo i → IsFirst departs_before (OfPlace i) None → NoneUpTo (i + 1)
   none_more i below here d h m = let low = m.0 in
       elim (cases_lt i d.stream) [ inl l ↦ here d (to_place i d (omega (arith, l, h)) m) | inr l ↦ below d l m ]
 
-  place_order : (i : ℕ) (d e : Departure) → NoneUpTo i → IsFirst (OfPlace i) (Some d) → Departs f s e → NotAfter d e
+  place_order : (i : ℕ) (d e : Departure) → NoneUpTo i → First departs_before (OfPlace i) d → Departs f s e
+      → departs_before e d ≡ false
   place_order i d e below here m =
       let low = m.0 in
       let a = (here.0).stream in
       elim (cases_order (e.stream - 1) i) [
         | inl q ↦ here.1 e (to_place i e q m)
         | inr (inl l) ↦ absurd (below e (omega (arith, l, low)) m)
-        | inr (inr l) ↦ inl (omega (arith, a, l))
+        | inr (inr l) ↦ level_later e.stream d.stream _ (omega (arith, a, l))
       ]
 
-  pub place_found : (i : ℕ) (d : Departure) → NoneUpTo i → IsFirst (OfPlace i) (Some d) → IsFirst (Departs f s) (Some d)
+  pub place_found : (i : ℕ) (d : Departure) → NoneUpTo i → First departs_before (OfPlace i) d
+      → First departs_before (Departs f s) d
   place_found i d below here = (from_place i d here.0, λ e m. place_order i d e below here m)
 
   -- a stream of the flows past the one behind the schedule's last
@@ -105,7 +73,7 @@ module _ (f : List FlowPart) (s : List Part) where
         | inr w ↦ absurd (let q = w.1 in rw (past, q) at d)
       ]
 
-  pub none_at_all : NoneUpTo (length s + 1) → IsFirst (Departs f s) None
+  pub none_at_all : NoneUpTo (length s + 1) → IsFirst departs_before (Departs f s) None
   none_at_all below = λ d m. elim (cases_lt (length s + 1) d.stream) [
     | inl l ↦
         let k = extra_stream (d.stream - 1) d.kind d.row d.field (omega (arith, l)) m.1 in

@@ -1,6 +1,6 @@
 -- The sums of a schedule are small.
 use Rattle.std.proofs.Common.{◌≡◌, ℕ, ◌+◌, ◌-◌, ◌*◌, ◌^◌, ◌<◌, ◌≤◌, List, ◌∷◌, length, drop, get_or, ℤ, pos, negsuc}
-use Rattle.std.proofs.Common.{◌+ℤ◌, unsigned_abs, FitsSigned, Option, Some, inl, inr, sym, ◌∙◌, ap, arith}
+use Rattle.std.proofs.Common.{◌+ℤ◌, unsigned_abs, FitsSigned, Some, inl, inr, sym, ◌∙◌, ap, arith}
 use Rattle.std.specs.Int.{w64}
 use Rattle.std.specs.List.{fold}
 use Rattle.std.specs.Prelude.{option_map, slice_get, IfSome}

@@ -12,7 +12,9 @@ use Rattle.irs_audit.specs.Agreement.{Departs}
 use Rattle.irs_audit.specs.FlowParts.{FlowPart}
 use Rattle.irs_audit.specs.Verdicts.{IsVerdict, IsNo, stream_rows, stream_unfixed, row_count, unfixed_count}
 use Rattle.irs_audit.proofs.BoundLemmas.{payments_few}
-use Rattle.irs_audit.proofs.OrderLemmas.{first_is_one}
+use Rattle.irs_audit.proofs.OrderLemmas.{departure_ties}
+use Rattle.irs_audit.specs.DepartureOrder.{departs_before}
+use Rattle.irs_base.proofs.Firsts.{one_first}
 use Rattle.irs_base.specs.Limits.{most_periods}
 use Rattle.irs_schedule.specs.RowsOf.{most_stream_rows}
 use Rattle.irs_base.specs.Members.{Every}
@@ -22,7 +24,8 @@ pub one_verdict : (f : List FlowPart) (s : List Part) (v w : Verdict) → IsVerd
 one_verdict f s (Yes a b) (Yes c d) h k = λ i. Yes ((h.1 ∙ sym k.1) i) ((h.2 ∙ sym k.2) i)
 one_verdict f s (Yes a b) (No e) h k = absurd (h.0 e k.0)
 one_verdict f s (No d) (Yes a b) h k = absurd (k.0 d h.0)
-one_verdict f s (No d) (No e) h k = ap (λ (x : Departure). No x) (first_is_one (Departs f s) d e h k)
+one_verdict f s (No d) (No e) h k =
+    ap (λ (x : Departure). No x) (one_first departs_before departure_ties (Departs f s) d e h k)
 
 -- it is No exactly where something departs
 pub no_exactly : (f : List FlowPart) (s : List Part) (v : Verdict) → IsVerdict f s v

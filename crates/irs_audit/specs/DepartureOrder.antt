@@ -1,5 +1,6 @@
--- The order of departures, and the first of a set of them.
-use Rattle.std.specs.Prelude.{◌≡◌, ℕ, ◌<◌, ◌≤◌, ◌⊎◌, Option, Some, None}
+-- The orders of departures and of fields.
+use Rattle.std.specs.Prelude.{ℕ, Bool, nat_lt}
+use Rattle.irs_base.specs.Order.{level}
 use Rattle.irs_audit.specs.declared.departures.Departure.{Departure}
 use Rattle.irs_audit.specs.declared.departures.RowKind.{RowKind}
 use Rattle.irs_audit.specs.declared.departures.RowKind.TheVariants.{Stream, Exchange, Payment, Period, Reset}
@@ -48,22 +49,12 @@ field_place ResetDate = 18
 field_place AdjustedFixingDate = 19
 field_place ObservedRate = 20
 
--- by two numbers, and where they are equal by what comes next
-abbrev pub Level : ℕ → ℕ → Type 0 → Type 0
-Level a b Next = (a < b) ⊎ ((a ≡ b) × Next)
+-- by the field
+abbrev pub field_before : Field → Field → Bool
+field_before f g = nat_lt (field_place f) (field_place g)
 
--- d comes before e or is in the same place: by stream, kind, row and field
-abbrev pub NotAfter : Departure → Departure → Type 0
-NotAfter d e =
-    Level d.stream e.stream
-    (Level (kind_place d.kind) (kind_place e.kind) (Level d.row e.row (field_place d.field ≤ field_place e.field)))
-
--- the first departure that meets P; none where none does
-abbrev pub IsFirst : (Departure → Type 0) → Option Departure → Type 0
-IsFirst P None = (d : Departure) → P d → ⊥
-IsFirst P (Some d) = P d × ((e : Departure) → P e → NotAfter d e)
-
--- the first field that meets P; none where none does
-abbrev pub IsFirstField : (Field → Type 0) → Option Field → Type 0
-IsFirstField P None = (f : Field) → P f → ⊥
-IsFirstField P (Some f) = P f × ((g : Field) → P g → field_place f ≤ field_place g)
+-- by the stream, then the kind, then the row, then the field
+abbrev pub departs_before : Departure → Departure → Bool
+departs_before d e =
+    level d.stream e.stream
+    (level (kind_place d.kind) (kind_place e.kind) (level d.row e.row (field_before d.field e.field)))

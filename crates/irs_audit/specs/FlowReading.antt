@@ -9,7 +9,7 @@ use Rattle.irs_audit.specs.declared.error.ShapeKind.TheVariants.{Count, Kind, Mi
 use Rattle.irs_base.specs.declared.places.Broken.{Broken}
 use Rattle.irs_base.specs.declared.places.Place.{Place}
 use Rattle.irs_base.specs.declared.places.Rule.{Rule}
-use Rattle.irs_base.specs.declared.places.Rule.TheVariants.{K1, K2, K3, K4, K5, K6, K7}
+use Rattle.irs_base.specs.declared.places.Rule.TheVariants.{K2, K3, K4, K5, K6, K7}
 use Rattle.irs_read.specs.Documents.{the_swap}
 use Rattle.serde_json.specs.Data.{Data}
 use Rattle.std.specs.Prelude.{◌≡◌, ◌≢◌, List, Some, Ok}
@@ -24,7 +24,6 @@ pub record FlowsOf (d : Data) (flows : List FlowPart) : Type 0 where
 
 -- the kind of a fault by the rule that is broken; no table of elements has a rule but K2 to K7
 abbrev pub kind_of : Rule → ShapeKind
-kind_of K1 = NotJson
 kind_of K2 = Missing
 kind_of K3 = Kind
 kind_of K4 = Unknown

@@ -1,11 +1,12 @@
 //! The audit: whether cash flows agree with a schedule, row by row and field by field.
 ghost use Rattle.std.specs.Prelude.{◌≡◌, ◌↔◌, ◌≤◌, length, option_copied};
 ghost use Rattle.irs_audit.specs.Agreement.{Departs};
-ghost use Rattle.irs_audit.specs.DepartureOrder.{IsFirst};
+ghost use Rattle.irs_audit.specs.DepartureOrder.{departs_before};
 ghost use Rattle.irs_audit.specs.StreamSets.{OfStream};
 ghost use Rattle.irs_audit.specs.Verdicts.{IsNo, IsVerdict};
 ghost use Rattle.irs_audit.specs.declared.departures.Departure.{Departure};
 ghost use Rattle.irs_audit.specs.declared.departures.Verdict.{Verdict};
+ghost use Rattle.irs_base.specs.Order.{IsFirst};
 
 use crate::counts::{row_count, unfixed_count};
 use crate::rows::{first_of_rows, item};
@@ -30,7 +31,7 @@ fn first_of_stream(
     ours: Option<&StreamPart>,
     theirs: Option<&FlowStream>,
 ) -> Option<Departure>
-    ensures { IsFirst (OfStream stream (option_copied ours.entry) (option_copied theirs.entry)) result }
+    ensures { IsFirst departs_before (OfStream stream (option_copied ours.entry) (option_copied theirs.entry)) result }
 {
     match (ours, theirs) {
         (Some(x), Some(y)) => first_of_rows(stream, x, y),
@@ -44,7 +45,7 @@ fn first_of_stream(
 // departs too.
 fn first_departure(ours: &[StreamPart], theirs: &[FlowStream]) -> Option<Departure>
     requires { length ours.now ≤ 8 }
-    ensures { IsFirst (Departs theirs.now ours.now) result }
+    ensures { IsFirst departs_before (Departs theirs.now ours.now) result }
 {
     for place in 0..ours.len() + 1 {
         let stream = place as u8 + 1;

@@ -16,48 +16,24 @@ use irs_json::Value;
 use irs_read::the_swap;
 use std::alloc::Global;
 
-// The kind of a fault, by the rule of the tables of elements; no table has another rule.
+// The kind of a fault, by the rule of the tables of elements: they have K2 to K7 and no other.
 fn kind_of(rule: Rule) -> ShapeKind
     ensures { result ≡ kind_by rule }
 {
-    match rule {
-        Rule::K1 => ShapeKind::NotJson,
-        Rule::K2 => ShapeKind::Missing,
-        Rule::K3 => ShapeKind::Kind,
-        Rule::K4 => ShapeKind::Unknown,
-        Rule::K5 => ShapeKind::Profile,
-        Rule::K6 => ShapeKind::Value,
-        Rule::K7 => ShapeKind::Count,
-        Rule::K8
-        | Rule::K10
-        | Rule::K11
-        | Rule::K12
-        | Rule::K13
-        | Rule::K14
-        | Rule::K15
-        | Rule::K16
-        | Rule::K17
-        | Rule::K18
-        | Rule::K19
-        | Rule::K20
-        | Rule::K21
-        | Rule::K30
-        | Rule::K31
-        | Rule::K32
-        | Rule::K33
-        | Rule::K34
-        | Rule::K35
-        | Rule::K36
-        | Rule::K37
-        | Rule::K38
-        | Rule::K39
-        | Rule::K40
-        | Rule::K41
-        | Rule::K42
-        | Rule::K43
-        | Rule::K44
-        | Rule::K45
-        | Rule::K46 => ShapeKind::NotJson,
+    if rule == Rule::K2 {
+        ShapeKind::Missing
+    } else if rule == Rule::K3 {
+        ShapeKind::Kind
+    } else if rule == Rule::K4 {
+        ShapeKind::Unknown
+    } else if rule == Rule::K5 {
+        ShapeKind::Profile
+    } else if rule == Rule::K6 {
+        ShapeKind::Value
+    } else if rule == Rule::K7 {
+        ShapeKind::Count
+    } else {
+        ShapeKind::NotJson
     }
 }
 

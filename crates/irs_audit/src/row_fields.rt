@@ -2,10 +2,11 @@
 //! whether each departs.
 ghost use Rattle.std.specs.Prelude.{◌≡◌, ◌+◌, ◌-◌, ◌≤◌, IfSome, IsTrue, ◌↔◌};
 ghost use Rattle.irs_audit.specs.Comparisons.{IsSmall, IsPayment};
-ghost use Rattle.irs_audit.specs.DepartureOrder.{IsFirstField};
+ghost use Rattle.irs_audit.specs.DepartureOrder.{field_before};
 ghost use Rattle.irs_audit.specs.FieldDepartures.{ExchangeDeparts, PaymentDeparts, PeriodDeparts, ResetDeparts};
 ghost use Rattle.irs_audit.specs.FieldTables.{first_true};
 ghost use Rattle.irs_audit.specs.StatedValues.{IsNumber, IsAmount, StatedWrongly, NotStatedRightly, WhereKnown};
+ghost use Rattle.irs_base.specs.Order.{IsFirst};
 
 use crate::comparisons::{
     amount_is_not_right, count_is_wrong, currency_is_wrong, day_is_not_right, day_is_wrong,
@@ -52,7 +53,7 @@ fn known_rate_departs(rate: Option<i64>, stated: Option<i128>) -> bool
 /// The first field of an exchange that departs.
 pub(crate) fn exchange_field(x: &Exchange, y: &FlowExchange) -> Option<Field>
     requires { x.now.amount.places ≤ 12 }
-    ensures { IsFirstField (ExchangeDeparts x.now y.now) result }
+    ensures { IsFirst field_before (ExchangeDeparts x.now y.now) result }
 {
     first_of(&[
         (
@@ -81,7 +82,7 @@ fn has_other_count(x: &PaymentEntry, stated: u32) -> bool
 /// The first field of a payment that departs.
 pub(crate) fn payment_field(currency: Currency, x: &PaymentEntry, y: &FlowPayment) -> Option<Field>
     requires { IsPayment x.now }
-    ensures { IsFirstField (PaymentDeparts currency x.now y.now) result }
+    ensures { IsFirst field_before (PaymentDeparts currency x.now y.now) result }
 {
     first_of(&[
         (
@@ -101,7 +102,7 @@ pub(crate) fn payment_field(currency: Currency, x: &PaymentEntry, y: &FlowPaymen
 /// The first field of a calculation period that departs.
 pub(crate) fn period_field(x: &CalculationPeriod, y: &FlowPeriod) -> Option<Field>
     requires { IsSmall x.now.frac }
-    ensures { IsFirstField (PeriodDeparts x.now y.now) result }
+    ensures { IsFirst field_before (PeriodDeparts x.now y.now) result }
 {
     first_of(&[
         (Field::UnadjustedStartDate, day_is_wrong(x.start, y.start)),
@@ -132,7 +133,7 @@ pub(crate) fn period_field(x: &CalculationPeriod, y: &FlowPeriod) -> Option<Fiel
 
 /// The first field of a reset that departs.
 pub(crate) fn reset_field(x: &Reset, y: &FlowReset) -> Option<Field>
-    ensures { IsFirstField (ResetDeparts x.now y.now) result }
+    ensures { IsFirst field_before (ResetDeparts x.now y.now) result }
 {
     first_of(&[
         (Field::ResetDate, day_is_wrong(x.reset, y.reset)),

@@ -1,8 +1,9 @@
 //! The first row of a stream that departs, in a stream that both the schedule and the flows have.
 ghost use Rattle.std.specs.Prelude.{◌≡◌, option_copied, slice_get};
 ghost use Rattle.irs_audit.specs.Agreement.{KindDeparts, stated_reset};
-ghost use Rattle.irs_audit.specs.DepartureOrder.{IsFirst, IsFirstField};
+ghost use Rattle.irs_audit.specs.DepartureOrder.{departs_before, field_before};
 ghost use Rattle.irs_audit.specs.RowSets.{AmongRows, AmongStream};
+ghost use Rattle.irs_base.specs.Order.{IsFirst};
 
 use crate::row_fields::{exchange_field, payment_field, period_field, reset_field};
 use crate::{Departure, Field, FlowReset, FlowStream, RowKind};
@@ -16,7 +17,7 @@ pub(crate) fn item<T>(items: &[T], place: usize) -> Option<&T>
 }
 
 fn exchange_at(ours: &StreamPart, theirs: &FlowStream, place: usize) -> Option<Field>
-    ensures { IsFirstField (KindDeparts RowKind.Exchange ours.now theirs.now place) result }
+    ensures { IsFirst field_before (KindDeparts RowKind.Exchange ours.now theirs.now place) result }
 {
     match (
         item(ours.exchanges(), place),
@@ -30,7 +31,7 @@ fn exchange_at(ours: &StreamPart, theirs: &FlowStream, place: usize) -> Option<F
 }
 
 fn payment_at(ours: &StreamPart, theirs: &FlowStream, place: usize) -> Option<Field>
-    ensures { IsFirstField (KindDeparts RowKind.Payment ours.now theirs.now place) result }
+    ensures { IsFirst field_before (KindDeparts RowKind.Payment ours.now theirs.now place) result }
 {
     match (item(ours.payments(), place), item(theirs.payments(), place)) {
         (Some(x), Some(y)) => payment_field(ours.currency(), x, y),
@@ -41,7 +42,7 @@ fn payment_at(ours: &StreamPart, theirs: &FlowStream, place: usize) -> Option<Fi
 }
 
 fn period_at(ours: &StreamPart, theirs: &FlowStream, place: usize) -> Option<Field>
-    ensures { IsFirstField (KindDeparts RowKind.Period ours.now theirs.now place) result }
+    ensures { IsFirst field_before (KindDeparts RowKind.Period ours.now theirs.now place) result }
 {
     match (ours.period(place), item(theirs.periods(), place)) {
         (Some(x), Some(y)) => period_field(&x, y),
@@ -59,7 +60,7 @@ fn stated_reset(theirs: &FlowStream, place: usize) -> Option<FlowReset>
 }
 
 fn reset_at(ours: &StreamPart, theirs: &FlowStream, place: usize) -> Option<Field>
-    ensures { IsFirstField (KindDeparts RowKind.Reset ours.now theirs.now place) result }
+    ensures { IsFirst field_before (KindDeparts RowKind.Reset ours.now theirs.now place) result }
 {
     match (item(ours.resets(), place), stated_reset(theirs, place)) {
         (Some(x), Some(y)) => reset_field(x, &y),
@@ -71,7 +72,7 @@ fn reset_at(ours: &StreamPart, theirs: &FlowStream, place: usize) -> Option<Fiel
 
 // The first field of the rows at a place that departs.
 fn row_field(kind: RowKind, ours: &StreamPart, theirs: &FlowStream, place: usize) -> Option<Field>
-    ensures { IsFirstField (KindDeparts kind ours.now theirs.now place) result }
+    ensures { IsFirst field_before (KindDeparts kind ours.now theirs.now place) result }
 {
     match kind {
         RowKind::Stream => None,
@@ -90,7 +91,7 @@ fn first_row(
     theirs: &FlowStream,
     last: u32,
 ) -> Option<Departure>
-    ensures { IsFirst (AmongRows stream kind ours.now theirs.now last) result }
+    ensures { IsFirst departs_before (AmongRows stream kind ours.now theirs.now last) result }
 {
     for place in 0..last {
         if let Some(field) = row_field(kind, ours, theirs, place as usize) {
@@ -109,7 +110,7 @@ fn first_row(
 /// schedule's last, that one departs too; and so a period does where a reset departs that is past the
 /// schedule's last period.
 pub(crate) fn first_of_rows(stream: u8, ours: &StreamPart, theirs: &FlowStream) -> Option<Departure>
-    ensures { IsFirst (AmongStream stream ours.now theirs.now) result }
+    ensures { IsFirst departs_before (AmongStream stream ours.now theirs.now) result }
 {
     let exchanges = ours.exchanges().len() as u32;
     let payments = ours.payments().len() as u32;
