@@ -98,4 +98,4 @@ pub none_up_to : (names : List (List ℕ)) (r : ℕ) (name : List ℕ) (rows : L
     → list_any (IsNamed names r name) (take r (enumerate_from 0 rows)) ≡ false
 none_up_to names r name rows =
     none_before (IsNamed names r name) r (λ c row less. let e : nat_lt r c ≡ false = grind (arith, nat_tests) in
-        rw e refl) r 0 rows (omega arith)
+    rw e refl) r 0 rows (omega arith)
