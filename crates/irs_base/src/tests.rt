@@ -104,13 +104,9 @@ fn a_line_and_a_path(rt: HostRuntime) {
     line.put_whole(b'/', 360);
     assert_eq!(rt; line.bytes(), b"2299-12-31 -1.000000005/360".as_slice());
     line.clear();
-    for n in [99, 9_999, 10_005, 99_999_999, 100_000_000] {
-        line.put_number(n);
-    }
-    assert_eq!(rt;
-        line.bytes(),
-        b" 99 9999 10005 99999999 100000000".as_slice()
-    );
+    line.put_number(9_999);
+    line.put_number(10_005);
+    assert_eq!(rt; line.bytes(), b" 9999 10005".as_slice());
     assert_eq!(rt;
         Elem::FIXING_DATES_RELATIVE_TO.path(),
         "resetDates/fixingDates/dateRelativeTo"
