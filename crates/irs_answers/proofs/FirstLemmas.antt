@@ -1,6 +1,6 @@
 -- There is one first broken rule, and one first line of a file of fixings that is at fault.
-use Rattle.std.proofs.Common.{◌≡◌, inl, inr, ℕ, List, Option, Some, None, ap, subst}
-use Rattle.std.specs.Prelude.{nat_lt}
+use Rattle.std.proofs.Common.{◌≡◌, inl, inr, ℕ, List, Option, Some, None, Result, Ok, Err, IfErr, ap, refl, subst}
+use Rattle.std.specs.Prelude.{IsErrOf, nat_lt}
 use Rattle.irs_base.specs.Lines.{lines_of}
 use Rattle.irs_base.proofs.FaultOrder.{broken_ties}
 use Rattle.irs_base.proofs.Firsts.{one_first as one_of_order, tied_last}
@@ -11,6 +11,7 @@ use Rattle.irs_resets.specs.Rates.{RateTable}
 use Rattle.irs_resets.specs.declared.fixings.FixErr.{FixErr}
 use Rattle.irs_resets.specs.declared.fixings.FixErr.TheVariants.{Syntax, Repeat, Memory}
 use Rattle.irs_answers.specs.Due.{IsFixingFault, IsFixingsFault, AreFixings}
+use Rattle.irs_answers.specs.Outcomes.{FixingsFail}
 
 -- ---- broken rules
 
@@ -56,3 +57,13 @@ fault_none bytes Memory t h k = h
 pub no_fixings : (o : Option (List ℕ)) (f : FixErr) (t : RateTable) → IsFixingsFault o f → AreFixings o t → ⊥
 no_fixings None f t h k = h
 no_fixings (Some bytes) f t h k = fault_none bytes f t h k
+
+-- what the reading of a file answers as a fault is its first one
+pub read_fails : (bytes : List ℕ) (r : Result RateTable FixErr)
+    → ((n : ℕ) → IsErrOf r (Syntax n) → IsFirstFault (IsBad (lines_of bytes)) (lines_of bytes) n)
+    → ((n : ℕ) → IsErrOf r (Repeat n) → IsFirstFault (Repeats (lines_of bytes)) (lines_of bytes) n)
+    → IfErr r (λ e. FixingsFail (Some bytes) e)
+read_fails bytes (Ok t) syntax repeat = tt
+read_fails bytes (Err (Syntax n)) syntax repeat = syntax n refl
+read_fails bytes (Err (Repeat n)) syntax repeat = repeat n refl
+read_fails bytes (Err Memory) syntax repeat = tt

@@ -1,0 +1,8 @@
+use Rattle.irs_answers.proofs.FirstLemmas.{read_fails}
+use Rattle.irs_answers.proofs.due.read_fixings.Goals as goal
+
+pub returns-in-Some-clause-fault : goal.returns-in-Some-clause-fault
+returns-in-Some-clause-fault c =
+    rw c.in-Some.is
+    (read_fails c.in-Some.bytes.items c.read.result (rw c.deref.ensures.value at c.read.ensures.syntax)
+    (rw c.deref.ensures.value at c.read.ensures.repeat))
