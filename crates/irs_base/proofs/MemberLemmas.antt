@@ -93,3 +93,20 @@ numbered_there P (suc m) n member =
     let first = member n (omega arith) (omega arith) in
     let rest = numbered_there P m (n + 1) (λ k low high. member k (omega (arith, low)) (omega (arith, high))) in
     (first.0 ∷ rest.0, omega (arith, rest.1), (first.1, rest.2))
+
+-- the member with a number, and what holds of the one at a place
+pub numbered_has : {X : Type 0} (P : ℕ → X → Type 0) (n : ℕ) (xs : List X) (k : ℕ) → EachNumbered P n xs → n ≤ k
+    → k < n + length xs → (x : X) × P k x
+numbered_has P n [] k h low high = absurd (omega (arith, low, high))
+numbered_has P n (x ∷ xs) k h low high = elim (cases_lt n k) [
+  | inl more ↦ numbered_has P (n + 1) xs k h.1 (omega (arith, more)) (omega (arith, high))
+  | inr less ↦ let same : n ≡ k = omega (arith, low, less) in (x, subst (λ (j : ℕ). P j x) same h.0)
+]
+
+pub numbered_get : {X : Type 0} (P : ℕ → X → Type 0) (n k : ℕ) (xs : List X) (x : X) → EachNumbered P n xs
+    → slice_get xs k ≡ Some x → P (n + k) x
+numbered_get P n k [] x h at = absurd (let low = slice_get_within [] k x at in omega (arith, low))
+numbered_get P n zero (y ∷ xs) x h at = let e : y ≡ x = cc in let same : n ≡ n + 0 = omega arith in
+    subst (λ (m : ℕ). P m x) same (subst (P n) e h.0)
+numbered_get P n (suc k) (y ∷ xs) x h at = let same : n + 1 + k ≡ n + suc k = omega arith in
+    subst (λ (m : ℕ). P m x) same (numbered_get P (n + 1) k xs x h.1 at)

@@ -2,7 +2,7 @@
 //! 1970-01-01.
 //!
 //! The range is this project's own; the calendar is that of ISO 8601, by `jiff`'s core.
-ghost use Rattle.std.specs.Prelude.{◌≡◌, ◌≤◌, ℤ, pos, negsuc, ◌+ℤ◌, ◌≤ℤ◌, IfSome, IfNone, SomeIff};
+ghost use Rattle.std.specs.Prelude.{◌≡◌, ℤ, pos, ◌+ℤ◌, ◌≤ℤ◌, IfSome, IfNone, SomeIff};
 ghost use Rattle.irs_base.specs.Days.{IsDay, first_day, first_year, last_day, last_year, weekday_at};
 
 use jiff_core::civil::{Date, Weekday};

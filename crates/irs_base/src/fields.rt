@@ -1,5 +1,5 @@
 //! The fields of a line of a file, parted by spaces and tabs (this project's own).
-ghost use Rattle.std.specs.Prelude.{◌≡◌, ◌<◌, ◌≤◌, ◌∷◌, [], false, length, MatchOption};
+ghost use Rattle.std.specs.Prelude.{◌≡◌, ◌<◌, ◌∷◌, [], false, length, MatchOption};
 ghost use Rattle.irs_base.specs.Fields.{is_space, begins_space, without_gap, fields};
 
 /// Whether a byte parts fields: a space or a tab.

@@ -2,7 +2,7 @@
 //!
 //! A half goes towards plus infinity, and directed rounding is towards plus or minus infinity, for
 //! negative numbers too. That is this project's own.
-ghost use Rattle.std.specs.Prelude.{◌≡◌, ◌+◌, ◌*◌, ◌<◌, ◌≤◌, ◌^◌, pos, ◌<ℤ◌, ◌≤ℤ◌, ◌+ℤ◌, ◌*ℤ◌, FitsSigned};
+ghost use Rattle.std.specs.Prelude.{◌≡◌, ◌+◌, ◌*◌, ◌<◌, ◌≤◌, ◌^◌, pos, ◌<ℤ◌, ◌≤ℤ◌, ◌+ℤ◌, ◌*ℤ◌};
 ghost use Rattle.std.specs.Prelude.{unsigned_abs};
 ghost use Rattle.irs_base.specs.Rounding.{Rounded, rounded};
 

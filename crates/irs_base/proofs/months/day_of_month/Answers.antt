@@ -1,4 +1,4 @@
-use Rattle.std.proofs.Common.{arith, ◌≡◌, ℤ, pos, ℕ, ◌+◌, ◌/◌, ◌%◌, ◌<◌, ◌≤◌, to_z, w16, min, ap, ap₂, sym, ◌∙◌, subst}
+use Rattle.std.proofs.Common.{arith, ◌≡◌, pos, ℕ, ◌+◌, ◌/◌, ◌%◌, ◌<◌, ◌≤◌, to_z, w16, min, ap, ap₂, sym, ◌∙◌, subst}
 use Rattle.std.proofs.lemmas.Int.{to_z_pos}
 use Rattle.jiff_core.proofs.SignedLemmas.{signed_arith}
 use Rattle.jiff_core.specs.Calendar.{days_in_month}
