@@ -5,7 +5,12 @@ use Rattle.irs_base.proofs.line.Line.put_number.Goals as goal
 pub push_several-requires : goal.push_several-requires
 push_several-requires c =
     let small : c.from.result < 2 ^ 128 = omega (arith, c.ranges.n.fits, c.from.ensures) in
-    omega (arith, c.requires, length_decimal c.from.result small, simp length-append at (ap length c.push-else-n-lt10.ensures))
+    omega (
+      arith,
+      c.requires,
+      length_decimal c.from.result small,
+      simp length-append at (ap length c.push-else-n-lt10.ensures),
+    )
 
 pub returns-else-n-lt10-clause-grows : goal.returns-else-n-lt10-clause-grows
 returns-else-n-lt10-clause-grows c =
