@@ -1,9 +1,8 @@
 //! What has accrued on a day: the simple interest of the calculation period that runs on it.
 //!
 //! That nothing but this period is looked at, and no earlier one compounds, is this project's own.
-ghost use Rattle.std.specs.Prelude.{◌≡◌, ◌≤◌, ◌<ℤ◌, ◌≤ℤ◌, length};
-ghost use Rattle.irs_schedule.specs.Parts.{KeepsBounds};
-ghost use Rattle.irs_accrue.specs.Accruals.{Accrues, AccruesIn, HasPlaces, IsAccrual, Runs};
+ghost use Rattle.std.specs.Prelude.{◌≡◌, ◌≤◌, length};
+ghost use Rattle.irs_accrue.specs.Accruals.{Accrues, HasPlaces, IsAccrual, Runs};
 ghost use Rattle.irs_accrue.specs.declared.accruals.Accrual.{Accrual};
 
 use crate::interest::amount_of;

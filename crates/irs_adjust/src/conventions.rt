@@ -3,9 +3,9 @@
 //! FOLLOWING, MODFOLLOWING and PRECEDING are those of the 2006 ISDA Definitions, section 4.12.
 //! MODPRECEDING, NEAREST and NONE are rules of this project's own: MODPRECEDING is the mirror of
 //! MODFOLLOWING, NEAREST goes by the day of the week, and NONE leaves the day as it is.
-ghost use Rattle.std.specs.Prelude.{◌≡◌, refl, ℤ};
+ghost use Rattle.std.specs.Prelude.{◌≡◌, refl};
 ghost use Rattle.irs_calendar.specs.GoodDays.{Next, Prev};
-ghost use Rattle.irs_adjust.specs.Conventions.{ModFollows, ModPrecedes, GoesNearest, SameMonth};
+ghost use Rattle.irs_adjust.specs.Conventions.{ModFollows, ModPrecedes, GoesNearest};
 ghost use Rattle.irs_adjust.specs.ConventionLaws.{one_next, next_stays, one_prev, prev_stays, one_modfollows};
 ghost use Rattle.irs_adjust.specs.ConventionLaws.{modfollows_stays, one_modprecedes, modprecedes_stays, one_nearest};
 ghost use Rattle.irs_adjust.specs.ConventionLaws.{nearest_stays, one_same};

@@ -1,6 +1,5 @@
 //! Offsets of days: a number of calendar days, or of good days.
-ghost use Rattle.std.specs.Prelude.{◌≡◌, ◌⊎◌, ℕ, ℤ, pos, IfSome, IfNone};
-ghost use Rattle.irs_base.specs.Days.{IsDay};
+ghost use Rattle.std.specs.Prelude.{◌≡◌, ◌⊎◌, ℤ, pos, IfSome, IfNone};
 ghost use Rattle.irs_terms.specs.declared.codes.DayKind.TheVariants.{Unsaid};
 ghost use Rattle.irs_adjust.specs.Offsets.{Moves, MovesBusiness, MovesDays};
 

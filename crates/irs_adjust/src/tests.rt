@@ -1,6 +1,5 @@
 //! Values from outside the code: a year with the weekend of Saturday and Sunday, in which Good Friday
 //! 2024-03-29 and Easter Monday 2024-04-01 are holidays.
-ghost use Rattle.std.specs.Prelude.{◌≡◌};
 
 use crate::*;
 use irs_base::{Civil, Day, MOST_BYTES, Names, Text, day_of};

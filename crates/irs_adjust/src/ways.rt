@@ -2,7 +2,7 @@
 //!
 //! A Business offset goes from a day to the n-th good day on one side of it. Both sides are walked
 //! in the same way, so there is one loop.
-ghost use Rattle.std.specs.Prelude.{◌≡◌, ◌<◌, ℤ, IfSome, IfNone};
+ghost use Rattle.std.specs.Prelude.{◌<◌, ℤ, IfSome, IfNone};
 ghost use Rattle.irs_base.specs.Days.{IsDay};
 ghost use Rattle.irs_calendar.specs.GoodDays.{InCover};
 ghost use Rattle.irs_adjust.specs.Ways.{IsNextOn, MovesOn};

@@ -1,7 +1,6 @@
 //! The texts of single lines.
 ghost use Rattle.std.specs.Prelude.{◌≡◌, ◌++◌, ◌∷◌, codes, decimal, IfOk, OnOk};
-ghost use Rattle.irs_answers.specs.Messages.{refused, refused_at};
-ghost use Rattle.irs_base.specs.Rules.{rule_number};
+ghost use Rattle.irs_answers.specs.Messages.{refused};
 
 use irs_base::{Broken, Memory};
 use std::alloc::Global;

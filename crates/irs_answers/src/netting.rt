@@ -1,9 +1,8 @@
 //! The text of `net`: what falls due between the two parties, a line for each date and currency. Its
 //! format is this project's own.
-ghost use Rattle.std.specs.Prelude.{◌≡◌, ◌++◌, List, Some, length, IfOk};
+ghost use Rattle.std.specs.Prelude.{◌≡◌, Some, length, IfOk};
 ghost use Rattle.irs_base.specs.Members.{Every};
 ghost use Rattle.irs_net.specs.Nets.{HasPlaces};
-ghost use Rattle.irs_net.specs.declared.table.NetRow.{NetRow as Row};
 ghost use Rattle.irs_answers.specs.Netted.{IsSided, TellsNet, TellsNetOf, net_page};
 ghost use Rattle.irs_answers.specs.Outcomes.{Ends, IfAnswered};
 

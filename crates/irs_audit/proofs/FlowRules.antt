@@ -5,12 +5,13 @@ use Rattle.irs_audit.specs.FlowFaults.{many_periods, many_streams, no_stream, pa
 use Rattle.irs_audit.specs.FlowLines.{flow_names, flow_rows, period_names, period_rows}
 use Rattle.irs_audit.specs.FlowReading.{kind_of}
 use Rattle.irs_audit.specs.declared.flow_table.TheConstants.{FLOWS, PERIOD}
-use Rattle.irs_audit.specs.declared.error.ShapeKind.TheVariants.{NotJson}
+use Rattle.irs_audit.specs.declared.error.ShapeKind.TheVariants.{Count, NotJson}
 use Rattle.irs_base.specs.Elements.{cashflows, document, flow_period, swap, swap_stream}
 use Rattle.irs_base.specs.declared.places.Broken.{Broken}
 use Rattle.irs_base.specs.declared.places.Rule.{Rule}
 use Rattle.irs_base.specs.declared.places.Rule.TheVariants.{K2, K3, K4, K5, K6, K7}
-use Rattle.irs_elements.proofs.TableRules.{IsOfTables, of_table}
+use Rattle.irs_elements.proofs.TableRules.{of_table}
+use Rattle.irs_elements.specs.Elements.{IsOfTables}
 use Rattle.irs_elements.specs.Find.{values_in}
 use Rattle.irs_json.specs.Names.{names_of}
 use Rattle.irs_read.specs.Documents.{Way, by_root, document_below, has, one_object, one_swap, onward, swap_below}
@@ -18,7 +19,7 @@ use Rattle.irs_read.specs.Documents.{the_swap, trade_below}
 use Rattle.irs_read.specs.Swaps.{outside}
 use Rattle.serde_json.specs.Data.{Data}
 use Rattle.std.proofs.Common.{◌≡◌, ◌≢◌, inl, inr, ℕ, ◌+◌, codes, Bool, true, false, List, [], ◌∷◌, Some, Ok, Err}
-use Rattle.std.proofs.Common.{is_some, if◌then◌else◌, sym, subst}
+use Rattle.std.proofs.Common.{is_some, if◌then◌else◌, refl, sym, subst}
 
 two : IsOfTables K2
 two = tt
@@ -38,6 +39,16 @@ told K5 h e = cc
 told K6 h e = cc
 told K7 h e = cc
 told k h e = absurd h
+
+-- and is the last one where the rule is none of the others
+pub last_kind : (k : Rule) → IsOfTables k → k ≢ K2 → k ≢ K3 → k ≢ K4 → k ≢ K5 → k ≢ K6 → kind_of k ≡ Count
+last_kind K2 h second third fourth fifth sixth = absurd (second refl)
+last_kind K3 h second third fourth fifth sixth = absurd (third refl)
+last_kind K4 h second third fourth fifth sixth = absurd (fourth refl)
+last_kind K5 h second third fourth fifth sixth = absurd (fifth refl)
+last_kind K6 h second third fourth fifth sixth = absurd (sixth refl)
+last_kind K7 h second third fourth fifth sixth = refl
+last_kind k h second third fourth fifth sixth = absurd h
 
 -- ---- those that end the way to the swap
 

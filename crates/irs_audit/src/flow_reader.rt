@@ -1,4 +1,5 @@
 //! Reading cash flows: the flows that a document states, or its first fault.
+ghost use Rattle.irs_elements.specs.Elements.{IsOfTables};
 ghost use Rattle.irs_elements.specs.Find.{values_in};
 ghost use Rattle.irs_audit.specs.FlowMeaning.{AllHaveFewPeriods, stream_in, streams_in};
 ghost use Rattle.irs_audit.specs.FlowReading.{FlowsOf, IsFirstFault, kind_of as kind_by};
@@ -16,8 +17,9 @@ use irs_json::Value;
 use irs_read::the_swap;
 use std::alloc::Global;
 
-// The kind of a fault, by the rule of the tables of elements: they have K2 to K7 and no other.
+// The kind of a fault by its rule, which is one of the tables of elements: K2 to K7.
 fn kind_of(rule: Rule) -> ShapeKind
+    requires { IsOfTables rule }
     ensures { result ≡ kind_by rule }
 {
     if rule == Rule::K2 {
@@ -30,14 +32,13 @@ fn kind_of(rule: Rule) -> ShapeKind
         ShapeKind::Profile
     } else if rule == Rule::K6 {
         ShapeKind::Value
-    } else if rule == Rule::K7 {
-        ShapeKind::Count
     } else {
-        ShapeKind::NotJson
+        ShapeKind::Count
     }
 }
 
 fn shape(fault: Broken) -> FlowErr
+    requires { IsOfTables fault.rule }
     ensures { result ≡ Shape (kind_by fault.rule) fault.place }
 {
     FlowErr::Shape(kind_of(fault.rule), fault.place)

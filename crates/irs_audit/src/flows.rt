@@ -89,7 +89,11 @@ pub struct FlowStream {
 impl Model for FlowStream {
     ghost Value = { FlowPart };
 
-    ghost view = { λ s. record { exchanges = s.exchanges.items; payments = s.payments.items; periods = s.periods.items } };
+    ghost view = { λ s. record {
+        exchanges = s.exchanges.items;
+        payments = s.payments.items;
+        periods = s.periods.items;
+    } };
 }
 
 impl FlowStream {

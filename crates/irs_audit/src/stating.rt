@@ -1,6 +1,6 @@
 //! The cash flows that state a schedule: a row for each of its rows, with each field that it knows.
 //! That they state every field, and fractions with ten decimals, is this project's own.
-ghost use Rattle.std.specs.Prelude.{◌≡◌, ◌+◌, ◌-◌, ◌<◌, ◌≤◌, ◌*◌, ◌^◌, ◌*ℤ◌, pos, unsigned_abs, length, map};
+ghost use Rattle.std.specs.Prelude.{◌≡◌, ◌+◌, ◌-◌, ◌<◌, ◌*◌, ◌^◌, ◌*ℤ◌, unsigned_abs, map};
 ghost use Rattle.std.specs.Prelude.{option_map, slice_get, IfOk, IfSome};
 ghost use Rattle.irs_audit.specs.Agreement.{Agrees};
 ghost use Rattle.irs_audit.specs.Comparisons.{IsPayment, IsSmall, IsStatable, IsStatableDec, IsStatablePeriod};

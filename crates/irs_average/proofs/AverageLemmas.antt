@@ -19,7 +19,7 @@ use Rattle.irs_overnight.specs.declared.derived.Found.TheVariants.{Rate}
 use Rattle.irs_overnight.specs.declared.observations.Observation.{Observation}
 use Rattle.irs_overnight.proofs.DerivedOrder.{derived_ties}
 use Rattle.irs_overnight.proofs.FileRead.{are_fixings}
-use Rattle.irs_overnight.proofs.KeptRows.{IsDated, kept_rows, lawful_float, numbered_at}
+use Rattle.irs_overnight.proofs.KeptRows.{IsDated, kept_rows, lawful_float}
 use Rattle.irs_overnight.proofs.RowLemmas.{in_order}
 use Rattle.irs_overnight.proofs.SourceLemmas.{asked_part, every_at, one_pays, part_floats, some_part}
 use Rattle.irs_average.specs.Averages.{AverageAsked, AverageKept, AverageReadsBack, BreaksAverage, HasMeanSource}
@@ -123,7 +123,7 @@ pub lie_among : (a : AverageAsked) → Every KeepsBounds a.of.parts → (rows : 
 lie_among a bounds rows average source has k row x at is os are =
     let same = one_mean_source a average.source source average.has has in
     let means : AreMeans source rows = subst (λ (s : MeanSource). AreMeans s rows) same average.are in
-    let own : IsMeanRow source (1 + k) row = numbered_at (IsMeanRow source) 1 k rows row means.each at in
+    let own : IsMeanRow source (1 + k) row = numbered_get (IsMeanRow source) 1 k rows row means.each at in
     let own_period : IsMeanRow source row.period row = subst (λ (i : ℕ). IsMeanRow source i row) (sym own.period) own in
     found_among (mean_period_at source row.period) row.found x os
     (in_order source.adjusted row.period (source_rises a source bounds has) own_period.stands)
@@ -153,7 +153,7 @@ average_reads_back a h bounds rows average kept good = λ float pays.
     }) in
     let dated : (k : ℕ) (row : DerivedRow) → slice_get rows k ≡ Some row
     → IsDated source.adjusted source.resets (1 + k) row = λ k row at.
-    let own = numbered_at (IsMeanRow source) 1 k rows row average.are.each at in
+    let own = numbered_get (IsMeanRow source) 1 k rows row average.are.each at in
     (own.stands, own.period, own.fixing) in
     let lawful = lawful_float a.of h.stream float pays in
     are_fixings float.tenor float.index rows (record { named = lawful.index; lasting = lawful.tenor })

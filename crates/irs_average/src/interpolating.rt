@@ -1,5 +1,5 @@
 //! The rate of a stub between those of two tenors of its index.
-ghost use Rattle.std.specs.Prelude.{◌≡◌, ℤ, List, IfOk, IfErr, IfSome, IfNone, IsTrue};
+ghost use Rattle.std.specs.Prelude.{◌≡◌, IfOk, IfErr, IfSome, IfNone, IsTrue};
 ghost use Rattle.irs_base.specs.declared.places.Broken.{Broken as BrokenRule};
 ghost use Rattle.irs_resets.specs.ResetDates.{IsPeriod};
 ghost use Rattle.irs_overnight.specs.FileLaw.{IsInRange};

@@ -1,7 +1,7 @@
 //! The two means of the rates that were observed in a calculation period (2006 ISDA Definitions,
 //! section 6.2, on two or more reset dates in a calculation period).
 ghost use Rattle.std.specs.Prelude.{◌≡◌, ◌+◌, ◌*◌, ◌^◌, ◌<◌, ◌≤◌, All, IfSome, None, length, pos, unwrap_or, ◌<ℤ◌};
-ghost use Rattle.std.specs.Prelude.{◌+ℤ◌, ◌*ℤ◌, unsigned_abs};
+ghost use Rattle.std.specs.Prelude.{◌+ℤ◌, unsigned_abs};
 ghost use Rattle.irs_base.specs.Days.{all_days};
 ghost use Rattle.irs_terms.specs.Lawful.{IsRate};
 ghost use Rattle.irs_overnight.specs.Bounds.{IsSmall};

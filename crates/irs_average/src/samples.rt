@@ -1,6 +1,6 @@
 //! The observations of a calculation period for an average: every so many days from its start.
-ghost use Rattle.std.specs.Prelude.{◌≡◌, ◌↔◌, ℕ, ℤ, ◌+◌, ◌*◌, ◌^◌, ◌<◌, ◌≤◌, length, IfOk, IfSome, IfNone, All, pos};
-ghost use Rattle.std.specs.Prelude.{◌<ℤ◌, ◌+ℤ◌, ◌-ℤ◌};
+ghost use Rattle.std.specs.Prelude.{◌≡◌, ◌↔◌, ℕ, ℤ, ◌+◌, ◌*◌, ◌^◌, ◌<◌, ◌≤◌, IfOk, IfSome, IfNone, All};
+ghost use Rattle.std.specs.Prelude.{◌<ℤ◌, ◌-ℤ◌};
 ghost use Rattle.irs_base.specs.Days.{IsDay};
 ghost use Rattle.irs_calendar.specs.GoodDays.{Prev};
 ghost use Rattle.irs_overnight.specs.Bounds.{IsSmall};

@@ -3,7 +3,7 @@
 //! own.
 ghost use Rattle.std.specs.Prelude.{◌≡◌, ◌↔◌, IsTrue, ◌+◌, ◌*◌, ◌^◌, ◌<◌, ◌≤◌, ℤ, Some, IfSome, IfNone, pos, ◌<ℤ◌};
 ghost use Rattle.std.specs.Prelude.{◌≤ℤ◌, ◌+ℤ◌, ◌-ℤ◌, ◌*ℤ◌, unsigned_abs};
-ghost use Rattle.irs_base.specs.Days.{IsDay, all_days};
+ghost use Rattle.irs_base.specs.Days.{all_days};
 ghost use Rattle.irs_base.specs.Rounding.{Rounded};
 ghost use Rattle.irs_base.specs.declared.rounding.Direction.TheVariants.{Nearest};
 ghost use Rattle.irs_terms.specs.Lawful.{IsRate};

@@ -1,8 +1,7 @@
 //! The day on which a tenor ends (2006 ISDA Definitions, section 7.3, 'Designated Maturity').
 //! That a tenor isn't adjusted for good days is this project's own.
-ghost use Rattle.std.specs.Prelude.{◌≡◌, ◌*◌, ℤ, IfSome, IfNone, pos, ◌+ℤ◌};
+ghost use Rattle.std.specs.Prelude.{◌*◌, ℤ, IfSome, IfNone};
 ghost use Rattle.irs_base.specs.Days.{IsDay};
-ghost use Rattle.irs_base.specs.Months.{InMonth, month_start};
 ghost use Rattle.irs_average.specs.TenorEnds.{EndsMonths, EndsTenor};
 
 use irs_base::{Day, civil_of, month_day, month_index, plus};

@@ -1,5 +1,5 @@
 //! Texts, dates and numbers, appended to the bytes of a file.
-ghost use Rattle.std.specs.Prelude.{◌≡◌, ◌+◌, ◌/◌, ◌%◌, ◌<◌, ◌∷◌, [], ◌++◌, OnOk, decimal};
+ghost use Rattle.std.specs.Prelude.{◌≡◌, ◌+◌, ◌/◌, ◌%◌, ◌<◌, ◌++◌, OnOk, decimal};
 ghost use Rattle.irs_base.specs.Texts.{date_text, two_digits};
 
 use irs_base::Memory;

@@ -1,6 +1,5 @@
 //! What a run of `bulk` prints of its schedules.
 ghost use Rattle.std.specs.Prelude.{◌≡◌, ◌+◌, ◌*◌, ◌<◌, ◌≤◌, ◌++◌, ◌∷◌, length, unsigned_abs, decimal, pos, ◌+ℤ◌, ◌^◌};
-ghost use Rattle.std.specs.Fmt.{signed_decimal};
 ghost use Rattle.irs_base.specs.Rounding.{rounded};
 ghost use Rattle.irs_base.specs.Texts.{dec_text};
 ghost use Rattle.irs_base.specs.declared.rounding.Direction.TheVariants.{Nearest};

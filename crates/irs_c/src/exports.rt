@@ -1,6 +1,6 @@
 //! What C calls. The form of the call is this project's own; `bindings/irs.h` has it in C's words.
 ghost use Rattle.std.specs.Prelude.{◌≡◌, ◌≢◌, ◌⊎◌, ℕ, ◌<◌, List, ◌++◌, length, take, drop, map, OnOk, IfOk, IfErr};
-ghost use Rattle.irs_cli.specs.Commands.{texts, IsListed};
+ghost use Rattle.irs_cli.specs.Commands.{texts};
 ghost use Rattle.irs_cli.specs.Due.{Due, IsOneAnswer};
 ghost use Rattle.irs_cli.specs.Given.{TellsAll};
 ghost use Rattle.irs_c.specs.Given.{words_in, file_in, AreText, IsAbsent};

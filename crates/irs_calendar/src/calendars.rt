@@ -3,14 +3,13 @@
 //! A file is a list of sections, none at all included. A section has, each on a line of its own and
 //! in this order, `center NAME`, `cover DATE DATE`, `weekend` with 0 to 7 different names of MON to
 //! SUN, and then its holidays, which rise strictly inside the cover. The format is this project's own.
-ghost use Rattle.std.specs.Prelude.{◌≡◌, ℕ, ◌<◌, ◌≤◌, ◌^◌, List, [], length, map, Some, Ok, All, IsOk, IfOk, IfErr};
-ghost use Rattle.std.specs.Prelude.{IfSome, IsSome, None, is_some};
-ghost use Rattle.std.specs.Option.{option_copied};
+ghost use Rattle.std.specs.Prelude.{◌≡◌, ◌≤◌, List, [], length, map, Some, Ok, All, IsOk, IfOk, IfErr};
+ghost use Rattle.std.specs.Prelude.{IfSome, IsSome, None};
 ghost use Rattle.irs_base.specs.Limits.{most_bytes, most_centers, most_files};
 ghost use Rattle.irs_calendar.specs.Runs.{set_of_runs};
 ghost use Rattle.irs_calendar.specs.Files.{sections_of};
 ghost use Rattle.irs_calendar.specs.GoodDays.{SameDays};
-ghost use Rattle.irs_calendar.specs.Sections.{is_named, section_named, AreDistinct};
+ghost use Rattle.irs_calendar.specs.Sections.{is_named, AreDistinct};
 ghost use Rattle.irs_calendar.specs.Selected.{sections_named, day_set_of, first_missing, CoversCommon};
 ghost use Rattle.irs_calendar.specs.declared.sections.Section.{Section};
 ghost use Rattle.irs_calendar.specs.declared.calendars.SelErr.TheVariants.{Memory as NoMemory};

@@ -1,5 +1,5 @@
 //! The good days of several centres together: a payment waits for all of them.
-ghost use Rattle.std.specs.Prelude.{◌≡◌, ◌<◌, ◌^◌, ℤ, pos, ◌+ℤ◌, ◌≤ℤ◌, IfOk, map};
+ghost use Rattle.std.specs.Prelude.{◌≡◌, ◌<◌, ◌^◌, pos, ◌+ℤ◌, ◌≤ℤ◌, IfOk, map};
 ghost use Rattle.irs_base.specs.Days.{first_day, last_day};
 ghost use Rattle.irs_calendar.specs.GoodDays.{SameDays};
 ghost use Rattle.irs_calendar.specs.Runs.{set_of_runs};

@@ -1,6 +1,6 @@
 //! The holidays of a centre: days that rise strictly.
-ghost use Rattle.std.specs.Prelude.{◌≡◌, ℕ, ℤ, ◌<ℤ◌, List, [], ◌∷◌, ◌++◌, OnOk, OnErr, slice_get, Some, length};
-ghost use Rattle.irs_calendar.specs.Rising.{IsRising, IsAfter, is_listed, all_before};
+ghost use Rattle.std.specs.Prelude.{◌≡◌, ℤ, List, [], ◌∷◌, ◌++◌, OnOk, OnErr, Some, length};
+ghost use Rattle.irs_calendar.specs.Rising.{IsRising, IsAfter, all_before};
 
 use irs_base::{Day, Memory};
 use std::alloc::Global;

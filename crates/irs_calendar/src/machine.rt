@@ -3,7 +3,7 @@
 //!
 //! On one line a fault of the grammar comes before a centre that stands twice and before a holiday
 //! too many.
-ghost use Rattle.std.specs.Prelude.{◌≡◌, ℕ, Bool, List, [], ◌∷◌, ◌++◌, Ok, OnOk, OnErr, map};
+ghost use Rattle.std.specs.Prelude.{◌≡◌, Ok};
 ghost use Rattle.irs_calendar.specs.Machine.{fits_section, begun, after_center, after_cover, after_weekend};
 ghost use Rattle.irs_calendar.specs.Machine.{after_holiday, after_line, said_of};
 ghost use Rattle.irs_calendar.specs.Given.{Gives};

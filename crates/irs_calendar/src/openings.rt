@@ -1,7 +1,6 @@
 //! The runs of days that several sections leave open, from one closed day to the next, so that a set
 //! is made in the time of its runs and the holidays.
-ghost use Rattle.std.specs.Prelude.{◌≡◌, IfOk, map};
-ghost use Rattle.irs_calendar.specs.Runs.{CoveredRuns};
+ghost use Rattle.std.specs.Prelude.{IfOk, map};
 ghost use Rattle.irs_calendar.specs.Represents.{Represents};
 ghost use Rattle.irs_calendar.specs.Sections.{all_open};
 

@@ -2,8 +2,8 @@
 //!
 //! A set of good days is kept as its cover and its runs and nothing else. The runs are read through
 //! one call, which takes a step, so the number of steps of a search is the number of runs it reads.
-ghost use Rattle.std.specs.Prelude.{◌≡◌, ℕ, ◌+◌, ◌-◌, ◌*◌, ◌^◌, ◌<◌, ◌≤◌, ℤ, length, IfSome, IfNone};
-ghost use Rattle.irs_calendar.specs.GoodDays.{DaySet, Next, Prev, IsWhole};
+ghost use Rattle.std.specs.Prelude.{◌≡◌, ◌+◌, ◌-◌, ◌*◌, ◌^◌, ◌<◌, ◌≤◌, ℤ, length, IfSome, IfNone};
+ghost use Rattle.irs_calendar.specs.GoodDays.{Next, Prev, IsWhole};
 ghost use Rattle.irs_calendar.specs.Runs.{CoveredRuns, AreRuns, set_of_runs};
 
 use crate::runs::{Run, Runs};

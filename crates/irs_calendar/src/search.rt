@@ -1,5 +1,5 @@
 //! Searching runs by halves.
-ghost use Rattle.std.specs.Prelude.{◌≡◌, ℕ, ◌+◌, ◌-◌, ◌*◌, ◌^◌, ◌≤◌, length};
+ghost use Rattle.std.specs.Prelude.{◌≡◌, ◌+◌, ◌-◌, ◌*◌, ◌^◌, ◌≤◌, length};
 ghost use Rattle.irs_calendar.specs.Splits.{comes_before, IsDownward, Splits};
 
 use crate::Steps;

@@ -1,7 +1,6 @@
 //! What a calendar file says of one centre.
-ghost use Rattle.std.specs.Prelude.{◌≡◌, ◌<◌, map};
+ghost use Rattle.std.specs.Prelude.{◌≡◌, ◌<◌};
 ghost use Rattle.irs_base.specs.Days.{weekday_at};
-ghost use Rattle.irs_calendar.specs.Sections.{is_open, all_open};
 
 use crate::holidays::Holidays;
 use irs_base::{Day, FIRST_DAY, Text};

@@ -1,6 +1,5 @@
 //! The weekdays that are closed in some section, and how long they stay so.
-ghost use Rattle.std.specs.Prelude.{◌≡◌, ℕ, ◌+◌, ◌<◌, ◌≤◌, ◌^◌, map, slice_index_or};
-ghost use Rattle.irs_base.specs.Days.{weekday_at};
+ghost use Rattle.std.specs.Prelude.{◌≡◌, ◌+◌, ◌<◌, ◌^◌, map};
 ghost use Rattle.irs_calendar.specs.Weekends.{off_on, IsStretch, AreShut, AreNext, ArePlaces, IsWeek, IsWeekend};
 ghost use Rattle.irs_calendar.specs.Weekends.{day_after, weekend_after};
 

@@ -3,9 +3,8 @@
 //! Fields are separated by spaces or tabs, and those at a line's end are dropped. A line of spaces and
 //! tabs alone and a line whose first byte is `#` say nothing. A line that begins with a space or a tab
 //! and isn't blank is at fault.
-ghost use Rattle.std.specs.Prelude.{◌≡◌, ◌<◌, IfSome, true, List, ◌∷◌, []};
+ghost use Rattle.std.specs.Prelude.{◌≡◌, ◌<◌, IfSome, true};
 ghost use Rattle.std.specs.List.{list_all};
-ghost use Rattle.std.specs.Str.{bytes_eq};
 ghost use Rattle.irs_base.specs.Fields.{fields};
 ghost use Rattle.irs_calendar.specs.Machine.{said_of};
 ghost use Rattle.irs_calendar.specs.Words.{is_plain, is_center_name, said_center, said_cover, place_of, weekend_of};

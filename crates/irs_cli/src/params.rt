@@ -1,5 +1,5 @@
 //! The words of a command that are parameters and no files.
-ghost use Rattle.std.specs.Prelude.{◌≡◌, ◌↔◌, ℕ, ℤ, Some, IfSome, IfNone, IsTrue, slice_get};
+ghost use Rattle.std.specs.Prelude.{◌≡◌, ◌↔◌, ℕ, ℤ, Some, IfSome, IfNone, IsTrue};
 ghost use Rattle.irs_resets.specs.Tenors.{tenor_at};
 ghost use Rattle.irs_cli.specs.Commands.{texts, IsRequest};
 ghost use Rattle.irs_cli.specs.Params.{At, IsCountWord, IsDateWord, IsMeanWord, IsSideWord, IsStepWord, IsStreamWord};

@@ -1,5 +1,5 @@
 //! The text of a schedule, one put each line.
-ghost use Rattle.std.specs.Prelude.{◌≡◌, ℕ, ◌++◌, OnOk, OnErr};
+ghost use Rattle.std.specs.Prelude.{◌≡◌, OnOk, OnErr};
 ghost use Rattle.irs_outside.specs.Outside.{Rose, Grew, GrewByFront};
 ghost use Rattle.irs_schedule.specs.RowTexts.{text_of};
 

@@ -1,5 +1,5 @@
 //! The amount of a payment: the sum over its periods, rounded once to the decimals of its currency.
-ghost use Rattle.std.specs.Prelude.{◌≡◌, ℕ, ℤ, ◌-◌, ◌*◌, ◌≤◌, ◌^◌, IfOk, IfErr, OnOk, List, length, nat_lt, pos, ◌≤ℤ◌};
+ghost use Rattle.std.specs.Prelude.{◌≡◌, ℕ, ◌-◌, ◌≤◌, IfOk, IfErr, OnOk, length, nat_lt, pos, ◌≤ℤ◌};
 ghost use Rattle.irs_base.specs.Order.{First};
 ghost use Rattle.irs_daycount.specs.Actual.{act_act_denominator};
 ghost use Rattle.irs_compound.specs.Amounts.{IsPayment, AllPriced, Passes, Pays, RoundedAt, code_for, most_places};

@@ -4,14 +4,13 @@
 //! An amount that leaves the range stops it: each part of an amount and each of the two sums is at
 //! most 10^14 units of currency in size, rates are at most 10. Rates are looked at before they are
 //! multiplied, and parts before they are added.
-ghost use Rattle.std.specs.Prelude.{◌≡◌, ℕ, ℤ, ◌+◌, ◌*◌, ◌-◌, ◌<◌, ◌≤◌, ◌^◌, pos, ◌<ℤ◌, ◌≤ℤ◌, ◌+ℤ◌, ◌-ℤ◌, ◌*ℤ◌};
-ghost use Rattle.std.specs.Prelude.{unsigned_abs, IfSome, IfNone, IfOk, IfErr, SomeIff, MatchBool, IsSome, IsSomeAnd};
-ghost use Rattle.std.specs.Prelude.{OnOk};
+ghost use Rattle.std.specs.Prelude.{◌≡◌, ◌+◌, ◌*◌, ◌-◌, ◌≤◌, pos, ◌≤ℤ◌, ◌+ℤ◌, ◌-ℤ◌, ◌*ℤ◌};
+ghost use Rattle.std.specs.Prelude.{unsigned_abs, IfSome, IfNone, SomeIff, MatchBool, IsSome};
 ghost use Rattle.irs_base.specs.Limits.{most_notional, most_rate};
 ghost use Rattle.irs_terms.specs.Lawful.{IsNotional};
 ghost use Rattle.irs_daycount.specs.Actual.{act_act_denominator};
 ghost use Rattle.irs_compound.specs.declared.periods.Parts.{Parts};
-ghost use Rattle.irs_compound.specs.Amounts.{IsFraction, IsTerm, StandsAt, PartsWithin, RatesWithin, Within, amount};
+ghost use Rattle.irs_compound.specs.Amounts.{IsTerm, StandsAt, PartsWithin, RatesWithin, amount};
 ghost use Rattle.irs_compound.specs.Amounts.{kept_of, most_amount, most_balance, most_exact, most_product};
 ghost use Rattle.irs_compound.specs.Balances.{BalanceFits, Takes, Stops, after};
 

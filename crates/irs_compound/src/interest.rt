@@ -1,5 +1,5 @@
 //! What a balance earns in a period: balance times rate times fraction.
-ghost use Rattle.std.specs.Prelude.{◌≡◌, ◌+◌, ◌*◌, ◌<◌, ◌≤◌, ◌^◌, pos, ◌<ℤ◌, ◌≤ℤ◌, ◌+ℤ◌, ◌*ℤ◌, unsigned_abs};
+ghost use Rattle.std.specs.Prelude.{◌≡◌, ◌*◌, ◌≤◌, ◌*ℤ◌, unsigned_abs};
 ghost use Rattle.irs_base.specs.Limits.{most_rate};
 ghost use Rattle.irs_compound.specs.Amounts.{IsFraction, Interest, most_balance, most_product};
 

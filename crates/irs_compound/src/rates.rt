@@ -5,8 +5,8 @@
 //! exact value (2006 ISDA Definitions, article 8). Under FpML's ZeroInterestRateMethod a rate below 0
 //! is then 0, and the base rate stays. That the base rate is rounded as the rate is, and what the
 //! treatment is of, are this project's own.
-ghost use Rattle.std.specs.Prelude.{◌≡◌, ℤ, ◌+◌, ◌-◌, ◌*◌, ◌≤◌, ◌^◌, pos, ◌+ℤ◌, ◌*ℤ◌, unsigned_abs};
-ghost use Rattle.irs_base.specs.Rounding.{rounded, Rounded};
+ghost use Rattle.std.specs.Prelude.{◌≡◌, ◌+◌, ◌-◌, ◌*◌, ◌≤◌, ◌^◌, pos, ◌+ℤ◌, ◌*ℤ◌, unsigned_abs};
+ghost use Rattle.irs_base.specs.Rounding.{rounded};
 ghost use Rattle.irs_terms.specs.Lawful.{IsRate, IsLawfulValues, IsLawfulFloat};
 ghost use Rattle.irs_base.specs.Limits.{most_rate};
 ghost use Rattle.irs_compound.specs.declared.periods.Rates.{Rates};

@@ -1,9 +1,9 @@
 -- Every rule that is broken by a table of elements is one of K2 to K7.
 use Rattle.irs_base.specs.declared.places.Broken.{Broken}
 use Rattle.irs_base.specs.declared.places.Rule.{Rule}
-use Rattle.irs_base.specs.declared.places.Rule.TheVariants.{K2, K3, K4, K5, K6, K7}
-use Rattle.irs_elements.specs.Elements.{FaultAt, FaultUnder, ShapeFault, inside, missing, no_href, odd, own, own_rule}
-use Rattle.irs_elements.specs.Elements.{refused, shape, too_many, under, unknown, unmet}
+use Rattle.irs_base.specs.declared.places.Rule.TheVariants.{K3, K5, K6}
+use Rattle.irs_elements.specs.Elements.{FaultAt, FaultUnder, IsOfTables, ShapeFault, inside, missing, no_href, odd}
+use Rattle.irs_elements.specs.Elements.{own, own_rule, refused, shape, too_many, under, unknown, unmet}
 use Rattle.irs_elements.specs.Leaves.{has_value, leaf_rule, out_of_profile, text_of, text_rule}
 use Rattle.irs_elements.specs.declared.table.Choice.{Choice}
 use Rattle.irs_elements.specs.declared.table.Kind.{Kind}
@@ -18,16 +18,6 @@ use Rattle.std.proofs.Common.{◌≡◌, ℕ, Bool, true, false, List, Option, S
 use Rattle.std.specs.List.{list_any}
 use Rattle.std.specs.Prelude.{is_some}
 use Rattle.std.specs.Str.{bytes_eq}
-
--- the rule is one of K2 to K7
-abbrev pub IsOfTables : Rule → Type 0
-IsOfTables K2 = Unit {0}
-IsOfTables K3 = Unit {0}
-IsOfTables K4 = Unit {0}
-IsOfTables K5 = Unit {0}
-IsOfTables K6 = Unit {0}
-IsOfTables K7 = Unit {0}
-IsOfTables k = ⊥
 
 abbrev Told : Option Rule → Type 0
 Told None = Unit {0}

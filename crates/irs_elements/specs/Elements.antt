@@ -2,7 +2,7 @@
 use Rattle.irs_base.specs.Elements.{count}
 use Rattle.irs_base.specs.declared.places.Broken.{Broken}
 use Rattle.irs_base.specs.declared.places.Rule.{Rule}
-use Rattle.irs_base.specs.declared.places.Rule.TheVariants.{K2, K3, K4, K5, K7}
+use Rattle.irs_base.specs.declared.places.Rule.TheVariants.{K2, K3, K4, K5, K6, K7}
 use Rattle.irs_elements.specs.Leaves.{leaf_rule}
 use Rattle.irs_elements.specs.declared.table.Choice.{Choice}
 use Rattle.irs_elements.specs.declared.table.Choice.TheVariants.{Free, AtMostOne, ExactlyOne, Reference}
@@ -230,3 +230,13 @@ module _ (rows : List Row) (names : List (List ℕ)) (stream : ℕ) where
   -- those of the members of the object d at row r
   abbrev pub MemberFault : ℕ → ℕ → Data → Broken → Type 0
   MemberFault r i d f = (c : ℕ) × ((row : Row) × (IsMember rows names r c row × FaultUnder c row i d f))
+
+-- a rule that a table of elements can break: one of K2 to K7
+abbrev pub IsOfTables : Rule → Type 0
+IsOfTables K2 = Unit {0}
+IsOfTables K3 = Unit {0}
+IsOfTables K4 = Unit {0}
+IsOfTables K5 = Unit {0}
+IsOfTables K6 = Unit {0}
+IsOfTables K7 = Unit {0}
+IsOfTables k = ⊥

@@ -1,11 +1,11 @@
 -- The day count fraction that a text of cash flows states: a decimal without sign.
-use Rattle.irs_base.specs.Decimals.{AreDigits, AreParts, number_after, number_of}
+use Rattle.irs_base.specs.Decimals.{AreParts, number_after, number_of}
 use Rattle.irs_base.specs.Rounding.{Rounded}
 use Rattle.irs_base.specs.Texts.{most_places}
 use Rattle.irs_base.specs.declared.line.Dec.{Dec}
 use Rattle.irs_base.specs.declared.rounding.Direction.TheVariants.{Nearest}
 use Rattle.irs_elements.specs.Decimals.{are_parts, before_point, behind_point}
-use Rattle.std.specs.Prelude.{◌≡◌, ◌⊎◌, ℕ, ◌+◌, ◌*◌, ◌^◌, ◌≤◌, nat_le, List, [], ◌∷◌, ◌++◌, length, take, drop, pos}
+use Rattle.std.specs.Prelude.{◌≡◌, ◌⊎◌, ℕ, ◌+◌, ◌*◌, ◌^◌, nat_le, List, [], ◌∷◌, ◌++◌, length, take, drop, pos}
 use Rattle.std.specs.Prelude.{Option, Some, None, if◌then◌else◌}
 
 -- The text is digits with at most one point, at least one digit, at most 18 before the point. v has as

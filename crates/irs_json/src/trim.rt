@@ -1,5 +1,5 @@
 //! Text without the white space at its ends: space, tab, LF and CR, and no other byte.
-ghost use Rattle.std.specs.Prelude.{◌≡◌, ◌++◌, ◌∷◌, [], ℕ, List, true, MatchOption};
+ghost use Rattle.std.specs.Prelude.{◌≡◌, ◌++◌, ◌∷◌, [], ℕ, true, MatchOption};
 ghost use Rattle.irs_json.specs.Trim.{NoSpaceFirst, NoSpaceLast, is_space, trim_front, trim_back, trim as trim_of};
 
 // The text after a first byte of white space.

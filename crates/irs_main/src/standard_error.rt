@@ -1,5 +1,5 @@
 //! The standard error of the system: a trusted edge.
-ghost use Rattle.std.specs.Prelude.{◌≡◌, ℕ, List, Option, None};
+ghost use Rattle.std.specs.Prelude.{None};
 
 use irs_cli::{PutFailed, Sink};
 use std::io::{Stderr, Write};

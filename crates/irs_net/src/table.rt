@@ -1,7 +1,7 @@
 //! The net of a schedule: one row for each date and currency on which something falls due.
 //!
 //! That exchanges and payments of one date and currency are netted is this project's own.
-ghost use Rattle.std.specs.Prelude.{◌≡◌, ℕ, ◌≤◌, List, map, length, IfOk};
+ghost use Rattle.std.specs.Prelude.{◌≡◌, List, map, length, IfOk};
 ghost use Rattle.irs_base.specs.Members.{Every};
 ghost use Rattle.irs_terms.specs.declared.currency.Currency.{Currency};
 ghost use Rattle.irs_net.specs.NetParts.{parts_of};

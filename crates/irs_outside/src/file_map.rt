@@ -1,6 +1,6 @@
 //! Names and the bytes under them, in memory. Each name stands once; what is added under a name
 //! that stands already takes the place of what stood there.
-ghost use Rattle.std.specs.Prelude.{◌≡◌, ◌≢◌, ℕ, List, take, Option, Some, None, IfOk, OnOk, OnErr, option_map};
+ghost use Rattle.std.specs.Prelude.{◌≡◌, ◌≢◌, ℕ, List, take, Some, None, IfOk, OnOk, OnErr, option_map};
 ghost use Rattle.irs_outside.specs.FileMaps.{bytes_under};
 
 use irs_base::Memory;

@@ -1,9 +1,8 @@
 //! Files in memory, with calls that are to fail: for tests, and for whoever uses the program as a
 //! library.
-ghost use Rattle.std.specs.Prelude.{◌≡◌, ◌≢◌, ℕ, ◌≤◌, List, [], ◌∷◌, ◌++◌, length, take, Option, Some, None, IfOk};
-ghost use Rattle.std.specs.Prelude.{IfSome, IsErrOf, OnOk, OnErr, option_map, string_bytes};
+ghost use Rattle.std.specs.Prelude.{◌≡◌, ◌≢◌, ℕ, ◌≤◌, List, [], ◌∷◌, ◌++◌, length, take, Some, None, IfOk};
+ghost use Rattle.std.specs.Prelude.{IfSome, IsErrOf, OnOk, OnErr};
 ghost use Rattle.irs_outside.specs.Outside.{Rose, next_count};
-ghost use Rattle.irs_outside.specs.FileMaps.{bytes_under};
 ghost use Rattle.irs_outside.specs.MemFiles.{file_under, marked_calls, calls_so_far, faults_so_far, last_failed};
 ghost use Rattle.irs_outside.specs.MemFiles.{IsMarked};
 

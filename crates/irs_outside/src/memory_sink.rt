@@ -1,6 +1,6 @@
 //! A sink in memory, with room that is taken beforehand and a call that is to fail: for tests, and
 //! for whoever uses the program as a library.
-ghost use Rattle.std.specs.Prelude.{◌≡◌, ℕ, ◌+◌, ◌-◌, ◌<◌, ◌≤◌, List, [], ◌++◌, take, length, Option, Some, None, IfOk};
+ghost use Rattle.std.specs.Prelude.{◌≡◌, ◌+◌, ◌-◌, ◌<◌, ◌≤◌, [], ◌++◌, take, length, Some, None, IfOk};
 ghost use Rattle.std.specs.Prelude.{OnOk, OnErr};
 ghost use Rattle.irs_outside.specs.Outside.{Rose, GrewByFront, next_count};
 ghost use Rattle.irs_outside.specs.MemSinks.{is_marked_at, IsMarkedPut};

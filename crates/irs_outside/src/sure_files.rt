@@ -1,7 +1,6 @@
 //! Files in memory that never fail: a name that doesn't stand is an empty file.
-ghost use Rattle.std.specs.Prelude.{◌≡◌, ◌≢◌, ℕ, ◌≤◌, List, [], length, take, Option, Some, None, IfOk, IfSome};
+ghost use Rattle.std.specs.Prelude.{◌≡◌, ◌≢◌, ℕ, ◌≤◌, List, [], length, take, Some, None, IfOk};
 ghost use Rattle.std.specs.Prelude.{IsErrOf, OnOk, OnErr};
-ghost use Rattle.irs_outside.specs.Outside.{Rose};
 ghost use Rattle.irs_outside.specs.SureFiles.{sure_file};
 
 use crate::file_map::FileMap;

@@ -1,11 +1,12 @@
 -- The rows of a stream without a broken rule keep what a fixing file asks of them.
-use Rattle.std.proofs.Common.{◌≡◌, inl, inr, ℕ, zero, suc, ◌+◌, ◌-◌, ◌^◌, ◌<◌, ◌≤◌, List, [], ◌∷◌, length, All, Some}
+use Rattle.std.proofs.Common.{◌≡◌, inl, inr, ℕ, zero, suc, ◌+◌, ◌-◌, ◌^◌, ◌<◌, ◌≤◌, List, length, All, Some}
 use Rattle.std.proofs.Common.{Result, Ok, Err, IfOk, ℤ, ◌<ℤ◌, ◌≤ℤ◌, refl, sym, subst, arith}
 use Rattle.std.specs.Prelude.{slice_get}
 use Rattle.std.proofs.lemmas.Option.{get_or_from_slice_get, slice_get_within}
 use Rattle.jiff_core.proofs.SignedLemmas.{signed_arith}
 use Rattle.irs_base.proofs.Decided.{order_of}
-use Rattle.irs_base.specs.Members.{EachNumbered, Every}
+use Rattle.irs_base.proofs.MemberLemmas.{numbered_get}
+use Rattle.irs_base.specs.Members.{Every}
 use Rattle.irs_terms.specs.Lawful.{IsLawfulFloat, IsLawfulLeg, IsLawfulStream}
 use Rattle.irs_terms.specs.declared.amounts.FloatTerms.{FloatTerms}
 use Rattle.irs_terms.specs.declared.results.Reset.{Reset}
@@ -20,14 +21,6 @@ use Rattle.irs_overnight.specs.Sources.{PaysFloating}
 use Rattle.irs_overnight.specs.declared.derived.DerivedRow.{DerivedRow}
 use Rattle.irs_overnight.proofs.FileRead.{are_fixings}
 use Rattle.irs_overnight.proofs.SourceLemmas.{every_at, part_floats}
-
-pub numbered_at : (P : ℕ → DerivedRow → Type 0) (n k : ℕ) (rows : List DerivedRow) (row : DerivedRow)
-    → EachNumbered P n rows → slice_get rows k ≡ Some row → P (n + k) row
-numbered_at P n k [] row h at = absurd (let low = slice_get_within [] k row at in omega (arith, low))
-numbered_at P n zero (x ∷ rows) row h at = let e : x ≡ row = cc in let same : n ≡ n + 0 = omega arith in
-    subst (λ (m : ℕ). P m row) same (subst (P n) e h.0)
-numbered_at P n (suc k) (x ∷ rows) row h at = let same : n + 1 + k ≡ n + suc k = omega arith in
-    subst (λ (m : ℕ). P m row) same (numbered_at P (n + 1) k rows row h.1 at)
 
 -- fixing dates rise where each is after the one before it
 module _ (resets : List Reset) (none : (n : ℕ) → NotAfter resets n → ⊥) where
@@ -129,7 +122,7 @@ reads_back a h bounds rows over kept good = λ float pays.
     }) in
     let dated : (k : ℕ) (row : DerivedRow) → slice_get rows k ≡ Some row
     → IsDated over.source.adjusted over.source.resets (1 + k) row = λ k row at.
-    let is = numbered_at (IsDerivedRow over.source) 1 k rows row over.derived.each at in
+    let is = numbered_get (IsDerivedRow over.source) 1 k rows row over.derived.each at in
     (is.stands, is.period, is.fixing) in
     let lawful = lawful_float a h float pays in
     are_fixings float.tenor float.index rows (record { named = lawful.index; lasting = lawful.tenor })

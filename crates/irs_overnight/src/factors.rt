@@ -1,6 +1,6 @@
 //! Daily rates compounded: each factor is the one before it times 1 and the rate times its days over
 //! the days of a year. The product and its rounding at 15 decimals are this project's own.
-ghost use Rattle.std.specs.Prelude.{◌≡◌, ◌+◌, ◌*◌, ◌^◌, ◌<◌, ◌≤◌, All, IfSome, IfNone, None, pos, ◌<ℤ◌, ◌≤ℤ◌, ◌+ℤ◌};
+ghost use Rattle.std.specs.Prelude.{◌≡◌, ◌+◌, ◌*◌, ◌^◌, ◌<◌, ◌≤◌, All, IfSome, IfNone, None, pos, ◌<ℤ◌, ◌+ℤ◌};
 ghost use Rattle.std.specs.Prelude.{◌-ℤ◌, ◌*ℤ◌, unsigned_abs};
 ghost use Rattle.irs_base.specs.Days.{all_days};
 ghost use Rattle.irs_base.specs.Limits.{most_rate};

@@ -1,12 +1,11 @@
 //! The observations of a calculation period: each daily rate with the days for which it holds.
-ghost use Rattle.std.specs.Prelude.{◌≡◌, ◌<◌, ◌≤◌, length, IfOk, IfSome, All, ◌<ℤ◌, unsigned_abs};
-ghost use Rattle.irs_base.specs.Days.{all_days};
+ghost use Rattle.std.specs.Prelude.{◌≡◌, ◌<◌, length, IfOk, IfSome, All, ◌<ℤ◌};
 ghost use Rattle.irs_base.specs.Members.{day_at};
 ghost use Rattle.irs_terms.specs.Lawful.{IsRate};
 ghost use Rattle.irs_overnight.specs.Bounds.{IsSmall};
 ghost use Rattle.irs_overnight.specs.Observations.{AreObservations, AreObserved, IsObservation, first_absent};
 ghost use Rattle.irs_overnight.specs.Observations.{next_start, observed_on};
-ghost use Rattle.irs_overnight.specs.Sources.{daily_lines, one_day, rate_by};
+ghost use Rattle.irs_overnight.specs.Sources.{daily_lines, rate_by};
 ghost use Rattle.irs_overnight.specs.Starts.{LacksDays};
 
 use crate::starts::{days_between, leaves_cover, starts};

@@ -1,5 +1,5 @@
 //! The rate of a calculation period by its daily rates.
-ghost use Rattle.std.specs.Prelude.{◌≡◌, ◌<◌, ◌≤◌, ◌^◌, All, Some, IfOk, IfSome, IfNone, IsTrue, ◌<ℤ◌, ◌-ℤ◌, length};
+ghost use Rattle.std.specs.Prelude.{◌≡◌, ◌≤◌, All, Some, IfOk, IfSome, IfNone, IsTrue, ◌<ℤ◌, ◌-ℤ◌};
 ghost use Rattle.irs_base.specs.Faults.{IfBroken};
 ghost use Rattle.irs_base.specs.Order.{First};
 ghost use Rattle.irs_resets.specs.ResetDates.{IsPeriod};
@@ -9,12 +9,11 @@ ghost use Rattle.irs_overnight.specs.DerivedRules.{BreaksPeriod, derived_before,
 ghost use Rattle.irs_overnight.specs.Bounds.{IsSmall};
 ghost use Rattle.irs_overnight.specs.Factors.{PassesLimit};
 ghost use Rattle.irs_overnight.specs.FileLaw.{IsInRange, IsSmallFound};
-ghost use Rattle.irs_overnight.specs.FoundRates.{FindsRate, IsFound, PeriodFails};
+ghost use Rattle.irs_overnight.specs.FoundRates.{FindsRate, IsFound};
 ghost use Rattle.irs_overnight.specs.PeriodTurns.{FirstWay, NoneFails};
 ghost use Rattle.irs_base.specs.Days.{IsDay};
 ghost use Rattle.irs_overnight.specs.DailySources.{daily_source, fixing_at};
 ghost use Rattle.irs_overnight.specs.Sources.{basis_of, daily_lines};
-ghost use Rattle.irs_overnight.specs.declared.derived.DerivedRow.{DerivedRow as Row};
 ghost use Rattle.irs_overnight.specs.declared.periods.PeriodFault.{PeriodFault as WayToFail};
 
 use crate::derived::{Derived, DerivedRow, Found};

@@ -1,10 +1,8 @@
 //! The rules of a stream whose daily rates are compounded: its day count, and the order of its fixing
 //! dates.
-ghost use Rattle.std.specs.Prelude.{◌≡◌, All, ◌<◌, ◌≤◌, ◌^◌, IfOk, IfSome, IfNone, None, Some, IsTrue, length, nat_lt};
-ghost use Rattle.std.specs.Prelude.{codes};
+ghost use Rattle.std.specs.Prelude.{◌≡◌, All, ◌<◌, ◌≤◌, ◌^◌, IfOk, IfSome, None, Some, IsTrue, length, nat_lt};
 ghost use Rattle.irs_base.specs.Faults.{IfBroken};
 ghost use Rattle.irs_base.specs.Order.{First, IsFirst};
-ghost use Rattle.irs_base.specs.Paths.{path_of};
 ghost use Rattle.irs_base.specs.declared.places.Fault.{Fault as BrokenRule};
 ghost use Rattle.irs_overnight.specs.DerivedRows.{AreDerived};
 ghost use Rattle.irs_overnight.specs.FileLaw.{IsInRange};

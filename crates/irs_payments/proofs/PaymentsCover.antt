@@ -1,7 +1,6 @@
 -- The payments of a stream cover its calculation periods, one behind the other.
-use Rattle.std.proofs.Common.{◌≡◌, inl, inr, ℕ, ◌+◌, ◌-◌, ◌<◌, ◌≤◌, List, [], ◌∷◌, length, ℤ, ◌<ℤ◌, sym, ◌∙◌, ap, subst}
+use Rattle.std.proofs.Common.{◌≡◌, ℕ, ◌-◌, ◌<◌, ◌≤◌, List, ◌∷◌, length, ℤ, ◌<ℤ◌, sym, ◌∙◌, ap, subst}
 use Rattle.std.proofs.Common.{arith}
-use Rattle.std.proofs.lemmas.Bool.{cases_lt}
 use Rattle.irs_base.specs.DayLists.{AreDays}
 use Rattle.irs_base.specs.Listed.{Member, IsRising, RunsFromTo}
 use Rattle.irs_terms.specs.Lawful.{IsLawfulStream}
@@ -18,16 +17,8 @@ use Rattle.irs_payments.proofs.PaymentLemmas.{some_cuts}
 use Rattle.irs_payments.proofs.PlaceLemmas.{place_same}
 use Rattle.irs_payments.proofs.CutsThere.{cuts_there, paid_there}
 use Rattle.irs_terms.specs.FirstDay.{first_day_of}
-use Rattle.irs_base.specs.Members.{day_at, EachNumbered}
-
--- the member with that number
-numbered_at : {X : Type 0} (P : ℕ → X → Type 0) (n : ℕ) (xs : List X) (j : ℕ) → n ≤ j → j < n + length xs
-    → EachNumbered P n xs → (x : X) × P j x
-numbered_at P n [] j low high h = absurd (omega (arith, low, high))
-numbered_at P n (x ∷ xs) j low high h = elim (cases_lt n j) [
-  | inl less ↦ numbered_at P (n + 1) xs j (omega arith) (omega (arith, high)) h.1
-  | inr more ↦ let same : n ≡ j = omega arith in (x, subst (λ (m : ℕ). P m x) same h.0)
-]
+use Rattle.irs_base.specs.Members.{day_at}
+use Rattle.irs_base.proofs.MemberLemmas.{numbered_has}
 
 -- each payment has a date from the start at its place
 module _ (s : Stream) (set : DaySet) (b a : List ℤ) (run : RunsFromTo (first_day_of s) s.termination.day b)
@@ -39,8 +30,8 @@ module _ (s : Stream) (set : DaySet) (b a : List ℤ) (run : RunsFromTo (first_d
 
   payment_of : (j : ℕ) → 1 ≤ j → j < length (0 ∷ later) → (p : Payment) × IsPayment s set b a are.pay j p
   payment_of j low high =
-      numbered_at (IsPayment s set b a are.pay) 1 ps j low
-      (omega (arith, high, are.count, ap length same_pay, length-pay s b run later rising sound complete)) are.each
+      numbered_has (IsPayment s set b a are.pay) 1 ps j are.each low
+      (omega (arith, high, are.count, ap length same_pay, length-pay s b run later rising sound complete))
 
   date_of : (j : ℕ) → 1 ≤ j → j < length (0 ∷ later)
       → (r : ℤ) × IsPaymentDate s.pay set (day_at a (date_place s (0 ∷ later) j)) r

@@ -1,5 +1,5 @@
 //! The places at which payment periods end. The list of boundaries is walked once.
-ghost use Rattle.std.specs.Prelude.{◌≡◌, ◌<◌, length, IfOk};
+ghost use Rattle.std.specs.Prelude.{◌<◌, length, IfOk};
 ghost use Rattle.irs_base.specs.Listed.{IsRising};
 ghost use Rattle.irs_terms.specs.Lawful.{IsLawfulStream};
 ghost use Rattle.irs_payments.specs.Cuts.{AreCuts};

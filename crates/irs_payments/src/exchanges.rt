@@ -5,8 +5,8 @@
 //! begins before it. The dates of exchanges, and the sign where the notional changes at a step,
 //! are rules of this project's own: the payer pays what the notional falls by, and receives what it
 //! rises by.
-ghost use Rattle.std.specs.Prelude.{◌≡◌, ◌⊎◌, ◌-◌, ◌^◌, ◌<◌, ◌≤◌, ◌++◌, length, ℤ, pos, ◌<ℤ◌, ◌≤ℤ◌, List, IfOk, OnOk};
-ghost use Rattle.std.specs.Prelude.{OnErr, unsigned_abs};
+ghost use Rattle.std.specs.Prelude.{◌≡◌, ◌⊎◌, ◌-◌, ◌^◌, ◌<◌, ◌≤◌, ◌++◌, length, pos, ◌<ℤ◌, ◌≤ℤ◌, List, IfOk, OnOk};
+ghost use Rattle.std.specs.Prelude.{unsigned_abs};
 ghost use Rattle.irs_base.specs.Rounding.{Rounded};
 ghost use Rattle.irs_base.specs.declared.rounding.Direction.TheVariants.{Nearest};
 ghost use Rattle.irs_base.specs.declared.places.Fault.{Fault};

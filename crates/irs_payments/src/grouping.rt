@@ -6,7 +6,7 @@
 //! given; else the end of the first calculation period where there is a payment for each period;
 //! else the first day of the first calculation period, which may be before the effective date. The
 //! anchor need not be a roll day.
-ghost use Rattle.std.specs.Prelude.{◌≡◌, ◌↔◌, ◌<◌, ◌≤◌, ℤ, ◌<ℤ◌, ◌≤ℤ◌, IsTrue, IfSome, IfOk, IfErr, Option, length};
+ghost use Rattle.std.specs.Prelude.{◌≡◌, ◌↔◌, ◌<◌, ◌<ℤ◌, ◌≤ℤ◌, IsTrue, IfSome, IfOk, IfErr, length};
 ghost use Rattle.irs_base.specs.Listed.{Member, IsRising};
 ghost use Rattle.irs_base.specs.declared.places.Fault.{Fault};
 ghost use Rattle.irs_base.specs.Order.{First, comes_before};

@@ -1,6 +1,6 @@
 //! The payments of a stream in order. A rule that is broken by any of them is K33 before K38, and
 //! under each the first payment.
-ghost use Rattle.std.specs.Prelude.{◌≡◌, ◌⊎◌, ℕ, ◌+◌, ◌-◌, ◌^◌, ◌<◌, ℤ, ◌<ℤ◌, List, length, Option, IfOk, IsErrOf, Err};
+ghost use Rattle.std.specs.Prelude.{◌≡◌, ◌⊎◌, ℕ, ◌+◌, ◌-◌, ◌^◌, ◌<◌, ◌<ℤ◌, List, length, IfOk, IsErrOf, Err};
 ghost use Rattle.irs_base.specs.Elements.{payment_dates};
 ghost use Rattle.irs_base.specs.declared.places.Rule.TheVariants.{K33};
 ghost use Rattle.irs_base.specs.declared.places.Fault.{Fault};

@@ -1,6 +1,6 @@
 //! Steps begin at boundaries: a notional, rate, multiplier or spread changes only on the first day
 //! of a calculation period. That this is a rule of its own (K36) is this project's own.
-ghost use Rattle.std.specs.Prelude.{◌≡◌, ◌⊎◌, ◌↔◌, ◌≤◌, ℤ, IsTrue, IfOk, IfErr, Ok, length};
+ghost use Rattle.std.specs.Prelude.{◌≡◌, ◌⊎◌, ◌↔◌, ◌≤◌, IsTrue, IfOk, IfErr, Ok, length};
 ghost use Rattle.irs_base.specs.Listed.{Member, IsRising};
 ghost use Rattle.irs_base.specs.declared.places.Fault.{Fault};
 ghost use Rattle.irs_base.specs.Order.{First, comes_before};

@@ -9,14 +9,13 @@ ghost use Rattle.irs_base.specs.Days.{IsDay, all_days};
 ghost use Rattle.irs_base.specs.Faults.{IfBroken};
 ghost use Rattle.irs_base.specs.Limits.{most_periods};
 ghost use Rattle.irs_base.specs.Order.{First, comes_before};
-ghost use Rattle.irs_terms.specs.FirstDay.{first_day_of};
 ghost use Rattle.irs_terms.specs.Lawful.{IsLawfulStream};
 ghost use Rattle.irs_terms.specs.Suiting.{FrequencySuits, IsTerm};
-ghost use Rattle.irs_terms.specs.TermDates.{DatesInOrder, termination_of};
+ghost use Rattle.irs_terms.specs.TermDates.{DatesInOrder};
 ghost use Rattle.irs_roll.specs.Rolls.{OnGrid};
 ghost use Rattle.irs_periods.specs.Answers.{IfMemory};
 ghost use Rattle.irs_periods.specs.Boundaries.{Boundaries, BreaksPeriods, RegularStart, too_many_periods};
-ghost use Rattle.irs_periods.specs.GridLists.{all_boundaries, boundaries_on, days_from, where_before};
+ghost use Rattle.irs_periods.specs.GridLists.{boundaries_on, days_from, where_before};
 ghost use Rattle.irs_periods.specs.SpanRules.{SpanKept};
 ghost use Rattle.irs_periods.specs.Spans.{Regular};
 

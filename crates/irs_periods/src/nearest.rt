@@ -1,6 +1,6 @@
 //! The end of the regular span next to a stub: the grid day nearest to the end of the term, found
 //! by halving the number of steps from the anchor.
-ghost use Rattle.std.specs.Prelude.{◌≡◌, ◌↔◌, ◌+◌, ◌≤◌, ℤ, pos, IsTrue, SomeIff};
+ghost use Rattle.std.specs.Prelude.{◌≡◌, ◌↔◌, ◌+◌, ◌≤◌, pos, IsTrue, SomeIff};
 ghost use Rattle.irs_base.specs.Days.{IsDay, all_days};
 ghost use Rattle.irs_periods.specs.Ways.{steps, Within, ShortEnd, LongEnd};
 

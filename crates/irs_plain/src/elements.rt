@@ -3,7 +3,6 @@
 //! `calculationPeriodDates/terminationDate/dateAdjustments` is terminationDate's adjustments; what lies
 //! in such `dateAdjustments` is named behind terminationDate too. Of a path of one name there is
 //! that name alone.
-ghost use Rattle.irs_plain.specs.Cuts.{front as front_of};
 ghost use Rattle.irs_plain.specs.Elements.{ends_in_s as ends_in_s_of, holder as holder_of};
 ghost use Rattle.irs_plain.specs.Elements.{holder_from as holder_from_of, is_adjustments as is_adjustments_of};
 ghost use Rattle.irs_plain.specs.Elements.{last_name as last_name_of, name_words as name_words_of};

@@ -1,6 +1,6 @@
 //! A sink over a sink: it hands every put on and keeps the first bytes that were put, so that a
 //! sentence can be said about the line that was written.
-ghost use Rattle.std.specs.Prelude.{◌≡◌, ◌≤◌, ◌++◌, [], length, take, OnOk, OnErr};
+ghost use Rattle.std.specs.Prelude.{◌≡◌, ◌++◌, [], take, OnOk, OnErr};
 ghost use Rattle.irs_base.specs.Texts.{longest_line};
 ghost use Rattle.irs_outside.specs.Outside.{Grew, GrewByFront, Rose};
 ghost use Rattle.irs_plain.specs.Kept.{front_of, sink_of};

@@ -1,7 +1,7 @@
 -- Where each period has its reset and no stub is missed, no rule of resets is broken.
-use Rattle.std.proofs.Common.{is_some, false, true≢false, ◌≡◌, inl, inr, ℕ, ◌+◌, ◌<◌, ◌≤◌, List, [], ◌∷◌, length, Option, Some, None, subst, arith}
-use Rattle.std.proofs.lemmas.Bool.{cases_lt}
-use Rattle.irs_base.specs.Members.{EachNumbered}
+use Rattle.std.proofs.Common.{is_some, false, true≢false, ◌≡◌, inl, inr, ℕ, ◌+◌, ◌<◌, List, length, Option}
+use Rattle.std.proofs.Common.{Some, None, subst, arith}
+use Rattle.irs_base.proofs.MemberLemmas.{numbered_has}
 use Rattle.irs_base.specs.Order.{IsFirst, comes_before}
 use Rattle.irs_base.specs.declared.places.Fault.{Fault}
 use Rattle.irs_terms.specs.declared.amounts.FloatTerms.{FloatTerms}
@@ -15,15 +15,6 @@ use Rattle.irs_resets.specs.ResetRules.{BreaksDates, BreaksDatesIn, BreaksResets
 use Rattle.irs_resets.specs.Resets.{HasResets, IsReset, ResetSource}
 use Rattle.irs_resets.proofs.DateLemmas.{dates_stand}
 
--- the member with a number
-numbered_at : (P : ℕ → Reset → Type 0) (n : ℕ) (rows : List Reset) (k : ℕ) → EachNumbered P n rows → n ≤ k
-    → k < n + length rows → (row : Reset) × P k row
-numbered_at P n [] k h low high = absurd (omega (arith, low, high))
-numbered_at P n (row ∷ rows) k h low high = elim (cases_lt n k) [
-  | inl more ↦ numbered_at P (n + 1) rows k h.1 (omega (arith, more)) (omega (arith, high))
-  | inr less ↦ let same : n ≡ k = omega (arith, low, less) in (row, subst (λ (j : ℕ). P j row) same h.0)
-]
-
 -- dates fail of a period
 fails_period : (why : DateFault) (t : ResetTerms) (days : ResetDays) (i : ℕ) → Fails why t days i
     → IsPeriod days.adjusted i
@@ -36,7 +27,7 @@ dates_kept : (source : ResetSource) (float : FloatTerms) (t : ResetTerms) (rates
 dates_kept source float t rates rows h f b =
     let p = fails_period b.why t source.days b.number b.fails in
     let few : b.number < 1 + length rows = omega (arith, p.0, p.1, h.many) in
-    let row = numbered_at (IsReset source float t rates) 1 rows b.number h.each p.0 few in
+    let row = numbered_has (IsReset source float t rates) 1 rows b.number h.each p.0 few in
     dates_stand b.why t source.days b.number row.0.reset row.0.fixing row.1.dates b.fails
 
 pub listed_unbroken : (source : ResetSource) (float : FloatTerms) (t : ResetTerms) (rates : RateTable)

@@ -1,12 +1,11 @@
 -- Lists of resets: one at most, and one where each period has its dates.
-use Rattle.std.proofs.Common.{◌≡◌, inl, inr, ℕ, zero, suc, ◌+◌, ◌-◌, ◌<◌, ◌≤◌, List, [], ◌∷◌, length, Option, Some}
-use Rattle.std.proofs.Common.{None, ℤ, pos, ◌≤ℤ◌, ◌-ℤ◌, refl, sym, ap, ap₂, subst, ◌∙◌, arith}
+use Rattle.std.proofs.Common.{◌≡◌, inl, inr, ℕ, ◌+◌, ◌-◌, ◌<◌, ◌≤◌, List, [], ◌∷◌, length, Option, Some}
+use Rattle.std.proofs.Common.{None, ℤ, pos, ◌≤ℤ◌, ◌-ℤ◌, sym, ap, ap₂, subst, ◌∙◌, arith}
 use Rattle.jiff_core.proofs.SignedLemmas.{signed_arith}
 use Rattle.irs_base.specs.Days.{all_days, first_day, last_day}
 use Rattle.irs_base.specs.DayLists.{AreDays}
 use Rattle.irs_base.specs.Listed.{AllAfter, IsRising}
-use Rattle.irs_base.specs.Members.{EachNumbered}
-use Rattle.irs_base.proofs.MemberLemmas.{one_numbered, numbered_map}
+use Rattle.irs_base.proofs.MemberLemmas.{one_numbered, numbered_map, numbered_there}
 use Rattle.irs_terms.specs.declared.dates.ResetTerms.{ResetTerms}
 use Rattle.irs_terms.specs.declared.amounts.FloatTerms.{FloatTerms}
 use Rattle.irs_terms.specs.declared.amounts.Leg.{Leg}
@@ -27,18 +26,6 @@ use Rattle.irs_resets.proofs.ObservedLaws.{is_observed, one_observed, observed_s
 -- how many rows there are when every period was walked
 pub many_rows : (rows number a : ℕ) → rows + 1 ≡ number → (1 < number → number ≤ a) → a ≤ number → rows ≡ a - 1
 many_rows rows number a e within walked = grind (arith, e, within, walked)
-
--- n rows from the number i on, where each of these numbers has one
-some_list : (R : ℕ → Reset → Type 0) (n i : ℕ) → ((k : ℕ) → i ≤ k → k < i + n → (row : Reset) × R k row)
-    → (rows : List Reset) × (length rows ≡ n) × EachNumbered R i rows
-some_list R zero i h = ([], refl, tt)
-some_list R (suc n) i h =
-    let first = h i (omega arith) (omega arith) in
-    let rest = some_list R n (i + 1) (λ k low high. h k (omega (arith, low)) (omega (arith, high))) in
-    (first.0 ∷ rest.0, ap suc_of rest.1, (first.1, rest.2))
-  where
-    suc_of : ℕ → ℕ
-    suc_of n = suc n
 
 module _ (source : ResetSource) (rates : RateTable) where
   module _ (f : FloatTerms) (t : ResetTerms) where
@@ -76,7 +63,7 @@ module _ (source : ResetSource) (rates : RateTable) where
                 is_observed f kind.0 source.stream.stubs rates d.1;
           },
         ) in
-        let l = some_list (IsReset source f t rates) (count_of source) 1 row in
+        let l = numbered_there (IsReset source f t rates) (count_of source) 1 row in
         (l.0, record { many = l.1; each = l.2 })
 
   one_of : (leg : Leg) (reset : Option ResetTerms) (xs ys : List Reset) → IsResetsOf leg reset source rates xs

@@ -3,10 +3,10 @@
 //! The reset date of a calculation period is its adjusted start or end, adjusted again. The fixing
 //! date is the reset date moved by the offset of `fixingDates` and then adjusted, or the reset date
 //! itself. The order of these steps is this project's own.
-ghost use Rattle.std.specs.Prelude.{◌≡◌, ◌⊎◌, ◌↔◌, ◌<◌, ◌^◌, ℕ, ℤ, pos, length, IsTrue, IfOk, IfErr, IfNone, nat_lt};
+ghost use Rattle.std.specs.Prelude.{◌≡◌, ◌↔◌, ◌<◌, ◌^◌, length, IsTrue, IfOk, IfErr, nat_lt};
 ghost use Rattle.irs_base.specs.Order.{IsFirst};
-ghost use Rattle.irs_resets.specs.ResetDates.{days_by, base_day, IsPeriod, ResetsOn, FixesOn, FixesBy, IsDates};
-ghost use Rattle.irs_resets.specs.ResetDates.{FixingFails, FixFails, Fails, Decided, fault_of};
+ghost use Rattle.irs_resets.specs.ResetDates.{days_by, base_day, IsPeriod, FixesOn, FixesBy, IsDates};
+ghost use Rattle.irs_resets.specs.ResetDates.{FixingFails, FixFails, Fails, fault_of};
 ghost use Rattle.irs_terms.specs.DayTypes.{IsSaidFixing, IsSaid};
 
 use irs_adjust::{NoDate, adjust_by, move_and_adjust};
@@ -122,10 +122,8 @@ fn has_fault<G: GoodDays>(
 ) -> bool
     requires period { IsPeriod adjusted.now number }
     requires offset { IsSaidFixing terms.now.fixing }
-    ensures fault { let days = days_by adjusted.now (G.days reset_days.now) (G.days fixing_days.now) in
+    ensures { let days = days_by adjusted.now (G.days reset_days.now) (G.days fixing_days.now) in
         IsTrue result ↔ Fails fault terms.now days number }
-    ensures decided { let days = days_by adjusted.now (G.days reset_days.now) (G.days fixing_days.now) in
-        Decided terms.now days number }
 {
     match period_dates(terms, adjusted, number, reset_days, fixing_days) {
         Ok(_) => false,
@@ -143,10 +141,8 @@ pub fn first_with<G: GoodDays>(
 ) -> Option<u32>
     requires few { length adjusted.now < 2 ^ 32 }
     requires offset { IsSaidFixing terms.now.fixing }
-    ensures first { let days = days_by adjusted.now (G.days reset_days.now) (G.days fixing_days.now) in
+    ensures { let days = days_by adjusted.now (G.days reset_days.now) (G.days fixing_days.now) in
         IsFirst nat_lt (Fails fault terms.now days) result }
-    ensures decided { let days = days_by adjusted.now (G.days reset_days.now) (G.days fixing_days.now) in
-        IfNone result ((i : ℕ) → IsPeriod adjusted.now i → Decided terms.now days i) }
 {
     for number in 1..adjusted.len() {
         if has_fault(fault, terms, adjusted, number, reset_days, fixing_days) {

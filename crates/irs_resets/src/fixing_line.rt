@@ -3,7 +3,7 @@
 //! DATE is `YYYY-MM-DD` in range, RATE a decimal of 9 places and at most 10 in size, and TENOR `-`
 //! or a frequency other than the term. INDEX is the rest of the line, at least one byte and at most
 //! [`MOST_INDEX`], none of them a control byte. The format is this project's own.
-ghost use Rattle.std.specs.Prelude.{◌≡◌, ◌≢◌, ◌↔◌, ◌≤◌, ℕ, ℤ, List, All, IsTrue, IfSome, IfNone, unsigned_abs};
+ghost use Rattle.std.specs.Prelude.{◌≢◌, ◌↔◌, ◌≤◌, ℕ, ℤ, List, All, IsTrue, IfSome, IfNone};
 ghost use Rattle.irs_resets.specs.FixingLines.{IsRateText, IsIndexText, Spells};
 ghost use Rattle.irs_resets.specs.declared.store.Slot.{Slot as AtSlot};
 

@@ -3,7 +3,7 @@
 //! Lines end in LF or CRLF, and the last one may have no end. A line of spaces and tabs alone and a
 //! line whose first byte is `#` are passed over. Each other line gives the rate of an index at a date
 //! and tenor, and no two lines give the same index, date and tenor. The format is this project's own.
-ghost use Rattle.std.specs.Prelude.{◌≡◌, ◌≤◌, ℕ, ℤ, List, [], length, IfOk, IfSome, IsErrOf};
+ghost use Rattle.std.specs.Prelude.{◌≡◌, ◌≤◌, ℕ, [], length, IfOk, IfSome, IsErrOf};
 ghost use Rattle.irs_base.specs.Limits.{most_bytes};
 ghost use Rattle.irs_base.specs.Lines.{lines_of};
 ghost use Rattle.irs_terms.specs.Lawful.{IsRate};

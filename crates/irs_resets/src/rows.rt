@@ -1,6 +1,6 @@
 //! The resets of a floating stream, one for each calculation period (2006 ISDA Definitions, article
 //! 6; FpML `resetDates`).
-ghost use Rattle.std.specs.Prelude.{◌≡◌, ◌<◌, ◌^◌, ◌⊎◌, ◌↔◌, ℕ, List, Some, length, IsTrue, IfOk, IfSome, IfNone};
+ghost use Rattle.std.specs.Prelude.{◌≡◌, ◌<◌, ◌^◌, ◌⊎◌, ◌↔◌, List, Some, length, IsTrue, IfOk, IfSome};
 ghost use Rattle.std.specs.Prelude.{IsErrOf, All};
 ghost use Rattle.irs_base.specs.Faults.{IfBroken};
 ghost use Rattle.irs_base.specs.Listed.{IsRising};
@@ -12,7 +12,7 @@ ghost use Rattle.irs_terms.specs.declared.results.Reset.{Reset as ResetRow};
 ghost use Rattle.irs_terms.specs.DayTypes.{IsSaidFixing, IsSaidReset};
 ghost use Rattle.irs_terms.specs.Lawful.{IsLawfulFloat, IsLawfulStubs, IsLawfulStream};
 ghost use Rattle.irs_terms.specs.Legs.{FitsLeg};
-ghost use Rattle.irs_resets.specs.ResetDates.{days_by, IsPeriod, HasDates};
+ghost use Rattle.irs_resets.specs.ResetDates.{days_by};
 ghost use Rattle.irs_resets.specs.Resets.{source_of, HasSmallRate, HasResets, IsResets};
 ghost use Rattle.irs_resets.specs.ResetRules.{GivesInitial, GivesFinal, InitialUnmet, FinalUnmet, BreaksStubs};
 ghost use Rattle.irs_resets.specs.ResetRules.{date_fault, BreaksDates, BreaksResets};
@@ -118,10 +118,8 @@ fn date_broken<G: GoodDays>(
 ) -> Option<Fault>
     requires few { length adjusted.now < 2 ^ 32 }
     requires offset { IsSaidFixing terms.now.fixing }
-    ensures first { let days = days_by adjusted.now (G.days reset_days.now) (G.days fixing_days.now) in
+    ensures { let days = days_by adjusted.now (G.days reset_days.now) (G.days fixing_days.now) in
         IsFirst comes_before (BreaksDates terms.now days) result }
-    ensures has { let days = days_by adjusted.now (G.days reset_days.now) (G.days fixing_days.now) in
-        IfNone result ((i : ℕ) → IsPeriod adjusted.now i → HasDates terms.now days i) }
 {
     let without_reset = first_with(DateFault::NoReset, terms, adjusted, reset_days, fixing_days);
     if let Some(i) = without_reset {
@@ -162,11 +160,8 @@ fn first_fault<G: GoodDays>(
     requires few { length adjusted.now < 2 ^ 32 }
     requires offset { IsSaidFixing terms.now.fixing }
     requires reset { s.now.reset ≡ Some terms.now }
-    ensures first { let source =
-        source_of s.now span.now adjusted.now (G.days reset_days.now) (G.days fixing_days.now) in
+    ensures { let source = source_of s.now span.now adjusted.now (G.days reset_days.now) (G.days fixing_days.now) in
         IsFirst comes_before (BreaksResets source) result }
-    ensures has { let days = days_by adjusted.now (G.days reset_days.now) (G.days fixing_days.now) in
-        IfNone result ((i : ℕ) → IsPeriod adjusted.now i → HasDates terms.now days i) }
 {
     if let Some(fault) = stub_fault(s, span) {
         return Some(fault);
@@ -189,7 +184,8 @@ fn listed<G: GoodDays>(
     requires offset { IsSaidFixing terms.now.fixing }
     requires float { IsLawfulFloat float.now }
     requires stubs { IfSome s.now.stubs IsLawfulStubs }
-    ensures some { let source = source_of s.now span.now adjusted.now (G.days reset_days.now) (G.days fixing_days.now) in
+    ensures some { let source =
+        source_of s.now span.now adjusted.now (G.days reset_days.now) (G.days fixing_days.now) in
         IfSome result (HasResets source float.now terms.now fixings.now) }
     ensures small { IfSome result (All HasSmallRate) }
 {

@@ -1,6 +1,6 @@
 //! Whether a roll fits an anchor, and whether a day is on the grid of any anchor. That NONE fits every
 //! day is this project's own.
-ghost use Rattle.std.specs.Prelude.{◌≡◌, ◌↔◌, ◌<◌, ℤ, IsTrue};
+ghost use Rattle.std.specs.Prelude.{◌↔◌, ◌<◌, IsTrue};
 ghost use Rattle.irs_terms.specs.Lawful.{IsLawfulRoll};
 ghost use Rattle.irs_roll.specs.Grids.{OnDays, OnMonths, OnRollDay};
 ghost use Rattle.irs_roll.specs.Rolls.{Fits, FitsWeek, IsRollDay, OnGrid};

@@ -1,5 +1,5 @@
 //! Grids of months and years: the roll day of every so many months from the anchor's month.
-ghost use Rattle.std.specs.Prelude.{◌≡◌, ◌↔◌, ◌<◌, ◌≤◌, ℤ, pos, IsTrue, IfSome, IfNone};
+ghost use Rattle.std.specs.Prelude.{◌≡◌, ◌↔◌, ◌<◌, ◌≤◌, ℤ, pos, IfSome, IfNone};
 ghost use Rattle.irs_base.specs.Months.{InMonth};
 ghost use Rattle.irs_roll.specs.Grids.{OnMonths, OnMonthsFrom, kth};
 ghost use Rattle.irs_roll.specs.RollDays.{IsLastDay, IsNumbered, IsThirdWednesday};

@@ -1,5 +1,5 @@
 //! Whole steps: how often a step goes into a distance, days before the anchor included.
-ghost use Rattle.std.specs.Prelude.{◌≡◌, ◌<◌, ℤ, pos, neg_ℤ, ◌*ℤ◌, ◌↔◌, IfSome, IfNone, IsTrue};
+ghost use Rattle.std.specs.Prelude.{◌≡◌, ◌<◌, pos, neg_ℤ, ◌*ℤ◌, ◌↔◌, IfSome, IfNone, IsTrue};
 ghost use Rattle.jiff_core.specs.Calendar.{IsBetween};
 ghost use Rattle.irs_roll.specs.Grids.{IsMultiple};
 

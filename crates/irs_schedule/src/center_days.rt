@@ -1,7 +1,7 @@
 //! The good days by which a date is adjusted or moved: those of the business centres that an element
 //! names (2006 ISDA Definitions, article 1, 'Business Day'), or every day of the range where it needs
 //! none.
-ghost use Rattle.std.specs.Prelude.{◌≡◌, ◌≤◌, ◌↔◌, List, length, None, option_copied, IfOk, IsTrue};
+ghost use Rattle.std.specs.Prelude.{◌≡◌, ◌≤◌, ◌↔◌, length, None, option_copied, IfOk, IsTrue};
 ghost use Rattle.irs_base.specs.Limits.{most_centers};
 ghost use Rattle.irs_calendar.specs.GoodDays.{SameDays};
 ghost use Rattle.irs_calendar.specs.Runs.{set_of_runs};

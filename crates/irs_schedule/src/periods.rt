@@ -1,7 +1,7 @@
 //! Days, fraction, notional and rate of a calculation period (2006 ISDA Definitions, section 4.16
 //! and articles 5, 6 and 8). The days run from its adjusted start to its adjusted end; notional and
 //! rate are those in force on its unadjusted start.
-ghost use Rattle.std.specs.Prelude.{◌≡◌, ℕ, ◌<◌, length, ◌<ℤ◌, IfSome, option_and_then, option_map, slice_get};
+ghost use Rattle.std.specs.Prelude.{◌≡◌, ◌<◌, length, ◌<ℤ◌, IfSome, option_and_then, option_map, slice_get};
 ghost use Rattle.irs_terms.specs.Lawful.{IsLawfulLeg, IsRate};
 ghost use Rattle.irs_terms.specs.StepDates.{StepsRise, LegStepsRise};
 ghost use Rattle.irs_compound.specs.PeriodRates.{rates_by};

@@ -1,7 +1,7 @@
 //! A schedule and its rows.
-ghost use Rattle.std.specs.Prelude.{◌≡◌, ℕ, ◌+◌, ◌<◌, ◌≤◌, length};
+ghost use Rattle.std.specs.Prelude.{◌≡◌, ◌+◌, ◌≤◌, length};
 ghost use Rattle.std.specs.Iterator.{YieldsFirst, item_count};
-ghost use Rattle.irs_schedule.specs.Parts.{KeepsBounds, IsWithin};
+ghost use Rattle.irs_schedule.specs.Parts.{IsWithin};
 ghost use Rattle.irs_schedule.specs.RowsOf.{most_schedule_rows, rows_of};
 ghost use Rattle.irs_schedule.specs.RowTexts.{HasPlaces};
 ghost use Rattle.irs_base.specs.Members.{Every};

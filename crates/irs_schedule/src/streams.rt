@@ -1,6 +1,6 @@
 //! One stream of a schedule. Its boundaries, payments, exchanges and resets are kept; days, fraction,
 //! notional and rate of a period are worked out when they are asked for.
-ghost use Rattle.std.specs.Prelude.{◌≡◌, ℕ, ◌+◌, ◌-◌, ◌<◌, ◌≤◌, ℤ, List, length};
+ghost use Rattle.std.specs.Prelude.{◌≡◌, ◌-◌, ◌<◌, ◌≤◌, length};
 
 use crate::kept_terms::KeptTerms;
 use crate::periods::{day_at, entry_by, observed_at};
@@ -42,7 +42,7 @@ ghost use Rattle.irs_schedule.specs.Keeping.{MakePart};
 ghost use Rattle.irs_schedule.specs.KeptTerms.{is_floating};
 ghost use Rattle.irs_schedule.specs.Parts.{KeepsBounds};
 ghost use Rattle.irs_schedule.specs.Periods.{periods_by};
-ghost use Rattle.irs_schedule.specs.RowsOf.{no_period, no_reset, period_row, reset_row, stream_row};
+ghost use Rattle.irs_schedule.specs.RowsOf.{no_period, period_row, reset_row, stream_row};
 
 impl StreamPart {
     /// A stream of these parts, which lie within the limits.

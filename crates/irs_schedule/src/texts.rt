@@ -2,7 +2,7 @@
 //!
 //! The format is this project's own. Dates are YYYY-MM-DD, amounts have the decimals of their
 //! currency, notionals 4 and rates 9; what isn't known is `-`.
-ghost use Rattle.std.specs.Prelude.{◌≡◌, ℕ, ◌+◌, ◌<◌, ◌≤◌, List, [], ◌∷◌, ◌++◌, length, ℤ, pos, IfSome};
+ghost use Rattle.std.specs.Prelude.{◌≡◌, ◌+◌, ◌<◌, ◌≤◌, [], ◌∷◌, ◌++◌, length, IfSome};
 ghost use Rattle.std.specs.Fmt.{decimal, signed_decimal};
 ghost use Rattle.irs_base.specs.Texts.{day_text, dec_text};
 ghost use Rattle.irs_schedule.specs.RowTexts.{row_text_of, fields_of, code_text, kind_text, dec_or_dash, rate_or_dash};

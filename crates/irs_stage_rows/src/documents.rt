@@ -24,7 +24,8 @@ fn edited(rt: &HostRuntime, sources: &Sources, file: &str, edits: &str) -> Resul
 
 fn swap_with(alloc: Global, streams: Value) -> Result<Value> {
     let mut document = parse(alloc, NO_STREAMS.as_bytes())?;
-    let place = document.pointer_mut("/swap/swapStream").context("a swap")?;
+    let swap = document.get_mut("swap").context("a swap")?;
+    let place = swap.get_mut("swapStream").context("its streams")?;
     *place = streams;
     Ok(document)
 }

@@ -1,4 +1,5 @@
 use Rattle.irs_audit.proofs.FlowClean.{first_shape, flows_few}
+use Rattle.irs_audit.proofs.FlowRules.{of_flows}
 use Rattle.irs_audit.proofs.FlowStated.{flows_stated}
 use Rattle.irs_audit.proofs.flow_reader.read_flows.Goals as goal
 use Rattle.irs_audit.specs.FlowFaults.{ended}
@@ -6,6 +7,12 @@ use Rattle.irs_audit.specs.FlowReading.{IsFirstFault}
 use Rattle.irs_audit.specs.declared.error.FlowErr.{FlowErr}
 use Rattle.serde_json.specs.View.{view}
 use Rattle.std.proofs.Common.{subst, sym}
+
+pub shape-requires : goal.shape-requires
+shape-requires c = of_flows (view c.args.v.now) c.in-Some.fault c.in-Some.ensures.0
+
+pub shape-requires-2 : goal.shape-requires-2
+shape-requires-2 c = absurd (c.in_default.ensures c.in-Err.fault (ended c.in-Err.fault (sym c.in-Err.ensures)))
 
 pub returns-in-Some-clause-fault : goal.returns-in-Some-clause-fault
 returns-in-Some-clause-fault c =

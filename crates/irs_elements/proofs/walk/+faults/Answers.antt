@@ -11,7 +11,6 @@ use Rattle.std.specs.Borrow.{Bor}
 use Rattle.serde_json.specs.Data.{Data}
 use Rattle.serde_json.specs.declared.value.Value.{Value}
 use Rattle.irs_base.specs.declared.places.Rule.TheVariants.{K2}
-use Rattle.irs_elements.specs.declared.table.Row.{Row}
 use Rattle.irs_elements.specs.declared.table.Kind.TheVariants.{Object}
 use Rattle.irs_elements.specs.Elements.{texts, name_at, place, own_rule, FaultAt, index_in}
 use Rattle.irs_elements.proofs.First.{first_is}

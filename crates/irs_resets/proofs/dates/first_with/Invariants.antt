@@ -1,11 +1,8 @@
 use Rattle.std.proofs.Common.{ℕ, ◌<◌, ◌≤◌}
-use Rattle.irs_resets.specs.ResetDates.{days_by, Fails, Decided}
+use Rattle.irs_resets.specs.ResetDates.{days_by, Fails}
 use Rattle.irs_resets.proofs.dates.first_with.Given as goal
 
 abbrev pub invariant-loop-number : goal.invariant-loop-number
 invariant-loop-number g l =
     let days = days_by l.adjusted (g.G.GoodDays.days l.reset_days) (g.G.GoodDays.days l.fixing_days) in
-    record {
-      none : (i : ℕ) → 1 ≤ i → i < l.number → Fails l.fault l.terms days i → ⊥;
-      decided : (i : ℕ) → 1 ≤ i → i < l.number → Decided l.terms days i;
-    }
+    (i : ℕ) → 1 ≤ i → i < l.number → Fails l.fault l.terms days i → ⊥

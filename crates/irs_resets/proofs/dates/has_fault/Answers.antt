@@ -4,8 +4,8 @@ use Rattle.irs_resets.specs.ResetDates.{ResetDays, days_by, Fails}
 use Rattle.irs_resets.proofs.DateLemmas.{dates_stand, one_way}
 use Rattle.irs_resets.proofs.dates.has_fault.Goals as goal
 
-pub returns-in-Ok-clause-fault : goal.returns-in-Ok-clause-fault
-returns-in-Ok-clause-fault g c =
+pub returns-in-Ok : goal.returns-in-Ok
+returns-in-Ok g c =
     let days : ResetDays =
     days_by c.args.adjusted.now (g.G.GoodDays.days c.args.reset_days.now)
     (g.G.GoodDays.days c.args.fixing_days.now) in (
@@ -15,8 +15,8 @@ returns-in-Ok-clause-fault g c =
           c.in-Ok.field-0.fixing c.in-Ok.ensures.ok f),
     )
 
-pub returns-in-Err-clause-fault : goal.returns-in-Err-clause-fault
-returns-in-Err-clause-fault g c =
+pub returns-in-Err : goal.returns-in-Err
+returns-in-Err g c =
     let days : ResetDays =
     days_by c.args.adjusted.now (g.G.GoodDays.days c.args.reset_days.now)
     (g.G.GoodDays.days c.args.fixing_days.now) in (

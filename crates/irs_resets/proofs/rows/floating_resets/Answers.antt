@@ -11,7 +11,7 @@ first_fault-requires-clause-few g c =
     rw c.as_slice-days.ensures.value (omega (arith, few))
 
 pub returns-in-None-clause-memory : goal.returns-in-None-clause-memory
-returns-in-None-clause-memory g c = λ memory. rw c.as_slice-days.ensures.value at c.in-None.ensures.first
+returns-in-None-clause-memory g c = λ memory. rw c.as_slice-days.ensures.value at c.in-None.ensures
 
 pub returns-in-Some-clause-unbroken : goal.returns-in-Some-clause-unbroken
 returns-in-Some-clause-unbroken g c =
@@ -21,4 +21,5 @@ returns-in-Some-clause-unbroken g c =
     let stubs = no_stub (BreaksStubs source.stream source.span) c.stub_fault.result c.if-is_none.ensures
     c.stub_fault.ensures in
     let rows = rw c.as_slice-days.ensures.value at c.in-Some.ensures.some in
-    listed_unbroken source c.args.float.now c.args.terms.now c.args.fixings.now c.in-Some.rows c.requires.reset stubs rows
+    listed_unbroken source c.args.float.now c.args.terms.now c.args.fixings.now c.in-Some.rows
+    c.requires.reset stubs rows
