@@ -1,8 +1,8 @@
 """A whole book: one command over many trades, on one process, on several, or on a cluster.
 
 A trade is a `Trade`: a name, a document, and what goes with it. `outcomes` gives an `Outcome` a trade as
-they are done; `run` adds them up. One trade that fails never ends the run. Where a worker dies, its chunk
-is done again, and no trade is told twice.
+they are done; `run` adds them up. One trade that can't be worked is told as failed, and neither ends the run
+nor fails another. Where a worker dies, its chunk is tried again, and no trade is told twice.
 """
 from __future__ import annotations
 
@@ -18,7 +18,7 @@ from .library import Text, meaning, run as run_words
 #: The commands that a book can be asked.
 COMMANDS = ("check", "schedule", "audit", "emit", "net")
 
-#: How often a chunk is tried before its trades are told as failed.
+#: How often a chunk is tried, whose worker dies, before its trades are told as failed.
 TRIES = 10
 
 
@@ -119,8 +119,19 @@ def outcome_of(command: str, trade: Trade) -> Outcome:
     return Outcome(trade.name, answer.status, line, meaning(words, answer.status, line))
 
 
+def _failed(trade: Trade, why: BaseException) -> Outcome:
+    return Outcome(trade.name, None, f"{type(why).__name__}: {why}", "the trade couldn't be worked")
+
+
+def _worked(command: str, trade: Trade) -> Outcome:
+    try:
+        return outcome_of(command, trade)
+    except Exception as why:  # a file that isn't text or bytes, or want of memory
+        return _failed(trade, why)
+
+
 def _work(command: str, chunk: List[Trade]) -> List[Outcome]:
-    return [outcome_of(command, trade) for trade in chunk]
+    return [_worked(command, trade) for trade in chunk]
 
 
 def _chunks(trades: Iterable[Trade], size: int) -> Iterator[List[Trade]]:
@@ -160,11 +171,6 @@ class _Pool:
             self.own.shutdown(wait=False, cancel_futures=True)
 
 
-def _failed(chunk: List[Trade], why: BaseException) -> List[Outcome]:
-    said = f"{type(why).__name__}: {why}"
-    return [Outcome(trade.name, None, said, "the trade couldn't be worked") for trade in chunk]
-
-
 def _submitted(pool: _Pool, command: str, chunks: Iterator[List[Trade]], most: int) -> Iterator[List[Outcome]]:
     done: "queue.Queue[Tuple[int, Any]]" = queue.Queue()
     waiting: Dict[int, Tuple[List[Trade], int]] = {}
@@ -188,7 +194,7 @@ def _submitted(pool: _Pool, command: str, chunks: Iterator[List[Trade]], most: i
             if tries < TRIES:
                 start(number, chunk, tries + 1)
                 continue
-            result = _failed(chunk, why)
+            result = [_failed(trade, why) for trade in chunk]
         yield result
         for chunk in itertools.islice(chunks, 1):
             start(next(numbers), chunk, 1)

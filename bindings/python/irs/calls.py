@@ -1,4 +1,4 @@
-"""A function a command: documents in, rows out.
+"""A function a command but for `bulk`: documents in, rows out.
 
 A document, a flow document, a calendar and a file of fixings are bytes or text as docs/FORMATS.md has
 them; a document may also be a mapping, which is written as JSON. Every call raises `Refused` where the

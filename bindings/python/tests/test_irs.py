@@ -101,6 +101,13 @@ class Errors(unittest.TestCase):
             irs.check(b" " * 4_194_305)
 
 
+class OnlyMaps:
+    """An executor that has `map` alone."""
+
+    def map(self, work, chunks):
+        return map(work, chunks)
+
+
 class Books(unittest.TestCase):
     def trades(self, count):
         for number in range(count):
@@ -122,8 +129,13 @@ class Books(unittest.TestCase):
 
     def test_a_trade_that_can_not_be_worked(self):
         bad = [book.Trade("bad", None), book.Trade("good", example("fixed_leg/terms.json"), None, example("audit_agrees/flows.json"))]
-        summary = book.run(bad, jobs=2, chunk=1)
-        self.assertEqual((summary.done, summary.failed), (1, ["bad"]))
+        for summary in (
+            book.run(bad, jobs=2, chunk=1),
+            book.run(bad, jobs=2),
+            book.run(bad, jobs=1),
+            book.run(bad, executor=OnlyMaps()),
+        ):
+            self.assertEqual((summary.done, summary.failed), (1, ["bad"]))
 
 
 if __name__ == "__main__":
