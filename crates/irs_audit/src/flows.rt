@@ -90,9 +90,9 @@ impl Model for FlowStream {
     ghost Value = { FlowPart };
 
     ghost view = { λ s. record {
-        exchanges = s.exchanges.items;
-        payments = s.payments.items;
-        periods = s.periods.items;
+      exchanges = s.exchanges.items;
+      payments = s.payments.items;
+      periods = s.periods.items;
     } };
 }
 
