@@ -4,6 +4,7 @@ use Rattle.std.proofs.Common.{◌∙◌, ap, arith}
 use Rattle.std.specs.Prelude.{slice_get}
 use Rattle.irs_base.specs.Faults.{in_stream}
 use Rattle.irs_base.specs.Members.{Every}
+use Rattle.irs_base.proofs.MemberLemmas.{numbered_get}
 use Rattle.irs_base.specs.Order.{First}
 use Rattle.irs_base.specs.declared.places.Broken.{Broken}
 use Rattle.irs_base.specs.declared.places.Fault.{Fault}
