@@ -11,8 +11,8 @@ use Rattle.std.proofs.Common.{subst, sym}
 pub shape-requires : goal.shape-requires
 shape-requires c = of_flows (view c.args.v.now) c.in-Some.fault c.in-Some.ensures.0
 
-pub shape-requires-2 : goal.shape-requires-2
-shape-requires-2 c = absurd (c.in_default.ensures c.in-Err.fault (ended c.in-Err.fault (sym c.in-Err.ensures)))
+pub shape-requires-in-Err : goal.shape-requires-in-Err
+shape-requires-in-Err c = absurd (c.in_default.ensures c.in-Err.fault (ended c.in-Err.fault (sym c.in-Err.ensures)))
 
 pub returns-in-Some-clause-fault : goal.returns-in-Some-clause-fault
 returns-in-Some-clause-fault c =
