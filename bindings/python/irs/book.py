@@ -2,7 +2,8 @@
 
 A trade is a `Trade`: a name, a document, and what goes with it. `outcomes` gives an `Outcome` a trade as
 they are done; `run` adds them up. One trade that can't be worked is told as failed, and neither ends the run
-nor fails another. Where a worker dies, its chunk is tried again, and no trade is told twice.
+nor fails another. Where a worker dies, its chunk is tried again, `TRIES` times in all, and then told as
+failed. No trade is told twice.
 """
 from __future__ import annotations
 
