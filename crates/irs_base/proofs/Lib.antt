@@ -10,6 +10,7 @@ pub mod Rising
 pub mod RoundingLemmas
 pub mod RoundingLaws
 pub mod Powers
+pub mod Pairs
 pub mod TextLemmas
 pub mod TextLengths
 pub mod VisibleTexts

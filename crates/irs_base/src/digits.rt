@@ -25,7 +25,12 @@ const POWERS: [u64; 19] = [
     1_000_000_000_000_000_000,
 ];
 
-/// 10^n, for n up to 18: what fits 64 bits.
+// The two digits of each number below 100, one pair behind the other. It is a reference, since a table
+// by value is laid down anew at each use.
+const PAIRS: &[u8; 200] =
+    b"00010203040506070809101112131415161718192021222324252627282930313233343536373839404142434445464748495051525354555657585960616263646566676869707172737475767778798081828384858687888990919293949596979899";
+
+/// 10^n, for n up to 18.
 #[tactic(auto, using(crate::proofs::Powers::power_at))]
 pub fn power_of_ten(n: u8) -> u64
     requires { n ≤ 18 }
@@ -36,11 +41,13 @@ pub fn power_of_ten(n: u8) -> u64
 }
 
 /// A number below 100 in two digits.
+#[tactic(auto, using(crate::proofs::Pairs::pair_at))]
 pub fn two_digits(n: u8) -> [u8; 2]
     requires { n < 100 }
     ensures { result ≡ two_digits n }
 {
-    [b'0' + n / 10, b'0' + n % 10]
+    let at = 2 * n as usize;
+    [PAIRS[at], PAIRS[at + 1]]
 }
 
 /// A number below 10,000 in four digits.

@@ -5,7 +5,7 @@ ghost use Rattle.std.specs.Prelude.{◌≡◌, ◌+◌, ◌<◌, ◌≤◌, ◌�
 ghost use Rattle.std.specs.Fmt.{decimal, signed_decimal};
 ghost use Rattle.irs_base.specs.Texts.{day_text, dec_text, most_places};
 
-use crate::line::{push_several, push_signed_number};
+use crate::line::push_signed_number;
 use crate::{Day, Dec, Line};
 
 impl Line {
@@ -42,18 +42,14 @@ impl Line {
     }
 
     /// Puts a space and a number that counts.
-    #[tactic(auto, using(crate::proofs::TextLemmas::appended, crate::proofs::TextLemmas::one_digit))]
+    #[tactic(auto, using(crate::proofs::TextLemmas::appended))]
     pub fn put_number(&mut self, n: u32)
         requires { length self.old + 41 ≤ 512 }
         ensures text { self.new ≡ self.old ++ 32 ∷ decimal n }
         ensures grows { length self.new ≤ length self.old + 41 }
     {
-        if n < 10 {
-            self.push(&[b' ', b'0' + n as u8]);
-        } else {
-            self.push(b" ");
-            push_several(self, u64::from(n));
-        }
+        self.push(b" ");
+        self.push_number(n);
     }
 
     /// Puts a space and a day: `YYYY-MM-DD`.
