@@ -1,5 +1,5 @@
 -- A period has one reset date and one fixing date, and its dates fail in one way at most.
-use Rattle.std.proofs.Common.{◌≡◌, ℕ, Option, Some, None, ℤ, sym, subst, ◌∙◌, refl}
+use Rattle.std.proofs.Common.{◌≡◌, ◌⊎◌, ℕ, Option, Some, None, ℤ, sym, subst, ◌∙◌, refl}
 use Rattle.irs_terms.specs.declared.dates.FixTerms.{FixTerms}
 use Rattle.irs_terms.specs.declared.dates.ResetTerms.{ResetTerms}
 use Rattle.irs_calendar.specs.GoodDays.{DaySet}
@@ -11,7 +11,11 @@ use Rattle.irs_adjust.proofs.MoveLaws.{date_in_range, date_not_lacking, one_date
 use Rattle.irs_resets.specs.declared.dates.DateFault.{DateFault}
 use Rattle.irs_resets.specs.declared.dates.DateFault.TheVariants.{NoReset, NoFixing, OutOfRange}
 use Rattle.irs_resets.specs.ResetDates.{ResetDays, IsPeriod, base_day, ResetsOn, FixesBy, FixesOn, IsDates, FixFails}
-use Rattle.irs_resets.specs.ResetDates.{FixingFails, HasFixingFault, Fails, fault_of}
+use Rattle.irs_resets.specs.ResetDates.{FixingFails, HasFixingFault, Fails, HasDates, fault_of}
+
+-- period i has its dates, or they fail in one of the ways
+abbrev pub DatesOrFailure : ResetTerms → ResetDays → ℕ → Type 0
+DatesOrFailure t days i = HasDates t days i ⊎ ((why : DateFault) × Fails why t days i)
 
 pub one_reset : (t : ResetTerms) (days : ResetDays) (i : ℕ) (r s : ℤ) → ResetsOn t days i r
     → ResetsOn t days i s → r ≡ s

@@ -29,12 +29,11 @@ use Rattle.irs_adjust.proofs.MoveLaws.{DateOrFailure, date_or_failure}
 use Rattle.irs_resets.specs.declared.dates.DateFault.{DateFault}
 use Rattle.irs_resets.specs.declared.dates.DateFault.TheVariants.{NoReset, NoFixing, OutOfRange}
 use Rattle.irs_resets.specs.ResetDates.{ResetDays, IsPeriod, base_day, ResetsOn, FixesOn, FixingFails, Fails, HasDates}
-use Rattle.irs_resets.specs.ResetDates.{Decided}
 use Rattle.irs_resets.specs.ResetRules.{GivesInitial, GivesFinal, InitialUnmet, FinalUnmet, BreaksStubs, date_fault}
 use Rattle.irs_resets.specs.ResetRules.{BreaksDates, BreaksDatesIn, BreaksResets}
 use Rattle.irs_resets.specs.Rates.{RateTable}
 use Rattle.irs_resets.specs.Resets.{ResetSource, IsResetsOf, IsResets}
-use Rattle.irs_resets.proofs.DateLemmas.{dates_stand, one_way, period_of}
+use Rattle.irs_resets.proofs.DateLemmas.{dates_stand, one_way, period_of, DatesOrFailure}
 use Rattle.irs_resets.proofs.FirstResets.{rank, same_rank, NoneFails, first_reset, first_fixing, first_range}
 use Rattle.irs_resets.proofs.FirstResets.{dates_unbroken, none_fails, first_initial, first_final, stubs_unbroken}
 use Rattle.irs_resets.proofs.FirstResets.{first_of_stubs, first_of_dates}
@@ -81,13 +80,13 @@ module _ (t : ResetTerms) (days : ResetDays) where
   fails_by OutOfRange i r period resets fails = record { period = period; reset = r; resets = resets; fails = fails }
 
   dates_on : (i : ℕ) (r : ℤ) → IsPeriod days.adjusted i → ResetsOn t days i r → FixingDecided t.fixing days.fixing_set r
-      → Decided t days i
+      → DatesOrFailure t days i
   dates_on i r period resets (inl found) =
       inl (r, found.0, record { period = period; resets = resets; fixes = found.1 })
   dates_on i r period resets (inr fault) = inr (fault.0, fails_by fault.0 i r period resets fault.1)
 
   module _ (said : IsSaidFixing t.fixing) (range : InDays days) where
-    dates_by : (i : ℕ) → IsPeriod days.adjusted i → IsFound (ResetsOn t days i) → Decided t days i
+    dates_by : (i : ℕ) → IsPeriod days.adjusted i → IsFound (ResetsOn t days i) → DatesOrFailure t days i
     dates_by i period (inl found) =
         let day = adjusts_day t.adj.code days.reset_set (base_day t.relative days.adjusted i) found.0
         (base_is_day t.relative days.adjusted i range.adjusted) range.reset_set found.1 in
@@ -95,7 +94,7 @@ module _ (t : ResetTerms) (days : ResetDays) where
     dates_by i period (inr none) = inr (NoReset, record { period = period; none = none })
 
     -- a period has its dates, or they fail
-    pub decides_dates : (i : ℕ) → IsPeriod days.adjusted i → Decided t days i
+    pub decides_dates : (i : ℕ) → IsPeriod days.adjusted i → DatesOrFailure t days i
     decides_dates i period =
         dates_by i period (decides_adjusts t.adj.code days.reset_set (base_day t.relative days.adjusted i)
         (base_is_day t.relative days.adjusted i range.adjusted) range.reset_set)
@@ -140,7 +139,7 @@ module _ (t : ResetTerms) (days : ResetDays) (said : IsSaidFixing t.fixing) (ran
       inl (subst (λ (e : DateFault). Fails e t days i) (same_rank found why same) fails)
   by_failure why i found fails (inr other) = inr (λ h. other (ap rank (one_way found why t days i fails h)))
 
-  fails_by_dates : (why : DateFault) (i : ℕ) → Decided t days i → IsDecided (Fails why t days i)
+  fails_by_dates : (why : DateFault) (i : ℕ) → DatesOrFailure t days i → IsDecided (Fails why t days i)
   fails_by_dates why i (inl has) = inr (λ h. dates_stand why t days i has.0 has.1 has.2 h)
   fails_by_dates why i (inr fault) = by_failure why i fault.0 fault.1 (cases_eq (rank fault.0) (rank why))
 

@@ -13,13 +13,13 @@ use Rattle.irs_terms.specs.declared.amounts.Leg.TheVariants.{Fixed, Floating}
 use Rattle.irs_terms.specs.declared.results.Reset.{Reset}
 use Rattle.irs_resets.specs.declared.dates.DateFault.{DateFault}
 use Rattle.irs_resets.specs.declared.dates.DateFault.TheVariants.{NoReset, NoFixing, OutOfRange}
-use Rattle.irs_resets.specs.ResetDates.{ResetDays, IsPeriod, HasDates, Decided, Fails}
+use Rattle.irs_resets.specs.ResetDates.{ResetDays, IsPeriod, HasDates, Fails}
 use Rattle.irs_resets.specs.ObservedRates.{IsObserved, observed_rate}
 use Rattle.irs_resets.specs.Rates.{RateTable, rate_at}
 use Rattle.irs_resets.specs.Resets.{ResetSource, count_of, IsReset, HasResets, IsResetsOf, IsResets}
 use Rattle.irs_resets.specs.declared.observed.PeriodKind.{PeriodKind}
 use Rattle.irs_resets.specs.declared.store.Slot.{Slot}
-use Rattle.irs_resets.proofs.DateLemmas.{one_dates}
+use Rattle.irs_resets.proofs.DateLemmas.{one_dates, DatesOrFailure}
 use Rattle.irs_resets.proofs.KindLaws.{kind_there, one_kind}
 use Rattle.irs_resets.proofs.ObservedLaws.{is_observed, one_observed, observed_same}
 
@@ -120,8 +120,8 @@ none_fails t days i p q r NoReset h = p h
 none_fails t days i p q r NoFixing h = q h
 none_fails t days i p q r OutOfRange h = r h
 
-pub has_dates : (t : ResetTerms) (days : ResetDays) (i : ℕ) → Decided t days i → (Fails NoReset t days i → ⊥)
-    → (Fails NoFixing t days i → ⊥) → (Fails OutOfRange t days i → ⊥) → HasDates t days i
+pub has_dates : (t : ResetTerms) (days : ResetDays) (i : ℕ) → DatesOrFailure t days i
+    → (Fails NoReset t days i → ⊥) → (Fails NoFixing t days i → ⊥) → (Fails OutOfRange t days i → ⊥) → HasDates t days i
 has_dates t days i (inl h) p q r = h
 has_dates t days i (inr h) p q r = absurd (none_fails t days i p q r h.0 h.1)
 

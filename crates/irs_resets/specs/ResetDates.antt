@@ -1,5 +1,5 @@
 -- Reset dates and fixing dates of the calculation periods, and how they may fail. Periods count from 1.
-use Rattle.std.specs.Prelude.{◌≡◌, ◌⊎◌, ℕ, ◌-◌, ◌<◌, ◌≤◌, List, length, Option, Some, None, ℤ}
+use Rattle.std.specs.Prelude.{◌≡◌, ℕ, ◌-◌, ◌<◌, ◌≤◌, List, length, Option, Some, None, ℤ}
 use Rattle.irs_base.specs.Members.{day_at}
 use Rattle.irs_terms.specs.declared.codes.Relative.{Relative}
 use Rattle.irs_terms.specs.declared.codes.Relative.TheVariants.{Start, End}
@@ -84,10 +84,6 @@ Fails OutOfRange t days i = HasFixingFault OutOfRange t days i
 -- period i has its dates
 abbrev pub HasDates : ResetTerms → ResetDays → ℕ → Type 0
 HasDates t days i = (reset : ℤ) × (fixing : ℤ) × IsDates t days i reset fixing
-
--- period i has its dates, or they fail in one of the ways
-abbrev pub Decided : ResetTerms → ResetDays → ℕ → Type 0
-Decided t days i = HasDates t days i ⊎ ((why : DateFault) × Fails why t days i)
 
 -- what the failure of a day that is moved and adjusted is for a fixing date
 abbrev pub fault_of : NoDate → DateFault
