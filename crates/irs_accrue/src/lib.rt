@@ -5,8 +5,6 @@ mod accruals;
 mod interest;
 mod running;
 mod shares;
-#[cfg(test)]
-mod tests;
 mod texts;
 
 pub use accruals::{Accrual, accrued};

@@ -7,8 +7,6 @@ mod conventions;
 mod months;
 mod moved;
 mod offsets;
-#[cfg(test)]
-mod tests;
 mod ways;
 
 pub use by_code::adjust_by;

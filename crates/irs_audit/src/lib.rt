@@ -16,10 +16,6 @@ mod row_fields;
 mod rows;
 mod stating;
 mod summing;
-#[cfg(test)]
-mod tests;
-#[cfg(test)]
-mod tests_agreement;
 
 pub use agreement::audit;
 pub use departures::{Departure, Field, RowKind, Verdict};

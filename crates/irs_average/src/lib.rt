@@ -16,6 +16,3 @@ pub use averaging::average;
 pub use interpolating::interpolate;
 pub use means::Mean;
 pub use stubs::{Side, stub_index};
-
-#[cfg(test)]
-mod tests;

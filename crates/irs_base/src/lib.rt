@@ -1,4 +1,4 @@
-//! What every crate of the project stands on: days and months, decimals and rounding, lists,
+//! What the crates of the project stand on, but for irs_json: days and months, decimals and rounding, lists,
 //! texts and lines, and the places of broken rules.
 #![tactic(auto)]
 
@@ -21,8 +21,6 @@ mod reading;
 mod rounding;
 mod statuses;
 mod stopped;
-#[cfg(test)]
-mod tests;
 mod text;
 
 pub use day::{Civil, Day, DayName, FIRST_DAY, LAST_DAY, ahead, civil_of, day_of, plus, weekday};

@@ -6,8 +6,6 @@ mod digits;
 mod documents;
 mod holidays;
 mod runs;
-#[cfg(test)]
-mod tests;
 mod totals;
 
 pub use documents::{MOST_BULK, bulk_doc, bulk_limit};

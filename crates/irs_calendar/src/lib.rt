@@ -23,6 +23,3 @@ pub use calendars::{CalErr, Calendars, SelErr};
 pub use good_days::GoodDays;
 pub use run_set::RunSet;
 pub use steps::Steps;
-
-#[cfg(test)]
-mod tests;

@@ -9,10 +9,6 @@ mod program;
 mod putting;
 mod refusals;
 mod rows;
-#[cfg(test)]
-mod tests;
-#[cfg(test)]
-mod tests_faults;
 
 pub use irs_base::Status;
 pub use irs_bulk::{bulk_calendar, bulk_doc};

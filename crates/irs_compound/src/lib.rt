@@ -21,6 +21,3 @@ pub use rates::{fixed_rates, period_rates};
 pub use rising_rates::rates_of_rising;
 pub use rising_steps::in_force_of_rising;
 pub use step_values::in_force;
-
-#[cfg(test)]
-mod tests;

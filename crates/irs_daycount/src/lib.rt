@@ -10,6 +10,3 @@ pub use day_counts::{
     Act360, Act365Fixed, ActActIsda, DayCount, OneOne, Thirty360, ThirtyE360, ThirtyE360Isda,
 };
 pub use fractions::{days_and_fraction, days_by, fraction_by};
-
-#[cfg(test)]
-mod tests;

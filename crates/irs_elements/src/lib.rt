@@ -13,8 +13,6 @@ mod leaves;
 pub mod numbers;
 mod order;
 mod table;
-#[cfg(test)]
-mod tests;
 mod walk;
 pub mod words;
 

@@ -6,8 +6,6 @@ mod emitting;
 mod laws;
 mod leaves;
 mod rows;
-#[cfg(test)]
-mod tests;
 
 pub use emitting::emit_flows;
 pub use laws::{leaves_read_back, rows_read_back};

@@ -9,8 +9,6 @@ mod carrier;
 mod leaves;
 mod names;
 mod reading;
-#[cfg(test)]
-mod tests;
 mod trim;
 mod values;
 

@@ -6,8 +6,6 @@ mod answering;
 mod pieces;
 mod standard_error;
 mod starting;
-#[cfg(test)]
-mod tests;
 
 pub use answering::answer;
 pub use standard_error::StandardError;

@@ -6,8 +6,6 @@ mod parties;
 mod parts;
 mod sides;
 mod table;
-#[cfg(test)]
-mod tests;
 mod texts;
 mod totals;
 

@@ -9,8 +9,6 @@ mod real;
 mod sink;
 mod sure_files;
 mod sure_sink;
-#[cfg(test)]
-mod tests;
 
 pub use files::{FetchErr, Files};
 pub use memory_files::MemFiles;

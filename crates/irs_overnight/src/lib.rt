@@ -20,6 +20,3 @@ pub use rules::{first_unrising, unrising};
 pub use starts::{days_ahead, days_between};
 pub use streams::{check_stream, floating_at, stream_at};
 pub use texts::{derived_text, rates_read_back};
-
-#[cfg(test)]
-mod tests;

@@ -9,8 +9,6 @@ mod faults;
 mod grouping;
 mod payment_list;
 mod steps;
-#[cfg(test)]
-mod tests;
 
 pub use error::PayErr;
 pub use exchanges::principals;

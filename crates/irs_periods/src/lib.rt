@@ -7,8 +7,6 @@ mod error;
 mod listing;
 mod nearest;
 mod span;
-#[cfg(test)]
-mod tests;
 
 pub use adjusting::adjusted;
 pub use error::PerErr;

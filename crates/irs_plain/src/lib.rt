@@ -9,8 +9,6 @@ mod kept;
 mod lines;
 mod lookup;
 mod table;
-#[cfg(test)]
-mod tests;
 mod words;
 
 pub use help::{COMMANDS, HELP, VERSION};

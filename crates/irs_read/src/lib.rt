@@ -10,8 +10,6 @@ mod references;
 mod stream;
 mod swap;
 mod table;
-#[cfg(test)]
-mod tests;
 
 pub use document::{first_in_document, the_swap};
 pub use reader::{ReadErr, read_swap};

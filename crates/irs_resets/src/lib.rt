@@ -14,6 +14,3 @@ mod words;
 pub use fixings::{FixErr, Fixings};
 pub use rows::{ResErr, resets};
 pub use tenors::{IndexTenor, tenor};
-
-#[cfg(test)]
-mod tests;

@@ -10,8 +10,6 @@ mod month_grid;
 mod rolls;
 mod steps;
 mod stream_grid;
-#[cfg(test)]
-mod tests;
 
 pub use anchor::Anchor;
 pub use every_days::EveryDays;

@@ -13,7 +13,5 @@ mod payment_dates;
 mod references;
 mod step_dates;
 mod terms;
-#[cfg(test)]
-mod tests;
 
 pub use terms::check_terms;

@@ -16,8 +16,6 @@ mod step_list;
 mod stream;
 mod stream_list;
 mod suiting;
-#[cfg(test)]
-mod tests;
 
 pub use adjustments::{Adjustments, Centers, Dated, Offset};
 pub use amounts::{ExchangeFlags, FloatTerms, Leg, Rounding, StubRate, StubTerms};
