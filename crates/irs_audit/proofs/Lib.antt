@@ -14,3 +14,4 @@ pub mod VerdictLemmas
 pub mod StatedLemmas
 pub mod StatedBounds
 pub mod SumLemmas
+pub mod Standards
