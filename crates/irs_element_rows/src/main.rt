@@ -24,5 +24,6 @@ fn main(rt: HostRuntime) -> anyhow::Result<()> {
     table_lines::print_tables(&rt)?;
     run_rows(&rt, Reader::Terms, "rows")?;
     run_rows(&rt, Reader::Flows, "flow_rows")?;
+    run_rows(&rt, Reader::Audit, "audit_rows")?;
     run_leaves(&rt, "leaf_rows")
 }

@@ -4,6 +4,7 @@ use crate::swap_lines::swap_lines;
 use anyhow::{Result, bail};
 use irs_audit::{FlowErr, ShapeKind, read_flows};
 use irs_base::Place;
+use irs_cli::{MemFiles, MemSink, run};
 use irs_json::Value;
 use irs_read::{ReadErr, read_swap};
 use std::alloc::Global;
@@ -15,6 +16,8 @@ pub enum Reader {
     Terms,
     /// `read_flows` of irs_audit: cash flows.
     Flows,
+    /// `run` of irs_cli: whether the cash flows that stand among the terms agree with them.
+    Audit,
 }
 
 // What is told first, then the place.
@@ -59,11 +62,26 @@ fn flows_told(alloc: Global, document: &Value) -> Result<String> {
     }
 }
 
-/// The lines that are told of a document: the first broken rule or the first fault with its place,
-/// or what was read.
+// What the command `audit` prints, where the document is the terms and the cash flows.
+fn audit_told(alloc: Global, document: &Value) -> Result<String> {
+    let text = document.to_string(alloc)?;
+    let mut files = MemFiles::new(alloc);
+    files.add("D", text.as_bytes())?;
+    let mut words = Vec::new(alloc);
+    for word in ["audit", "D", "-", "D"] {
+        words.push(String::from_str(alloc, word)?)?;
+    }
+    let mut out = MemSink::with_room(alloc, 100)?;
+    run(alloc, &words, &mut files, &mut out);
+    Ok(String::from_str(alloc, str::from_utf8(out.bytes())?)?)
+}
+
+/// The lines that are told of a document: the first broken rule or the first fault with its place, or
+/// what was read; of an audit the verdict.
 pub fn told(alloc: Global, reader: Reader, document: &Value) -> Result<String> {
     match reader {
         Reader::Terms => terms_told(alloc, document),
         Reader::Flows => flows_told(alloc, document),
+        Reader::Audit => audit_told(alloc, document),
     }
 }
