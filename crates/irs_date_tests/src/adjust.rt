@@ -1,9 +1,7 @@
 //! Values from outside the code: a year with the weekend of Saturday and Sunday, in which Good Friday
 //! 2024-03-29 and Easter Monday 2024-04-01 are holidays.
 
-use irs_adjust::{
-    Following, ModFollowing, ModPreceding, Nearest, Preceding, Unadjusted, adjust_by, move_by,
-};
+use irs_adjust::{adjust_by, move_by};
 use irs_base::{Civil, Day, MOST_BYTES, Names, Text, day_of};
 use irs_calendar::{Calendars, RunSet};
 use irs_terms::{ConvCode, DayKind, Offset};

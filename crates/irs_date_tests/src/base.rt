@@ -1,4 +1,5 @@
-//! Days, decimals, rounding, lists, lines and paths at their edges, each a table of facts.
+//! Dates, decimals and rounding at their edges, each a table of facts; and what lists, a line and a path
+//! hold.
 use irs_base::{Day, DayList, Dec, Direction, Elem, Line, Names, Text, read_date, read_dec, round};
 use std::test::*;
 

@@ -11,6 +11,4 @@ mod calendar;
 #[cfg(test)]
 mod daycount;
 #[cfg(test)]
-mod periods;
-#[cfg(test)]
 mod roll;

@@ -5,7 +5,7 @@ use std::alloc::Global;
 use std::test::*;
 
 /// Each row: the words of the command line, the status, the line, the sentence.
-const LINES: [(&str, u8, &str, &str); 24] = [
+const LINES: [(&str, u8, &str, &str); 26] = [
     ("schedule A.json - de.cal", 0, "irs-schedule 2\n", ""),
     (
         "schedule A.json - de.cal",
@@ -48,6 +48,12 @@ const LINES: [(&str, u8, &str, &str); 24] = [
         2,
         "refused K46 1 stubCalculationPeriodAmount 1\n",
         "K46: the stub of stubCalculationPeriodAmount doesn't end between the two tenors (stream 1, number 1)",
+    ),
+    (
+        "interpolate 1 initial 1M 3M a.json rates x.cal",
+        3,
+        "bad fixings 2 syntax\n",
+        "fixing file (rates), line 2: this line isn't DATE RATE TENOR INDEX",
     ),
     (
         "schedule A.json - de.cal es.cal",
@@ -140,6 +146,7 @@ const LINES: [(&str, u8, &str, &str); 24] = [
         "",
         "the text couldn't be written to standard output",
     ),
+    ("bulk 500", 9, "", "a word of the command line isn't text"),
 ];
 
 // The words of a command line.

@@ -1,4 +1,4 @@
-//! The swap that a small document spells. The program irs_element_rows has the tables of tests: each
+//! The swaps that two small documents spell, and K4 for a `swap` inside a swap. The program irs_element_rows has the tables of tests: each
 //! element, each rule of the reader, each default and each reference.
 use irs_base::{Elem, Rule};
 use irs_json::parse;

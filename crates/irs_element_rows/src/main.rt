@@ -1,5 +1,6 @@
 //! The element rows: documents in which an element is taken away, repeated or given another value,
-//! and what the readers of irs_read and irs_audit tell of each.
+//! and what the readers of irs_read and irs_audit and the command `audit` tell of each; and what the
+//! texts of leaves stand for.
 //!
 //! The rows, their documents and what is expected of them stand in `data/`; their form is this
 //! project's own.

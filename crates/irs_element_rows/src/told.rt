@@ -77,7 +77,7 @@ fn audit_told(alloc: Global, document: &Value) -> Result<String> {
 }
 
 /// The lines that are told of a document: the first broken rule or the first fault with its place, or
-/// what was read; of an audit the verdict.
+/// what was read; of an audit what the command prints.
 pub fn told(alloc: Global, reader: Reader, document: &Value) -> Result<String> {
     match reader {
         Reader::Terms => terms_told(alloc, document),

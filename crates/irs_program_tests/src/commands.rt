@@ -1,4 +1,5 @@
-//! The program over files and sinks in memory. What it prints of documents at large is tested above.
+//! The program over files and sinks in memory. What it prints of documents at large is
+//! told by the rows of irs_rows.
 use irs_cli::{MemFiles, MemSink, RealFiles, Sink, SureFiles, SureSink, run};
 use std::alloc::{AllocError, Global};
 use std::fs;
@@ -34,7 +35,7 @@ a 1 1 91 91/360 12638.89
 end
 ";
 
-// Its cash flows.
+// The cash flows of the document.
 pub(crate) const FLOWS: &str =
     r#"{"swap":{"swapStream":{"cashflows":{"cashflowsMatchParameters":"true","paymentCalculationPeriod":[
 {"adjustedPaymentDate":"2024-07-15","calculationPeriod":{"adjustedStartDate":"2024-01-15",

@@ -1,10 +1,7 @@
 //! A payment of two quarters by each method, and the rates of a period; the tables of amounts and
 //! rates are the rows of irs_stage_rows.
 use irs_base::read_date;
-use irs_compound::{
-    Flat, PeriodTerm, Rates, Simple, SpreadExclusive, Straight, fixed_rates, in_force,
-    payment_amount,
-};
+use irs_compound::{PeriodTerm, Rates, fixed_rates, in_force, payment_amount};
 use irs_terms::{CompCode, Frac, StepList, StepValues};
 use std::test::Fail;
 

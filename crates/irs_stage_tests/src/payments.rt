@@ -1,107 +1,18 @@
 //! One call each over a stream of two quarters; the tables of what is paid when are the rows of
 //! irs_stage_rows.
-ghost use Rattle.std.specs.Prelude.{◌≡◌, ◌<ℤ◌, [], IfOk};
+ghost use Rattle.std.specs.Prelude.{◌<ℤ◌};
 ghost use Rattle.irs_base.specs.Listed.{RunsFromTo};
 ghost use Rattle.irs_terms.specs.DayTypes.{IsSaid};
 ghost use Rattle.irs_terms.specs.FirstDay.{first_day_of};
-ghost use Rattle.irs_terms.specs.Lawful.{IsLawfulCenters, IsLawfulDated, IsLawfulStream};
+ghost use Rattle.irs_terms.specs.Lawful.{IsLawfulStream};
 
-use irs_base::{Day, DayList, Dec, Memory, read_date};
+use crate::streams::{QUARTERLY, fixed, three_days};
+use irs_base::{Day, DayList, Dec, read_date};
 use irs_calendar::RunSet;
 use irs_payments::{PayErr, check_steps, payments, principals};
-use irs_terms::*;
+use irs_terms::{Exchange, Exchanges, Payment, Payments, RollCode, Span, Stream};
 use std::alloc::Global;
 use std::test::*;
-
-fn not_adjusted() -> Adjustments
-    ensures { IsLawfulCenters result.centers }
-{
-    Adjustments {
-        code: ConvCode::Unadjusted,
-        centers: Centers::Absent,
-    }
-}
-
-fn dated(day: Day) -> Dated
-    ensures lawful { IsLawfulDated result }
-    ensures day { result.day ≡ day }
-{
-    // hands the prover the range of the day
-    let _number = day.number();
-    Dated {
-        day,
-        adj: not_adjusted(),
-    }
-}
-
-// The values of a schedule without steps.
-fn constant(alloc: Global, initial: i128) -> StepValues
-    ensures { result ≡ record { initial = initial; steps = [] } }
-{
-    StepValues {
-        initial,
-        steps: StepList::new(alloc),
-    }
-}
-
-// 1,000,000 euros at a fixed rate, calculated and paid each 3 months on the 15th, and exchanged.
-fn stream(alloc: Global, from: Day, to: Day) -> Stream
-    ensures lawful { IsLawfulStream result }
-    ensures first { first_day_of result ≡ from }
-    ensures last { result.termination.day ≡ to }
-    ensures said { IsSaid result.pay.offset }
-{
-    let freq = Frequency {
-        count: 3,
-        unit: Unit::M,
-    };
-    Stream {
-        effective: dated(from),
-        first_start: None,
-        termination: dated(to),
-        period_adj: not_adjusted(),
-        first_regular: None,
-        last_regular: None,
-        stub: None,
-        freq,
-        roll: RollCode::Dom(15),
-        pay: PayTerms {
-            calc_ref: RefState::Absent,
-            freq,
-            first: None,
-            last: None,
-            relative: Relative::End,
-            offset: Offset {
-                days: 0,
-                kind: DayKind::Unsaid,
-            },
-            adj: not_adjusted(),
-        },
-        reset: None,
-        notional: constant(alloc, 10_000_000_000),
-        currency: Currency { letters: *b"EUR" },
-        leg: Leg::Fixed(constant(alloc, 50_000_000)),
-        day_count: DayCountCode::Act360,
-        compounding: CompCode::Simple,
-        stubs: None,
-        exchanges: ExchangeFlags {
-            initial: true,
-            intermediate: true,
-            last: true,
-        },
-    }
-}
-
-fn boundaries(alloc: Global, from: Day, middle: Day, to: Day) -> Result<DayList, Memory>
-    requires { (from <ℤ middle) × (middle <ℤ to) }
-    ensures { IfOk result (RunsFromTo from to) }
-{
-    let mut list = DayList::new(alloc);
-    list.push(from)?;
-    list.push(middle)?;
-    list.push(to)?;
-    Ok(list)
-}
 
 fn paid(alloc: Global, s: &Stream, span: &Span, days: &DayList) -> Result<Payments, PayErr>
     requires lawful { IsLawfulStream s.now }
@@ -144,8 +55,8 @@ fn two_quarters(rt: HostRuntime) -> Result<(), Fail> {
     if middle <= from || to <= middle {
         return Err("no quarters")?;
     }
-    let days = boundaries(alloc, from, middle, to)?;
-    let s = stream(alloc, from, to);
+    let days = three_days(alloc, from, middle, to)?;
+    let s = fixed(alloc, from, to, QUARTERLY, RollCode::Dom(15));
     let span = Span {
         first: from,
         last: to,

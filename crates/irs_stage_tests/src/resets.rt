@@ -1,52 +1,21 @@
 //! One call each over a floating stream of two quarters; the tables of resets and of fixing files are
 //! the rows of irs_stage_rows.
-ghost use Rattle.std.specs.Prelude.{◌≡◌, ◌<ℤ◌, [], IfOk};
+ghost use Rattle.std.specs.Prelude.{IfOk};
 ghost use Rattle.irs_base.specs.Listed.{IsRising};
 ghost use Rattle.irs_terms.specs.DayTypes.{IsSaidReset};
-ghost use Rattle.irs_terms.specs.Lawful.{IsLawfulCenters, IsLawfulDated, IsLawfulFloat, IsLawfulStream};
+ghost use Rattle.irs_terms.specs.Lawful.{IsLawfulFloat, IsLawfulStream};
 ghost use Rattle.irs_terms.specs.Legs.{FitsLeg};
 
+use crate::streams::{QUARTERLY, constant, fixed, not_adjusted, three_days};
 use irs_base::{Day, DayList, Direction, Memory, Text, read_date};
 use irs_calendar::RunSet;
 use irs_resets::{FixErr, Fixings, ResErr, resets};
-use irs_terms::*;
+use irs_terms::{
+    FloatTerms, Leg, RefState, Relative, Reset, ResetTerms, Resets, RollCode, Rounding, Span,
+    Stream, Treatment,
+};
 use std::alloc::Global;
 use std::test::*;
-
-fn not_adjusted() -> Adjustments
-    ensures { IsLawfulCenters result.centers }
-{
-    Adjustments {
-        code: ConvCode::Unadjusted,
-        centers: Centers::Absent,
-    }
-}
-
-fn dated(day: Day) -> Dated
-    ensures { IsLawfulDated result }
-{
-    // hands the prover the range of the day
-    let _number = day.number();
-    Dated {
-        day,
-        adj: not_adjusted(),
-    }
-}
-
-// The values of a schedule without steps.
-fn constant(alloc: Global, initial: i128) -> StepValues
-    ensures { result ≡ record { initial = initial; steps = [] } }
-{
-    StepValues {
-        initial,
-        steps: StepList::new(alloc),
-    }
-}
-
-const QUARTERLY: Frequency = Frequency {
-    count: 3,
-    unit: Unit::M,
-};
 
 // The index A for 3 months, with no spread.
 fn floating(alloc: Global) -> Result<FloatTerms, Memory>
@@ -72,59 +41,19 @@ fn stream(alloc: Global, from: Day, to: Day) -> Result<Stream, Memory>
     ensures leg { IfOk result FitsLeg }
     ensures said { IfOk result IsSaidReset }
 {
-    Ok(Stream {
-        effective: dated(from),
-        first_start: None,
-        termination: dated(to),
-        period_adj: not_adjusted(),
-        first_regular: None,
-        last_regular: None,
-        stub: None,
+    let reset = ResetTerms {
+        calc_ref: RefState::Absent,
+        fixing_ref: RefState::Absent,
+        relative: Relative::Start,
+        fixing: None,
         freq: QUARTERLY,
-        roll: RollCode::Dom(15),
-        pay: PayTerms {
-            calc_ref: RefState::Absent,
-            freq: QUARTERLY,
-            first: None,
-            last: None,
-            relative: Relative::End,
-            offset: Offset {
-                days: 0,
-                kind: DayKind::Unsaid,
-            },
-            adj: not_adjusted(),
-        },
-        reset: Some(ResetTerms {
-            calc_ref: RefState::Absent,
-            fixing_ref: RefState::Absent,
-            relative: Relative::Start,
-            fixing: None,
-            freq: QUARTERLY,
-            adj: not_adjusted(),
-        }),
-        notional: constant(alloc, 10_000_000_000),
-        currency: Currency { letters: *b"EUR" },
+        adj: not_adjusted(),
+    };
+    Ok(Stream {
+        reset: Some(reset),
         leg: Leg::Floating(floating(alloc)?),
-        day_count: DayCountCode::Act360,
-        compounding: CompCode::Simple,
-        stubs: None,
-        exchanges: ExchangeFlags {
-            initial: false,
-            intermediate: false,
-            last: false,
-        },
+        ..fixed(alloc, from, to, QUARTERLY, RollCode::Dom(15))
     })
-}
-
-fn boundaries(alloc: Global, from: Day, middle: Day, to: Day) -> Result<DayList, Memory>
-    requires { (from <ℤ middle) × (middle <ℤ to) }
-    ensures { IfOk result IsRising }
-{
-    let mut list = DayList::new(alloc);
-    list.push(from)?;
-    list.push(middle)?;
-    list.push(to)?;
-    Ok(list)
 }
 
 fn fixings(alloc: Global) -> Result<Fixings, FixErr> {
@@ -165,7 +94,7 @@ fn two_quarters(rt: HostRuntime) -> Result<(), Fail> {
         return Err("no quarters")?;
     }
     let s = stream(alloc, from, to)?;
-    let days = boundaries(alloc, from, middle, to)?;
+    let days = three_days(alloc, from, middle, to)?;
     let span = Span {
         first: from,
         last: to,

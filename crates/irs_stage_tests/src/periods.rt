@@ -1,53 +1,23 @@
 //! One call each over a stream of two quarters; the tables of periods are the rows of
 //! irs_stage_rows.
-ghost use Rattle.std.specs.Prelude.{◌≡◌, ◌<ℤ◌, []};
+ghost use Rattle.std.specs.Prelude.{◌≡◌, ◌<ℤ◌};
 ghost use Rattle.irs_periods.specs.SpanRules.{SpanKept};
 ghost use Rattle.irs_periods.specs.Spans.{Regular};
-ghost use Rattle.irs_terms.specs.Lawful.{IsLawfulCenters, IsLawfulDated, IsLawfulStream};
+ghost use Rattle.irs_terms.specs.Lawful.{IsLawfulStream};
 ghost use Rattle.irs_terms.specs.declared.frequency.Unit.TheVariants.{D};
 ghost use Rattle.irs_terms.specs.Suiting.{FrequencySuits};
 ghost use Rattle.irs_terms.specs.TermDates.{DatesInOrder};
 
+use crate::streams::fixed;
 use irs_base::{Day, DayList, read_date};
 use irs_calendar::RunSet;
 use irs_periods::{PerErr, adjusted, boundaries, boundaries_by, regular_span};
 use irs_roll::EveryDays;
-use irs_terms::*;
+use irs_terms::{Frequency, RollCode, Span, Stream, Unit};
 use std::alloc::Global;
 use std::test::*;
 
-fn not_adjusted() -> Adjustments
-    ensures { IsLawfulCenters result.centers }
-{
-    Adjustments {
-        code: ConvCode::Unadjusted,
-        centers: Centers::Absent,
-    }
-}
-
-fn dated(day: Day) -> Dated
-    ensures lawful { IsLawfulDated result }
-    ensures day { result.day ≡ day }
-{
-    // hands the prover the range of the day
-    let _number = day.number();
-    Dated {
-        day,
-        adj: not_adjusted(),
-    }
-}
-
-// The values of a schedule without steps.
-fn constant(alloc: Global, initial: i128) -> StepValues
-    ensures { result ≡ record { initial = initial; steps = [] } }
-{
-    StepValues {
-        initial,
-        steps: StepList::new(alloc),
-    }
-}
-
-// Periods of 91 days at a fixed rate, paid each.
+// Periods of 91 days.
 fn stream(alloc: Global, from: Day, to: Day) -> Stream
     requires { from <ℤ to }
     ensures lawful { IsLawfulStream result }
@@ -59,41 +29,7 @@ fn stream(alloc: Global, from: Day, to: Day) -> Stream
         count: 91,
         unit: Unit::D,
     };
-    Stream {
-        effective: dated(from),
-        first_start: None,
-        termination: dated(to),
-        period_adj: not_adjusted(),
-        first_regular: None,
-        last_regular: None,
-        stub: None,
-        freq,
-        roll: RollCode::NoRoll,
-        pay: PayTerms {
-            calc_ref: RefState::Absent,
-            freq,
-            first: None,
-            last: None,
-            relative: Relative::End,
-            offset: Offset {
-                days: 0,
-                kind: DayKind::Unsaid,
-            },
-            adj: not_adjusted(),
-        },
-        reset: None,
-        notional: constant(alloc, 10_000_000_000),
-        currency: Currency { letters: *b"EUR" },
-        leg: Leg::Fixed(constant(alloc, 50_000_000)),
-        day_count: DayCountCode::Act360,
-        compounding: CompCode::Simple,
-        stubs: None,
-        exchanges: ExchangeFlags {
-            initial: false,
-            intermediate: false,
-            last: false,
-        },
-    }
+    fixed(alloc, from, to, freq, RollCode::NoRoll)
 }
 
 // The boundaries over a grid that is handed in.
