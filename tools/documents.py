@@ -13,13 +13,13 @@ def steps(first, count, value):
     return "".join('{"stepDate":"%s","stepValue":"%s"},' % (d, value) for d in days).rstrip(",")
 
 
-def stream(periods, count, convention="NONE", centers=()):
-    """A fixed stream of daily periods with that many steps of notional and of rate."""
+def stream(periods, count, convention="NONE", centers=(), rate_steps=True):
+    """A fixed stream of daily periods with that many steps of notional, and of rate if asked."""
     first = date(2000, 1, 1)
     last = first + timedelta(days=periods)
     moved = adjustments(convention, centers)
     notional = ',"step":[%s]' % steps(first, count, "1000") if count else ""
-    rate = ',"step":[%s]' % steps(first, count, "0.05") if count else ""
+    rate = ',"step":[%s]' % steps(first, count, "0.05") if count and rate_steps else ""
     return (
         '{"calculationPeriodDates":{"effectiveDate":{"unadjustedDate":"%s","dateAdjustments":%s},'
         '"terminationDate":{"unadjustedDate":"%s","dateAdjustments":%s},'
