@@ -1,24 +1,11 @@
 //! The program over files and sinks in memory: what it prints, what it says, and the status.
+use crate::commands::DOCUMENT;
 use irs_cli::{MemFiles, MemSink};
 use irs_main::answer;
 use irs_plain::{HELP, Kept};
 use std::alloc::{AllocError, Global};
 use std::process::Abort;
 use std::test::Fail;
-
-const DOCUMENT: &str = r#"{"swap":{"swapStream":{
-"calculationPeriodDates":{"@id":"cpd",
-"effectiveDate":{"unadjustedDate":"2024-01-15","dateAdjustments":{"businessDayConvention":"NONE"}},
-"terminationDate":{"unadjustedDate":"2025-01-15","dateAdjustments":{"businessDayConvention":"NONE"}},
-"calculationPeriodDatesAdjustments":{"businessDayConvention":"NONE"},
-"calculationPeriodFrequency":{"periodMultiplier":"6","period":"M","rollConvention":"15"}},
-"paymentDates":{"paymentFrequency":{"periodMultiplier":"6","period":"M"},
-"payRelativeTo":"CalculationPeriodEndDate",
-"paymentDatesAdjustments":{"businessDayConvention":"NONE"}},
-"calculationPeriodAmount":{"calculation":{
-"notionalSchedule":{"notionalStepSchedule":{"initialValue":"1000000","currency":"USD"}},
-"fixedRateSchedule":{"initialValue":"0.05"},"dayCountFraction":"ACT/360"}}}}}
-"#;
 
 const VERSION: &str = "irs 1.0, schedule text 2
 rattle-kit-13f logic dac8208d650f15bf
