@@ -198,11 +198,10 @@ zeros_needed v n (suc p) (c ∷ cs) h e =
 
 -- what isn't refused is a decimal, and its value is what the digits spell
 pub unsigned_is : (text w f : List ℕ) (p : ℕ) → IsCut text w f → AreParts w f → list_all is_zero (drop p f) ≡ true
-    → IsUnsigned text p (number_after (number_after 0 (padded (length w) w)) (padded p f))
+    → IsUnsigned text p (number_after (number_of w) (padded p f))
 unsigned_is text w f p cut parts zeros =
-    let n : ℕ = number_after 0 (padded (length w) w) in
-    let same : number_of (w ++ f) ≡ number_after n f =
-    digits_behind 0 w f ∙ ap (λ (l : List ℕ). number_after (number_after 0 l) f) (sym (padded_whole w)) in
+    let n : ℕ = number_of w in
+    let same : number_of (w ++ f) ≡ number_after n f = digits_behind 0 w f in
     record {
       whole = w;
       fraction = f;
@@ -246,17 +245,47 @@ one_unsigned text p v k a b =
     rw (sym parts.0, sym parts.1) a.value in
     cancel v k (10 ^ length b.fraction) (some_power (length b.fraction)) (e ∙ sym b.value)
 
--- room for eighteen digits and twelve places
-pub eighteen : (n : ℕ) → n ≤ 18 → (0 + 1) * 10 ^ n ≤ 10 ^ 30
-eighteen n h = let m = pow-le-pow_right {n = 10} (omega arith) {i = n} {j = 30} (omega (arith, h)) in omega (arith, m)
+-- ---- both parts
 
-pub twelve_more : (w n p : ℕ) → n ≤ 18 → p ≤ 12 → w + 1 ≤ (0 + 1) * 10 ^ n → (w + 1) * 10 ^ p ≤ 10 ^ 30
-twelve_more w n p h k l =
-    let a : 10 ^ n ≤ 10 ^ 18 = pow-le-pow_right {n = 10} (omega arith) {i = n} {j = 18} h in
+-- room for eighteen digits
+pub eighteen : (n : ℕ) → n ≤ 18 → (0 + 1) * 10 ^ n ≤ 10 ^ 18
+eighteen n h = let m = pow-le-pow_right {n = 10} (omega arith) {i = n} {j = 18} h in omega (arith, m)
+
+-- and for twelve places behind them
+pub twelve_more : (w f p : ℕ) → p ≤ 12 → w < 10 ^ 18 → f < 10 ^ p → w * 10 ^ p + f < 10 ^ 30
+twelve_more w f p k h l =
     let b : 10 ^ p ≤ 10 ^ 12 = pow-le-pow_right {n = 10} (omega arith) {i = p} {j = 12} k in
-    let s : w + 1 ≤ 10 ^ 18 = omega (arith, a, l) in
+    let s : w + 1 ≤ 10 ^ 18 = omega (arith, h) in
     let m : (w + 1) * 10 ^ p ≤ 10 ^ 18 * 10 ^ 12 = mul-le-mul s b in
-    omega (arith, m)
+    omega (arith, m, l)
+
+-- a number of at most eighteen digits
+pub at_most_eighteen : (w n : ℕ) → n ≤ 18 → w < 10 ^ n → w < 10 ^ 18
+at_most_eighteen w n h l =
+    let a : 10 ^ n ≤ 10 ^ 18 = pow-le-pow_right {n = 10} (omega arith) {i = n} {j = 18} h in omega (arith, a, l)
+
+shifted : (n x a r s t : ℕ) → s ≡ (10 * n + x) * a + r → t ≡ (10 * 0 + x) * a + r → s ≡ n * (10 * a) + t
+shifted n x a r s t p q = omega (arith, p, q)
+
+-- what digits spell behind others
+pub apart : (n : ℕ) (ds : List ℕ) → number_after n ds ≡ n * 10 ^ length ds + number_of ds
+apart n [] = omega arith
+apart n (c ∷ cs) =
+    rw (pow-succ' 10 (length cs))
+    (shifted n (c - 48) (10 ^ length cs) (number_of cs) _ _ (apart (10 * n + (c - 48)) cs)
+    (apart (10 * 0 + (c - 48)) cs))
+
+padded_length : (p : ℕ) (ds : List ℕ) → length (padded p ds) ≡ p
+padded_length zero ds = refl
+padded_length (suc p) [] = ap suc (padded_length p [])
+padded_length (suc p) (d ∷ ds) = ap suc (padded_length p ds)
+
+-- the number of both parts, by those of each
+pub both_parts : (w f : List ℕ) (p m n : ℕ) → m ≡ number_of (padded (length w) w) → n ≡ number_of (padded p f)
+    → m * 10 ^ p + n ≡ number_after (number_of w) (padded p f)
+both_parts w f p m n first second =
+    rw (first ∙ ap number_of (padded_whole w), second)
+    (sym (apart (number_of w) (padded p f) ∙ ap (λ k. number_of w * 10 ^ k + number_of (padded p f)) (padded_length p f)))
 
 -- a sign is no part of an unsigned decimal
 pub sign_first : (s : ℕ) (text : List ℕ) (p v : ℕ) → s < 46 → IsUnsigned (s ∷ text) p v → ⊥

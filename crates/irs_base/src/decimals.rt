@@ -5,7 +5,9 @@ ghost use Rattle.std.specs.Prelude.{unsigned_abs, IfSome, IfNone, IsTrue, ◌↔
 ghost use Rattle.std.specs.List.{list_all};
 ghost use Rattle.irs_base.specs.Texts.{most_places};
 ghost use Rattle.irs_base.specs.Decimals.{AreDigits, AreParts, DecText, IsCut, IsUnsigned, is_digit, is_zero};
-ghost use Rattle.irs_base.specs.Decimals.{number_after, padded};
+ghost use Rattle.irs_base.specs.Decimals.{most_digits, number_after, number_of, padded};
+
+use crate::digits::power_of_ten;
 
 /// The most digits before the point.
 const MOST_DIGITS: usize = 18;
@@ -84,20 +86,20 @@ fn first_digit(digits: &[u8]) -> (u8, &[u8])
     }
 }
 
-fn with_digit(n: u128, digit: u8) -> u128
+fn with_digit(n: u64, digit: u8) -> u64
     requires digit { digit ≤ 9 }
-    requires fits { n < 10 ^ 30 }
+    requires fits { n < 10 ^ 18 }
     ensures { result ≡ 10 * n + digit }
 {
-    10 * n + u128::from(digit)
+    10 * n + u64::from(digit)
 }
 
-/// The number that the first `count` digits spell behind those of n, zeros standing for digits that lack;
-/// it is below 10^30.
+// The number that the first `count` digits spell behind those of n, zeros standing for digits that lack;
+// it is below 10^18.
 #[tactic(auto, using(crate::proofs::DecimalLemmas::room_left))]
-pub fn number_behind(n: u128, digits: &[u8], count: u8) -> u128
+fn number_behind(n: u64, digits: &[u8], count: u8) -> u64
     requires digits { AreDigits digits.now }
-    requires fits { (n + 1) * 10 ^ count ≤ 10 ^ 30 }
+    requires fits { (n + 1) * 10 ^ count ≤ 10 ^ 18 }
     ensures value { result ≡ number_after n (padded count digits.now) }
     ensures below { result + 1 ≤ (n + 1) * 10 ^ count }
 {
@@ -106,6 +108,42 @@ pub fn number_behind(n: u128, digits: &[u8], count: u8) -> u128
     }
     let (digit, rest) = first_digit(digits);
     number_behind(with_digit(n, digit), rest, count - 1)
+}
+
+// The number that the first `count` digits spell.
+fn first_number(digits: &[u8], count: u8) -> u64
+    requires digits { AreDigits digits.now }
+    requires few { count ≤ most_digits }
+    ensures value { result ≡ number_of (padded count digits.now) }
+    ensures below { result < 10 ^ count }
+{
+    number_behind(0, digits, count)
+}
+
+// So many units of 10^-places, and such parts beside them.
+fn with_parts(units: u64, parts: u64, places: u8) -> u128
+    requires units { units < 10 ^ 18 }
+    requires parts { parts < 10 ^ places }
+    requires few { places ≤ most_places }
+    ensures value { result ≡ units * 10 ^ places + parts }
+    ensures below { result < 10 ^ 30 }
+{
+    u128::from(units) * u128::from(power_of_ten(places)) + u128::from(parts)
+}
+
+/// The number that the digits before a point and the first `places` behind it spell, zeros standing for
+/// digits that lack: so many units of 10^-places. It is below 10^30.
+pub fn number_of_parts(whole: &[u8], fraction: &[u8], places: u8) -> u128
+    requires whole { AreDigits whole.now }
+    requires fraction { AreDigits fraction.now }
+    requires short { length whole.now ≤ most_digits }
+    requires few { places ≤ most_places }
+    ensures value { result ≡ number_after (number_of whole.now) (padded places fraction.now) }
+    ensures below { result < 10 ^ 30 }
+{
+    let units = first_number(whole, whole.len() as u8);
+    let parts = first_number(fraction, places);
+    with_parts(units, parts, places)
 }
 
 fn read_unsigned(text: &[u8], places: u8) -> Option<u128>
@@ -118,8 +156,7 @@ fn read_unsigned(text: &[u8], places: u8) -> Option<u128>
     if !are_zeros_past(fraction, places) {
         return None;
     }
-    let number = number_behind(0, whole, whole.len() as u8);
-    Some(number_behind(number, fraction, places))
+    Some(number_of_parts(whole, fraction, places))
 }
 
 // What stands behind a sign, where the text begins with it.

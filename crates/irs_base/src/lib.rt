@@ -25,7 +25,7 @@ mod text;
 
 pub use day::{Civil, Day, DayName, FIRST_DAY, LAST_DAY, ahead, civil_of, day_of, plus, weekday};
 pub use day_list::DayList;
-pub use decimals::{decimal_parts, number_behind, read_dec};
+pub use decimals::{decimal_parts, number_of_parts, read_dec};
 pub use digits::power_of_ten;
 pub use elements::{ELEMENTS, Elem, PATHS, paths_listed, table_fits};
 pub use fields::{first_field, is_gap, skip_gap};
