@@ -1,4 +1,5 @@
 pub mod FlowLaws
+pub mod EndsHold
 pub mod FlowStated
 pub mod FlowSteps
 pub mod FlowRules

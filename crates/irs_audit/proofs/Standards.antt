@@ -1,4 +1,4 @@
--- A rounding that this project states, so that a wrong definition does not check.
+-- Roundings that this project states, so that a wrong definition does not check.
 use Rattle.std.proofs.Common.{◌≡◌, pos, refl, rules, arith}
 use Rattle.irs_base.specs.Rounding.{Rounded, rounded}
 use Rattle.irs_base.specs.declared.rounding.Direction.TheVariants.{Nearest}
@@ -13,3 +13,10 @@ rounded_up = search rules
 
 thirty_second : IsFraction (record { num = pos 1; den = pos 32 }) (record { units = pos 313; places = 4 })
 thirty_second = record { decimals = omega arith; exact = λ h. absurd (omega (arith, h)); nearest = λ _. rounded_up }
+
+not_down : Rounded Nearest (pos 10_000) (pos 32) (pos 312) → ⊥
+not_down h = absurd (grind (arith, h))
+
+-- and it isn't 0.0312
+half_not_down : IsFraction (record { num = pos 1; den = pos 32 }) (record { units = pos 312; places = 4 }) → ⊥
+half_not_down h = not_down (h.nearest (omega arith))

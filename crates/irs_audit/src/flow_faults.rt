@@ -17,7 +17,9 @@ ghost use Rattle.serde_json.specs.View.{view};
 ghost use Rattle.std.specs.Prelude.{◌≡◌, ◌+◌, ◌<◌, ◌^◌, ◌≤◌, length, map, nat_le};
 ghost use Rattle.irs_base.specs.Order.{IsFirstBroken};
 
-use crate::flow_table::{FLOW_NAMES, FLOW_ROWS, FLOWS, PERIOD, PERIOD_NAMES, PERIOD_ROWS};
+use crate::flow_table::{
+    FLOW_ENDS, FLOW_NAMES, FLOW_ROWS, FLOWS, PERIOD, PERIOD_ENDS, PERIOD_NAMES, PERIOD_ROWS,
+};
 use irs_base::{Broken, Elem, MOST_ROWS, MOST_STREAMS, Place, Rule};
 use irs_elements::{Table, earlier, first_fault, values, values_at};
 use irs_json::{Value, child, members};
@@ -113,6 +115,7 @@ fn period_fault(stream: u8, number: u32, v: &Value) -> Option<Broken>
     let table = Table {
         rows: &PERIOD_ROWS,
         names: &PERIOD_NAMES,
+        ends: &PERIOD_ENDS,
         stream,
     };
     let own = first_fault(&table, 0, PERIOD, number, v);
@@ -186,12 +189,14 @@ pub fn payments_of<'a>(v: Option<&'a Value>) -> &'a [Value]
     }
 }
 
+#[tactic(auto, using(crate::proofs::EndsHold::flow_ends_hold))]
 fn cashflows_fault(stream: u8, v: &Value) -> Option<Broken>
     ensures { IsFirstBroken (CashflowsFault stream (view v.now)) result }
 {
     let table = Table {
         rows: &FLOW_ROWS,
         names: &FLOW_NAMES,
+        ends: &FLOW_ENDS,
         stream,
     };
     let own = first_fault(&table, 0, FLOWS, 0, v);

@@ -62,6 +62,9 @@ pub const FLOW_NAMES: [&str; 18] = [
     "fixedPaymentAmount",
 ];
 
+/// For each row of `cashflows` the number of the row behind its last member; 0 where it has none.
+pub const FLOW_ENDS: [usize; 18] = [12, 14, 0, 0, 0, 18, 0, 0, 11, 0, 0, 0, 0, 0, 0, 0, 0, 0];
+
 /// What a calculation period is: an object.
 pub const PERIOD: Kind = Kind::Object(Choice::Free);
 
@@ -121,6 +124,11 @@ pub const PERIOD_NAMES: [&str; 25] = [
     "fxLinkedNotionalAmount",
     "capRate",
     "floorRate",
+];
+
+/// The same for the rows of a calculation period.
+pub const PERIOD_ENDS: [usize; 25] = [
+    23, 0, 0, 0, 0, 0, 0, 0, 0, 25, 0, 22, 0, 0, 0, 0, 0, 0, 0, 0, 0, 0, 0, 0, 0,
 ];
 
 /// The rows of the tables and their names are those that the lines of the specification give.

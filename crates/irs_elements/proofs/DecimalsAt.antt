@@ -1,6 +1,6 @@
 -- The function of a decimal's text gives the number that the text stands for.
 use Rattle.irs_base.proofs.DecimalLemmas.{bare_none, digits_true, minus_none, not_parts, not_zeros, one_decimal}
-use Rattle.irs_base.proofs.DecimalLemmas.{padded_whole, plus_none, true_digits, unsigned_is}
+use Rattle.irs_base.proofs.DecimalLemmas.{plus_none, true_digits, unsigned_is}
 use Rattle.irs_base.specs.Decimals.{AreParts, DecText, bare, plus, minus, IsCut, IsUnsigned, is_digit, is_zero}
 use Rattle.irs_base.specs.Decimals.{number_after, number_of, padded}
 use Rattle.irs_elements.proofs.Exact.{Exact, both_true, exact_of, exact_same, true_both}
@@ -58,16 +58,12 @@ from_parts w f p =
     (true_both (nat_lt 0 (length w + length f)) (nat_le (length w) 18) (some_is (length w + length f) p.2)
     (short_is (length w) p.3)))
 
-value_is : (w : List ℕ) → number_after 0 (padded (length w) w) ≡ number_of w
-value_is w = ap (number_after 0) (padded_whole w)
-
 tested : (s : List ℕ) (p : ℕ) (a b : Bool) → are_parts (before_point s) (behind_point s) ≡ a
     → list_all is_zero (drop p (behind_point s)) ≡ b
     → Exact (IsUnsigned s p) (if a
     && b then Some (number_after (number_of (before_point s)) (padded p (behind_point s))) else None)
 tested s p true true ea eb =
-    subst (λ (n : ℕ). IsUnsigned s p (number_after n (padded p (behind_point s)))) (value_is (before_point s))
-    (unsigned_is s (before_point s) (behind_point s) p (cut_is s) (to_parts (before_point s) (behind_point s) ea) eb)
+    unsigned_is s (before_point s) (behind_point s) p (cut_is s) (to_parts (before_point s) (behind_point s) ea) eb
 tested s p true false ea eb =
     λ v u. not_zeros s (before_point s) (behind_point s) p v (cut_is s) (λ e. true≢false (sym e ∙ eb)) u
 tested s p false b ea eb =

@@ -1,5 +1,5 @@
 -- The function of a stated fraction's text gives the one fraction that the text states.
-use Rattle.irs_base.proofs.DecimalLemmas.{cut_once, no_point, not_parts, padded_whole}
+use Rattle.irs_base.proofs.DecimalLemmas.{apart, cut_once, no_point, not_parts, padded_whole}
 use Rattle.irs_base.proofs.RoundingLaws.{nearest_once}
 use Rattle.irs_base.proofs.VisibleTexts.{digits_behind}
 use Rattle.irs_base.specs.Decimals.{AreDigits, AreParts, IsCut, number_after, number_of, padded}
@@ -28,17 +28,7 @@ whole_is text w f h = (cut_once text w f (before_point text) (behind_point text)
 pub decimals_are : (text w f : List ℕ) → IsCut text w f → f ≡ behind_point text
 decimals_are text w f h = (cut_once text w f (before_point text) (behind_point text) h (cut_is text)).1
 
--- ---- what digits spell behind others
-
-shifted : (n x a r s t : ℕ) → s ≡ (10 * n + x) * a + r → t ≡ (10 * 0 + x) * a + r → s ≡ n * (10 * a) + t
-shifted n x a r s t p q = omega (arith, p, q)
-
-apart : (n : ℕ) (ds : List ℕ) → number_after n ds ≡ n * 10 ^ length ds + number_of ds
-apart n [] = omega arith
-apart n (c ∷ cs) =
-    rw (pow-succ' 10 (length cs))
-    (shifted n (c - 48) (10 ^ length cs) (number_of cs) _ _ (apart (10 * n + (c - 48)) cs)
-    (apart (10 * 0 + (c - 48)) cs))
+-- ---- what digits spell
 
 topped : (x a r t : ℕ) → x ≤ 9 → r < a → t ≡ (10 * 0 + x) * a + r → t < 10 * a
 topped x a r t h l e = let m : a * x ≤ a * 9 = mul-le-mul_left a h in omega (arith, m, e, l)
@@ -207,8 +197,6 @@ no_fraction text none =
 
 -- ---- what the digits of both parts spell
 
-pub units_are : (w k : List ℕ) (n m c d : ℕ) → n ≡ number_after 0 (padded (length w) w)
-    → m ≡ number_after n (padded (length k) k) → c ≡ d → m + c ≡ number_after (number_after 0 w) k + d
-units_are w k n m c d first second carry =
-    ap₂ ◌+◌ (second ∙ ap (number_after n) (padded_whole k)
-    ∙ ap (λ (x : ℕ). number_after x k) (first ∙ ap (number_after 0) (padded_whole w))) carry
+pub units_are : (w k : List ℕ) (m c d : ℕ) → m ≡ number_after (number_of w) (padded (length k) k) → c ≡ d
+    → m + c ≡ number_after (number_after 0 w) k + d
+units_are w k m c d parts carry = ap₂ ◌+◌ (parts ∙ ap (number_after (number_of w)) (padded_whole k)) carry

@@ -1,5 +1,6 @@
 pub mod First
 pub mod Steps
+pub mod Ends
 pub mod Attributes
 pub mod Exact
 pub mod DecimalsAt

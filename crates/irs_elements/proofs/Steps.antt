@@ -1,6 +1,6 @@
 -- The first fault at each step of the walk.
 use Rattle.std.proofs.Common.{◌≡◌, ℕ, ◌+◌, ◌<◌, ◌≤◌, Bool, true, false, ◌⊎◌, inl, inr, List, length, map, Option, Some}
-use Rattle.std.proofs.Common.{None, is_none, option_map, refl, sym, ap, subst, ◌∙◌, arith}
+use Rattle.std.proofs.Common.{None, is_none, min, option_map, refl, sym, ap, subst, ◌∙◌, arith}
 use Rattle.std.specs.Prelude.{slice_get}
 use Rattle.std.proofs.lemmas.Option.{slice_get_within, slice_get-map}
 use Rattle.std.specs.List.{list_any}
@@ -22,7 +22,7 @@ use Rattle.irs_elements.specs.Elements.{place, unmet_place, choice_unmet, is_cho
 use Rattle.irs_elements.specs.Elements.{is_unknown, is_element, is_refused, is_required, most, absent_index, index_in}
 use Rattle.irs_elements.specs.Elements.{IsMember, ShapeFault, unknown, unmet, odd, no_href, has_odd, lacks_href}
 use Rattle.irs_elements.specs.Elements.{FaultAt, own, shape, under, FaultUnder, missing, refused, too_many, inside}
-use Rattle.irs_elements.specs.Elements.{FaultAmong, MemberFault}
+use Rattle.irs_elements.specs.Elements.{EndsHold, FaultAmong, MemberFault, end_at}
 use Rattle.irs_elements.proofs.First.{first_or, first_same, first_one, first_is, first_more, first_skip, Below}
 use Rattle.irs_base.specs.Order.{earlier_broken, IsFirstBroken}
 
@@ -152,16 +152,26 @@ module _ (rows : List Row) (names : List (List ℕ)) (stream : ℕ) where
   to_members : (r i n : ℕ) (d : Data) (f : Broken) → Below (RowFault r i d) n f → MemberFault rows names stream r i d f
   to_members r i n d f (c, (h, (row, (m, u)))) = (c, (row, (m, u)))
 
-  from_members : (r i n : ℕ) (d : Data) → length rows ≤ n → (f : Broken) → MemberFault rows names stream r i d f
-      → Below (RowFault r i d) n f
-  from_members r i n d all f (c, (row, (m, u))) =
-      let within : c < length rows = slice_get_within rows c row m.found in
-      (c, (omega (arith, within, all), (row, (m, u))))
+  -- each member of row r stands before row n
+  abbrev pub AreBefore : ℕ → ℕ → Type 0
+  AreBefore r n = (c : ℕ) (row : Row) → IsMember rows names r c row → c < n
 
-  pub members_first : (r i n : ℕ) (d : Data) (a : Option Broken) → length rows ≤ n
+  -- as it does where n is the end of its members
+  pub before_end : (ends : List ℕ) (r n : ℕ) → EndsHold rows ends → min (end_at ends r) (length rows) ≤ n
+      → AreBefore r n
+  before_end ends r n hold past c row m =
+      let within : c < length rows = slice_get_within rows c row m.found in
+      let before : c < end_at ends r = rw (sym m.parent) (hold c row m.found) in
+      grind (arith, within, before, past)
+
+  from_members : (r i n : ℕ) (d : Data) → AreBefore r n → (f : Broken) → MemberFault rows names stream r i d f
+      → Below (RowFault r i d) n f
+  from_members r i n d before f (c, (row, (m, u))) = (c, (before c row m, (row, (m, u))))
+
+  pub members_first : (r i n : ℕ) (d : Data) (a : Option Broken) → AreBefore r n
       → IsFirstBroken (Below (RowFault r i d) n) a
       → IsFirstBroken (MemberFault rows names stream r i d) a
-  members_first r i n d a all p = first_same _ _ _ (to_members r i n d) (from_members r i n d all) p
+  members_first r i n d a before p = first_same _ _ _ (to_members r i n d) (from_members r i n d before) p
 
   one_row : (c : ℕ) (row row' : Row) → slice_get rows c ≡ Some row → slice_get rows c ≡ Some row' → row ≡ row'
   one_row c row row' p q = cc

@@ -167,11 +167,30 @@ module _ (rows : List Row) (names : List (List ℕ)) where
   abbrev pub is_unknown : ℕ → List ℕ → Bool
   is_unknown r name = not (is_attribute name || is_known r name)
 
+  -- a name that is an attribute's or stands in no row
+  abbrev pub is_apart : ℕ → List ℕ → Bool
+  is_apart r name = is_attribute name || not (is_known r name)
+
   -- c is the row of a member of the object at row r
   pub record IsMember (r c : ℕ) (row : Row) : Type 0 where
     pub found : slice_get rows c ≡ Some row
     pub parent : row.parent ≡ r
     pub later : r < c
+
+-- ---- where the members of an object end
+
+-- the row behind the last member, where one is told
+abbrev pub end_in : Option ℕ → ℕ
+end_in None = 0
+end_in (Some end) = end
+
+-- the row behind the last member of the object at row r, 0 where it has none
+abbrev pub end_at : List ℕ → ℕ → ℕ
+end_at ends r = end_in (slice_get ends r)
+
+-- each row stands before the end of its parent's members
+abbrev pub EndsHold : List Row → List ℕ → Type 0
+EndsHold rows ends = (c : ℕ) (row : Row) → slice_get rows c ≡ Some row → c < end_at ends row.parent
 
 module _ (rows : List Row) (names : List (List ℕ)) (stream : ℕ) where
   -- the rules that an object breaks beside those of its members

@@ -8,7 +8,7 @@ ghost use Rattle.irs_elements.specs.Fractions.{IsFraction, carried, fraction_at}
 ghost use Rattle.irs_elements.specs.Fractions.{fraction_of as fraction_by};
 ghost use Rattle.std.specs.Prelude.{◌≡◌, ◌+◌, ◌^◌, ◌≤◌, [], IfNone, IfSome, drop, length, take};
 
-use irs_base::{Dec, decimal_parts, number_behind};
+use irs_base::{Dec, decimal_parts, number_of_parts};
 
 /// The most decimals that are kept.
 const MOST_PLACES: usize = 12;
@@ -45,8 +45,7 @@ fn units(whole: &[u8], kept: &[u8], left: &[u8]) -> u128
     ensures value { result ≡ number_after (number_after 0 whole.now) kept.now + carried left.now }
     ensures below { result ≤ 10 ^ 30 }
 {
-    let number = number_behind(0, whole, whole.len() as u8);
-    number_behind(number, kept, kept.len() as u8) + carry(left)
+    number_of_parts(whole, kept, kept.len() as u8) + carry(left)
 }
 
 fn fraction_of(whole: &[u8], decimals: &[u8]) -> Dec

@@ -67,14 +67,16 @@ macro_rules! row {
     };
 }
 
-/// A table of elements, and the stream in whose values it is followed: a row and a name for each
-/// element. Stream 0 stands for what lies outside the streams.
+/// A table of elements, and the stream in whose values it is followed: a row, a name and the end of
+/// its members for each element. Stream 0 stands for what lies outside the streams.
 #[derive(Clone, Copy)]
 pub struct Table<'t> {
     /// The rows.
     pub rows: &'t [Row],
     /// The name at each row.
     pub names: &'t [&'static str],
+    /// For each row the number of the row behind its last member; 0 where it has none.
+    pub ends: &'t [usize],
     /// The number of the stream, from 1.
     pub stream: u8,
 }

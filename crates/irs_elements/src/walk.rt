@@ -2,10 +2,11 @@
 //!
 //! The walk goes down the table and not down the value: each row's members stand behind it. It keeps
 //! nothing on the way, each step answers the first broken rule of its part.
-ghost use Rattle.irs_elements.specs.Elements.{FaultAmong, FaultAt, FaultUnder, MemberFault, ShapeFault};
+ghost use Rattle.irs_elements.specs.Elements.{EndsHold, FaultAmong, FaultAt, FaultUnder, MemberFault, ShapeFault};
 ghost use Rattle.irs_elements.specs.Elements.{absent_index as absent_index_of, choice_unmet as choice_unmet_of};
-ghost use Rattle.irs_elements.specs.Elements.{elem_at, elem_of, fault_if, has_odd as has_odd_of, index_in as index_in_of};
-ghost use Rattle.irs_elements.specs.Elements.{is_element as is_element_of, is_known as is_known_in};
+ghost use Rattle.irs_elements.specs.Elements.{elem_at, elem_of, end_at, fault_if, has_odd as has_odd_of};
+ghost use Rattle.irs_elements.specs.Elements.{index_in as index_in_of, is_apart, is_element as is_element_of};
+ghost use Rattle.irs_elements.specs.Elements.{is_known as is_known_in};
 ghost use Rattle.irs_elements.specs.Elements.{is_odd as is_odd_of, is_refused as is_refused_of};
 ghost use Rattle.irs_elements.specs.Elements.{is_required as is_required_of, is_unknown, lacks_href as lacks_href_of};
 ghost use Rattle.irs_elements.specs.Elements.{most as most_of, name_at, own_rule as own_rule_of, place};
@@ -14,10 +15,11 @@ ghost use Rattle.irs_json.specs.Carrier.{child_of};
 ghost use Rattle.irs_json.specs.Leaves.{is_attribute};
 ghost use Rattle.irs_json.specs.Names.{names_of};
 ghost use Rattle.serde_json.specs.View.{view};
-ghost use Rattle.std.specs.List.{list_any};
-ghost use Rattle.std.specs.Prelude.{◌≡◌, ◌+◌, ◌<◌, ◌≤◌, ◌&&◌, ◌==◌, nat_lt, Some, false, length, map, option_map};
+ghost use Rattle.std.specs.List.{Contains, list_any};
+ghost use Rattle.std.specs.Prelude.{◌≡◌, ◌+◌, ◌<◌, ◌≤◌, ◌&&◌, ◌==◌, ℕ, List, nat_lt, IsSome, Some, length, map};
+ghost use Rattle.std.specs.Prelude.{option_map};
 ghost use Rattle.std.specs.Str.{bytes_eq};
-ghost use Rattle.irs_base.specs.Order.{IsFirstBroken};
+ghost use Rattle.irs_base.specs.Order.{IsFirstBroken, earlier_broken};
 
 use crate::leaves::leaf_rule;
 use crate::order::earlier;
@@ -265,27 +267,11 @@ fn is_odd(v: &Value, name: &str) -> bool
     }
 }
 
-fn any_attribute(mut names: MemberIter<'_>) -> bool
-    ensures { result ≡ list_any is_attribute names.entry }
-{
-    names.any(|name| is_attribute_name(name))
-}
-
-// Whether an object has an attribute. Most have none, and so none that is odd.
-fn has_attribute(v: &Value) -> bool
-    ensures { result ≡ false → has_odd_of (view v.now) ≡ false }
-{
-    match members(v) {
-        None => false,
-        Some(names) => any_attribute(names),
-    }
-}
-
 // Whether `@id` or `@href` is there and is no text.
 fn has_odd(v: &Value) -> bool
     ensures { result ≡ has_odd_of (view v.now) }
 {
-    has_attribute(v) && (is_odd(v, "@id") || is_odd(v, "@href"))
+    is_odd(v, "@id") || is_odd(v, "@href")
 }
 
 fn odd_fault(table: &Table<'_>, r: usize, index: u32, v: &Value) -> Option<Broken>
@@ -320,7 +306,51 @@ fn href_fault(table: &Table<'_>, r: usize, choice: Choice, index: u32, v: &Value
     }
 }
 
+// The first of what was found before and of what is found now; mostly nothing is.
+fn first_of(first: Option<Broken>, found: Option<Broken>) -> Option<Broken>
+    ensures { result ≡ earlier_broken first found }
+{
+    match found {
+        None => first,
+        Some(fault) => earlier(first, Some(fault)),
+    }
+}
+
+// Whether a member of the object at row r has the name of an attribute, or one that the table doesn't
+// know.
+fn has_apart(table: &Table<'_>, r: usize, mut listed: MemberIter<'_>) -> bool
+    ensures { result ≡ list_any (is_apart table.now.rows.now (texts table.now.names.now) r) listed.entry }
+{
+    listed.any(|name| is_attribute_name(name) || !is_known(table, r, name))
+}
+
 // The first rule that an object breaks beside those of its members.
+fn whole_shape_fault(
+    table: &Table<'_>,
+    r: usize,
+    choice: Choice,
+    index: u32,
+    v: &Value,
+) -> Option<Broken>
+    requires { IsSome (names_of (view v.now)) }
+    ensures { IsFirstBroken
+        (ShapeFault table.now.rows.now (texts table.now.names.now) table.now.stream r choice index (view v.now))
+        result }
+{
+    match members(v) {
+        None => None,
+        Some(listed) => {
+            let unknown = unknown_fault(table, r, index, listed);
+            let chosen = choice_fault(table, r, choice, index, v);
+            let odd = odd_fault(table, r, index, v);
+            let href = href_fault(table, r, choice, index, v);
+            earlier(earlier(unknown, chosen), earlier(odd, href))
+        },
+    }
+}
+
+// The same, by a look at the names: where each is an element's and known, as most are, none is unknown
+// and no attribute is odd.
 fn shape_fault(
     table: &Table<'_>,
     r: usize,
@@ -329,22 +359,36 @@ fn shape_fault(
     v: &Value,
     listed: MemberIter<'_>,
 ) -> Option<Broken>
-    requires { names_of (view v.now) ≡ Some listed }
+    requires names { names_of (view v.now) ≡ Some listed }
+    requires found { (name : List ℕ) → IsSome (child_of name (view v.now)) → Contains listed name }
     ensures { IsFirstBroken
         (ShapeFault table.now.rows.now (texts table.now.names.now) table.now.stream r choice index (view v.now))
         result }
 {
-    let unknown = unknown_fault(table, r, index, listed);
-    let chosen = choice_fault(table, r, choice, index, v);
-    let odd = odd_fault(table, r, index, v);
-    let href = href_fault(table, r, choice, index, v);
-    earlier(earlier(unknown, chosen), earlier(odd, href))
+    if has_apart(table, r, listed) {
+        whole_shape_fault(table, r, choice, index, v)
+    } else {
+        let chosen = choice_fault(table, r, choice, index, v);
+        first_of(chosen, href_fault(table, r, choice, index, v))
+    }
+}
+
+// The number of the row behind the last member of the object at row r.
+fn end_of(ends: &[usize], r: usize) -> usize
+    ensures { result ≡ end_at ends.now r }
+{
+    match ends.get(r) {
+        None => 0,
+        Some(end) => *end,
+    }
 }
 
 /// The first rule that is broken by `v`, which stands at row `r` of the table with this kind and
-/// index, in the stream of that number; `None` exactly where none is.
+/// index, in the stream of that number; `None` exactly where none is. The table's ends stand behind
+/// the members.
 #[cycle(faults)]
 pub fn first_fault(table: &Table<'_>, r: usize, kind: Kind, index: u32, v: &Value) -> Option<Broken>
+    requires { EndsHold table.now.rows.now table.now.ends.now }
     ensures { IsFirstBroken
         (FaultAt table.now.rows.now (texts table.now.names.now) table.now.stream r kind index (view v.now)) result }
 {
@@ -353,7 +397,7 @@ pub fn first_fault(table: &Table<'_>, r: usize, kind: Kind, index: u32, v: &Valu
             None => own_fault(table, kind, r, index, v),
             Some(listed) => {
                 let shape = shape_fault(table, r, choice, index, v, listed);
-                earlier(shape, members_fault(table, r, index, v))
+                first_of(shape, members_fault(table, r, index, v))
             }
         },
         Kind::Leaf(_) => own_fault(table, kind, r, index, v),
@@ -365,14 +409,16 @@ pub fn first_fault(table: &Table<'_>, r: usize, kind: Kind, index: u32, v: &Valu
 // The first rule that the members of an object at row r break.
 #[cycle(faults)]
 fn members_fault(table: &Table<'_>, r: usize, index: u32, v: &Value) -> Option<Broken>
+    requires { EndsHold table.now.rows.now table.now.ends.now }
     ensures { IsFirstBroken
         (MemberFault table.now.rows.now (texts table.now.names.now) table.now.stream r index (view v.now)) result }
 {
     let mut first = None;
-    for c in r..table.rows.len() {
+    let end = end_of(table.ends, r).min(table.rows.len());
+    for c in r..end {
         let row = table.rows[c];
         if row.parent == r && r < c {
-            first = earlier(first, fault_under(table, c, row, index, v));
+            first = first_of(first, fault_under(table, c, row, index, v));
         }
     }
     first
@@ -381,6 +427,7 @@ fn members_fault(table: &Table<'_>, r: usize, index: u32, v: &Value) -> Option<B
 // The first rule that the member at row c breaks.
 #[cycle(faults)]
 fn fault_under(table: &Table<'_>, c: usize, row: Row, index: u32, v: &Value) -> Option<Broken>
+    requires { EndsHold table.now.rows.now table.now.ends.now }
     ensures { IsFirstBroken
         (FaultUnder table.now.rows.now (texts table.now.names.now) table.now.stream c row index (view v.now)) result }
 {
@@ -409,7 +456,8 @@ fn fault_under(table: &Table<'_>, c: usize, row: Row, index: u32, v: &Value) -> 
 // The first rule that the values of the member at row c break.
 #[cycle(faults)]
 fn fault_among(table: &Table<'_>, c: usize, row: Row, index: u32, list: &[Value]) -> Option<Broken>
-    requires { length list.now ≤ most_of row.count }
+    requires few { length list.now ≤ most_of row.count }
+    requires ends { EndsHold table.now.rows.now table.now.ends.now }
     ensures { IsFirstBroken
         (FaultAmong table.now.rows.now (texts table.now.names.now) table.now.stream c row.kind
         (index_in_of row.count index) (map view list.now)) result }
@@ -417,7 +465,7 @@ fn fault_among(table: &Table<'_>, c: usize, row: Row, index: u32, list: &[Value]
     let mut first = None;
     for j in 0..list.len() {
         let at = index_in(row.count, index, j as u32);
-        first = earlier(first, first_fault(table, c, row.kind, at, &list[j]));
+        first = first_of(first, first_fault(table, c, row.kind, at, &list[j]));
     }
     first
 }

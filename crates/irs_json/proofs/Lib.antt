@@ -1,4 +1,3 @@
 pub mod Views
 pub mod Trims
 pub mod NamesInOrder
-pub mod OneByOne

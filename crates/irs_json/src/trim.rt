@@ -1,6 +1,7 @@
 //! Text without the white space at its ends: space, tab, LF and CR, and no other byte.
-ghost use Rattle.std.specs.Prelude.{◌≡◌, ◌++◌, ◌∷◌, [], ℕ, true, MatchOption};
-ghost use Rattle.irs_json.specs.Trim.{NoSpaceFirst, NoSpaceLast, is_space, trim_front, trim_back, trim as trim_of};
+ghost use Rattle.std.specs.Prelude.{◌≡◌, ◌++◌, ◌∷◌, [], ℕ, true, MatchOption, option_map};
+ghost use Rattle.irs_json.specs.Trim.{NoSpaceFirst, NoSpaceLast, is_past_space as is_past_space_of, is_space};
+ghost use Rattle.irs_json.specs.Trim.{trim_front, trim_back, trim as trim_of};
 
 // The text after a first byte of white space.
 fn after_space(text: &str) -> Option<&str>
@@ -62,9 +63,25 @@ fn trimmed_back(text: &str) -> &str
     left
 }
 
-/// The text without the white space at its ends.
+// Whether a byte is greater than each that is white space.
+fn is_past_space(byte: Option<&u8>) -> bool
+    ensures { result ≡ is_past_space_of (option_map (λ b. b.now) byte.entry) }
+{
+    match byte {
+        None => false,
+        Some(byte) => *byte > b' ',
+    }
+}
+
+/// The text without the white space at its ends. Most texts have none, as their first byte and their last
+/// tell.
 pub(crate) fn trimmed(text: &str) -> &str
     ensures { result.now ≡ trim_of text.now }
 {
-    trimmed_back(trimmed_front(text))
+    let bytes = text.as_bytes();
+    if is_past_space(bytes.first()) && is_past_space(bytes.last()) {
+        text
+    } else {
+        trimmed_back(trimmed_front(text))
+    }
 }

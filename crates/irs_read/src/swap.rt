@@ -5,7 +5,7 @@ ghost use Rattle.serde_json.specs.View.{view};
 ghost use Rattle.std.specs.Prelude.{◌≡◌, ◌≤◌, length, map};
 ghost use Rattle.irs_base.specs.Order.{IsFirstBroken};
 
-use crate::table::{NAMES, ROWS, STREAM, SWAP, SWAP_NAMES, SWAP_ROWS};
+use crate::table::{ENDS, NAMES, ROWS, STREAM, SWAP, SWAP_ENDS, SWAP_NAMES, SWAP_ROWS};
 use irs_base::{Broken, Elem, MOST_STREAMS, Place, Rule};
 use irs_elements::{Table, earlier, first_fault, values_at};
 use irs_json::{Value, members};
@@ -35,6 +35,7 @@ fn each_stream_fault(list: &[Value]) -> Option<Broken>
         let table = Table {
             rows: &ROWS,
             names: &NAMES,
+            ends: &ENDS,
             stream: number,
         };
         first = earlier(first, first_fault(&table, 0, STREAM, 0, &list[j]));
@@ -56,12 +57,14 @@ fn streams_fault(list: &[Value]) -> Option<Broken>
 }
 
 /// The first rule that a swap breaks.
+#[tactic(auto, using(crate::proofs::TableLaws::swap_ends_hold))]
 pub fn first_in_swap(v: &Value) -> Option<Broken>
     ensures { IsFirstBroken (SwapFault (view v.now)) result }
 {
     let table = Table {
         rows: &SWAP_ROWS,
         names: &SWAP_NAMES,
+        ends: &SWAP_ENDS,
         stream: 0,
     };
     let own = first_fault(&table, 0, SWAP, 0, v);

@@ -420,6 +420,16 @@ pub const NAMES: [&str; 166] = [
     "stubAmount",
 ];
 
+/// For each row of a stream the number of the row behind its last member; 0 where it has none.
+pub const ENDS: [usize; 166] = [
+    136, 139, 140, 0, 8, 0, 0, 9, 0, 141, 0, 15, 0, 0, 16, 0, 20, 0, 0, 21, 0, 142, 0, 27, 0, 0,
+    28, 0, 0, 0, 0, 35, 0, 0, 0, 144, 0, 40, 0, 0, 0, 0, 0, 47, 0, 0, 0, 51, 0, 0, 52, 0, 146, 0,
+    0, 64, 0, 0, 0, 0, 0, 63, 0, 0, 134, 0, 0, 71, 0, 0, 72, 0, 147, 149, 150, 81, 0, 80, 0, 0, 0,
+    84, 0, 86, 0, 0, 154, 0, 91, 0, 0, 94, 0, 96, 0, 0, 99, 0, 101, 0, 0, 0, 105, 0, 0, 0, 0, 0,
+    118, 0, 165, 159, 0, 116, 0, 0, 0, 166, 164, 0, 123, 0, 0, 0, 128, 0, 0, 0, 0, 0, 0, 0, 0, 0,
+    0, 0, 0, 0, 0, 0, 0, 0, 0, 0, 0, 0, 0, 0, 0, 0, 0, 0, 0, 0, 0, 0, 0, 0, 0, 0, 0, 0, 0, 0, 0, 0,
+];
+
 /// What a swap is: an object.
 pub const SWAP: Kind = Kind::Object(Choice::Free);
 
@@ -454,6 +464,9 @@ pub const SWAP_NAMES: [&str; 12] = [
     "cancelableProvision",
     "extendibleProvision",
 ];
+
+/// The same for the rows of a swap.
+pub const SWAP_ENDS: [usize; 12] = [12, 0, 0, 0, 0, 0, 0, 0, 0, 0, 0, 0];
 
 /// The rows of the tables and their names are those that the lines of the specification give.
 #[tactic(auto, using(crate::proofs::TableLaws::rows_are, crate::proofs::TableLaws::names_are, crate::proofs::TableLaws::swap_rows_are, crate::proofs::TableLaws::swap_names_are))]

@@ -1,4 +1,4 @@
-use Rattle.std.proofs.Common.{◌≡◌, ◌≤◌, ℕ, List, get_or, length, map, Option, Some, None, option_map, refl, sym, ap, ◌∙◌}
+use Rattle.std.proofs.Common.{◌≡◌, ◌<◌, ℕ, List, get_or, length, map, Option, Some, None, option_map, refl, sym, ap, ◌∙◌}
 use Rattle.std.proofs.Common.{arith}
 use Rattle.std.specs.Prelude.{slice_get}
 use Rattle.serde_json.specs.View.{view}
@@ -15,7 +15,7 @@ use Rattle.irs_elements.specs.declared.table.Kind.TheVariants.{Object}
 use Rattle.irs_elements.specs.Elements.{texts, name_at, place, own_rule, FaultAt, index_in}
 use Rattle.irs_elements.proofs.First.{first_is}
 use Rattle.irs_elements.proofs.KnownNames.{some_row}
-use Rattle.irs_elements.proofs.Steps.{own_first, object_first, none_before, members_first, under_missing}
+use Rattle.irs_elements.proofs.Steps.{before_end, own_first, object_first, none_before, members_first, under_missing}
 use Rattle.irs_elements.proofs.Steps.{under_refused, under_many, under_lawful, among_first, member_step, other_step}
 use Rattle.irs_elements.proofs.Steps.{item_step}
 use Rattle.irs_elements.proofs.walk.+faults.Goals as goal
@@ -53,7 +53,7 @@ pub first_fault-returns-in-Some : goal.first_fault-returns-in-Some
 first_fault-returns-in-Some t c =
     let there : names_of (view c.args.v.now) ≡ Some c.in-Some.listed = sym c.members.ensures.names ∙ c.in-Some.is in
     rw (
-      c.earlier.ensures,
+      c.first_of.ensures,
       c.in-Object.is,
     ) (object_first c.args.table.now.rows.now
     (texts c.args.table.now.names.now) c.args.table.now.stream c.args.r c.args.index c.in-Object.choice
@@ -66,15 +66,19 @@ members_fault-loop-c-init t c =
 
 pub members_fault-returns : goal.members_fault-returns
 members_fault-returns t c =
-    let all : length c.args.table.now.rows.now ≤ c.loop-c.c = omega arith in
-    members_first c.args.table.now.rows.now (texts c.args.table.now.names.now) c.args.table.now.stream c.args.r
-    c.args.index _ (view c.args.v.now) _ all c.loop-c.invariant
+    let rows = c.args.table.now.rows.now in
+    let names = texts c.args.table.now.names.now in
+    let before = before_end rows names c.args.table.now.stream c.args.table.now.ends.now c.args.r c.loop-c.c
+    c.requires (omega arith) in
+    members_first rows names c.args.table.now.stream c.args.r c.args.index _ (view c.args.v.now) _ before
+    c.loop-c.invariant
 
 pub members_fault-loop-c-preserved : goal.members_fault-loop-c-preserved
 members_fault-loop-c-preserved t c =
+    let inside : c.loop-c.c < length c.args.table.now.rows.now = grind (arith, c.loop-c-test.true) in
     let found : slice_get c.args.table.now.rows.now c.loop-c.c
     ≡ Some (get_or c.args.table.now.rows.now c.loop-c.c some_row) =
-    slice_get-get_or c.args.table.now.rows.now c.loop-c.c some_row c.loop-c-test.true in
+    slice_get-get_or c.args.table.now.rows.now c.loop-c.c some_row inside in
     let other = other_step c.args.table.now.rows.now
     (texts c.args.table.now.names.now) c.args.table.now.stream c.args.r c.args.index c.loop-c.c (view c.args.v.now)
     (get_or c.args.table.now.rows.now c.loop-c.c some_row) c.loop-c.first c.if-row-r.first found in
@@ -82,7 +86,7 @@ members_fault-loop-c-preserved t c =
       | members_fault-then-row-r+then-r-c w ↦
           member_step c.args.table.now.rows.now (texts c.args.table.now.names.now) c.args.table.now.stream c.args.r
           c.args.index c.loop-c.c (view c.args.v.now) _ _ _ _ found w.if-row-r.true w.if-r-c.true
-          (w.first-is ∙ w.earlier-first.ensures) c.loop-c.invariant w.fault_under.ensures
+          (w.first-is ∙ w.first_of-first.ensures) c.loop-c.invariant w.fault_under.ensures
       | members_fault-else-row-r w ↦ elim w.else-row-r.branch [
         | members_fault-else-row-r-via-then-row-r+else-r-c w' ↦
             other (λ e lt. absurd (omega (arith, lt, w'.if-r-c.false))) w.first-is c.loop-c.invariant
@@ -164,5 +168,5 @@ fault_among-loop-j-preserved t c =
     c.index-list-j.is in
     item_step c.args.table.now.rows.now (texts c.args.table.now.names.now) c.args.table.now.stream c.args.c
     c.args.row.kind (index_in c.args.row.count c.args.index) c.loop-j.j c.index_in-at.result c.args.list.now
-    c.index-list-j.result _ _ _ found c.index_in-at.ensures c.earlier-first.ensures c.loop-j.invariant
+    c.index-list-j.result _ _ _ found c.index_in-at.ensures c.first_of-first.ensures c.loop-j.invariant
     c.first_fault.ensures
