@@ -120,7 +120,7 @@ fn first_number(digits: &[u8], count: u8) -> u64
     number_behind(0, digits, count)
 }
 
-// So many units of 10^-places, and such parts beside them.
+// Units, and parts of which 10^places make one: together, in parts.
 fn with_parts(units: u64, parts: u64, places: u8) -> u128
     requires units { units < 10 ^ 18 }
     requires parts { parts < 10 ^ places }
