@@ -1,5 +1,4 @@
 pub mod FlowLaws
-pub mod EndsHold
 pub mod FlowStated
 pub mod FlowSteps
 pub mod FlowRules

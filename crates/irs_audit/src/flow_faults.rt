@@ -189,7 +189,6 @@ pub fn payments_of<'a>(v: Option<&'a Value>) -> &'a [Value]
     }
 }
 
-#[tactic(auto, using(crate::proofs::EndsHold::flow_ends_hold))]
 fn cashflows_fault(stream: u8, v: &Value) -> Option<Broken>
     ensures { IsFirstBroken (CashflowsFault stream (view v.now)) result }
 {

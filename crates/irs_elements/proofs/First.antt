@@ -1,6 +1,6 @@
 -- The first of a set of faults.
 use Rattle.std.proofs.Common.{◌≡◌, ℕ, ◌<◌, ◌≤◌, ◌+◌, subst, ◌⊎◌, inl, inr, Option, Some}
-use Rattle.std.proofs.Common.{None, sym, arith}
+use Rattle.std.proofs.Common.{None, refl, sym, arith}
 use Rattle.std.proofs.Math.Nat.{eq-or-lt_of_le}
 use Rattle.irs_base.specs.declared.places.Broken.{Broken}
 use Rattle.irs_base.specs.Order.{is_before, earlier_broken as earlier, IsFirstBroken as IsFirst}
@@ -54,3 +54,8 @@ module _ (F : ℕ → Broken → Type 0) where
 -- the same answer
 pub first_is : (P : Broken → Type 0) (a b : Option Broken) → b ≡ a → IsFirst P a → IsFirst P b
 first_is P a b e p = subst (λ (o : Option Broken). IsFirst P o) (sym e) p
+
+-- nothing comes later than a fault
+pub none_later : (a : Option Broken) → a ≡ earlier a None
+none_later None = refl
+none_later (Some f) = refl

@@ -9,3 +9,5 @@ pub mod FractionsAt
 pub mod Wholes
 pub mod TableRules
 pub mod KnownNames
+pub mod Objects
+pub mod FewDigits

@@ -1,8 +1,9 @@
 -- The first fault at each step of the walk.
+use Rattle.std.proofs.Common.{zero, suc, [], ◌∷◌, get_or}
 use Rattle.std.proofs.Common.{◌≡◌, ℕ, ◌+◌, ◌<◌, ◌≤◌, Bool, true, false, ◌⊎◌, inl, inr, List, length, map, Option, Some}
 use Rattle.std.proofs.Common.{None, is_none, min, option_map, refl, sym, ap, subst, ◌∙◌, arith}
 use Rattle.std.specs.Prelude.{slice_get}
-use Rattle.std.proofs.lemmas.Option.{slice_get_within, slice_get-map}
+use Rattle.std.proofs.lemmas.Option.{same_Some, slice_get_within, slice_get-map}
 use Rattle.std.specs.List.{list_any}
 use Rattle.serde_json.specs.Data.{Data}
 use Rattle.serde_json.specs.View.{view}
@@ -22,7 +23,7 @@ use Rattle.irs_elements.specs.Elements.{place, unmet_place, choice_unmet, is_cho
 use Rattle.irs_elements.specs.Elements.{is_unknown, is_element, is_refused, is_required, most, absent_index, index_in}
 use Rattle.irs_elements.specs.Elements.{IsMember, ShapeFault, unknown, unmet, odd, no_href, has_odd, lacks_href}
 use Rattle.irs_elements.specs.Elements.{FaultAt, own, shape, under, FaultUnder, missing, refused, too_many, inside}
-use Rattle.irs_elements.specs.Elements.{EndsHold, FaultAmong, MemberFault, end_at}
+use Rattle.irs_elements.specs.Elements.{EndsHold, FaultAmong, MemberFault, end_at, names_among}
 use Rattle.irs_elements.proofs.First.{first_or, first_same, first_one, first_is, first_more, first_skip, Below}
 use Rattle.irs_base.specs.Order.{earlier_broken, IsFirstBroken}
 
@@ -57,40 +58,48 @@ no_element Refused h = refl
 
 module _ (rows : List Row) (names : List (List ℕ)) (stream : ℕ) where
   -- the four ways in which an object breaks a rule
-  abbrev Ways : ℕ → ℕ → Choice → Data → List (List ℕ) → Broken → Type 0
-  Ways r i ch d ns f =
-      (((list_any (is_unknown rows names r) ns ≡ true) × (f ≡ place rows stream K4 r i))
+  abbrev Ways : ℕ → ℕ → Choice → Data → Broken → Type 0
+  Ways r i ch d f =
+      (((list_any (is_unknown rows names r) (names_among (names_of d)) ≡ true) × (f ≡ place rows stream K4 r i))
       ⊎ ((u : Unmet) × ((choice_unmet names ch d ≡ Some u) × (f ≡ unmet_place rows stream r i u))))
       ⊎ (((has_odd d ≡ true) × (f ≡ place rows stream K3 r i))
       ⊎ ((lacks_href ch d ≡ true) × (f ≡ place rows stream K2 r i)))
 
-  from_shape : (r i : ℕ) (ch : Choice) (d : Data) (ns : List (List ℕ)) → names_of d ≡ Some ns → (f : Broken)
-      → ShapeFault rows names stream r ch i d f → Ways r i ch d ns f
-  from_shape r i ch d ns h f (unknown _ _ _ _ ms e u) = let same : ms ≡ ns = cc in inl (inl (rw (sym same) u, refl))
-  from_shape r i ch d ns h f (unmet _ _ u _ _ e) = inl (inr (u, (e, refl)))
-  from_shape r i ch d ns h f (odd _ _ _ _ e) = inr (inl (e, refl))
-  from_shape r i ch d ns h f (no_href _ _ _ _ e) = inr (inr (e, refl))
+  from_shape : (r i : ℕ) (ch : Choice) (d : Data) (f : Broken) → ShapeFault rows names stream r ch i d f
+      → Ways r i ch d f
+  from_shape r i ch d f (unknown _ _ _ _ ns e u) =
+      inl (inl (ap (λ o. list_any (is_unknown rows names r) (names_among o)) e ∙ u, refl))
+  from_shape r i ch d f (unmet _ _ u _ _ e) = inl (inr (u, (e, refl)))
+  from_shape r i ch d f (odd _ _ _ _ e) = inr (inl (e, refl))
+  from_shape r i ch d f (no_href _ _ _ _ e) = inr (inr (e, refl))
 
-  to_shape : (r i : ℕ) (ch : Choice) (d : Data) (ns : List (List ℕ)) → names_of d ≡ Some ns → (f : Broken)
-      → Ways r i ch d ns f → ShapeFault rows names stream r ch i d f
-  to_shape r i ch d ns h f (inl (inl (u, is))) = rw is (unknown r i ch d ns h u)
-  to_shape r i ch d ns h f (inl (inr (u, (e, is)))) = rw is (unmet r i u ch d e)
-  to_shape r i ch d ns h f (inr (inl (e, is))) = rw is (odd r i ch d e)
-  to_shape r i ch d ns h f (inr (inr (e, is))) = rw is (no_href r i ch d e)
+  -- one that stands among the names stands among those of an object
+  unknown_of : (r i : ℕ) (ch : Choice) (d : Data) (o : Option (List (List ℕ))) → names_of d ≡ o
+      → list_any (is_unknown rows names r) (names_among o) ≡ true
+      → ShapeFault rows names stream r ch i d (place rows stream K4 r i)
+  unknown_of r i ch d None e u = absurd cc
+  unknown_of r i ch d (Some ns) e u = unknown r i ch d ns e u
 
-  abbrev pub shape_answer : ℕ → ℕ → Choice → Data → List (List ℕ) → Option Broken
-  shape_answer r i ch d ns =
-      earlier_broken (earlier_broken (fault_if (list_any (is_unknown rows names r) ns) (place rows stream K4 r i))
-      (option_map (unmet_place rows stream r i) (choice_unmet names ch d)))
+  to_shape : (r i : ℕ) (ch : Choice) (d : Data) (f : Broken) → Ways r i ch d f → ShapeFault rows names stream r ch i d f
+  to_shape r i ch d f (inl (inl (u, is))) = rw is (unknown_of r i ch d (names_of d) refl u)
+  to_shape r i ch d f (inl (inr (u, (e, is)))) = rw is (unmet r i u ch d e)
+  to_shape r i ch d f (inr (inl (e, is))) = rw is (odd r i ch d e)
+  to_shape r i ch d f (inr (inr (e, is))) = rw is (no_href r i ch d e)
+
+  abbrev pub shape_answer : ℕ → ℕ → Choice → Data → Option Broken
+  shape_answer r i ch d =
+      earlier_broken (earlier_broken (fault_if (list_any (is_unknown rows names r) (names_among (names_of d)))
+      (place rows stream K4 r i)) (option_map (unmet_place rows stream r i) (choice_unmet names ch d)))
       (earlier_broken (fault_if (has_odd d) (place rows stream K3 r i))
       (fault_if (lacks_href ch d) (place rows stream K2 r i)))
 
-  pub shape_first : (r i : ℕ) (ch : Choice) (d : Data) (ns : List (List ℕ)) → names_of d ≡ Some ns
-      → IsFirstBroken (ShapeFault rows names stream r ch i d) (shape_answer r i ch d ns)
-  shape_first r i ch d ns h =
-      first_same _ _ _ (to_shape r i ch d ns h) (from_shape r i ch d ns h)
+  pub shape_first : (r i : ℕ) (ch : Choice) (d : Data)
+      → IsFirstBroken (ShapeFault rows names stream r ch i d) (shape_answer r i ch d)
+  shape_first r i ch d =
+      first_same _ _ _ (to_shape r i ch d) (from_shape r i ch d)
       (first_or _ _ _ _
-      (first_or _ _ _ _ (first_if (place rows stream K4 r i) (list_any (is_unknown rows names r) ns))
+      (first_or _ _ _ _ (first_if (place rows stream K4 r i)
+      (list_any (is_unknown rows names r) (names_among (names_of d))))
       (first_of_rule (unmet_place rows stream r i) (choice_unmet names ch d)))
       (first_or _ _ _ _ (first_if (place rows stream K3 r i) (has_odd d))
       (first_if (place rows stream K2 r i) (lacks_href ch d))))
@@ -157,11 +166,11 @@ module _ (rows : List Row) (names : List (List ℕ)) (stream : ℕ) where
   AreBefore r n = (c : ℕ) (row : Row) → IsMember rows names r c row → c < n
 
   -- as it does where n is the end of its members
-  pub before_end : (ends : List ℕ) (r n : ℕ) → EndsHold rows ends → min (end_at ends r) (length rows) ≤ n
+  pub before_end : (ends : List ℕ) (r n : ℕ) → EndsHold rows ends → min (end_at (length rows) ends r) (length rows) ≤ n
       → AreBefore r n
   before_end ends r n hold past c row m =
       let within : c < length rows = slice_get_within rows c row m.found in
-      let before : c < end_at ends r = rw (sym m.parent) (hold c row m.found) in
+      let before : c < end_at (length rows) ends r = rw (sym m.parent) (hold c row m.found) in
       grind (arith, within, before, past)
 
   from_members : (r i n : ℕ) (d : Data) → AreBefore r n → (f : Broken) → MemberFault rows names stream r i d f
@@ -281,6 +290,24 @@ module _ (rows : List Row) (names : List (List ℕ)) (stream : ℕ) where
   among_first c kind at ds a p =
       first_same _ _ a (λ f (j, (h, (x, (e, f')))). (j, (x, (e, f'))))
       (λ f (j, (x, (e, f'))). (j, (slice_get_within ds j x e, (x, (e, f'))))) p
+
+  -- the faults of one value alone
+  pub among_one : (c : ℕ) (kind : Kind) (at : ℕ → ℕ) (i : ℕ) (vs : List Value) (v : Value) (a : Option Broken)
+      → 1 ≤ length vs → length vs < 2 → v ≡ get_or vs 0 v → i ≡ at 0
+      → IsFirstBroken (FaultAt rows names stream c kind i (view v)) a
+      → IsFirstBroken (FaultAmong rows names stream c kind at (map view vs)) a
+  among_one c kind at i [] v a some one is place p = absurd (omega arith)
+  among_one c kind at i (x ∷ y ∷ vs) v a some one is place p = absurd (omega arith)
+  among_one c kind at i (x ∷ []) v a some one is place p =
+      first_same _ _ a (λ f q. (0, (view v, (ap (λ (u : Value). Some (view u)) (sym is), rw (sym place) q))))
+      (λ f (j, (d, (e, q))). only j d f e q) p
+    where
+      only : (j : ℕ) (d : Data) (f : Broken) → slice_get (view x ∷ []) j ≡ Some d
+          → FaultAt rows names stream c kind (at j) d f → FaultAt rows names stream c kind i (view v) f
+      only zero d f e q =
+          let same : d ≡ view v = sym (same_Some (view x) d e) ∙ ap view (sym is) in
+          rw place (subst (λ (z : Data). FaultAt rows names stream c kind (at 0) z f) same q)
+      only (suc j) d f e q = absurd cc
 
   pub item_first : (c : ℕ) (kind : Kind) (at : ℕ → ℕ) (j : ℕ) (ds : List Data) (x : Data) (a : Option Broken)
       → slice_get ds j ≡ Some x

@@ -18,7 +18,7 @@ both_digits : (w f : List ℕ) → AreDigits w → AreDigits f → AreDigits (w 
 both_digits [] f p q = q
 both_digits (c ∷ cs) f p q = (p.0, p.1, both_digits cs f p.2 q)
 
-longer_power : (n m : ℕ) → n ≤ m → 10 ^ n ≤ 10 ^ m
+pub longer_power : (n m : ℕ) → n ≤ m → 10 ^ n ≤ 10 ^ m
 longer_power n m h = pow-le-pow_right {n = 10} (omega arith) {i = n} {j = m} h
 
 at_most : (v n p l : ℕ) → 1 ≤ p → v * p ≡ n * 1 → n < l → v < l

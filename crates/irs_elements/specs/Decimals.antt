@@ -1,7 +1,7 @@
 -- The number that the text of a decimal stands for, as a function of the text.
 use Rattle.irs_base.specs.Decimals.{is_digit, is_zero, number_after, number_of, padded}
 use Rattle.std.specs.List.{list_all}
-use Rattle.std.specs.Prelude.{ℕ, ◌+◌, nat_lt, nat_le, Bool, ◌&&◌, ◌==◌, List, [], ◌∷◌, length, drop, ℤ, pos, neg_ℤ}
+use Rattle.std.specs.Prelude.{ℕ, ◌+◌, ◌-◌, ◌*◌, nat_lt, nat_le, Bool, ◌&&◌, ◌==◌, List, [], ◌∷◌, length, drop, ℤ, pos, neg_ℤ}
 use Rattle.std.specs.Prelude.{Option, Some, None, option_map, if◌then◌else◌}
 
 -- what stands before the first point
@@ -34,3 +34,12 @@ dec_at places (c ∷ cs) =
     if c == 43 then option_map pos (unsigned_at places cs) else
     (if c == 45 then option_map (λ n. neg_ℤ (pos n)) (unsigned_at places cs) else option_map pos
     (unsigned_at places (c ∷ cs)))
+
+-- the number that digits spell behind those of n
+abbrev pub spelled : ℕ → List ℕ → Option ℕ
+spelled n [] = Some n
+spelled n (c ∷ cs) = if is_digit c then spelled (10 * n + (c - 48)) cs else None
+
+-- the number that one to nine digits spell
+abbrev pub few_digits_at : List ℕ → Option ℕ
+few_digits_at s = if nat_lt 0 (length s) && nat_le (length s) 9 then spelled 0 s else None

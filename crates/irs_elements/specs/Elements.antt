@@ -131,6 +131,11 @@ unmet_place rows stream r i Neither = place rows stream K2 r i
 abbrev pub texts : List (Bor (List ℕ)) → List (List ℕ)
 texts names = map (λ n. n.now) names
 
+-- the names of a value's elements, none where it is no object
+abbrev pub names_among : Option (List (List ℕ)) → List (List ℕ)
+names_among None = []
+names_among (Some names) = names
+
 -- a name, where there is one
 abbrev pub name_in : Option (List ℕ) → List ℕ
 name_in None = []
@@ -179,18 +184,18 @@ module _ (rows : List Row) (names : List (List ℕ)) where
 
 -- ---- where the members of an object end
 
--- the row behind the last member, where one is told
-abbrev pub end_in : Option ℕ → ℕ
-end_in None = 0
-end_in (Some end) = end
+-- the row behind the last member as it is told; where none is, that behind the last of the rows
+abbrev pub end_in : ℕ → Option ℕ → ℕ
+end_in all None = all
+end_in all (Some end) = end
 
--- the row behind the last member of the object at row r, 0 where it has none
-abbrev pub end_at : List ℕ → ℕ → ℕ
-end_at ends r = end_in (slice_get ends r)
+-- the row behind the last member of the object at row r, in a table of so many rows
+abbrev pub end_at : ℕ → List ℕ → ℕ → ℕ
+end_at all ends r = end_in all (slice_get ends r)
 
 -- each row stands before the end of its parent's members
 abbrev pub EndsHold : List Row → List ℕ → Type 0
-EndsHold rows ends = (c : ℕ) (row : Row) → slice_get rows c ≡ Some row → c < end_at ends row.parent
+EndsHold rows ends = (c : ℕ) (row : Row) → slice_get rows c ≡ Some row → c < end_at (length rows) ends row.parent
 
 module _ (rows : List Row) (names : List (List ℕ)) (stream : ℕ) where
   -- the rules that an object breaks beside those of its members

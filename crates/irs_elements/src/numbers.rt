@@ -1,11 +1,11 @@
 //! Dates and numbers: what a text stands for, `None` exactly where it is outside the grammar or the
 //! range of its kind.
 ghost use Rattle.irs_elements.specs.Dates.{day_at};
-ghost use Rattle.irs_elements.specs.Decimals.{dec_at};
+ghost use Rattle.irs_elements.specs.Decimals.{dec_at, few_digits_at, spelled};
 ghost use Rattle.irs_elements.specs.Numbers.{amount_at, digits_of, has_no_point as no_point_of};
 ghost use Rattle.irs_elements.specs.Numbers.{is_whole as is_whole_of, multiplier_at, notional_at, offset_at};
 ghost use Rattle.irs_elements.specs.Numbers.{precision_at, rate_at, whole_at, within as within_of};
-ghost use Rattle.std.specs.Prelude.{◌≡◌, ◌^◌, ◌<◌, ◌≤◌, length, unsigned_abs};
+ghost use Rattle.std.specs.Prelude.{◌≡◌, ◌+◌, ◌*◌, ◌^◌, ◌<◌, ◌≤◌, length, unsigned_abs};
 
 use irs_base::{Day, MOST_RATE, read_date, read_dec};
 
@@ -50,11 +50,42 @@ fn within(low: i128, high: i128, n: Option<i128>) -> Option<i128>
     }
 }
 
-/// A notional: a decimal of 4 places from 0 to 10^13.
+// The number that digits spell behind those of n; `None` exactly where a byte is no digit.
+#[tactic(auto, using(irs_base::proofs::DecimalLemmas::room_left, crate::proofs::FewDigits::room_for_one))]
+fn digits_behind(n: u32, digits: &[u8]) -> Option<u32>
+    requires { (n + 1) * 10 ^ length digits.now ≤ 10 ^ 9 }
+    ensures { result ≡ spelled n digits.now }
+{
+    match digits {
+        [] => Some(n),
+        [first, rest @ ..] => if b'0' <= *first && *first <= b'9' {
+            digits_behind(10 * n + u32::from(*first - b'0'), rest)
+        } else {
+            None
+        },
+    }
+}
+
+// The number that one to nine digits spell; `None` exactly where the text is anything else.
+fn few_digits(text: &[u8]) -> Option<u32>
+    ensures { result ≡ few_digits_at text.now }
+{
+    if text.is_empty() || text.len() > 9 {
+        None
+    } else {
+        digits_behind(0, text)
+    }
+}
+
+/// A notional: a decimal of 4 places from 0 to 10^13. Most have few digits and no point, and are read
+/// at once.
 pub fn notional(text: &[u8]) -> Option<i128>
     ensures { result ≡ notional_at text.now }
 {
-    within(0, MOST_NOTIONAL, decimal(text, 4))
+    match few_digits(text) {
+        Some(n) => Some(10_000 * i128::from(n)),
+        None => within(0, MOST_NOTIONAL, decimal(text, 4)),
+    }
 }
 
 /// A rate, a spread or a multiplier: a decimal of 9 places, at most 10 in size.

@@ -75,7 +75,8 @@ pub struct Table<'t> {
     pub rows: &'t [Row],
     /// The name at each row.
     pub names: &'t [&'static str],
-    /// For each row the number of the row behind its last member; 0 where it has none.
+    /// For each row the number of the row behind its last member; 0 where it has none. They save
+    /// steps and change no answer: wrong ones aren't followed.
     pub ends: &'t [usize],
     /// The number of the stream, from 1.
     pub stream: u8,

@@ -9,21 +9,22 @@ ghost use Rattle.irs_elements.specs.Elements.{index_in as index_in_of, is_apart,
 ghost use Rattle.irs_elements.specs.Elements.{is_known as is_known_in};
 ghost use Rattle.irs_elements.specs.Elements.{is_odd as is_odd_of, is_refused as is_refused_of};
 ghost use Rattle.irs_elements.specs.Elements.{is_required as is_required_of, is_unknown, lacks_href as lacks_href_of};
-ghost use Rattle.irs_elements.specs.Elements.{most as most_of, name_at, own_rule as own_rule_of, place};
+ghost use Rattle.irs_elements.specs.Elements.{most as most_of, name_at, names_among, place};
 ghost use Rattle.irs_elements.specs.Elements.{stands as stands_of, texts, unmet_place};
 ghost use Rattle.irs_json.specs.Carrier.{child_of};
-ghost use Rattle.irs_json.specs.Leaves.{is_attribute};
+ghost use Rattle.irs_json.specs.Leaves.{is_attribute, leaf_of};
 ghost use Rattle.irs_json.specs.Names.{names_of};
 ghost use Rattle.serde_json.specs.View.{view};
 ghost use Rattle.std.specs.List.{Contains, list_any};
-ghost use Rattle.std.specs.Prelude.{◌≡◌, ◌+◌, ◌<◌, ◌≤◌, ◌&&◌, ◌==◌, ℕ, List, nat_lt, IsSome, Some, length, map};
+ghost use Rattle.std.specs.Prelude.{◌≡◌, ◌+◌, ◌<◌, ◌≤◌, ◌&&◌, ◌==◌, ℕ, List, false, true, nat_lt, length, map};
 ghost use Rattle.std.specs.Prelude.{option_map};
 ghost use Rattle.std.specs.Str.{bytes_eq};
+ghost use Rattle.irs_elements.specs.Leaves.{leaf_rule as leaf_rule_of};
 ghost use Rattle.irs_base.specs.Order.{IsFirstBroken, earlier_broken};
 
 use crate::leaves::leaf_rule;
 use crate::order::earlier;
-use crate::{Choice, Count, Kind, Row, Table};
+use crate::{Choice, Count, Kind, Leaf, Row, Table};
 use irs_base::{Broken, Elem, Place, Rule};
 use irs_json::{MemberIter, Value, child, is_attribute_name, items, members};
 
@@ -70,27 +71,12 @@ fn broken(table: &Table<'_>, rule: Rule, r: usize, index: u32) -> Broken
     }
 }
 
-// The rule that a value breaks by itself.
-fn own_rule(kind: Kind, v: &Value) -> Option<Rule>
-    ensures { result ≡ own_rule_of kind (view v.now) }
-{
-    match kind {
-        Kind::Object(_) => if members(v).is_some() {
-            None
-        } else {
-            Some(Rule::K3)
-        },
-        Kind::Leaf(leaf) => leaf_rule(leaf, v),
-        Kind::Passed => None,
-        Kind::Refused => None,
-    }
-}
-
-fn own_fault(table: &Table<'_>, kind: Kind, r: usize, index: u32, v: &Value) -> Option<Broken>
+// The rule that a leaf at row r breaks.
+fn leaf_fault(table: &Table<'_>, r: usize, leaf: Leaf, index: u32, v: &Value) -> Option<Broken>
     ensures { result ≡ option_map (λ k. place table.now.rows.now table.now.stream k r index)
-        (own_rule_of kind (view v.now)) }
+        (leaf_rule_of leaf (leaf_of (view v.now))) }
 {
-    match own_rule(kind, v) {
+    match leaf_rule(leaf, v) {
         None => None,
         Some(rule) => Some(broken(table, rule, r, index)),
     }
@@ -220,8 +206,9 @@ fn choice_fault(
 }
 
 // Whether the row at c stands below the object at row r and has the name.
-fn is_named(table: &Table<'_>, r: usize, c: usize, row: Row, name: &str) -> bool
-    ensures { result ≡ (nat_lt r c && row.parent == r && bytes_eq (name_at (texts table.now.names.now) c) name.now) }
+fn is_named(table: &Table<'_>, r: usize, c: usize, row: &Row, name: &str) -> bool
+    ensures { result
+        ≡ (nat_lt r c && row.now.parent == r && bytes_eq (name_at (texts table.now.names.now) c) name.now) }
 {
     r < c && row.parent == r && name_of(table.names, c) == name
 }
@@ -231,8 +218,7 @@ fn is_known(table: &Table<'_>, r: usize, name: &str) -> bool
     ensures { result ≡ is_known_in table.now.rows.now (texts table.now.names.now) r name.now }
 {
     for c in r..table.rows.len() {
-        let row = table.rows[c];
-        if is_named(table, r, c, row, name) {
+        if is_named(table, r, c, &table.rows[c], name) {
             return true;
         }
     }
@@ -240,17 +226,23 @@ fn is_known(table: &Table<'_>, r: usize, name: &str) -> bool
 }
 
 // Whether an object at row r has a member that the table doesn't know.
-fn has_unknown(table: &Table<'_>, r: usize, mut listed: MemberIter<'_>) -> bool
-    ensures { result ≡ list_any (is_unknown table.now.rows.now (texts table.now.names.now) r) listed.entry }
+fn has_unknown(table: &Table<'_>, r: usize, v: &Value) -> bool
+    ensures { result ≡ list_any (is_unknown table.now.rows.now (texts table.now.names.now) r)
+        (names_among (names_of (view v.now))) }
 {
-    listed.any(|name| !(is_attribute_name(name) || is_known(table, r, name)))
+    match members(v) {
+        None => false,
+        Some(mut listed) => {
+            listed.any(|name| !(is_attribute_name(name) || is_known(table, r, name)))
+        },
+    }
 }
 
-fn unknown_fault(table: &Table<'_>, r: usize, index: u32, listed: MemberIter<'_>) -> Option<Broken>
-    ensures { result ≡ fault_if (list_any (is_unknown table.now.rows.now (texts table.now.names.now) r) listed.entry)
-        (place table.now.rows.now table.now.stream Rule.K4 r index) }
+fn unknown_fault(table: &Table<'_>, r: usize, index: u32, v: &Value) -> Option<Broken>
+    ensures { result ≡ fault_if (list_any (is_unknown table.now.rows.now (texts table.now.names.now) r)
+        (names_among (names_of (view v.now)))) (place table.now.rows.now table.now.stream Rule.K4 r index) }
 {
-    if has_unknown(table, r, listed) {
+    if has_unknown(table, r, v) {
         Some(broken(table, Rule::K4, r, index))
     } else {
         None
@@ -316,12 +308,39 @@ fn first_of(first: Option<Broken>, found: Option<Broken>) -> Option<Broken>
     }
 }
 
-// Whether a member of the object at row r has the name of an attribute, or one that the table doesn't
-// know.
-fn has_apart(table: &Table<'_>, r: usize, mut listed: MemberIter<'_>) -> bool
+// Whether one of the names is an attribute's, or one that the table doesn't know below the object at
+// row r.
+fn is_one_apart(table: &Table<'_>, r: usize, mut listed: MemberIter<'_>) -> bool
     ensures { result ≡ list_any (is_apart table.now.rows.now (texts table.now.names.now) r) listed.entry }
 {
     listed.any(|name| is_attribute_name(name) || !is_known(table, r, name))
+}
+
+// Whether a member of the object at row r has such a name. Where none has, no attribute is odd.
+fn has_apart(table: &Table<'_>, r: usize, v: &Value) -> bool
+    ensures names { result ≡ list_any (is_apart table.now.rows.now (texts table.now.names.now) r)
+        (names_among (names_of (view v.now))) }
+    ensures even { result ≡ false → has_odd_of (view v.now) ≡ false }
+{
+    match members(v) {
+        None => false,
+        Some(listed) => is_one_apart(table, r, listed),
+    }
+}
+
+// The first rule that an object breaks by what it asks of its members together.
+fn asked_fault(table: &Table<'_>, r: usize, choice: Choice, index: u32, v: &Value) -> Option<Broken>
+    ensures { result ≡ earlier_broken
+        (option_map (unmet_place table.now.rows.now table.now.stream r index)
+        (choice_unmet_of (texts table.now.names.now) choice (view v.now)))
+        (fault_if (lacks_href_of choice (view v.now)) (place table.now.rows.now table.now.stream Rule.K2 r index)) }
+{
+    match choice {
+        Choice::Free => None,
+        Choice::AtMostOne(_, _) => choice_fault(table, r, choice, index, v),
+        Choice::ExactlyOne(_, _) => choice_fault(table, r, choice, index, v),
+        Choice::Reference => href_fault(table, r, choice, index, v),
+    }
 }
 
 // The first rule that an object breaks beside those of its members.
@@ -332,78 +351,114 @@ fn whole_shape_fault(
     index: u32,
     v: &Value,
 ) -> Option<Broken>
-    requires { IsSome (names_of (view v.now)) }
     ensures { IsFirstBroken
         (ShapeFault table.now.rows.now (texts table.now.names.now) table.now.stream r choice index (view v.now))
         result }
 {
-    match members(v) {
-        None => None,
-        Some(listed) => {
-            let unknown = unknown_fault(table, r, index, listed);
-            let chosen = choice_fault(table, r, choice, index, v);
-            let odd = odd_fault(table, r, index, v);
-            let href = href_fault(table, r, choice, index, v);
-            earlier(earlier(unknown, chosen), earlier(odd, href))
-        },
-    }
+    let unknown = unknown_fault(table, r, index, v);
+    let chosen = choice_fault(table, r, choice, index, v);
+    let odd = odd_fault(table, r, index, v);
+    let href = href_fault(table, r, choice, index, v);
+    earlier(earlier(unknown, chosen), earlier(odd, href))
 }
 
 // The same, by a look at the names: where each is an element's and known, as most are, none is unknown
 // and no attribute is odd.
-fn shape_fault(
-    table: &Table<'_>,
-    r: usize,
-    choice: Choice,
-    index: u32,
-    v: &Value,
-    listed: MemberIter<'_>,
-) -> Option<Broken>
-    requires names { names_of (view v.now) ≡ Some listed }
-    requires found { (name : List ℕ) → IsSome (child_of name (view v.now)) → Contains listed name }
+fn shape_fault(table: &Table<'_>, r: usize, choice: Choice, index: u32, v: &Value) -> Option<Broken>
     ensures { IsFirstBroken
         (ShapeFault table.now.rows.now (texts table.now.names.now) table.now.stream r choice index (view v.now))
         result }
 {
-    if has_apart(table, r, listed) {
+    if has_apart(table, r, v) {
         whole_shape_fault(table, r, choice, index, v)
     } else {
-        let chosen = choice_fault(table, r, choice, index, v);
-        first_of(chosen, href_fault(table, r, choice, index, v))
+        asked_fault(table, r, choice, index, v)
     }
 }
 
-// The number of the row behind the last member of the object at row r.
-fn end_of(ends: &[usize], r: usize) -> usize
-    ensures { result ≡ end_at ends.now r }
+// The number of the row behind the last member of the object at row r; where none is told, that
+// behind the last row of the table.
+fn end_of(table: &Table<'_>, r: usize) -> usize
+    ensures { result ≡ end_at (length table.now.rows.now) table.now.ends.now r }
 {
-    match ends.get(r) {
-        None => 0,
+    match table.ends.get(r) {
+        None => table.rows.len(),
         Some(end) => *end,
     }
 }
 
+// Whether each row stands before the end of its parent's members.
+fn ends_hold(table: &Table<'_>) -> bool
+    ensures { result ≡ true → EndsHold table.now.rows.now table.now.ends.now }
+{
+    for c in 0..table.rows.len() {
+        if c >= end_of(table, table.rows[c].parent) {
+            return false;
+        }
+    }
+    true
+}
+
+// The table as it is, but without its ends where they don't hold.
+fn with_sure_ends<'t>(table: &Table<'t>) -> Table<'t>
+    ensures rows { result.rows.now ≡ table.now.rows.now }
+    ensures names { result.names.now ≡ table.now.names.now }
+    ensures stream { result.stream ≡ table.now.stream }
+    ensures ends { EndsHold result.rows.now result.ends.now }
+{
+    if ends_hold(table) {
+        *table
+    } else {
+        Table {
+            ends: &[],
+            ..*table
+        }
+    }
+}
+
 /// The first rule that is broken by `v`, which stands at row `r` of the table with this kind and
-/// index, in the stream of that number; `None` exactly where none is. The table's ends stand behind
-/// the members.
-#[cycle(faults)]
+/// index, in the stream of that number; `None` exactly where none is.
 pub fn first_fault(table: &Table<'_>, r: usize, kind: Kind, index: u32, v: &Value) -> Option<Broken>
+    ensures { IsFirstBroken
+        (FaultAt table.now.rows.now (texts table.now.names.now) table.now.stream r kind index (view v.now)) result }
+{
+    value_fault(&with_sure_ends(table), r, kind, index, v)
+}
+
+// The same, by a table whose ends hold.
+#[cycle(faults)]
+fn value_fault(table: &Table<'_>, r: usize, kind: Kind, index: u32, v: &Value) -> Option<Broken>
     requires { EndsHold table.now.rows.now table.now.ends.now }
     ensures { IsFirstBroken
         (FaultAt table.now.rows.now (texts table.now.names.now) table.now.stream r kind index (view v.now)) result }
 {
     match kind {
-        Kind::Object(choice) => match members(v) {
-            None => own_fault(table, kind, r, index, v),
-            Some(listed) => {
-                let shape = shape_fault(table, r, choice, index, v, listed);
-                first_of(shape, members_fault(table, r, index, v))
-            }
-        },
-        Kind::Leaf(_) => own_fault(table, kind, r, index, v),
+        Kind::Object(choice) => object_fault(table, r, choice, index, v),
+        Kind::Leaf(leaf) => leaf_fault(table, r, leaf, index, v),
         Kind::Passed => None,
         Kind::Refused => None,
     }
+}
+
+// The first rule that an object at row r breaks.
+#[cycle(faults)]
+fn object_fault(
+    table: &Table<'_>,
+    r: usize,
+    choice: Choice,
+    index: u32,
+    v: &Value,
+) -> Option<Broken>
+    requires { EndsHold table.now.rows.now table.now.ends.now }
+    ensures { IsFirstBroken
+        (FaultAt table.now.rows.now (texts table.now.names.now) table.now.stream r (Kind.Object choice) index
+        (view v.now)) result }
+{
+    if !v.is_object() {
+        return Some(broken(table, Rule::K3, r, index));
+    }
+    let shape = shape_fault(table, r, choice, index, v);
+    first_of(shape, members_fault(table, r, index, v))
 }
 
 // The first rule that the members of an object at row r break.
@@ -414,11 +469,13 @@ fn members_fault(table: &Table<'_>, r: usize, index: u32, v: &Value) -> Option<B
         (MemberFault table.now.rows.now (texts table.now.names.now) table.now.stream r index (view v.now)) result }
 {
     let mut first = None;
-    let end = end_of(table.ends, r).min(table.rows.len());
+    let end = end_of(table, r).min(table.rows.len());
     for c in r..end {
-        let row = table.rows[c];
+        let row = &table.rows[c];
         if row.parent == r && r < c {
-            first = first_of(first, fault_under(table, c, row, index, v));
+            if let Some(fault) = fault_under(table, c, row, index, v) {
+                first = earlier(first, Some(fault));
+            }
         }
     }
     first
@@ -426,10 +483,11 @@ fn members_fault(table: &Table<'_>, r: usize, index: u32, v: &Value) -> Option<B
 
 // The first rule that the member at row c breaks.
 #[cycle(faults)]
-fn fault_under(table: &Table<'_>, c: usize, row: Row, index: u32, v: &Value) -> Option<Broken>
+fn fault_under(table: &Table<'_>, c: usize, row: &Row, index: u32, v: &Value) -> Option<Broken>
     requires { EndsHold table.now.rows.now table.now.ends.now }
     ensures { IsFirstBroken
-        (FaultUnder table.now.rows.now (texts table.now.names.now) table.now.stream c row index (view v.now)) result }
+        (FaultUnder table.now.rows.now (texts table.now.names.now) table.now.stream c row.now index (view v.now))
+        result }
 {
     match child(v, name_of(table.names, c)) {
         None => if is_element(row.kind) && is_required(row.count) {
@@ -445,7 +503,7 @@ fn fault_under(table: &Table<'_>, c: usize, row: Row, index: u32, v: &Value) -> 
             if list.len() > most(row.count) as usize {
                 Some(broken(table, Rule::K7, c, 0))
             } else {
-                fault_among(table, c, row, index, list)
+                fault_among(table, c, row.kind, row.count, index, list)
             }
         } else {
             None
@@ -455,17 +513,29 @@ fn fault_under(table: &Table<'_>, c: usize, row: Row, index: u32, v: &Value) -> 
 
 // The first rule that the values of the member at row c break.
 #[cycle(faults)]
-fn fault_among(table: &Table<'_>, c: usize, row: Row, index: u32, list: &[Value]) -> Option<Broken>
-    requires few { length list.now ≤ most_of row.count }
+fn fault_among(
+    table: &Table<'_>,
+    c: usize,
+    kind: Kind,
+    count: Count,
+    index: u32,
+    list: &[Value],
+) -> Option<Broken>
+    requires few { length list.now ≤ most_of count }
     requires ends { EndsHold table.now.rows.now table.now.ends.now }
     ensures { IsFirstBroken
-        (FaultAmong table.now.rows.now (texts table.now.names.now) table.now.stream c row.kind
-        (index_in_of row.count index) (map view list.now)) result }
+        (FaultAmong table.now.rows.now (texts table.now.names.now) table.now.stream c kind (index_in_of count index)
+        (map view list.now)) result }
 {
+    if let [one] = list {
+        return value_fault(table, c, kind, index_in(count, index, 0), one);
+    }
     let mut first = None;
     for j in 0..list.len() {
-        let at = index_in(row.count, index, j as u32);
-        first = first_of(first, first_fault(table, c, row.kind, at, &list[j]));
+        let at = index_in(count, index, j as u32);
+        if let Some(fault) = value_fault(table, c, kind, at, &list[j]) {
+            first = earlier(first, Some(fault));
+        }
     }
     first
 }

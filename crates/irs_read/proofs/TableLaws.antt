@@ -1,14 +1,13 @@
 -- The code's tables are those of the specification.
 use Rattle.irs_base.specs.PathList.{paths, printed}
 use Rattle.irs_base.specs.declared.places.Broken.{Broken}
-use Rattle.irs_elements.proofs.Ends as ends
-use Rattle.irs_elements.specs.Elements.{EndsHold, FaultAt}
+use Rattle.irs_elements.specs.Elements.{FaultAt}
 use Rattle.irs_elements.specs.declared.table.Kind.{Kind}
 use Rattle.irs_elements.specs.Lines.{Line}
 use Rattle.irs_elements.specs.declared.table.Row.{Row}
 use Rattle.irs_read.specs.StreamLines.{stream_elements, stream_names, stream_rows, stream_table, swap_names, swap_rows}
 use Rattle.irs_read.specs.StreamLines.{swap_table}
-use Rattle.irs_read.specs.declared.table.TheConstants.{ENDS, NAMES, ROWS, SWAP_ENDS, SWAP_NAMES, SWAP_ROWS}
+use Rattle.irs_read.specs.declared.table.TheConstants.{NAMES, ROWS, SWAP_NAMES, SWAP_ROWS}
 use Rattle.serde_json.specs.Data.{Data}
 use Rattle.std.proofs.Common.{◌≡◌, ℕ, List, map, Option, refl, subst}
 use Rattle.irs_base.specs.Order.{IsFirstBroken}
@@ -39,12 +38,6 @@ swap_rows_are = refl
 pub swap_names_are : swap_code_names ≡ swap_names
 unfolding swap_names swap_table
 swap_names_are = refl
-
-pub ends_hold : EndsHold ROWS ENDS
-ends_hold = ends.ends_hold ROWS ENDS tt
-
-pub swap_ends_hold : EndsHold SWAP_ROWS SWAP_ENDS
-swap_ends_hold = ends.ends_hold SWAP_ROWS SWAP_ENDS tt
 
 -- what holds of a table holds of one that is equal to it, as of the specification's
 pub by_tables : (P : List Row → List (List ℕ) → Type 0) (rows rows' : List Row) (names names' : List (List ℕ))

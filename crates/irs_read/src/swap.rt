@@ -57,7 +57,6 @@ fn streams_fault(list: &[Value]) -> Option<Broken>
 }
 
 /// The first rule that a swap breaks.
-#[tactic(auto, using(crate::proofs::TableLaws::swap_ends_hold))]
 pub fn first_in_swap(v: &Value) -> Option<Broken>
     ensures { IsFirstBroken (SwapFault (view v.now)) result }
 {

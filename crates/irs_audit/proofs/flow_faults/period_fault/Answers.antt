@@ -1,4 +1,3 @@
-use Rattle.irs_audit.proofs.EndsHold.{period_ends_hold}
 use Rattle.irs_audit.proofs.FlowLaws.{period_first}
 use Rattle.irs_audit.proofs.FlowSteps.{fault_if_first}
 use Rattle.irs_audit.proofs.flow_faults.period_fault.Goals as goal
@@ -20,6 +19,3 @@ returns c =
     (period_first _ _ _ _ _ _ c.first_fault-own.ensures)
     (fault_if_first (has_both_rates d) (at c.args.stream K7 flow_period) c.both_rates_fault.result
     c.both_rates_fault.ensures))
-
-pub first_fault-own-requires : goal.first_fault-own-requires
-first_fault-own-requires c = period_ends_hold

@@ -14,17 +14,20 @@ invariant-members_fault-loop-c l =
 abbrev pub invariant-fault_among-loop-j : goal.invariant-fault_among-loop-j
 invariant-fault_among-loop-j l =
     IsFirstBroken (Below
-    (ItemFault l.table.rows.now (texts l.table.names.now) l.table.stream l.c l.row.kind (index_in l.row.count l.index)
+    (ItemFault l.table.rows.now (texts l.table.names.now) l.table.stream l.c l.kind (index_in l.count l.index)
     (map view l.list)) l.j) l.first
 
-abbrev pub decreases-first_fault : goal.decreases-first_fault
-decreases-first_fault l = 4 * (length l.table.now.rows.now - l.r) + 1
+abbrev pub decreases-value_fault : goal.decreases-value_fault
+decreases-value_fault l = 5 * (length l.table.now.rows.now - l.r) + 2
+
+abbrev pub decreases-object_fault : goal.decreases-object_fault
+decreases-object_fault l = 5 * (length l.table.now.rows.now - l.r) + 1
 
 abbrev pub decreases-members_fault : goal.decreases-members_fault
-decreases-members_fault l = 4 * (length l.table.now.rows.now - l.r)
+decreases-members_fault l = 5 * (length l.table.now.rows.now - l.r)
 
 abbrev pub decreases-fault_under : goal.decreases-fault_under
-decreases-fault_under l = 4 * (length l.table.now.rows.now - l.c) + 3
+decreases-fault_under l = 5 * (length l.table.now.rows.now - l.c) + 4
 
 abbrev pub decreases-fault_among : goal.decreases-fault_among
-decreases-fault_among l = 4 * (length l.table.now.rows.now - l.c) + 2
+decreases-fault_among l = 5 * (length l.table.now.rows.now - l.c) + 3

@@ -1,5 +1,5 @@
 use Rattle.irs_read.proofs.Each.{each_all, each_step}
-use Rattle.irs_read.proofs.TableLaws.{ends_hold, stream_first}
+use Rattle.irs_read.proofs.TableLaws.{stream_first}
 use Rattle.irs_read.proofs.swap.each_stream_fault.Goals as goal
 use Rattle.irs_read.specs.Swaps.{StreamFault}
 use Rattle.serde_json.specs.View.{view}
@@ -7,9 +7,6 @@ use Rattle.std.proofs.Common.{◌≡◌, length, map, Some, refl, arith}
 use Rattle.std.proofs.lemmas.List.{length-map}
 use Rattle.std.proofs.lemmas.Option.{slice_get_read}
 use Rattle.std.specs.Prelude.{slice_get}
-
-pub first_fault-requires : goal.first_fault-requires
-first_fault-requires c = ends_hold
 
 pub loop-j-preserved : goal.loop-j-preserved
 loop-j-preserved c =
