@@ -5,5 +5,6 @@ pub mod FractionFits
 pub mod AmountTheorems
 pub mod AmountBounds
 pub mod RateSizes
+pub mod CountedSteps
 pub mod FoundSteps
 pub mod PeriodSizes

@@ -1,5 +1,6 @@
 pub mod InForce
 pub mod InForceLaws
+pub mod StepCounts
 pub mod PeriodRates
 pub mod RateLaws
 pub mod Amounts

@@ -12,6 +12,7 @@ mod products;
 mod rates;
 mod rising_rates;
 mod rising_steps;
+mod step_counts;
 mod step_values;
 
 pub use compounding::{Compounding, Flat, OutOfRange, Simple, SpreadExclusive, Straight};

@@ -1,4 +1,4 @@
-//! The rates of a calculation period where the steps rise: what is in force is found by halves.
+//! The rates of a calculation period where the steps rise.
 ghost use Rattle.std.specs.Prelude.{◌≡◌, ◌≤◌, unsigned_abs, Option, IfSome};
 ghost use Rattle.irs_base.specs.Limits.{most_rate};
 ghost use Rattle.irs_terms.specs.Lawful.{IsRate, IsLawfulValues, IsLawfulFloat, IsLawfulLeg};
@@ -28,43 +28,43 @@ pub fn rates_of_rising(leg: &Leg, start: Day, observed: Option<i64>) -> Option<R
     // There is one such pair of rates, or none.
     ensures one { (x y : Option Rates) → AreRates leg.now start observed x → AreRates leg.now start observed y → x ≡ y }
 {
-    rates_by_halves(leg, start, observed)
+    rates_by_leg(leg, start, observed)
 }
 
-fn rates_by_halves(leg: &Leg, start: Day, observed: Option<i64>) -> Option<Rates>
+fn rates_by_leg(leg: &Leg, start: Day, observed: Option<i64>) -> Option<Rates>
     requires leg { IsLawfulLeg leg.now }
     requires rises { LegStepsRise leg.now }
     requires observed_fits { IfSome observed IsRate }
     ensures { result ≡ rates_by leg.now start observed }
 {
     match leg {
-        Leg::Fixed(values) => Some(fixed_by_halves(values, start)),
-        Leg::Floating(float) => Some(floating_by_halves(float, start, observed?)),
+        Leg::Fixed(values) => Some(fixed_of_rising(values, start)),
+        Leg::Floating(float) => Some(floating_of_rising(float, start, observed?)),
     }
 }
 
-fn fixed_by_halves(values: &StepValues, start: Day) -> Rates
+fn fixed_of_rising(values: &StepValues, start: Day) -> Rates
     requires lawful { IsLawfulValues IsRate values.now }
     requires rises { StepsRise values.now.steps }
     ensures { result ≡ fixed_rates_of values.now start }
 {
-    fixed_from(rate_by_halves(values, start))
+    fixed_from(rate_of_rising(values, start))
 }
 
-fn floating_by_halves(f: &FloatTerms, start: Day, observed: i64) -> Rates
+fn floating_of_rising(f: &FloatTerms, start: Day, observed: i64) -> Rates
     requires terms { IsLawfulFloat f.now }
     requires multiplier_rises { StepsRise f.now.multiplier.steps }
     requires spread_rises { StepsRise f.now.spread.steps }
     requires observed_fits { unsigned_abs observed ≤ most_rate }
     ensures { result ≡ rates_of f.now start observed }
 {
-    let multiplier = rate_by_halves(&f.multiplier, start);
-    let spread = rate_by_halves(&f.spread, start);
+    let multiplier = rate_of_rising(&f.multiplier, start);
+    let spread = rate_of_rising(&f.spread, start);
     rates_from(f, multiplier, spread, observed)
 }
 
 // A rate, spread or multiplier in force; it is at most 10 in size.
-fn rate_by_halves(values: &StepValues, d: Day) -> i128
+fn rate_of_rising(values: &StepValues, d: Day) -> i128
     requires lawful { IsLawfulValues IsRate values.now }
     requires rises { StepsRise values.now.steps }
     ensures value { result ≡ value_in_force values.now d }

@@ -1,9 +1,9 @@
-//! The value in force where the steps rise: it is found by halves.
-ghost use Rattle.std.specs.Prelude.{◌≡◌, ◌≤◌, ℤ, ◌≤ℤ◌, ◌<ℤ◌, length};
-ghost use Rattle.std.specs.List.Sorted.{IsPartitionPoint};
+//! The value in force where the steps rise: the steps that aren't after the day are counted.
+ghost use Rattle.std.specs.Prelude.{◌≡◌, ℤ};
 ghost use Rattle.irs_terms.specs.StepDates.{StepsRise};
 ghost use Rattle.irs_compound.specs.InForce.{InForce, last_from, value_in_force};
 
+use crate::step_counts::count_to;
 use irs_base::Day;
 use irs_terms::{Step, StepValues};
 
@@ -17,14 +17,14 @@ pub fn in_force_of_rising(values: &StepValues, d: Day) -> i128
     // There is one such value.
     ensures one { (v w : ℤ) → InForce values.now d v → InForce values.now d w → v ≡ w }
 {
-    value_by_halves(values, d)
+    value_of_rising(values, d)
 }
 
-fn value_by_halves(values: &StepValues, d: Day) -> i128
+fn value_of_rising(values: &StepValues, d: Day) -> i128
     requires { StepsRise values.now.steps }
     ensures { result ≡ value_in_force values.now d }
 {
-    match last_by_halves(values.steps.as_slice(), d) {
+    match last_of_rising(values.steps.as_slice(), d) {
         None => values.initial,
         Some(step) => step.value,
     }
@@ -32,7 +32,7 @@ fn value_by_halves(values: &StepValues, d: Day) -> i128
 
 // The last of the steps that aren't after the day; most schedules have no step.
 #[tactic(auto, using(crate::proofs::FoundSteps::found_none, crate::proofs::FoundSteps::found_some))]
-fn last_by_halves(steps: &[Step], d: Day) -> Option<Step>
+fn last_of_rising(steps: &[Step], d: Day) -> Option<Step>
     requires { StepsRise steps.now }
     ensures { result ≡ last_from d None steps.now }
 {
@@ -45,13 +45,4 @@ fn last_by_halves(steps: &[Step], d: Day) -> Option<Step>
     } else {
         Some(steps[count - 1])
     }
-}
-
-// How many steps aren't after the day; they stand before those that are.
-fn count_to(steps: &[Step], d: Day) -> usize
-    requires { StepsRise steps.now }
-    ensures bound { result ≤ length steps.now }
-    ensures count { IsPartitionPoint (λ s. s.day ≤ℤ d) (λ s. d <ℤ s.day) steps.now result }
-{
-    steps.partition_point(|step| step.day <= d)
 }

@@ -7,8 +7,8 @@ use Rattle.irs_compound.proofs.rising_steps.in_force_of_rising.Goals as goal
 
 pub returns-clause-relation : goal.returns-clause-relation
 returns-clause-relation c =
-    let f : FitsSigned w128 c.value_by_halves.result = search rules in
-    simp to_z-of_z (subst (λ (v : ℤ). InForce c.args.values.now c.args.d v) (sym c.value_by_halves.ensures)
+    let f : FitsSigned w128 c.value_of_rising.result = search rules in
+    simp to_z-of_z (subst (λ (v : ℤ). InForce c.args.values.now c.args.d v) (sym c.value_of_rising.ensures)
     (in_force_is c.args.values.now c.args.d))
 
 pub returns-clause-one : goal.returns-clause-one

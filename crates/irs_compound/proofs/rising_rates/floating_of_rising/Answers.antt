@@ -3,14 +3,14 @@ use Rattle.std.specs.Int.{w64, w128}
 use Rattle.std.proofs.lemmas.Int.{to_z-of_z}
 use Rattle.irs_compound.specs.PeriodRates.{all_in_at, rate_at}
 use Rattle.irs_compound.specs.RateLaws.{rates_value}
-use Rattle.irs_compound.proofs.rising_rates.floating_by_halves.Goals as goal
+use Rattle.irs_compound.proofs.rising_rates.floating_of_rising.Goals as goal
 
 pub returns : goal.returns
 returns c =
     let f = c.args.f.now in
     let observed = c.args.observed in
-    let multiplier = c.rate_by_halves-multiplier.result in
-    let spread = c.rate_by_halves-spread.result in
+    let multiplier = c.rate_of_rising-multiplier.result in
+    let spread = c.rate_of_rising-spread.result in
     let rates = c.rates_from.result in
     let fo : FitsSigned w64 observed = c.ranges.observed in
     let fm : FitsSigned w128 multiplier = search rules in
@@ -18,5 +18,5 @@ returns c =
     let base : rates.base ≡ rate_at f.rounding (multiplier *ℤ observed) = simp to_z-of_z at c.rates_from.ensures.base in
     let all_in : rates.all_in ≡ all_in_at f (multiplier *ℤ observed +ℤ spread *ℤ pos (10 ^ 9)) =
     simp to_z-of_z at c.rates_from.ensures.all_in in
-    rates_value f c.args.start observed multiplier spread rates c.rate_by_halves-multiplier.ensures.value
-    c.rate_by_halves-spread.ensures.value base all_in
+    rates_value f c.args.start observed multiplier spread rates c.rate_of_rising-multiplier.ensures.value
+    c.rate_of_rising-spread.ensures.value base all_in
