@@ -1,8 +1,9 @@
 -- The first fault at each step of the walk.
-use Rattle.std.proofs.Common.{zero, suc, [], ◌∷◌, get_or}
+use Rattle.std.proofs.Common.{zero, suc, [], ◌∷◌}
 use Rattle.std.proofs.Common.{◌≡◌, ℕ, ◌+◌, ◌<◌, ◌≤◌, Bool, true, false, ◌⊎◌, inl, inr, List, length, map, Option, Some}
-use Rattle.std.proofs.Common.{None, is_none, min, option_map, refl, sym, ap, subst, ◌∙◌, arith}
+use Rattle.std.proofs.Common.{None, is_none, min, option_map, nat_lt, refl, sym, ap, subst, ◌∙◌, arith}
 use Rattle.std.specs.Prelude.{slice_get}
+use Rattle.std.proofs.lemmas.Bool.Decides.{nat_tests}
 use Rattle.std.proofs.lemmas.Option.{same_Some, slice_get_within, slice_get-map}
 use Rattle.std.specs.List.{list_any}
 use Rattle.serde_json.specs.Data.{Data}
@@ -24,6 +25,9 @@ use Rattle.irs_elements.specs.Elements.{is_unknown, is_element, is_refused, is_r
 use Rattle.irs_elements.specs.Elements.{IsMember, ShapeFault, unknown, unmet, odd, no_href, has_odd, lacks_href}
 use Rattle.irs_elements.specs.Elements.{FaultAt, own, shape, under, FaultUnder, missing, refused, too_many, inside}
 use Rattle.irs_elements.specs.Elements.{EndsHold, FaultAmong, MemberFault, end_at, names_among}
+use Rattle.irs_elements.proofs.Exact.{both_true}
+use Rattle.irs_elements.specs.Elements.{are_one_right, is_right, is_right_leaf}
+use Rattle.irs_elements.specs.declared.table.Leaf.{Leaf as LeafKind}
 use Rattle.irs_elements.proofs.First.{first_or, first_same, first_one, first_is, first_more, first_skip, Below}
 use Rattle.irs_base.specs.Order.{earlier_broken, IsFirstBroken}
 
@@ -291,24 +295,6 @@ module _ (rows : List Row) (names : List (List ℕ)) (stream : ℕ) where
       first_same _ _ a (λ f (j, (h, (x, (e, f')))). (j, (x, (e, f'))))
       (λ f (j, (x, (e, f'))). (j, (slice_get_within ds j x e, (x, (e, f'))))) p
 
-  -- the faults of one value alone
-  pub among_one : (c : ℕ) (kind : Kind) (at : ℕ → ℕ) (i : ℕ) (vs : List Value) (v : Value) (a : Option Broken)
-      → 1 ≤ length vs → length vs < 2 → v ≡ get_or vs 0 v → i ≡ at 0
-      → IsFirstBroken (FaultAt rows names stream c kind i (view v)) a
-      → IsFirstBroken (FaultAmong rows names stream c kind at (map view vs)) a
-  among_one c kind at i [] v a some one is place p = absurd (omega arith)
-  among_one c kind at i (x ∷ y ∷ vs) v a some one is place p = absurd (omega arith)
-  among_one c kind at i (x ∷ []) v a some one is place p =
-      first_same _ _ a (λ f q. (0, (view v, (ap (λ (u : Value). Some (view u)) (sym is), rw (sym place) q))))
-      (λ f (j, (d, (e, q))). only j d f e q) p
-    where
-      only : (j : ℕ) (d : Data) (f : Broken) → slice_get (view x ∷ []) j ≡ Some d
-          → FaultAt rows names stream c kind (at j) d f → FaultAt rows names stream c kind i (view v) f
-      only zero d f e q =
-          let same : d ≡ view v = sym (same_Some (view x) d e) ∙ ap view (sym is) in
-          rw place (subst (λ (z : Data). FaultAt rows names stream c kind (at 0) z f) same q)
-      only (suc j) d f e q = absurd cc
-
   pub item_first : (c : ℕ) (kind : Kind) (at : ℕ → ℕ) (j : ℕ) (ds : List Data) (x : Data) (a : Option Broken)
       → slice_get ds j ≡ Some x
       → IsFirstBroken (FaultAt rows names stream c kind (at j) x) a → IsFirstBroken (ItemFault c kind at ds j) a
@@ -332,6 +318,75 @@ module _ (rows : List Row) (names : List (List ℕ)) (stream : ℕ) where
   other_step r i c d row a s found apart e p =
       first_is _ _ s e (first_skip (RowFault r i d) c a p (λ f (row', (m, u)). let same : row' ≡ row =
       one_row c row' row m.found found in apart (rw (sym same) m.parent) m.later))
+
+  -- a leaf that stands once and breaks no rule
+  no_own_rule : (o : Option Rule) (k : Rule) → is_none o ≡ true → o ≡ Some k → ⊥
+  no_own_rule None k none e = cc
+  no_own_rule (Some x) k none e = cc
+
+  leaf_alone : (c i j : ℕ) (k : LeafKind) (ds : List Data) (x : Data) (f : Broken) → are_one_right k ds ≡ true
+      → slice_get ds j ≡ Some x → FaultAt rows names stream c (Leaf k) i x f → ⊥
+  leaf_alone c i j k [] x f right at q = absurd cc
+  leaf_alone c i j k (d ∷ e ∷ ds) x f right at q = absurd cc
+  leaf_alone c i zero k (d ∷ []) x f right at (own _ _ rule _ _ e) =
+      let same : d ≡ x = same_Some d x at in no_own_rule (own_rule (Leaf k) x) rule (rw (sym same) right) e
+  leaf_alone c i (suc j) k (d ∷ []) x f right at q = absurd cc
+
+  one_alone : (k : LeafKind) (ds : List Data) → are_one_right k ds ≡ true → length ds ≡ 1
+  one_alone k [] right = absurd cc
+  one_alone k (d ∷ []) right = refl
+  one_alone k (d ∷ e ∷ ds) right = absurd cc
+
+  never_absent : (k : Kind) (m : Option Data) → is_right k m ≡ true → m ≡ None → ⊥
+  never_absent (Object c) m right e = cc
+  never_absent (Leaf k) None right e = cc
+  never_absent (Leaf k) (Some m) right e = cc
+  never_absent Passed m right e = cc
+  never_absent Refused m right e = cc
+
+  never_refused : (k : Kind) (m : Option Data) → is_right k m ≡ true → is_refused k ≡ true → ⊥
+  never_refused (Object c) m right e = cc
+  never_refused (Leaf k) m right e = cc
+  never_refused Passed m right e = cc
+  never_refused Refused m right e = cc
+
+  stands_once : (k : Kind) (m : Data) → is_right k (Some m) ≡ true → length (items_of m) ≡ 1
+  stands_once (Object c) m right = absurd cc
+  stands_once (Leaf k) m right = one_alone k (items_of m) right
+  stands_once Passed m right = absurd cc
+  stands_once Refused m right = absurd cc
+
+  right_inside : (c i j : ℕ) (k : Kind) (m x : Data) (f : Broken) → is_right k (Some m) ≡ true
+      → slice_get (items_of m) j ≡ Some x → FaultAt rows names stream c k i x f → ⊥
+  right_inside c i j (Object ch) m x f right at q = absurd cc
+  right_inside c i j (Leaf k) m x f right at q = leaf_alone c i j k (items_of m) x f right at q
+  right_inside c i j Passed m x f right at q = absurd cc
+  right_inside c i j Refused m x f right at q = absurd cc
+
+  some_most : (n : ℕ) → nat_lt 0 n ≡ true → 0 < n
+  some_most n e = grind (arith, nat_tests)
+
+  -- no rule is broken under the row of such a leaf
+  none_under : (c i : ℕ) (row : Row) (d : Data) (f : Broken) → 0 < most row.count
+      → is_right row.kind (child_of (name_at names c) d) ≡ true → FaultUnder rows names stream c row i d f → ⊥
+  none_under c i row d f some right (missing _ _ _ _ el rq h) = never_absent row.kind _ right h
+  none_under c i row d f some right (refused _ _ _ _ m rf h) = never_refused row.kind _ right rf
+  none_under c i row d f some right (too_many _ _ _ _ m el h t) =
+      let once : length (items_of m) ≡ 1 = stands_once row.kind m (rw (sym h) right) in absurd (omega (arith, some, t, once))
+  none_under c i row d f some right (inside _ _ j _ _ m x _ el h le at q) =
+      right_inside c _ j row.kind m x f (rw (sym h) right) at q
+
+  pub right_step : (r i c : ℕ) (d : Data) (row : Row) (a s : Option Broken) → slice_get rows c ≡ Some row
+      → is_right_leaf names c row d ≡ true
+      → s ≡ a → IsFirstBroken (Below (RowFault r i d) c) a → IsFirstBroken (Below (RowFault r i d) (c + 1)) s
+  right_step r i c d row a s found right e p =
+      let both = both_true (nat_lt 0 (most row.count)) (is_right row.kind (child_of (name_at names c) d)) right in
+      first_is _ _ s e (first_skip (RowFault r i d) c a p (λ f (row', (m, u)).
+      none_under c i row d f (some_most (most row.count) both.0) both.1 (from_row r i c d row (record {
+        found = found;
+        parent = let same : row' ≡ row = one_row c row' row m.found found in rw (sym same) m.parent;
+        later = m.later;
+      }) f (row', (m, u)))))
 
   pub item_step : (c : ℕ) (kind : Kind) (at : ℕ → ℕ) (j i : ℕ) (vs : List Value) (v : Value) (a b s : Option Broken)
       → slice_get vs j ≡ Some v → i ≡ at j

@@ -10,6 +10,7 @@ use Rattle.irs_elements.specs.declared.table.Count.{Count}
 use Rattle.irs_elements.specs.declared.table.Count.TheVariants.{One, Maybe, OneTo, UpTo}
 use Rattle.irs_elements.specs.declared.table.Kind.{Kind}
 use Rattle.irs_elements.specs.declared.table.Kind.TheVariants.{Object, Leaf, Passed, Refused}
+use Rattle.irs_elements.specs.declared.table.Leaf.{Leaf as LeafKind}
 use Rattle.irs_elements.specs.declared.table.Row.{Row}
 use Rattle.irs_elements.specs.declared.walk.Unmet.{Unmet}
 use Rattle.irs_elements.specs.declared.walk.Unmet.TheVariants.{Both, Neither}
@@ -21,7 +22,7 @@ use Rattle.serde_json.specs.Data.{Data}
 use Rattle.serde_json.specs.Find.{as_str}
 use Rattle.std.specs.Borrow.{Bor}
 use Rattle.std.specs.List.{list_any, enumerate_from}
-use Rattle.std.specs.Prelude.{map, ◌≡◌, ℕ, Bool, true, false, not, ◌&&◌, ◌||◌, ◌==◌, ◌<◌, ◌≤◌, ◌+◌, List, [], length}
+use Rattle.std.specs.Prelude.{map, ◌≡◌, ℕ, Bool, true, false, not, ◌&&◌, ◌||◌, ◌==◌, ◌<◌, ◌≤◌, ◌+◌, List, [], ◌∷◌, length}
 use Rattle.std.specs.Prelude.{Option, Some, None, is_some, is_none, slice_get, codes, if◌then◌else◌, nat_lt}
 use Rattle.std.specs.Str.{bytes_eq}
 
@@ -181,6 +182,30 @@ module _ (rows : List Row) (names : List (List ℕ)) where
     pub found : slice_get rows c ≡ Some row
     pub parent : row.parent ≡ r
     pub later : r < c
+
+-- ---- leaves that break no rule
+
+-- whether a value stands alone, and is a leaf that breaks no rule
+abbrev pub are_one_right : LeafKind → List Data → Bool
+are_one_right k [] = false
+are_one_right k (d ∷ []) = is_none (leaf_rule k (leaf_of d))
+are_one_right k (d ∷ e ∷ ds) = false
+
+-- the same of what a member stands for
+abbrev pub is_one_right : LeafKind → Option Data → Bool
+is_one_right k None = false
+is_one_right k (Some m) = are_one_right k (items_of m)
+
+-- whether a member of that kind is a leaf that stands once and breaks no rule
+abbrev pub is_right : Kind → Option Data → Bool
+is_right (Object c) m = false
+is_right (Leaf k) m = is_one_right k m
+is_right Passed m = false
+is_right Refused m = false
+
+-- whether the member at row c of the object d is such a leaf, and may stand
+abbrev pub is_right_leaf : List (List ℕ) → ℕ → Row → Data → Bool
+is_right_leaf names c row d = nat_lt 0 (most row.count) && is_right row.kind (child_of (name_at names c) d)
 
 -- ---- where the members of an object end
 

@@ -1,9 +1,6 @@
 //! Finding a value by its name, and the text of a leaf.
 ghost use Rattle.irs_elements.specs.Find.{member as member_of, once as once_of, seen, text_in, values_in};
-ghost use Rattle.irs_elements.specs.Leaves.{text_of};
-ghost use Rattle.irs_json.specs.Seen.{leaf_seen};
 ghost use Rattle.serde_json.specs.View.{view};
-ghost use Rattle.std.specs.Fmt.{signed_decimal};
 ghost use Rattle.std.specs.Prelude.{◌≡◌, Some, map, option_map};
 
 use irs_json::{LeafValue, Value, child, items, leaf};
@@ -53,23 +50,10 @@ pub fn values_at<'a>(v: &'a Value, name: &str) -> &'a [Value]
 pub fn leaf_text<'a>(v: Option<&'a Value>, digits: &'a mut Buffer) -> Option<&'a str>
     ensures { option_map (λ s. s.now) result ≡ text_in (seen v.entry) }
 {
-    Some(said_text(leaf(v?)?, digits))
-}
-
-// The text of what a leaf says.
-fn said_text<'a>(said: LeafValue<'a>, digits: &'a mut Buffer) -> &'a str
-    ensures { result.now ≡ text_of (leaf_seen said.entry) }
-{
-    match said {
-        LeafValue::Word(word) => word,
-        LeafValue::Whole(n) => whole_text(n, digits),
-        LeafValue::Truth(b) => if b { "true" } else { "false" },
+    match leaf(v?) {
+        None => None,
+        Some(LeafValue::Word(word)) => Some(word),
+        Some(LeafValue::Whole(n)) => Some(digits.format(n)),
+        Some(LeafValue::Truth(b)) => Some(if b { "true" } else { "false" }),
     }
-}
-
-// The digits of a whole number.
-fn whole_text(n: i128, digits: &mut Buffer) -> &str
-    ensures { result.now ≡ signed_decimal n }
-{
-    digits.format(n)
 }

@@ -6,7 +6,7 @@ ghost use Rattle.irs_elements.specs.Elements.{EndsHold, FaultAmong, FaultAt, Fau
 ghost use Rattle.irs_elements.specs.Elements.{absent_index as absent_index_of, choice_unmet as choice_unmet_of};
 ghost use Rattle.irs_elements.specs.Elements.{elem_at, elem_of, end_at, fault_if, has_odd as has_odd_of};
 ghost use Rattle.irs_elements.specs.Elements.{index_in as index_in_of, is_apart, is_element as is_element_of};
-ghost use Rattle.irs_elements.specs.Elements.{is_known as is_known_in};
+ghost use Rattle.irs_elements.specs.Elements.{is_known as is_known_in, is_one_right, is_right_leaf as is_right_leaf_of};
 ghost use Rattle.irs_elements.specs.Elements.{is_odd as is_odd_of, is_refused as is_refused_of};
 ghost use Rattle.irs_elements.specs.Elements.{is_required as is_required_of, is_unknown, lacks_href as lacks_href_of};
 ghost use Rattle.irs_elements.specs.Elements.{most as most_of, name_at, names_among, place};
@@ -461,6 +461,34 @@ fn object_fault(
     first_of(shape, members_fault(table, r, index, v))
 }
 
+// Whether the member of that name stands once, and is a leaf that breaks no rule.
+fn is_one_right_leaf(name: &str, leaf: Leaf, v: &Value) -> bool
+    ensures { result ≡ is_one_right leaf (child_of name.now (view v.now)) }
+{
+    match child(v, name) {
+        None => false,
+        Some(member) => match items(member).as_slice() {
+            [] => false,
+            [one] => leaf_rule(leaf, one).is_none(),
+            [_, _, ..] => false,
+        },
+    }
+}
+
+// Whether the member at row c is a leaf that stands once and breaks no rule, as most members are.
+fn is_right_leaf(table: &Table<'_>, c: usize, row: &Row, v: &Value) -> bool
+    ensures { result ≡ is_right_leaf_of (texts table.now.names.now) c row.now (view v.now) }
+{
+    match row.kind {
+        Kind::Object(_) => false,
+        Kind::Leaf(leaf) => {
+            0 < most(row.count) && is_one_right_leaf(name_of(table.names, c), leaf, v)
+        },
+        Kind::Passed => false,
+        Kind::Refused => false,
+    }
+}
+
 // The first rule that the members of an object at row r break.
 #[cycle(faults)]
 fn members_fault(table: &Table<'_>, r: usize, index: u32, v: &Value) -> Option<Broken>
@@ -472,7 +500,7 @@ fn members_fault(table: &Table<'_>, r: usize, index: u32, v: &Value) -> Option<B
     let end = end_of(table, r).min(table.rows.len());
     for c in r..end {
         let row = &table.rows[c];
-        if row.parent == r && r < c {
+        if row.parent == r && r < c && !is_right_leaf(table, c, row, v) {
             if let Some(fault) = fault_under(table, c, row, index, v) {
                 first = earlier(first, Some(fault));
             }
@@ -527,9 +555,6 @@ fn fault_among(
         (FaultAmong table.now.rows.now (texts table.now.names.now) table.now.stream c kind (index_in_of count index)
         (map view list.now)) result }
 {
-    if let [one] = list {
-        return value_fault(table, c, kind, index_in(count, index, 0), one);
-    }
     let mut first = None;
     for j in 0..list.len() {
         let at = index_in(count, index, j as u32);

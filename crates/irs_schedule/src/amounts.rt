@@ -123,6 +123,7 @@ fn amount_for(
 }
 
 // The same by the terms of its periods.
+#[inline(always)]
 fn amount_over(
     s: &Stream,
     table: &PeriodTable<'_>,
@@ -220,6 +221,7 @@ fn terms_of(
 }
 
 // Notional, rates and fraction of a period, counted from 1.
+#[inline(always)]
 fn period_term(s: &Stream, table: &PeriodTable<'_>, number: usize) -> PeriodTerm
     requires lawful { IsLawfulStream s.now }
     requires rises { AllStepsRise s.now }

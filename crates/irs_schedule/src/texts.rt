@@ -38,6 +38,7 @@ fn adjusted_digits(adjusted: Day, unadjusted: Day, digits: [u8; 10]) -> [u8; 10]
 }
 
 // A day before and after its adjustment.
+#[inline(always)]
 fn put_moved(line: &mut Line, unadjusted: Day, adjusted: Day)
     requires { length line.old + 22 ≤ 512 }
     ensures text { line.new ≡ line.old ++ 32 ∷ day_text unadjusted ++ 32 ∷ day_text adjusted }

@@ -31,6 +31,7 @@ pub struct CalculationPeriod {
 }
 
 /// A period, counted from 1.
+#[inline(always)]
 pub(crate) fn dated_period(part: &StreamPart, number: u32) -> CalculationPeriod
     requires low { 0 < number }
     requires high { number ≤ length part.now.periods }

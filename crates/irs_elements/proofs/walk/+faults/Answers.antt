@@ -19,14 +19,15 @@ use Rattle.irs_elements.proofs.First.{first_is, none_later}
 use Rattle.irs_elements.proofs.KnownNames.{some_row}
 use Rattle.irs_elements.proofs.Objects.{an_object, no_object}
 use Rattle.irs_elements.proofs.Steps.{before_end, own_first, object_first, none_before, members_first, under_missing}
-use Rattle.irs_elements.proofs.Steps.{under_refused, under_many, under_lawful, among_first, among_one, member_step, other_step}
+use Rattle.irs_elements.proofs.Steps.{under_refused, under_many, under_lawful, among_first, member_step, other_step, right_step}
 use Rattle.irs_elements.proofs.Steps.{item_step}
 use Rattle.irs_elements.proofs.walk.+faults.Goals as goal
-use Rattle.irs_elements.proofs.walk.+faults.Goals.{members_fault-then-row-r+then-r-c+in-Some}
-use Rattle.irs_elements.proofs.walk.+faults.Goals.{members_fault-then-row-r+then-r-c+in_default}
-use Rattle.irs_elements.proofs.walk.+faults.Goals.{fault_among-in-Some, fault_among-in_default-value_fault}
+use Rattle.irs_elements.proofs.walk.+faults.Goals.{members_fault-then-row-r+then-r-c+then-not-is_right_leaf+in-Some}
+use Rattle.irs_elements.proofs.walk.+faults.Goals.{members_fault-then-row-r+then-r-c+then-not-is_right_leaf+in_default}
+use Rattle.irs_elements.proofs.walk.+faults.Goals.{fault_among-in-Some, fault_among-in_default}
 use Rattle.irs_elements.proofs.walk.+faults.Goals.{members_fault-else-row-r}
 use Rattle.irs_elements.proofs.walk.+faults.Goals.{members_fault-else-row-r-via-then-row-r+else-r-c}
+use Rattle.irs_elements.proofs.walk.+faults.Goals.{members_fault-else-row-r-via-then-row-r+then-r-c+else-not-is_right_leaf}
 use Rattle.irs_elements.proofs.walk.+faults.Goals.{members_fault-else-row-r-via-else-row-r}
 
 absent_child : (n : ℕ) (names : List (List ℕ)) (d : Data) (name : List ℕ) (r : Option (Bor Value))
@@ -98,14 +99,18 @@ members_fault-loop-c-preserved t c =
     c.if-row-r.first found in
     let member = member_step rows names c.args.table.now.stream c.args.r c.args.index c.loop-c.c d row c.loop-c.first in
     elim c.if-row-r.branch [
-      | members_fault-then-row-r+then-r-c+in-Some w ↦
+      | members_fault-then-row-r+then-r-c+then-not-is_right_leaf+in-Some w ↦
           member _ _ found w.if-row-r.true w.if-r-c.true
           (then_found c.loop-c.first w.fault_under.result c.if-row-r.first w.in-Some.fault
           (w.first-is ∙ w.earlier-first.ensures) w.in-Some.is) c.loop-c.invariant w.fault_under.ensures
-      | members_fault-then-row-r+then-r-c+in_default w ↦
+      | members_fault-then-row-r+then-r-c+then-not-is_right_leaf+in_default w ↦
           member _ _ found w.if-row-r.true w.if-r-c.true
           (then_nothing c.loop-c.first w.fault_under.result c.if-row-r.first w.first-is w.in_default.is) c.loop-c.invariant w.fault_under.ensures
       | members_fault-else-row-r w ↦ elim w.else-row-r.branch [
+        | members_fault-else-row-r-via-then-row-r+then-r-c+else-not-is_right_leaf w' ↦
+            right_step rows names c.args.table.now.stream c.args.r c.args.index c.loop-c.c d row c.loop-c.first
+            c.if-row-r.first found (sym w'.is_right_leaf.ensures ∙ w'.if-not-is_right_leaf.false) w.first-is
+            c.loop-c.invariant
         | members_fault-else-row-r-via-then-row-r+else-r-c w' ↦
             other (λ e lt. absurd (omega (arith, lt, w'.if-r-c.false))) w.first-is c.loop-c.invariant
         | members_fault-else-row-r-via-else-row-r w' ↦
@@ -179,12 +184,6 @@ fault_among-returns t c =
     c.args.kind (index_in c.args.count c.args.index) (map view c.args.list.now) _
     (rw last at c.loop-j.invariant)
 
-pub fault_among-returns-in-len1 : goal.fault_among-returns-in-len1
-fault_among-returns-in-len1 t c =
-    among_one c.args.table.now.rows.now (texts c.args.table.now.names.now) c.args.table.now.stream c.args.c c.args.kind
-    (index_in c.args.count c.args.index) c.index_in.result c.args.list.now c.one-item.result _ c.in-len1.len_at_least
-    c.in-len1.len_below c.one-item.is c.index_in.ensures c.value_fault.ensures
-
 pub fault_among-loop-j-preserved : goal.fault_among-loop-j-preserved
 fault_among-loop-j-preserved t c =
     let found : slice_get c.args.list.now c.loop-j.j ≡ Some c.index-list-j.result =
@@ -192,12 +191,12 @@ fault_among-loop-j-preserved t c =
     c.index-list-j.is in
     let step = item_step c.args.table.now.rows.now (texts c.args.table.now.names.now) c.args.table.now.stream
     c.args.c c.args.kind (index_in c.args.count c.args.index) c.loop-j.j c.index_in-at.result c.args.list.now
-    c.index-list-j.result c.loop-j.first c.value_fault-in-loop-j.result c.match-value_fault.first found c.index_in-at.ensures in
+    c.index-list-j.result c.loop-j.first c.value_fault.result c.match-value_fault.first found c.index_in-at.ensures in
     elim c.match-value_fault.branch [
       | fault_among-in-Some w ↦
-          step (then_found c.loop-j.first c.value_fault-in-loop-j.result c.match-value_fault.first w.in-Some.fault
-          (w.first-is ∙ w.earlier-first.ensures) w.in-Some.is) c.loop-j.invariant c.value_fault-in-loop-j.ensures
-      | fault_among-in_default-value_fault w ↦
-          step (then_nothing c.loop-j.first c.value_fault-in-loop-j.result c.match-value_fault.first w.first-is
-          w.in_default-value_fault.is) c.loop-j.invariant c.value_fault-in-loop-j.ensures
+          step (then_found c.loop-j.first c.value_fault.result c.match-value_fault.first w.in-Some.fault
+          (w.first-is ∙ w.earlier-first.ensures) w.in-Some.is) c.loop-j.invariant c.value_fault.ensures
+      | fault_among-in_default w ↦
+          step (then_nothing c.loop-j.first c.value_fault.result c.match-value_fault.first w.first-is
+          w.in_default.is) c.loop-j.invariant c.value_fault.ensures
     ]
