@@ -1,47 +1,22 @@
-//! The worked rows: runs each command of the file `rows` as the program `irs` would, and prints its
-//! words, what it prints and its status.
+//! The worked rows: runs each command of the file `rows` as the program `irs` would, over the real
+//! files and the real standard output, and prints its words, what it prints and its status. The rows of
+//! the file `memory_rows` are run over files and sinks in memory, which can be made to fail.
 #![tactic(auto)]
 
-use irs_cli::{RealFiles, RealSink, run};
-use std::alloc::{AllocError, Global};
-use std::{fs, io};
+use rows::{Outside, run_rows};
 
-// The words of a row: what stands between its spaces.
-fn words_of(alloc: Global, row: &str) -> Result<Vec<String>, AllocError> {
-    let mut words = Vec::new(alloc);
-    for word in row.split_whitespace() {
-        words.push(String::from_str(alloc, word)?)?;
-    }
-    Ok(words)
-}
+mod answer_rows;
+mod bulk_rows;
+mod commands;
+mod cut_rows;
+mod fault_rows;
+mod memory_rows;
+mod named_files;
+mod real_rows;
+mod rows;
+mod sure_rows;
 
-// Prints the words behind `>`.
-fn print_words(rt: &HostRuntime, words: &[String]) -> io::Result<()> {
-    print!(rt; ">")?;
-    for word in words {
-        print!(rt; " {word}")?;
-    }
-    println!(rt)
-}
-
-// Runs a row, and prints its status behind `=`.
-fn run_row(rt: &HostRuntime, row: &str) -> io::Result<()> {
-    let words = words_of(rt.alloc(), row)?;
-    print_words(rt, &words)?;
-    let mut files = RealFiles::new(rt);
-    let mut out = RealSink::new(rt);
-    let status = run(rt.alloc(), &words, &mut files, &mut out);
-    println!(rt; "= {status}")
-}
-
-fn main(rt: HostRuntime) -> io::Result<()> {
-    let rows = fs::read_to_string(&rt, "rows")?;
-    for row in rows.lines() {
-        if row.starts_with('#') {
-            println!(rt; "{row}")?;
-        } else {
-            run_row(&rt, row)?;
-        }
-    }
-    Ok(())
+fn main(rt: HostRuntime) -> anyhow::Result<()> {
+    run_rows(&rt, Outside::Real, "rows")?;
+    run_rows(&rt, Outside::Memory, "memory_rows")
 }
