@@ -9,11 +9,12 @@ mod answer_rows;
 mod bulk_rows;
 mod commands;
 mod cut_rows;
-mod fault_rows;
+mod fetch_rows;
 mod memory_rows;
 mod named_files;
 mod real_rows;
 mod rows;
+mod sink_rows;
 mod sure_rows;
 
 fn main(rt: HostRuntime) -> anyhow::Result<()> {

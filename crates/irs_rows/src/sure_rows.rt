@@ -15,7 +15,11 @@ pub fn run_sure(rt: &HostRuntime, command: &str) -> Result<()> {
     printed.put(out.bytes())?;
     let mut counted = SureSink::new();
     let status = run(rt.alloc(), &words, &mut files, &mut counted);
-    let many = if counted == printed { "as many" } else { "other" };
+    let many = if counted == printed {
+        "as many"
+    } else {
+        "other"
+    };
     println!(rt; "= {status}, {many} bytes")?;
     Ok(())
 }
