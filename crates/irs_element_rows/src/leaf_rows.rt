@@ -1,17 +1,16 @@
 //! The rows of leaves: each names a kind of text and a text, and says what it stands for; or a kind
 //! of leaf and a JSON text, and says which rule the text breaks.
-use crate::tally::Tally;
 use crate::values::{given, given_currency, given_day, given_dec};
 use anyhow::{Context, Result, bail};
 use irs_elements::{Leaf, codes, fractions, leaf_rule, numbers, words};
 use irs_json::{Value, parse};
 use std::alloc::Global;
-use std::fs;
 
 // What a text stands for as a number or a name.
 fn number_told(alloc: Global, kind: &str, text: &[u8]) -> Result<Option<String>> {
     let told = match kind {
         "date" => given_day(alloc, numbers::day(text))?,
+        "number of a date" => given(alloc, &numbers::day(text).map(|day| day.number()))?,
         "whole" => given(alloc, &numbers::whole(text))?,
         "notional" => given(alloc, &numbers::notional(text))?,
         "rate" => given(alloc, &numbers::rate(text))?,
@@ -70,40 +69,11 @@ fn text_told(alloc: Global, kind: &str, value: &Value) -> Result<String> {
     }
 }
 
-// What is told of a JSON text as a kind of text, or of leaf.
-fn told(alloc: Global, kind: &str, text: &str) -> Result<String> {
+/// What is told of a JSON text as a kind of text, or of leaf.
+pub fn leaf_told(alloc: Global, kind: &str, text: &str) -> Result<String> {
     let value = parse(alloc, text.as_bytes())?;
     match kind.strip_prefix("leaf ") {
         Some(leaf) => given(alloc, &leaf_rule(leaf_of(leaf)?, &value)),
         None => text_told(alloc, kind, &value),
     }
-}
-
-// Runs a row; where it isn't met, prints it and what is told. Whether it is met.
-fn run_row(rt: &HostRuntime, row: &str) -> Result<bool> {
-    let (kind, rest) = row.split_once(" | ").context("a row has three parts")?;
-    let (text, want) = rest.rsplit_once(" | ").context("a row has three parts")?;
-    let told = told(rt.alloc(), kind, text)?;
-    let is_told = told.as_str() == want;
-    if !is_told {
-        println!(rt; "not told: {row}\n{told}")?;
-    }
-    Ok(is_told)
-}
-
-/// Runs the rows of a file, a line each, and prints how many there were and how many were met, behind
-/// each remark: a line that begins with `#`.
-pub fn run_leaves(rt: &HostRuntime, file: &str) -> Result<()> {
-    let text = fs::read_to_string(rt, file)?;
-    let mut tally = Tally::NONE;
-    for line in text.lines() {
-        if line.starts_with('#') {
-            tally.print(rt)?;
-            tally = Tally::NONE;
-            println!(rt; "{line}")?;
-        } else {
-            tally = tally.with(run_row(rt, line)?);
-        }
-    }
-    tally.print(rt)
 }

@@ -64,7 +64,10 @@ pub fn run_rows(rt: &HostRuntime, reader: Reader, file: &str) -> Result<()> {
             let document = document_of(rt, name)?;
             print!(rt; "{}", told(rt.alloc(), reader, &document)?)?;
         } else {
-            tally = tally.with(run_row(rt, reader, line)?);
+            let is_told = run_row(rt, reader, line).context(format_args!(
+                "{file}, the row {line}"
+            ))?;
+            tally = tally.with(is_told);
         }
     }
     tally.print(rt)

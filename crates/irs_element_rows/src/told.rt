@@ -1,12 +1,19 @@
 //! What is told of a document.
 use crate::flow_lines::flow_lines;
 use crate::swap_lines::swap_lines;
+use crate::values::broken_text;
+use crate::words::words_of;
 use anyhow::{Result, bail};
 use irs_audit::{FlowErr, ShapeKind, read_flows};
 use irs_base::Place;
+use irs_calendar::Calendars;
 use irs_cli::{MemFiles, MemSink, run};
+use irs_emit::emit_flows;
 use irs_json::Value;
 use irs_read::{ReadErr, read_swap};
+use irs_resets::Fixings;
+use irs_rules::check_terms;
+use irs_schedule::{Schedule, make_schedule};
 use std::alloc::Global;
 
 /// What reads a document.
@@ -18,17 +25,8 @@ pub enum Reader {
     Flows,
     /// `run` of irs_cli: whether the cash flows that stand among the terms agree with them.
     Audit,
-}
-
-// What is told first, then the place.
-fn line_at(alloc: Global, name: &str, place: Place) -> Result<String> {
-    let text = format!(in alloc;
-        "{name} {} {} {}\n",
-        place.stream,
-        place.elem.path(),
-        place.index
-    )?;
-    Ok(text)
+    /// `emit_flows` of irs_emit: the cash flows of the schedule of a swap.
+    Emit,
 }
 
 fn terms_told(alloc: Global, document: &Value) -> Result<String> {
@@ -36,8 +34,8 @@ fn terms_told(alloc: Global, document: &Value) -> Result<String> {
         Ok(swap) => swap_lines(alloc, &swap),
         Err(ReadErr::Memory) => bail!("no memory"),
         Err(ReadErr::Broken(broken)) => {
-            let rule = format!(in alloc; "{:?}", broken.rule)?;
-            line_at(alloc, &rule, broken.place)
+            let text = format!(in alloc; "{}\n", broken_text(alloc, &broken)?)?;
+            Ok(text)
         }
     }
 }
@@ -54,11 +52,23 @@ fn kind_name(kind: ShapeKind) -> &'static str {
     }
 }
 
+// A kind of fault, then its place.
+fn fault_line(alloc: Global, kind: ShapeKind, place: Place) -> Result<String> {
+    let text = format!(in alloc;
+        "{} {} {} {}\n",
+        kind_name(kind),
+        place.stream,
+        place.elem.path(),
+        place.index
+    )?;
+    Ok(text)
+}
+
 fn flows_told(alloc: Global, document: &Value) -> Result<String> {
     match read_flows(alloc, document) {
         Ok(flows) => flow_lines(alloc, &flows),
         Err(FlowErr::Memory) => bail!("no memory"),
-        Err(FlowErr::Shape(kind, place)) => line_at(alloc, kind_name(kind), place),
+        Err(FlowErr::Shape(kind, place)) => fault_line(alloc, kind, place),
     }
 }
 
@@ -67,21 +77,35 @@ fn audit_told(alloc: Global, document: &Value) -> Result<String> {
     let text = document.to_string(alloc)?;
     let mut files = MemFiles::new(alloc);
     files.add("D", text.as_bytes())?;
-    let mut words = Vec::new(alloc);
-    for word in ["audit", "D", "-", "D"] {
-        words.push(String::from_str(alloc, word)?)?;
-    }
+    let words = words_of(alloc, "audit D - D")?;
     let mut out = MemSink::with_room(alloc, 100)?;
     run(alloc, &words, &mut files, &mut out);
     Ok(String::from_str(alloc, str::from_utf8(out.bytes())?)?)
 }
 
+// The schedule of a swap without calendars and fixings.
+fn schedule_of(alloc: Global, document: &Value) -> Result<Schedule> {
+    let swap = read_swap(alloc, document)?;
+    let calendars = Calendars::read(alloc, &[])?;
+    match check_terms(&swap, &calendars) {
+        Some(_) => bail!("the terms break a rule"),
+        None => Ok(make_schedule(alloc, &swap, &calendars, &Fixings::none())?),
+    }
+}
+
+fn emit_told(alloc: Global, document: &Value) -> Result<String> {
+    let schedule = schedule_of(alloc, document)?;
+    let flows = emit_flows(alloc, &schedule)?;
+    Ok(String::from_str(alloc, str::from_utf8(&flows)?)?)
+}
+
 /// The lines that are told of a document: the first broken rule or the first fault with its place, or
-/// what was read; of an audit what the command prints.
+/// what was read; of an audit what the command prints; the cash flows that are emitted.
 pub fn told(alloc: Global, reader: Reader, document: &Value) -> Result<String> {
     match reader {
         Reader::Terms => terms_told(alloc, document),
         Reader::Flows => flows_told(alloc, document),
         Reader::Audit => audit_told(alloc, document),
+        Reader::Emit => emit_told(alloc, document),
     }
 }

@@ -1,7 +1,7 @@
 //! The texts of the values of swaps and cash flows.
 use anyhow::Result;
 use irs_audit::StatedFraction;
-use irs_base::{Day, Dec, civil_of};
+use irs_base::{Broken, Day, Dec, civil_of};
 use irs_terms::{Adjustments, Centers, Currency, Dated, Frequency, Offset, StepValues, StubRate};
 use std::alloc::Global;
 use std::fmt::Debug;
@@ -17,6 +17,27 @@ pub fn given<T: Debug>(alloc: Global, value: &Option<T>) -> Result<String> {
             let text = format!(in alloc; "{value:?}")?;
             Ok(text)
         }
+        None => absent(alloc),
+    }
+}
+
+/// A broken rule: its name, the number of the stream, the element and the index.
+pub fn broken_text(alloc: Global, broken: &Broken) -> Result<String> {
+    let place = broken.place;
+    let text = format!(in alloc;
+        "{:?} {} {} {}",
+        broken.rule,
+        place.stream,
+        place.elem.path(),
+        place.index
+    )?;
+    Ok(text)
+}
+
+/// A broken rule that may be absent.
+pub fn given_broken(alloc: Global, broken: &Option<Broken>) -> Result<String> {
+    match broken {
+        Some(broken) => broken_text(alloc, broken),
         None => absent(alloc),
     }
 }
