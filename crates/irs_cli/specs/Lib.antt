@@ -6,3 +6,4 @@ pub mod Messages
 pub mod Due
 pub mod Outcomes
 pub mod Run
+pub mod Pages

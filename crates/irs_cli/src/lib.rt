@@ -4,6 +4,7 @@
 
 mod commands;
 mod fetching;
+mod page;
 mod params;
 mod program;
 mod putting;

@@ -1,8 +1,9 @@
-//! The text of a schedule, one put each line.
+//! The text of a schedule: its lines are gathered on a page, and a full page is put.
 ghost use Rattle.std.specs.Prelude.{◌≡◌, OnOk, OnErr};
 ghost use Rattle.irs_outside.specs.Outside.{Rose, Grew, GrewByFront};
 ghost use Rattle.irs_schedule.specs.RowTexts.{text_of};
 
+use crate::page::Page;
 use crate::{PutFailed, Sink};
 use irs_base::Line;
 use irs_schedule::{Schedule, row_text};
@@ -14,14 +15,13 @@ pub(crate) fn put_schedule<S: Sink>(out: &mut S, schedule: &Schedule) -> Result<
     ensures err { OnErr result (GrewByFront (S.written out.old) (S.written out.new) (text_of schedule.now)) }
     ensures rose { OnErr result (Rose (S.faults out.old) (S.faults out.new)) }
 {
+    let mut page = Page::new();
+    page.add(out, b"irs-schedule 2\n")?;
     let mut line = Line::new();
-    line.push(b"irs-schedule 2\n");
-    out.put(line.bytes())?;
     for row in schedule.rows() {
         row_text(&row, &mut line);
-        out.put(line.bytes())?;
+        page.add(out, line.bytes())?;
     }
-    line.clear();
-    line.push(b"end\n");
-    out.put(line.bytes())
+    page.add(out, b"end\n")?;
+    page.put(out)
 }

@@ -1,0 +1,13 @@
+-- A text that goes to a sink by pages.
+use Rattle.std.specs.Prelude.{◌≡◌, ℕ, List, ◌++◌, Option}
+use Rattle.irs_outside.specs.Outside.{Grew}
+
+-- the most bytes that wait to be put
+abbrev pub page_size : ℕ
+page_size = 4_096
+
+-- all of the text was put but what is left
+pub record Through (old now : Option (List ℕ)) (left text : List ℕ) : Type 0 where
+  pub front : List ℕ
+  pub grew : Grew old now front
+  pub is : text ≡ front ++ left
