@@ -9,6 +9,7 @@ ghost use Rattle.irs_compound.specs.Amounts.{IsFraction, IsPayment, IsTerm};
 ghost use Rattle.irs_terms.specs.Lawful.{IsNotional};
 
 use crate::texts::dec_text;
+use crate::values::{fraction_of, rate_of};
 use anyhow::{Context, Result, bail};
 use irs_base::{Dec, MOST_PERIODS, read_dec};
 use irs_compound::{OutOfRange, PeriodTerm, Rates, payment_amount};
@@ -61,20 +62,6 @@ fn is_payment(periods: &[PeriodTerm]) -> bool
 
 fn notional_of(text: &str) -> Result<i128> {
     read_dec(text.as_bytes(), 4).context("no notional")
-}
-
-// A rate in units of 10^-9; it may be out of range.
-fn rate_of(text: &str) -> Result<i64> {
-    let rate = read_dec(text.as_bytes(), 9).context("no rate")?;
-    Ok(i64::try_from(rate)?)
-}
-
-fn fraction_of(text: &str) -> Result<Frac> {
-    let (num, den) = text.split_once('/').context("no fraction")?;
-    Ok(Frac {
-        num: num.parse::<i64>()?,
-        den: den.parse::<i64>()?,
-    })
 }
 
 fn rates_of(text: &str) -> Result<Option<Rates>> {

@@ -21,14 +21,20 @@ pub fn day(text: &str) -> Result<Day> {
     read_date(text.as_bytes()).context("no such day")
 }
 
+/// An unadjusted day and the adjusted one.
+pub fn dates(text: &str) -> Result<(Day, Day)> {
+    let (first, second) = text.split_once('/').unwrap_or((text, text));
+    Ok((day(first)?, day(second)?))
+}
+
 /// The boundaries of a text.
 pub fn boundaries_of(alloc: Global, text: &str) -> Result<Boundaries> {
     let mut unadjusted = DayList::new(alloc);
     let mut adjusted = DayList::new(alloc);
     for word in text.split(' ') {
-        let (first, second) = word.split_once('/').unwrap_or((word, word));
-        unadjusted.push(day(first)?)?;
-        adjusted.push(day(second)?)?;
+        let (first, second) = dates(word)?;
+        unadjusted.push(first)?;
+        adjusted.push(second)?;
     }
     Ok(Boundaries {
         unadjusted,

@@ -17,7 +17,8 @@ fn exchange_text(alloc: Global, exchange: &Exchange) -> Result<String> {
     Ok(text)
 }
 
-fn list_told(alloc: Global, list: &Exchanges) -> Result<String> {
+/// What is told of a list of exchanges.
+pub fn exchanges_told(alloc: Global, list: &Exchanges) -> Result<String> {
     let mut text = String::new(alloc);
     for exchange in list.as_slice() {
         push_behind(&mut text, ", ", &exchange_text(alloc, exchange)?)?;
@@ -34,7 +35,7 @@ pub fn exchange_lines(alloc: Global, calendars: &Calendars, s: &Stream) -> Resul
 {
     let days = days_of(alloc, calendars, &s.pay.adj.centers)?;
     match principals(alloc, s, &days) {
-        Ok(list) => list_told(alloc, &list),
+        Ok(list) => exchanges_told(alloc, &list),
         Err(stopped) => stopped_text(alloc, stopped),
     }
 }

@@ -1,5 +1,5 @@
-//! The stage rows: worked examples of each stage of a schedule, a row each, and what the stage tells
-//! of them.
+//! The stage rows: worked examples of each stage of a schedule, and of what is worked out of one, a row
+//! each, and what is told of them.
 //!
 //! The rows, the streams that they change and what is expected of them stand in `data/`; their form
 //! is this project's own.
@@ -12,6 +12,7 @@ use stages::{Stage, StreamStage};
 mod amount_rows;
 mod boundaries;
 mod calendar_rows;
+mod currency_rows;
 mod documents;
 mod edits;
 mod exchange_rows;
@@ -19,6 +20,8 @@ mod files;
 mod fixing_rows;
 mod good_days;
 mod grid_rows;
+mod line_rows;
+mod list_rows;
 mod payment_rows;
 mod period_rows;
 mod rate_rows;
@@ -29,15 +32,20 @@ mod sources;
 mod stages;
 mod step_rows;
 mod texts;
+mod values;
 mod words;
 
 /// Each file of rows, and the stage of which it tells.
-const FILES: [(&str, Stage); 13] = [
+const FILES: [(&str, Stage); 17] = [
     ("calendars", Stage::Calendars),
     ("grids", Stage::Grids),
     ("fixing_files", Stage::FixingFiles),
     ("rules", Stage::Rules),
     ("periods", Stage::OfStream(StreamStage::Periods)),
+    (
+        "periods_over_days",
+        Stage::OfStream(StreamStage::PeriodsOverDays),
+    ),
     (
         "adjusted_periods",
         Stage::OfStream(StreamStage::AdjustedPeriods),
@@ -49,6 +57,9 @@ const FILES: [(&str, Stage); 13] = [
     ("rates", Stage::OfStream(StreamStage::Rates)),
     ("notionals", Stage::OfStream(StreamStage::Notionals)),
     ("amounts", Stage::Amounts),
+    ("currencies", Stage::Currencies),
+    ("lists", Stage::Lists),
+    ("lines", Stage::Lines),
 ];
 
 fn main(rt: HostRuntime) -> anyhow::Result<()> {

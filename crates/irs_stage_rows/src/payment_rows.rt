@@ -55,7 +55,8 @@ fn payment_text(alloc: Global, payment: &Payment) -> Result<String> {
     Ok(text)
 }
 
-fn list_told(alloc: Global, list: &Payments) -> Result<String> {
+/// What is told of a list of payments.
+pub fn payments_told(alloc: Global, list: &Payments) -> Result<String> {
     let mut text = String::new(alloc);
     for payment in list.as_slice() {
         push_behind(&mut text, ", ", &payment_text(alloc, payment)?)?;
@@ -87,7 +88,7 @@ pub fn payment_lines(
     let span = regular_part(s.stub, unadjusted.as_slice())?;
     let days = days_of(alloc, calendars, &s.pay.adj.centers)?;
     match payments(alloc, s, &span, unadjusted, adjusted, &days) {
-        Ok(list) => list_told(alloc, &list),
+        Ok(list) => payments_told(alloc, &list),
         Err(stopped) => stopped_text(alloc, stopped),
     }
 }

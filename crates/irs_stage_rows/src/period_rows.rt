@@ -1,18 +1,21 @@
-//! What is told of calculation periods: their boundaries, the number of periods where there are many,
-//! or the rule that is broken.
+//! What is told of calculation periods: the regular span with its anchor, and their boundaries, or the
+//! number of periods where there are many; or the rule that is broken.
 ghost use Rattle.std.specs.Prelude.{◌≡◌, ◌≤ℤ◌, ◌<ℤ◌, IfSome, IsTrue};
 ghost use Rattle.irs_terms.specs.Lawful.{IsLawfulStream};
 ghost use Rattle.irs_terms.specs.TermDates.{DatesInOrder, given_or};
 ghost use Rattle.irs_terms.specs.Suiting.{FrequencySuits};
+ghost use Rattle.irs_terms.specs.declared.frequency.Unit.TheVariants.{D};
+ghost use Rattle.irs_periods.specs.SpanRules.{SpanKept};
+ghost use Rattle.irs_periods.specs.Spans.{Regular};
 
 use crate::good_days::days_of;
 use crate::texts::{day_text, fault_text, push_behind, stopped_text};
 use anyhow::{Result, bail};
 use irs_base::{Day, DayList};
 use irs_calendar::Calendars;
-use irs_periods::{PerErr, adjusted, boundaries_by, regular_span};
-use irs_roll::suits;
-use irs_terms::{Stream, Unit};
+use irs_periods::{PerErr, adjusted, boundaries, boundaries_by, regular_span};
+use irs_roll::{EveryDays, suits};
+use irs_terms::{Span, Stream, Unit};
 use std::alloc::Global;
 
 /// The most boundaries that are told a day each.
@@ -91,15 +94,52 @@ fn list_told(alloc: Global, answer: Result<DayList, PerErr>) -> Result<String> {
     }
 }
 
-/// The unadjusted boundaries of a stream.
+fn span_told(alloc: Global, span: &Span) -> Result<String> {
+    let first = day_text(alloc, span.first)?;
+    let last = day_text(alloc, span.last)?;
+    let anchor = day_text(alloc, span.anchor)?;
+    let text = format!(in alloc; "regular {first} to {last} from anchor {anchor}")?;
+    Ok(text)
+}
+
+/// The regular span and the unadjusted boundaries of a stream.
 pub fn period_lines(alloc: Global, s: &Stream) -> Result<String>
     requires { IsLawfulStream s.now }
 {
     if !keeps_dates(s) || !keeps_frequency(s) {
         bail!("no such periods");
     }
+    let span = match regular_span(s) {
+        Ok(span) => span,
+        Err(fault) => return fault_text(alloc, fault),
+    };
+    let days = list_told(alloc, boundaries_by(alloc, s, &span))?;
+    let span = span_told(alloc, &span)?;
+    let lines = format!(in alloc; "{span}\n{days}")?;
+    Ok(lines)
+}
+
+// The boundaries over a grid of days that is handed in.
+fn over_days(alloc: Global, s: &Stream, span: &Span) -> Result<String>
+    requires lawful { IsLawfulStream s.now }
+    requires dates { DatesInOrder s.now }
+    requires unit { s.now.freq.unit ≡ D }
+    requires span { Regular s.now span.now }
+    requires kept { SpanKept s.now span.now }
+{
+    let grid = EveryDays::new(span.anchor, u32::from(s.freq.count));
+    list_told(alloc, boundaries(alloc, s, span, &grid))
+}
+
+/// The unadjusted boundaries of a stream of periods of days, over the grid of its days.
+pub fn day_lines(alloc: Global, s: &Stream) -> Result<String>
+    requires { IsLawfulStream s.now }
+{
+    if s.freq.unit != Unit::D || !keeps_dates(s) || !keeps_frequency(s) {
+        bail!("no such periods");
+    }
     match regular_span(s) {
-        Ok(span) => list_told(alloc, boundaries_by(alloc, s, &span)),
+        Ok(span) => over_days(alloc, s, &span),
         Err(fault) => fault_text(alloc, fault),
     }
 }

@@ -1,19 +1,22 @@
 //! What is told of resets: a line of the reset date and the fixing date of each period, and a line of
 //! its observed rate; `none` where there are no resets; or the rule that is broken.
 //!
-//! The regular span of a row is from its first regular date to its last.
+//! The regular span of a row is from its first regular date to its last, where it gives them, else the
+//! whole term. A row gives the boundaries, and behind them a file of fixings where it has its own.
 ghost use Rattle.std.specs.Prelude.{IsTrue};
 ghost use Rattle.irs_terms.specs.Lawful.{IsLawfulStream};
 ghost use Rattle.irs_terms.specs.DayTypes.{IsSaid, IsSaidFixing, IsSaidReset};
 ghost use Rattle.irs_terms.specs.Legs.{FitsLeg};
 
-use crate::boundaries::{Boundaries, is_rising};
+use crate::boundaries::{boundaries_of, is_rising};
+use crate::files::file_of;
 use crate::good_days::days_of;
-use crate::sources::Sources;
+use crate::sources::{Sources, fixings_of};
 use crate::texts::{day_text, given_rate, push_behind, stopped_text};
-use anyhow::{Context, Result, bail};
-use irs_calendar::RunSet;
-use irs_resets::resets;
+use anyhow::{Result, bail};
+use irs_base::DayList;
+use irs_calendar::{Calendars, RunSet};
+use irs_resets::{Fixings, resets};
 use irs_terms::{DayKind, FixTerms, Leg, Offset, Reset, Resets, Span, Stream};
 use std::alloc::Global;
 
@@ -55,31 +58,31 @@ fn fits_leg(s: &Stream) -> bool
     }
 }
 
-fn regular_part(s: &Stream) -> Result<Span> {
-    let first = s.first_regular.context("a first regular date")?;
-    let last = s.last_regular.context("a last regular date")?;
-    Ok(Span {
+fn regular_part(s: &Stream) -> Span {
+    let first = s.first_regular.unwrap_or(s.first_day());
+    let last = s.last_regular.unwrap_or(s.termination.day);
+    Span {
         first,
         last,
         anchor: first,
-    })
+    }
 }
 
 // The good days of the reset dates; all days where there are none.
-fn reset_days(alloc: Global, sources: &Sources, s: &Stream) -> Result<RunSet> {
+fn reset_days(alloc: Global, calendars: &Calendars, s: &Stream) -> Result<RunSet> {
     match &s.reset {
-        Some(reset) => days_of(alloc, &sources.calendars, &reset.adj.centers),
+        Some(reset) => days_of(alloc, calendars, &reset.adj.centers),
         None => Ok(RunSet::all()),
     }
 }
 
 // The good days of the fixing dates; all days where there are none.
-fn fixing_days(alloc: Global, sources: &Sources, s: &Stream) -> Result<RunSet> {
+fn fixing_days(alloc: Global, calendars: &Calendars, s: &Stream) -> Result<RunSet> {
     let Some(reset) = &s.reset else {
         return Ok(RunSet::all());
     };
     match &reset.fixing {
-        Some(fixing) => days_of(alloc, &sources.calendars, &fixing.adj.centers),
+        Some(fixing) => days_of(alloc, calendars, &fixing.adj.centers),
         None => Ok(RunSet::all()),
     }
 }
@@ -91,7 +94,8 @@ fn dates_text(alloc: Global, reset: &Reset) -> Result<String> {
     Ok(text)
 }
 
-fn list_told(alloc: Global, list: &Resets) -> Result<String> {
+/// What is told of a list of resets.
+pub fn resets_told(alloc: Global, list: &Resets) -> Result<String> {
     let (mut dates, mut rates) = (String::new(alloc), String::new(alloc));
     for reset in list.as_slice() {
         push_behind(&mut dates, ", ", &dates_text(alloc, reset)?)?;
@@ -104,24 +108,37 @@ fn list_told(alloc: Global, list: &Resets) -> Result<String> {
     Ok(lines)
 }
 
-/// The resets of a stream over boundaries.
-pub fn reset_lines(
+fn resets_over(
     alloc: Global,
-    sources: &Sources,
+    calendars: &Calendars,
+    fixings: &Fixings,
     s: &Stream,
-    boundaries: &Boundaries,
+    list: &DayList,
 ) -> Result<String>
     requires { IsLawfulStream s.now }
 {
-    let list = &boundaries.adjusted;
     if !fits_leg(s) || !is_said_reset(s) || !is_rising(list.as_slice()) {
         bail!("no such resets");
     }
-    let span = regular_part(s)?;
-    let days = reset_days(alloc, sources, s)?;
-    let fixing_days = fixing_days(alloc, sources, s)?;
-    match resets(alloc, s, &span, list, &days, &fixing_days, &sources.fixings) {
-        Ok(list) => list_told(alloc, &list),
+    let span = regular_part(s);
+    let days = reset_days(alloc, calendars, s)?;
+    let fixing_days = fixing_days(alloc, calendars, s)?;
+    match resets(alloc, s, &span, list, &days, &fixing_days, fixings) {
+        Ok(list) => resets_told(alloc, &list),
         Err(stopped) => stopped_text(alloc, stopped),
     }
+}
+
+/// The resets of a stream over boundaries, by the fixings behind them, or else by those of all rows.
+pub fn reset_lines(rt: &HostRuntime, sources: &Sources, s: &Stream, beside: &str) -> Result<String>
+    requires { IsLawfulStream s.now }
+{
+    let (alloc, calendars) = (rt.alloc(), &sources.calendars);
+    let Some((days, file)) = beside.split_once(" | ") else {
+        let boundaries = boundaries_of(alloc, beside)?;
+        return resets_over(alloc, calendars, &sources.fixings, s, &boundaries.adjusted);
+    };
+    let boundaries = boundaries_of(alloc, days)?;
+    let fixings = fixings_of(alloc, &file_of(rt, file)?)?;
+    resets_over(alloc, calendars, &fixings, s, &boundaries.adjusted)
 }

@@ -23,10 +23,25 @@ impl Tally {
     }
 }
 
+// What a stage tells of what a row gives it; prints a row that isn't one, before its error.
+fn row_told(
+    rt: &HostRuntime,
+    sources: &Sources,
+    stage: Stage,
+    text: &str,
+    given: &str,
+) -> Result<String> {
+    let lines = told(rt, sources, stage, given);
+    if lines.is_err() {
+        println!(rt; "no row: {text}")?;
+    }
+    lines
+}
+
 // Runs a row; where its line isn't told, prints it and what is told. Whether it is told.
 fn run_row(rt: &HostRuntime, sources: &Sources, stage: Stage, text: &str) -> Result<bool> {
     let (given, line) = text.rsplit_once(" | ").context("a row ends with its line")?;
-    let lines = told(rt, sources, stage, given)?;
+    let lines = row_told(rt, sources, stage, text, given)?;
     let is_told = lines.lines().any(|each| each == line);
     if !is_told {
         println!(rt; "not told: {text}\n{lines}")?;

@@ -43,7 +43,8 @@ pub fn calendars_of(alloc: Global, file: &[u8]) -> Result<Calendars> {
     }
 }
 
-fn fixings_of(alloc: Global, file: &[u8]) -> Result<Fixings> {
+/// The fixings of a file; an error where it has a fault.
+pub fn fixings_of(alloc: Global, file: &[u8]) -> Result<Fixings> {
     if file.len() > MOST_BYTES {
         bail!("the fixings are too long");
     }
