@@ -17,6 +17,13 @@ use irs_net::{NetRow, NetTable, net_text};
 use irs_overnight::{DerivedRow, Found, derived_text};
 use std::alloc::Global;
 
+// A line that holds a text already; what is told is put in its place.
+fn held() -> Line {
+    let mut line = Line::new();
+    line.push(b"held before");
+    line
+}
+
 fn printed(alloc: Global, line: &Line) -> Result<String> {
     let text = str::from_utf8(line.bytes())?;
     let text = text
@@ -54,7 +61,7 @@ fn accrual_of(text: &str) -> Result<Accrual>
 
 fn accrued_told(alloc: Global, row: &str) -> Result<String> {
     let (stream, accrual) = row.split_once(" | ").context("what has accrued")?;
-    let mut line = Line::new();
+    let mut line = held();
     accrued_text(stream.parse::<u8>()?, &accrual_of(accrual)?, &mut line);
     printed(alloc, &line)
 }
@@ -82,7 +89,7 @@ fn net_told(alloc: Global, row: &str) -> Result<String> {
     let [row] = table.as_slice() else {
         bail!("not one row");
     };
-    let mut line = Line::new();
+    let mut line = held();
     net_text(row, &mut line);
     printed(alloc, &line)
 }
@@ -111,7 +118,7 @@ fn derived_told(alloc: Global, row: &str) -> Result<String> {
     if index.len() > MOST_INDEX {
         bail!("the index is too long");
     }
-    let mut line = Line::new();
+    let mut line = held();
     derived_text(
         &derived_of(place, found)?,
         tenor_of(tenor)?,
