@@ -15,6 +15,7 @@ use irs_base::{Dec, Line, MOST_INDEX, Text};
 use irs_elements::words::currency;
 use irs_net::{NetRow, NetTable, net_text};
 use irs_overnight::{DerivedRow, Found, derived_text};
+use irs_terms::Frequency;
 use std::alloc::Global;
 
 // A line that holds a text already; what is told is put in its place.
@@ -101,13 +102,20 @@ fn found_of(text: &str) -> Result<Found> {
     }
 }
 
-fn derived_of(place: &str, found: &str) -> Result<DerivedRow> {
+// A row of derived rates, put on a line.
+fn derived_line(place: &str, found: &str, tenor: Option<Frequency>, index: &Text) -> Result<Line> {
     let (period, fixing) = place.split_once(' ').context("a period has a fixing date")?;
-    Ok(DerivedRow {
+    if index.len() > MOST_INDEX {
+        bail!("the index is too long");
+    }
+    let row = DerivedRow {
         period: period.parse::<u32>()?,
         fixing: day(fixing)?,
         found: found_of(found)?,
-    })
+    };
+    let mut line = held();
+    derived_text(&row, tenor, index, &mut line);
+    Ok(line)
 }
 
 fn derived_told(alloc: Global, row: &str) -> Result<String> {
@@ -115,16 +123,7 @@ fn derived_told(alloc: Global, row: &str) -> Result<String> {
     let (found, rest) = rest.split_once(" | ").context("a tenor")?;
     let (tenor, index) = rest.split_once(" | ").context("an index")?;
     let index = Text::from_bytes(alloc, index.as_bytes())?;
-    if index.len() > MOST_INDEX {
-        bail!("the index is too long");
-    }
-    let mut line = held();
-    derived_text(
-        &derived_of(place, found)?,
-        tenor_of(tenor)?,
-        &index,
-        &mut line,
-    );
+    let line = derived_line(place, found, tenor_of(tenor)?, &index)?;
     printed(alloc, &line)
 }
 
