@@ -63,10 +63,11 @@ def derived(years, center):
     ) % (none, 2000 + years, none, none, none, moved)
 
 
-def calendar(name, holidays):
-    first = date(1901, 1, 1)
-    days = "".join("%s\n" % (first + timedelta(days=5 * n)) for n in range(holidays))
-    return "center %s\ncover 1901-01-01 2299-12-31\nweekend SAT SUN\n%s" % (name, days)
+def calendar(name, holidays, first=1901, last=2299, apart=5):
+    """A calendar that covers these years, with so many holidays, so many days from one to the next."""
+    start = date(first, 1, 1)
+    days = "".join("%s\n" % (start + timedelta(days=apart * n)) for n in range(holidays))
+    return "center %s\ncover %d-01-01 %d-12-31\nweekend SAT SUN\n%s" % (name, first, last, days)
 
 
 def fixings(lines, tenor="3M", first=date(1950, 1, 1)):
