@@ -14,9 +14,12 @@ all: irs
 
 irs:
 	tools/prove
-	mkdir -p crates/irs/out
-	cd crates/irs && rt run -- schedule ../../examples/fixed_leg/terms.json - > out/printed
-	cp crates/irs/out/irs irs
+	@mkdir -p crates/irs/out
+	@echo 'Proving and building the program itself.'
+	@cd crates/irs && rt run -- schedule ../../examples/fixed_leg/terms.json - > out/printed 2> out/told \
+		|| { tail -n 40 out/told; exit 1; }
+	@cp crates/irs/out/irs irs
+	@echo 'The program is proved and built: ./irs'
 
 try:
 	@echo 'Not proved: this builds the program without its proofs, and may take two minutes.'
