@@ -35,11 +35,10 @@ dec_at places (c ∷ cs) =
     (if c == 45 then option_map (λ n. neg_ℤ (pos n)) (unsigned_at places cs) else option_map pos
     (unsigned_at places (c ∷ cs)))
 
--- the number that digits spell behind those of n
-abbrev pub spelled : ℕ → List ℕ → Option ℕ
-spelled n [] = Some n
-spelled n (c ∷ cs) = if is_digit c then spelled (10 * n + (c - 48)) cs else None
+-- the number that a text of nothing but digits spells behind those of n
+abbrev pub digits_at : ℕ → List ℕ → Option ℕ
+digits_at n s = if list_all is_digit s then Some (number_after n s) else None
 
 -- the number that one to nine digits spell
 abbrev pub few_digits_at : List ℕ → Option ℕ
-few_digits_at s = if nat_lt 0 (length s) && nat_le (length s) 9 then spelled 0 s else None
+few_digits_at s = if nat_lt 0 (length s) && nat_le (length s) 9 then digits_at 0 s else None

@@ -1,7 +1,7 @@
 //! Dates and numbers: what a text stands for, `None` exactly where it is outside the grammar or the
 //! range of its kind.
 ghost use Rattle.irs_elements.specs.Dates.{day_at};
-ghost use Rattle.irs_elements.specs.Decimals.{dec_at, few_digits_at, spelled};
+ghost use Rattle.irs_elements.specs.Decimals.{dec_at, digits_at, few_digits_at};
 ghost use Rattle.irs_elements.specs.Numbers.{amount_at, digits_of, has_no_point as no_point_of};
 ghost use Rattle.irs_elements.specs.Numbers.{is_whole as is_whole_of, multiplier_at, notional_at, offset_at};
 ghost use Rattle.irs_elements.specs.Numbers.{precision_at, rate_at, whole_at, within as within_of};
@@ -50,11 +50,11 @@ fn within(low: i128, high: i128, n: Option<i128>) -> Option<i128>
     }
 }
 
-// The number that digits spell behind those of n; `None` exactly where a byte is no digit.
+// The number that a text of nothing but digits spells behind those of n; `None` exactly where a byte is no digit.
 #[tactic(auto, using(irs_base::proofs::DecimalLemmas::room_left, crate::proofs::FewDigits::room_for_one))]
 fn digits_behind(n: u32, digits: &[u8]) -> Option<u32>
     requires { (n + 1) * 10 ^ length digits.now ≤ 10 ^ 9 }
-    ensures { result ≡ spelled n digits.now }
+    ensures { result ≡ digits_at n digits.now }
 {
     match digits {
         [] => Some(n),

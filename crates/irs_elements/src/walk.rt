@@ -16,7 +16,7 @@ ghost use Rattle.irs_json.specs.Leaves.{is_attribute, leaf_of};
 ghost use Rattle.irs_json.specs.Names.{names_of};
 ghost use Rattle.serde_json.specs.View.{view};
 ghost use Rattle.std.specs.List.{Contains, list_any};
-ghost use Rattle.std.specs.Prelude.{◌≡◌, ◌+◌, ◌<◌, ◌≤◌, ◌&&◌, ◌==◌, ℕ, List, false, true, nat_lt, length, map};
+ghost use Rattle.std.specs.Prelude.{◌≡◌, ◌↔◌, ◌+◌, ◌<◌, ◌≤◌, ◌&&◌, ◌==◌, ℕ, IsTrue, List, false, true, nat_lt, length, map};
 ghost use Rattle.std.specs.Prelude.{option_map};
 ghost use Rattle.std.specs.Str.{bytes_eq};
 ghost use Rattle.irs_elements.specs.Leaves.{leaf_rule as leaf_rule_of};
@@ -389,7 +389,7 @@ fn end_of(table: &Table<'_>, r: usize) -> usize
 
 // Whether each row stands before the end of its parent's members.
 fn ends_hold(table: &Table<'_>) -> bool
-    ensures { result ≡ true → EndsHold table.now.rows.now table.now.ends.now }
+    ensures { IsTrue result ↔ EndsHold table.now.rows.now table.now.ends.now }
 {
     for c in 0..table.rows.len() {
         if c >= end_of(table, table.rows[c].parent) {
