@@ -74,6 +74,3 @@ made_same s t h = cc
 pub same_stream : (s t : Stream) → Same s t → s ≡ t
 unfolding made
 same_stream s t h = made_same s t h
-
-pub both : {A B C : Type 0} (f : A → B → C) (a x : A) (b y : B) → a ≡ x → b ≡ y → f a b ≡ f x y
-both f a x b y p q = cc

@@ -1,11 +1,13 @@
 //! The stream that a value says, where it breaks no rule.
-ghost use Rattle.irs_elements.specs.Find.{seen};
-ghost use Rattle.irs_read.specs.Meaning.{exchanges_in, fix_in, float_in, leg_by, number_in, pay_in, reset_in};
-ghost use Rattle.irs_read.specs.Meaning.{rounding_in, stream_in, stream_parts, stub_by, stub_in, stubs_in, swap_in};
-ghost use Rattle.irs_read.specs.Meaning.{tenor_in};
+ghost use Rattle.irs_elements.specs.Find.{member as member_of, seen};
+ghost use Rattle.irs_read.specs.Meaning.{adjustments_in, dated_in, exchanges_in, fix_in, float_in, leg_by};
+ghost use Rattle.irs_read.specs.Meaning.{maybe_dated_in, number_in, pay_in, reset_in, rounding_in};
+ghost use Rattle.irs_read.specs.Meaning.{schedule_in};
+ghost use Rattle.irs_read.specs.Meaning.{stream_in, stream_parts, stub_by, stub_in, stubs_in, swap_in, tenor_in};
 ghost use Rattle.irs_read.specs.References.{lists_of};
 ghost use Rattle.serde_json.specs.View.{view};
-ghost use Rattle.std.specs.Prelude.{◌≡◌, IfOk, map, option_map};
+ghost use Rattle.irs_read.specs.declared.leaf_values.Scale.TheVariants.{Notionals};
+ghost use Rattle.std.specs.Prelude.{◌≡◌, IfOk, codes, map, option_map};
 
 use crate::blocks::{
     adjustments, dated, frequency, maybe_dated, offset, schedule, schedule_or, tenor,
@@ -19,8 +21,9 @@ use irs_base::{Direction, Memory};
 use irs_elements::{member, once, values_at};
 use irs_json::Value;
 use irs_terms::{
-    CompCode, Currency, DayCountCode, ExchangeFlags, FixTerms, FloatTerms, Frequency, Leg,
-    PayTerms, ResetTerms, RollCode, Rounding, Stream, StreamList, StubRate, StubTerms, Swap,
+    Adjustments, CompCode, Currency, Dated, DayCountCode, ExchangeFlags, FixTerms, FloatTerms,
+    Frequency, Leg, PayTerms, ResetTerms, RollCode, Rounding, StepValues, Stream, StreamList,
+    StubRate, StubTerms, Swap,
 };
 use std::alloc::Global;
 
@@ -238,6 +241,65 @@ fn exchanges(v: Option<&Value>) -> ExchangeFlags
     }
 }
 
+// When a stream runs, and how the ends of its periods are adjusted.
+#[derive(Drop)]
+struct TermDates {
+    effective: Dated,
+    first_start: Option<Dated>,
+    termination: Dated,
+    period_adj: Adjustments,
+}
+
+fn term(alloc: Global, lists: &[Option<&Value>], dates: Option<&Value>) -> Result<TermDates, Memory>
+    ensures effective { IfOk result (λ term. term.effective
+        ≡ dated_in (map seen lists.now) (member_of (codes "effectiveDate") (seen dates.entry))) }
+    ensures first_start { IfOk result (λ term. term.first_start
+        ≡ maybe_dated_in (map seen lists.now) (member_of (codes "firstPeriodStartDate") (seen dates.entry))) }
+    ensures termination { IfOk result (λ term. term.termination
+        ≡ dated_in (map seen lists.now) (member_of (codes "terminationDate") (seen dates.entry))) }
+    ensures period_adj { IfOk result (λ term. term.period_adj
+        ≡ adjustments_in (map seen lists.now)
+        (member_of (codes "calculationPeriodDatesAdjustments") (seen dates.entry))) }
+{
+    let periods = member(dates, "calculationPeriodDatesAdjustments");
+    Ok(TermDates {
+        effective: dated(alloc, lists, member(dates, "effectiveDate"))?,
+        first_start: maybe_dated(alloc, lists, member(dates, "firstPeriodStartDate"))?,
+        termination: dated(alloc, lists, member(dates, "terminationDate"))?,
+        period_adj: adjustments(alloc, lists, periods)?,
+    })
+}
+
+// What interest is paid on, and the rates.
+#[derive(Drop)]
+struct InterestTerms {
+    notional: StepValues,
+    leg: Leg,
+    stubs: Option<StubTerms>,
+}
+
+fn amounts(
+    alloc: Global,
+    notionals: Option<&Value>,
+    calc: Option<&Value>,
+    dates: Option<&Value>,
+    stubs: Option<&Value>,
+) -> Result<InterestTerms, Memory>
+    ensures notional { IfOk result (λ amounts. amounts.notional ≡ schedule_in Notionals (seen notionals.entry)) }
+    ensures leg { IfOk result (λ amounts. amounts.leg
+        ≡ leg_by (member_of (codes "floatingRateCalculation") (seen calc.entry))
+        (member_of (codes "fixedRateSchedule") (seen calc.entry))) }
+    ensures stubs { IfOk result (λ amounts. amounts.stubs
+        ≡ option_map (stubs_in (seen dates.entry)) (seen stubs.entry)) }
+{
+    let float = member(calc, "floatingRateCalculation");
+    Ok(InterestTerms {
+        notional: schedule(alloc, Scale::Notionals, notionals)?,
+        leg: leg(alloc, float, member(calc, "fixedRateSchedule"))?,
+        stubs: maybe_stub_terms(alloc, dates, stubs)?,
+    })
+}
+
 // The stream of which these are the dates, the frequency and the calculation.
 fn stream_of(
     alloc: Global,
@@ -251,23 +313,16 @@ fn stream_of(
         ≡ stream_parts (map seen lists.now) (view v.now) (seen dates.entry) (seen freq.entry) (seen calc.entry)) }
 {
     let notionals = member(member(calc, "notionalSchedule"), "notionalStepSchedule");
-    let periods = member(dates, "calculationPeriodDatesAdjustments");
-    let first = member(dates, "firstPeriodStartDate");
-    let effective = dated(alloc, lists, member(dates, "effectiveDate"))?;
-    let termination = dated(alloc, lists, member(dates, "terminationDate"))?;
-    let first_start = maybe_dated(alloc, lists, first)?;
-    let period_adj = adjustments(alloc, lists, periods)?;
+    let term = term(alloc, lists, dates)?;
     let pay = pay_terms(alloc, lists, dates, once(v, "paymentDates"))?;
     let reset = maybe_reset_terms(alloc, lists, dates, once(v, "resetDates"))?;
-    let notional = schedule(alloc, Scale::Notionals, notionals)?;
-    let float = member(calc, "floatingRateCalculation");
-    let leg = leg(alloc, float, member(calc, "fixedRateSchedule"))?;
-    let stubs = maybe_stub_terms(alloc, dates, once(v, "stubCalculationPeriodAmount"))?;
+    let stubs = once(v, "stubCalculationPeriodAmount");
+    let amounts = amounts(alloc, notionals, calc, dates, stubs)?;
     Ok(Stream {
-        effective,
-        first_start,
-        termination,
-        period_adj,
+        effective: term.effective,
+        first_start: term.first_start,
+        termination: term.termination,
+        period_adj: term.period_adj,
         first_regular: maybe_day(member(dates, "firstRegularPeriodStartDate")),
         last_regular: maybe_day(member(dates, "lastRegularPeriodEndDate")),
         stub: stub_kind(member(dates, "stubPeriodType")),
@@ -275,17 +330,16 @@ fn stream_of(
         roll: roll(member(freq, "rollConvention")).unwrap_or(RollCode::NoRoll),
         pay,
         reset,
-        notional,
+        notional: amounts.notional,
         currency: currency(member(notionals, "currency")).unwrap_or(Currency { letters: *b"XXX" }),
-        leg,
+        leg: amounts.leg,
         day_count: day_count(member(calc, "dayCountFraction")).unwrap_or(DayCountCode::OneOne),
         compounding: compounding(member(calc, "compoundingMethod")).unwrap_or(CompCode::Simple),
-        stubs,
+        stubs: amounts.stubs,
         exchanges: exchanges(once(v, "principalExchanges")),
     })
 }
 
-#[tactic(auto, unfolding(crate::specs::Meaning::stream_in))]
 fn stream(alloc: Global, lists: &[Option<&Value>], v: &Value) -> Result<Stream, Memory>
     ensures { IfOk result (λ stream. stream ≡ stream_in (map seen lists.now) (view v.now)) }
 {
