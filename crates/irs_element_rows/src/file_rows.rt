@@ -21,7 +21,7 @@ enum Source<'r> {
 }
 
 /// A step with a source of files.
-#[derive(Clone, Copy, Debug)]
+#[derive(Clone, Copy)]
 enum Step<'a> {
     /// `add NAME TEXT`: the text stands under the name.
     Add { name: &'a str, text: &'a str },
@@ -108,6 +108,17 @@ impl<'r> Source<'r> {
             Err(FetchErr::Memory) => bail!("no memory"),
         }
     }
+
+    // What a step gives; `None` where it isn't a fetch.
+    fn step(&mut self, alloc: Global, step: Step) -> Result<Option<String>> {
+        match step {
+            Step::Add { name, text } => self.add(name, text)?,
+            Step::Fail { call } => self.fail_at(call)?,
+            Step::Remove { name } => self.remove(name)?,
+            Step::Fetch { most, name } => return Ok(Some(self.fetch_told(alloc, name, most)?)),
+        }
+        Ok(None)
+    }
 }
 
 /// What the fetches among the steps with a source of files give.
@@ -115,13 +126,8 @@ pub fn files_told(rt: &HostRuntime, name: &str, steps: &str) -> Result<String> {
     let mut source = source_of(rt, name)?;
     let mut answers = Answers::new(rt.alloc());
     for step in steps.split(" ; ") {
-        match step_of(step)? {
-            Step::Add { name, text } => source.add(name, text)?,
-            Step::Fail { call } => source.fail_at(call)?,
-            Step::Remove { name } => source.remove(name)?,
-            Step::Fetch { most, name } => {
-                answers.push(&source.fetch_told(rt.alloc(), name, most)?)?;
-            }
+        if let Some(told) = source.step(rt.alloc(), step_of(step)?)? {
+            answers.push(&told)?;
         }
     }
     Ok(answers.into_text())

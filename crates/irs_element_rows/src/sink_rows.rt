@@ -18,7 +18,7 @@ enum Tried {
 }
 
 /// A step with a sink.
-#[derive(Clone, Copy, Debug)]
+#[derive(Clone, Copy)]
 enum Step<'a> {
     /// `fail CALL`: that put, counted from 1, is to fail.
     Fail { call: u32 },
@@ -117,6 +117,21 @@ impl Tried {
         let byte = self.bytes()?.get(place).context("no byte at the place")?;
         quoted(alloc, &[*byte])
     }
+
+    // What a step gives; `None` where it asks nothing.
+    fn step(&mut self, alloc: Global, step: Step) -> Result<Option<String>> {
+        let told = match step {
+            Step::Fail { call } => {
+                self.fail_at(call)?;
+                return Ok(None);
+            }
+            Step::Put { times, text } => self.put_told(alloc, &repeated(alloc, text, times)?)?,
+            Step::Bytes => quoted(alloc, self.bytes()?)?,
+            Step::Length => self.length_told(alloc)?,
+            Step::Byte { place } => self.byte_told(alloc, place)?,
+        };
+        Ok(Some(told))
+    }
 }
 
 /// What the puts and the questions among the steps with a sink give.
@@ -124,14 +139,8 @@ pub fn sinks_told(alloc: Global, name: &str, steps: &str) -> Result<String> {
     let mut sink = sink_of(alloc, name)?;
     let mut answers = Answers::new(alloc);
     for step in steps.split(" ; ") {
-        match step_of(step)? {
-            Step::Fail { call } => sink.fail_at(call)?,
-            Step::Put { times, text } => {
-                answers.push(&sink.put_told(alloc, &repeated(alloc, text, times)?)?)?;
-            }
-            Step::Bytes => answers.push(&quoted(alloc, sink.bytes()?)?)?,
-            Step::Length => answers.push(&sink.length_told(alloc)?)?,
-            Step::Byte { place } => answers.push(&sink.byte_told(alloc, place)?)?,
+        if let Some(told) = sink.step(alloc, step_of(step)?)? {
+            answers.push(&told)?;
         }
     }
     Ok(answers.into_text())

@@ -4,8 +4,8 @@
 //! notionals in units of 10^-4, rates in units of 10^-9.
 use crate::lines::Lines;
 use crate::values::{
-    adjustments_text, dated_text, frequency_text, given, given_dated, given_day, given_frequency,
-    given_stub, offset_text, steps_text,
+    adjustments_text, dated_text, frequency_text, given_dated, given_frequency, given_stub,
+    offset_text, steps_text,
 };
 use anyhow::Result;
 use irs_terms::{
@@ -16,8 +16,6 @@ use std::alloc::Global;
 impl Lines {
     fn push_periods(&mut self, stream: &Stream) -> Result<()> {
         let alloc = self.alloc();
-        let frequency = frequency_text(alloc, stream.freq)?;
-        let roll = format!(in alloc; "{frequency} {:?}", stream.roll)?;
         self.push("effectiveDate", &dated_text(alloc, &stream.effective)?)?;
         self.push("terminationDate", &dated_text(alloc, &stream.termination)?)?;
         self.push(
@@ -28,27 +26,24 @@ impl Lines {
             "firstPeriodStartDate",
             &given_dated(alloc, &stream.first_start)?,
         )?;
-        self.push(
-            "firstRegularPeriodStartDate",
-            &given_day(alloc, stream.first_regular)?,
-        )?;
-        self.push(
-            "lastRegularPeriodEndDate",
-            &given_day(alloc, stream.last_regular)?,
-        )?;
-        self.push("stubPeriodType", &given(alloc, &stream.stub)?)?;
+        self.push_day("firstRegularPeriodStartDate", stream.first_regular)?;
+        self.push_day("lastRegularPeriodEndDate", stream.last_regular)?;
+        self.push_given("stubPeriodType", &stream.stub)?;
+        let frequency = frequency_text(alloc, stream.freq)?;
+        let roll = format!(in alloc; "{frequency} {:?}", stream.roll)?;
         self.push("calculationPeriodFrequency", &roll)
     }
 
     fn push_payments(&mut self, pay: &PayTerms) -> Result<()> {
         let alloc = self.alloc();
-        let reference = format!(in alloc; "reference {:?}", pay.calc_ref)?;
-        let relative = format!(in alloc; "{:?}", pay.relative)?;
-        self.push("paymentDates", &reference)?;
+        self.push(
+            "paymentDates",
+            &format!(in alloc; "reference {:?}", pay.calc_ref)?,
+        )?;
         self.push("paymentFrequency", &frequency_text(alloc, pay.freq)?)?;
-        self.push("firstPaymentDate", &given_day(alloc, pay.first)?)?;
-        self.push("lastRegularPaymentDate", &given_day(alloc, pay.last)?)?;
-        self.push("payRelativeTo", &relative)?;
+        self.push_day("firstPaymentDate", pay.first)?;
+        self.push_day("lastRegularPaymentDate", pay.last)?;
+        self.push_given("payRelativeTo", &Some(pay.relative))?;
         self.push("paymentDaysOffset", &offset_text(alloc, pay.offset)?)?;
         self.push(
             "paymentDatesAdjustments",
@@ -66,13 +61,14 @@ impl Lines {
 
     fn push_resets(&mut self, reset: &ResetTerms) -> Result<()> {
         let alloc = self.alloc();
-        let references = format!(in alloc;
-            "reference {:?}, of fixing dates {:?}",
-            reset.calc_ref, reset.fixing_ref
+        self.push(
+            "resetDates",
+            &format!(in alloc;
+                "reference {:?}, of fixing dates {:?}",
+                reset.calc_ref, reset.fixing_ref
+            )?,
         )?;
-        let relative = format!(in alloc; "{:?}", reset.relative)?;
-        self.push("resetDates", &references)?;
-        self.push("resetRelativeTo", &relative)?;
+        self.push_given("resetRelativeTo", &Some(reset.relative))?;
         match &reset.fixing {
             Some(fixing) => self.push_fixings(fixing)?,
             None => self.push("fixingDates", "absent")?,
@@ -84,26 +80,27 @@ impl Lines {
         )
     }
 
+    fn push_index(&mut self, float: &FloatTerms) -> Result<()> {
+        let index = str::from_utf8(float.index.as_slice())?;
+        let tenor = given_frequency(self.alloc(), float.tenor)?;
+        let text = format!(in self.alloc(); "{index}, tenor {tenor}")?;
+        self.push("floatingRateIndex", &text)
+    }
+
     fn push_floating(&mut self, float: &FloatTerms) -> Result<()> {
         let alloc = self.alloc();
-        let tenor = given_frequency(alloc, float.tenor)?;
-        let index = format!(in alloc;
-            "{}, tenor {tenor}",
-            str::from_utf8(float.index.as_slice())?
-        )?;
-        let rounding = format!(in alloc; "{:?} {}", float.rounding.dir, float.rounding.places)?;
-        self.push("floatingRateIndex", &index)?;
+        self.push_index(float)?;
         self.push(
             "floatingRateMultiplierSchedule",
             &steps_text(alloc, &float.multiplier)?,
         )?;
         self.push("spreadSchedule", &steps_text(alloc, &float.spread)?)?;
-        self.push("initialRate", &given(alloc, &float.initial_rate)?)?;
-        self.push("finalRateRounding", &rounding)?;
+        self.push_given("initialRate", &float.initial_rate)?;
         self.push(
-            "negativeInterestRateTreatment",
-            &format!(in alloc; "{:?}", float.treatment)?,
-        )
+            "finalRateRounding",
+            &format!(in alloc; "{:?} {}", float.rounding.dir, float.rounding.places)?,
+        )?;
+        self.push_given("negativeInterestRateTreatment", &Some(float.treatment))
     }
 
     fn push_amounts(&mut self, stream: &Stream) -> Result<()> {
@@ -117,14 +114,8 @@ impl Lines {
             Leg::Fixed(rate) => self.push("fixedRateSchedule", &steps_text(alloc, rate)?)?,
             Leg::Floating(float) => self.push_floating(float)?,
         }
-        self.push(
-            "dayCountFraction",
-            &format!(in alloc; "{:?}", stream.day_count)?,
-        )?;
-        self.push(
-            "compoundingMethod",
-            &format!(in alloc; "{:?}", stream.compounding)?,
-        )
+        self.push_given("dayCountFraction", &Some(stream.day_count))?;
+        self.push_given("compoundingMethod", &Some(stream.compounding))
     }
 
     fn push_stubs(&mut self, stubs: &StubTerms) -> Result<()> {
