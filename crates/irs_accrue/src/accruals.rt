@@ -13,7 +13,7 @@ use irs_schedule::{Schedule, StreamPart};
 use irs_terms::Frac;
 
 /// What has accrued on a day in a stream.
-#[derive(Clone, Copy, Debug, PartialEq, Eq)]
+#[derive(Clone, Copy, PartialEq, Eq)]
 pub enum Accrual {
     /// The day is before the first adjusted boundary, or not before the last.
     Outside,

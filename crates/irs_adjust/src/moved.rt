@@ -12,7 +12,7 @@ use irs_calendar::GoodDays;
 use irs_terms::{ConvCode, DayKind, Offset};
 
 /// Why a day that is moved and then adjusted comes to no date.
-#[derive(Clone, Copy, Debug, PartialEq, Eq)]
+#[derive(Clone, Copy, PartialEq, Eq)]
 pub enum NoDate {
     /// The Business offset or the adjustment has no result.
     NoResult,

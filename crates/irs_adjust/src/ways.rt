@@ -11,7 +11,7 @@ use irs_base::{Day, plus};
 use irs_calendar::GoodDays;
 
 /// The side on which good days are counted.
-#[derive(Clone, Copy, Debug, PartialEq, Eq)]
+#[derive(Clone, Copy, PartialEq, Eq)]
 pub enum Way {
     /// After the day.
     Ahead,

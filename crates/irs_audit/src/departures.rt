@@ -2,7 +2,7 @@
 //! and fields in which they are told is this project's own.
 
 /// A kind of rows, in the order in which they are compared.
-#[derive(Clone, Copy, Debug, PartialEq, Eq)]
+#[derive(Clone, Copy, PartialEq, Eq)]
 pub enum RowKind {
     /// A stream as a whole; its row is 0.
     Stream,
@@ -18,7 +18,7 @@ pub enum RowKind {
 
 /// What departs: the whole row, or the field of that name in FpML `cashflows`, in the order in which
 /// the fields of a row are compared.
-#[derive(Clone, Copy, Debug, PartialEq, Eq)]
+#[derive(Clone, Copy, PartialEq, Eq)]
 pub enum Field {
     /// The schedule has the row and the flows lack it.
     Missing,
@@ -65,7 +65,7 @@ pub enum Field {
 }
 
 /// Where cash flows depart from a schedule.
-#[derive(Clone, Copy, Debug, PartialEq, Eq)]
+#[derive(Clone, Copy, PartialEq, Eq)]
 pub struct Departure {
     /// The stream, counted from 1.
     pub stream: u8,
@@ -78,7 +78,7 @@ pub struct Departure {
 }
 
 /// The verdict of an audit.
-#[derive(Clone, Copy, Debug, PartialEq, Eq)]
+#[derive(Clone, Copy, PartialEq, Eq)]
 pub enum Verdict {
     /// The flows agree with the schedule: how many exchanges, payments, calculation periods and resets
     /// the schedule has, and how many of its payments have no amount yet.

@@ -9,7 +9,7 @@ use std::marker::Model;
 
 /// A principal exchange of cash flows (FpML `principalExchange`): each field where it is stated;
 /// amounts in units of 10^-12.
-#[derive(Clone, Copy, Debug, PartialEq, Eq)]
+#[derive(Clone, Copy, PartialEq, Eq)]
 pub struct FlowExchange {
     /// `unadjustedPrincipalExchangeDate`.
     pub unadjusted: Option<Day>,
@@ -20,7 +20,7 @@ pub struct FlowExchange {
 }
 
 /// A payment of cash flows (FpML `paymentCalculationPeriod`).
-#[derive(Clone, Copy, Debug, PartialEq, Eq)]
+#[derive(Clone, Copy, PartialEq, Eq)]
 pub struct FlowPayment {
     /// `unadjustedPaymentDate`.
     pub unadjusted: Option<Day>,
@@ -35,7 +35,7 @@ pub struct FlowPayment {
 }
 
 /// A stated day count fraction (FpML `dayCountYearFraction`).
-#[derive(Clone, Copy, Debug, PartialEq, Eq)]
+#[derive(Clone, Copy, PartialEq, Eq)]
 pub struct StatedFraction {
     /// Its value in units of 10^-places.
     pub units: i128,
@@ -44,7 +44,7 @@ pub struct StatedFraction {
 }
 
 /// A reset of cash flows (FpML `rateObservation`).
-#[derive(Clone, Copy, Debug, PartialEq, Eq)]
+#[derive(Clone, Copy, PartialEq, Eq)]
 pub struct FlowReset {
     /// `resetDate`.
     pub reset: Option<Day>,
@@ -55,7 +55,7 @@ pub struct FlowReset {
 }
 
 /// A calculation period of cash flows (FpML `calculationPeriod`).
-#[derive(Clone, Copy, Debug, PartialEq, Eq)]
+#[derive(Clone, Copy, PartialEq, Eq)]
 pub struct FlowPeriod {
     /// `unadjustedStartDate`.
     pub start: Option<Day>,
@@ -79,7 +79,7 @@ pub struct FlowPeriod {
 
 /// The cash flows of one stream: its exchanges, its payments, and the calculation periods of all of
 /// its payments, each in order.
-#[derive(Debug, Drop)]
+#[derive(Drop)]
 pub struct FlowStream {
     exchanges: Vec<FlowExchange>,
     payments: Vec<FlowPayment>,
@@ -137,7 +137,7 @@ impl FlowStream {
 }
 
 /// The cash flows of a document: one stream for each of its streams, in order.
-#[derive(Debug, Drop)]
+#[derive(Drop)]
 pub struct Flows {
     streams: Vec<FlowStream>,
 }

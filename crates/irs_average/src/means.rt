@@ -17,7 +17,7 @@ use irs_base::{Direction, round};
 use irs_overnight::{Found, Observation, first_absent};
 
 /// A mean of the rates that were observed in a calculation period.
-#[derive(Clone, Copy, Debug, PartialEq, Eq)]
+#[derive(Clone, Copy, PartialEq, Eq)]
 pub enum Mean {
     /// The sum of the rates by their number.
     Plain,

@@ -11,7 +11,7 @@ use irs_schedule::StreamPart;
 use irs_terms::{Frequency, StubRate, StubTerms, Swap};
 
 /// A side of a stream on which a stub may stand.
-#[derive(Clone, Copy, Debug, PartialEq, Eq)]
+#[derive(Clone, Copy, PartialEq, Eq)]
 pub enum Side {
     /// The first calculation period (FpML `initialStub`).
     Initial,

@@ -7,7 +7,7 @@ use std::alloc::Global;
 use std::marker::Model;
 
 /// Days in order.
-#[derive(Debug, Drop)]
+#[derive(Drop)]
 pub struct DayList {
     days: Vec<Day>,
 }

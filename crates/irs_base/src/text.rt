@@ -6,7 +6,7 @@ use std::alloc::Global;
 use std::marker::Model;
 
 /// Bytes.
-#[derive(Debug, Drop)]
+#[derive(Drop)]
 pub struct Text {
     bytes: Vec<u8>,
 }

@@ -13,7 +13,7 @@ use irs_base::split_line;
 use std::alloc::Global;
 
 /// The first line at fault, or no memory.
-#[derive(Debug, Drop)]
+#[derive(Drop)]
 pub enum FileErr {
     /// What is wrong, and the number of the line, from 1.
     Fault(Fault, u32),

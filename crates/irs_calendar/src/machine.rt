@@ -17,7 +17,7 @@ use irs_base::{Day, MOST_HOLIDAYS, Memory, Text};
 use std::alloc::Global;
 
 /// What is wrong with a line.
-#[derive(Clone, Copy, Debug, PartialEq, Eq)]
+#[derive(Clone, Copy, PartialEq, Eq)]
 pub enum Fault {
     /// It is outside the grammar.
     Syntax,
@@ -28,7 +28,7 @@ pub enum Fault {
 }
 
 /// A fault, or want of memory.
-#[derive(Debug, Drop)]
+#[derive(Drop)]
 pub enum StepErr {
     /// What is wrong with the line.
     Fault(Fault),

@@ -7,7 +7,7 @@ use std::marker::Model;
 use std::sync::ledger::Ledger;
 
 /// A first and a last day, every day between them being good.
-#[derive(Clone, Copy, Debug, PartialEq, Eq)]
+#[derive(Clone, Copy, PartialEq, Eq)]
 pub struct Run {
     /// The first good day of the run.
     pub first: Day,

@@ -27,7 +27,7 @@ const MOST_EXACT: u128 = 1_000_000_000_000_000_000_000_000_000;
 
 /// What the periods so far make: without compounding exact, in units of 10^-13 over the
 /// denominator of the fractions, else in units of 10^-6.
-#[derive(Clone, Copy, Debug, PartialEq, Eq)]
+#[derive(Clone, Copy, PartialEq, Eq)]
 pub struct Balance {
     /// The sum of their amounts.
     pub sum: i128,

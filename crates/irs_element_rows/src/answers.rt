@@ -3,7 +3,7 @@ use anyhow::Result;
 use std::alloc::Global;
 
 /// What is answered so far, ` ; ` between the answers.
-#[derive(Debug, Drop)]
+#[derive(Drop)]
 pub struct Answers {
     text: String,
     is_empty: bool,

@@ -5,7 +5,7 @@ use std::alloc::Global;
 
 /// An edit at a place of a document. A place is named by the names on its way from the root, `/`
 /// between them; an item of an array is named by its number from 0.
-#[derive(Clone, Copy, Debug)]
+#[derive(Clone, Copy)]
 enum Edit<'a> {
     /// `put PLACE TEXT`: what the JSON text says, in place of what stands there.
     Put { place: &'a str, text: &'a str },

@@ -8,7 +8,7 @@ use irs_json::{Value, parse};
 use std::fs;
 
 /// A row.
-#[derive(Clone, Copy, Debug)]
+#[derive(Clone, Copy)]
 struct Row<'a> {
     /// The file of the document.
     document: &'a str,

@@ -2,7 +2,7 @@
 use anyhow::Result;
 
 /// How many rows were run since the last remark, and of how many the line was told.
-#[derive(Clone, Copy, Debug)]
+#[derive(Clone, Copy)]
 pub struct Tally {
     rows: u32,
     told: u32,

@@ -17,7 +17,7 @@ use irs_schedule::{Schedule, make_schedule};
 use std::alloc::Global;
 
 /// What reads a document.
-#[derive(Clone, Copy, Debug)]
+#[derive(Clone, Copy)]
 pub enum Reader {
     /// `read_swap` of irs_read: the terms of a swap.
     Terms,

@@ -1,7 +1,7 @@
 //! The rows of a table of elements.
 
 /// What a member of an object is.
-#[derive(Clone, Copy, Debug)]
+#[derive(Clone, Copy)]
 pub enum Kind {
     /// An object, with what its members must be together.
     Object(Choice),
@@ -14,7 +14,7 @@ pub enum Kind {
 }
 
 /// What an object asks of its members together, beside their counts.
-#[derive(Clone, Copy, Debug)]
+#[derive(Clone, Copy)]
 pub enum Choice {
     /// Nothing.
     Free,
@@ -27,7 +27,7 @@ pub enum Choice {
 }
 
 /// How often a member stands.
-#[derive(Clone, Copy, Debug)]
+#[derive(Clone, Copy)]
 pub enum Count {
     /// Once.
     One,
@@ -42,7 +42,7 @@ pub enum Count {
 
 /// A row of a table. It stands behind that of its parent; the first is the object that all of the
 /// table lies in, and its own parent.
-#[derive(Clone, Copy, Debug)]
+#[derive(Clone, Copy)]
 pub struct Row {
     /// The row of the object that it is a member of.
     pub parent: usize,
@@ -83,7 +83,7 @@ pub struct Table<'t> {
 }
 
 /// What the text of a leaf says, with the FpML elements that have such a leaf.
-#[derive(Clone, Copy, Debug)]
+#[derive(Clone, Copy)]
 pub enum Leaf {
     /// A date (FpML `unadjustedDate` and the like).
     Date,

@@ -12,7 +12,7 @@ use std::alloc::Global;
 use std::collections::BTreeMap;
 
 /// A date and the letters of a currency, in the order of rows.
-#[derive(Clone, Copy, Debug, PartialEq, Eq, PartialOrd, Ord)]
+#[derive(Clone, Copy, PartialEq, Eq, PartialOrd, Ord)]
 pub(crate) struct NetKey {
     /// The adjusted date; it orders rows first.
     pub(crate) date: Day,
@@ -21,7 +21,7 @@ pub(crate) struct NetKey {
 }
 
 /// The sum of the amounts that are known, and how many aren't.
-#[derive(Clone, Copy, Debug, PartialEq, Eq)]
+#[derive(Clone, Copy, PartialEq, Eq)]
 pub(crate) struct NetTotal {
     /// The sum of the known amounts, in units of the currency's last decimal.
     pub(crate) known: i128,

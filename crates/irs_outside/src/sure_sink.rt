@@ -6,7 +6,7 @@ ghost use Rattle.irs_outside.specs.Outside.{last_count};
 use crate::{PutFailed, Sink};
 
 /// How many bytes were written.
-#[derive(Clone, Copy, Debug, PartialEq, Eq)]
+#[derive(Clone, Copy, PartialEq, Eq)]
 pub struct SureSink {
     count: u64,
 }

@@ -21,7 +21,7 @@ use itoa::Buffer;
 use std::alloc::Global;
 
 /// What the values of a schedule are.
-#[derive(Clone, Copy, Debug)]
+#[derive(Clone, Copy)]
 pub enum Scale {
     /// Notionals, in units of 10^-4.
     Notionals,

@@ -15,7 +15,7 @@ use irs_calendar::GoodDays;
 use irs_terms::{FixTerms, Relative, ResetTerms};
 
 /// The dates of a reset.
-#[derive(Clone, Copy, Debug, PartialEq, Eq)]
+#[derive(Clone, Copy, PartialEq, Eq)]
 pub struct Dates {
     /// The day from which the rate holds.
     pub reset: Day,
@@ -24,7 +24,7 @@ pub struct Dates {
 }
 
 /// Why a period has no such dates.
-#[derive(Clone, Copy, Debug, PartialEq, Eq)]
+#[derive(Clone, Copy, PartialEq, Eq)]
 pub enum DateFault {
     /// The adjustment of the reset date has no result.
     NoReset,

@@ -15,7 +15,7 @@ use irs_base::Day;
 use irs_terms::{FloatTerms, Span, Stream, StubRate, StubTerms};
 
 /// What a calculation period is, as far as its rate goes by it.
-#[derive(Clone, Copy, Debug, PartialEq, Eq)]
+#[derive(Clone, Copy, PartialEq, Eq)]
 pub enum PeriodKind {
     /// The first period, where it begins before the regular span.
     InitialStub,

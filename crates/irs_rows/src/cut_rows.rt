@@ -6,7 +6,7 @@ use irs_cli::{MemFiles, MemSink, run};
 use std::alloc::Global;
 
 /// The status of a command, and what it prints.
-#[derive(Debug, Drop, PartialEq, Eq)]
+#[derive(Drop, PartialEq, Eq)]
 struct Answer {
     status: u8,
     text: Vec<u8>,

@@ -5,7 +5,7 @@ use anyhow::{Context, Result};
 use std::fs;
 
 /// Over which files and into which sink rows are run.
-#[derive(Clone, Copy, Debug)]
+#[derive(Clone, Copy)]
 pub enum Outside {
     /// The real files and the real standard output: a row has the words of a command.
     Real,

@@ -10,7 +10,7 @@ use std::alloc::Global;
 
 /// Currency and day count, the notional in units of 10^-4, and the fixed or the floating rate in
 /// units of 10^-9.
-#[derive(Debug, Drop)]
+#[derive(Drop)]
 pub(crate) struct KeptTerms {
     /// The currency of the notional (FpML `currency`).
     pub(crate) currency: Currency,

@@ -3,7 +3,7 @@ use irs_base::DayList;
 use irs_terms::Span;
 
 /// The regular span of a stream, and the boundaries of its periods, unadjusted and adjusted.
-#[derive(Debug, Drop)]
+#[derive(Drop)]
 pub(crate) struct Layout {
     /// The regular part of the term.
     pub(crate) span: Span,

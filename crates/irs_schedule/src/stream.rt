@@ -25,7 +25,7 @@ use irs_terms::{Exchanges, Payments, Resets, Stream};
 use std::alloc::Global;
 
 /// The payments, the principal exchanges and the resets of a stream.
-#[derive(Debug, Drop)]
+#[derive(Drop)]
 pub(crate) struct Dated {
     /// The payments, in order of their periods.
     pub(crate) payments: Payments,

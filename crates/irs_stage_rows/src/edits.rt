@@ -6,7 +6,7 @@ use std::alloc::Global;
 
 /// An edit at a place of a stream. A place is named by the names on its way from the stream, `/`
 /// between them.
-#[derive(Clone, Copy, Debug)]
+#[derive(Clone, Copy)]
 enum Edit<'a> {
     /// `put PLACE TEXT`: what the JSON text says, in place of what stands there.
     Put { place: &'a str, text: &'a str },

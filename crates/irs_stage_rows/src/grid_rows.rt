@@ -16,7 +16,7 @@ use irs_terms::{Frequency, RollCode, Unit};
 use std::alloc::Global;
 
 /// The terms of a grid.
-#[derive(Clone, Copy, Debug)]
+#[derive(Clone, Copy)]
 struct GridTerms {
     freq: Frequency,
     roll: RollCode,

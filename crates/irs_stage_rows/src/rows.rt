@@ -5,7 +5,7 @@ use anyhow::{Context, Result};
 use std::fs;
 
 /// How many rows there were, and of how many the line was told.
-#[derive(Clone, Copy, Debug)]
+#[derive(Clone, Copy)]
 struct Tally {
     rows: u32,
     told: u32,

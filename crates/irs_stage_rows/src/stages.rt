@@ -23,7 +23,7 @@ use anyhow::{Context, Result};
 use irs_terms::Stream;
 
 /// What is worked out of a row.
-#[derive(Clone, Copy, Debug)]
+#[derive(Clone, Copy)]
 pub enum Stage {
     /// Good days of calendar files.
     Calendars,
@@ -46,7 +46,7 @@ pub enum Stage {
 }
 
 /// What is worked out of one stream.
-#[derive(Clone, Copy, Debug)]
+#[derive(Clone, Copy)]
 pub enum StreamStage {
     /// The regular span and the unadjusted boundaries of the calculation periods.
     Periods,
@@ -70,7 +70,7 @@ pub enum StreamStage {
 
 /// What a row gives of streams: their file, edits of it, and behind them what the stage works on
 /// beside them, as boundaries, where it gives that.
-#[derive(Clone, Copy, Debug)]
+#[derive(Clone, Copy)]
 struct Given<'a> {
     file: &'a str,
     edits: &'a str,

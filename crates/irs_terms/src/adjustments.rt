@@ -3,7 +3,7 @@ use crate::{ConvCode, DayKind};
 use irs_base::{Day, Names};
 
 /// A number of days, from -60 to 60, by which a date is moved (FpML `Offset`).
-#[derive(Clone, Copy, Debug, PartialEq, Eq)]
+#[derive(Clone, Copy, PartialEq, Eq)]
 pub struct Offset {
     /// How many days on, or back where it is negative (FpML `periodMultiplier`).
     pub days: i16,
@@ -12,7 +12,7 @@ pub struct Offset {
 }
 
 /// The business centres of adjustments (FpML `businessCenters`, `businessCentersReference`).
-#[derive(Debug, Drop)]
+#[derive(Drop)]
 pub enum Centers {
     /// There are none.
     Absent,
@@ -23,7 +23,7 @@ pub enum Centers {
 }
 
 /// How days that aren't good are moved, and by whose calendars (FpML `BusinessDayAdjustments`).
-#[derive(Debug, Drop)]
+#[derive(Drop)]
 pub struct Adjustments {
     /// How a day that isn't good is moved (FpML `businessDayConvention`).
     pub code: ConvCode,
@@ -32,7 +32,7 @@ pub struct Adjustments {
 }
 
 /// An unadjusted date with its adjustments (FpML `AdjustableDate`).
-#[derive(Debug, Drop)]
+#[derive(Drop)]
 pub struct Dated {
     /// The date before adjustment (FpML `unadjustedDate`).
     pub day: Day,

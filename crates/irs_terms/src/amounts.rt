@@ -4,7 +4,7 @@ use crate::{Frequency, RefState, StepValues, Treatment};
 use irs_base::{Direction, Text};
 
 /// How a rate is rounded: to so many decimals, in which direction (FpML `finalRateRounding`).
-#[derive(Clone, Copy, Debug, PartialEq, Eq)]
+#[derive(Clone, Copy, PartialEq, Eq)]
 pub struct Rounding {
     /// The direction (FpML `roundingDirection`).
     pub dir: Direction,
@@ -13,7 +13,7 @@ pub struct Rounding {
 }
 
 /// The terms of a floating rate (FpML `floatingRateCalculation`).
-#[derive(Debug, Drop)]
+#[derive(Drop)]
 pub struct FloatTerms {
     /// `floatingRateIndex`.
     pub index: Text,
@@ -32,7 +32,7 @@ pub struct FloatTerms {
 }
 
 /// What a stream pays.
-#[derive(Debug, Drop)]
+#[derive(Drop)]
 pub enum Leg {
     /// A fixed rate (FpML `fixedRateSchedule`).
     Fixed(StepValues),
@@ -41,7 +41,7 @@ pub enum Leg {
 }
 
 /// The rate of a stub (FpML `StubValue`).
-#[derive(Debug, Drop)]
+#[derive(Drop)]
 pub enum StubRate {
     /// Another index with its tenor (FpML `floatingRate`).
     Index(Text, Option<Frequency>),
@@ -50,7 +50,7 @@ pub enum StubRate {
 }
 
 /// The rates of stubs (FpML `stubCalculationPeriodAmount`).
-#[derive(Debug, Drop)]
+#[derive(Drop)]
 pub struct StubTerms {
     /// `calculationPeriodDatesReference`.
     pub calc_ref: RefState,
@@ -61,7 +61,7 @@ pub struct StubTerms {
 }
 
 /// Which principal amounts are exchanged (FpML `principalExchanges`).
-#[derive(Clone, Copy, Debug, PartialEq, Eq)]
+#[derive(Clone, Copy, PartialEq, Eq)]
 pub struct ExchangeFlags {
     /// The notional at the effective date (FpML `initialExchange`).
     pub initial: bool,

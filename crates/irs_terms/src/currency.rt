@@ -6,7 +6,7 @@ ghost use Rattle.std.specs.Prelude.{◌≡◌};
 ghost use Rattle.irs_terms.specs.Currencies.{decimals_of};
 
 /// A currency, by the three capital letters of ISO 4217 (FpML `currency`).
-#[derive(Clone, Copy, Debug, PartialEq, Eq)]
+#[derive(Clone, Copy, PartialEq, Eq)]
 pub struct Currency {
     /// The code: capital letters of ASCII.
     pub letters: [u8; 3],

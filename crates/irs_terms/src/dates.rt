@@ -3,7 +3,7 @@ use crate::{Adjustments, Frequency, Offset, RefState, Relative};
 use irs_base::Day;
 
 /// When payments are due (FpML `paymentDates`).
-#[derive(Debug, Drop)]
+#[derive(Drop)]
 pub struct PayTerms {
     /// `calculationPeriodDatesReference`.
     pub calc_ref: RefState,
@@ -22,7 +22,7 @@ pub struct PayTerms {
 }
 
 /// When a rate is observed (FpML `fixingDates`).
-#[derive(Debug, Drop)]
+#[derive(Drop)]
 pub struct FixTerms {
     /// How far the fixing date lies from the reset date (FpML `periodMultiplier`, `dayType`).
     pub offset: Offset,
@@ -31,7 +31,7 @@ pub struct FixTerms {
 }
 
 /// When rates are reset (FpML `resetDates`).
-#[derive(Debug, Drop)]
+#[derive(Drop)]
 pub struct ResetTerms {
     /// `calculationPeriodDatesReference`.
     pub calc_ref: RefState,

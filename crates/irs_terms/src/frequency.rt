@@ -16,7 +16,7 @@ pub enum Unit {
 }
 
 /// A frequency: a multiplier from 1 to 999, and its unit.
-#[derive(Clone, Copy, Debug, PartialEq, Eq, PartialOrd, Ord)]
+#[derive(Clone, Copy, PartialEq, Eq, PartialOrd, Ord)]
 pub struct Frequency {
     /// How many units, from 1 to 999 (FpML `periodMultiplier`).
     pub count: u16,

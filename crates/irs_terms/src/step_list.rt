@@ -4,7 +4,7 @@ use irs_base::Day;
 
 /// A value from a day on: a notional in units of 10^-4, or a rate, multiplier or spread in units of
 /// 10^-9 (FpML `step`).
-#[derive(Clone, Copy, Debug, PartialEq, Eq)]
+#[derive(Clone, Copy, PartialEq, Eq)]
 pub struct Step {
     /// The day from which the value holds (FpML `stepDate`).
     pub day: Day,
@@ -16,7 +16,7 @@ pub struct Step {
 pub type StepList = Listed<Step>;
 
 /// An initial value and its steps.
-#[derive(Debug, Drop)]
+#[derive(Drop)]
 pub struct StepValues {
     /// The value until the first step (FpML `initialValue`), in the unit of its steps.
     pub initial: i128,

@@ -10,7 +10,7 @@ use crate::{
 use irs_base::Day;
 
 /// The terms of one stream (FpML `InterestRateStream`). Notionals are in units of 10^-4.
-#[derive(Debug, Drop)]
+#[derive(Drop)]
 pub struct Stream {
     /// `calculationPeriodDates/effectiveDate`.
     pub effective: Dated,

@@ -5,7 +5,7 @@ use crate::{Listed, Stream};
 pub type StreamList = Listed<Stream>;
 
 /// The terms of a swap: 1 to 8 streams (FpML `Swap`).
-#[derive(Debug, Drop)]
+#[derive(Drop)]
 pub struct Swap {
     /// The streams, in the order of the document (FpML `swapStream`).
     pub streams: StreamList,
