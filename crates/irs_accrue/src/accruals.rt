@@ -13,7 +13,7 @@ use irs_schedule::{Schedule, StreamPart};
 use irs_terms::Frac;
 
 /// What has accrued on a day in a stream.
-#[derive(Clone, Copy, PartialEq, Eq)]
+#[derive(Clone, Copy)]
 pub enum Accrual {
     /// The day is before the first adjusted boundary, or not before the last.
     Outside,

@@ -16,30 +16,30 @@ use irs_base::{Day, DayName, weekday};
 use irs_calendar::GoodDays;
 
 /// FOLLOWING: the first good day at or after the day.
-#[derive(Clone, Copy, PartialEq, Eq)]
+#[derive(Clone, Copy)]
 pub struct Following;
 
 /// MODFOLLOWING: the FOLLOWING day, which must exist; if it lies in another calendar month than
 /// the day, the PRECEDING day.
-#[derive(Clone, Copy, PartialEq, Eq)]
+#[derive(Clone, Copy)]
 pub struct ModFollowing;
 
 /// PRECEDING: the last good day at or before the day.
-#[derive(Clone, Copy, PartialEq, Eq)]
+#[derive(Clone, Copy)]
 pub struct Preceding;
 
 /// MODPRECEDING: the PRECEDING day, which must exist; if it lies in another calendar month than
 /// the day, the FOLLOWING day.
-#[derive(Clone, Copy, PartialEq, Eq)]
+#[derive(Clone, Copy)]
 pub struct ModPreceding;
 
 /// NEAREST: a good day of the cover stays; a Sunday or a Monday that isn't good goes to the
 /// FOLLOWING day, any other such day to the PRECEDING day. How far these are doesn't count.
-#[derive(Clone, Copy, PartialEq, Eq)]
+#[derive(Clone, Copy)]
 pub struct Nearest;
 
 /// NONE: the day itself, with no need of a cover.
-#[derive(Clone, Copy, PartialEq, Eq)]
+#[derive(Clone, Copy)]
 pub struct Unadjusted;
 
 impl Convention for Following {

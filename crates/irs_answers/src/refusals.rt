@@ -13,7 +13,7 @@ use irs_json::JsonErr;
 use irs_resets::FixErr;
 
 /// Why a task isn't carried out: the first step that fails.
-#[derive(Clone, Copy, PartialEq, Eq)]
+#[derive(Clone, Copy)]
 pub enum Refusal {
     /// A rule is broken.
     Rule(Broken),

@@ -7,7 +7,7 @@ use irs_base::Day;
 use irs_terms::Frequency;
 
 /// What is asked of a document and the files beside it.
-#[derive(Clone, Copy, PartialEq, Eq)]
+#[derive(Clone, Copy)]
 pub enum Task {
     /// Whether a document keeps every rule.
     Check,

@@ -65,7 +65,7 @@ pub enum Field {
 }
 
 /// Where cash flows depart from a schedule.
-#[derive(Clone, Copy, PartialEq, Eq)]
+#[derive(Clone, Copy)]
 pub struct Departure {
     /// The stream, counted from 1.
     pub stream: u8,
@@ -78,7 +78,7 @@ pub struct Departure {
 }
 
 /// The verdict of an audit.
-#[derive(Clone, Copy, PartialEq, Eq)]
+#[derive(Clone, Copy)]
 pub enum Verdict {
     /// The flows agree with the schedule: how many exchanges, payments, calculation periods and resets
     /// the schedule has, and how many of its payments have no amount yet.

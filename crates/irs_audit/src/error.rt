@@ -25,7 +25,7 @@ pub enum ShapeKind {
 }
 
 /// Why a document gave no cash flows.
-#[derive(Clone, Copy, Debug, PartialEq, Eq, Error)]
+#[derive(Clone, Copy, Debug, Error)]
 pub enum FlowErr {
     /// The document is out of shape; this is the first fault, with its place.
     #[error("the cash flows are out of shape")]

@@ -9,7 +9,7 @@ use std::marker::Model;
 
 /// A principal exchange of cash flows (FpML `principalExchange`): each field where it is stated;
 /// amounts in units of 10^-12.
-#[derive(Clone, Copy, PartialEq, Eq)]
+#[derive(Clone, Copy)]
 pub struct FlowExchange {
     /// `unadjustedPrincipalExchangeDate`.
     pub unadjusted: Option<Day>,
@@ -20,7 +20,7 @@ pub struct FlowExchange {
 }
 
 /// A payment of cash flows (FpML `paymentCalculationPeriod`).
-#[derive(Clone, Copy, PartialEq, Eq)]
+#[derive(Clone, Copy)]
 pub struct FlowPayment {
     /// `unadjustedPaymentDate`.
     pub unadjusted: Option<Day>,
@@ -35,7 +35,7 @@ pub struct FlowPayment {
 }
 
 /// A stated day count fraction (FpML `dayCountYearFraction`).
-#[derive(Clone, Copy, PartialEq, Eq)]
+#[derive(Clone, Copy)]
 pub struct StatedFraction {
     /// Its value in units of 10^-places.
     pub units: i128,
@@ -44,7 +44,7 @@ pub struct StatedFraction {
 }
 
 /// A reset of cash flows (FpML `rateObservation`).
-#[derive(Clone, Copy, PartialEq, Eq)]
+#[derive(Clone, Copy)]
 pub struct FlowReset {
     /// `resetDate`.
     pub reset: Option<Day>,
@@ -55,7 +55,7 @@ pub struct FlowReset {
 }
 
 /// A calculation period of cash flows (FpML `calculationPeriod`).
-#[derive(Clone, Copy, PartialEq, Eq)]
+#[derive(Clone, Copy)]
 pub struct FlowPeriod {
     /// `unadjustedStartDate`.
     pub start: Option<Day>,

@@ -11,7 +11,7 @@ use irs_base::Dec;
 use irs_schedule::{Schedule, StreamPart};
 
 /// Sums over a schedule.
-#[derive(Clone, Copy, PartialEq, Eq)]
+#[derive(Clone, Copy)]
 pub struct Sums {
     /// How many payments and calculation periods it has.
     pub rows: u32,

@@ -15,7 +15,7 @@ pub const FIRST_DAY: i32 = -25_202;
 pub const LAST_DAY: i32 = 120_529;
 
 /// A date of the proleptic Gregorian calendar as three numbers, of which there may be no such date.
-#[derive(Clone, Copy, PartialEq, Eq)]
+#[derive(Clone, Copy)]
 pub struct Civil {
     /// The year; the year 0 is 1 BCE.
     pub year: i32,

@@ -8,7 +8,7 @@ use thiserror::Error;
 
 /// Why a call gives no answer: a rule is broken, or memory ran out. `F` is what names the rule, a
 /// `Fault` within one stream or a `Broken` within the swap.
-#[derive(Clone, Copy, Debug, PartialEq, Eq, Error)]
+#[derive(Clone, Copy, Debug, Error)]
 pub enum Stopped<F> {
     /// The first rule that is broken, with its place.
     #[error("a rule is broken")]

@@ -9,7 +9,7 @@ ghost use Rattle.irs_bulk.specs.Documents.{most_bulk};
 use irs_base::{Dec, Direction, Line, round};
 
 /// Sums over the schedules of a run.
-#[derive(Clone, Copy, PartialEq, Eq)]
+#[derive(Clone, Copy)]
 pub struct Totals {
     /// How many documents they are of.
     pub documents: u32,

@@ -30,7 +30,7 @@ use thiserror::Error;
 
 /// The first faulty line over the files in order, as file and line, both from 1; or want of memory.
 /// On one line `Syntax` comes before the others.
-#[derive(Clone, Copy, Debug, PartialEq, Eq, Error)]
+#[derive(Clone, Copy, Debug, Error)]
 pub enum CalErr {
     /// The line is outside the grammar. A file that ends inside an unfinished section has its fault at
     /// the line after its last one.
@@ -48,7 +48,7 @@ pub enum CalErr {
 }
 
 /// Why no set of good days was selected.
-#[derive(Clone, Copy, Debug, PartialEq, Eq, Error)]
+#[derive(Clone, Copy, Debug, Error)]
 pub enum SelErr {
     /// The first name that is in no file, as its position from 1.
     #[error("centre {0} is in no calendar")]

@@ -7,7 +7,7 @@ use std::marker::Model;
 use std::sync::ledger::Ledger;
 
 /// A first and a last day, every day between them being good.
-#[derive(Clone, Copy, PartialEq, Eq)]
+#[derive(Clone, Copy)]
 pub struct Run {
     /// The first good day of the run.
     pub first: Day,

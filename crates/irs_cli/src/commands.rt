@@ -25,7 +25,7 @@ use irs_base::{MOST_FILES, Memory};
 use std::alloc::Global;
 
 /// A command by its name.
-#[derive(Clone, Copy, PartialEq, Eq)]
+#[derive(Clone, Copy)]
 pub(crate) enum Kind {
     /// `check`: whether a document keeps every rule.
     Check,
@@ -50,7 +50,7 @@ pub(crate) enum Kind {
 }
 
 /// What is asked for, with its parameters.
-#[derive(Clone, Copy, PartialEq, Eq)]
+#[derive(Clone, Copy)]
 pub(crate) enum Request {
     /// A task over the files that the words name.
     OverFiles(Task),
@@ -59,7 +59,7 @@ pub(crate) enum Request {
 }
 
 /// What a file is to a command.
-#[derive(Clone, Copy, PartialEq, Eq)]
+#[derive(Clone, Copy)]
 pub(crate) enum Role {
     /// The document of the swap.
     Document,

@@ -16,7 +16,7 @@ use std::alloc::Global;
 const MOST: usize = MOST_BYTES + 1;
 
 /// What ended the fetching.
-#[derive(Clone, Copy, PartialEq, Eq)]
+#[derive(Clone, Copy)]
 pub(crate) enum Unfetched {
     /// The file of the word at this place behind the command can't be read.
     NoFile(u32),

@@ -10,7 +10,7 @@ use irs_base::{Memory, Status};
 use std::alloc::Global;
 
 /// Why a request isn't carried out over files.
-#[derive(Clone, Copy, PartialEq, Eq)]
+#[derive(Clone, Copy)]
 pub(crate) enum Refusal {
     /// The words are no listed command.
     BadWords,

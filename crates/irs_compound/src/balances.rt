@@ -27,7 +27,7 @@ const MOST_EXACT: u128 = 1_000_000_000_000_000_000_000_000_000;
 
 /// What the periods so far make: without compounding exact, in units of 10^-13 over the
 /// denominator of the fractions, else in units of 10^-6.
-#[derive(Clone, Copy, PartialEq, Eq)]
+#[derive(Clone, Copy)]
 pub struct Balance {
     /// The sum of their amounts.
     pub sum: i128,

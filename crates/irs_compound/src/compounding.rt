@@ -14,7 +14,7 @@ use thiserror::Error;
 /// A rate or an amount of a payment leaves the range: the position, from 1, of the first period at
 /// which the base rate or the rate passes 10 in size, or an amount or a sum of amounts 10^14 units
 /// of currency.
-#[derive(Clone, Copy, Debug, PartialEq, Eq, Error)]
+#[derive(Clone, Copy, Debug, Error)]
 #[error("period {period} of the payment is out of range")]
 pub struct OutOfRange {
     /// The position of the period in its payment, from 1.
@@ -51,7 +51,7 @@ pub trait Compounding {
 }
 
 /// No compounding: the sum of notional times rate times fraction, exact, rounded once.
-#[derive(Clone, Copy, PartialEq, Eq)]
+#[derive(Clone, Copy)]
 pub struct Simple;
 
 impl Compounding for Simple {
@@ -70,7 +70,7 @@ impl Compounding for Simple {
 
 /// Straight compounding: notional and all earlier amounts of the payment bear interest at the rate,
 /// at 6 decimals.
-#[derive(Clone, Copy, PartialEq, Eq)]
+#[derive(Clone, Copy)]
 pub struct Straight;
 
 impl Compounding for Straight {
@@ -89,7 +89,7 @@ impl Compounding for Straight {
 
 /// Flat compounding: the notional bears interest at the rate, all earlier amounts of the payment at the
 /// base rate, each at 6 decimals. That it is the base rate is this project's own.
-#[derive(Clone, Copy, PartialEq, Eq)]
+#[derive(Clone, Copy)]
 pub struct Flat;
 
 impl Compounding for Flat {
@@ -109,7 +109,7 @@ impl Compounding for Flat {
 /// Compounding with the spread exclusive: the notional and all earlier compounded parts of the payment
 /// bear interest at the base rate, the notional alone at the rate less the base rate, each at 6
 /// decimals. The rule is this project's own.
-#[derive(Clone, Copy, PartialEq, Eq)]
+#[derive(Clone, Copy)]
 pub struct SpreadExclusive;
 
 impl Compounding for SpreadExclusive {

@@ -3,7 +3,7 @@
 use irs_terms::Frac;
 
 /// The rates of a period, in units of 10^-9.
-#[derive(Clone, Copy, PartialEq, Eq)]
+#[derive(Clone, Copy)]
 pub struct Rates {
     /// Multiplier times observed rate; the fixed rate on a fixed stream.
     pub base: i64,
@@ -13,7 +13,7 @@ pub struct Rates {
 }
 
 /// A calculation period of a payment.
-#[derive(Clone, Copy, PartialEq, Eq)]
+#[derive(Clone, Copy)]
 pub struct PeriodTerm {
     /// The notional, in units of 10^-4.
     pub notional: i128,
@@ -27,7 +27,7 @@ pub struct PeriodTerm {
 /// exact part, in units of 10^-13 over the fraction's denominator; with straight compounding one
 /// part; with flat compounding the basic and the additional amount; with the spread exclusive the
 /// compounded and the spread part. All but the first in units of 10^-6.
-#[derive(Clone, Copy, PartialEq, Eq)]
+#[derive(Clone, Copy)]
 pub struct Parts {
     /// The exact amount; the amount; the basic amount; or the compounded part.
     pub main: i128,

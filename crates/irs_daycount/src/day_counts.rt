@@ -35,7 +35,7 @@ pub trait DayCount {
 }
 
 /// 1/1: each period is one year. Its days are actual days by a rule of this project's own.
-#[derive(Clone, Copy, PartialEq, Eq)]
+#[derive(Clone, Copy)]
 pub struct OneOne;
 
 impl DayCount for OneOne {
@@ -53,7 +53,7 @@ impl DayCount for OneOne {
 }
 
 /// ACT/ACT.ISDA: days of leap years over 366 and the other days over 365.
-#[derive(Clone, Copy, PartialEq, Eq)]
+#[derive(Clone, Copy)]
 pub struct ActActIsda;
 
 impl DayCount for ActActIsda {
@@ -71,7 +71,7 @@ impl DayCount for ActActIsda {
 }
 
 /// ACT/365.FIXED: actual days over 365.
-#[derive(Clone, Copy, PartialEq, Eq)]
+#[derive(Clone, Copy)]
 pub struct Act365Fixed;
 
 impl DayCount for Act365Fixed {
@@ -89,7 +89,7 @@ impl DayCount for Act365Fixed {
 }
 
 /// ACT/360: actual days over 360.
-#[derive(Clone, Copy, PartialEq, Eq)]
+#[derive(Clone, Copy)]
 pub struct Act360;
 
 impl DayCount for Act360 {
@@ -107,7 +107,7 @@ impl DayCount for Act360 {
 }
 
 /// 30/360, also known as Bond Basis.
-#[derive(Clone, Copy, PartialEq, Eq)]
+#[derive(Clone, Copy)]
 pub struct Thirty360;
 
 impl DayCount for Thirty360 {
@@ -125,7 +125,7 @@ impl DayCount for Thirty360 {
 }
 
 /// 30E/360, also known as Eurobond Basis.
-#[derive(Clone, Copy, PartialEq, Eq)]
+#[derive(Clone, Copy)]
 pub struct ThirtyE360;
 
 impl DayCount for ThirtyE360 {
@@ -143,7 +143,7 @@ impl DayCount for ThirtyE360 {
 }
 
 /// 30E/360.ISDA.
-#[derive(Clone, Copy, PartialEq, Eq)]
+#[derive(Clone, Copy)]
 pub struct ThirtyE360Isda;
 
 impl DayCount for ThirtyE360Isda {

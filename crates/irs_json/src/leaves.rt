@@ -12,7 +12,7 @@ use crate::trim::trimmed;
 use serde_json::Value;
 
 /// What a leaf says.
-#[derive(Clone, Copy, Debug, PartialEq, Eq)]
+#[derive(Clone, Copy, Debug)]
 pub enum LeafValue<'a> {
     /// A text, without the white space at its ends.
     Word(&'a str),

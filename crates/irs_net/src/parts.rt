@@ -14,7 +14,7 @@ use std::alloc::Global;
 
 /// An exchange or a payment: its adjusted date, its currency, and its amount in the currency's
 /// decimals where it is known, positive where the party pays it that pays stream 1.
-#[derive(Clone, Copy, PartialEq, Eq)]
+#[derive(Clone, Copy)]
 pub(crate) struct NetPart {
     /// The adjusted date on which it falls due.
     pub(crate) date: Day,

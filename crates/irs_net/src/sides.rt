@@ -16,7 +16,7 @@ use irs_json::Value;
 use irs_read::the_swap;
 
 /// Which party pays each stream.
-#[derive(Clone, Copy, PartialEq, Eq)]
+#[derive(Clone, Copy)]
 pub struct Sides {
     /// Whether the stream is paid by the party that pays stream 1; false past the last stream.
     pub forward: [bool; 8],

@@ -18,7 +18,7 @@ use irs_terms::{Currency, Listed};
 use std::alloc::Global;
 
 /// What falls due on a date in a currency.
-#[derive(Clone, Copy, PartialEq, Eq)]
+#[derive(Clone, Copy)]
 pub struct NetRow {
     /// The adjusted date.
     pub date: Day,

@@ -21,7 +21,7 @@ pub(crate) struct NetKey {
 }
 
 /// The sum of the amounts that are known, and how many aren't.
-#[derive(Clone, Copy, PartialEq, Eq)]
+#[derive(Clone, Copy)]
 pub(crate) struct NetTotal {
     /// The sum of the known amounts, in units of the currency's last decimal.
     pub(crate) known: i128,

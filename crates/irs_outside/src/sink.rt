@@ -6,7 +6,7 @@ ghost use Rattle.irs_outside.specs.Outside.{Rose, Grew, GrewByFront};
 use thiserror::Error;
 
 /// A write failed.
-#[derive(Clone, Copy, Debug, PartialEq, Eq, Error)]
+#[derive(Clone, Copy, Debug, Error)]
 #[error("the text can't be written")]
 pub struct PutFailed;
 

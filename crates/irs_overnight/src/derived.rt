@@ -3,7 +3,7 @@ use irs_base::Day;
 use irs_terms::Listed;
 
 /// What is found for a calculation period.
-#[derive(Clone, Copy, PartialEq, Eq)]
+#[derive(Clone, Copy)]
 pub enum Found {
     /// The rate, in units of 10^-9.
     Rate(i64),
@@ -12,7 +12,7 @@ pub enum Found {
 }
 
 /// The rate of a calculation period, counted from 1, with its fixing date.
-#[derive(Clone, Copy, PartialEq, Eq)]
+#[derive(Clone, Copy)]
 pub struct DerivedRow {
     /// The number of the calculation period, from 1.
     pub period: u32,

@@ -23,7 +23,7 @@ pub(crate) const ONE_DAY: Frequency = Frequency {
 
 /// A rate that was observed on a day, in units of 10^-9, `None` where it has no line; the weight is
 /// the number of days for which it holds.
-#[derive(Clone, Copy, PartialEq, Eq)]
+#[derive(Clone, Copy)]
 pub struct Observation {
     /// The day on which the rate was observed.
     pub day: Day,

@@ -27,7 +27,7 @@ use irs_schedule::StreamPart;
 use std::alloc::Global;
 
 /// Why a period has no rate.
-#[derive(Clone, Copy, PartialEq, Eq)]
+#[derive(Clone, Copy)]
 pub(crate) enum PeriodFault {
     /// Its observations lack a day.
     NoDays,

@@ -27,7 +27,7 @@ use irs_terms::{Exchange, Exchanges, Step, StepValues, Stream};
 use std::alloc::Global;
 
 /// What the payer pays on a date, in units of 10^-4 of the currency; negative where it receives.
-#[derive(Clone, Copy, PartialEq, Eq)]
+#[derive(Clone, Copy)]
 pub struct Transfer {
     /// Before it is adjusted.
     pub date: Day,

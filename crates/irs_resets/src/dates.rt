@@ -15,7 +15,7 @@ use irs_calendar::GoodDays;
 use irs_terms::{FixTerms, Relative, ResetTerms};
 
 /// The dates of a reset.
-#[derive(Clone, Copy, PartialEq, Eq)]
+#[derive(Clone, Copy)]
 pub struct Dates {
     /// The day from which the rate holds.
     pub reset: Day,

@@ -22,7 +22,7 @@ use std::marker::Model;
 use thiserror::Error;
 
 /// The first line of a fixing file that is at fault. Lines count from 1.
-#[derive(Clone, Copy, Debug, PartialEq, Eq, Error)]
+#[derive(Clone, Copy, Debug, Error)]
 pub enum FixErr {
     /// The line isn't passed over and spells no fixing.
     #[error("line {0} spells no fixing")]

@@ -3,7 +3,7 @@ use irs_base::{Day, Dec};
 use irs_terms::Frac;
 
 /// A payment with its amount.
-#[derive(Clone, Copy, PartialEq, Eq)]
+#[derive(Clone, Copy)]
 pub struct PaymentEntry {
     /// Its date before the offset and the adjustment: an unadjusted boundary.
     pub unadjusted: Day,
@@ -18,7 +18,7 @@ pub struct PaymentEntry {
 }
 
 /// What is worked out for a calculation period.
-#[derive(Clone, Copy, PartialEq, Eq)]
+#[derive(Clone, Copy)]
 pub struct PeriodEntry {
     /// Its days by the day count.
     pub days: i64,

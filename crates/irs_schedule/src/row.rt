@@ -4,7 +4,7 @@ use irs_terms::{Currency, DayCountCode, Frac};
 
 /// A row. Streams, exchanges, payments and periods are counted from 1, the last three through their
 /// stream. Notionals are in units of 10^-4, rates in units of 10^-9.
-#[derive(Clone, Copy, PartialEq, Eq)]
+#[derive(Clone, Copy)]
 pub enum Row {
     /// A stream begins.
     Stream {

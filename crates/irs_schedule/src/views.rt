@@ -10,7 +10,7 @@ use irs_base::Day;
 use irs_terms::Frac;
 
 /// A calculation period.
-#[derive(Clone, Copy, PartialEq, Eq)]
+#[derive(Clone, Copy)]
 pub struct CalculationPeriod {
     /// The unadjusted start: the boundary before the period.
     pub start: Day,

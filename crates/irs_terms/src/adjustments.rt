@@ -3,7 +3,7 @@ use crate::{ConvCode, DayKind};
 use irs_base::{Day, Names};
 
 /// A number of days, from -60 to 60, by which a date is moved (FpML `Offset`).
-#[derive(Clone, Copy, PartialEq, Eq)]
+#[derive(Clone, Copy)]
 pub struct Offset {
     /// How many days on, or back where it is negative (FpML `periodMultiplier`).
     pub days: i16,

@@ -4,7 +4,7 @@ use crate::{Frequency, RefState, StepValues, Treatment};
 use irs_base::{Direction, Text};
 
 /// How a rate is rounded: to so many decimals, in which direction (FpML `finalRateRounding`).
-#[derive(Clone, Copy, PartialEq, Eq)]
+#[derive(Clone, Copy)]
 pub struct Rounding {
     /// The direction (FpML `roundingDirection`).
     pub dir: Direction,
@@ -61,7 +61,7 @@ pub struct StubTerms {
 }
 
 /// Which principal amounts are exchanged (FpML `principalExchanges`).
-#[derive(Clone, Copy, PartialEq, Eq)]
+#[derive(Clone, Copy)]
 pub struct ExchangeFlags {
     /// The notional at the effective date (FpML `initialExchange`).
     pub initial: bool,

@@ -6,7 +6,7 @@ ghost use Rattle.irs_terms.specs.Lengths.{is_same_length, length_of, same_length
 use crate::{Frequency, Unit};
 
 /// The length of a frequency.
-#[derive(Clone, Copy, PartialEq, Eq)]
+#[derive(Clone, Copy)]
 pub enum Length {
     /// So many days; a week counts 7.
     Days(u32),

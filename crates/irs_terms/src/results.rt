@@ -4,7 +4,7 @@ use irs_base::{Day, Dec};
 
 /// The regular part of the term: its first and last day, and the anchor of its grid (the first day
 /// of the term for frequency T).
-#[derive(Clone, Copy, PartialEq, Eq)]
+#[derive(Clone, Copy)]
 pub struct Span {
     /// Where the first regular period begins, before adjustment.
     pub first: Day,
@@ -25,7 +25,7 @@ pub struct Frac {
 
 /// A payment: its unadjusted and adjusted date, and the numbers, from 1, of its first and its last
 /// calculation period.
-#[derive(Clone, Copy, PartialEq, Eq)]
+#[derive(Clone, Copy)]
 pub struct Payment {
     /// The boundary by which it is due, before offset and adjustment.
     pub unadjusted: Day,
@@ -39,7 +39,7 @@ pub struct Payment {
 
 /// A principal exchange: its unadjusted and adjusted date, and its amount, which is positive where
 /// the stream's payer pays it.
-#[derive(Clone, Copy, PartialEq, Eq)]
+#[derive(Clone, Copy)]
 pub struct Exchange {
     /// The date before adjustment.
     pub unadjusted: Day,
@@ -51,7 +51,7 @@ pub struct Exchange {
 
 /// The reset of a calculation period: reset date, fixing date, and the observed rate in units of
 /// 10^-9 where it is known.
-#[derive(Clone, Copy, PartialEq, Eq)]
+#[derive(Clone, Copy)]
 pub struct Reset {
     /// The date from which the rate counts (FpML `resetDates`).
     pub reset: Day,

@@ -4,7 +4,7 @@ use irs_base::Day;
 
 /// A value from a day on: a notional in units of 10^-4, or a rate, multiplier or spread in units of
 /// 10^-9 (FpML `step`).
-#[derive(Clone, Copy, PartialEq, Eq)]
+#[derive(Clone, Copy)]
 pub struct Step {
     /// The day from which the value holds (FpML `stepDate`).
     pub day: Day,
