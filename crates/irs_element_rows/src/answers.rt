@@ -1,41 +1,33 @@
 //! The answers of a row of several steps.
-use anyhow::Result;
-use std::alloc::Global;
+use crate::told::Told;
 
-/// What is answered so far, ` ; ` between the answers.
+/// Tells answers, ` ; ` between them.
 #[derive(Drop)]
-pub struct Answers {
-    text: String,
-    is_empty: bool,
+pub struct Answers<'t, 'a> {
+    told: &'t mut Told<'a>,
+    /// What is told before the next answer.
+    between: &'static str,
 }
 
-impl Answers {
+impl<'t, 'a> Answers<'t, 'a> {
     /// Nothing is answered.
-    pub fn new(alloc: Global) -> Answers {
-        Answers {
-            text: String::new(alloc),
-            is_empty: true,
+    pub fn new(told: &'t mut Told<'a>) -> Answers<'t, 'a> {
+        Answers { told, between: "" }
+    }
+
+    /// Begins one answer more, which is to be told.
+    pub fn next(&mut self) -> &mut Told<'a> {
+        self.told.text(self.between);
+        self.between = " ; ";
+        self.told
+    }
+
+    /// Answers with bytes, as a text in quotes.
+    pub fn quoted(&mut self, bytes: &[u8]) {
+        let told = self.next();
+        match str::from_utf8(bytes) {
+            Ok(text) => told.debug(&text),
+            Err(_) => told.text("no text"),
         }
     }
-
-    /// One answer more.
-    pub fn push(&mut self, answer: &str) -> Result<()> {
-        if !self.is_empty {
-            self.text.push_str(" ; ")?;
-        }
-        self.text.push_str(answer)?;
-        self.is_empty = false;
-        Ok(())
-    }
-
-    /// All answers.
-    pub fn into_text(self) -> String {
-        self.text
-    }
-}
-
-/// Bytes as a text in quotes.
-pub fn quoted(alloc: Global, bytes: &[u8]) -> Result<String> {
-    let text = format!(in alloc; "{:?}", str::from_utf8(bytes)?)?;
-    Ok(text)
 }

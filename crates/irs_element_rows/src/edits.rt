@@ -1,5 +1,4 @@
 //! Edits of a document.
-use anyhow::{Context, Result, bail};
 use irs_json::{Value, parse};
 use std::alloc::Global;
 
@@ -16,77 +15,83 @@ enum Edit<'a> {
 }
 
 // The edit of a text.
-fn edit_of(text: &str) -> Result<Edit> {
-    let (verb, rest) = text.split_once(' ').context("an edit has a place")?;
+fn edit_of(text: &str) -> Option<Edit> {
+    let (verb, rest) = text.split_once(' ')?;
     match verb {
         "put" => {
-            let (place, text) = rest.split_once(' ').context("what is put")?;
-            Ok(Edit::Put { place, text })
+            let (place, text) = rest.split_once(' ')?;
+            Some(Edit::Put { place, text })
         }
-        "take" => Ok(Edit::Take { place: rest }),
+        "take" => Some(Edit::Take { place: rest }),
         "repeat" => {
-            let (times, place) = rest.split_once(' ').context("what is repeated")?;
-            let times = times.parse::<u32>()?;
-            Ok(Edit::Repeat { times, place })
+            let (times, place) = rest.split_once(' ')?;
+            let times = times.parse::<u32>().ok()?;
+            Some(Edit::Repeat { times, place })
         }
-        _ => bail!("no edit"),
+        _ => None,
     }
 }
 
 // What stands at a place.
-fn at_mut<'a>(alloc: Global, document: &'a mut Value, place: &str) -> Result<&'a mut Value> {
-    let pointer = format!(in alloc; "/{place}")?;
-    document
-        .pointer_mut(&pointer)
-        .context("nothing stands at the place")
+fn at_mut<'a>(alloc: Global, document: &'a mut Value, place: &str) -> Option<&'a mut Value> {
+    let pointer = format!(in alloc; "/{place}").ok()?;
+    document.pointer_mut(&pointer)
 }
 
-// Puts a value at a place, or takes away what stands there.
-fn set(alloc: Global, document: &mut Value, place: &str, value: Option<Value>) -> Result<()> {
-    let (above, name) = match place.rsplit_once('/') {
-        Some((way, name)) => (at_mut(alloc, document, way)?, name),
-        None => (document, place),
-    };
-    let members = above.as_object_mut().context("no object holds the place")?;
-    match value {
-        Some(value) => {
-            members.insert(String::from_str(alloc, name)?, value)?;
-        }
-        None => {
-            members.remove(name);
-        }
+// The object that holds a place, and the name that the place has in it.
+fn holder<'d, 'p>(
+    alloc: Global,
+    document: &'d mut Value,
+    place: &'p str,
+) -> Option<(&'d mut Value, &'p str)> {
+    match place.rsplit_once('/') {
+        Some((way, name)) => Some((at_mut(alloc, document, way)?, name)),
+        None => Some((document, place)),
     }
-    Ok(())
 }
 
-// Puts an array with what stands at a place there, so often.
-fn repeat(alloc: Global, document: &mut Value, place: &str, times: u32) -> Result<()> {
-    let found = at_mut(alloc, document, place)?;
+// Puts what a JSON text says under a name of an object.
+fn put(alloc: Global, object: &mut Value, name: &str, text: &str) -> Option<()> {
+    let members = object.as_object_mut()?;
+    let name = String::from_str(alloc, name).ok()?;
+    let value = parse(alloc, text.as_bytes()).ok()?;
+    members.insert(name, value).is_ok().then_some(())
+}
+
+// What there is, so often.
+fn copies(alloc: Global, value: &Value, times: u32) -> Option<Vec<Value>> {
     let mut items = Vec::new(alloc);
     for _ in 0..times {
-        items.push(found.clone()?)?;
+        items.push(value.clone().ok()?).ok()?;
     }
-    *found = Value::Array(items);
-    Ok(())
+    Some(items)
 }
 
-fn make(alloc: Global, document: &mut Value, edit: Edit) -> Result<()> {
-    match edit {
+// Makes the edit of a text.
+fn make(alloc: Global, document: &mut Value, text: &str) -> Option<()> {
+    match edit_of(text)? {
         Edit::Put { place, text } => {
-            let value = parse(alloc, text.as_bytes())?;
-            set(alloc, document, place, Some(value))
+            let (object, name) = holder(alloc, document, place)?;
+            put(alloc, object, name, text)?;
         }
-        Edit::Take { place } => set(alloc, document, place, None),
-        Edit::Repeat { times, place } => repeat(alloc, document, place, times),
+        Edit::Take { place } => {
+            let (object, name) = holder(alloc, document, place)?;
+            object.as_object_mut()?.remove(name);
+        }
+        Edit::Repeat { times, place } => {
+            let found = at_mut(alloc, document, place)?;
+            *found = Value::Array(copies(alloc, found, times)?);
+        }
     }
+    Some(())
 }
 
 /// Makes edits, `;` between them, one behind the other.
-pub fn make_edits(alloc: Global, document: &mut Value, edits: &str) -> Result<()> {
+pub fn make_edits(alloc: Global, document: &mut Value, edits: &str) -> Option<()> {
     for edit in edits.split(" ; ") {
         if !edit.is_empty() {
-            make(alloc, document, edit_of(edit)?)?;
+            make(alloc, document, edit)?;
         }
     }
-    Ok(())
+    Some(())
 }

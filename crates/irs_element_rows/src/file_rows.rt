@@ -1,7 +1,7 @@
 //! The rows of files: each names a source of files and steps with it, ` ; ` between them, and says
 //! what each fetch among the steps gives.
-use crate::answers::{Answers, quoted};
-use anyhow::{Context, Result, bail};
+use crate::answers::Answers;
+use crate::told::Told;
 use irs_outside::{FetchErr, Files, MemFiles, RealFiles, SureFiles};
 use std::alloc::Global;
 use std::fs;
@@ -33,63 +33,62 @@ enum Step<'a> {
     Fetch { most: usize, name: &'a str },
 }
 
-fn source_of<'r>(rt: &'r HostRuntime, name: &str) -> Result<Source<'r>> {
+fn source_of<'r>(rt: &'r HostRuntime, name: &str) -> Option<Source<'r>> {
     match name {
-        "memory" => Ok(Source::Memory(MemFiles::new(rt.alloc()))),
-        "sure" => Ok(Source::Sure(SureFiles::new(rt.alloc()))),
-        "real" => Ok(Source::Real {
+        "memory" => Some(Source::Memory(MemFiles::new(rt.alloc()))),
+        "sure" => Some(Source::Sure(SureFiles::new(rt.alloc()))),
+        "real" => Some(Source::Real {
             rt,
             files: RealFiles::new(rt),
         }),
-        _ => bail!("no source of files"),
+        _ => None,
     }
 }
 
-fn step_of(text: &str) -> Result<Step> {
-    let (verb, rest) = text.split_once(' ').context("a step has a verb")?;
+fn step_of(text: &str) -> Option<Step> {
+    let (verb, rest) = text.split_once(' ')?;
     match verb {
         "add" => {
-            let (name, text) = rest.split_once(' ').context("the text of a file")?;
-            Ok(Step::Add { name, text })
+            let (name, text) = rest.split_once(' ')?;
+            Some(Step::Add { name, text })
         }
         "fail" => {
-            let call = rest.parse::<u32>()?;
-            Ok(Step::Fail { call })
+            let call = rest.parse::<u32>().ok()?;
+            Some(Step::Fail { call })
         }
-        "remove" => Ok(Step::Remove { name: rest }),
+        "remove" => Some(Step::Remove { name: rest }),
         "fetch" => {
-            let (most, name) = rest.split_once(' ').context("the name of a file")?;
-            let most = most.parse::<usize>()?;
-            Ok(Step::Fetch { most, name })
+            let (most, name) = rest.split_once(' ')?;
+            let most = most.parse::<usize>().ok()?;
+            Some(Step::Fetch { most, name })
         }
-        _ => bail!("no step with files"),
+        _ => None,
     }
 }
 
 impl<'r> Source<'r> {
-    fn add(&mut self, name: &str, text: &str) -> Result<()> {
+    fn add(&mut self, name: &str, text: &str) -> Option<()> {
         match self {
-            Source::Memory(files) => files.add(name, text.as_bytes())?,
-            Source::Sure(files) => files.add(name, text.as_bytes())?,
-            Source::Real { rt, .. } => fs::write(*rt, name, text.as_bytes())?,
+            Source::Memory(files) => files.add(name, text.as_bytes()).ok(),
+            Source::Sure(files) => files.add(name, text.as_bytes()).ok(),
+            Source::Real { rt, .. } => fs::write(*rt, name, text.as_bytes()).ok(),
         }
-        Ok(())
     }
 
-    fn fail_at(&mut self, call: u32) -> Result<()> {
+    // A call of files in memory is to fail; no other source can do so.
+    fn fail_at(&mut self, call: u32) -> Option<()> {
         match self {
-            Source::Memory(files) => files.fail_at(call)?,
-            Source::Sure(_) | Source::Real { .. } => bail!("no call of this source is to fail"),
+            Source::Memory(files) => files.fail_at(call).ok(),
+            Source::Sure(_) | Source::Real { .. } => None,
         }
-        Ok(())
     }
 
-    fn remove(&mut self, name: &str) -> Result<()> {
+    // Removes a real file; files in memory stay.
+    fn remove(&mut self, name: &str) -> Option<()> {
         match self {
-            Source::Memory(_) | Source::Sure(_) => bail!("files in memory stay"),
-            Source::Real { rt, .. } => fs::remove_file(*rt, name)?,
+            Source::Memory(_) | Source::Sure(_) => None,
+            Source::Real { rt, .. } => fs::remove_file(*rt, name).ok(),
         }
-        Ok(())
     }
 
     fn fetch(&mut self, alloc: Global, name: &str, most: usize) -> Result<Vec<u8>, FetchErr> {
@@ -100,35 +99,36 @@ impl<'r> Source<'r> {
         }
     }
 
-    // The bytes of a file, or `failed`.
-    fn fetch_told(&mut self, alloc: Global, name: &str, most: usize) -> Result<String> {
-        match self.fetch(alloc, name, most) {
-            Ok(bytes) => quoted(alloc, bytes.as_slice()),
-            Err(FetchErr::Failed) => Ok(String::from_str(alloc, "failed")?),
-            Err(FetchErr::Memory) => bail!("no memory"),
+    // Takes the step of a text: a fetch tells the bytes of a file, or `failed`.
+    fn step(&mut self, answers: &mut Answers, alloc: Global, text: &str) -> Option<()> {
+        match step_of(text)? {
+            Step::Add { name, text } => self.add(name, text),
+            Step::Fail { call } => self.fail_at(call),
+            Step::Remove { name } => self.remove(name),
+            Step::Fetch { most, name } => tell_fetched(answers, &self.fetch(alloc, name, most)),
         }
     }
 
-    // What a step gives; `None` where it isn't a fetch.
-    fn step(&mut self, alloc: Global, step: Step) -> Result<Option<String>> {
-        match step {
-            Step::Add { name, text } => self.add(name, text)?,
-            Step::Fail { call } => self.fail_at(call)?,
-            Step::Remove { name } => self.remove(name)?,
-            Step::Fetch { most, name } => return Ok(Some(self.fetch_told(alloc, name, most)?)),
+    fn tell_steps(&mut self, told: &mut Told, alloc: Global, steps: &str) -> Option<()> {
+        let mut answers = Answers::new(told);
+        for step in steps.split(" ; ") {
+            self.step(&mut answers, alloc, step)?;
         }
-        Ok(None)
+        Some(())
     }
 }
 
-/// What the fetches among the steps with a source of files give.
-pub fn files_told(rt: &HostRuntime, name: &str, steps: &str) -> Result<String> {
-    let mut source = source_of(rt, name)?;
-    let mut answers = Answers::new(rt.alloc());
-    for step in steps.split(" ; ") {
-        if let Some(told) = source.step(rt.alloc(), step_of(step)?)? {
-            answers.push(&told)?;
-        }
+fn tell_fetched(answers: &mut Answers, fetched: &Result<Vec<u8>, FetchErr>) -> Option<()> {
+    match fetched {
+        Ok(bytes) => answers.quoted(bytes),
+        Err(FetchErr::Failed) => answers.next().text("failed"),
+        Err(FetchErr::Memory) => return None,
     }
-    Ok(answers.into_text())
+    Some(())
+}
+
+/// Tells what the fetches among the steps with a source of files give.
+pub fn tell_files(told: &mut Told, rt: &HostRuntime, name: &str, steps: &str) -> Option<()> {
+    let mut source = source_of(rt, name)?;
+    source.tell_steps(told, rt.alloc(), steps)
 }

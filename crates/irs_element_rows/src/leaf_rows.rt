@@ -1,79 +1,87 @@
 //! The rows of leaves: each names a kind of text and a text, and says what it stands for; or a kind
 //! of leaf and a JSON text, and says which rule the text breaks.
-use crate::values::{given, given_currency, given_day, given_dec};
-use anyhow::{Context, Result, bail};
+use crate::told::Told;
+use crate::values::Tell;
 use irs_elements::{Leaf, codes, fractions, leaf_rule, numbers, words};
 use irs_json::{Value, parse};
 use std::alloc::Global;
 
-// What a text stands for as a number or a name.
-fn number_told(alloc: Global, kind: &str, text: &[u8]) -> Result<Option<String>> {
-    let told = match kind {
-        "date" => given_day(alloc, numbers::day(text))?,
-        "number of a date" => given(alloc, &numbers::day(text).map(|day| day.number()))?,
-        "whole" => given(alloc, &numbers::whole(text))?,
-        "notional" => given(alloc, &numbers::notional(text))?,
-        "rate" => given(alloc, &numbers::rate(text))?,
-        "amount" => given(alloc, &numbers::amount(text))?,
-        "multiplier" => given(alloc, &numbers::multiplier(text))?,
-        "offset" => given(alloc, &numbers::offset(text))?,
-        "precision" => given(alloc, &numbers::precision(text))?,
-        "fraction" => given_dec(alloc, fractions::fraction(text))?,
-        "centre" => format!(in alloc; "{}", words::is_center_name(text))?,
-        "index" => format!(in alloc; "{}", words::is_index_name(text))?,
-        "currency" => given_currency(alloc, words::currency(text))?,
-        _ => return Ok(None),
-    };
-    Ok(Some(told))
-}
-
 // What a text stands for as a code.
-fn code_told(alloc: Global, kind: &str, text: &str) -> Result<String> {
+fn tell_code(told: &mut Told, kind: &str, text: &str) -> Option<()> {
     match kind {
-        "convention" => given(alloc, &codes::convention(text)),
-        "day type" => given(alloc, &codes::day_kind(text)),
-        "relative" => given(alloc, &codes::relative(text)),
-        "period" => given(alloc, &codes::unit(text)),
-        "tenor period" => given(alloc, &codes::tenor_unit(text)),
-        "offset period" => given(alloc, &codes::offset_unit(text)),
-        "stub type" => given(alloc, &codes::stub_kind(text)),
-        "roll" => given(alloc, &codes::roll(text)),
-        "day count" => given(alloc, &codes::day_count(text)),
-        "compounding" => given(alloc, &codes::compounding(text)),
-        "treatment" => given(alloc, &codes::treatment(text)),
-        "direction" => given(alloc, &codes::direction(text)),
-        "truth" => given(alloc, &codes::truth(text)),
-        _ => bail!("no kind of text"),
+        "convention" => told.given(&codes::convention(text)),
+        "day type" => told.given(&codes::day_kind(text)),
+        "relative" => told.given(&codes::relative(text)),
+        "period" => told.given(&codes::unit(text)),
+        "tenor period" => told.given(&codes::tenor_unit(text)),
+        "offset period" => told.given(&codes::offset_unit(text)),
+        "stub type" => told.given(&codes::stub_kind(text)),
+        "roll" => told.given(&codes::roll(text)),
+        "day count" => told.given(&codes::day_count(text)),
+        "compounding" => told.given(&codes::compounding(text)),
+        "treatment" => told.given(&codes::treatment(text)),
+        "direction" => told.given(&codes::direction(text)),
+        "truth" => told.given(&codes::truth(text)),
+        _ => return None,
     }
+    Some(())
 }
 
-fn leaf_of(name: &str) -> Result<Leaf> {
+// What a text stands for as a name.
+fn tell_name(told: &mut Told, kind: &str, text: &str) -> Option<()> {
+    match kind {
+        "centre" => told.debug(&words::is_center_name(text.as_bytes())),
+        "index" => told.debug(&words::is_index_name(text.as_bytes())),
+        "currency" => words::currency(text.as_bytes()).tell(told),
+        _ => return tell_code(told, kind, text),
+    }
+    Some(())
+}
+
+// What a text stands for as a number.
+fn tell_number(told: &mut Told, kind: &str, text: &str) -> Option<()> {
+    let bytes = text.as_bytes();
+    match kind {
+        "date" => numbers::day(bytes).tell(told),
+        "number of a date" => told.given(&numbers::day(bytes).map(|day| day.number())),
+        "whole" => told.given(&numbers::whole(bytes)),
+        "notional" => told.given(&numbers::notional(bytes)),
+        "rate" => told.given(&numbers::rate(bytes)),
+        "amount" => told.given(&numbers::amount(bytes)),
+        "multiplier" => told.given(&numbers::multiplier(bytes)),
+        "offset" => told.given(&numbers::offset(bytes)),
+        "precision" => told.given(&numbers::precision(bytes)),
+        "fraction" => fractions::fraction(bytes).tell(told),
+        _ => return tell_name(told, kind, text),
+    }
+    Some(())
+}
+
+fn leaf_of(name: &str) -> Option<Leaf> {
     match name {
-        "Whole" => Ok(Leaf::Whole),
-        "Amount" => Ok(Leaf::Amount),
-        "Fraction" => Ok(Leaf::Fraction),
-        "Convention" => Ok(Leaf::Convention),
-        "ResetRelative" => Ok(Leaf::ResetRelative),
-        "PayRelative" => Ok(Leaf::PayRelative),
-        "Truth" => Ok(Leaf::Truth),
-        "CurrencyName" => Ok(Leaf::CurrencyName),
-        _ => bail!("no kind of leaf"),
+        "Whole" => Some(Leaf::Whole),
+        "Amount" => Some(Leaf::Amount),
+        "Fraction" => Some(Leaf::Fraction),
+        "Convention" => Some(Leaf::Convention),
+        "ResetRelative" => Some(Leaf::ResetRelative),
+        "PayRelative" => Some(Leaf::PayRelative),
+        "Truth" => Some(Leaf::Truth),
+        "CurrencyName" => Some(Leaf::CurrencyName),
+        _ => None,
     }
 }
 
-fn text_told(alloc: Global, kind: &str, value: &Value) -> Result<String> {
-    let text = value.as_str().context("no text")?;
-    match number_told(alloc, kind, text.as_bytes())? {
-        Some(told) => Ok(told),
-        None => code_told(alloc, kind, text),
-    }
-}
-
-/// What is told of a JSON text as a kind of text, or of leaf.
-pub fn leaf_told(alloc: Global, kind: &str, text: &str) -> Result<String> {
-    let value = parse(alloc, text.as_bytes())?;
+// What a value stands for as a kind of text, or the rule that it breaks as a kind of leaf.
+fn tell_value(told: &mut Told, kind: &str, value: &Value) -> Option<()> {
     match kind.strip_prefix("leaf ") {
-        Some(leaf) => given(alloc, &leaf_rule(leaf_of(leaf)?, &value)),
-        None => text_told(alloc, kind, &value),
+        Some(leaf) => told.given(&leaf_rule(leaf_of(leaf)?, value)),
+        None => tell_number(told, kind, value.as_str()?)?,
     }
+    Some(())
+}
+
+/// Tells a JSON text as a kind of text, or of leaf.
+pub fn tell_leaf(told: &mut Told, alloc: Global, kind: &str, text: &str) -> Option<()> {
+    let value = parse(alloc, text.as_bytes()).ok()?;
+    tell_value(told, kind, &value)
 }

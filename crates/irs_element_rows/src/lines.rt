@@ -1,35 +1,31 @@
 //! The lines that are told of a swap or of cash flows: each has the number of its stream, a name and
 //! a value.
-use crate::values::{given, given_day};
-use anyhow::Result;
-use irs_base::Day;
-use std::alloc::Global;
+use crate::told::Told;
+use crate::values::Tell;
 use std::fmt::Debug;
 
-/// Lines, and of what the next one tells: the number of a stream, and the kind and the number of a
-/// row, with a space behind each, or nothing.
+/// What tells the lines, and of what the next one tells: the number of a stream, and the kind and the
+/// number of a row, which is 0 where no row is meant.
 #[derive(Drop)]
-pub struct Lines {
-    alloc: Global,
+pub struct Lines<'t, 'a> {
+    told: &'t mut Told<'a>,
     stream: usize,
-    row: String,
-    text: String,
+    kind: &'static str,
+    row: usize,
 }
 
-impl Lines {
-    /// The line `ok` with how many streams there are.
-    pub fn new(alloc: Global, streams: usize) -> Result<Lines> {
-        Ok(Lines {
-            alloc,
+impl<'t, 'a> Lines<'t, 'a> {
+    /// Tells the line `ok` with how many streams there are.
+    pub fn new(told: &'t mut Told<'a>, streams: usize) -> Lines<'t, 'a> {
+        told.text("ok ");
+        told.number(streams);
+        told.end_line();
+        Lines {
+            told,
             stream: 0,
-            row: String::new(alloc),
-            text: format!(in alloc; "ok {streams}\n")?,
-        })
-    }
-
-    /// The allocator of the lines.
-    pub fn alloc(&self) -> Global {
-        self.alloc
+            kind: "",
+            row: 0,
+        }
     }
 
     /// Goes to the next stream; the first one has the number 1.
@@ -38,32 +34,44 @@ impl Lines {
     }
 
     /// Goes to the row of this kind and number: they stand before the names of its fields.
-    pub fn next_row(&mut self, kind: &str, n: usize) -> Result<()> {
-        self.row = format!(in self.alloc; "{kind} {n} ")?;
-        Ok(())
+    pub fn next_row(&mut self, kind: &'static str, n: usize) {
+        self.kind = kind;
+        self.row = n;
     }
 
-    /// Puts a line at the end.
-    pub fn push(&mut self, name: &str, value: &str) -> Result<()> {
-        let line = format!(in self.alloc; "{} {}{name} {value}\n", self.stream, self.row)?;
-        self.text.push_str(&line)?;
-        Ok(())
+    /// Begins a line: its value and its end are to be told.
+    pub fn begin(&mut self, name: &str) -> &mut Told<'a> {
+        self.told.number(self.stream);
+        self.told.text(" ");
+        if self.row > 0 {
+            self.told.text(self.kind);
+            self.told.text(" ");
+            self.told.number(self.row);
+            self.told.text(" ");
+        }
+        self.told.text(name);
+        self.told.text(" ");
+        self.told
     }
 
-    /// Puts the line of a value that may be absent.
-    pub fn push_given<T: Debug>(&mut self, name: &str, value: &Option<T>) -> Result<()> {
-        let text = given(self.alloc, value)?;
-        self.push(name, &text)
+    /// Tells a line with a text.
+    pub fn push(&mut self, name: &str, text: &str) {
+        let told = self.begin(name);
+        told.text(text);
+        told.end_line();
     }
 
-    /// Puts the line of a day that may be absent.
-    pub fn push_day(&mut self, name: &str, day: Option<Day>) -> Result<()> {
-        let text = given_day(self.alloc, day)?;
-        self.push(name, &text)
+    /// Tells the line of a value.
+    pub fn push_value<T: Tell>(&mut self, name: &str, value: &T) {
+        let told = self.begin(name);
+        value.tell(told);
+        told.end_line();
     }
 
-    /// All lines.
-    pub fn into_text(self) -> String {
-        self.text
+    /// Tells the line of a code or a number that may be absent.
+    pub fn push_given<T: Debug>(&mut self, name: &str, value: &Option<T>) {
+        let told = self.begin(name);
+        told.given(value);
+        told.end_line();
     }
 }

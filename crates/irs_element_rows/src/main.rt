@@ -7,11 +7,13 @@
 //! project's own.
 #![tactic(auto)]
 
-use answer_rows::{Subject, run_answers};
+use anyhow::ensure;
+use questions::Subject;
+use readers::Reader;
 use rows::run_rows;
-use told::Reader;
+use table_lines::tell_tables;
+use told::Told;
 
-mod answer_rows;
 mod answers;
 mod edits;
 mod file_rows;
@@ -20,6 +22,8 @@ mod json_rows;
 mod leaf_rows;
 mod lines;
 mod order_rows;
+mod questions;
+mod readers;
 mod rows;
 mod sentence_rows;
 mod sink_rows;
@@ -31,15 +35,22 @@ mod values;
 mod words;
 
 fn main(rt: HostRuntime) -> anyhow::Result<()> {
-    table_lines::print_tables(&rt)?;
-    run_rows(&rt, Reader::Terms, "rows")?;
-    run_rows(&rt, Reader::Flows, "flow_rows")?;
-    run_rows(&rt, Reader::Audit, "audit_rows")?;
-    run_rows(&rt, Reader::Emit, "emit_rows")?;
-    run_answers(&rt, Subject::Leaves, "leaf_rows")?;
-    run_answers(&rt, Subject::Json, "json_rows")?;
-    run_answers(&rt, Subject::Order, "order_rows")?;
-    run_answers(&rt, Subject::Files, "file_rows")?;
-    run_answers(&rt, Subject::Sinks, "sink_rows")?;
-    run_answers(&rt, Subject::Sentences, "sentence_rows")
+    let mut tables = Told::printed(&rt);
+    tell_tables(&mut tables);
+    ensure!(tables.is_printed(), "the tables could not be printed");
+    for (subject, file) in [
+        (Subject::Documents(Reader::Terms), "rows"),
+        (Subject::Documents(Reader::Flows), "flow_rows"),
+        (Subject::Documents(Reader::Audit), "audit_rows"),
+        (Subject::Documents(Reader::Emit), "emit_rows"),
+        (Subject::Leaves, "leaf_rows"),
+        (Subject::Json, "json_rows"),
+        (Subject::Order, "order_rows"),
+        (Subject::Files, "file_rows"),
+        (Subject::Sinks, "sink_rows"),
+        (Subject::Sentences, "sentence_rows"),
+    ] {
+        run_rows(&rt, subject, file)?;
+    }
+    Ok(())
 }

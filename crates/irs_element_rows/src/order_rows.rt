@@ -1,69 +1,63 @@
 //! The rows of the order in which broken rules are told: each has two of them, `, ` between them, and
 //! says whether the first comes before the second, or which of them is told.
-use crate::values::given_broken;
-use anyhow::{Context, Result, bail};
+use crate::told::Told;
+use crate::values::Tell;
 use irs_base::{Broken, Elem, Place, Rule};
 use irs_elements::{comes_before, earlier};
-use std::alloc::Global;
 
 // A rule by its name; the rows have these.
-fn rule_of(name: &str) -> Result<Rule> {
+fn rule_of(name: &str) -> Option<Rule> {
     match name {
-        "K2" => Ok(Rule::K2),
-        "K3" => Ok(Rule::K3),
-        "K6" => Ok(Rule::K6),
-        "K7" => Ok(Rule::K7),
-        "K10" => Ok(Rule::K10),
-        "K39" => Ok(Rule::K39),
-        _ => bail!("no rule of the rows"),
+        "K2" => Some(Rule::K2),
+        "K3" => Some(Rule::K3),
+        "K6" => Some(Rule::K6),
+        "K7" => Some(Rule::K7),
+        "K10" => Some(Rule::K10),
+        "K39" => Some(Rule::K39),
+        _ => None,
     }
 }
 
 // The element with a path.
-fn elem_of(path: &str) -> Result<Elem> {
+fn elem_of(path: &str) -> Option<Elem> {
     for place in 0..u8::MAX {
-        let elem = Elem::at(place).context("no such element")?;
+        let elem = Elem::at(place)?;
         if elem.path() == path {
-            return Ok(elem);
+            return Some(elem);
         }
     }
-    bail!("no such element")
+    None
 }
 
 // The broken rule of a text: the rule, the number of the stream, the element and the index.
-fn broken_of(text: &str) -> Result<Broken> {
-    let (rule, rest) = text.split_once(' ').context("a stream")?;
-    let (stream, rest) = rest.split_once(' ').context("an element")?;
-    let (path, index) = rest.split_once(' ').context("an index")?;
-    Ok(Broken {
+fn broken_of(text: &str) -> Option<Broken> {
+    let (rule, rest) = text.split_once(' ')?;
+    let (stream, rest) = rest.split_once(' ')?;
+    let (path, index) = rest.split_once(' ')?;
+    Some(Broken {
         rule: rule_of(rule)?,
         place: Place {
-            stream: stream.parse::<u8>()?,
+            stream: stream.parse::<u8>().ok()?,
             elem: elem_of(path)?,
-            index: index.parse::<u32>()?,
+            index: index.parse::<u32>().ok()?,
         },
     })
 }
 
-fn answer_of(text: &str) -> Result<Option<Broken>> {
+fn answer_of(text: &str) -> Option<Option<Broken>> {
     if text == "absent" {
-        return Ok(None);
+        return Some(None);
     }
-    Ok(Some(broken_of(text)?))
+    Some(Some(broken_of(text)?))
 }
 
-fn before_told(alloc: Global, first: &str, second: &str) -> Result<String> {
-    let is_before = comes_before(&broken_of(first)?, &broken_of(second)?);
-    let text = format!(in alloc; "{is_before}")?;
-    Ok(text)
-}
-
-/// Whether the first of two broken rules comes before the second, or the earlier of two answers.
-pub fn order_told(alloc: Global, question: &str, pair: &str) -> Result<String> {
-    let (first, second) = pair.split_once(", ").context("two broken rules")?;
+/// Tells whether the first of two broken rules comes before the second, or the earlier of two answers.
+pub fn tell_order(told: &mut Told, question: &str, pair: &str) -> Option<()> {
+    let (first, second) = pair.split_once(", ")?;
     match question {
-        "before" => before_told(alloc, first, second),
-        "earlier" => given_broken(alloc, &earlier(answer_of(first)?, answer_of(second)?)),
-        _ => bail!("no question of the order"),
+        "before" => told.debug(&comes_before(&broken_of(first)?, &broken_of(second)?)),
+        "earlier" => earlier(answer_of(first)?, answer_of(second)?).tell(told),
+        _ => return None,
     }
+    Some(())
 }

@@ -1,74 +1,74 @@
-//! The rows: each names a document, edits of it, and a line that has to be told of the document
-//! behind the edits.
-use crate::edits::make_edits;
+//! The rows: each has three parts with `|` between them, a document, edits of it, and a line that has
+//! to be told of the document behind the edits; or a kind of question, what it is asked of, and what
+//! is answered.
+use crate::questions::{Question, Subject};
 use crate::tally::Tally;
-use crate::told::{Reader, told};
-use anyhow::{Context, Result};
-use irs_json::{Value, parse};
+use crate::told::Told;
+use anyhow::{Result, bail};
 use std::fs;
 
-/// A row.
-#[derive(Clone, Copy)]
-struct Row<'a> {
-    /// The file of the document.
-    document: &'a str,
-    /// The edits, `;` between them.
-    edits: &'a str,
-    /// The line that has to be among those that are told.
-    line: &'a str,
+// What a row asks, and the line that has to be told.
+fn row_of(subject: Subject, text: &str) -> Option<(Question, &str)> {
+    let (kind, rest) = text.split_once(" | ")?;
+    let (given, line) = rest.rsplit_once(" | ")?;
+    Some((Question::new(subject, kind, given), line))
 }
 
-// The row of a text: its three parts, `|` between them.
-fn row_of(text: &str) -> Result<Row> {
-    let (document, rest) = text.split_once(" | ").context("a row has three parts")?;
-    let (edits, line) = rest.split_once(" | ").context("a row has three parts")?;
-    Ok(Row {
-        document,
-        edits,
-        line,
-    })
-}
-
-// The document of a file.
-fn document_of(rt: &HostRuntime, file: &str) -> Result<Value> {
-    let text = fs::read_to_string(rt, file).context("a document's file")?;
-    Ok(parse(rt.alloc(), text.as_bytes())?)
+// Prints all that is told.
+fn print_told(rt: &HostRuntime, question: Question) -> Option<()> {
+    let mut told = Told::printed(rt);
+    question.tell(&mut told, rt)?;
+    told.is_printed().then_some(())
 }
 
 // Runs a row; where its line isn't told, prints it and what is told. Whether it is told.
-fn run_row(rt: &HostRuntime, reader: Reader, text: &str) -> Result<bool> {
-    let row = row_of(text)?;
-    let mut document = document_of(rt, row.document)?;
-    make_edits(rt.alloc(), &mut document, row.edits)?;
-    let lines = told(rt.alloc(), reader, &document)?;
-    let is_told = lines.lines().any(|line| line == row.line);
-    if !is_told {
-        println!(rt; "not told: {text}\n{lines}")?;
+fn run_row(rt: &HostRuntime, subject: Subject, text: &str) -> Option<bool> {
+    let (question, line) = row_of(subject, text)?;
+    let mut told = Told::wanted(line);
+    question.tell(&mut told, rt)?;
+    if !told.is_told() {
+        println!(rt; "not told: {text}").ok()?;
+        print_told(rt, question)?;
     }
-    Ok(is_told)
+    Some(told.is_told())
+}
+
+// Runs a line of a file, and counts it where it is a row.
+fn run_line(rt: &HostRuntime, subject: Subject, line: &str, tally: Tally) -> Option<Tally> {
+    if line.starts_with('#') {
+        tally.print(rt).ok()?;
+        println!(rt; "{line}").ok()?;
+        return Some(Tally::NONE);
+    }
+    match line.strip_prefix("= ") {
+        Some(file) => {
+            print_told(rt, Question::new(subject, file, ""))?;
+            Some(tally)
+        }
+        None => Some(tally.with(run_row(rt, subject, line)?)),
+    }
+}
+
+fn run_lines(rt: &HostRuntime, subject: Subject, text: &str) -> Result<()> {
+    let mut tally = Tally::NONE;
+    for line in text.lines() {
+        tally = match run_line(rt, subject, line, tally) {
+            Some(tally) => tally,
+            None => {
+                println!(rt; "no row: {line}")?;
+                bail!("no row: {line}")
+            }
+        };
+    }
+    tally.print(rt)?;
+    Ok(())
 }
 
 /// Runs the rows of a file, a line each, and prints how many there were and of how many the line was
 /// told, and each of the others with what is told there. A line that begins with `#` is a remark: it
 /// is printed, and the rows are counted anew. A line that begins with `=` names a document: all that
-/// is told of it is printed.
-pub fn run_rows(rt: &HostRuntime, reader: Reader, file: &str) -> Result<()> {
+/// is told of it is printed. A line that is none of these is printed, and ends the program.
+pub fn run_rows(rt: &HostRuntime, subject: Subject, file: &str) -> Result<()> {
     let text = fs::read_to_string(rt, file)?;
-    let mut tally = Tally::NONE;
-    for line in text.lines() {
-        if line.starts_with('#') {
-            tally.print(rt)?;
-            tally = Tally::NONE;
-            println!(rt; "{line}")?;
-        } else if let Some(name) = line.strip_prefix("= ") {
-            let document = document_of(rt, name)?;
-            print!(rt; "{}", told(rt.alloc(), reader, &document)?)?;
-        } else {
-            let is_told = run_row(rt, reader, line).context(format_args!(
-                "{file}, the row {line}"
-            ))?;
-            tally = tally.with(is_told);
-        }
-    }
-    tally.print(rt)
+    run_lines(rt, subject, &text)
 }

@@ -1,7 +1,7 @@
 //! The rows of sinks: each names a sink and steps with it, ` ; ` between them, and says what each put
 //! and each question among the steps gives.
-use crate::answers::{Answers, quoted};
-use anyhow::{Context, Result, bail};
+use crate::answers::Answers;
+use crate::told::Told;
 use irs_outside::{MemSink, PutFailed, Sink, SureSink};
 use irs_plain::Kept;
 use std::alloc::Global;
@@ -23,7 +23,7 @@ enum Step<'a> {
     /// `fail CALL`: that put, counted from 1, is to fail.
     Fail { call: u32 },
     /// `put TIMES TEXT`: one put, of the text so often.
-    Put { times: u32, text: &'a str },
+    Put { times: usize, text: &'a str },
     /// `bytes`: what the sink has.
     Bytes,
     /// `length`: how many bytes it has.
@@ -32,55 +32,49 @@ enum Step<'a> {
     Byte { place: usize },
 }
 
-fn sink_of(alloc: Global, name: &str) -> Result<Tried> {
+fn sink_of(alloc: Global, name: &str) -> Option<Tried> {
     let (kind, room) = name.split_once(' ').unwrap_or((name, "0"));
-    let room = room.parse::<usize>()?;
+    let room = room.parse::<usize>().ok()?;
     match kind {
-        "memory" => Ok(Tried::Memory(MemSink::with_room(alloc, room)?)),
-        "kept" => Ok(Tried::Kept(Kept::new(MemSink::with_room(alloc, room)?))),
-        "sure" => Ok(Tried::Sure(SureSink::new())),
-        _ => bail!("no sink"),
+        "memory" => Some(Tried::Memory(MemSink::with_room(alloc, room).ok()?)),
+        "kept" => Some(Tried::Kept(Kept::new(MemSink::with_room(alloc, room).ok()?))),
+        "sure" => Some(Tried::Sure(SureSink::new())),
+        _ => None,
     }
 }
 
-fn step_of(text: &str) -> Result<Step> {
+fn step_of(text: &str) -> Option<Step> {
     let (verb, rest) = text.split_once(' ').unwrap_or((text, ""));
     match verb {
         "fail" => {
-            let call = rest.parse::<u32>()?;
-            Ok(Step::Fail { call })
+            let call = rest.parse::<u32>().ok()?;
+            Some(Step::Fail { call })
         }
         "put" => {
-            let (times, text) = rest.split_once(' ').context("what is put")?;
-            let times = times.parse::<u32>()?;
-            Ok(Step::Put { times, text })
+            let (times, text) = rest.split_once(' ')?;
+            let times = times.parse::<usize>().ok()?;
+            Some(Step::Put { times, text })
         }
-        "bytes" => Ok(Step::Bytes),
-        "length" => Ok(Step::Length),
+        "bytes" => Some(Step::Bytes),
+        "length" => Some(Step::Length),
         "byte" => {
-            let place = rest.parse::<usize>()?;
-            Ok(Step::Byte { place })
+            let place = rest.parse::<usize>().ok()?;
+            Some(Step::Byte { place })
         }
-        _ => bail!("no step with a sink"),
+        _ => None,
     }
-}
-
-// A text so often.
-fn repeated(alloc: Global, text: &str, times: u32) -> Result<String> {
-    let mut whole = String::new(alloc);
-    for _ in 0..times {
-        whole.push_str(text)?;
-    }
-    Ok(whole)
 }
 
 impl Tried {
-    fn fail_at(&mut self, call: u32) -> Result<()> {
+    // A call of a sink in memory is to fail; no other sink can do so.
+    fn fail_at(&mut self, call: u32) -> Option<()> {
         match self {
-            Tried::Memory(sink) => sink.fail_at(call),
-            Tried::Kept(_) | Tried::Sure(_) => bail!("no call of this sink is to fail"),
+            Tried::Memory(sink) => {
+                sink.fail_at(call);
+                Some(())
+            }
+            Tried::Kept(_) | Tried::Sure(_) => None,
         }
-        Ok(())
     }
 
     fn put(&mut self, bytes: &[u8]) -> Result<(), PutFailed> {
@@ -91,57 +85,48 @@ impl Tried {
         }
     }
 
-    // Whether all was put.
-    fn put_told(&mut self, alloc: Global, text: &str) -> Result<String> {
-        let told = match self.put(text.as_bytes()) {
-            Ok(()) => "whole",
-            Err(PutFailed) => "failed",
-        };
-        Ok(String::from_str(alloc, told)?)
-    }
-
-    fn bytes(&self) -> Result<&[u8]> {
+    // The bytes that the sink keeps; a sure sink keeps none.
+    fn bytes(&self) -> Option<&[u8]> {
         match self {
-            Tried::Memory(sink) => Ok(sink.bytes()),
-            Tried::Kept(sink) => Ok(sink.front()),
-            Tried::Sure(_) => bail!("this sink keeps no bytes"),
+            Tried::Memory(sink) => Some(sink.bytes()),
+            Tried::Kept(sink) => Some(sink.front()),
+            Tried::Sure(_) => None,
         }
     }
 
-    fn length_told(&self, alloc: Global) -> Result<String> {
-        let text = format!(in alloc; "{}", self.bytes()?.len())?;
-        Ok(text)
+    // Puts a text so often, and tells whether all was put.
+    fn tell_put(&mut self, told: &mut Told, alloc: Global, text: &str, times: usize) -> Option<()> {
+        let whole = text.repeat(alloc, times).ok()?;
+        told.text(match self.put(whole.as_bytes()) {
+            Ok(()) => "whole",
+            Err(PutFailed) => "failed",
+        });
+        Some(())
     }
 
-    fn byte_told(&self, alloc: Global, place: usize) -> Result<String> {
-        let byte = self.bytes()?.get(place).context("no byte at the place")?;
-        quoted(alloc, &[*byte])
+    // Takes the step of a text: a put tells whether all was put, a question its answer.
+    fn step(&mut self, answers: &mut Answers, alloc: Global, text: &str) -> Option<()> {
+        match step_of(text)? {
+            Step::Fail { call } => self.fail_at(call)?,
+            Step::Put { times, text } => self.tell_put(answers.next(), alloc, text, times)?,
+            Step::Bytes => answers.quoted(self.bytes()?),
+            Step::Length => answers.next().number(self.bytes()?.len()),
+            Step::Byte { place } => answers.quoted(&[*self.bytes()?.get(place)?]),
+        }
+        Some(())
     }
 
-    // What a step gives; `None` where it asks nothing.
-    fn step(&mut self, alloc: Global, step: Step) -> Result<Option<String>> {
-        let told = match step {
-            Step::Fail { call } => {
-                self.fail_at(call)?;
-                return Ok(None);
-            }
-            Step::Put { times, text } => self.put_told(alloc, &repeated(alloc, text, times)?)?,
-            Step::Bytes => quoted(alloc, self.bytes()?)?,
-            Step::Length => self.length_told(alloc)?,
-            Step::Byte { place } => self.byte_told(alloc, place)?,
-        };
-        Ok(Some(told))
+    fn tell_steps(&mut self, told: &mut Told, alloc: Global, steps: &str) -> Option<()> {
+        let mut answers = Answers::new(told);
+        for step in steps.split(" ; ") {
+            self.step(&mut answers, alloc, step)?;
+        }
+        Some(())
     }
 }
 
-/// What the puts and the questions among the steps with a sink give.
-pub fn sinks_told(alloc: Global, name: &str, steps: &str) -> Result<String> {
+/// Tells what the puts and the questions among the steps with a sink give.
+pub fn tell_sinks(told: &mut Told, alloc: Global, name: &str, steps: &str) -> Option<()> {
     let mut sink = sink_of(alloc, name)?;
-    let mut answers = Answers::new(alloc);
-    for step in steps.split(" ; ") {
-        if let Some(told) = sink.step(alloc, step_of(step)?)? {
-            answers.push(&told)?;
-        }
-    }
-    Ok(answers.into_text())
+    sink.tell_steps(told, alloc, steps)
 }

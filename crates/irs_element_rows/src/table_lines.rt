@@ -1,10 +1,19 @@
 //! The lines of the tables of elements: a line for each row, in their order, with the path, the kind
 //! and the count.
-use anyhow::{Context, Result};
+use crate::told::Told;
 use irs_audit::{FLOW_NAMES, FLOW_ROWS, PERIOD_NAMES, PERIOD_ROWS};
 use irs_elements::{Choice, Count, Kind, Leaf, Row};
 use irs_read::{NAMES, ROWS, SWAP_NAMES, SWAP_ROWS};
-use std::alloc::Global;
+
+/// At most so many rows stand above another one, below the first.
+const MOST_ABOVE: usize = 7;
+
+/// A table: its rows, and the name of each.
+#[derive(Clone, Copy)]
+struct Table<'a> {
+    rows: &'a [Row],
+    names: &'a [&'static str],
+}
 
 fn leaf_text(leaf: Leaf) -> &'static str {
     match leaf {
@@ -37,74 +46,119 @@ fn leaf_text(leaf: Leaf) -> &'static str {
     }
 }
 
-// What an object is: two numbers are those of the rows of a choice.
-fn choice_text(alloc: Global, choice: Choice, names: &[&'static str]) -> Result<String> {
-    let text = match choice {
-        Choice::Free => format!(in alloc; "O")?,
-        Choice::Reference => format!(in alloc; "R")?,
-        Choice::AtMostOne(one, other) => {
-            let one = names.get(one).context("a row of a choice")?;
-            let other = names.get(other).context("a row of a choice")?;
-            format!(in alloc; "O, at most one of {one} {other}")?
+impl Table<'_> {
+    // The row that is so many levels above another one; above the first, 0, is the first.
+    fn above(self, place: usize, levels: usize) -> usize {
+        let mut above = place;
+        for _ in 0..levels {
+            above = match self.rows.get(above) {
+                Some(row) => row.parent,
+                None => 0,
+            };
         }
-        Choice::ExactlyOne(one, other) => {
-            let one = names.get(one).context("a row of a choice")?;
-            let other = names.get(other).context("a row of a choice")?;
-            format!(in alloc; "O, exactly one of {one} {other}")?
-        }
-    };
-    Ok(text)
-}
-
-fn kind_text(alloc: Global, kind: Kind, names: &[&'static str]) -> Result<String> {
-    let text = match kind {
-        Kind::Object(choice) => choice_text(alloc, choice, names)?,
-        Kind::Leaf(leaf) => String::from_str(alloc, leaf_text(leaf))?,
-        Kind::Passed => format!(in alloc; "passed over")?,
-        Kind::Refused => format!(in alloc; "out of profile")?,
-    };
-    Ok(text)
-}
-
-fn count_text(alloc: Global, count: Count) -> Result<String> {
-    let text = match count {
-        Count::One => format!(in alloc; "1")?,
-        Count::Maybe => format!(in alloc; "0..1")?,
-        Count::OneTo(most) => format!(in alloc; "1..{most}")?,
-        Count::UpTo(most) => format!(in alloc; "0..{most}")?,
-    };
-    Ok(text)
-}
-
-// Prints a table: its name, then a line for each row below the first, which is the object itself.
-fn print_table(rt: &HostRuntime, title: &str, rows: &[Row], names: &[&'static str]) -> Result<()> {
-    println!(rt; "# {title}")?;
-    let alloc = rt.alloc();
-    let mut paths: Vec<String> = Vec::new(alloc);
-    for (row, name) in rows.iter().zip(names) {
-        let path = match paths.get(row.parent) {
-            Some(above) if row.parent > 0 => format!(in alloc; "{above}/{name}")?,
-            Some(_) | None => String::from_str(alloc, name)?,
-        };
-        if !paths.is_empty() {
-            let kind = kind_text(alloc, row.kind, names)?;
-            println!(rt; "{path} | {kind} | {}", count_text(alloc, row.count)?)?;
-        }
-        paths.push(path)?;
+        above
     }
-    Ok(())
+
+    fn tell_name(self, told: &mut Told, place: usize) {
+        match self.names.get(place) {
+            Some(name) => told.text(name),
+            None => told.text("no name"),
+        }
+    }
+
+    // The names on the way from the first row to this one, `/` between them.
+    fn tell_path(self, told: &mut Told, place: usize) {
+        for levels in (1..=MOST_ABOVE).rev() {
+            let above = self.above(place, levels);
+            if above > 0 {
+                self.tell_name(told, above);
+                told.text("/");
+            }
+        }
+        self.tell_name(told, place);
+    }
+
+    // The names of the rows of a choice.
+    fn tell_choice(self, told: &mut Told, text: &str, one: usize, other: usize) {
+        told.text(text);
+        self.tell_name(told, one);
+        told.text(" ");
+        self.tell_name(told, other);
+    }
+
+    fn tell_object(self, told: &mut Told, choice: Choice) {
+        match choice {
+            Choice::Free => told.text("O"),
+            Choice::Reference => told.text("R"),
+            Choice::AtMostOne(one, other) => {
+                self.tell_choice(told, "O, at most one of ", one, other);
+            }
+            Choice::ExactlyOne(one, other) => {
+                self.tell_choice(told, "O, exactly one of ", one, other);
+            }
+        }
+    }
+
+    fn tell_kind(self, told: &mut Told, kind: Kind) {
+        match kind {
+            Kind::Object(choice) => self.tell_object(told, choice),
+            Kind::Leaf(leaf) => told.text(leaf_text(leaf)),
+            Kind::Passed => told.text("passed over"),
+            Kind::Refused => told.text("out of profile"),
+        }
+    }
+
+    // A line for a row.
+    fn tell_row(self, told: &mut Told, place: usize, row: &Row) {
+        self.tell_path(told, place);
+        told.text(" | ");
+        self.tell_kind(told, row.kind);
+        told.text(" | ");
+        tell_count(told, row.count);
+        told.end_line();
+    }
 }
 
-/// Prints the table of a swap, that of a stream, that of cash flows and that of their calculation
+fn tell_count(told: &mut Told, count: Count) {
+    match count {
+        Count::One => told.text("1"),
+        Count::Maybe => told.text("0..1"),
+        Count::OneTo(most) => {
+            told.text("1..");
+            told.number(most);
+        }
+        Count::UpTo(most) => {
+            told.text("0..");
+            told.number(most);
+        }
+    }
+}
+
+// The name of a table, then a line for each row below the first, which is the object itself.
+fn tell_table(told: &mut Told, name: &str, rows: &[Row], names: &[&'static str]) {
+    told.text(name);
+    told.end_line();
+    let table = Table { rows, names };
+    for (place, row) in rows.iter().enumerate().skip(1) {
+        table.tell_row(told, place, row);
+    }
+}
+
+/// Tells the table of a swap, that of a stream, that of cash flows and that of their calculation
 /// periods.
-pub fn print_tables(rt: &HostRuntime) -> Result<()> {
-    print_table(rt, "the elements of a swap", &SWAP_ROWS, &SWAP_NAMES)?;
-    print_table(rt, "the elements of a stream", &ROWS, &NAMES)?;
-    print_table(rt, "the elements of cash flows", &FLOW_ROWS, &FLOW_NAMES)?;
-    print_table(
-        rt,
-        "the elements of a calculation period of cash flows",
+pub fn tell_tables(told: &mut Told) {
+    tell_table(told, "# the elements of a swap", &SWAP_ROWS, &SWAP_NAMES);
+    tell_table(told, "# the elements of a stream", &ROWS, &NAMES);
+    tell_table(
+        told,
+        "# the elements of cash flows",
+        &FLOW_ROWS,
+        &FLOW_NAMES,
+    );
+    tell_table(
+        told,
+        "# the elements of a calculation period of cash flows",
         &PERIOD_ROWS,
         &PERIOD_NAMES,
-    )
+    );
 }

@@ -1,5 +1,5 @@
 //! How many rows were run, and how many of them were met.
-use anyhow::Result;
+use std::io;
 
 /// How many rows were run since the last remark, and of how many the line was told.
 #[derive(Clone, Copy)]
@@ -21,7 +21,7 @@ impl Tally {
     }
 
     /// Prints the numbers, where there were rows.
-    pub fn print(self, rt: &HostRuntime) -> Result<()> {
+    pub fn print(self, rt: &HostRuntime) -> io::Result<()> {
         if self.rows > 0 {
             println!(rt; "{} of {} rows", self.told, self.rows)?;
         }

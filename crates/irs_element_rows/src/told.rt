@@ -1,111 +1,143 @@
-//! What is told of a document.
-use crate::flow_lines::flow_lines;
-use crate::swap_lines::swap_lines;
-use crate::values::broken_text;
-use crate::words::words_of;
-use anyhow::{Result, bail};
-use irs_audit::{FlowErr, ShapeKind, read_flows};
-use irs_base::Place;
-use irs_calendar::Calendars;
-use irs_cli::{MemFiles, MemSink, run};
-use irs_emit::emit_flows;
-use irs_json::Value;
-use irs_read::{ReadErr, read_swap};
-use irs_resets::Fixings;
-use irs_rules::check_terms;
-use irs_schedule::{Schedule, make_schedule};
-use std::alloc::Global;
+//! What is told of a row.
+use irs_base::{Day, civil_of};
+use itoa::{Buffer, Integer};
+use std::fmt;
+use std::fmt::{Debug, Write};
 
-/// What reads a document.
-#[derive(Clone, Copy)]
-pub enum Reader {
-    /// `read_swap` of irs_read: the terms of a swap.
-    Terms,
-    /// `read_flows` of irs_audit: cash flows.
-    Flows,
-    /// `run` of irs_cli: whether the cash flows that stand among the terms agree with them.
-    Audit,
-    /// `emit_flows` of irs_emit: the cash flows of the schedule of a swap.
-    Emit,
+/// What is told of a row, line by line: it is compared with the wanted line as it comes, or printed.
+/// Nothing of it is kept, so nothing of it can fail.
+#[derive(Drop)]
+pub struct Told<'a> {
+    /// The line that has to be told.
+    line: &'a str,
+    /// What of it is still to come; none once what is told has departed from it.
+    rest: Option<&'a str>,
+    /// Whether the line was told.
+    is_told: bool,
+    /// Where to print what is told, if anywhere.
+    echo: Option<&'a HostRuntime>,
+    /// Whether all was printed that was to be.
+    is_printed: bool,
 }
 
-fn terms_told(alloc: Global, document: &Value) -> Result<String> {
-    match read_swap(alloc, document) {
-        Ok(swap) => swap_lines(alloc, &swap),
-        Err(ReadErr::Memory) => bail!("no memory"),
-        Err(ReadErr::Broken(broken)) => {
-            let text = format!(in alloc; "{}\n", broken_text(alloc, &broken)?)?;
-            Ok(text)
+impl<'a> Told<'a> {
+    /// What is told is compared with this line.
+    pub fn wanted(line: &'a str) -> Told<'a> {
+        Told {
+            line,
+            rest: Some(line),
+            is_told: false,
+            echo: None,
+            is_printed: true,
+        }
+    }
+
+    /// What is told is printed.
+    pub fn printed(rt: &'a HostRuntime) -> Told<'a> {
+        Told {
+            line: "",
+            rest: None,
+            is_told: false,
+            echo: Some(rt),
+            is_printed: true,
+        }
+    }
+
+    /// Whether the wanted line is among those that were told.
+    pub fn is_told(&self) -> bool {
+        self.is_told
+    }
+
+    /// Whether all was printed that was to be.
+    pub fn is_printed(&self) -> bool {
+        self.is_printed
+    }
+
+    fn print(&mut self, text: &str) {
+        if let Some(rt) = self.echo {
+            self.is_printed = rt.print(text).is_ok() && self.is_printed;
+        }
+    }
+
+    /// A text, the next part of a line.
+    pub fn text(&mut self, text: &str) {
+        self.rest = match self.rest {
+            Some(rest) => rest.strip_prefix(text),
+            None => None,
+        };
+        self.print(text);
+    }
+
+    /// The end of a line.
+    pub fn end_line(&mut self) {
+        if let Some(rest) = self.rest {
+            self.is_told = self.is_told || rest.is_empty();
+        }
+        self.rest = Some(self.line);
+        self.print("\n");
+    }
+
+    /// A text of which the bytes are given.
+    pub fn bytes(&mut self, bytes: &[u8]) {
+        match str::from_utf8(bytes) {
+            Ok(text) => self.text(text),
+            Err(_) => self.text("no text"),
+        }
+    }
+
+    /// A text of several lines, of which the bytes are given; each ends with a line feed.
+    pub fn lines(&mut self, bytes: &[u8]) {
+        let text = str::from_utf8(bytes).unwrap_or("no text");
+        for part in text.split_inclusive('\n') {
+            match part.strip_suffix('\n') {
+                Some(line) => {
+                    self.text(line);
+                    self.end_line();
+                }
+                None => self.text(part),
+            }
+        }
+    }
+
+    /// A whole number.
+    pub fn number<I: Integer>(&mut self, n: I) {
+        let mut digits = Buffer::new();
+        self.text(digits.format(n));
+    }
+
+    // A hyphen, then a number of two digits.
+    fn part_of_date(&mut self, n: u8) {
+        self.text(if n < 10 { "-0" } else { "-" });
+        self.number(n);
+    }
+
+    /// `YYYY-MM-DD`.
+    pub fn day(&mut self, day: Day) {
+        let date = civil_of(day);
+        self.number(date.year);
+        self.part_of_date(date.month);
+        self.part_of_date(date.day);
+    }
+
+    /// A value as its type's `Debug` has it, a code by its name.
+    pub fn debug<T: Debug>(&mut self, value: &T) {
+        if write!(self, "{value:?}").is_err() {
+            self.rest = None;
+        }
+    }
+
+    /// A value that may be absent, as its type's `Debug` has it.
+    pub fn given<T: Debug>(&mut self, value: &Option<T>) {
+        match value {
+            Some(value) => self.debug(value),
+            None => self.text("absent"),
         }
     }
 }
 
-fn kind_name(kind: ShapeKind) -> &'static str {
-    match kind {
-        ShapeKind::NotJson => "notjson",
-        ShapeKind::Missing => "missing",
-        ShapeKind::Kind => "kind",
-        ShapeKind::Unknown => "unknown",
-        ShapeKind::Profile => "profile",
-        ShapeKind::Value => "value",
-        ShapeKind::Count => "count",
-    }
-}
-
-// A kind of fault, then its place.
-fn fault_line(alloc: Global, kind: ShapeKind, place: Place) -> Result<String> {
-    let text = format!(in alloc;
-        "{} {} {} {}\n",
-        kind_name(kind),
-        place.stream,
-        place.elem.path(),
-        place.index
-    )?;
-    Ok(text)
-}
-
-fn flows_told(alloc: Global, document: &Value) -> Result<String> {
-    match read_flows(alloc, document) {
-        Ok(flows) => flow_lines(alloc, &flows),
-        Err(FlowErr::Memory) => bail!("no memory"),
-        Err(FlowErr::Shape(kind, place)) => fault_line(alloc, kind, place),
-    }
-}
-
-// What the command `audit` prints, where the document is the terms and the cash flows.
-fn audit_told(alloc: Global, document: &Value) -> Result<String> {
-    let text = document.to_string(alloc)?;
-    let mut files = MemFiles::new(alloc);
-    files.add("D", text.as_bytes())?;
-    let words = words_of(alloc, "audit D - D")?;
-    let mut out = MemSink::with_room(alloc, 100)?;
-    run(alloc, &words, &mut files, &mut out);
-    Ok(String::from_str(alloc, str::from_utf8(out.bytes())?)?)
-}
-
-// The schedule of a swap without calendars and fixings.
-fn schedule_of(alloc: Global, document: &Value) -> Result<Schedule> {
-    let swap = read_swap(alloc, document)?;
-    let calendars = Calendars::read(alloc, &[])?;
-    match check_terms(&swap, &calendars) {
-        Some(_) => bail!("the terms break a rule"),
-        None => Ok(make_schedule(alloc, &swap, &calendars, &Fixings::none())?),
-    }
-}
-
-fn emit_told(alloc: Global, document: &Value) -> Result<String> {
-    let schedule = schedule_of(alloc, document)?;
-    let flows = emit_flows(alloc, &schedule)?;
-    Ok(String::from_str(alloc, str::from_utf8(&flows)?)?)
-}
-
-/// The lines that are told of a document: the first broken rule or the first fault with its place, or
-/// what was read; of an audit what the command prints; the cash flows that are emitted.
-pub fn told(alloc: Global, reader: Reader, document: &Value) -> Result<String> {
-    match reader {
-        Reader::Terms => terms_told(alloc, document),
-        Reader::Flows => flows_told(alloc, document),
-        Reader::Audit => audit_told(alloc, document),
-        Reader::Emit => emit_told(alloc, document),
+impl fmt::Write for Told<'_> {
+    fn write_str(&mut self, text: &str) -> fmt::Result {
+        self.text(text);
+        Ok(())
     }
 }

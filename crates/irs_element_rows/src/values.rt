@@ -1,173 +1,153 @@
-//! The texts of the values of swaps and cash flows.
-use anyhow::Result;
+//! How the values of swaps and cash flows are told.
+use crate::told::Told;
 use irs_audit::StatedFraction;
-use irs_base::{Broken, Day, Dec, civil_of};
+use irs_base::{Broken, Day, Dec, Place};
 use irs_terms::{Adjustments, Centers, Currency, Dated, Frequency, Offset, StepValues, StubRate};
-use std::alloc::Global;
-use std::fmt::Debug;
 
-fn absent(alloc: Global) -> Result<String> {
-    Ok(String::from_str(alloc, "absent")?)
+/// A value that can be told.
+pub trait Tell {
+    /// Tells the value, as a part of a line.
+    fn tell(&self, told: &mut Told);
 }
 
-/// What may be absent.
-pub fn given<T: Debug>(alloc: Global, value: &Option<T>) -> Result<String> {
-    match value {
-        Some(value) => {
-            let text = format!(in alloc; "{value:?}")?;
-            Ok(text)
+/// A value that may be absent.
+impl<T: Tell> Tell for Option<T> {
+    fn tell(&self, told: &mut Told) {
+        match self {
+            Some(value) => value.tell(told),
+            None => told.text("absent"),
         }
-        None => absent(alloc),
     }
 }
 
-/// A broken rule: its name, the number of the stream, the element and the index.
-pub fn broken_text(alloc: Global, broken: &Broken) -> Result<String> {
-    let place = broken.place;
-    let text = format!(in alloc;
-        "{:?} {} {} {}",
-        broken.rule,
-        place.stream,
-        place.elem.path(),
-        place.index
-    )?;
-    Ok(text)
-}
-
-/// A broken rule that may be absent.
-pub fn given_broken(alloc: Global, broken: &Option<Broken>) -> Result<String> {
-    match broken {
-        Some(broken) => broken_text(alloc, broken),
-        None => absent(alloc),
+impl Tell for Day {
+    fn tell(&self, told: &mut Told) {
+        told.day(*self);
     }
 }
 
-// `YYYY-MM-DD`.
-fn day_text(alloc: Global, day: Day) -> Result<String> {
-    let date = civil_of(day);
-    let text = format!(in alloc; "{}-{:02}-{:02}", date.year, date.month, date.day)?;
-    Ok(text)
+/// The number of the stream, the element and the index.
+impl Tell for Place {
+    fn tell(&self, told: &mut Told) {
+        told.number(self.stream);
+        told.text(" ");
+        told.text(self.elem.path());
+        told.text(" ");
+        told.number(self.index);
+    }
 }
 
-/// A day that may be absent.
-pub fn given_day(alloc: Global, day: Option<Day>) -> Result<String> {
-    match day {
-        Some(day) => day_text(alloc, day),
-        None => absent(alloc),
+/// The name of the rule, then the place.
+impl Tell for Broken {
+    fn tell(&self, told: &mut Told) {
+        told.debug(&self.rule);
+        told.text(" ");
+        self.place.tell(told);
     }
 }
 
 /// The multiplier and the unit.
-pub fn frequency_text(alloc: Global, frequency: Frequency) -> Result<String> {
-    let text = format!(in alloc; "{} {:?}", frequency.count, frequency.unit)?;
-    Ok(text)
-}
-
-/// A frequency that may be absent.
-pub fn given_frequency(alloc: Global, frequency: Option<Frequency>) -> Result<String> {
-    match frequency {
-        Some(frequency) => frequency_text(alloc, frequency),
-        None => absent(alloc),
+impl Tell for Frequency {
+    fn tell(&self, told: &mut Told) {
+        told.number(self.count);
+        told.text(" ");
+        told.debug(&self.unit);
     }
 }
 
 /// The days and the kind of days.
-pub fn offset_text(alloc: Global, offset: Offset) -> Result<String> {
-    let text = format!(in alloc; "{} {:?}", offset.days, offset.kind)?;
-    Ok(text)
+impl Tell for Offset {
+    fn tell(&self, told: &mut Told) {
+        told.number(self.days);
+        told.text(" ");
+        told.debug(&self.kind);
+    }
 }
 
-// The names of the centres, or what stands in their place.
-fn centers_text(alloc: Global, centers: &Centers) -> Result<String> {
-    let mut text = String::new(alloc);
-    match centers {
-        Centers::Absent => text.push_str(" absent")?,
-        Centers::Dangling => text.push_str(" dangling")?,
-        Centers::Listed(names) => for name in names.as_slice() {
-            text.push_str(" ")?;
-            text.push_str(str::from_utf8(name.as_slice())?)?;
-        },
+/// The names of the centres, or what stands in their place, a space before each.
+impl Tell for Centers {
+    fn tell(&self, told: &mut Told) {
+        match self {
+            Centers::Absent => told.text(" absent"),
+            Centers::Dangling => told.text(" dangling"),
+            Centers::Listed(names) => for name in names.as_slice() {
+                told.text(" ");
+                told.bytes(name.as_slice());
+            },
+        }
     }
-    Ok(text)
 }
 
 /// The convention, then the centres.
-pub fn adjustments_text(alloc: Global, adjustments: &Adjustments) -> Result<String> {
-    let centers = centers_text(alloc, &adjustments.centers)?;
-    let text = format!(in alloc; "{:?}{centers}", adjustments.code)?;
-    Ok(text)
+impl Tell for Adjustments {
+    fn tell(&self, told: &mut Told) {
+        told.debug(&self.code);
+        self.centers.tell(told);
+    }
 }
 
 /// The day, then its adjustments.
-pub fn dated_text(alloc: Global, dated: &Dated) -> Result<String> {
-    let day = day_text(alloc, dated.day)?;
-    let adjustments = adjustments_text(alloc, &dated.adj)?;
-    let text = format!(in alloc; "{day} {adjustments}")?;
-    Ok(text)
-}
-
-/// A date with its adjustments that may be absent.
-pub fn given_dated(alloc: Global, dated: &Option<Dated>) -> Result<String> {
-    match dated {
-        Some(dated) => dated_text(alloc, dated),
-        None => absent(alloc),
+impl Tell for Dated {
+    fn tell(&self, told: &mut Told) {
+        told.day(self.day);
+        told.text(" ");
+        self.adj.tell(told);
     }
 }
 
-/// The first value, then the day and the value of each step.
-pub fn steps_text(alloc: Global, values: &StepValues) -> Result<String> {
-    let mut text = format!(in alloc; "{}", values.initial)?;
-    for step in values.steps.as_slice() {
-        let day = day_text(alloc, step.day)?;
-        let item = format!(in alloc; ", {} from {day}", step.value)?;
-        text.push_str(&item)?;
+/// The first value, then the value and the day of each step.
+impl Tell for StepValues {
+    fn tell(&self, told: &mut Told) {
+        told.number(self.initial);
+        for step in self.steps.as_slice() {
+            told.text(", ");
+            told.number(step.value);
+            told.text(" from ");
+            told.day(step.day);
+        }
     }
-    Ok(text)
 }
 
 /// A stub's index with its tenor, or its rate.
-pub fn given_stub(alloc: Global, stub: &Option<StubRate>) -> Result<String> {
-    match stub {
-        None => absent(alloc),
-        Some(StubRate::Fixed(rate)) => {
-            let text = format!(in alloc; "rate {rate}")?;
-            Ok(text)
-        }
-        Some(StubRate::Index(index, tenor)) => {
-            let index = str::from_utf8(index.as_slice())?;
-            let tenor = given_frequency(alloc, *tenor)?;
-            let text = format!(in alloc; "index {index}, tenor {tenor}")?;
-            Ok(text)
+impl Tell for StubRate {
+    fn tell(&self, told: &mut Told) {
+        match self {
+            StubRate::Fixed(rate) => {
+                told.text("rate ");
+                told.number(*rate);
+            }
+            StubRate::Index(index, tenor) => {
+                told.text("index ");
+                told.bytes(index.as_slice());
+                told.text(", tenor ");
+                tenor.tell(told);
+            }
         }
     }
 }
 
-/// A currency that may be absent.
-pub fn given_currency(alloc: Global, currency: Option<Currency>) -> Result<String> {
-    match currency {
-        Some(currency) => Ok(String::from_str(alloc, str::from_utf8(&currency.letters)?)?),
-        None => absent(alloc),
+impl Tell for Currency {
+    fn tell(&self, told: &mut Told) {
+        told.bytes(&self.letters);
     }
 }
 
-/// A decimal that may be absent: its units, and the number of its decimals.
-pub fn given_dec(alloc: Global, number: Option<Dec>) -> Result<String> {
-    match number {
-        Some(number) => {
-            let text = format!(in alloc; "{} of {} decimals", number.units, number.places)?;
-            Ok(text)
-        }
-        None => absent(alloc),
+// The units of a decimal, and the number of its decimals.
+fn tell_decimal(told: &mut Told, units: i128, places: u8) {
+    told.number(units);
+    told.text(" of ");
+    told.number(places);
+    told.text(" decimals");
+}
+
+impl Tell for Dec {
+    fn tell(&self, told: &mut Told) {
+        tell_decimal(told, self.units, self.places);
     }
 }
 
-/// A stated fraction that may be absent: its units, and the number of its decimals.
-pub fn given_fraction(alloc: Global, fraction: Option<StatedFraction>) -> Result<String> {
-    match fraction {
-        Some(fraction) => {
-            let text = format!(in alloc; "{} of {} decimals", fraction.units, fraction.places)?;
-            Ok(text)
-        }
-        None => absent(alloc),
+impl Tell for StatedFraction {
+    fn tell(&self, told: &mut Told) {
+        tell_decimal(told, self.units, self.places);
     }
 }

@@ -1,12 +1,11 @@
 //! The words of a command line.
-use anyhow::Result;
 use std::alloc::Global;
 
 /// What stands between the spaces of a line.
-pub fn words_of(alloc: Global, line: &str) -> Result<Vec<String>> {
+pub fn words_of(alloc: Global, line: &str) -> Option<Vec<String>> {
     let mut words = Vec::new(alloc);
     for word in line.split(' ') {
-        words.push(String::from_str(alloc, word)?)?;
+        words.push(String::from_str(alloc, word).ok()?).ok()?;
     }
-    Ok(words)
+    Some(words)
 }

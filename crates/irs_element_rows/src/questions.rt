@@ -1,0 +1,82 @@
+//! What a row asks, and who answers.
+use crate::edits::make_edits;
+use crate::file_rows::tell_files;
+use crate::json_rows::tell_json;
+use crate::leaf_rows::tell_leaf;
+use crate::order_rows::tell_order;
+use crate::readers::Reader;
+use crate::sentence_rows::tell_sentence;
+use crate::sink_rows::tell_sinks;
+use crate::told::Told;
+use irs_json::{Value, parse};
+use std::fs;
+
+/// Of what the rows of a file ask.
+#[derive(Clone, Copy)]
+pub enum Subject {
+    /// Documents, by one of their readers.
+    Documents(Reader),
+    /// The texts of leaves, by irs_elements.
+    Leaves,
+    /// JSON texts, by irs_json, and by irs_read the way to the swap.
+    Json,
+    /// The order of broken rules, by irs_elements.
+    Order,
+    /// Files in memory and real ones, by irs_outside.
+    Files,
+    /// Sinks in memory, by irs_outside and irs_plain.
+    Sinks,
+    /// The sentences for lines of the program, by irs_plain.
+    Sentences,
+}
+
+/// What a row asks.
+#[derive(Clone, Copy)]
+pub struct Question<'a> {
+    /// Of what it asks.
+    subject: Subject,
+    /// What is asked, or the file of a document.
+    kind: &'a str,
+    /// What it is asked of, or the edits of the document.
+    given: &'a str,
+}
+
+// The document of a file.
+fn document_of(rt: &HostRuntime, file: &str) -> Option<Value> {
+    let text = fs::read_to_string(rt, file).ok()?;
+    parse(rt.alloc(), text.as_bytes()).ok()
+}
+
+impl<'a> Question<'a> {
+    /// The question of a kind, and of what it is asked.
+    pub fn new(subject: Subject, kind: &'a str, given: &'a str) -> Question<'a> {
+        Question {
+            subject,
+            kind,
+            given,
+        }
+    }
+
+    // The lines of a document behind its edits.
+    fn tell_document(self, told: &mut Told, rt: &HostRuntime, reader: Reader) -> Option<()> {
+        let mut document = document_of(rt, self.kind)?;
+        make_edits(rt.alloc(), &mut document, self.given)?;
+        reader.tell(told, rt.alloc(), &document)
+    }
+
+    /// Tells the answer: of a document its lines, else one line.
+    pub fn tell(self, told: &mut Told, rt: &HostRuntime) -> Option<()> {
+        let (alloc, kind, given) = (rt.alloc(), self.kind, self.given);
+        match self.subject {
+            Subject::Documents(reader) => return self.tell_document(told, rt, reader),
+            Subject::Leaves => tell_leaf(told, alloc, kind, given)?,
+            Subject::Json => tell_json(told, alloc, kind, given)?,
+            Subject::Order => tell_order(told, kind, given)?,
+            Subject::Files => tell_files(told, rt, kind, given)?,
+            Subject::Sinks => tell_sinks(told, alloc, kind, given)?,
+            Subject::Sentences => tell_sentence(told, alloc, kind, given)?,
+        }
+        told.end_line();
+        Some(())
+    }
+}
