@@ -8,9 +8,8 @@ ghost use Rattle.std.specs.Prelude.{IsTrue, All};
 ghost use Rattle.irs_compound.specs.Amounts.{IsFraction, IsPayment, IsTerm};
 ghost use Rattle.irs_terms.specs.Lawful.{IsNotional};
 
-use crate::texts::dec_text;
+use crate::telling::Told;
 use crate::values::{fraction_of, rate_of};
-use anyhow::{Context, Result, bail};
 use irs_base::{Dec, MOST_PERIODS, read_dec};
 use irs_compound::{OutOfRange, PeriodTerm, Rates, payment_amount};
 use irs_elements::codes::compounding;
@@ -60,70 +59,67 @@ fn is_payment(periods: &[PeriodTerm]) -> bool
     }
 }
 
-fn notional_of(text: &str) -> Result<i128> {
-    read_dec(text.as_bytes(), 4).context("no notional")
-}
-
-fn rates_of(text: &str) -> Result<Option<Rates>> {
+fn rates_of(text: &str) -> Option<Option<Rates>> {
     if text == "unknown" {
-        return Ok(None);
+        return Some(None);
     }
-    let (base, all_in) = text.split_once(' ').context("two rates")?;
-    Ok(Some(Rates {
+    let (base, all_in) = text.split_once(' ')?;
+    Some(Some(Rates {
         base: rate_of(base)?,
         all_in: rate_of(all_in)?,
     }))
 }
 
-fn period_of(text: &str) -> Result<PeriodTerm> {
-    let (notional, rest) = text.split_once(' ').context("a period has rates")?;
-    let (rates, fraction) = rest.rsplit_once(' ').context("a period has a fraction")?;
-    Ok(PeriodTerm {
-        notional: notional_of(notional)?,
+fn period_of(text: &str) -> Option<PeriodTerm> {
+    let (notional, rest) = text.split_once(' ')?;
+    let (rates, fraction) = rest.rsplit_once(' ')?;
+    Some(PeriodTerm {
+        notional: read_dec(notional.as_bytes(), 4)?,
         rates: rates_of(rates)?,
         frac: fraction_of(fraction)?,
     })
 }
 
-fn push_periods(periods: &mut Vec<PeriodTerm>, text: &str) -> Result<()> {
+// A period, as many times as its text says.
+fn push_repeated(periods: &mut Vec<PeriodTerm>, text: &str) -> Option<()> {
     let (count, text) = text.split_once(" * ").unwrap_or(("1", text));
     let period = period_of(text)?;
-    for _ in 0..count.parse::<u32>()? {
-        periods.push(period)?;
+    for _ in 0..count.parse::<u32>().ok()? {
+        periods.push(period).ok()?;
     }
-    Ok(())
+    Some(())
 }
 
-fn answer_told(
-    alloc: Global,
-    answer: Result<Option<i128>, OutOfRange>,
-    places: u8,
-) -> Result<String> {
-    match answer {
-        Ok(Some(units)) => dec_text(alloc, Dec { units, places }),
-        Ok(None) => Ok(String::from_str(alloc, "unknown")?),
-        Err(out) => {
-            let text = format!(in alloc; "out of range in period {}", out.period)?;
-            Ok(text)
-        }
-    }
-}
-
-fn amount_told(alloc: Global, code: CompCode, text: &str, places: u8) -> Result<String> {
-    let mut periods = Vec::new(alloc);
+fn push_periods(periods: &mut Vec<PeriodTerm>, text: &str) -> Option<()> {
     for each in text.split(" ; ") {
-        push_periods(&mut periods, each)?;
+        push_repeated(periods, each)?;
     }
-    if places > 3 || !is_payment(&periods) {
-        bail!("no payment");
+    Some(())
+}
+
+fn answer_told(told: &mut Told, answer: Result<Option<i128>, OutOfRange>, places: u8) {
+    match answer {
+        Ok(Some(units)) => told.dec("", Dec { units, places }),
+        Ok(None) => told.text("unknown"),
+        Err(out) => told.number("out of range in period ", out.period),
     }
-    answer_told(alloc, payment_amount(code, &periods, places), places)
+    told.end();
+}
+
+fn amount_told(told: &mut Told, code: CompCode, periods: &[PeriodTerm], places: u8) -> Option<()> {
+    if places > 3 || !is_payment(periods) {
+        return None;
+    }
+    answer_told(told, payment_amount(code, periods, places), places);
+    Some(())
 }
 
 /// The amount of a payment.
-pub fn amount_lines(alloc: Global, row: &str) -> Result<String> {
-    let (method, rest) = row.split_once(" | ").context("a row has periods")?;
-    let (periods, places) = rest.split_once(" | ").context("a row has decimals")?;
-    let code = compounding(method).context("no compounding method")?;
-    amount_told(alloc, code, periods, places.parse::<u8>()?)
+pub fn amount_lines(told: &mut Told, alloc: Global, row: &str) -> Option<()> {
+    let (method, rest) = row.split_once(" | ")?;
+    let (texts, places) = rest.split_once(" | ")?;
+    let (code, places) = (compounding(method)?, places.parse::<u8>().ok()?);
+    let mut periods = Vec::new(alloc);
+    push_periods(&mut periods, texts)?;
+    amount_told(told, code, &periods, places)
 }

@@ -3,7 +3,6 @@
 ghost use Rattle.std.specs.Prelude.{ℤ, ◌≤ℤ◌, IsTrue};
 ghost use Rattle.irs_base.specs.Listed.{AllAfter, IsRising, Member, RunsFromTo};
 
-use anyhow::{Context, Result};
 use irs_base::{Day, DayList, read_date};
 use std::alloc::Global;
 
@@ -17,29 +16,33 @@ pub struct Boundaries {
 }
 
 /// A day that is written `YYYY-MM-DD`.
-pub fn day(text: &str) -> Result<Day> {
-    read_date(text.as_bytes()).context("no such day")
+pub fn day(text: &str) -> Option<Day> {
+    read_date(text.as_bytes())
 }
 
 /// An unadjusted day and the adjusted one.
-pub fn dates(text: &str) -> Result<(Day, Day)> {
+pub fn dates(text: &str) -> Option<(Day, Day)> {
     let (first, second) = text.split_once('/').unwrap_or((text, text));
-    Ok((day(first)?, day(second)?))
+    Some((day(first)?, day(second)?))
+}
+
+fn push_boundaries(boundaries: &mut Boundaries, text: &str) -> Option<()> {
+    for word in text.split(' ') {
+        let (first, second) = dates(word)?;
+        boundaries.unadjusted.push(first).ok()?;
+        boundaries.adjusted.push(second).ok()?;
+    }
+    Some(())
 }
 
 /// The boundaries of a text.
-pub fn boundaries_of(alloc: Global, text: &str) -> Result<Boundaries> {
-    let mut unadjusted = DayList::new(alloc);
-    let mut adjusted = DayList::new(alloc);
-    for word in text.split(' ') {
-        let (first, second) = dates(word)?;
-        unadjusted.push(first)?;
-        adjusted.push(second)?;
-    }
-    Ok(Boundaries {
-        unadjusted,
-        adjusted,
-    })
+pub fn boundaries_of(alloc: Global, text: &str) -> Option<Boundaries> {
+    let mut boundaries = Boundaries {
+        unadjusted: DayList::new(alloc),
+        adjusted: DayList::new(alloc),
+    };
+    push_boundaries(&mut boundaries, text)?;
+    Some(boundaries)
 }
 
 fn is_before_all(d: Day, days: &[Day]) -> bool

@@ -8,8 +8,7 @@ ghost use Rattle.irs_base.specs.Limits.{most_bytes};
 
 use crate::boundaries::day;
 use crate::files::file_of;
-use crate::texts::day_text;
-use anyhow::{Context, Result, bail};
+use crate::telling::Told;
 use irs_base::{Day, MOST_BYTES, MOST_CENTERS, MOST_FILES, Names, Text};
 use irs_calendar::{CalErr, Calendars, GoodDays, RunSet, SelErr};
 use std::alloc::Global;
@@ -23,81 +22,107 @@ fn are_short(files: &[Vec<u8>]) -> bool
     }
 }
 
-fn files_of(rt: &HostRuntime, text: &str) -> Result<Vec<Vec<u8>>> {
-    let mut files = Vec::new(rt.alloc());
+fn push_files(rt: &HostRuntime, files: &mut Vec<Vec<u8>>, text: &str) -> Option<()> {
     for each in text.split(" // ") {
-        files.push(file_of(rt, each)?)?;
+        files.push(file_of(rt, each)?).ok()?;
     }
-    Ok(files)
+    Some(())
 }
 
-fn fault_told(alloc: Global, fault: CalErr) -> Result<String> {
-    let text = match fault {
-        CalErr::Memory => bail!("no memory"),
-        CalErr::Syntax(file, line) => format!(in alloc; "syntax in file {file}, line {line}")?,
-        CalErr::Repeat(file, line) => format!(in alloc; "repeat in file {file}, line {line}")?,
-        CalErr::TooMany(file, line) => format!(in alloc; "too many in file {file}, line {line}")?,
+fn fault_told(told: &mut Told, fault: CalErr) -> Option<()> {
+    let (word, file, line) = match fault {
+        CalErr::Memory => return None,
+        CalErr::Syntax(file, line) => ("syntax in file ", file, line),
+        CalErr::Repeat(file, line) => ("repeat in file ", file, line),
+        CalErr::TooMany(file, line) => ("too many in file ", file, line),
     };
-    Ok(text)
-}
-
-fn given_day(alloc: Global, d: Option<Day>) -> Result<String> {
-    match d {
-        Some(d) => day_text(alloc, d),
-        None => Ok(String::from_str(alloc, "none")?),
-    }
+    told.number(word, file);
+    told.number(", line ", line);
+    told.end();
+    Some(())
 }
 
 // Whether the day is good, the next good day and the one before.
-fn day_told(alloc: Global, days: &RunSet, d: Day) -> Result<String> {
+fn day_told(told: &mut Told, days: &RunSet, d: Day) {
     let word = if days.is_good(d) { "good" } else { "not good" };
-    let next = given_day(alloc, days.next_good(d))?;
-    let before = given_day(alloc, days.prev_good(d))?;
-    let text = format!(in alloc; "{word}\nnext {next}\nbefore {before}")?;
-    Ok(text)
+    told.line(word);
+    told.given_day("next ", days.next_good(d));
+    told.given_day("before ", days.prev_good(d));
 }
 
-fn days_told(alloc: Global, days: &RunSet, date: &str) -> Result<String> {
+fn days_told(told: &mut Told, days: &RunSet, date: &str) -> Option<()> {
     if date.is_empty() {
-        let text = format!(in alloc; "{} runs of good days", days.count())?;
-        return Ok(text);
+        told.number("", days.count());
+        told.line(" runs of good days");
+    } else {
+        day_told(told, days, day(date)?);
     }
-    day_told(alloc, days, day(date)?)
+    Some(())
 }
 
-fn names_of(alloc: Global, centers: &str) -> Result<Names> {
-    let mut names = Names::new(alloc);
+fn push_names(alloc: Global, names: &mut Names, centers: &str) -> Option<()> {
     for center in centers.split_whitespace() {
-        names.push(Text::from_bytes(alloc, center.as_bytes())?)?;
+        names
+            .push(Text::from_bytes(alloc, center.as_bytes()).ok()?)
+            .ok()?;
     }
-    Ok(names)
+    Some(())
 }
 
-fn selected(alloc: Global, calendars: &Calendars, centers: &str, date: &str) -> Result<String> {
-    let names = names_of(alloc, centers)?;
+fn selected(
+    told: &mut Told,
+    alloc: Global,
+    calendars: &Calendars,
+    names: &Names,
+    date: &str,
+) -> Option<()> {
     if names.len() > MOST_CENTERS as usize {
-        bail!("too many centres");
+        return None;
     }
-    match calendars.select(alloc, &names) {
-        Ok(days) => days_told(alloc, &days, date),
+    match calendars.select(alloc, names) {
+        Ok(days) => days_told(told, &days, date),
         Err(SelErr::NoCenter(number)) => {
-            let text = format!(in alloc; "centre {number} is missing")?;
-            Ok(text)
+            told.number("centre ", number);
+            told.line(" is missing");
+            Some(())
         }
-        Err(SelErr::Memory) => bail!("no memory"),
+        Err(SelErr::Memory) => None,
+    }
+}
+
+fn centers_told(
+    told: &mut Told,
+    alloc: Global,
+    calendars: &Calendars,
+    centers: &str,
+    date: &str,
+) -> Option<()> {
+    let mut names = Names::new(alloc);
+    push_names(alloc, &mut names, centers)?;
+    selected(told, alloc, calendars, &names, date)
+}
+
+fn files_told(
+    told: &mut Told,
+    alloc: Global,
+    files: &[Vec<u8>],
+    centers: &str,
+    date: &str,
+) -> Option<()> {
+    if files.len() > MOST_FILES as usize || !are_short(files) {
+        return None;
+    }
+    match Calendars::read(alloc, files) {
+        Ok(calendars) => centers_told(told, alloc, &calendars, centers, date),
+        Err(fault) => fault_told(told, fault),
     }
 }
 
 /// What is told of calendars.
-pub fn calendar_lines(rt: &HostRuntime, row: &str) -> Result<String> {
-    let (files, rest) = row.split_once(" | ").context("a row has centres")?;
-    let (centers, date) = rest.split_once(" | ").context("a row has a day")?;
-    let files = files_of(rt, files)?;
-    if files.len() > MOST_FILES as usize || !are_short(&files) {
-        bail!("too long");
-    }
-    match Calendars::read(rt.alloc(), &files) {
-        Ok(calendars) => selected(rt.alloc(), &calendars, centers, date),
-        Err(fault) => fault_told(rt.alloc(), fault),
-    }
+pub fn calendar_lines(told: &mut Told, rt: &HostRuntime, row: &str) -> Option<()> {
+    let (texts, rest) = row.split_once(" | ")?;
+    let (centers, date) = rest.split_once(" | ")?;
+    let mut files = Vec::new(rt.alloc());
+    push_files(rt, &mut files, texts)?;
+    files_told(told, rt.alloc(), &files, centers, date)
 }

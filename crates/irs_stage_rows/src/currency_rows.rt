@@ -1,11 +1,11 @@
 //! What is told of a currency: how many decimals its amounts have.
-use anyhow::{Context, Result};
+use crate::telling::Told;
 use irs_elements::words::currency;
-use std::alloc::Global;
 
 /// The decimals of a currency.
-pub fn currency_lines(alloc: Global, row: &str) -> Result<String> {
-    let currency = currency(row.as_bytes()).context("no currency")?;
-    let text = format!(in alloc; "{}", currency.places())?;
-    Ok(text)
+pub fn currency_lines(told: &mut Told, row: &str) -> Option<()> {
+    let currency = currency(row.as_bytes())?;
+    told.number("", currency.places());
+    told.end();
+    Some(())
 }

@@ -1,113 +1,92 @@
 //! Edits of a stream's document.
+//!
+//! An edit is at a place of a stream, which is named by the names on its way from the stream, `/`
+//! between them: `put PLACE TEXT`, what the JSON text says in place of what stands there; `take PLACE`,
+//! nothing in place of it; `add PLACE TEXT`, what the JSON text says behind the items there.
 use crate::words::meaning_of;
-use anyhow::{Context, Result, bail};
 use irs_json::{Value, parse};
 use std::alloc::Global;
 
-/// An edit at a place of a stream. A place is named by the names on its way from the stream, `/`
-/// between them.
-#[derive(Clone, Copy)]
-enum Edit<'a> {
-    /// `put PLACE TEXT`: what the JSON text says, in place of what stands there.
-    Put { place: &'a str, text: &'a str },
-    /// `take PLACE`: nothing in place of what stands there.
-    Take { place: &'a str },
-    /// `add PLACE TEXT`: what the JSON text says, behind what stands there.
-    Add { place: &'a str, text: &'a str },
+/// Where nothing stands, an item is put behind these.
+const NO_ITEMS: &str = "[]";
+
+// What stands at a place.
+fn at<'a>(alloc: Global, stream: &'a mut Value, place: &str) -> Option<&'a mut Value> {
+    let pointer = format!(in alloc; "/{place}").ok()?;
+    stream.pointer_mut(&pointer)
 }
 
-// The edit of a text.
-fn edit_of(text: &str) -> Result<Edit> {
-    let (verb, rest) = text.split_once(' ').context("no edit")?;
-    match verb {
-        "put" => {
-            let (place, text) = rest.split_once(' ').context("what is put")?;
-            Ok(Edit::Put { place, text })
-        }
-        "take" => Ok(Edit::Take { place: rest }),
-        "add" => {
-            let (place, text) = rest.split_once(' ').context("what is added")?;
-            Ok(Edit::Add { place, text })
-        }
-        _ => bail!("no edit"),
-    }
-}
-
-// The place above, and the name below it.
+// What stands above a place, and the name of the place below it.
 fn above<'a>(
     alloc: Global,
     stream: &'a mut Value,
     place: &'a str,
-) -> Result<(&'a mut Value, &'a str)> {
+) -> Option<(&'a mut Value, &'a str)> {
     match place.rsplit_once('/') {
-        Some((way, name)) => {
-            let pointer = format!(in alloc; "/{way}")?;
-            let above = stream
-                .pointer_mut(&pointer)
-                .context("nothing stands at the place")?;
-            Ok((above, name))
-        }
-        None => Ok((stream, place)),
+        Some((way, name)) => Some((at(alloc, stream, way)?, name)),
+        None => Some((stream, place)),
     }
 }
 
-// Puts a value at a place, or takes away what stands there.
-fn set(alloc: Global, stream: &mut Value, place: &str, value: Option<Value>) -> Result<()> {
+// Puts what a JSON text says at a place.
+fn put(alloc: Global, stream: &mut Value, place: &str, text: &str) -> Option<()> {
     let (above, name) = above(alloc, stream, place)?;
-    let members = above.as_object_mut().context("no object holds the place")?;
-    match value {
-        Some(value) => {
-            members.insert(String::from_str(alloc, name)?, value)?;
-        }
-        None => {
-            members.remove(name);
-        }
-    }
-    Ok(())
+    let members = above.as_object_mut()?;
+    let value = parse(alloc, text.as_bytes()).ok()?;
+    let name = String::from_str(alloc, name).ok()?;
+    members.insert(name, value).ok()?;
+    Some(())
 }
 
-// Puts a value behind the items at a place.
-fn add(alloc: Global, stream: &mut Value, place: &str, value: Value) -> Result<()> {
-    let pointer = format!(in alloc; "/{place}")?;
-    if let Some(items) = stream.pointer_mut(&pointer) {
-        let items = items.as_array_mut().context("no items stand at the place")?;
-        items.push(value)?;
-        return Ok(());
-    }
-    let mut items = Vec::new(alloc);
-    items.push(value)?;
-    set(alloc, stream, place, Some(Value::Array(items)))
+// Takes away what stands at a place.
+fn take(alloc: Global, stream: &mut Value, place: &str) -> Option<()> {
+    let (above, name) = above(alloc, stream, place)?;
+    above.as_object_mut()?.remove(name);
+    Some(())
 }
 
-fn make(alloc: Global, stream: &mut Value, edit: Edit) -> Result<()> {
-    match edit {
-        Edit::Put { place, text } => {
-            let value = parse(alloc, text.as_bytes())?;
-            set(alloc, stream, place, Some(value))
-        }
-        Edit::Take { place } => set(alloc, stream, place, None),
-        Edit::Add { place, text } => {
-            let value = parse(alloc, text.as_bytes())?;
-            add(alloc, stream, place, value)
-        }
+// Puts what a JSON text says behind the items at a place.
+fn add(alloc: Global, stream: &mut Value, place: &str, text: &str) -> Option<()> {
+    if at(alloc, stream, place).is_none() {
+        put(alloc, stream, place, NO_ITEMS)?;
     }
+    let items = at(alloc, stream, place)?.as_array_mut()?;
+    items.push(parse(alloc, text.as_bytes()).ok()?).ok()
+}
+
+fn make(alloc: Global, stream: &mut Value, edit: &str) -> Option<()> {
+    let (verb, rest) = edit.split_once(' ')?;
+    if verb == "take" {
+        return take(alloc, stream, rest);
+    }
+    let (place, text) = rest.split_once(' ')?;
+    match verb {
+        "put" => put(alloc, stream, place, text),
+        "add" => add(alloc, stream, place, text),
+        _ => None,
+    }
+}
+
+// Makes edits, `;` between them, one behind the other.
+fn make_all(alloc: Global, stream: &mut Value, edits: &str) -> Option<()> {
+    for edit in edits.split(" ; ") {
+        make(alloc, stream, edit)?;
+    }
+    Some(())
 }
 
 // Makes the edits for which a word stands.
-fn make_word(alloc: Global, words: &str, stream: &mut Value, word: &str) -> Result<()> {
+fn make_word(alloc: Global, words: &str, stream: &mut Value, word: &str) -> Option<()> {
     let meaning = meaning_of(alloc, words, word)?;
-    for edit in meaning.split(" ; ") {
-        make(alloc, stream, edit_of(edit)?)?;
-    }
-    Ok(())
+    make_all(alloc, stream, &meaning)
 }
 
 /// Makes edits, `;` between them, one behind the other; each is an edit or a word for edits.
-pub fn make_edits(alloc: Global, words: &str, stream: &mut Value, edits: &str) -> Result<()> {
+pub fn make_edits(alloc: Global, words: &str, stream: &mut Value, edits: &str) -> Option<()> {
     for word in edits.split(" ; ") {
         if !word.is_empty() {
             make_word(alloc, words, stream, word)?;
         }
     }
-    Ok(())
+    Some(())
 }

@@ -3,81 +3,82 @@
 //! In a text stands `\n` for the end of a line, `\r` for a return, `\t` for a tab, `\#` for a `#`,
 //! `\xff` for that byte, `\A` for as many `A` as the number behind it says, and `\D` for a line each
 //! of as many days as the number behind it says, from 1901-01-01 on; `\.` ends such a number.
-use crate::texts::day_text;
-use anyhow::{Context, Result, bail};
-use irs_base::{Day, plus};
+use irs_base::{Day, day_digits, plus};
 use std::alloc::Global;
 use std::fs;
 
-/// The bytes that have a name behind a `\`.
-const ESCAPES: [(&str, u8); 5] = [
-    ("n", b'\n'),
-    ("r", b'\r'),
-    ("t", b'\t'),
-    ("#", b'#'),
-    ("xff", 0xff),
+/// What has a name behind a `\`.
+const ESCAPES: [(&str, &[u8]); 6] = [
+    ("n", b"\n"),
+    ("r", b"\r"),
+    ("t", b"\t"),
+    ("#", b"#"),
+    ("xff", b"\xff"),
+    (".", b""),
 ];
 
-fn push_many(bytes: &mut Vec<u8>, count: u32) -> Result<()> {
-    for _ in 0..count {
-        bytes.push(b'A')?;
+fn push_many(bytes: &mut Vec<u8>, count: &str) -> Option<()> {
+    for _ in 0..count.parse::<u32>().ok()? {
+        bytes.push(b'A').ok()?;
     }
-    Ok(())
+    Some(())
 }
 
-fn push_days(alloc: Global, bytes: &mut Vec<u8>, count: u32) -> Result<()> {
-    for k in 0..count {
-        let day = plus(Day::earliest(), i64::from(k)).context("out of range")?;
-        bytes.extend_from_slice(day_text(alloc, day)?.as_bytes())?;
-        bytes.push(b'\n')?;
+fn push_days(bytes: &mut Vec<u8>, count: &str) -> Option<()> {
+    for k in 0..count.parse::<u32>().ok()? {
+        let day = plus(Day::earliest(), i64::from(k))?;
+        bytes.extend_from_slice(&day_digits(day)).ok()?;
+        bytes.push(b'\n').ok()?;
     }
-    Ok(())
+    Some(())
+}
+
+fn push_named(bytes: &mut Vec<u8>, text: &str) -> Option<()> {
+    for (name, named) in ESCAPES {
+        if let Some(rest) = text.strip_prefix(name) {
+            bytes.extend_from_slice(named).ok()?;
+            return bytes.extend_from_slice(rest.as_bytes()).ok();
+        }
+    }
+    None
 }
 
 // The bytes for which a text behind a `\` stands.
-fn push_escaped(alloc: Global, bytes: &mut Vec<u8>, text: &str) -> Result<()> {
+fn push_escaped(bytes: &mut Vec<u8>, text: &str) -> Option<()> {
     if let Some(count) = text.strip_prefix("A") {
-        return push_many(bytes, count.parse::<u32>()?);
+        return push_many(bytes, count);
     }
-    if let Some(count) = text.strip_prefix("D") {
-        return push_days(alloc, bytes, count.parse::<u32>()?);
+    match text.strip_prefix("D") {
+        Some(count) => push_days(bytes, count),
+        None => push_named(bytes, text),
     }
-    if let Some(rest) = text.strip_prefix(".") {
-        bytes.extend_from_slice(rest.as_bytes())?;
-        return Ok(());
+}
+
+fn push_text(bytes: &mut Vec<u8>, text: &str) -> Option<()> {
+    let mut parts = text.split('\\');
+    bytes.extend_from_slice(parts.next()?.as_bytes()).ok()?;
+    for part in parts {
+        push_escaped(bytes, part)?;
     }
-    for (name, byte) in ESCAPES {
-        if let Some(rest) = text.strip_prefix(name) {
-            bytes.push(byte)?;
-            bytes.extend_from_slice(rest.as_bytes())?;
-            return Ok(());
-        }
-    }
-    bail!("no such escape")
+    Some(())
 }
 
 /// The bytes of a text.
-pub fn bytes_of(alloc: Global, text: &str) -> Result<Vec<u8>> {
+pub fn bytes_of(alloc: Global, text: &str) -> Option<Vec<u8>> {
     let mut bytes = Vec::new(alloc);
-    let mut is_first = true;
-    for part in text.split('\\') {
-        if is_first {
-            bytes.extend_from_slice(part.as_bytes())?;
-        } else {
-            push_escaped(alloc, &mut bytes, part)?;
-        }
-        is_first = false;
-    }
-    Ok(bytes)
+    push_text(&mut bytes, text)?;
+    Some(bytes)
+}
+
+fn bytes_in(rt: &HostRuntime, name: &str) -> Option<Vec<u8>> {
+    let text = fs::read_to_string(rt, name).ok()?;
+    Vec::from_slice(rt.alloc(), text.as_bytes()).ok()
 }
 
 /// The bytes of a file that a row gives.
-pub fn file_of(rt: &HostRuntime, text: &str) -> Result<Vec<u8>> {
+pub fn file_of(rt: &HostRuntime, text: &str) -> Option<Vec<u8>> {
     match text.strip_prefix("@") {
-        Some(name) => {
-            let text = fs::read_to_string(rt, name)?;
-            Ok(Vec::from_slice(rt.alloc(), text.as_bytes())?)
-        }
+        Some(name) => bytes_in(rt, name),
         None => bytes_of(rt.alloc(), text),
     }
 }

@@ -4,41 +4,54 @@
 //! A row gives the file or `no file`, then the tenor or `-`.
 use crate::boundaries::day;
 use crate::files::file_of;
-use crate::texts::given_rate;
+use crate::telling::Told;
 use crate::values::tenor_of;
-use anyhow::{Context, Result, bail};
 use irs_base::{MOST_BYTES, Text};
 use irs_resets::{FixErr, Fixings};
+use irs_terms::Frequency;
 use std::alloc::Global;
 
-fn fault_told(alloc: Global, fault: FixErr) -> Result<String> {
-    let text = match fault {
-        FixErr::Memory => bail!("no memory"),
-        FixErr::Syntax(line) => format!(in alloc; "syntax in line {line}")?,
-        FixErr::Repeat(line) => format!(in alloc; "repeat in line {line}")?,
+fn fault_told(told: &mut Told, fault: FixErr) -> Option<()> {
+    let (word, line) = match fault {
+        FixErr::Memory => return None,
+        FixErr::Syntax(line) => ("syntax in line ", line),
+        FixErr::Repeat(line) => ("repeat in line ", line),
     };
-    Ok(text)
+    told.number(word, line);
+    told.end();
+    Some(())
 }
 
-fn rate_told(alloc: Global, fixings: &Fixings, tenor: &str) -> Result<String> {
-    let index = Text::from_bytes(alloc, b"A")?;
-    let rate = fixings.rate_on(&index, tenor_of(tenor)?, day("2024-01-15")?);
-    given_rate(alloc, rate)
+fn rate_told(
+    told: &mut Told,
+    alloc: Global,
+    fixings: &Fixings,
+    tenor: Option<Frequency>,
+) -> Option<()> {
+    let day = day("2024-01-15")?;
+    let index = Text::from_bytes(alloc, b"A").ok()?;
+    told.given_rate("", fixings.rate_on(&index, tenor, day));
+    told.end();
+    Some(())
+}
+
+fn file_told(told: &mut Told, alloc: Global, bytes: &[u8], tenor: Option<Frequency>) -> Option<()> {
+    if bytes.len() > MOST_BYTES {
+        return None;
+    }
+    match Fixings::read(alloc, bytes) {
+        Ok(fixings) => rate_told(told, alloc, &fixings, tenor),
+        Err(fault) => fault_told(told, fault),
+    }
 }
 
 /// The rate of a file of fixings, or of none.
-pub fn fixing_lines(rt: &HostRuntime, row: &str) -> Result<String> {
-    let (text, tenor) = row.rsplit_once(" | ").context("a row has a tenor")?;
-    let alloc = rt.alloc();
+pub fn fixing_lines(told: &mut Told, rt: &HostRuntime, row: &str) -> Option<()> {
+    let (text, tenor) = row.rsplit_once(" | ")?;
+    let tenor = tenor_of(tenor)?;
     if text == "no file" {
-        return rate_told(alloc, &Fixings::none(), tenor);
+        return rate_told(told, rt.alloc(), &Fixings::none(), tenor);
     }
     let bytes = file_of(rt, text)?;
-    if bytes.len() > MOST_BYTES {
-        bail!("the file is too long");
-    }
-    match Fixings::read(alloc, &bytes) {
-        Ok(fixings) => rate_told(alloc, &fixings, tenor),
-        Err(fault) => fault_told(alloc, fault),
-    }
+    file_told(told, rt.alloc(), &bytes, tenor)
 }

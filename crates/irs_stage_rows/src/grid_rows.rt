@@ -7,13 +7,11 @@ ghost use Rattle.std.specs.Prelude.{IsTrue};
 ghost use Rattle.irs_terms.specs.Lawful.{IsLawfulRoll};
 
 use crate::boundaries::day;
-use crate::texts::day_text;
-use anyhow::{Context, Result, bail};
+use crate::telling::Told;
 use irs_base::Day;
 use irs_elements::codes::{roll, unit};
 use irs_roll::{Grid, StreamGrid, fits, on_grid_of, suits};
 use irs_terms::{Frequency, RollCode, Unit};
-use std::alloc::Global;
 
 /// The terms of a grid.
 #[derive(Clone, Copy)]
@@ -23,17 +21,17 @@ struct GridTerms {
     anchor: Day,
 }
 
-fn terms_of(text: &str) -> Result<GridTerms> {
-    let (count, rest) = text.split_once(' ').context("a frequency")?;
-    let (letter, rest) = rest.split_once(' ').context("a unit")?;
-    let (name, anchor) = rest.split_once(' ').context("a roll and an anchor")?;
+fn terms_of(text: &str) -> Option<GridTerms> {
+    let (count, rest) = text.split_once(' ')?;
+    let (letter, rest) = rest.split_once(' ')?;
+    let (name, anchor) = rest.split_once(' ')?;
     let freq = Frequency {
-        count: count.parse::<u16>()?,
-        unit: unit(letter).context("no unit")?,
+        count: count.parse::<u16>().ok()?,
+        unit: unit(letter)?,
     };
-    Ok(GridTerms {
+    Some(GridTerms {
         freq,
-        roll: roll(name).context("no roll")?,
+        roll: roll(name)?,
         anchor: day(anchor)?,
     })
 }
@@ -56,61 +54,57 @@ fn is_lawful(roll: RollCode) -> bool
 }
 
 // Whether a day is on the grid of an anchor that may not fit the roll.
-fn is_on(t: GridTerms, d: Day) -> Result<bool> {
+fn is_on(t: GridTerms, d: Day) -> Option<bool> {
     if t.freq.count == 0 || t.freq.unit == Unit::T || !is_lawful(t.roll) {
-        bail!("no grid");
+        return None;
     }
-    Ok(on_grid_of(t.freq, t.roll, t.anchor, d))
+    Some(on_grid_of(t.freq, t.roll, t.anchor, d))
 }
 
-fn said(alloc: Global, is_so: bool) -> Result<String> {
+fn said(told: &mut Told, is_so: bool) {
     let word = if is_so { "yes" } else { "no" };
-    Ok(String::from_str(alloc, word)?)
+    told.line(word);
 }
 
-fn given_day(alloc: Global, d: Option<Day>) -> Result<String> {
-    match d {
-        Some(d) => day_text(alloc, d),
-        None => Ok(String::from_str(alloc, "none")?),
-    }
-}
-
-fn given_number(alloc: Global, number: Option<i64>) -> Result<String> {
+fn number_told(told: &mut Told, number: Option<i64>) {
     match number {
-        Some(number) => {
-            let text = format!(in alloc; "{number}")?;
-            Ok(text)
-        }
-        None => Ok(String::from_str(alloc, "none")?),
+        Some(number) => told.number("", number),
+        None => told.text("none"),
     }
+    told.end();
 }
 
-fn asked(alloc: Global, grid: &StreamGrid, question: &str) -> Result<String> {
-    if let Some(number) = question.strip_prefix("day ") {
-        return given_day(alloc, grid.nth(number.parse::<i64>()?));
+// What a grid says of a day.
+fn day_told(told: &mut Told, grid: &StreamGrid, question: &str, d: Day) -> Option<()> {
+    match question {
+        "number of" => number_told(told, grid.index(d)),
+        "on grid" => said(told, grid.on_grid(d)),
+        _ => return None,
     }
-    if let Some(date) = question.strip_prefix("number of ") {
-        return given_number(alloc, grid.index(day(date)?));
+    Some(())
+}
+
+fn asked(told: &mut Told, grid: &StreamGrid, question: &str) -> Option<()> {
+    let (question, given) = question.rsplit_once(' ')?;
+    if question == "day" {
+        told.given_day("", grid.nth(given.parse::<i64>().ok()?));
+        return Some(());
     }
-    if let Some(date) = question.strip_prefix("on grid ") {
-        return said(alloc, grid.on_grid(day(date)?));
-    }
-    bail!("no question")
+    day_told(told, grid, question, day(given)?)
 }
 
 /// What is told of a grid.
-pub fn grid_lines(alloc: Global, row: &str) -> Result<String> {
-    let (terms, question) = row.split_once(" | ").context("a row has a question")?;
+pub fn grid_lines(told: &mut Told, row: &str) -> Option<()> {
+    let (terms, question) = row.split_once(" | ")?;
     let terms = terms_of(terms)?;
     if let Some(date) = question.strip_prefix("on grid of an anchor that may not fit ") {
-        return said(alloc, is_on(terms, day(date)?)?);
+        said(told, is_on(terms, day(date)?)?);
+        return Some(());
     }
     let grid = grid(terms);
     if question == "fits" {
-        return said(alloc, grid.is_some());
+        said(told, grid.is_some());
+        return Some(());
     }
-    match grid {
-        Some(grid) => asked(alloc, &grid, question),
-        None => bail!("the roll doesn't fit"),
-    }
+    asked(told, &grid?, question)
 }

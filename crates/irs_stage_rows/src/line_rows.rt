@@ -4,12 +4,12 @@
 //! days, their fraction and the amount or `-`; `net`, then the date, the currency, the amount and how
 //! many amounts aren't known; `derived`, then the period and its fixing date, the rate or `missing` and
 //! a day, the tenor or `-`, and the index.
-ghost use Rattle.std.specs.Prelude.{◌≤◌, IfOk, IfSome};
+ghost use Rattle.std.specs.Prelude.{◌≤◌, IfSome};
 ghost use Rattle.irs_accrue.specs.Accruals.{HasPlaces};
 
 use crate::boundaries::day;
+use crate::telling::Told;
 use crate::values::{amount_of, fraction_of, rate_of, tenor_of};
-use anyhow::{Context, Result, bail};
 use irs_accrue::{Accrual, accrued_text};
 use irs_base::{Dec, Line, MOST_INDEX, Text};
 use irs_elements::words::currency;
@@ -25,115 +25,125 @@ fn held() -> Line {
     line
 }
 
-fn printed(alloc: Global, line: &Line) -> Result<String> {
-    let text = str::from_utf8(line.bytes())?;
-    let text = text
-        .strip_suffix('\n')
-        .context("a line ends with its feed")?;
-    let told = format!(in alloc; "{text}\\n")?;
-    Ok(told)
+fn printed(told: &mut Told, line: &Line) -> Option<()> {
+    let text = str::from_utf8(line.bytes()).ok()?;
+    told.text(text.strip_suffix('\n')?);
+    told.line("\\n");
+    Some(())
 }
 
-fn known_amount(text: &str) -> Result<Option<Dec>>
-    ensures { IfOk result (λ amount. IfSome amount (λ v. v.places ≤ 12)) }
+fn known_amount(text: &str) -> Option<Option<Dec>>
+    ensures { IfSome result (λ amount. IfSome amount (λ v. v.places ≤ 12)) }
 {
     if text == "-" {
-        return Ok(None);
+        return Some(None);
     }
-    Ok(Some(amount_of(text)?))
+    Some(Some(amount_of(text)?))
 }
 
-fn accrual_of(text: &str) -> Result<Accrual>
-    ensures { IfOk result HasPlaces }
+fn accrual_of(text: &str) -> Option<Accrual>
+    ensures { IfSome result HasPlaces }
 {
     if text == "none" {
-        return Ok(Accrual::Outside);
+        return Some(Accrual::Outside);
     }
-    let (period, rest) = text.split_once(' ').context("a period has days")?;
-    let (days, rest) = rest.split_once(' ').context("days have a fraction")?;
-    let (fraction, amount) = rest.split_once(' ').context("a period has an amount")?;
-    Ok(Accrual::Inside {
-        period: period.parse::<u32>()?,
-        days: days.parse::<i64>()?,
+    let (period, rest) = text.split_once(' ')?;
+    let (days, rest) = rest.split_once(' ')?;
+    let (fraction, amount) = rest.split_once(' ')?;
+    Some(Accrual::Inside {
+        period: period.parse::<u32>().ok()?,
+        days: days.parse::<i64>().ok()?,
         frac: fraction_of(fraction)?,
         amount: known_amount(amount)?,
     })
 }
 
-fn accrued_told(alloc: Global, row: &str) -> Result<String> {
-    let (stream, accrual) = row.split_once(" | ").context("what has accrued")?;
+fn accrued_told(told: &mut Told, row: &str) -> Option<()> {
+    let (stream, accrual) = row.split_once(" | ")?;
+    let stream = stream.parse::<u8>().ok()?;
+    let accrual = accrual_of(accrual)?;
     let mut line = held();
-    accrued_text(stream.parse::<u8>()?, &accrual_of(accrual)?, &mut line);
-    printed(alloc, &line)
+    accrued_text(stream, &accrual, &mut line);
+    printed(told, &line)
 }
 
-fn net_row_of(text: &str) -> Result<NetRow>
-    ensures { IfOk result (λ row. row.amount.places ≤ 12) }
+fn net_row_of(text: &str) -> Option<NetRow>
+    ensures { IfSome result (λ row. row.amount.places ≤ 12) }
 {
-    let (date, rest) = text
-        .split_once(' ')
-        .context("a row of the net has a currency")?;
-    let (letters, rest) = rest.split_once(' ').context("a currency has an amount")?;
-    let (amount, unknown) = rest.split_once(' ').context("how many aren't known")?;
-    Ok(NetRow {
+    let (date, rest) = text.split_once(' ')?;
+    let (letters, rest) = rest.split_once(' ')?;
+    let (amount, unknown) = rest.split_once(' ')?;
+    Some(NetRow {
         date: day(date)?,
-        currency: currency(letters.as_bytes()).context("no currency")?,
+        currency: currency(letters.as_bytes())?,
         amount: amount_of(amount)?,
-        unknown: unknown.parse::<u32>()?,
+        unknown: unknown.parse::<u32>().ok()?,
     })
 }
 
 // The line of the one row of a table.
-fn net_told(alloc: Global, row: &str) -> Result<String> {
+fn net_told(told: &mut Told, alloc: Global, row: &str) -> Option<()> {
+    let row = net_row_of(row)?;
     let mut table = NetTable::new(alloc);
-    table.push(net_row_of(row)?)?;
+    let Ok(()) = table.push(row) else {
+        return None;
+    };
     let [row] = table.as_slice() else {
-        bail!("not one row");
+        return None;
     };
     let mut line = held();
     net_text(row, &mut line);
-    printed(alloc, &line)
+    printed(told, &line)
 }
 
-fn found_of(text: &str) -> Result<Found> {
+fn found_of(text: &str) -> Option<Found> {
     match text.strip_prefix("missing ") {
-        Some(date) => Ok(Found::Missing(day(date)?)),
-        None => Ok(Found::Rate(rate_of(text)?)),
+        Some(date) => Some(Found::Missing(day(date)?)),
+        None => Some(Found::Rate(rate_of(text)?)),
     }
 }
 
-// A row of derived rates, put on a line.
-fn derived_line(place: &str, found: &str, tenor: Option<Frequency>, index: &Text) -> Result<Line> {
-    let (period, fixing) = place.split_once(' ').context("a period has a fixing date")?;
-    if index.len() > MOST_INDEX {
-        bail!("the index is too long");
-    }
-    let row = DerivedRow {
-        period: period.parse::<u32>()?,
+fn derived_row_of(place: &str, found: &str) -> Option<DerivedRow> {
+    let (period, fixing) = place.split_once(' ')?;
+    Some(DerivedRow {
+        period: period.parse::<u32>().ok()?,
         fixing: day(fixing)?,
         found: found_of(found)?,
-    };
-    let mut line = held();
-    derived_text(&row, tenor, index, &mut line);
-    Ok(line)
+    })
 }
 
-fn derived_told(alloc: Global, row: &str) -> Result<String> {
-    let (place, rest) = row.split_once(" | ").context("what is found")?;
-    let (found, rest) = rest.split_once(" | ").context("a tenor")?;
-    let (tenor, index) = rest.split_once(" | ").context("an index")?;
-    let index = Text::from_bytes(alloc, index.as_bytes())?;
-    let line = derived_line(place, found, tenor_of(tenor)?, &index)?;
-    printed(alloc, &line)
+// The line of a row of derived rates.
+fn derived_line(
+    told: &mut Told,
+    row: &DerivedRow,
+    tenor: Option<Frequency>,
+    index: &Text,
+) -> Option<()> {
+    if index.len() > MOST_INDEX {
+        return None;
+    }
+    let mut line = held();
+    derived_text(row, tenor, index, &mut line);
+    printed(told, &line)
+}
+
+fn derived_told(told: &mut Told, alloc: Global, row: &str) -> Option<()> {
+    let (place, rest) = row.split_once(" | ")?;
+    let (found, rest) = rest.split_once(" | ")?;
+    let (tenor, index) = rest.split_once(" | ")?;
+    let row = derived_row_of(place, found)?;
+    let tenor = tenor_of(tenor)?;
+    let index = Text::from_bytes(alloc, index.as_bytes()).ok()?;
+    derived_line(told, &row, tenor, &index)
 }
 
 /// The line of a row.
-pub fn line_lines(alloc: Global, row: &str) -> Result<String> {
-    let (kind, given) = row.split_once(" | ").context("a row has a kind")?;
+pub fn line_lines(told: &mut Told, alloc: Global, row: &str) -> Option<()> {
+    let (kind, given) = row.split_once(" | ")?;
     match kind {
-        "accrued" => accrued_told(alloc, given),
-        "net" => net_told(alloc, given),
-        "derived" => derived_told(alloc, given),
-        _ => bail!("no kind of line"),
+        "accrued" => accrued_told(told, given),
+        "net" => net_told(told, alloc, given),
+        "derived" => derived_told(told, alloc, given),
+        _ => None,
     }
 }

@@ -8,122 +8,148 @@ use crate::boundaries::{dates, day};
 use crate::exchange_rows::exchanges_told;
 use crate::payment_rows::payments_told;
 use crate::reset_rows::resets_told;
-use crate::texts::{day_text, push_behind};
+use crate::telling::Told;
 use crate::values::{amount_of, rate_of};
-use anyhow::{Context, Result, bail};
 use irs_terms::{
     Exchange, Exchanges, Payment, Payments, Reset, Resets, Step, StepList, StreamList,
 };
 use std::alloc::Global;
 
-fn step_of(text: &str) -> Result<Step> {
-    let (date, value) = text.split_once(' ').context("a step has a value")?;
-    Ok(Step {
+fn step_of(text: &str) -> Option<Step> {
+    let (date, value) = text.split_once(' ')?;
+    Some(Step {
         day: day(date)?,
-        value: value.parse::<i128>()?,
+        value: value.parse::<i128>().ok()?,
     })
 }
 
-fn payment_of(text: &str) -> Result<Payment> {
-    let (date, periods) = text.split_once(' ').context("a payment has periods")?;
+fn payment_of(text: &str) -> Option<Payment> {
+    let (date, periods) = text.split_once(' ')?;
     let (unadjusted, adjusted) = dates(date)?;
-    let (first, last) = periods
-        .split_once('-')
-        .context("a first and a last period")?;
-    Ok(Payment {
+    let (first, last) = periods.split_once('-')?;
+    Some(Payment {
         unadjusted,
         adjusted,
-        first_period: first.parse::<u32>()?,
-        last_period: last.parse::<u32>()?,
+        first_period: first.parse::<u32>().ok()?,
+        last_period: last.parse::<u32>().ok()?,
     })
 }
 
-fn exchange_of(text: &str) -> Result<Exchange> {
-    let (date, amount) = text.split_once(' ').context("an exchange has an amount")?;
+fn exchange_of(text: &str) -> Option<Exchange> {
+    let (date, amount) = text.split_once(' ')?;
     let (unadjusted, adjusted) = dates(date)?;
-    Ok(Exchange {
+    Some(Exchange {
         unadjusted,
         adjusted,
         amount: amount_of(amount)?,
     })
 }
 
-fn observed_of(text: &str) -> Result<Option<i64>> {
+fn observed_of(text: &str) -> Option<Option<i64>> {
     if text == "none" {
-        return Ok(None);
+        return Some(None);
     }
-    Ok(Some(rate_of(text)?))
+    Some(Some(rate_of(text)?))
 }
 
-fn reset_of(text: &str) -> Result<Reset> {
-    let (date, observed) = text.split_once(' ').context("a reset has a rate")?;
+fn reset_of(text: &str) -> Option<Reset> {
+    let (date, observed) = text.split_once(' ')?;
     let (reset, fixing) = dates(date)?;
-    Ok(Reset {
+    Some(Reset {
         reset,
         fixing,
         observed: observed_of(observed)?,
     })
 }
 
-fn step_texts(alloc: Global, list: &StepList) -> Result<String> {
-    let mut text = String::new(alloc);
+fn steps_told(told: &mut Told, list: &StepList) {
+    let mut between = "";
     for step in list.as_slice() {
-        let day = day_text(alloc, step.day)?;
-        let step = format!(in alloc; "{day} {}", step.value)?;
-        push_behind(&mut text, ", ", &step)?;
+        told.day(between, step.day);
+        told.number(" ", step.value);
+        between = ", ";
     }
-    Ok(text)
+    told.end();
 }
 
-fn steps_copied(alloc: Global, items: &str) -> Result<String> {
+fn push_steps(list: &mut StepList, items: &str) -> Option<()> {
+    for item in items.split(", ") {
+        list.push(step_of(item)?).ok()?;
+    }
+    Some(())
+}
+
+fn steps_copied(told: &mut Told, alloc: Global, items: &str) -> Option<()> {
     let mut list = StepList::new(alloc);
-    for item in items.split(", ") {
-        list.push(step_of(item)?)?;
-    }
-    step_texts(alloc, &list.copy(alloc)?)
+    push_steps(&mut list, items)?;
+    let copy = list.copy(alloc).ok()?;
+    steps_told(told, &copy);
+    Some(())
 }
 
-fn payments_copied(alloc: Global, items: &str) -> Result<String> {
+fn push_payments(list: &mut Payments, items: &str) -> Option<()> {
+    for item in items.split(", ") {
+        list.push(payment_of(item)?).ok()?;
+    }
+    Some(())
+}
+
+fn payments_copied(told: &mut Told, alloc: Global, items: &str) -> Option<()> {
     let mut list = Payments::new(alloc);
-    for item in items.split(", ") {
-        list.push(payment_of(item)?)?;
-    }
-    payments_told(alloc, &list.copy(alloc)?)
+    push_payments(&mut list, items)?;
+    let copy = list.copy(alloc).ok()?;
+    payments_told(told, &copy);
+    Some(())
 }
 
-fn exchanges_copied(alloc: Global, items: &str) -> Result<String> {
+fn push_exchanges(list: &mut Exchanges, items: &str) -> Option<()> {
+    for item in items.split(", ") {
+        list.push(exchange_of(item)?).ok()?;
+    }
+    Some(())
+}
+
+fn exchanges_copied(told: &mut Told, alloc: Global, items: &str) -> Option<()> {
     let mut list = Exchanges::new(alloc);
-    for item in items.split(", ") {
-        list.push(exchange_of(item)?)?;
-    }
-    exchanges_told(alloc, &list.copy(alloc)?)
+    push_exchanges(&mut list, items)?;
+    let copy = list.copy(alloc).ok()?;
+    exchanges_told(told, &copy);
+    Some(())
 }
 
-fn resets_copied(alloc: Global, items: &str) -> Result<String> {
+fn push_resets(list: &mut Resets, items: &str) -> Option<()> {
+    for item in items.split(", ") {
+        list.push(reset_of(item)?).ok()?;
+    }
+    Some(())
+}
+
+fn resets_copied(told: &mut Told, alloc: Global, items: &str) -> Option<()> {
     let mut list = Resets::new(alloc);
-    for item in items.split(", ") {
-        list.push(reset_of(item)?)?;
-    }
-    resets_told(alloc, &list.copy(alloc)?)
+    push_resets(&mut list, items)?;
+    let copy = list.copy(alloc).ok()?;
+    resets_told(told, &copy);
+    Some(())
 }
 
-fn no_streams(alloc: Global, items: &str) -> Result<String> {
+fn no_streams(told: &mut Told, alloc: Global, items: &str) -> Option<()> {
     if items != "none" {
-        bail!("a row has no streams");
+        return None;
     }
-    let text = format!(in alloc; "{}", StreamList::new(alloc).len())?;
-    Ok(text)
+    told.number("", StreamList::new(alloc).len());
+    told.end();
+    Some(())
 }
 
 /// What is told of a list of terms.
-pub fn list_lines(alloc: Global, row: &str) -> Result<String> {
-    let (kind, items) = row.split_once(" | ").context("a row has items")?;
+pub fn list_lines(told: &mut Told, alloc: Global, row: &str) -> Option<()> {
+    let (kind, items) = row.split_once(" | ")?;
     match kind {
-        "steps" => steps_copied(alloc, items),
-        "payments" => payments_copied(alloc, items),
-        "exchanges" => exchanges_copied(alloc, items),
-        "resets" => resets_copied(alloc, items),
-        "streams" => no_streams(alloc, items),
-        _ => bail!("no kind of list"),
+        "steps" => steps_copied(told, alloc, items),
+        "payments" => payments_copied(told, alloc, items),
+        "exchanges" => exchanges_copied(told, alloc, items),
+        "resets" => resets_copied(told, alloc, items),
+        "streams" => no_streams(told, alloc, items),
+        _ => None,
     }
 }

@@ -31,6 +31,7 @@ mod rule_rows;
 mod sources;
 mod stages;
 mod step_rows;
+mod telling;
 mod texts;
 mod values;
 mod words;

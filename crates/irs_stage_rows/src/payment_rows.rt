@@ -4,14 +4,13 @@ ghost use Rattle.std.specs.Prelude.{IsTrue};
 ghost use Rattle.irs_terms.specs.Lawful.{IsLawfulStream};
 ghost use Rattle.irs_terms.specs.DayTypes.{IsSaid};
 
-use crate::boundaries::{Boundaries, run_from_to};
+use crate::boundaries::{Boundaries, boundaries_of, run_from_to};
 use crate::good_days::days_of;
-use crate::texts::{dates_text, push_behind, stopped_text};
-use anyhow::{Context, Result, bail};
+use crate::telling::Told;
 use irs_base::Day;
 use irs_calendar::Calendars;
 use irs_payments::payments;
-use irs_terms::{DayKind, Offset, Payment, Payments, Span, Stream, StubKind};
+use irs_terms::{DayKind, Offset, Payments, Span, Stream, StubKind};
 use std::alloc::Global;
 
 // Whether the offset is 0, or its kind of days is said.
@@ -34,43 +33,39 @@ fn span_of(first: Day, last: Day, anchor: Day) -> Span {
 
 // The regular span: behind the first period where the stub is an initial one, before the last
 // period where it is a final one, else the whole term.
-fn regular_part(stub: Option<StubKind>, days: &[Day]) -> Result<Span> {
-    let first = *days.first().context("no boundaries")?;
-    let last = *days.last().context("no boundaries")?;
-    let second = *days.get(1).context("one boundary")?;
-    let last_but_one = *days
-        .get(days.len().saturating_sub(2))
-        .context("one boundary")?;
+fn regular_part(stub: Option<StubKind>, days: &[Day]) -> Option<Span> {
+    let first = *days.first()?;
+    let last = *days.last()?;
+    let second = *days.get(1)?;
+    let last_but_one = *days.get(days.len().saturating_sub(2))?;
     match stub {
-        None => Ok(span_of(first, last, first)),
-        Some(StubKind::ShortInitial | StubKind::LongInitial) => Ok(span_of(second, last, last)),
-        Some(StubKind::ShortFinal | StubKind::LongFinal) => Ok(span_of(first, last_but_one, first)),
+        None => Some(span_of(first, last, first)),
+        Some(StubKind::ShortInitial | StubKind::LongInitial) => Some(span_of(second, last, last)),
+        Some(StubKind::ShortFinal | StubKind::LongFinal) => {
+            Some(span_of(first, last_but_one, first))
+        }
     }
-}
-
-fn payment_text(alloc: Global, payment: &Payment) -> Result<String> {
-    let dates = dates_text(alloc, payment.unadjusted, payment.adjusted)?;
-    let (first, last) = (payment.first_period, payment.last_period);
-    let text = format!(in alloc; "{dates} {first}-{last}")?;
-    Ok(text)
 }
 
 /// What is told of a list of payments.
-pub fn payments_told(alloc: Global, list: &Payments) -> Result<String> {
-    let mut text = String::new(alloc);
+pub fn payments_told(told: &mut Told, list: &Payments) {
+    let mut between = "";
     for payment in list.as_slice() {
-        push_behind(&mut text, ", ", &payment_text(alloc, payment)?)?;
+        told.dates(between, payment.unadjusted, payment.adjusted);
+        told.number(" ", payment.first_period);
+        told.number("-", payment.last_period);
+        between = ", ";
     }
-    Ok(text)
+    told.end();
 }
 
-/// The payments of a stream over boundaries.
-pub fn payment_lines(
+fn payments_over(
+    told: &mut Told,
     alloc: Global,
     calendars: &Calendars,
     s: &Stream,
     boundaries: &Boundaries,
-) -> Result<String>
+) -> Option<()>
     requires { IsLawfulStream s.now }
 {
     let Boundaries {
@@ -83,12 +78,29 @@ pub fn payment_lines(
         || !run_from_to(unadjusted.as_slice(), from, to)
         || adjusted.len() != unadjusted.len()
     {
-        bail!("no such payments");
+        return None;
     }
     let span = regular_part(s.stub, unadjusted.as_slice())?;
     let days = days_of(alloc, calendars, &s.pay.adj.centers)?;
     match payments(alloc, s, &span, unadjusted, adjusted, &days) {
-        Ok(list) => payments_told(alloc, &list),
-        Err(stopped) => stopped_text(alloc, stopped),
+        Ok(list) => {
+            payments_told(told, &list);
+            Some(())
+        }
+        Err(stopped) => told.stopped(stopped),
     }
+}
+
+/// The payments of a stream over boundaries.
+pub fn payment_lines(
+    told: &mut Told,
+    alloc: Global,
+    calendars: &Calendars,
+    s: &Stream,
+    beside: &str,
+) -> Option<()>
+    requires { IsLawfulStream s.now }
+{
+    let boundaries = boundaries_of(alloc, beside)?;
+    payments_over(told, alloc, calendars, s, &boundaries)
 }

@@ -9,8 +9,7 @@ ghost use Rattle.irs_periods.specs.SpanRules.{SpanKept};
 ghost use Rattle.irs_periods.specs.Spans.{Regular};
 
 use crate::good_days::days_of;
-use crate::texts::{day_text, fault_text, push_behind, stopped_text};
-use anyhow::{Result, bail};
+use crate::telling::Told;
 use irs_base::{Day, DayList};
 use irs_calendar::Calendars;
 use irs_periods::{PerErr, adjusted, boundaries, boundaries_by, regular_span};
@@ -75,52 +74,67 @@ fn keeps_frequency(s: &Stream) -> bool
     suits(s.freq, s.roll)
 }
 
-fn days_told(alloc: Global, days: &[Day]) -> Result<String> {
-    let mut text = String::new(alloc);
+fn days_told(told: &mut Told, days: &[Day]) {
     if days.len() > FEW {
-        let count = format!(in alloc; "{} periods", days.len() - 1)?;
-        return Ok(count);
+        told.number("", days.len() - 1);
+        told.line(" periods");
+        return;
     }
+    let mut between = "";
     for day in days {
-        push_behind(&mut text, " ", &day_text(alloc, *day)?)?;
+        told.day(between, *day);
+        between = " ";
     }
-    Ok(text)
+    told.end();
 }
 
-fn list_told(alloc: Global, answer: Result<DayList, PerErr>) -> Result<String> {
+fn list_told(told: &mut Told, answer: Result<DayList, PerErr>) -> Option<()> {
     match answer {
-        Ok(list) => days_told(alloc, list.as_slice()),
-        Err(stopped) => stopped_text(alloc, stopped),
+        Ok(list) => {
+            days_told(told, list.as_slice());
+            Some(())
+        }
+        Err(stopped) => told.stopped(stopped),
     }
 }
 
-fn span_told(alloc: Global, span: &Span) -> Result<String> {
-    let first = day_text(alloc, span.first)?;
-    let last = day_text(alloc, span.last)?;
-    let anchor = day_text(alloc, span.anchor)?;
-    let text = format!(in alloc; "regular {first} to {last} from anchor {anchor}")?;
-    Ok(text)
+fn span_told(told: &mut Told, span: &Span) {
+    told.day("regular ", span.first);
+    told.day(" to ", span.last);
+    told.day(" from anchor ", span.anchor);
+    told.end();
 }
 
+// The regular span, and behind it the boundaries or the rule that they break.
+fn span_and_days(told: &mut Told, alloc: Global, s: &Stream, span: &Span) -> Option<()>
+    requires lawful { IsLawfulStream s.now }
+    requires dates { DatesInOrder s.now }
+    requires frequency { FrequencySuits s.now }
+    requires span { Regular s.now span.now }
+    requires kept { SpanKept s.now span.now }
+{
+    let answer = boundaries_by(alloc, s, span);
+    span_told(told, span);
+    list_told(told, answer)
+}
 /// The regular span and the unadjusted boundaries of a stream.
-pub fn period_lines(alloc: Global, s: &Stream) -> Result<String>
+pub fn period_lines(told: &mut Told, alloc: Global, s: &Stream) -> Option<()>
     requires { IsLawfulStream s.now }
 {
     if !keeps_dates(s) || !keeps_frequency(s) {
-        bail!("no such periods");
+        return None;
     }
-    let span = match regular_span(s) {
-        Ok(span) => span,
-        Err(fault) => return fault_text(alloc, fault),
-    };
-    let days = list_told(alloc, boundaries_by(alloc, s, &span))?;
-    let span = span_told(alloc, &span)?;
-    let lines = format!(in alloc; "{span}\n{days}")?;
-    Ok(lines)
+    match regular_span(s) {
+        Ok(span) => span_and_days(told, alloc, s, &span),
+        Err(fault) => {
+            told.fault(fault);
+            Some(())
+        }
+    }
 }
 
 // The boundaries over a grid of days that is handed in.
-fn over_days(alloc: Global, s: &Stream, span: &Span) -> Result<String>
+fn over_days(told: &mut Told, alloc: Global, s: &Stream, span: &Span) -> Option<()>
     requires lawful { IsLawfulStream s.now }
     requires dates { DatesInOrder s.now }
     requires unit { s.now.freq.unit ≡ D }
@@ -128,52 +142,64 @@ fn over_days(alloc: Global, s: &Stream, span: &Span) -> Result<String>
     requires kept { SpanKept s.now span.now }
 {
     let grid = EveryDays::new(span.anchor, u32::from(s.freq.count));
-    list_told(alloc, boundaries(alloc, s, span, &grid))
+    list_told(told, boundaries(alloc, s, span, &grid))
 }
 
 /// The unadjusted boundaries of a stream of periods of days, over the grid of its days.
-pub fn day_lines(alloc: Global, s: &Stream) -> Result<String>
+pub fn day_lines(told: &mut Told, alloc: Global, s: &Stream) -> Option<()>
     requires { IsLawfulStream s.now }
 {
     if s.freq.unit != Unit::D || !keeps_dates(s) || !keeps_frequency(s) {
-        bail!("no such periods");
+        return None;
     }
     match regular_span(s) {
-        Ok(span) => over_days(alloc, s, &span),
-        Err(fault) => fault_text(alloc, fault),
+        Ok(span) => over_days(told, alloc, s, &span),
+        Err(fault) => {
+            told.fault(fault);
+            Some(())
+        }
     }
 }
 
 // The boundaries, each adjusted by the days of the centres that go with it.
 fn adjusted_boundaries(
+    told: &mut Told,
     alloc: Global,
     calendars: &Calendars,
     s: &Stream,
     list: &DayList,
-) -> Result<String>
+) -> Option<()>
     requires dates { DatesInOrder s.now }
     requires listed { (span : Span) × Boundaries s.now span list.now }
 {
     let start = days_of(alloc, calendars, &s.first_date().adj.centers)?;
     let end = days_of(alloc, calendars, &s.termination.adj.centers)?;
     let middle = days_of(alloc, calendars, &s.period_adj.centers)?;
-    list_told(alloc, adjusted(alloc, s, list, &start, &end, &middle))
+    list_told(told, adjusted(alloc, s, list, &start, &end, &middle))
 }
 
 /// The adjusted boundaries of a stream.
-pub fn adjusted_lines(alloc: Global, calendars: &Calendars, s: &Stream) -> Result<String>
+pub fn adjusted_lines(
+    told: &mut Told,
+    alloc: Global,
+    calendars: &Calendars,
+    s: &Stream,
+) -> Option<()>
     requires { IsLawfulStream s.now }
 {
     if !keeps_dates(s) || !keeps_frequency(s) {
-        bail!("no such periods");
+        return None;
     }
     let span = match regular_span(s) {
         Ok(span) => span,
-        Err(fault) => return fault_text(alloc, fault),
+        Err(fault) => {
+            told.fault(fault);
+            return Some(());
+        }
     };
     match boundaries_by(alloc, s, &span) {
-        Ok(list) => adjusted_boundaries(alloc, calendars, s, &list),
-        Err(stopped) => stopped_text(alloc, stopped),
+        Ok(list) => adjusted_boundaries(told, alloc, calendars, s, &list),
+        Err(stopped) => told.stopped(stopped),
     }
 }
 

@@ -12,12 +12,11 @@ use crate::boundaries::{boundaries_of, is_rising};
 use crate::files::file_of;
 use crate::good_days::days_of;
 use crate::sources::{Sources, fixings_of};
-use crate::texts::{day_text, given_rate, push_behind, stopped_text};
-use anyhow::{Result, bail};
+use crate::telling::Told;
 use irs_base::DayList;
 use irs_calendar::{Calendars, RunSet};
 use irs_resets::{Fixings, resets};
-use irs_terms::{DayKind, FixTerms, Leg, Offset, Reset, Resets, Span, Stream};
+use irs_terms::{DayKind, FixTerms, Leg, Offset, Resets, Span, Stream};
 use std::alloc::Global;
 
 fn is_said(offset: &Offset) -> bool
@@ -69,76 +68,119 @@ fn regular_part(s: &Stream) -> Span {
 }
 
 // The good days of the reset dates; all days where there are none.
-fn reset_days(alloc: Global, calendars: &Calendars, s: &Stream) -> Result<RunSet> {
+fn reset_days(alloc: Global, calendars: &Calendars, s: &Stream) -> Option<RunSet> {
     match &s.reset {
         Some(reset) => days_of(alloc, calendars, &reset.adj.centers),
-        None => Ok(RunSet::all()),
+        None => Some(RunSet::all()),
     }
 }
 
 // The good days of the fixing dates; all days where there are none.
-fn fixing_days(alloc: Global, calendars: &Calendars, s: &Stream) -> Result<RunSet> {
+fn fixing_days(alloc: Global, calendars: &Calendars, s: &Stream) -> Option<RunSet> {
     let Some(reset) = &s.reset else {
-        return Ok(RunSet::all());
+        return Some(RunSet::all());
     };
     match &reset.fixing {
         Some(fixing) => days_of(alloc, calendars, &fixing.adj.centers),
-        None => Ok(RunSet::all()),
+        None => Some(RunSet::all()),
     }
 }
 
-fn dates_text(alloc: Global, reset: &Reset) -> Result<String> {
-    let first = day_text(alloc, reset.reset)?;
-    let second = day_text(alloc, reset.fixing)?;
-    let text = format!(in alloc; "{first} fixed {second}")?;
-    Ok(text)
+fn dates_told(told: &mut Told, list: &Resets) {
+    let mut between = "";
+    for reset in list.as_slice() {
+        told.day(between, reset.reset);
+        told.day(" fixed ", reset.fixing);
+        between = ", ";
+    }
+    told.end();
+}
+
+fn rates_told(told: &mut Told, list: &Resets) {
+    let mut between = "";
+    for reset in list.as_slice() {
+        told.given_rate(between, reset.observed);
+        between = " ";
+    }
+    told.end();
 }
 
 /// What is told of a list of resets.
-pub fn resets_told(alloc: Global, list: &Resets) -> Result<String> {
-    let (mut dates, mut rates) = (String::new(alloc), String::new(alloc));
-    for reset in list.as_slice() {
-        push_behind(&mut dates, ", ", &dates_text(alloc, reset)?)?;
-        push_behind(&mut rates, " ", &given_rate(alloc, reset.observed)?)?;
+pub fn resets_told(told: &mut Told, list: &Resets) {
+    if list.as_slice().is_empty() {
+        told.line("none");
+    } else {
+        dates_told(told, list);
+        rates_told(told, list);
     }
-    if dates.is_empty() {
-        return Ok(String::from_str(alloc, "none")?);
-    }
-    let lines = format!(in alloc; "{dates}\n{rates}")?;
-    Ok(lines)
 }
 
 fn resets_over(
+    told: &mut Told,
     alloc: Global,
     calendars: &Calendars,
     fixings: &Fixings,
     s: &Stream,
     list: &DayList,
-) -> Result<String>
+) -> Option<()>
     requires { IsLawfulStream s.now }
 {
     if !fits_leg(s) || !is_said_reset(s) || !is_rising(list.as_slice()) {
-        bail!("no such resets");
+        return None;
     }
     let span = regular_part(s);
     let days = reset_days(alloc, calendars, s)?;
     let fixing_days = fixing_days(alloc, calendars, s)?;
     match resets(alloc, s, &span, list, &days, &fixing_days, fixings) {
-        Ok(list) => resets_told(alloc, &list),
-        Err(stopped) => stopped_text(alloc, stopped),
+        Ok(list) => {
+            resets_told(told, &list);
+            Some(())
+        }
+        Err(stopped) => told.stopped(stopped),
     }
 }
 
-/// The resets of a stream over boundaries, by the fixings behind them, or else by those of all rows.
-pub fn reset_lines(rt: &HostRuntime, sources: &Sources, s: &Stream, beside: &str) -> Result<String>
+// The resets over boundaries, by the fixings of a file.
+fn resets_by(
+    told: &mut Told,
+    rt: &HostRuntime,
+    sources: &Sources,
+    s: &Stream,
+    list: &DayList,
+    file: &str,
+) -> Option<()>
     requires { IsLawfulStream s.now }
 {
-    let (alloc, calendars) = (rt.alloc(), &sources.calendars);
-    let Some((days, file)) = beside.split_once(" | ") else {
-        let boundaries = boundaries_of(alloc, beside)?;
-        return resets_over(alloc, calendars, &sources.fixings, s, &boundaries.adjusted);
+    let bytes = file_of(rt, file)?;
+    let fixings = fixings_of(rt.alloc(), &bytes)?;
+    resets_over(told, rt.alloc(), &sources.calendars, &fixings, s, list)
+}
+
+/// The resets of a stream over boundaries, by the fixings behind them, or else by those of all rows.
+pub fn reset_lines(
+    told: &mut Told,
+    rt: &HostRuntime,
+    sources: &Sources,
+    s: &Stream,
+    beside: &str,
+) -> Option<()>
+    requires { IsLawfulStream s.now }
+{
+    let (days, file) = match beside.split_once(" | ") {
+        Some((days, file)) => (days, Some(file)),
+        None => (beside, None),
     };
-    let boundaries = boundaries_of(alloc, days)?;
-    let fixings = fixings_of(alloc, &file_of(rt, file)?)?;
-    resets_over(alloc, calendars, &fixings, s, &boundaries.adjusted)
+    let boundaries = boundaries_of(rt.alloc(), days)?;
+    let list = &boundaries.adjusted;
+    match file {
+        Some(file) => resets_by(told, rt, sources, s, list, file),
+        None => {
+            let Sources {
+                calendars,
+                fixings,
+                ..
+            } = sources;
+            resets_over(told, rt.alloc(), calendars, fixings, s, list)
+        }
+    }
 }

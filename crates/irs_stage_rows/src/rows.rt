@@ -1,7 +1,8 @@
 //! The rows: each gives what a stage works on, and a line that has to be told of it.
 use crate::sources::Sources;
-use crate::stages::{Stage, told};
-use anyhow::{Context, Result};
+use crate::stages::{Stage, tell};
+use crate::telling::Told;
+use anyhow::{Context, Result, bail};
 use std::fs;
 
 /// How many rows there were, and of how many the line was told.
@@ -23,30 +24,47 @@ impl Tally {
     }
 }
 
-// What a stage tells of what a row gives it; prints a row that isn't one, before its error.
-fn row_told(
+/// A row: what it gives to its stage, and the line that has to be told.
+#[derive(Clone, Copy)]
+struct Row<'a> {
+    text: &'a str,
+    given: &'a str,
+    line: &'a str,
+}
+
+fn row_of(text: &str) -> Option<Row> {
+    let (given, line) = text.rsplit_once(" | ")?;
+    Some(Row { text, given, line })
+}
+
+// Tells a row, and prints what is told where there is an echo. Whether its line is told; prints a row
+// that isn't one, before its error.
+fn is_told(
     rt: &HostRuntime,
     sources: &Sources,
     stage: Stage,
-    text: &str,
-    given: &str,
-) -> Result<String> {
-    let lines = told(rt, sources, stage, given);
-    if lines.is_err() {
-        println!(rt; "no row: {text}")?;
+    row: Row,
+    echo: Option<&HostRuntime>,
+) -> Result<bool> {
+    let mut told = Told::new(row.line, echo);
+    if tell(&mut told, rt, sources, stage, row.given).is_none() {
+        println!(rt; "no row: {}", row.text)?;
+        bail!("no row");
     }
-    lines
+    if !told.is_printed {
+        bail!("what is told can't be printed");
+    }
+    Ok(told.is_told)
 }
 
 // Runs a row; where its line isn't told, prints it and what is told. Whether it is told.
 fn run_row(rt: &HostRuntime, sources: &Sources, stage: Stage, text: &str) -> Result<bool> {
-    let (given, line) = text.rsplit_once(" | ").context("a row ends with its line")?;
-    let lines = row_told(rt, sources, stage, text, given)?;
-    let is_told = lines.lines().any(|each| each == line);
-    if !is_told {
-        println!(rt; "not told: {text}\n{lines}")?;
+    let row = row_of(text).context("a row ends with its line")?;
+    if is_told(rt, sources, stage, row, None)? {
+        return Ok(true);
     }
-    Ok(is_told)
+    println!(rt; "not told: {text}")?;
+    is_told(rt, sources, stage, row, Some(rt))
 }
 
 /// Runs the rows of a file, a line each; a line that begins with `#` is a remark. Prints each row

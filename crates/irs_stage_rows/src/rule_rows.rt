@@ -2,28 +2,26 @@
 //! stream, or `kept`.
 ghost use Rattle.irs_terms.specs.Lawful.{IsLawful};
 
-use crate::texts::fault_text;
-use anyhow::Result;
+use crate::telling::Told;
 use irs_base::Fault;
 use irs_calendar::Calendars;
 use irs_rules::check_terms;
 use irs_terms::Swap;
-use std::alloc::Global;
 
 /// The first rule of the terms that is broken.
-pub fn rule_lines(alloc: Global, calendars: &Calendars, swap: &Swap) -> Result<String>
+pub fn rule_lines(told: &mut Told, calendars: &Calendars, swap: &Swap)
     requires { IsLawful swap.now }
 {
     let Some(broken) = check_terms(swap, calendars) else {
-        return Ok(String::from_str(alloc, "kept")?);
+        told.line("kept");
+        return;
     };
     let place = broken.place;
-    let fault = Fault {
+    told.number("stream ", place.stream);
+    told.text(": ");
+    told.fault(Fault {
         rule: broken.rule,
         elem: place.elem,
         index: place.index,
-    };
-    let text = fault_text(alloc, fault)?;
-    let line = format!(in alloc; "stream {}: {text}", place.stream)?;
-    Ok(line)
+    });
 }

@@ -1,5 +1,5 @@
 //! What every row may use: the words of edits, the calendars and the observed rates.
-use anyhow::{Result, bail};
+use anyhow::{Context, Result};
 use irs_base::MOST_BYTES;
 use irs_calendar::Calendars;
 use irs_resets::Fixings;
@@ -17,39 +17,43 @@ pub struct Sources {
     pub fixings: Fixings,
 }
 
+fn calendars_in(rt: &HostRuntime, file: &str) -> Result<Calendars> {
+    let text = fs::read_to_string(rt, file)?;
+    calendars_of(rt.alloc(), text.as_bytes()).context("the calendars have a fault")
+}
+
+fn fixings_in(rt: &HostRuntime, file: &str) -> Result<Fixings> {
+    let text = fs::read_to_string(rt, file)?;
+    fixings_of(rt.alloc(), text.as_bytes()).context("the fixings have a fault")
+}
+
 impl Sources {
     /// Reads the three files; an error where one of them has a fault.
     pub fn read(rt: &HostRuntime) -> Result<Sources> {
         let words = fs::read_to_string(rt, "words")?;
-        let centers = fs::read_to_string(rt, "centers")?;
-        let fixings = fs::read_to_string(rt, "fixings")?;
+        let calendars = calendars_in(rt, "centers")?;
+        let fixings = fixings_in(rt, "fixings")?;
         Ok(Sources {
             words,
-            calendars: calendars_of(rt.alloc(), centers.as_bytes())?,
-            fixings: fixings_of(rt.alloc(), fixings.as_bytes())?,
+            calendars,
+            fixings,
         })
     }
 }
 
-/// The calendars of one file; an error where it has a fault.
-pub fn calendars_of(alloc: Global, file: &[u8]) -> Result<Calendars> {
+/// The calendars of one file; none where it is too long or has a fault.
+pub fn calendars_of(alloc: Global, file: &[u8]) -> Option<Calendars> {
     if file.len() > MOST_BYTES {
-        bail!("the calendars are too long");
+        return None;
     }
-    let files = [Vec::from_slice(alloc, file)?];
-    match Calendars::read(alloc, &files) {
-        Ok(calendars) => Ok(calendars),
-        Err(_) => bail!("the calendars have a fault"),
-    }
+    let files = [Vec::from_slice(alloc, file).ok()?];
+    Calendars::read(alloc, &files).ok()
 }
 
-/// The fixings of a file; an error where it has a fault.
-pub fn fixings_of(alloc: Global, file: &[u8]) -> Result<Fixings> {
+/// The fixings of a file; none where it is too long or has a fault.
+pub fn fixings_of(alloc: Global, file: &[u8]) -> Option<Fixings> {
     if file.len() > MOST_BYTES {
-        bail!("the fixings are too long");
+        return None;
     }
-    match Fixings::read(alloc, file) {
-        Ok(fixings) => Ok(fixings),
-        Err(_) => bail!("the fixings have a fault"),
-    }
+    Fixings::read(alloc, file).ok()
 }

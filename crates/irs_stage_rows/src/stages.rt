@@ -1,8 +1,7 @@
 //! What each stage tells of what a row gives it.
-ghost use Rattle.irs_terms.specs.Lawful.{IsLawfulStream};
+ghost use Rattle.irs_terms.specs.Lawful.{IsLawful, IsLawfulStream};
 
 use crate::amount_rows::amount_lines;
-use crate::boundaries::boundaries_of;
 use crate::calendar_rows::calendar_lines;
 use crate::currency_rows::currency_lines;
 use crate::documents::{one_stream, swap_of};
@@ -19,8 +18,8 @@ use crate::reset_rows::reset_lines;
 use crate::rule_rows::rule_lines;
 use crate::sources::{Sources, calendars_of};
 use crate::step_rows::step_lines;
-use anyhow::{Context, Result};
-use irs_terms::Stream;
+use crate::telling::Told;
+use irs_terms::{Stream, Swap};
 
 /// What is worked out of a row.
 #[derive(Clone, Copy)]
@@ -78,75 +77,98 @@ struct Given<'a> {
 }
 
 // The parts of a text, `|` between them.
-fn given_of(text: &str) -> Result<Given> {
-    let (file, rest) = text.split_once(" | ").context("a row has edits")?;
+fn given_of(text: &str) -> Option<Given> {
+    let (file, rest) = text.split_once(" | ")?;
     let (edits, beside) = match rest.split_once(" | ") {
         Some((edits, beside)) => (edits, Some(beside)),
         None => (rest, None),
     };
-    Ok(Given {
+    Some(Given {
         file,
         edits,
         beside,
     })
 }
 
-// What a stage tells of a stream and what stands beside it.
-fn stream_told(
+// Tells a stage of a stream and of what stands beside it.
+fn tell_stream(
+    told: &mut Told,
     rt: &HostRuntime,
     sources: &Sources,
     stage: StreamStage,
     s: &Stream,
     beside: &str,
-) -> Result<String>
+) -> Option<()>
     requires { IsLawfulStream s.now }
 {
     let (alloc, calendars) = (rt.alloc(), &sources.calendars);
     match stage {
-        StreamStage::Periods => period_lines(alloc, s),
-        StreamStage::PeriodsOverDays => day_lines(alloc, s),
-        StreamStage::AdjustedPeriods => adjusted_lines(alloc, calendars, s),
-        StreamStage::Payments => payment_lines(alloc, calendars, s, &boundaries_of(alloc, beside)?),
-        StreamStage::Steps => step_lines(alloc, s, &boundaries_of(alloc, beside)?),
-        StreamStage::Exchanges => exchange_lines(alloc, calendars, s),
-        StreamStage::Resets => reset_lines(rt, sources, s, beside),
-        StreamStage::Rates => rate_lines(alloc, s, beside),
-        StreamStage::Notionals => notional_lines(alloc, s, beside),
+        StreamStage::Periods => period_lines(told, alloc, s),
+        StreamStage::PeriodsOverDays => day_lines(told, alloc, s),
+        StreamStage::AdjustedPeriods => adjusted_lines(told, alloc, calendars, s),
+        StreamStage::Payments => payment_lines(told, alloc, calendars, s, beside),
+        StreamStage::Steps => step_lines(told, alloc, s, beside),
+        StreamStage::Exchanges => exchange_lines(told, alloc, calendars, s),
+        StreamStage::Resets => reset_lines(told, rt, sources, s, beside),
+        StreamStage::Rates => rate_lines(told, s, beside),
+        StreamStage::Notionals => notional_lines(told, s, beside),
     }
 }
 
-// What is told of the one stream that a row gives.
-fn one_told(rt: &HostRuntime, sources: &Sources, stage: StreamStage, row: &str) -> Result<String> {
+// Tells a stage of the one stream that a row gives.
+fn tell_one(
+    told: &mut Told,
+    rt: &HostRuntime,
+    sources: &Sources,
+    stage: StreamStage,
+    row: &str,
+) -> Option<()> {
     let given = given_of(row)?;
     let swap = swap_of(rt, sources, given.file, given.edits)?;
-    let beside = given.beside.unwrap_or("");
-    stream_told(rt, sources, stage, one_stream(&swap)?, beside)
+    let stream = one_stream(&swap)?;
+    tell_stream(told, rt, sources, stage, stream, given.beside.unwrap_or(""))
 }
 
-// What is told of the rules of the terms, by the calendars that a row gives, or else by those of all.
-fn rules_told(rt: &HostRuntime, sources: &Sources, row: &str) -> Result<String> {
+// Tells the rules of the terms, by the calendars of a file.
+fn tell_rules_by(told: &mut Told, rt: &HostRuntime, swap: &Swap, file: &str) -> Option<()>
+    requires { IsLawful swap.now }
+{
+    let bytes = file_of(rt, file)?;
+    let calendars = calendars_of(rt.alloc(), &bytes)?;
+    rule_lines(told, &calendars, swap);
+    Some(())
+}
+
+// Tells the rules of the terms, by the calendars that a row gives, or else by those of all.
+fn tell_rules(told: &mut Told, rt: &HostRuntime, sources: &Sources, row: &str) -> Option<()> {
     let given = given_of(row)?;
     let swap = swap_of(rt, sources, given.file, given.edits)?;
     match given.beside {
-        Some(file) => {
-            let calendars = calendars_of(rt.alloc(), &file_of(rt, file)?)?;
-            rule_lines(rt.alloc(), &calendars, &swap)
+        Some(file) => tell_rules_by(told, rt, &swap, file),
+        None => {
+            rule_lines(told, &sources.calendars, &swap);
+            Some(())
         }
-        None => rule_lines(rt.alloc(), &sources.calendars, &swap),
     }
 }
 
-/// The lines that a stage tells.
-pub fn told(rt: &HostRuntime, sources: &Sources, stage: Stage, row: &str) -> Result<String> {
+/// Tells the lines of a stage; none where a row isn't one, or its stage can't be called.
+pub fn tell(
+    told: &mut Told,
+    rt: &HostRuntime,
+    sources: &Sources,
+    stage: Stage,
+    row: &str,
+) -> Option<()> {
     match stage {
-        Stage::Calendars => calendar_lines(rt, row),
-        Stage::Grids => grid_lines(rt.alloc(), row),
-        Stage::FixingFiles => fixing_lines(rt, row),
-        Stage::Amounts => amount_lines(rt.alloc(), row),
-        Stage::Currencies => currency_lines(rt.alloc(), row),
-        Stage::Lists => list_lines(rt.alloc(), row),
-        Stage::Lines => line_lines(rt.alloc(), row),
-        Stage::Rules => rules_told(rt, sources, row),
-        Stage::OfStream(stage) => one_told(rt, sources, stage, row),
+        Stage::Calendars => calendar_lines(told, rt, row),
+        Stage::Grids => grid_lines(told, row),
+        Stage::FixingFiles => fixing_lines(told, rt, row),
+        Stage::Amounts => amount_lines(told, rt.alloc(), row),
+        Stage::Currencies => currency_lines(told, row),
+        Stage::Lists => list_lines(told, rt.alloc(), row),
+        Stage::Lines => line_lines(told, rt.alloc(), row),
+        Stage::Rules => tell_rules(told, rt, sources, row),
+        Stage::OfStream(stage) => tell_one(told, rt, sources, stage, row),
     }
 }

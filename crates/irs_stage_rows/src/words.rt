@@ -2,38 +2,24 @@
 //!
 //! A line of the file `words` is a word with its arguments, ` = `, and the edits for which it
 //! stands, as `paid $1 $2 = put paymentDates/paymentFrequency {"periodMultiplier":"$1", ..`. A word
-//! may stand in several lines with other numbers of arguments.
-use anyhow::Result;
+//! may stand in several lines with other numbers of arguments. A `$` stands only in front of the
+//! number of an argument.
 use std::alloc::Global;
 
-// The arguments of a line of `words`, in order.
-const PLACES: [&str; 4] = ["$1", "$2", "$3", "$4"];
+// The numbers of the arguments of a line of `words`, in order.
+const NUMBERS: [&str; 4] = ["1", "2", "3", "4"];
 
-// A text with what stands for a place.
-fn filled(alloc: Global, text: &str, place: &str, argument: &str) -> Result<String> {
-    let mut whole = String::new(alloc);
-    let mut is_first = true;
-    for part in text.split(place) {
-        if !is_first {
-            whole.push_str(argument)?;
-        }
-        whole.push_str(part)?;
-        is_first = false;
-    }
-    Ok(whole)
+// Whether a line's head is the word of a text, with as many arguments.
+fn is_head(head: &str, text: &str) -> bool {
+    let (mut names, mut words) = (head.split(' '), text.split(' '));
+    names.next() == words.next() && names.count() == words.count()
 }
 
-// Whether a line's head is a word with so many arguments.
-fn is_head(head: &str, word: &str, arguments: usize) -> bool {
-    let mut names = head.split(' ');
-    names.next() == Some(word) && names.count() == arguments
-}
-
-// The edits for which a word with so many arguments stands.
-fn meaning<'a>(words: &'a str, word: &str, arguments: usize) -> Option<&'a str> {
+// The edits for which the word of a text stands with so many arguments.
+fn meaning<'a>(words: &'a str, text: &str) -> Option<&'a str> {
     for line in words.lines() {
         if let Some((head, meaning)) = line.split_once(" = ") {
-            if is_head(head, word, arguments) {
+            if is_head(head, text) {
                 return Some(meaning);
             }
         }
@@ -41,20 +27,35 @@ fn meaning<'a>(words: &'a str, word: &str, arguments: usize) -> Option<&'a str> 
     None
 }
 
-/// The edits for which a word with its arguments stands; the text itself where it is no word.
-pub fn meaning_of(alloc: Global, words: &str, text: &str) -> Result<String> {
-    let (word, rest) = text.split_once(' ').unwrap_or((text, ""));
-    let arguments = if rest.is_empty() {
-        0
-    } else {
-        rest.split(' ').count()
-    };
-    let Some(meaning) = meaning(words, word, arguments) else {
-        return Ok(String::from_str(alloc, text)?);
-    };
-    let mut edits = String::from_str(alloc, meaning)?;
-    for (place, argument) in PLACES.iter().zip(rest.split(' ')) {
-        edits = filled(alloc, &edits, place, argument)?;
+// The argument whose number a part begins with, and what stands behind the number.
+fn argument<'a>(part: &'a str, arguments: &'a str) -> Option<(&'a str, &'a str)> {
+    for (number, argument) in NUMBERS.iter().zip(arguments.split(' ')) {
+        if let Some(rest) = part.strip_prefix(*number) {
+            return Some((argument, rest));
+        }
     }
-    Ok(edits)
+    None
+}
+
+// Appends a meaning with the arguments in their places.
+fn push_filled(edits: &mut String, meaning: &str, arguments: &str) -> Option<()> {
+    let mut parts = meaning.split('$');
+    edits.push_str(parts.next()?).ok()?;
+    for part in parts {
+        let (argument, rest) = argument(part, arguments)?;
+        edits.push_str(argument).ok()?;
+        edits.push_str(rest).ok()?;
+    }
+    Some(())
+}
+
+/// The edits for which a word with its arguments stands; the text itself where it is no word.
+pub fn meaning_of(alloc: Global, words: &str, text: &str) -> Option<String> {
+    let Some(meaning) = meaning(words, text) else {
+        return String::from_str(alloc, text).ok();
+    };
+    let (_, arguments) = text.split_once(' ').unwrap_or((text, ""));
+    let mut edits = String::new(alloc);
+    push_filled(&mut edits, meaning, arguments)?;
+    Some(edits)
 }
