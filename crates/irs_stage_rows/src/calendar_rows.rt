@@ -1,11 +1,13 @@
 //! What is told of calendars: the fault of a file; the first centre that is missing; else how many
 //! runs of good days the centres have together, and of a day whether it is good, and the next good
-//! day and the one before.
+//! day and the one before, or the day to which it is adjusted.
 //!
-//! A row gives the files with `//` between them, then the centres, then the day or nothing.
+//! A row gives the files with `//` between them, then the centres, then the day or nothing; in front of
+//! the day may stand how it is adjusted.
 ghost use Rattle.std.specs.Prelude.{◌≤◌, All, IsTrue, length};
 ghost use Rattle.irs_base.specs.Limits.{most_bytes};
 
+use crate::adjust_rows::adjusted_told;
 use crate::boundaries::day;
 use crate::files::file_of;
 use crate::telling::Told;
@@ -50,12 +52,15 @@ fn day_told(told: &mut Told, days: &RunSet, d: Day) {
     told.given_day("before ", days.prev_good(d));
 }
 
-fn days_told(told: &mut Told, days: &RunSet, date: &str) -> Option<()> {
-    if date.is_empty() {
+fn days_told(told: &mut Told, days: &RunSet, asked: &str) -> Option<()> {
+    if let Some((how, date)) = asked.rsplit_once(' ') {
+        return adjusted_told(told, days, how, day(date)?);
+    }
+    if asked.is_empty() {
         told.number("", days.count());
         told.line(" runs of good days");
     } else {
-        day_told(told, days, day(date)?);
+        day_told(told, days, day(asked)?);
     }
     Some(())
 }

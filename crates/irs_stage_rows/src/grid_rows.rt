@@ -2,7 +2,8 @@
 //! whether its roll fits its anchor.
 //!
 //! A row gives the frequency, the roll and the anchor, then one of `day N`, `number of DATE`,
-//! `on grid DATE`, `on grid of an anchor that may not fit DATE` and `fits`.
+//! `on grid DATE`, `on grid of an anchor that may not fit DATE`, `on grid from an anchor that may not fit
+//! DATE` and `fits`.
 ghost use Rattle.std.specs.Prelude.{IsTrue};
 ghost use Rattle.irs_terms.specs.Lawful.{IsLawfulRoll};
 
@@ -10,7 +11,7 @@ use crate::boundaries::day;
 use crate::telling::Told;
 use irs_base::Day;
 use irs_elements::codes::{roll, unit};
-use irs_roll::{Grid, StreamGrid, fits, on_grid_of, suits};
+use irs_roll::{Anchor, Grid, StreamGrid, fits, on_grid_from, on_grid_of, suits};
 use irs_terms::{Frequency, RollCode, Unit};
 
 /// The terms of a grid.
@@ -53,12 +54,17 @@ fn is_lawful(roll: RollCode) -> bool
     }
 }
 
-// Whether a day is on the grid of an anchor that may not fit the roll.
-fn is_on(t: GridTerms, d: Day) -> Option<bool> {
+// Whether a day is on the grid of an anchor that may not fit the roll, or on that from an anchor that is
+// made for many days.
+fn is_on(t: GridTerms, question: &str, d: Day) -> Option<bool> {
     if t.freq.count == 0 || t.freq.unit == Unit::T || !is_lawful(t.roll) {
         return None;
     }
-    Some(on_grid_of(t.freq, t.roll, t.anchor, d))
+    match question {
+        "on grid of" => Some(on_grid_of(t.freq, t.roll, t.anchor, d)),
+        "on grid from" => Some(on_grid_from(t.freq, t.roll, &Anchor::new(t.anchor), d)),
+        _ => None,
+    }
 }
 
 fn said(told: &mut Told, is_so: bool) {
@@ -66,18 +72,10 @@ fn said(told: &mut Told, is_so: bool) {
     told.line(word);
 }
 
-fn number_told(told: &mut Told, number: Option<i64>) {
-    match number {
-        Some(number) => told.number("", number),
-        None => told.text("none"),
-    }
-    told.end();
-}
-
 // What a grid says of a day.
 fn day_told(told: &mut Told, grid: &StreamGrid, question: &str, d: Day) -> Option<()> {
     match question {
-        "number of" => number_told(told, grid.index(d)),
+        "number of" => told.given_number(grid.index(d)),
         "on grid" => said(told, grid.on_grid(d)),
         _ => return None,
     }
@@ -97,8 +95,8 @@ fn asked(told: &mut Told, grid: &StreamGrid, question: &str) -> Option<()> {
 pub fn grid_lines(told: &mut Told, row: &str) -> Option<()> {
     let (terms, question) = row.split_once(" | ")?;
     let terms = terms_of(terms)?;
-    if let Some(date) = question.strip_prefix("on grid of an anchor that may not fit ") {
-        said(told, is_on(terms, day(date)?)?);
+    if let Some((asked, date)) = question.split_once(" an anchor that may not fit ") {
+        said(told, is_on(terms, asked, day(date)?)?);
         return Some(());
     }
     let grid = grid(terms);

@@ -9,10 +9,14 @@ use rows::run_rows;
 use sources::Sources;
 use stages::{Stage, StreamStage};
 
+mod adjust_rows;
 mod amount_rows;
 mod boundaries;
 mod calendar_rows;
 mod currency_rows;
+mod date_rows;
+mod day_count_rows;
+mod decimal_rows;
 mod documents;
 mod edits;
 mod exchange_rows;
@@ -26,6 +30,7 @@ mod payment_rows;
 mod period_rows;
 mod rate_rows;
 mod reset_rows;
+mod rounding_rows;
 mod rows;
 mod rule_rows;
 mod sources;
@@ -37,7 +42,7 @@ mod values;
 mod words;
 
 /// Each file of rows, and the stage of which it tells.
-const FILES: [(&str, Stage); 17] = [
+const FILES: [(&str, Stage); 24] = [
     ("calendars", Stage::Calendars),
     ("grids", Stage::Grids),
     ("fixing_files", Stage::FixingFiles),
@@ -61,6 +66,13 @@ const FILES: [(&str, Stage); 17] = [
     ("currencies", Stage::Currencies),
     ("lists", Stage::Lists),
     ("lines", Stage::Lines),
+    ("dates", Stage::Dates),
+    ("decimals", Stage::Decimals),
+    ("roundings", Stage::Roundings),
+    ("easter", Stage::Calendars),
+    ("adjustments", Stage::Calendars),
+    ("quarters", Stage::Grids),
+    ("day_counts", Stage::DayCounts),
 ];
 
 fn main(rt: HostRuntime) -> anyhow::Result<()> {

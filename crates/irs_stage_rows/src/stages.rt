@@ -4,6 +4,9 @@ ghost use Rattle.irs_terms.specs.Lawful.{IsLawful, IsLawfulStream};
 use crate::amount_rows::amount_lines;
 use crate::calendar_rows::calendar_lines;
 use crate::currency_rows::currency_lines;
+use crate::date_rows::date_lines;
+use crate::day_count_rows::day_count_lines;
+use crate::decimal_rows::decimal_lines;
 use crate::documents::{one_stream, swap_of};
 use crate::exchange_rows::exchange_lines;
 use crate::files::file_of;
@@ -15,6 +18,7 @@ use crate::payment_rows::payment_lines;
 use crate::period_rows::{adjusted_lines, day_lines, period_lines};
 use crate::rate_rows::{notional_lines, rate_lines};
 use crate::reset_rows::reset_lines;
+use crate::rounding_rows::rounding_lines;
 use crate::rule_rows::rule_lines;
 use crate::sources::{Sources, calendars_of};
 use crate::step_rows::step_lines;
@@ -30,6 +34,14 @@ pub enum Stage {
     Grids,
     /// A rate of a file of fixings.
     FixingFiles,
+    /// The day of a text.
+    Dates,
+    /// The number of a text.
+    Decimals,
+    /// A fraction that is rounded.
+    Roundings,
+    /// The days and the fraction of a period.
+    DayCounts,
     /// The amount of a payment.
     Amounts,
     /// The decimals of a currency.
@@ -164,6 +176,13 @@ pub fn tell(
         Stage::Calendars => calendar_lines(told, rt, row),
         Stage::Grids => grid_lines(told, row),
         Stage::FixingFiles => fixing_lines(told, rt, row),
+        Stage::Dates => {
+            date_lines(told, row);
+            Some(())
+        }
+        Stage::Decimals => decimal_lines(told, row),
+        Stage::Roundings => rounding_lines(told, row),
+        Stage::DayCounts => day_count_lines(told, row),
         Stage::Amounts => amount_lines(told, rt.alloc(), row),
         Stage::Currencies => currency_lines(told, row),
         Stage::Lists => list_lines(told, rt.alloc(), row),

@@ -1,6 +1,7 @@
 //! The texts that are told: days, rates, broken rules. Each is told behind a text.
 use crate::telling::Told;
 use irs_base::{Day, Dec, Fault, Line, Stopped, day_digits};
+use itoa::Integer;
 
 impl<'a> Told<'a> {
     /// `YYYY-MM-DD`.
@@ -14,6 +15,15 @@ impl<'a> Told<'a> {
         if adjusted != unadjusted {
             self.day(" to ", adjusted);
         }
+    }
+
+    /// A line of a number, or of `none`.
+    pub fn given_number<I: Integer>(&mut self, number: Option<I>) {
+        match number {
+            Some(number) => self.number("", number),
+            None => self.text("none"),
+        }
+        self.end();
     }
 
     /// A line of a day, or of `none`.
