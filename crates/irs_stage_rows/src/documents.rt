@@ -9,8 +9,11 @@ use irs_read::read_swap;
 use irs_terms::{Stream, Swap};
 use std::fs;
 
-/// A swap without streams, and the place of its streams.
-const NO_STREAMS: (&str, &str) = ("{\"swap\":{\"swapStream\":[]}}", "/swap/swapStream");
+/// A swap without streams.
+const NO_STREAMS: &str = "{\"swap\":{\"swapStream\":[]}}";
+
+/// Where the streams of a swap stand.
+const STREAMS: &str = "/swap/swapStream";
 
 fn document_in(rt: &HostRuntime, file: &str) -> Option<Value> {
     let text = fs::read_to_string(rt, file).ok()?;
@@ -25,7 +28,7 @@ fn push_streams(
     file: &str,
     edits: &str,
 ) -> Option<()> {
-    let streams = swap.pointer_mut(NO_STREAMS.1)?.as_array_mut()?;
+    let streams = swap.pointer_mut(STREAMS)?.as_array_mut()?;
     for each in edits.split(" // ") {
         streams.push(document_in(rt, file)?).ok()?;
         make_edits(rt.alloc(), &sources.words, streams.last_mut()?, each)?;
@@ -34,7 +37,7 @@ fn push_streams(
 }
 
 fn document_of(rt: &HostRuntime, sources: &Sources, file: &str, edits: &str) -> Option<Value> {
-    let mut swap = parse(rt.alloc(), NO_STREAMS.0.as_bytes()).ok()?;
+    let mut swap = parse(rt.alloc(), NO_STREAMS.as_bytes()).ok()?;
     push_streams(rt, sources, &mut swap, file, edits)?;
     Some(swap)
 }

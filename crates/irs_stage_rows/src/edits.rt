@@ -7,7 +7,7 @@ use crate::words::meaning_of;
 use irs_json::{Value, parse};
 use std::alloc::Global;
 
-/// Where nothing stands, an item is put behind these.
+/// What is put where nothing stands, before an item is added there.
 const NO_ITEMS: &str = "[]";
 
 // What stands at a place.

@@ -17,6 +17,7 @@ const ESCAPES: [(&str, &[u8]); 6] = [
     (".", b""),
 ];
 
+// As many `A` as a text says.
 fn push_many(bytes: &mut Vec<u8>, count: &str) -> Option<()> {
     for _ in 0..count.parse::<u32>().ok()? {
         bytes.push(b'A').ok()?;
@@ -24,6 +25,7 @@ fn push_many(bytes: &mut Vec<u8>, count: &str) -> Option<()> {
     Some(())
 }
 
+// A line each of as many days as a text says.
 fn push_days(bytes: &mut Vec<u8>, count: &str) -> Option<()> {
     for k in 0..count.parse::<u32>().ok()? {
         let day = plus(Day::earliest(), i64::from(k))?;
@@ -33,6 +35,7 @@ fn push_days(bytes: &mut Vec<u8>, count: &str) -> Option<()> {
     Some(())
 }
 
+// What has a name at the head of a text, and the rest of the text.
 fn push_named(bytes: &mut Vec<u8>, text: &str) -> Option<()> {
     for (name, named) in ESCAPES {
         if let Some(rest) = text.strip_prefix(name) {
