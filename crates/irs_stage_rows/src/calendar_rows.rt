@@ -1,15 +1,18 @@
 //! What is told of calendars: the fault of a file; the first centre that is missing; else how many
 //! runs of good days the centres have together, and of a day whether it is good, and the next good
-//! day and the one before, or the day to which it is adjusted.
+//! day and the one before, or the day to which it is adjusted, or the one that a search finds whose
+//! steps are counted; and whether a centre has a calendar.
 //!
-//! A row gives the files with `//` between them, then the centres, then the day or nothing; in front of
-//! the day may stand how it is adjusted.
+//! A row gives the files with `//` between them, then the centres or `all` for a set in which every day
+//! is good, then the day or nothing. In front of the day may stand how it is adjusted, or the search;
+//! `has a calendar` stands in its place where that is asked of one centre.
 ghost use Rattle.std.specs.Prelude.{◌≤◌, All, IsTrue, length};
 ghost use Rattle.irs_base.specs.Limits.{most_bytes};
 
 use crate::adjust_rows::adjusted_told;
 use crate::boundaries::day;
 use crate::files::file_of;
+use crate::step_counts::{next_told, previous_told};
 use crate::telling::Told;
 use irs_base::{Day, MOST_BYTES, MOST_CENTERS, MOST_FILES, Names, Text};
 use irs_calendar::{CalErr, Calendars, GoodDays, RunSet, SelErr};
@@ -52,9 +55,21 @@ fn day_told(told: &mut Told, days: &RunSet, d: Day) {
     told.given_day("before ", days.prev_good(d));
 }
 
+// What becomes of a day, or which day is found from it.
+fn found_told(told: &mut Told, days: &RunSet, how: &str, d: Day) -> Option<()> {
+    match how {
+        "next in seven steps" => next_told(told, days, d),
+        "previous in counted steps" => {
+            previous_told(told, days, d);
+            Some(())
+        }
+        _ => adjusted_told(told, days, how, d),
+    }
+}
+
 fn days_told(told: &mut Told, days: &RunSet, asked: &str) -> Option<()> {
     if let Some((how, date)) = asked.rsplit_once(' ') {
-        return adjusted_told(told, days, how, day(date)?);
+        return found_told(told, days, how, day(date)?);
     }
     if asked.is_empty() {
         told.number("", days.count());
@@ -65,7 +80,8 @@ fn days_told(told: &mut Told, days: &RunSet, asked: &str) -> Option<()> {
     Some(())
 }
 
-fn push_names(alloc: Global, names: &mut Names, centers: &str) -> Option<()> {
+/// Pushes names, which have spaces between them.
+pub fn push_names(alloc: Global, names: &mut Names, centers: &str) -> Option<()> {
     for center in centers.split_whitespace() {
         names
             .push(Text::from_bytes(alloc, center.as_bytes()).ok()?)
@@ -74,18 +90,27 @@ fn push_names(alloc: Global, names: &mut Names, centers: &str) -> Option<()> {
     Some(())
 }
 
+// Whether the one centre has a calendar.
+fn calendar_told(told: &mut Told, calendars: &Calendars, names: &Names) -> Option<()> {
+    let [name] = names.as_slice() else {
+        return None;
+    };
+    told.answer(calendars.has_center(name));
+    Some(())
+}
+
 fn selected(
     told: &mut Told,
     alloc: Global,
     calendars: &Calendars,
     names: &Names,
-    date: &str,
+    asked: &str,
 ) -> Option<()> {
     if names.len() > MOST_CENTERS as usize {
         return None;
     }
     match calendars.select(alloc, names) {
-        Ok(days) => days_told(told, &days, date),
+        Ok(days) => days_told(told, &days, asked),
         Err(SelErr::NoCenter(number)) => {
             told.number("centre ", number);
             told.line(" is missing");
@@ -100,11 +125,18 @@ fn centers_told(
     alloc: Global,
     calendars: &Calendars,
     centers: &str,
-    date: &str,
+    asked: &str,
 ) -> Option<()> {
+    if centers == "all" {
+        return days_told(told, &RunSet::all(), asked);
+    }
     let mut names = Names::new(alloc);
     push_names(alloc, &mut names, centers)?;
-    selected(told, alloc, calendars, &names, date)
+    if asked == "has a calendar" {
+        calendar_told(told, calendars, &names)
+    } else {
+        selected(told, alloc, calendars, &names, asked)
+    }
 }
 
 fn files_told(
@@ -112,13 +144,13 @@ fn files_told(
     alloc: Global,
     files: &[Vec<u8>],
     centers: &str,
-    date: &str,
+    asked: &str,
 ) -> Option<()> {
     if files.len() > MOST_FILES as usize || !are_short(files) {
         return None;
     }
     match Calendars::read(alloc, files) {
-        Ok(calendars) => centers_told(told, alloc, &calendars, centers, date),
+        Ok(calendars) => centers_told(told, alloc, &calendars, centers, asked),
         Err(fault) => fault_told(told, fault),
     }
 }
@@ -126,8 +158,8 @@ fn files_told(
 /// What is told of calendars.
 pub fn calendar_lines(told: &mut Told, rt: &HostRuntime, row: &str) -> Option<()> {
     let (texts, rest) = row.split_once(" | ")?;
-    let (centers, date) = rest.split_once(" | ")?;
+    let (centers, asked) = rest.split_once(" | ")?;
     let mut files = Vec::new(rt.alloc());
     push_files(rt, &mut files, texts)?;
-    files_told(told, rt.alloc(), &files, centers, date)
+    files_told(told, rt.alloc(), &files, centers, asked)
 }

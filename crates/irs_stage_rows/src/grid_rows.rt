@@ -67,16 +67,11 @@ fn is_on(t: GridTerms, question: &str, d: Day) -> Option<bool> {
     }
 }
 
-fn said(told: &mut Told, is_so: bool) {
-    let word = if is_so { "yes" } else { "no" };
-    told.line(word);
-}
-
 // What a grid says of a day.
 fn day_told(told: &mut Told, grid: &StreamGrid, question: &str, d: Day) -> Option<()> {
     match question {
         "number of" => told.given_number(grid.index(d)),
-        "on grid" => said(told, grid.on_grid(d)),
+        "on grid" => told.answer(grid.on_grid(d)),
         _ => return None,
     }
     Some(())
@@ -96,12 +91,12 @@ pub fn grid_lines(told: &mut Told, row: &str) -> Option<()> {
     let (terms, question) = row.split_once(" | ")?;
     let terms = terms_of(terms)?;
     if let Some((asked, date)) = question.split_once(" an anchor that may not fit ") {
-        said(told, is_on(terms, asked, day(date)?)?);
+        told.answer(is_on(terms, asked, day(date)?)?);
         return Some(());
     }
     let grid = grid(terms);
     if question == "fits" {
-        said(told, grid.is_some());
+        told.answer(grid.is_some());
         return Some(());
     }
     asked(told, &grid?, question)

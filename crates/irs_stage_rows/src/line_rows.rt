@@ -1,9 +1,12 @@
-//! What is told of the lines that `accrue`, `net` and `overnight` print; a line's feed is told as `\n`.
+//! What is told of a line: of those that `accrue`, `net` and `overnight` print, whose feed is told as
+//! `\n`; and of one that is put together from its parts.
 //!
 //! A row gives whose line it is: `accrued`, then the stream's number, then `none` or the period, its
 //! days, their fraction and the amount or `-`; `net`, then the date, the currency, the amount and how
 //! many amounts aren't known; `derived`, then the period and its fixing date, the rate or `missing` and
-//! a day, the tenor or `-`, and the index.
+//! a day, the tenor or `-`, and the index; `parts`, then a day, a decimal, and behind a `/` a whole
+//! number; `numbers`, then two numbers, which stand in a line that held a text and was cleared. Behind
+//! `path` stands the name of an element, whose path is told.
 ghost use Rattle.std.specs.Prelude.{◌≤◌, IfSome};
 ghost use Rattle.irs_accrue.specs.Accruals.{HasPlaces};
 
@@ -11,7 +14,7 @@ use crate::boundaries::day;
 use crate::telling::Told;
 use crate::values::{amount_of, fraction_of, rate_of, tenor_of};
 use irs_accrue::{Accrual, accrued_text};
-use irs_base::{Dec, Line, MOST_INDEX, Text};
+use irs_base::{Dec, Elem, Line, MOST_INDEX, Text};
 use irs_elements::words::currency;
 use irs_net::{NetRow, NetTable, net_text};
 use irs_overnight::{DerivedRow, Found, derived_text};
@@ -137,6 +140,44 @@ fn derived_told(told: &mut Told, alloc: Global, row: &str) -> Option<()> {
     derived_line(told, &row, tenor, &index)
 }
 
+// The line of a day, a decimal and a whole number.
+fn parts_told(told: &mut Told, row: &str) -> Option<()> {
+    let (date, rest) = row.split_once(' ')?;
+    let (decimal, whole) = rest.split_once('/')?;
+    let date = day(date)?;
+    let decimal = amount_of(decimal)?;
+    let whole = whole.parse::<i128>().ok()?;
+    let mut line = Line::new();
+    line.push_day(date);
+    line.put_dec(decimal);
+    line.put_whole(b'/', whole);
+    told.bytes("", line.bytes());
+    told.end();
+    Some(())
+}
+
+// The line of two numbers, in which a text stood before.
+fn numbers_told(told: &mut Told, row: &str) -> Option<()> {
+    let (first, second) = row.split_once(' ')?;
+    let (first, second) = (first.parse::<u32>().ok()?, second.parse::<u32>().ok()?);
+    let mut line = held();
+    line.clear();
+    line.put_number(first);
+    line.put_number(second);
+    told.bytes("", line.bytes());
+    told.end();
+    Some(())
+}
+
+// The path of the one element that rows name.
+fn path_told(told: &mut Told, name: &str) -> Option<()> {
+    if name != "FIXING_DATES_RELATIVE_TO" {
+        return None;
+    }
+    told.line(Elem::FIXING_DATES_RELATIVE_TO.path());
+    Some(())
+}
+
 /// The line of a row.
 pub fn line_lines(told: &mut Told, alloc: Global, row: &str) -> Option<()> {
     let (kind, given) = row.split_once(" | ")?;
@@ -144,6 +185,9 @@ pub fn line_lines(told: &mut Told, alloc: Global, row: &str) -> Option<()> {
         "accrued" => accrued_told(told, given),
         "net" => net_told(told, alloc, given),
         "derived" => derived_told(told, alloc, given),
+        "parts" => parts_told(told, given),
+        "numbers" => numbers_told(told, given),
+        "path" => path_told(told, given),
         _ => None,
     }
 }

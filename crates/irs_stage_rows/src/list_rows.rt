@@ -1,15 +1,19 @@
-//! What is told of the lists of terms: what a copy holds of what was pushed.
+//! What is told of lists: what a copy holds of what was pushed.
 //!
-//! A row gives of what the list is, then its items with `,` between them: `steps`, each a day and a
-//! value in units of its last place; `payments`, each its date and its first and last period;
+//! A row gives of what the list is, then its items with `,` between them: `days`; `steps`, each a day
+//! and a value in units of its last place; `payments`, each its date and its first and last period;
 //! `exchanges`, each its date and its amount; `resets`, each its date and its observed rate or `none`.
-//! A date is written as a boundary is. Of `streams` there are `none`, and it is told how many.
+//! A date is written as a boundary is. Of `text` it gives a text and a byte that is pushed behind its
+//! copy; of `names` the names as centres are given, and it is told how many there are too. Of
+//! `streams` there are `none`, and it is told how many.
 use crate::boundaries::{dates, day};
+use crate::calendar_rows::push_names;
 use crate::exchange_rows::exchanges_told;
 use crate::payment_rows::payments_told;
 use crate::reset_rows::resets_told;
 use crate::telling::Told;
 use crate::values::{amount_of, rate_of};
+use irs_base::{DayList, Names, Text};
 use irs_terms::{
     Exchange, Exchanges, Payment, Payments, Reset, Resets, Step, StepList, StreamList,
 };
@@ -60,6 +64,67 @@ fn reset_of(text: &str) -> Option<Reset> {
         fixing,
         observed: observed_of(observed)?,
     })
+}
+
+// What a copy of a text holds with a byte behind it.
+fn text_told(told: &mut Told, alloc: Global, text: &Text, byte: u8) -> Option<()> {
+    let mut copy = text.copy(alloc).ok()?;
+    copy.push(byte).ok()?;
+    told.bytes("", copy.as_slice());
+    told.end();
+    Some(())
+}
+
+fn text_copied(told: &mut Told, alloc: Global, items: &str) -> Option<()> {
+    let (text, pushed) = items.split_once(' ')?;
+    let [byte] = pushed.as_bytes() else {
+        return None;
+    };
+    let text = Text::from_bytes(alloc, text.as_bytes()).ok()?;
+    text_told(told, alloc, &text, *byte)
+}
+
+fn names_told(told: &mut Told, names: &Names) {
+    told.number("", names.len());
+    told.end();
+    let mut between = "";
+    for name in names.as_slice() {
+        told.bytes(between, name.as_slice());
+        between = " ";
+    }
+    told.end();
+}
+
+fn names_copied(told: &mut Told, alloc: Global, items: &str) -> Option<()> {
+    let mut names = Names::new(alloc);
+    push_names(alloc, &mut names, items)?;
+    let copy = names.copy(alloc).ok()?;
+    names_told(told, &copy);
+    Some(())
+}
+
+fn days_told(told: &mut Told, days: &DayList) {
+    let mut between = "";
+    for each in days.as_slice() {
+        told.day(between, *each);
+        between = ", ";
+    }
+    told.end();
+}
+
+fn push_days(days: &mut DayList, items: &str) -> Option<()> {
+    for item in items.split(", ") {
+        days.push(day(item)?).ok()?;
+    }
+    Some(())
+}
+
+fn days_copied(told: &mut Told, alloc: Global, items: &str) -> Option<()> {
+    let mut days = DayList::new(alloc);
+    push_days(&mut days, items)?;
+    let copy = days.copy(alloc).ok()?;
+    days_told(told, &copy);
+    Some(())
 }
 
 fn steps_told(told: &mut Told, list: &StepList) {
@@ -141,10 +206,13 @@ fn no_streams(told: &mut Told, alloc: Global, items: &str) -> Option<()> {
     Some(())
 }
 
-/// What is told of a list of terms.
+/// What is told of a list.
 pub fn list_lines(told: &mut Told, alloc: Global, row: &str) -> Option<()> {
     let (kind, items) = row.split_once(" | ")?;
     match kind {
+        "text" => text_copied(told, alloc, items),
+        "names" => names_copied(told, alloc, items),
+        "days" => days_copied(told, alloc, items),
         "steps" => steps_copied(told, alloc, items),
         "payments" => payments_copied(told, alloc, items),
         "exchanges" => exchanges_copied(told, alloc, items),

@@ -35,6 +35,7 @@ mod rows;
 mod rule_rows;
 mod sources;
 mod stages;
+mod step_counts;
 mod step_rows;
 mod telling;
 mod texts;

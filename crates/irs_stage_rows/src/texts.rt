@@ -36,6 +36,12 @@ impl<'a> Told<'a> {
         self.end();
     }
 
+    /// A line of `yes` or `no`.
+    pub fn answer(&mut self, is_so: bool) {
+        let word = if is_so { "yes" } else { "no" };
+        self.line(word);
+    }
+
     /// A number with its decimals, of which there may be 12.
     #[tactic(auto, using(irs_base::proofs::TextLengths::length_dec))]
     pub fn dec(&mut self, before: &str, number: Dec) {

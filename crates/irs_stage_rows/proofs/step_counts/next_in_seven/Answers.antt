@@ -1,6 +1,6 @@
 use Rattle.std.proofs.Common.{◌≡◌, ◌⊎◌, inl, inr, ℕ, zero, suc, ◌+◌, ◌-◌, ◌*◌, ◌^◌, ◌≤◌, arith, subst}
 use Rattle.std.proofs.Math.Nat.{pow-succ'}
-use Rattle.irs_date_tests.proofs.calendar.next_in_seven.Goals as goal
+use Rattle.irs_stage_rows.proofs.step_counts.next_in_seven.Goals as goal
 
 at_most : (k : ℕ) → 2 ^ k ≤ 214 → k ≤ 7
 at_most k few = elim (cases_le k) [
