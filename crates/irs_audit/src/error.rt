@@ -6,7 +6,7 @@ use irs_base::{Memory, Place};
 use thiserror::Error;
 
 /// How a document of cash flows is out of shape, in the order in which faults are told.
-#[derive(Clone, Copy, Debug, PartialEq, Eq, PartialOrd, Ord)]
+#[derive(Clone, Copy, Debug, PartialEq, Eq)]
 pub enum ShapeKind {
     /// The text has no JSON reading. `read_flows` takes a value and never answers it.
     NotJson,

@@ -45,7 +45,7 @@ pub enum DayName {
 }
 
 /// A day from 1901-01-01 to 2299-12-31. Contracts see its number, counted from 1970-01-01.
-#[derive(Clone, Copy, Debug, PartialEq, Eq, PartialOrd, Ord)]
+#[derive(Clone, Copy, PartialEq, Eq, PartialOrd, Ord)]
 pub struct Day {
     number: i32,
 }

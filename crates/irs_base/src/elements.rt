@@ -15,7 +15,7 @@ use std::marker::Model;
 pub const ELEMENTS: u8 = 157;
 
 /// An element, by its place in the table of paths. Contracts see the place.
-#[derive(Clone, Copy, Debug, PartialEq, Eq, PartialOrd, Ord)]
+#[derive(Clone, Copy, Debug, PartialEq, Eq)]
 pub struct Elem {
     place: u8,
 }

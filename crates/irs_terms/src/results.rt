@@ -15,7 +15,7 @@ pub struct Span {
 }
 
 /// A day count fraction, not reduced.
-#[derive(Clone, Copy, Debug, PartialEq, Eq)]
+#[derive(Clone, Copy)]
 pub struct Frac {
     /// The numerator.
     pub num: i64,
