@@ -106,38 +106,30 @@ fn found_of(text: &str) -> Option<Found> {
     }
 }
 
-fn derived_row_of(place: &str, found: &str) -> Option<DerivedRow> {
+// A row of derived rates, put on a line.
+fn derived_line(place: &str, found: &str, tenor: Option<Frequency>, index: &Text) -> Option<Line> {
     let (period, fixing) = place.split_once(' ')?;
-    Some(DerivedRow {
-        period: period.parse::<u32>().ok()?,
-        fixing: day(fixing)?,
-        found: found_of(found)?,
-    })
-}
-
-// The line of a row of derived rates.
-fn derived_line(
-    told: &mut Told,
-    row: &DerivedRow,
-    tenor: Option<Frequency>,
-    index: &Text,
-) -> Option<()> {
     if index.len() > MOST_INDEX {
         return None;
     }
+    let row = DerivedRow {
+        period: period.parse::<u32>().ok()?,
+        fixing: day(fixing)?,
+        found: found_of(found)?,
+    };
     let mut line = held();
-    derived_text(row, tenor, index, &mut line);
-    printed(told, &line)
+    derived_text(&row, tenor, index, &mut line);
+    Some(line)
 }
 
 fn derived_told(told: &mut Told, alloc: Global, row: &str) -> Option<()> {
     let (place, rest) = row.split_once(" | ")?;
     let (found, rest) = rest.split_once(" | ")?;
     let (tenor, index) = rest.split_once(" | ")?;
-    let row = derived_row_of(place, found)?;
     let tenor = tenor_of(tenor)?;
     let index = Text::from_bytes(alloc, index.as_bytes()).ok()?;
-    derived_line(told, &row, tenor, &index)
+    let line = derived_line(place, found, tenor, &index)?;
+    printed(told, &line)
 }
 
 // The line of a day, a decimal and a whole number.

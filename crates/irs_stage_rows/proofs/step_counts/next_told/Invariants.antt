@@ -1,4 +1,4 @@
 use Rattle.irs_stage_rows.proofs.step_counts.next_told.Given as goal
 
 abbrev pub ghosts-next_of : goal.ghosts-next_of
-ghosts-next_of g a = record { name = a.blank.name; parts = a.blank.parts }
+ghosts-next_of a = record { name = a.blank.name; parts = a.blank.parts }
