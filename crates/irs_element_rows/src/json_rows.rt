@@ -29,11 +29,13 @@ fn bytes_of(alloc: Global, numbers: &str) -> Option<Vec<u8>> {
 fn tell_members(told: &mut Told, value: &Value) {
     match members(value) {
         Some(names) => {
-            let mut between = "";
+            let mut is_first = true;
             for name in names {
-                told.text(between);
+                if !is_first {
+                    told.text(" ");
+                }
                 told.text(name);
-                between = " ";
+                is_first = false;
             }
         }
         None => told.text("absent"),
