@@ -12,9 +12,6 @@ use std::fs;
 /// A swap without streams.
 const NO_STREAMS: &str = "{\"swap\":{\"swapStream\":[]}}";
 
-/// Where the streams of a swap stand.
-const STREAMS: &str = "/swap/swapStream";
-
 fn document_in(rt: &HostRuntime, file: &str) -> Option<Value> {
     let text = fs::read_to_string(rt, file).ok()?;
     parse(rt.alloc(), text.as_bytes()).ok()
@@ -24,11 +21,14 @@ fn document_in(rt: &HostRuntime, file: &str) -> Option<Value> {
 fn push_streams(
     rt: &HostRuntime,
     sources: &Sources,
-    swap: &mut Value,
+    document: &mut Value,
     file: &str,
     edits: &str,
 ) -> Option<()> {
-    let streams = swap.pointer_mut(STREAMS)?.as_array_mut()?;
+    let streams = document
+        .get_mut("swap")?
+        .get_mut("swapStream")?
+        .as_array_mut()?;
     for each in edits.split(" // ") {
         streams.push(document_in(rt, file)?).ok()?;
         make_edits(rt.alloc(), &sources.words, streams.last_mut()?, each)?;
@@ -37,9 +37,9 @@ fn push_streams(
 }
 
 fn document_of(rt: &HostRuntime, sources: &Sources, file: &str, edits: &str) -> Option<Value> {
-    let mut swap = parse(rt.alloc(), NO_STREAMS.as_bytes()).ok()?;
-    push_streams(rt, sources, &mut swap, file, edits)?;
-    Some(swap)
+    let mut document = parse(rt.alloc(), NO_STREAMS.as_bytes()).ok()?;
+    push_streams(rt, sources, &mut document, file, edits)?;
+    Some(document)
 }
 
 /// The swap whose streams are the file's behind edits, `//` between those of each stream.
