@@ -22,6 +22,7 @@ pub mod Standards
 pub mod RuleNumbers
 pub mod Firsts
 pub mod FaultOrder
+pub mod Outcomes
 pub mod MemberLemmas
 pub mod Decided
 pub mod HandedAnswers

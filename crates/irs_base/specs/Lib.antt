@@ -19,3 +19,4 @@ pub mod Rules
 pub mod Faults
 pub mod Statuses
 pub mod Order
+pub mod Outcomes

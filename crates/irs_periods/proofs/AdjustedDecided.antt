@@ -174,7 +174,7 @@ step_up [] i rising within = absurd (omega (arith, within))
 step_up (x ∷ xs) zero rising within = rising_after x xs zero rising.0 (omega (arith, within))
 step_up (x ∷ xs) (suc i) rising within = step_up xs i rising.1 (omega (arith, within))
 
-none_flat : (xs : List ℤ) → IsRising xs → (i : ℕ) → NotAfter xs i → ⊥
+pub none_flat : (xs : List ℤ) → IsRising xs → (i : ℕ) → NotAfter xs i → ⊥
 none_flat xs rising zero h = let some = h.some in omega (arith, some)
 none_flat xs rising (suc i) h =
     let place : suc i - 1 ≡ i = omega arith in

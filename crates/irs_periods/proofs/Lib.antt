@@ -22,3 +22,4 @@ pub mod AdjustedBoundaries
 pub mod FirstAmong
 pub mod AdjustedDecided
 pub mod MemoryAnswers
+pub mod Outcomes

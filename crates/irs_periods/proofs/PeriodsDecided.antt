@@ -1,10 +1,9 @@
 -- A stream has too many periods, or it breaks no rule of them.
-use Rattle.std.proofs.Common.{◌≡◌, ◌⊎◌, inl, inr, ◌+◌, ◌≤◌, List, length, Result, Ok, Err, IfOk, ℤ, refl, ap, arith}
+use Rattle.std.proofs.Common.{◌≡◌, ◌⊎◌, inl, inr, ◌+◌, ◌≤◌, List, length, ℤ, refl, ap, arith}
 use Rattle.std.proofs.lemmas.Bool.{cases_lt}
 use Rattle.irs_base.specs.Limits.{most_periods}
 use Rattle.irs_base.specs.Order.{First, comes_before}
 use Rattle.irs_base.specs.declared.places.Fault.{Fault}
-use Rattle.irs_base.specs.declared.stopped.Stopped.{Stopped}
 use Rattle.irs_base.proofs.FaultOrder.{fault_order, one_fault}
 use Rattle.irs_base.proofs.Firsts.{first_one}
 use Rattle.irs_terms.specs.Lawful.{IsLawfulStream}
@@ -59,9 +58,3 @@ boundaries_decided s span lawful dates regular kept =
           inl (too_many_periods, first_too_many s span (record { list = found.0; lists = found.1; many = many }))
       | inr few ↦ inr (few_unbroken s span found.0 found.1 few)
     ]
-
--- an answer of few boundaries breaks no rule
-pub answer_unbroken : (s : Stream) (span : Span) (r : Result (List ℤ) (Stopped Fault)) → IfOk r (Boundaries s span)
-    → IfOk r (λ b. length b ≤ most_periods + 1) → IfOk r (λ _. (f : Fault) → BreaksPeriods s span f → ⊥)
-answer_unbroken s span (Ok b) lists few = few_unbroken s span b lists few
-answer_unbroken s span (Err e) lists few = tt

@@ -1,5 +1,5 @@
 -- K30 or K31 is the first rule that the span of a stream breaks, or it breaks none.
-use Rattle.std.proofs.Common.{◌≡◌, ◌⊎◌, inl, inr, ⊎_elim, false, Result, Ok, Err, IfOk, refl, sym, subst}
+use Rattle.std.proofs.Common.{◌≡◌, ◌⊎◌, inl, inr, ⊎_elim, false, refl, sym, subst}
 use Rattle.irs_base.specs.Days.{IsDay}
 use Rattle.irs_base.specs.Order.{First, IsDecided, comes_before}
 use Rattle.irs_base.specs.declared.places.Fault.{Fault}
@@ -83,9 +83,3 @@ module _ (s : Stream) (lawful : IsLawfulStream s) (dates : DatesInOrder s) where
     | inr timed ↦
         by_anchor timed (decides_fits s.freq s.roll (anchor_of s) lawful.freq lawful.roll (anchor_day s lawful))
   ]
-
--- an answer whose span is kept breaks no rule
-pub answer_unbroken : (s : Stream) (r : Result Span Fault) → IfOk r (Regular s) → IfOk r (SpanKept s)
-    → IfOk r (λ _. (f : Fault) → BreaksSpan s f → ⊥)
-answer_unbroken s (Ok span) regular kept = span_unbroken s span regular kept
-answer_unbroken s (Err f) regular kept = tt

@@ -6,3 +6,4 @@ pub mod Boundaries
 pub mod GridLists
 pub mod Adjusting
 pub mod Answers
+pub mod Outcomes

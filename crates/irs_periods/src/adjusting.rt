@@ -2,18 +2,18 @@
 //! `firstPeriodStartDate` where it is given, else of the effective date; the termination date by its
 //! own; and every other boundary by the period adjustments (FpML `calculationPeriodDatesAdjustments`;
 //! 2006 ISDA Definitions, 4.10 and 4.12). That they have to rise is this project's own rule.
-ghost use Rattle.std.specs.Prelude.{◌≡◌, ◌⊎◌, ◌<◌, ◌≤◌, ◌^◌, ℕ, ℤ, List, length, IfOk, IfSome, IfNone};
-ghost use Rattle.irs_base.specs.Faults.{IfBroken, fault_at};
-ghost use Rattle.irs_base.specs.Listed.{IsRising};
+ghost use Rattle.std.specs.Prelude.{◌≡◌, ◌<◌, ◌≤◌, ◌^◌, ℕ, ℤ, List, length, IfSome, IfNone};
+ghost use Rattle.irs_base.specs.Faults.{fault_at};
 ghost use Rattle.irs_base.specs.declared.places.Rule.TheVariants.{K33};
-ghost use Rattle.irs_base.specs.Order.{First, comes_before};
+ghost use Rattle.irs_base.specs.Outcomes.{Determined, Meets};
 ghost use Rattle.irs_terms.specs.TermDates.{DatesInOrder};
 ghost use Rattle.irs_terms.specs.declared.results.Span.{Span};
-ghost use Rattle.irs_periods.specs.Adjusting.{AdjustedList, AdjustsAt, BreaksAdjusted, FirstLaterNoResult};
+ghost use Rattle.irs_periods.specs.Adjusting.{AdjustedList, AdjustsAt, FirstLaterNoResult};
 ghost use Rattle.irs_periods.specs.Adjusting.{FirstNoResult, FirstNotAfter, EachHasResult, EachLaterHasResult};
 ghost use Rattle.irs_periods.specs.Adjusting.{MissesResult, NotAfter, days_by, no_result_at, not_after_at};
 ghost use Rattle.irs_periods.specs.Answers.{IfMemory};
 ghost use Rattle.irs_periods.specs.Boundaries.{Boundaries};
+ghost use Rattle.irs_periods.specs.Outcomes.{adjusted_of};
 
 use crate::PerErr;
 use crate::span::first_day_elem;
@@ -43,52 +43,16 @@ pub fn adjusted<G: GoodDays>(
 ) -> Result<DayList, PerErr>
     requires dates { DatesInOrder s.now }
     requires listed { (span : Span) × Boundaries s.now span unadjusted.now }
-    ensures ok { IfOk result (AdjustedList s.now (days_by G.days start.now end.now middle.now) unadjusted.now) }
-    ensures rising { IfOk result IsRising }
-    ensures unbroken { let Breaks = BreaksAdjusted s.now (days_by G.days start.now end.now middle.now) unadjusted.now in
-        IfOk result (λ _. (f : Fault) → Breaks f → ⊥) }
-    ensures memory { let Misses = MissesResult s.now (days_by G.days start.now end.now middle.now) unadjusted.now in
-        IfMemory result ((f : Fault) → Misses f → ⊥) }
-    ensures broken { let Breaks = BreaksAdjusted s.now (days_by G.days start.now end.now middle.now) unadjusted.now in
-        IfBroken result (First comes_before Breaks) }
-    ensures decided { let Breaks = BreaksAdjusted s.now (days_by G.days start.now end.now middle.now) unadjusted.now in
-        ((f : Fault) × First comes_before Breaks f) ⊎ ((f : Fault) → Breaks f → ⊥) }
-    ensures exists { let sets = days_by G.days start.now end.now middle.now in
-        ((f : Fault) → MissesResult s.now sets unadjusted.now f → ⊥)
-        → (a : List ℤ) × AdjustedList s.now sets unadjusted.now a }
-    ensures rises { let sets = days_by G.days start.now end.now middle.now in
-        ((f : Fault) → BreaksAdjusted s.now sets unadjusted.now f → ⊥)
-        → (a : List ℤ) × AdjustedList s.now sets unadjusted.now a × IsRising a }
-    ensures one { let IsAdjusted = AdjustedList s.now (days_by G.days start.now end.now middle.now) unadjusted.now in
-        (a b : List ℤ) → IsAdjusted a → IsAdjusted b → a ≡ b }
-    ensures one_broken { let sets = days_by G.days start.now end.now middle.now in
-        let Breaks = BreaksAdjusted s.now sets unadjusted.now in
-        (f g : Fault) → First comes_before Breaks f → First comes_before Breaks g → f ≡ g }
+    ensures meets { let sets = days_by G.days start.now end.now middle.now in
+        Meets (adjusted_of s.now sets unadjusted.now) result }
+    ensures determined { let sets = days_by G.days start.now end.now middle.now in
+        Determined (adjusted_of s.now sets unadjusted.now) }
+    // Want of memory doesn't hide K33.
+    ensures memory { let sets = days_by G.days start.now end.now middle.now in
+        IfMemory result ((f : Fault) → MissesResult s.now sets unadjusted.now f → ⊥) }
 {
-    // hands the prover the range of the good days and of the boundaries
+    // hands the prover the range of the good days
     let _covers = (start.cover(), end.cover(), middle.cover());
-    let _count = unadjusted.as_slice().len();
-    each_adjusted(alloc, s, unadjusted, start, end, middle)
-}
-
-// Each boundary adjusted, where each has an adjusted day and the adjusted days rise.
-fn each_adjusted<G: GoodDays>(
-    alloc: Global,
-    s: &Stream,
-    unadjusted: &DayList,
-    start: &G,
-    end: &G,
-    middle: &G,
-) -> Result<DayList, PerErr>
-    requires dates { DatesInOrder s.now }
-    requires listed { (span : Span) × Boundaries s.now span unadjusted.now }
-    ensures ok { IfOk result (AdjustedList s.now (days_by G.days start.now end.now middle.now) unadjusted.now) }
-    ensures rising { IfOk result IsRising }
-    ensures memory { let Misses = MissesResult s.now (days_by G.days start.now end.now middle.now) unadjusted.now in
-        IfMemory result ((f : Fault) → Misses f → ⊥) }
-    ensures broken { let Breaks = BreaksAdjusted s.now (days_by G.days start.now end.now middle.now) unadjusted.now in
-        IfBroken result (First comes_before Breaks) }
-{
     let days = unadjusted.as_slice();
     let Some(list) = adjust_each(alloc, s, days, start, end, middle) else {
         return match first_without(s, days, start, end, middle) {

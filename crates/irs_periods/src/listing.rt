@@ -2,26 +2,27 @@
 //! `firstPeriodStartDate`, else the effective date), the termination date, and every grid day of the
 //! regular span (2006 ISDA Definitions, 4.13: a Calculation Period runs from one period end date,
 //! included, to the next, excluded). The most periods are this project's own.
-ghost use Rattle.std.specs.Prelude.{◌≡◌, ◌↔◌, ◌⊎◌, ◌<◌, ◌≤◌, ◌+◌, ◌++◌, ℕ, ℤ, List, length, pos, neg_ℤ, ◌+ℤ◌, ◌≤ℤ◌};
+ghost use Rattle.std.specs.Prelude.{◌≡◌, ◌↔◌, ◌<◌, ◌≤◌, ◌+◌, ◌++◌, [], ◌∷◌, ℕ, ℤ, List, length, pos, neg_ℤ, ◌+ℤ◌, ◌≤ℤ◌};
 ghost use Rattle.std.specs.Prelude.{IfOk};
 ghost use Rattle.jiff_core.specs.Calendar.{IsBetween};
 ghost use Rattle.irs_base.specs.Days.{IsDay, all_days};
-ghost use Rattle.irs_base.specs.Faults.{IfBroken};
 ghost use Rattle.irs_base.specs.Limits.{most_periods};
-ghost use Rattle.irs_base.specs.Order.{First, comes_before};
+ghost use Rattle.irs_base.specs.Outcomes.{Determined, Meets};
 ghost use Rattle.irs_terms.specs.Lawful.{IsLawfulStream};
 ghost use Rattle.irs_terms.specs.Suiting.{FrequencySuits, IsTerm};
-ghost use Rattle.irs_terms.specs.TermDates.{DatesInOrder};
+ghost use Rattle.irs_terms.specs.FirstDay.{first_day_of};
+ghost use Rattle.irs_terms.specs.TermDates.{DatesInOrder, termination_of};
 ghost use Rattle.irs_roll.specs.Rolls.{OnGrid};
 ghost use Rattle.irs_periods.specs.Answers.{IfMemory};
 ghost use Rattle.irs_periods.specs.Boundaries.{Boundaries, BreaksPeriods, RegularStart, too_many_periods};
 ghost use Rattle.irs_periods.specs.GridLists.{boundaries_on, days_from, where_before};
+ghost use Rattle.irs_periods.specs.Outcomes.{boundaries_of};
 ghost use Rattle.irs_periods.specs.SpanRules.{SpanKept};
 ghost use Rattle.irs_periods.specs.Spans.{Regular};
 
 use crate::PerErr;
 use crate::span::is_whole_term;
-use irs_base::{Day, DayList, Elem, Fault, MOST_PERIODS, Rule};
+use irs_base::{Day, DayList, Elem, Fault, MOST_PERIODS, Memory, Rule};
 use irs_roll::{Grid, StreamGrid};
 use irs_terms::{Span, Stream};
 use std::alloc::Global;
@@ -32,8 +33,7 @@ use std::alloc::Global;
 /// that of the stream's frequency and roll from the span's anchor.
 ///
 /// `Broken` comes exactly where there are more than `MOST_PERIODS` periods (K32), also where memory
-/// is short. A stream has exactly one list of boundaries; the first regular period starts at boundary
-/// 0, or at boundary 1 behind an initial stub.
+/// is short.
 pub fn boundaries<G: Grid>(
     alloc: Global,
     s: &Stream,
@@ -47,34 +47,9 @@ pub fn boundaries<G: Grid>(
     requires kept { SpanKept s.now span.now }
     requires first { G.at grid.now (pos 0) ≡ span.now.anchor }
     requires on { (d : ℤ) → G.on grid.now d ↔ OnGrid s.now.freq s.now.roll span.now.anchor d }
-    ensures ok { IfOk result (Boundaries s.now span.now) }
-    ensures few { IfOk result (λ b. length b ≤ most_periods + 1) }
-    ensures unbroken { IfOk result (λ _. (f : Fault) → BreaksPeriods s.now span.now f → ⊥) }
-    ensures memory { IfMemory result ((f : Fault) → BreaksPeriods s.now span.now f → ⊥) }
-    ensures broken { IfBroken result (First comes_before (BreaksPeriods s.now span.now)) }
-    ensures decided { let Breaks = BreaksPeriods s.now span.now in
-        ((f : Fault) × First comes_before Breaks f) ⊎ ((f : Fault) → Breaks f → ⊥) }
-    ensures exists { (b : List ℤ) × Boundaries s.now span.now b }
-    ensures one { (a b : List ℤ) → Boundaries s.now span.now a → Boundaries s.now span.now b → a ≡ b }
-    ensures one_broken { let Breaks = BreaksPeriods s.now span.now in
-        (f g : Fault) → First comes_before Breaks f → First comes_before Breaks g → f ≡ g }
-    ensures regular { (b : List ℤ) → Boundaries s.now span.now b → RegularStart s.now span.now b }
-{
-    over_grid(alloc, s, span, grid)
-}
-
-// The boundaries over the grid, where there are not too many.
-fn over_grid<G: Grid>(alloc: Global, s: &Stream, span: &Span, grid: &G) -> Result<DayList, PerErr>
-    requires lawful { IsLawfulStream s.now }
-    requires dates { DatesInOrder s.now }
-    requires timed { ¬ (IsTerm s.now.freq) }
-    requires span { Regular s.now span.now }
-    requires kept { SpanKept s.now span.now }
-    requires first { G.at grid.now (pos 0) ≡ span.now.anchor }
-    requires on { (d : ℤ) → G.on grid.now d ↔ OnGrid s.now.freq s.now.roll span.now.anchor d }
-    ensures ok { IfOk result (Boundaries s.now span.now) }
-    ensures few { IfOk result (λ b. length b ≤ most_periods + 1) }
-    ensures broken { IfBroken result (First comes_before (BreaksPeriods s.now span.now)) }
+    ensures meets { Meets (boundaries_of s.now span.now) result }
+    ensures determined { Determined (boundaries_of s.now span.now) }
+    // Want of memory hides no broken rule.
     ensures memory { IfMemory result ((f : Fault) → BreaksPeriods s.now span.now f → ⊥) }
 {
     let (start, steps) = regular_part(s, span, grid);
@@ -82,7 +57,7 @@ fn over_grid<G: Grid>(alloc: Global, s: &Stream, span: &Span, grid: &G) -> Resul
     if steps > MOST_PERIODS - stubs {
         return Err(PerErr::Broken(too_many()));
     }
-    list_days(alloc, s, span, grid, start, steps)
+    Ok(list_days(alloc, s, span, grid, start, steps)?)
 }
 
 // The first day, the grid days of the span from a number on, and the termination date.
@@ -93,12 +68,11 @@ fn list_days<G: Grid>(
     grid: &G,
     start: i64,
     steps: u32,
-) -> Result<DayList, PerErr>
+) -> Result<DayList, Memory>
     requires few { steps ≤ most_periods }
     requires near { IsBetween (neg_ℤ (pos all_days)) (pos all_days) start }
     requires days { (j : ℕ) → j ≤ steps → IsDay (G.at grid.now (start +ℤ pos j)) }
-    ensures ok { IfOk result (λ b. b ≡ boundaries_on (G.at grid.now) start steps s.now span.now) }
-    ensures memory { IfBroken result (λ _. ⊥) }
+    ensures { IfOk result (λ b. b ≡ boundaries_on (G.at grid.now) start steps s.now span.now) }
 {
     let list = front(alloc, s.first_day(), span.first)?;
     let list = grid_days(list, grid, start, steps + 1)?;
@@ -171,9 +145,8 @@ fn too_many() -> Fault
 }
 
 // The begin of the first period alone where it comes before the regular span.
-fn front(alloc: Global, begin: Day, first: Day) -> Result<DayList, PerErr>
-    ensures ok { IfOk result (λ b. b ≡ where_before begin first begin) }
-    ensures memory { IfBroken result (λ _. ⊥) }
+fn front(alloc: Global, begin: Day, first: Day) -> Result<DayList, Memory>
+    ensures { IfOk result (λ b. b ≡ where_before begin first begin) }
 {
     let mut list = DayList::new(alloc);
     if begin < first {
@@ -188,11 +161,10 @@ fn grid_days<G: Grid>(
     grid: &G,
     start: i64,
     count: u32,
-) -> Result<DayList, PerErr>
+) -> Result<DayList, Memory>
     requires near { IsBetween (neg_ℤ (pos all_days)) (pos all_days) start }
     requires days { (j : ℕ) → j < count → IsDay (G.at grid.now (start +ℤ pos j)) }
-    ensures ok { IfOk result (λ b. b ≡ list ++ days_from (G.at grid.now) start count) }
-    ensures memory { IfBroken result (λ _. ⊥) }
+    ensures { IfOk result (λ b. b ≡ list ++ days_from (G.at grid.now) start count) }
 {
     for j in 0..count {
         match grid.nth(start + i64::from(j)) {
@@ -204,9 +176,8 @@ fn grid_days<G: Grid>(
 }
 
 // The termination date behind the list where it comes after the regular span.
-fn close(mut list: DayList, last: Day, termination: Day) -> Result<DayList, PerErr>
-    ensures ok { IfOk result (λ b. b ≡ list ++ where_before last termination termination) }
-    ensures memory { IfBroken result (λ _. ⊥) }
+fn close(mut list: DayList, last: Day, termination: Day) -> Result<DayList, Memory>
+    ensures { IfOk result (λ b. b ≡ list ++ where_before last termination termination) }
 {
     if last < termination {
         list.push(termination)?;
@@ -228,38 +199,16 @@ pub fn boundaries_by(alloc: Global, s: &Stream, span: &Span) -> Result<DayList, 
     requires frequency { FrequencySuits s.now }
     requires span { Regular s.now span.now }
     requires kept { SpanKept s.now span.now }
-    ensures ok { IfOk result (Boundaries s.now span.now) }
-    ensures few { IfOk result (λ b. length b ≤ most_periods + 1) }
-    ensures unbroken { IfOk result (λ _. (f : Fault) → BreaksPeriods s.now span.now f → ⊥) }
+    ensures meets { Meets (boundaries_of s.now span.now) result }
+    ensures determined { Determined (boundaries_of s.now span.now) }
+    // Want of memory hides no broken rule.
     ensures memory { IfMemory result ((f : Fault) → BreaksPeriods s.now span.now f → ⊥) }
-    ensures broken { IfBroken result (First comes_before (BreaksPeriods s.now span.now)) }
-    ensures decided { let Breaks = BreaksPeriods s.now span.now in
-        ((f : Fault) × First comes_before Breaks f) ⊎ ((f : Fault) → Breaks f → ⊥) }
-    ensures exists { (b : List ℤ) × Boundaries s.now span.now b }
-    ensures one { (a b : List ℤ) → Boundaries s.now span.now a → Boundaries s.now span.now b → a ≡ b }
-    ensures one_broken { let Breaks = BreaksPeriods s.now span.now in
-        (f g : Fault) → First comes_before Breaks f → First comes_before Breaks g → f ≡ g }
     ensures regular { (b : List ℤ) → Boundaries s.now span.now b → RegularStart s.now span.now b }
 {
-    by_frequency(alloc, s, span)
-}
-
-// The boundaries by the frequency: the ends of the term, or those over the stream's grid.
-fn by_frequency(alloc: Global, s: &Stream, span: &Span) -> Result<DayList, PerErr>
-    requires lawful { IsLawfulStream s.now }
-    requires dates { DatesInOrder s.now }
-    requires frequency { FrequencySuits s.now }
-    requires span { Regular s.now span.now }
-    requires kept { SpanKept s.now span.now }
-    ensures ok { IfOk result (Boundaries s.now span.now) }
-    ensures few { IfOk result (λ b. length b ≤ most_periods + 1) }
-    ensures broken { IfBroken result (First comes_before (BreaksPeriods s.now span.now)) }
-    ensures memory { IfMemory result ((f : Fault) → BreaksPeriods s.now span.now f → ⊥) }
-{
     if is_whole_term(s.freq) {
-        whole_term(alloc, s, span)
+        Ok(whole_term(alloc, s)?)
     } else {
-        over_grid(
+        boundaries(
             alloc,
             s,
             span,
@@ -268,13 +217,9 @@ fn by_frequency(alloc: Global, s: &Stream, span: &Span) -> Result<DayList, PerEr
     }
 }
 
-// The boundaries of a stream whose frequency is the term.
-fn whole_term(alloc: Global, s: &Stream, span: &Span) -> Result<DayList, PerErr>
-    requires dates { DatesInOrder s.now }
-    requires term { IsTerm s.now.freq }
-    ensures ok { IfOk result (Boundaries s.now span.now) }
-    ensures few { IfOk result (λ b. length b ≤ most_periods + 1) }
-    ensures broken { IfBroken result (λ _. ⊥) }
+// The ends of the term.
+fn whole_term(alloc: Global, s: &Stream) -> Result<DayList, Memory>
+    ensures { IfOk result (λ b. b ≡ first_day_of s.now ∷ termination_of s.now ∷ []) }
 {
     let mut list = DayList::new(alloc);
     list.push(s.first_day())?;

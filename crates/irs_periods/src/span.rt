@@ -14,14 +14,15 @@
 //! | LongInitial | T | that day if it is E, else the next grid day if it isn't after T, else T | T |
 //! | ShortFinal | E | E | the last grid day at or before T |
 //! | LongFinal | E | E | that day if it is T, else the grid day before it if it isn't before E, else E |
-ghost use Rattle.std.specs.Prelude.{◌≡◌, ◌↔◌, ◌⊎◌, false, true, pos, ◌<ℤ◌, IsTrue, IfOk, IfErr};
+ghost use Rattle.std.specs.Prelude.{◌≡◌, ◌↔◌, false, true, pos, ◌<ℤ◌, IsTrue};
 ghost use Rattle.irs_base.specs.Days.{IsDay};
-ghost use Rattle.irs_base.specs.Order.{First, comes_before};
+ghost use Rattle.irs_base.specs.Outcomes.{Determined, MeetsExactly};
 ghost use Rattle.irs_terms.specs.Lawful.{IsLawfulStream};
 ghost use Rattle.irs_terms.specs.FirstDay.{first_day_of};
+ghost use Rattle.irs_periods.specs.Outcomes.{regular_span_of};
 ghost use Rattle.irs_periods.specs.Spans.{GivenSpanOf, Regular, StubSpan, anchor_of, given_anchor_of, is_term};
 ghost use Rattle.irs_periods.specs.Spans.{stub_anchor};
-ghost use Rattle.irs_periods.specs.SpanRules.{BreaksSpan, SpanKept, anchor_element, last_element, last_off_grid};
+ghost use Rattle.irs_periods.specs.SpanRules.{anchor_element, last_element, last_off_grid};
 ghost use Rattle.irs_periods.specs.SpanRules.{roll_misfits};
 ghost use Rattle.irs_terms.specs.Suiting.{IsTerm, FrequencySuits};
 ghost use Rattle.irs_terms.specs.TermDates.{DatesInOrder, first_day_element, termination_of};
@@ -41,27 +42,8 @@ pub fn regular_span(s: &Stream) -> Result<Span, Fault>
     requires lawful { IsLawfulStream s.now }
     requires dates { DatesInOrder s.now }
     requires frequency { FrequencySuits s.now }
-    ensures ok { IfOk result (Regular s.now) }
-    ensures kept { IfOk result (SpanKept s.now) }
-    ensures unbroken { IfOk result (λ _. (f : Fault) → BreaksSpan s.now f → ⊥) }
-    ensures broken { IfErr result (First comes_before (BreaksSpan s.now)) }
-    ensures decided { ((f : Fault) × First comes_before (BreaksSpan s.now) f) ⊎ ((f : Fault) → BreaksSpan s.now f → ⊥) }
-    ensures exists { ((f : Fault) → BreaksSpan s.now f → ⊥) → (span : Span) × Regular s.now span × SpanKept s.now span }
-    ensures one { (a b : Span) → Regular s.now a → Regular s.now b → a ≡ b }
-    ensures one_broken { let Breaks = BreaksSpan s.now in
-        (f g : Fault) → First comes_before Breaks f → First comes_before Breaks g → f ≡ g }
-{
-    span_by_frequency(s)
-}
-
-// The span by the frequency: the whole term, or by the table.
-fn span_by_frequency(s: &Stream) -> Result<Span, Fault>
-    requires lawful { IsLawfulStream s.now }
-    requires dates { DatesInOrder s.now }
-    requires frequency { FrequencySuits s.now }
-    ensures ok { IfOk result (Regular s.now) }
-    ensures kept { IfOk result (SpanKept s.now) }
-    ensures broken { IfErr result (First comes_before (BreaksSpan s.now)) }
+    ensures meets { MeetsExactly (regular_span_of s.now) result }
+    ensures determined { Determined (regular_span_of s.now) }
 {
     if is_whole_term(s.freq) {
         return Ok(whole_term(s));
@@ -99,9 +81,7 @@ fn timed_span(s: &Stream) -> Result<Span, Fault>
     requires dates { DatesInOrder s.now }
     requires frequency { FrequencySuits s.now }
     requires timed { is_term s.now.freq.unit ≡ false }
-    ensures ok { IfOk result (Regular s.now) }
-    ensures kept { IfOk result (SpanKept s.now) }
-    ensures broken { IfErr result (First comes_before (BreaksSpan s.now)) }
+    ensures { MeetsExactly (regular_span_of s.now) result }
 {
     let anchor = anchor(s);
     if !fits(s.roll, s.freq, anchor) {

@@ -1,26 +1,29 @@
-use Rattle.irs_periods.proofs.BoundariesThere.{boundaries_there}
-use Rattle.irs_periods.proofs.PeriodsDecided.{answer_unbroken, boundaries_decided, one_boundaries, one_boundaries_rule}
+use Rattle.irs_periods.proofs.MemoryAnswers.{if_memory}
+use Rattle.irs_periods.proofs.Outcomes.{boundaries_determined, term_answers}
 use Rattle.irs_periods.proofs.RegularStarts.{regular_start}
 use Rattle.irs_periods.proofs.listing.boundaries_by.Goals as goal
 
-pub returns-clause-unbroken : goal.returns-clause-unbroken
-returns-clause-unbroken c =
-    answer_unbroken c.args.s.now c.args.span.now c.by_frequency.result c.by_frequency.ensures.ok
-    c.by_frequency.ensures.few
+pub returns-in_err-whole_term-clause-memory : goal.returns-in_err-whole_term-clause-memory
+returns-in_err-whole_term-clause-memory c =
+    let term = c.is_whole_term.ensures.exact.0 c.if-is_whole_term.true in
+    if_memory _ c.from_residual.result (term_answers c.args.s.now c.args.span.now term c.requires.dates).0
 
-pub returns-clause-decided : goal.returns-clause-decided
-returns-clause-decided c =
-    boundaries_decided c.args.s.now c.args.span.now c.requires.lawful c.requires.dates c.requires.span c.requires.kept
+pub returns-in_ok-whole_term-clause-meets : goal.returns-in_ok-whole_term-clause-meets
+returns-in_ok-whole_term-clause-meets c =
+    let term = c.is_whole_term.ensures.exact.0 c.if-is_whole_term.true in
+    rw c.in_ok-whole_term.ensures (term_answers c.args.s.now c.args.span.now term c.requires.dates)
 
-pub returns-clause-exists : goal.returns-clause-exists
-returns-clause-exists c =
-    boundaries_there c.args.s.now c.args.span.now c.requires.lawful c.requires.dates c.requires.span c.requires.kept
+pub returns-in_err-whole_term-clause-determined : goal.returns-in_err-whole_term-clause-determined
+returns-in_err-whole_term-clause-determined c = search (boundaries_determined)
 
-pub returns-clause-one : goal.returns-clause-one
-returns-clause-one c = one_boundaries c.args.s.now c.args.span.now
+pub returns-in_ok-whole_term-clause-determined : goal.returns-in_ok-whole_term-clause-determined
+returns-in_ok-whole_term-clause-determined c = search (boundaries_determined)
 
-pub returns-clause-one_broken : goal.returns-clause-one_broken
-returns-clause-one_broken c = one_boundaries_rule c.args.s.now c.args.span.now
+pub returns-in_err-whole_term-clause-regular : goal.returns-in_err-whole_term-clause-regular
+returns-in_err-whole_term-clause-regular c = search (regular_start)
 
-pub returns-clause-regular : goal.returns-clause-regular
-returns-clause-regular c = regular_start c.args.s.now c.args.span.now c.requires.dates c.requires.span c.requires.kept
+pub returns-in_ok-whole_term-clause-regular : goal.returns-in_ok-whole_term-clause-regular
+returns-in_ok-whole_term-clause-regular c = search (regular_start)
+
+pub returns-else-is_whole_term-clause-regular : goal.returns-else-is_whole_term-clause-regular
+returns-else-is_whole_term-clause-regular c = search (regular_start)

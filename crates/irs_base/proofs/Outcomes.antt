@@ -1,0 +1,140 @@
+-- Which specifications determine their outcome, and what a call that stops half way meets.
+use Rattle.std.proofs.Common.{◌≡◌, ◌⊎◌, inl, inr, ℕ, suc, ◌+◌, List, [], ◌∷◌, ◌++◌, length, Bool, Result, Ok, Err, IsErrAnd}
+use Rattle.std.proofs.Common.{refl, sym, subst, ap, arith}
+use Rattle.irs_base.specs.Faults.{IfStopped}
+use Rattle.irs_base.specs.Order.{First, Only}
+use Rattle.irs_base.specs.Outcomes.{Determined, IfMemory, IfOutOfMemory, Meets, Spec, ◌>>=◌, answer, answered, each_in_turn}
+use Rattle.irs_base.specs.Outcomes.{refused, refused_as, unbroken, unless_broken}
+use Rattle.irs_base.specs.declared.stopped.Stopped.{Stopped}
+use Rattle.irs_base.specs.declared.stopped.Stopped.TheVariants.{Broken as OfBroken, Memory as OfMemory}
+
+-- a value given as the answer is the only one
+pub answer_determined : {A R : Type 0} (x : A) → Determined {A = A} {R = R} (answer x)
+answer_determined x = answered x (record { is = refl; only = λ y h. h }) (λ r h. h)
+
+-- the rules are decided, an answer exists where none is broken, and there is at most one of each
+pub unless_broken_determined : {A F : Type 0} (before : F → F → Bool) (Breaks : F → Type 0) (Is : A → Type 0)
+    → (((f : F) × First before Breaks f) ⊎ ((f : F) → Breaks f → ⊥))
+    → (((f : F) → Breaks f → ⊥) → (a : A) × Is a)
+    → ((a b : A) → Is a → Is b → a ≡ b)
+    → ((f g : F) → First before Breaks f → First before Breaks g → f ≡ g)
+    → Determined (unless_broken before Breaks Is)
+unless_broken_determined before Breaks Is (inl first) exists one one_broken =
+    refused first.0 (record { is = first.1; only = λ g h. one_broken g first.0 h first.1 }) (λ a h. h.0 first.0 first.1.0)
+unless_broken_determined before Breaks Is (inr none) exists one one_broken =
+    let there = exists none in
+    answered there.0 (record { is = (none, there.1); only = λ a h. one a there.0 h.1 there.1 }) (λ f h. none f h.0)
+
+-- the rules are decided, and there is at most one first of them
+pub unbroken_determined : {F : Type 0} (before : F → F → Bool) (Breaks : F → Type 0)
+    → (((f : F) × First before Breaks f) ⊎ ((f : F) → Breaks f → ⊥))
+    → ((f g : F) → First before Breaks f → First before Breaks g → f ≡ g)
+    → Determined (unbroken before Breaks)
+unbroken_determined before Breaks (inl first) one_broken =
+    refused first.0 (record { is = first.1; only = λ g h. one_broken g first.0 h first.1 }) (λ a h. h first.0 first.1.0)
+unbroken_determined before Breaks (inr none) one_broken =
+    answered tt (record { is = none; only = λ a h. refl }) (λ f h. none f h.0)
+
+module _ {A B R : Type 0} (spec : Spec A R) (next : A → Spec B R) where
+  over_answer : (a : A) → Only spec.Answers a → ((r : R) → spec.Refuses r → ⊥) → Determined (next a)
+      → Determined (spec >>= next)
+  over_answer a one none (answered b only free) =
+      answered b
+      (record {
+        is = (a, one.is, only.is);
+        only = λ c h. only.only c (subst (λ (x : A). (next x).Answers c) (one.only h.0 h.1) h.2);
+      })
+      (λ r h. elim h [
+        | inl first ↦ none r first
+        | inr then ↦ free r (subst (λ (x : A). (next x).Refuses r) (one.only then.0 then.1) then.2)
+      ])
+  over_answer a one none (refused r only free) =
+      refused r
+      (record {
+        is = inr (a, one.is, only.is);
+        only = λ p h. elim h [
+          | inl first ↦ absurd (none p first)
+          | inr then ↦ only.only p (subst (λ (x : A). (next x).Refuses p) (one.only then.0 then.1) then.2)
+        ];
+      })
+      (λ c h. free c (subst (λ (x : A). (next x).Answers c) (one.only h.0 h.1) h.2))
+
+  -- a chain determines its outcome where each of its specifications does
+  pub then_determined : Determined spec → ((a : A) → spec.Answers a → Determined (next a)) → Determined (spec >>= next)
+  then_determined (answered a one none) over = over_answer a one none (over a one.is)
+  then_determined (refused r one none) over =
+      refused r
+      (record {
+        is = inl one.is;
+        only = λ p h. elim h [
+          | inl first ↦ one.only p first
+          | inr then ↦ absurd (none then.0 then.1)
+        ];
+      })
+      (λ c h. none h.0 h.1)
+
+-- saying the reason in another way leaves one outcome
+pub refused_as_determined : {A R S : Type 0} (say : R → S) (spec : Spec A R) → Determined spec
+    → Determined (refused_as say spec)
+refused_as_determined say spec (answered a one none) = answered a one (λ s h. none h.0 h.1)
+refused_as_determined {R = R} {S = S} say spec (refused r one none) =
+    refused (say r)
+    (record {
+      is = (r, one.is, refl);
+      only = λ s h. subst (λ (x : R). s ≡ say x) (one.only h.0 h.1) h.2;
+    })
+    none
+
+module _ {X A R : Type 0} (spec : ℕ → X → Spec A R) where
+  -- a list in turn has one outcome where each of its items has
+  pub each_determined : (n : ℕ) (xs : List X) → ((i : ℕ) (x : X) → Determined (spec i x))
+      → Determined (each_in_turn spec n xs)
+  unfolding each_in_turn
+  each_determined n [] one = answer_determined []
+  each_determined n (x ∷ xs) one =
+      then_determined (spec n x) _ (one n x) (λ a _.
+      then_determined (each_in_turn spec (n + 1) xs) _ (each_determined (n + 1) xs one) (λ rest _.
+      answer_determined (a ∷ rest)))
+
+  -- one item more is answered
+  pub each_more : (n : ℕ) (xs : List X) (given : List A) (y : X) (a : A) → (each_in_turn spec n xs).Answers given
+      → (spec (n + length xs) y).Answers a → (each_in_turn spec n (xs ++ y ∷ [])).Answers (given ++ a ∷ [])
+  unfolding each_in_turn
+  each_more n [] given y a done last =
+      let same : given ++ a ∷ [] ≡ a ∷ [] = ap (λ (front : List A). front ++ a ∷ []) done in
+      let here : n + 0 ≡ n = omega arith in
+      (a, subst (λ (i : ℕ). (spec i y).Answers a) here last, ([], refl, same))
+  each_more n (x ∷ xs) given y a done last =
+      let moved : n + suc (length xs) ≡ (n + 1) + length xs = omega arith in
+      let rest = done.2 in
+      let more = each_more (n + 1) xs rest.0 y a rest.1 (subst (λ (i : ℕ). (spec i y).Answers a) moved last) in
+      (done.0, done.1, (rest.0 ++ a ∷ [], more, ap (λ (front : List A). front ++ a ∷ []) rest.2))
+
+  -- an item after answered ones is refused
+  pub each_stops : (n : ℕ) (xs : List X) (given : List A) (y : X) (ys : List X) (r : R)
+      → (each_in_turn spec n xs).Answers given → (spec (n + length xs) y).Refuses r
+      → (each_in_turn spec n (xs ++ y ∷ ys)).Refuses r
+  unfolding each_in_turn
+  each_stops n [] given y ys r done last =
+      let here : n + 0 ≡ n = omega arith in
+      inl (subst (λ (i : ℕ). (spec i y).Refuses r) here last)
+  each_stops n (x ∷ xs) given y ys r done last =
+      let moved : n + suc (length xs) ≡ (n + 1) + length xs = omega arith in
+      let rest = done.2 in
+      inr (done.0, done.1, inl (each_stops (n + 1) xs rest.0 y ys r rest.1
+      (subst (λ (i : ℕ). (spec i y).Refuses r) moved last)))
+
+-- a call that a `?` stops, where the reason is a right refusal
+pub stopped_meets : {A R : Type 0} (spec : Spec A R) (r : Result A (Stopped R)) (e : Stopped R)
+    → IsErrAnd r (λ x. x ≡ e) → IfStopped e spec.Refuses → Meets spec r
+stopped_meets spec (Ok v) e is h = absurd is
+stopped_meets {R = R} spec (Err x) e is h = subst (λ (y : Stopped R). IfStopped y spec.Refuses) (sym is) h
+
+-- what holds anyway holds where memory ran out
+if_out_of_memory : {R : Type 0} (P : Type 0) (e : Stopped R) → P → IfOutOfMemory e P
+if_out_of_memory P (OfBroken r) h = tt
+if_out_of_memory P OfMemory h = h
+
+pub if_memory : {A R : Type 0} (P : Type 0) (r : Result A (Stopped R)) → P → IfMemory r P
+if_memory P (Ok a) h = tt
+if_memory P (Err e) h = if_out_of_memory P e h
