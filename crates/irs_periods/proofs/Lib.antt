@@ -21,5 +21,4 @@ pub mod RegularStarts
 pub mod AdjustedBoundaries
 pub mod FirstAmong
 pub mod AdjustedDecided
-pub mod MemoryAnswers
 pub mod Outcomes

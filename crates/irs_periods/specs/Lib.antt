@@ -5,5 +5,4 @@ pub mod SpanRules
 pub mod Boundaries
 pub mod GridLists
 pub mod Adjusting
-pub mod Answers
 pub mod Outcomes

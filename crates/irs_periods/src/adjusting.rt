@@ -5,13 +5,12 @@
 ghost use Rattle.std.specs.Prelude.{◌≡◌, ◌<◌, ◌≤◌, ◌^◌, ℕ, ℤ, List, length, IfSome, IfNone};
 ghost use Rattle.irs_base.specs.Faults.{fault_at};
 ghost use Rattle.irs_base.specs.declared.places.Rule.TheVariants.{K33};
-ghost use Rattle.irs_base.specs.Outcomes.{Determined, Meets};
+ghost use Rattle.irs_base.specs.Outcomes.{Determined, IfMemory, Meets};
 ghost use Rattle.irs_terms.specs.TermDates.{DatesInOrder};
 ghost use Rattle.irs_terms.specs.declared.results.Span.{Span};
 ghost use Rattle.irs_periods.specs.Adjusting.{AdjustedList, AdjustsAt, FirstLaterNoResult};
 ghost use Rattle.irs_periods.specs.Adjusting.{FirstNoResult, FirstNotAfter, EachHasResult, EachLaterHasResult};
 ghost use Rattle.irs_periods.specs.Adjusting.{MissesResult, NotAfter, days_by, no_result_at, not_after_at};
-ghost use Rattle.irs_periods.specs.Answers.{IfMemory};
 ghost use Rattle.irs_periods.specs.Boundaries.{Boundaries};
 ghost use Rattle.irs_periods.specs.Outcomes.{adjusted_of};
 
@@ -31,8 +30,7 @@ use std::alloc::Global;
 /// `Broken` is the first rule broken: a boundary has no adjusted day (K33, in the order of the
 /// elements and then of the boundaries: effective date, termination date, the other boundaries,
 /// `firstPeriodStartDate`), or, where each has one, an adjusted day isn't after the one before it
-/// (K34). K33 is told also where memory is short. Boundaries have at most one list of adjusted days,
-/// and one where K33 isn't broken, which rises where K34 isn't either.
+/// (K34). K33 is reported also where memory runs out.
 pub fn adjusted<G: GoodDays>(
     alloc: Global,
     s: &Stream,
@@ -45,15 +43,12 @@ pub fn adjusted<G: GoodDays>(
     requires listed { (span : Span) × Boundaries s.now span unadjusted.now }
     ensures meets { let sets = days_by G.days start.now end.now middle.now in
         Meets (adjusted_of s.now sets unadjusted.now) result }
-    ensures determined { let sets = days_by G.days start.now end.now middle.now in
-        Determined (adjusted_of s.now sets unadjusted.now) }
-    // Want of memory doesn't hide K33.
+    // Running out of memory doesn't hide K33.
     ensures memory { let sets = days_by G.days start.now end.now middle.now in
         IfMemory result ((f : Fault) → MissesResult s.now sets unadjusted.now f → ⊥) }
 {
-    // hands the prover the range of the good days
-    let _covers = (start.cover(), end.cover(), middle.cover());
     let days = unadjusted.as_slice();
+    // No list: a boundary has no adjusted day, or memory ran out. K33 takes precedence.
     let Some(list) = adjust_each(alloc, s, days, start, end, middle) else {
         return match first_without(s, days, start, end, middle) {
             Some(number) => Err(PerErr::Broken(no_result(s, days.len() - 1, number))),
@@ -64,6 +59,22 @@ pub fn adjusted<G: GoodDays>(
         Some(number) => Err(PerErr::Broken(not_after(number))),
         None => Ok(list),
     }
+}
+
+/// A law: boundaries have one list of adjusted days that rise, or one first rule that they break.
+pub fn adjusted_is_determined<G: GoodDays>(
+    s: &Stream,
+    unadjusted: &DayList,
+    start: &G,
+    end: &G,
+    middle: &G,
+)
+    ensures { let sets = days_by G.days start.now end.now middle.now in
+        Determined (adjusted_of s.now sets unadjusted.now) }
+{
+    // hands the prover the range of the good days and of the boundaries
+    let _covers = (start.cover(), end.cover(), middle.cover());
+    let _days = unadjusted.as_slice();
 }
 
 // Boundary i, adjusted as its place asks.

@@ -8,7 +8,9 @@ mod listing;
 mod nearest;
 mod span;
 
-pub use adjusting::adjusted;
+pub use adjusting::{adjusted, adjusted_is_determined};
 pub use error::PerErr;
-pub use listing::{boundaries, boundaries_by};
-pub use span::{is_whole_term, regular_span};
+pub use listing::{
+    boundaries, boundaries_are_determined, boundaries_by, regular_periods_follow_the_initial_stub,
+};
+pub use span::{is_whole_term, regular_span, regular_span_is_determined};

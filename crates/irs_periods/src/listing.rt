@@ -7,13 +7,12 @@ ghost use Rattle.std.specs.Prelude.{IfOk};
 ghost use Rattle.jiff_core.specs.Calendar.{IsBetween};
 ghost use Rattle.irs_base.specs.Days.{IsDay, all_days};
 ghost use Rattle.irs_base.specs.Limits.{most_periods};
-ghost use Rattle.irs_base.specs.Outcomes.{Determined, Meets};
+ghost use Rattle.irs_base.specs.Outcomes.{Determined, IfMemory, Meets};
 ghost use Rattle.irs_terms.specs.Lawful.{IsLawfulStream};
 ghost use Rattle.irs_terms.specs.Suiting.{FrequencySuits, IsTerm};
 ghost use Rattle.irs_terms.specs.FirstDay.{first_day_of};
 ghost use Rattle.irs_terms.specs.TermDates.{DatesInOrder, termination_of};
 ghost use Rattle.irs_roll.specs.Rolls.{OnGrid};
-ghost use Rattle.irs_periods.specs.Answers.{IfMemory};
 ghost use Rattle.irs_periods.specs.Boundaries.{Boundaries, BreaksPeriods, RegularStart, too_many_periods};
 ghost use Rattle.irs_periods.specs.GridLists.{boundaries_on, days_from, where_before};
 ghost use Rattle.irs_periods.specs.Outcomes.{boundaries_of};
@@ -33,7 +32,7 @@ use std::alloc::Global;
 /// that of the stream's frequency and roll from the span's anchor.
 ///
 /// `Broken` comes exactly where there are more than `MOST_PERIODS` periods (K32), also where memory
-/// is short.
+/// runs out.
 pub fn boundaries<G: Grid>(
     alloc: Global,
     s: &Stream,
@@ -48,8 +47,7 @@ pub fn boundaries<G: Grid>(
     requires first { G.at grid.now (pos 0) ≡ span.now.anchor }
     requires on { (d : ℤ) → G.on grid.now d ↔ OnGrid s.now.freq s.now.roll span.now.anchor d }
     ensures meets { Meets (boundaries_of s.now span.now) result }
-    ensures determined { Determined (boundaries_of s.now span.now) }
-    // Want of memory hides no broken rule.
+    // Running out of memory hides no broken rule.
     ensures memory { IfMemory result ((f : Fault) → BreaksPeriods s.now span.now f → ⊥) }
 {
     let (start, steps) = regular_part(s, span, grid);
@@ -191,8 +189,7 @@ fn close(mut list: DayList, last: Day, termination: Day) -> Result<DayList, Memo
 /// stream's and breaks neither K30 nor K31.
 ///
 /// `Broken` comes exactly where there are more than `MOST_PERIODS` periods (K32), also where memory
-/// is short. A stream has exactly one list of boundaries; the first regular period starts at boundary
-/// 0, or at boundary 1 behind an initial stub.
+/// runs out.
 pub fn boundaries_by(alloc: Global, s: &Stream, span: &Span) -> Result<DayList, PerErr>
     requires lawful { IsLawfulStream s.now }
     requires dates { DatesInOrder s.now }
@@ -200,10 +197,8 @@ pub fn boundaries_by(alloc: Global, s: &Stream, span: &Span) -> Result<DayList, 
     requires span { Regular s.now span.now }
     requires kept { SpanKept s.now span.now }
     ensures meets { Meets (boundaries_of s.now span.now) result }
-    ensures determined { Determined (boundaries_of s.now span.now) }
-    // Want of memory hides no broken rule.
+    // Running out of memory hides no broken rule.
     ensures memory { IfMemory result ((f : Fault) → BreaksPeriods s.now span.now f → ⊥) }
-    ensures regular { (b : List ℤ) → Boundaries s.now span.now b → RegularStart s.now span.now b }
 {
     if is_whole_term(s.freq) {
         Ok(whole_term(alloc, s)?)
@@ -216,6 +211,24 @@ pub fn boundaries_by(alloc: Global, s: &Stream, span: &Span) -> Result<DayList, 
         )
     }
 }
+
+/// A law: over its span a stream has one list of boundaries, or too many periods (K32).
+pub fn boundaries_are_determined(s: &Stream, span: &Span)
+    requires lawful { IsLawfulStream s.now }
+    requires dates { DatesInOrder s.now }
+    requires span { Regular s.now span.now }
+    requires kept { SpanKept s.now span.now }
+    ensures { Determined (boundaries_of s.now span.now) }
+{}
+
+/// A law: the first regular period starts at boundary 0, or at boundary 1 after an initial stub.
+pub fn regular_periods_follow_the_initial_stub(s: &Stream, span: &Span)
+    requires lawful { IsLawfulStream s.now }
+    requires dates { DatesInOrder s.now }
+    requires span { Regular s.now span.now }
+    requires kept { SpanKept s.now span.now }
+    ensures { (b : List ℤ) → Boundaries s.now span.now b → RegularStart s.now span.now b }
+{}
 
 // The ends of the term.
 fn whole_term(alloc: Global, s: &Stream) -> Result<DayList, Memory>

@@ -36,20 +36,25 @@ use irs_terms::{Frequency, Span, Stream, StubKind, Unit};
 /// frequency and roll suit each other (K14).
 ///
 /// An error is the first of K30 and K31 that is broken: the frequency isn't T, and the roll doesn't
-/// fit the anchor, or the last day of the span isn't on the grid. Where neither is broken there is
-/// exactly one regular span. No memory is taken.
+/// fit the anchor, or the last day of the span isn't on the grid. No memory is taken.
 pub fn regular_span(s: &Stream) -> Result<Span, Fault>
     requires lawful { IsLawfulStream s.now }
     requires dates { DatesInOrder s.now }
     requires frequency { FrequencySuits s.now }
     ensures meets { MeetsExactly (regular_span_of s.now) result }
-    ensures determined { Determined (regular_span_of s.now) }
 {
     if is_whole_term(s.freq) {
         return Ok(whole_term(s));
     }
     timed_span(s)
 }
+
+/// A law: a stream has one regular span, or one first rule of K30 and K31 that it breaks.
+pub fn regular_span_is_determined(s: &Stream)
+    requires lawful { IsLawfulStream s.now }
+    requires dates { DatesInOrder s.now }
+    ensures { Determined (regular_span_of s.now) }
+{}
 
 /// Whether the frequency is the whole term.
 pub fn is_whole_term(freq: Frequency) -> bool

@@ -6,7 +6,6 @@ use Rattle.irs_periods.specs.Adjusting.{AdjustedList, BreaksAdjusted, FirstNoRes
 use Rattle.irs_periods.specs.Adjusting.{days_by, last_of, no_result_at}
 use Rattle.irs_periods.proofs.AdjustedDecided.{adjusted_unbroken, first_no_result, first_not_after, none_flat, results_unbroken}
 use Rattle.irs_periods.proofs.AdjustedLemmas.{adjusted_exists, two_boundaries, few_days, rising_of}
-use Rattle.irs_periods.proofs.Outcomes.{adjusted_determined}
 use Rattle.irs_periods.proofs.TermOrder.{begins_before_end}
 use Rattle.irs_periods.proofs.adjusting.adjusted.Goals as goal
 
@@ -92,15 +91,3 @@ returns-in-None-first_not_after-clause-meets g c =
     subst (λ (xs : List ℤ). AdjustedList s sets xs list) c.as_slice-days.ensures.value c.in-Some.ensures in
     let rising : IsRising list = rising_of list (rw c.as_slice.ensures.value at c.in-None-first_not_after.ensures.none) in
     (adjusted_unbroken s sets b list adjusted (none_flat list rising), record { adjusted = adjusted; rising = rising })
-
-pub returns-in-Some-first_without-clause-determined : goal.returns-in-Some-first_without-clause-determined
-returns-in-Some-first_without-clause-determined g c = search (adjusted_determined)
-
-pub returns-in-None-clause-determined : goal.returns-in-None-clause-determined
-returns-in-None-clause-determined g c = search (adjusted_determined)
-
-pub returns-in-Some-first_not_after-clause-determined : goal.returns-in-Some-first_not_after-clause-determined
-returns-in-Some-first_not_after-clause-determined g c = search (adjusted_determined)
-
-pub returns-in-None-first_not_after-clause-determined : goal.returns-in-None-first_not_after-clause-determined
-returns-in-None-first_not_after-clause-determined g c = search (adjusted_determined)

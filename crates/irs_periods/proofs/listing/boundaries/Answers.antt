@@ -5,8 +5,7 @@ use Rattle.irs_periods.specs.Boundaries.{Boundaries, TooManyPeriods}
 use Rattle.irs_periods.specs.GridLists.{boundaries_on, where_before}
 use Rattle.irs_terms.specs.FirstDay.{first_day_of}
 use Rattle.irs_periods.proofs.GridSpans.{length-all_boundaries}
-use Rattle.irs_periods.proofs.MemoryAnswers.{if_memory}
-use Rattle.irs_periods.proofs.Outcomes.{boundaries_determined}
+use Rattle.irs_base.proofs.Outcomes.{if_memory}
 use Rattle.irs_periods.proofs.PeriodsDecided.{few_unbroken, first_too_many}
 use Rattle.irs_terms.specs.TermDates.{termination_of}
 use Rattle.irs_periods.proofs.listing.boundaries.Goals as goal
@@ -60,12 +59,3 @@ returns-in_err-list_days-clause-memory g c =
     let few : length (boundaries_on f part.result.0 part.result.1 s span) ≤ most_periods + 1 =
     omega (arith, long, front, back, c.stub.ensures.most, c.stub-2.ensures.most, c.if-steps-stubs.false) in
     if_memory _ c.from_residual.result (few_unbroken s span (boundaries_on f part.result.0 part.result.1 s span) part.ensures.listed few)
-
-pub returns-then-steps-stubs-clause-determined : goal.returns-then-steps-stubs-clause-determined
-returns-then-steps-stubs-clause-determined g c = search (boundaries_determined)
-
-pub returns-in_err-list_days-clause-determined : goal.returns-in_err-list_days-clause-determined
-returns-in_err-list_days-clause-determined g c = search (boundaries_determined)
-
-pub returns-clause-determined : goal.returns-clause-determined
-returns-clause-determined g c = search (boundaries_determined)
