@@ -121,8 +121,12 @@ module _ {X A R : Type 0} (spec : ℕ → X → Spec A R) where
   each_stops n (x ∷ xs) given y ys r done last =
       let moved : n + suc (length xs) ≡ (n + 1) + length xs = omega arith in
       let rest = done.2 in
-      inr (done.0, done.1, inl (each_stops (n + 1) xs rest.0 y ys r rest.1
-      (subst (λ (i : ℕ). (spec i y).Refuses r) moved last)))
+      inr (
+        done.0,
+        done.1,
+        inl (each_stops (n + 1) xs rest.0 y ys r rest.1
+            (subst (λ (i : ℕ). (spec i y).Refuses r) moved last)),
+      )
 
 -- a call that a `?` stops, where the reason is a right refusal
 pub stopped_meets : {A R : Type 0} (spec : Spec A R) (r : Result A (Stopped R)) (e : Stopped R)

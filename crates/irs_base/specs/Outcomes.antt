@@ -1,5 +1,5 @@
 -- What a call may give: an outcome is an answer or a refusal, and a specification says which of each are right.
-use Rattle.std.specs.Prelude.{◌≡◌, ◌⊎◌, ℕ, ◌+◌, List, [], ◌∷◌, Bool, Result, Ok, Err}
+use Rattle.std.specs.Prelude.{◌≡◌, ◌⊎◌, ℕ, ◌+◌, List, [], ◌∷◌, Bool, Option, Some, None, Result, Ok, Err}
 use Rattle.irs_base.specs.Faults.{IfStopped}
 use Rattle.irs_base.specs.Order.{First, Only}
 use Rattle.irs_base.specs.declared.stopped.Stopped.{Stopped}
@@ -67,6 +67,11 @@ unbroken before Breaks = record {
   Answers = λ _. (f : _) → Breaks f → ⊥;
   Refuses = First before Breaks;
 }
+
+-- a check gives nothing where no rule is broken, or a right refusal
+abbrev pub Checks : {R : Type 0} → Spec (Unit {0}) R → Option R → Type 0
+Checks spec None = spec.Answers tt
+Checks spec (Some r) = spec.Refuses r
 
 -- the same answers; each reason is said in another way
 abbrev pub refused_as : {A R S : Type 0} → (R → S) → Spec A R → Spec A S

@@ -2,7 +2,9 @@
 use crate::told::Told;
 use irs_audit::StatedFraction;
 use irs_base::{Broken, Day, Dec, Place};
-use irs_terms::{Adjustments, Centers, Currency, Dated, Frequency, Offset, StepValues, StubRate};
+use irs_terms::{
+    AdjustableDate, Adjustments, Centers, Currency, Frequency, Offset, StepValues, StubRate,
+};
 
 /// A value that can be told.
 pub trait Tell {
@@ -87,7 +89,7 @@ impl Tell for Adjustments {
 }
 
 /// The day, then its adjustments.
-impl Tell for Dated {
+impl Tell for AdjustableDate {
     fn tell(&self, told: &mut Told) {
         told.day(self.day);
         told.text(" ");

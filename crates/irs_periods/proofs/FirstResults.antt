@@ -4,7 +4,7 @@ use Rattle.std.proofs.Common.{None, false, arith, sym, ℤ, subst}
 use Rattle.std.proofs.lemmas.Bool.{cases_lt}
 use Rattle.std.proofs.lemmas.Bool.Decides.{nat_tests}
 use Rattle.irs_base.specs.Elements.{effective_date, termination_date, period_dates_adjustments, first_period_start_date}
-use Rattle.irs_terms.specs.declared.adjustments.Dated.{Dated}
+use Rattle.irs_terms.specs.declared.adjustments.AdjustableDate.{AdjustableDate}
 use Rattle.irs_terms.specs.declared.stream.Stream.{Stream}
 use Rattle.irs_base.proofs.Firsts.{level_later, level_same, lt_false}
 use Rattle.irs_periods.specs.Adjusting.{BoundaryDays, FirstLaterNoResult, FirstNoResult, FirstNotAfter, HasResult}
@@ -112,11 +112,11 @@ module _ (s : Stream) (sets : BoundaryDays) (b : List ℤ) where
   )
 
   -- boundary 0 is named behind the others
-  pub first_before_start : (i : ℕ) (start : Dated) → s.first_start ≡ Some start → FirstLaterNoResult s sets b i
+  pub first_before_start : (i : ℕ) (start : AdjustableDate) → s.first_start ≡ Some start → FirstLaterNoResult s sets b i
       → FirstNoResult s sets b i
   first_before_start i start given h =
       let behind = subst
-      (λ (o : Option Dated). Named (first_day_element_by o) (last_of b) 0 i → ⊥) (sym given)
+      (λ (o : Option AdjustableDate). Named (first_day_element_by o) (last_of b) 0 i → ⊥) (sym given)
       (start_behind (last_of b) i h.0.0) in (
         h.0.1,
         λ j. at_place (NotBefore i) j (λ _. unnamed s (last_of b) 0 i behind)
@@ -137,7 +137,7 @@ module _ (s : Stream) (sets : BoundaryDays) (b : List ℤ) where
   first_effective none misses = (
     misses,
     λ j _. unnamed s (last_of b) j 0 (subst
-        (λ (o : Option Dated). Named (first_day_element_by o) (last_of b) j 0 → ⊥) (sym none)
+        (λ (o : Option AdjustableDate). Named (first_day_element_by o) (last_of b) j 0 → ⊥) (sym none)
         (none_before_effective (last_of b) j)),
   )
 

@@ -1,12 +1,12 @@
 -- The first period begins before the termination date.
 use Rattle.std.proofs.Common.{Option, Some, None, IfSome, unwrap_or, ℤ, ◌<ℤ◌, arith}
 use Rattle.jiff_core.proofs.SignedLemmas.{signed_arith}
-use Rattle.irs_terms.specs.declared.adjustments.Dated.{Dated}
+use Rattle.irs_terms.specs.declared.adjustments.AdjustableDate.{AdjustableDate}
 use Rattle.irs_terms.specs.declared.stream.Stream.{Stream}
 use Rattle.irs_terms.specs.FirstDay.{first_day_of}
 use Rattle.irs_terms.specs.TermDates.{DatesInOrder, termination_of}
 
-runs : (start : Option Dated) (v : Dated) (t : ℤ) → IfSome start (λ d. d.day <ℤ v.day) → v.day <ℤ t
+runs : (start : Option AdjustableDate) (v : AdjustableDate) (t : ℤ) → IfSome start (λ d. d.day <ℤ v.day) → v.day <ℤ t
     → (unwrap_or start v).day <ℤ t
 runs None v t before ends = ends
 runs (Some d) v t before ends = omega (arith, signed_arith, before, ends)

@@ -1,6 +1,6 @@
 -- Streams with the same parts are the same.
 use Rattle.irs_terms.specs.declared.adjustments.Adjustments.{Adjustments}
-use Rattle.irs_terms.specs.declared.adjustments.Dated.{Dated}
+use Rattle.irs_terms.specs.declared.adjustments.AdjustableDate.{AdjustableDate}
 use Rattle.irs_terms.specs.declared.amounts.ExchangeFlags.{ExchangeFlags}
 use Rattle.irs_terms.specs.declared.amounts.Leg.{Leg}
 use Rattle.irs_terms.specs.declared.amounts.StubTerms.{StubTerms}
@@ -37,7 +37,7 @@ pub record Same (s t : Stream) : Type 0 where
   pub exchanges : s.exchanges ≡ t.exchanges
 
 -- the stream of these parts
-made : Dated → Option Dated → Dated → Adjustments → Option ℤ → Option ℤ → Option StubKind → Frequency → RollCode
+made : AdjustableDate → Option AdjustableDate → AdjustableDate → Adjustments → Option ℤ → Option ℤ → Option StubKind → Frequency → RollCode
     → PayTerms → Option ResetTerms → StepValues → Currency → Leg → DayCountCode → CompCode → Option StubTerms
     → ExchangeFlags → Stream
 made a0 a17 a1 a2 a3 a4 a5 a6 a7 a8 a9 a10 a11 a12 a13 a14 a15 a16 =

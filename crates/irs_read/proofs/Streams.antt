@@ -22,7 +22,7 @@ use Rattle.irs_read.proofs.TableLaws.{code_names as row_names}
 use Rattle.irs_read.specs.declared.leaf_values.Scale.{Scale}
 use Rattle.irs_read.specs.declared.leaf_values.Scale.TheVariants.{Notionals, Rates}
 use Rattle.irs_read.specs.declared.table.TheConstants.{ROWS}
-use Rattle.irs_terms.specs.Lawful.{IsLawfulCenters, IsLawfulCurrency, IsLawfulDated, IsLawfulFix, IsLawfulFloat}
+use Rattle.irs_terms.specs.Lawful.{IsLawfulCenters, IsLawfulCurrency, IsLawfulAdjustableDate, IsLawfulFix, IsLawfulFloat}
 use Rattle.irs_terms.specs.Lawful.{IsLawfulFrequency, IsLawfulIndex, IsLawfulLeg, IsLawfulName, IsLawfulNames}
 use Rattle.irs_terms.specs.Lawful.{IsLawfulOffset, IsLawfulPay, IsLawfulReset, IsLawfulRoll, IsLawfulStream}
 use Rattle.irs_terms.specs.Lawful.{IsLawfulStubRate, IsLawfulStubs, IsLawfulTenor, IsLawfulValues, IsRate}
@@ -337,12 +337,12 @@ centers_lawful : (lists : List (Option Data)) (o : Option Data) → GoodLists li
 centers_lawful lists o g h = by_lawful lists (member (codes "businessCentersReference") o) (Centers o) g h
 
 dated_lawful : (lists : List (Option Data)) (o : Option Data) → GoodLists lists
-    → GoodList (Centers (member (codes "dateAdjustments") o)) → IsLawfulDated (dated_in lists o)
+    → GoodList (Centers (member (codes "dateAdjustments") o)) → IsLawfulAdjustableDate (dated_in lists o)
 dated_lawful lists o g h =
     (day_lawful (member (codes "unadjustedDate") o), centers_lawful lists (member (codes "dateAdjustments") o) g h)
 
 maybe_dated_lawful : (lists : List (Option Data)) (o : Option Data) → GoodLists lists
-    → GoodList (Centers (member (codes "dateAdjustments") o)) → IfSome (maybe_dated_in lists o) IsLawfulDated
+    → GoodList (Centers (member (codes "dateAdjustments") o)) → IfSome (maybe_dated_in lists o) IsLawfulAdjustableDate
 maybe_dated_lawful lists None g h = tt
 maybe_dated_lawful lists (Some d) g h = dated_lawful lists (Some d) g h
 

@@ -14,7 +14,7 @@ use Rattle.irs_read.specs.declared.leaf_values.Scale.TheVariants.{Notionals, Rat
 use Rattle.irs_terms.specs.declared.adjustments.Adjustments.{Adjustments}
 use Rattle.irs_terms.specs.declared.adjustments.Centers.{Centers}
 use Rattle.irs_terms.specs.declared.adjustments.Centers.TheVariants.{Absent, Listed, Dangling}
-use Rattle.irs_terms.specs.declared.adjustments.Dated.{Dated}
+use Rattle.irs_terms.specs.declared.adjustments.AdjustableDate.{AdjustableDate}
 use Rattle.irs_terms.specs.declared.adjustments.Offset.{Offset}
 use Rattle.irs_terms.specs.declared.amounts.ExchangeFlags.{ExchangeFlags}
 use Rattle.irs_terms.specs.declared.amounts.FloatTerms.{FloatTerms}
@@ -144,7 +144,7 @@ adjustments_in lists o =
     }
 
 -- a date with its adjustments
-abbrev pub dated_in : List (Option Data) → Option Data → Dated
+abbrev pub dated_in : List (Option Data) → Option Data → AdjustableDate
 dated_in lists o =
     record {
       day = day_in (member (codes "unadjustedDate") o);
@@ -153,7 +153,7 @@ dated_in lists o =
     }
 
 -- a date that may be absent
-abbrev pub maybe_dated_in : List (Option Data) → Option Data → Option Dated
+abbrev pub maybe_dated_in : List (Option Data) → Option Data → Option AdjustableDate
 maybe_dated_in lists o = option_map (λ d. dated_in lists (Some d)) o
 
 -- a step

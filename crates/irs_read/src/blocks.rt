@@ -15,8 +15,8 @@ use irs_base::Memory;
 use irs_elements::{member, once, values, values_at};
 use irs_json::Value;
 use irs_terms::{
-    Adjustments, Centers, ConvCode, Dated, DayKind, Frequency, Names, Offset, Step, StepList,
-    StepValues, Unit,
+    AdjustableDate, Adjustments, Centers, ConvCode, DayKind, Frequency, Names, Offset, Step,
+    StepList, StepValues, Unit,
 };
 use std::alloc::Global;
 
@@ -107,12 +107,16 @@ pub fn adjustments(
 }
 
 /// A date with its adjustments.
-pub fn dated(alloc: Global, lists: &[Option<&Value>], v: Option<&Value>) -> Result<Dated, Memory>
+pub fn dated(
+    alloc: Global,
+    lists: &[Option<&Value>],
+    v: Option<&Value>,
+) -> Result<AdjustableDate, Memory>
     ensures { IfOk result (λ dated. dated ≡ dated_in (map seen lists.now) (seen v.entry)) }
 {
     let day = day(member(v, "unadjustedDate"));
     let adj = adjustments(alloc, lists, member(v, "dateAdjustments"))?;
-    Ok(Dated { day, adj })
+    Ok(AdjustableDate { day, adj })
 }
 
 /// A date with its adjustments, where it stands.
@@ -120,7 +124,7 @@ pub fn maybe_dated(
     alloc: Global,
     lists: &[Option<&Value>],
     v: Option<&Value>,
-) -> Result<Option<Dated>, Memory>
+) -> Result<Option<AdjustableDate>, Memory>
     ensures { IfOk result (λ dated. dated ≡ maybe_dated_in (map seen lists.now) (seen v.entry)) }
 {
     match v {

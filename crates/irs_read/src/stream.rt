@@ -21,9 +21,9 @@ use irs_base::{Direction, Memory};
 use irs_elements::{member, once, values_at};
 use irs_json::Value;
 use irs_terms::{
-    Adjustments, CompCode, Currency, Dated, DayCountCode, ExchangeFlags, FixTerms, FloatTerms,
-    Frequency, Leg, PayTerms, ResetTerms, RollCode, Rounding, StepValues, Stream, StreamList,
-    StubRate, StubTerms, Swap,
+    AdjustableDate, Adjustments, CompCode, Currency, DayCountCode, ExchangeFlags, FixTerms,
+    FloatTerms, Frequency, Leg, PayTerms, ResetTerms, RollCode, Rounding, StepValues, Stream,
+    StreamList, StubRate, StubTerms, Swap,
 };
 use std::alloc::Global;
 
@@ -244,9 +244,9 @@ fn exchanges(v: Option<&Value>) -> ExchangeFlags
 // When a stream runs, and how the ends of its periods are adjusted.
 #[derive(Drop)]
 struct TermDates {
-    effective: Dated,
-    first_start: Option<Dated>,
-    termination: Dated,
+    effective: AdjustableDate,
+    first_start: Option<AdjustableDate>,
+    termination: AdjustableDate,
     period_adj: Adjustments,
 }
 

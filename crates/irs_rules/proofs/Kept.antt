@@ -11,7 +11,7 @@ use Rattle.irs_base.specs.Faults.{fault_at, in_stream}
 use Rattle.irs_base.specs.Order.{IsDecided}
 use Rattle.irs_calendar.specs.declared.sections.Section.{Section}
 use Rattle.irs_calendar.specs.Selected.{first_missing}
-use Rattle.irs_terms.specs.declared.adjustments.Dated.{Dated}
+use Rattle.irs_terms.specs.declared.adjustments.AdjustableDate.{AdjustableDate}
 use Rattle.irs_terms.specs.declared.amounts.Leg.{Leg}
 use Rattle.irs_terms.specs.declared.amounts.Leg.TheVariants.{Fixed, Floating}
 use Rattle.irs_terms.specs.declared.step_list.Step.{Step}
@@ -139,7 +139,7 @@ found_at elem cal names never =
     all_found cal names (λ i. holds (decides_found cal names i) (no_item_broken K12 elem (IsFoundAt cal names) never i))
 
 -- the first boundary's adjustments are those of firstPeriodStartDate, else of the effective date
-found_at_first : (cal : List Section) (start : Option Dated) (effective : Dated) → AreFound cal (start_names start)
+found_at_first : (cal : List Section) (start : Option AdjustableDate) (effective : AdjustableDate) → AreFound cal (start_names start)
     → AreFound cal (names_by effective.adj)
     → AreFound cal (names_by (unwrap_or start effective).adj)
 found_at_first cal None effective first rest = rest

@@ -3,7 +3,7 @@ use Rattle.std.specs.Prelude.{◌≡◌, ℕ, List, Option, Some, None, IfSome, 
 use Rattle.irs_calendar.specs.declared.sections.Section.{Section}
 use Rattle.irs_calendar.specs.Sections.{is_named}
 use Rattle.irs_calendar.specs.Selected.{first_missing}
-use Rattle.irs_terms.specs.declared.adjustments.Dated.{Dated}
+use Rattle.irs_terms.specs.declared.adjustments.AdjustableDate.{AdjustableDate}
 use Rattle.irs_terms.specs.Needs.{names_by}
 
 -- the i-th of the names, counted from 0, is that of a section; where no days are needed there are no names
@@ -17,6 +17,6 @@ AreFound cal None = Unit {0}
 AreFound cal (Some names) = first_missing cal 1 names ≡ None
 
 -- the names by which a given firstPeriodStartDate has its good days
-abbrev pub start_names : Option Dated → Option (List (List ℕ))
+abbrev pub start_names : Option AdjustableDate → Option (List (List ℕ))
 start_names None = None
 start_names (Some date) = names_by date.adj

@@ -12,7 +12,8 @@ ghost use Rattle.irs_rules.specs.Names.{BreaksK11, BreaksK11InResets};
 use crate::faults::{earlier, fault_unless};
 use irs_base::{Elem, Fault, Rule};
 use irs_terms::{
-    Adjustments, Centers, Dated, FixTerms, Offset, ResetTerms, Stream, adjusts_days, counts_days,
+    AdjustableDate, Adjustments, Centers, FixTerms, Offset, ResetTerms, Stream, adjusts_days,
+    counts_days,
 };
 
 /// K11: the first adjustments of a stream that need days and have no centres.
@@ -29,7 +30,7 @@ pub(crate) fn element_without_centers(s: &Stream) -> Option<Fault>
     earlier(effective, earlier(termination, earlier(periods, behind)))
 }
 
-fn lacking_in_first_start(first: &Option<Dated>) -> Option<Fault>
+fn lacking_in_first_start(first: &Option<AdjustableDate>) -> Option<Fault>
     ensures { IsFirstFault (Breaks K11 first_period_start_adjustments (StartHasCenters first.now)) result }
 {
     match first {

@@ -12,7 +12,7 @@ ghost use Rattle.irs_rules.specs.Names.{BreaksK12};
 use crate::faults::{earlier, fault_of_item};
 use irs_base::{Elem, Fault, Names, Rule};
 use irs_calendar::Calendars;
-use irs_terms::{Dated, Stream, fixing_names, names_by, names_with, reset_names};
+use irs_terms::{AdjustableDate, Stream, fixing_names, names_by, names_with, reset_names};
 
 /// K12: the first centre of a stream that is needed and in no calendar.
 pub(crate) fn center_in_no_calendar(s: &Stream, cal: &Calendars) -> Option<Fault>
@@ -43,7 +43,7 @@ pub(crate) fn center_in_no_calendar(s: &Stream, cal: &Calendars) -> Option<Fault
     )
 }
 
-fn start_names(first: &Option<Dated>) -> Option<&Names>
+fn start_names(first: &Option<AdjustableDate>) -> Option<&Names>
     ensures { option_copied result ≡ start_names first.now }
 {
     match first {

@@ -12,7 +12,8 @@ ghost use Rattle.irs_rules.specs.Names.{BreaksK10, BreaksK10InPeriods, BreaksK10
 use crate::faults::{earlier, fault_unless};
 use irs_base::{Elem, Fault, Rule};
 use irs_terms::{
-    Adjustments, Centers, Dated, FixTerms, PayTerms, RefState, ResetTerms, Stream, StubTerms,
+    AdjustableDate, Adjustments, Centers, FixTerms, PayTerms, RefState, ResetTerms, Stream,
+    StubTerms,
 };
 
 /// K10: the first reference of a stream that names no target, or more than one list of centres.
@@ -38,7 +39,7 @@ fn in_periods(s: &Stream) -> Option<Fault>
     earlier(effective, earlier(termination, earlier(periods, first)))
 }
 
-fn in_first_start(first: &Option<Dated>) -> Option<Fault>
+fn in_first_start(first: &Option<AdjustableDate>) -> Option<Fault>
     ensures { IsFirstFault (Breaks K10 first_period_start_centers_reference (StartNamesOneList first.now)) result }
 {
     match first {

@@ -2,16 +2,16 @@
 use Rattle.std.specs.Prelude.{Option, Some, None, IfSome, unwrap_or}
 use Rattle.irs_base.specs.Days.{IsDay}
 use Rattle.irs_terms.specs.FirstDay.{first_date_of, first_day_of}
-use Rattle.irs_terms.specs.Lawful.{IsLawfulDated, IsLawfulStream}
-use Rattle.irs_terms.specs.declared.adjustments.Dated.{Dated}
+use Rattle.irs_terms.specs.Lawful.{IsLawfulAdjustableDate, IsLawfulStream}
+use Rattle.irs_terms.specs.declared.adjustments.AdjustableDate.{AdjustableDate}
 use Rattle.irs_terms.specs.declared.stream.Stream.{Stream}
 
-given_lawful : (given : Option Dated) (effective : Dated) → IfSome given IsLawfulDated → IsLawfulDated effective
-    → IsLawfulDated (unwrap_or given effective)
+given_lawful : (given : Option AdjustableDate) (effective : AdjustableDate) → IfSome given IsLawfulAdjustableDate → IsLawfulAdjustableDate effective
+    → IsLawfulAdjustableDate (unwrap_or given effective)
 given_lawful None effective none lawful = lawful
 given_lawful (Some d) effective lawful also = lawful
 
-pub first_date_lawful : (s : Stream) → IsLawfulStream s → IsLawfulDated (first_date_of s)
+pub first_date_lawful : (s : Stream) → IsLawfulStream s → IsLawfulAdjustableDate (first_date_of s)
 first_date_lawful s lawful = given_lawful s.first_start s.effective lawful.first_start lawful.effective
 
 pub first_day_is_day : (s : Stream) → IsLawfulStream s → IsDay (first_day_of s)

@@ -3,7 +3,7 @@ use Rattle.std.specs.Prelude.{Bool, true, false, ◌||◌, Option, IfSome}
 use Rattle.irs_terms.specs.declared.adjustments.Adjustments.{Adjustments}
 use Rattle.irs_terms.specs.declared.adjustments.Centers.{Centers}
 use Rattle.irs_terms.specs.declared.adjustments.Centers.TheVariants.{Absent, Listed, Dangling}
-use Rattle.irs_terms.specs.declared.adjustments.Dated.{Dated}
+use Rattle.irs_terms.specs.declared.adjustments.AdjustableDate.{AdjustableDate}
 use Rattle.irs_terms.specs.declared.adjustments.Offset.{Offset}
 use Rattle.irs_terms.specs.declared.dates.FixTerms.{FixTerms}
 use Rattle.irs_terms.specs.Needs.{adjusts_days, counts_days}
@@ -28,7 +28,7 @@ abbrev pub HasCentersWith : Offset → Adjustments → Type 0
 HasCentersWith offset adj = HasCentersFor (adjusts_days adj.code || counts_days offset) adj.centers
 
 -- for a date that may be given
-abbrev pub StartHasCenters : Option Dated → Type 0
+abbrev pub StartHasCenters : Option AdjustableDate → Type 0
 StartHasCenters start = IfSome start (λ date. HasCentersBy date.adj)
 
 -- for fixing dates, where there are any

@@ -10,7 +10,7 @@ use Rattle.irs_terms.specs.declared.codes.RollCode.TheVariants.{Eom, Dom, Imm, O
 use Rattle.irs_terms.specs.declared.adjustments.Offset.{Offset}
 use Rattle.irs_terms.specs.declared.adjustments.Centers.{Centers}
 use Rattle.irs_terms.specs.declared.adjustments.Centers.TheVariants.{Absent, Listed, Dangling}
-use Rattle.irs_terms.specs.declared.adjustments.Dated.{Dated}
+use Rattle.irs_terms.specs.declared.adjustments.AdjustableDate.{AdjustableDate}
 use Rattle.irs_terms.specs.declared.step_list.StepValues.{StepValues}
 use Rattle.irs_terms.specs.declared.dates.PayTerms.{PayTerms}
 use Rattle.irs_terms.specs.declared.dates.FixTerms.{FixTerms}
@@ -60,8 +60,8 @@ IsLawfulCenters (Listed names) = IsLawfulNames names
 IsLawfulCenters Dangling = Unit {0}
 
 -- a day of the range, with lawful centres
-abbrev pub IsLawfulDated : Dated → Type 0
-IsLawfulDated d = IsDay d.day × IsLawfulCenters d.adj.centers
+abbrev pub IsLawfulAdjustableDate : AdjustableDate → Type 0
+IsLawfulAdjustableDate d = IsDay d.day × IsLawfulCenters d.adj.centers
 
 -- the index of a rate: 1 to 128 bytes, none of them a control byte, and no white space at its ends
 abbrev pub IsLawfulIndex : List ℕ → Type 0
@@ -129,9 +129,9 @@ IsLawfulCurrency c = All (λ b. (65 ≤ b) × (b ≤ 90)) c.letters
 
 -- a stream whose values lie in their ranges
 pub record IsLawfulStream (s : Stream) : Type 0 where
-  pub effective : IsLawfulDated s.effective
-  pub first_start : IfSome s.first_start IsLawfulDated
-  pub termination : IsLawfulDated s.termination
+  pub effective : IsLawfulAdjustableDate s.effective
+  pub first_start : IfSome s.first_start IsLawfulAdjustableDate
+  pub termination : IsLawfulAdjustableDate s.termination
   pub centers : IsLawfulCenters s.period_adj.centers
   pub first_regular : IfSome s.first_regular IsDay
   pub last_regular : IfSome s.last_regular IsDay

@@ -4,7 +4,7 @@ use Rattle.std.specs.Prelude.{Option, IfSome}
 use Rattle.irs_terms.specs.declared.adjustments.Centers.{Centers}
 use Rattle.irs_terms.specs.declared.adjustments.Centers.TheVariants.{Absent as NoCenters, Listed}
 use Rattle.irs_terms.specs.declared.adjustments.Centers.TheVariants.{Dangling as NamesNoList}
-use Rattle.irs_terms.specs.declared.adjustments.Dated.{Dated}
+use Rattle.irs_terms.specs.declared.adjustments.AdjustableDate.{AdjustableDate}
 use Rattle.irs_terms.specs.declared.codes.RefState.{RefState}
 use Rattle.irs_terms.specs.declared.codes.RefState.TheVariants.{Absent, Good, Dangling}
 use Rattle.irs_terms.specs.declared.dates.FixTerms.{FixTerms}
@@ -22,7 +22,7 @@ NamesOneList (Listed names) = Unit {0}
 NamesOneList NamesNoList = ⊥
 
 -- that of a date that may be given
-abbrev pub StartNamesOneList : Option Dated → Type 0
+abbrev pub StartNamesOneList : Option AdjustableDate → Type 0
 StartNamesOneList start = IfSome start (λ date. NamesOneList date.adj.centers)
 
 -- that of fixing dates, where there are any

@@ -1,13 +1,13 @@
 -- The dates of a stream's term, and their order.
 use Rattle.std.specs.Prelude.{ℕ, Option, Some, None, IfSome, ℤ, ◌≤ℤ◌, ◌<ℤ◌}
 use Rattle.irs_base.specs.Elements.{effective_date, first_period_start_date}
-use Rattle.irs_terms.specs.declared.adjustments.Dated.{Dated}
+use Rattle.irs_terms.specs.declared.adjustments.AdjustableDate.{AdjustableDate}
 use Rattle.irs_terms.specs.declared.stream.Stream.{Stream}
 use Rattle.irs_terms.specs.FirstDay.{first_day_of}
 
 -- the element of the first day, with which the first calculation period begins: firstPeriodStartDate
 -- where it is given, else the effective date
-abbrev pub first_day_element_by : Option Dated → ℕ
+abbrev pub first_day_element_by : Option AdjustableDate → ℕ
 first_day_element_by None = effective_date
 first_day_element_by (Some start) = first_period_start_date
 

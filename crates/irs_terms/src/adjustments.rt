@@ -33,7 +33,7 @@ pub struct Adjustments {
 
 /// An unadjusted date with its adjustments (FpML `AdjustableDate`).
 #[derive(Drop)]
-pub struct Dated {
+pub struct AdjustableDate {
     /// The date before adjustment (FpML `unadjustedDate`).
     pub day: Day,
     /// How it is adjusted (FpML `dateAdjustments`).

@@ -17,7 +17,7 @@ mod stream;
 mod stream_list;
 mod suiting;
 
-pub use adjustments::{Adjustments, Centers, Dated, Offset};
+pub use adjustments::{AdjustableDate, Adjustments, Centers, Offset};
 pub use amounts::{ExchangeFlags, FloatTerms, Leg, Rounding, StubRate, StubTerms};
 pub use codes::{
     CompCode, ConvCode, DayCountCode, DayKind, RefState, Relative, RollCode, StubKind, Treatment,

@@ -4,8 +4,8 @@ ghost use Rattle.irs_base.specs.Days.{IsDay};
 ghost use Rattle.irs_terms.specs.FirstDay.{first_date_of, first_day_of};
 
 use crate::{
-    Adjustments, CompCode, Currency, Dated, DayCountCode, ExchangeFlags, Frequency, Leg, PayTerms,
-    ResetTerms, RollCode, StepValues, StubKind, StubTerms,
+    AdjustableDate, Adjustments, CompCode, Currency, DayCountCode, ExchangeFlags, Frequency, Leg,
+    PayTerms, ResetTerms, RollCode, StepValues, StubKind, StubTerms,
 };
 use irs_base::Day;
 
@@ -13,11 +13,11 @@ use irs_base::Day;
 #[derive(Drop)]
 pub struct Stream {
     /// `calculationPeriodDates/effectiveDate`.
-    pub effective: Dated,
+    pub effective: AdjustableDate,
     /// `calculationPeriodDates/firstPeriodStartDate`.
-    pub first_start: Option<Dated>,
+    pub first_start: Option<AdjustableDate>,
     /// `calculationPeriodDates/terminationDate`.
-    pub termination: Dated,
+    pub termination: AdjustableDate,
     /// `calculationPeriodDates/calculationPeriodDatesAdjustments`.
     pub period_adj: Adjustments,
     /// `calculationPeriodDates/firstRegularPeriodStartDate`.
@@ -53,7 +53,7 @@ pub struct Stream {
 impl Stream {
     /// The date at which the first calculation period begins, with its adjustments: FpML's
     /// `firstPeriodStartDate` where it is given, else the effective date.
-    pub fn first_date(&self) -> &Dated
+    pub fn first_date(&self) -> &AdjustableDate
         ensures { result.now ≡ first_date_of self.now }
     {
         match &self.first_start {
