@@ -1,9 +1,9 @@
 -- Which specifications determine their outcome, and what a call that stops half way meets.
 use Rattle.std.proofs.Common.{◌≡◌, ◌⊎◌, inl, inr, ℕ, suc, ◌+◌, List, [], ◌∷◌, ◌++◌, length, Bool, Result, Ok, Err, IsErrAnd}
-use Rattle.std.proofs.Common.{refl, sym, subst, ap, arith}
+use Rattle.std.proofs.Common.{refl, sym, subst, ap, ◌∙◌, arith}
 use Rattle.irs_base.specs.Faults.{IfStopped}
 use Rattle.irs_base.specs.Order.{First, Only}
-use Rattle.irs_base.specs.Outcomes.{Determined, IfMemory, IfOutOfMemory, Meets, Spec, ◌>>=◌, answer, answered, each_in_turn}
+use Rattle.irs_base.specs.Outcomes.{Determined, IfMemory, IfOutOfMemory, Meets, RefusesNothing, Spec, ◌>>=◌, answer, answered, each_in_turn}
 use Rattle.irs_base.specs.Outcomes.{refused, refused_as, unbroken, unless_broken}
 use Rattle.irs_base.specs.declared.stopped.Stopped.{Stopped}
 use Rattle.irs_base.specs.declared.stopped.Stopped.TheVariants.{Broken as OfBroken, Memory as OfMemory}
@@ -127,6 +127,50 @@ module _ {X A R : Type 0} (spec : ℕ → X → Spec A R) where
         inl (each_stops (n + 1) xs rest.0 y ys r rest.1
             (subst (λ (i : ℕ). (spec i y).Refuses r) moved last)),
       )
+
+-- ---- what a determined outcome says
+
+module _ {A R : Type 0} {spec : Spec A R} where
+  -- there is at most one answer
+  pub one_answer : Determined spec → (a b : A) → spec.Answers a → spec.Answers b → a ≡ b
+  one_answer (answered c one none) a b h k = one.only a h ∙ sym (one.only b k)
+  one_answer (refused r one none) a b h k = absurd (none a h)
+
+  -- and at most one refusal
+  pub one_refusal : Determined spec → (r t : R) → spec.Refuses r → spec.Refuses t → r ≡ t
+  one_refusal (answered c one none) r t h k = absurd (none r h)
+  one_refusal (refused q one none) r t h k = one.only r h ∙ sym (one.only t k)
+
+  -- where there is an answer, nothing is refused
+  pub answered_free : Determined spec → (a : A) → spec.Answers a → RefusesNothing spec
+  answered_free (answered c one none) a h = none
+  answered_free (refused r one none) a h = absurd (none a h)
+
+  -- where nothing is refused, there is an answer
+  pub answer_there : Determined spec → RefusesNothing spec → (a : A) × spec.Answers a
+  answer_there (answered a one none) free = (a, one.is)
+  answer_there (refused r one none) free = absurd (free r one.is)
+
+-- a specification of each item that allows no less
+module _ {X A R : Type 0} (from to : ℕ → X → Spec A R)
+    (answers : (i : ℕ) (x : X) (a : A) → (from i x).Answers a → (to i x).Answers a)
+    (refuses : (i : ℕ) (x : X) (r : R) → (from i x).Refuses r → (to i x).Refuses r) where
+  -- allows no less of a list in turn
+  pub each_answers : (n : ℕ) (xs : List X) (given : List A) → (each_in_turn from n xs).Answers given
+      → (each_in_turn to n xs).Answers given
+  unfolding each_in_turn
+  each_answers n [] given h = h
+  each_answers n (x ∷ xs) given h =
+      let rest = h.2 in
+      (h.0, answers n x h.0 h.1, (rest.0, each_answers (n + 1) xs rest.0 rest.1, rest.2))
+
+  pub each_refuses : (n : ℕ) (xs : List X) (r : R) → (each_in_turn from n xs).Refuses r
+      → (each_in_turn to n xs).Refuses r
+  unfolding each_in_turn
+  each_refuses n [] r h = h
+  each_refuses n (x ∷ xs) r (inl first) = inl (refuses n x r first)
+  each_refuses n (x ∷ xs) r (inr (a, is, inl later)) = inr (a, answers n x a is, inl (each_refuses (n + 1) xs r later))
+  each_refuses n (x ∷ xs) r (inr (a, is, inr last)) = absurd last.2
 
 -- a call that a `?` stops, where the reason is a right refusal
 pub stopped_meets : {A R : Type 0} (spec : Spec A R) (r : Result A (Stopped R)) (e : Stopped R)
