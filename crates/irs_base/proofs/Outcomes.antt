@@ -2,8 +2,9 @@
 use Rattle.std.proofs.Common.{◌≡◌, ◌⊎◌, inl, inr, ℕ, suc, ◌+◌, List, [], ◌∷◌, ◌++◌, length, Bool, Result, Ok, Err, IsErrAnd}
 use Rattle.std.proofs.Common.{refl, sym, subst, ap, ◌∙◌, arith}
 use Rattle.irs_base.specs.Faults.{IfStopped}
+use Rattle.irs_base.specs.Members.{Every}
 use Rattle.irs_base.specs.Order.{First, Only}
-use Rattle.irs_base.specs.Outcomes.{Determined, IfMemory, IfOutOfMemory, Meets, RefusesNothing, Spec, ◌>>=◌, answer, answered, each_in_turn}
+use Rattle.irs_base.specs.Outcomes.{Determined, IfMemory, IfOutOfMemory, Meets, RefusesNothing, Spec, ◌>>=◌, answer, answered, each_in_turn, given_by}
 use Rattle.irs_base.specs.Outcomes.{refused, refused_as, unbroken, unless_broken}
 use Rattle.irs_base.specs.declared.stopped.Stopped.{Stopped}
 use Rattle.irs_base.specs.declared.stopped.Stopped.TheVariants.{Broken as OfBroken, Memory as OfMemory}
@@ -11,6 +12,12 @@ use Rattle.irs_base.specs.declared.stopped.Stopped.TheVariants.{Broken as OfBrok
 -- a value given as the answer is the only one
 pub answer_determined : {A R : Type 0} (x : A) → Determined {A = A} {R = R} (answer x)
 answer_determined x = answered x (record { is = refl; only = λ y h. h }) (λ r h. h)
+
+-- there is one value, and no more
+pub given_by_determined : {A R : Type 0} (Is : A → Type 0) → (a : A) × Is a → ((a b : A) → Is a → Is b → a ≡ b)
+    → Determined {A = A} {R = R} (given_by Is)
+given_by_determined Is there one =
+    answered there.0 (record { is = there.1; only = λ b h. one b there.0 h there.1 }) (λ r h. h)
 
 -- the rules are decided, an answer exists where none is broken, and there is at most one of each
 pub unless_broken_determined : {A F : Type 0} (before : F → F → Bool) (Breaks : F → Type 0) (Is : A → Type 0)
@@ -87,13 +94,13 @@ refused_as_determined {R = R} {S = S} say spec (refused r one none) =
 
 module _ {X A R : Type 0} (spec : ℕ → X → Spec A R) where
   -- a list in turn has one outcome where each of its items has
-  pub each_determined : (n : ℕ) (xs : List X) → ((i : ℕ) (x : X) → Determined (spec i x))
-      → Determined (each_in_turn spec n xs)
+  pub each_determined : (P : X → Type 0) → ((i : ℕ) (x : X) → P x → Determined (spec i x)) → (n : ℕ) (xs : List X)
+      → Every P xs → Determined (each_in_turn spec n xs)
   unfolding each_in_turn
-  each_determined n [] one = answer_determined []
-  each_determined n (x ∷ xs) one =
-      then_determined (spec n x) _ (one n x) (λ a _.
-      then_determined (each_in_turn spec (n + 1) xs) _ (each_determined (n + 1) xs one) (λ rest _.
+  each_determined P one n [] h = answer_determined []
+  each_determined P one n (x ∷ xs) h =
+      then_determined (spec n x) _ (one n x h.0) (λ a _.
+      then_determined (each_in_turn spec (n + 1) xs) _ (each_determined P one (n + 1) xs h.1) (λ rest _.
       answer_determined (a ∷ rest)))
 
   -- one item more is answered

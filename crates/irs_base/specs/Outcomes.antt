@@ -39,6 +39,13 @@ abbrev pub IfMemory : {A R : Type 0} → Result A (Stopped R) → Type 0 → Typ
 IfMemory (Ok a) P = Unit {0}
 IfMemory (Err e) P = IfOutOfMemory e P
 
+-- the answer is what `Is` says, and nothing is refused
+abbrev pub given_by : {A R : Type 0} → (A → Type 0) → Spec A R
+given_by Is = record {
+  Answers = Is;
+  Refuses = λ _. ⊥;
+}
+
 -- this value is the answer
 abbrev pub answer : {A R : Type 0} → A → Spec A R
 answer x = record {
