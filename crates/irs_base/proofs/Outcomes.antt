@@ -1,6 +1,9 @@
 -- Which specifications determine their outcome, and what a call that stops half way meets.
-use Rattle.std.proofs.Common.{◌≡◌, ◌⊎◌, inl, inr, ℕ, suc, ◌+◌, List, [], ◌∷◌, ◌++◌, length, Bool, Result, Ok, Err, IsErrAnd}
-use Rattle.std.proofs.Common.{refl, sym, subst, ap, ◌∙◌, arith}
+use Rattle.std.proofs.Common.{◌≡◌, ◌⊎◌, inl, inr, ℕ, suc, ◌+◌, List, [], ◌∷◌, ◌++◌, length, take, drop, Bool, Some, Result, Ok, Err, IsErrAnd}
+use Rattle.std.proofs.Common.{◌<◌, refl, sym, subst, ap, ◌∙◌, arith, append_assoc}
+use Rattle.std.specs.List.{slice_get}
+use Rattle.std.proofs.lemmas.List.{length-take-le, take-append-drop, take_more}
+use Rattle.std.proofs.lemmas.Option.{get_or_from_slice_get, slice_get_within}
 use Rattle.irs_base.specs.Faults.{IfStopped}
 use Rattle.irs_base.specs.Members.{Every}
 use Rattle.irs_base.specs.Order.{First, Only}
@@ -134,6 +137,43 @@ module _ {X A R : Type 0} (spec : ℕ → X → Spec A R) where
         inl (each_stops (n + 1) xs rest.0 y ys r rest.1
             (subst (λ (i : ℕ). (spec i y).Refuses r) moved last)),
       )
+
+  -- the same along a list: the items before the place i are answered
+  module _ (n : ℕ) (xs : List X) (i : ℕ) (given : List A) (y : X) (at : slice_get xs i ≡ Some y)
+      (done : (each_in_turn spec n (take i xs)).Answers given) where
+    inside : i < length xs
+    inside = slice_get_within xs i y at
+
+    count : length (take i xs) ≡ i
+    count = length-take-le i xs (omega (arith, inside))
+
+    longer : take (i + 1) xs ≡ take i xs ++ y ∷ []
+    longer = take_more xs i y inside ∙ ap (λ (q : X). take i xs ++ q ∷ []) (get_or_from_slice_get xs i y y at)
+
+    whole : take i xs ++ y ∷ drop (i + 1) xs ≡ xs
+    whole =
+        sym (append_assoc (take i xs) (y ∷ []) (drop (i + 1) xs))
+        ∙ ap (λ (front : List X). front ++ drop (i + 1) xs) (sym longer)
+        ∙ take-append-drop (i + 1) xs
+
+    -- and so is that at i
+    pub each_goes_on : (a : A) → (spec (n + i) y).Answers a
+        → (each_in_turn spec n (take (i + 1) xs)).Answers (given ++ a ∷ [])
+    each_goes_on a last =
+        subst (λ (ys : List X). (each_in_turn spec n ys).Answers (given ++ a ∷ [])) (sym longer)
+        (each_more n (take i xs) given y a done (subst (λ (k : ℕ). (spec (n + k) y).Answers a) (sym count) last))
+
+    -- that at i is refused
+    pub each_ends : (r : R) → (spec (n + i) y).Refuses r → (each_in_turn spec n xs).Refuses r
+    each_ends r last =
+        subst (λ (ys : List X). (each_in_turn spec n ys).Refuses r) whole
+        (each_stops n (take i xs) given y (drop (i + 1) xs) r done
+        (subst (λ (k : ℕ). (spec (n + k) y).Refuses r) (sym count) last))
+
+  -- no item
+  pub each_begins : (n : ℕ) → (each_in_turn spec n []).Answers []
+  unfolding each_in_turn
+  each_begins n = refl
 
 -- ---- what a determined outcome says
 
