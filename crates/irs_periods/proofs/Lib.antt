@@ -18,6 +18,7 @@ pub mod SpanDecided
 pub mod BoundariesThere
 pub mod PeriodsDecided
 pub mod RegularStarts
+pub mod RegularEnds
 pub mod AdjustedBoundaries
 pub mod FirstAmong
 pub mod AdjustedDecided

@@ -13,7 +13,7 @@ use Rattle.irs_periods.specs.Spans.{Regular}
 use Rattle.irs_periods.proofs.BoundariesThere.{boundary_in_term}
 use Rattle.irs_periods.proofs.SpanThere.{LiesInTerm, lies_in_term, first_is_boundary}
 
-after_member : (x d : ℤ) (xs : List ℤ) → AllAfter x xs → Member d xs → x <ℤ d
+pub after_member : (x d : ℤ) (xs : List ℤ) → AllAfter x xs → Member d xs → x <ℤ d
 after_member x d [] after m = absurd m
 after_member x d (y ∷ ys) after (inl here) = omega (arith, signed_arith, after.0, here)
 after_member x d (y ∷ ys) after (inr there) = after_member x d ys after.1 there

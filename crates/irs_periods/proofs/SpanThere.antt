@@ -166,6 +166,16 @@ lies_in_term s span dates regular fits = elim (decides_term s.freq.unit) [
       record { before = part.before; order = part.order; after = part.after }
 ]
 
+pub last_is_boundary : (s : Stream) (span : Span) → DatesInOrder s → Regular s span → SpanKept s span
+    → IsBoundary s span span.last
+last_is_boundary s span dates regular kept = elim (decides_term s.freq.unit) [
+  | inl term ↦ let spans : (span.first ≡ first_day_of s) × (span.last ≡ termination_of s) = rw term at regular.spans in
+      inr (inl spans.1)
+  | inr timed ↦
+      let part = part_of_term s span dates timed (own_grid s.freq s.roll span.anchor timed (kept.fits timed)) regular in
+      inr (inr (part.order, omega (arith, signed_arith), kept.on_last timed))
+]
+
 -- where K30 isn't broken the roll fits the anchor
 pub anchor_fits : (s : Stream) → IsLawfulStream s → (RollMisfits s → ⊥) → (IsTerm s.freq → ⊥)
     → Fits s.roll s.freq (anchor_of s)

@@ -1,5 +1,5 @@
 -- The unadjusted boundaries of a stream's calculation periods (2006 ISDA Definitions, 4.13 and 4.10).
-use Rattle.std.specs.Prelude.{◌≡◌, ◌⊎◌, ◌+◌, ◌<◌, List, length, ℤ, ◌<ℤ◌, ◌≤ℤ◌}
+use Rattle.std.specs.Prelude.{◌≡◌, ◌⊎◌, ◌+◌, ◌-◌, ◌<◌, List, length, ℤ, ◌<ℤ◌, ◌≤ℤ◌}
 use Rattle.irs_base.specs.Limits.{most_periods}
 use Rattle.irs_base.specs.Listed.{Lists}
 use Rattle.irs_base.specs.Elements.{calculation_period_frequency}
@@ -36,6 +36,13 @@ pub record RegularStart (s : Stream) (span : Span) (b : List ℤ) : Type 0 where
   pub not_before : first_day_of s ≤ℤ span.first
   pub no_stub : first_day_of s ≡ span.first → day_at b 0 ≡ span.first
   pub behind_stub : first_day_of s <ℤ span.first → day_at b 1 ≡ span.first
+
+-- where the regular periods end: the span's last day is the last boundary where it is the termination date, with no
+-- final stub, and the last but one before a final stub
+pub record RegularEnd (s : Stream) (span : Span) (b : List ℤ) : Type 0 where
+  pub not_after : span.last ≤ℤ termination_of s
+  pub no_stub : span.last ≡ termination_of s → day_at b (length b - 1) ≡ span.last
+  pub before_stub : span.last <ℤ termination_of s → day_at b (length b - 2) ≡ span.last
 
 -- K32: there are more boundaries than the most periods have
 pub record TooManyPeriods (s : Stream) (span : Span) : Type 0 where

@@ -13,7 +13,7 @@ ghost use Rattle.irs_terms.specs.Suiting.{FrequencySuits, IsTerm};
 ghost use Rattle.irs_terms.specs.FirstDay.{first_day_of};
 ghost use Rattle.irs_terms.specs.TermDates.{DatesInOrder, termination_of};
 ghost use Rattle.irs_roll.specs.Rolls.{OnGrid};
-ghost use Rattle.irs_periods.specs.Boundaries.{Boundaries, BreaksPeriods, RegularStart, too_many_periods};
+ghost use Rattle.irs_periods.specs.Boundaries.{Boundaries, BreaksPeriods, RegularEnd, RegularStart, too_many_periods};
 ghost use Rattle.irs_periods.specs.GridLists.{boundaries_on, days_from, where_before};
 ghost use Rattle.irs_periods.specs.Outcomes.{boundaries_of};
 ghost use Rattle.irs_periods.specs.SpanRules.{SpanKept};
@@ -221,13 +221,15 @@ pub fn boundaries_are_determined(s: &Stream, span: &Span)
     ensures { Determined (boundaries_of s.now span.now) }
 {}
 
-/// A law: the first regular period starts at boundary 0, or at boundary 1 after an initial stub.
-pub fn regular_periods_follow_the_initial_stub(s: &Stream, span: &Span)
+/// A law: the regular periods run from boundary 0, or from boundary 1 after an initial stub, to the last
+/// boundary, or to the last but one before a final stub.
+pub fn regular_periods_lie_between_stubs(s: &Stream, span: &Span)
     requires lawful { IsLawfulStream s.now }
     requires dates { DatesInOrder s.now }
     requires span { Regular s.now span.now }
     requires kept { SpanKept s.now span.now }
-    ensures { (b : List ℤ) → Boundaries s.now span.now b → RegularStart s.now span.now b }
+    ensures start { (b : List ℤ) → Boundaries s.now span.now b → RegularStart s.now span.now b }
+    ensures end { (b : List ℤ) → Boundaries s.now span.now b → RegularEnd s.now span.now b }
 {}
 
 // The ends of the term.

@@ -27,6 +27,15 @@ impl<T: Drop> Listed<T> {
         }
     }
 
+    /// The empty list with room for `count` values; an error is that memory ran out.
+    pub fn with_room(alloc: Global, count: usize) -> Result<Listed<T>, Memory>
+        ensures { IfOk result (λ l. l ≡ []) }
+    {
+        Ok(Listed {
+            items: Vec::with_capacity(alloc, count)?,
+        })
+    }
+
     /// Puts one at the end; where memory runs out the list stays as it was and the item is dropped.
     pub fn push(&mut self, x: T) -> Result<(), Memory>
         ensures ok { OnOk result (self.new ≡ self.old ++ x ∷ []) }
