@@ -129,7 +129,7 @@ two_boundaries e t b h r =
           absurd (omega (arith, signed_arith, h, first, t_is))
     ]
 
--- the payment boundaries at the places behind 0, with the first day in front
+-- the payment boundaries at the places after 0, with the first day in front
 module _ (s : Stream) (b : List ℤ) (run : RunsFromTo (first_day_of s) s.termination.day b) (later : List ℕ)
     (rising : IsRising (days_at b later)) (sound : EachPlace (IsCut s b (length b)) later) (complete : (place : ℕ)
     → 1 ≤ place → place < length b → EndsAt s b place → Member (day_at b place) (days_at b later)) where

@@ -47,7 +47,7 @@ payments_dated s set b a ps range days moved h =
 
 -- ---- principal exchanges
 
--- 10^13 in units of 10^-4, rounded to so many decimals
+-- 10^13 in units of 10^-4, rounded to a number of decimals
 rounded_fits : (k : ℕ) (p m : ℤ) → k ≤ 3 → unsigned_abs p ≤ most_notional → Rounded Nearest p (pos (10 ^ (4 - k))) m
     → unsigned_abs m ≤ 10 ^ 14 * 10 ^ k
 rounded_fits zero p m low size h = let r =

@@ -89,7 +89,7 @@ last_notional before [] h k = h
 last_notional before (step ∷ steps) h k =
     last_notional step.value steps (k zero step (omega arith)) (tail_notionals step steps k)
 
--- a part that stands where its flag is true
+-- a part that is there where its flag is true
 small_part : (b : Bool) (ts : List Transfer) → All IsSmall ts → All IsSmall (if b then ts else [])
 small_part true ts h = h
 small_part false ts h = λ i d l. absurd (omega arith)

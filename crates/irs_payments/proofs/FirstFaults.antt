@@ -1,12 +1,11 @@
 -- The first of the faults of two sets, and which of two faults comes before the other.
-use Rattle.std.proofs.Common.{◌≡◌, ◌⊎◌, inl, inr, ℕ, ◌<◌, false, Result, Ok, Err, IfOk, refl}
+use Rattle.std.proofs.Common.{◌≡◌, ◌⊎◌, inl, inr, ℕ, ◌<◌, false, Result, Ok, Err, refl}
 use Rattle.irs_base.specs.Rules.{rule_number}
-use Rattle.irs_base.specs.Faults.{fault_at, IfBroken}
+use Rattle.irs_base.specs.Faults.{fault_at}
 use Rattle.irs_base.specs.Order.{First, comes_before, turn}
+use Rattle.irs_base.specs.Outcomes.{MeetsExactly, unbroken}
 use Rattle.irs_base.specs.declared.places.Rule.{Rule}
 use Rattle.irs_base.specs.declared.places.Fault.{Fault}
-use Rattle.irs_base.specs.declared.stopped.Stopped.{Stopped}
-use Rattle.irs_base.specs.declared.stopped.Stopped.TheVariants.{Broken as OfBroken, Memory as OfMemory}
 use Rattle.irs_base.proofs.Firsts.{level_same, level_later, lt_false}
 
 -- a fault is the first of these, or there is none
@@ -32,9 +31,15 @@ first_of_both P Q late (inl p) q = inl (p.0, first_left P Q p.0 p.1 (λ g h. lat
 first_of_both P Q late (inr none) (inl q) = inl (q.0, first_right P Q q.0 none q.1)
 first_of_both P Q late (inr none) (inr neither) = inr (none_of_both P Q none neither)
 
--- faults that are told, one before the other or not
+-- after a check that passed, the next one decides
+pub next_checked : (P Q : Fault → Type 0) (r : Result (Unit {0}) Fault) → ((g : Fault) → P g → ⊥)
+    → MeetsExactly (unbroken comes_before Q) r → MeetsExactly (unbroken comes_before (λ g. P g ⊎ Q g)) r
+next_checked P Q (Ok v) none h = none_of_both P Q none h
+next_checked P Q (Err f) none h = first_right P Q f none h
 
--- what doesn't come before as it is told doesn't come before
+-- ---- which of two faults comes before the other
+
+-- faults that are equal to these come in the same order
 pub told : (f g x y : Fault) → f ≡ x → g ≡ y → comes_before y x ≡ false → comes_before g f ≡ false
 told f g x y p q h = rw p (rw q h)
 
@@ -62,15 +67,3 @@ not_before_rule r q e d m n same h =
 pub not_before_turn : (r q : Rule) (e d m n : ℕ) → turn r < turn q
     → comes_before (fault_at q d m) (fault_at r e n) ≡ false
 not_before_turn r q e d m n h = level_later (turn q) (turn r) _ h
-
-pub ok_both : {X E : Type 0} (r : Result X E) (P Q R : X → Type 0) → IfOk r P → IfOk r Q → ((v : X) → P v → Q v → R v)
-    → IfOk r R
-ok_both (Ok v) P Q R p q f = f v p q
-ok_both (Err e) P Q R p q f = tt
-
--- what holds of a broken rule that is answered, as far as it follows
-pub broken_weaker : {A : Type 0} (r : Result A (Stopped Fault)) (P Q : Fault → Type 0) → ((f : Fault) → P f → Q f)
-    → IfBroken r P → IfBroken r Q
-broken_weaker (Ok v) P Q step h = tt
-broken_weaker (Err (OfBroken f)) P Q step h = step f h
-broken_weaker (Err OfMemory) P Q step h = tt

@@ -1,4 +1,4 @@
--- K35: a given payment date is the first that can't stand, or none is.
+-- K35: a given payment date is the first that breaks it, or none does.
 use Rattle.std.proofs.Common.{◌≡◌, inl, inr, List, Option, Some, None, ℤ, ◌<ℤ◌, false, refl, sym, ◌∙◌, subst, arith}
 use Rattle.jiff_core.proofs.SignedLemmas.{signed_arith}
 use Rattle.irs_base.specs.DayLists.{AreDays}
@@ -50,7 +50,7 @@ pub last_is_first : (s : Stream) (b : List ℤ) → (IsBadFirst s b → ⊥) →
 last_is_first s b good bad =
     first_right (BreaksFirst s b) (BreaksLast s b) at_last (λ g h. good h.0) (last_alone s b bad)
 
--- each of the two dates can't stand, or it can
+-- each of the two dates breaks the rule, or it doesn't
 
 decides_before : (a b : ℤ) → IsDecided (a <ℤ b)
 decides_before a b = elim (order_of a b) [

@@ -108,8 +108,10 @@ module _ (s : Stream) (set : DaySet) (b a : List ℤ) (run : RunsFromTo (first_d
         date = h.date;
       }
 
-  are_payments : (ps : List Payment) → ArePaid s set b a (0 ∷ later) (length (0 ∷ later)) ps → ArePayments s set b a ps
-  are_payments ps paid = record {
+  are_payments : (ps : List Payment) → length a ≡ length b → ArePaid s set b a (0 ∷ later) (length (0 ∷ later)) ps
+      → ArePayments s set b a ps
+  are_payments ps long paid = record {
+    adjusted_count = long;
     pay = (first_day_of s) ∷ days_at b later;
     listed = pay_listed s b run later rising sound complete;
     count = paid.count ∙ sym pay_length;
@@ -223,10 +225,10 @@ module _ (s : Stream) (set : DaySet) (b a : List ℤ) (run : RunsFromTo (first_d
 -- the same from what the walk gives
 
 pub payments_are : (s : Stream) (set : DaySet) (b a : List ℤ) (cuts : List ℕ)
-    → RunsFromTo (first_day_of s) s.termination.day b → AreCuts s b (length b) cuts → (ps : List Payment)
-    → ArePaid s set b a cuts (length cuts) ps → ArePayments s set b a ps
-payments_are s set b a cuts run h ps paid =
-    are_payments s set b a run h.later h.rising h.sound h.complete ps
+    → RunsFromTo (first_day_of s) s.termination.day b → AreCuts s b (length b) cuts → length a ≡ length b
+    → (ps : List Payment) → ArePaid s set b a cuts (length cuts) ps → ArePayments s set b a ps
+payments_are s set b a cuts run h long ps paid =
+    are_payments s set b a run h.later h.rising h.sound h.complete ps long
     (subst (λ (cs : List ℕ). ArePaid s set b a cs (length cs) ps) h.from_zero paid)
 
 pub payments_cover : (s : Stream) (set : DaySet) (b a : List ℤ) (cuts : List ℕ) → (first_day_of s) <ℤ s.termination.day

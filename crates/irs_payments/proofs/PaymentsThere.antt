@@ -104,8 +104,8 @@ DatesFound s set b a =
     (((ps : List Payment) × ArePayments s set b a ps) × ((f : Fault) → BreaksDates s set b a f → ⊥))
 
 module _ (s : Stream) (set : DaySet) (b a : List ℤ) (cuts : List ℕ)
-    (run : RunsFromTo (first_day_of s) s.termination.day b) (are : AreCuts s b (length b) cuts) (each : (j : ℕ)
-    → DateOrFault s.pay set (day_at a (date_place s cuts j))) where
+    (run : RunsFromTo (first_day_of s) s.termination.day b) (are : AreCuts s b (length b) cuts)
+    (long : length a ≡ length b) (each : (j : ℕ) → DateOrFault s.pay set (day_at a (date_place s cuts j))) where
   lacking : FirstNumber (λ j. LacksResult s.pay set (day_at a (date_place s cuts j))) (length cuts)
       → DatesFound s set b a
   lacking h =
@@ -136,7 +136,7 @@ module _ (s : Stream) (set : DaySet) (b a : List ℤ) (cuts : List ℕ)
       (λ j low high. date_there s.pay set (start j) (each j) (lacks j low high) (leaves j low high))
       (some_cuts s b cuts are) in
       inr (
-        (paid.0, payments_are s set b a cuts run are paid.0 paid.1),
+        (paid.0, payments_are s set b a cuts run are long paid.0 paid.1),
         payments_unbroken s set b a cuts run are lacks leaves,
       )
 
@@ -160,6 +160,7 @@ pub record ArePayable (s : Stream) (set : DaySet) (b a : List ℤ) : Type 0 wher
   pub lawful : IsLawfulStream s
   pub said : IsSaid s.pay.offset
   pub run : RunsFromTo (first_day_of s) s.termination.day b
+  pub adjusted_count : length a ≡ length b
   pub days : AreDays b
   pub adjusted : AreDays a
   pub range : InRange set
@@ -168,7 +169,7 @@ module _ (s : Stream) (set : DaySet) (b a : List ℤ) (over : ArePayable s set b
   stream_dates : DatesFound s set b a
   stream_dates =
       let cuts = cuts_there s b over.lawful over.run over.days in
-      dates_found s set b a cuts.0 over.run cuts.1
+      dates_found s set b a cuts.0 over.run cuts.1 over.adjusted_count
       (λ j. date_or_failure s.pay.offset s.pay.adj.code set (day_at a (date_place s cuts.0 j))
       (day_at_day a (date_place s cuts.0 j) over.adjusted) over.range over.said)
 

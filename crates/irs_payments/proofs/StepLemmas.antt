@@ -1,4 +1,4 @@
--- Steps on boundaries: a step is the first that stands off them, or none does.
+-- Steps on boundaries: a step is the first whose date is no boundary, or the date of each is one.
 use Rattle.std.proofs.Common.{◌≡◌, ℕ, ◌<◌, List, [], ◌∷◌, ℤ, false, inl, inr, arith}
 use Rattle.irs_base.specs.Elements.{notional_step_date, fixed_rate_step_date, multiplier_step_date, spread_step_date}
 use Rattle.irs_base.specs.Listed.{Member}
@@ -23,7 +23,7 @@ later_steps boundaries elem later steps more f g le h k =
     told f g (fault_at K36 elem h.number) (fault_at K36 later k.number) h.is k.is
     (not_before_element K36 elem later k.number h.number le)
 
--- a day stands in a list, or it doesn't
+-- a day is in a list, or it isn't
 pub decides_member : (d : ℤ) (xs : List ℤ) → IsDecided (Member d xs)
 decides_member d [] = inr (λ h. h)
 decides_member d (x ∷ xs) = elim (decides_same d x) [

@@ -1,4 +1,4 @@
--- The places in the list of boundaries at which payment periods end.
+-- Of private functions: the places in the list of boundaries at which payment periods end.
 use Rattle.std.specs.Prelude.{◌≡◌, ℕ, ◌<◌, ◌≤◌, List, [], ◌∷◌, slice_index_or, ℤ}
 use Rattle.irs_base.specs.Listed.{Member, IsRising}
 use Rattle.irs_terms.specs.declared.stream.Stream.{Stream}

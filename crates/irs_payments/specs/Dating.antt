@@ -1,8 +1,9 @@
--- Payments worked out one after another, from the places at which payment periods end.
+-- Of private functions: payments worked out one after another, from the places at which payment periods end.
 use Rattle.std.specs.Prelude.{◌≡◌, ◌⊎◌, ℕ, ◌+◌, ◌-◌, ◌<◌, ◌≤◌, List, [], ◌∷◌, ◌++◌, length, Option, Some, None, Result}
 use Rattle.std.specs.Prelude.{Ok, Err, ℤ, nat_lt}
 use Rattle.irs_base.specs.Elements.{payment_dates}
 use Rattle.irs_base.specs.Order.{First}
+use Rattle.irs_base.specs.Outcomes.{Spec}
 use Rattle.irs_base.specs.declared.places.Rule.TheVariants.{K33, K38}
 use Rattle.irs_base.specs.declared.places.Fault.{Fault}
 use Rattle.irs_terms.specs.declared.results.Payment.{Payment}
@@ -100,3 +101,11 @@ abbrev pub IsDateFault : Stream → DaySet → List ℤ → List ℕ → ℕ →
 IsDateFault s set adjusted cuts n f =
     (LacksFirst s set adjusted cuts n × (f ≡ fault_at K33 payment_dates n)) ⊎
     (OnlyLeaves s set adjusted cuts n × (f ≡ fault_at K38 payment_dates n))
+
+-- the payments at the places, where no date breaks a rule; else the first date that breaks one
+abbrev pub paid_at : Stream → DaySet → List ℤ → List ℤ → List ℕ → Spec (List Payment) Fault
+paid_at s set boundaries adjusted cuts = record {
+  Answers = λ ps. ArePaid s set boundaries adjusted cuts (length cuts) ps ×
+      NoneLacks s set adjusted cuts (length cuts);
+  Refuses = λ f. (n : ℕ) × IsDateFault s set adjusted cuts n f;
+}

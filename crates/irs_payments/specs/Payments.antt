@@ -46,12 +46,13 @@ pub record IsPayment (s : Stream) (set : DaySet) (boundaries adjusted pay : List
 -- the payments of the stream, one for each payment boundary after the first day
 pub record ArePayments (s : Stream) (set : DaySet) (boundaries adjusted : List ℤ)
     (payments : List Payment) : Type 0 where
+  pub adjusted_count : length adjusted ≡ length boundaries
   pub pay : List ℤ
   pub listed : PayList s boundaries pay
   pub count : length payments + 1 ≡ length pay
   pub each : EachNumbered (IsPayment s set boundaries adjusted pay) 1 payments
 
--- the payments cover the periods from `next` to `last`, one behind the other, each at least one
+-- the payments cover the periods from `next` to `last`, one after the other, each at least one
 abbrev pub Covers : ℕ → List Payment → ℕ → Type 0
 Covers next payments last =
     CoverNumbers (λ (p : Payment). p.first_period) (λ (p : Payment). p.last_period) next payments last

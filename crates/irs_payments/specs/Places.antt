@@ -1,4 +1,4 @@
--- Rising places in a list.
+-- Of private functions: rising places in a list.
 use Rattle.std.specs.Prelude.{◌≡◌, ℕ, ◌+◌, ◌<◌, List, length, ℤ}
 use Rattle.irs_payments.specs.Cuts.{cut_at}
 

@@ -2,26 +2,24 @@
 //!
 //! At the start the payer receives the notional, at the end it pays it back (FpML
 //! `principalExchanges`). The start is the effective date, also where the first calculation period
-//! begins before it. The dates of exchanges, and the sign where the notional changes at a step,
-//! are rules of this project's own: the payer pays what the notional falls by, and receives what it
-//! rises by.
-ghost use Rattle.std.specs.Prelude.{◌≡◌, ◌⊎◌, ◌-◌, ◌^◌, ◌<◌, ◌≤◌, ◌++◌, length, pos, ◌<ℤ◌, ◌≤ℤ◌, List, IfOk, OnOk};
-ghost use Rattle.std.specs.Prelude.{unsigned_abs};
+//! begins before it. The dates of exchanges, and the sign where the notional changes at a step, are our
+//! rules: the payer pays what the notional falls by, and receives what it rises by.
+ghost use Rattle.std.specs.Prelude.{◌≡◌, ◌-◌, ◌^◌, ◌≤◌, ◌++◌, ℤ, pos, ◌<ℤ◌, ◌≤ℤ◌, IfOk, OnOk, unsigned_abs};
 ghost use Rattle.irs_base.specs.Rounding.{Rounded};
 ghost use Rattle.irs_base.specs.declared.rounding.Direction.TheVariants.{Nearest};
 ghost use Rattle.irs_base.specs.declared.places.Fault.{Fault};
-ghost use Rattle.irs_base.specs.Faults.{IfBroken};
-ghost use Rattle.irs_base.specs.Order.{First, comes_before};
+ghost use Rattle.irs_base.specs.Outcomes.{Determined, IfMemory, Meets};
 ghost use Rattle.irs_terms.specs.Lawful.{IsLawfulStream, IsLawfulValues, IsNotional};
 ghost use Rattle.irs_base.specs.Limits.{most_notional};
-ghost use Rattle.irs_terms.specs.declared.results.Exchange.{Exchange};
+ghost use Rattle.irs_adjust.specs.Codes.{Adjusts};
 ghost use Rattle.irs_payments.specs.Exchanges.{initial_of, change, changes, intermediate_of, last_value, final_of};
 ghost use Rattle.irs_payments.specs.Exchanges.{transfers_of, AreExchanges, BreaksExchanges};
+ghost use Rattle.irs_payments.specs.Outcomes.{principals_of};
 
 use crate::PayErr;
-use crate::faults::fault;
+use crate::exchange_dates::{check_dates, is_change};
 use irs_adjust::adjust_by;
-use irs_base::{Day, Dec, Direction, Elem, Memory, Rule, round};
+use irs_base::{Day, Dec, Direction, Memory, round};
 use irs_calendar::GoodDays;
 use irs_terms::{Exchange, Exchanges, Step, StepValues, Stream};
 use std::alloc::Global;
@@ -56,7 +54,7 @@ fn add_change(transfers: &mut Vec<Transfer>, before: i128, step: &Step) -> Resul
     requires value { IsNotional step.now.value }
     ensures { OnOk result (transfers.new.items ≡ transfers.old.items ++ change before step.now) }
 {
-    if step.value != before {
+    if is_change(before, step) {
         transfers.push(Transfer {
             date: step.day,
             amount: before - step.value,
@@ -108,7 +106,7 @@ fn add_final(transfers: &mut Vec<Transfer>, s: &Stream) -> Result<(), Memory>
     Ok(())
 }
 
-// The exchanges at the steps, where they are asked for.
+// The exchanges at the steps, where there are intermediate exchanges.
 fn add_intermediate(transfers: &mut Vec<Transfer>, s: &Stream) -> Result<(), Memory>
     requires { IsLawfulStream s.now }
     ensures { OnOk result (transfers.new.items ≡ transfers.old.items ++ intermediate_of s.now) }
@@ -160,72 +158,67 @@ fn rounded_amount(amount: i128, places: u8) -> Dec
     }
 }
 
+// The adjusted date of an exchange that has one.
+fn adjusted_date<G: GoodDays>(s: &Stream, days: &G, date: Day) -> Day
+    requires { ((r : ℤ) → Adjusts s.now.pay.adj.code (G.days days.now) date r → ⊥) → ⊥ }
+    ensures { Adjusts s.now.pay.adj.code (G.days days.now) date result }
+{
+    match adjust_by(s.pay.adj.code, days, date) {
+        Some(adjusted) => adjusted,
+        None => unreachable!(),
+    }
+}
+
 // The exchanges of these transfers, each on its adjusted date with its rounded amount.
-fn exchanges_of<G: GoodDays>(
+fn list_exchanges<G: GoodDays>(
     alloc: Global,
     s: &Stream,
     transfers: &[Transfer],
     days: &G,
-) -> Result<Exchanges, PayErr>
+) -> Result<Exchanges, Memory>
     requires lawful { IsLawfulStream s.now }
     requires transfers { transfers.now ≡ transfers_of s.now }
-    requires few { length transfers.now < 2 ^ 32 }
-    ensures ok { IfOk result (AreExchanges s.now (G.days days.now)) }
-    ensures unbroken { IfOk result (λ _. (f : Fault) → BreaksExchanges s.now (G.days days.now) f → ⊥) }
-    ensures broken { IfBroken result (First comes_before (BreaksExchanges s.now (G.days days.now))) }
+    requires dated { (f : Fault) → BreaksExchanges s.now (G.days days.now) f → ⊥ }
+    ensures { IfOk result (AreExchanges s.now (G.days days.now)) }
 {
     let places = s.currency.places();
     let mut list = Exchanges::new(alloc);
-    for (i, transfer) in transfers.iter().enumerate() {
-        let Some(adjusted) = adjust_by(s.pay.adj.code, days, transfer.date) else {
-            return Err(PayErr::Broken(fault(Rule::K33, Elem::PRINCIPAL_EXCHANGES, i + 1)));
-        };
+    for transfer in transfers {
         list.push(Exchange {
             unadjusted: transfer.date,
-            adjusted,
+            adjusted: adjusted_date(s, days, transfer.date),
             amount: rounded_amount(transfer.amount, places),
         })?;
     }
     Ok(list)
 }
 
-// The exchanges of a stream.
-fn exchanges<G: GoodDays>(alloc: Global, s: &Stream, days: &G) -> Result<Exchanges, PayErr>
-    requires { IsLawfulStream s.now }
-    ensures ok { IfOk result (AreExchanges s.now (G.days days.now)) }
-    ensures unbroken { IfOk result (λ _. (f : Fault) → BreaksExchanges s.now (G.days days.now) f → ⊥) }
-    ensures broken { IfBroken result (First comes_before (BreaksExchanges s.now (G.days days.now))) }
-{
-    let transfers = transfers(alloc, s)?;
-    exchanges_of(alloc, s, &transfers, days)
-}
-
 /// The principal exchanges of a stream, in order: the initial one at the effective date, one at each
 /// step of the notional that changes it, and the final one at the termination date, each part where
-/// its flag is true. The adjusted date is the date adjusted by `paymentDatesAdjustments`, whose days
-/// are handed in; the amount, with its sign, is rounded Nearest to the decimals of the currency.
+/// its flag is true. The adjusted date is the date adjusted by `paymentDatesAdjustments`, whose good
+/// days are `days`; the amount, with its sign, is rounded Nearest to the decimals of the currency.
 ///
-/// `Broken` is K33 of the first exchange whose date has no adjusted day, with its number from 1;
-/// `Memory` comes where memory ran out.
+/// `Broken` is K33 of the first exchange whose date has no adjusted day, with its number from 1. It is
+/// reported also where memory runs out.
 pub fn principals<G: GoodDays>(alloc: Global, s: &Stream, days: &G) -> Result<Exchanges, PayErr>
     requires { IsLawfulStream s.now }
-    ensures ok { IfOk result (AreExchanges s.now (G.days days.now)) }
-    ensures unbroken { IfOk result (λ _. (f : Fault) → BreaksExchanges s.now (G.days days.now) f → ⊥) }
-    ensures broken { IfBroken result (First comes_before (BreaksExchanges s.now (G.days days.now))) }
-    // An exchange is the first without an adjusted day, or each has one.
-    ensures decided { ((f : Fault) × First comes_before (BreaksExchanges s.now (G.days days.now)) f) ⊎
-        ((f : Fault) → BreaksExchanges s.now (G.days days.now) f → ⊥) }
-    // Where each has one there is a list of exchanges.
-    ensures exists { ((f : Fault) → BreaksExchanges s.now (G.days days.now) f → ⊥) →
-        (xs : List Exchange) × AreExchanges s.now (G.days days.now) xs }
-    // A stream has at most one list of exchanges.
-    ensures one { (xs ys : List Exchange) → AreExchanges s.now (G.days days.now) xs →
-        AreExchanges s.now (G.days days.now) ys → xs ≡ ys }
-    // At most one exchange is the first without an adjusted day.
-    ensures one_broken { (f g : Fault) → First comes_before (BreaksExchanges s.now (G.days days.now)) f →
-        First comes_before (BreaksExchanges s.now (G.days days.now)) g → f ≡ g }
+    ensures meets { Meets (principals_of s.now (G.days days.now)) result }
+    // Running out of memory hides no broken rule.
+    ensures memory { IfMemory result ((f : Fault) → BreaksExchanges s.now (G.days days.now) f → ⊥) }
+{
+    if let Err(missing) = check_dates(s, days) {
+        return Err(PayErr::Broken(missing));
+    }
+    let transfers = transfers(alloc, s)?;
+    Ok(list_exchanges(alloc, s, &transfers, days)?)
+}
+
+/// A law: a stream has one list of principal exchanges, or one first exchange whose date has no
+/// adjusted day.
+pub fn principals_are_determined<G: GoodDays>(s: &Stream, days: &G)
+    requires { IsLawfulStream s.now }
+    ensures { Determined (principals_of s.now (G.days days.now)) }
 {
     // hands the prover that the days of the cover are in the range of dates
     let _cover = days.cover();
-    exchanges(alloc, s, days)
 }

@@ -2,14 +2,13 @@
 //! `lastRegularPaymentDate`): a payment is due at each boundary of calculation periods that is on
 //! the grid of the payment frequency, and at the termination date.
 //!
-//! The anchor of that grid is a rule of this project's own: the first payment date where it is
-//! given; else the end of the first calculation period where there is a payment for each period;
-//! else the first day of the first calculation period, which may be before the effective date. The
-//! anchor need not be a roll day.
-ghost use Rattle.std.specs.Prelude.{◌≡◌, ◌↔◌, ◌<◌, ◌<ℤ◌, ◌≤ℤ◌, IsTrue, IfSome, IfOk, IfErr, length};
+//! The anchor of that grid is our rule: the first payment date where it is given; else the end of the
+//! first calculation period where there is a payment for each period; else the first day of the first
+//! calculation period, which may be before the effective date. The anchor need not be a roll day.
+ghost use Rattle.std.specs.Prelude.{◌≡◌, ◌↔◌, ◌<◌, ◌<ℤ◌, ◌≤ℤ◌, IsTrue, IfSome, length};
 ghost use Rattle.irs_base.specs.Listed.{Member, IsRising};
-ghost use Rattle.irs_base.specs.declared.places.Fault.{Fault};
-ghost use Rattle.irs_base.specs.Order.{First, comes_before};
+ghost use Rattle.irs_base.specs.Order.{comes_before};
+ghost use Rattle.irs_base.specs.Outcomes.{MeetsExactly, unbroken};
 ghost use Rattle.irs_terms.specs.FirstDay.{first_day_of};
 ghost use Rattle.irs_terms.specs.Lawful.{IsLawfulStream, IsLawfulFrequency, IsLawfulRoll};
 ghost use Rattle.irs_roll.specs.Rolls.{OnGrid};
@@ -137,8 +136,7 @@ pub fn check_grouping(s: &Stream, boundaries: &[Day]) -> Result<(), Fault>
     requires lawful { IsLawfulStream s.now }
     requires rising { IsRising boundaries.now }
     requires some { 1 < length boundaries.now }
-    ensures unbroken { IfOk result (λ _. (f : Fault) → BreaksGrouping s.now boundaries.now f → ⊥) }
-    ensures broken { IfErr result (First comes_before (BreaksGrouping s.now boundaries.now)) }
+    ensures { MeetsExactly (unbroken comes_before (BreaksGrouping s.now boundaries.now)) result }
 {
     if is_bad_first(s, boundaries) {
         return Err(fault(Rule::K35, Elem::FIRST_PAYMENT_DATE, 0));

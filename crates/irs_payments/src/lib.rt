@@ -4,6 +4,7 @@
 mod cuts;
 mod dating;
 mod error;
+mod exchange_dates;
 mod exchanges;
 mod faults;
 mod grouping;
@@ -11,6 +12,6 @@ mod payment_list;
 mod steps;
 
 pub use error::PayErr;
-pub use exchanges::principals;
-pub use payment_list::payments;
-pub use steps::check_steps;
+pub use exchanges::{principals, principals_are_determined};
+pub use payment_list::{payments, payments_are_determined, payments_cover_all_periods};
+pub use steps::{check_steps, steps_are_determined};

@@ -1,18 +1,18 @@
 //! The payments of a stream in order. A rule that is broken by any of them is K33 before K38, and
 //! under each the first payment.
-ghost use Rattle.std.specs.Prelude.{◌≡◌, ◌⊎◌, ℕ, ◌+◌, ◌-◌, ◌^◌, ◌<◌, ◌<ℤ◌, List, length, IfOk, IsErrOf, Err};
+ghost use Rattle.std.specs.Prelude.{◌≡◌, ◌+◌, ◌-◌, ◌^◌, ◌<◌, ◌<ℤ◌, List, length, IfOk, Err};
 ghost use Rattle.irs_base.specs.Elements.{payment_dates};
 ghost use Rattle.irs_base.specs.declared.places.Rule.TheVariants.{K33};
 ghost use Rattle.irs_base.specs.declared.places.Fault.{Fault};
-ghost use Rattle.irs_base.specs.declared.stopped.Stopped.TheVariants.{Memory as OfMemory};
 ghost use Rattle.irs_base.specs.Faults.{fault_at, IfBroken};
-ghost use Rattle.irs_base.specs.Order.{First, comes_before};
+ghost use Rattle.irs_base.specs.Outcomes.{Determined, IfMemory, Meets};
 ghost use Rattle.irs_terms.specs.FirstDay.{first_day_of};
 ghost use Rattle.irs_terms.specs.Lawful.{IsLawfulStream};
-ghost use Rattle.irs_terms.specs.declared.results.Payment.{Payment};
 ghost use Rattle.irs_payments.specs.Grouping.{BreaksGrouping};
-ghost use Rattle.irs_payments.specs.Payments.{ArePayments, Covers, BreaksPayments};
-ghost use Rattle.irs_payments.specs.Dating.{IsOutcome, Settles, earliest, ArePaid, NoneLacks, IsDateFault};
+ghost use Rattle.irs_payments.specs.Dating.{IsOutcome, Settles, earliest, paid_at};
+ghost use Rattle.irs_payments.specs.Outcomes.{payments_of};
+ghost use Rattle.irs_payments.specs.Payments.{ArePayments, Covers};
+ghost use Rattle.irs_terms.specs.declared.results.Payment.{Payment};
 ghost use Rattle.irs_payments.specs.Places.{ArePlaces};
 ghost use Rattle.irs_terms.specs.DayTypes.{IsSaid};
 ghost use Rattle.irs_base.specs.Listed.{RunsFromTo};
@@ -67,8 +67,8 @@ fn earliest(beyond: Option<usize>, number: usize) -> Option<usize>
     }
 }
 
-// Puts the payment with that number to the others. One that leaves the range is kept in mind until
-// it is known that none lacks a result.
+// Adds the payment with that number to the others. An out-of-range date (K38) is remembered, since a
+// later K33 takes precedence.
 fn settle(
     list: &mut Payments,
     beyond: Option<usize>,
@@ -89,7 +89,7 @@ fn settle(
     }
 }
 
-// The payments, one for each place behind the first.
+// The payments, one for each place after the first.
 fn payments_at<G: GoodDays>(
     alloc: Global,
     s: &Stream,
@@ -104,11 +104,7 @@ fn payments_at<G: GoodDays>(
     requires few { length unadjusted.now < 2 ^ 32 }
     requires some { 0 < length places.now }
     requires short { length places.now < 2 ^ 32 }
-    ensures paid { IfOk result
-        (ArePaid s.now (G.days days.now) unadjusted.now adjusted.now places.now (length places.now)) }
-    ensures unbroken { IfOk result (λ _.
-        NoneLacks s.now (G.days days.now) adjusted.now places.now (length places.now)) }
-    ensures broken { IfBroken result (λ f. (n : ℕ) × IsDateFault s.now (G.days days.now) adjusted.now places.now n f) }
+    ensures { Meets (paid_at s.now (G.days days.now) unadjusted.now adjusted.now places.now) result }
 {
     let mut list = Payments::new(alloc);
     let mut beyond = None;
@@ -122,47 +118,18 @@ fn payments_at<G: GoodDays>(
     }
 }
 
-// The payments over lists of days.
-fn payments_over<G: GoodDays>(
-    alloc: Global,
-    s: &Stream,
-    unadjusted: &[Day],
-    adjusted: &[Day],
-    days: &G,
-) -> Result<Payments, PayErr>
-    requires lawful { IsLawfulStream s.now }
-    requires term { first_day_of s.now <ℤ s.now.termination.day }
-    requires said { IsSaid s.now.pay.offset }
-    requires boundaries { RunsFromTo (first_day_of s.now) s.now.termination.day unadjusted.now }
-    requires adjusted { length adjusted.now ≡ length unadjusted.now }
-    requires few { length unadjusted.now < 2 ^ 32 }
-    ensures ok { IfOk result (ArePayments s.now (G.days days.now) unadjusted.now adjusted.now) }
-    ensures covers { IfOk result (λ ps. Covers 1 ps (length unadjusted.now - 1)) }
-    ensures unbroken { IfOk result (λ _. (f : Fault) →
-        BreaksPayments s.now (G.days days.now) unadjusted.now adjusted.now f → ⊥) }
-    ensures broken { IfBroken result (First comes_before
-        (BreaksPayments s.now (G.days days.now) unadjusted.now adjusted.now)) }
-    ensures memory { IsErrOf result OfMemory → (f : Fault) → BreaksGrouping s.now unadjusted.now f → ⊥ }
-{
-    if let Err(grouping) = check_grouping(s, unadjusted) {
-        return Err(PayErr::Broken(grouping));
-    }
-    let places = payment_places(alloc, s, unadjusted)?;
-    payments_at(alloc, s, unadjusted, adjusted, &places, days)
-}
-
 /// The payments of a stream, over the boundaries of its calculation periods and the adjusted ones.
 ///
 /// A payment period ends at each payment boundary: at the termination date, and at each boundary on
 /// the grid of the payment frequency that isn't before `firstPaymentDate` nor after
 /// `lastRegularPaymentDate`. Its unadjusted date is its end, or its start under
 /// `CalculationPeriodStartDate`; the adjusted date is worked out from the adjusted boundary at that
-/// place, moved by `paymentDaysOffset` and then adjusted by `paymentDatesAdjustments`, whose days are
-/// handed in.
+/// place, moved by `paymentDaysOffset` and then adjusted by `paymentDatesAdjustments`, whose good
+/// days are `days`.
 ///
 /// `Broken` is the first of K35 (`firstPaymentDate`, then `lastRegularPaymentDate`), then K33 and then
-/// K38 of the payment dates, whose index is the payment's number from 1. `Memory` comes where memory
-/// ran out, and then K35 isn't broken, since it is decided before memory is taken.
+/// K38 of the payment dates, whose index is the payment's number from 1. K35 is reported also where
+/// memory runs out, since it is decided before memory is taken.
 ///
 /// The conditions are those of the terms that make a list possible: the termination date is after the
 /// first day (K13: it is after the effective date, and a `firstPeriodStartDate` is before that), and
@@ -180,31 +147,50 @@ pub fn payments<G: GoodDays>(
     requires said { IsSaid s.now.pay.offset }
     requires boundaries { RunsFromTo (first_day_of s.now) s.now.termination.day unadjusted.now }
     requires adjusted { length adjusted.now ≡ length unadjusted.now }
-    ensures ok { IfOk result (ArePayments s.now (G.days days.now) unadjusted.now adjusted.now) }
-    // The payments cover the calculation periods in order, without a gap.
-    ensures covers { IfOk result (λ ps. Covers 1 ps (length unadjusted.now - 1)) }
-    ensures unbroken { IfOk result (λ _. (f : Fault) →
-        BreaksPayments s.now (G.days days.now) unadjusted.now adjusted.now f → ⊥) }
-    ensures broken { IfBroken result (First comes_before
-        (BreaksPayments s.now (G.days days.now) unadjusted.now adjusted.now)) }
-    // Want of memory hides no K35.
-    ensures memory { IsErrOf result OfMemory → (f : Fault) → BreaksGrouping s.now unadjusted.now f → ⊥ }
-    // A rule is the first that is broken, or none is broken.
-    ensures decided { ((f : Fault) ×
-        First comes_before (BreaksPayments s.now (G.days days.now) unadjusted.now adjusted.now) f) ⊎
-        ((f : Fault) → BreaksPayments s.now (G.days days.now) unadjusted.now adjusted.now f → ⊥) }
-    // Where none is broken there is a list of payments.
-    ensures exists { ((f : Fault) → BreaksPayments s.now (G.days days.now) unadjusted.now adjusted.now f → ⊥) →
-        (ps : List Payment) × ArePayments s.now (G.days days.now) unadjusted.now adjusted.now ps }
-    // Over the same boundaries there is at most one.
-    ensures one { (ps qs : List Payment) → ArePayments s.now (G.days days.now) unadjusted.now adjusted.now ps →
-        ArePayments s.now (G.days days.now) unadjusted.now adjusted.now qs → ps ≡ qs }
-    // At most one rule is the first that is broken.
-    ensures one_broken { (f g : Fault) →
-        First comes_before (BreaksPayments s.now (G.days days.now) unadjusted.now adjusted.now) f →
-        First comes_before (BreaksPayments s.now (G.days days.now) unadjusted.now adjusted.now) g → f ≡ g }
+    ensures meets { Meets (payments_of s.now (G.days days.now) unadjusted.now adjusted.now) result }
+    // Running out of memory hides no K35.
+    ensures memory { IfMemory result ((f : Fault) → BreaksGrouping s.now unadjusted.now f → ⊥) }
 {
-    // hands the prover that the days of the cover are in the range of dates
+    let boundaries = unadjusted.as_slice();
+    if let Err(grouping) = check_grouping(s, boundaries) {
+        return Err(PayErr::Broken(grouping));
+    }
+    let places = payment_places(alloc, s, boundaries)?;
+    payments_at(alloc, s, boundaries, adjusted.as_slice(), &places, days)
+}
+
+/// A law: the payments cover the calculation periods in order, without a gap.
+pub fn payments_cover_all_periods<G: GoodDays>(
+    s: &Stream,
+    unadjusted: &DayList,
+    adjusted: &DayList,
+    days: &G,
+)
+    requires lawful { IsLawfulStream s.now }
+    requires term { first_day_of s.now <ℤ s.now.termination.day }
+    requires boundaries { RunsFromTo (first_day_of s.now) s.now.termination.day unadjusted.now }
+    ensures { (ps : List Payment) → ArePayments s.now (G.days days.now) unadjusted.now adjusted.now ps →
+        Covers 1 ps (length unadjusted.now - 1) }
+{
+    // hands the prover the range of the boundaries
+    let _boundaries = unadjusted.as_slice();
+}
+
+/// A law: a stream has one list of payments over its boundaries, or one first rule that they break.
+pub fn payments_are_determined<G: GoodDays>(
+    s: &Stream,
+    unadjusted: &DayList,
+    adjusted: &DayList,
+    days: &G,
+)
+    requires lawful { IsLawfulStream s.now }
+    requires said { IsSaid s.now.pay.offset }
+    requires boundaries { RunsFromTo (first_day_of s.now) s.now.termination.day unadjusted.now }
+    requires adjusted { length adjusted.now ≡ length unadjusted.now }
+    ensures { Determined (payments_of s.now (G.days days.now) unadjusted.now adjusted.now) }
+{
+    // hands the prover the range of the good days and of the boundaries
     let _cover = days.cover();
-    payments_over(alloc, s, unadjusted.as_slice(), adjusted.as_slice(), days)
+    let _boundaries = unadjusted.as_slice();
+    let _adjusted = adjusted.as_slice();
 }

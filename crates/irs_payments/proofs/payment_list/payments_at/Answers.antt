@@ -1,7 +1,7 @@
 use Rattle.std.proofs.Common.{◌≡◌, ℕ, arith, length, subst, Option}
 use Rattle.std.proofs.lemmas.Result.{err_from_is_err_and}
 use Rattle.irs_base.proofs.HandedAnswers.{handed_on}
-use Rattle.irs_payments.specs.Dating.{Dated, ArePaid, IsDateFault}
+use Rattle.irs_payments.specs.Dating.{Dated, ArePaid, IsDateFault, NoneLacks}
 use Rattle.irs_payments.proofs.DateLemmas.{dated_more, lacks_more, none_dated, lacking_breaks}
 use Rattle.irs_payments.proofs.payment_list.payments_at.Goals as goal
 
@@ -28,8 +28,8 @@ loop-j-preserved g c =
           c.payment-payment.result _ _ _ _ c.payment-payment.ensures c.loop-j.invariant.none settles;
     }
 
-pub returns-in-None-clause-paid : goal.returns-in-None-clause-paid
-returns-in-None-clause-paid g c =
+pub returns-in-None : goal.returns-in-None
+returns-in-None g c =
     let s = c.args.s.now in
     let set = g.G.GoodDays.days c.args.days.now in
     let b = c.args.unadjusted.now in
@@ -38,11 +38,13 @@ returns-in-None-clause-paid g c =
     let whole : c.loop-j.j ≡ length cuts = omega (arith, c.loop-j.auto.j-end c.requires.some, c.loop-j-test.false) in
     let dated : ArePaid s set b a cuts c.loop-j.j c.loop-j.list =
     subst (λ (o : Option ℕ). Dated s set b a cuts c.loop-j.j o c.loop-j.list) c.in-None.is
-    c.loop-j.invariant.dated in
-    subst (λ (k : ℕ). ArePaid s set b a cuts k c.loop-j.list) whole dated
+    c.loop-j.invariant.dated in (
+      subst (λ (k : ℕ). ArePaid s set b a cuts k c.loop-j.list) whole dated,
+      subst (λ (k : ℕ). NoneLacks s set a cuts k) whole c.loop-j.invariant.none,
+    )
 
-pub returns-in_err-beyond-clause-broken : goal.returns-in_err-beyond-clause-broken
-returns-in_err-beyond-clause-broken g c =
+pub returns-in_err-beyond : goal.returns-in_err-beyond
+returns-in_err-beyond g c =
     let s = c.args.s.now in
     let set = g.G.GoodDays.days c.args.days.now in
     let b = c.args.unadjusted.now in

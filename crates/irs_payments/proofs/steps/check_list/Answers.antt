@@ -9,8 +9,8 @@ use Rattle.irs_payments.specs.Steps.{IsOff, BreaksUnder}
 use Rattle.irs_payments.proofs.NumberLemmas.{none_in, first_in}
 use Rattle.irs_payments.proofs.steps.check_list.Goals as goal
 
-pub returns-then-not-has_day-clause-broken : goal.returns-then-not-has_day-clause-broken
-returns-then-not-has_day-clause-broken c =
+pub returns-then-not-has_day : goal.returns-then-not-has_day
+returns-then-not-has_day c =
     let b = c.args.boundaries.now in
     let steps = c.args.steps.now in
     let i = c.loop-i.i in
@@ -33,7 +33,7 @@ loop-i-preserved c =
     none_of_more (IsOff c.args.boundaries.now) steps i step at
     (λ off. off (c.has_day.ensures.0 c.if-not-has_day.false)) c.loop-i.invariant
 
-pub returns-clause-unbroken : goal.returns-clause-unbroken
-returns-clause-unbroken c =
+pub returns : goal.returns
+returns c =
     none_in K36 c.args.elem (IsOff c.args.boundaries.now) c.args.steps.now c.loop-i.i c.loop-i-test.false
     c.loop-i.invariant
