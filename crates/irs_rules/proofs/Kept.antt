@@ -1,10 +1,9 @@
--- A stream that breaks no rule of the terms keeps what the calls of a schedule ask of it.
+-- A stream that breaks no rule of the terms keeps what the calls of a schedule need.
 use Rattle.std.proofs.Common.{◌≡◌, inl, inr, ℕ, zero, suc, ◌+◌, ◌≤ℤ◌, ◌<ℤ◌, List, [], ◌∷◌, Option, Some, None, IfSome}
 use Rattle.std.proofs.Common.{slice_get, unwrap_or, ℤ, refl, subst}
 use Rattle.std.proofs.lemmas.Option.{slice_get_within, get_or_from_slice_get}
 use Rattle.irs_base.specs.declared.places.Rule.{Rule}
 use Rattle.irs_base.specs.declared.places.Rule.TheVariants.{K12, K13, K14, K17, K18, K19}
-use Rattle.irs_base.specs.declared.places.Broken.{Broken}
 use Rattle.irs_base.specs.declared.places.Fault.{Fault}
 use Rattle.irs_base.specs.Elements as elements
 use Rattle.irs_base.specs.Faults.{fault_at, in_stream}
@@ -31,8 +30,8 @@ use Rattle.irs_rules.specs.Centers.{AreFound, IsFoundAt, start_names}
 use Rattle.irs_rules.specs.Names.{BreaksK12}
 use Rattle.irs_rules.specs.Dates.{BreaksK13, BreaksK14}
 use Rattle.irs_rules.specs.Amounts.{BreaksK17, BreaksK18, BreaksK18InLeg, BreaksK19}
-use Rattle.irs_rules.specs.TermsKept.{TermsKept}
-use Rattle.irs_rules.specs.TermsRules.{BreaksStream, BreaksTerms}
+use Rattle.irs_rules.specs.TermsKept.{AllKept, TermsKept}
+use Rattle.irs_rules.specs.TermsRules.{BreaksNone, BreaksStream}
 use Rattle.irs_rules.proofs.Decisions.{holds, decides_both, decides_given, decides_less, decides_upto, decides_said}
 use Rattle.irs_rules.proofs.Decisions.{decides_said_fixing, decides_resets, decides_stubs, decides_found}
 use Rattle.irs_rules.proofs.Decisions.{frequency_holds, stands_holds}
@@ -195,8 +194,7 @@ lawful_stream swap lawful i s there =
     (lawful.2 i s (slice_get_within swap.streams i s there))
 
 -- each stream of a lawful swap that breaks no rule of the terms keeps them
-pub terms_kept : (swap : Swap) (cal : List Section) → IsLawful swap → ((f : Broken) → BreaksTerms swap cal f → ⊥)
-    → (i : ℕ) (s : Stream) → slice_get swap.streams i ≡ Some s → TermsKept cal s
+pub terms_kept : (swap : Swap) (cal : List Section) → IsLawful swap → BreaksNone swap cal → AllKept swap cal
 terms_kept swap cal lawful never i s there =
     stream_keeps cal s (lawful_stream swap lawful i s there)
     (λ f h. never (in_stream (i + 1) f) (record {

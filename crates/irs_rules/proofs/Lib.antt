@@ -4,3 +4,4 @@ pub mod Streams
 pub mod Decisions
 pub mod Names
 pub mod Kept
+pub mod Outcomes

@@ -1,4 +1,4 @@
--- The names of the centres that an element of lawful terms asks.
+-- The names of the centres that an element of lawful terms needs.
 use Rattle.std.proofs.Common.{◌≡◌, ℕ, Bool, true, false, List, Option, Some, None, IfSome, subst}
 use Rattle.irs_base.specs.declared.places.Rule.TheVariants.{K12}
 use Rattle.irs_calendar.specs.declared.sections.Section.{Section}
@@ -11,7 +11,7 @@ use Rattle.irs_terms.specs.Lawful.{IsLawfulCenters, IsLawfulFix, IsLawfulNames, 
 use Rattle.irs_terms.specs.Needs.{fixing_names, fixing_names_of, names_for}
 use Rattle.irs_rules.specs.Breaks.{BreaksItem}
 use Rattle.irs_rules.specs.Centers.{IsFoundAt}
-use Rattle.irs_rules.specs.Order.{IsFirstFault}
+use Rattle.irs_rules.specs.Order.{IsFirstHere}
 
 pub names_lawful : (needed : Bool) (centers : Centers) → IsLawfulCenters centers
     → IfSome (names_for needed centers) IsLawfulNames
@@ -32,7 +32,7 @@ fixing_lawful (Some terms) lawful = fixing_of_lawful terms.fixing lawful.fixing
 -- the first that isn't found, of names that are equal
 pub same_names : (elem : ℕ) (cal : List Section) (names others : Option (List (List ℕ))) (a : Option Fault)
     → names ≡ others
-    → IsFirstFault (BreaksItem K12 elem (IsFoundAt cal names)) a
-    → IsFirstFault (BreaksItem K12 elem (IsFoundAt cal others)) a
+    → IsFirstHere (BreaksItem K12 elem (IsFoundAt cal names)) a
+    → IsFirstHere (BreaksItem K12 elem (IsFoundAt cal others)) a
 same_names elem cal names others a same first =
-    subst (λ (o : Option (List (List ℕ))). IsFirstFault (BreaksItem K12 elem (IsFoundAt cal o)) a) same first
+    subst (λ (o : Option (List (List ℕ))). IsFirstHere (BreaksItem K12 elem (IsFoundAt cal o)) a) same first

@@ -8,13 +8,12 @@ use Rattle.irs_base.specs.declared.places.Broken.{Broken}
 use Rattle.irs_base.specs.declared.places.Fault.{Fault}
 use Rattle.irs_base.specs.Faults.{in_stream}
 use Rattle.irs_base.specs.Order.{First, IsFirst, is_before}
-use Rattle.irs_base.proofs.Firsts.{level_same, level_later, one_first}
-use Rattle.irs_base.proofs.FaultOrder.{broken_ties}
+use Rattle.irs_base.proofs.Firsts.{level_same, level_later}
 use Rattle.irs_calendar.specs.declared.sections.Section.{Section}
 use Rattle.irs_terms.specs.declared.stream.Stream.{Stream}
 use Rattle.irs_terms.specs.declared.stream_list.Swap.{Swap}
-use Rattle.irs_rules.specs.Order.{is_before_here, IsFirstFault}
-use Rattle.irs_rules.specs.TermsRules.{BreaksStream, BreaksTerms, IsFirstBroken}
+use Rattle.irs_rules.specs.Order.{is_before_here, IsFirstHere}
+use Rattle.irs_rules.specs.TermsRules.{BreaksStream, BreaksTerms}
 
 -- none of the first n streams breaks a rule
 abbrev pub NoStreamBelow : List Stream → List Section → ℕ → Type 0
@@ -60,16 +59,11 @@ module _ (swap : Swap) (cal : List Section) where
 -- one stream more breaks no rule
 pub no_stream_more : (streams : List Stream) (cal : List Section) (n : ℕ) (s : Stream) → slice_get streams n ≡ Some s
     → NoStreamBelow streams cal n
-    → IsFirstFault (BreaksStream cal s) None → NoStreamBelow streams cal (n + 1)
+    → IsFirstHere (BreaksStream cal s) None → NoStreamBelow streams cal (n + 1)
 no_stream_more streams cal n s found before never k less t there f breaks = elim (cases_lt k n) [
   | inl below ↦ before k below t there f breaks
-  | inr behind ↦
-      let same : k ≡ n = omega (arith, less, behind) in
+  | inr last ↦
+      let same : k ≡ n = omega (arith, less, last) in
       let here : t ≡ s = same_stream streams n k s t found there same in
       never f (subst (λ (u : Stream). BreaksStream cal u f) here breaks)
 ]
-
--- at most one rule is the first that a swap breaks
-pub one_first_broken : (swap : Swap) (cal : List Section) (f g : Broken) → IsFirstBroken swap cal f
-    → IsFirstBroken swap cal g → f ≡ g
-one_first_broken swap cal f g p q = one_first is_before broken_ties (BreaksTerms swap cal) f g p q

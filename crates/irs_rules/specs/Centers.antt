@@ -16,7 +16,7 @@ abbrev pub AreFound : List Section → Option (List (List ℕ)) → Type 0
 AreFound cal None = Unit {0}
 AreFound cal (Some names) = first_missing cal 1 names ≡ None
 
--- the names by which a given firstPeriodStartDate has its good days
+-- the centres of a given firstPeriodStartDate, where its adjustments need business days
 abbrev pub start_names : Option AdjustableDate → Option (List (List ℕ))
 start_names None = None
 start_names (Some date) = names_by date.adj

@@ -1,5 +1,5 @@
 -- K13 to K16: the dates of the term are in order, frequencies suit each other and the roll, and regular
--- payment dates stand where they can.
+-- payment dates are where they may be.
 use Rattle.std.specs.Prelude.{◌≡◌, ◌⊎◌, None}
 use Rattle.irs_base.specs.Elements as elements
 use Rattle.irs_base.specs.declared.places.Fault.{Fault}
@@ -19,7 +19,7 @@ BreaksK13 s f =
     ⊎ (Breaks K13 elements.first_regular_period_start_date (FirstRegularInside s) f
     ⊎ Breaks K13 elements.last_regular_period_end_date (LastRegularInside s) f))
 
--- the frequency counts once, and no regular date is given: what the term asks as the calculation frequency
+-- the frequency counts once, and no regular date is given: what the term needs as the calculation frequency
 abbrev pub IsTermAlone : Stream → Type 0
 IsTermAlone s = (s.freq.count ≡ 1) × (s.first_regular ≡ None) × (s.last_regular ≡ None)
 
@@ -31,7 +31,7 @@ BreaksK14 s f = Breaks K14 elements.calculation_period_frequency (FrequencySuits
 abbrev pub BreaksK15 : Stream → Fault → Type 0
 BreaksK15 s f = Breaks K15 elements.payment_frequency (PaymentSuits s) f
 
--- K16: the first or the last regular payment date can't stand there, or the first one lacks; place: that date
+-- K16: the first or the last regular payment date may not be there, or the first one is missing; place: that date
 abbrev pub BreaksK16 : Stream → Fault → Type 0
 BreaksK16 s f =
     Breaks K16 elements.first_payment_date (FirstPaymentStands s) f

@@ -6,3 +6,4 @@ pub mod Dates
 pub mod Amounts
 pub mod TermsRules
 pub mod TermsKept
+pub mod Outcomes

@@ -50,8 +50,8 @@ BreaksK11InResets r f =
     Breaks K11 elements.fixing_dates (FixingHasCenters r.fixing) f
     ⊎ Breaks K11 elements.reset_dates_adjustments (HasCentersBy r.adj) f
 
--- K11: an element needs days and has no centres; place: its adjustments. The effective date's are asked also where no
--- date is adjusted by them, as a firstPeriodStartDate is given
+-- K11: an element needs days and has no centres; place: its adjustments. The rule applies to the effective
+-- date also where no date is adjusted by its adjustments, as a firstPeriodStartDate is given
 abbrev pub BreaksK11 : Stream → Fault → Type 0
 BreaksK11 s f =
     Breaks K11 elements.effective_date_adjustments (HasCentersBy s.effective.adj) f
@@ -62,7 +62,7 @@ BreaksK11 s f =
     ⊎ IsSomeAnd s.reset (λ r. BreaksK11InResets r f)))))
 
 -- K12: an element needs days and a centre of it is in no calendar; place: its adjustments, with the centre's position.
--- The effective date's are asked also where a firstPeriodStartDate is given
+-- The rule applies to the effective date also where a firstPeriodStartDate is given
 abbrev pub BreaksK12 : List Section → Stream → Fault → Type 0
 BreaksK12 cal s f =
     BreaksItem K12 elements.effective_date_adjustments (IsFoundAt cal (names_by s.effective.adj)) f

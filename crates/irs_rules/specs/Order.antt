@@ -9,5 +9,5 @@ abbrev pub is_before_here : Fault → Fault → Bool
 is_before_here f g = is_before_in (in_stream 1 f) (in_stream 1 g)
 
 -- the first rule of those that a stream breaks, and None where it breaks none
-abbrev pub IsFirstFault : (Fault → Type 0) → Option Fault → Type 0
-IsFirstFault Broken a = IsFirst is_before_here Broken a
+abbrev pub IsFirstHere : (Fault → Type 0) → Option Fault → Type 0
+IsFirstHere Broken a = IsFirst is_before_here Broken a

@@ -29,6 +29,6 @@ pub record TermsKept (cal : List Section) (s : Stream) : Type 0 where
   pub reset_found : AreFound cal (reset_names s.reset)
   pub fixing_found : AreFound cal (fixing_names s.reset)
 
--- each stream of the swap keeps them
+-- each stream of the swap keeps what its terms keep
 abbrev pub AllKept : Swap → List Section → Type 0
 AllKept swap cal = (i : ℕ) (s : Stream) → slice_get swap.streams i ≡ Some s → TermsKept cal s

@@ -1,9 +1,9 @@
 -- The rules of a swap's terms, K10 to K21, together.
-use Rattle.std.specs.Prelude.{◌≡◌, ◌⊎◌, ℕ, ◌+◌, List, Option, Some, slice_get}
+use Rattle.std.specs.Prelude.{◌≡◌, ◌⊎◌, ℕ, ◌+◌, List, Some, slice_get}
 use Rattle.irs_base.specs.declared.places.Broken.{Broken}
 use Rattle.irs_base.specs.declared.places.Fault.{Fault}
 use Rattle.irs_base.specs.Faults.{in_stream}
-use Rattle.irs_base.specs.Order.{First, IsFirst, is_before}
+use Rattle.irs_base.specs.Order.{First, is_before}
 use Rattle.irs_calendar.specs.declared.sections.Section.{Section}
 use Rattle.irs_terms.specs.declared.stream.Stream.{Stream}
 use Rattle.irs_terms.specs.declared.stream_list.Swap.{Swap}
@@ -11,7 +11,7 @@ use Rattle.irs_rules.specs.Names.{BreaksK10, BreaksK11, BreaksK12}
 use Rattle.irs_rules.specs.Dates.{BreaksK13, BreaksK14, BreaksK15, BreaksK16}
 use Rattle.irs_rules.specs.Amounts.{BreaksK17, BreaksK18, BreaksK19, BreaksK20, BreaksK21}
 
--- of references and centres; K12 alone asks the calendars
+-- of references and centres; K12 alone depends on the calendars
 abbrev pub BreaksNames : List Section → Stream → Fault → Type 0
 BreaksNames cal s f = BreaksK10 s f ⊎ (BreaksK11 s f ⊎ BreaksK12 cal s f)
 
@@ -44,7 +44,3 @@ IsFirstBroken swap cal f = First is_before (BreaksTerms swap cal) f
 -- the swap breaks no rule of the terms
 abbrev pub BreaksNone : Swap → List Section → Type 0
 BreaksNone swap cal = (f : Broken) → BreaksTerms swap cal f → ⊥
-
--- the answer is the first that is broken, and None where none is
-abbrev pub IsTermsAnswer : Swap → List Section → Option Broken → Type 0
-IsTermsAnswer swap cal answer = IsFirst is_before (BreaksTerms swap cal) answer

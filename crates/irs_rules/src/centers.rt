@@ -1,11 +1,11 @@
-//! K11: an element that needs business days has centres. Reset dates are asked whether or not the
-//! stream floats, and the effective date whether or not the first period starts before it.
+//! K11: an element that needs business days has centres. It applies to reset dates whether or not the
+//! stream floats, and to the effective date whether or not the first period starts before it.
 ghost use Rattle.std.specs.Prelude.{◌↔◌, IsTrue, IsSomeAnd};
 ghost use Rattle.irs_base.specs.Elements.{first_period_start_adjustments, fixing_dates};
 ghost use Rattle.irs_base.specs.declared.places.Rule.TheVariants.{K11};
 ghost use Rattle.irs_terms.specs.Centers.{FixingHasCenters, HasCenters, HasCentersBy, HasCentersFor, HasCentersWith};
 ghost use Rattle.irs_terms.specs.Centers.{StartHasCenters};
-ghost use Rattle.irs_rules.specs.Order.{IsFirstFault};
+ghost use Rattle.irs_rules.specs.Order.{IsFirstHere};
 ghost use Rattle.irs_rules.specs.Breaks.{Breaks};
 ghost use Rattle.irs_rules.specs.Names.{BreaksK11, BreaksK11InResets};
 
@@ -18,7 +18,7 @@ use irs_terms::{
 
 /// K11: the first adjustments of a stream that need days and have no centres.
 pub(crate) fn element_without_centers(s: &Stream) -> Option<Fault>
-    ensures { IsFirstFault (BreaksK11 s.now) result }
+    ensures { IsFirstHere (BreaksK11 s.now) result }
 {
     let effective = lacking(&s.effective.adj, Elem::EFFECTIVE_DATE_ADJUSTMENTS);
     let termination = lacking(&s.termination.adj, Elem::TERMINATION_DATE_ADJUSTMENTS);
@@ -26,12 +26,12 @@ pub(crate) fn element_without_centers(s: &Stream) -> Option<Fault>
     let first = lacking_in_first_start(&s.first_start);
     let payments = lacking_with(s.pay.offset, &s.pay.adj, Elem::PAYMENT_DATES_ADJUSTMENTS);
     let resets = lacking_in_given_resets(&s.reset);
-    let behind = earlier(first, earlier(payments, resets));
-    earlier(effective, earlier(termination, earlier(periods, behind)))
+    let later = earlier(first, earlier(payments, resets));
+    earlier(effective, earlier(termination, earlier(periods, later)))
 }
 
 fn lacking_in_first_start(first: &Option<AdjustableDate>) -> Option<Fault>
-    ensures { IsFirstFault (Breaks K11 first_period_start_adjustments (StartHasCenters first.now)) result }
+    ensures { IsFirstHere (Breaks K11 first_period_start_adjustments (StartHasCenters first.now)) result }
 {
     match first {
         None => None,
@@ -40,7 +40,7 @@ fn lacking_in_first_start(first: &Option<AdjustableDate>) -> Option<Fault>
 }
 
 fn lacking_in_given_resets(reset: &Option<ResetTerms>) -> Option<Fault>
-    ensures { IsFirstFault (λ f. IsSomeAnd reset.now (λ r. BreaksK11InResets r f)) result }
+    ensures { IsFirstHere (λ f. IsSomeAnd reset.now (λ r. BreaksK11InResets r f)) result }
 {
     match reset {
         None => None,
@@ -49,7 +49,7 @@ fn lacking_in_given_resets(reset: &Option<ResetTerms>) -> Option<Fault>
 }
 
 fn lacking_in_resets(reset: &ResetTerms) -> Option<Fault>
-    ensures { IsFirstFault (BreaksK11InResets reset.now) result }
+    ensures { IsFirstHere (BreaksK11InResets reset.now) result }
 {
     let fixing = lacking_in_fixing(&reset.fixing);
     let resets = lacking(&reset.adj, Elem::RESET_DATES_ADJUSTMENTS);
@@ -57,7 +57,7 @@ fn lacking_in_resets(reset: &ResetTerms) -> Option<Fault>
 }
 
 fn lacking_in_fixing(fixing: &Option<FixTerms>) -> Option<Fault>
-    ensures { IsFirstFault (Breaks K11 fixing_dates (FixingHasCenters fixing.now)) result }
+    ensures { IsFirstHere (Breaks K11 fixing_dates (FixingHasCenters fixing.now)) result }
 {
     match fixing {
         None => None,
@@ -66,14 +66,14 @@ fn lacking_in_fixing(fixing: &Option<FixTerms>) -> Option<Fault>
 }
 
 fn lacking(adj: &Adjustments, elem: Elem) -> Option<Fault>
-    ensures { IsFirstFault (Breaks K11 elem (HasCentersBy adj.now)) result }
+    ensures { IsFirstHere (Breaks K11 elem (HasCentersBy adj.now)) result }
 {
     let needed = adjusts_days(adj.code);
     fault_unless(has_centers_for(needed, &adj.centers), Rule::K11, elem)
 }
 
 fn lacking_with(offset: Offset, adj: &Adjustments, elem: Elem) -> Option<Fault>
-    ensures { IsFirstFault (Breaks K11 elem (HasCentersWith offset adj.now)) result }
+    ensures { IsFirstHere (Breaks K11 elem (HasCentersWith offset adj.now)) result }
 {
     let needed = adjusts_days(adj.code) || counts_days(offset);
     fault_unless(has_centers_for(needed, &adj.centers), Rule::K11, elem)

@@ -4,7 +4,7 @@
 ghost use Rattle.std.specs.Prelude.{◌≡◌, ◌↔◌, ◌≤ℤ◌, IsTrue, IfSome};
 ghost use Rattle.irs_terms.specs.TermDates.{EndsAfterStart, FirstRegularInside, LastRegularInside, StartsBefore};
 ghost use Rattle.irs_terms.specs.TermDates.{given_or};
-ghost use Rattle.irs_rules.specs.Order.{IsFirstFault};
+ghost use Rattle.irs_rules.specs.Order.{IsFirstHere};
 ghost use Rattle.irs_rules.specs.Dates.{BreaksK13};
 
 use crate::faults::{earlier, fault_unless};
@@ -13,7 +13,7 @@ use irs_terms::Stream;
 
 /// K13: the first date of a stream that is out of order.
 pub(crate) fn date_out_of_order(s: &Stream) -> Option<Fault>
-    ensures { IsFirstFault (BreaksK13 s.now) result }
+    ensures { IsFirstHere (BreaksK13 s.now) result }
 {
     let termination = fault_unless(ends_after_start(s), Rule::K13, Elem::TERMINATION_DATE);
     let start = fault_unless(starts_before(s), Rule::K13, Elem::FIRST_PERIOD_START_DATE);

@@ -2,7 +2,7 @@
 ghost use Rattle.std.specs.Prelude.{◌↔◌, IsTrue};
 ghost use Rattle.irs_terms.specs.DayTypes.{IsSaid, IsSaidFixing, IsSaidReset};
 ghost use Rattle.irs_terms.specs.declared.codes.DayKind.TheVariants.{Unsaid};
-ghost use Rattle.irs_rules.specs.Order.{IsFirstFault};
+ghost use Rattle.irs_rules.specs.Order.{IsFirstHere};
 ghost use Rattle.irs_rules.specs.Amounts.{BreaksK17};
 
 use crate::faults::{earlier, fault_unless};
@@ -11,7 +11,7 @@ use irs_terms::{DayKind, FixTerms, Offset, Stream};
 
 /// K17: the first offset of a stream that isn't 0 and has no `dayType`.
 pub(crate) fn offset_without_day_type(s: &Stream) -> Option<Fault>
-    ensures { IsFirstFault (BreaksK17 s.now) result }
+    ensures { IsFirstHere (BreaksK17 s.now) result }
 {
     let payment = fault_unless(is_said(s.pay.offset), Rule::K17, Elem::PAYMENT_DAYS_OFFSET);
     let fixing = fault_unless(is_said_reset(s), Rule::K17, Elem::FIXING_DATES);

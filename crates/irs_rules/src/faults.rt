@@ -1,16 +1,16 @@
 //! Rules that a stream breaks, and the first of several: the lower rule, then the earlier element in
-//! the order of the table of elements, then the lower index. The order is this project's own.
+//! the order of the table of elements, then the lower index. The order is our rule.
 ghost use Rattle.std.specs.Prelude.{◌≡◌, ◌+◌, ◌<◌, ◌^◌, ◌||◌, ◌&&◌, ◌==◌, nat_lt, IsTrue};
 ghost use Rattle.irs_base.specs.Faults.{fault_at};
 ghost use Rattle.irs_base.specs.Order.{earlier};
-ghost use Rattle.irs_rules.specs.Order.{is_before_here, IsFirstFault};
+ghost use Rattle.irs_rules.specs.Order.{is_before_here, IsFirstHere};
 ghost use Rattle.irs_rules.specs.Breaks.{Breaks};
 
 use irs_base::{Elem, Fault, Rule};
 
 /// The rule, broken at an element that isn't repeated, where it isn't kept.
 pub(crate) fn fault_unless(kept: bool, rule: Rule, elem: Elem) -> Option<Fault>
-    ensures { IsFirstFault (Breaks rule elem (IsTrue kept)) result }
+    ensures { IsFirstHere (Breaks rule elem (IsTrue kept)) result }
 {
     if kept {
         None
@@ -42,19 +42,20 @@ pub(crate) fn earlier(a: Option<Fault>, b: Option<Fault>) -> Option<Fault>
     match (a, b) {
         (None, second) => second,
         (Some(f), None) => Some(f),
-        (Some(f), Some(g)) => Some(if comes_before(&g, &f) { g } else { f }),
+        (Some(f), Some(g)) => Some(if is_before_here(&g, &f) { g } else { f }),
     }
 }
 
-fn comes_before(f: &Fault, g: &Fault) -> bool
+// The order within one stream. irs_base's order of a part of a stream has another level in front.
+fn is_before_here(f: &Fault, g: &Fault) -> bool
     ensures { result ≡ is_before_here f.now g.now }
 {
     let (rule, other) = (f.rule.number(), g.rule.number());
-    rule < other || (rule == other && stands_before(f, g))
+    rule < other || (rule == other && is_placed_before(f, g))
 }
 
-/// Whether the place of one is before that of the other.
-fn stands_before(f: &Fault, g: &Fault) -> bool
+// Whether the place of the first is before that of the second.
+fn is_placed_before(f: &Fault, g: &Fault) -> bool
     ensures { result ≡ nat_lt f.now.elem g.now.elem || (f.now.elem == g.now.elem && nat_lt f.now.index g.now.index) }
 {
     let (element, other) = (f.elem.place(), g.elem.place());

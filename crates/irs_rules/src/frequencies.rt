@@ -5,7 +5,7 @@ ghost use Rattle.irs_terms.specs.Frequencies.{HasWholePeriods, PaymentSuits, Res
 ghost use Rattle.irs_terms.specs.Lawful.{IsLawfulStream};
 ghost use Rattle.irs_terms.specs.Lengths.{IsPositive};
 ghost use Rattle.irs_terms.specs.Suiting.{FrequencySuits, IsTerm};
-ghost use Rattle.irs_rules.specs.Order.{IsFirstFault};
+ghost use Rattle.irs_rules.specs.Order.{IsFirstHere};
 ghost use Rattle.irs_rules.specs.Dates.{BreaksK14, BreaksK15, IsTermAlone};
 ghost use Rattle.irs_rules.specs.Amounts.{BreaksK20};
 
@@ -17,7 +17,7 @@ use irs_terms::{Length, Stream, Unit, suits};
 /// K14: the calculation frequency, where the roll doesn't suit it.
 pub(crate) fn roll_misfit(s: &Stream) -> Option<Fault>
     requires { IsLawfulStream s.now }
-    ensures { IsFirstFault (BreaksK14 s.now) result }
+    ensures { IsFirstHere (BreaksK14 s.now) result }
 {
     fault_unless(
         frequency_suits(s),
@@ -33,7 +33,7 @@ fn frequency_suits(s: &Stream) -> bool
     suits(s.freq, s.roll) && fits_term(s)
 }
 
-/// Whether the term, where it is the calculation frequency, stands once and alone.
+/// Whether the term, where it is the calculation frequency, counts once and has no regular dates.
 fn fits_term(s: &Stream) -> bool
     ensures { IsTrue result ↔ (IsTerm s.now.freq → IsTermAlone s.now) }
 {
@@ -49,7 +49,7 @@ fn is_term_alone(s: &Stream) -> bool
 /// K15: the payment frequency, where a payment doesn't have whole calculation periods.
 pub(crate) fn payment_misfit(s: &Stream) -> Option<Fault>
     requires { IsLawfulStream s.now }
-    ensures { IsFirstFault (BreaksK15 s.now) result }
+    ensures { IsFirstHere (BreaksK15 s.now) result }
 {
     fault_unless(payment_suits(s), Rule::K15, Elem::PAYMENT_FREQUENCY)
 }
@@ -76,7 +76,7 @@ fn has_whole_periods(pay: Length, calc: Length) -> bool
 
 /// K20: the reset frequency, where it isn't as long as the calculation frequency.
 pub(crate) fn reset_misfit(s: &Stream) -> Option<Fault>
-    ensures { IsFirstFault (BreaksK20 s.now) result }
+    ensures { IsFirstHere (BreaksK20 s.now) result }
 {
     fault_unless(reset_suits(s), Rule::K20, Elem::RESET_FREQUENCY)
 }

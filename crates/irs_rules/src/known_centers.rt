@@ -1,10 +1,10 @@
-//! K12: each centre whose good days an element asks stands in a calendar. An element that needs no
-//! days asks none.
+//! K12: each centre whose business days an element needs is in a calendar. It does not apply to an
+//! element that needs none.
 ghost use Rattle.std.specs.Prelude.{◌≡◌, ◌≤◌, IfSome, Some, length, option_copied};
 ghost use Rattle.irs_base.specs.Limits.{most_centers};
 ghost use Rattle.irs_base.specs.declared.places.Rule.TheVariants.{K12};
 ghost use Rattle.irs_terms.specs.Lawful.{IsLawfulStream, IsLawfulNames};
-ghost use Rattle.irs_rules.specs.Order.{IsFirstFault};
+ghost use Rattle.irs_rules.specs.Order.{IsFirstHere};
 ghost use Rattle.irs_rules.specs.Breaks.{BreaksItem};
 ghost use Rattle.irs_rules.specs.Centers.{IsFoundAt, start_names};
 ghost use Rattle.irs_rules.specs.Names.{BreaksK12};
@@ -17,7 +17,7 @@ use irs_terms::{AdjustableDate, Stream, fixing_names, names_by, names_with, rese
 /// K12: the first centre of a stream that is needed and in no calendar.
 pub(crate) fn center_in_no_calendar(s: &Stream, cal: &Calendars) -> Option<Fault>
     requires { IsLawfulStream s.now }
-    ensures { IsFirstFault (BreaksK12 cal.now s.now) result }
+    ensures { IsFirstHere (BreaksK12 cal.now s.now) result }
 {
     let effective = names_by(&s.effective.adj);
     let termination = names_by(&s.termination.adj);
@@ -33,12 +33,12 @@ pub(crate) fn center_in_no_calendar(s: &Stream, cal: &Calendars) -> Option<Fault
     let of_payments = unknown(cal, payments, Elem::PAYMENT_DATES_ADJUSTMENTS);
     let of_fixing = unknown(cal, fixing, Elem::FIXING_DATES);
     let of_resets = unknown(cal, resets, Elem::RESET_DATES_ADJUSTMENTS);
-    let behind = earlier(of_payments, earlier(of_fixing, of_resets));
+    let later = earlier(of_payments, earlier(of_fixing, of_resets));
     earlier(
         of_effective,
         earlier(
             of_termination,
-            earlier(of_periods, earlier(of_first, behind)),
+            earlier(of_periods, earlier(of_first, later)),
         ),
     )
 }
@@ -55,7 +55,7 @@ fn start_names(first: &Option<AdjustableDate>) -> Option<&Names>
 /// The first of the names that no calendar has.
 fn unknown(cal: &Calendars, names: Option<&Names>, elem: Elem) -> Option<Fault>
     requires { IfSome (option_copied names) IsLawfulNames }
-    ensures { IsFirstFault (BreaksItem K12 elem (IsFoundAt cal.now (option_copied names.entry))) result }
+    ensures { IsFirstHere (BreaksItem K12 elem (IsFoundAt cal.now (option_copied names.entry))) result }
 {
     match names {
         None => None,
@@ -65,7 +65,7 @@ fn unknown(cal: &Calendars, names: Option<&Names>, elem: Elem) -> Option<Fault>
 
 fn first_unknown(cal: &Calendars, names: &Names, elem: Elem) -> Option<Fault>
     requires { length names.now ≤ most_centers }
-    ensures { IsFirstFault (BreaksItem K12 elem (IsFoundAt cal.now (Some names.now))) result }
+    ensures { IsFirstHere (BreaksItem K12 elem (IsFoundAt cal.now (Some names.now))) result }
 {
     for (i, name) in names.as_slice().iter().enumerate() {
         if !cal.has_center(name) {

@@ -2,7 +2,7 @@
 //! compounding doesn't go with a fixed one, nor with ZeroInterestRateMethod.
 ghost use Rattle.std.specs.Prelude.{◌↔◌, IsTrue};
 ghost use Rattle.irs_terms.specs.Legs.{FitsCompounding, FitsResets, FitsStubs, MayCompound};
-ghost use Rattle.irs_rules.specs.Order.{IsFirstFault};
+ghost use Rattle.irs_rules.specs.Order.{IsFirstHere};
 ghost use Rattle.irs_rules.specs.Amounts.{BreaksK19, BreaksK21};
 
 use crate::faults::{earlier, fault_unless};
@@ -11,7 +11,7 @@ use irs_terms::{CompCode, Leg, ResetTerms, Stream, StubTerms, Treatment};
 
 /// K19: the first element that doesn't go with the rate of a stream, or that it lacks.
 pub(crate) fn element_of_other_leg(s: &Stream) -> Option<Fault>
-    ensures { IsFirstFault (BreaksK19 s.now) result }
+    ensures { IsFirstHere (BreaksK19 s.now) result }
 {
     let resets = fault_unless(fits_resets(&s.leg, &s.reset), Rule::K19, Elem::RESET_DATES);
     let stubs = fault_unless(fits_stubs(&s.leg, &s.stubs), Rule::K19, Elem::STUB_AMOUNT);
@@ -38,7 +38,7 @@ fn fits_stubs(leg: &Leg, stubs: &Option<StubTerms>) -> bool
 
 /// K21: the compounding of a stream whose rate may not compound.
 pub(crate) fn compounding_misfit(s: &Stream) -> Option<Fault>
-    ensures { IsFirstFault (BreaksK21 s.now) result }
+    ensures { IsFirstHere (BreaksK21 s.now) result }
 {
     fault_unless(fits_compounding(s), Rule::K21, Elem::COMPOUNDING_METHOD)
 }

@@ -14,4 +14,4 @@ mod references;
 mod step_dates;
 mod terms;
 
-pub use terms::check_terms;
+pub use terms::{check_terms, terms_are_determined};

@@ -1,4 +1,4 @@
-//! K16: where the first and the last regular payment date stand, and when a first one is needed.
+//! K16: where the first and the last regular payment date may be, and when a first one is needed.
 ghost use Rattle.std.specs.Prelude.{◌≤ℤ◌, ◌↔◌, IsTrue, IsSome, IfSome};
 ghost use Rattle.irs_terms.specs.Frequencies.{GroupsPeriods};
 ghost use Rattle.irs_terms.specs.Lawful.{IsLawfulStream};
@@ -6,7 +6,7 @@ ghost use Rattle.irs_terms.specs.Lengths.{IsPositive};
 ghost use Rattle.irs_terms.specs.PaymentDates.{AsksInitialStub, FirstPaymentStands, HasInitialKind, HasRegularPayments};
 ghost use Rattle.irs_terms.specs.PaymentDates.{IsFirstPayment, IsInitial, IsLastPayment, IsPaymentInside};
 ghost use Rattle.irs_terms.specs.PaymentDates.{LastPaymentStands, NeedsFirstPayment, StartsLater};
-ghost use Rattle.irs_rules.specs.Order.{IsFirstFault};
+ghost use Rattle.irs_rules.specs.Order.{IsFirstHere};
 ghost use Rattle.irs_rules.specs.Dates.{BreaksK16};
 
 use crate::faults::{earlier, fault_unless};
@@ -14,11 +14,11 @@ use crate::multiples::is_larger_multiple;
 use irs_base::{Day, Elem, Fault, Rule};
 use irs_terms::{Length, PayTerms, Relative, Stream, StubKind, Unit};
 
-/// K16: the first of the two regular payment dates that can't stand there, or the first one where
-/// it is needed and absent.
+/// K16: the first of the two regular payment dates that may not be there, or the first one where it
+/// is needed and absent.
 pub(crate) fn payment_date_misfit(s: &Stream) -> Option<Fault>
     requires { IsLawfulStream s.now }
-    ensures { IsFirstFault (BreaksK16 s.now) result }
+    ensures { IsFirstHere (BreaksK16 s.now) result }
 {
     let first = fault_unless(first_stands(s), Rule::K16, Elem::FIRST_PAYMENT_DATE);
     let last = fault_unless(last_stands(s), Rule::K16, Elem::LAST_REGULAR_PAYMENT_DATE);
@@ -110,7 +110,7 @@ fn last_stands(s: &Stream) -> bool
 fn is_last_payment(s: &Stream, last: Day) -> bool
     ensures { IsTrue result ↔ IsLastPayment s.now last }
 {
-    has_regular_payments(&s.pay) && is_payment_inside(s, last) && is_behind(s.pay.first, last)
+    has_regular_payments(&s.pay) && is_payment_inside(s, last) && is_from_first(s.pay.first, last)
 }
 
 fn has_regular_payments(pay: &PayTerms) -> bool
@@ -126,7 +126,7 @@ fn is_payment_inside(s: &Stream, day: Day) -> bool
 }
 
 /// Whether the last date isn't before the first, where there is one.
-fn is_behind(first: Option<Day>, last: Day) -> bool
+fn is_from_first(first: Option<Day>, last: Day) -> bool
     ensures { IsTrue result ↔ IfSome first (λ d. d ≤ℤ last) }
 {
     match first {

@@ -5,7 +5,7 @@ ghost use Rattle.irs_base.specs.Elements.{first_period_start_centers_reference, 
 ghost use Rattle.irs_base.specs.Elements.{stub_amount_reference};
 ghost use Rattle.irs_base.specs.declared.places.Rule.TheVariants.{K10};
 ghost use Rattle.irs_terms.specs.References.{FixingNamesOneList, NamesOneList, NamesTarget, StartNamesOneList};
-ghost use Rattle.irs_rules.specs.Order.{IsFirstFault};
+ghost use Rattle.irs_rules.specs.Order.{IsFirstHere};
 ghost use Rattle.irs_rules.specs.Breaks.{Breaks};
 ghost use Rattle.irs_rules.specs.Names.{BreaksK10, BreaksK10InPeriods, BreaksK10InPayments, BreaksK10InResets};
 
@@ -18,7 +18,7 @@ use irs_terms::{
 
 /// K10: the first reference of a stream that names no target, or more than one list of centres.
 pub(crate) fn dangling_reference(s: &Stream) -> Option<Fault>
-    ensures { IsFirstFault (BreaksK10 s.now) result }
+    ensures { IsFirstHere (BreaksK10 s.now) result }
 {
     earlier(
         in_periods(s),
@@ -30,7 +30,7 @@ pub(crate) fn dangling_reference(s: &Stream) -> Option<Fault>
 }
 
 fn in_periods(s: &Stream) -> Option<Fault>
-    ensures { IsFirstFault (BreaksK10InPeriods s.now) result }
+    ensures { IsFirstHere (BreaksK10InPeriods s.now) result }
 {
     let effective = list_of(&s.effective.adj, Elem::EFFECTIVE_DATE_CENTERS_REFERENCE);
     let termination = list_of(&s.termination.adj, Elem::TERMINATION_DATE_CENTERS_REFERENCE);
@@ -40,7 +40,7 @@ fn in_periods(s: &Stream) -> Option<Fault>
 }
 
 fn in_first_start(first: &Option<AdjustableDate>) -> Option<Fault>
-    ensures { IsFirstFault (Breaks K10 first_period_start_centers_reference (StartNamesOneList first.now)) result }
+    ensures { IsFirstHere (Breaks K10 first_period_start_centers_reference (StartNamesOneList first.now)) result }
 {
     match first {
         None => None,
@@ -49,7 +49,7 @@ fn in_first_start(first: &Option<AdjustableDate>) -> Option<Fault>
 }
 
 fn in_payments(pay: &PayTerms) -> Option<Fault>
-    ensures { IsFirstFault (BreaksK10InPayments pay.now) result }
+    ensures { IsFirstHere (BreaksK10InPayments pay.now) result }
 {
     let periods = target_of(pay.calc_ref, Elem::PAYMENT_DATES_REFERENCE);
     let centers = list_of(&pay.adj, Elem::PAYMENT_DATES_CENTERS_REFERENCE);
@@ -57,7 +57,7 @@ fn in_payments(pay: &PayTerms) -> Option<Fault>
 }
 
 fn in_given_resets(reset: &Option<ResetTerms>) -> Option<Fault>
-    ensures { IsFirstFault (λ f. IsSomeAnd reset.now (λ r. BreaksK10InResets r f)) result }
+    ensures { IsFirstHere (λ f. IsSomeAnd reset.now (λ r. BreaksK10InResets r f)) result }
 {
     match reset {
         None => None,
@@ -66,7 +66,7 @@ fn in_given_resets(reset: &Option<ResetTerms>) -> Option<Fault>
 }
 
 fn in_resets(reset: &ResetTerms) -> Option<Fault>
-    ensures { IsFirstFault (BreaksK10InResets reset.now) result }
+    ensures { IsFirstHere (BreaksK10InResets reset.now) result }
 {
     let periods = target_of(reset.calc_ref, Elem::RESET_DATES_REFERENCE);
     let fixing = in_fixing(&reset.fixing);
@@ -76,7 +76,7 @@ fn in_resets(reset: &ResetTerms) -> Option<Fault>
 }
 
 fn in_fixing(fixing: &Option<FixTerms>) -> Option<Fault>
-    ensures { IsFirstFault (Breaks K10 fixing_dates_centers_reference (FixingNamesOneList fixing.now)) result }
+    ensures { IsFirstHere (Breaks K10 fixing_dates_centers_reference (FixingNamesOneList fixing.now)) result }
 {
     match fixing {
         None => None,
@@ -85,7 +85,7 @@ fn in_fixing(fixing: &Option<FixTerms>) -> Option<Fault>
 }
 
 fn in_stubs(stubs: &Option<StubTerms>) -> Option<Fault>
-    ensures { IsFirstFault (Breaks K10 stub_amount_reference (IfSome stubs.now (λ t. NamesTarget t.calc_ref))) result }
+    ensures { IsFirstHere (Breaks K10 stub_amount_reference (IfSome stubs.now (λ t. NamesTarget t.calc_ref))) result }
 {
     match stubs {
         None => None,
@@ -95,7 +95,7 @@ fn in_stubs(stubs: &Option<StubTerms>) -> Option<Fault>
 
 /// The reference to a list of centres, where it names none or more than one.
 fn list_of(adj: &Adjustments, reference: Elem) -> Option<Fault>
-    ensures { IsFirstFault (Breaks K10 reference (NamesOneList adj.now.centers)) result }
+    ensures { IsFirstHere (Breaks K10 reference (NamesOneList adj.now.centers)) result }
 {
     fault_unless(names_one_list(&adj.centers), Rule::K10, reference)
 }
@@ -112,7 +112,7 @@ fn names_one_list(centers: &Centers) -> bool
 
 /// The reference, where it names no target.
 fn target_of(state: RefState, reference: Elem) -> Option<Fault>
-    ensures { IsFirstFault (Breaks K10 reference (NamesTarget state)) result }
+    ensures { IsFirstHere (Breaks K10 reference (NamesTarget state)) result }
 {
     fault_unless(names_target(state), Rule::K10, reference)
 }

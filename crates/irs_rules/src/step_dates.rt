@@ -5,7 +5,7 @@ ghost use Rattle.irs_base.specs.Limits.{most_steps};
 ghost use Rattle.irs_base.specs.declared.places.Rule.TheVariants.{K18};
 ghost use Rattle.irs_terms.specs.Lawful.{IsLawfulStream, IsLawfulLeg};
 ghost use Rattle.irs_terms.specs.StepDates.{IsStepInside, StepStands, step_before};
-ghost use Rattle.irs_rules.specs.Order.{IsFirstFault};
+ghost use Rattle.irs_rules.specs.Order.{IsFirstHere};
 ghost use Rattle.irs_rules.specs.Breaks.{BreaksItem};
 ghost use Rattle.irs_rules.specs.Amounts.{BreaksK18, BreaksK18InLeg};
 
@@ -16,7 +16,7 @@ use irs_terms::{Leg, Step, StepValues, Stream};
 /// K18: the first step of a stream whose date is out of order or outside the term.
 pub(crate) fn step_out_of_order(s: &Stream) -> Option<Fault>
     requires { IsLawfulStream s.now }
-    ensures { IsFirstFault (BreaksK18 s.now) result }
+    ensures { IsFirstHere (BreaksK18 s.now) result }
 {
     let (from, to) = (s.effective.day, s.termination.day);
     let notional = first_out(&s.notional, from, to, Elem::NOTIONAL_STEP_DATE);
@@ -25,7 +25,7 @@ pub(crate) fn step_out_of_order(s: &Stream) -> Option<Fault>
 
 fn first_in_leg(leg: &Leg, from: Day, to: Day) -> Option<Fault>
     requires { IsLawfulLeg leg.now }
-    ensures { IsFirstFault (BreaksK18InLeg from to leg.now) result }
+    ensures { IsFirstHere (BreaksK18InLeg from to leg.now) result }
 {
     match leg {
         Leg::Fixed(rate) => first_out(rate, from, to, Elem::FIXED_RATE_STEP_DATE),
@@ -39,7 +39,7 @@ fn first_in_leg(leg: &Leg, from: Day, to: Day) -> Option<Fault>
 
 fn first_out(values: &StepValues, from: Day, to: Day, elem: Elem) -> Option<Fault>
     requires { length values.now.steps ≤ most_steps }
-    ensures { IsFirstFault (BreaksItem K18 elem (StepStands from to values.now.steps)) result }
+    ensures { IsFirstHere (BreaksItem K18 elem (StepStands from to values.now.steps)) result }
 {
     let steps = values.steps.as_slice();
     for i in 0..steps.len() {

@@ -1,12 +1,10 @@
 //! The first of K10 to K21 that the terms of a swap break: the lower stream first, then the lower
 //! rule, then the earlier element in the order of the table of elements, then the lower index.
-ghost use Rattle.std.specs.Prelude.{◌≡◌, ◌⊎◌, Option, None};
-ghost use Rattle.irs_base.specs.declared.places.Broken.{Broken};
+ghost use Rattle.irs_base.specs.Outcomes.{Checks, Determined};
 ghost use Rattle.irs_terms.specs.Lawful.{IsLawful, IsLawfulStream};
-ghost use Rattle.irs_rules.specs.Order.{IsFirstFault};
-ghost use Rattle.irs_rules.specs.TermsKept.{AllKept};
-ghost use Rattle.irs_rules.specs.TermsRules.{BreaksAmounts, BreaksDates, BreaksNames, BreaksNone, BreaksStream};
-ghost use Rattle.irs_rules.specs.TermsRules.{IsFirstBroken, IsTermsAnswer};
+ghost use Rattle.irs_rules.specs.Order.{IsFirstHere};
+ghost use Rattle.irs_rules.specs.Outcomes.{terms_of};
+ghost use Rattle.irs_rules.specs.TermsRules.{BreaksAmounts, BreaksDates, BreaksNames, BreaksStream};
 
 use crate::centers::element_without_centers;
 use crate::date_order::date_out_of_order;
@@ -22,27 +20,15 @@ use irs_base::{Broken, Fault};
 use irs_calendar::Calendars;
 use irs_terms::{Stream, Swap};
 
-/// The first of K10 to K21 that a lawful swap breaks, `None` exactly where it breaks none. The
-/// rules are this project's own, on the elements of FpML's InterestRateStream: references and
-/// centres (K10 to K12), dates and frequencies (K13 to K16), offsets, steps and rates (K17 to K21).
-/// The calendars are asked for the centres of elements that need business days. No memory is taken.
+/// The first of K10 to K21 that a lawful swap breaks: of the lower stream, then the lower rule, then
+/// the earlier element, then the lower index. `None` comes exactly where it breaks none.
+///
+/// The rules are our own, on the elements of FpML's InterestRateStream: references and centres (K10
+/// to K12), dates and frequencies (K13 to K16), offsets, steps and rates (K17 to K21). K12 looks up in
+/// the calendars the centres of elements that need business days. No memory is taken.
 pub fn check_terms(swap: &Swap, cal: &Calendars) -> Option<Broken>
     requires { IsLawful swap.now }
-    ensures first { IsTermsAnswer swap.now cal.now result }
-    // No other answer is the first.
-    ensures one { (other : Option Broken) → IsTermsAnswer swap.now cal.now other → other ≡ result }
-    // What each stream of a swap keeps that breaks no rule of the terms.
-    ensures kept { result ≡ None → AllKept swap.now cal.now }
-    // A rule is the first that is broken, or none is broken.
-    ensures decided { ((f : Broken) × IsFirstBroken swap.now cal.now f) ⊎ BreaksNone swap.now cal.now }
-{
-    first_in_swap(swap, cal)
-}
-
-/// The first that a stream of the swap breaks.
-fn first_in_swap(swap: &Swap, cal: &Calendars) -> Option<Broken>
-    requires { IsLawful swap.now }
-    ensures { IsTermsAnswer swap.now cal.now result }
+    ensures meets { Checks (terms_of swap.now cal.now) result }
 {
     for (i, s) in swap.streams.as_slice().iter().enumerate() {
         if let Some(fault) = first_in_stream(s, cal) {
@@ -52,10 +38,19 @@ fn first_in_swap(swap: &Swap, cal: &Calendars) -> Option<Broken>
     None
 }
 
-/// The first that a stream breaks.
+/// A law: a rule is the first of the terms that a lawful swap breaks, or it breaks none.
+pub fn terms_are_determined(swap: &Swap, cal: &Calendars)
+    requires { IsLawful swap.now }
+    ensures { Determined (terms_of swap.now cal.now) }
+{
+    // hands the prover a right outcome
+    let _outcome = check_terms(swap, cal);
+}
+
+/// The first rule that a stream breaks.
 fn first_in_stream(s: &Stream, cal: &Calendars) -> Option<Fault>
     requires { IsLawfulStream s.now }
-    ensures { IsFirstFault (BreaksStream cal.now s.now) result }
+    ensures { IsFirstHere (BreaksStream cal.now s.now) result }
 {
     earlier(
         first_of_names(s, cal),
@@ -66,7 +61,7 @@ fn first_in_stream(s: &Stream, cal: &Calendars) -> Option<Fault>
 /// The first of K10 to K12.
 fn first_of_names(s: &Stream, cal: &Calendars) -> Option<Fault>
     requires { IsLawfulStream s.now }
-    ensures { IsFirstFault (BreaksNames cal.now s.now) result }
+    ensures { IsFirstHere (BreaksNames cal.now s.now) result }
 {
     let references = dangling_reference(s);
     let absent = element_without_centers(s);
@@ -77,7 +72,7 @@ fn first_of_names(s: &Stream, cal: &Calendars) -> Option<Fault>
 /// The first of K13 to K16.
 fn first_of_dates(s: &Stream) -> Option<Fault>
     requires { IsLawfulStream s.now }
-    ensures { IsFirstFault (BreaksDates s.now) result }
+    ensures { IsFirstHere (BreaksDates s.now) result }
 {
     let order = date_out_of_order(s);
     let roll = roll_misfit(s);
@@ -89,7 +84,7 @@ fn first_of_dates(s: &Stream) -> Option<Fault>
 /// The first of K17 to K21.
 fn first_of_amounts(s: &Stream) -> Option<Fault>
     requires { IsLawfulStream s.now }
-    ensures { IsFirstFault (BreaksAmounts s.now) result }
+    ensures { IsFirstHere (BreaksAmounts s.now) result }
 {
     let offsets = offset_without_day_type(s);
     let steps = step_out_of_order(s);

@@ -6,5 +6,5 @@ returns c =
     either _ _ _ _ _ c.earlier-4.ensures c.lacking-effective.ensures
     (either _ _ _ _ _ c.earlier-3.ensures c.lacking-termination.ensures
     (either _ _ _ _ _ c.earlier-2.ensures c.lacking-periods.ensures
-    (either _ _ _ _ _ c.earlier-behind.ensures c.lacking_in_first_start-first.ensures
+    (either _ _ _ _ _ c.earlier-later.ensures c.lacking_in_first_start-first.ensures
     (either _ _ _ _ _ c.earlier.ensures c.lacking_with-payments.ensures c.lacking_in_given_resets-resets.ensures))))

@@ -27,7 +27,7 @@ returns c =
     (same_names _ _ _ _ _ c.names_by-termination.ensures c.unknown-of_termination.ensures)
     (either _ _ _ _ _ c.earlier-3.ensures (same_names _ _ _ _ _ c.names_by-periods.ensures c.unknown-of_periods.ensures)
     (either _ _ _ _ _ c.earlier-2.ensures (same_names _ _ _ _ _ c.start_names-first.ensures c.unknown-of_first.ensures)
-    (either _ _ _ _ _ c.earlier-behind.ensures
+    (either _ _ _ _ _ c.earlier-later.ensures
     (same_names _ _ _ _ _ c.names_with-payments.ensures c.unknown-of_payments.ensures)
     (either _ _ _ _ _ c.earlier.ensures (same_names _ _ _ _ _ c.fixing_names-fixing.ensures c.unknown-of_fixing.ensures)
     (same_names _ _ _ _ _ c.reset_names-resets.ensures c.unknown-of_resets.ensures))))))

@@ -1,5 +1,5 @@
 use Rattle.irs_rules.proofs.Streams.{NoStreamBelow}
-use Rattle.irs_rules.proofs.terms.first_in_swap.Given as goal
+use Rattle.irs_rules.proofs.terms.check_terms.Given as goal
 
 abbrev pub invariant-loop-i : goal.invariant-loop-i
 invariant-loop-i l = NoStreamBelow l.swap.streams l.cal l.i

@@ -1,0 +1,23 @@
+-- The call of this crate has one outcome: a right one is given, and there is one at most.
+use Rattle.std.proofs.Common.{◌⊎◌, inl, inr, List, Option, Some, None}
+use Rattle.irs_base.specs.Order.{is_before}
+use Rattle.irs_base.specs.Outcomes.{Checks, Determined}
+use Rattle.irs_base.specs.declared.places.Broken.{Broken}
+use Rattle.irs_base.proofs.FaultOrder.{broken_ties}
+use Rattle.irs_base.proofs.Firsts.{one_first}
+use Rattle.irs_base.proofs.Outcomes.{unbroken_determined}
+use Rattle.irs_calendar.specs.declared.sections.Section.{Section}
+use Rattle.irs_terms.specs.declared.stream_list.Swap.{Swap}
+use Rattle.irs_rules.specs.Outcomes.{terms_of}
+use Rattle.irs_rules.specs.TermsRules.{BreaksNone, BreaksTerms, IsFirstBroken}
+
+decided_by : (swap : Swap) (cal : List Section) (outcome : Option Broken) → Checks (terms_of swap cal) outcome
+    → ((f : Broken) × IsFirstBroken swap cal f) ⊎ BreaksNone swap cal
+decided_by swap cal None none = inr none
+decided_by swap cal (Some f) first = inl (f, first)
+
+pub terms_determined : (swap : Swap) (cal : List Section) (outcome : Option Broken) → Checks (terms_of swap cal) outcome
+    → Determined (terms_of swap cal)
+terms_determined swap cal outcome checks =
+    unbroken_determined is_before (BreaksTerms swap cal) (decided_by swap cal outcome checks)
+    (one_first is_before broken_ties (BreaksTerms swap cal))
