@@ -1,6 +1,6 @@
 -- Exchanges: how large they are, and that a stream has one list of them.
-use Rattle.std.proofs.Common.{◌≡◌, ℕ, zero, suc, ◌+◌, ◌-◌, ◌^◌, ◌<◌, ◌≤◌, Bool, true, false, List, [], ◌∷◌, ◌++◌}
-use Rattle.std.proofs.Common.{length, get_or, drop, drop-cons, add-one, append_assoc, length-append, ap, arith, sym}
+use Rattle.std.proofs.Common.{◌≡◌, ℕ, zero, suc, ◌-◌, ◌^◌, ◌<◌, ◌≤◌, Bool, true, false, List, [], ◌∷◌, ◌++◌}
+use Rattle.std.proofs.Common.{length, length-append, arith, sym}
 use Rattle.std.proofs.Common.{◌∙◌, if◌then◌else◌, ℤ, pos, negsuc, ◌-ℤ◌, ◌<ℤ◌, ◌≤ℤ◌, unsigned_abs, FitsSigned, to_z}
 use Rattle.std.proofs.Common.{of_z}
 use Rattle.std.specs.Prelude.{All}
@@ -119,17 +119,6 @@ small_transfers s lawful =
     (small_size most_notional (last_value n.initial n.steps) (omega (arith, signed_arith, last)) last.1)) in
     All-append IsSmall (initial_of s ++ intermediate_of s) (final_of s)
     (All-append IsSmall (initial_of s) (intermediate_of s) a b) c
-
--- one step on
-pub changes_next : (before : ℤ) (steps : List Step) (i : ℕ) (step : Step) (ts us all : List Transfer) → i < length steps
-    → step ≡ get_or steps i step → us ≡ ts ++ change before step → ts ++ changes before (drop i steps) ≡ all
-    → us ++ changes step.value (drop (i + 1) steps) ≡ all
-changes_next before steps i step ts us all l at more so_far =
-    let first : drop i steps ≡ step ∷ drop (i + 1) steps =
-    rw add-one (drop-cons steps i step l ∙ ap (λ x. x ∷ drop (suc i) steps) (sym at)) in
-    let rest = changes step.value (drop (i + 1) steps) in
-    ap (λ x. x ++ rest) more ∙ append_assoc ts (change before step) rest ∙ ap (λ x. ts ++ changes before x) (sym first)
-    ∙ so_far
 
 few_change : (before : ℤ) (step : Step) (b : Bool)
     → length (if b then [] else transfer step.day (before -ℤ step.value) ∷ []) ≤ 1

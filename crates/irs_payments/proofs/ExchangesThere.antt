@@ -82,23 +82,18 @@ exchange_on s set t r adjusts =
       record { unadjusted = refl; adjusted = adjusts; places = refl; amount = units.1 },
     )
 
--- where no exchange breaks K33 each has its adjusted day
-pub has_day : (s : Stream) (set : DaySet) (i : ℕ) (t : Transfer) → ((f : Fault) → BreaksExchanges s set f → ⊥)
-    → slice_get (transfers_of s) i ≡ Some t → LacksDay s set t → ⊥
-has_day s set i t kept at lacks =
-    let place : i + 1 - 1 ≡ i = omega arith in
-    kept (fault_at K33 principal_exchanges (i + 1)) (record {
-      number = i + 1;
-      bad = record { from_one = omega arith; member = t; at = rw place at; holds = lacks };
-      is = refl;
-    })
-
 -- the exchange with the number i + 1
 exchange_of : (s : Stream) (set : DaySet) (i : ℕ) (t : Transfer) → ((f : Fault) → BreaksExchanges s set f → ⊥)
     → slice_get (transfers_of s) i ≡ Some t → IsFound (Adjusts s.pay.adj.code set t.date)
     → (x : Exchange) × IsExchange s set t x
 exchange_of s set i t kept at (inl found) = exchange_on s set t found.0 found.1
-exchange_of s set i t kept at (inr none) = absurd (has_day s set i t kept at none)
+exchange_of s set i t kept at (inr none) =
+    let place : i + 1 - 1 ≡ i = omega arith in
+    absurd (kept (fault_at K33 principal_exchanges (i + 1)) (record {
+      number = i + 1;
+      bad = record { from_one = omega arith; member = t; at = rw place at; holds = none };
+      is = refl;
+    }))
 
 module _ (s : Stream) (set : DaySet) (lawful : IsLawfulStream s) (range : InRange set) where
   -- the date of each exchange has its adjusted day, or none

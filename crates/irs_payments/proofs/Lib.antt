@@ -13,5 +13,5 @@ pub mod GroupingLemmas
 pub mod PaymentsThere
 pub mod PaymentsCover
 pub mod DatedPayments
-pub mod CountedExchanges
+pub mod ListedExchanges
 pub mod Outcomes

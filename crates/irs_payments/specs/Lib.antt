@@ -8,5 +8,5 @@ pub mod Places
 pub mod PaymentDates
 pub mod Payments
 pub mod Dating
-pub mod Counting
+pub mod Listing
 pub mod Outcomes

@@ -4,22 +4,26 @@
 //! `principalExchanges`). The start is the effective date, also where the first calculation period
 //! begins before it. The dates of exchanges, and the sign where the notional changes at a step, are our
 //! rules: the payer pays what the notional falls by, and receives what it rises by.
-ghost use Rattle.std.specs.Prelude.{◌≡◌, ◌-◌, ◌^◌, ◌≤◌, ◌++◌, ℤ, pos, ◌<ℤ◌, ◌≤ℤ◌, IfOk, OnOk, unsigned_abs};
+ghost use Rattle.std.specs.Prelude.{◌≡◌, ◌-◌, ◌^◌, ◌≤◌, ◌++◌, [], ◌∷◌, ℤ, pos, ◌<ℤ◌, ◌≤ℤ◌, unsigned_abs, List};
+ghost use Rattle.std.specs.Prelude.{IfNone, IfSome, Some};
+ghost use Rattle.irs_base.specs.Limits.{most_exchanges, most_notional};
+ghost use Rattle.irs_base.specs.Outcomes.{Determined, IfMemory, Meets, MeetsExactly};
 ghost use Rattle.irs_base.specs.Rounding.{Rounded};
-ghost use Rattle.irs_base.specs.declared.rounding.Direction.TheVariants.{Nearest};
 ghost use Rattle.irs_base.specs.declared.places.Fault.{Fault};
-ghost use Rattle.irs_base.specs.Outcomes.{Determined, IfMemory, Meets};
+ghost use Rattle.irs_base.specs.declared.rounding.Direction.TheVariants.{Nearest};
 ghost use Rattle.irs_terms.specs.Lawful.{IsLawfulStream, IsLawfulValues, IsNotional};
-ghost use Rattle.irs_base.specs.Limits.{most_notional};
-ghost use Rattle.irs_adjust.specs.Codes.{Adjusts};
-ghost use Rattle.irs_payments.specs.Exchanges.{initial_of, change, changes, intermediate_of, last_value, final_of};
-ghost use Rattle.irs_payments.specs.Exchanges.{transfers_of, AreExchanges, BreaksExchanges};
+ghost use Rattle.irs_terms.specs.declared.results.Exchange.{Exchange};
+ghost use Rattle.irs_payments.specs.Exchanges.{initial_of, change, intermediate_of, last_value, final_of};
+ghost use Rattle.irs_payments.specs.Exchanges.{BreaksExchanges, IsExchange, LacksDay};
+ghost use Rattle.irs_payments.specs.Listing.{ListsUpTo, listing_to};
 ghost use Rattle.irs_payments.specs.Outcomes.{principals_of};
+ghost use Rattle.irs_payments.specs.Transfers.{listed};
+ghost use Rattle.irs_payments.specs.declared.exchanges.Transfer.{Transfer};
 
 use crate::PayErr;
-use crate::exchange_dates::{check_dates, is_change};
+use crate::faults::fault;
 use irs_adjust::adjust_by;
-use irs_base::{Day, Dec, Direction, Memory, round};
+use irs_base::{Day, Dec, Direction, Elem, Fault, Rule, round};
 use irs_calendar::GoodDays;
 use irs_terms::{Exchange, Exchanges, Step, StepValues, Stream};
 use std::alloc::Global;
@@ -33,49 +37,45 @@ pub struct Transfer {
     pub amount: i128,
 }
 
+/// The exchanges listed so far. The list is absent where memory ran out: the dates of later exchanges
+/// still count, so that running out of memory hides no broken rule.
+#[derive(Drop)]
+pub struct Listing {
+    /// How many exchanges there are so far.
+    pub number: usize,
+    /// The exchanges, unless memory ran out.
+    pub list: Option<Exchanges>,
+}
+
 // The initial exchange.
-fn initial(alloc: Global, s: &Stream) -> Result<Vec<Transfer>, Memory>
+fn initial(s: &Stream) -> Option<Transfer>
     requires { IsLawfulStream s.now }
-    ensures { IfOk result (λ v. v.items ≡ initial_of s.now) }
+    ensures { listed result ≡ initial_of s.now }
 {
-    let mut transfers = Vec::new(alloc);
     if s.exchanges.initial {
-        transfers.push(Transfer {
+        Some(Transfer {
             date: s.effective.day,
             amount: -s.notional.initial,
-        })?;
+        })
+    } else {
+        None
     }
-    Ok(transfers)
 }
 
 // The exchange at one step.
-fn add_change(transfers: &mut Vec<Transfer>, before: i128, step: &Step) -> Result<(), Memory>
+fn change(before: i128, step: &Step) -> Option<Transfer>
     requires before { IsNotional before }
     requires value { IsNotional step.now.value }
-    ensures { OnOk result (transfers.new.items ≡ transfers.old.items ++ change before step.now) }
+    ensures { listed result ≡ change before step.now }
 {
-    if is_change(before, step) {
-        transfers.push(Transfer {
+    if step.value != before {
+        Some(Transfer {
             date: step.day,
             amount: before - step.value,
-        })?;
+        })
+    } else {
+        None
     }
-    Ok(())
-}
-
-// The exchanges at the steps of the notional.
-fn add_changes(transfers: &mut Vec<Transfer>, notional: &StepValues) -> Result<(), Memory>
-    requires { IsLawfulValues IsNotional notional.now }
-    ensures { OnOk result
-        (transfers.new.items ≡ transfers.old.items ++ changes notional.now.initial notional.now.steps) }
-{
-    let mut before = notional.initial;
-    let steps = notional.steps.as_slice();
-    for step in steps {
-        add_change(transfers, before, step)?;
-        before = step.value;
-    }
-    Ok(())
 }
 
 // The notional at the end.
@@ -93,40 +93,18 @@ fn last_notional(notional: &StepValues) -> i128
 }
 
 // The final exchange.
-fn add_final(transfers: &mut Vec<Transfer>, s: &Stream) -> Result<(), Memory>
+fn last(s: &Stream) -> Option<Transfer>
     requires { IsLawfulStream s.now }
-    ensures { OnOk result (transfers.new.items ≡ transfers.old.items ++ final_of s.now) }
+    ensures { listed result ≡ final_of s.now }
 {
     if s.exchanges.last {
-        transfers.push(Transfer {
+        Some(Transfer {
             date: s.termination.day,
             amount: last_notional(&s.notional),
-        })?;
-    }
-    Ok(())
-}
-
-// The exchanges at the steps, where there are intermediate exchanges.
-fn add_intermediate(transfers: &mut Vec<Transfer>, s: &Stream) -> Result<(), Memory>
-    requires { IsLawfulStream s.now }
-    ensures { OnOk result (transfers.new.items ≡ transfers.old.items ++ intermediate_of s.now) }
-{
-    if s.exchanges.intermediate {
-        add_changes(transfers, &s.notional)
+        })
     } else {
-        Ok(())
+        None
     }
-}
-
-// The exchanges of a stream before their dates are adjusted and their amounts rounded.
-fn transfers(alloc: Global, s: &Stream) -> Result<Vec<Transfer>, Memory>
-    requires { IsLawfulStream s.now }
-    ensures { IfOk result (λ v. v.items ≡ transfers_of s.now) }
-{
-    let mut transfers = initial(alloc, s)?;
-    add_intermediate(&mut transfers, s)?;
-    add_final(&mut transfers, s)?;
-    Ok(transfers)
 }
 
 // How many units of 10^-4 make one unit of the last decimal.
@@ -158,39 +136,87 @@ fn rounded_amount(amount: i128, places: u8) -> Dec
     }
 }
 
-// The adjusted date of an exchange that has one.
-fn adjusted_date<G: GoodDays>(s: &Stream, days: &G, date: Day) -> Day
-    requires { ((r : ℤ) → Adjusts s.now.pay.adj.code (G.days days.now) date r → ⊥) → ⊥ }
-    ensures { Adjusts s.now.pay.adj.code (G.days days.now) date result }
+// The exchange on its adjusted date, with its rounded amount.
+fn exchange<G: GoodDays>(s: &Stream, days: &G, transfer: Transfer) -> Option<Exchange>
+    requires { unsigned_abs transfer.amount ≤ most_notional }
+    ensures some { IfSome result (IsExchange s.now (G.days days.now) transfer) }
+    ensures none { IfNone result (LacksDay s.now (G.days days.now) transfer) }
 {
-    match adjust_by(s.pay.adj.code, days, date) {
-        Some(adjusted) => adjusted,
-        None => unreachable!(),
+    let adjusted = adjust_by(s.pay.adj.code, days, transfer.date)?;
+    Some(Exchange {
+        unadjusted: transfer.date,
+        adjusted,
+        amount: rounded_amount(transfer.amount, s.currency.places()),
+    })
+}
+
+// The list with one exchange more, unless memory ran out.
+fn push(list: Option<Exchanges>, exchange: Exchange) -> Option<Exchanges>
+    ensures { IfSome result (λ xs. (before : List Exchange) × (list ≡ Some before) × (xs ≡ before ++ exchange ∷ [])) }
+{
+    let mut list = list?;
+    let Ok(()) = list.push(exchange) else {
+        return None;
+    };
+    Some(list)
+}
+
+// The exchanges with the next one, where there is one; or K33 of it.
+fn add<G: GoodDays>(
+    s: &Stream,
+    days: &G,
+    listing: Listing,
+    transfer: Option<Transfer>,
+) -> Result<Listing, Fault>
+    requires few { listing.number ≤ most_exchanges }
+    requires small { IfSome transfer (λ t. unsigned_abs t.amount ≤ most_notional) }
+    ensures { (left : List Transfer) → ListsUpTo s.now (G.days days.now) (listed transfer ++ left) listing →
+        MeetsExactly (listing_to s.now (G.days days.now) left) result }
+{
+    let Some(transfer) = transfer else {
+        return Ok(listing);
+    };
+    let number = listing.number + 1;
+    match exchange(s, days, transfer) {
+        Some(exchange) => Ok(Listing {
+            number,
+            list: push(listing.list, exchange),
+        }),
+        None => Err(fault(Rule::K33, Elem::PRINCIPAL_EXCHANGES, number)),
     }
 }
 
-// The exchanges of these transfers, each on its adjusted date with its rounded amount.
-fn list_exchanges<G: GoodDays>(
-    alloc: Global,
-    s: &Stream,
-    transfers: &[Transfer],
-    days: &G,
-) -> Result<Exchanges, Memory>
+// The exchanges with those at the steps of the notional, where there are intermediate ones.
+fn add_steps<G: GoodDays>(s: &Stream, days: &G, listing: Listing) -> Result<Listing, Fault>
     requires lawful { IsLawfulStream s.now }
-    requires transfers { transfers.now ≡ transfers_of s.now }
-    requires dated { (f : Fault) → BreaksExchanges s.now (G.days days.now) f → ⊥ }
-    ensures { IfOk result (AreExchanges s.now (G.days days.now)) }
+    requires listing { ListsUpTo s.now (G.days days.now) (intermediate_of s.now ++ final_of s.now) listing }
+    ensures { MeetsExactly (listing_to s.now (G.days days.now) (final_of s.now)) result }
 {
-    let places = s.currency.places();
-    let mut list = Exchanges::new(alloc);
-    for transfer in transfers {
-        list.push(Exchange {
-            unadjusted: transfer.date,
-            adjusted: adjusted_date(s, days, transfer.date),
-            amount: rounded_amount(transfer.amount, places),
-        })?;
+    if !s.exchanges.intermediate {
+        return Ok(listing);
     }
-    Ok(list)
+    let mut listing = listing;
+    let mut before = s.notional.initial;
+    let steps = s.notional.steps.as_slice();
+    for step in steps {
+        listing = add(s, days, listing, change(before, step))?;
+        before = step.value;
+    }
+    Ok(listing)
+}
+
+// All exchanges of a stream, or K33 of the first one whose date has no adjusted day.
+fn list_all<G: GoodDays>(alloc: Global, s: &Stream, days: &G) -> Result<Listing, Fault>
+    requires { IsLawfulStream s.now }
+    ensures { MeetsExactly (listing_to s.now (G.days days.now) []) result }
+{
+    let none = Listing {
+        number: 0,
+        list: Some(Exchanges::new(alloc)),
+    };
+    let first = add(s, days, none, initial(s))?;
+    let listing = add_steps(s, days, first)?;
+    add(s, days, listing, last(s))
 }
 
 /// The principal exchanges of a stream, in order: the initial one at the effective date, one at each
@@ -206,11 +232,13 @@ pub fn principals<G: GoodDays>(alloc: Global, s: &Stream, days: &G) -> Result<Ex
     // Running out of memory hides no broken rule.
     ensures memory { IfMemory result ((f : Fault) → BreaksExchanges s.now (G.days days.now) f → ⊥) }
 {
-    if let Err(missing) = check_dates(s, days) {
-        return Err(PayErr::Broken(missing));
+    match list_all(alloc, s, days) {
+        Err(missing) => Err(PayErr::Broken(missing)),
+        Ok(listing) => match listing.list {
+            Some(list) => Ok(list),
+            None => Err(PayErr::Memory),
+        },
     }
-    let transfers = transfers(alloc, s)?;
-    Ok(list_exchanges(alloc, s, &transfers, days)?)
 }
 
 /// A law: a stream has one list of principal exchanges, or one first exchange whose date has no

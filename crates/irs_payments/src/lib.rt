@@ -4,7 +4,6 @@
 mod cuts;
 mod dating;
 mod error;
-mod exchange_dates;
 mod exchanges;
 mod faults;
 mod grouping;
