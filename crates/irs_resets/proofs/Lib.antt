@@ -11,3 +11,4 @@ pub mod ResetsThere
 pub mod ResetLemmas
 pub mod DatedResets
 pub mod ListedResets
+pub mod Outcomes

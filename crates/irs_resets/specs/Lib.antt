@@ -7,3 +7,4 @@ pub mod ResetDates
 pub mod ObservedRates
 pub mod Resets
 pub mod ResetRules
+pub mod Outcomes

@@ -12,5 +12,5 @@ mod tenors;
 mod words;
 
 pub use fixings::{FixErr, Fixings};
-pub use rows::{ResErr, resets};
+pub use rows::{ResErr, resets, resets_are_determined};
 pub use tenors::{IndexTenor, tenor};

@@ -1,19 +1,16 @@
 //! The resets of a floating stream, one for each calculation period (2006 ISDA Definitions, article
 //! 6; FpML `resetDates`).
-ghost use Rattle.std.specs.Prelude.{◌≡◌, ◌<◌, ◌^◌, ◌⊎◌, ◌↔◌, List, Some, length, IsTrue, IfOk, IfSome};
-ghost use Rattle.std.specs.Prelude.{IsErrOf, All};
-ghost use Rattle.irs_base.specs.Faults.{IfBroken};
+ghost use Rattle.std.specs.Prelude.{◌≡◌, ◌<◌, ◌^◌, ◌↔◌, Some, length, IsTrue, IfOk, IfSome, All};
 ghost use Rattle.irs_base.specs.Listed.{IsRising};
-ghost use Rattle.irs_base.specs.Order.{First, IsFirst, comes_before};
-ghost use Rattle.irs_base.specs.declared.places.Fault.{Fault as BrokenRule};
-ghost use Rattle.irs_base.specs.declared.stopped.Stopped.TheVariants.{Memory as OfMemory};
+ghost use Rattle.irs_base.specs.Order.{IsFirst, comes_before};
+ghost use Rattle.irs_base.specs.Outcomes.{Determined, IfMemory, Meets};
 ghost use Rattle.irs_terms.specs.declared.amounts.Leg.TheVariants.{Floating as OfFloating};
-ghost use Rattle.irs_terms.specs.declared.results.Reset.{Reset as ResetRow};
 ghost use Rattle.irs_terms.specs.DayTypes.{IsSaidFixing, IsSaidReset};
 ghost use Rattle.irs_terms.specs.Lawful.{IsLawfulFloat, IsLawfulStubs, IsLawfulStream};
 ghost use Rattle.irs_terms.specs.Legs.{FitsLeg};
+ghost use Rattle.irs_resets.specs.Outcomes.{resets_of};
 ghost use Rattle.irs_resets.specs.ResetDates.{days_by};
-ghost use Rattle.irs_resets.specs.Resets.{source_of, HasSmallRate, HasResets, IsResets};
+ghost use Rattle.irs_resets.specs.Resets.{source_of, HasSmallRate, HasResets};
 ghost use Rattle.irs_resets.specs.ResetRules.{GivesInitial, GivesFinal, InitialUnmet, FinalUnmet, BreaksStubs};
 ghost use Rattle.irs_resets.specs.ResetRules.{date_fault, BreaksDates, BreaksResets};
 
@@ -25,7 +22,7 @@ use irs_calendar::GoodDays;
 use irs_terms::{FloatTerms, Leg, Reset, ResetTerms, Resets, Span, Stream, StubTerms};
 use std::alloc::Global;
 
-/// Why there are no resets: the first broken rule of K37, K33 and K38, or want of memory. The index
+/// Why there are no resets: the first broken rule of K37, K33 and K38, or memory ran out. The index
 /// of a rule is the number of the period, 0 for a stub.
 pub type ResErr = Stopped<Fault>;
 
@@ -225,18 +222,12 @@ fn floating_resets<G: GoodDays>(
     requires reset { s.now.reset ≡ Some terms.now }
     requires offset { IsSaidFixing terms.now.fixing }
     requires rising { IsRising adjusted.now }
-    ensures ok { let source = source_of s.now span.now adjusted.now (G.days reset_days.now) (G.days fixing_days.now) in
-        IfOk result (IsResets source fixings.now) }
-    ensures small { IfOk result (All HasSmallRate) }
-    ensures unbroken { let source =
-        source_of s.now span.now adjusted.now (G.days reset_days.now) (G.days fixing_days.now) in
-        IfOk result (λ _. (f : BrokenRule) → BreaksResets source f → ⊥) }
+    ensures meets { let source = source_of s.now span.now adjusted.now (G.days reset_days.now) (G.days fixing_days.now) in
+        Meets (resets_of source fixings.now) result }
     ensures memory { let source =
         source_of s.now span.now adjusted.now (G.days reset_days.now) (G.days fixing_days.now) in
-        IsErrOf result OfMemory → (f : BrokenRule) → BreaksResets source f → ⊥ }
-    ensures broken { let source =
-        source_of s.now span.now adjusted.now (G.days reset_days.now) (G.days fixing_days.now) in
-        IfBroken result (First comes_before (BreaksResets source)) }
+        IfMemory result ((f : Fault) → BreaksResets source f → ⊥) }
+    ensures small { IfOk result (All HasSmallRate) }
 {
     let days = adjusted.as_slice();
     if stub_fault(s, span).is_none() {
@@ -254,14 +245,22 @@ fn floating_resets<G: GoodDays>(
             return Ok(rows);
         }
     }
+    // No list: a rule is broken, or memory ran out. The rule takes precedence.
     match first_fault(s, terms, span, days, reset_days, fixing_days) {
         Some(fault) => Err(ResErr::Broken(fault)),
         None => Err(ResErr::Memory),
     }
 }
 
-// The resets by the leg: a fixed stream has none.
-fn leg_resets<G: GoodDays>(
+/// The resets of a stream over its adjusted boundaries: for each calculation period of a floating
+/// stream its reset date, its fixing date and its observed rate. A fixed stream has none.
+/// `reset_days` are the good business days of `resetDates`, and `fixing_days` those of `fixingDates`.
+///
+/// `Broken` is the first rule broken: a rate is given for a stub that the stream doesn't have (K37),
+/// a reset date has no result, or else a fixing date has none (K33), or the offset of a fixing date
+/// leaves the range of dates (K38). K33 and K38 are reported for the first such period. `Memory`
+/// comes only where no rule is broken.
+pub fn resets<G: GoodDays>(
     alloc: Global,
     s: &Stream,
     span: &Span,
@@ -274,18 +273,14 @@ fn leg_resets<G: GoodDays>(
     requires legs { FitsLeg s.now }
     requires offset { IsSaidReset s.now }
     requires rising { IsRising adjusted.now }
-    ensures ok { let source = source_of s.now span.now adjusted.now (G.days reset_days.now) (G.days fixing_days.now) in
-        IfOk result (IsResets source fixings.now) }
-    ensures small { IfOk result (All HasSmallRate) }
-    ensures unbroken { let source =
-        source_of s.now span.now adjusted.now (G.days reset_days.now) (G.days fixing_days.now) in
-        IfOk result (λ _. (f : BrokenRule) → BreaksResets source f → ⊥) }
+    ensures meets { let source = source_of s.now span.now adjusted.now (G.days reset_days.now) (G.days fixing_days.now) in
+        Meets (resets_of source fixings.now) result }
+    // Running out of memory hides no rule.
     ensures memory { let source =
         source_of s.now span.now adjusted.now (G.days reset_days.now) (G.days fixing_days.now) in
-        IsErrOf result OfMemory → (f : BrokenRule) → BreaksResets source f → ⊥ }
-    ensures broken { let source =
-        source_of s.now span.now adjusted.now (G.days reset_days.now) (G.days fixing_days.now) in
-        IfBroken result (First comes_before (BreaksResets source)) }
+        IfMemory result ((f : Fault) → BreaksResets source f → ⊥) }
+    // Each observed rate is at most 10 in size.
+    ensures small { IfOk result (All HasSmallRate) }
 {
     match (&s.leg, &s.reset) {
         (Leg::Floating(float), Some(terms)) => floating_resets(
@@ -303,65 +298,21 @@ fn leg_resets<G: GoodDays>(
     }
 }
 
-/// The resets of a stream over its adjusted boundaries: for each calculation period of a floating
-/// stream its reset date, its fixing date and its observed rate. A fixed stream has none.
-///
-/// `Broken` is exactly the first broken rule of K37 (a rate for a stub that isn't there), K33 (a
-/// date without a result) and K38 (an offset that leaves the range of dates): those of the stubs
-/// come first, then K33 of `resetDates`, K33 of `fixingDates` and K38 of `fixingDates`, each by the
-/// number of the period. `Memory` comes only where no rule is broken.
-pub fn resets<G: GoodDays>(
-    alloc: Global,
+/// A law: a stream has one list of resets, or one first rule of K37, K33 and K38 that it breaks.
+pub fn resets_are_determined<G: GoodDays>(
     s: &Stream,
     span: &Span,
     adjusted: &DayList,
     reset_days: &G,
     fixing_days: &G,
     fixings: &Fixings,
-) -> Result<Resets, ResErr>
-    requires lawful { IsLawfulStream s.now }
+)
     requires legs { FitsLeg s.now }
     requires offset { IsSaidReset s.now }
-    requires rising { IsRising adjusted.now }
-    // The rows are the resets of the definition, each observed rate at most 10 in size, and no rule
-    // is broken.
-    ensures ok { let source = source_of s.now span.now adjusted.now (G.days reset_days.now) (G.days fixing_days.now) in
-        IfOk result (IsResets source fixings.now) }
-    ensures small { IfOk result (All HasSmallRate) }
-    ensures unbroken { let source =
-        source_of s.now span.now adjusted.now (G.days reset_days.now) (G.days fixing_days.now) in
-        IfOk result (λ _. (f : BrokenRule) → BreaksResets source f → ⊥) }
-    // Want of memory hides no broken rule.
-    ensures memory { let source =
-        source_of s.now span.now adjusted.now (G.days reset_days.now) (G.days fixing_days.now) in
-        IsErrOf result OfMemory → (f : BrokenRule) → BreaksResets source f → ⊥ }
-    // The first broken rule.
-    ensures broken { let source =
-        source_of s.now span.now adjusted.now (G.days reset_days.now) (G.days fixing_days.now) in
-        IfBroken result (First comes_before (BreaksResets source)) }
-    // A rule is the first broken one, or none is broken.
-    ensures decided { let source =
-        source_of s.now span.now adjusted.now (G.days reset_days.now) (G.days fixing_days.now) in
-        ((f : BrokenRule) × First comes_before (BreaksResets source) f)
-        ⊎ ((f : BrokenRule) → BreaksResets source f → ⊥) }
-    // Where no rule is broken there are resets, also where memory ran out.
-    ensures exists { let source =
-        source_of s.now span.now adjusted.now (G.days reset_days.now) (G.days fixing_days.now) in
-        ((f : BrokenRule) → BreaksResets source f → ⊥) → (rows : List ResetRow) × IsResets source fixings.now rows }
-    // There is one list of resets, and one first broken rule.
-    ensures one { let source = source_of s.now span.now adjusted.now (G.days reset_days.now) (G.days fixing_days.now) in
-        (rows others : List ResetRow) → IsResets source fixings.now rows → IsResets source fixings.now others
-        → rows ≡ others }
-    ensures one_broken { let source =
-        source_of s.now span.now adjusted.now (G.days reset_days.now) (G.days fixing_days.now) in
-        (f g : BrokenRule) → First comes_before (BreaksResets source) f → First comes_before (BreaksResets source) g
-        → f ≡ g }
+    ensures { let source = source_of s.now span.now adjusted.now (G.days reset_days.now) (G.days fixing_days.now) in
+        Determined (resets_of source fixings.now) }
 {
-    // hands the prover the range of the boundaries
+    // hands the prover the range of the boundaries and of the good days
     let _days = adjusted.as_slice();
-    // hands the prover the range of the good days
-    let _reset_cover = reset_days.cover();
-    // hands the prover the range of the good days
-    let _fixing_cover = fixing_days.cover();
-    leg_resets(alloc, s, span, adjusted, reset_days, fixing_days, fixings)
+    let _covers = (reset_days.cover(), fixing_days.cover());
 }
