@@ -1,6 +1,6 @@
 -- Reading a fixing file line by line.
 use Rattle.std.proofs.Common.{◌≡◌, ◌⊎◌, inl, inr, ℕ, zero, suc, ◌+◌, ◌-◌, ◌<◌, ◌≤◌, Bool, true, false, ◌&&◌, List, []}
-use Rattle.std.proofs.Common.{◌∷◌, length, drop, Option, Some, None, IsSome, is_some, IfSome, ℤ, refl, sym, ap₂, subst}
+use Rattle.std.proofs.Common.{◌∷◌, length, drop, Option, Some, None, IsSome, is_some, ℤ, refl, sym, ap₂, subst}
 use Rattle.std.proofs.Common.{◌∙◌, arith, cond, ◌||◌, ◌==◌}
 use Rattle.std.specs.Prelude.{nat_lt, slice_index_or, slice_index}
 use Rattle.std.specs.Str.{bytes_eq}
@@ -19,11 +19,10 @@ use Rattle.irs_base.proofs.Orders.{both_true}
 use Rattle.irs_resets.proofs.SlotLemmas.{slot_same, slot_itself}
 use Rattle.irs_base.specs.Lines.{lines_of}
 use Rattle.irs_base.specs.Order.{First}
-use Rattle.irs_terms.specs.Lawful.{IsRate}
-use Rattle.irs_resets.specs.Rates.{RateTable, rate_at, is_slot, AreSmall}
+use Rattle.irs_resets.specs.Rates.{RateTable, rate_at, is_slot}
 use Rattle.irs_resets.specs.FixingLines.{Spells, second_text}
 use Rattle.irs_resets.specs.FixingFiles.{IsBadLine, line_at, IsLine, Fixes, IsBad, Repeats, IsFaulty, IsFirstFault}
-use Rattle.irs_resets.specs.FixingFiles.{IsFixingFile, TakesLine, ReadsLine, StandsAlready}
+use Rattle.irs_resets.specs.FixingFiles.{HasNewRate, HasOldRate, IsFixingFile, ReadsLine, StopsAt, TakesLine}
 
 -- the lines before number were read into the table, and these are left
 pub record ReadTo (lines : List (List ℕ)) (number : ℕ) (left : List (List ℕ)) (table : RateTable) : Type 0 where
@@ -115,7 +114,7 @@ here_line lines k line more index slot rate next s =
 pub below : (n k : ℕ) → n < k + 1 → (n < k) ⊎ (n ≡ k)
 below n k h = grind (arith, h)
 
--- a rate stands or not
+-- the rate that is there
 pub some_rate : (o : Option ℤ) → IsSome o → (v : ℤ) × (o ≡ Some v)
 some_rate None h = absurd (cc)
 some_rate (Some v) h = (v, refl)
@@ -160,7 +159,7 @@ place_itself index i slot q e f =
     let b : is_slot slot q ≡ true = subst (λ (t : Slot). is_slot slot t ≡ true) f (slot_itself slot) in
     rw (a, b) refl
 
--- a rate that is put at a place comes out there
+-- a rate that is added at a place is found there
 put_sound : (c : Bool) (o : Option ℤ) (new : Option ℤ) (rate r : ℤ) → new ≡ cond c (Some rate) o → new ≡ Some r
     → ((c ≡ true) × (rate ≡ r)) ⊎ (o ≡ Some r)
 put_sound true o new rate r h k = let e : rate ≡ r = cc in inl (refl, e)
@@ -182,9 +181,31 @@ stood old index i slot q r absent e f there =
     let b : rate_at old i q ≡ None = subst (λ (t : Slot). rate_at old i t ≡ None) f a in
     cc (b, there)
 
+-- a line with a new rate is at no fault, as none before it is
+fresh_clean : (lines : List (List ℕ)) (k : ℕ) (line : List ℕ) (more : List (List ℕ)) (old : RateTable)
+    → ReadTo lines k (line ∷ more) old → HasNewRate old line → (n : ℕ) → n < k + 1 → IsFaulty lines n → ⊥
+fresh_clean lines k line more old r t n low f =
+    let next = next_line lines k line more r.some r.rest in
+    elim (below n k low) [
+      | inl before ↦ r.clean n before f
+      | inr now ↦ elim f [
+        | inl bad ↦
+            let b : IsBadLine line = subst IsBadLine next.is (subst (λ (m : ℕ). IsBad lines m) now bad).bad in
+            b.spells_none t.index t.slot t.rate t.spelt
+        | inr rep ↦
+            let s = at_line lines k line more rep.index rep.slot rep.rate next
+            (subst (λ (m : ℕ). Fixes lines m rep.index rep.slot rep.rate) now rep.here) in
+            let p = one_place line t.index rep.index t.slot rep.slot t.rate rep.rate t.spelt s in
+            stood old t.index rep.index t.slot rep.slot rep.old_rate t.absent p.0 p.1
+            (r.complete rep.index rep.slot rep.old_rate rep.earlier (omega (arith, rep.before, now)) rep.there)
+      ]
+    ]
+
 pub takes : (lines : List (List ℕ)) (k : ℕ) (line : List ℕ) (more : List (List ℕ)) (old new : RateTable)
     → ReadTo lines k (line ∷ more) old → TakesLine old line new → ReadTo lines (k + 1) more new
-takes lines k line more old new r t =
+takes lines k line more old new r taken =
+    let t = taken.more in
+    let adds = taken.adds in
     let next = next_line lines k line more r.some r.rest in
     let here : (i : List ℕ) (q : Slot) (rate : ℤ) (n : ℕ) → n ≡ k → Fixes lines n i q rate → Spells line i q rate =
     λ i q rate n e f.
@@ -192,22 +213,10 @@ takes lines k line more old new r t =
     record {
       some = omega arith;
       rest = rw (plus_one k) next.rest;
-      clean = λ n low f. elim (below n k low) [
-        | inl old ↦ r.clean n old f
-        | inr now ↦ elim f [
-          | inl bad ↦
-              let b : IsBadLine line = subst IsBadLine next.is (subst (λ (m : ℕ). IsBad lines m) now bad).bad in
-              b.spells_none t.index t.slot t.rate t.spelt
-          | inr rep ↦
-              let s = here rep.index rep.slot rep.rate n now rep.here in
-              let p = one_place line t.index rep.index t.slot rep.slot t.rate rep.rate t.spelt s in
-              stood old t.index rep.index t.slot rep.slot rep.old_rate t.absent p.0 p.1
-              (r.complete rep.index rep.slot rep.old_rate rep.earlier (omega (arith, rep.before, now)) rep.there)
-        ]
-      ];
+      clean = fresh_clean lines k line more old r t;
       sound = λ i q rate h.
           elim (put_sound (bytes_eq t.index i && is_slot t.slot q) (rate_at old i q) (rate_at new i q) t.rate rate
-          (t.adds i q) h) [
+          (adds i q) h) [
             | inl put ↦
                 let p = same_place t.index i t.slot q put.0 in
                 let s : Spells line i t.slot t.rate = subst (λ (l : List ℕ). Spells line l t.slot t.rate) p.0 t.spelt in
@@ -224,19 +233,33 @@ takes lines k line more old new r t =
                   absurd (stood old t.index i t.slot q rate t.absent p.0 p.1 kept)
               | inr other ↦
                   put_apart (bytes_eq t.index i && is_slot t.slot q) (rate_at old i q) (rate_at new i q) t.rate rate
-                  (t.adds i q) other kept
+                  (adds i q) other kept
             ]
         | inr now ↦
             let s = here i q rate n now f in
             let p = one_place line t.index i t.slot q t.rate rate t.spelt s in
             put_here (bytes_eq t.index i && is_slot t.slot q) (rate_at old i q) (rate_at new i q) t.rate rate
-            (t.adds i q) (place_itself t.index i t.slot q p.0 p.1)
+            (adds i q) (place_itself t.index i t.slot q p.0 p.1)
             (one_rate line t.index i t.slot q t.rate rate t.spelt s)
       ];
     }
   where
     plus_one : (k : ℕ) → k + 1 - 1 ≡ k
     plus_one k = omega arith
+
+-- where memory runs out at a line with a new rate, no line up to it is at fault
+pub stops : (lines : List (List ℕ)) (k : ℕ) (line : List ℕ) (left more : List (List ℕ)) (table : RateTable)
+    → ReadTo lines k left table → left ≡ line ∷ more → HasNewRate table line → StopsAt lines
+stops lines k line left more table r e t =
+    let here = subst (λ (l : List (List ℕ)). ReadTo lines k l table) e r in
+    record {
+      number = k;
+      index = t.index;
+      slot = t.slot;
+      rate = t.rate;
+      fixes = here_line lines k line more t.index t.slot t.rate (next_line lines k line more here.some here.rest) t.spelt;
+      clean = λ n low. fresh_clean lines k line more table here t n (omega (arith, low));
+    }
 
 -- a line more
 pub reads : (lines : List (List ℕ)) (k : ℕ) (line : List ℕ) (left more : List (List ℕ)) (old new : RateTable)
@@ -247,7 +270,7 @@ reads lines k line left more old new r e (inl passed) =
 reads lines k line left more old new r e (inr taken) =
     takes lines k line more old new (subst (λ (l : List (List ℕ)). ReadTo lines k l old) e r) taken
 
--- a fault of the next line is the first, since none stands before it
+-- a fault of the next line is the first, since no earlier line has one
 first_faulty : (lines : List (List ℕ)) (n : ℕ) → IsFaulty lines n → ((k : ℕ) → k < n → IsFaulty lines k → ⊥)
     → First nat_lt (IsFaulty lines) n
 first_faulty lines n here none = (here, λ k f. lt_false k n (λ less. none k less f))
@@ -260,7 +283,7 @@ bad_first lines k line left more table r e bad =
     (fault, first_faulty lines k (inl fault) r.clean)
 
 pub repeat_first : (lines : List (List ℕ)) (k : ℕ) (line : List ℕ) (left more : List (List ℕ)) (table : RateTable)
-    → ReadTo lines k left table → left ≡ line ∷ more → StandsAlready table line → IsFirstFault (Repeats lines) lines k
+    → ReadTo lines k left table → left ≡ line ∷ more → HasOldRate table line → IsFirstFault (Repeats lines) lines k
 repeat_first lines k line left more table r e s =
     let next = next_line lines k line more r.some (r.rest ∙ e) in
     let v = some_rate (rate_at table s.index s.slot) s.there in
@@ -301,13 +324,3 @@ whole_file bytes (b ∷ bs) k table r none = absurd (omega (arith, none))
 pub no_rate : (o : Option ℤ) → is_some o ≡ false → o ≡ None
 no_rate None h = refl
 no_rate (Some v) h = absurd (cc)
-
--- rates are small
-small_rate : (o : Option ℤ) → ((v : ℤ) → o ≡ Some v → IsRate v) → IfSome o IsRate
-small_rate None h = tt
-small_rate (Some v) h = h v refl
-
-pub small_rates : (lines left : List (List ℕ)) (k : ℕ) (table : RateTable) → ReadTo lines k left table → AreSmall table
-small_rates lines left k table r =
-    λ index slot. small_rate (rate_at table index slot) (λ v h. let p = r.sound index slot v h in
-    p.2.spelt.rate_text.small)

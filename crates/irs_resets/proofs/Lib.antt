@@ -12,3 +12,4 @@ pub mod ResetLemmas
 pub mod DatedResets
 pub mod ListedResets
 pub mod Outcomes
+pub mod FileOutcomes

@@ -1,5 +1,5 @@
--- Where each period has its reset and no stub is missed, no rule of resets is broken.
-use Rattle.std.proofs.Common.{is_some, false, true≢false, ◌≡◌, inl, inr, ℕ, ◌+◌, ◌<◌, List, length, Option}
+-- Where each period has its reset and no stub is missing, no rule of resets is broken.
+use Rattle.std.proofs.Common.{is_some, false, true≢false, ◌≡◌, inl, inr, ◌+◌, ◌<◌, List, length, Option}
 use Rattle.std.proofs.Common.{Some, None, subst, arith}
 use Rattle.irs_base.proofs.MemberLemmas.{numbered_has}
 use Rattle.irs_base.specs.Order.{IsFirst, comes_before}
@@ -7,25 +7,15 @@ use Rattle.irs_base.specs.declared.places.Fault.{Fault}
 use Rattle.irs_terms.specs.declared.amounts.FloatTerms.{FloatTerms}
 use Rattle.irs_terms.specs.declared.dates.ResetTerms.{ResetTerms}
 use Rattle.irs_terms.specs.declared.results.Reset.{Reset}
-use Rattle.irs_resets.specs.declared.dates.DateFault.{DateFault}
-use Rattle.irs_resets.specs.declared.dates.DateFault.TheVariants.{NoReset, NoFixing, OutOfRange}
 use Rattle.irs_resets.specs.Rates.{RateTable}
-use Rattle.irs_resets.specs.ResetDates.{Fails, IsPeriod, ResetDays}
 use Rattle.irs_resets.specs.ResetRules.{BreaksDates, BreaksDatesIn, BreaksResets, BreaksStubs}
 use Rattle.irs_resets.specs.Resets.{HasResets, IsReset, ResetSource}
-use Rattle.irs_resets.proofs.DateLemmas.{dates_stand}
-
--- dates fail of a period
-fails_period : (why : DateFault) (t : ResetTerms) (days : ResetDays) (i : ℕ) → Fails why t days i
-    → IsPeriod days.adjusted i
-fails_period NoReset t days i h = h.period
-fails_period NoFixing t days i h = h.period
-fails_period OutOfRange t days i h = h.period
+use Rattle.irs_resets.proofs.DateLemmas.{dates_stand, period_of}
 
 dates_kept : (source : ResetSource) (float : FloatTerms) (t : ResetTerms) (rates : RateTable) (rows : List Reset)
     → HasResets source float t rates rows → (f : Fault) → BreaksDates t source.days f → ⊥
 dates_kept source float t rates rows h f b =
-    let p = fails_period b.why t source.days b.number b.fails in
+    let p = period_of t source.days b.why b.number b.fails in
     let few : b.number < 1 + length rows = omega (arith, p.0, p.1, h.many) in
     let row = numbered_has (IsReset source float t rates) 1 rows b.number h.each p.0 few in
     dates_stand b.why t source.days b.number row.0.reset row.0.fixing row.1.dates b.fails
@@ -41,7 +31,7 @@ listed_unbroken source float t rates rows is stubs h f b = elim b [
       (subst (λ (o : Option ResetTerms). BreaksDatesIn o source.days f) is dates)
 ]
 
--- no stub is missed where there is no fault of one
+-- no stub is missing where none is reported
 pub no_stub : (P : Fault → Type 0) (o : Option Fault) → is_some o ≡ false → IsFirst comes_before P o
     → IsFirst comes_before P None
 no_stub P None e h = h

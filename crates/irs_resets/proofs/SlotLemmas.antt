@@ -1,4 +1,4 @@
--- The order of slots tells them apart.
+-- Slots that the order finds equal are the same.
 use Rattle.std.proofs.Common.{◌≡◌, ℕ, Bool, true, ◌&&◌, ◌==◌, Option, Some, None, ℤ, refl, arith, ap₂, ◌∙◌, List, []}
 use Rattle.std.proofs.Common.{◌∷◌, cond}
 use Rattle.std.proofs.lemmas.Bool.Decides.{nat_tests}

@@ -3,12 +3,14 @@ use Rattle.std.specs.Prelude.{◌≡◌, ◌⊎◌, ◌↔◌, ℕ, ◌-◌, ◌
 use Rattle.std.specs.Prelude.{None, IsSome, ℤ, nat_lt}
 use Rattle.irs_base.specs.Lines.{lines_of}
 use Rattle.irs_base.specs.Order.{First}
+use Rattle.irs_resets.specs.declared.fixings.FixErr.{FixErr}
+use Rattle.irs_resets.specs.declared.fixings.FixErr.TheVariants.{Syntax, Repeat, Memory}
 use Rattle.irs_resets.specs.declared.store.Slot.{Slot}
 use Rattle.irs_resets.specs.Words.{is_passed}
 use Rattle.irs_resets.specs.FixingLines.{Spells}
 use Rattle.irs_resets.specs.Rates.{RateTable, rate_at, Adds}
 
--- the line is neither passed over nor spells a fixing
+-- the line isn't ignored and spells no fixing
 pub record IsBadLine (line : List ℕ) : Type 0 where
   pub not_passed : is_passed line ≡ false
   pub spells_none : (index : List ℕ) (slot : Slot) (rate : ℤ) → Spells line index slot rate → ⊥
@@ -26,7 +28,7 @@ pub record Fixes (lines : List (List ℕ)) (n : ℕ) (index : List ℕ) (slot : 
   pub is_line : IsLine lines n
   pub spelt : Spells (line_at lines n) index slot rate
 
--- the line n isn't passed over and spells no fixing
+-- the line n isn't ignored and spells no fixing
 pub record IsBad (lines : List (List ℕ)) (n : ℕ) : Type 0 where
   pub is_line : IsLine lines n
   pub bad : IsBadLine (line_at lines n)
@@ -42,7 +44,7 @@ pub record Repeats (lines : List (List ℕ)) (n : ℕ) : Type 0 where
   pub old_rate : ℤ
   pub there : Fixes lines earlier index slot old_rate
 
--- line n is none of the grammar, or repeats one before it
+-- line n spells no fixing, or repeats an earlier line
 abbrev pub IsFaulty : List (List ℕ) → ℕ → Type 0
 IsFaulty lines n = IsBad lines n ⊎ Repeats lines n
 
@@ -56,23 +58,57 @@ pub record IsFixingFile (bytes : List ℕ) (table : RateTable) : Type 0 where
   pub holds : (index : List ℕ) (slot : Slot) (rate : ℤ)
       → (rate_at table index slot ≡ Some rate) ↔ ((n : ℕ) × Fixes (lines_of bytes) n index slot rate)
 
--- a line more is read: it is passed over, or its rate is put where there was none
-pub record TakesLine (old : RateTable) (line : List ℕ) (new : RateTable) : Type 0 where
+-- the first line at fault, and how it is
+abbrev pub IsFixingFault : List ℕ → FixErr → Type 0
+IsFixingFault bytes (Syntax n) = IsFirstFault (IsBad (lines_of bytes)) (lines_of bytes) n
+IsFixingFault bytes (Repeat n) = IsFirstFault (Repeats (lines_of bytes)) (lines_of bytes) n
+IsFixingFault bytes Memory = ⊥
+
+-- reading may stop at a line that gives a rate, where neither it nor an earlier line is at fault
+pub record StopsAt (lines : List (List ℕ)) : Type 0 where
+  pub number : ℕ
+  pub index : List ℕ
+  pub slot : Slot
+  pub rate : ℤ
+  pub fixes : Fixes lines number index slot rate
+  pub clean : (n : ℕ) → n ≤ number → IsFaulty lines n → ⊥
+
+-- ---- one line
+
+-- the line spells a fixing
+pub record IsSpelt (line : List ℕ) : Type 0 where
   pub index : List ℕ
   pub slot : Slot
   pub rate : ℤ
   pub spelt : Spells line index slot rate
-  pub absent : rate_at old index slot ≡ None
-  pub adds : Adds old index slot rate new
 
--- a line is passed over, or it is one of the grammar and its rate is taken
+-- the line spells a fixing whose index, date and tenor have no rate yet
+pub record HasNewRate (table : RateTable) (line : List ℕ) : Type 0 where
+  pub index : List ℕ
+  pub slot : Slot
+  pub rate : ℤ
+  pub spelt : Spells line index slot rate
+  pub absent : rate_at table index slot ≡ None
+
+-- the line has a new rate, and the new table has it besides those of the old one
+pub record TakesLine (old : RateTable) (line : List ℕ) (new : RateTable) : Type 0 where
+  pub more : HasNewRate old line
+  pub adds : Adds old more.index more.slot more.rate new
+
+-- a line is ignored, or its rate is taken
 abbrev pub ReadsLine : RateTable → List ℕ → RateTable → Type 0
 ReadsLine old line new = (IsTrue (is_passed line) × (new ≡ old)) ⊎ TakesLine old line new
 
 -- the line spells a fixing whose index, date and tenor have a rate already
-pub record StandsAlready (table : RateTable) (line : List ℕ) : Type 0 where
+pub record HasOldRate (table : RateTable) (line : List ℕ) : Type 0 where
   pub index : List ℕ
   pub slot : Slot
   pub rate : ℤ
   pub spelt : Spells line index slot rate
   pub there : IsSome (rate_at table index slot)
+
+-- the line with this number is at fault after the lines of the table
+abbrev pub IsLineFault : RateTable → List ℕ → ℕ → FixErr → Type 0
+IsLineFault table line number (Syntax n) = (n ≡ number) × IsBadLine line
+IsLineFault table line number (Repeat n) = (n ≡ number) × HasOldRate table line
+IsLineFault table line number Memory = ⊥

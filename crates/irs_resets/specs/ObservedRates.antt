@@ -23,7 +23,7 @@ IsInitial s span i = (first_day_of s <ℤ span.first) × (i ≡ 1)
 abbrev pub IsFinal : Stream → Span → ℕ → ℕ → Type 0
 IsFinal s span n i = (span.last <ℤ s.termination.day) × (i ≡ n)
 
--- i is the number of the period behind the initial stub, or 1 where there is none
+-- i is the number of the period after the initial stub, or 1 where there is none
 abbrev pub FollowsStub : Stream → Span → ℕ → Type 0
 FollowsStub s span i = ((first_day_of s <ℤ span.first) × (i ≡ 2)) ⊎ ((first_day_of s <ℤ span.first → ⊥) × (i ≡ 1))
 

@@ -48,6 +48,10 @@ rate_of (Some rates) slot = lookup (is_slot slot) rates
 abbrev pub rate_at : RateTable → List ℕ → Slot → Option ℤ
 rate_at table index slot = rate_of (lookup (bytes_eq index) table) slot
 
+-- two tables have the same rates
+abbrev pub SameRates : RateTable → RateTable → Type 0
+SameRates a b = (index : List ℕ) (slot : Slot) → rate_at a index slot ≡ rate_at b index slot
+
 -- new has the rate there, and at every other place what old has
 abbrev pub AddsTo : SlotRates → Slot → ℤ → SlotRates → Type 0
 AddsTo old slot rate new =

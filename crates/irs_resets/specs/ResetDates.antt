@@ -13,14 +13,14 @@ use Rattle.irs_adjust.specs.declared.moved.NoDate.TheVariants as moves
 use Rattle.irs_resets.specs.declared.dates.DateFault.{DateFault}
 use Rattle.irs_resets.specs.declared.dates.DateFault.TheVariants.{NoReset, NoFixing, OutOfRange}
 
--- the days by which resets go: the adjusted boundaries of the calculation periods, the good days of
--- `resetDates`, and those of `fixingDates`
+-- the days that resets are found by: the adjusted boundaries of the calculation periods, the good
+-- business days of `resetDates`, and those of `fixingDates`
 pub record ResetDays : Type 0 where
   pub adjusted : List ℤ
   pub reset_set : DaySet
   pub fixing_set : DaySet
 
--- the adjusted boundaries and the good days by which reset and fixing dates are worked out
+-- the same from its parts
 abbrev pub days_by : List ℤ → DaySet → DaySet → ResetDays
 days_by adjusted reset_set fixing_set = record { adjusted = adjusted; reset_set = reset_set; fixing_set = fixing_set }
 

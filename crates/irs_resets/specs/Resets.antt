@@ -15,14 +15,14 @@ use Rattle.irs_resets.specs.ObservedRates.{IsKind, IsObserved}
 use Rattle.irs_resets.specs.Rates.{RateTable}
 use Rattle.irs_resets.specs.declared.observed.PeriodKind.{PeriodKind}
 
--- what the resets of a stream are worked out from, besides the rates: the stream, its regular span, and
--- the days by which its resets go
+-- what the resets of a stream are found from, besides the rates: the stream, its regular span, and the
+-- days of its resets
 pub record ResetSource : Type 0 where
   pub stream : Stream
   pub span : Span
   pub days : ResetDays
 
--- what the resets of a stream are worked out from
+-- the same from its parts
 abbrev pub source_of : Stream → Span → List ℤ → DaySet → DaySet → ResetSource
 source_of s span adjusted reset_set fixing_set =
     record { stream = s; span = span; days = days_by adjusted reset_set fixing_set }

@@ -13,7 +13,7 @@ abbrev pub behind_word : List ℕ → List ℕ
 behind_word [] = []
 behind_word (b ∷ bs) = if is_space b then b ∷ bs else behind_word bs
 
--- what follows the first word and the gap behind it
+-- what follows the first word and the gap after it
 abbrev pub behind_gap : List ℕ → List ℕ
 behind_gap bytes = without_gap (behind_word bytes)
 

@@ -2,7 +2,7 @@
 //!
 //! The reset date of a calculation period is its adjusted start or end, adjusted again. The fixing
 //! date is the reset date moved by the offset of `fixingDates` and then adjusted, or the reset date
-//! itself. The order of these steps is this project's own.
+//! itself. The order of these steps is our rule.
 ghost use Rattle.std.specs.Prelude.{◌≡◌, ◌↔◌, ◌<◌, ◌^◌, length, IsTrue, IfOk, IfErr, nat_lt};
 ghost use Rattle.irs_base.specs.Order.{IsFirst};
 ghost use Rattle.irs_resets.specs.ResetDates.{days_by, base_day, IsPeriod, FixesOn, FixesBy, IsDates};
@@ -23,7 +23,7 @@ pub struct Dates {
     pub fixing: Day,
 }
 
-/// Why a period has no such dates.
+/// Why a period lacks one of its dates.
 #[derive(Clone, Copy, PartialEq, Eq)]
 pub enum DateFault {
     /// The adjustment of the reset date has no result.
@@ -34,7 +34,7 @@ pub enum DateFault {
     OutOfRange,
 }
 
-// The day by which the reset date of a period goes. Periods count from 1.
+// The adjusted start or end of a period, from which its reset date is found. Periods count from 1.
 fn base(relative: Relative, adjusted: &[Day], number: usize) -> Day
     requires { IsPeriod adjusted.now number }
     ensures { result ≡ base_day relative adjusted.now number }
@@ -45,7 +45,7 @@ fn base(relative: Relative, adjusted: &[Day], number: usize) -> Day
     }
 }
 
-// What the failure of the two steps is for a fixing date.
+// Why a fixing date has no result, by the reason of its two steps.
 fn fault_of(reason: NoDate) -> DateFault
     ensures { result ≡ fault_of reason }
 {
@@ -81,7 +81,7 @@ fn fixing_date<G: GoodDays>(
     }
 }
 
-/// The dates of a period, or the way in which they fail.
+/// The reset date and the fixing date of a period, or why it has none.
 pub fn period_dates<G: GoodDays>(
     terms: &ResetTerms,
     adjusted: &[Day],
@@ -131,7 +131,7 @@ fn has_fault<G: GoodDays>(
     }
 }
 
-/// The first period with that fault; `None` where no period has it.
+/// The first period with this fault; `None` where no period has it.
 pub fn first_with<G: GoodDays>(
     fault: DateFault,
     terms: &ResetTerms,

@@ -2,7 +2,7 @@
 //!
 //! DATE is `YYYY-MM-DD` in range, RATE a decimal of 9 places and at most 10 in size, and TENOR `-`
 //! or a frequency other than the term. INDEX is the rest of the line, at least one byte and at most
-//! [`MOST_INDEX`], none of them a control byte. The format is this project's own.
+//! [`MOST_INDEX`], none of them a control byte. The format is our rule.
 ghost use Rattle.std.specs.Prelude.{◌≢◌, ◌↔◌, ◌≤◌, ℕ, ℤ, List, All, IsTrue, IfSome, IfNone};
 ghost use Rattle.irs_resets.specs.FixingLines.{IsRateText, IsIndexText, Spells};
 ghost use Rattle.irs_resets.specs.declared.store.Slot.{Slot as AtSlot};
@@ -47,7 +47,7 @@ fn is_index(bytes: &[u8]) -> bool
     !bytes.is_empty() && bytes.len() <= MOST_INDEX && has_no_control(bytes)
 }
 
-/// What the line spells; `None` exactly where it spells no fixing.
+/// The fixing that the line spells; `None` where it spells none.
 pub fn fixing_line(line: &[u8]) -> Option<FixingLine<'_>>
     ensures some { IfSome result (λ f. Spells line.now f.index.now f.slot f.rate) }
     ensures none { IfNone result ((index : List ℕ) (slot : AtSlot) (rate : ℤ) → Spells line.now index slot rate → ⊥) }

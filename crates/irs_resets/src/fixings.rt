@@ -1,15 +1,15 @@
 //! Fixings: the rates that were observed, from a file.
 //!
 //! Lines end in LF or CRLF, and the last one may have no end. A line of spaces and tabs alone and a
-//! line whose first byte is `#` are passed over. Each other line gives the rate of an index at a date
-//! and tenor, and no two lines give the same index, date and tenor. The format is this project's own.
-ghost use Rattle.std.specs.Prelude.{◌≡◌, ◌≤◌, ℕ, [], length, IfOk, IfSome, IsErrOf};
+//! line whose first byte is `#` are ignored. Each other line gives the rate of an index at a date
+//! and tenor, and no two lines give the same index, date and tenor. The format is our rule.
+ghost use Rattle.std.specs.Prelude.{◌≡◌, ◌≤◌, ◌↔◌, [], length, IfSome, IsErrOf, IsTrue};
 ghost use Rattle.irs_base.specs.Limits.{most_bytes};
 ghost use Rattle.irs_base.specs.Lines.{lines_of};
 ghost use Rattle.irs_terms.specs.Lawful.{IsRate};
-ghost use Rattle.irs_resets.specs.Rates.{rate_at};
-ghost use Rattle.irs_resets.specs.FixingFiles.{ReadsLine, IsBadLine, StandsAlready, IsBad, Repeats, IsFirstFault};
-ghost use Rattle.irs_resets.specs.FixingFiles.{IsFixingFile};
+ghost use Rattle.irs_resets.specs.Rates.{SameRates, rate_at};
+ghost use Rattle.irs_resets.specs.FixingFiles.{HasNewRate, IsSpelt, StopsAt};
+ghost use Rattle.irs_resets.specs.Outcomes.{DeterminedUpTo, MeetsFile, fixings_of, line_of};
 ghost use Rattle.irs_resets.specs.declared.fixings.FixErr.TheVariants.{Memory as OfMemory};
 
 use crate::fixing_line::fixing_line;
@@ -24,10 +24,10 @@ use thiserror::Error;
 /// The first line of a fixing file that is at fault. Lines count from 1.
 #[derive(Clone, Copy, Debug, Error)]
 pub enum FixErr {
-    /// The line isn't passed over and spells no fixing.
+    /// The line isn't ignored and spells no fixing.
     #[error("line {0} spells no fixing")]
     Syntax(u32),
-    /// The date, tenor and index of the line stand in an earlier line.
+    /// An earlier line has the date, tenor and index of this line.
     #[error("line {0} repeats the date, tenor and index of an earlier line")]
     Repeat(u32),
     /// Memory ran out.
@@ -62,9 +62,8 @@ impl Model for Fixings {
 }
 
 fn read_line(alloc: Global, mut table: Table, line: &[u8], number: u32) -> Result<Table, FixErr>
-    ensures ok { IfOk result (ReadsLine table line.now) }
-    ensures syntax { (n : ℕ) → IsErrOf result (FixErr.Syntax n) → (n ≡ number) × IsBadLine line.now }
-    ensures repeat { (n : ℕ) → IsErrOf result (FixErr.Repeat n) → (n ≡ number) × StandsAlready table line.now }
+    ensures meets { MeetsFile (line_of table line.now number) result }
+    ensures memory { IsErrOf result OfMemory → HasNewRate table line.now }
 {
     if is_passed(line) {
         return Ok(table);
@@ -87,15 +86,14 @@ impl Fixings {
         Fixings { table: None }
     }
 
-    /// The fixings of a file. `Syntax` and `Repeat` come exactly at the first line that is at fault.
+    /// The fixings of a file of at most `MOST_BYTES` bytes. `Syntax` is the first line at fault, where it
+    /// spells no fixing, and `Repeat` the first one, where it repeats an earlier line. Memory may run out
+    /// at a line that gives a rate, so a fault in a later line isn't reported then.
     pub fn read(alloc: Global, bytes: &[u8]) -> Result<Fixings, FixErr>
         requires { length bytes.now ≤ most_bytes }
-        // The file has no line at fault, and the fixings are exactly what its lines spell.
-        ensures ok { IfOk result (IsFixingFile bytes.now) }
-        ensures syntax { (n : ℕ) → IsErrOf result (FixErr.Syntax n)
-            → IsFirstFault (IsBad (lines_of bytes.now)) (lines_of bytes.now) n }
-        ensures repeat { (n : ℕ) → IsErrOf result (FixErr.Repeat n)
-            → IsFirstFault (Repeats (lines_of bytes.now)) (lines_of bytes.now) n }
+        ensures meets { MeetsFile (fixings_of bytes.now) result }
+        // Running out of memory hides no fault of the lines up to the one that was read.
+        ensures memory { IsErrOf result OfMemory → StopsAt (lines_of bytes.now) }
     {
         let mut table = Table::new(alloc);
         let mut rest = bytes;
@@ -120,5 +118,27 @@ impl Fixings {
             Some(table) => table.rate(index.as_slice(), Slot { date: d, tenor }),
             None => None,
         }
+    }
+}
+
+/// A law: a file gives one set of rates, or one first line at fault.
+pub fn fixings_are_determined(bytes: &[u8])
+    ensures { DeterminedUpTo SameRates (fixings_of bytes.now) }
+{
+    let mut rest = bytes;
+    while !rest.is_empty() {
+        let (line, more) = split_line(rest);
+        // hands the prover that the line spells a fixing or doesn't
+        let _decided = is_spelt(line);
+        rest = more;
+    }
+}
+
+fn is_spelt(line: &[u8]) -> bool
+    ensures { IsTrue result ↔ IsSpelt line.now }
+{
+    match fixing_line(line) {
+        Some(_) => true,
+        None => false,
     }
 }

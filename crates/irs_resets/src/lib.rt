@@ -11,6 +11,6 @@ mod store;
 mod tenors;
 mod words;
 
-pub use fixings::{FixErr, Fixings};
+pub use fixings::{FixErr, Fixings, fixings_are_determined};
 pub use rows::{ResErr, resets, resets_are_determined};
 pub use tenors::{IndexTenor, tenor};

@@ -3,7 +3,7 @@
 //!
 //! A stub has the rate or the index that is given for it, and the first regular period the initial
 //! rate where one is given. Every other period has the stream's index. An index is looked up on the
-//! fixing date. That a stub's index doesn't fall back to the stream's is this project's own.
+//! fixing date. That a stub's index doesn't fall back to the stream's is our rule.
 ghost use Rattle.std.specs.Prelude.{◌≡◌, ◌↔◌, IsTrue, IfSome};
 ghost use Rattle.irs_terms.specs.Lawful.{IsRate, IsLawfulFloat, IsLawfulStubs, IsLawfulStubRate};
 ghost use Rattle.irs_resets.specs.ObservedRates.{IsInitial, IsFinal, FollowsStub, IsFirstRegular, IsKind, rate_from};
@@ -14,7 +14,7 @@ use crate::Fixings;
 use irs_base::Day;
 use irs_terms::{FloatTerms, Span, Stream, StubRate, StubTerms};
 
-/// What a calculation period is, as far as its rate goes by it.
+/// What a calculation period is: it decides where the rate of the period comes from.
 #[derive(Clone, Copy, PartialEq, Eq)]
 pub enum PeriodKind {
     /// The first period, where it begins before the regular span.
@@ -41,7 +41,7 @@ fn is_final(s: &Stream, span: &Span, count: usize, number: usize) -> bool
     span.last < s.termination.day && number == count
 }
 
-// The period behind the initial stub, or period 1 where there is none.
+// The period after the initial stub, or period 1 where there is none.
 fn follows_stub(s: &Stream, span: &Span, number: usize) -> bool
     ensures { IsTrue result ↔ FollowsStub s.now span.now number }
 {
@@ -60,7 +60,7 @@ fn is_first_regular(s: &Stream, span: &Span, number: usize) -> bool
     follows_stub(s, span, number)
 }
 
-/// What a period is. Periods count from 1, and there are `count` of them.
+/// What period `number` of `count` is. Periods count from 1.
 pub fn period_kind(s: &Stream, span: &Span, count: usize, number: usize) -> PeriodKind
     ensures { IsKind s.now span.now count number result }
 {
@@ -153,8 +153,8 @@ fn of_first_regular(float: &FloatTerms, fixings: &Fixings, d: Day) -> Option<i64
     }
 }
 
-/// The observed rate of a period of that kind whose fixing date is the day; `None` where the
-/// fixings have no line for it.
+/// The observed rate of a period of this kind with the fixing date `d`; `None` where the fixings
+/// have no line for it.
 pub fn observed(
     kind: PeriodKind,
     float: &FloatTerms,

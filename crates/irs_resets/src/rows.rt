@@ -83,7 +83,7 @@ fn stub_fault(s: &Stream, span: &Span) -> Option<Fault>
     None
 }
 
-// The rule that the dates of a period break.
+// The rule that a period breaks for this reason.
 fn broken_by(why: DateFault, index: u32) -> Fault
     ensures { result ≡ date_fault why index }
 {

@@ -93,7 +93,7 @@ impl Table {
         }
     }
 
-    /// The rate of an index at a date and tenor, in units of 10^-9; `None` exactly where there is none.
+    /// The rate of an index at a date and tenor, in units of 10^-9; `None` where there is none.
     pub fn rate(&self, index: &[u8], slot: Slot) -> Option<i64>
         ensures { result ≡ rate_at self.now index.now slot }
     {
@@ -103,7 +103,7 @@ impl Table {
         }
     }
 
-    /// Puts the rate there; where memory runs out the table is of no more use.
+    /// Adds a rate. After it runs out of memory the table can't be used any more.
     pub fn add(&mut self, alloc: Global, index: &[u8], slot: Slot, rate: i64) -> Result<(), Memory>
         ensures { OnOk result (Adds self.old index.now slot rate self.new) }
     {

@@ -21,7 +21,7 @@ fn digit(b: u8) -> Option<u16>
     }
 }
 
-// A digit that may stand first: no zero.
+// The first digit of a number, which is not zero.
 fn leading(b: u8) -> Option<u16>
     ensures value { result ≡ first_digit b }
     ensures small { IfSome result (λ n. n ≤ 9) }
@@ -68,7 +68,7 @@ fn frequency(count: Option<u16>, unit: Option<Unit>) -> Option<IndexTenor>
     }
 }
 
-/// The tenor that a word spells; `None` where it spells none.
+/// The tenor that a word spells: the inner `None` is `-`, the outer `None` is no tenor.
 pub fn tenor(word: &[u8]) -> Option<IndexTenor>
     ensures { result ≡ tenor_at word.now }
 {

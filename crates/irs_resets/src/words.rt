@@ -1,4 +1,4 @@
-//! The words of a line of a fixing file, and the rest of the line behind them.
+//! The words of a line of a fixing file, and the rest of the line after them.
 //!
 //! Words are separated by one or more spaces or tabs. The rest keeps the spaces inside it.
 ghost use Rattle.std.specs.Prelude.{◌≡◌};
@@ -21,7 +21,7 @@ fn split_word(bytes: &[u8]) -> (&[u8], &[u8])
     (bytes, &[])
 }
 
-/// The first word, and what stands behind the gap that follows it.
+/// The first word, and what comes after the gap that follows it.
 pub fn first_word(bytes: &[u8]) -> (&[u8], &[u8])
     ensures word { result.0.now ≡ word bytes.now }
     ensures rest { result.1.now ≡ behind_gap bytes.now }
@@ -47,7 +47,7 @@ fn is_blank(line: &[u8]) -> bool
     line.iter().all(|b| is_gap(*b))
 }
 
-/// The line is passed over: it holds spaces and tabs alone, or its first byte is `#`.
+/// The line is ignored: it holds spaces and tabs alone, or its first byte is `#`.
 pub fn is_passed(line: &[u8]) -> bool
     ensures { result ≡ is_passed line.now }
 {

@@ -20,8 +20,7 @@ returns-in-Some-clause-meets g c =
     (g.G.GoodDays.days c.args.fixing_days.now) in
     let stubs = no_stub (BreaksStubs source.stream source.span) c.stub_fault.result c.if-is_none.ensures
     c.stub_fault.ensures in
-    let rows = rw c.as_slice-days.ensures.value at c.in-Some.ensures.some in
-    (
+    let rows = rw c.as_slice-days.ensures.value at c.in-Some.ensures.some in (
       listed_unbroken source c.args.float.now c.args.terms.now c.args.fixings.now c.in-Some.rows
           c.requires.reset stubs rows,
       resets_in source c.args.fixings.now c.args.float.now c.args.terms.now c.in-Some.rows c.requires.leg
