@@ -11,7 +11,7 @@ use Rattle.irs_terms.specs.StepDates.{StepsRise}
 use Rattle.irs_compound.specs.InForceLaws.{same_day, behind, rest}
 use Rattle.irs_compound.specs.StepCounts.{IsCountTo}
 
--- of steps that rise, none is after one that stands behind it
+-- of steps that rise, none is after a later one
 pub rises_to : (steps : List Step) (i k : ℕ) (e : Step) → StepsRise steps → i ≤ k → k < length steps
     → (get_or steps i e).day ≤ℤ (get_or steps k e).day
 rises_to [] i k e r l h = absurd (omega arith)
@@ -76,7 +76,7 @@ rises_by s (t ∷ ss) (suc k) e r l =
     let a = rises_by t ss k e r.1 (omega (arith, l)) in
     omega (arith, signed_arith, a, r.0)
 
--- so there are no more of them behind the first than days up to the last
+-- so there are no more of them after the first than days up to the last
 pub few_gaps : (steps : List Step) (n : ℕ) (first last : Step) (days : ℕ) → StepsRise steps → 0 < length steps
     → n ≡ length steps - 1 → first ≡ get_or steps 0 first → last ≡ get_or steps n last
     → (first.day +ℤ pos days) ≡ last.day → n ≤ days

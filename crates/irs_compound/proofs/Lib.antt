@@ -8,3 +8,4 @@ pub mod RateSizes
 pub mod CountedSteps
 pub mod FoundSteps
 pub mod PeriodSizes
+pub mod Outcomes

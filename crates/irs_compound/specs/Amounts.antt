@@ -1,8 +1,6 @@
--- Amounts of the periods of a payment, and of the payment: the 2006 ISDA Definitions, articles 5 and 6. That flat
--- compounding
--- takes the base rate, and compounding with the spread exclusive, are this project's own. Notionals are in units of
--- 10^-4,
--- rates in units of 10^-9.
+-- Amounts of the periods of a payment, and of the payment: the 2006 ISDA Definitions, articles 5 and 6. Notionals are
+-- in units of 10^-4, rates in units of 10^-9. Two rules are ours: that flat compounding takes the base rate, and how
+-- the spread is excluded from compounding.
 use Rattle.std.specs.Prelude.{◌≡◌, ℕ, ℤ, pos, ◌+◌, ◌-◌, ◌*◌, ◌^◌, ◌≤◌, ◌+ℤ◌, ◌-ℤ◌, ◌*ℤ◌, ◌≤ℤ◌, unsigned_abs, List, []}
 use Rattle.std.specs.Prelude.{◌∷◌, ◌++◌, length, All, IsSome, IsSomeAnd, Option, Some, None, slice_get, take, nat_lt}
 use Rattle.irs_base.specs.Limits.{most_notional, most_numerator, most_periods, most_rate}
@@ -80,8 +78,8 @@ abbrev pub total : List Parts → ℤ
 total [] = pos 0
 total (c ∷ cs) = amount c +ℤ total cs
 
--- what of the amount of a period bears interest in later periods: without compounding nothing, with straight and flat
--- compounding all of it, and with the spread exclusive its compounded part
+-- the part of a period's amount that bears interest in later periods: none without compounding, all of it with straight
+-- and flat compounding, and the compounded part with the spread exclusive
 abbrev pub kept_of : CompCode → Parts → ℤ
 kept_of Simple c = pos 0
 kept_of Straight c = amount c
@@ -93,14 +91,14 @@ abbrev pub kept : CompCode → List Parts → ℤ
 kept code [] = pos 0
 kept code (c ∷ cs) = kept_of code c +ℤ kept code cs
 
--- the parts of a period, where `before` is what the earlier periods of the payment left to bear interest.
+-- The parts of a period, where `before` is what bears interest of the earlier periods of the payment.
 -- Without compounding: notional times rate times fraction, exact, in units of 10^-13 over the denominator.
--- Straight: the notional and all earlier amounts at the rate. Flat: the basic amount is the notional at the rate,
--- the additional one all earlier basic and additional amounts at the base rate. Spread exclusive: the compounded
--- part is
--- the notional and all earlier compounded parts at the base rate, the spread part the notional at the rate less the
--- base
--- rate. All to the nearest unit of 10^-6.
+-- Straight: interest on the notional and all earlier amounts, at the rate.
+-- Flat: the basic amount is interest on the notional at the rate. The additional amount is interest on all earlier
+-- amounts, basic and additional, at the base rate.
+-- Spread exclusive: the compounded part is interest on the notional and all earlier compounded parts, at the base rate.
+-- The spread part is interest on the notional at the rate less the base rate.
+-- All but the first to the nearest unit of 10^-6.
 abbrev pub StandsAt : CompCode → PeriodTerm → Rates → ℤ → Parts → Type 0
 StandsAt Simple p r before c = (c.main ≡ p.notional *ℤ r.all_in *ℤ p.frac.num) × (c.extra ≡ pos 0)
 StandsAt Straight p r before c = Interest (pos 100 *ℤ p.notional +ℤ before) r.all_in p.frac c.main × (c.extra ≡ pos 0)
@@ -110,11 +108,11 @@ StandsAt SpreadExclusive p r before c =
     Interest (pos 100 *ℤ p.notional +ℤ before) r.base p.frac c.main
     × Interest (pos 100 *ℤ p.notional) (r.all_in -ℤ r.base) p.frac c.extra
 
--- the parts of a period whose rates are there, behind those of all earlier periods of the payment
+-- the parts of a period whose rates are there, after those of all earlier periods of the payment
 abbrev pub Stands : CompCode → PeriodTerm → List Parts → Parts → Type 0
 Stands code p earlier c = IsSomeAnd p.rates (λ r. StandsAt code p r (kept code earlier) c)
 
--- each of the parts stands with its period and with the parts of all periods before it
+-- the parts of each period are those that follow from the parts of all periods before it
 abbrev pub FollowsFrom : CompCode → List Parts → List PeriodTerm → List Parts → Type 0
 FollowsFrom code earlier [] [] = Unit {0}
 FollowsFrom code earlier [] (c ∷ cs) = ⊥
@@ -129,25 +127,23 @@ Follows code ps cs = FollowsFrom code [] ps cs
 abbrev pub RatesWithin : Rates → Type 0
 RatesWithin r = IsRate r.base × IsRate r.all_in
 
--- neither a part nor one of the sums is above 10^14 units of currency in size; the two parts of a period together
--- may be
+-- neither a part nor a sum is above 10^14 units of currency in size; the two parts of a period together may be
 abbrev pub PartsWithin : Parts → ℤ → ℤ → Type 0
 PartsWithin c sum kept_sum =
     (unsigned_abs c.main ≤ most_amount) × (unsigned_abs c.extra ≤ most_amount) × (unsigned_abs sum ≤ most_amount)
     × (unsigned_abs kept_sum ≤ most_amount)
 
--- the amounts through a period: without compounding their exact sum alone is bounded; else the parts of the period,
--- the sum
--- of the amounts and the sum of what bears interest later. With straight and flat compounding the two sums are one;
--- with
--- the spread exclusive spread parts may cancel compounded ones, so that each of the two is bounded by itself
+-- The amounts up to a period are in range. Without compounding their exact sum alone is bounded. Else the parts of the
+-- period are bounded, the sum of the amounts, and the sum of what bears interest later. The two sums are the same with
+-- straight and flat compounding. With the spread exclusive, spread parts may cancel compounded ones, so each sum has
+-- its own bound.
 abbrev pub SumsWithin : CompCode → PeriodTerm → Parts → ℤ → ℤ → Type 0
 SumsWithin Simple p c sum kept_sum = unsigned_abs sum ≤ most_exact * unsigned_abs p.frac.den
 SumsWithin Straight p c sum kept_sum = PartsWithin c sum kept_sum
 SumsWithin Flat p c sum kept_sum = PartsWithin c sum kept_sum
 SumsWithin SpreadExclusive p c sum kept_sum = PartsWithin c sum kept_sum
 
--- a period leaves the range neither by its rates nor by its amounts
+-- neither the rates of a period nor its amounts leave the range
 abbrev pub Within : CompCode → PeriodTerm → Parts → ℤ → ℤ → Type 0
 Within code p c sum kept_sum = IsSomeAnd p.rates RatesWithin × SumsWithin code p c sum kept_sum
 

@@ -76,7 +76,7 @@ pub last_from-push : (d : ℤ) (last : Option Step) (xs : List Step) (s : Step)
 last_from-push d last [] s = refl
 last_from-push d last (x ∷ xs) s = last_from-push d (counted_step d last x) xs s
 
--- where steps rise, those behind the first are after it
+-- where steps rise, the others are after the first
 pub behind : (s : Step) (ss : List Step) → StepsRise (s ∷ ss) → All (λ t. s.day <ℤ t.day) ss
 behind s [] h = All-nil (λ t. s.day <ℤ t.day)
 behind s (t ∷ ss) h =

@@ -8,3 +8,4 @@ pub mod Balances
 pub mod Tens
 pub mod PartsLaws
 pub mod AmountLaws
+pub mod Outcomes

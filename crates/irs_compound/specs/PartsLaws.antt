@@ -130,7 +130,7 @@ follows_exists code earlier (p ∷ ps) f h =
     (All-tail (λ q. IsSome q.rates) p ps h) in
     (c.0 ∷ cs.0, (c.1, cs.1))
 
--- the range of a period behind the parts of the earlier ones
+-- the range of a period after the parts of the earlier ones
 abbrev pub WithinAfter : CompCode → PeriodTerm → List Parts → Parts → Type 0
 WithinAfter code p cs c = Within code p c (total cs +ℤ amount c) (kept code cs +ℤ kept_of code c)
 

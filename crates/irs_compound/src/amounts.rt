@@ -1,9 +1,10 @@
 //! The amount of a payment: the sum over its periods, rounded once to the decimals of its currency.
-ghost use Rattle.std.specs.Prelude.{◌≡◌, ℕ, ◌-◌, ◌≤◌, IfOk, IfErr, OnOk, length, nat_lt, pos, ◌≤ℤ◌};
+ghost use Rattle.std.specs.Prelude.{◌≡◌, ◌-◌, ◌≤◌, IfOk, IfErr, length, nat_lt, pos, ◌≤ℤ◌};
 ghost use Rattle.irs_base.specs.Order.{First};
 ghost use Rattle.irs_daycount.specs.Actual.{act_act_denominator};
-ghost use Rattle.irs_compound.specs.Amounts.{IsPayment, AllPriced, Passes, Pays, RoundedAt, code_for, most_places};
+ghost use Rattle.irs_compound.specs.Amounts.{IsPayment, AllPriced, Passes, RoundedAt, code_for, most_places};
 ghost use Rattle.irs_compound.specs.Balances.{BalanceFits, Balances};
+ghost use Rattle.irs_compound.specs.Outcomes.{MeetsPosition, pay_of};
 
 use crate::balances::{Balance, next_balance};
 use crate::compounding::OutOfRange;
@@ -12,15 +13,13 @@ use crate::products::{finer, ten_to};
 use irs_base::{Direction, round};
 use irs_terms::CompCode;
 
-/// The amount of a payment that has all its rates, in units of 10^-places. One period is never
-/// compounded.
+/// The amount of a payment that has all its rates, in units of 10^-places, or the first period that
+/// leaves the range. One period is never compounded.
 pub fn amount_by(code: CompCode, periods: &[PeriodTerm], places: u8) -> Result<i128, OutOfRange>
     requires payment { IsPayment periods.now }
     requires priced { AllPriced periods.now }
     requires places_fit { places ≤ most_places }
-    ensures amount { IfOk result (λ m. Pays (code_for code periods.now) periods.now places m) }
-    ensures within { OnOk result ((n : ℕ) → Passes (code_for code periods.now) periods.now n → ⊥) }
-    ensures out { IfErr result (λ e. First nat_lt (Passes (code_for code periods.now) periods.now) e.period) }
+    ensures { MeetsPosition (pay_of (code_for code periods.now) periods.now places) result }
 {
     compounded(code_for(code, periods), periods, places)
 }
@@ -39,9 +38,7 @@ fn compounded(code: CompCode, periods: &[PeriodTerm], places: u8) -> Result<i128
     requires payment { IsPayment periods.now }
     requires priced { AllPriced periods.now }
     requires places_fit { places ≤ most_places }
-    ensures amount { IfOk result (λ m. Pays code periods.now places m) }
-    ensures within { OnOk result ((n : ℕ) → Passes code periods.now n → ⊥) }
-    ensures out { IfErr result (λ e. First nat_lt (Passes code periods.now) e.period) }
+    ensures { MeetsPosition (pay_of code periods.now places) result }
 {
     let balance = balance_of(code, periods)?;
     Ok(rounded_sum(code, balance, periods[0].frac.den, places))
@@ -66,7 +63,7 @@ fn balance_of(code: CompCode, periods: &[PeriodTerm]) -> Result<Balance, OutOfRa
     Ok(balance)
 }
 
-// The sum to the nearest unit of 10^-places; without compounding it is over the denominator.
+// The sum to the nearest unit of 10^-places. Without compounding the sum is a numerator over `den`.
 fn rounded_sum(code: CompCode, balance: Balance, den: i64, places: u8) -> i128
     requires den_low { pos 1 ≤ℤ den }
     requires den_high { den ≤ℤ pos act_act_denominator }

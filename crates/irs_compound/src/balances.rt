@@ -1,9 +1,9 @@
 //! The balance that is carried from period to period of a payment: the sum of the amounts so far,
 //! and the part of it that bears interest in later periods.
 //!
-//! An amount that leaves the range stops it: each part of an amount and each of the two sums is at
-//! most 10^14 units of currency in size, rates are at most 10. Rates are looked at before they are
-//! multiplied, and parts before they are added.
+//! Each part of an amount and each of the two sums is at most 10^14 units of currency in size, and
+//! rates are at most 10; the first period outside these limits ends the calculation. Rates are tested
+//! before they are multiplied, and parts before they are added, so that no product passes 128 bits.
 ghost use Rattle.std.specs.Prelude.{◌≡◌, ◌+◌, ◌*◌, ◌-◌, ◌≤◌, pos, ◌≤ℤ◌, ◌+ℤ◌, ◌-ℤ◌, ◌*ℤ◌};
 ghost use Rattle.std.specs.Prelude.{unsigned_abs, IfSome, IfNone, SomeIff, MatchBool, IsSome};
 ghost use Rattle.irs_base.specs.Limits.{most_notional, most_rate};
@@ -25,18 +25,18 @@ const MOST_AMOUNT: u128 = 100_000_000_000_000_000_000;
 /// The same in units of 10^-13.
 const MOST_EXACT: u128 = 1_000_000_000_000_000_000_000_000_000;
 
-/// What the periods so far make: without compounding exact, in units of 10^-13 over the
+/// The balance of the periods so far: without compounding exact, in units of 10^-13 over the
 /// denominator of the fractions, else in units of 10^-6.
 #[derive(Clone, Copy)]
 pub struct Balance {
     /// The sum of their amounts.
     pub sum: i128,
-    /// What of it bears interest in later periods.
+    /// The part of it that bears interest in later periods.
     pub kept: i128,
 }
 
-/// The balance with one more period, which has its rates; `None` exactly where a rate, an amount
-/// or a sum leaves the range.
+/// The balance with one more period, which has its rates; `None` where a rate, an amount or a sum
+/// leaves the range.
 pub fn next_balance(code: CompCode, p: &PeriodTerm, before: Balance) -> Option<Balance>
     requires term { IsTerm p.now.frac.den p.now }
     requires priced { IsSome p.now.rates }
@@ -196,7 +196,7 @@ fn add_parts(code: CompCode, before: Balance, parts: Parts) -> Option<Balance>
     add_amount(before, amount(parts), kept_of(code, parts))
 }
 
-// What of the parts of a period bears interest in later periods.
+// The part of a period's amount that bears interest in later periods.
 fn kept_of(code: CompCode, parts: Parts) -> i128
     requires main_fits { unsigned_abs parts.main ≤ most_amount }
     requires extra_fits { unsigned_abs parts.extra ≤ most_amount }

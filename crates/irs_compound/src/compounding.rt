@@ -1,19 +1,20 @@
-//! Compounding as types: one for each code, and a trait for what works with any of them.
-ghost use Rattle.std.specs.Prelude.{◌≡◌, ℕ, ℤ, ◌≤◌, IfOk, IfErr, OnOk, List, nat_lt};
-ghost use Rattle.irs_base.specs.Order.{First};
+//! Compounding as types: one for each code, and a trait for callers that work with any of them.
+ghost use Rattle.std.specs.Prelude.{◌≡◌, ℕ, ℤ, ◌≤◌, List, nat_lt};
+ghost use Rattle.irs_base.specs.Outcomes.{unless_broken};
 ghost use Rattle.irs_terms.specs.declared.codes.CompCode.{CompCode};
 ghost use Rattle.irs_compound.specs.declared.periods.PeriodTerm.{PeriodTerm};
 ghost use Rattle.irs_compound.specs.Amounts.{IsPayment, AllPriced, Passes, Pays, code_for, most_places};
 ghost use Rattle.irs_compound.specs.AmountLaws.{one_amount_of, some_amount_of};
+ghost use Rattle.irs_compound.specs.Outcomes.{MeetsPosition};
 
 use crate::amounts::amount_by;
 use crate::periods::PeriodTerm;
 use irs_terms::CompCode;
 use thiserror::Error;
 
-/// A rate or an amount of a payment leaves the range: the position, from 1, of the first period at
-/// which the base rate or the rate passes 10 in size, or an amount or a sum of amounts 10^14 units
-/// of currency.
+/// A rate or an amount of a payment leaves the range (K39): the position, from 1, of the first period
+/// where the base rate or the rate passes 10 in size, or an amount or a sum of amounts passes 10^14
+/// units of currency.
 #[derive(Clone, Copy, Debug, Error)]
 #[error("period {period} of the payment is out of range")]
 pub struct OutOfRange {
@@ -26,20 +27,19 @@ pub trait Compounding {
     // The amount that periods pay, in units of 10^-places.
     ghost pays: { Self → List PeriodTerm → ℕ → ℤ → Type 0 };
 
-    // The period with that number, from 1, leaves the range.
+    // The period at that position, from 1, leaves the range.
     ghost passes: { Self → List PeriodTerm → ℕ → Type 0 };
 
-    /// The amount of a payment, in units of 10^-places: its periods are at least one and at most as
-    /// many as a stream may have, with one denominator and all their rates, each with a lawful
-    /// notional and a fraction of one of the seven day counts; places is at most 3. `OutOfRange`
-    /// comes exactly with the first period at which a rate, an amount or a sum leaves the range.
+    /// The amount of a payment, in units of 10^-places. The payment has at least one period and at
+    /// most `MOST_PERIODS`, with one denominator and all their rates, each with a lawful notional and
+    /// a fraction of one of the seven day counts; `places` is at most 3. `OutOfRange` is the first
+    /// period where a rate, an amount or a sum leaves the range.
     fn amount(&self, periods: &[PeriodTerm], places: u8) -> Result<i128, OutOfRange>
         requires payment { IsPayment periods.now }
         requires priced { AllPriced periods.now }
         requires places_fit { places ≤ most_places }
-        ensures amount { IfOk result (λ m. pays self.now periods.now places m) }
-        ensures within { OnOk result ((n : ℕ) → passes self.now periods.now n → ⊥) }
-        ensures out { IfErr result (λ e. First nat_lt (passes self.now periods.now) e.period) };
+        ensures { let amount_of = unless_broken nat_lt (passes self.now periods.now) (pays self.now periods.now places) in
+            MeetsPosition amount_of result };
 
     // Periods pay at most one amount.
     ghost one_amount: { (s : Self) (ps : List PeriodTerm) (k : ℕ) (m n : ℤ)
@@ -88,7 +88,7 @@ impl Compounding for Straight {
 }
 
 /// Flat compounding: the notional bears interest at the rate, all earlier amounts of the payment at the
-/// base rate, each at 6 decimals. That it is the base rate is this project's own.
+/// base rate, each at 6 decimals. That it is the base rate is our rule.
 #[derive(Clone, Copy)]
 pub struct Flat;
 
@@ -108,7 +108,7 @@ impl Compounding for Flat {
 
 /// Compounding with the spread exclusive: the notional and all earlier compounded parts of the payment
 /// bear interest at the base rate, the notional alone at the rate less the base rate, each at 6
-/// decimals. The rule is this project's own.
+/// decimals. The rule is our own choice.
 #[derive(Clone, Copy)]
 pub struct SpreadExclusive;
 

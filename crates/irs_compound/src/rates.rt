@@ -3,8 +3,8 @@
 //! The base rate is the multiplier times the observed rate, the rate is that plus the spread, with
 //! multiplier and spread in force on the period's unadjusted start. Each is rounded once from its
 //! exact value (2006 ISDA Definitions, article 8). Under FpML's ZeroInterestRateMethod a rate below 0
-//! is then 0, and the base rate stays. That the base rate is rounded as the rate is, and what the
-//! treatment is of, are this project's own.
+//! is then 0, and the base rate stays. That the base rate is rounded as the rate is, and that the
+//! treatment applies to the rounded rate with the spread, are our rules.
 ghost use Rattle.std.specs.Prelude.{◌≡◌, ◌+◌, ◌-◌, ◌*◌, ◌≤◌, ◌^◌, pos, ◌+ℤ◌, ◌*ℤ◌, unsigned_abs};
 ghost use Rattle.irs_base.specs.Rounding.{rounded};
 ghost use Rattle.irs_terms.specs.Lawful.{IsRate, IsLawfulValues, IsLawfulFloat};

@@ -8,7 +8,7 @@ ghost use Rattle.irs_compound.specs.StepCounts.{IsCountTo};
 use irs_base::Day;
 use irs_terms::Step;
 
-/// How many steps aren't after the day; they stand before those that are.
+/// The number of steps that aren't after the day; they come before those that are.
 pub(crate) fn count_to(steps: &[Step], d: Day) -> usize
     requires rises { StepsRise steps.now }
     requires some { 0 < length steps.now }
@@ -22,8 +22,8 @@ pub(crate) fn count_to(steps: &[Step], d: Day) -> usize
     }
 }
 
-// How many there are if the steps are evenly spaced; elsewhere it may be any number of them. A day
-// counts for the step that is nearest, since most periods begin on the day of a step.
+// The count if the steps are evenly spaced, else a guess. The step nearest to the day is taken, since
+// most periods begin on the day of a step.
 #[tactic(auto, using(crate::proofs::CountedSteps::few_gaps))]
 fn even_count(steps: &[Step], d: Day) -> usize
     requires rises { StepsRise steps.now }
@@ -42,7 +42,7 @@ fn even_count(steps: &[Step], d: Day) -> usize
     nearest_gap(gaps, days_after(first, d), days_after(first, last)) + 1
 }
 
-// The end of which of so many even gaps of the whole is nearest to these days.
+// The index of the evenly spaced step that is nearest to `days`.
 #[tactic(auto, using(crate::proofs::CountedSteps::within_gaps))]
 fn nearest_gap(gaps: usize, days: usize, whole: usize) -> usize
     requires some { 0 < whole }
@@ -63,7 +63,7 @@ fn days_after(first: Day, d: Day) -> usize
     (d.number() - first.number()) as usize
 }
 
-// Whether so many steps aren't after the day: the last of them isn't, and the next one is.
+// Whether the first `count` steps alone aren't after the day: the last of them isn't, the next one is.
 fn is_count(steps: &[Step], d: Day, count: usize) -> bool
     requires rises { StepsRise steps.now }
     requires bound { count ≤ length steps.now }
