@@ -16,7 +16,7 @@ mod step_counts;
 mod step_values;
 
 pub use compounding::{Compounding, Flat, OutOfRange, Simple, SpreadExclusive, Straight};
-pub use payments::{payment_amount, payment_amount_is_determined};
+pub use payments::{payment_amount, payment_amount_is_bounded, payment_amount_is_determined};
 pub use periods::{Parts, PeriodTerm, Rates};
 pub use rates::{fixed_rates, period_rates};
 pub use rising_rates::rates_of_rising;

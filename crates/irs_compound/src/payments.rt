@@ -1,9 +1,10 @@
 //! The amount of a payment by the code of its compounding, with or without all its rates: the 2006
 //! ISDA Definitions, articles 5 and 6.
-ghost use Rattle.std.specs.Prelude.{◌≡◌, ◌≤◌, List, MatchBool};
+ghost use Rattle.std.specs.Prelude.{◌≡◌, ◌≤◌, ℕ, ℤ, List, length, Option, IfSome, MatchBool, unsigned_abs};
 ghost use Rattle.irs_base.specs.Outcomes.{Determined};
 ghost use Rattle.irs_compound.specs.declared.periods.Parts.{Parts};
-ghost use Rattle.irs_compound.specs.Amounts.{IsPayment, AllPriced, SomeUnpriced, Follows, most_places};
+ghost use Rattle.irs_compound.specs.Amounts.{IsPayment, AllPriced, SomeUnpriced, IsOutOfRange, Follows};
+ghost use Rattle.irs_compound.specs.Amounts.{most_places, most_units};
 ghost use Rattle.irs_compound.specs.Outcomes.{MeetsPosition, payment_amount_of};
 
 use crate::amounts::amount_by;
@@ -40,6 +41,16 @@ pub fn payment_amount_is_determined(code: CompCode, periods: &[PeriodTerm], plac
     requires { IsPayment periods.now }
     ensures determined { Determined (payment_amount_of code periods.now places) }
     ensures one_list { (cs ds : List Parts) → Follows code periods.now cs → Follows code periods.now ds → cs ≡ ds }
+{}
+
+/// A law: an amount is at most 10^14 units of currency in size, and a position that leaves the range is
+/// one of the payment's.
+pub fn payment_amount_is_bounded(code: CompCode, periods: &[PeriodTerm], places: u8)
+    requires payment { IsPayment periods.now }
+    requires places_fit { places ≤ most_places }
+    ensures size { (m : Option ℤ) → (payment_amount_of code periods.now places).Answers m
+        → IfSome m (λ units. unsigned_abs units ≤ most_units places) }
+    ensures position { (n : ℕ) → IsOutOfRange code periods.now n → (1 ≤ n) × (n ≤ length periods.now) }
 {}
 
 fn all_priced(periods: &[PeriodTerm]) -> bool
