@@ -14,7 +14,6 @@ ghost use Rattle.irs_compound.specs.InForce.{value_in_force};
 ghost use Rattle.irs_compound.specs.PeriodRates.{RatesOf, FixedRatesOf, rate_at, treated, all_in_at};
 ghost use Rattle.irs_compound.specs.PeriodRates.{rates_of, fixed_rates_of, most_exact_base, most_exact_rate};
 ghost use Rattle.irs_compound.specs.PeriodRates.{most_rounded_rate};
-ghost use Rattle.irs_terms.specs.StepDates.{StepsRise};
 
 use crate::periods::Rates;
 use crate::products::{product, ten_to};
@@ -31,9 +30,6 @@ pub fn period_rates(f: &FloatTerms, start: Day, observed: i64) -> Rates
     ensures value { result ≡ rates_of f.now start observed }
     ensures base_fits { unsigned_abs result.base ≤ most_rounded_rate }
     ensures all_in_fits { unsigned_abs result.all_in ≤ most_rounded_rate }
-    // Where the steps rise there is one such pair of rates.
-    ensures one { StepsRise f.now.multiplier.steps → StepsRise f.now.spread.steps → (a b : Rates)
-        → RatesOf f.now start observed a → RatesOf f.now start observed b → a ≡ b }
 {
     rates_on(f, start, observed)
 }
@@ -46,9 +42,6 @@ pub fn fixed_rates(values: &StepValues, start: Day) -> Rates
     ensures value { result ≡ fixed_rates_of values.now start }
     ensures base_fits { IsRate result.base }
     ensures all_in_fits { IsRate result.all_in }
-    // Where the steps rise there is one such pair of rates.
-    ensures one { StepsRise values.now.steps → (a b : Rates)
-        → FixedRatesOf values.now start a → FixedRatesOf values.now start b → a ≡ b }
 {
     fixed_from(rate_in_force(values, start))
 }

@@ -13,9 +13,9 @@ use crate::rising_steps::in_force_of_rising;
 use irs_base::Day;
 use irs_terms::{FloatTerms, Leg, StepValues};
 
-/// The rates of a period by the leg of its stream, of which the days of the steps rise, as the rules of
-/// the terms ask: on a fixed stream those of the rate in force, on a floating one those of the observed
-/// rate, which is at most 10 in size, and `None` exactly where there is none. They are those of
+/// The rates of a period by the leg of its stream, whose steps rise by day, as the rules of the terms
+/// require: on a fixed stream those of the rate in force, on a floating one those of the observed rate,
+/// which is at most 10 in size, and `None` where there is no observed rate. They equal those of
 /// `fixed_rates` and `period_rates`, which look at each step. `start` is the period's unadjusted start;
 /// rates are in units of 10^-9.
 pub fn rates_of_rising(leg: &Leg, start: Day, observed: Option<i64>) -> Option<Rates>
@@ -25,11 +25,15 @@ pub fn rates_of_rising(leg: &Leg, start: Day, observed: Option<i64>) -> Option<R
     ensures rates { AreRates leg.now start observed result }
     ensures value { result ≡ rates_by leg.now start observed }
     ensures size { IfSome result (λ r. unsigned_abs r.all_in ≤ most_rounded_rate) }
-    // There is one such pair of rates, or none.
-    ensures one { (x y : Option Rates) → AreRates leg.now start observed x → AreRates leg.now start observed y → x ≡ y }
 {
     rates_by_leg(leg, start, observed)
 }
+
+/// A law: where the days of the steps of a leg rise a period has one pair of rates, or it has none.
+pub fn rates_are_determined(leg: &Leg, start: Day, observed: Option<i64>)
+    requires { LegStepsRise leg.now }
+    ensures { (x y : Option Rates) → AreRates leg.now start observed x → AreRates leg.now start observed y → x ≡ y }
+{}
 
 fn rates_by_leg(leg: &Leg, start: Day, observed: Option<i64>) -> Option<Rates>
     requires leg { IsLawfulLeg leg.now }

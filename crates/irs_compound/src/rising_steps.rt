@@ -14,11 +14,15 @@ pub fn in_force_of_rising(values: &StepValues, d: Day) -> i128
     requires rises { StepsRise values.now.steps }
     ensures relation { InForce values.now d result }
     ensures value { result ≡ value_in_force values.now d }
-    // There is one such value.
-    ensures one { (v w : ℤ) → InForce values.now d v → InForce values.now d w → v ≡ w }
 {
     value_of_rising(values, d)
 }
+
+/// A law: where the days of the steps rise there is one value in force on a day.
+pub fn value_in_force_is_determined(values: &StepValues, d: Day)
+    requires { StepsRise values.now.steps }
+    ensures { (v w : ℤ) → InForce values.now d v → InForce values.now d w → v ≡ w }
+{}
 
 fn value_of_rising(values: &StepValues, d: Day) -> i128
     requires { StepsRise values.now.steps }

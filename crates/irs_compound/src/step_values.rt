@@ -1,8 +1,7 @@
 //! The value that a schedule of steps gives on a day: that of the last step whose date isn't after
 //! the day, else the initial value (FpML `Schedule`).
-ghost use Rattle.std.specs.Prelude.{◌≡◌, ℤ};
+ghost use Rattle.std.specs.Prelude.{◌≡◌};
 ghost use Rattle.irs_compound.specs.InForce.{InForce, counted_step, last_from, value_in_force};
-ghost use Rattle.irs_terms.specs.StepDates.{StepsRise};
 
 use irs_base::Day;
 use irs_terms::{Step, StepValues};
@@ -12,8 +11,6 @@ use irs_terms::{Step, StepValues};
 pub fn in_force(values: &StepValues, d: Day) -> i128
     ensures relation { InForce values.now d result }
     ensures value { result ≡ value_in_force values.now d }
-    // Where the steps rise there is one such value.
-    ensures one { StepsRise values.now.steps → (v w : ℤ) → InForce values.now d v → InForce values.now d w → v ≡ w }
 {
     value_on(values, d)
 }

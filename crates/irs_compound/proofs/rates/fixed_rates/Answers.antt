@@ -2,7 +2,7 @@ use Rattle.std.proofs.Common.{rules, ◌≡◌, sym, subst, FitsSigned}
 use Rattle.std.specs.Int.{w128}
 use Rattle.std.proofs.lemmas.Int.{to_z-of_z}
 use Rattle.irs_compound.specs.PeriodRates.{FixedRatesOf}
-use Rattle.irs_compound.specs.RateLaws.{fixed_rates_are, fixed_rates_value, one_fixed_rates}
+use Rattle.irs_compound.specs.RateLaws.{fixed_rates_are, fixed_rates_value}
 use Rattle.irs_compound.proofs.rates.fixed_rates.Goals as goal
 
 pub returns-clause-value : goal.returns-clause-value
@@ -17,6 +17,3 @@ pub returns-clause-rates : goal.returns-clause-rates
 returns-clause-rates c =
     subst (FixedRatesOf c.args.values.now c.args.start) (sym (returns-clause-value c))
     (fixed_rates_are c.args.values.now c.args.start)
-
-pub returns-clause-one : goal.returns-clause-one
-returns-clause-one c = λ r a b x y. one_fixed_rates c.args.values.now c.args.start a b r x y

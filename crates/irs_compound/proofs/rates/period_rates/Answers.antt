@@ -3,7 +3,7 @@ use Rattle.std.specs.Int.{w64}
 use Rattle.std.proofs.lemmas.Int.{to_z-of_z}
 use Rattle.irs_compound.specs.declared.periods.Rates.{Rates}
 use Rattle.irs_compound.specs.PeriodRates.{RatesOf, rates_of}
-use Rattle.irs_compound.specs.RateLaws.{rates_are, one_rates}
+use Rattle.irs_compound.specs.RateLaws.{rates_are}
 use Rattle.irs_compound.proofs.rates.period_rates.Goals as goal
 
 pub returns-clause-rates : goal.returns-clause-rates
@@ -13,6 +13,3 @@ returns-clause-rates c =
     simp to_z-of_z at c.rates_on.ensures.value in
     subst (λ (r : Rates). RatesOf c.args.f.now c.args.start c.args.observed r) (sym e)
     (rates_are c.args.f.now c.args.start c.args.observed)
-
-pub returns-clause-one : goal.returns-clause-one
-returns-clause-one c = λ r q a b x y. one_rates c.args.f.now c.args.start c.args.observed a b r q x y

@@ -1,6 +1,6 @@
 use Rattle.std.proofs.Common.{◌≤◌, Option, IfSome, sym, subst, unsigned_abs}
 use Rattle.irs_compound.specs.PeriodRates.{AreRates, most_rounded_rate}
-use Rattle.irs_compound.specs.RateLaws.{rates_by_are, one_leg_rates}
+use Rattle.irs_compound.specs.RateLaws.{rates_by_are}
 use Rattle.irs_compound.specs.declared.periods.Rates.{Rates}
 use Rattle.irs_compound.proofs.RateSizes.{rate_size}
 use Rattle.irs_compound.proofs.rising_rates.rates_of_rising.Goals as goal
@@ -16,6 +16,3 @@ returns-clause-size c =
     let IsSmall : Option Rates → Type 0 = λ x. IfSome x (λ r. unsigned_abs r.all_in ≤ most_rounded_rate) in
     subst IsSmall (sym c.rates_by_leg.ensures)
     (rate_size c.args.leg.now c.args.start c.args.observed c.requires.leg c.requires.observed_fits)
-
-pub returns-clause-one : goal.returns-clause-one
-returns-clause-one c = λ x y a b. one_leg_rates c.args.leg.now c.args.start c.args.observed x y c.requires.rises a b

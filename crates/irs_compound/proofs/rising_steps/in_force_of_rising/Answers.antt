@@ -2,7 +2,7 @@ use Rattle.std.proofs.Common.{rules, ℤ, subst, sym, FitsSigned}
 use Rattle.std.specs.Int.{w128}
 use Rattle.std.proofs.lemmas.Int.{to_z-of_z}
 use Rattle.irs_compound.specs.InForce.{InForce}
-use Rattle.irs_compound.specs.InForceLaws.{in_force_is, one_in_force}
+use Rattle.irs_compound.specs.InForceLaws.{in_force_is}
 use Rattle.irs_compound.proofs.rising_steps.in_force_of_rising.Goals as goal
 
 pub returns-clause-relation : goal.returns-clause-relation
@@ -10,6 +10,3 @@ returns-clause-relation c =
     let f : FitsSigned w128 c.value_of_rising.result = search rules in
     simp to_z-of_z (subst (λ (v : ℤ). InForce c.args.values.now c.args.d v) (sym c.value_of_rising.ensures)
     (in_force_is c.args.values.now c.args.d))
-
-pub returns-clause-one : goal.returns-clause-one
-returns-clause-one c = λ v w a b. one_in_force c.args.values.now c.args.d v w c.requires.rises a b
