@@ -1,66 +1,66 @@
 -- The parts of a swap's streams, made one after another.
-use Rattle.std.proofs.Common.{◌≡◌, ℕ, ◌+◌, ◌<◌, ◌≤◌, List, [], ◌∷◌, ◌++◌, length, length-append, take, Some, ap, ◌∙◌}
-use Rattle.std.proofs.Common.{arith, subst}
+use Rattle.std.proofs.Common.{◌≡◌, ℕ, ◌+◌, ◌≤◌, List, [], ◌∷◌, ◌++◌, length, length-append, take, Some, refl, ap, ◌∙◌, arith, subst}
 use Rattle.std.specs.Prelude.{slice_get}
-use Rattle.std.proofs.lemmas.Option.{slice_get_within}
+use Rattle.std.proofs.lemmas.List.{take_all}
+use Rattle.irs_base.specs.Faults.{in_stream}
+use Rattle.irs_base.specs.Members.{Every}
+use Rattle.irs_base.specs.Outcomes.{Spec, each_in_turn, refused_as}
 use Rattle.irs_base.specs.declared.places.Broken.{Broken}
+use Rattle.irs_base.proofs.EveryLemmas.{every_both}
+use Rattle.irs_base.proofs.Outcomes.{each_begins, each_ends, each_goes_on}
 use Rattle.irs_terms.specs.declared.stream.Stream.{Stream}
 use Rattle.irs_terms.specs.declared.stream_list.Swap.{Swap}
 use Rattle.irs_calendar.specs.declared.sections.Section.{Section}
 use Rattle.irs_resets.specs.Rates.{RateTable}
 use Rattle.irs_schedule.specs.DaySets.{StreamSets, stream_sets}
-use Rattle.irs_schedule.specs.DatedRules.{StreamKept, StreamBroken, DatedKept, DatedBroken}
-use Rattle.irs_base.specs.Faults.{in_stream}
-use Rattle.irs_base.specs.declared.places.Fault.{Fault}
+use Rattle.irs_schedule.specs.Outcomes.{schedule_of, stream_of}
 use Rattle.irs_schedule.specs.Parts.{Part, KeepsBounds}
-use Rattle.irs_schedule.specs.Schedules.{IsPart}
-use Rattle.irs_base.specs.Members.{Pairs, Every}
-use Rattle.irs_base.proofs.MemberLemmas.{pairs_more}
-use Rattle.irs_base.proofs.EveryLemmas.{below_more, every_both}
 
-abbrev IsPartOf : List Section → RateTable → Stream → Part → Type 0
-IsPartOf cal fix s p = IsPart (stream_sets cal s) fix s p
+-- a stream with its number
+abbrev numbered : List Section → RateTable → ℕ → Stream → Spec Part Broken
+numbered cal fix n s = refused_as (in_stream n) (stream_of (stream_sets cal s) fix s)
 
--- the parts of the streams before the place i, which break no rule
+-- the parts of the streams before the place i
 pub record Made (swap : Swap) (cal : List Section) (fix : RateTable) (i : ℕ) (parts : List Part) : Type 0 where
   pub count : length parts ≡ i
-  pub pairs : Pairs (IsPartOf cal fix) (take i swap.streams) parts
+  pub answers : (each_in_turn (numbered cal fix) 1 (take i swap.streams)).Answers parts
   pub each : Every KeepsBounds parts
-  pub kept : (k : ℕ) (s : Stream) → k < i → slice_get swap.streams k ≡ Some s → StreamKept (stream_sets cal s) fix s
 
-module _ (swap : Swap) (cal : List Section) (fix : RateTable) (i : ℕ) (parts : List Part) (s : Stream)
-    (at : slice_get swap.streams i ≡ Some s) (made : Made swap cal fix i parts) (sets : StreamSets)
-    (same : sets ≡ stream_sets cal s) where
-  -- one part more
-  pub made_more : (p : Part) → IsPart sets fix s p → KeepsBounds p → StreamKept sets fix s
-      → Made swap cal fix (i + 1) (parts ++ p ∷ [])
-  made_more p is bounds kept = record {
-    count = let grown : length (parts ++ p ∷ []) ≡ length parts + 1 = simp length-append in
-        grown ∙ ap (λ (n : ℕ). n + 1) made.count;
-    pairs = pairs_more (IsPartOf cal fix) swap.streams i parts s p at made.pairs
-        (subst (λ (u : StreamSets). IsPart u fix s p) same is);
-    each = every_both KeepsBounds parts (p ∷ []) made.each (bounds, tt);
-    kept = below_more (λ (t : Stream). StreamKept (stream_sets cal t) fix t) swap.streams i s at
-        (subst (λ (u : StreamSets). StreamKept u fix s) same kept) made.kept;
-  }
+module _ (swap : Swap) (cal : List Section) (fix : RateTable) where
+  -- no part
+  pub made_none : Made swap cal fix 0 []
+  made_none = record { count = refl; answers = each_begins (numbered cal fix) 1; each = tt }
 
-  -- a rule broken by the stream at the place i
-  pub made_broken : (x : Broken) → (f : Fault) × StreamBroken sets fix s f × (x ≡ in_stream (i + 1) f)
-      → DatedBroken swap cal fix x
-  made_broken x h = record {
-    position = i;
-    stream = s;
-    there = at;
-    fault = h.0;
-    breaks = subst (λ (u : StreamSets). StreamBroken u fix s h.0) same h.1;
-    kept_before = made.kept;
-    is = h.2;
-  }
+  -- a part of each stream is the schedule
+  pub made_all : (i : ℕ) (parts : List Part) → length swap.streams ≤ i → Made swap cal fix i parts
+      → (schedule_of swap cal fix).Answers parts
+  unfolding schedule_of
+  made_all i parts all made =
+      subst (λ (ss : List Stream). (each_in_turn (numbered cal fix) 1 ss).Answers parts) (take_all i swap.streams all)
+      made.answers
 
-pub made_kept : (swap : Swap) (cal : List Section) (fix : RateTable) (i : ℕ) (parts : List Part)
-    → length swap.streams ≤ i → Made swap cal fix i parts → DatedKept swap cal fix
-made_kept swap cal fix i parts all made k s at =
-    let within = slice_get_within swap.streams k s at in made.kept k s (omega (arith, within, all)) at
+  module _ (i : ℕ) (parts : List Part) (s : Stream) (at : slice_get swap.streams i ≡ Some s)
+      (made : Made swap cal fix i parts) (sets : StreamSets) (same : sets ≡ stream_sets cal s) where
+    -- one part more
+    pub made_more : (p : Part) → (stream_of sets fix s).Answers p → KeepsBounds p
+        → Made swap cal fix (i + 1) (parts ++ p ∷ [])
+    made_more p is bounds = record {
+      count = let grown : length (parts ++ p ∷ []) ≡ length parts + 1 = simp length-append in
+          grown ∙ ap (λ (n : ℕ). n + 1) made.count;
+      answers = each_goes_on (numbered cal fix) 1 swap.streams i parts s at made.answers p
+          (subst (λ (u : StreamSets). (stream_of u fix s).Answers p) same is);
+      each = every_both KeepsBounds parts (p ∷ []) made.each (bounds, tt);
+    }
+
+    -- a rule that the stream at the place i breaks
+    pub made_broken : (x : Broken) → (refused_as (in_stream (i + 1)) (stream_of sets fix s)).Refuses x
+        → (schedule_of swap cal fix).Refuses x
+    unfolding schedule_of
+    made_broken x h =
+        let number : i + 1 ≡ 1 + i = omega arith in
+        each_ends (numbered cal fix) 1 swap.streams i parts s at made.answers x
+        (subst (λ (n : ℕ). (numbered cal fix n s).Refuses x) number
+        (subst (λ (u : StreamSets). (refused_as (in_stream (i + 1)) (stream_of u fix s)).Refuses x) same h))
 
 -- the sets of a stream by its elements
 pub sets_same : (a b : StreamSets) → a.boundaries.start ≡ b.boundaries.start → a.boundaries.end ≡ b.boundaries.end

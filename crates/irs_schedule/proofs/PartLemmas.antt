@@ -7,7 +7,7 @@ use Rattle.irs_schedule.specs.Views.{part_of}
 use Rattle.irs_schedule.proofs.PeriodLemmas.{length_periods, entries_within}
 
 -- what a part keeps, from what it is made of
-pub kept : (s : Inside) → MakePart s.terms s.unadjusted s.adjusted s.exchanges s.payments.items s.resets
+pub kept : (s : Inside) → MakePart s.terms s.unadjusted s.adjusted s.exchanges s.payments s.resets
     → AreDays s.unadjusted → AreDays s.adjusted → length s.terms.currency.letters ≡ 3 → IsKept s
 kept s h days moved three =
     let count : length (part_of s).periods ≡ length s.unadjusted - 1 =

@@ -1,5 +1,5 @@
 -- The part that is made of what was worked out for a stream.
-use Rattle.std.proofs.Common.{◌≡◌, ◌-◌, ◌≤◌, ◌∙◌, List, length, map, refl, sym, subst, arith, ℕ, if◌then◌else◌}
+use Rattle.std.proofs.Common.{◌≡◌, ◌-◌, ◌≤◌, ◌∙◌, All, List, length, map, refl, sym, subst, arith, ℕ, if◌then◌else◌}
 use Rattle.irs_base.specs.DayLists.{AreDays}
 use Rattle.irs_base.specs.Days.{IsDay}
 use Rattle.irs_base.specs.Members.{Every}
@@ -13,44 +13,28 @@ use Rattle.irs_terms.specs.declared.results.Exchange.{Exchange}
 use Rattle.irs_terms.specs.declared.results.Payment.{Payment}
 use Rattle.irs_terms.specs.declared.results.Reset.{Reset}
 use Rattle.irs_terms.specs.declared.stream.Stream.{Stream}
-use Rattle.irs_payments.specs.Exchanges.{AreExchanges}
 use Rattle.irs_payments.specs.Payments.{ArePayments, Covers}
 use Rattle.irs_payments.proofs.DatedPayments.{exchanges_bounded, exchanges_dated, exchanges_few, payments_dated}
 use Rattle.irs_resets.specs.Rates.{RateTable}
 use Rattle.irs_resets.specs.Resets.{HasSmallRate, IsResets}
 use Rattle.irs_resets.proofs.DatedResets.{resets_dated}
 use Rattle.irs_resets.proofs.ResetLemmas.{many_by, resets_count}
-use Rattle.irs_schedule.specs.DatedLists.{AreDated}
-use Rattle.irs_schedule.specs.DatedRules.{resets_over}
 use Rattle.irs_schedule.specs.DaySets.{StreamSets}
 use Rattle.irs_schedule.specs.Keeping.{MakePart}
-use Rattle.irs_schedule.specs.KeptTerms.{is_floating}
+use Rattle.irs_schedule.specs.KeptTerms.{is_floating, kept_of}
 use Rattle.irs_schedule.specs.Layouts.{IsKeptLayout}
-use Rattle.irs_schedule.specs.PaidEntries.{ArePaid}
-use Rattle.irs_schedule.specs.Parts.{IsAmount, Part}
-use Rattle.irs_schedule.specs.Periods.{periods_by}
+use Rattle.irs_schedule.specs.Outcomes.{part_over, resets_over}
+use Rattle.irs_schedule.specs.Parts.{HasAmount, IsAmount}
 use Rattle.irs_schedule.specs.Schedules.{IsPart, IsPaymentEntry, payment_of}
 use Rattle.irs_schedule.specs.StreamDates.{layout_dates}
 use Rattle.irs_schedule.specs.declared.entries.PaymentEntry.{PaymentEntry}
 use Rattle.irs_schedule.specs.declared.layouts.Layout.{Layout}
-use Rattle.irs_schedule.specs.declared.stream.Dated.{Dated}
+use Rattle.irs_schedule.specs.declared.stream.StreamEvents.{StreamEvents}
 use Rattle.irs_schedule.proofs.LayoutLemmas.{AreInRange}
+use Rattle.irs_schedule.proofs.Events.{AreEvents}
 use Rattle.irs_schedule.proofs.LayoutRules.{layout_is}
 use Rattle.irs_schedule.proofs.PeriodLemmas.{length_periods, rises_of}
-use Rattle.irs_schedule.proofs.TermsThere.{entries_stand, kept_of}
-
-abbrev pub part_made : Stream → Layout → List Exchange → List PaymentEntry → List Reset → Part
-part_made s l xs es rs = record {
-  currency = s.currency;
-  day_count = s.day_count;
-  floating = is_floating s.leg;
-  unadjusted = l.unadjusted;
-  adjusted = l.adjusted;
-  exchanges = xs;
-  payments = es;
-  periods = periods_by (kept_of s) l.unadjusted l.adjusted rs;
-  resets = rs;
-}
+use Rattle.irs_schedule.proofs.TermsThere.{entries_stand}
 
 -- one for each period where it floats, none where its rate is fixed
 resets_by_leg : (sets : StreamSets) (s : Stream) (l : Layout) (fix : RateTable) (rs : List Reset) (leg : Leg)
@@ -61,11 +45,10 @@ resets_by_leg sets s l fix rs (Floating float) = refl
 module _ (sets : StreamSets) (fix : RateTable) (s : Stream) (l : Layout) (some : 2 ≤ length l.unadjusted)
     (laid : IsKeptLayout sets s l) where
   -- lists that stand in their relations over a layout make a part of the stream
-  pub part_stands : (xs : List Exchange) (es : List PaymentEntry) (rs : List Reset) → AreExchanges s sets.payment xs
-      → ArePayments s sets.payment l.unadjusted l.adjusted (map payment_of es)
-      → Every (IsPaymentEntry (layout_dates s l rs)) es → IsResets (resets_over sets s l) fix rs
-      → IsPart sets fix s (part_made s l xs es rs)
-  part_stands xs es rs exchanges payments amounts resets = record {
+  pub part_is : (d : StreamEvents) (es : List PaymentEntry) → AreEvents sets fix s l d
+      → (map payment_of es ≡ d.payments) × Every (IsPaymentEntry (layout_dates s l d.resets)) es
+      → IsPart sets fix s (part_over s l d es)
+  part_is d es are paid = record {
     currency = refl;
     day_count = refl;
     floating = refl;
@@ -73,21 +56,21 @@ module _ (sets : StreamSets) (fix : RateTable) (s : Stream) (l : Layout) (some :
     is_layout = layout_is sets s l laid;
     unadjusted = refl;
     adjusted = refl;
-    exchanges = exchanges;
-    payments = payments;
-    amounts = amounts;
-    count = let n = length_periods (kept_of s) l.unadjusted l.adjusted rs in
+    exchanges = are.exchanges;
+    payments = subst (λ (ps : List Payment). ArePayments s sets.payment l.unadjusted l.adjusted ps) (sym paid.0) are.payments;
+    amounts = paid.1;
+    count = let n = length_periods (kept_of s) l.unadjusted l.adjusted d.resets in
         omega (arith, n, laid.adjusted.same_length, some);
-    periods = entries_stand (layout_dates s l rs) laid.rises (omega (arith, laid.adjusted.same_length, some));
-    resets = resets;
+    periods = entries_stand (layout_dates s l d.resets) laid.rises (omega (arith, laid.adjusted.same_length, some));
+    resets = are.resets;
   }
 
   -- and they keep its bounds
-  pub makes_part : (d : Dated) (es : List PaymentEntry) → IsLawfulStream s → AllStepsRise s → AreInRange sets
-      → AreDays l.unadjusted → AreDays l.adjusted → AreDated sets fix s l d
-      → ArePaid (layout_dates s l d.resets) d.payments es
-      → MakePart (kept_of s) l.unadjusted l.adjusted d.exchanges es d.resets
-  makes_part d es lawful rises range days moved dated paid = record {
+  pub makes_part : (d : StreamEvents) (es : List PaymentEntry) → IsLawfulStream s → AllStepsRise s → AreInRange sets
+      → AreDays l.unadjusted → AreDays l.adjusted → AreEvents sets fix s l d
+      → Covers 1 d.payments (length l.unadjusted - 1) → All HasSmallRate d.resets → map payment_of es ≡ d.payments
+      → Every (HasAmount s.currency) es → MakePart (kept_of s) l.unadjusted l.adjusted d.exchanges es d.resets
+  makes_part d es lawful rises range days moved dated covers small paid bounds = record {
     currency = lawful.currency;
     notional = lawful.notional;
     leg = lawful.leg;
@@ -104,15 +87,15 @@ module _ (sets : StreamSets) (fix : RateTable) (s : Stream) (l : Layout) (some :
     exchange_days = exchanges_dated s sets.payment d.exchanges lawful dated.exchanges range.payment;
     covers = let last = length l.unadjusted - 1 in
         covers_made (λ (p : Payment). p.first_period) (λ (p : Payment). p.last_period) payment_of 1 last es
-        (subst (λ (ps : List Payment). Covers 1 ps last) (sym paid.payments) dated.covers);
-    paid = paid.bounds;
+        (subst (λ (ps : List Payment). Covers 1 ps last) (sym paid) covers);
+    paid = bounds;
     payment_days = every_made (λ (p : Payment). IsDay p.unadjusted × IsDay p.adjusted) payment_of es
         (payments_dated s sets.payment l.unadjusted l.adjusted (map payment_of es) range.payment days moved
-        (subst (ArePayments s sets.payment l.unadjusted l.adjusted) (sym paid.payments) dated.payments));
+        (subst (ArePayments s sets.payment l.unadjusted l.adjusted) (sym paid) dated.payments));
     resets_count =
         subst (λ (n : ℕ). length d.resets ≡ (if is_floating s.leg then n - 1 else 0)) laid.adjusted.same_length
         (resets_count (resets_over sets s l) fix d.resets dated.resets ∙ resets_by_leg sets s l fix d.resets s.leg);
-    observed = every_all HasSmallRate d.resets dated.small;
+    observed = every_all HasSmallRate d.resets small;
     reset_days = resets_dated (resets_over sets s l) fix
         (record { adjusted = moved; reset_set = range.reset; fixing_set = range.fixing }) d.resets dated.resets;
   }

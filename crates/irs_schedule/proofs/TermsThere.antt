@@ -22,20 +22,12 @@ use Rattle.irs_compound.specs.PartsLaws.{AllFractions}
 use Rattle.irs_compound.specs.PeriodRates.{rates_by}
 use Rattle.irs_compound.specs.RateLaws.{rates_by_are}
 use Rattle.irs_compound.specs.declared.periods.PeriodTerm.{PeriodTerm}
-use Rattle.irs_compound.proofs.AmountTheorems.{amount_there as amount_there_of}
 use Rattle.irs_compound.proofs.FractionFits.{fraction_is_fit}
-use Rattle.irs_payments.specs.Payments.{Covers}
 use Rattle.irs_payments.proofs.PlaceLemmas.{rises_at}
-use Rattle.irs_schedule.specs.declared.entries.PaymentEntry.{PaymentEntry}
-use Rattle.irs_schedule.specs.declared.kept_terms.KeptTerms.{KeptTerms}
+use Rattle.irs_schedule.specs.KeptTerms.{kept_of}
 use Rattle.irs_schedule.specs.Periods.{count_of, observed_of, period_by, periods_by}
 use Rattle.irs_schedule.specs.PeriodTerms.{IsPeriodTerm, IsPeriodEntry, AreTerms, IsAmountBy, IsAmountFor, dec_of}
-use Rattle.irs_schedule.specs.Schedules.{IsPaymentEntry, payment_of}
 use Rattle.irs_schedule.specs.StreamDates.{StreamDates}
-
--- what is kept of a stream
-abbrev pub kept_of : Stream → KeptTerms
-kept_of s = record { currency = s.currency; day_count = s.day_count; notional = s.notional; leg = s.leg }
 
 -- the terms of period i as a function
 abbrev pub term_by : StreamDates → ℕ → PeriodTerm
@@ -46,7 +38,7 @@ term_by d i = record {
 }
 
 -- the terms of the periods of a payment
-abbrev terms_by : StreamDates → Payment → List PeriodTerm
+abbrev pub terms_by : StreamDates → Payment → List PeriodTerm
 terms_by d p = map (term_by d) (range_with_len p.first_period (p.last_period + 1 - p.first_period))
 
 -- the amount in the decimals of the currency
@@ -97,7 +89,7 @@ module _ (d : StreamDates) (rising : IsRising d.adjusted) where
         (λ i t from to h. term_fits i t (omega (arith, low, from)) (omega (arith, high, to)) h)
 
     module _ (last : ℕ) (high : last < length d.adjusted) where
-      terms_there : (p : Payment) → LieAmong 1 last p.first_period p.last_period → AreTerms d p (terms_by d p)
+      pub terms_there : (p : Payment) → LieAmong 1 last p.first_period p.last_period → AreTerms d p (terms_by d p)
       terms_there p lies = record {
         count = omega (
           arith,
@@ -108,38 +100,3 @@ module _ (d : StreamDates) (rising : IsRising d.adjusted) where
             (λ i from to.
             term_stands i (omega (arith, lies.from, from)) (omega (arith, lies.order, lies.to, high, to)));
       }
-
-      -- the amount of a payment, present or absent
-      amount_there : (p : Payment) → LieAmong 1 last p.first_period p.last_period → (x : Option Dec) × IsAmountFor d p x
-      amount_there p lies =
-          let are : AreTerms d p (terms_by d p) = terms_there p lies in
-          let places = decimals_of d.stream.currency.letters in
-          let fits =
-          terms_fit p.first_period (terms_by d p) lies.from (omega (arith, are.count, lies.to, high)) are.each in
-          let m = amount_there_of d.stream.compounding (terms_by d p) places fits in (
-            option_map (dec_of places) m.0,
-            record {
-              terms = terms_by d p;
-              are_terms = are;
-              is_amount = amount_by d.stream (terms_by d p) places m.0 refl m.1;
-            },
-          )
-
-      -- payments that cover the periods, each with its amount
-      pub amounts_there : (ps : List Payment) → Covers 1 ps last
-          → (ys : List PaymentEntry) × (map payment_of ys ≡ ps) × Every (IsPaymentEntry d) ys
-      amounts_there ps covers =
-          made_there payment_of (λ (p : Payment). LieAmong 1 last p.first_period p.last_period) (IsPaymentEntry d)
-          (λ p lies.
-          let x = amount_there p lies in
-          let y : PaymentEntry =
-          record {
-            unadjusted = p.unadjusted;
-            adjusted = p.adjusted;
-            first_period = p.first_period;
-            last_period = p.last_period;
-            amount = x.0;
-          } in
-          (y, refl, x.1)) ps
-          (covers_each (λ (p : Payment). p.first_period) (λ (p : Payment). p.last_period) 1 1 last ps (omega arith)
-          covers)

@@ -14,9 +14,7 @@ pub mod Layouts
 pub mod StreamDates
 pub mod PeriodTerms
 pub mod Schedules
-pub mod DatedRules
-pub mod FirstPassed
 pub mod CenterDays
 pub mod StageSets
-pub mod DatedLists
-pub mod PaidEntries
+pub mod Outcomes
+pub mod DatedRules

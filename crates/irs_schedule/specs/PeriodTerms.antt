@@ -1,21 +1,21 @@
 -- What is worked out for the calculation periods of a stream, and the amounts of its payments.
 -- Periods are counted from 1. d is what they are worked out of.
-use Rattle.std.specs.Prelude.{◌≡◌, ℕ, ◌+◌, ◌-◌, ◌==◌, ◌≤◌, All, List, length, Option, Some, None, option_map}
+use Rattle.std.specs.Prelude.{◌≡◌, ℕ, ◌+◌, ◌-◌, ◌==◌, ◌<◌, ◌≤◌, All, List, length, Option, Some, None, option_map}
 use Rattle.std.specs.Prelude.{slice_get, ℤ}
 use Rattle.irs_base.specs.DayLists.{AreDays}
 use Rattle.irs_base.specs.Listed.{IsRising}
 use Rattle.irs_base.specs.declared.line.Dec.{Dec}
 use Rattle.irs_terms.specs.Currencies.{decimals_of}
-use Rattle.irs_terms.specs.declared.codes.CompCode.{CompCode}
 use Rattle.irs_terms.specs.declared.results.Payment.{Payment}
 use Rattle.irs_terms.specs.declared.stream.Stream.{Stream}
 use Rattle.irs_daycount.specs.Fractions.{Days, Fraction}
 use Rattle.irs_compound.specs.InForce.{InForce}
 use Rattle.irs_compound.specs.PeriodRates.{AreRates}
-use Rattle.irs_compound.specs.Amounts.{AmountOf, IsOutOfRange}
+use Rattle.irs_compound.specs.Amounts.{AmountOf}
 use Rattle.irs_compound.specs.declared.periods.PeriodTerm.{PeriodTerm}
 use Rattle.irs_base.specs.Limits.{most_periods}
 use Rattle.irs_resets.specs.Resets.{HasSmallRate}
+use Rattle.irs_schedule.specs.declared.amounts.PeriodTable.{PeriodTable}
 use Rattle.irs_schedule.specs.declared.entries.PeriodEntry.{PeriodEntry}
 use Rattle.irs_schedule.specs.Periods.{observed_of}
 use Rattle.irs_schedule.specs.StreamDates.{StreamDates}
@@ -61,25 +61,6 @@ pub record IsAmountFor (d : StreamDates) (p : Payment) (amount : Option Dec) : T
   pub are_terms : AreTerms d p terms
   pub is_amount : IsAmountBy d.stream terms amount
 
--- no period leaves its range in a payment whose rates are all there
-abbrev pub NonePasses : CompCode → List PeriodTerm → Type 0
-NonePasses code terms = (number : ℕ) → IsOutOfRange code terms number → ⊥
-
--- at period i of the payment, whose rates are all there, a rate or an amount leaves its range
-pub record PassesIn (d : StreamDates) (payment : Payment) (i : ℕ) : Type 0 where
-  pub terms : List PeriodTerm
-  pub are_terms : AreTerms d payment terms
-  pub number : ℕ
-  pub out : IsOutOfRange d.stream.compounding terms number
-  pub is : i + 1 ≡ payment.first_period + number
-
--- at period i of one of the payments, whose rates are all there, a rate or an amount leaves its range
-pub record PassesAt (d : StreamDates) (ps : List Payment) (i : ℕ) : Type 0 where
-  pub number : ℕ
-  pub payment : Payment
-  pub there : slice_get ps number ≡ Some payment
-  pub within : PassesIn d payment i
-
 -- the adjusted boundaries are days that rise, one for each unadjusted boundary, and observed rates are small
 pub record IsTable (d : StreamDates) : Type 0 where
   pub few : length d.unadjusted ≤ most_periods + 1
@@ -87,3 +68,9 @@ pub record IsTable (d : StreamDates) : Type 0 where
   pub rises : IsRising d.adjusted
   pub days : AreDays d.adjusted
   pub small : All HasSmallRate d.resets
+
+-- the payment's periods are periods of the table, one at least
+pub record HasPeriods (table : PeriodTable) (p : Payment) : Type 0 where
+  pub from_one : 1 ≤ p.first_period
+  pub some : p.first_period ≤ p.last_period
+  pub to_end : p.last_period < length table.unadjusted.now

@@ -13,7 +13,7 @@ part_of s = record {
   unadjusted = s.unadjusted;
   adjusted = s.adjusted;
   exchanges = s.exchanges;
-  payments = s.payments.items;
+  payments = s.payments;
   periods = periods_by s.terms s.unadjusted s.adjusted s.resets;
   resets = s.resets;
 }

@@ -1,6 +1,6 @@
 //! What a schedule says of a payment and of a calculation period.
 use irs_base::{Day, Dec};
-use irs_terms::Frac;
+use irs_terms::{Frac, Listed};
 
 /// A payment with its amount.
 #[derive(Clone, Copy)]
@@ -16,6 +16,9 @@ pub struct PaymentEntry {
     /// The amount in the decimals of the currency; absent where an observed rate of its periods is.
     pub amount: Option<Dec>,
 }
+
+/// Payments with their amounts, in order.
+pub(crate) type PaymentEntries = Listed<PaymentEntry>;
 
 /// What is worked out for a calculation period.
 #[derive(Clone, Copy)]

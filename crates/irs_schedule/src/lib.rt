@@ -20,7 +20,7 @@ mod walking;
 
 pub use center_days::{CenterDays, reset_days};
 pub use entries::{PaymentEntry, PeriodEntry};
-pub use making::{SchedErr, make_schedule};
+pub use making::{SchedErr, make_schedule, schedule_is_determined};
 pub use row::Row;
 pub use schedule::{Rows, Schedule};
 pub use streams::StreamPart;

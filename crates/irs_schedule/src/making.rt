@@ -1,14 +1,20 @@
 //! The schedule of a swap: the boundaries, payments, exchanges, resets and amounts of each stream
 //! (2006 ISDA Definitions, articles 4, 5, 6 and 8), or the first broken rule of dates and amounts.
-ghost use Rattle.std.specs.Prelude.{◌≡◌, List, IfOk};
+ghost use Rattle.std.specs.Prelude.{◌≡◌, IfOk, List, ℕ, Some, slice_get, ◌+◌};
+ghost use Rattle.irs_base.specs.Faults.{in_stream};
+ghost use Rattle.irs_base.specs.Order.{Only};
+ghost use Rattle.irs_base.specs.Outcomes.{Determined, Meets, RefusesNothing, refused_as};
 ghost use Rattle.irs_base.specs.declared.places.Broken.{Broken as BrokenRule};
-ghost use Rattle.irs_terms.specs.Lawful.{IsLawful};
+ghost use Rattle.irs_terms.specs.Lawful.{IsLawful, IsLawfulStream};
+ghost use Rattle.irs_terms.specs.declared.stream.Stream.{Stream as StreamTerms};
+ghost use Rattle.irs_calendar.specs.declared.sections.Section.{Section};
+ghost use Rattle.irs_rules.specs.TermsKept.{TermsKept};
 ghost use Rattle.irs_rules.specs.TermsRules.{BreaksTerms};
-ghost use Rattle.irs_schedule.specs.DatedRules.{DatedBroken, DatedKept};
-ghost use Rattle.irs_schedule.specs.Parts.{Part};
-ghost use Rattle.irs_base.specs.Faults.{IfBroken, in_stream};
-ghost use Rattle.irs_base.specs.declared.places.Fault.{Fault as FaultRecord};
+ghost use Rattle.irs_schedule.specs.CenterDays.{HasSwap};
+ghost use Rattle.irs_schedule.specs.Outcomes.{schedule_of, stream_of};
+ghost use Rattle.irs_schedule.specs.Parts.{KeepsBounds, Part};
 ghost use Rattle.irs_schedule.specs.Schedules.{IsSchedule};
+ghost use Rattle.irs_schedule.specs.StageSets.{sets_of};
 
 use crate::Schedule;
 use crate::center_table::{CenterTable, StreamDays};
@@ -28,8 +34,7 @@ pub type SchedErr = Stopped<Broken>;
 /// The schedule of a lawful swap that breaks no rule of its terms, with the good days of the calendars
 /// and the observed rates of the fixings.
 ///
-/// `Broken` is exactly the first of K30 to K39 that is broken, with the stream's number in the place:
-/// where none is broken there is a schedule, and only one, also where memory ran out.
+/// `Broken` is the first of K30 to K39 that is broken, with the stream's number in the place.
 pub fn make_schedule(
     alloc: Global,
     swap: &Swap,
@@ -39,38 +44,25 @@ pub fn make_schedule(
     requires lawful { IsLawful swap.now }
     // `check_terms` finds nothing.
     requires terms { (f : BrokenRule) → BreaksTerms swap.now cal.now f → ⊥ }
+    ensures meets { Meets (schedule_of swap.now cal.now fix.now) result }
     ensures ok { IfOk result (IsSchedule swap.now cal.now fix.now) }
-    ensures unbroken { IfOk result (λ _. DatedKept swap.now cal.now fix.now) }
-    ensures broken { IfBroken result (DatedBroken swap.now cal.now fix.now) }
-    // At every exit: where no rule is broken there is a schedule, and only one.
-    ensures exists { DatedKept swap.now cal.now fix.now → (s : List Part) × IsSchedule swap.now cal.now fix.now s }
-    ensures one { DatedKept swap.now cal.now fix.now → (s t : List Part) → IsSchedule swap.now cal.now fix.now s
-        → IsSchedule swap.now cal.now fix.now t → s ≡ t }
-    // And at most one broken rule comes first.
-    ensures one_broken { (x y : BrokenRule) → DatedBroken swap.now cal.now fix.now x
-        → DatedBroken swap.now cal.now fix.now y → x ≡ y }
-{
-    schedule_of(alloc, swap, cal, fix)
-}
-
-// The parts of all streams, or the first broken rule of the first stream that breaks one.
-fn schedule_of(
-    alloc: Global,
-    swap: &Swap,
-    cal: &Calendars,
-    fix: &Fixings,
-) -> Result<Schedule, SchedErr>
-    requires lawful { IsLawful swap.now }
-    requires kept { (i : ℕ) (s : StreamTerms) → slice_get swap.now.streams i ≡ Some s → TermsKept cal.now s }
-    ensures ok { IfOk result (IsSchedule swap.now cal.now fix.now) }
-    ensures unbroken { IfOk result (λ _. DatedKept swap.now cal.now fix.now) }
-    ensures broken { IfBroken result (DatedBroken swap.now cal.now fix.now) }
 {
     let table = CenterTable::new(alloc, swap, cal)?;
     schedule_by(alloc, swap, &table, fix)
 }
 
-// The same, by a table of the good days.
+/// A law: a swap has one schedule, or one first rule that it breaks. Where it breaks none, exactly one
+/// list of parts is its schedule.
+pub fn schedule_is_determined(swap: &Swap, cal: &Calendars, fix: &Fixings)
+    requires lawful { IsLawful swap.now }
+    requires terms { (f : BrokenRule) → BreaksTerms swap.now cal.now f → ⊥ }
+    ensures outcome { Determined (schedule_of swap.now cal.now fix.now) }
+    ensures only { RefusesNothing (schedule_of swap.now cal.now fix.now)
+        → (s : List Part) × Only (IsSchedule swap.now cal.now fix.now) s }
+{
+}
+
+// The schedule by a table of the good days.
 fn schedule_by(
     alloc: Global,
     swap: &Swap,
@@ -80,9 +72,7 @@ fn schedule_by(
     requires lawful { IsLawful swap.now }
     requires kept { (i : ℕ) (s : StreamTerms) → slice_get swap.now.streams i ≡ Some s → TermsKept table.now.sections s }
     requires table { HasSwap table.now.sections swap.now table.now }
-    ensures ok { IfOk result (IsSchedule swap.now table.now.sections fix.now) }
-    ensures unbroken { IfOk result (λ _. DatedKept swap.now table.now.sections fix.now) }
-    ensures broken { IfBroken result (DatedBroken swap.now table.now.sections fix.now) }
+    ensures { Meets (schedule_of swap.now table.now.sections fix.now) result }
 {
     let mut parts = Vec::new(alloc);
     for (i, stream) in swap.streams.as_slice().iter().enumerate() {
@@ -103,11 +93,8 @@ fn numbered_part(
 ) -> Result<StreamPart, SchedErr>
     requires lawful { IsLawfulStream s.now }
     requires kept { (cal : List Section) × TermsKept cal s.now }
-    ensures ok { IfOk result (IsPart (sets_of days.now) fix.now s.now) }
+    ensures meets { Meets (refused_as (in_stream number) (stream_of (sets_of days.now) fix.now s.now)) result }
     ensures bounds { IfOk result KeepsBounds }
-    ensures unbroken { IfOk result (λ _. StreamKept (sets_of days.now) fix.now s.now) }
-    ensures broken { IfBroken result (λ x. (f : FaultRecord) × StreamBroken (sets_of days.now) fix.now s.now f
-        × (x ≡ in_stream number f)) }
 {
     match stream_part(alloc, s, days, fix) {
         Ok(part) => Ok(part),
@@ -115,14 +102,3 @@ fn numbered_part(
         Err(Stopped::Memory) => Err(Stopped::Memory),
     }
 }
-
-ghost use Rattle.std.specs.Prelude.{ℕ, Some, slice_get, ◌+◌};
-ghost use Rattle.irs_calendar.specs.declared.sections.Section.{Section};
-ghost use Rattle.irs_rules.specs.TermsKept.{TermsKept};
-ghost use Rattle.irs_schedule.specs.CenterDays.{HasSwap};
-ghost use Rattle.irs_schedule.specs.DatedRules.{StreamBroken, StreamKept};
-ghost use Rattle.irs_schedule.specs.Parts.{KeepsBounds};
-ghost use Rattle.irs_schedule.specs.Schedules.{IsPart};
-ghost use Rattle.irs_schedule.specs.StageSets.{sets_of};
-ghost use Rattle.irs_terms.specs.Lawful.{IsLawfulStream};
-ghost use Rattle.irs_terms.specs.declared.stream.Stream.{Stream as StreamTerms};

@@ -1,19 +1,21 @@
 //! The part of one stream in a schedule, or the first rule of its dates and amounts that is broken.
-ghost use Rattle.std.specs.Prelude.{◌-◌, IfOk, List, length};
-ghost use Rattle.irs_calendar.specs.declared.sections.Section.{Section};
-ghost use Rattle.irs_resets.specs.Rates.{RateTable};
-ghost use Rattle.irs_schedule.specs.DatedRules.{StreamBroken, StreamKept};
-ghost use Rattle.irs_schedule.specs.DatedLists.{AreDated};
-ghost use Rattle.irs_schedule.specs.Layouts.{IsKeptLayout};
-ghost use Rattle.irs_base.specs.Faults.{IfBroken};
-ghost use Rattle.irs_schedule.specs.Schedules.{IsPart};
-ghost use Rattle.irs_schedule.specs.StageSets.{sets_of};
-ghost use Rattle.irs_rules.specs.TermsKept.{TermsKept};
+ghost use Rattle.std.specs.Prelude.{◌-◌, All, IfOk, List, length};
+ghost use Rattle.irs_base.specs.Members.{Every};
+ghost use Rattle.irs_base.specs.Outcomes.{Meets};
 ghost use Rattle.irs_terms.specs.Lawful.{IsLawfulStream};
+ghost use Rattle.irs_calendar.specs.declared.sections.Section.{Section};
+ghost use Rattle.irs_payments.specs.Payments.{Covers};
+ghost use Rattle.irs_resets.specs.Resets.{HasSmallRate};
+ghost use Rattle.irs_rules.specs.TermsKept.{TermsKept};
+ghost use Rattle.irs_schedule.specs.DaySets.{StreamSets};
+ghost use Rattle.irs_schedule.specs.Outcomes.{entries_of, events_of, layout_of, payment_dates_of, stream_of};
+ghost use Rattle.irs_schedule.specs.Parts.{HasAmount, KeepsBounds};
+ghost use Rattle.irs_schedule.specs.StageSets.{sets_of};
+ghost use Rattle.irs_schedule.specs.StreamDates.{layout_dates};
 
-use crate::PaymentEntry;
 use crate::amounts::{PeriodTable, paid};
 use crate::center_table::StreamDays;
+use crate::entries::PaymentEntries;
 use crate::kept_terms::kept_terms;
 use crate::layouts::Layout;
 use crate::streams::StreamPart;
@@ -26,7 +28,7 @@ use std::alloc::Global;
 
 /// The payments, the principal exchanges and the resets of a stream.
 #[derive(Drop)]
-pub(crate) struct Dated {
+pub(crate) struct StreamEvents {
     /// The payments, in order of their periods.
     pub(crate) payments: Payments,
     /// The principal exchanges, in order.
@@ -35,8 +37,8 @@ pub(crate) struct Dated {
     pub(crate) resets: Resets,
 }
 
-/// The part of a stream. `Broken` is the first broken rule of the stream, and
-/// `Memory` comes where memory ran out.
+/// The part of a stream. `Broken` is the first broken rule of the stream, and `Memory` comes where
+/// memory ran out.
 pub(crate) fn stream_part(
     alloc: Global,
     s: &Stream,
@@ -45,103 +47,105 @@ pub(crate) fn stream_part(
 ) -> Result<StreamPart, Stopped<Fault>>
     requires lawful { IsLawfulStream s.now }
     requires kept { (cal : List Section) × TermsKept cal s.now }
-    ensures ok { IfOk result (IsPart (sets_of days.now) fix.now s.now) }
+    ensures meets { Meets (stream_of (sets_of days.now) fix.now s.now) result }
     ensures bounds { IfOk result KeepsBounds }
-    ensures unbroken { IfOk result (λ _. StreamKept (sets_of days.now) fix.now s.now) }
-    ensures broken { IfBroken result (StreamBroken (sets_of days.now) fix.now s.now) }
 {
     let layout = laid_out(alloc, s, days)?;
     // hands the prover that the boundaries are days
     let _days = layout.unadjusted.as_slice();
     let _moved = layout.adjusted.as_slice();
-    let dated = dated_over(alloc, s, &layout, days, fix)?;
-    let entries = entries_of(alloc, s, &layout, &dated)?;
+    let events = events_over(alloc, s, &layout, days, fix)?;
+    let entries = entries_over(alloc, s, &layout, &events)?;
     let terms = kept_terms(alloc, s)?;
     Ok(StreamPart::new(
         terms,
         layout.unadjusted,
         layout.adjusted,
-        dated.exchanges,
+        events.exchanges,
         entries,
-        dated.resets,
+        events.resets,
     ))
-}
-
-// The payments with their amounts. `Broken` is K39.
-fn entries_of(
-    alloc: Global,
-    s: &Stream,
-    layout: &Layout,
-    dated: &Dated,
-) -> Result<Vec<PaymentEntry>, Stopped<Fault>>
-    requires lawful { IsLawfulStream s.now }
-    requires kept { (cal : List Section) × TermsKept cal s.now }
-    requires laid { (sets : StreamSets) × IsKeptLayout sets s.now layout.now }
-    requires covers { Covers 1 dated.now.payments (length layout.now.unadjusted - 1) }
-    requires small { All HasSmallRate dated.now.resets }
-    ensures entries { IfOk result
-        (λ es. ArePaid (layout_dates s.now layout.now dated.now.resets) dated.now.payments es.items) }
-    ensures broken { IfBroken result
-        (IsFirstPassed (PassesAt (layout_dates s.now layout.now dated.now.resets) dated.now.payments)) }
-{
-    let table = PeriodTable {
-        unadjusted: layout.unadjusted.as_slice(),
-        adjusted: layout.adjusted.as_slice(),
-        resets: dated.resets.as_slice(),
-    };
-    paid(alloc, s, &table, dated.payments.as_slice())
 }
 
 // The boundaries over the regular span. `Broken` is the first of K30 to K34.
 fn laid_out(alloc: Global, s: &Stream, days: &StreamDays<'_>) -> Result<Layout, Stopped<Fault>>
     requires lawful { IsLawfulStream s.now }
     requires kept { (cal : List Section) × TermsKept cal s.now }
-    ensures ok { IfOk result (IsKeptLayout (sets_of days.now) s.now) }
-    ensures broken { (fix : RateTable) → IfBroken result (StreamBroken (sets_of days.now) fix s.now) }
+    ensures { Meets (layout_of (sets_of days.now) s.now) result }
 {
     let span = regular_span(s)?;
     let unadjusted = boundaries_by(alloc, s, &span)?;
-    let moved = adjusted(alloc, s, &unadjusted, days.start, days.end, days.middle)?;
+    let adjusted = adjusted(alloc, s, &unadjusted, days.start, days.end, days.middle)?;
     Ok(Layout {
         span,
         unadjusted,
-        adjusted: moved,
+        adjusted,
     })
+}
+
+// The payments over the boundaries, where the dates of all steps are boundaries (K36).
+fn payment_dates(
+    alloc: Global,
+    s: &Stream,
+    layout: &Layout,
+    days: &StreamDays<'_>,
+) -> Result<Payments, Stopped<Fault>>
+    requires lawful { IsLawfulStream s.now }
+    requires kept { (cal : List Section) × TermsKept cal s.now }
+    requires layout { (layout_of (sets_of days.now) s.now).Answers layout.now }
+    ensures { Meets (payment_dates_of (sets_of days.now) s.now layout.now) result }
+{
+    let (boundaries, moved) = (&layout.unadjusted, &layout.adjusted);
+    let payments = payments(alloc, s, &layout.span, boundaries, moved, days.payment)?;
+    check_steps(s, boundaries)?;
+    Ok(payments)
 }
 
 // What is dated over the boundaries. `Broken` is the first of the rules of payments, steps, exchanges
 // and resets, in this order.
-fn dated_over(
+fn events_over(
     alloc: Global,
     s: &Stream,
     layout: &Layout,
     days: &StreamDays<'_>,
     fix: &Fixings,
-) -> Result<Dated, Stopped<Fault>>
+) -> Result<StreamEvents, Stopped<Fault>>
     requires lawful { IsLawfulStream s.now }
     requires kept { (cal : List Section) × TermsKept cal s.now }
-    requires layout { IsKeptLayout (sets_of days.now) s.now layout.now }
-    ensures ok { IfOk result (AreDated (sets_of days.now) fix.now s.now layout.now) }
-    ensures broken { IfBroken result (StreamBroken (sets_of days.now) fix.now s.now) }
+    requires layout { (layout_of (sets_of days.now) s.now).Answers layout.now }
+    ensures meets { Meets (events_of (sets_of days.now) fix.now s.now layout.now) result }
+    ensures small { IfOk result (λ events. All HasSmallRate events.resets) }
 {
-    let (boundaries, moved) = (&layout.unadjusted, &layout.adjusted);
-    let payments = payments(alloc, s, &layout.span, boundaries, moved, days.payment)?;
-    check_steps(s, boundaries)?;
+    let payments = payment_dates(alloc, s, layout, days)?;
     let exchanges = principals(alloc, s, days.payment)?;
+    let moved = &layout.adjusted;
     let resets = resets(alloc, s, &layout.span, moved, days.reset, days.fixing, fix)?;
-    Ok(Dated {
+    Ok(StreamEvents {
         payments,
         exchanges,
         resets,
     })
 }
 
-ghost use Rattle.irs_payments.specs.Payments.{Covers};
-ghost use Rattle.irs_resets.specs.Resets.{HasSmallRate};
-ghost use Rattle.irs_schedule.specs.DaySets.{StreamSets};
-ghost use Rattle.irs_schedule.specs.FirstPassed.{IsFirstPassed};
-ghost use Rattle.irs_schedule.specs.PaidEntries.{ArePaid};
-ghost use Rattle.irs_schedule.specs.Parts.{KeepsBounds};
-ghost use Rattle.irs_schedule.specs.PeriodTerms.{PassesAt};
-ghost use Rattle.irs_schedule.specs.StreamDates.{layout_dates};
-ghost use Rattle.std.specs.Prelude.{All};
+// The payments with their amounts. `Broken` is K39.
+fn entries_over(
+    alloc: Global,
+    s: &Stream,
+    layout: &Layout,
+    events: &StreamEvents,
+) -> Result<PaymentEntries, Stopped<Fault>>
+    requires lawful { IsLawfulStream s.now }
+    requires kept { (cal : List Section) × TermsKept cal s.now }
+    requires laid { (sets : StreamSets) × (layout_of sets s.now).Answers layout.now }
+    requires covers { Covers 1 events.now.payments (length layout.now.unadjusted - 1) }
+    requires small { All HasSmallRate events.now.resets }
+    ensures meets { Meets (entries_of (layout_dates s.now layout.now events.now.resets) events.now.payments) result }
+    ensures bounds { IfOk result (Every (HasAmount s.now.currency)) }
+{
+    let table = PeriodTable {
+        unadjusted: layout.unadjusted.as_slice(),
+        adjusted: layout.adjusted.as_slice(),
+        resets: events.resets.as_slice(),
+    };
+    paid(alloc, s, &table, events.payments.as_slice())
+}

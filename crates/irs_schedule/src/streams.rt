@@ -2,6 +2,7 @@
 //! notional and rate of a period are worked out when they are asked for.
 ghost use Rattle.std.specs.Prelude.{◌≡◌, ◌-◌, ◌<◌, ◌≤◌, length};
 
+use crate::entries::PaymentEntries;
 use crate::kept_terms::KeptTerms;
 use crate::periods::{day_at, entry_by, observed_at};
 use crate::views::dated_period;
@@ -19,7 +20,7 @@ pub struct StreamPart {
     unadjusted: DayList,
     adjusted: DayList,
     exchanges: Exchanges,
-    payments: Vec<PaymentEntry>,
+    payments: PaymentEntries,
     resets: Resets,
 }
 
@@ -51,17 +52,17 @@ impl StreamPart {
         unadjusted: DayList,
         adjusted: DayList,
         exchanges: Exchanges,
-        payments: Vec<PaymentEntry>,
+        payments: PaymentEntries,
         resets: Resets,
     ) -> StreamPart
-        requires { MakePart terms unadjusted adjusted exchanges payments.items resets }
+        requires { MakePart terms unadjusted adjusted exchanges payments resets }
         ensures currency { result.currency ≡ terms.currency }
         ensures day_count { result.day_count ≡ terms.day_count }
         ensures floating { result.floating ≡ is_floating terms.leg }
         ensures unadjusted { result.unadjusted ≡ unadjusted }
         ensures adjusted { result.adjusted ≡ adjusted }
         ensures exchanges { result.exchanges ≡ exchanges }
-        ensures payments { result.payments ≡ payments.items }
+        ensures payments { result.payments ≡ payments }
         ensures periods { result.periods ≡ periods_by terms unadjusted adjusted resets }
         ensures resets { result.resets ≡ resets }
         ensures bounds { KeepsBounds result }
@@ -107,7 +108,7 @@ impl StreamPart {
         ensures value { result.now ≡ self.now.payments }
         ensures bounds { KeepsBounds self.now }
     {
-        &self.payments
+        self.payments.as_slice()
     }
 
     /// The resets of its periods in order; a fixed stream has none.

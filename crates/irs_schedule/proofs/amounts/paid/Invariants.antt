@@ -1,7 +1,7 @@
 use Rattle.irs_schedule.specs.StreamDates.{table_dates}
-use Rattle.irs_schedule.proofs.PaidLemmas.{ArePaid}
+use Rattle.irs_schedule.proofs.PaidEntries.{EntriesSoFar}
 use Rattle.irs_schedule.proofs.amounts.paid.Given as goal
 
 abbrev pub invariant-loop-payment : goal.invariant-loop-payment
 invariant-loop-payment l =
-    ArePaid (table_dates l.s l.table) l.payments l.payment-index l.entries.items
+    EntriesSoFar (table_dates l.s l.table) l.payments l.payment-index l.entries

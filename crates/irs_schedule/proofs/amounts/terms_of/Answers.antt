@@ -21,5 +21,5 @@ pub returns : goal.returns
 returns c =
     let count = c.loop-number.invariant.count in
     let past = c.loop-number-test.false in
-    let end = c.loop-number.auto.number-end (omega (arith, c.requires.some)) in
+    let end = c.loop-number.auto.number-end (omega (arith, c.requires.periods.some)) in
     record { count = omega (arith, count, past, end); each = c.loop-number.invariant.each }

@@ -1,19 +1,21 @@
-use Rattle.std.proofs.Common.{◌≡◌, ◌∙◌, subst, sym, ap}
-use Rattle.irs_base.proofs.HandedOut.{handed_out}
+use Rattle.std.proofs.Common.{◌≡◌, ◌∙◌, inl, inr, subst, sym, ap}
+use Rattle.irs_base.proofs.HandedAnswers.{handed_on}
+use Rattle.irs_base.proofs.Outcomes.{stopped_meets}
 use Rattle.irs_terms.specs.declared.stream.Stream.{Stream}
-use Rattle.irs_schedule.specs.KeptTerms.{is_floating}
 use Rattle.irs_schedule.specs.Keeping.{MakePart}
-use Rattle.irs_schedule.specs.Parts.{Part}
+use Rattle.irs_schedule.specs.KeptTerms.{is_floating, kept_of}
+use Rattle.irs_schedule.specs.Outcomes.{part_over, stream_of}
 use Rattle.irs_schedule.specs.Periods.{periods_by}
-use Rattle.irs_schedule.specs.Schedules.{IsPart}
 use Rattle.irs_schedule.specs.StageSets.{sets_of}
+use Rattle.irs_schedule.specs.StreamDates.{layout_dates}
 use Rattle.irs_schedule.specs.declared.center_table.StreamDays.{StreamDays}
 use Rattle.irs_schedule.specs.declared.kept_terms.KeptTerms.{KeptTerms}
 use Rattle.irs_schedule.proofs.CenterLemmas.{days_in_range}
+use Rattle.irs_schedule.proofs.Events.{events_are, events_cover}
 use Rattle.irs_schedule.proofs.LayoutLemmas.{AreInRange, layout_some}
-use Rattle.irs_schedule.proofs.PartMade.{makes_part, part_made, part_stands}
-use Rattle.irs_schedule.proofs.TermsThere.{kept_of}
-use Rattle.irs_schedule.proofs.Turns.{amounts_first, kept_amounts}
+use Rattle.irs_schedule.proofs.LayoutRules.{layout_kept}
+use Rattle.irs_schedule.proofs.PaidEntries.{entries_are}
+use Rattle.irs_schedule.proofs.PartMade.{makes_part}
 use Rattle.irs_schedule.proofs.stream.stream_part.Goals as goal
 
 -- the good days of the centres that the stream's elements name lie in the range
@@ -33,43 +35,71 @@ kept_is : (t : KeptTerms) (s : Stream) → t.currency ≡ s.currency → t.day_c
 kept_is t s currency day_count notional leg =
     λ i. record { currency = currency i; day_count = day_count i; notional = notional i; leg = leg i }
 
-pub returns-in_err-entries-clause-broken : goal.returns-in_err-entries-clause-broken
-returns-in_err-entries-clause-broken c =
-    let d = c.in_ok-dated.dated in
-    let dated = c.in_ok-dated.ensures.ok in
-    handed_out c.from_residual-in_err-entries.result c.in_err-entries.field-0.0 _ _
-    c.from_residual-in_err-entries.ensures.1
-    (amounts_first (sets_of c.args.days.now) c.args.fix.now c.args.s.now c.in_ok-layout.layout c.in_ok-layout.ensures.ok
-    d.payments d.resets dated.payments dated.resets dated.kept)
-    c.in_err-entries.ensures.broken
+pub returns-in_err-layout-clause-meets : goal.returns-in_err-layout-clause-meets
+unfolding stream_of
+returns-in_err-layout-clause-meets c =
+    let spec = stream_of (sets_of c.args.days.now) c.args.fix.now c.args.s.now in
+    let e = c.in_err-layout.field-0.0 in
+    stopped_meets spec c.from_residual.result e c.from_residual.ensures.1
+    (handed_on e _ spec.Refuses (λ f first. inl first) c.in_err-layout.ensures)
+
+pub returns-in_err-events-clause-meets : goal.returns-in_err-events-clause-meets
+unfolding stream_of
+returns-in_err-events-clause-meets c =
+    let spec = stream_of (sets_of c.args.days.now) c.args.fix.now c.args.s.now in
+    let e = c.in_err-events.field-0.0 in
+    stopped_meets spec c.from_residual-in_err-events.result e c.from_residual-in_err-events.ensures.1
+    (handed_on e _ spec.Refuses (λ f first. inr (c.in_ok-layout.layout, c.in_ok-layout.ensures, inl first))
+    c.in_err-events.ensures.meets)
+
+pub entries_over-requires-clause-covers : goal.entries_over-requires-clause-covers
+entries_over-requires-clause-covers c =
+    let sets = sets_of c.args.days.now in
+    let s = c.args.s.now in
+    let l = c.in_ok-layout.layout in
+    events_cover sets c.args.fix.now s l c.requires.kept.0 c.requires.lawful c.requires.kept.1
+    (layout_kept sets s l c.in_ok-layout.ensures) c.in_ok-events.events c.in_ok-events.ensures.meets
+
+pub returns-in_err-entries-clause-meets : goal.returns-in_err-entries-clause-meets
+unfolding stream_of
+returns-in_err-entries-clause-meets c =
+    let spec = stream_of (sets_of c.args.days.now) c.args.fix.now c.args.s.now in
+    let e = c.in_err-entries.field-0.0 in
+    stopped_meets spec c.from_residual-in_err-entries.result e c.from_residual-in_err-entries.ensures.1
+    (handed_on e _ spec.Refuses (λ f first. inr (
+      c.in_ok-layout.layout,
+      c.in_ok-layout.ensures,
+      inr (c.in_ok-events.events, c.in_ok-events.ensures.meets, inl first),
+    ))
+    c.in_err-entries.ensures.meets)
 
 pub new-requires : goal.new-requires
 new-requires c =
     let s = c.args.s.now in
     let sets = sets_of c.args.days.now in
-    let kept = c.requires.kept.1 in
+    let fix = c.args.fix.now in
+    let terms = c.requires.kept.1 in
     let l = c.in_ok-layout.layout in
-    let laid = c.in_ok-layout.ensures.ok in
-    let d = c.in_ok-dated.dated in
-    let es = c.in_ok-entries.entries.items in
+    let kept = layout_kept sets s l c.in_ok-layout.ensures in
+    let d = c.in_ok-events.events in
+    let es = c.in_ok-entries.entries in
     let t = c.in_ok-terms.ensures in
     let same = kept_is c.in_ok-terms.terms s t.currency t.day_count t.notional t.leg in
-    subst (λ (terms : KeptTerms). MakePart terms l.unadjusted l.adjusted d.exchanges es d.resets) (sym same)
-    (makes_part sets c.args.fix.now s l (layout_some sets s c.requires.lawful kept.dates l laid) laid d es
-    c.requires.lawful (kept.notional_rises, kept.leg_rises) (in_range c.args.days.now) c.as_slice-days.ensures.days
-    c.as_slice-moved.ensures.days c.in_ok-dated.ensures.ok c.in_ok-entries.ensures.entries)
+    let covers = events_cover sets fix s l c.requires.kept.0 c.requires.lawful terms kept d c.in_ok-events.ensures.meets in
+    subst (λ (k : KeptTerms). MakePart k l.unadjusted l.adjusted d.exchanges es d.resets) (sym same)
+    (makes_part sets fix s l (layout_some sets s c.requires.lawful terms.dates l kept) kept d es c.requires.lawful
+    (terms.notional_rises, terms.leg_rises) (in_range c.args.days.now) c.as_slice-days.ensures.days
+    c.as_slice-moved.ensures.days (events_are sets fix s l d c.in_ok-events.ensures.meets) covers
+    c.in_ok-events.ensures.small (entries_are (layout_dates s l d.resets) d.payments es c.in_ok-entries.ensures.meets).0
+    c.in_ok-entries.ensures.bounds)
 
-pub returns-clause-ok : goal.returns-clause-ok
-returns-clause-ok c =
+pub returns-clause-meets : goal.returns-clause-meets
+unfolding stream_of
+returns-clause-meets c =
     let s = c.args.s.now in
-    let sets = sets_of c.args.days.now in
-    let fix = c.args.fix.now in
     let l = c.in_ok-layout.layout in
-    let laid = c.in_ok-layout.ensures.ok in
-    let d = c.in_ok-dated.dated in
-    let dated = c.in_ok-dated.ensures.ok in
-    let es = c.in_ok-entries.entries.items in
-    let paid = c.in_ok-entries.ensures.entries in
+    let d = c.in_ok-events.events in
+    let es = c.in_ok-entries.entries in
     let t = c.in_ok-terms.ensures in
     let is = c.new.ensures in
     let same = kept_is c.in_ok-terms.terms s t.currency t.day_count t.notional t.leg in
@@ -77,7 +107,7 @@ returns-clause-ok c =
     let day_count = is.day_count ∙ t.day_count in
     let floating = is.floating ∙ ap is_floating t.leg in
     let periods = is.periods ∙ ap (λ (k : KeptTerms). periods_by k l.unadjusted l.adjusted d.resets) same in
-    let made : c.new.result ≡ part_made s l d.exchanges es d.resets = λ i. record {
+    let made : c.new.result ≡ part_over s l d es = λ i. record {
       currency = currency i;
       day_count = day_count i;
       floating = floating i;
@@ -88,13 +118,4 @@ returns-clause-ok c =
       periods = periods i;
       resets = is.resets i;
     } in
-    subst (λ (p : Part). IsPart sets fix s p) (sym made)
-    (part_stands sets fix s l (layout_some sets s c.requires.lawful c.requires.kept.1.dates l laid) laid d.exchanges es
-    d.resets dated.exchanges (rw paid.payments dated.payments) paid.amounts dated.resets)
-
-pub returns-clause-unbroken : goal.returns-clause-unbroken
-returns-clause-unbroken c =
-    let d = c.in_ok-dated.dated in
-    let dated = c.in_ok-dated.ensures.ok in
-    kept_amounts (sets_of c.args.days.now) c.args.fix.now c.args.s.now c.in_ok-layout.layout c.in_ok-layout.ensures.ok
-    d.payments d.resets dated.payments dated.resets dated.kept c.in_ok-entries.ensures.entries.within
+    (l, c.in_ok-layout.ensures, (d, c.in_ok-events.ensures.meets, (es, c.in_ok-entries.ensures.meets, made)))

@@ -1,0 +1,74 @@
+-- The payments, exchanges and resets of a stream over its layout: they are in their relations, and there is one outcome.
+use Rattle.std.proofs.Common.{◌-◌, List, length, sym, subst}
+use Rattle.irs_base.specs.Outcomes.{Determined}
+use Rattle.irs_base.proofs.Outcomes.{answer_determined, then_determined}
+use Rattle.irs_terms.specs.Lawful.{IsLawfulStream}
+use Rattle.irs_terms.specs.declared.stream.Stream.{Stream}
+use Rattle.irs_calendar.specs.declared.sections.Section.{Section}
+use Rattle.irs_payments.specs.Exchanges.{AreExchanges}
+use Rattle.irs_payments.specs.Outcomes.{payments_of, principals_of, steps_of}
+use Rattle.irs_payments.specs.Payments.{ArePayments, Covers}
+use Rattle.irs_payments.proofs.Outcomes.{payments_determined, principals_determined, steps_determined}
+use Rattle.irs_resets.specs.Outcomes.{resets_of}
+use Rattle.irs_resets.specs.Rates.{RateTable}
+use Rattle.irs_resets.specs.Resets.{IsResets}
+use Rattle.irs_resets.proofs.Outcomes.{resets_determined}
+use Rattle.irs_rules.specs.TermsKept.{TermsKept}
+use Rattle.irs_schedule.specs.DaySets.{StreamSets}
+use Rattle.irs_schedule.specs.Layouts.{IsKeptLayout}
+use Rattle.irs_schedule.specs.Outcomes.{events_of, payment_dates_of, resets_over}
+use Rattle.irs_schedule.specs.declared.layouts.Layout.{Layout}
+use Rattle.irs_schedule.specs.declared.stream.StreamEvents.{StreamEvents}
+use Rattle.irs_schedule.proofs.LayoutLemmas.{AreInRange, layout_adjusted_days, layout_covers, layout_days, layout_runs}
+
+-- each list is in its relation
+pub record AreEvents (sets : StreamSets) (fix : RateTable) (s : Stream) (l : Layout) (d : StreamEvents) : Type 0 where
+  pub payments : ArePayments s sets.payment l.unadjusted l.adjusted d.payments
+  pub exchanges : AreExchanges s sets.payment d.exchanges
+  pub resets : IsResets (resets_over sets s l) fix d.resets
+
+module _ (sets : StreamSets) (fix : RateTable) (s : Stream) (l : Layout) where
+  -- events that are answered are
+  pub events_are : (d : StreamEvents) → (events_of sets fix s l).Answers d → AreEvents sets fix s l d
+  events_are d h =
+      let paid = h.1 in
+      let xs = h.2.0 in
+      let rs = h.2.2.0 in
+      let made : StreamEvents = record { payments = h.0; exchanges = xs; resets = rs } in
+      let are : AreEvents sets fix s l made = record {
+        payments = subst (ArePayments s sets.payment l.unadjusted l.adjusted) (sym paid.2.2) paid.1.1;
+        exchanges = h.2.1.1;
+        resets = h.2.2.1.1;
+      } in
+      subst (AreEvents sets fix s l) (sym h.2.2.2) are
+
+  -- a stream has its events over its layout, or one first rule that they break
+  pub events_determined : (cal : List Section) → IsLawfulStream s → TermsKept cal s → AreInRange sets
+      → IsKeptLayout sets s l → Determined (events_of sets fix s l)
+  events_determined cal lawful terms range is =
+      let moved = layout_adjusted_days sets s lawful terms.dates l is range in
+      then_determined (payment_dates_of sets s l) _
+      (then_determined (payments_of s sets.payment l.unadjusted l.adjusted) _
+      (payments_determined s sets.payment l.unadjusted l.adjusted
+      (record {
+        lawful = lawful;
+        said = terms.said;
+        run = layout_runs sets s lawful terms.dates l is;
+        days = layout_days sets s lawful terms.dates l is;
+        adjusted = moved;
+        adjusted_count = is.adjusted.same_length;
+        range = range.payment;
+      })) (λ payments _.
+      then_determined (steps_of s l.unadjusted) _ (steps_determined s l.unadjusted) (λ _ _. answer_determined payments)))
+      (λ payments _.
+      then_determined (principals_of s sets.payment) _ (principals_determined s sets.payment lawful range.payment) (λ exchanges _.
+      then_determined (resets_of (resets_over sets s l) fix) _
+      (resets_determined (resets_over sets s l) fix terms.legs terms.said_reset
+      (record { adjusted = moved; reset_set = range.reset; fixing_set = range.fixing })) (λ resets _.
+      answer_determined (record { payments = payments; exchanges = exchanges; resets = resets }))))
+
+  -- payments that are answered cover the periods
+  pub events_cover : (cal : List Section) → IsLawfulStream s → TermsKept cal s → IsKeptLayout sets s l → (d : StreamEvents)
+      → (events_of sets fix s l).Answers d → Covers 1 d.payments (length l.unadjusted - 1)
+  events_cover cal lawful terms is d h =
+      layout_covers sets s lawful terms.dates l is d.payments (AreEvents.payments (events_are d h))
