@@ -111,7 +111,7 @@ module _ (s : Stream) (set : DaySet) (b a : List ℤ) (run : RunsFromTo (first_d
   are_payments : (ps : List Payment) → length a ≡ length b → ArePaid s set b a (0 ∷ later) (length (0 ∷ later)) ps
       → ArePayments s set b a ps
   are_payments ps long paid = record {
-    adjusted_count = long;
+    same_length = long;
     pay = (first_day_of s) ∷ days_at b later;
     listed = pay_listed s b run later rising sound complete;
     count = paid.count ∙ sym pay_length;

@@ -60,6 +60,6 @@ every_payments_cover s set b a lawful term run days ps are =
     (date_of s set b a run h.later h.rising h.sound h.complete ps are) in
     let paid = paid_there s set b a cuts.0 (cuts_places s b cuts.0 run h) dates (some_cuts s b cuts.0 h) in
     let same : paid.0 ≡ ps =
-    one_payments s set b a run.rising paid.0 ps (payments_are s set b a cuts.0 run h are.adjusted_count paid.0 paid.1) are in
+    one_payments s set b a run.rising paid.0 ps (payments_are s set b a cuts.0 run h are.same_length paid.0 paid.1) are in
     subst (λ (qs : List Payment). Covers 1 qs (length b - 1)) same
     (payments_cover s set b a cuts.0 term run h paid.0 paid.1)

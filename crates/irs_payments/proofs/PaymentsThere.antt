@@ -160,7 +160,7 @@ pub record ArePayable (s : Stream) (set : DaySet) (b a : List ℤ) : Type 0 wher
   pub lawful : IsLawfulStream s
   pub said : IsSaid s.pay.offset
   pub run : RunsFromTo (first_day_of s) s.termination.day b
-  pub adjusted_count : length a ≡ length b
+  pub same_length : length a ≡ length b
   pub days : AreDays b
   pub adjusted : AreDays a
   pub range : InRange set
@@ -169,7 +169,7 @@ module _ (s : Stream) (set : DaySet) (b a : List ℤ) (over : ArePayable s set b
   stream_dates : DatesFound s set b a
   stream_dates =
       let cuts = cuts_there s b over.lawful over.run over.days in
-      dates_found s set b a cuts.0 over.run cuts.1 over.adjusted_count
+      dates_found s set b a cuts.0 over.run cuts.1 over.same_length
       (λ j. date_or_failure s.pay.offset s.pay.adj.code set (day_at a (date_place s cuts.0 j))
       (day_at_day a (date_place s cuts.0 j) over.adjusted) over.range over.said)
 

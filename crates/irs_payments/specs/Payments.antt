@@ -46,7 +46,7 @@ pub record IsPayment (s : Stream) (set : DaySet) (boundaries adjusted pay : List
 -- the payments of the stream, one for each payment boundary after the first day
 pub record ArePayments (s : Stream) (set : DaySet) (boundaries adjusted : List ℤ)
     (payments : List Payment) : Type 0 where
-  pub adjusted_count : length adjusted ≡ length boundaries
+  pub same_length : length adjusted ≡ length boundaries
   pub pay : List ℤ
   pub listed : PayList s boundaries pay
   pub count : length payments + 1 ≡ length pay
