@@ -1,15 +1,15 @@
 -- A schedule and the rules of dates and amounts depend on a table of rates by its rates alone.
-use Rattle.std.proofs.Common.{◌≡◌, ℕ, List, [], ◌∷◌, Option, Some, None, ℤ, refl, sym}
+use Rattle.std.proofs.Common.{ℕ, List, [], ◌∷◌, sym}
 use Rattle.irs_terms.specs.declared.stream.Stream.{Stream}
 use Rattle.irs_terms.specs.declared.stream_list.Swap.{Swap}
 use Rattle.irs_base.specs.declared.places.Broken.{Broken}
 use Rattle.irs_base.specs.declared.places.Fault.{Fault}
 use Rattle.irs_calendar.specs.declared.sections.Section.{Section}
-use Rattle.irs_resets.specs.FixingFiles.{IsFixingFile}
-use Rattle.irs_resets.specs.Rates.{RateTable, rate_at}
+use Rattle.irs_resets.specs.Rates.{RateTable}
+pub use Rattle.irs_resets.specs.Rates.{SameRates}
+pub use Rattle.irs_resets.proofs.FileOutcomes.{same_file}
 use Rattle.irs_resets.proofs.RowLemmas.{resets_same}
 use Rattle.irs_resets.specs.Resets.{source_of}
-use Rattle.irs_resets.specs.declared.store.Slot.{Slot}
 use Rattle.irs_schedule.specs.DatedRules.{DatedPart, in_span, in_periods, in_payments, in_steps, in_exchanges}
 use Rattle.irs_schedule.specs.DatedRules.{in_resets, in_amounts, BreaksPart, resets_over, StreamKept, StreamBroken}
 use Rattle.irs_schedule.specs.DatedRules.{DatedKept, DatedBroken}
@@ -18,24 +18,8 @@ use Rattle.irs_schedule.specs.Parts.{Part}
 use Rattle.irs_schedule.specs.Schedules.{IsPart, IsSchedule}
 use Rattle.irs_base.specs.Members.{Pairs}
 
--- two tables have the same rates
-abbrev pub SameRates : RateTable → RateTable → Type 0
-SameRates t u = (index : List ℕ) (slot : Slot) → rate_at t index slot ≡ rate_at u index slot
-
 pub same_back : (t u : RateTable) → SameRates t u → SameRates u t
 same_back t u e index slot = sym (e index slot)
-
--- ---- two tables of one file have the same rates
-
-same_option : (a b : Option ℤ) → ((r : ℤ) → a ≡ Some r → b ≡ Some r) → ((r : ℤ) → b ≡ Some r → a ≡ Some r) → a ≡ b
-same_option None None h k = refl
-same_option None (Some y) h k = k y refl
-same_option (Some x) b h k = sym (h x refl)
-
-pub same_file : (bytes : List ℕ) (t u : RateTable) → IsFixingFile bytes t → IsFixingFile bytes u → SameRates t u
-same_file bytes t u h k index slot = same_option (rate_at t index slot) (rate_at u index slot)
-    (λ r e. (k.holds index slot r).1 ((h.holds index slot r).0 e))
-    (λ r e. (h.holds index slot r).1 ((k.holds index slot r).0 e))
 
 module _ (t u : RateTable) (e : SameRates t u) where
   -- ---- schedules

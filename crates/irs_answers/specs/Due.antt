@@ -1,7 +1,6 @@
 -- What is due for a task and its files: status and text, by the first step that applies.
 use Rattle.std.specs.Prelude.{◌≡◌, ℕ, List, [], Option, Some, None, Bool, true, false, if◌then◌else◌}
 use Rattle.serde_json.specs.Data.{Data}
-use Rattle.irs_base.specs.Lines.{lines_of}
 use Rattle.irs_base.specs.declared.places.Broken.{Broken}
 use Rattle.irs_json.specs.Reading.{Reads}
 use Rattle.irs_read.specs.Documents.{DocumentFault}
@@ -11,10 +10,9 @@ use Rattle.irs_calendar.specs.Calendars.{Spot}
 use Rattle.irs_calendar.specs.FirstFaults.{IsFirstFault as IsFirstCalendarFault}
 use Rattle.irs_calendar.specs.Grammar.{CalFiles}
 use Rattle.irs_calendar.specs.declared.sections.Section.{Section}
-use Rattle.irs_resets.specs.FixingFiles.{IsFixingFile, IsFirstFault, IsBad, Repeats}
+use Rattle.irs_resets.specs.FixingFiles.{IsFixingFault, IsFixingFile}
 use Rattle.irs_resets.specs.Rates.{RateTable}
 use Rattle.irs_resets.specs.declared.fixings.FixErr.{FixErr}
-use Rattle.irs_resets.specs.declared.fixings.FixErr.TheVariants as fault
 use Rattle.irs_rules.specs.TermsRules.{BreaksTerms, IsFirstBroken as IsFirstOfTerms}
 use Rattle.irs_schedule.specs.DatedRules.{DatedKept, DatedBroken}
 use Rattle.irs_schedule.specs.Parts.{Part}
@@ -51,13 +49,7 @@ abbrev pub AreFixings : Option (List ℕ) → RateTable → Type 0
 AreFixings None table = table ≡ []
 AreFixings (Some bytes) table = IsFixingFile bytes table
 
--- the first line of a file of fixings that is at fault, and how it is
-abbrev pub IsFixingFault : List ℕ → FixErr → Type 0
-IsFixingFault bytes (fault.Syntax line) = IsFirstFault (IsBad (lines_of bytes)) (lines_of bytes) line
-IsFixingFault bytes (fault.Repeat line) = IsFirstFault (Repeats (lines_of bytes)) (lines_of bytes) line
-IsFixingFault bytes fault.Memory = ⊥
-
--- the same, where there is a file
+-- the first line of a file of fixings that is at fault, and how it is, where there is a file
 abbrev pub IsFixingsFault : Option (List ℕ) → FixErr → Type 0
 IsFixingsFault None f = ⊥
 IsFixingsFault (Some bytes) f = IsFixingFault bytes f
