@@ -28,7 +28,7 @@ use Rattle.irs_resets.specs.Rates.{RateTable}
 use Rattle.irs_resets.specs.declared.fixings.FixErr.{FixErr}
 use Rattle.irs_resets.specs.declared.fixings.FixErr.TheVariants as fixing
 use Rattle.irs_rules.specs.TermsRules.{IsFirstBroken as IsFirstOfTerms}
-use Rattle.irs_schedule.proofs.OneBroken.{one_broken}
+use Rattle.irs_schedule.proofs.OnePart.{one_broken}
 use Rattle.irs_schedule.specs.DatedRules.{DatedKept, DatedBroken}
 use Rattle.irs_schedule.specs.Parts.{Part}
 use Rattle.irs_schedule.specs.Schedules.{IsSchedule}
@@ -310,9 +310,9 @@ module _ (t : Task) (g : Given) where
       let rates = rates_for t table in
       in_terms t g 2 (refused b) swap sides cal table first.0
       (broken (DatedKept swap cal rates) (Refuses (DatedBroken swap cal rates) 2 (refused b))
-      (DueKept t g swap sides cal table 2 (refused b)) (λ keeps. not_kept swap cal rates b first.1 keeps) (
+      (DueKept t g swap sides cal table 2 (refused b)) (λ keeps. keeps b first.1.is) (
         b,
-        record { is = first.1; only = λ y k. one_broken swap cal rates y b k first.1 },
+        first.1,
         (refl, refl),
       ))
 
@@ -397,10 +397,14 @@ module _ (t : Task) (g : Given) where
       (rule_due swap sides cal table spells files rates) h
 
 -- the making of a schedule
-pub refuse_making : (swap : Swap) (cal : List Section) (table : RateTable) (e : Stopped Broken) → KeepsTerms swap cal
-    → IfStopped e (DatedBroken swap cal table) → IfRefused (of_stopped e) (IsUnscheduled swap cal table)
-refuse_making swap cal table (stopped.Broken b) kept h = (b, inr (kept, h), (refl, refl))
-refuse_making swap cal table stopped.Memory kept h = tt
+pub refuse_making : (swap : Swap) (cal : List Section) (table : RateTable) (e : Stopped Broken) → IsLawful swap
+    → KeepsTerms swap cal → IfStopped e (DatedBroken swap cal table)
+    → IfRefused (of_stopped e) (IsUnscheduled swap cal table)
+refuse_making swap cal table (stopped.Broken b) lawful kept h =
+    let first : Only (DatedBroken swap cal table) b =
+    record { is = h; only = λ y k. one_broken swap cal table lawful kept y b k h } in
+    (b, inr (kept, first), (refl, refl))
+refuse_making swap cal table stopped.Memory lawful kept h = tt
 
 -- files that pass, from what was read and made
 pub passes_by : (t : Task) (g : Given) (f : Facts) → Spells t g.document f.swap f.sides → CalFiles g.calendars f.cal

@@ -1,22 +1,26 @@
 -- A schedule and the rules of dates and amounts depend on a table of rates by its rates alone.
-use Rattle.std.proofs.Common.{ℕ, List, [], ◌∷◌, sym}
-use Rattle.irs_terms.specs.declared.stream.Stream.{Stream}
-use Rattle.irs_terms.specs.declared.stream_list.Swap.{Swap}
+use Rattle.std.proofs.Common.{inl, inr, ℕ, List, [], ◌∷◌, sym}
+use Rattle.irs_base.specs.Faults.{in_stream}
+use Rattle.irs_base.specs.Members.{Pairs}
+use Rattle.irs_base.specs.Outcomes.{refused_as}
 use Rattle.irs_base.specs.declared.places.Broken.{Broken}
 use Rattle.irs_base.specs.declared.places.Fault.{Fault}
+use Rattle.irs_base.proofs.Outcomes.{each_refuses}
+use Rattle.irs_terms.specs.declared.stream.Stream.{Stream}
+use Rattle.irs_terms.specs.declared.stream_list.Swap.{Swap}
 use Rattle.irs_calendar.specs.declared.sections.Section.{Section}
 use Rattle.irs_resets.specs.Rates.{RateTable}
 pub use Rattle.irs_resets.specs.Rates.{SameRates}
 pub use Rattle.irs_resets.proofs.FileOutcomes.{same_file}
-use Rattle.irs_resets.proofs.RowLemmas.{resets_same}
 use Rattle.irs_resets.specs.Resets.{source_of}
-use Rattle.irs_schedule.specs.DatedRules.{DatedPart, in_span, in_periods, in_payments, in_steps, in_exchanges}
-use Rattle.irs_schedule.specs.DatedRules.{in_resets, in_amounts, BreaksPart, resets_over, StreamKept, StreamBroken}
-use Rattle.irs_schedule.specs.DatedRules.{DatedKept, DatedBroken}
+use Rattle.irs_resets.proofs.RowLemmas.{resets_same}
+use Rattle.irs_schedule.specs.DatedRules.{DatedBroken, DatedKept}
 use Rattle.irs_schedule.specs.DaySets.{StreamSets, stream_sets}
+use Rattle.irs_schedule.specs.Outcomes.{events_of, resets_over, schedule_of, stream_of}
 use Rattle.irs_schedule.specs.Parts.{Part}
 use Rattle.irs_schedule.specs.Schedules.{IsPart, IsSchedule}
-use Rattle.irs_base.specs.Members.{Pairs}
+use Rattle.irs_schedule.specs.declared.layouts.Layout.{Layout}
+use Rattle.irs_schedule.specs.declared.stream.StreamEvents.{StreamEvents}
 
 pub same_back : (t u : RateTable) → SameRates t u → SameRates u t
 same_back t u e index slot = sym (e index slot)
@@ -52,64 +56,47 @@ module _ (t u : RateTable) (e : SameRates t u) where
       → IsSchedule swap cal u parts
   schedule_same swap cal parts h = parts_same cal swap.streams parts h
 
-  -- ---- the rules of dates and amounts
+  -- ---- what a stream and a swap come to
 
-  breaks_same : (sets : StreamSets) (s : Stream) (part : DatedPart) (f : Fault) → BreaksPart sets t s part f
-      → BreaksPart sets u s part f
-  breaks_same sets s in_span f h = h
-  breaks_same sets s in_periods f h = h
-  breaks_same sets s in_payments f h = h
-  breaks_same sets s in_steps f h = h
-  breaks_same sets s in_exchanges f h = h
-  breaks_same sets s in_resets f h = h
-  breaks_same sets s in_amounts f h =
-      let b = h.breaks in
-      record {
-        layout = h.layout;
-        is_layout = h.is_layout;
-        breaks = record {
-          payments = b.payments;
-          are_payments = b.are_payments;
-          resets = b.resets;
-          are_resets = resets_same (resets_over sets s h.layout) t u e b.resets b.are_resets;
-          period = b.period;
-          passes = b.passes;
-          is = b.is;
-        };
-      }
+  events_same : (sets : StreamSets) (s : Stream) (l : Layout) (d : StreamEvents) → (events_of sets t s l).Answers d
+      → (events_of sets u s l).Answers d
+  events_same sets s l d (ps, dated, (xs, exchanged, (rs, reset, made))) = (
+    ps,
+    dated,
+    (xs, exchanged, (rs, (reset.0, resets_same (resets_over sets s l) t u e rs reset.1), made)),
+  )
 
-stream_kept : (t u : RateTable) → SameRates t u → (sets : StreamSets) (s : Stream) → StreamKept sets t s
-    → StreamKept sets u s
-stream_kept t u e sets s h part f b = h part f (breaks_same u t (same_back t u e) sets s part f b)
+  events_refused : (sets : StreamSets) (s : Stream) (l : Layout) (f : Fault) → (events_of sets t s l).Refuses f
+      → (events_of sets u s l).Refuses f
+  events_refused sets s l f (inl first) = inl first
+  events_refused sets s l f (inr (ps, dated, inl first)) = inr (ps, dated, inl first)
+  events_refused sets s l f (inr (ps, dated, inr (xs, exchanged, inl first))) =
+      inr (ps, dated, inr (xs, exchanged, inl first))
+  events_refused sets s l f (inr (ps, dated, inr (xs, exchanged, inr last))) = absurd last.2
+
+  stream_answers : (sets : StreamSets) (s : Stream) (p : Part) → (stream_of sets t s).Answers p
+      → (stream_of sets u s).Answers p
+  unfolding stream_of
+  stream_answers sets s p (l, laid, (d, are, rest)) = (l, laid, (d, events_same sets s l d are, rest))
+
+  stream_refuses : (sets : StreamSets) (s : Stream) (f : Fault) → (stream_of sets t s).Refuses f
+      → (stream_of sets u s).Refuses f
+  unfolding stream_of
+  stream_refuses sets s f (inl first) = inl first
+  stream_refuses sets s f (inr (l, laid, inl first)) = inr (l, laid, inl (events_refused sets s l f first))
+  stream_refuses sets s f (inr (l, laid, inr (d, are, rest))) =
+      inr (l, laid, inr (d, events_same sets s l d are, rest))
+
+  -- the same first broken rule
+  pub first_same_table : (swap : Swap) (cal : List Section) (x : Broken) → DatedBroken swap cal t x
+      → DatedBroken swap cal u x
+  unfolding schedule_of
+  first_same_table swap cal x h =
+      each_refuses (λ n s. refused_as (in_stream n) (stream_of (stream_sets cal s) t s))
+      (λ n s. refused_as (in_stream n) (stream_of (stream_sets cal s) u s))
+      (λ n s p. stream_answers (stream_sets cal s) s p)
+      (λ n s b k. (k.0, stream_refuses (stream_sets cal s) s k.0 k.1, k.2)) 1 swap.streams x h
 
 pub kept_same : (t u : RateTable) → SameRates t u → (swap : Swap) (cal : List Section) → DatedKept swap cal t
     → DatedKept swap cal u
-kept_same t u e swap cal h i s at = stream_kept t u e (stream_sets cal s) s (h i s at)
-
-stream_broken : (t u : RateTable) → SameRates t u → (sets : StreamSets) (s : Stream) (f : Fault)
-    → StreamBroken sets t s f → StreamBroken sets u s f
-stream_broken t u e sets s f h = record {
-  part = h.part;
-  first = (
-    breaks_same t u e sets s h.part f h.first.0,
-    λ g b. h.first.1 g (breaks_same u t (same_back t u e) sets s h.part g b),
-  );
-  kept_before = λ part g turn b. h.kept_before part g turn (breaks_same u t (same_back t u e) sets s part g b);
-}
-
-pub first_same_table : (t u : RateTable) → SameRates t u → (swap : Swap) (cal : List Section) (x : Broken)
-    → DatedBroken swap cal t x → DatedBroken swap cal u x
-first_same_table t u e swap cal x h = record {
-  position = h.position;
-  stream = h.stream;
-  there = h.there;
-  fault = h.fault;
-  breaks = stream_broken t u e (stream_sets cal h.stream) h.stream h.fault h.breaks;
-  kept_before = λ i s below at. stream_kept t u e (stream_sets cal s) s (h.kept_before i s below at);
-  is = h.is;
-}
-
--- a swap with a first broken rule doesn't keep all
-pub not_kept : (swap : Swap) (cal : List Section) (t : RateTable) (x : Broken) → DatedBroken swap cal t x
-    → DatedKept swap cal t → ⊥
-not_kept swap cal t x h k = k h.position h.stream h.there h.breaks.part h.fault h.breaks.first.0
+kept_same t u e swap cal kept x h = kept x (first_same_table u t (same_back t u e) swap cal x h)

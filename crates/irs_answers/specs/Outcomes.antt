@@ -113,7 +113,7 @@ IsTermsFirst swap cal b = Only (IsFirstOfTerms swap cal) b
 
 -- b is the first broken rule of the swap
 abbrev pub IsRuleFirst : Swap → List Section → RateTable → Broken → Type 0
-IsRuleFirst swap cal table b = IsTermsFirst swap cal b ⊎ (KeepsTerms swap cal × DatedBroken swap cal table b)
+IsRuleFirst swap cal table b = IsTermsFirst swap cal b ⊎ (KeepsTerms swap cal × Only (DatedBroken swap cal table) b)
 
 -- the answer is the line of the first broken rule of the swap
 abbrev pub IsUnscheduled : Swap → List Section → RateTable → ℕ → List ℕ → Type 0

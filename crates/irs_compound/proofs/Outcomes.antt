@@ -4,17 +4,16 @@ use Rattle.std.specs.Prelude.{nat_lt}
 use Rattle.irs_base.specs.Outcomes.{Determined}
 use Rattle.irs_base.proofs.Outcomes.{unless_broken_determined}
 use Rattle.irs_terms.specs.declared.codes.CompCode.{CompCode}
-use Rattle.irs_compound.specs.Amounts.{AmountOf, IsOutOfRange, IsPayment, denominator}
+use Rattle.irs_compound.specs.Amounts.{AmountOf, IsOutOfRange}
 use Rattle.irs_compound.specs.AmountLaws.{one_amount}
 use Rattle.irs_compound.specs.Outcomes.{payment_amount_of}
-use Rattle.irs_compound.specs.PartsLaws.{all_fractions}
+use Rattle.irs_compound.specs.PartsLaws.{AllFractions}
 use Rattle.irs_compound.specs.declared.periods.PeriodTerm.{PeriodTerm}
 use Rattle.irs_compound.proofs.AmountTheorems.{amount_decided, amount_there, one_amount_out}
 
-pub payment_determined : (code : CompCode) (ps : List PeriodTerm) (places : ℕ) → IsPayment ps
+pub payment_determined : (code : CompCode) (ps : List PeriodTerm) (places : ℕ) → AllFractions ps
     → Determined (payment_amount_of code ps places)
-payment_determined code ps places payment =
-    let fractions = all_fractions (denominator ps) ps payment.2 in
+payment_determined code ps places fractions =
     unless_broken_determined nat_lt (IsOutOfRange code ps) (AmountOf code ps places)
     (amount_decided code ps fractions) (λ _. amount_there code ps places fractions)
     (λ m n a b. one_amount code ps places m n fractions a b) (one_amount_out code ps)

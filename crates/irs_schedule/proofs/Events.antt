@@ -56,7 +56,7 @@ module _ (sets : StreamSets) (fix : RateTable) (s : Stream) (l : Layout) where
         run = layout_runs sets s lawful terms.dates l is;
         days = layout_days sets s lawful terms.dates l is;
         adjusted = moved;
-        adjusted_count = is.adjusted.same_length;
+        same_length = is.adjusted.same_length;
         range = range.payment;
       })) (λ payments _.
       then_determined (steps_of s l.unadjusted) _ (steps_determined s l.unadjusted) (λ _ _. answer_determined payments)))

@@ -1,5 +1,5 @@
 -- The payments of a stream with their amounts: they are in their relations, and there is one outcome.
-use Rattle.std.proofs.Common.{◌≡◌, ℕ, ◌+◌, ◌-◌, ◌<◌, ◌≤◌, List, [], ◌∷◌, ◌++◌, length, map, take, Some, Option, option_map, ℤ, nat_lt}
+use Rattle.std.proofs.Common.{◌≡◌, ℕ, ◌+◌, ◌-◌, ◌<◌, ◌≤◌, List, [], ◌∷◌, ◌++◌, length, map, take, Some, option_map}
 use Rattle.std.proofs.Common.{refl, sym, ap, ap₂, subst, ◌∙◌, arith}
 use Rattle.std.specs.Prelude.{slice_get}
 use Rattle.std.proofs.lemmas.List.{take_all}
@@ -12,18 +12,14 @@ use Rattle.irs_base.proofs.CoverLemmas.{LieAmong, covers_each}
 use Rattle.irs_base.proofs.EveryLemmas.{every_both}
 use Rattle.irs_base.proofs.Outcomes.{each_begins, each_ends, each_goes_on}
 use Rattle.irs_base.proofs.Outcomes.{answer_determined, each_determined, given_by_determined, refused_as_determined}
-use Rattle.irs_base.proofs.Outcomes.{then_determined, unless_broken_determined}
+use Rattle.irs_base.proofs.Outcomes.{then_determined}
 use Rattle.irs_terms.specs.Currencies.{decimals_of}
 use Rattle.irs_terms.specs.StepDates.{AllStepsRise}
-use Rattle.irs_terms.specs.declared.codes.CompCode.{CompCode}
 use Rattle.irs_terms.specs.declared.results.Payment.{Payment}
-use Rattle.irs_compound.specs.AmountLaws.{one_amount as one_units}
-use Rattle.irs_compound.specs.Amounts.{AmountOf, IsOutOfRange}
-use Rattle.irs_compound.specs.PartsLaws.{AllFractions}
-use Rattle.irs_compound.specs.declared.periods.PeriodTerm.{PeriodTerm}
-use Rattle.irs_compound.proofs.AmountTheorems.{amount_decided, amount_there, one_amount_out}
+use Rattle.irs_compound.specs.Outcomes.{payment_amount_of}
+use Rattle.irs_compound.proofs.Outcomes.{payment_determined}
 use Rattle.irs_payments.specs.Payments.{Covers}
-use Rattle.irs_schedule.specs.Outcomes.{entries_of, entry_of, passed_at, paying, units_of}
+use Rattle.irs_schedule.specs.Outcomes.{entries_of, entry_of, passed_at, paying}
 use Rattle.irs_schedule.specs.Parts.{HasAmount}
 use Rattle.irs_schedule.specs.PeriodTerms.{AreTerms, IsAmountFor, dec_of}
 use Rattle.irs_schedule.specs.Schedules.{IsPaymentEntry, payment_of}
@@ -31,14 +27,6 @@ use Rattle.irs_schedule.specs.StreamDates.{StreamDates}
 use Rattle.irs_schedule.specs.declared.entries.PaymentEntry.{PaymentEntry}
 use Rattle.irs_schedule.proofs.TermsThere.{amount_by, terms_by, terms_fit, terms_there}
 use Rattle.irs_schedule.proofs.Unique.{one_terms}
-
--- what periods pay has one outcome
-units_determined : (code : CompCode) (terms : List PeriodTerm) (places : ℕ) → AllFractions terms
-    → Determined (units_of code terms places)
-units_determined code terms places fits =
-    unless_broken_determined nat_lt (IsOutOfRange code terms) (AmountOf code terms places)
-    (amount_decided code terms fits) (λ _. amount_there code terms places fits)
-    (λ a b. one_units code terms places a b fits) (one_amount_out code terms)
 
 module _ (d : StreamDates) where
   -- an entry that is answered is the payment with the amount of its periods
@@ -82,9 +70,9 @@ module _ (d : StreamDates) where
         then_determined (given_by (AreTerms d p)) _
         (given_by_determined (AreTerms d p) (terms_by d p, are) (one_terms d rises p)) (λ terms is.
         let fits = terms_fit d rising days p.first_period terms lies.from (omega (arith, is.count, lies.to, high)) is.each in
-        then_determined (refused_as (λ n. passed_at (p.first_period + n - 1)) (units_of d.stream.compounding terms places)) _
-        (refused_as_determined (λ n. passed_at (p.first_period + n - 1)) (units_of d.stream.compounding terms places)
-        (units_determined d.stream.compounding terms places fits)) (λ units _.
+        then_determined (refused_as (λ n. passed_at (p.first_period + n - 1)) (payment_amount_of d.stream.compounding terms places)) _
+        (refused_as_determined (λ n. passed_at (p.first_period + n - 1)) (payment_amount_of d.stream.compounding terms places)
+        (payment_determined d.stream.compounding terms places fits)) (λ units _.
         answer_determined (paying p (option_map (dec_of places) units))))
 
     -- payments that cover the periods have one list of amounts, or one first period that leaves its range

@@ -1,15 +1,14 @@
 -- What a stream and a swap come to: a schedule, or the first rule of their dates and amounts that is broken.
 -- Each specification is a chain of those of the stages, in the order in which they are worked out.
-use Rattle.std.specs.Prelude.{ℕ, ◌+◌, ◌-◌, List, Option, option_map, ℤ, nat_lt}
+use Rattle.std.specs.Prelude.{ℕ, ◌+◌, ◌-◌, List, Option, option_map}
 use Rattle.irs_base.specs.Elements.{calculation_period_amount}
 use Rattle.irs_base.specs.Faults.{fault_at, in_stream}
-use Rattle.irs_base.specs.Outcomes.{Spec, ◌>>=◌, answer, each_in_turn, given_by, refused_as, unless_broken}
+use Rattle.irs_base.specs.Outcomes.{Spec, ◌>>=◌, answer, each_in_turn, given_by, refused_as}
 use Rattle.irs_base.specs.declared.line.Dec.{Dec}
 use Rattle.irs_base.specs.declared.places.Broken.{Broken}
 use Rattle.irs_base.specs.declared.places.Fault.{Fault}
 use Rattle.irs_base.specs.declared.places.Rule.TheVariants.{K39}
 use Rattle.irs_terms.specs.Currencies.{decimals_of}
-use Rattle.irs_terms.specs.declared.codes.CompCode.{CompCode}
 use Rattle.irs_terms.specs.declared.results.Payment.{Payment}
 use Rattle.irs_terms.specs.declared.stream.Stream.{Stream}
 use Rattle.irs_terms.specs.declared.stream_list.Swap.{Swap}
@@ -19,8 +18,7 @@ use Rattle.irs_payments.specs.Outcomes.{payments_of, principals_of, steps_of}
 use Rattle.irs_resets.specs.Outcomes.{resets_of}
 use Rattle.irs_resets.specs.Rates.{RateTable}
 use Rattle.irs_resets.specs.Resets.{ResetSource, source_of}
-use Rattle.irs_compound.specs.Amounts.{AmountOf, IsOutOfRange}
-use Rattle.irs_compound.specs.declared.periods.PeriodTerm.{PeriodTerm}
+use Rattle.irs_compound.specs.Outcomes.{payment_amount_of}
 use Rattle.irs_schedule.specs.DaySets.{StreamSets, stream_sets}
 use Rattle.irs_schedule.specs.KeptTerms.{is_floating, kept_of}
 use Rattle.irs_schedule.specs.Parts.{Part}
@@ -73,16 +71,12 @@ paying p amount = record {
   amount = amount;
 }
 
--- what periods pay, in units of so many decimals; or the first of them that leaves its range
-abbrev pub units_of : CompCode → List PeriodTerm → ℕ → Spec (Option ℤ) ℕ
-units_of code terms places = unless_broken nat_lt (IsOutOfRange code terms) (AmountOf code terms places)
-
 -- a payment with its amount, in the decimals of the currency; or K39 at the first of its periods that leaves its range
 abbrev pub entry_of : StreamDates → Payment → Spec PaymentEntry Fault
 entry_of d p = do
   terms ← given_by (AreTerms d p)
   units ← refused_as (λ n. passed_at (p.first_period + n - 1))
-      (units_of d.stream.compounding terms (decimals_of d.stream.currency.letters))
+      (payment_amount_of d.stream.compounding terms (decimals_of d.stream.currency.letters))
   answer (paying p (option_map (dec_of (decimals_of d.stream.currency.letters)) units))
 
 -- payments with their amounts; or K39 at the first period of the first payment that has one

@@ -59,8 +59,7 @@ pub fn schedule_is_determined(swap: &Swap, cal: &Calendars, fix: &Fixings)
     ensures outcome { Determined (schedule_of swap.now cal.now fix.now) }
     ensures only { RefusesNothing (schedule_of swap.now cal.now fix.now)
         → (s : List Part) × Only (IsSchedule swap.now cal.now fix.now) s }
-{
-}
+{}
 
 // The schedule by a table of the good days.
 fn schedule_by(

@@ -13,7 +13,7 @@ returns-in_err-make_schedule-in-None-clause-refused c =
     let table = c.args.fixings.now in
     refused_by c.from_residual.result (of_stopped e)
     (λ r. IfRefused r (IsUnscheduled swap cal table)) c.from_residual.ensures.0 c.from_residual.ensures.1
-    (refuse_making swap cal table e c.in-None.ensures.first c.in_err-make_schedule-in-None.ensures.broken)
+    (refuse_making swap cal table e c.requires c.in-None.ensures.first c.in_err-make_schedule-in-None.ensures.meets)
 
 pub returns-in-Some-clause-refused : goal.returns-in-Some-clause-refused
 returns-in-Some-clause-refused c =

@@ -7,6 +7,11 @@ returns-clause-outcome c =
 
 pub returns-clause-only : goal.returns-clause-only
 returns-clause-only c = λ free.
-    let there = schedule_there c.args.swap.now c.args.cal.now c.args.fix.now c.requires.lawful c.requires.terms free in
-    (there.0, record { is = there.1; only = λ t h.
-      one_schedule c.args.swap.now c.args.cal.now c.args.fix.now c.requires.lawful c.requires.terms free t there.0 h there.1 })
+    let there = schedule_there c.args.swap.now c.args.cal.now c.args.fix.now c.requires.lawful c.requires.terms free in (
+      there.0,
+      record {
+        is = there.1;
+        only = λ t h.
+            one_schedule c.args.swap.now c.args.cal.now c.args.fix.now c.requires.lawful c.requires.terms free t there.0 h there.1;
+      },
+    )
