@@ -1,9 +1,8 @@
 -- The last regular period ends at the last boundary, or at the last but one before a final stub.
 use Rattle.std.proofs.Common.{◌≡◌, inl, inr, suc, ◌-◌, ◌≤◌, List, [], ◌∷◌, length, ℤ, ◌≤ℤ◌, ◌<ℤ◌, refl, sym, ap, ◌∙◌, arith}
 use Rattle.jiff_core.proofs.SignedLemmas.{signed_arith}
-use Rattle.irs_base.specs.Listed.{AllAfter, IsRising, Member}
+use Rattle.irs_base.specs.Listed.{IsRising, Member}
 use Rattle.irs_base.specs.Members.{day_at}
-use Rattle.irs_terms.specs.Suiting.{IsTerm}
 use Rattle.irs_terms.specs.TermDates.{DatesInOrder, termination_of}
 use Rattle.irs_terms.specs.declared.results.Span.{Span}
 use Rattle.irs_terms.specs.declared.stream.Stream.{Stream}

@@ -1,6 +1,6 @@
 -- The terms of a payment's periods, its amount, and the first of its periods that leaves the range.
-use Rattle.std.proofs.Common.{◌≡◌, ℕ, ◌+◌, ◌-◌, ◌<◌, ◌≤◌, ◌==◌, List, length, Option, Some, None, option_map, IfSome}
-use Rattle.std.proofs.Common.{subst, arith, ℤ}
+use Rattle.std.proofs.Common.{◌≡◌, ℕ, ◌-◌, ◌<◌, ◌≤◌, ◌==◌, List, length, Option, Some, None, option_map, IfSome}
+use Rattle.std.proofs.Common.{arith, ℤ}
 use Rattle.std.specs.Prelude.{unsigned_abs}
 use Rattle.irs_terms.specs.Currencies.{decimals_of}
 use Rattle.irs_terms.specs.Lawful.{IsLawfulStream, IsNotional}

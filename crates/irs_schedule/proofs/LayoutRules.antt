@@ -1,6 +1,6 @@
 -- A stream has one layout, or one first rule that it breaks.
 use Rattle.std.proofs.Common.{◌≡◌, List, ℤ, sym, subst}
-use Rattle.irs_base.specs.Outcomes.{Determined, answer}
+use Rattle.irs_base.specs.Outcomes.{Determined}
 use Rattle.irs_base.proofs.Outcomes.{answer_determined, then_determined}
 use Rattle.irs_terms.specs.Lawful.{IsLawfulStream}
 use Rattle.irs_terms.specs.TermDates.{DatesInOrder}

@@ -9,14 +9,13 @@ use Rattle.irs_terms.specs.Lawful.{IsLawfulStream}
 use Rattle.irs_terms.specs.StepDates.{AllStepsRise}
 use Rattle.irs_terms.specs.declared.amounts.Leg.{Leg}
 use Rattle.irs_terms.specs.declared.amounts.Leg.TheVariants.{Fixed, Floating}
-use Rattle.irs_terms.specs.declared.results.Exchange.{Exchange}
 use Rattle.irs_terms.specs.declared.results.Payment.{Payment}
 use Rattle.irs_terms.specs.declared.results.Reset.{Reset}
 use Rattle.irs_terms.specs.declared.stream.Stream.{Stream}
 use Rattle.irs_payments.specs.Payments.{ArePayments, Covers}
 use Rattle.irs_payments.proofs.DatedPayments.{exchanges_bounded, exchanges_dated, exchanges_few, payments_dated}
 use Rattle.irs_resets.specs.Rates.{RateTable}
-use Rattle.irs_resets.specs.Resets.{HasSmallRate, IsResets}
+use Rattle.irs_resets.specs.Resets.{HasSmallRate}
 use Rattle.irs_resets.proofs.DatedResets.{resets_dated}
 use Rattle.irs_resets.proofs.ResetLemmas.{many_by, resets_count}
 use Rattle.irs_schedule.specs.DaySets.{StreamSets}

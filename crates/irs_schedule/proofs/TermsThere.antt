@@ -5,11 +5,10 @@ use Rattle.std.specs.List.{range_with_len}
 use Rattle.std.proofs.lemmas.List.FromFn.{length-map-range_with_len}
 use Rattle.irs_base.specs.DayLists.{AreDays}
 use Rattle.irs_base.specs.Listed.{IsRising}
-use Rattle.irs_base.specs.Members.{EachNumbered, Every, day_at}
-use Rattle.irs_base.specs.declared.line.Dec.{Dec}
-use Rattle.irs_base.proofs.CoverLemmas.{LieAmong, covers_each}
+use Rattle.irs_base.specs.Members.{EachNumbered, day_at}
+use Rattle.irs_base.proofs.CoverLemmas.{LieAmong}
 use Rattle.irs_base.proofs.DayListLemmas.{day_at_day}
-use Rattle.irs_base.proofs.EveryLemmas.{all_numbered, made_there, numbered_computed}
+use Rattle.irs_base.proofs.EveryLemmas.{all_numbered, numbered_computed}
 use Rattle.irs_terms.specs.Currencies.{decimals_of}
 use Rattle.irs_terms.specs.declared.results.Payment.{Payment}
 use Rattle.irs_terms.specs.declared.stream.Stream.{Stream}
@@ -26,7 +25,7 @@ use Rattle.irs_compound.proofs.FractionFits.{fraction_is_fit}
 use Rattle.irs_payments.proofs.PlaceLemmas.{rises_at}
 use Rattle.irs_schedule.specs.KeptTerms.{kept_of}
 use Rattle.irs_schedule.specs.Periods.{count_of, observed_of, period_by, periods_by}
-use Rattle.irs_schedule.specs.PeriodTerms.{IsPeriodTerm, IsPeriodEntry, AreTerms, IsAmountBy, IsAmountFor, dec_of}
+use Rattle.irs_schedule.specs.PeriodTerms.{IsPeriodTerm, IsPeriodEntry, AreTerms, IsAmountBy, dec_of}
 use Rattle.irs_schedule.specs.StreamDates.{StreamDates}
 
 -- the terms of period i as a function

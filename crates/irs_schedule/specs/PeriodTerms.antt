@@ -1,7 +1,7 @@
 -- What is worked out for the calculation periods of a stream, and the amounts of its payments.
 -- Periods are counted from 1. d is what they are worked out of.
 use Rattle.std.specs.Prelude.{◌≡◌, ℕ, ◌+◌, ◌-◌, ◌==◌, ◌<◌, ◌≤◌, All, List, length, Option, Some, None, option_map}
-use Rattle.std.specs.Prelude.{slice_get, ℤ}
+use Rattle.std.specs.Prelude.{ℤ}
 use Rattle.irs_base.specs.DayLists.{AreDays}
 use Rattle.irs_base.specs.Listed.{IsRising}
 use Rattle.irs_base.specs.declared.line.Dec.{Dec}
