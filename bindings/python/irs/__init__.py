@@ -10,6 +10,7 @@ docs/RULES.md; that the answers are the only ones is proved of the library's cal
 only tested of what this package makes of its text.
 """
 from .book import Outcome, Summary
+from .builder import Overnight, swap
 from .calls import (Schedule, accrue, audit, average, check, emit, interpolate, net, overnight, schedule)
 from .errors import BadFile, BadWords, Error, NotText, Refused, TooLong
 from .library import Answer, run
@@ -18,7 +19,7 @@ from .rows import (Accrued, Derived, Exchange, Missing, Net, No, Payment, Period
 
 __all__ = [
     "Accrued", "Answer", "BadFile", "BadWords", "Derived", "Error", "Exchange", "Missing", "Net", "No",
-    "NotText", "Outcome", "Payment", "Period", "Refused", "Reset", "Row", "Schedule", "Stream", "Summary",
+    "NotText", "Outcome", "Overnight", "Payment", "Period", "Refused", "Reset", "Row", "Schedule", "Stream", "Summary",
     "TooLong", "Verdict", "Yes", "accrue", "audit", "average", "check", "emit", "interpolate", "net",
-    "overnight", "run", "schedule",
+    "overnight", "run", "schedule", "swap",
 ]

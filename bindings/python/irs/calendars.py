@@ -1,0 +1,312 @@
+"""`irs-calendar CODE..`: calendar files for business centres, from QuantLib, `holidays`, an ICS file or a CSV.
+
+    irs-calendar USNY EUTA --from 2024 --to 2033 -o desk.cal     sections of these centres, whole years
+    irs-calendar --needed terms.json -o terms.cal                what the centres of a document need
+    irs-calendar --diff quantlib:CHZU holidays:CHZU --from 2024 --to 2033
+    irs-calendar --diff mine.cal theirs.cal                      day by day, by centre
+    irs-calendar --list                                          the centres, and what each source knows
+
+Without --source the sources of a centre are tried in the order that --list has; the first that is installed
+and knows all the years is taken. A year that the source doesn't know is refused, or left out with --shorten.
+Nothing of this is proved, and no source is a settlement system's own: compare with your vendor's days.
+"""
+from __future__ import annotations
+
+import argparse
+import datetime
+import sys
+from collections import Counter
+from dataclasses import dataclass, replace
+from pathlib import Path
+from typing import FrozenSet, Iterator, List, Optional, Sequence, Set, Tuple
+
+from .calendar_sources import WEEKDAYS, Choice, Source, days_between, shortened, source_of, years_text
+from .calls import check
+from .carrier import Document, read_document, texts_of
+from .centres import CENTRES
+from .csv_rows import DATE_FORMS
+from .errors import Refused
+from .probes import check_calendars
+from .tools import BadInput, Parser, ended, read_text, write_whole
+
+#: The years that the engine has.
+FIRST_YEAR, LAST_YEAR = 1901, 2299
+
+#: How many years are added on both sides of a term, at most, where its days reach outside.
+WIDER = 2
+
+#: How many holidays a section may list (docs/FORMATS.md).
+MOST_HOLIDAYS = 20_000
+
+
+@dataclass(frozen=True)
+class Calendar:
+    """The days off of a centre in whole years, weekend days included, and remarks for the file."""
+
+    centre: str
+    first: datetime.date
+    last: datetime.date
+    off: FrozenSet[datetime.date]
+    remarks: Tuple[str, ...] = ()
+
+
+def weekend_of(calendar: Calendar) -> Tuple[str, ...]:
+    """The weekdays that are off throughout. None where a usual day off is worked, or the weekend changes:
+    the section then lists every day off."""
+    days = Counter(day.weekday() for day in days_between(calendar.first, calendar.last))
+    off = Counter(day.weekday() for day in calendar.off)
+    usual = [weekday for weekday in range(7) if 2 * off[weekday] > days[weekday]]
+    if any(off[weekday] != days[weekday] for weekday in usual):
+        return ()
+    return tuple(WEEKDAYS[weekday] for weekday in usual)
+
+
+def section(calendar: Calendar) -> str:
+    """The section of a calendar file; `BadInput` where it would list more days than a section may."""
+    weekend = weekend_of(calendar)
+    listed = sorted(day for day in calendar.off if WEEKDAYS[day.weekday()] not in weekend)
+    if len(listed) > MOST_HOLIDAYS:
+        raise BadInput(f"{calendar.centre} has {len(listed)} days to list from {calendar.first} to {calendar.last};"
+                       f" a section has at most {MOST_HOLIDAYS}: ask for fewer years")
+    lines = [f"# {remark}" for remark in calendar.remarks]
+    lines += [f"center {calendar.centre}", f"cover {calendar.first} {calendar.last}", " ".join(("weekend", *weekend))]
+    lines += [day.isoformat() for day in listed]
+    return "\n".join(lines) + "\n"
+
+
+def calendar_of(code: str, source: Source, first: int, last: int) -> Calendar:
+    """The days off of a centre in the years from the first to the last, all of which the source knows."""
+    start, end = datetime.date(first, 1, 1), datetime.date(last, 12, 31)
+    name = f" ({CENTRES[code].name})" if code in CENTRES else ""
+    made = [f"{code}{name} from {source.name}, made {datetime.date.today()}; not proved",
+            f"the source knows {years_text(source)}; days decreed after its release aren't in it"]
+    return Calendar(code, start, end, source.off(start, end),
+                    (*made, *(f"known doubt: {doubt}" for doubt in source.doubts)))
+
+
+def made(codes: Sequence[str], first: int, last: int, choice: Choice, shorten: bool) -> List[Calendar]:
+    """The calendars of the centres; `BadInput` where one can't be made."""
+    if not FIRST_YEAR <= first <= last <= LAST_YEAR:
+        raise BadInput(f"the years {first} to {last} aren't in order between {FIRST_YEAR} and {LAST_YEAR}")
+    twice = [code for code, count in Counter(codes).items() if count > 1]
+    if twice:
+        raise BadInput(f"{twice[0]} is asked for twice")
+    return [_one(code, first, last, choice, shorten) for code in codes]
+
+
+def _one(code: str, first: int, last: int, choice: Choice, shorten: bool) -> Calendar:
+    if shorten:
+        return calendar_of(code, *shortened(code, choice, first, last))
+    return calendar_of(code, source_of(code, choice, first, last), first, last)
+
+
+def text_of(calendars: Sequence[Calendar]) -> str:
+    """A calendar file of these sections, which the engine has read; `BadInput` where it refuses it."""
+    text = "".join(section(calendar) for calendar in calendars)
+    check_calendars([text])
+    return text
+
+
+def read_calendars(path: Path) -> List[Calendar]:
+    """The sections of a calendar file that the engine takes; `BadInput` where it refuses it."""
+    text = read_text(path)
+    check_calendars([text])
+    found: List[Tuple[str, datetime.date, datetime.date, Set[str], Set[datetime.date]]] = []
+    centre = ""
+    first = last = datetime.date.min
+    for words in (line.split() for line in text.split("\n") if not line.startswith("#")):
+        if words[:1] == ["center"]:
+            centre = words[1]
+        elif words[:1] == ["cover"]:
+            first, last = (datetime.date.fromisoformat(word) for word in words[1:])
+        elif words[:1] == ["weekend"]:
+            found.append((centre, first, last, set(words[1:]), set()))
+        elif words:
+            found[-1][4].add(datetime.date.fromisoformat(words[0]))
+    return [Calendar(name, start, end, frozenset(days | _weekly(start, end, weekend)))
+            for name, start, end, weekend, days in found]
+
+
+def _weekly(first: datetime.date, last: datetime.date, weekend: Set[str]) -> Set[datetime.date]:
+    return {day for day in days_between(first, last) if WEEKDAYS[day.weekday()] in weekend}
+
+
+def corrected(calendar: Calendar, off: Sequence[datetime.date], on: Sequence[datetime.date]) -> Calendar:
+    """The calendar with days that are off, or aren't, against its source, and a remark for each.
+
+    `BadInput` where a day is outside the cover, or is already so.
+    """
+    for day in (*off, *on):
+        if not calendar.first <= day <= calendar.last:
+            raise BadInput(f"{day} is outside the years of {calendar.centre}")
+        if (day in calendar.off) == (day in off):
+            raise BadInput(f"{day} is {'off' if day in off else 'on'} in the source of {calendar.centre} already")
+    remarks = [f"corrected by the desk: {day} is {'off' if day in off else 'a business day'}" for day in (*off, *on)]
+    return replace(calendar, off=(calendar.off | set(off)) - set(on), remarks=(*calendar.remarks, *remarks))
+
+
+# What a document needs.
+
+def needed(paths: Sequence[Path], choice: Choice, shorten: bool) -> List[Calendar]:
+    """The calendars of every centre that the documents name, for the whole years of their terms.
+
+    The engine decides whether they reach far enough; a year is added on both sides where they don't.
+    `BadInput` where a centre can't be made, or the engine refuses a document for another reason.
+    """
+    documents = [read_document(path) for path in paths]
+    codes = list(dict.fromkeys(code for each in documents for code in texts_of(each.value, "businessCenter")))
+    years = [int(text[:4]) for each in documents for text in texts_of(each.value, "unadjustedDate")]
+    if not codes:
+        raise BadInput(f"no business centre is named in {', '.join(str(path) for path in paths)}")
+    for wider in range(WIDER + 1):
+        calendars = made(codes, max(FIRST_YEAR, min(years) - wider), min(LAST_YEAR, max(years) + wider), choice, shorten)
+        try:
+            _check_all(documents, text_of(calendars), wider)
+            return calendars
+        except _TooShort:
+            continue
+    raise AssertionError("the last width raises BadInput")
+
+
+class _TooShort(Exception):
+    """A document needs days outside the years of its calendars."""
+
+
+def _check_all(documents: Sequence[Document], text: str, wider: int) -> None:
+    for document in documents:
+        try:
+            check(document.content, [text])
+        except Refused as why:
+            if why.rule == "K33" and wider < WIDER:
+                raise _TooShort() from why
+            raise BadInput(f"{document.path}: {why.sentence}") from why
+
+
+# Two calendars side by side.
+
+def differences(one: Calendar, other: Calendar) -> Iterator[Tuple[datetime.date, bool]]:
+    """Each day on which two calendars differ, in their common cover, and whether it is off in the first."""
+    first, last = max(one.first, other.first), min(one.last, other.last)
+    for day in sorted(one.off ^ other.off):
+        if first <= day <= last:
+            yield day, day in one.off
+
+
+def _sections(word: str, first: Optional[int], last: Optional[int]) -> List[Calendar]:
+    kind, _, code = word.partition(":")
+    if kind not in ("quantlib", "holidays") or not code:
+        return read_calendars(Path(word))
+    if first is None or last is None:
+        raise BadInput(f"{word} needs --from and --to")
+    return made([code], first, last, Choice(kind), False)
+
+
+def compared(words: Sequence[str], first: Optional[int], last: Optional[int]) -> Tuple[str, int]:
+    """What `--diff` prints, and how many days differ; `BadInput` where the two have no centre in common."""
+    ones, others = (_sections(word, first, last) for word in words)
+    theirs = {calendar.centre: calendar for calendar in others}
+    pairs = [(calendar, theirs[calendar.centre]) for calendar in ones if calendar.centre in theirs]
+    if not pairs:
+        raise BadInput(f"{words[0]} and {words[1]} have no centre in common")
+    lines: List[str] = []
+    count = 0
+    for one, other in pairs:
+        start, end = max(one.first, other.first), min(one.last, other.last)
+        if start > end:
+            raise BadInput(f"{words[0]} and {words[1]} have no day of {one.centre} in common")
+        found = list(differences(one, other))
+        count += len(found)
+        lines.append(f"# {one.centre} from {start} to {end}: {len(found)} days differ")
+        lines += [f"{one.centre} {day} {WEEKDAYS[day.weekday()]} is off in {words[0 if mine else 1]} alone" for day, mine in found]
+    return "\n".join(lines) + "\n", count
+
+
+def listing() -> str:
+    """What `--list` prints: a line a centre and source, with the years that it knows, and its doubts."""
+    lines: List[str] = []
+    for code, centre in CENTRES.items():
+        for name, known in centre.sources.items():
+            years = " ".join(f"{first}-{last}" for first, last in known.years)
+            lines.append(f"{code}  {centre.name:24} {name:9} {years}")
+            lines += [f"      {doubt}" for doubt in known.doubts]
+    return "\n".join(lines) + "\n"
+
+
+# The command.
+
+def _day(text: str) -> datetime.date:
+    try:
+        return datetime.date.fromisoformat(text)
+    except ValueError as why:
+        raise argparse.ArgumentTypeError(f"'{text}' isn't a date as 2024-12-31") from why
+
+
+def _weekend(text: str) -> Tuple[str, ...]:
+    days = tuple(text.upper().split())
+    if not set(days) <= set(WEEKDAYS):
+        raise argparse.ArgumentTypeError(f"'{text}' isn't a list of weekdays as 'SAT SUN'")
+    return days
+
+
+def parser() -> Parser:
+    """The parser of the command's words."""
+    words = Parser(prog="irs-calendar", description=__doc__, formatter_class=argparse.RawDescriptionHelpFormatter)
+    words.add_argument("codes", nargs="*", metavar="CODE", help="an FpML business centre code, as USNY")
+    words.add_argument("--from", dest="first", type=int, metavar="YEAR", help="the first year")
+    words.add_argument("--to", dest="last", type=int, metavar="YEAR", help="the last year")
+    words.add_argument("--source", help="quantlib, holidays, ics:FILE or csv:FILE")
+    words.add_argument("--column", help="the column of a CSV that has the dates (the first)")
+    words.add_argument("--date-form", choices=sorted(DATE_FORMS), default="YYYY-MM-DD", help="how a CSV writes dates")
+    words.add_argument("--delimiter", default=",", help="what separates the fields of a CSV (,)")
+    words.add_argument("--weekend", type=_weekend, default=("SAT", "SUN"), help="of an ICS or a CSV ('SAT SUN')")
+    words.add_argument("--off", action="append", type=_day, default=[], metavar="DATE", help="a day off that the source lacks")
+    words.add_argument("--on", action="append", type=_day, default=[], metavar="DATE", help="a business day that the source has off")
+    words.add_argument("--shorten", action="store_true", help="leave out years that the source doesn't know")
+    words.add_argument("-o", "--output", type=Path, metavar="FILE", help="where the file goes (standard output)")
+    words.add_argument("--needed", nargs="+", type=Path, metavar="DOC", help="the centres and years of documents")
+    words.add_argument("--diff", nargs=2, metavar=("A", "B"), help="two files, or SOURCE:CODE, day by day")
+    words.add_argument("--list", action="store_true", help="the centres and their sources")
+    return words
+
+
+def _asked_for(asked: argparse.Namespace, choice: Choice) -> List[Calendar]:
+    if asked.needed:
+        if asked.codes or asked.first is not None or asked.last is not None:
+            raise BadInput("--needed takes its centres and years from the documents: leave out CODE, --from and --to")
+        return needed(asked.needed, choice, asked.shorten)
+    if not asked.codes:
+        raise BadInput("no centre is named; `irs-calendar --list` has them")
+    if asked.first is None or asked.last is None:
+        raise BadInput("--from YEAR and --to YEAR are needed")
+    return made(asked.codes, asked.first, asked.last, choice, asked.shorten)
+
+
+def _work(arguments: Optional[List[str]]) -> int:
+    asked = parser().parse_args(arguments)
+    if asked.list:
+        write_whole(listing(), asked.output)
+        return 0
+    if asked.diff:
+        text, count = compared(asked.diff, asked.first, asked.last)
+        write_whole(text, asked.output)
+        return 1 if count else 0
+    calendars = _asked_for(asked, Choice(asked.source, asked.column, asked.date_form, asked.delimiter, asked.weekend))
+    if asked.off or asked.on:
+        if len(calendars) > 1:
+            raise BadInput("--off and --on correct one centre: name it alone")
+        calendars = [corrected(calendars[0], asked.off, asked.on)]
+    write_whole(text_of(calendars), asked.output)
+    for calendar in calendars:
+        for remark in calendar.remarks:
+            if remark.startswith("known doubt"):
+                print(f"irs-calendar: {calendar.centre}: {remark}", file=sys.stderr)
+    return 0
+
+
+def main(arguments: Optional[List[str]] = None) -> int:
+    """Runs the command: 0 where it is done, 1 where two calendars differ, 2 for bad input."""
+    return ended("irs-calendar", _work, arguments)
+
+
+if __name__ == "__main__":
+    sys.exit(main())

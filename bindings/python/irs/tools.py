@@ -1,0 +1,89 @@
+"""What `irs-calendar`, `irs-fixings` and `irs-new` share: how files are read and written, and how a command ends.
+
+Nothing here is proved. A file is written whole or not at all: to a file beside it first, which then takes
+its name. Bad input is one sentence on standard error and status 2.
+"""
+from __future__ import annotations
+
+import argparse
+import os
+import sys
+import tempfile
+from pathlib import Path
+from typing import Callable, List, NoReturn, Optional
+
+from .errors import Error
+
+
+class BadInput(Exception):
+    """Input that a command can't use. The text is one sentence for a person."""
+
+
+class Parser(argparse.ArgumentParser):
+    """A parser of command lines whose complaint is one sentence, without the usage lines."""
+
+    def error(self, message: str) -> NoReturn:
+        """Raises `BadInput` with the complaint and where to look."""
+        raise BadInput(f"{message}; `{self.prog} --help` lists the options")
+
+
+def read_text(path: Path) -> str:
+    """The text of a UTF-8 file, without a byte order mark; `BadInput` where it can't be read as one."""
+    try:
+        return path.read_bytes().decode("utf-8-sig")
+    except UnicodeDecodeError as why:
+        raise BadInput(f"{path} isn't UTF-8 text: byte {why.start + 1} can't be read") from why
+    except OSError as why:
+        raise BadInput(f"{path} can't be read: {why.strerror}") from why
+
+
+def read_bytes(path: Path) -> bytes:
+    """The bytes of a file for the engine; `BadInput` where it can't be read."""
+    try:
+        return path.read_bytes()
+    except OSError as why:
+        raise BadInput(f"{path} can't be read: {why.strerror}") from why
+
+
+def write_whole(text: str, path: Optional[Path]) -> None:
+    """Writes a text to a file, or to standard output where `path` is `None`.
+
+    The file appears whole or not at all. `BadInput` where it can't be written.
+    """
+    if path is None:
+        sys.stdout.write(text)
+        sys.stdout.flush()
+        return
+    unfinished: Optional[str] = None
+    try:
+        handle, unfinished = tempfile.mkstemp(prefix=f".{path.name}.", dir=path.parent)
+        with os.fdopen(handle, "w", encoding="utf-8", newline="\n") as out:
+            out.write(text)
+        os.chmod(unfinished, 0o666 & ~_umask())
+        os.replace(unfinished, path)
+        unfinished = None
+    except OSError as why:
+        raise BadInput(f"{path} can't be written: {why.strerror}") from why
+    finally:
+        if unfinished is not None:
+            os.unlink(unfinished)
+
+
+def _umask() -> int:
+    now = os.umask(0)
+    os.umask(now)
+    return now
+
+
+def ended(command: str, work: Callable[[Optional[List[str]]], int], arguments: Optional[List[str]]) -> int:
+    """Runs a command; what it can't use is one sentence on standard error and status 2."""
+    try:
+        return work(arguments)
+    except BadInput as why:
+        sentence = str(why)
+    except Error as why:
+        sentence = why.sentence
+    except OSError as why:
+        sentence = f"the output can't be written: {why.strerror}"
+    print(f"{command}: {sentence}", file=sys.stderr)
+    return 2
