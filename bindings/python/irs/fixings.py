@@ -16,7 +16,7 @@ import datetime
 import re
 import sys
 from dataclasses import dataclass
-from decimal import Decimal, InvalidOperation
+from decimal import Decimal
 from pathlib import Path
 from typing import Dict, Iterable, List, Optional, Sequence, Set, Tuple
 
@@ -28,6 +28,9 @@ from .tools import BadInput, Parser, ended, read_bytes, read_text, write_whole
 
 #: How a rate of a CSV is written: digits with at most one point, perhaps a sign, and no exponent.
 NUMBER = re.compile(r"[+-]?([0-9]+\.?[0-9]*|\.[0-9]+)")
+
+#: How many digits a number of a CSV may have: those that `Decimal` keeps exactly.
+DIGITS = 28
 
 #: How many decimals a rate of a file of fixings has at most (docs/FORMATS.md).
 PLACES = 9
@@ -60,10 +63,9 @@ def rate_of(path: Path, row: Row, columns: Columns) -> Decimal:
     number = text.replace(",", ".") if columns.decimal_comma else text
     if not NUMBER.fullmatch(number):
         raise BadInput(f"{path} line {row.line}: '{text}' isn't a number")
-    try:
-        value = Decimal(number).scaleb(-2 if columns.percent else 0)
-    except InvalidOperation as why:
-        raise BadInput(f"{path} line {row.line}: '{text}' has too many digits") from why
+    if len(number) > DIGITS:
+        raise BadInput(f"{path} line {row.line}: the number has more than {DIGITS} digits")
+    value = Decimal(number).scaleb(-2 if columns.percent else 0)
     if abs(value) > 1 and not columns.any_size:
         meant = "" if columns.percent else ": is it in percent?"
         raise BadInput(f"{path} line {row.line}: {text} is above 100 percent{meant} (--yes-above-100-percent takes it)")

@@ -88,8 +88,8 @@ def parser() -> Parser:
 def kind_and_tenor(like: str, end: Optional[str]) -> Tuple[str, Optional[str]]:
     """The kind and the tenor in a text such as ``usd-sofr-5y``; with an end the whole text is the kind."""
     if end is not None:
-        return like, None
-    kind, dash, tenor = like.rpartition("-")
+        return like.lower(), None
+    kind, dash, tenor = like.lower().rpartition("-")
     if not dash:
         raise BadInput(f"'{like}' has no kind and tenor as usd-sofr-5y has")
     return kind, tenor.upper()

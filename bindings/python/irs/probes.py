@@ -70,16 +70,28 @@ def roll_of(start: str) -> str:
     return "EOM" if day == "31" else day
 
 
+def _horizon(start: str, unit: str) -> str:
+    """A day so far after the start that any tenor of the unit fits in between, and at most 8,000 periods do."""
+    year = start[:4]
+    if unit in "DW" and year.isdecimal() and int(year) < 2279:
+        return f"{int(year) + 20}-12-31"
+    return LAST_DAY
+
+
 def end_of(start: str, tenor: str) -> Tuple[str, str]:
     """The day that is a tenor after the start, by the engine's periods, and the roll that counts it.
 
-    `ValueError` where the start is no day or the end leaves the engine's range.
+    `ValueError` where the start is no day or the end isn't inside the engine's range.
     """
     frequency = frequency_of(tenor)
-    roll = roll_of(start) if frequency["period"] in "MY" else "NONE"
-    document = plain_stream(start, LAST_DAY, frequency, roll, stubPeriodType="ShortFinal")
+    unit = frequency["period"]
+    roll = roll_of(start) if unit in "MY" else "NONE"
+    horizon = _horizon(start, unit)
+    document = plain_stream(start, horizon, frequency, roll, stubPeriodType="ShortFinal")
     try:
-        first = schedule(document).periods()[0]
+        end = schedule(document).periods()[0].end.isoformat()
     except Refused as why:
         raise ValueError(f"there is no day {tenor} after '{start}': {why.sentence}") from why
-    return first.end.isoformat(), roll
+    if end == horizon:
+        raise ValueError(f"there is no day {tenor} after '{start}' before {horizon}")
+    return end, roll

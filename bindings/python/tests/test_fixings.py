@@ -1,0 +1,184 @@
+"""`irs-fixings`: CSV files in, what a document lacks, what no document needs, and input that it can't use."""
+import datetime
+import unittest
+
+from commands import TOP, InAFolder, ran
+
+import irs
+from irs import fixings
+from irs.fixing_needs import Key
+
+EXAMPLES = TOP / "examples"
+
+
+def printed(text):
+    """The lines of a file of fixings without its remarks."""
+    return [line for line in text.splitlines() if not line.startswith("#")]
+
+
+class FromCsv(InAFolder):
+    """What is read and written. The forms are those that the New York Fed, the Bundesbank and FRED send."""
+
+    def test_percent(self):
+        self.write("sofr.csv", "Effective Date,Rate Type,Rate (%),Volume\n01/16/2025,SOFR,4.29,2361\n01/16/2025,BGCR,4.28,900\n"
+                               "01/15/2025,SOFR,4.3,2313\n")
+        ended = ran(fixings.main, "sofr.csv", "--percent", "--index", "USD-SOFR", "--tenor", "1D", "--date-column", "Effective Date",
+                    "--rate-column", "Rate (%)", "--date-form", "MM/DD/YYYY", "--where", "Rate Type=SOFR")
+        self.assertEqual(ended.status, 0, ended)
+        self.assertEqual(printed(ended.out), ["2025-01-15 0.043 1D USD-SOFR", "2025-01-16 0.0429 1D USD-SOFR"])
+        self.assertIn(f"# from sofr.csv, column Rate (%) in percent, made {datetime.date.today()}", ended.out)
+
+    def test_decimal_comma_and_a_byte_order_mark(self):
+        self.write("eur.csv", b"\xef\xbb\xbfDatum;Laufzeit;Satz\r\n15.01.2025;6M;-0,5\r\n15.01.2025;3M;2,6\r\n\r\n")
+        ended = ran(fixings.main, "eur.csv", "--percent", "--index", "EUR-EURIBOR", "--tenor-column", "Laufzeit", "--date-column",
+                    "Datum", "--rate-column", "Satz", "--date-form", "DD.MM.YYYY", "--delimiter", ";", "--decimal-comma")
+        self.assertEqual(printed(ended.out), ["2025-01-15 0.026 3M EUR-EURIBOR", "2025-01-15 -0.005 6M EUR-EURIBOR"])
+
+    def test_decimals_and_skipped_rows(self):
+        self.write("fred.csv", "date,rate\n2025-01-15,0.0433\n2025-01-20,.\n2025-01-21,0\n")
+        ended = ran(fixings.main, "fred.csv", "--decimal", "--index", "USD-EFFR", "--skip", ".")
+        self.assertEqual(printed(ended.out), ["2025-01-15 0.0433 - USD-EFFR", "2025-01-21 0 - USD-EFFR"])
+
+    def test_equal_rows_count_once(self):
+        self.write("twice.csv", "date,rate\n2025-01-15,5.30\n2025-01-15,5.3\n")
+        ended = ran(fixings.main, "twice.csv", "--percent", "--index", "A")
+        self.assertEqual(printed(ended.out), ["2025-01-15 0.053 - A"])
+
+    def test_above_100_percent(self):
+        self.write("high.csv", "date,rate\n2025-01-15,118.5\n2025-01-16,-100\n")
+        ended = ran(fixings.main, "high.csv", "--percent", "--index", "A", "--yes-above-100-percent")
+        self.assertEqual(printed(ended.out), ["2025-01-15 1.185 - A", "2025-01-16 -1 - A"])
+
+    def test_what_is_written_is_what_the_engine_observes(self):
+        self.write("rates.csv", "date,rate\n2024-01-15,5\n2024-04-15,6.000000100\n")
+        ended = ran(fixings.main, "rates.csv", "--percent", "--index", "USD-TEST-INDEX", "--tenor", "3M", "-o", "fixings")
+        self.assertEqual(ended.status, 0, ended)
+        terms = (EXAMPLES / "compounded" / "terms.json").read_bytes()
+        resets = irs.schedule(terms, (self.folder / "fixings").read_bytes()).resets()
+        self.assertEqual([str(reset.observed) for reset in resets], ["0.050000000", "0.060000001"])
+
+
+class BadInput(InAFolder):
+    """One sentence, status 2, and no file."""
+
+    WORDS = ("rates.csv", "--decimal", "--index", "A")
+
+    def refused(self, content, says, *words):
+        self.write("rates.csv", content)
+        self.assert_refused(ran(fixings.main, *(words or self.WORDS), "-o", "made"), says, ["rates.csv"])
+
+    def test_rows(self):
+        for content, says in (
+                ("date,rate\n2025-01-15,n/a\n", "line 2: 'n/a' isn't a number"),
+                ("date,rate\n2025-01-15,\n", "line 2: '' isn't a number"),
+                ("date,rate\n2025-01-15,5e-2\n", "isn't a number"),
+                ("date,rate\n2025-01-15,NaN\n", "isn't a number"),
+                ("date,rate\n2025-01-15,\u0665\n", "isn't a number"),
+                ("date,rate\n2025-01-15,0.0.5\n", "isn't a number"),
+                ("date,rate\n2025-01-15,5.31\n", "5.31 is above 100 percent: is it in percent?"),
+                ("date,rate\n2025-01-15,-1.01\n", "above 100 percent"),
+                ("date,rate\n2025-01-15,0.0123456789\n", "more than 9 decimals"),
+                ("date,rate\n2025-01-15,0.05" + "0" * 40 + "1\n", "more than 28 digits"),
+                ("date,rate\n15.01.2025,0.05\n", "'15.01.2025' isn't a date in the form YYYY-MM-DD"),
+                ("date,rate\n2025-02-29,0.05\n", "isn't a date"),
+                ("date,rate\n2025-01-15,0.05\n2025-01-16,0.05\n2025-01-15,0.051\n", "line 4: 2025-01-15 of A - has two values"),
+                ("date,rate\n", "has no fixing"), ("", "has no line"), ("\n\n", "has no line"),
+                ("date,rate\n2025-01-15,0.05,\n", "has 3 fields, the header 2"),
+                ("date,value\n2025-01-15,0.05\n", "has no column 'rate'; it has date, value"),
+                ("date,rate,rate\n2025-01-15,0.05,0.05\n", "names the column 'rate' twice"),
+                (b"date,rate\n2025-01-15,0.05\xff\n", "isn't UTF-8 text: byte 26"),
+                ("date,rate\n2025-01-15,0.05\n".encode("utf-16"), "isn't UTF-8"),
+                ('date,rate\n2025-01-15,"0.05\n', "isn't CSV")):
+            with self.subTest(says):
+                self.refused(content, says)
+
+    def test_words(self):
+        row = "date,rate\n2025-01-15,0.05\n"
+        self.refused(row, "say whether the rates are in percent", "rates.csv", "--index", "A")
+        self.refused(row, "not allowed with", "rates.csv", "--index", "A", "--percent", "--decimal")
+        self.refused(row, "say which index", "rates.csv", "--percent")
+        self.refused(row, "the engine refuses the fixings", "rates.csv", "--percent", "--index", "A", "--tenor", "6 months")
+        self.refused(row, "the engine refuses the fixings", "rates.csv", "--percent", "--index", "A\tB")
+        self.refused(row, "isn't COLUMN=TEXT", *self.WORDS, "--where", "rate")
+        self.refused(row, "has no column 'type'", *self.WORDS, "--where", "type=SOFR")
+        self.refused(row, "invalid choice", *self.WORDS, "--date-form", "D/M/Y")
+        self.refused(row, "can't be read", "none.csv", "--percent", "--index", "A")
+        self.refused(row, "no CSV file", "--percent", "--index", "A")
+        self.refused(row, "needs --documents", "--unused", "rates.csv")
+        self.refused(row, "the engine refuses", "--unused", "rates.csv", "--documents", str(EXAMPLES / "fixed_leg" / "terms.json"))
+
+
+class AgainstDocuments(InAFolder):
+    """What a document needs is what the engine asks for."""
+
+    def terms(self, name):
+        return str(EXAMPLES / name / "terms.json")
+
+    def test_resets_that_lack_a_rate(self):
+        missing = ["2024-01-15 3M USD-TEST-INDEX", "2024-04-15 3M USD-TEST-INDEX"]
+        ended = ran(fixings.main, "--missing", self.terms("compounded"))
+        self.assertEqual((ended.status, ended.out.splitlines()), (1, missing))
+        ended = ran(fixings.main, "--missing", self.terms("compounded"), "--until", "2024-04-14")
+        self.assertEqual((ended.status, ended.out.splitlines()), (1, missing[:1]))
+        self.write("fixings", "2024-01-15 0.05 3M USD-TEST-INDEX\n2024-04-15 0.05 6M USD-TEST-INDEX\n")
+        ended = ran(fixings.main, "--missing", self.terms("compounded"), "--fixings", "fixings")
+        self.assertEqual((ended.status, ended.out.splitlines()), (1, missing[1:]))
+        ended = ran(fixings.main, "--missing", self.terms("compounded"), "--fixings", str(EXAMPLES / "compounded" / "fixings"))
+        self.assertEqual(ended, (0, "", ""))
+
+    def test_a_stub_takes_its_own_index(self):
+        # the stub of this document has no tenor, its regular period 3M
+        ended = ran(fixings.main, "--missing", self.terms("interpolate"))
+        self.assertEqual(ended.out.splitlines(), ["2024-01-15 - USD-TEST-INDEX", "2024-02-29 3M USD-TEST-INDEX"])
+
+    def test_daily_rates(self):
+        calendar = str(EXAMPLES / "overnight" / "test.cal")
+        words = ("--missing", self.terms("overnight"), "--overnight", "1", "--calendars", calendar)
+        days = ["2024-03-28 1D USD-TEST-INDEX", "2024-04-02 1D USD-TEST-INDEX"]
+        self.assertEqual(ran(fixings.main, *words).out.splitlines(), days)
+        self.assertEqual(ran(fixings.main, *words, "--until", "2024-04-01").out.splitlines(), days[:1])
+        self.write("daily", "2024-03-28 0.036 1D USD-TEST-INDEX\n")
+        self.assertEqual(ran(fixings.main, *words, "--fixings", "daily").out.splitlines(), days[1:])
+        self.assertEqual(ran(fixings.main, *words, "--fixings", str(EXAMPLES / "overnight" / "daily")), (0, "", ""))
+
+    def test_lines_that_no_document_needs(self):
+        self.write("fixings", "2024-01-15 0.05 3M USD-TEST-INDEX\n# a remark\n2024-01-15\t0.05  6M USD-TEST-INDEX\n"
+                              "2024-04-15 0.05 3M usd-test-index\n2024-04-15 0.05 3M USD-TEST-INDEX \n2024-04-16 0.05 3M USD-TEST-INDEX\n")
+        ended = ran(fixings.main, "--unused", "fixings", "--documents", self.terms("compounded"), self.terms("fixed_leg"))
+        self.assertEqual((ended.status, ended.out.splitlines()), (1, [
+            "2024-01-15 6M USD-TEST-INDEX", "2024-04-15 3M usd-test-index", "2024-04-16 3M USD-TEST-INDEX"]))
+        ended = ran(fixings.main, "--unused", str(EXAMPLES / "compounded" / "fixings"), "--documents", self.terms("compounded"))
+        self.assertEqual(ended, (0, "", ""))
+        ended = ran(fixings.main, "--unused", str(EXAMPLES / "overnight" / "daily"), "--documents", self.terms("overnight"),
+                    "--calendars", str(EXAMPLES / "overnight" / "test.cal"))
+        self.assertEqual(ended, (0, "", ""))
+
+    def test_documents_that_can_not_be_used(self):
+        self.assert_refused(ran(fixings.main, "--missing", self.terms("business_days"), "-o", "made"), "in no calendar file", [])
+        self.assert_refused(ran(fixings.main, "--missing", self.terms("compounded"), "--overnight", "1", "-o", "made"),
+                            "ACT/360 or ACT/365.FIXED", [])
+        self.assert_refused(ran(fixings.main, "--missing", self.terms("compounded"), "--overnight", "2", "-o", "made"),
+                            "isn't there", [])
+        self.assert_refused(ran(fixings.main, "--missing", "none.json", "-o", "made"), "can't be read", [])
+        self.assert_refused(ran(fixings.main, "--missing", self.terms("compounded"), "--until", "soon", "-o", "made"),
+                            "isn't a date", [])
+
+    def test_every_line_that_is_missing_is_one_that_the_engine_then_takes(self):
+        # for each example: with the missing lines put in, no reset is without a rate; with any one left out, one is
+        for folder in ("compounded", "interpolate", "two_currencies", "spread_exclusive"):
+            terms = (EXAMPLES / folder / "terms.json").read_bytes()
+            lines = ran(fixings.main, "--missing", self.terms(folder)).out.splitlines()
+            self.assertTrue(lines, folder)
+            filled = [" 0.01 ".join(line.split(" ", 1)) for line in lines]
+            self.assertTrue(all(reset.observed is not None for reset in irs.schedule(terms, "\n".join(filled)).resets()))
+            for number in range(len(filled)):
+                fewer = "\n".join(filled[:number] + filled[number + 1:])
+                self.assertTrue(any(reset.observed is None for reset in irs.schedule(terms, fewer).resets()), folder)
+
+    def test_keys_are_in_order_of_date(self):
+        day = datetime.date(2024, 1, 15)
+        self.assertLess(Key(day, "6M", "Z"), Key(day + datetime.timedelta(1), "3M", "A"))
+
+
+if __name__ == "__main__":
+    unittest.main()
