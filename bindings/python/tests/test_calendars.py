@@ -285,6 +285,7 @@ class Needed(InAFolder):
         self.write("terms.json", self.TERMS.replace("END", "2024-12-30"))
         self.assertIn("center EUTA\ncover 2023-01-01 2025-12-31\n", ran(calendars.main, "--needed", "terms.json").out)
 
+    @unittest.skipUnless(ql or holidays, "neither QuantLib nor holidays is installed")
     def test_documents_that_can_not_be_used(self):
         for text, says in (("[" * 100_000, "isn't JSON"), ("{}", "is missing"), (b"\xff", "isn't JSON"),
                            (self.TERMS.replace("END", "2024-02-30"), "out of range"),
