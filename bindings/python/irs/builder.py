@@ -86,18 +86,27 @@ def _offset(days: int) -> Elements:
     return {"periodMultiplier": str(days), "period": "D", "dayType": "Business"}
 
 
-def _length_fits(frequency: str, shape: Shape) -> bool:
-    """Whether the whole term is shorter than a period of this frequency, by the engine's count."""
+def _is_shorter(shape: Shape, frequency: str) -> bool:
+    """Whether the term is shorter than one period of this frequency, by the engine's count."""
     return end_of(shape.start, frequency)[0] > shape.end
 
 
+def _anchor(shape: Shape) -> str:
+    """The day from which the engine counts the roll days: the first regular date, the end where an initial stub is
+    asked for, else the start."""
+    if shape.first_regular is not None:
+        return shape.first_regular
+    return shape.end if shape.stub in ("ShortInitial", "LongInitial") else shape.start
+
+
 def _period_frequency(frequency: str, shape: Shape) -> Elements:
-    """The frequency of the calculation periods: one period (1T) where the term is shorter than one."""
-    if frequency == "1T" or _length_fits(frequency, shape):
+    """The frequency of the calculation periods: one period (1T) where the term is shorter than one. The roll is
+    the anchor's day of the month where none is given, and NONE in days and weeks."""
+    if frequency == "1T" or _is_shorter(shape, frequency):
         return {**frequency_of("1T"), "rollConvention": "NONE"}
     members = frequency_of(frequency)
-    roll = shape.roll if shape.roll is not None else roll_of(shape.start)
-    return {**members, "rollConvention": roll if members["period"] in "MY" else "NONE"}
+    usual = roll_of(_anchor(shape)) if members["period"] in "MY" else "NONE"
+    return {**members, "rollConvention": shape.roll if shape.roll is not None else usual}
 
 
 def _period_dates(name: str, terms: Convention, shape: Shape, frequency: Elements) -> Elements:
@@ -241,6 +250,8 @@ def _tuple(names: Optional[Sequence[str]]) -> Optional[Tuple[str, ...]]:
 def _sides(pay: str, parties: Sequence[str]) -> Tuple[str, str]:
     if pay not in ("fixed", "floating"):
         raise ValueError(f"the first party pays 'fixed' or 'floating', and not '{pay}'")
+    if isinstance(parties, str) or len(parties) != 2:
+        raise ValueError(f"a swap has two parties, and not {parties!r}")
     first, second = parties
     return (first, second) if pay == "fixed" else (second, first)
 

@@ -68,9 +68,12 @@ class QuantLibSource:
     def __init__(self, code: str) -> None:
         known = _known(code, "quantlib")
         self._module = _module("QuantLib", "quantlib-python")
-        kind = getattr(self._module, known.calendar)
-        self._calendar = kind(getattr(kind, known.option)) if known.option else kind()
         version = str(self._module.__version__)
+        try:
+            kind = getattr(self._module, known.calendar)
+            self._calendar = kind(getattr(kind, known.option)) if known.option else kind()
+        except (AttributeError, TypeError) as why:
+            raise BadInput(f"QuantLib {version} has no calendar {known.calendar} {known.option}") from why
         self.name = f"QuantLib {version}, {known.calendar} {known.option}".rstrip()
         self.years = known.years
         self.doubts = known.doubts + _version_doubts("quantlib", version)
@@ -88,12 +91,12 @@ class HolidaysSource:
     def __init__(self, code: str) -> None:
         known = _known(code, "holidays")
         module = _module("holidays", "python3-holidays")
-        kind = getattr(module, known.calendar)
-        if known.option == "no Sundays":
-            self._listed = kind(include_sundays=False)
-        else:
-            self._listed = kind(prov=known.option) if known.option else kind()
         version = str(module.__version__)
+        options: Dict[str, object] = {"include_sundays": False} if known.option == "no Sundays" else {"prov": known.option}
+        try:
+            self._listed = getattr(module, known.calendar)(**(options if known.option else {}))
+        except (AttributeError, TypeError) as why:
+            raise BadInput(f"holidays {version} has no country {known.calendar} {known.option}") from why
         self.name = f"holidays {version}, {known.calendar} {known.option}".rstrip()
         self.years = known.years
         self.doubts = known.doubts + _version_doubts("holidays", version)

@@ -27,7 +27,7 @@ from .centres import CENTRES
 from .csv_rows import DATE_FORMS
 from .errors import Refused
 from .probes import check_calendars
-from .tools import BadInput, Parser, ended, read_text, write_whole
+from .tools import BadInput, Parser, ended, one_line, read_text, write_whole
 
 #: The years that the engine has.
 FIRST_YEAR, LAST_YEAR = 1901, 2299
@@ -68,7 +68,7 @@ def section(calendar: Calendar) -> str:
     if len(listed) > MOST_HOLIDAYS:
         raise BadInput(f"{calendar.centre} has {len(listed)} days to list from {calendar.first} to {calendar.last};"
                        f" a section has at most {MOST_HOLIDAYS}: ask for fewer years")
-    lines = [f"# {remark}" for remark in calendar.remarks]
+    lines = [f"# {one_line(remark)}" for remark in calendar.remarks]
     lines += [f"center {calendar.centre}", f"cover {calendar.first} {calendar.last}", " ".join(("weekend", *weekend))]
     lines += [day.isoformat() for day in listed]
     return "\n".join(lines) + "\n"

@@ -24,10 +24,13 @@ from .carrier import read_document
 from .csv_rows import DATE_FORMS, Row, day_of, field_of, rows_of
 from .fixing_needs import Key, every_need, needs_of
 from .probes import check_fixings
-from .tools import BadInput, Parser, ended, read_bytes, read_text, write_whole
+from .tools import BadInput, Parser, ended, one_line, read_bytes, read_text, write_whole
 
 #: How a rate of a CSV is written: digits with at most one point, perhaps a sign, and no exponent.
 NUMBER = re.compile(r"[+-]?([0-9]+\.?[0-9]*|\.[0-9]+)")
+
+#: How many calendar files the engine takes (docs/FORMATS.md).
+MOST_CALENDARS = 16
 
 #: How many digits a number of a CSV may have: those that `Decimal` keeps exactly.
 DIGITS = 28
@@ -101,9 +104,10 @@ def _key_of(path: Path, row: Row, columns: Columns) -> Key:
 
 def text_of(fixings: Dict[Key, Decimal], remarks: Iterable[str] = ()) -> str:
     """A file of fixings by index, tenor and date, which the engine has read; `BadInput` where it refuses it."""
-    lines = [f"# {remark}" for remark in remarks]
+    lines = [f"# {one_line(remark)}" for remark in remarks]
     for key in sorted(fixings, key=_order):
-        lines.append(f"{key.date} {fixings[key].normalize():f} {key.tenor} {key.index}")
+        rate = fixings[key].normalize() if fixings[key] else Decimal(0)
+        lines.append(f"{key.date} {rate:f} {key.tenor} {key.index}")
     text = "\n".join(lines) + "\n"
     check_fixings(text)
     return text
@@ -191,8 +195,6 @@ def parser() -> Parser:
 
 
 def _columns(asked: argparse.Namespace) -> Columns:
-    if asked.csv is None:
-        raise BadInput("no CSV file is named; `irs-fixings --help` lists the options")
     if not asked.percent and not asked.decimal:
         raise BadInput("say whether the rates are in percent (--percent) or decimals (--decimal)")
     if asked.index is None and asked.index_column is None:
@@ -209,6 +211,10 @@ def _listed(keys: Sequence[Key], output: Optional[Path]) -> int:
 
 def _work(arguments: Optional[List[str]]) -> int:
     asked = parser().parse_args(arguments)
+    if [asked.csv, asked.missing, asked.unused].count(None) != 2:
+        raise BadInput("give one of a CSV file, --missing DOC and --unused FILE; `irs-fixings --help` lists the options")
+    if len(asked.calendars) > MOST_CALENDARS:
+        raise BadInput(f"there are {len(asked.calendars)} calendar files, and the engine takes {MOST_CALENDARS}")
     if asked.missing is not None:
         return _listed(missing(asked.missing, asked.fixings, asked.calendars, asked.overnight, asked.until), asked.output)
     if asked.unused is not None:

@@ -118,7 +118,8 @@ def check_without_holidays(document: Mapping[str, Any]) -> None:
     try:
         check(document, [calendar])
     except Refused as why:
-        raise BadInput(f"the engine refuses these terms: {why.sentence}") from why
+        hint = "; a term that isn't a whole number of periods needs --stub" if why.rule in ("K30", "K31") else ""
+        raise BadInput(f"the engine refuses these terms: {why.sentence}{hint}") from why
 
 
 def _work(arguments: Optional[List[str]]) -> int:

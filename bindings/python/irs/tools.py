@@ -6,6 +6,7 @@ its name. Bad input is one sentence on standard error and status 2.
 from __future__ import annotations
 
 import argparse
+import io
 import os
 import sys
 import tempfile
@@ -45,12 +46,19 @@ def read_bytes(path: Path) -> bytes:
         raise BadInput(f"{path} can't be read: {why.strerror}") from why
 
 
+def one_line(text: str) -> str:
+    """The text with `?` for each character that can't be printed, line ends among them."""
+    return "".join(character if character.isprintable() else "?" for character in text)
+
+
 def write_whole(text: str, path: Optional[Path]) -> None:
     """Writes a text to a file, or to standard output where `path` is `None`.
 
     The file appears whole or not at all. `BadInput` where it can't be written.
     """
     if path is None:
+        if isinstance(sys.stdout, io.TextIOWrapper):
+            sys.stdout.reconfigure(encoding="utf-8", newline="\n")
         sys.stdout.write(text)
         sys.stdout.flush()
         return
@@ -83,7 +91,11 @@ def ended(command: str, work: Callable[[Optional[List[str]]], int], arguments: O
         sentence = str(why)
     except Error as why:
         sentence = why.sentence
+    except UnicodeEncodeError:
+        sentence = "a word of the command line isn't UTF-8 text"
     except OSError as why:
         sentence = f"the output can't be written: {why.strerror}"
-    print(f"{command}: {sentence}", file=sys.stderr)
+        # What is left in the buffer would be written, and fail, once more at the end.
+        os.dup2(os.open(os.devnull, os.O_WRONLY), sys.stdout.fileno())
+    print(f"{command}: {one_line(sentence)}", file=sys.stderr)
     return 2

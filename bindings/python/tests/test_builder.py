@@ -146,7 +146,7 @@ class Documents(InAFolder):
             swap("gbp-sonia", tenor="2Y", overnight=Overnight(lookback=5), daily_rates_in_terms=False)
 
     def test_words_of_the_market(self):
-        document = swap("eur-euribor", start=datetime.date(2025, 2, 10), end=datetime.date(2030, 3, 15), roll="15",
+        document = swap("eur-euribor", start=datetime.date(2025, 2, 10), end=datetime.date(2030, 3, 15),
                         stub="ShortInitial", notional=40_000_000, fixed_rate=Decimal("0.0245"), spread="-0.001", pay="floating",
                         parties=("US", "THEM"), index_tenor="3M", floating_frequency="3M", floating_payment_frequency="3M",
                         centres=["EUTA", "GBLO"], payment_days=1, fixing_days=-1, fixed_day_count="30E/360")
@@ -160,6 +160,21 @@ class Documents(InAFolder):
                           floating_payment_frequency="6M", compounding="Flat", centres=["USNY"])
         irs.check(compounded, [WEEKENDS])
         self.assertEqual(len(irs.schedule(compounded, calendars=[WEEKENDS]).payments(2)), 4)
+
+    def test_the_roll_is_that_of_the_day_from_which_periods_are_counted(self):
+        def roll(**words):
+            document = swap("usd-sofr", **words)
+            irs.check(document, [WEEKENDS])
+            return next(texts_of(document, "rollConvention"))
+
+        self.assertEqual(roll(start="2025-01-31", tenor="2Y"), "EOM")
+        self.assertEqual(roll(start="2025-02-28", tenor="2Y"), "28")
+        self.assertEqual(roll(start="2025-02-28", tenor="2Y", roll="EOM"), "EOM")
+        self.assertEqual(roll(start="2025-02-10", end="2027-03-15", stub="LongInitial"), "15")
+        self.assertEqual(roll(start="2025-02-10", end="2027-03-15", stub="ShortFinal"), "10")
+        self.assertEqual(roll(start="2025-02-10", end="2027-03-31", first_regular="2025-03-31"), "EOM")
+        weekly = {"start": "2025-01-15", "end": "2025-02-12", "fixed_frequency": "1W", "floating_frequency": "1W"}
+        self.assertEqual((roll(**weekly), roll(**weekly, roll="WED")), ("NONE", "WED"))
 
     def test_a_currency_alone(self):
         self.assertEqual(list(texts_of(swap(currency="JPY", tenor="1Y"), "floatingRateIndex")), ["JPY-TONA"])
@@ -182,7 +197,8 @@ class Documents(InAFolder):
                                   ("usd-sofr", {"tenor": "5Y", "start": "2025-02-30"}, "no day 5Y after '2025-02-30'"),
                                   ("usd-sofr", {"tenor": "5Y", "fixed_rate": "3.85"}, "3.85 times 100 percent"),
                                   ("usd-sofr", {"tenor": "5Y", "spread": "ten"}, "no number"),
-                                  ("usd-sofr", {"tenor": "5Y", "pay": "both"}, "pays 'fixed' or 'floating'")):
+                                  ("usd-sofr", {"tenor": "5Y", "pay": "both"}, "pays 'fixed' or 'floating'"),
+                                  ("usd-sofr", {"tenor": "5Y", "parties": ("A",)}, "two parties")):
             with self.assertRaisesRegex(ValueError, says):
                 swap(kind, **words)
         for words in ({"fixed_rate": 0.05}, {"notional": 1e6}, {"centres": "USNY"}, {"notional": True}):
@@ -215,6 +231,16 @@ class Command(InAFolder):
     def test_list(self):
         lines = ran(new.main, "--list").out.splitlines()
         self.assertEqual([line.split()[0] for line in lines[1:]], list(CONVENTIONS))
+
+    def test_the_table_is_that_of_the_page(self):
+        page = (TOP / "docs" / "DESK_FILES.md").read_text()
+        for kind, row in CONVENTIONS.items():
+            line = next(line for line in page.splitlines() if line.startswith(f"| `{kind}` |"))
+            rate = f"{row.index} {row.index_tenor}" if row.index_tenor else f"{row.index}, overnight"
+            days = f"{row.payment_days} day" + ("" if row.payment_days == 1 else "s")
+            self.assertTrue(line.startswith(f"| `{kind}` | {rate} | {row.fixed_frequency} {row.fixed_day_count} |"
+                                            f" {row.floating_frequency} {row.floating_day_count} | {days} |"), line)
+            self.assertIn(" ".join(row.centres), line)
 
     def test_words_that_can_not_be_used(self):
         like = ("--like", "usd-sofr-5y")

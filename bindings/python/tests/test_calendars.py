@@ -2,7 +2,7 @@
 import datetime
 import unittest
 
-from commands import InAFolder, ran
+from commands import TOP, InAFolder, ran
 
 import irs
 from irs import calendars
@@ -143,6 +143,18 @@ class Guards(InAFolder):
             if centre != "USGS":
                 self.assertEqual(CENTRES[centre].sources["quantlib"].years, spans, centre)
 
+    def test_the_years_are_those_of_the_page(self):
+        page = (TOP / "docs" / "DESK_FILES.md").read_text()
+        self.assertIn(f"has the {len(CENTRES)} centres", page)
+        for centre, spans in LISTS.items():
+            if centre != "USGS":
+                years = ", ".join(f"{first} to {last}" for first, last in spans)
+                self.assertIn(f"| {centre} | {years} |", page)
+
+    def test_argentina_is_left_out_for_a_reason(self):
+        self.assertTrue(ql.Argentina().isBusinessDay(ql.Date(25, 12, 2025)))
+        self.assertNotIn("ARBA", CENTRES)
+
     def test_behind_a_list_quantlib_has_next_to_no_days_off(self):
         # the reason for the spans: the first year after each has at most half of the weekdays off of the last in it
         def weekdays_off(calendar, year):
@@ -245,6 +257,11 @@ class Files(InAFolder):
 
     @unittest.skipUnless(ql and holidays, "QuantLib or holidays isn't installed")
     def test_sources_that_agree_and_that_do_not(self):
+        page = (TOP / "docs" / "DESK_FILES.md").read_text()
+        for centre in ("AUSY", "EUTA", "FIHE", "FRPA"):
+            words = (f"quantlib:{centre}", f"holidays:{centre}")
+            text = ran(calendars.main, "--diff", *words, "--from", "2000", "--to", "2040").out
+            self.assertIn(f"| {centre} | {text.count(words[0])} | {text.count(words[1])} |", page)
         for centre in ("CHZU", "ITMI", "PLWA", "SEST"):
             ended = ran(calendars.main, "--diff", f"quantlib:{centre}", f"holidays:{centre}", "--from", "2000", "--to", "2040")
             self.assertEqual((ended.status, ended.out.count("\n")), (0, 1), ended.out)

@@ -92,6 +92,23 @@ class BadInput(InAFolder):
             with self.subTest(says):
                 self.refused(content, says)
 
+    def test_a_file_name_that_can_not_be_printed(self):
+        name = "rates\n2025-01-15 9 - A\udcff.csv"
+        self.write(name, "date,rate\n2025-01-15,0.05\n")
+        ended = ran(fixings.main, name, "--decimal", "--index", "A")
+        self.assertEqual(printed(ended.out), ["2025-01-15 0.05 - A"])
+        self.assert_refused(ran(fixings.main, name, "--decimal", "--index", "\udcff", "-o", "made"), "isn't UTF-8", [name])
+
+    def test_a_file_that_is_too_long_for_the_engine(self):
+        day = datetime.date(1901, 1, 1)
+        days = (day + datetime.timedelta(number) for number in range(30_000))
+        self.write("rates.csv", "date,rate\n" + "".join(f"{each},0.05\n" for each in days))
+        self.refused((self.folder / "rates.csv").read_text(), "4,194,304 bytes", "rates.csv", "--decimal", "--index", "A" * 128)
+
+    def test_too_many_calendars(self):
+        self.refused("date,rate\n", "the engine takes 16", "--missing", str(EXAMPLES / "compounded" / "terms.json"),
+                     "--calendars", *["rates.csv"] * 17)
+
     def test_words(self):
         row = "date,rate\n2025-01-15,0.05\n"
         self.refused(row, "say whether the rates are in percent", "rates.csv", "--index", "A")
@@ -103,7 +120,8 @@ class BadInput(InAFolder):
         self.refused(row, "has no column 'type'", *self.WORDS, "--where", "type=SOFR")
         self.refused(row, "invalid choice", *self.WORDS, "--date-form", "D/M/Y")
         self.refused(row, "can't be read", "none.csv", "--percent", "--index", "A")
-        self.refused(row, "no CSV file", "--percent", "--index", "A")
+        self.refused(row, "give one of a CSV file", "--percent", "--index", "A")
+        self.refused(row, "give one of a CSV file", *self.WORDS, "--unused", "rates.csv")
         self.refused(row, "needs --documents", "--unused", "rates.csv")
         self.refused(row, "the engine refuses", "--unused", "rates.csv", "--documents", str(EXAMPLES / "fixed_leg" / "terms.json"))
 
