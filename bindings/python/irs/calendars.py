@@ -22,9 +22,9 @@ from typing import FrozenSet, Iterator, List, Optional, Sequence, Set, Tuple
 
 from .calendar_sources import WEEKDAYS, Choice, Source, days_between, shortened, source_of, years_text
 from .calls import check
-from .carrier import Document, read_document, texts_of
+from .carrier import Document, read_document, streams_of, texts_of
 from .centres import CENTRES
-from .csv_rows import DATE_FORMS
+from .csv_rows import DATE_FORMS, delimiter_of
 from .errors import Refused
 from .probes import check_calendars
 from .tools import BadInput, Parser, ended, one_line, read_text, write_whole
@@ -154,8 +154,9 @@ def needed(paths: Sequence[Path], choice: Choice, shorten: bool) -> List[Calenda
     `BadInput` where a centre can't be made, or the engine refuses a document for another reason.
     """
     documents = [read_document(path) for path in paths]
-    codes = list(dict.fromkeys(code for each in documents for code in texts_of(each.value, "businessCenter")))
-    years = [int(text[:4]) for each in documents for text in texts_of(each.value, "unadjustedDate")]
+    streams = [stream for document in documents for stream in streams_of(document.value)]
+    codes = list(dict.fromkeys(texts_of(streams, "businessCenter")))
+    years = [int(text[:4]) for text in texts_of(streams, "unadjustedDate")]
     if not codes:
         raise BadInput(f"no business centre is named in {', '.join(str(path) for path in paths)}")
     for wider in range(WIDER + 1):
@@ -192,18 +193,30 @@ def differences(one: Calendar, other: Calendar) -> Iterator[Tuple[datetime.date,
             yield day, day in one.off
 
 
-def _sections(word: str, first: Optional[int], last: Optional[int]) -> List[Calendar]:
+def _is_source(word: str) -> bool:
+    kind, colon, _ = word.partition(":")
+    return bool(colon) and kind in ("quantlib", "holidays")
+
+
+def _of_source(word: str, years: Tuple[int, int]) -> List[Calendar]:
     kind, _, code = word.partition(":")
-    if kind not in ("quantlib", "holidays") or not code:
-        return read_calendars(Path(word))
-    if first is None or last is None:
-        raise BadInput(f"{word} needs --from and --to")
-    return made([code], first, last, Choice(kind), False)
+    return made([code], *years, Choice(kind), False)
 
 
-def compared(words: Sequence[str], first: Optional[int], last: Optional[int]) -> Tuple[str, int]:
+def _both_sides(words: Sequence[str], first: Optional[int], last: Optional[int]) -> List[List[Calendar]]:
+    """The calendars of both sides. A source has the years that are given, or else those of the other side's file."""
+    files = {word: read_calendars(Path(word)) for word in words if not _is_source(word)}
+    covers = [calendar for calendars in files.values() for calendar in calendars]
+    if (first is None or last is None) and not covers:
+        raise BadInput("two sources need --from and --to")
+    years = (min(calendar.first.year for calendar in covers) if first is None else first,
+             max(calendar.last.year for calendar in covers) if last is None else last)
+    return [files[word] if word in files else _of_source(word, years) for word in words]
+
+
+def compared(words: Sequence[str], first: Optional[int] = None, last: Optional[int] = None) -> Tuple[str, int]:
     """What `--diff` prints, and how many days differ; `BadInput` where the two have no centre in common."""
-    ones, others = (_sections(word, first, last) for word in words)
+    ones, others = _both_sides(words, first, last)
     theirs = {calendar.centre: calendar for calendar in others}
     pairs = [(calendar, theirs[calendar.centre]) for calendar in ones if calendar.centre in theirs]
     if not pairs:
@@ -257,7 +270,7 @@ def parser() -> Parser:
     words.add_argument("--source", help="quantlib, holidays, ics:FILE or csv:FILE")
     words.add_argument("--column", help="the column of a CSV that has the dates (the first)")
     words.add_argument("--date-form", choices=sorted(DATE_FORMS), default="YYYY-MM-DD", help="how a CSV writes dates")
-    words.add_argument("--delimiter", default=",", help="what separates the fields of a CSV (,)")
+    words.add_argument("--delimiter", type=delimiter_of, default=",", help="what separates the fields of a CSV, or `tab` (,)")
     words.add_argument("--weekend", type=_weekend, default=("SAT", "SUN"), help="of an ICS or a CSV ('SAT SUN')")
     words.add_argument("--off", action="append", type=_day, default=[], metavar="DATE", help="a day off that the source lacks")
     words.add_argument("--on", action="append", type=_day, default=[], metavar="DATE", help="a business day that the source has off")

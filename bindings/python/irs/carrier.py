@@ -30,7 +30,8 @@ def read_document(path: Path) -> Document:
     except Refused as why:
         if int(why.rule[1:]) < 8:
             raise BadInput(f"{path}: {why.sentence}") from why
-    return Document(path, content, json.loads(content))
+    # A whole number counts as its digits.
+    return Document(path, content, json.loads(content, parse_int=str, parse_float=str))
 
 
 def items_of(value: Any, name: str) -> List[Any]:
@@ -49,12 +50,10 @@ def child_of(value: Any, *names: str) -> Any:
 
 
 def leaf_text(value: Any) -> Optional[str]:
-    """The text of a leaf: a string, a whole number, or an object with `#text`."""
+    """The text of a leaf: a string, as whole numbers are here, or that of an object's `#text`."""
     if isinstance(value, dict):
         value = value.get("#text")
-    if isinstance(value, bool) or not isinstance(value, (str, int)):
-        return None
-    return str(value).strip(" \t\r\n")
+    return value.strip(" \t\r\n") if isinstance(value, str) else None
 
 
 def texts_of(value: Any, name: str) -> Iterator[str]:

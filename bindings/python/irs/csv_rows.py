@@ -4,6 +4,7 @@ Nothing here is proved. The forms of dates are those that vendors and central ba
 """
 from __future__ import annotations
 
+import argparse
 import csv
 import datetime
 import io
@@ -32,14 +33,27 @@ class Row(NamedTuple):
     fields: Dict[str, str]
 
 
-def rows_of(path: Path, delimiter: str = ",") -> List[Row]:
+def delimiter_of(text: str) -> str:
+    """What separates fields: one character that isn't part of a number or a date, or the word ``tab``."""
+    if text == "tab":
+        return "\t"
+    if len(text) != 1 or text.isalnum() or text in "\"\r\n+-./":
+        raise argparse.ArgumentTypeError(f"'{text}' can't separate fields")
+    return text
+
+
+def rows_of(path: Path, delimiter: str = ",", header_line: int = 1) -> List[Row]:
     """The rows below the header line. Blank lines are passed over, and blanks around a field dropped.
 
     `BadInput` where the file can't be read, has no header, names a column twice, or has a row of another
     number of fields.
     """
-    reader = csv.reader(io.StringIO(read_text(path), newline=""), delimiter=delimiter, strict=True)
+    lines = io.StringIO(read_text(path), newline="")
+    for _ in range(header_line - 1):
+        lines.readline()
+    reader = csv.reader(lines, delimiter=delimiter, strict=True)
     rows: List[Row] = []
+    above = header_line - 1
     header: Optional[List[str]] = None
     try:
         for cells in reader:
@@ -49,11 +63,11 @@ def rows_of(path: Path, delimiter: str = ",") -> List[Row]:
             if header is None:
                 header = _header(path, fields)
             elif len(fields) != len(header):
-                raise BadInput(f"{path} line {reader.line_num} has {len(fields)} fields, the header {len(header)}")
+                raise BadInput(f"{path} line {above + reader.line_num} has {len(fields)} fields, the header {len(header)}")
             else:
-                rows.append(Row(reader.line_num, dict(zip(header, fields))))
+                rows.append(Row(above + reader.line_num, dict(zip(header, fields))))
     except csv.Error as why:
-        raise BadInput(f"{path} line {reader.line_num} isn't CSV: {why}") from why
+        raise BadInput(f"{path} line {above + reader.line_num} isn't CSV: {why}") from why
     if header is None:
         raise BadInput(f"{path} has no line")
     return rows

@@ -21,7 +21,7 @@ from pathlib import Path
 from typing import Dict, Iterable, List, Optional, Sequence, Set, Tuple
 
 from .carrier import read_document
-from .csv_rows import DATE_FORMS, Row, day_of, field_of, rows_of
+from .csv_rows import DATE_FORMS, Row, day_of, delimiter_of, field_of, rows_of
 from .fixing_needs import Key, every_need, needs_of
 from .probes import check_fixings
 from .tools import BadInput, Parser, ended, one_line, read_bytes, read_text, write_whole
@@ -54,6 +54,7 @@ class Columns:
     tenor_column: Optional[str] = None
     delimiter: str = ","
     decimal_comma: bool = False
+    header_line: int = 1
     where: Tuple[Tuple[str, str], ...] = ()
     skip: Tuple[str, ...] = ()
     any_size: bool = False
@@ -78,22 +79,24 @@ def rate_of(path: Path, row: Row, columns: Columns) -> Decimal:
     return value
 
 
-def fixings_of(path: Path, columns: Columns) -> Dict[Key, Decimal]:
-    """The fixings of a CSV file. `BadInput` where a row can't be read, or a key has two values."""
+def fixings_of(paths: Sequence[Path], columns: Columns) -> Dict[Key, Decimal]:
+    """The fixings of CSV files. `BadInput` where a row can't be read, a key has two values, or a file has none."""
     found: Dict[Key, Decimal] = {}
-    for row in rows_of(path, columns.delimiter):
-        if any(field_of(path, row, name) != text for name, text in columns.where):
-            continue
-        if field_of(path, row, columns.rate) in columns.skip:
-            continue
-        key = _key_of(path, row, columns)
-        rate = rate_of(path, row, columns)
-        if found.setdefault(key, rate) != rate:
-            raise BadInput(f"{path} line {row.line}: {key.date} of {key.index} {key.tenor} has two values,"
-                           f" {found[key]} and {rate}")
-    if not found:
-        raise BadInput(f"{path} has no fixing")
+    for path in paths:
+        rows = [row for row in rows_of(path, columns.delimiter, columns.header_line) if _is_meant(path, row, columns)]
+        if not rows:
+            raise BadInput(f"{path} has no fixing")
+        for row in rows:
+            key, rate = _key_of(path, row, columns), rate_of(path, row, columns)
+            if found.setdefault(key, rate) != rate:
+                raise BadInput(f"{path} line {row.line}: {key.date} of {key.index} {key.tenor} has two values,"
+                               f" {found[key]} and {rate}")
     return found
+
+
+def _is_meant(path: Path, row: Row, columns: Columns) -> bool:
+    chosen = all(field_of(path, row, name) == text for name, text in columns.where)
+    return chosen and field_of(path, row, columns.rate) not in columns.skip
 
 
 def _key_of(path: Path, row: Row, columns: Columns) -> Key:
@@ -165,7 +168,7 @@ def _pair(text: str) -> Tuple[str, str]:
 def parser() -> Parser:
     """The parser of the command's words."""
     words = Parser(prog="irs-fixings", description=__doc__, formatter_class=argparse.RawDescriptionHelpFormatter)
-    words.add_argument("csv", nargs="?", type=Path, metavar="CSV", help="a CSV file with a header line")
+    words.add_argument("csv", nargs="*", type=Path, metavar="CSV", help="CSV files with a header line")
     unit = words.add_mutually_exclusive_group()
     unit.add_argument("--percent", action="store_true", help="the rates are in percent: 5.31")
     unit.add_argument("--decimal", action="store_true", help="the rates are decimals: 0.0531")
@@ -176,7 +179,8 @@ def parser() -> Parser:
     words.add_argument("--date-column", default="date", metavar="COLUMN", help="the column of the dates (date)")
     words.add_argument("--rate-column", default="rate", metavar="COLUMN", help="the column of the rates (rate)")
     words.add_argument("--date-form", choices=sorted(DATE_FORMS), default="YYYY-MM-DD", help="how dates are written")
-    words.add_argument("--delimiter", default=",", help="what separates the fields (,)")
+    words.add_argument("--delimiter", type=delimiter_of, default=",", help="what separates the fields, or `tab` (,)")
+    words.add_argument("--header-line", type=int, default=1, metavar="LINE", help="the line with the columns' names (1)")
     words.add_argument("--decimal-comma", action="store_true", help="rates are written as 5,31")
     words.add_argument("--where", action="append", type=_pair, default=[], metavar="COLUMN=TEXT",
                        help="only the rows with this text in this column")
@@ -200,8 +204,8 @@ def _columns(asked: argparse.Namespace) -> Columns:
     if asked.index is None and asked.index_column is None:
         raise BadInput("say which index it is: --index NAME or --index-column COLUMN")
     return Columns(asked.percent, asked.date_column, asked.rate_column, asked.date_form, asked.index, asked.tenor,
-                   asked.index_column, asked.tenor_column, asked.delimiter, asked.decimal_comma, tuple(asked.where),
-                   tuple(asked.skip), asked.yes_above_100_percent)
+                   asked.index_column, asked.tenor_column, asked.delimiter, asked.decimal_comma,
+                   asked.header_line, tuple(asked.where), tuple(asked.skip), asked.yes_above_100_percent)
 
 
 def _listed(keys: Sequence[Key], output: Optional[Path]) -> int:
@@ -211,8 +215,8 @@ def _listed(keys: Sequence[Key], output: Optional[Path]) -> int:
 
 def _work(arguments: Optional[List[str]]) -> int:
     asked = parser().parse_args(arguments)
-    if [asked.csv, asked.missing, asked.unused].count(None) != 2:
-        raise BadInput("give one of a CSV file, --missing DOC and --unused FILE; `irs-fixings --help` lists the options")
+    if [bool(asked.csv), asked.missing is not None, asked.unused is not None].count(True) != 1:
+        raise BadInput("give one of CSV files, --missing DOC and --unused FILE; `irs-fixings --help` lists the options")
     if len(asked.calendars) > MOST_CALENDARS:
         raise BadInput(f"there are {len(asked.calendars)} calendar files, and the engine takes {MOST_CALENDARS}")
     if asked.missing is not None:
@@ -223,7 +227,8 @@ def _work(arguments: Optional[List[str]]) -> int:
         return _listed(unused(asked.unused, asked.documents, asked.calendars), asked.output)
     columns = _columns(asked)
     unit = "percent" if asked.percent else "decimals"
-    remark = f"from {asked.csv.name}, column {columns.rate} in {unit}, made {datetime.date.today()}; not proved"
+    names = ", ".join(path.name for path in asked.csv)
+    remark = f"from {names}, column {columns.rate} in {unit}, made {datetime.date.today()}; not proved"
     write_whole(text_of(fixings_of(asked.csv, columns), [remark]), asked.output)
     return 0
 

@@ -54,7 +54,8 @@ def one_line(text: str) -> str:
 def write_whole(text: str, path: Optional[Path]) -> None:
     """Writes a text to a file, or to standard output where `path` is `None`.
 
-    The file appears whole or not at all. `BadInput` where it can't be written.
+    The file appears whole or not at all; a link keeps its place, and what it leads to is replaced. `BadInput`
+    where it can't be written, or is a folder, a device or a pipe.
     """
     if path is None:
         if isinstance(sys.stdout, io.TextIOWrapper):
@@ -62,9 +63,12 @@ def write_whole(text: str, path: Optional[Path]) -> None:
         sys.stdout.write(text)
         sys.stdout.flush()
         return
+    if path.exists() and not path.is_file():
+        raise BadInput(f"{path} can't be written: it isn't a file (without -o the text goes to standard output)")
+    path = path.resolve()
     unfinished: Optional[str] = None
     try:
-        handle, unfinished = tempfile.mkstemp(prefix=f".{path.name}.", dir=path.parent)
+        handle, unfinished = tempfile.mkstemp(prefix=f".{path.name[:200]}.", dir=path.parent)
         with os.fdopen(handle, "w", encoding="utf-8", newline="\n") as out:
             out.write(text)
         os.chmod(unfinished, 0o666 & ~_umask())

@@ -1,5 +1,6 @@
 """`irs-calendar`: each day of a generated calendar against its source, and input that it can't use."""
 import datetime
+import os
 import unittest
 
 from commands import TOP, InAFolder, ran
@@ -255,6 +256,14 @@ class Files(InAFolder):
         self.assert_refused(ran(calendars.main, "--diff", "one.cal", "other.cal"), "no centre in common",
                             ["days.csv", "one.cal", "other.cal"])
 
+    @unittest.skipUnless(ql, "QuantLib isn't installed")
+    def test_a_file_against_a_source_in_the_years_of_the_file(self):
+        self.write("vendor.cal", "center EUTA\ncover 2024-01-01 2024-12-31\nweekend SAT SUN\n2024-01-01\n2024-03-29\n2024-04-01\n"
+                                 "2024-05-01\n2024-12-24\n2024-12-25\n2024-12-26\n")
+        ended = ran(calendars.main, "--diff", "vendor.cal", "quantlib:EUTA")
+        self.assertEqual(ended.out, "# EUTA from 2024-01-01 to 2024-12-31: 1 days differ\n"
+                                    "EUTA 2024-12-24 TUE is off in vendor.cal alone\n")
+
     @unittest.skipUnless(ql and holidays, "QuantLib or holidays isn't installed")
     def test_sources_that_agree_and_that_do_not(self):
         page = (TOP / "docs" / "DESK_FILES.md").read_text()
@@ -353,7 +362,26 @@ class BadInput(InAFolder):
     def test_calendars_of_the_project(self):
         self.write("bad.cal", "center A\n")
         self.refused("the engine refuses", "--diff", "bad.cal", "bad.cal")
-        self.refused("needs --from and --to", "--diff", "quantlib:USNY", "bad.cal")
+        self.refused("the engine refuses", "--diff", "quantlib:USNY", "bad.cal")
+        self.refused("need --from and --to", "--diff", "quantlib:USNY", "holidays:USNY")
+
+    def test_delimiters(self):
+        self.write("days.csv", "day\tname\n2024-01-01\tNew Year\n")
+        words = ("DESK", "--from", "2024", "--to", "2024", "--source", "csv:days.csv", "--delimiter")
+        self.assertEqual(ran(calendars.main, *words, "tab").status, 0)
+        for text in (";;", "", '"', "1", "\n"):
+            self.refused("can't separate fields", *words, text)
+
+    def test_a_link_keeps_its_place_and_a_pipe_is_no_file(self):
+        self.write("days.csv", "day\n2024-01-01\n")
+        words = ["DESK", "--from", "2024", "--to", "2024", "--source", "csv:days.csv", "-o"]
+        self.write("real.cal", "")
+        (self.folder / "link.cal").symlink_to("real.cal")
+        self.assertEqual(ran(calendars.main, *words, "link.cal").status, 0)
+        self.assertTrue((self.folder / "link.cal").is_symlink())
+        self.assertIn("center DESK", (self.folder / "real.cal").read_text())
+        os.mkfifo("pipe")
+        self.assert_refused(ran(calendars.main, *words, "pipe"), "isn't a file", self.files())
 
     def test_a_file_that_can_not_be_written(self):
         self.write("days.csv", "day\n2024-01-01\n")

@@ -39,6 +39,17 @@ class FromCsv(InAFolder):
         ended = ran(fixings.main, "fred.csv", "--decimal", "--index", "USD-EFFR", "--skip", ".")
         self.assertEqual(printed(ended.out), ["2025-01-15 0.0433 - USD-EFFR", "2025-01-21 0 - USD-EFFR"])
 
+    def test_several_files_and_lines_above_the_header(self):
+        self.write("may.csv", 'Series,"A, B"\n\ndate,rate\n2025-05-30,2.1\n2025-05-31,2.2\n')
+        self.write("june.csv", "Series\nx\ndate,rate\n2025-05-31,2.20\n2025-06-02,2.3\n")
+        words = ("may.csv", "june.csv", "--percent", "--index", "A", "--header-line", "3")
+        ended = ran(fixings.main, *words)
+        self.assertEqual(printed(ended.out), ["2025-05-30 0.021 - A", "2025-05-31 0.022 - A", "2025-06-02 0.023 - A"])
+        self.assertIn("# from may.csv, june.csv, column rate", ended.out)
+        self.write("june.csv", "Series\nx\ndate,rate\n2025-05-31,2.25\n")
+        self.assert_refused(ran(fixings.main, *words), "june.csv line 4: 2025-05-31 of A - has two values, 0.022 and 0.0225",
+                            ["june.csv", "may.csv"])
+
     def test_equal_rows_count_once(self):
         self.write("twice.csv", "date,rate\n2025-01-15,5.30\n2025-01-15,5.3\n")
         ended = ran(fixings.main, "twice.csv", "--percent", "--index", "A")
@@ -120,8 +131,8 @@ class BadInput(InAFolder):
         self.refused(row, "has no column 'type'", *self.WORDS, "--where", "type=SOFR")
         self.refused(row, "invalid choice", *self.WORDS, "--date-form", "D/M/Y")
         self.refused(row, "can't be read", "none.csv", "--percent", "--index", "A")
-        self.refused(row, "give one of a CSV file", "--percent", "--index", "A")
-        self.refused(row, "give one of a CSV file", *self.WORDS, "--unused", "rates.csv")
+        self.refused(row, "give one of CSV files", "--percent", "--index", "A")
+        self.refused(row, "give one of CSV files", *self.WORDS, "--unused", "rates.csv")
         self.refused(row, "needs --documents", "--unused", "rates.csv")
         self.refused(row, "the engine refuses", "--unused", "rates.csv", "--documents", str(EXAMPLES / "fixed_leg" / "terms.json"))
 
@@ -180,6 +191,13 @@ class AgainstDocuments(InAFolder):
         self.assert_refused(ran(fixings.main, "--missing", "none.json", "-o", "made"), "can't be read", [])
         self.assert_refused(ran(fixings.main, "--missing", self.terms("compounded"), "--until", "soon", "-o", "made"),
                             "isn't a date", [])
+
+    def test_every_form_of_a_leaf(self):
+        terms = (EXAMPLES / "compounded" / "terms.json").read_text()
+        for tenor in ('{"periodMultiplier":3,"period":{"#text":" M ","@x":1}}', '[{"periodMultiplier":["003"],"period":"M"}]'):
+            self.write("terms.json", terms.replace('"indexTenor":{"periodMultiplier":"3","period":"M"}', f'"indexTenor":{tenor}'))
+            self.assertEqual(ran(fixings.main, "--missing", "terms.json").out.splitlines(),
+                             ["2024-01-15 3M USD-TEST-INDEX", "2024-04-15 3M USD-TEST-INDEX"])
 
     def test_every_line_that_is_missing_is_one_that_the_engine_then_takes(self):
         # for each example: with the missing lines put in, no reset is without a rate; with any one left out, one is
