@@ -11,7 +11,7 @@ from collections import Counter
 from dataclasses import dataclass
 from pathlib import Path
 from types import ModuleType
-from typing import Callable, Dict, FrozenSet, Iterator, List, Optional, Protocol, Sequence, Tuple
+from typing import Any, Callable, Dict, FrozenSet, Iterator, List, Optional, Protocol, Sequence, Tuple
 
 from .centres import CENTRES, VERSIONS, Known, Span
 from .csv_rows import day_of, rows_of
@@ -145,7 +145,7 @@ def ics_source(path: Path, weekend: Sequence[str]) -> ListedSource:
     module = _module("icalendar", "python3-icalendar")
     try:
         events = module.Calendar.from_ical(read_bytes(path)).walk("VEVENT")
-    except ValueError as why:
+    except (ValueError, TypeError, LookupError, AttributeError) as why:  # whatever icalendar trips over
         raise BadInput(f"{path} isn't an ICS file") from why
     days: List[datetime.date] = []
     for event in events:
@@ -155,12 +155,17 @@ def ics_source(path: Path, weekend: Sequence[str]) -> ListedSource:
     return ListedSource(f"the ICS file {path.name}", frozenset(days), weekend)
 
 
-def _days_of_event(path: Path, event: Dict[str, object]) -> List[datetime.date]:
-    start, end = (getattr(event.get(name), "dt", None) for name in ("DTSTART", "DTEND"))
-    if type(start) is not datetime.date or not (end is None or type(end) is datetime.date):
-        raise BadInput(f"{path} has an event that isn't a whole day: {event.get('SUMMARY', 'without a name')}")
-    if "RRULE" in event or "RDATE" in event:
-        raise BadInput(f"{path} has an event that repeats by a rule: {event.get('SUMMARY', 'without a name')}")
+def _days_of_event(path: Path, event: Any) -> List[datetime.date]:
+    name = event.get("SUMMARY", "without a name")
+    if event.errors:
+        raise BadInput(f"{path} has an event that can't be read: {name}")
+    if any(rule in event for rule in ("RRULE", "RDATE", "EXDATE")):
+        raise BadInput(f"{path} has an event that repeats by a rule: {name}")
+    start, end, length = (getattr(event.get(part), "dt", None) for part in ("DTSTART", "DTEND", "DURATION"))
+    if type(start) is datetime.date and type(length) is datetime.timedelta and length.seconds == 0:
+        end = start + length
+    elif length is not None or type(start) is not datetime.date or type(end) not in (datetime.date, type(None)):
+        raise BadInput(f"{path} has an event that isn't of whole days: {name}")
     if end is None or end <= start:
         return [start]
     return list(days_between(start, end))[:-1]

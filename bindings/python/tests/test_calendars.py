@@ -237,8 +237,14 @@ class Files(InAFolder):
         self.write("days.ics", self.ICS)
         ended = ran(calendars.main, "DESK", "--from", "2024", "--to", "2024", "--source", "ics:days.ics", "--weekend", "FRI SAT")
         self.assertTrue(ended.out.endswith("weekend FRI SAT\n2024-01-01\n2024-12-25\n2024-12-26\n"), ended)
+        self.write("days.ics", self.ICS.replace("DTEND;VALUE=DATE:20241227", "DURATION:P2D"))
+        self.assertEqual(ran(calendars.main, "DESK", "--from", "2024", "--to", "2024", "--source", "ics:days.ics",
+                             "--weekend", "FRI SAT"), ended)
         for text, says in ((self.ICS.replace("SUMMARY:New Year", "RRULE:FREQ=YEARLY"), "repeats"),
-                           (self.ICS.replace(";VALUE=DATE:20240101", ":20240101T090000Z"), "whole day"),
+                           (self.ICS.replace(";VALUE=DATE:20240101", ":20240101T090000Z"), "of whole days"),
+                           (self.ICS.replace("DTEND;VALUE=DATE:20241227", "DTEND;VALUE=DATE:2024122"), "of whole days"),
+                           (self.ICS.replace("DTSTART;VALUE=DATE:20241225", "DTSTART;VALUE=DATE20241225"), "isn't an ICS file"),
+                           (self.ICS.replace("DTEND;VALUE=DATE:20241227", "DURATION:PT36H"), "of whole days"),
                            ("BEGIN:VCALENDAR\r\nEND:VCALENDAR\r\n", "has no event"), ("day,name\n", "isn't an ICS file")):
             self.write("days.ics", text)
             ended = ran(calendars.main, "DESK", "--from", "2024", "--to", "2024", "--source", "ics:days.ics", "-o", "made.cal")
