@@ -13,9 +13,11 @@ from typing import Any, Dict, List, Sequence, Tuple
 Schema = Dict[str, Any]
 
 #: What the schema can't say.
-NOTE = ("A JSON Schema takes 1.0 for a whole number, which the program refuses (K3): write numbers as texts. It counts"
-        " characters, and the program bytes, of an index with letters outside ASCII. It knows nothing of the rules"
-        " from K8 on.")
+NOTE = (
+    "A JSON Schema takes 1.0 for a whole number, which the program refuses (K3): write numbers as texts. It counts"
+    " characters, and the program bytes, of an index with letters outside ASCII. It knows nothing of the rules"
+    " from K8 on."
+)
 
 #: White space that is dropped at both ends of a leaf.
 BLANK = "[ \\t\\r\\n]*"
@@ -25,8 +27,10 @@ NINE = "(?![0-9]{10})"
 
 _FEB_29 = "(19(0[48]|[2468][048]|[13579][26])|20([02468][048]|[13579][26])|2[12](0[48]|[2468][048]|[13579][26]))-02-29"
 _YEAR = "(190[1-9]|19[1-9][0-9]|2[0-2][0-9]{2})"
-_DAY = (f"({_YEAR}-((0[13578]|1[02])-(0[1-9]|[12][0-9]|3[01])|(0[469]|11)-(0[1-9]|[12][0-9]|30)"
-        f"|02-(0[1-9]|1[0-9]|2[0-8]))|{_FEB_29})")
+_DAY = (
+    f"({_YEAR}-((0[13578]|1[02])-(0[1-9]|[12][0-9]|3[01])|(0[469]|11)-(0[1-9]|[12][0-9]|30)"
+    f"|02-(0[1-9]|1[0-9]|2[0-8]))|{_FEB_29})"
+)
 
 
 def _one_of(*words: str) -> str:
@@ -62,8 +66,15 @@ TEXTS: Dict[str, str] = {
 
 #: The JSON whole numbers whose digits are such a text, from the least to the greatest.
 WHOLE: Dict[str, Tuple[int, int]] = {
-    "N": (0, 10**13), "X": (-10, 10), "B": (0, 1), "I multiplier": (1, 999), "I offset": (-60, 60), "I precision": (0, 9),
-    "C roll": (1, 30), "T centre": (-2**63, 2**64 - 1), "T index": (-2**63, 2**64 - 1),
+    "N": (0, 10**13),
+    "X": (-10, 10),
+    "B": (0, 1),
+    "I multiplier": (1, 999),
+    "I offset": (-60, 60),
+    "I precision": (0, 9),
+    "C roll": (1, 30),
+    "T centre": (-(2**63), 2**64 - 1),
+    "T index": (-(2**63), 2**64 - 1),
 }
 
 #: The kinds that take `true` and `false` of JSON.
@@ -88,8 +99,14 @@ def _words_after(text: str, mark: str) -> Tuple[str, ...]:
 
 def _element(kind: str, count: str) -> Element:
     least, _, most = count.partition("..")
-    return Element(kind.split(",")[0], int(least), int(most or least), {}, _words_after(kind, "exactly one of"),
-                   _words_after(kind, "at most one of"))
+    return Element(
+        kind.split(",")[0],
+        int(least),
+        int(most or least),
+        {},
+        _words_after(kind, "exactly one of"),
+        _words_after(kind, "at most one of"),
+    )
 
 
 def sections_of(printed: str) -> Dict[str, List[Tuple[str, str, str]]]:
@@ -100,7 +117,7 @@ def sections_of(printed: str) -> Dict[str, List[Tuple[str, str, str]]]:
         if line.startswith("# "):
             if not line.startswith("# the elements of"):
                 return sections
-            rows = sections.setdefault(line[len("# the elements of "):], [])
+            rows = sections.setdefault(line[len("# the elements of ") :], [])
         else:
             path, kind, count = (part.strip() for part in line.split("|"))
             rows.append((path, kind, count))
@@ -124,7 +141,10 @@ class Writer:
 
     def __init__(self) -> None:
         nothing: List[Schema] = [{"type": "null"}, {"type": "array", "maxItems": 0}]
-        self.defs: Dict[str, Schema] = {"absent": {"anyOf": nothing}, "attribute": {"anyOf": [{"type": "string"}, *nothing]}}
+        self.defs: Dict[str, Schema] = {
+            "absent": {"anyOf": nothing},
+            "attribute": {"anyOf": [{"type": "string"}, *nothing]},
+        }
         self._names: Dict[str, str] = {}
 
     def named(self, name: str, schema: Schema) -> Schema:
@@ -148,8 +168,13 @@ class Writer:
             plain.append({"type": "integer", "minimum": WHOLE[kind][0], "maximum": WHOLE[kind][1]})
         if kind in TRUTH:
             plain.append({"type": "boolean"})
-        with_attributes = {"type": "object", "required": ["#text"], "properties": {"#text": {"anyOf": plain}},
-                           "patternProperties": {"^@": True}, "additionalProperties": {"$ref": "#/$defs/absent"}}
+        with_attributes = {
+            "type": "object",
+            "required": ["#text"],
+            "properties": {"#text": {"anyOf": plain}},
+            "patternProperties": {"^@": True},
+            "additionalProperties": {"$ref": "#/$defs/absent"},
+        }
         return self.named(kind.replace(" ", "_"), {"anyOf": [*plain, with_attributes]})
 
     def there(self, name: str) -> Schema:
@@ -159,9 +184,16 @@ class Writer:
     def item(self, name: str, element: Element) -> Schema:
         """One element, without its count."""
         if element.kind == "R":
-            return self.named("reference", {
-                "type": "object", "required": ["@href"], "properties": {"@id": {"$ref": "#/$defs/attribute"}, "@href": {"type": "string"}},
-                "patternProperties": {"^@(?!id$|href$)": True}, "additionalProperties": {"$ref": "#/$defs/absent"}})
+            return self.named(
+                "reference",
+                {
+                    "type": "object",
+                    "required": ["@href"],
+                    "properties": {"@id": {"$ref": "#/$defs/attribute"}, "@href": {"type": "string"}},
+                    "patternProperties": {"^@(?!id$|href$)": True},
+                    "additionalProperties": {"$ref": "#/$defs/absent"},
+                },
+            )
         if element.kind != "O":
             return self.leaf(element.kind)
         attribute = {"$ref": "#/$defs/attribute"}
@@ -171,8 +203,12 @@ class Writer:
                 properties[part] = True
             elif below.kind != "out of profile":
                 properties[part] = self.counted(part, below)
-        schema: Schema = {"type": "object", "properties": properties, "patternProperties": {"^@(?!id$|href$)": True},
-                          "additionalProperties": {"$ref": "#/$defs/absent"}}
+        schema: Schema = {
+            "type": "object",
+            "properties": properties,
+            "patternProperties": {"^@(?!id$|href$)": True},
+            "additionalProperties": {"$ref": "#/$defs/absent"},
+        }
         required = [part for part, below in element.below.items() if below.least > 0]
         if required:
             schema["required"] = required

@@ -12,10 +12,18 @@ from __future__ import annotations
 import datetime
 from dataclasses import dataclass, replace
 from decimal import Decimal
-from typing import Any, Dict, Mapping, Optional, Sequence, Tuple, Union
+from typing import Any, Dict, Optional, Sequence, Tuple, Union
 
-from .conventions import (BY_CURRENCY, CONVENTIONS, EXAMPLE_NOTIONAL, EXAMPLE_NOTIONAL_ELSE, EXAMPLE_PARTIES,
-                          EXAMPLE_RATE, EXAMPLE_START, Convention)
+from .conventions import (
+    BY_CURRENCY,
+    CONVENTIONS,
+    EXAMPLE_NOTIONAL,
+    EXAMPLE_NOTIONAL_ELSE,
+    EXAMPLE_PARTIES,
+    EXAMPLE_RATE,
+    EXAMPLE_START,
+    Convention,
+)
 from .probes import end_of, frequency_of, roll_of
 
 Day = Union[datetime.date, str]
@@ -117,8 +125,11 @@ def _period_dates(name: str, terms: Convention, shape: Shape, frequency: Element
         "terminationDate": {"unadjustedDate": shape.end, "dateAdjustments": adjustments},
         "calculationPeriodDatesAdjustments": adjustments,
     }
-    given = {"firstRegularPeriodStartDate": shape.first_regular, "lastRegularPeriodEndDate": shape.last_regular,
-             "stubPeriodType": shape.stub}
+    given = {
+        "firstRegularPeriodStartDate": shape.first_regular,
+        "lastRegularPeriodEndDate": shape.last_regular,
+        "stubPeriodType": shape.stub,
+    }
     dates.update({element: text for element, text in given.items() if text is not None})
     dates["calculationPeriodFrequency"] = frequency
     return dates
@@ -141,8 +152,9 @@ def _notional(value: str, currency: str) -> Elements:
     return {"notionalStepSchedule": {"initialValue": value, "currency": currency}}
 
 
-def _stream(payer: str, receiver: str, dates: Elements, payments: Elements, resets: Elements,
-            calculation: Elements) -> Elements:
+def _stream(
+    payer: str, receiver: str, dates: Elements, payments: Elements, resets: Elements, calculation: Elements
+) -> Elements:
     return {
         "payerPartyReference": {"@href": payer},
         "receiverPartyReference": {"@href": receiver},
@@ -154,16 +166,27 @@ def _stream(payer: str, receiver: str, dates: Elements, payments: Elements, rese
     }
 
 
-def _overnight_elements(terms: Convention, overnight: Overnight, in_terms: bool, periods: Elements) -> Tuple[Elements, Elements]:
+def _overnight_elements(
+    terms: Convention, overnight: Overnight, in_terms: bool, periods: Elements
+) -> Tuple[Elements, Elements]:
     """The resets and the rate's own members of a stream with an overnight rate."""
-    resets: Elements = {"resetRelativeTo": "CalculationPeriodEndDate", "resetFrequency": periods,
-                        "resetDatesAdjustments": _adjustments(terms.business_day_convention, terms.fixing_centres)}
+    resets: Elements = {
+        "resetRelativeTo": "CalculationPeriodEndDate",
+        "resetFrequency": periods,
+        "resetDatesAdjustments": _adjustments(terms.business_day_convention, terms.fixing_centres),
+    }
     if not in_terms:
         if not overnight.plain:
-            raise ValueError("an overnight rate other than plain compounding has to be stated in the terms:"
-                             " daily_rates_in_terms=True")
+            raise ValueError(
+                "an overnight rate other than plain compounding has to be stated in the terms:"
+                " daily_rates_in_terms=True"
+            )
         return resets, {}
-    shifts = {"observationShift": overnight.observation_shift, "lookback": overnight.lookback, "lockout": overnight.lockout}
+    shifts = {
+        "observationShift": overnight.observation_shift,
+        "lookback": overnight.lookback,
+        "lockout": overnight.lockout,
+    }
     parameters: Elements = {"calculationMethod": overnight.method}
     parameters.update({name: {"offsetDays": str(days)} for name, days in shifts.items() if days is not None})
     parameters["applicableBusinessDays"] = {"businessCenter": list(terms.fixing_centres)}
@@ -176,10 +199,17 @@ def _term_elements(terms: Convention, periods: Elements, resets_name: str) -> Tu
     fixing: Elements = {"periodMultiplier": str(terms.fixing_days), "period": "D"}
     if terms.fixing_days:
         fixing = _offset(terms.fixing_days)
-    fixing.update(businessDayConvention="NONE", businessCenters={"businessCenter": list(terms.fixing_centres)},
-                  dateRelativeTo={"@href": resets_name})
-    resets: Elements = {"resetRelativeTo": "CalculationPeriodStartDate", "fixingDates": fixing, "resetFrequency": periods,
-                        "resetDatesAdjustments": _adjustments(terms.business_day_convention, terms.fixing_centres)}
+    fixing.update(
+        businessDayConvention="NONE",
+        businessCenters={"businessCenter": list(terms.fixing_centres)},
+        dateRelativeTo={"@href": resets_name},
+    )
+    resets: Elements = {
+        "resetRelativeTo": "CalculationPeriodStartDate",
+        "fixingDates": fixing,
+        "resetFrequency": periods,
+        "resetDatesAdjustments": _adjustments(terms.business_day_convention, terms.fixing_centres),
+    }
     return resets, {}
 
 
@@ -202,18 +232,39 @@ def convention_of(kind: Optional[str], currency: Optional[str]) -> Convention:
     return CONVENTIONS[name]
 
 
-def swap(kind: Optional[str] = None, *, currency: Optional[str] = None, start: Day = EXAMPLE_START,
-         end: Optional[Day] = None, tenor: Optional[str] = None, notional: Optional[Number] = None,
-         fixed_rate: Number = EXAMPLE_RATE, spread: Number = "0", pay: str = "fixed",
-         parties: Sequence[str] = EXAMPLE_PARTIES, index: Optional[str] = None, index_tenor: Optional[str] = None,
-         fixed_frequency: Optional[str] = None, fixed_day_count: Optional[str] = None,
-         floating_frequency: Optional[str] = None, floating_day_count: Optional[str] = None,
-         floating_payment_frequency: Optional[str] = None, compounding: str = "None", roll: Optional[str] = None,
-         stub: Optional[str] = None, first_regular: Optional[Day] = None, last_regular: Optional[Day] = None,
-         convention: Optional[str] = None, centres: Optional[Sequence[str]] = None,
-         fixing_centres: Optional[Sequence[str]] = None, payment_days: Optional[int] = None,
-         fixing_days: Optional[int] = None, rounding: Optional[int] = None, overnight: Overnight = Overnight(),
-         daily_rates_in_terms: bool = DAILY_RATES_IN_TERMS) -> Dict[str, Any]:
+def swap(
+    kind: Optional[str] = None,
+    *,
+    currency: Optional[str] = None,
+    start: Day = EXAMPLE_START,
+    end: Optional[Day] = None,
+    tenor: Optional[str] = None,
+    notional: Optional[Number] = None,
+    fixed_rate: Number = EXAMPLE_RATE,
+    spread: Number = "0",
+    pay: str = "fixed",
+    parties: Sequence[str] = EXAMPLE_PARTIES,
+    index: Optional[str] = None,
+    index_tenor: Optional[str] = None,
+    fixed_frequency: Optional[str] = None,
+    fixed_day_count: Optional[str] = None,
+    floating_frequency: Optional[str] = None,
+    floating_day_count: Optional[str] = None,
+    floating_payment_frequency: Optional[str] = None,
+    compounding: str = "None",
+    roll: Optional[str] = None,
+    stub: Optional[str] = None,
+    first_regular: Optional[Day] = None,
+    last_regular: Optional[Day] = None,
+    convention: Optional[str] = None,
+    centres: Optional[Sequence[str]] = None,
+    fixing_centres: Optional[Sequence[str]] = None,
+    payment_days: Optional[int] = None,
+    fixing_days: Optional[int] = None,
+    rounding: Optional[int] = None,
+    overnight: Overnight = Overnight(),
+    daily_rates_in_terms: bool = DAILY_RATES_IN_TERMS,
+) -> Dict[str, Any]:
     """The document of a swap of a fixed stream against a floating one, for the engine to check.
 
     `kind` is a row of the table, as ``usd-sofr``; without it `currency` chooses one. The term is `start` and one
@@ -225,19 +276,41 @@ def swap(kind: Optional[str] = None, *, currency: Optional[str] = None, start: D
     `ValueError` where a word is none of these, or a rate is above 1 in size; `TypeError` for a float.
     """
     row = convention_of(kind, currency)
-    given = {"currency": currency, "index": index, "index_tenor": index_tenor, "fixed_frequency": fixed_frequency,
-             "fixed_day_count": fixed_day_count, "floating_frequency": floating_frequency,
-             "floating_day_count": floating_day_count, "business_day_convention": convention,
-             "centres": _tuple(centres), "fixing_centres": _tuple(fixing_centres), "payment_days": payment_days,
-             "fixing_days": fixing_days, "rounding": rounding}
+    given = {
+        "currency": currency,
+        "index": index,
+        "index_tenor": index_tenor,
+        "fixed_frequency": fixed_frequency,
+        "fixed_day_count": fixed_day_count,
+        "floating_frequency": floating_frequency,
+        "floating_day_count": floating_day_count,
+        "business_day_convention": convention,
+        "centres": _tuple(centres),
+        "fixing_centres": _tuple(fixing_centres),
+        "payment_days": payment_days,
+        "fixing_days": fixing_days,
+        "rounding": rounding,
+    }
     terms = replace(row, **{name: value for name, value in given.items() if value is not None})
     shape = _shape(start, end, tenor, roll, stub, first_regular, last_regular)
-    amount = number_text(notional if notional is not None
-                         else EXAMPLE_NOTIONAL.get(terms.currency, EXAMPLE_NOTIONAL_ELSE), "the notional")
+    amount = number_text(
+        notional if notional is not None else EXAMPLE_NOTIONAL.get(terms.currency, EXAMPLE_NOTIONAL_ELSE),
+        "the notional",
+    )
     payer, receiver = _sides(pay, parties)
     fixed = _fixed_stream(terms, shape, amount, rate_text(fixed_rate, "the fixed rate"), payer, receiver)
-    floating = _floating_stream(terms, shape, amount, rate_text(spread, "the spread"), receiver, payer,
-                                floating_payment_frequency, compounding, overnight, daily_rates_in_terms)
+    floating = _floating_stream(
+        terms,
+        shape,
+        amount,
+        rate_text(spread, "the spread"),
+        receiver,
+        payer,
+        floating_payment_frequency,
+        compounding,
+        overnight,
+        daily_rates_in_terms,
+    )
     return {"swap": {"swapStream": [fixed, floating]}}
 
 
@@ -256,8 +329,15 @@ def _sides(pay: str, parties: Sequence[str]) -> Tuple[str, str]:
     return (first, second) if pay == "fixed" else (second, first)
 
 
-def _shape(start: Day, end: Optional[Day], tenor: Optional[str], roll: Optional[str], stub: Optional[str],
-           first_regular: Optional[Day], last_regular: Optional[Day]) -> Shape:
+def _shape(
+    start: Day,
+    end: Optional[Day],
+    tenor: Optional[str],
+    roll: Optional[str],
+    stub: Optional[str],
+    first_regular: Optional[Day],
+    last_regular: Optional[Day],
+) -> Shape:
     if (end is None) == (tenor is None):
         raise ValueError("a swap has an end or a tenor, and not both")
     last = str(end) if tenor is None else end_of(str(start), tenor)[0]
@@ -267,25 +347,52 @@ def _shape(start: Day, end: Optional[Day], tenor: Optional[str], roll: Optional[
 
 def _fixed_stream(terms: Convention, shape: Shape, notional: str, rate: str, payer: str, receiver: str) -> Elements:
     periods = _period_frequency(terms.fixed_frequency, shape)
-    calculation: Elements = {"notionalSchedule": _notional(notional, terms.currency),
-                             "fixedRateSchedule": {"initialValue": rate},
-                             "dayCountFraction": terms.fixed_day_count}
-    return _stream(payer, receiver, _period_dates("fixedPeriods", terms, shape, periods),
-                   _payment_dates("fixedPeriods", terms, terms.fixed_frequency, periods), {}, calculation)
+    calculation: Elements = {
+        "notionalSchedule": _notional(notional, terms.currency),
+        "fixedRateSchedule": {"initialValue": rate},
+        "dayCountFraction": terms.fixed_day_count,
+    }
+    return _stream(
+        payer,
+        receiver,
+        _period_dates("fixedPeriods", terms, shape, periods),
+        _payment_dates("fixedPeriods", terms, terms.fixed_frequency, periods),
+        {},
+        calculation,
+    )
 
 
-def _floating_stream(terms: Convention, shape: Shape, notional: str, spread: str, payer: str, receiver: str,
-                     payment_frequency: Optional[str], compounding: str, overnight: Overnight,
-                     in_terms: bool) -> Elements:
+def _floating_stream(
+    terms: Convention,
+    shape: Shape,
+    notional: str,
+    spread: str,
+    payer: str,
+    receiver: str,
+    payment_frequency: Optional[str],
+    compounding: str,
+    overnight: Overnight,
+    in_terms: bool,
+) -> Elements:
     periods = _period_frequency(terms.floating_frequency, shape)
     length = {member: periods[member] for member in ("periodMultiplier", "period")}
-    resets, own = (_overnight_elements(terms, overnight, in_terms, length) if terms.overnight
-                   else _term_elements(terms, length, "resets"))
+    resets, own = (
+        _overnight_elements(terms, overnight, in_terms, length)
+        if terms.overnight
+        else _term_elements(terms, length, "resets")
+    )
     resets = {"@id": "resets", "calculationPeriodDatesReference": {"@href": "floatingPeriods"}, **resets}
-    calculation: Elements = {"notionalSchedule": _notional(notional, terms.currency),
-                             "floatingRateCalculation": _floating(terms, spread, own),
-                             "dayCountFraction": terms.floating_day_count,
-                             "compoundingMethod": compounding}
-    return _stream(payer, receiver, _period_dates("floatingPeriods", terms, shape, periods),
-                   _payment_dates("floatingPeriods", terms, payment_frequency or terms.floating_frequency, periods),
-                   resets, calculation)
+    calculation: Elements = {
+        "notionalSchedule": _notional(notional, terms.currency),
+        "floatingRateCalculation": _floating(terms, spread, own),
+        "dayCountFraction": terms.floating_day_count,
+        "compoundingMethod": compounding,
+    }
+    return _stream(
+        payer,
+        receiver,
+        _period_dates("floatingPeriods", terms, shape, periods),
+        _payment_dates("floatingPeriods", terms, payment_frequency or terms.floating_frequency, periods),
+        resets,
+        calculation,
+    )

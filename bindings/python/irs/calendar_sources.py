@@ -92,7 +92,9 @@ class HolidaysSource:
         known = _known(code, "holidays")
         module = _module("holidays", "python3-holidays")
         version = str(module.__version__)
-        options: Dict[str, object] = {"include_sundays": False} if known.option == "no Sundays" else {"prov": known.option}
+        options: Dict[str, object] = (
+            {"include_sundays": False} if known.option == "no Sundays" else {"prov": known.option}
+        )
         try:
             self._listed = getattr(module, known.calendar)(**(options if known.option else {}))
         except (AttributeError, TypeError) as why:
@@ -122,8 +124,9 @@ class ListedSource:
 
     def off(self, first: datetime.date, last: datetime.date) -> FrozenSet[datetime.date]:
         """The listed days, and each day of the weekend."""
-        return frozenset(day for day in days_between(first, last)
-                         if day.weekday() in self._weekend or day in self._days)
+        return frozenset(
+            day for day in days_between(first, last) if day.weekday() in self._weekend or day in self._days
+        )
 
 
 def spans_of(days: FrozenSet[datetime.date]) -> Tuple[Span, ...]:

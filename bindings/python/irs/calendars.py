@@ -66,8 +66,10 @@ def section(calendar: Calendar) -> str:
     weekend = weekend_of(calendar)
     listed = sorted(day for day in calendar.off if WEEKDAYS[day.weekday()] not in weekend)
     if len(listed) > MOST_HOLIDAYS:
-        raise BadInput(f"{calendar.centre} has {len(listed)} days to list from {calendar.first} to {calendar.last};"
-                       f" a section has at most {MOST_HOLIDAYS}: ask for fewer years")
+        raise BadInput(
+            f"{calendar.centre} has {len(listed)} days to list from {calendar.first} to {calendar.last};"
+            f" a section has at most {MOST_HOLIDAYS}: ask for fewer years"
+        )
     lines = [f"# {one_line(remark)}" for remark in calendar.remarks]
     lines += [f"center {calendar.centre}", f"cover {calendar.first} {calendar.last}", " ".join(("weekend", *weekend))]
     lines += [day.isoformat() for day in listed]
@@ -78,10 +80,13 @@ def calendar_of(code: str, source: Source, first: int, last: int) -> Calendar:
     """The days off of a centre in the years from the first to the last, all of which the source knows."""
     start, end = datetime.date(first, 1, 1), datetime.date(last, 12, 31)
     name = f" ({CENTRES[code].name})" if code in CENTRES else ""
-    made = [f"{code}{name} from {source.name}, made {datetime.date.today()}; not proved",
-            f"the source knows {years_text(source)}; days decreed after its release aren't in it"]
-    return Calendar(code, start, end, source.off(start, end),
-                    (*made, *(f"known doubt: {doubt}" for doubt in source.doubts)))
+    made = [
+        f"{code}{name} from {source.name}, made {datetime.date.today()}; not proved",
+        f"the source knows {years_text(source)}; days decreed after its release aren't in it",
+    ]
+    return Calendar(
+        code, start, end, source.off(start, end), (*made, *(f"known doubt: {doubt}" for doubt in source.doubts))
+    )
 
 
 def made(codes: Sequence[str], first: int, last: int, choice: Choice, shorten: bool) -> List[Calendar]:
@@ -123,8 +128,10 @@ def read_calendars(path: Path) -> List[Calendar]:
             found.append((centre, first, last, set(words[1:]), set()))
         elif words:
             found[-1][4].add(datetime.date.fromisoformat(words[0]))
-    return [Calendar(name, start, end, frozenset(days | _weekly(start, end, weekend)))
-            for name, start, end, weekend, days in found]
+    return [
+        Calendar(name, start, end, frozenset(days | _weekly(start, end, weekend)))
+        for name, start, end, weekend, days in found
+    ]
 
 
 def _weekly(first: datetime.date, last: datetime.date, weekend: Set[str]) -> Set[datetime.date]:
@@ -147,6 +154,7 @@ def corrected(calendar: Calendar, off: Sequence[datetime.date], on: Sequence[dat
 
 # What a document needs.
 
+
 def needed(paths: Sequence[Path], choice: Choice, shorten: bool) -> List[Calendar]:
     """The calendars of every centre that the documents name, for the whole years of their terms.
 
@@ -160,7 +168,9 @@ def needed(paths: Sequence[Path], choice: Choice, shorten: bool) -> List[Calenda
     if not codes:
         raise BadInput(f"no business centre is named in {', '.join(str(path) for path in paths)}")
     for wider in range(WIDER + 1):
-        calendars = made(codes, max(FIRST_YEAR, min(years) - wider), min(LAST_YEAR, max(years) + wider), choice, shorten)
+        calendars = made(
+            codes, max(FIRST_YEAR, min(years) - wider), min(LAST_YEAR, max(years) + wider), choice, shorten
+        )
         try:
             _check_all(documents, text_of(calendars), wider)
             return calendars
@@ -184,6 +194,7 @@ def _check_all(documents: Sequence[Document], text: str, wider: int) -> None:
 
 
 # Two calendars side by side.
+
 
 def differences(one: Calendar, other: Calendar) -> Iterator[Tuple[datetime.date, bool]]:
     """Each day on which two calendars differ, in their common cover, and whether it is off in the first."""
@@ -209,8 +220,10 @@ def _both_sides(words: Sequence[str], first: Optional[int], last: Optional[int])
     covers = [calendar for calendars in files.values() for calendar in calendars]
     if (first is None or last is None) and not covers:
         raise BadInput("two sources need --from and --to")
-    years = (min(calendar.first.year for calendar in covers) if first is None else first,
-             max(calendar.last.year for calendar in covers) if last is None else last)
+    years = (
+        min(calendar.first.year for calendar in covers) if first is None else first,
+        max(calendar.last.year for calendar in covers) if last is None else last,
+    )
     return [files[word] if word in files else _of_source(word, years) for word in words]
 
 
@@ -230,7 +243,10 @@ def compared(words: Sequence[str], first: Optional[int] = None, last: Optional[i
         found = list(differences(one, other))
         count += len(found)
         lines.append(f"# {one.centre} from {start} to {end}: {len(found)} days differ")
-        lines += [f"{one.centre} {day} {WEEKDAYS[day.weekday()]} is off in {words[0 if mine else 1]} alone" for day, mine in found]
+        lines += [
+            f"{one.centre} {day} {WEEKDAYS[day.weekday()]} is off in {words[0 if mine else 1]} alone"
+            for day, mine in found
+        ]
     return "\n".join(lines) + "\n", count
 
 
@@ -246,6 +262,7 @@ def listing() -> str:
 
 
 # The command.
+
 
 def _day(text: str) -> datetime.date:
     try:
@@ -270,10 +287,16 @@ def parser() -> Parser:
     words.add_argument("--source", help="quantlib, holidays, ics:FILE or csv:FILE")
     words.add_argument("--column", help="the column of a CSV that has the dates (the first)")
     words.add_argument("--date-form", choices=sorted(DATE_FORMS), default="YYYY-MM-DD", help="how a CSV writes dates")
-    words.add_argument("--delimiter", type=delimiter_of, default=",", help="what separates the fields of a CSV, or `tab` (,)")
+    words.add_argument(
+        "--delimiter", type=delimiter_of, default=",", help="what separates the fields of a CSV, or `tab` (,)"
+    )
     words.add_argument("--weekend", type=_weekend, default=("SAT", "SUN"), help="of an ICS or a CSV ('SAT SUN')")
-    words.add_argument("--off", action="append", type=_day, default=[], metavar="DATE", help="a day off that the source lacks")
-    words.add_argument("--on", action="append", type=_day, default=[], metavar="DATE", help="a business day that the source has off")
+    words.add_argument(
+        "--off", action="append", type=_day, default=[], metavar="DATE", help="a day off that the source lacks"
+    )
+    words.add_argument(
+        "--on", action="append", type=_day, default=[], metavar="DATE", help="a business day that the source has off"
+    )
     words.add_argument("--shorten", action="store_true", help="leave out years that the source doesn't know")
     words.add_argument("-o", "--output", type=Path, metavar="FILE", help="where the file goes (standard output)")
     words.add_argument("--needed", nargs="+", type=Path, metavar="DOC", help="the centres and years of documents")

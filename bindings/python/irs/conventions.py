@@ -40,20 +40,45 @@ class Convention:
         return self.index_tenor is None
 
 
-#: The table. Columns: currency, index, its tenor; frequency and day count of the fixed stream, and of the
-#: floating one; payment days, fixing days; centres of periods and payments; centres of fixings.
-CONVENTIONS: Dict[str, Convention] = {
-    "usd-sofr": Convention("USD", "USD-SOFR", None, "1Y", "ACT/360", "1Y", "ACT/360", 2, 0, ("USNY", "USGS"), ("USGS",)),
-    "eur-euribor": Convention("EUR", "EUR-EURIBOR", "6M", "1Y", "30/360", "6M", "ACT/360", 0, -2, ("EUTA",), ("EUTA",)),
-    "eur-estr": Convention("EUR", "EUR-EuroSTR", None, "1Y", "ACT/360", "1Y", "ACT/360", 1, 0, ("EUTA",), ("EUTA",)),
-    "gbp-sonia": Convention("GBP", "GBP-SONIA", None, "1Y", "ACT/365.FIXED", "1Y", "ACT/365.FIXED", 0, 0, ("GBLO",), ("GBLO",)),
-    "jpy-tona": Convention("JPY", "JPY-TONA", None, "1Y", "ACT/365.FIXED", "1Y", "ACT/365.FIXED", 2, 0, ("JPTO",), ("JPTO",)),
-    "chf-saron": Convention("CHF", "CHF-SARON", None, "1Y", "ACT/360", "1Y", "ACT/360", 2, 0, ("CHZU",), ("CHZU",)),
-}
+#: The table: the currency is the first part of the index; `1D` is an overnight rate; `pay` and `fix` are days.
+TABLE = """\
+kind         index        tenor  fixed             floating          pay  fix  centres    fixings
+usd-sofr     USD-SOFR     1D     1Y ACT/360        1Y ACT/360        2    0    USNY,USGS  USGS
+eur-euribor  EUR-EURIBOR  6M     1Y 30/360         6M ACT/360        0    -2   EUTA       EUTA
+eur-estr     EUR-EuroSTR  1D     1Y ACT/360        1Y ACT/360        1    0    EUTA       EUTA
+gbp-sonia    GBP-SONIA    1D     1Y ACT/365.FIXED  1Y ACT/365.FIXED  0    0    GBLO       GBLO
+jpy-tona     JPY-TONA     1D     1Y ACT/365.FIXED  1Y ACT/365.FIXED  2    0    JPTO       JPTO
+chf-saron    CHF-SARON    1D     1Y ACT/360        1Y ACT/360        2    0    CHZU       CHZU
+"""
+
+
+def _row(line: str) -> Tuple[str, Convention]:
+    (kind, index, tenor, fixed, fixed_count, floating, floating_count, pay, fix, centres, fixings) = line.split()
+    return kind, Convention(
+        currency=index[:3],
+        index=index,
+        index_tenor=None if tenor == "1D" else tenor,
+        fixed_frequency=fixed,
+        fixed_day_count=fixed_count,
+        floating_frequency=floating,
+        floating_day_count=floating_count,
+        payment_days=int(pay),
+        fixing_days=int(fix),
+        centres=tuple(centres.split(",")),
+        fixing_centres=tuple(fixings.split(",")),
+    )
+
+
+#: The rows of the table by kind.
+CONVENTIONS: Dict[str, Convention] = dict(_row(line) for line in TABLE.splitlines()[1:])
 
 #: The kind of swap that a currency alone means.
 BY_CURRENCY: Mapping[str, str] = {
-    "USD": "usd-sofr", "EUR": "eur-euribor", "GBP": "gbp-sonia", "JPY": "jpy-tona", "CHF": "chf-saron",
+    "USD": "usd-sofr",
+    "EUR": "eur-euribor",
+    "GBP": "gbp-sonia",
+    "JPY": "jpy-tona",
+    "CHF": "chf-saron",
 }
 
 #: What a new document has where nothing is said: an example's economics, and no market's.
@@ -62,14 +87,3 @@ EXAMPLE_NOTIONAL: Mapping[str, str] = {"JPY": "1000000000"}
 EXAMPLE_NOTIONAL_ELSE = "10000000"
 EXAMPLE_RATE = "0.03"
 EXAMPLE_PARTIES = ("PARTY-A", "PARTY-B")
-
-
-def table() -> str:
-    """The table as text, a line a kind of swap."""
-    lines = ["kind         index         tenor  fixed              floating           pay  fix  centres      fixing"]
-    for name, row in CONVENTIONS.items():
-        fixed = f"{row.fixed_frequency} {row.fixed_day_count}"
-        floating = f"{row.floating_frequency} {row.floating_day_count}"
-        lines.append(f"{name:12} {row.index:13} {row.index_tenor or '1D':6} {fixed:18} {floating:18}"
-                     f" {row.payment_days:3} {row.fixing_days:4}  {' '.join(row.centres):12} {' '.join(row.fixing_centres)}")
-    return "\n".join(lines) + "\n"

@@ -37,7 +37,7 @@ def delimiter_of(text: str) -> str:
     """What separates fields: one character that isn't part of a number or a date, or the word ``tab``."""
     if text == "tab":
         return "\t"
-    if len(text) != 1 or text.isalnum() or text in "\"\r\n+-./":
+    if len(text) != 1 or text.isalnum() or text in '"\r\n+-./':
         raise argparse.ArgumentTypeError(f"'{text}' can't separate fields")
     return text
 
@@ -63,7 +63,9 @@ def rows_of(path: Path, delimiter: str = ",", header_line: int = 1) -> List[Row]
             if header is None:
                 header = _header(path, fields)
             elif len(fields) != len(header):
-                raise BadInput(f"{path} line {above + reader.line_num} has {len(fields)} fields, the header {len(header)}")
+                raise BadInput(
+                    f"{path} line {above + reader.line_num} has {len(fields)} fields, the header {len(header)}"
+                )
             else:
                 rows.append(Row(above + reader.line_num, dict(zip(header, fields))))
     except csv.Error as why:

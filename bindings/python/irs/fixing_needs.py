@@ -12,7 +12,7 @@ from decimal import Decimal
 from typing import Any, Collection, Iterator, List, Optional, Sequence, Set, Tuple
 
 from .calls import overnight, schedule
-from .carrier import Document, child_of, leaf_text, read_document, streams_of
+from .carrier import Document, child_of, leaf_text, streams_of
 from .errors import Error, Refused
 from .rows import Missing, Reset
 from .tools import BadInput
@@ -65,8 +65,11 @@ def reset_needs(document: Document, calendars: Sequence[bytes], without: Collect
 
     `Refused` or `BadFile` where the engine gives no schedule.
     """
-    resets = [reset for reset in schedule(document.content, None, calendars).resets()
-              if reset.observed is None and reset.stream not in without]
+    resets = [
+        reset
+        for reset in schedule(document.content, None, calendars).resets()
+        if reset.observed is None and reset.stream not in without
+    ]
     streams = streams_of(document.value)
     rates = list(dict.fromkeys(rate for stream in streams for rate in rates_of(stream)))
     known = schedule(document.content, _probe(resets, streams, rates), calendars).resets()
@@ -80,8 +83,9 @@ def reset_needs(document: Document, calendars: Sequence[bytes], without: Collect
     return needs
 
 
-def overnight_needs(document: Document, stream: int, calendars: Sequence[bytes],
-                    until: Optional[datetime.date]) -> Set[Key]:
+def overnight_needs(
+    document: Document, stream: int, calendars: Sequence[bytes], until: Optional[datetime.date]
+) -> Set[Key]:
     """The daily rates that `overnight` asks for in a stream, up to a day.
 
     A call of the engine gives the first missing day of each period, so there are as many calls as a period has
@@ -111,8 +115,12 @@ def daily_streams(document: Document, indexes: Collection[str]) -> List[int]:
     return found
 
 
-def needs_of(document: Document, calendars: Sequence[bytes], streams: Collection[int] = (),
-             until: Optional[datetime.date] = None) -> Set[Key]:
+def needs_of(
+    document: Document,
+    calendars: Sequence[bytes],
+    streams: Collection[int] = (),
+    until: Optional[datetime.date] = None,
+) -> Set[Key]:
     """The fixings that a document needs: daily rates for these streams, and what `schedule` asks for the others."""
     try:
         needs = reset_needs(document, calendars, streams)

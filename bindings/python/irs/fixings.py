@@ -72,7 +72,9 @@ def rate_of(path: Path, row: Row, columns: Columns) -> Decimal:
     value = Decimal(number).scaleb(-2 if columns.percent else 0)
     if abs(value) > 1 and not columns.any_size:
         meant = "" if columns.percent else ": is it in percent?"
-        raise BadInput(f"{path} line {row.line}: {text} is above 100 percent{meant} (--yes-above-100-percent takes it)")
+        raise BadInput(
+            f"{path} line {row.line}: {text} is above 100 percent{meant} (--yes-above-100-percent takes it)"
+        )
     exponent = value.normalize().as_tuple().exponent
     if isinstance(exponent, int) and -exponent > PLACES:
         raise BadInput(f"{path} line {row.line}: {text} has more than {PLACES} decimals as a decimal rate")
@@ -89,8 +91,10 @@ def fixings_of(paths: Sequence[Path], columns: Columns) -> Dict[Key, Decimal]:
         for row in rows:
             key, rate = _key_of(path, row, columns), rate_of(path, row, columns)
             if found.setdefault(key, rate) != rate:
-                raise BadInput(f"{path} line {row.line}: {key.date} of {key.index} {key.tenor} has two values,"
-                               f" {found[key]} and {rate}")
+                raise BadInput(
+                    f"{path} line {row.line}: {key.date} of {key.index} {key.tenor} has two values,"
+                    f" {found[key]} and {rate}"
+                )
     return found
 
 
@@ -129,8 +133,13 @@ def keys_of(path: Path) -> List[Key]:
     return [Key(datetime.date.fromisoformat(day), tenor, index) for day, _, tenor, index in fields]
 
 
-def missing(document: Path, fixings: Optional[Path], calendars: Sequence[Path], streams: Sequence[int],
-            until: Optional[datetime.date]) -> List[Key]:
+def missing(
+    document: Path,
+    fixings: Optional[Path],
+    calendars: Sequence[Path],
+    streams: Sequence[int],
+    until: Optional[datetime.date],
+) -> List[Key]:
     """The fixings that a document needs and the file lacks, up to a day, by date. Of the streams the daily
     rates are meant that `overnight` compounds. `BadInput` where the engine gives no answer."""
     needs = needs_of(read_document(document), [read_bytes(path) for path in calendars], streams, until)
@@ -150,6 +159,7 @@ def unused(fixings: Path, documents: Sequence[Path], calendars: Sequence[Path]) 
 
 
 # The command.
+
 
 def _until(text: str) -> datetime.date:
     try:
@@ -180,19 +190,40 @@ def parser() -> Parser:
     words.add_argument("--rate-column", default="rate", metavar="COLUMN", help="the column of the rates (rate)")
     words.add_argument("--date-form", choices=sorted(DATE_FORMS), default="YYYY-MM-DD", help="how dates are written")
     words.add_argument("--delimiter", type=delimiter_of, default=",", help="what separates the fields, or `tab` (,)")
-    words.add_argument("--header-line", type=int, default=1, metavar="LINE", help="the line with the columns' names (1)")
+    words.add_argument(
+        "--header-line", type=int, default=1, metavar="LINE", help="the line with the columns' names (1)"
+    )
     words.add_argument("--decimal-comma", action="store_true", help="rates are written as 5,31")
-    words.add_argument("--where", action="append", type=_pair, default=[], metavar="COLUMN=TEXT",
-                       help="only the rows with this text in this column")
-    words.add_argument("--skip", action="append", default=[], metavar="TEXT", help="pass over rows with this text as rate")
+    words.add_argument(
+        "--where",
+        action="append",
+        type=_pair,
+        default=[],
+        metavar="COLUMN=TEXT",
+        help="only the rows with this text in this column",
+    )
+    words.add_argument(
+        "--skip", action="append", default=[], metavar="TEXT", help="pass over rows with this text as rate"
+    )
     words.add_argument("--yes-above-100-percent", action="store_true", help="take rates above 100 percent")
     words.add_argument("-o", "--output", type=Path, metavar="FILE", help="where the file goes (standard output)")
-    words.add_argument("--missing", type=Path, metavar="DOC", help="print what this document needs and --fixings lacks")
+    words.add_argument(
+        "--missing", type=Path, metavar="DOC", help="print what this document needs and --fixings lacks"
+    )
     words.add_argument("--fixings", type=Path, metavar="FILE", help="a file of fixings, for --missing")
-    words.add_argument("--overnight", action="append", type=int, choices=range(1, 9), default=[], metavar="STREAM",
-                       help="the daily rates of this stream are meant, for --missing")
+    words.add_argument(
+        "--overnight",
+        action="append",
+        type=int,
+        choices=range(1, 9),
+        default=[],
+        metavar="STREAM",
+        help="the daily rates of this stream are meant, for --missing",
+    )
     words.add_argument("--until", type=_until, metavar="DATE", help="only fixings up to this day, or `today`")
-    words.add_argument("--unused", type=Path, metavar="FILE", help="print the lines of this file that no document needs")
+    words.add_argument(
+        "--unused", type=Path, metavar="FILE", help="print the lines of this file that no document needs"
+    )
     words.add_argument("--documents", nargs="+", type=Path, default=[], metavar="DOC", help="documents, for --unused")
     words.add_argument("--calendars", nargs="+", type=Path, default=[], metavar="CAL", help="calendar files")
     return words
@@ -203,9 +234,22 @@ def _columns(asked: argparse.Namespace) -> Columns:
         raise BadInput("say whether the rates are in percent (--percent) or decimals (--decimal)")
     if asked.index is None and asked.index_column is None:
         raise BadInput("say which index it is: --index NAME or --index-column COLUMN")
-    return Columns(asked.percent, asked.date_column, asked.rate_column, asked.date_form, asked.index, asked.tenor,
-                   asked.index_column, asked.tenor_column, asked.delimiter, asked.decimal_comma,
-                   asked.header_line, tuple(asked.where), tuple(asked.skip), asked.yes_above_100_percent)
+    return Columns(
+        asked.percent,
+        asked.date_column,
+        asked.rate_column,
+        asked.date_form,
+        asked.index,
+        asked.tenor,
+        asked.index_column,
+        asked.tenor_column,
+        asked.delimiter,
+        asked.decimal_comma,
+        asked.header_line,
+        tuple(asked.where),
+        tuple(asked.skip),
+        asked.yes_above_100_percent,
+    )
 
 
 def _listed(keys: Sequence[Key], output: Optional[Path]) -> int:
@@ -216,11 +260,15 @@ def _listed(keys: Sequence[Key], output: Optional[Path]) -> int:
 def _work(arguments: Optional[List[str]]) -> int:
     asked = parser().parse_args(arguments)
     if [bool(asked.csv), asked.missing is not None, asked.unused is not None].count(True) != 1:
-        raise BadInput("give one of CSV files, --missing DOC and --unused FILE; `irs-fixings --help` lists the options")
+        raise BadInput(
+            "give one of CSV files, --missing DOC and --unused FILE; `irs-fixings --help` lists the options"
+        )
     if len(asked.calendars) > MOST_CALENDARS:
         raise BadInput(f"there are {len(asked.calendars)} calendar files, and the engine takes {MOST_CALENDARS}")
     if asked.missing is not None:
-        return _listed(missing(asked.missing, asked.fixings, asked.calendars, asked.overnight, asked.until), asked.output)
+        return _listed(
+            missing(asked.missing, asked.fixings, asked.calendars, asked.overnight, asked.until), asked.output
+        )
     if asked.unused is not None:
         if not asked.documents:
             raise BadInput("--unused needs --documents DOC..")

@@ -19,7 +19,7 @@ from typing import Any, Dict, List, Mapping, Optional, Tuple
 from .builder import Overnight, swap
 from .calls import check
 from .carrier import texts_of
-from .conventions import table
+from .conventions import TABLE
 from .errors import Refused
 from .tools import BadInput, Parser, ended, write_whole
 
@@ -125,7 +125,7 @@ def check_without_holidays(document: Mapping[str, Any]) -> None:
 def _work(arguments: Optional[List[str]]) -> int:
     asked = parser().parse_args(arguments)
     if asked.list:
-        write_whole(table(), asked.output)
+        write_whole(TABLE, asked.output)
         return 0
     document = document_of(asked)
     check_without_holidays(document)

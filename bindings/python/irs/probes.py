@@ -33,16 +33,27 @@ def frequency_of(tenor: str) -> Dict[str, str]:
 def plain_stream(start: str, end: str, frequency: Mapping[str, str], roll: str, **more: Any) -> Dict[str, Any]:
     """The document of one fixed stream without business days; `more` are further members of
     `calculationPeriodDates`."""
-    return {"swap": {"swapStream": {
-        "calculationPeriodDates": {
-            "effectiveDate": {"unadjustedDate": start, "dateAdjustments": _NONE},
-            "terminationDate": {"unadjustedDate": end, "dateAdjustments": _NONE},
-            "calculationPeriodDatesAdjustments": _NONE,
-            "calculationPeriodFrequency": {**frequency, "rollConvention": roll}, **more},
-        "paymentDates": {"paymentFrequency": dict(frequency), "payRelativeTo": "CalculationPeriodEndDate"},
-        "calculationPeriodAmount": {"calculation": {
-            "notionalSchedule": {"notionalStepSchedule": {"initialValue": "1", "currency": "USD"}},
-            "fixedRateSchedule": {"initialValue": "0"}, "dayCountFraction": "1/1"}}}}}
+    return {
+        "swap": {
+            "swapStream": {
+                "calculationPeriodDates": {
+                    "effectiveDate": {"unadjustedDate": start, "dateAdjustments": _NONE},
+                    "terminationDate": {"unadjustedDate": end, "dateAdjustments": _NONE},
+                    "calculationPeriodDatesAdjustments": _NONE,
+                    "calculationPeriodFrequency": {**frequency, "rollConvention": roll},
+                    **more,
+                },
+                "paymentDates": {"paymentFrequency": dict(frequency), "payRelativeTo": "CalculationPeriodEndDate"},
+                "calculationPeriodAmount": {
+                    "calculation": {
+                        "notionalSchedule": {"notionalStepSchedule": {"initialValue": "1", "currency": "USD"}},
+                        "fixedRateSchedule": {"initialValue": "0"},
+                        "dayCountFraction": "1/1",
+                    }
+                },
+            }
+        }
+    }
 
 
 _SOUND = plain_stream("2024-01-01", "2025-01-01", frequency_of("1T"), "NONE")

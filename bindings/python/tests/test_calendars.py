@@ -1,5 +1,6 @@
 """`irs-calendar`: each day of a generated calendar against its source, and input that it can't use."""
 import datetime
+import json
 import os
 import unittest
 
@@ -9,6 +10,7 @@ import irs
 from irs import calendars
 from irs.calendar_sources import spans_of
 from irs.centres import CENTRES
+from irs.probes import frequency_of, plain_stream
 
 try:
     import QuantLib as ql
@@ -24,27 +26,58 @@ RULES = ((2000, 2060),)
 
 #: The spans of QuantLib's lists, as its source has them.
 LISTS = {
-    "CNBE": ((2005, 2023),), "HKHK": ((2004, 2020),), "IDJA": ((2005, 2014),), "ILTA": ((2013, 2044),),
-    "INMU": ((2005, 2014), (2019, 2020)), "KRSE": ((2004, 2032),), "SARI": ((2002, 2022),),
-    "SGSI": ((2004, 2010), (2012, 2014)), "THBA": ((2000, 2001), (2005, 2018)), "TRIS": ((2004, 2034),),
-    "TWTA": ((2002, 2019),), "USGS": ((2002, 2060),),
+    "CNBE": ((2005, 2023),),
+    "HKHK": ((2004, 2020),),
+    "IDJA": ((2005, 2014),),
+    "ILTA": ((2013, 2044),),
+    "INMU": ((2005, 2014), (2019, 2020)),
+    "KRSE": ((2004, 2032),),
+    "SARI": ((2002, 2022),),
+    "SGSI": ((2004, 2010), (2012, 2014)),
+    "THBA": ((2000, 2001), (2005, 2018)),
+    "TRIS": ((2004, 2034),),
+    "TWTA": ((2002, 2019),),
+    "USGS": ((2002, 2060),),
 }
 
 
 def of_quantlib():
     """QuantLib's calendars by centre, named here once more, so that a wrong name in the table is found."""
     return {
-        "AUSY": ql.Australia(), "BRSP": ql.Brazil(ql.Brazil.Settlement), "CATO": ql.Canada(ql.Canada.Settlement),
-        "CHZU": ql.Switzerland(), "CNBE": ql.China(ql.China.IB), "CZPR": ql.CzechRepublic(),
-        "DEFR": ql.Germany(ql.Germany.Settlement), "DKCO": ql.Denmark(), "EUTA": ql.TARGET(),
-        "GBLO": ql.UnitedKingdom(ql.UnitedKingdom.Settlement), "HKHK": ql.HongKong(), "HUBU": ql.Hungary(),
-        "IDJA": ql.Indonesia(), "ILTA": ql.Israel(), "INMU": ql.India(), "ISRE": ql.Iceland(),
-        "ITMI": ql.Italy(ql.Italy.Settlement), "JPTO": ql.Japan(), "KRSE": ql.SouthKorea(ql.SouthKorea.Settlement),
-        "MXMC": ql.Mexico(), "NOOS": ql.Norway(), "NZWE": ql.NewZealand(), "PLWA": ql.Poland(), "ROBU": ql.Romania(),
-        "SARI": ql.SaudiArabia(), "SEST": ql.Sweden(), "SGSI": ql.Singapore(), "SKBR": ql.Slovakia(),
-        "THBA": ql.Thailand(), "TRIS": ql.Turkey(), "TWTA": ql.Taiwan(),
+        "AUSY": ql.Australia(),
+        "BRSP": ql.Brazil(ql.Brazil.Settlement),
+        "CATO": ql.Canada(ql.Canada.Settlement),
+        "CHZU": ql.Switzerland(),
+        "CNBE": ql.China(ql.China.IB),
+        "CZPR": ql.CzechRepublic(),
+        "DEFR": ql.Germany(ql.Germany.Settlement),
+        "DKCO": ql.Denmark(),
+        "EUTA": ql.TARGET(),
+        "GBLO": ql.UnitedKingdom(ql.UnitedKingdom.Settlement),
+        "HKHK": ql.HongKong(),
+        "HUBU": ql.Hungary(),
+        "IDJA": ql.Indonesia(),
+        "ILTA": ql.Israel(),
+        "INMU": ql.India(),
+        "ISRE": ql.Iceland(),
+        "ITMI": ql.Italy(ql.Italy.Settlement),
+        "JPTO": ql.Japan(),
+        "KRSE": ql.SouthKorea(ql.SouthKorea.Settlement),
+        "MXMC": ql.Mexico(),
+        "NOOS": ql.Norway(),
+        "NZWE": ql.NewZealand(),
+        "PLWA": ql.Poland(),
+        "ROBU": ql.Romania(),
+        "SARI": ql.SaudiArabia(),
+        "SEST": ql.Sweden(),
+        "SGSI": ql.Singapore(),
+        "SKBR": ql.Slovakia(),
+        "THBA": ql.Thailand(),
+        "TRIS": ql.Turkey(),
+        "TWTA": ql.Taiwan(),
         "USGS": ql.UnitedStates(ql.UnitedStates.GovernmentBond),
-        "USNY": ql.UnitedStates(ql.UnitedStates.FederalReserve), "ZAJO": ql.SouthAfrica(),
+        "USNY": ql.UnitedStates(ql.UnitedStates.FederalReserve),
+        "ZAJO": ql.SouthAfrica(),
     }
 
 
@@ -58,13 +91,24 @@ def daily_stream(centre, first, last):
             "effectiveDate": {"unadjustedDate": str(before), "dateAdjustments": none},
             "terminationDate": {"unadjustedDate": str(last), "dateAdjustments": none},
             "calculationPeriodDatesAdjustments": none,
-            "calculationPeriodFrequency": {**daily, "rollConvention": "NONE"}},
-        "paymentDates": {"paymentFrequency": daily, "payRelativeTo": "CalculationPeriodEndDate",
-                         "paymentDatesAdjustments": {"businessDayConvention": "FOLLOWING",
-                                                     "businessCenters": {"businessCenter": centre}}},
-        "calculationPeriodAmount": {"calculation": {
-            "notionalSchedule": {"notionalStepSchedule": {"initialValue": "1", "currency": "USD"}},
-            "fixedRateSchedule": {"initialValue": "0"}, "dayCountFraction": "1/1"}}}
+            "calculationPeriodFrequency": {**daily, "rollConvention": "NONE"},
+        },
+        "paymentDates": {
+            "paymentFrequency": daily,
+            "payRelativeTo": "CalculationPeriodEndDate",
+            "paymentDatesAdjustments": {
+                "businessDayConvention": "FOLLOWING",
+                "businessCenters": {"businessCenter": centre},
+            },
+        },
+        "calculationPeriodAmount": {
+            "calculation": {
+                "notionalSchedule": {"notionalStepSchedule": {"initialValue": "1", "currency": "USD"}},
+                "fixedRateSchedule": {"initialValue": "0"},
+                "dayCountFraction": "1/1",
+            }
+        },
+    }
 
 
 def following(centre, text, first, last):
@@ -85,7 +129,9 @@ class AgainstTheirSources(InAFolder):
     def check(self, centre, source, spans, is_good, good_after):
         count = 0
         for start, end in spans:
-            ended = ran(calendars.main, centre, "--from", str(start), "--to", str(end), "--source", source, "-o", "made.cal")
+            ended = ran(
+                calendars.main, centre, "--from", str(start), "--to", str(end), "--source", source, "-o", "made.cal"
+            )
             self.assertEqual(ended.status, 0, ended)
             text = (self.folder / "made.cal").read_text()
             self.assertIn(f"\ncover {start}-01-01 {end}-12-31\n", text)
@@ -105,6 +151,7 @@ class AgainstTheirSources(InAFolder):
         offset = datetime.date(1901, 1, 1).toordinal() - 367
         days = 0
         for centre, calendar in of_quantlib().items():
+
             def is_good(day):
                 return calendar.isBusinessDay(ql.Date(day.toordinal() - offset))
 
@@ -119,10 +166,19 @@ class AgainstTheirSources(InAFolder):
 
     @unittest.skipUnless(holidays, "holidays isn't installed")
     def test_holidays(self):
-        for centre, country in {"ATVI": holidays.AT(prov="9"), "BEBR": holidays.BE(), "EUTA": holidays.ECB(),
-                                "FIHE": holidays.FI(), "FRPA": holidays.France(), "GRAT": holidays.GR(),
-                                "IEDU": holidays.IE(), "LULU": holidays.LU(), "NLAM": holidays.NL(),
-                                "PTLI": holidays.PT()}.items():
+        for centre, country in {
+            "ATVI": holidays.AT(prov="9"),
+            "BEBR": holidays.BE(),
+            "EUTA": holidays.ECB(),
+            "FIHE": holidays.FI(),
+            "FRPA": holidays.France(),
+            "GRAT": holidays.GR(),
+            "IEDU": holidays.IE(),
+            "LULU": holidays.LU(),
+            "NLAM": holidays.NL(),
+            "PTLI": holidays.PT(),
+        }.items():
+
             def is_good(day):
                 return day.weekday() < 5 and day not in country
 
@@ -168,9 +224,23 @@ class Guards(InAFolder):
             self.assertLessEqual(2 * weekdays_off(calendar, last + 1), weekdays_off(calendar, last), centre)
 
     def test_a_year_outside_the_source(self):
-        for centre, year in (("CNBE", 2024), ("HKHK", 2021), ("TWTA", 2020), ("SGSI", 2011), ("SGSI", 2015),
-                             ("INMU", 2015), ("INMU", 2021), ("KRSE", 2033), ("TRIS", 2035), ("ILTA", 2045),
-                             ("ILTA", 2012), ("SARI", 2023), ("THBA", 2002), ("THBA", 2019), ("USNY", 2200)):
+        for centre, year in (
+            ("CNBE", 2024),
+            ("HKHK", 2021),
+            ("TWTA", 2020),
+            ("SGSI", 2011),
+            ("SGSI", 2015),
+            ("INMU", 2015),
+            ("INMU", 2021),
+            ("KRSE", 2033),
+            ("TRIS", 2035),
+            ("ILTA", 2045),
+            ("ILTA", 2012),
+            ("SARI", 2023),
+            ("THBA", 2002),
+            ("THBA", 2019),
+            ("USNY", 2200),
+        ):
             ended = ran(calendars.main, centre, "--from", str(year), "--to", str(year), "-o", "made.cal")
             self.assert_refused(ended, f"no source knows {centre} from {year} to {year}", [])
 
@@ -209,25 +279,37 @@ class Guards(InAFolder):
 class Files(InAFolder):
     """Calendars out of ICS and CSV files, and between files."""
 
-    ICS = ("BEGIN:VCALENDAR\r\nVERSION:2.0\r\nBEGIN:VEVENT\r\nDTSTART;VALUE=DATE:20240101\r\nSUMMARY:New Year\r\n"
-           "END:VEVENT\r\nBEGIN:VEVENT\r\nDTSTART;VALUE=DATE:20241225\r\nDTEND;VALUE=DATE:20241227\r\nEND:VEVENT\r\n"
-           "END:VCALENDAR\r\n")
+    ICS = (
+        "BEGIN:VCALENDAR\r\nVERSION:2.0\r\nBEGIN:VEVENT\r\nDTSTART;VALUE=DATE:20240101\r\nSUMMARY:New Year\r\n"
+        "END:VEVENT\r\nBEGIN:VEVENT\r\nDTSTART;VALUE=DATE:20241225\r\nDTEND;VALUE=DATE:20241227\r\nEND:VEVENT\r\n"
+        "END:VCALENDAR\r\n"
+    )
 
     def setUp(self):
         super().setUp()
-        self.write("days.csv", "day,name\n2024-01-01,New Year\n2024-03-29,Good Friday\n2025-01-01,New Year\n2025-04-18,Good Friday\n")
+        self.write(
+            "days.csv",
+            "day,name\n2024-01-01,New Year\n2024-03-29,Good Friday\n2025-01-01,New Year\n2025-04-18,Good Friday\n",
+        )
 
     def test_csv(self):
         ended = ran(calendars.main, "DESK", "--from", "2024", "--to", "2025", "--source", "csv:days.csv")
         self.assertEqual(ended.status, 0, ended)
-        self.assertTrue(ended.out.endswith("center DESK\ncover 2024-01-01 2025-12-31\nweekend SAT SUN\n"
-                                           "2024-01-01\n2024-03-29\n2025-01-01\n2025-04-18\n"), ended.out)
+        self.assertTrue(
+            ended.out.endswith(
+                "center DESK\ncover 2024-01-01 2025-12-31\nweekend SAT SUN\n"
+                "2024-01-01\n2024-03-29\n2025-01-01\n2025-04-18\n"
+            ),
+            ended.out,
+        )
 
     def test_the_last_year_of_a_list_is_cut_where_it_is_thin(self):
         day = datetime.date
         full = [day(year, month, 5) for year in (2023, 2024) for month in range(1, 11)]
         self.assertEqual(spans_of(frozenset(full + [day(2025, 1, 1)])), ((2023, 2024),))
-        self.assertEqual(spans_of(frozenset(full + [day(2026, month, 5) for month in range(1, 11)])), ((2023, 2024), (2026, 2026)))
+        self.assertEqual(
+            spans_of(frozenset(full + [day(2026, month, 5) for month in range(1, 11)])), ((2023, 2024), (2026, 2026))
+        )
 
     def test_ics(self):
         try:
@@ -235,19 +317,48 @@ class Files(InAFolder):
         except ImportError:
             raise unittest.SkipTest("icalendar isn't installed")
         self.write("days.ics", self.ICS)
-        ended = ran(calendars.main, "DESK", "--from", "2024", "--to", "2024", "--source", "ics:days.ics", "--weekend", "FRI SAT")
+        ended = ran(
+            calendars.main,
+            "DESK",
+            "--from",
+            "2024",
+            "--to",
+            "2024",
+            "--source",
+            "ics:days.ics",
+            "--weekend",
+            "FRI SAT",
+        )
         self.assertTrue(ended.out.endswith("weekend FRI SAT\n2024-01-01\n2024-12-25\n2024-12-26\n"), ended)
         self.write("days.ics", self.ICS.replace("DTEND;VALUE=DATE:20241227", "DURATION:P2D"))
-        self.assertEqual(ran(calendars.main, "DESK", "--from", "2024", "--to", "2024", "--source", "ics:days.ics",
-                             "--weekend", "FRI SAT"), ended)
-        for text, says in ((self.ICS.replace("SUMMARY:New Year", "RRULE:FREQ=YEARLY"), "repeats"),
-                           (self.ICS.replace(";VALUE=DATE:20240101", ":20240101T090000Z"), "of whole days"),
-                           (self.ICS.replace("DTEND;VALUE=DATE:20241227", "DTEND;VALUE=DATE:2024122"), "of whole days"),
-                           (self.ICS.replace("DTSTART;VALUE=DATE:20241225", "DTSTART;VALUE=DATE20241225"), "isn't an ICS file"),
-                           (self.ICS.replace("DTEND;VALUE=DATE:20241227", "DURATION:PT36H"), "of whole days"),
-                           ("BEGIN:VCALENDAR\r\nEND:VCALENDAR\r\n", "has no event"), ("day,name\n", "isn't an ICS file")):
+        self.assertEqual(
+            ran(
+                calendars.main,
+                "DESK",
+                "--from",
+                "2024",
+                "--to",
+                "2024",
+                "--source",
+                "ics:days.ics",
+                "--weekend",
+                "FRI SAT",
+            ),
+            ended,
+        )
+        for text, says in (
+            (self.ICS.replace("SUMMARY:New Year", "RRULE:FREQ=YEARLY"), "repeats"),
+            (self.ICS.replace(";VALUE=DATE:20240101", ":20240101T090000Z"), "of whole days"),
+            (self.ICS.replace("DTEND;VALUE=DATE:20241227", "DTEND;VALUE=DATE:2024122"), "of whole days"),
+            (self.ICS.replace("DTSTART;VALUE=DATE:20241225", "DTSTART;VALUE=DATE20241225"), "isn't an ICS file"),
+            (self.ICS.replace("DTEND;VALUE=DATE:20241227", "DURATION:PT36H"), "of whole days"),
+            ("BEGIN:VCALENDAR\r\nEND:VCALENDAR\r\n", "has no event"),
+            ("day,name\n", "isn't an ICS file"),
+        ):
             self.write("days.ics", text)
-            ended = ran(calendars.main, "DESK", "--from", "2024", "--to", "2024", "--source", "ics:days.ics", "-o", "made.cal")
+            ended = ran(
+                calendars.main, "DESK", "--from", "2024", "--to", "2024", "--source", "ics:days.ics", "-o", "made.cal"
+            )
             self.assert_refused(ended, says, ["days.csv", "days.ics"])
 
     def test_differences(self):
@@ -255,20 +366,35 @@ class Files(InAFolder):
         self.write("one.cal", head + "2024-01-01\n2024-05-01\n")
         self.write("other.cal", head.replace("2024-12-31", "2024-06-30") + "2024-01-01\n2024-05-02\n")
         ended = ran(calendars.main, "--diff", "one.cal", "other.cal")
-        self.assertEqual(ended, (1, "# A from 2024-01-01 to 2024-06-30: 2 days differ\n"
-                                    "A 2024-05-01 WED is off in one.cal alone\nA 2024-05-02 THU is off in other.cal alone\n", ""))
+        self.assertEqual(
+            ended,
+            (
+                1,
+                "# A from 2024-01-01 to 2024-06-30: 2 days differ\n"
+                "A 2024-05-01 WED is off in one.cal alone\nA 2024-05-02 THU is off in other.cal alone\n",
+                "",
+            ),
+        )
         self.assertEqual(ran(calendars.main, "--diff", "one.cal", "one.cal").status, 0)
         self.write("other.cal", head.replace("center A", "center B"))
-        self.assert_refused(ran(calendars.main, "--diff", "one.cal", "other.cal"), "no centre in common",
-                            ["days.csv", "one.cal", "other.cal"])
+        self.assert_refused(
+            ran(calendars.main, "--diff", "one.cal", "other.cal"),
+            "no centre in common",
+            ["days.csv", "one.cal", "other.cal"],
+        )
 
     @unittest.skipUnless(ql, "QuantLib isn't installed")
     def test_a_file_against_a_source_in_the_years_of_the_file(self):
-        self.write("vendor.cal", "center EUTA\ncover 2024-01-01 2024-12-31\nweekend SAT SUN\n2024-01-01\n2024-03-29\n2024-04-01\n"
-                                 "2024-05-01\n2024-12-24\n2024-12-25\n2024-12-26\n")
+        self.write(
+            "vendor.cal",
+            "center EUTA\ncover 2024-01-01 2024-12-31\nweekend SAT SUN\n2024-01-01\n2024-03-29\n2024-04-01\n"
+            "2024-05-01\n2024-12-24\n2024-12-25\n2024-12-26\n",
+        )
         ended = ran(calendars.main, "--diff", "vendor.cal", "quantlib:EUTA")
-        self.assertEqual(ended.out, "# EUTA from 2024-01-01 to 2024-12-31: 1 days differ\n"
-                                    "EUTA 2024-12-24 TUE is off in vendor.cal alone\n")
+        self.assertEqual(
+            ended.out,
+            "# EUTA from 2024-01-01 to 2024-12-31: 1 days differ\n" "EUTA 2024-12-24 TUE is off in vendor.cal alone\n",
+        )
 
     @unittest.skipUnless(ql and holidays, "QuantLib or holidays isn't installed")
     def test_sources_that_agree_and_that_do_not(self):
@@ -278,54 +404,73 @@ class Files(InAFolder):
             text = ran(calendars.main, "--diff", *words, "--from", "2000", "--to", "2040").out
             self.assertIn(f"| {centre} | {text.count(words[0])} | {text.count(words[1])} |", page)
         for centre in ("CHZU", "ITMI", "PLWA", "SEST"):
-            ended = ran(calendars.main, "--diff", f"quantlib:{centre}", f"holidays:{centre}", "--from", "2000", "--to", "2040")
+            ended = ran(
+                calendars.main, "--diff", f"quantlib:{centre}", f"holidays:{centre}", "--from", "2000", "--to", "2040"
+            )
             self.assertEqual((ended.status, ended.out.count("\n")), (0, 1), ended.out)
         ended = ran(calendars.main, "--diff", "quantlib:EUTA", "holidays:EUTA", "--from", "2000", "--to", "2040")
         self.assertEqual(ended.out.splitlines()[1:], ["EUTA 2001-12-31 MON is off in quantlib:EUTA alone"])
         ended = ran(calendars.main, "--diff", "quantlib:FIHE", "holidays:FIHE", "--from", "2020", "--to", "2021")
-        self.assertEqual(ended.out.splitlines()[1:], ["FIHE 2021-06-18 FRI is off in quantlib:FIHE alone",
-                                                      "FIHE 2021-06-25 FRI is off in holidays:FIHE alone"])
+        self.assertEqual(
+            ended.out.splitlines()[1:],
+            ["FIHE 2021-06-18 FRI is off in quantlib:FIHE alone", "FIHE 2021-06-25 FRI is off in holidays:FIHE alone"],
+        )
 
     def test_corrections(self):
         words = ["DESK", "--from", "2024", "--to", "2025", "--source", "csv:days.csv"]
         ended = ran(calendars.main, *words, "--off", "2024-05-01", "--on", "2024-03-29")
-        self.assertIn("# corrected by the desk: 2024-05-01 is off\n# corrected by the desk: 2024-03-29 is a business day\n", ended.out)
+        self.assertIn(
+            "# corrected by the desk: 2024-05-01 is off\n# corrected by the desk: 2024-03-29 is a business day\n",
+            ended.out,
+        )
         self.assertTrue(ended.out.endswith("2024-01-01\n2024-05-01\n2025-01-01\n2025-04-18\n"), ended.out)
-        for correction, says in ((("--off", "2024-01-01"), "off in the source"), (("--on", "2024-01-02"), "on in the source"),
-                                 (("--off", "2026-01-01"), "outside the years"), (("--off", "2024-02-30"), "isn't a date")):
+        for correction, says in (
+            (("--off", "2024-01-01"), "off in the source"),
+            (("--on", "2024-01-02"), "on in the source"),
+            (("--off", "2026-01-01"), "outside the years"),
+            (("--off", "2024-02-30"), "isn't a date"),
+        ):
             self.assert_refused(ran(calendars.main, *words, *correction, "-o", "made.cal"), says, ["days.csv"])
+
+
+def terms(end, centre="EUTA"):
+    """A document from 15 January 2024 whose payment is two business days after its end."""
+    document = plain_stream("2024-01-15", end, frequency_of("1T"), "NONE")
+    document["swap"]["swapStream"]["paymentDates"].update(
+        paymentDaysOffset={"periodMultiplier": "2", "period": "D", "dayType": "Business"},
+        paymentDatesAdjustments={
+            "businessDayConvention": "FOLLOWING",
+            "businessCenters": {"businessCenter": [{"@businessCenterScheme": "x", "#text": f" {centre} "}]},
+        },
+    )
+    return json.dumps(document)
 
 
 class Needed(InAFolder):
     """The calendars of a document's centres."""
 
-    TERMS = (
-        '{"swap":{"swapStream":{"calculationPeriodDates":{"effectiveDate":{"unadjustedDate":"2024-01-15","dateAdjustments":'
-        '{"businessDayConvention":"NONE"}},"terminationDate":{"unadjustedDate":"END","dateAdjustments":{"businessDayConvention":'
-        '"NONE"}},"calculationPeriodDatesAdjustments":{"businessDayConvention":"NONE"},"calculationPeriodFrequency":'
-        '{"periodMultiplier":"1","period":"T","rollConvention":"NONE"}},"paymentDates":{"paymentFrequency":{"periodMultiplier":'
-        '"1","period":"T"},"payRelativeTo":"CalculationPeriodEndDate","paymentDaysOffset":{"periodMultiplier":"2","period":"D",'
-        '"dayType":"Business"},"paymentDatesAdjustments":{"businessDayConvention":"FOLLOWING","businessCenters":'
-        '{"businessCenter":[{"@scheme":"x","#text":" EUTA "}]}}},"calculationPeriodAmount":{"calculation":{"notionalSchedule":'
-        '{"notionalStepSchedule":{"initialValue":"1","currency":"EUR"}},"fixedRateSchedule":{"initialValue":"0"},'
-        '"dayCountFraction":"1/1"}}}}}')
-
     @unittest.skipUnless(ql or holidays, "neither QuantLib nor holidays is installed")
     def test_whole_years_and_one_more_where_a_payment_is_later(self):
-        self.write("terms.json", self.TERMS.replace("END", "2024-06-28"))
+        self.write("terms.json", terms("2024-06-28"))
         self.assertIn("center EUTA\ncover 2024-01-01 2024-12-31\n", ran(calendars.main, "--needed", "terms.json").out)
-        self.write("terms.json", self.TERMS.replace("END", "2024-12-30"))
+        self.write("terms.json", terms("2024-12-30"))
         self.assertIn("center EUTA\ncover 2023-01-01 2025-12-31\n", ran(calendars.main, "--needed", "terms.json").out)
 
     @unittest.skipUnless(ql or holidays, "neither QuantLib nor holidays is installed")
     def test_documents_that_can_not_be_used(self):
-        for text, says in (("[" * 100_000, "isn't JSON"), ("{}", "is missing"), (b"\xff", "isn't JSON"),
-                           (self.TERMS.replace("END", "2024-02-30"), "out of range"),
-                           (self.TERMS.replace("END", "2024-01-15"), "out of order"),
-                           (self.TERMS.replace("END", "2024-06-28").replace("EUTA", "XXXX"), "no centre of the table")):
+        for text, says in (
+            ("[" * 100_000, "isn't JSON"),
+            ("{}", "is missing"),
+            (b"\xff", "isn't JSON"),
+            (terms("2024-02-30"), "out of range"),
+            (terms("2024-01-15"), "out of order"),
+            (terms("2024-06-28", "XXXX"), "no centre of the table"),
+        ):
             self.write("terms.json", text)
-            self.assert_refused(ran(calendars.main, "--needed", "terms.json", "-o", "made.cal"), says, ["terms.json"])
-        self.assert_refused(ran(calendars.main, "--needed", "none.json", "-o", "made.cal"), "can't be read", ["terms.json"])
+            ended = ran(calendars.main, "--needed", "terms.json", "-o", "made.cal")
+            self.assert_refused(ended, says, ["terms.json"])
+        ended = ran(calendars.main, "--needed", "none.json", "-o", "made.cal")
+        self.assert_refused(ended, "can't be read", ["terms.json"])
 
 
 class BadInput(InAFolder):
@@ -351,15 +496,33 @@ class BadInput(InAFolder):
         self.refused("unrecognized arguments", "EUTA", *years, "--years", "3")
 
     def test_csv_files(self):
-        for content, says in ((b"day\n2024-01-01\nNew Year\n", "line 3: 'New Year' isn't a date"),
-                              (b"day\n01/02/2024\n", "isn't a date in the form YYYY-MM-DD"), (b"day\n2024-02-30\n", "isn't a date"),
-                              (b"day\n\xff\xfe\n", "isn't UTF-8"), (b"", "has no line"), (b"day\n", "has no day"),
-                              (b"day,name\n2024-01-01\n", "has 1 fields"), (b"day,day\n", "twice"),
-                              (b'day\n"2024-01-01\n', "isn't CSV"), (b"day\n2024\x0001-01\n", "line 2")):
+        for content, says in (
+            (b"day\n2024-01-01\nNew Year\n", "line 3: 'New Year' isn't a date"),
+            (b"day\n01/02/2024\n", "isn't a date in the form YYYY-MM-DD"),
+            (b"day\n2024-02-30\n", "isn't a date"),
+            (b"day\n\xff\xfe\n", "isn't UTF-8"),
+            (b"", "has no line"),
+            (b"day\n", "has no day"),
+            (b"day,name\n2024-01-01\n", "has 1 fields"),
+            (b"day,day\n", "twice"),
+            (b'day\n"2024-01-01\n', "isn't CSV"),
+            (b"day\n2024\x0001-01\n", "line 2"),
+        ):
             self.write("days.csv", content)
             self.refused(says, "DESK", "--from", "2024", "--to", "2024", "--source", "csv:days.csv")
         self.write("days.csv", "day\n2024-01-01\n")
-        self.refused("has no column 'date'", "DESK", "--from", "2024", "--to", "2024", "--source", "csv:days.csv", "--column", "date")
+        self.refused(
+            "has no column 'date'",
+            "DESK",
+            "--from",
+            "2024",
+            "--to",
+            "2024",
+            "--source",
+            "csv:days.csv",
+            "--column",
+            "date",
+        )
         self.refused("column day knows 2024", "DESK", "--from", "2024", "--to", "2025", "--source", "csv:days.csv")
         self.refused("can't be read", "DESK", "--from", "2024", "--to", "2024", "--source", "csv:none.csv")
         self.refused("the engine refuses", "A" * 33, "--from", "2024", "--to", "2024", "--source", "csv:days.csv")

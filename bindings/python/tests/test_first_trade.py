@@ -64,10 +64,16 @@ class FirstTrade(InAFolder):
         path.chmod(path.stat().st_mode | stat.S_IXUSR)
 
     def run_all(self, commands):
-        env = {**os.environ, "PATH": f"{self.folder / 'bin'}:{os.environ['PATH']}", "PYTHONPATH": str(Path(irs.__file__).parents[1])}
+        env = {
+            **os.environ,
+            "PATH": f"{self.folder / 'bin'}:{os.environ['PATH']}",
+            "PYTHONPATH": str(Path(irs.__file__).parents[1]),
+        }
         ended = []
         for command in commands:
-            done = subprocess.run(["bash", "-c", command], cwd=self.folder / "first", env=env, capture_output=True, text=True)
+            done = subprocess.run(
+                ["bash", "-c", command], cwd=self.folder / "first", env=env, capture_output=True, text=True
+            )
             self.assertIn(done.returncode, (0, 1), f"{command}\n{done.stderr}")
             ended.append(done)
         return ended
@@ -86,7 +92,9 @@ class FirstTrade(InAFolder):
     def test_the_page_has_ten_commands_and_edits_nothing(self):
         commands = commands_of(self.page)
         self.assertEqual(len(commands), 10)
-        self.assertEqual({shlex.split(command)[0] for command in commands}, {"irs", "irs-new", "irs-calendar", "irs-fixings"})
+        self.assertEqual(
+            {shlex.split(command)[0] for command in commands}, {"irs", "irs-new", "irs-calendar", "irs-fixings"}
+        )
         self.assertFalse([block for block in printed_of(self.page) if re.match(r"(cat|sed|echo|cp|vi)\b", block[0])])
 
     @unittest.skipUnless(ql, "QuantLib isn't installed")
@@ -117,15 +125,19 @@ class Sample(InAFolder):
     def test_the_calendars_are_what_irs_calendar_makes(self):
         from commands import ran
         from irs import calendars
+
         for code in ("EUTA", "USGS", "USNY"):
             made = ran(calendars.main, code, "--from", "2024", "--to", "2033").out
             stored = (TOP / "sample" / f"{code}.cal").read_text()
-            self.assertEqual([line for line in made.splitlines() if " made " not in line],
-                             [line for line in stored.splitlines() if " made " not in line])
+            self.assertEqual(
+                [line for line in made.splitlines() if " made " not in line],
+                [line for line in stored.splitlines() if " made " not in line],
+            )
 
     def test_the_overnight_rates_are_of_each_business_day_of_a_year(self):
         import datetime
         from irs.calendars import read_calendars
+
         off = read_calendars(TOP / "sample" / "USGS.cal")[0].off
         lines = (TOP / "sample" / "usd-overnight.csv").read_text().splitlines()[1:]
         days = [datetime.datetime.strptime(line.split(",")[0], "%m/%d/%Y").date() for line in lines]

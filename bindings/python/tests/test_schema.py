@@ -24,7 +24,9 @@ DATA = TOP / "crates" / "irs_element_rows" / "data"
 
 class Made(unittest.TestCase):
     def test_the_table_makes_it(self):
-        done = subprocess.run([sys.executable, str(TOP / "tools" / "schema"), "--check"], stdout=subprocess.PIPE, text=True)
+        done = subprocess.run(
+            [sys.executable, str(TOP / "tools" / "schema"), "--check"], stdout=subprocess.PIPE, text=True
+        )
         self.assertEqual((done.returncode, done.stdout), (0, "carrier.schema.json: as the table makes it\n"))
 
 
@@ -56,11 +58,15 @@ class AgainstTheEngine(unittest.TestCase):
         stream = sound["swap"]["swapStream"]
         changes = {
             "K2": lambda: stream["paymentDates"].pop("payRelativeTo"),
-            "K3": lambda: stream["calculationPeriodAmount"]["calculation"]["fixedRateSchedule"].update(initialValue=0.05),
+            "K3": lambda: stream["calculationPeriodAmount"]["calculation"]["fixedRateSchedule"].update(
+                initialValue=0.05
+            ),
             "K4": lambda: stream["paymentDates"].update(paymentDate="2024-07-15"),
             "K5": lambda: stream.update(settlementProvision={}),
             "K6": lambda: stream["calculationPeriodDates"]["effectiveDate"].update(unadjustedDate="2023-02-29"),
-            "K7": lambda: stream["calculationPeriodAmount"]["calculation"].update(floatingRateCalculation={"floatingRateIndex": "A"}),
+            "K7": lambda: stream["calculationPeriodAmount"]["calculation"].update(
+                floatingRateCalculation={"floatingRateIndex": "A"}
+            ),
         }
         for rule, change in changes.items():
             sound = json.loads((TOP / "examples" / "fixed_leg" / "terms.json").read_bytes())
