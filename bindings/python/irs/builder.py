@@ -267,7 +267,8 @@ def swap(
 ) -> Dict[str, Any]:
     """The document of a swap of a fixed stream against a floating one, for the engine to check.
 
-    `kind` is a row of the table, as ``usd-sofr``; without it `currency` chooses one. The term is `start` and one
+    `kind` is a row of the table, as ``usd-sofr``; without it `currency` chooses one. Any other word that is given
+    takes the place of the row's. The term is `start` and one
     of `end` and `tenor`, as ``5Y``, which the engine counts. Rates are decimals (0.05 is 5%), as text, `Decimal`
     or whole number. `pay` is ``fixed`` or ``floating``: what the first of `parties` pays. Frequencies are a number and
     D, W, M, Y or ``1T``; a frequency longer than the term becomes one period. `stub` is FpML's `stubPeriodType`, and

@@ -13,12 +13,10 @@ from pathlib import Path
 from types import ModuleType
 from typing import Any, Callable, Dict, FrozenSet, Iterator, List, Optional, Protocol, Sequence, Tuple
 
+from .calendar_files import WEEKDAYS, days_between
 from .centres import CENTRES, VERSIONS, Known, Span
 from .csv_rows import day_of, rows_of
 from .tools import BadInput, read_bytes
-
-#: The weekdays as a calendar file has them, Monday first.
-WEEKDAYS = ("MON", "TUE", "WED", "THU", "FRI", "SAT", "SUN")
 
 #: A year of a file that has fewer than this part of the usual number of days is one that the file doesn't know.
 THIN = 0.5
@@ -33,12 +31,6 @@ class Source(Protocol):
 
     def off(self, first: datetime.date, last: datetime.date) -> FrozenSet[datetime.date]:
         """Every day off from the first to the last, weekend days included."""
-
-
-def days_between(first: datetime.date, last: datetime.date) -> Iterator[datetime.date]:
-    """Each day from the first to the last."""
-    for number in range(first.toordinal(), last.toordinal() + 1):
-        yield datetime.date.fromordinal(number)
 
 
 def _module(name: str, package: str) -> ModuleType:

@@ -16,18 +16,17 @@ import argparse
 import datetime
 import sys
 from collections import Counter
-from dataclasses import dataclass, replace
 from pathlib import Path
-from typing import FrozenSet, Iterator, List, Optional, Sequence, Set, Tuple
+from typing import List, Optional, Sequence, Tuple
 
-from .calendar_sources import WEEKDAYS, Choice, Source, days_between, shortened, source_of, years_text
+from .calendar_files import WEEKDAYS, Calendar, corrected, differences, read_calendars, text_of
+from .calendar_sources import Choice, Source, shortened, source_of, years_text
 from .calls import check
 from .carrier import Document, read_document, streams_of, texts_of
 from .centres import CENTRES
 from .csv_rows import DATE_FORMS, delimiter_of
 from .errors import Refused
-from .probes import check_calendars
-from .tools import BadInput, Parser, ended, one_line, read_text, write_whole
+from .tools import BadInput, Parser, ended, write_whole
 
 #: The years that the engine has.
 FIRST_YEAR, LAST_YEAR = 1901, 2299
@@ -35,57 +34,17 @@ FIRST_YEAR, LAST_YEAR = 1901, 2299
 #: How many years are added on both sides of a term, at most, where its days reach outside.
 WIDER = 2
 
-#: How many holidays a section may list (docs/FORMATS.md).
-MOST_HOLIDAYS = 20_000
-
-
-@dataclass(frozen=True)
-class Calendar:
-    """The days off of a centre in whole years, weekend days included, and remarks for the file."""
-
-    centre: str
-    first: datetime.date
-    last: datetime.date
-    off: FrozenSet[datetime.date]
-    remarks: Tuple[str, ...] = ()
-
-
-def weekend_of(calendar: Calendar) -> Tuple[str, ...]:
-    """The weekdays that are off throughout. None where a usual day off is worked, or the weekend changes:
-    the section then lists every day off."""
-    days = Counter(day.weekday() for day in days_between(calendar.first, calendar.last))
-    off = Counter(day.weekday() for day in calendar.off)
-    usual = [weekday for weekday in range(7) if 2 * off[weekday] > days[weekday]]
-    if any(off[weekday] != days[weekday] for weekday in usual):
-        return ()
-    return tuple(WEEKDAYS[weekday] for weekday in usual)
-
-
-def section(calendar: Calendar) -> str:
-    """The section of a calendar file; `BadInput` where it would list more days than a section may."""
-    weekend = weekend_of(calendar)
-    listed = sorted(day for day in calendar.off if WEEKDAYS[day.weekday()] not in weekend)
-    if len(listed) > MOST_HOLIDAYS:
-        raise BadInput(
-            f"{calendar.centre} has {len(listed)} days to list from {calendar.first} to {calendar.last};"
-            f" a section has at most {MOST_HOLIDAYS}: ask for fewer years"
-        )
-    lines = [f"# {one_line(remark)}" for remark in calendar.remarks]
-    lines += [f"center {calendar.centre}", f"cover {calendar.first} {calendar.last}", " ".join(("weekend", *weekend))]
-    lines += [day.isoformat() for day in listed]
-    return "\n".join(lines) + "\n"
-
 
 def calendar_of(code: str, source: Source, first: int, last: int) -> Calendar:
     """The days off of a centre in the years from the first to the last, all of which the source knows."""
     start, end = datetime.date(first, 1, 1), datetime.date(last, 12, 31)
     name = f" ({CENTRES[code].name})" if code in CENTRES else ""
-    made = [
+    origin = [
         f"{code}{name} from {source.name}, made {datetime.date.today()}; not proved",
         f"the source knows {years_text(source)}; days decreed after its release aren't in it",
     ]
     return Calendar(
-        code, start, end, source.off(start, end), (*made, *(f"known doubt: {doubt}" for doubt in source.doubts))
+        code, start, end, source.off(start, end), (*origin, *(f"known doubt: {doubt}" for doubt in source.doubts))
     )
 
 
@@ -103,53 +62,6 @@ def _one(code: str, first: int, last: int, choice: Choice, shorten: bool) -> Cal
     if shorten:
         return calendar_of(code, *shortened(code, choice, first, last))
     return calendar_of(code, source_of(code, choice, first, last), first, last)
-
-
-def text_of(calendars: Sequence[Calendar]) -> str:
-    """A calendar file of these sections, which the engine has read; `BadInput` where it refuses it."""
-    text = "".join(section(calendar) for calendar in calendars)
-    check_calendars([text])
-    return text
-
-
-def read_calendars(path: Path) -> List[Calendar]:
-    """The sections of a calendar file that the engine takes; `BadInput` where it refuses it."""
-    text = read_text(path)
-    check_calendars([text])
-    found: List[Tuple[str, datetime.date, datetime.date, Set[str], Set[datetime.date]]] = []
-    centre = ""
-    first = last = datetime.date.min
-    for words in (line.split() for line in text.split("\n") if not line.startswith("#")):
-        if words[:1] == ["center"]:
-            centre = words[1]
-        elif words[:1] == ["cover"]:
-            first, last = (datetime.date.fromisoformat(word) for word in words[1:])
-        elif words[:1] == ["weekend"]:
-            found.append((centre, first, last, set(words[1:]), set()))
-        elif words:
-            found[-1][4].add(datetime.date.fromisoformat(words[0]))
-    return [
-        Calendar(name, start, end, frozenset(days | _weekly(start, end, weekend)))
-        for name, start, end, weekend, days in found
-    ]
-
-
-def _weekly(first: datetime.date, last: datetime.date, weekend: Set[str]) -> Set[datetime.date]:
-    return {day for day in days_between(first, last) if WEEKDAYS[day.weekday()] in weekend}
-
-
-def corrected(calendar: Calendar, off: Sequence[datetime.date], on: Sequence[datetime.date]) -> Calendar:
-    """The calendar with days that are off, or aren't, against its source, and a remark for each.
-
-    `BadInput` where a day is outside the cover, or is already so.
-    """
-    for day in (*off, *on):
-        if not calendar.first <= day <= calendar.last:
-            raise BadInput(f"{day} is outside the years of {calendar.centre}")
-        if (day in calendar.off) == (day in off):
-            raise BadInput(f"{day} is {'off' if day in off else 'on'} in the source of {calendar.centre} already")
-    remarks = [f"corrected by the desk: {day} is {'off' if day in off else 'a business day'}" for day in (*off, *on)]
-    return replace(calendar, off=(calendar.off | set(off)) - set(on), remarks=(*calendar.remarks, *remarks))
 
 
 # What a document needs.
@@ -194,14 +106,6 @@ def _check_all(documents: Sequence[Document], text: str, wider: int) -> None:
 
 
 # Two calendars side by side.
-
-
-def differences(one: Calendar, other: Calendar) -> Iterator[Tuple[datetime.date, bool]]:
-    """Each day on which two calendars differ, in their common cover, and whether it is off in the first."""
-    first, last = max(one.first, other.first), min(one.last, other.last)
-    for day in sorted(one.off ^ other.off):
-        if first <= day <= last:
-            yield day, day in one.off
 
 
 def _is_source(word: str) -> bool:

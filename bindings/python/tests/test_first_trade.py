@@ -136,7 +136,7 @@ class Sample(InAFolder):
 
     def test_the_overnight_rates_are_of_each_business_day_of_a_year(self):
         import datetime
-        from irs.calendars import read_calendars
+        from irs.calendar_files import read_calendars
 
         off = read_calendars(TOP / "sample" / "USGS.cal")[0].off
         lines = (TOP / "sample" / "usd-overnight.csv").read_text().splitlines()[1:]

@@ -240,7 +240,8 @@ class AgainstDocuments(InAFolder):
         self.write(
             "fixings",
             "2024-01-15 0.05 3M USD-TEST-INDEX\n# a remark\n2024-01-15\t0.05  6M USD-TEST-INDEX\n"
-            "2024-04-15 0.05 3M usd-test-index\n2024-04-15 0.05 3M USD-TEST-INDEX \n2024-04-16 0.05 3M USD-TEST-INDEX\n",
+            "2024-04-15 0.05 3M usd-test-index\n2024-04-15 0.05 3M USD-TEST-INDEX \n"
+            "2024-04-16 0.05 3M USD-TEST-INDEX\n",
         )
         ended = ran(
             fixings.main, "--unused", "fixings", "--documents", self.terms("compounded"), self.terms("fixed_leg")
