@@ -276,6 +276,29 @@ class Guards(InAFolder):
             self.assertRegex(text, f"# known doubt: .*{word}")
 
 
+@unittest.skipUnless(ql, "QuantLib isn't installed")
+class Published(InAFolder):
+    """The weekdays off of 2025 as they were published: by the Federal Reserve, SIFMA, the ECB, the British
+    government, the Bank of Japan, and SIX."""
+
+    DAYS = {
+        "USNY": "01-01 01-20 02-17 05-26 06-19 07-04 09-01 10-13 11-11 11-27 12-25",
+        "USGS": "01-01 01-20 02-17 04-18 05-26 06-19 07-04 09-01 10-13 11-11 11-27 12-25",
+        "EUTA": "01-01 04-18 04-21 05-01 12-25 12-26",
+        "GBLO": "01-01 04-18 04-21 05-05 05-26 08-25 12-25 12-26",
+        "JPTO": "01-01 01-02 01-03 01-13 02-11 02-24 03-20 04-29 05-05 05-06 07-21 08-11 09-15 09-23 10-13 11-03"
+        " 11-24 12-31",
+        "CHZU": "01-01 01-02 04-18 04-21 05-01 05-29 06-09 08-01 12-25 12-26",
+    }
+
+    def test_2025(self):
+        for centre, days in self.DAYS.items():
+            text = ran(calendars.main, centre, "--from", "2025", "--to", "2025").out
+            off = [line[5:] for line in text.splitlines() if line.startswith("2025-")]
+            weekdays = [day for day in off if datetime.date.fromisoformat(f"2025-{day}").weekday() < 5]
+            self.assertEqual(weekdays, days.split(), centre)
+
+
 class Files(InAFolder):
     """Calendars out of ICS and CSV files, and between files."""
 
