@@ -122,6 +122,16 @@ def check_without_holidays(document: Mapping[str, Any]) -> None:
         raise BadInput(f"the engine refuses these terms: {why.sentence}{hint}") from why
 
 
+#: What of a document is an example's where it isn't given.
+EXAMPLES = ("start", "notional", "fixed_rate", "parties")
+
+
+def note_of(asked: argparse.Namespace) -> str:
+    """A sentence on what in the document is an example's; empty where all of it was given."""
+    names = [name.replace("_", " ") for name in EXAMPLES if getattr(asked, name) is None]
+    return f"of an example, as not given: {', '.join(names)}" if names else ""
+
+
 def _work(arguments: Optional[List[str]]) -> int:
     asked = parser().parse_args(arguments)
     if asked.list:
@@ -130,6 +140,8 @@ def _work(arguments: Optional[List[str]]) -> int:
     document = document_of(asked)
     check_without_holidays(document)
     write_whole(json.dumps(document, indent=1) + "\n", asked.output)
+    if note_of(asked):
+        print(f"irs-new: {note_of(asked)}", file=sys.stderr)
     return 0
 
 

@@ -301,10 +301,13 @@ class Command(InAFolder):
 
     def test_standard_output_and_a_file(self):
         ended = ran(new.main, "--like", "usd-sofr-5y")
-        self.assertEqual((ended.status, ended.err), (0, ""))
+        note = "irs-new: of an example, as not given: start, notional, fixed rate, parties\n"
+        self.assertEqual((ended.status, ended.err), (0, note))
         self.assertEqual(json.loads(ended.out), swap("usd-sofr", tenor="5Y"))
-        self.assertEqual(ran(new.main, "--like", "USD-SOFR-5Y", "-o", "terms.json"), (0, "", ""))
+        self.assertEqual(ran(new.main, "--like", "USD-SOFR-5Y", "-o", "terms.json"), (0, "", note))
         self.assertEqual((self.folder / "terms.json").read_text(), ended.out)
+        given = ("--start", "2025-03-03", "--notional", "1000000", "--fixed-rate", "0.04", "--parties", "A", "B")
+        self.assertEqual(ran(new.main, "--like", "usd-sofr-5y", *given).err, "")
 
     def test_options(self):
         ended = ran(

@@ -3,6 +3,7 @@ import datetime
 import json
 import os
 import unittest
+import unittest.mock
 
 from commands import TOP, InAFolder, ran
 
@@ -563,6 +564,15 @@ class BadInput(InAFolder):
         self.assertEqual(ran(calendars.main, *words, "tab").status, 0)
         for text in (";;", "", '"', "1", "\n"):
             self.refused("can't separate fields", *words, text)
+
+    def test_a_write_that_fails_leaves_what_was_there(self):
+        self.write("days.csv", "day\n2024-01-01\n")
+        self.write("made.cal", "as it was")
+        words = ("DESK", "--from", "2024", "--to", "2024", "--source", "csv:days.csv", "-o", "made.cal")
+        for call in ("os.replace", "os.fdopen", "os.chmod"):
+            with unittest.mock.patch(call, side_effect=OSError(28, "No space left on device")):
+                self.assert_refused(ran(calendars.main, *words), "No space left on device", ["days.csv", "made.cal"])
+            self.assertEqual((self.folder / "made.cal").read_text(), "as it was")
 
     def test_a_link_keeps_its_place_and_a_pipe_is_no_file(self):
         self.write("days.csv", "day\n2024-01-01\n")
