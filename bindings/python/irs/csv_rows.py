@@ -13,7 +13,8 @@ from typing import Dict, List, NamedTuple, Optional
 
 from .tools import BadInput, read_text
 
-#: The forms of dates, by the names that a person writes, and as `strptime` has them.
+#: The forms of dates, by the names that a person writes, and as `strptime` has them. Zeros before a day or a month
+#: may be left out where something separates them.
 DATE_FORMS: Dict[str, str] = {
     "YYYY-MM-DD": "%Y-%m-%d",
     "YYYYMMDD": "%Y%m%d",
@@ -93,6 +94,8 @@ def day_of(path: Path, row: Row, column: str, form: str) -> datetime.date:
     """The day in a field, in one of `DATE_FORMS`; `BadInput` where the text isn't such a date."""
     text = field_of(path, row, column)
     try:
+        if not text.isascii() or (form == "YYYYMMDD" and len(text) != 8):
+            raise ValueError
         return datetime.datetime.strptime(text, DATE_FORMS[form]).date()
     except ValueError as why:
         raise BadInput(f"{path} line {row.line}: '{text}' isn't a date in the form {form}") from why

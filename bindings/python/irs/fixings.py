@@ -171,7 +171,14 @@ def _work(arguments: Optional[List[str]]) -> int:
     unit = "percent" if asked.percent else "decimals"
     names = ", ".join(path.name for path in asked.csv)
     remark = f"from {names}, column {columns.rate} in {unit}, made {datetime.date.today()}; not proved"
-    write_whole(text_of(fixings_of(asked.csv, columns), [remark]), asked.output)
+    found = fixings_of(asked.csv, columns)
+    write_whole(text_of(found, [remark]), asked.output)
+    weekend = sum(key.date.weekday() >= 5 for key in found)
+    if weekend:
+        print(
+            f"irs-fixings: {weekend} of {len(found)} dates are Saturdays or Sundays: is {columns.date_form} right?",
+            file=sys.stderr,
+        )
     return 0
 
 

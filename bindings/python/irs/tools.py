@@ -95,6 +95,8 @@ def ended(command: str, work: Callable[[Optional[List[str]]], int], arguments: O
         sentence = str(why)
     except Error as why:
         sentence = why.sentence
+    except MemoryError:
+        sentence = "memory ran out"
     except UnicodeEncodeError:
         sentence = "a word of the command line isn't UTF-8 text"
     except OSError as why:

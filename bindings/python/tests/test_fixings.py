@@ -87,6 +87,15 @@ class FromCsv(InAFolder):
             ["june.csv", "may.csv"],
         )
 
+    def test_days_and_months_that_may_be_the_wrong_way_round(self):
+        # 1, 2 and 3 April 2025 were Tuesday to Thursday; 4 January was a Saturday
+        self.write("rates.csv", "date,rate\n1/4/2025,2.1\n2/4/2025,2.1\n3/4/2025,2.1\n")
+        words = ("rates.csv", "--percent", "--index", "A", "--date-form")
+        self.assertEqual(ran(fixings.main, *words, "DD/MM/YYYY").err, "")
+        ended = ran(fixings.main, *words, "MM/DD/YYYY")
+        note = "irs-fixings: 1 of 3 dates are Saturdays or Sundays: is MM/DD/YYYY right?\n"
+        self.assertEqual((ended.status, ended.err), (0, note))
+
     def test_equal_rows_count_once(self):
         self.write("twice.csv", "date,rate\n2025-01-15,5.30\n2025-01-15,5.3\n")
         ended = ran(fixings.main, "twice.csv", "--percent", "--index", "A")
@@ -174,6 +183,12 @@ class BadInput(InAFolder):
             "--calendars",
             *["rates.csv"] * 17,
         )
+
+    def test_dates_that_can_be_read_in_two_ways(self):
+        words = (*self.WORDS, "--date-form", "YYYYMMDD")
+        self.refused("date,rate\n2025115,0.05\n", "isn't a date in the form YYYYMMDD", *words)
+        self.refused("date,rate\n\u0662025-01-15,0.05\n", "isn't a date")
+        self.refused("date,rate\n15/01/25,0.05\n", "isn't a date", *self.WORDS, "--date-form", "DD/MM/YYYY")
 
     def test_words(self):
         row = "date,rate\n2025-01-15,0.05\n"
