@@ -189,6 +189,11 @@ class Documents(InAFolder):
         with self.assertRaisesRegex(ValueError, "stated in the terms"):
             swap("gbp-sonia", tenor="2Y", overnight=Overnight(lookback=5), daily_rates_in_terms=False)
 
+    def test_the_engine_does_not_read_overnight_rates_in_the_terms_yet(self):
+        # where this fails the engine reads them: set DAILY_RATES_IN_TERMS in builder.py, and change the two pages
+        ended = ran(new.main, "--like", "usd-sofr-2y", "--daily-rates-in-terms", "-o", "made.json")
+        self.assert_refused(ended, "floatingRateCalculation has a member that isn't known", [])
+
     def test_words_of_the_market(self):
         document = swap(
             "eur-euribor",
