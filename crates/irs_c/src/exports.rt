@@ -11,7 +11,7 @@ use crate::given::{Bytes, File, GivenFiles};
 use crate::kept::Kept;
 use irs_base::Status;
 use irs_cli::run;
-use irs_plain::meaning;
+use irs_plain::{VERSION, meaning};
 use std::alloc::Global;
 
 /// Runs a command of the program over lent words and files, and answers its status: 0 done, 1 the
@@ -97,6 +97,18 @@ pub extern "C" fn irs_meaning(
             status
         }
     }
+}
+
+/// Writes what `irs --version` prints: the versions of the program and of the schedule text, and the logic
+/// sum of the kit that proves it.
+///
+/// The text goes to `out` as far as it has room, and its length to `needed`, as the text of `irs_run` does.
+#[unsafe(no_mangle)]
+pub extern "C" fn irs_version(out: &mut [u8], needed: &mut usize)
+    ensures { Shown out.old out.new needed.new VERSION.now }
+{
+    show(VERSION.as_bytes(), out);
+    *needed = VERSION.len();
 }
 
 // The sentence, or 7 or 9 where there is none.

@@ -1,5 +1,5 @@
 //! The two calls, over words and files in memory.
-use crate::exports::{irs_meaning, irs_run};
+use crate::exports::{irs_meaning, irs_run, irs_version};
 use crate::given::{Bytes, File};
 use std::test::*;
 
@@ -35,4 +35,16 @@ fn what_a_line_means(rt: HostRuntime) {
     let status = irs_meaning(rt.alloc(), &words(), 5, line, &mut out, &mut needed);
     assert_eq!(rt; (status, needed), (0, 15));
     assert_eq!(rt; &out[..16], b"no such file: D#".as_slice());
+}
+
+#[test]
+fn the_version(rt: HostRuntime) {
+    let mut out = [b'#'; 64];
+    let mut needed = 0;
+    irs_version(&mut out, &mut needed);
+    assert_eq!(rt; needed, 54);
+    assert_eq!(rt; &out[..10], b"irs 1.0.0,".as_slice());
+    let mut short = [b'#'; 4];
+    irs_version(&mut short[..3], &mut needed);
+    assert_eq!(rt; (&short, needed), (b"irs#", 54));
 }

@@ -48,9 +48,9 @@ On each but 0 standard error says what the line on standard output means.
 docs/FORMATS.md describes documents, files and texts, docs/RULES.md the rules.
 ";
 
-/// What `irs --version` prints: the program's version, that of the schedule text, and the kit that proved
-/// and built it.
+/// What `irs --version` prints: the program's version, that of the schedule text, and the logic sum of the
+/// kit that proves it. `tools/version` compares them with VERSION and with the kit that is here.
 pub const VERSION: &str = "\
-irs 1.0, schedule text 2
-rattle-kit-13f logic dac8208d650f15bf
+irs 1.0.0, schedule text 2
+kit logic dac8208d650f15bf
 ";
