@@ -1,3 +1,4 @@
 pub mod TableLaws
 pub mod KeptLemmas
 pub mod StatusLemmas
+pub mod CutLemmas

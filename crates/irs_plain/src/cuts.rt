@@ -17,14 +17,12 @@ fn length_before(end: u8, text: &[u8]) -> usize
     ensures value { result ≡ length_before_of end text.now }
     ensures within { result ≤ length text.now }
 {
-    match text {
-        [] => 0,
-        [first, rest @ ..] => if *first == end {
-            0
-        } else {
-            length_before(end, rest) + 1
-        },
+    for (i, byte) in text.iter().enumerate() {
+        if *byte == end {
+            return i;
+        }
     }
+    text.len()
 }
 
 /// What stands before the first byte that is `end`; all of the text where there is none.

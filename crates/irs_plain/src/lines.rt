@@ -323,9 +323,14 @@ fn told<'a>(words: &'a [String], status: u8, line: &'a [u8]) -> Sentence<'a>
 
 /// What a line means that the program wrote with this status, in one sentence. `words` are the words of
 /// the command line, of which the first is the command, and `line` is what the program wrote, or its first
-/// 512 bytes. For status 0 there is nothing to say, and the sentence is empty.
+/// 512 bytes. For status 0 there is nothing to say, and the sentence is empty. It reads the line once, to its
+/// first LF, and takes no memory and no deeper stack for a longer one.
 pub fn meaning<'a>(words: &'a [String], status: u8, line: &'a [u8]) -> Sentence<'a>
     ensures { said result ≡ sentence_of (texts words.now) status line.now }
 {
+    // Status 0 has nothing to say, however long the line is.
+    if status == 0 {
+        return short(b"", b"", b"");
+    }
     told(words, status, front(b'\n', line))
 }
