@@ -15,6 +15,7 @@ use Rattle.irs_json.specs.declared.reading.JsonErr.TheVariants as json
 use Rattle.irs_read.specs.Documents.{DocumentFault}
 use Rattle.irs_read.specs.Meaning.{streams_in, swap_in}
 use Rattle.irs_read.specs.Reading.{Means}
+use Rattle.irs_terms.specs.Lawful.{IsLawful}
 use Rattle.irs_terms.specs.declared.stream_list.Swap.{Swap}
 use Rattle.irs_calendar.specs.Calendars.{Spot, spot_of}
 use Rattle.irs_calendar.specs.FirstFaults.{IsFirstFault as IsFirstCalendarFault}
@@ -54,7 +55,6 @@ use Rattle.irs_answers.specs.Outcomes.{Answer, answer_of, of_json, of_stopped, E
 use Rattle.irs_answers.specs.Outcomes.{IsRuleFirst, IsUnscheduled, IsScheduled}
 use Rattle.irs_answers.proofs.FirstLemmas.{one_first, one_fixings_fault, no_fixings}
 use Rattle.irs_answers.proofs.SameRates.{SameRates, same_back, same_file, schedule_same, kept_same, first_same_table}
-use Rattle.irs_answers.proofs.SameRates.{not_kept}
 use Rattle.irs_answers.proofs.DerivedSame.{average_due, interpolate_due, overnight_due}
 use Rattle.irs_answers.proofs.StepLemmas.{answered_more, refused_more, ends_more, read, unread, kept, broken}
 use Rattle.irs_answers.proofs.StepLemmas.{rules_more}

@@ -16,11 +16,9 @@ use Rattle.irs_resets.specs.Resets.{source_of}
 use Rattle.irs_resets.proofs.RowLemmas.{resets_same}
 use Rattle.irs_schedule.specs.DatedRules.{DatedBroken, DatedKept}
 use Rattle.irs_schedule.specs.DaySets.{StreamSets, stream_sets}
-use Rattle.irs_schedule.specs.Outcomes.{events_of, resets_over, schedule_of, stream_of}
+use Rattle.irs_schedule.specs.Outcomes.{resets_over, schedule_of, stream_of}
 use Rattle.irs_schedule.specs.Parts.{Part}
 use Rattle.irs_schedule.specs.Schedules.{IsPart, IsSchedule}
-use Rattle.irs_schedule.specs.declared.layouts.Layout.{Layout}
-use Rattle.irs_schedule.specs.declared.stream.StreamEvents.{StreamEvents}
 
 pub same_back : (t u : RateTable) → SameRates t u → SameRates u t
 same_back t u e index slot = sym (e index slot)
@@ -58,34 +56,26 @@ module _ (t u : RateTable) (e : SameRates t u) where
 
   -- ---- what a stream and a swap come to
 
-  events_same : (sets : StreamSets) (s : Stream) (l : Layout) (d : StreamEvents) → (events_of sets t s l).Answers d
-      → (events_of sets u s l).Answers d
-  events_same sets s l d (ps, dated, (xs, exchanged, (rs, reset, made))) = (
-    ps,
-    dated,
-    (xs, exchanged, (rs, (reset.0, resets_same (resets_over sets s l) t u e rs reset.1), made)),
-  )
-
-  events_refused : (sets : StreamSets) (s : Stream) (l : Layout) (f : Fault) → (events_of sets t s l).Refuses f
-      → (events_of sets u s l).Refuses f
-  events_refused sets s l f (inl first) = inl first
-  events_refused sets s l f (inr (ps, dated, inl first)) = inr (ps, dated, inl first)
-  events_refused sets s l f (inr (ps, dated, inr (xs, exchanged, inl first))) =
-      inr (ps, dated, inr (xs, exchanged, inl first))
-  events_refused sets s l f (inr (ps, dated, inr (xs, exchanged, inr last))) = absurd last.2
-
   stream_answers : (sets : StreamSets) (s : Stream) (p : Part) → (stream_of sets t s).Answers p
       → (stream_of sets u s).Answers p
   unfolding stream_of
-  stream_answers sets s p (l, laid, (d, are, rest)) = (l, laid, (d, events_same sets s l d are, rest))
+  stream_answers sets s p (l, laid, (d, (ps, dated, (xs, exchanged, (rs, reset, made))), rest)) =
+      let moved = resets_same (resets_over sets s l) t u e rs reset.1 in
+      (l, laid, (d, (ps, dated, (xs, exchanged, (rs, (reset.0, moved), made))), rest))
 
   stream_refuses : (sets : StreamSets) (s : Stream) (f : Fault) → (stream_of sets t s).Refuses f
       → (stream_of sets u s).Refuses f
   unfolding stream_of
   stream_refuses sets s f (inl first) = inl first
-  stream_refuses sets s f (inr (l, laid, inl first)) = inr (l, laid, inl (events_refused sets s l f first))
-  stream_refuses sets s f (inr (l, laid, inr (d, are, rest))) =
-      inr (l, laid, inr (d, events_same sets s l d are, rest))
+  stream_refuses sets s f (inr (l, laid, inl (inl first))) = inr (l, laid, inl (inl first))
+  stream_refuses sets s f (inr (l, laid, inl (inr (ps, dated, inl first)))) =
+      inr (l, laid, inl (inr (ps, dated, inl first)))
+  stream_refuses sets s f (inr (l, laid, inl (inr (ps, dated, inr (xs, exchanged, inl first))))) =
+      inr (l, laid, inl (inr (ps, dated, inr (xs, exchanged, inl first))))
+  stream_refuses sets s f (inr (l, laid, inl (inr (ps, dated, inr (xs, exchanged, inr last))))) = absurd last.2
+  stream_refuses sets s f (inr (l, laid, inr (d, (ps, dated, (xs, exchanged, (rs, reset, made))), rest))) =
+      let moved = resets_same (resets_over sets s l) t u e rs reset.1 in
+      inr (l, laid, inr (d, (ps, dated, (xs, exchanged, (rs, (reset.0, moved), made))), rest))
 
   -- the same first broken rule
   pub first_same_table : (swap : Swap) (cal : List Section) (x : Broken) → DatedBroken swap cal t x

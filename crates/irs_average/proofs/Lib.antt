@@ -1,3 +1,4 @@
+pub mod KeptResets
 pub mod BetweenLemmas
 pub mod StepCounts
 pub mod MeanLemmas

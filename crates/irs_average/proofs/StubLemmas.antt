@@ -18,7 +18,7 @@ use Rattle.irs_terms.specs.declared.results.Span.{Span}
 use Rattle.irs_terms.specs.declared.stream.Stream.{Stream}
 use Rattle.irs_resets.specs.ResetDates.{IsPeriod}
 use Rattle.irs_resets.specs.ResetRules.{FinalUnmet, GivesFinal, GivesInitial, InitialUnmet}
-use Rattle.irs_schedule.specs.DatedRules.{in_resets}
+use Rattle.irs_average.proofs.KeptResets.{no_resets_broken}
 use Rattle.irs_schedule.specs.DaySets.{reset_days, stream_sets}
 use Rattle.irs_schedule.specs.Layouts.{IsLayout}
 use Rattle.irs_schedule.specs.Parts.{Part}
@@ -103,13 +103,12 @@ has_stub a h part at index tenor gives =
     (a.number - 1) gives.stream h.schedule gives.at in
     let layout = found.2.layout in
     let laid : IsLayout sets gives.stream layout = found.2.is_layout in
-    let kept = h.dates (a.number - 1) gives.stream gives.at in
+    let kept = no_resets_broken a.swap h.calendars [] h.lawful h.terms h.dates (a.number - 1) gives.stream gives.at found.0
+    found.2 in
     let initial : InitialUnmet gives.stream layout.span → ⊥ =
-    λ unmet. kept in_resets (fault_at K37 initial_stub 0)
-    (record { layout = layout; is_layout = laid; breaks = inl (inl (unmet, refl)) }) in
+    λ unmet. kept (fault_at K37 initial_stub 0) (inl (inl (unmet, refl))) in
     let last : FinalUnmet gives.stream layout.span → ⊥ =
-    λ unmet. kept in_resets (fault_at K37 final_stub 0)
-    (record { layout = layout; is_layout = laid; breaks = inl (inr (unmet, refl)) }) in
+    λ unmet. kept (fault_at K37 final_stub 0) (inl (inr (unmet, refl))) in
     record {
       gives = gives;
       part = part;
