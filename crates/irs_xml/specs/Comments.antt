@@ -1,0 +1,56 @@
+-- Comments, processing instructions and CDATA sections: XML 1.0 (fifth edition), 2.5, 2.6 and 2.7.
+use Rattle.std.specs.Prelude.{ℕ, Bool, true, false, not, ◌&&◌, ◌||◌, ◌==◌, List, [], ◌∷◌, ◌++◌, Option, Some, None}
+use Rattle.std.specs.Prelude.{is_none, if◌then◌else◌, codes}
+use Rattle.std.specs.Char.{to_ascii_lowercase}
+use Rattle.std.specs.List.{list_all}
+use Rattle.std.specs.Prelude.{map}
+use Rattle.std.specs.Str.{bytes_eq}
+use Rattle.irs_xml.specs.Characters.{is_space}
+use Rattle.irs_xml.specs.Names.{is_nc_name}
+
+-- what follows a word, where the characters begin with it
+abbrev pub after : List ℕ → List ℕ → Option (List ℕ)
+after [] cs = Some cs
+after (w ∷ ws) [] = None
+after (w ∷ ws) (c ∷ cs) = if c == w then after ws cs else None
+
+-- the word begins nowhere in the characters
+abbrev pub lacks : List ℕ → List ℕ → Bool
+lacks word [] = true
+lacks word (c ∷ cs) = is_none (after word (c ∷ cs)) && lacks word cs
+
+-- [15] Comment: no `--` in it, nor a `-` at its end
+abbrev pub is_comment : List ℕ → Bool
+is_comment cs = lacks (codes "--") (cs ++ codes "-")
+
+abbrev pub comment_text : List ℕ → List ℕ
+comment_text cs = codes "<!--" ++ (cs ++ codes "-->")
+
+-- [20] CData: no `]]>` in it
+abbrev pub is_cdata : List ℕ → Bool
+is_cdata cs = lacks (codes "]]>") cs
+
+-- [18] CDSect
+abbrev pub cdata_text : List ℕ → List ℕ
+cdata_text cs = codes "<![CDATA[" ++ (cs ++ codes "]]>")
+
+-- [16] PI: its target, and all that stands between the target and `?>`
+pub record Instruction : Type 0 where
+  pub target : List ℕ
+  pub body : List ℕ
+
+-- white space stands between the target and what follows
+abbrev pub is_apart : List ℕ → Bool
+is_apart [] = true
+is_apart (c ∷ cs) = is_space c
+
+-- `xml` in any case
+abbrev pub is_xml : List ℕ → Bool
+is_xml cs = bytes_eq (map to_ascii_lowercase cs) (codes "xml")
+
+-- [17] PITarget: a name without a colon, other than `xml`; and no `?>` before the end
+abbrev pub is_instruction : Instruction → Bool
+is_instruction i = (is_nc_name i.target && not (is_xml i.target)) && (is_apart i.body && lacks (codes "?>") i.body)
+
+abbrev pub instruction_text : Instruction → List ℕ
+instruction_text i = codes "<?" ++ (i.target ++ (i.body ++ codes "?>"))

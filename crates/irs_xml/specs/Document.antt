@@ -1,0 +1,143 @@
+-- A document: XML 1.0 (fifth edition), 2.1, 2.8 and 2.9. No document type may stand, so no entity is declared.
+use Rattle.std.specs.Prelude.{◌≡◌, ℕ, Bool, true, false, ◌&&◌, List, [], ◌∷◌, ◌++◌, Option, Some, None, is_some}
+use Rattle.std.specs.Prelude.{if◌then◌else◌, codes, map}
+use Rattle.std.specs.Char.{to_ascii_lowercase}
+use Rattle.std.specs.Str.{bytes_eq}
+use Rattle.serde_json.specs.Data.{Data, object, no_members, member}
+use Rattle.irs_xml.specs.Characters.{is_space, is_white, is_gap, line_ends, without_mark, IsText}
+use Rattle.irs_xml.specs.Comments.{after, is_comment, comment_text, Instruction, is_instruction, instruction_text}
+use Rattle.irs_xml.specs.Content.{Element, empty, full, element_text, IsElement, most_levels}
+use Rattle.irs_xml.specs.Namespaces.{Scope, Opening, opening_of, first_scope, scope_in, namespace_of}
+use Rattle.irs_xml.specs.Tags.{Tag, is_quote}
+use Rattle.irs_xml.specs.Values.{Child, element_child}
+
+-- a name and a quoted word of the declaration, with the white space round them
+pub record Pair : Type 0 where
+  pub gap : List ℕ
+  pub before : List ℕ
+  pub after : List ℕ
+  pub quote : ℕ
+  pub word : List ℕ
+
+abbrev pub pair_text : List ℕ → Pair → List ℕ
+pair_text name p = p.gap ++ (name ++ (p.before ++ (61 ∷ (p.after ++ (p.quote ∷ (p.word ++ p.quote ∷ []))))))
+
+abbrev pub is_pair : (List ℕ → Bool) → Pair → Bool
+is_pair test p = is_gap p.gap && (is_white p.before && (is_white p.after && (is_quote p.quote && test p.word)))
+
+-- [24] VersionInfo: 1.0
+abbrev pub is_version : List ℕ → Bool
+is_version word = bytes_eq word (codes "1.0")
+
+-- [80] EncodingDecl: UTF-8 in any case
+abbrev pub is_encoding : List ℕ → Bool
+is_encoding word = bytes_eq (map to_ascii_lowercase word) (codes "utf-8")
+
+-- [32] SDDecl: yes or no
+abbrev pub is_standalone : List ℕ → Bool
+is_standalone word = if bytes_eq word (codes "yes") then true else bytes_eq word (codes "no")
+
+-- [23] XMLDecl
+pub record Declaration : Type 0 where
+  pub version : Pair
+  pub encoding : Option Pair
+  pub standalone : Option Pair
+  pub space : List ℕ
+
+abbrev pub pair_text_if : List ℕ → Option Pair → List ℕ
+pair_text_if name None = []
+pair_text_if name (Some p) = pair_text name p
+
+abbrev pub is_pair_if : (List ℕ → Bool) → Option Pair → Bool
+is_pair_if test None = true
+is_pair_if test (Some p) = is_pair test p
+
+abbrev pub declaration_text : Option Declaration → List ℕ
+declaration_text None = []
+declaration_text (Some d) =
+    codes "<?xml" ++ (pair_text (codes "version") d.version ++ (pair_text_if (codes "encoding") d.encoding
+    ++ (pair_text_if (codes "standalone") d.standalone ++ (d.space ++ codes "?>"))))
+
+abbrev pub is_xml_declaration : Option Declaration → Bool
+is_xml_declaration None = true
+is_xml_declaration (Some d) =
+    is_pair is_version d.version && (is_pair_if is_encoding d.encoding
+    && (is_pair_if is_standalone d.standalone && is_white d.space))
+
+-- [27] Misc: comments, instructions and white space
+pub data Misc : Type 0 where
+  blank : ℕ → Misc
+  comment : List ℕ → Misc
+  instruction : Instruction → Misc
+
+abbrev pub misc_text : List Misc → List ℕ
+misc_text [] = []
+misc_text (blank c ∷ ms) = c ∷ misc_text ms
+misc_text (comment cs ∷ ms) = comment_text cs ++ misc_text ms
+misc_text (instruction i ∷ ms) = instruction_text i ++ misc_text ms
+
+abbrev pub is_misc : List Misc → Bool
+is_misc [] = true
+is_misc (blank c ∷ ms) = is_space c && is_misc ms
+is_misc (comment cs ∷ ms) = is_comment cs && is_misc ms
+is_misc (instruction i ∷ ms) = is_instruction i && is_misc ms
+
+-- [1] document and [22] prolog, without a document type
+pub record Document : Type 0 where
+  pub declaration : Option Declaration
+  pub before : List Misc
+  pub root : Element
+  pub behind : List Misc
+
+abbrev pub document_text : Document → List ℕ
+document_text d =
+    declaration_text d.declaration ++ (misc_text d.before ++ (element_text d.root ++ misc_text d.behind))
+
+abbrev pub tag_of : Element → Tag
+tag_of (empty t) = t
+tag_of (full t c space) = t
+
+-- the namespace of a root element
+abbrev pub root_namespace : Opening → Option (List ℕ)
+root_namespace o = namespace_of (scope_in first_scope o.settings) o.prefix
+
+-- a root is FpML 5, of any view, or has no namespace
+abbrev pub is_fpml : Option (List ℕ) → Bool
+is_fpml None = false
+is_fpml (Some []) = true
+is_fpml (Some (c ∷ cs)) = is_some (after (codes "http://www.fpml.org/FpML-5/") (c ∷ cs))
+
+pub record IsDocument (d : Document) : Type 0 where
+  pub declared : is_xml_declaration d.declaration ≡ true
+  pub before : is_misc d.before ≡ true
+  pub root : IsElement most_levels first_scope d.root
+  pub fpml : is_fpml (root_namespace (opening_of (tag_of d.root))) ≡ true
+  pub behind : is_misc d.behind ≡ true
+
+-- the name of the value's one member, by the local part of the root's name
+abbrev pub root_key : List ℕ → List ℕ
+root_key local =
+    if bytes_eq local (codes "swap") then codes "swap"
+    else (if bytes_eq local (codes "trade") then codes "trade" else codes "dataDocument")
+
+abbrev pub rooted : List ℕ → Option Child → Option Data
+rooted local None = None
+rooted local (Some c) = Some (object (member (root_key local) c.1 no_members))
+
+-- the value of a root in its namespace
+abbrev pub root_value : Option (List ℕ) → List ℕ → Element → Option Data
+root_value None local e = None
+root_value (Some namespace) local e = rooted local (element_child namespace true first_scope e)
+
+abbrev pub document_value : Document → Option Data
+document_value d =
+    let o = opening_of (tag_of d.root) in root_value (root_namespace o) o.local d.root
+
+-- the bytes are a document of XML 1.0 and Namespaces in XML 1.0 that means this value
+pub record XmlReads (bytes : List ℕ) (value : Data) : Type 0 where
+  pub characters : List ℕ
+  pub text : IsText bytes characters
+  pub document : Document
+  pub well_formed : IsDocument document
+  pub spelt : line_ends (without_mark characters) ≡ document_text document
+  pub means : document_value document ≡ Some value

@@ -1,0 +1,10 @@
+pub mod Characters
+pub mod Names
+pub mod References
+pub mod Comments
+pub mod Tags
+pub mod Namespaces
+pub mod Content
+pub mod Values
+pub mod Document
+pub mod Places

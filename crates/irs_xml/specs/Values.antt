@@ -1,0 +1,121 @@
+-- The value of an element, as `serde_json` holds values. This is the project's own way to carry FpML elements in JSON.
+use Rattle.std.specs.Prelude.{ℕ, Bool, true, false, not, ◌&&◌, List, [], ◌∷◌, ◌++◌, Option, Some, None}
+use Rattle.std.specs.Prelude.{if◌then◌else◌, codes}
+use Rattle.std.specs.Char.{encode_utf8}
+use Rattle.std.specs.Str.{bytes_eq, encode_utf8_all}
+use Rattle.serde_json.specs.Data.{Data, null, boolean, number, string, array, object, Items, no_items, item, Members}
+use Rattle.serde_json.specs.Data.{no_members, member, put}
+use Rattle.serde_json.specs.Find.{get_member}
+use Rattle.irs_xml.specs.Characters.{is_white}
+use Rattle.irs_xml.specs.Content.{Element, empty, full, Content, nothing, character, reference, cdata, comment}
+use Rattle.irs_xml.specs.Content.{instruction, child}
+use Rattle.irs_xml.specs.Namespaces.{Setting, Opening, Scope, opening_of, is_declaration, scope_in, namespace_of, is_same}
+use Rattle.irs_xml.specs.References.{character_of}
+
+-- an attribute counts where its name has no prefix, and where it declares no namespace
+abbrev pub is_counted : Setting → Bool
+is_counted s = bytes_eq s.prefix (codes "") && not (is_declaration s)
+
+-- the members of the attributes that count, behind those that are there: `@NAME` with its value
+abbrev pub with_settings : List Setting → Members → Members
+with_settings [] ms = ms
+with_settings (s ∷ ss) ms =
+    with_settings ss (if is_counted s then put (64 ∷ s.local) (string s.value) ms else ms)
+
+-- a list with one more at its end
+abbrev pub item_last : Items → Data → Items
+item_last no_items d = item d no_items
+item_last (item e es) d = item e (item_last es d)
+
+-- the values of children of one name: one is itself, several are an array, and no child's value is an array
+abbrev pub joined : Option Data → Data → Data
+joined None d = d
+joined (Some null) d = array (item null (item d no_items))
+joined (Some (boolean b)) d = array (item (boolean b) (item d no_items))
+joined (Some (number n)) d = array (item (number n) (item d no_items))
+joined (Some (string s)) d = array (item (string s) (item d no_items))
+joined (Some (array ds)) d = array (item_last ds d)
+joined (Some (object ms)) d = array (item (object ms) (item d no_items))
+
+-- a child: the name of its member, and its value
+abbrev pub Child : Type 0
+Child = List ℕ × Data
+
+-- the members with those of the children, in the order of the text
+abbrev pub with_child : Child → Members → Members
+with_child c ms = put c.0 (joined (get_member c.0 ms) c.1) ms
+
+abbrev pub with_children : List Child → Members → Members
+with_children [] ms = ms
+with_children (c ∷ cs) ms = with_children cs (with_child c ms)
+
+-- an element without children is its text where no attribute counts, and else has its text as `#text`, unless that is white
+abbrev pub leaf_value : List ℕ → Members → Data
+leaf_value text no_members = string text
+leaf_value text (member k d ms) =
+    if is_white text then object (member k d ms) else object (put (codes "#text") (string text) (member k d ms))
+
+-- an element with children has no text beside them but white space
+abbrev pub value_from : List Setting → List ℕ → List Child → Option Data
+value_from settings text [] = Some (leaf_value text (with_settings settings no_members))
+value_from settings text (c ∷ cs) =
+    if is_white text then Some (object (with_children (c ∷ cs) (with_settings settings no_members))) else None
+
+-- the text that stands directly in an element, in UTF-8; comments and instructions are passed over
+abbrev pub text_in : Content → List ℕ
+text_in nothing = []
+text_in (character x c) = encode_utf8 x ++ text_in c
+text_in (reference r c) = encode_utf8 (character_of r) ++ text_in c
+text_in (cdata cs c) = encode_utf8_all cs ++ text_in c
+text_in (comment cs c) = text_in c
+text_in (instruction i c) = text_in c
+text_in (child e c) = text_in c
+
+-- an element whose namespace is the root's is ours, and every other is foreign
+abbrev pub is_ours : List ℕ → Scope → Opening → Bool
+is_ours root outer o = is_same (namespace_of (scope_in outer o.settings) o.prefix) (Some root)
+
+-- the name of a child's member: its local part, behind a colon where the child is foreign
+abbrev pub key_of : Bool → List ℕ → List ℕ
+key_of true local = local
+key_of false local = 58 ∷ local
+
+-- the first child and those behind it, where each has a value
+abbrev pub both : Option Child → Option (List Child) → Option (List Child)
+both None cs = None
+both (Some c) None = None
+both (Some c) (Some cs) = Some (c ∷ cs)
+
+-- the value of an element that is kept; one that is foreign, or stands in a foreign one, is the empty string
+abbrev pub element_data : Bool → List Setting → List ℕ → Option (List Child) → Option Data
+element_data false settings text children = Some (string [])
+element_data true settings text None = None
+element_data true settings text (Some cs) = value_from settings text cs
+
+abbrev pub named : List ℕ → Option Data → Option Child
+named key None = None
+named key (Some d) = Some (key, d)
+
+-- the member that an element makes, and those of the elements in content; none where text stands beside a child. What a
+-- foreign element holds is passed over
+abbrev mutual
+  pub element_child : List ℕ → Bool → Scope → Element → Option Child
+  element_child root kept scope (empty t) =
+      let o = opening_of t in
+      let ours = is_ours root scope o in
+      named (key_of ours o.local) (element_data (kept && ours) o.settings [] (Some []))
+  element_child root kept scope (full t c space) =
+      let o = opening_of t in
+      let ours = is_ours root scope o in
+      named (key_of ours o.local) (element_data (kept && ours) o.settings (text_in c)
+      (children_in root (kept && ours) (scope_in scope o.settings) c))
+
+  pub children_in : List ℕ → Bool → Scope → Content → Option (List Child)
+  children_in root kept scope nothing = Some []
+  children_in root kept scope (character x c) = children_in root kept scope c
+  children_in root kept scope (reference r c) = children_in root kept scope c
+  children_in root kept scope (cdata cs c) = children_in root kept scope c
+  children_in root kept scope (comment cs c) = children_in root kept scope c
+  children_in root kept scope (instruction i c) = children_in root kept scope c
+  children_in root kept scope (child e c) =
+      both (element_child root kept scope e) (children_in root kept scope c)

@@ -1,0 +1,6 @@
+//! FpML XML as a value: the reading of XML 1.0 and of Namespaces in XML 1.0.
+#![tactic(auto)]
+
+mod reader;
+
+pub use reader::is_char;
