@@ -1,10 +1,7 @@
 -- Comments, processing instructions and CDATA sections: XML 1.0 (fifth edition), 2.5, 2.6 and 2.7.
 use Rattle.std.specs.Prelude.{ℕ, Bool, true, false, not, ◌&&◌, ◌||◌, ◌==◌, List, [], ◌∷◌, ◌++◌, Option, Some, None}
 use Rattle.std.specs.Prelude.{is_none, if◌then◌else◌, codes}
-use Rattle.std.specs.Char.{to_ascii_lowercase}
-use Rattle.std.specs.List.{list_all}
-use Rattle.std.specs.Prelude.{map}
-use Rattle.std.specs.Str.{bytes_eq}
+use Rattle.std.specs.Str.{encode_utf8_all, str_eq_ignore_ascii_case}
 use Rattle.irs_xml.specs.Characters.{is_space}
 use Rattle.irs_xml.specs.Names.{is_nc_name}
 
@@ -46,11 +43,11 @@ is_apart (c ∷ cs) = is_space c
 
 -- `xml` in any case
 abbrev pub is_xml : List ℕ → Bool
-is_xml cs = bytes_eq (map to_ascii_lowercase cs) (codes "xml")
+is_xml name = str_eq_ignore_ascii_case name (codes "xml")
 
 -- [17] PITarget: a name without a colon, other than `xml`; and no `?>` before the end
 abbrev pub is_instruction : Instruction → Bool
-is_instruction i = (is_nc_name i.target && not (is_xml i.target)) && (is_apart i.body && lacks (codes "?>") i.body)
+is_instruction i = (is_nc_name i.target && not (is_xml (encode_utf8_all i.target))) && (is_apart i.body && lacks (codes "?>") i.body)
 
 abbrev pub instruction_text : Instruction → List ℕ
 instruction_text i = codes "<?" ++ (i.target ++ (i.body ++ codes "?>"))

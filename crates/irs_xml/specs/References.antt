@@ -1,6 +1,6 @@
 -- References: XML 1.0 (fifth edition), 4.1 and 4.6. No entity can be declared, so only the five predefined ones are.
 use Rattle.std.specs.Prelude.{◌≡◌, ℕ, ◌+◌, ◌*◌, Bool, true, false, ◌&&◌, List, [], ◌∷◌, ◌++◌, codes}
-use Rattle.std.specs.Char.{is_ascii_digit, is_ascii_hexdigit, digit_value}
+use Rattle.std.specs.Char.{is_digit, digit_value}
 use Rattle.std.specs.List.{list_all}
 use Rattle.irs_xml.specs.Characters.{is_char}
 
@@ -39,10 +39,10 @@ character_of quotation = 34
 character_of (decimal ds) = number_after 10 0 ds
 character_of (hexadecimal ds) = number_after 16 0 ds
 
--- one digit or more
-abbrev pub are_digits : (ℕ → Bool) → List ℕ → Bool
-are_digits test [] = false
-are_digits test (d ∷ ds) = test d && list_all test ds
+-- one digit or more: 0 to 9, and by base 16 also a to f and A to F
+abbrev pub are_digits : ℕ → List ℕ → Bool
+are_digits base [] = false
+are_digits base (d ∷ ds) = is_digit d base && list_all (λ x. is_digit x base) ds
 
 -- a reference to a character has digits, and names a character that XML allows
 abbrev pub is_reference : Reference → Bool
@@ -51,5 +51,5 @@ is_reference greater = true
 is_reference ampersand = true
 is_reference apostrophe = true
 is_reference quotation = true
-is_reference (decimal ds) = are_digits is_ascii_digit ds && is_char (number_after 10 0 ds)
-is_reference (hexadecimal ds) = are_digits is_ascii_hexdigit ds && is_char (number_after 16 0 ds)
+is_reference (decimal ds) = are_digits 10 ds && is_char (number_after 10 0 ds)
+is_reference (hexadecimal ds) = are_digits 16 ds && is_char (number_after 16 0 ds)

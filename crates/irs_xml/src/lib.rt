@@ -1,6 +1,5 @@
 //! FpML XML as a value: the reading of XML 1.0 and of Namespaces in XML 1.0.
 #![tactic(auto)]
 
+mod failure;
 mod reader;
-
-pub use reader::is_char;
