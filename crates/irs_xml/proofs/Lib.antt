@@ -1,1 +1,2 @@
 mod Seeing
+mod NameReads

@@ -8,5 +8,5 @@ pub mod Content
 pub mod Values
 pub mod Document
 pub mod Places
-pub mod Seen
 pub mod Reading
+pub mod Seen

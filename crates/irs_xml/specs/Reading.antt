@@ -1,11 +1,13 @@
 -- How the reader goes through the characters: functions from the characters to what is read and what is left behind it.
 -- The contracts of this crate's own functions cite them. What a document is and means doesn't rest on them.
 use Rattle.std.specs.Prelude.{◌≡◌, ℕ, zero, suc, ◌+◌, ◌*◌, min, Bool, true, false, not, ◌&&◌, ◌||◌, ◌==◌, List, [], ◌∷◌, ◌++◌}
-use Rattle.std.specs.Prelude.{length, Option, Some, None, Result, Ok, Err, if◌then◌else◌, codes, ⊤}
+use denote.Ref.{Bor}
+use Rattle.std.specs.Prelude.{MatchOption, length, Option, Some, None, Result, Ok, Err, if◌then◌else◌, codes, ⊤}
 use Rattle.std.specs.Char.{encode_utf8, is_digit, digit_value, to_ascii_lowercase}
 use Rattle.std.specs.Str.{chars, encode_utf8_all}
 use Rattle.serde_json.specs.Data.{Data, string, object, Members, no_members, member}
 use Rattle.irs_xml.specs.Characters.{is_char, is_space, is_white}
+use Rattle.irs_xml.specs.Seen.{seen}
 use Rattle.irs_xml.specs.Comments.{after, is_xml}
 use Rattle.irs_xml.specs.Content.{most_attributes, most_levels}
 use Rattle.irs_xml.specs.Document.{is_fpml, root_key}
@@ -76,6 +78,23 @@ name_rest (c ∷ cs) = if is_name_char c then name_rest cs else c ∷ cs
 abbrev pub name_at : List ℕ → Got (List ℕ)
 name_at [] = None
 name_at (c ∷ cs) = if is_name_start c then Some (encode_utf8 c ++ encode_utf8_all (name_run cs), name_rest cs) else None
+
+-- the text is the characters of a name, and then what is left
+pub record SplitsName (text left : List ℕ) : Type 0 where
+  pub run : List ℕ
+  pub whole : text ≡ encode_utf8_all run ++ left
+  pub is_run : name_run (chars text) ≡ run ++ name_run (chars left)
+  pub is_rest : name_rest (chars text) ≡ name_rest (chars left)
+
+-- no character of a name stands at the front
+pub record EndsName (left : List ℕ) : Type 0 where
+  pub no_run : name_run (chars left) ≡ []
+  pub no_rest : name_rest (chars left) ≡ chars left
+
+-- a name and the text behind it, where one stands at the front
+abbrev pub NameOf : List ℕ → Option (Bor (List ℕ) × Bor (List ℕ)) → Type 0
+NameOf text found =
+    MatchOption found (name_at (seen text) ≡ None) (λ x. name_at (seen text) ≡ Some (x.0.now, seen x.1.now))
 
 -- a prefix, empty where there is none, and a local part
 unfoldable pub qname_at : List ℕ → Got (List ℕ × List ℕ)
@@ -182,7 +201,7 @@ tag_at cs = do
 
 -- the end of an end tag, behind `</`
 unfoldable pub closing_at : Opening → List ℕ → Option (List ℕ)
-closing_at o cs = after (prefixed (chars o.prefix) (chars o.local)) cs >>= λ rest. after (codes ">") (skip_space rest)
+closing_at o cs = after (prefixed (seen o.prefix) (seen o.local)) cs >>= λ rest. after (codes ">") (skip_space rest)
 
 -- content
 

@@ -1,5 +1,7 @@
 //! FpML XML as a value: the reading of XML 1.0 and of Namespaces in XML 1.0.
 #![tactic(auto)]
 
+mod chars;
 mod failure;
 mod reader;
+mod references;

@@ -1,20 +1,12 @@
 //! The characters of a text, one after another.
-ghost use Rattle.irs_xml.specs.Characters.{is_char as is_char_of};
-ghost use Rattle.irs_xml.specs.Reading.{Takes};
+ghost use Rattle.irs_xml.specs.Comments.{after};
+ghost use Rattle.irs_xml.specs.Reading.{EndsName, NameOf, SplitsName, Takes, after_any_case, gap_at, name_at, skip_space as behind_space, Reads};
 ghost use Rattle.irs_xml.specs.Places.{LiesIn};
 ghost use Rattle.irs_xml.specs.Seen.{seen, FirstOf, Uncons};
 ghost use Rattle.std.specs.Prelude.{◌≡◌};
 
+use crate::chars::{is_name_char, is_name_start, is_space};
 use std::marker::Model;
-use std::str::Chars;
-
-/// XML allows the character.
-#[tactic(auto, unfolding(crate::specs::Characters::is_char))]
-pub(crate) fn is_char(c: char) -> bool
-    ensures { result ≡ is_char_of c }
-{
-    matches!(c, '\t' | '\n' | '\r' | ' '..='\u{D7FF}' | '\u{E000}'..='\u{FFFD}' | '\u{10000}'..='\u{10FFFF}')
-}
 
 /// What is left of a text. Each end of a line, CR LF or a CR alone, is read as one LF.
 #[derive(Drop)]
@@ -45,6 +37,113 @@ impl<'a> Reader<'a> {
         let (first, rest) = first_of(self.rest)?;
         self.rest = rest;
         Some(first)
+    }
+
+    /// Passes over white space.
+    pub(crate) fn skip_space(&mut self)
+        ensures { self.new ≡ behind_space self.old }
+    {
+        while let Some((c, rest)) = first_of(self.rest) {
+            if !is_space(c) {
+                break;
+            }
+            self.rest = rest;
+        }
+    }
+
+    /// White space stands here, and is passed over.
+    pub(crate) fn gap(&mut self) -> bool
+        ensures { Takes result self.old self.new (gap_at self.old) }
+    {
+        match first_of(self.rest) {
+            None => false,
+            Some((c, rest)) => if is_space(c) {
+                self.rest = rest;
+                self.skip_space();
+                true
+            } else {
+                false
+            },
+        }
+    }
+
+    /// The word stands here, and is taken. Its bytes are ASCII characters.
+    pub(crate) fn eat(&mut self, word: &[u8]) -> bool
+        ensures { Takes result self.old self.new (after word.now self.old) }
+    {
+        let mut ahead = Reader { rest: self.rest };
+        for byte in word {
+            if ahead.next() != Some(char::from(*byte)) {
+                return false;
+            }
+        }
+        self.rest = ahead.rest;
+        true
+    }
+
+    /// The word, of small ASCII letters and signs, stands here in any case, and is taken.
+    pub(crate) fn eat_any_case(&mut self, word: &[u8]) -> bool
+        ensures { Takes result self.old self.new (after_any_case word.now self.old) }
+    {
+        let mut ahead = Reader { rest: self.rest };
+        for byte in word {
+            if ahead.next().map(|c| c.to_ascii_lowercase()) != Some(char::from(*byte)) {
+                return false;
+            }
+        }
+        self.rest = ahead.rest;
+        true
+    }
+
+    /// The name stands here, and is taken.
+    pub(crate) fn eat_name(&mut self, name: &str) -> bool
+        ensures { Takes result self.old self.new (after (seen name.now) self.old) }
+    {
+        let mut ahead = Reader { rest: self.rest };
+        let mut word = Reader { rest: name };
+        while let Some(c) = word.next() {
+            if ahead.next() != Some(c) {
+                return false;
+            }
+        }
+        self.rest = ahead.rest;
+        true
+    }
+
+    /// A name without a colon, taken.
+    pub(crate) fn name(&mut self) -> Option<&'a str>
+        ensures { Reads (λ n. n.now) result self.new (name_at self.old) }
+    {
+        let (name, rest) = split_name(self.rest)?;
+        self.rest = rest;
+        Some(name)
+    }
+}
+
+// A name at the front, and what is behind it.
+fn split_name(text: &str) -> Option<(&str, &str)>
+    ensures { NameOf text.now result }
+{
+    let mut behind = text.chars();
+    if !is_name_start(behind.next()?) {
+        return None;
+    }
+    let left = name_rest(behind.as_str());
+    Some(text.split_at(text.len() - left.len()))
+}
+
+// What is behind the characters of a name.
+fn name_rest(text: &str) -> &str
+    ensures splits { SplitsName text.now result.now }
+    ensures ends { EndsName result.now }
+{
+    let mut left = text;
+    loop {
+        let mut behind = left.chars();
+        match behind.next() {
+            Some(c) if is_name_char(c) => left = behind.as_str(),
+            _ => return left,
+        }
     }
 }
 

@@ -1,0 +1,11 @@
+use Rattle.std.proofs.Common.{◌≡◌, length}
+use Rattle.irs_xml.specs.Comments.{after}
+use Rattle.irs_xml.specs.Seen.{seen}
+use Rattle.irs_xml.proofs.reader.Reader.eat_name.Given as goal
+
+-- what is left of the name stands ahead just where the whole name stands at the front
+abbrev pub invariant-loop-c : goal.invariant-loop-c
+invariant-loop-c l = after l.word l.ahead ≡ after (seen l.name) (seen l.self-inside.rest.now)
+
+abbrev pub decreases-loop-c : goal.decreases-loop-c
+decreases-loop-c l = length l.word
