@@ -1,2 +1,3 @@
 mod Seeing
+mod Allowed
 mod NameReads

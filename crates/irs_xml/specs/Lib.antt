@@ -10,3 +10,4 @@ pub mod Document
 pub mod Places
 pub mod Reading
 pub mod Seen
+pub mod TagViews

@@ -2,7 +2,7 @@
 -- The contracts of this crate's own functions cite them. What a document is and means doesn't rest on them.
 use Rattle.std.specs.Prelude.{◌≡◌, ℕ, zero, suc, ◌+◌, ◌*◌, min, Bool, true, false, not, ◌&&◌, ◌||◌, ◌==◌, List, [], ◌∷◌, ◌++◌}
 use denote.Ref.{Bor}
-use Rattle.std.specs.Prelude.{MatchOption, length, Option, Some, None, Result, Ok, Err, if◌then◌else◌, codes, ⊤}
+use Rattle.std.specs.Prelude.{MatchOption, length, Option, Some, None, Result, Ok, Err, if◌then◌else◌, codes}
 use Rattle.std.specs.Char.{encode_utf8, is_digit, digit_value, to_ascii_lowercase}
 use Rattle.std.specs.Str.{chars, encode_utf8_all}
 use Rattle.serde_json.specs.Data.{Data, string, object, Members, no_members, member}
@@ -37,7 +37,7 @@ abbrev pub Reads : {X Y : Type 0} → (X → Y) → Option X → List ℕ → Go
 Reads view (Some x) new read = read ≡ Some (view x, new)
 Reads view None new read = read ≡ None
 
-abbrev pub Passes : Option ⊤ → List ℕ → Option (List ℕ) → Type 0
+abbrev pub Passes : {X : Type 0} → Option X → List ℕ → Option (List ℕ) → Type 0
 Passes (Some x) new read = read ≡ Some new
 Passes None new read = read ≡ None
 

@@ -2,6 +2,9 @@
 #![tactic(auto)]
 
 mod chars;
+mod comments;
 mod failure;
 mod reader;
 mod references;
+mod settings;
+mod tags;

@@ -1,0 +1,9 @@
+use Rattle.std.proofs.Common.{◌≡◌, length, string_bytes}
+use Rattle.irs_xml.specs.Reading.{data_at}
+use Rattle.irs_xml.proofs.comments.data.Given as goal
+
+abbrev pub invariant-loop-reader : goal.invariant-loop-reader
+invariant-loop-reader l = data_at (string_bytes l.text) l.reader ≡ data_at (string_bytes l.initial.text) l.initial.reader
+
+abbrev pub decreases-loop-reader : goal.decreases-loop-reader
+decreases-loop-reader l = length l.reader

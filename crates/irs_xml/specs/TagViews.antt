@@ -1,0 +1,18 @@
+-- What the types of tags stand for.
+use Rattle.std.specs.Prelude.{ℕ, List, map, Bool, string_bytes}
+use Rattle.irs_xml.specs.Namespaces.{Setting, Opening, Scope}
+use Rattle.irs_xml.specs.declared.settings.Setting.{Setting as GivenSetting}
+use Rattle.irs_xml.specs.declared.settings.Tag.{Tag as GivenTag}
+use Rattle.irs_xml.specs.declared.settings.Declaration.{Declaration as GivenDeclaration}
+
+abbrev pub setting_view : GivenSetting → Setting
+setting_view s = record { prefix = s.prefix.now; local = s.local.now; value = string_bytes s.value }
+
+abbrev pub opening_view : GivenTag → Opening
+opening_view t = record { prefix = t.prefix.now; local = t.local.now; settings = map setting_view t.settings.items }
+
+abbrev pub tag_view : GivenTag → Opening × Bool
+tag_view t = (opening_view t, t.is_empty)
+
+abbrev pub scope_view : List GivenDeclaration → Scope
+scope_view ds = map (λ d. (d.prefix.now, string_bytes d.namespace)) ds

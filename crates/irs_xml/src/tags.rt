@@ -1,0 +1,145 @@
+//! Tags, behind their `<`: XML 1.0 (fifth edition), 3.1 and 3.3.3.
+ghost use Rattle.irs_xml.specs.Reading.{Gives, Passes, Reads, equals_at, qname_at, quote_at, setting_at, settings_at, tag_at, value_at};
+ghost use Rattle.irs_xml.specs.Content.{most_attributes};
+ghost use Rattle.irs_xml.specs.TagViews.{setting_view, tag_view};
+ghost use Rattle.std.specs.Prelude.{◌≡◌, [], length, map, string_bytes};
+
+use crate::chars::is_space;
+use crate::failure::Failure;
+use crate::reader::Reader;
+use crate::references::reference;
+use crate::settings::{Setting, Tag};
+use std::alloc::Global;
+
+/// The most attributes that a tag may have, declarations counted.
+pub(crate) const MOST_ATTRIBUTES: usize = 64;
+
+/// A tag, up to its `>`.
+#[tactic(auto, unfolding(crate::specs::Reading::tag_at))]
+pub(crate) fn tag<'a>(reader: &mut Reader<'a>, alloc: Global) -> Result<Tag<'a>, Failure>
+    ensures { Gives tag_view result reader.new (tag_at reader.old) }
+{
+    let Some((prefix, local)) = qname(reader) else {
+        return Err(Failure::NotXml);
+    };
+    let (settings, is_empty) = settings(reader, alloc)?;
+    Ok(Tag {
+        prefix,
+        local,
+        settings,
+        is_empty,
+    })
+}
+
+// A prefix, empty where there is none, and a local part.
+#[tactic(auto, unfolding(crate::specs::Reading::qname_at))]
+fn qname<'a>(reader: &mut Reader<'a>) -> Option<(&'a str, &'a str)>
+    ensures { Reads (λ n. (n.0.now, n.1.now)) result reader.new (qname_at reader.old) }
+{
+    let first = reader.name()?;
+    if reader.eat(b":") {
+        Some((first, reader.name()?))
+    } else {
+        Some(("", first))
+    }
+}
+
+// The attributes of a tag and its end, and whether it is the tag of an empty element.
+fn settings<'a>(
+    reader: &mut Reader<'a>,
+    alloc: Global,
+) -> Result<(Vec<Setting<'a>>, bool), Failure>
+    ensures { Gives (λ x. (map setting_view x.0.items, x.1)) result reader.new (settings_at most_attributes [] reader.old) }
+{
+    let mut settings = Vec::new(alloc);
+    let mut left = MOST_ATTRIBUTES;
+    loop {
+        let has_gap = reader.gap();
+        if reader.eat(b">") {
+            return Ok((settings, false));
+        }
+        if reader.eat(b"/>") {
+            return Ok((settings, true));
+        }
+        if !has_gap || left == 0 {
+            return Err(Failure::NotXml);
+        }
+        settings.push(setting(reader, alloc)?)?;
+        left -= 1;
+    }
+}
+
+// An attribute: its name, `=`, and its value in quotes.
+#[tactic(auto, unfolding(crate::specs::Reading::setting_at))]
+fn setting<'a>(reader: &mut Reader<'a>, alloc: Global) -> Result<Setting<'a>, Failure>
+    ensures { Gives setting_view result reader.new (setting_at reader.old) }
+{
+    let Some((prefix, local)) = qname(reader) else {
+        return Err(Failure::NotXml);
+    };
+    let Some(()) = equals(reader) else {
+        return Err(Failure::NotXml);
+    };
+    let Some(quote) = quote(reader) else {
+        return Err(Failure::NotXml);
+    };
+    let value = value(reader, alloc, quote)?;
+    Ok(Setting {
+        prefix,
+        local,
+        value,
+    })
+}
+
+/// `=`, with white space round it.
+#[tactic(auto, unfolding(crate::specs::Reading::equals_at))]
+pub(crate) fn equals(reader: &mut Reader<'_>) -> Option<()>
+    ensures { Passes result reader.new (equals_at reader.old) }
+{
+    reader.skip_space();
+    if reader.eat(b"=") {
+        reader.skip_space();
+        Some(())
+    } else {
+        None
+    }
+}
+
+/// A quote: `'` or `"`.
+#[tactic(auto, unfolding(crate::specs::Reading::quote_at))]
+pub(crate) fn quote(reader: &mut Reader<'_>) -> Option<char>
+    ensures { Reads (λ c. c) result reader.new (quote_at reader.old) }
+{
+    if reader.eat(b"'") {
+        Some('\'')
+    } else if reader.eat(b"\"") {
+        Some('"')
+    } else {
+        None
+    }
+}
+
+// What a value says, up to its quote. White space that isn't referred to is a space.
+fn value(reader: &mut Reader<'_>, alloc: Global, quote: char) -> Result<String, Failure>
+    ensures { Gives string_bytes result reader.new (value_at (length reader.old) quote [] reader.old) }
+{
+    let mut text = String::new(alloc);
+    loop {
+        let Some(c) = reader.next() else {
+            return Err(Failure::NotXml);
+        };
+        if c == quote {
+            return Ok(text);
+        }
+        match c {
+            '<' => return Err(Failure::NotXml),
+            '&' => {
+                let Some(named) = reference(reader) else {
+                    return Err(Failure::NotXml);
+                };
+                text.push(named)?;
+            },
+            plain => text.push(if is_space(plain) { ' ' } else { plain })?,
+        }
+    }
+}
