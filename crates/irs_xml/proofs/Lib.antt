@@ -1,3 +1,6 @@
+mod Steps
+mod NameLaws
+mod ReferenceLaws
 mod Seeing
 mod Allowed
 mod NameReads

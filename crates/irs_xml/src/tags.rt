@@ -53,7 +53,7 @@ fn settings<'a>(
 {
     let mut settings = Vec::new(alloc);
     let mut left = MOST_ATTRIBUTES;
-    loop {
+    'attributes: loop {
         let has_gap = reader.gap();
         if reader.eat(b">") {
             return Ok((settings, false));
