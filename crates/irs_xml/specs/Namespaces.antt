@@ -87,6 +87,10 @@ may_declare prefix namespace =
     && (same_answer (bytes_eq prefix (codes "xml")) (bytes_eq namespace xml_namespace)
     && (bytes_eq prefix (codes "") || not (bytes_eq namespace (codes ""))))
 
+-- an attribute that declares a namespace may declare it
+unfoldable pub is_lawful : Setting → Bool
+is_lawful s = if is_declaration s then may_declare (declared_prefix s) s.value else true
+
 -- the namespace of an attribute: none without a prefix, whatever the default is
 abbrev pub attribute_namespace : Scope → Setting → Option (List ℕ)
 attribute_namespace scope s = if bytes_eq s.prefix (codes "") then Some (codes "") else namespace_of scope s.prefix
@@ -109,7 +113,7 @@ are_unlike scope (s ∷ ss) = not (list_any (is_like scope s) ss) && are_unlike 
 -- what a tag declares may be declared, its prefixes are declared, its name's isn't `xmlns`, and no attributes are alike
 abbrev pub is_opened_in : Scope → Opening → Bool
 is_opened_in scope o =
-    (list_all (λ d. may_declare d.0 d.1) (declarations o.settings) && not (bytes_eq o.prefix (codes "xmlns")))
+    (list_all is_lawful o.settings && not (bytes_eq o.prefix (codes "xmlns")))
     && (is_some (namespace_of scope o.prefix)
     && (list_all (λ s. is_some (attribute_namespace scope s)) o.settings && are_unlike scope o.settings))
 

@@ -46,6 +46,11 @@ abbrev pub Takes : Bool → List ℕ → List ℕ → Option (List ℕ) → Type
 Takes true old new read = read ≡ Some new
 Takes false old new read = (read ≡ None) × (new ≡ old)
 
+-- something is there and is taken, or it isn't there and nothing is taken
+abbrev pub Tries : {X Y : Type 0} → (X → Y) → Option X → List ℕ → List ℕ → Got Y → Type 0
+Tries view (Some x) old new read = read ≡ Some (view x, new)
+Tries view None old new read = (read ≡ None) × (new ≡ old)
+
 -- the same where memory may run out
 abbrev pub Fails : {Y : Type 0} → Failure → Option Y → Type 0
 Fails NotXml read = read ≡ None
@@ -165,15 +170,19 @@ quote_at cs =
     choose (after (codes "'") cs) (λ rest. Some (39, rest))
     (choose (after (34 ∷ []) cs) (λ rest. Some (34, rest)) None)
 
+-- a character of a value, and what follows it: one that stands for itself, or that a reference names
+unfoldable pub value_character_at : ℕ → List ℕ → Got ℕ
+value_character_at c cs =
+    if c == 60 then None
+    else (if c == 38 then reference_at cs else Some (if is_space c then 32 else c, cs))
+
 -- the rest of a value, put behind what was read of it; n is the most characters that are looked at
 unfoldable pub value_at : ℕ → ℕ → List ℕ → List ℕ → Got (List ℕ)
 value_at zero quote text cs = None
 value_at (suc n) quote text [] = None
 value_at (suc n) quote text (c ∷ cs) =
     if c == quote then Some (text, cs)
-    else (if c == 60 then None
-    else (if c == 38 then (reference_at cs >>= λ r. value_at n quote (text ++ encode_utf8 r.0) r.1)
-    else value_at n quote (text ++ encode_utf8 (if is_space c then 32 else c)) cs))
+    else (value_character_at c cs >>= λ r. value_at n quote (text ++ encode_utf8 r.0) r.1)
 
 unfoldable pub setting_at : List ℕ → Got Setting
 setting_at cs = do
@@ -183,15 +192,18 @@ setting_at cs = do
   value ← value_at (length quote.1) quote.0 [] quote.1
   Some (record { prefix = name.0.0; local = name.0.1; value = value.0 }, value.1)
 
--- the attributes of a tag behind those that were read, so many more being allowed, and whether the tag is of an empty element
+-- the end of a tag, and whether it is of an empty element
+unfoldable pub tag_end_at : List ℕ → Got Bool
+tag_end_at cs =
+    choose (after (codes ">") cs) (λ rest. Some (false, rest))
+    (choose (after (codes "/>") cs) (λ rest. Some (true, rest)) None)
+
+-- the attributes of a tag behind those that were read, so many more being allowed, and how the tag ends
 unfoldable pub settings_at : ℕ → List Setting → List ℕ → Got (List Setting × Bool)
-settings_at zero ss cs =
-    choose (after (codes ">") (skip_space cs)) (λ rest. Some ((ss, false), rest))
-    (choose (after (codes "/>") (skip_space cs)) (λ rest. Some ((ss, true), rest)) None)
+settings_at zero ss cs = choose (tag_end_at (skip_space cs)) (λ end. Some ((ss, end.0), end.1)) None
 settings_at (suc n) ss cs =
-    choose (after (codes ">") (skip_space cs)) (λ rest. Some ((ss, false), rest))
-    (choose (after (codes "/>") (skip_space cs)) (λ rest. Some ((ss, true), rest))
-    (gap_at cs >>= λ rest. setting_at rest >>= λ s. settings_at n (ss ++ s.0 ∷ []) s.1))
+    choose (tag_end_at (skip_space cs)) (λ end. Some ((ss, end.0), end.1))
+    (gap_at cs >>= λ rest. setting_at rest >>= λ s. settings_at n (ss ++ s.0 ∷ []) s.1)
 
 unfoldable pub tag_at : List ℕ → Got (Opening × Bool)
 tag_at cs = do

@@ -4,6 +4,7 @@
 mod chars;
 mod comments;
 mod failure;
+mod namespaces;
 mod reader;
 mod references;
 mod settings;

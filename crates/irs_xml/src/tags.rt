@@ -1,8 +1,9 @@
 //! Tags, behind their `<`: XML 1.0 (fifth edition), 3.1 and 3.3.3.
-ghost use Rattle.irs_xml.specs.Reading.{Gives, Passes, Reads, equals_at, qname_at, quote_at, setting_at, settings_at, tag_at, value_at};
+ghost use Rattle.irs_xml.specs.Reading.{Gives, Passes, Reads, Tries, equals_at, qname_at, quote_at, setting_at, settings_at, tag_at, tag_end_at, value_at, value_character_at};
+ghost use Rattle.irs_xml.specs.Characters.{is_space as is_space_of};
 ghost use Rattle.irs_xml.specs.Content.{most_attributes};
 ghost use Rattle.irs_xml.specs.TagViews.{setting_view, tag_view};
-ghost use Rattle.std.specs.Prelude.{◌≡◌, [], length, map, string_bytes};
+ghost use Rattle.std.specs.Prelude.{◌≡◌, [], if◌then◌else◌, length, map, string_bytes};
 
 use crate::chars::is_space;
 use crate::failure::Failure;
@@ -55,17 +56,31 @@ fn settings<'a>(
     let mut left = MOST_ATTRIBUTES;
     'attributes: loop {
         let has_gap = reader.gap();
-        if reader.eat(b">") {
-            return Ok((settings, false));
+        if let Some(is_empty) = tag_end(reader) {
+            return Ok((settings, is_empty));
         }
-        if reader.eat(b"/>") {
-            return Ok((settings, true));
+        if !has_gap {
+            return Err(Failure::NotXml);
         }
-        if !has_gap || left == 0 {
+        if left == 0 {
             return Err(Failure::NotXml);
         }
         settings.push(setting(reader, alloc)?)?;
         left -= 1;
+    }
+}
+
+// `>`, or `/>` of an empty element.
+#[tactic(auto, unfolding(crate::specs::Reading::tag_end_at))]
+fn tag_end(reader: &mut Reader<'_>) -> Option<bool>
+    ensures { Tries (λ b. b) result reader.old reader.new (tag_end_at reader.old) }
+{
+    if reader.eat(b">") {
+        Some(false)
+    } else if reader.eat(b"/>") {
+        Some(true)
+    } else {
+        None
     }
 }
 
@@ -131,15 +146,28 @@ fn value(reader: &mut Reader<'_>, alloc: Global, quote: char) -> Result<String, 
         if c == quote {
             return Ok(text);
         }
-        match c {
-            '<' => return Err(Failure::NotXml),
-            '&' => {
-                let Some(named) = reference(reader) else {
-                    return Err(Failure::NotXml);
-                };
-                text.push(named)?;
-            },
-            plain => text.push(if is_space(plain) { ' ' } else { plain })?,
-        }
+        let Some(named) = value_character(reader, c) else {
+            return Err(Failure::NotXml);
+        };
+        text.push(named)?;
     }
+}
+
+// The character of a value that begins with this one, which is taken already.
+#[tactic(auto, unfolding(crate::specs::Reading::value_character_at))]
+fn value_character(reader: &mut Reader<'_>, c: char) -> Option<char>
+    ensures { Reads (λ d. d) result reader.new (value_character_at c reader.old) }
+{
+    match c {
+        '<' => None,
+        '&' => reference(reader),
+        plain => Some(as_space(plain)),
+    }
+}
+
+// White space as a space, and every other character as it is.
+fn as_space(c: char) -> char
+    ensures { result ≡ (if is_space_of c then 32 else c) }
+{
+    if is_space(c) { ' ' } else { c }
 }

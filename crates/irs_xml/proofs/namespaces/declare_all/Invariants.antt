@@ -1,0 +1,9 @@
+use Rattle.std.proofs.Common.{◌≡◌, ◌++◌, drop, map}
+use Rattle.irs_xml.specs.Namespaces.{declarations}
+use Rattle.irs_xml.specs.TagViews.{scope_view, setting_view}
+use Rattle.irs_xml.proofs.namespaces.declare_all.Given as goal
+
+abbrev pub invariant-loop-setting : goal.invariant-loop-setting
+invariant-loop-setting l =
+    scope_view l.scope.items ++ declarations (map setting_view (drop l.setting-index l.settings))
+    ≡ scope_view l.initial.scope.items ++ declarations (map setting_view l.settings)

@@ -1,0 +1,187 @@
+//! Which namespace a prefix stands for, and what a tag may declare: Namespaces in XML 1.0 (third
+//! edition).
+ghost use Rattle.irs_xml.specs.Namespaces.{attribute_namespace as attribute_namespace_of, are_unlike as are_unlike_of, declarations, declared_prefix as declared_prefix_of, first_scope, is_declaration as is_declaration_of, is_like as is_like_of, is_lawful as is_lawful_of, is_opened_in, is_same as is_same_of, latest, may_declare as may_declare_of, namespace_of};
+ghost use Rattle.irs_xml.specs.TagViews.{opening_view, scope_view, setting_view};
+ghost use Rattle.std.specs.List.{list_all, list_any};
+ghost use Rattle.std.specs.Option.{option_map};
+ghost use Rattle.std.specs.Prelude.{◌≡◌, [], ◌∷◌, ◌++◌, IfOk, OnOk, is_some, map};
+
+use crate::failure::Failure;
+use crate::settings::{Declaration, Setting, Tag};
+use std::alloc::{AllocError, Global};
+
+const XML_NAMESPACE: &str = "http://www.w3.org/XML/1998/namespace";
+const XMLNS_NAMESPACE: &str = "http://www.w3.org/2000/xmlns/";
+
+/// What is in scope round the root: no default, and the two prefixes that are bound by definition.
+#[tactic(auto, unfolding(crate::specs::Namespaces::first_scope))]
+pub(crate) fn first_declarations<'a>(alloc: Global) -> Result<Vec<Declaration<'a>>, Failure>
+    ensures { IfOk result (λ v. scope_view v.items ≡ first_scope) }
+{
+    let mut scope = Vec::new(alloc);
+    declare(&mut scope, alloc, "", "")?;
+    declare(&mut scope, alloc, "xml", XML_NAMESPACE)?;
+    declare(&mut scope, alloc, "xmlns", XMLNS_NAMESPACE)?;
+    Ok(scope)
+}
+
+// Puts a declaration behind those in scope.
+fn declare<'a>(
+    scope: &mut Vec<Declaration<'a>>,
+    alloc: Global,
+    prefix: &'a str,
+    namespace: &str,
+) -> Result<(), Failure>
+    ensures { OnOk result (scope_view scope.new.items ≡ scope_view scope.old.items ++ (prefix.entry.now, namespace.now) ∷ []) }
+{
+    scope.push(Declaration {
+        prefix,
+        namespace: String::from_str(alloc, namespace)?,
+    })?;
+    Ok(())
+}
+
+/// Puts the declarations of a tag behind those in scope.
+pub(crate) fn declare_all<'a>(
+    scope: &mut Vec<Declaration<'a>>,
+    alloc: Global,
+    settings: &[Setting<'a>],
+) -> Result<(), Failure>
+    ensures { OnOk result (scope_view scope.new.items
+        ≡ scope_view scope.old.items ++ declarations (map setting_view settings.now)) }
+{
+    for setting in settings {
+        if is_declaration(setting) {
+            declare(scope, alloc, declared_prefix(setting), setting.value.as_str())?;
+        }
+    }
+    Ok(())
+}
+
+// The prefix that a declaration declares, empty for the default.
+#[tactic(auto, unfolding(crate::specs::Namespaces::declared_prefix))]
+fn declared_prefix<'a>(setting: &Setting<'a>) -> &'a str
+    ensures { result.now ≡ declared_prefix_of (setting_view setting.now) }
+{
+    if setting.prefix == "xmlns" { setting.local } else { "" }
+}
+
+/// The attribute declares a namespace.
+#[tactic(auto, unfolding(crate::specs::Namespaces::is_declaration))]
+pub(crate) fn is_declaration(setting: &Setting<'_>) -> bool
+    ensures { result ≡ is_declaration_of (setting_view setting.now) }
+{
+    setting.prefix == "xmlns" || (setting.prefix == "" && setting.local == "xmlns")
+}
+
+/// The namespace of a prefix, and of an element without one. The last declaration holds.
+pub(crate) fn namespace<'s>(scope: &'s [Declaration<'_>], prefix: &str) -> Option<&'s str>
+    ensures { option_map (λ n. n.now) result ≡ namespace_of (scope_view scope.now) prefix.now }
+{
+    let mut found = None;
+    for declaration in scope {
+        if declaration.prefix == prefix {
+            found = Some(declaration.namespace.as_str());
+        }
+    }
+    found
+}
+
+// A namespace may be declared by that prefix.
+#[tactic(auto, unfolding(crate::specs::Namespaces::may_declare))]
+fn may_declare(prefix: &str, namespace: &str) -> bool
+    ensures { result ≡ may_declare_of prefix.now namespace.now }
+{
+    prefix != "xmlns"
+        && namespace != XMLNS_NAMESPACE
+        && (prefix == "xml") == (namespace == XML_NAMESPACE)
+        && (prefix == "" || namespace != "")
+}
+
+// What the attribute declares, if it does, may be declared.
+#[tactic(auto, unfolding(crate::specs::Namespaces::is_lawful))]
+fn is_lawful(setting: &Setting<'_>) -> bool
+    ensures { result ≡ is_lawful_of (setting_view setting.now) }
+{
+    if is_declaration(setting) {
+        may_declare(declared_prefix(setting), setting.value.as_str())
+    } else {
+        true
+    }
+}
+
+// The namespace of an attribute: none without a prefix.
+fn attribute_namespace<'s>(scope: &'s [Declaration<'_>], setting: &Setting<'_>) -> Option<&'s str>
+    ensures { option_map (λ n. n.now) result ≡ attribute_namespace_of (scope_view scope.now) (setting_view setting.now) }
+{
+    if setting.prefix == "" {
+        Some("")
+    } else {
+        namespace(scope, setting.prefix)
+    }
+}
+
+/// Both are there, and they are one.
+pub(crate) fn is_same(a: Option<&str>, b: Option<&str>) -> bool
+    ensures { result ≡ is_same_of (option_map (λ n. n.now) a.entry) (option_map (λ n. n.now) b.entry) }
+{
+    match a {
+        None => false,
+        Some(a) => match b {
+            None => false,
+            Some(b) => a == b,
+        },
+    }
+}
+
+// The attributes have one local part, and one namespace or none both.
+fn is_like(scope: &[Declaration<'_>], a: &Setting<'_>, b: &Setting<'_>) -> bool
+    ensures { result ≡ is_like_of (scope_view scope.now) (setting_view a.now) (setting_view b.now) }
+{
+    a.local == b.local && is_same(attribute_namespace(scope, a), attribute_namespace(scope, b))
+}
+
+// One of the others is like the attribute.
+fn is_like_any(scope: &[Declaration<'_>], setting: &Setting<'_>, others: &[Setting<'_>]) -> bool
+    ensures { result ≡ list_any (is_like_of (scope_view scope.now) (setting_view setting.now)) (map setting_view others.now) }
+{
+    others.iter().any(|other| is_like(scope, setting, other))
+}
+
+// No two attributes are alike.
+fn are_unlike(scope: &[Declaration<'_>], settings: &[Setting<'_>]) -> bool
+    ensures { result ≡ are_unlike_of (scope_view scope.now) (map setting_view settings.now) }
+{
+    for (index, setting) in settings.iter().enumerate() {
+        if is_like_any(scope, setting, &settings[index + 1..]) {
+            return false;
+        }
+    }
+    true
+}
+
+// What each attribute declares may be declared.
+fn are_lawful(settings: &[Setting<'_>]) -> bool
+    ensures { result ≡ list_all is_lawful_of (map setting_view settings.now) }
+{
+    settings.iter().all(|setting| is_lawful(setting))
+}
+
+// The prefix of each attribute is declared.
+fn have_namespaces(scope: &[Declaration<'_>], settings: &[Setting<'_>]) -> bool
+    ensures { result ≡ list_all (λ s. is_some (attribute_namespace_of (scope_view scope.now) s)) (map setting_view settings.now) }
+{
+    settings.iter().all(|setting| attribute_namespace(scope, setting).is_some())
+}
+
+/// The tag may stand in this scope, its own declarations included.
+pub(crate) fn is_opened(scope: &[Declaration<'_>], tag: &Tag<'_>) -> bool
+    ensures { result ≡ is_opened_in (scope_view scope.now) (opening_view tag.now) }
+{
+    let settings = tag.settings.as_slice();
+    are_lawful(settings)
+        && tag.prefix != "xmlns"
+        && namespace(scope, tag.prefix).is_some()
+        && have_namespaces(scope, settings)
+        && are_unlike(scope, settings)
+}
