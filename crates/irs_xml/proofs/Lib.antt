@@ -3,6 +3,8 @@ mod NameLaws
 mod ReferenceLaws
 mod ValueSteps
 mod SettingSteps
+mod MapTests
+mod MemberLemmas
 mod Seeing
 mod Allowed
 mod NameReads

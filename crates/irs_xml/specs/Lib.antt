@@ -11,3 +11,4 @@ pub mod Places
 pub mod Reading
 pub mod Seen
 pub mod TagViews
+pub mod InsideViews

@@ -60,6 +60,10 @@ abbrev pub Gives : {X Y : Type 0} → (X → Y) → Result X Failure → List �
 Gives view (Ok x) new read = read ≡ Some (view x, new)
 Gives view (Err e) new read = Fails e read
 
+abbrev pub GivesValue : {X Y : Type 0} → (X → Y) → Result X Failure → Option Y → Type 0
+GivesValue view (Ok x) read = read ≡ Some (view x)
+GivesValue view (Err e) read = Fails e read
+
 -- white space
 
 abbrev pub skip_space : List ℕ → List ℕ
@@ -291,20 +295,27 @@ abbrev pub as_child : Bool → Opening → Option Data → List ℕ → Got Chil
 as_child ours o None cs = None
 as_child ours o (Some d) cs = Some ((key_of ours o.local, d), cs)
 
--- an element behind its start tag or empty-element tag, by what reads its children
+-- what was read of an element behind its tag: nothing, or its content and its end tag
+unfoldable pub filled_at : (List ℕ → Got Child) → Opening × Bool → Inside → List ℕ → Got Inside
+filled_at child (o, true) i cs = Some (i, cs)
+filled_at child (o, false) i cs = do
+  inside ← content_at child (length cs) i cs
+  rest ← closing_at o inside.1
+  Some (inside.0, rest)
+
+-- an element behind its start tag or empty-element tag, in its own scope, by what reads its children
 unfoldable pub element_at : (Bool → Scope → List ℕ → Got Child) → List ℕ → Bool → Scope → Opening × Bool → List ℕ → Got Child
-element_at child root kept outer tag cs =
-    let ours = is_ours root outer tag.0 in
-    let i = begun tag.0.settings in
-    if tag.1 then as_child ours tag.0 (finished (kept && ours) i) cs
-    else (content_at (child (kept && ours) (scope_in outer tag.0.settings)) (length cs) i cs >>= λ r.
-      closing_at tag.0 r.1 >>= λ rest. as_child ours tag.0 (finished (kept && ours) r.0) rest)
+element_at child root kept inner tag cs =
+    let ours = is_ours root inner tag.0 in
+    filled_at (child (kept && ours) inner) tag (begun tag.0.settings) cs
+    >>= λ r. as_child ours tag.0 (finished (kept && ours) r.0) r.1
 
 -- an element behind its `<`, where elements may go so many levels deeper
 unfoldable pub child_at : List ℕ → ℕ → Bool → Scope → List ℕ → Got Child
 child_at root zero kept outer cs = None
 child_at root (suc levels) kept outer cs =
-    tag_at cs >>= λ t. if is_opened outer t.0.0 then element_at (child_at root levels) root kept outer t.0 t.1 else None
+    tag_at cs >>= λ t.
+    if is_opened outer t.0.0 then element_at (child_at root levels) root kept (scope_in outer t.0.0.settings) t.0 t.1 else None
 
 -- documents
 
@@ -351,20 +362,23 @@ misc_at (suc n) cs =
     choose (after (codes "<!--") (skip_space cs)) (λ rest. comment_at rest >>= misc_at n)
     (choose (after (codes "<?") (skip_space cs)) (λ rest. instruction_at rest >>= misc_at n) (Some (skip_space cs)))
 
+-- the value of the root by its member
+abbrev pub as_root : Opening → Child × List ℕ → Got Data
+as_root o r = Some (object (member (root_key o.local) r.0.1 no_members), r.1)
+
 -- the root's value by its namespace
-unfoldable pub root_by : Option (List ℕ) → Opening × Bool → List ℕ → Got Data
-root_by None t cs = None
-root_by (Some root) t cs =
-    if is_fpml (Some root)
-    then (element_at (child_at root 62) root true first_scope t cs >>= λ r. Some (object (member (root_key t.0.local) r.0.1 no_members), r.1))
-    else None
+unfoldable pub root_by : Option (List ℕ) → Scope → Opening × Bool → List ℕ → Got Data
+root_by None inner t cs = None
+root_by (Some root) inner t cs =
+    if is_fpml (Some root) then (element_at (child_at root 62) root true inner t cs >>= as_root t.0) else None
 
 -- the root element behind its `<`
 unfoldable pub root_at : List ℕ → Got Data
 root_at cs =
     tag_at cs >>= λ t.
     if is_opened first_scope t.0.0
-    then root_by (namespace_of (scope_in first_scope t.0.0.settings) t.0.0.prefix) t.0 t.1 else None
+    then root_by (namespace_of (scope_in first_scope t.0.0.settings) t.0.0.prefix) (scope_in first_scope t.0.0.settings) t.0 t.1
+    else None
 
 -- nothing is left
 abbrev pub ended : Data → List ℕ → Option Data

@@ -2,6 +2,8 @@
 use Rattle.std.specs.Prelude.{ℕ, Bool, true, false, not, ◌&&◌, List, [], ◌∷◌, ◌++◌, Option, Some, None}
 use Rattle.std.specs.Prelude.{if◌then◌else◌, codes}
 use Rattle.std.specs.Char.{encode_utf8}
+use Rattle.std.specs.Cmp.Lexicographic.{slice_cmp}
+use Rattle.std.specs.Ordering.{nat_cmp, is_eq}
 use Rattle.std.specs.Str.{bytes_eq, encode_utf8_all}
 use Rattle.serde_json.specs.Data.{Data, null, boolean, number, string, array, object, Items, no_items, item, Members}
 use Rattle.serde_json.specs.Data.{no_members, member, put}
@@ -41,10 +43,16 @@ joined (Some (object ms)) d = array (item (object ms) (item d no_items))
 abbrev pub Child : Type 0
 Child = List ℕ × Data
 
--- the members with those of the children, in the order of the text
-abbrev pub with_child : Child → Members → Members
-with_child c ms = put c.0 (joined (get_member c.0 ms) c.1) ms
+-- the members without that of a name
+abbrev pub without : List ℕ → Members → Members
+without name no_members = no_members
+without name (member k d ms) = if is_eq (slice_cmp nat_cmp name k) then ms else member k d (without name ms)
 
+-- the members with that of a child, whose value joins those of its name that are there
+abbrev pub with_child : Child → Members → Members
+with_child c ms = put c.0 (joined (get_member c.0 ms) c.1) (without c.0 ms)
+
+-- the members with those of the children, in the order of the text
 abbrev pub with_children : List Child → Members → Members
 with_children [] ms = ms
 with_children (c ∷ cs) ms = with_children cs (with_child c ms)
@@ -73,7 +81,7 @@ text_in (child e c) = text_in c
 
 -- an element whose namespace is the root's is ours, and every other is foreign
 abbrev pub is_ours : List ℕ → Scope → Opening → Bool
-is_ours root outer o = is_same (namespace_of (scope_in outer o.settings) o.prefix) (Some root)
+is_ours root inner o = is_same (namespace_of inner o.prefix) (Some root)
 
 -- the name of a child's member: its local part, behind a colon where the child is foreign
 abbrev pub key_of : Bool → List ℕ → List ℕ
@@ -102,11 +110,11 @@ abbrev mutual
   pub element_child : List ℕ → Bool → Scope → Element → Option Child
   element_child root kept scope (empty t) =
       let o = opening_of t in
-      let ours = is_ours root scope o in
+      let ours = is_ours root (scope_in scope o.settings) o in
       named (key_of ours o.local) (element_data (kept && ours) o.settings [] (Some []))
   element_child root kept scope (full t c space) =
       let o = opening_of t in
-      let ours = is_ours root scope o in
+      let ours = is_ours root (scope_in scope o.settings) o in
       named (key_of ours o.local) (element_data (kept && ours) o.settings (text_in c)
       (children_in root (kept && ours) (scope_in scope o.settings) c))
 

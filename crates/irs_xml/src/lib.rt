@@ -4,6 +4,8 @@
 mod chars;
 mod comments;
 mod failure;
+mod inside;
+mod members;
 mod namespaces;
 mod reader;
 mod references;

@@ -145,7 +145,12 @@ fn is_like(scope: &[Declaration<'_>], a: &Setting<'_>, b: &Setting<'_>) -> bool
 fn is_like_any(scope: &[Declaration<'_>], setting: &Setting<'_>, others: &[Setting<'_>]) -> bool
     ensures { result ≡ list_any (is_like_of (scope_view scope.now) (setting_view setting.now)) (map setting_view others.now) }
 {
-    others.iter().any(|other| is_like(scope, setting, other))
+    for other in others {
+        if is_like(scope, setting, other) {
+            return true;
+        }
+    }
+    false
 }
 
 // No two attributes are alike.
@@ -164,14 +169,31 @@ fn are_unlike(scope: &[Declaration<'_>], settings: &[Setting<'_>]) -> bool
 fn are_lawful(settings: &[Setting<'_>]) -> bool
     ensures { result ≡ list_all is_lawful_of (map setting_view settings.now) }
 {
-    settings.iter().all(|setting| is_lawful(setting))
+    for setting in settings {
+        if !is_lawful(setting) {
+            return false;
+        }
+    }
+    true
+}
+
+// The prefix of the attribute is declared.
+fn has_namespace(scope: &[Declaration<'_>], setting: &Setting<'_>) -> bool
+    ensures { result ≡ is_some (attribute_namespace_of (scope_view scope.now) (setting_view setting.now)) }
+{
+    attribute_namespace(scope, setting).is_some()
 }
 
 // The prefix of each attribute is declared.
 fn have_namespaces(scope: &[Declaration<'_>], settings: &[Setting<'_>]) -> bool
     ensures { result ≡ list_all (λ s. is_some (attribute_namespace_of (scope_view scope.now) s)) (map setting_view settings.now) }
 {
-    settings.iter().all(|setting| attribute_namespace(scope, setting).is_some())
+    for setting in settings {
+        if !has_namespace(scope, setting) {
+            return false;
+        }
+    }
+    true
 }
 
 /// The tag may stand in this scope, its own declarations included.

@@ -1,0 +1,9 @@
+use Rattle.std.proofs.Common.{◌≡◌, drop, map}
+use Rattle.std.specs.List.{list_all}
+use Rattle.irs_xml.specs.Namespaces.{is_lawful}
+use Rattle.irs_xml.specs.TagViews.{setting_view}
+use Rattle.irs_xml.proofs.namespaces.are_lawful.Given as goal
+
+abbrev pub invariant-loop-setting : goal.invariant-loop-setting
+invariant-loop-setting l =
+    list_all is_lawful (map setting_view (drop l.setting-index l.settings)) ≡ list_all is_lawful (map setting_view l.settings)
