@@ -5,6 +5,10 @@ mod ValueSteps
 mod SettingSteps
 mod MapTests
 mod MemberLemmas
+mod LeafLemmas
+mod ContentSteps
+mod CommentLaws
+mod TagLaws
 mod Seeing
 mod Allowed
 mod NameReads

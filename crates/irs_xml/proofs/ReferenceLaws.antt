@@ -233,7 +233,7 @@ decimal_no_hex d h = elim (cases_Bool (nat_eq d 120)) [
   | inr s ↦ s
 ]
 
-abbrev tail : List ℕ → List ℕ
+abbrev pub tail : List ℕ → List ℕ
 tail [] = []
 tail (c ∷ cs) = cs
 

@@ -12,3 +12,4 @@ pub mod Reading
 pub mod Seen
 pub mod TagViews
 pub mod InsideViews
+pub mod MarkViews

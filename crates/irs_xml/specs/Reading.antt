@@ -11,7 +11,7 @@ use Rattle.irs_xml.specs.Seen.{seen}
 use Rattle.irs_xml.specs.Comments.{after, is_xml}
 use Rattle.irs_xml.specs.Content.{most_attributes, most_levels}
 use Rattle.irs_xml.specs.Document.{is_fpml, root_key}
-use Rattle.irs_xml.specs.Names.{is_name_start, is_name_char, prefixed}
+use Rattle.irs_xml.specs.Names.{is_name_start, is_name_char}
 use Rattle.irs_xml.specs.Namespaces.{Setting, Opening, Scope, first_scope, scope_in, namespace_of, is_opened}
 use Rattle.irs_xml.specs.Tags.{is_quote}
 use Rattle.irs_xml.specs.Values.{Child, is_ours, key_of, leaf_value, with_child, with_settings}
@@ -215,9 +215,15 @@ tag_at cs = do
   settings ← settings_at most_attributes [] name.1
   Some ((record { prefix = name.0.0; local = name.0.1; settings = settings.0.0 }, settings.0.1), settings.1)
 
+-- a name, given by what it says in UTF-8
+unfoldable pub closing_name_at : List ℕ → List ℕ → List ℕ → Option (List ℕ)
+closing_name_at prefix local cs =
+    if length prefix == 0 then after (seen local) cs
+    else (after (seen prefix) cs >>= after (codes ":") >>= after (seen local))
+
 -- the end of an end tag, behind `</`
 unfoldable pub closing_at : Opening → List ℕ → Option (List ℕ)
-closing_at o cs = after (prefixed (seen o.prefix) (seen o.local)) cs >>= λ rest. after (codes ">") (skip_space rest)
+closing_at o cs = closing_name_at o.prefix o.local cs >>= λ rest. after (codes ">") (skip_space rest)
 
 -- content
 

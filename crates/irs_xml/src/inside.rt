@@ -4,14 +4,15 @@ ghost use Rattle.irs_xml.specs.Characters.{is_space, is_white as is_white_of};
 ghost use Rattle.irs_xml.specs.Reading.{begun as begun_of, finished, with_character, with_one, GivesValue};
 ghost use Rattle.irs_xml.specs.TagViews.{setting_view};
 ghost use Rattle.irs_xml.specs.Values.{key_of, leaf_value};
+ghost use Rattle.serde_json.specs.Data.{object, put as put_member, string};
 ghost use Rattle.serde_json.specs.View.{members_view, view};
-ghost use Rattle.std.specs.Prelude.{◌≡◌, IfOk, OnOk, map, string_bytes};
+ghost use Rattle.std.specs.Prelude.{◌≡◌, IfOk, OnOk, codes, map, string_bytes};
 
 use crate::failure::Failure;
 use crate::members::{put_child, setting_members};
 use crate::settings::Setting;
 use serde_json::{Map, Value};
-use std::alloc::Global;
+use std::alloc::{AllocError, Global};
 
 /// What was read of an element so far.
 #[derive(Drop)]
@@ -24,7 +25,7 @@ pub(crate) struct Inside {
 }
 
 /// An element of which the tag was read alone.
-pub(crate) fn begun(alloc: Global, settings: &[Setting<'_>]) -> Result<Inside, Failure>
+pub(crate) fn begun(alloc: Global, settings: &[Setting<'_>]) -> Result<Inside, AllocError>
     ensures { IfOk result (λ i. inside_view i ≡ begun_of (map setting_view settings.now)) }
 {
     Ok(Inside {
@@ -35,7 +36,7 @@ pub(crate) fn begun(alloc: Global, settings: &[Setting<'_>]) -> Result<Inside, F
 }
 
 /// Puts a character behind the text.
-pub(crate) fn push(inside: &mut Inside, c: char) -> Result<(), Failure>
+pub(crate) fn push(inside: &mut Inside, c: char) -> Result<(), AllocError>
     ensures { OnOk result (inside_view inside.new ≡ with_character (inside_view inside.old) c) }
 {
     inside.text.push(c)?;
@@ -48,7 +49,7 @@ pub(crate) fn put(
     alloc: Global,
     name: String,
     value: Value,
-) -> Result<(), Failure>
+) -> Result<(), AllocError>
     ensures { OnOk result (inside_view inside.new ≡ with_one (inside_view inside.old) (string_bytes name, view value)) }
 {
     put_child(&mut inside.members, alloc, name, value)?;
@@ -69,7 +70,7 @@ pub(crate) fn finish(alloc: Global, kept: bool, inside: Inside) -> Result<Value,
         return Ok(Value::String(String::new(alloc)));
     }
     if !has_child {
-        return leaf(alloc, text, members);
+        return Ok(leaf(alloc, text, members)?);
     }
     if is_white(text.as_str()) {
         Ok(Value::Object(members))
@@ -79,15 +80,28 @@ pub(crate) fn finish(alloc: Global, kept: bool, inside: Inside) -> Result<Value,
 }
 
 // The value of an element without children.
-fn leaf(alloc: Global, text: String, mut members: Map<String, Value>) -> Result<Value, Failure>
+fn leaf(alloc: Global, text: String, members: Map<String, Value>) -> Result<Value, AllocError>
     ensures { IfOk result (λ v. view v ≡ leaf_value (string_bytes text) (members_view members.entries)) }
 {
     if members.is_empty() {
         return Ok(Value::String(text));
     }
-    if !is_white(text.as_str()) {
-        members.insert(String::from_str(alloc, "#text")?, Value::String(text))?;
+    if is_white(text.as_str()) {
+        return Ok(Value::Object(members));
     }
+    with_text(alloc, text, members)
+}
+
+// An object with these members and a text.
+fn with_text(
+    alloc: Global,
+    text: String,
+    mut members: Map<String, Value>,
+) -> Result<Value, AllocError>
+    ensures { IfOk result (λ v. view v
+        ≡ object (put_member (codes "#text") (string (string_bytes text)) (members_view members.entries))) }
+{
+    members.insert(String::from_str(alloc, "#text")?, Value::String(text))?;
     Ok(Value::Object(members))
 }
 
@@ -112,7 +126,7 @@ fn is_space_byte(byte: u8) -> bool
 }
 
 /// The name of an element's member: its local part, behind a colon where the element is foreign.
-pub(crate) fn key(alloc: Global, ours: bool, local: &str) -> Result<String, Failure>
+pub(crate) fn key(alloc: Global, ours: bool, local: &str) -> Result<String, AllocError>
     ensures { IfOk result (λ name. string_bytes name ≡ key_of ours local.now) }
 {
     if ours {

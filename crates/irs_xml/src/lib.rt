@@ -3,6 +3,7 @@
 
 mod chars;
 mod comments;
+mod content;
 mod failure;
 mod inside;
 mod members;

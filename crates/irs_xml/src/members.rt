@@ -1,22 +1,21 @@
 //! The members of an element's value, one after another.
 
 ghost use Rattle.irs_xml.specs.TagViews.{setting_view};
-ghost use Rattle.irs_xml.specs.Values.{is_counted as is_counted_of, joined, with_child, with_settings};
+ghost use Rattle.irs_xml.specs.Values.{is_counted as is_counted_of, item_last, joined, with_child, with_settings};
 ghost use Rattle.serde_json.specs.Data.{array, item, no_items, no_members, put, string};
-ghost use Rattle.serde_json.specs.View.{members_view, view};
+ghost use Rattle.serde_json.specs.View.{items_view, members_view, view};
 ghost use Rattle.std.specs.Prelude.{◌≡◌, ◌∷◌, IfOk, OnOk, map, option_map, string_bytes};
 
-use crate::failure::Failure;
 use crate::namespaces::is_declaration;
 use crate::settings::Setting;
 use serde_json::{Map, Value};
-use std::alloc::Global;
+use std::alloc::{AllocError, Global};
 
 /// The members of the attributes that count.
 pub(crate) fn setting_members(
     alloc: Global,
     settings: &[Setting<'_>],
-) -> Result<Map<String, Value>, Failure>
+) -> Result<Map<String, Value>, AllocError>
     ensures { IfOk result (λ m. members_view m.entries ≡ with_settings (map setting_view settings.now) no_members) }
 {
     let mut members = Map::new(alloc);
@@ -40,7 +39,7 @@ fn put_setting(
     members: &mut Map<String, Value>,
     alloc: Global,
     setting: &Setting<'_>,
-) -> Result<(), Failure>
+) -> Result<(), AllocError>
     ensures { OnOk result (members_view members.new.entries
         ≡ put (64 ∷ (setting_view setting.now).local) (string (setting_view setting.now).value) (members_view members.old.entries)) }
 {
@@ -57,7 +56,7 @@ pub(crate) fn put_child(
     alloc: Global,
     name: String,
     value: Value,
-) -> Result<(), Failure>
+) -> Result<(), AllocError>
     ensures { OnOk result (members_view members.new.entries ≡ with_child (string_bytes name, view value) (members_view members.old.entries)) }
 {
     let first = members.remove(name.as_str());
@@ -67,15 +66,12 @@ pub(crate) fn put_child(
 }
 
 // The values of children of one name: one is itself, several are an array.
-fn join(alloc: Global, first: Option<Value>, next: Value) -> Result<Value, Failure>
+fn join(alloc: Global, first: Option<Value>, next: Value) -> Result<Value, AllocError>
     ensures { IfOk result (λ v. view v ≡ joined (option_map view first) (view next)) }
 {
     match first {
         None => Ok(next),
-        Some(Value::Array(mut items)) => {
-            items.push(next)?;
-            Ok(Value::Array(items))
-        },
+        Some(Value::Array(items)) => longer(items, next),
         Some(Value::Null) => pair(alloc, Value::Null, next),
         Some(Value::Bool(b)) => pair(alloc, Value::Bool(b), next),
         Some(Value::Number(n)) => pair(alloc, Value::Number(n), next),
@@ -84,8 +80,16 @@ fn join(alloc: Global, first: Option<Value>, next: Value) -> Result<Value, Failu
     }
 }
 
+// An array of these values and one more.
+fn longer(mut items: Vec<Value>, next: Value) -> Result<Value, AllocError>
+    ensures { IfOk result (λ v. view v ≡ array (item_last (items_view items.items) (view next))) }
+{
+    items.push(next)?;
+    Ok(Value::Array(items))
+}
+
 // An array of two values.
-fn pair(alloc: Global, first: Value, next: Value) -> Result<Value, Failure>
+fn pair(alloc: Global, first: Value, next: Value) -> Result<Value, AllocError>
     ensures { IfOk result (λ v. view v ≡ array (item (view first) (item (view next) no_items))) }
 {
     let mut items = Vec::new(alloc);

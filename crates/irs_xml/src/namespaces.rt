@@ -6,7 +6,6 @@ ghost use Rattle.std.specs.List.{list_all, list_any};
 ghost use Rattle.std.specs.Option.{option_map};
 ghost use Rattle.std.specs.Prelude.{◌≡◌, [], ◌∷◌, ◌++◌, IfOk, OnOk, is_some, map};
 
-use crate::failure::Failure;
 use crate::settings::{Declaration, Setting, Tag};
 use std::alloc::{AllocError, Global};
 
@@ -15,7 +14,7 @@ const XMLNS_NAMESPACE: &str = "http://www.w3.org/2000/xmlns/";
 
 /// What is in scope round the root: no default, and the two prefixes that are bound by definition.
 #[tactic(auto, unfolding(crate::specs::Namespaces::first_scope))]
-pub(crate) fn first_declarations<'a>(alloc: Global) -> Result<Vec<Declaration<'a>>, Failure>
+pub(crate) fn first_declarations<'a>(alloc: Global) -> Result<Vec<Declaration<'a>>, AllocError>
     ensures { IfOk result (λ v. scope_view v.items ≡ first_scope) }
 {
     let mut scope = Vec::new(alloc);
@@ -31,7 +30,7 @@ fn declare<'a>(
     alloc: Global,
     prefix: &'a str,
     namespace: &str,
-) -> Result<(), Failure>
+) -> Result<(), AllocError>
     ensures { OnOk result (scope_view scope.new.items ≡ scope_view scope.old.items ++ (prefix.entry.now, namespace.now) ∷ []) }
 {
     scope.push(Declaration {
@@ -46,7 +45,7 @@ pub(crate) fn declare_all<'a>(
     scope: &mut Vec<Declaration<'a>>,
     alloc: Global,
     settings: &[Setting<'a>],
-) -> Result<(), Failure>
+) -> Result<(), AllocError>
     ensures { OnOk result (scope_view scope.new.items
         ≡ scope_view scope.old.items ++ declarations (map setting_view settings.now)) }
 {

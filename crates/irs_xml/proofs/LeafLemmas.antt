@@ -1,0 +1,21 @@
+-- The value of an element without children.
+use Rattle.std.proofs.Common.{◌≡◌, ◌≢◌, ℕ, Bool, true, false, List, [], ◌∷◌, length, nat_eq, string_bytes, refl, ap, ◌∙◌, arith}
+use Rattle.std.specs.Prelude.{codes}
+use Rattle.serde_json.specs.Data.{Data, object, string, put, no_members, member}
+use Rattle.serde_json.specs.View.{view, members_view}
+use Rattle.serde_json.proofs.Views.{Entry}
+use Rattle.irs_xml.specs.Characters.{is_white}
+use Rattle.irs_xml.specs.Values.{leaf_value}
+
+pub leaf_bare : (text : List ℕ) (es : List Entry) → length es ≡ 0 → leaf_value text (members_view es) ≡ string text
+leaf_bare text [] e = refl
+leaf_bare text (x ∷ es) e = absurd (omega (arith, e))
+
+pub leaf_white : (text : List ℕ) (es : List Entry) → length es ≢ 0 → is_white text ≡ true → leaf_value text (members_view es) ≡ object (members_view es)
+leaf_white text [] n w = absurd (n refl)
+leaf_white text (x ∷ es) n w = rw w refl
+
+pub leaf_text : (text : List ℕ) (es : List Entry) → length es ≢ 0 → is_white text ≡ false
+    → leaf_value text (members_view es) ≡ object (put (codes "#text") (string text) (members_view es))
+leaf_text text [] n w = absurd (n refl)
+leaf_text text (x ∷ es) n w = rw w refl

@@ -1,0 +1,349 @@
+-- What is read as a tag is spelt as one, and what is spelt as one is read.
+use Rattle.std.proofs.Common.{◌≡◌, ◌≢◌, ◌⊎◌, inl, inr, ℕ, zero, suc, ◌+◌, ◌<◌, ◌≤◌, Bool, true, false, cond, not, ◌&&◌, ◌||◌, List, [], ◌∷◌, ◌++◌, length, Option, Some, None, nat_eq, refl, sym, ap, subst, ◌∙◌, arith, append_assoc, length-append}
+use Rattle.std.proofs.lemmas.Bool.{cases_Bool}
+use Rattle.std.proofs.lemmas.Bool.Decides.{nat_tests}
+use Rattle.std.proofs.lemmas.List.{append-nil}
+use Rattle.std.specs.Char.{encode_utf8}
+use Rattle.std.specs.List.{list_all}
+use Rattle.std.specs.Prelude.{codes}
+use Rattle.std.specs.Str.{encode_utf8_all}
+use Rattle.irs_xml.specs.Characters.{is_space, is_white, is_gap}
+use Rattle.irs_xml.specs.Comments.{after}
+use Rattle.irs_xml.specs.Content.{most_attributes}
+use Rattle.irs_xml.specs.Names.{is_name_start, is_name_char, is_nc_name, QName, name_text, prefixed, is_prefix, is_qname}
+use Rattle.irs_xml.specs.Namespaces.{Setting, Opening, setting_of, settings_of, opening_of}
+use Rattle.irs_xml.specs.References.{Reference, less, greater, ampersand, apostrophe, quotation, decimal, hexadecimal, reference_text, character_of, is_reference}
+use Rattle.irs_xml.specs.Reading.{Got, ◌>>=◌, choose, skip_space, gap_at, qname_at, reference_at, equals_at, quote_at, value_character_at, value_at, setting_at, tag_end_at, settings_at, tag_at}
+use Rattle.irs_xml.specs.Tags.{Piece, plain, refers, piece_text, piece_character, is_piece, pieces_text, are_pieces, pieces_value, Attribute, attribute_text, is_quote, is_attribute, attributes_text, are_attributes, Tag, tag_text, is_tag}
+use Rattle.irs_xml.proofs.Steps.{same_some, bind_some, choose_some, chosen, both_true, true_both, eq_true, eq_false, true_eq, false_eq, after_sound, after_complete, begins, white_run, run_white, skip_sound, skip_stops, skip-stop, skip-white, gap_sound, gap_complete, gap_none}
+use Rattle.irs_xml.proofs.NameLaws.{is_qname_char, ReadQName, qname_sound, qname_complete}
+use Rattle.irs_xml.proofs.ReferenceLaws.{ReadReference, reference_sound, reference_complete, tail}
+use Rattle.irs_xml.proofs.CommentLaws.{space_no_name}
+
+not_false : (b : Bool) → b ≡ false → not b ≡ true
+not_false b e = rw e refl
+
+not_true : (b : Bool) → not b ≡ true → b ≡ false
+not_true true e = absurd (cc e)
+not_true false e = refl
+
+-- values
+
+pub record ReadValue (quote : ℕ) (text cs out rest : List ℕ) : Type 0 where
+  pub pieces : List Piece
+  pub are : are_pieces quote pieces ≡ true
+  pub says : out ≡ text ++ pieces_value pieces
+  pub spelt : cs ≡ pieces_text pieces ++ quote ∷ rest
+
+record ReadPiece (c : ℕ) (cs : List ℕ) (d : ℕ) (rest : List ℕ) : Type 0 where
+  piece : Piece
+  is : (quote : ℕ) → nat_eq c quote ≡ false → is_piece quote piece ≡ true
+  says : d ≡ piece_character piece
+  spelt : c ∷ cs ≡ piece_text piece ++ rest
+
+piece_sound : (c : ℕ) (cs : List ℕ) (d : ℕ) (rest : List ℕ) → value_character_at c cs ≡ Some (d, rest) → ReadPiece c cs d rest
+unfolding value_character_at
+piece_sound c cs d rest e =
+    elim (chosen (nat_eq c 60) None (cond (nat_eq c 38) (reference_at cs) (Some (cond (is_space c) 32 c, cs))) (Some (d, rest)) e) [
+      | inl h ↦ absurd (let k = h.1 in cc k)
+      | inr h ↦ elim (chosen (nat_eq c 38) (reference_at cs) (Some (cond (is_space c) 32 c, cs)) (Some (d, rest)) h.1) [
+        | inl k ↦
+            let r = reference_sound cs d rest k.1 in record {
+              piece = refers r.reference;
+              is = λ quote other. r.is_reference;
+              says = r.says;
+              spelt = ap (λ x. x ∷ cs) (eq_true c 38 k.0) ∙ r.spelt;
+            }
+        | inr k ↦
+            let is = same_some k.1 in record {
+              piece = plain c;
+              is = λ quote other. true_both (not (nat_eq c 60)) (not (nat_eq c 38) && not (nat_eq c quote)) (not_false (nat_eq c 60) h.0)
+                  (true_both (not (nat_eq c 38)) (not (nat_eq c quote)) (not_false (nat_eq c 38) k.0) (not_false (nat_eq c quote) other));
+              says = sym (ap (λ p. p.0) is);
+              spelt = ap (λ p. c ∷ p.1) is;
+            }
+      ]
+    ]
+
+pub value_sound : (n quote : ℕ) (text cs out rest : List ℕ) → value_at n quote text cs ≡ Some (out, rest) → ReadValue quote text cs out rest
+unfolding value_at
+value_sound zero quote text cs out rest e = absurd (cc e)
+value_sound (suc n) quote text [] out rest e = absurd (cc e)
+value_sound (suc n) quote text (c ∷ cs) out rest e =
+    elim (chosen (nat_eq c quote) (Some (text, cs)) (value_character_at c cs >>= λ r. value_at n quote (text ++ encode_utf8 r.0) r.1) (Some (out, rest)) e) [
+      | inl h ↦
+          let is = same_some h.1 in record {
+            pieces = [];
+            are = refl;
+            says = sym (ap (λ p. p.0) is) ∙ sym (append-nil text);
+            spelt = ap (λ x. x ∷ cs) (eq_true c quote h.0) ∙ ap (λ p. quote ∷ p.1) is;
+          }
+      | inr h ↦
+          let b = bind_some (value_character_at c cs) (λ r. value_at n quote (text ++ encode_utf8 r.0) r.1) (out, rest) h.1 in
+          let p = piece_sound c cs b.0.0 b.0.1 b.1 in
+          let v = value_sound n quote (text ++ encode_utf8 b.0.0) b.0.1 out rest b.2 in record {
+            pieces = p.piece ∷ v.pieces;
+            are = true_both (is_piece quote p.piece) (are_pieces quote v.pieces) (p.is quote h.0) v.are;
+            says = v.says ∙ append_assoc text (encode_utf8 b.0.0) (pieces_value v.pieces)
+                ∙ ap (λ d. text ++ (encode_utf8 d ++ pieces_value v.pieces)) p.says;
+            spelt = p.spelt ∙ ap (λ t. piece_text p.piece ++ t) v.spelt
+                ∙ sym (append_assoc (piece_text p.piece) (pieces_text v.pieces) (quote ∷ rest));
+          }
+    ]
+
+quote_no_mark : (q : ℕ) → is_quote q ≡ true → nat_eq 38 q ≡ false
+quote_no_mark q h = grind (arith, nat_tests)
+
+reference_begins : (r : Reference) (rest : List ℕ) → reference_text r ++ rest ≡ 38 ∷ tail (reference_text r ++ rest)
+reference_begins less rest = refl
+reference_begins greater rest = refl
+reference_begins ampersand rest = refl
+reference_begins apostrophe rest = refl
+reference_begins quotation rest = refl
+reference_begins (decimal ds) rest = refl
+reference_begins (hexadecimal ds) rest = refl
+
+value_next : (n quote c : ℕ) (text cs : List ℕ) (d : ℕ) (rest : List ℕ) → nat_eq c quote ≡ false → value_character_at c cs ≡ Some (d, rest)
+    → value_at (suc n) quote text (c ∷ cs) ≡ value_at n quote (text ++ encode_utf8 d) rest
+unfolding value_at
+value_next n quote c text cs d rest other read = rw (other, read) refl
+
+character_plain : (quote c : ℕ) (cs : List ℕ) → is_piece quote (plain c) ≡ true → value_character_at c cs ≡ Some (piece_character (plain c), cs)
+unfolding value_character_at
+character_plain quote c cs h =
+    let a = both_true (not (nat_eq c 60)) (not (nat_eq c 38) && not (nat_eq c quote)) h in
+    let b = both_true (not (nat_eq c 38)) (not (nat_eq c quote)) a.1 in
+    let x = not_true (nat_eq c 60) a.0 in let y = not_true (nat_eq c 38) b.0 in rw (x, y) refl
+
+character_refers : (r : Reference) (rest : List ℕ) → is_reference r ≡ true
+    → value_character_at 38 (tail (reference_text r ++ rest)) ≡ Some (character_of r, rest)
+unfolding value_character_at
+character_refers r rest h = reference_complete r rest h
+
+value_end : (n quote : ℕ) (text rest : List ℕ) → value_at (suc n) quote text (quote ∷ rest) ≡ Some (text ++ [], rest)
+unfolding value_at
+value_end n quote text rest = let e = true_eq quote in rw e (ap (λ t. Some (t, rest)) (sym (append-nil text)))
+
+reference_some : (r : Reference) → 1 ≤ length (reference_text r)
+reference_some less = omega arith
+reference_some greater = omega arith
+reference_some ampersand = omega arith
+reference_some apostrophe = omega arith
+reference_some quotation = omega arith
+reference_some (decimal ds) = omega arith
+reference_some (hexadecimal ds) = omega arith
+
+pub value_complete : (n quote : ℕ) (text : List ℕ) (ps : List Piece) (rest : List ℕ) → is_quote quote ≡ true → are_pieces quote ps ≡ true
+    → length (pieces_text ps ++ quote ∷ rest) ≤ n → value_at n quote text (pieces_text ps ++ quote ∷ rest) ≡ Some (text ++ pieces_value ps, rest)
+value_complete zero quote text [] rest q are l = absurd (omega (arith, l))
+value_complete zero quote text (p ∷ ps) rest q are l = absurd (let k = length-append (pieces_text (p ∷ ps)) (quote ∷ rest) in omega (arith, l, k))
+value_complete (suc n) quote text [] rest q are l = value_end n quote text rest
+value_complete (suc n) quote text (plain c ∷ ps) rest q are l =
+    let b = both_true (is_piece quote (plain c)) (are_pieces quote ps) are in
+    let a = both_true (not (nat_eq c 60)) (not (nat_eq c 38) && not (nat_eq c quote)) b.0 in
+    let other = not_true (nat_eq c quote) (both_true (not (nat_eq c 38)) (not (nat_eq c quote)) a.1).1 in
+    let more = value_complete n quote (text ++ encode_utf8 (piece_character (plain c))) ps rest q b.1 (omega (arith, l)) in
+    value_next n quote c text (pieces_text ps ++ quote ∷ rest) (piece_character (plain c)) (pieces_text ps ++ quote ∷ rest) other
+    (character_plain quote c (pieces_text ps ++ quote ∷ rest) b.0)
+    ∙ more ∙ ap (λ t. Some (t, rest)) (append_assoc text (encode_utf8 (piece_character (plain c))) (pieces_value ps))
+value_complete (suc n) quote text (refers r ∷ ps) rest q are l =
+    let b = both_true (is_reference r) (are_pieces quote ps) are in
+    let left = pieces_text ps ++ quote ∷ rest in
+    let whole : pieces_text (refers r ∷ ps) ++ quote ∷ rest ≡ 38 ∷ tail (reference_text r ++ left) =
+    append_assoc (reference_text r) (pieces_text ps) (quote ∷ rest) ∙ reference_begins r left in
+    let long = ap length (append_assoc (reference_text r) (pieces_text ps) (quote ∷ rest)) ∙ length-append (reference_text r) left in
+    let some = reference_some r in
+    let more = value_complete n quote (text ++ encode_utf8 (character_of r)) ps rest q b.1 (omega (arith, l, long, some)) in
+    ap (value_at (suc n) quote text) whole
+    ∙ value_next n quote 38 text (tail (reference_text r ++ left)) (character_of r) left (quote_no_mark quote q) (character_refers r left b.0)
+    ∙ more ∙ ap (λ t. Some (t, rest)) (append_assoc text (encode_utf8 (character_of r)) (pieces_value ps))
+
+-- attributes
+
+quote_sound : (cs : List ℕ) (q : ℕ) (rest : List ℕ) → quote_at cs ≡ Some (q, rest) → (is_quote q ≡ true) × (cs ≡ q ∷ rest)
+unfolding quote_at
+quote_sound cs q rest e =
+    elim (choose_some (after (codes "'") cs) (λ rest. Some (39, rest)) (choose (after (34 ∷ []) cs) (λ rest. Some (34, rest)) None) (q, rest) e) [
+      | inl h ↦
+          let is = same_some h.2 in
+          (ap is_quote (sym (ap (λ p. p.0) is)), after_sound (codes "'") cs h.0 h.1 ∙ ap (λ p. p.0 ∷ p.1) is)
+      | inr h ↦ elim (choose_some (after (34 ∷ []) cs) (λ rest. Some (34, rest)) None (q, rest) h.1) [
+        | inl k ↦
+            let is = same_some k.2 in
+            (ap is_quote (sym (ap (λ p. p.0) is)), after_sound (34 ∷ []) cs k.0 k.1 ∙ ap (λ p. p.0 ∷ p.1) is)
+        | inr k ↦ absurd (let x = k.1 in cc x)
+      ]
+    ]
+
+pub quote_complete : (q : ℕ) (rest : List ℕ) → is_quote q ≡ true → quote_at (q ∷ rest) ≡ Some (q, rest)
+unfolding quote_at
+quote_complete q rest h = elim (cases_Bool (nat_eq q 34)) [
+  | inl e ↦ let is = eq_true q 34 e in subst (λ x. choose (after (codes "'") (x ∷ rest)) (λ rest. Some (39, rest))
+      (choose (after (34 ∷ []) (x ∷ rest)) (λ rest. Some (34, rest)) None) ≡ Some (x, rest)) (sym is) refl
+  | inr e ↦ let is : q ≡ 39 = grind (arith, nat_tests) in subst (λ x. choose (after (codes "'") (x ∷ rest)) (λ rest. Some (39, rest))
+      (choose (after (34 ∷ []) (x ∷ rest)) (λ rest. Some (34, rest)) None) ≡ Some (x, rest)) (sym is) refl
+]
+
+pub record ReadEquals (cs rest : List ℕ) : Type 0 where
+  pub before : List ℕ
+  pub after : List ℕ
+  pub white_before : is_white before ≡ true
+  pub white_after : is_white after ≡ true
+  pub spelt : cs ≡ before ++ (61 ∷ (after ++ rest))
+
+pub equals_sound : (cs rest : List ℕ) → equals_at cs ≡ Some rest → ReadEquals cs rest
+unfolding equals_at
+equals_sound cs rest e =
+    let b = bind_some (after (codes "=") (skip_space cs)) (λ rest. Some (skip_space rest)) rest e in record {
+      before = white_run cs;
+      after = white_run b.0;
+      white_before = run_white cs;
+      white_after = run_white b.0;
+      spelt = skip_sound cs ∙ ap (λ t. white_run cs ++ t) (after_sound (codes "=") (skip_space cs) b.0 b.1
+          ∙ ap (λ t. 61 ∷ t) (skip_sound b.0 ∙ ap (λ t. white_run b.0 ++ t) (same_some b.2)));
+    }
+
+equals_no_space : is_space 61 ≡ false
+unfolding is_space
+equals_no_space = refl
+
+pub equals_complete : (before after rest : List ℕ) → is_white before ≡ true → is_white after ≡ true → begins is_space rest ≡ false
+    → equals_at (before ++ (61 ∷ (after ++ rest))) ≡ Some rest
+unfolding equals_at
+equals_complete before after rest w v s =
+    let first = skip-white before (61 ∷ (after ++ rest)) w equals_no_space in
+    let second = skip-white after rest v s in
+    rw (first, second) refl
+
+record ReadSetting (cs : List ℕ) (s : Setting) (rest : List ℕ) : Type 0 where
+  name : QName
+  before : List ℕ
+  behind : List ℕ
+  quote : ℕ
+  pieces : List Piece
+  is_name : is_qname name ≡ true
+  white_before : is_white before ≡ true
+  white_behind : is_white behind ≡ true
+  is_quote : is_quote quote ≡ true
+  are : are_pieces quote pieces ≡ true
+  says : s ≡ record { prefix = encode_utf8_all name.prefix; local = encode_utf8_all name.local; value = pieces_value pieces }
+  spelt : cs ≡ name_text name ++ (before ++ (61 ∷ (behind ++ (quote ∷ (pieces_text pieces ++ quote ∷ rest)))))
+
+setting_parts : (p l v p' l' v' : List ℕ) → p ≡ p' → l ≡ l' → v ≡ v'
+    → ◌≡◌ {A = Setting} (record { prefix = p; local = l; value = v }) (record { prefix = p'; local = l'; value = v' })
+setting_parts p l v p' l' v' a b c = λ i. record { prefix = a i; local = b i; value = c i }
+
+setting_sound : (cs : List ℕ) (s : Setting) (rest : List ℕ) → setting_at cs ≡ Some (s, rest) → ReadSetting cs s rest
+unfolding setting_at
+setting_sound cs s rest e =
+    let a = bind_some (qname_at cs) _ (s, rest) e in
+    let b = bind_some (equals_at a.0.1) _ (s, rest) a.2 in
+    let q = bind_some (quote_at b.0) _ (s, rest) b.2 in
+    let v = bind_some (value_at (length q.0.1) q.0.0 [] q.0.1) _ (s, rest) q.2 in
+    let is = same_some v.2 in
+    let name = qname_sound cs a.0.0.0 a.0.0.1 a.0.1 a.1 in
+    let eq = equals_sound a.0.1 b.0 b.1 in
+    let quote = quote_sound b.0 q.0.0 q.0.1 q.1 in
+    let value = value_sound (length q.0.1) q.0.0 [] q.0.1 v.0.0 v.0.1 v.1 in
+    record {
+      name = name.name;
+      before = eq.before;
+      behind = eq.after;
+      quote = q.0.0;
+      pieces = value.pieces;
+      is_name = name.is_name;
+      white_before = eq.white_before;
+      white_behind = eq.white_after;
+      is_quote = quote.0;
+      are = value.are;
+      says = sym (ap (λ p. p.0) is) ∙ setting_parts _ _ _ _ _ _ name.says_prefix name.says_local value.says;
+      spelt = name.spelt ∙ ap (λ t. name_text name.name ++ t) (eq.spelt
+          ∙ ap (λ t. eq.before ++ (61 ∷ (eq.after ++ t))) (quote.1 ∙ ap (λ t. q.0.0 ∷ t) (value.spelt
+          ∙ ap (λ p. pieces_text value.pieces ++ q.0.0 ∷ p.1) is)));
+    }
+
+-- `>`, or `/>` of an empty element
+abbrev pub end_text : Bool → List ℕ
+end_text false = codes ">"
+end_text true = codes "/>"
+
+end_sound : (cs : List ℕ) (b : Bool) (rest : List ℕ) → tag_end_at cs ≡ Some (b, rest) → cs ≡ end_text b ++ rest
+unfolding tag_end_at
+end_sound cs b rest e =
+    elim (choose_some (after (codes ">") cs) (λ rest. Some (false, rest)) (choose (after (codes "/>") cs) (λ rest. Some (true, rest)) None) (b, rest) e) [
+      | inl h ↦ let is = same_some h.2 in after_sound (codes ">") cs h.0 h.1 ∙ ap (λ p. end_text p.0 ++ p.1) is
+      | inr h ↦ elim (choose_some (after (codes "/>") cs) (λ rest. Some (true, rest)) None (b, rest) h.1) [
+        | inl k ↦ let is = same_some k.2 in after_sound (codes "/>") cs k.0 k.1 ∙ ap (λ p. end_text p.0 ++ p.1) is
+        | inr k ↦ absurd (let x = k.1 in cc x)
+      ]
+    ]
+
+end_complete : (b : Bool) (rest : List ℕ) → tag_end_at (end_text b ++ rest) ≡ Some (b, rest)
+unfolding tag_end_at
+end_complete false rest = refl
+end_complete true rest = refl
+
+record ReadSettings (n : ℕ) (ss : List Setting) (cs : List ℕ) (out : List Setting) (b : Bool) (rest : List ℕ) : Type 0 where
+  attributes : List Attribute
+  space : List ℕ
+  are : are_attributes attributes ≡ true
+  few : length attributes ≤ n
+  white : is_white space ≡ true
+  says : out ≡ ss ++ settings_of attributes
+  spelt : cs ≡ attributes_text attributes ++ (space ++ (end_text b ++ rest))
+
+settings_stop : (n : ℕ) (ss : List Setting) (cs : List ℕ) (out : List Setting) (b : Bool) (rest : List ℕ) (x : Bool × List ℕ)
+    → tag_end_at (skip_space cs) ≡ Some x → ◌≡◌ {A = Got (List Setting × Bool)} (Some ((ss, x.0), x.1)) (Some ((out, b), rest))
+    → ReadSettings n ss cs out b rest
+settings_stop n ss cs out b rest x found e =
+    let is = same_some e in record {
+      attributes = [];
+      space = white_run cs;
+      are = refl;
+      few = omega arith;
+      white = run_white cs;
+      says = sym (ap (λ p. p.0.0) is) ∙ sym (append-nil ss);
+      spelt = skip_sound cs ∙ ap (λ t. white_run cs ++ t) (end_sound (skip_space cs) x.0 x.1 found ∙ ap (λ p. end_text p.0.1 ++ p.1) is);
+    }
+
+regroup : (a : Attribute) (x y : List ℕ)
+    → a.gap ++ (name_text a.name ++ (a.before ++ (61 ∷ (a.after ++ (a.quote ∷ (pieces_text a.pieces ++ a.quote ∷ (x ++ y)))))))
+    ≡ (attribute_text a ++ x) ++ y
+regroup a x y = sym (simp append_assoc)
+
+settings_sound : (n : ℕ) (ss : List Setting) (cs : List ℕ) (out : List Setting) (b : Bool) (rest : List ℕ)
+    → settings_at n ss cs ≡ Some ((out, b), rest) → ReadSettings n ss cs out b rest
+unfolding settings_at
+settings_sound zero ss cs out b rest e =
+    elim (choose_some (tag_end_at (skip_space cs)) (λ end. Some ((ss, end.0), end.1)) None ((out, b), rest) e) [
+      | inl h ↦ settings_stop zero ss cs out b rest h.0 h.1 h.2
+      | inr h ↦ absurd (let x = h.1 in cc x)
+    ]
+settings_sound (suc n) ss cs out b rest e =
+    elim (choose_some (tag_end_at (skip_space cs)) (λ end. Some ((ss, end.0), end.1))
+      (gap_at cs >>= λ rest. setting_at rest >>= λ s. settings_at n (ss ++ s.0 ∷ []) s.1) ((out, b), rest) e) [
+      | inl h ↦ settings_stop (suc n) ss cs out b rest h.0 h.1 h.2
+      | inr h ↦
+          let g = bind_some (gap_at cs) _ ((out, b), rest) h.1 in
+          let s = bind_some (setting_at g.0) _ ((out, b), rest) g.2 in
+          let gap = gap_sound cs g.0 g.1 in
+          let one = setting_sound g.0 s.0.0 s.0.1 s.1 in
+          let more = settings_sound n (ss ++ s.0.0 ∷ []) s.0.1 out b rest s.2 in
+          let a : Attribute = record { gap = gap.0; name = one.name; before = one.before; after = one.behind; quote = one.quote; pieces = one.pieces } in
+          record {
+            attributes = a ∷ more.attributes;
+            space = more.space;
+            are = true_both (is_attribute a) (are_attributes more.attributes)
+                (true_both (is_gap a.gap) (is_qname a.name && (is_white a.before && (is_white a.after && (is_quote a.quote && are_pieces a.quote a.pieces)))) gap.1
+                (true_both (is_qname a.name) (is_white a.before && (is_white a.after && (is_quote a.quote && are_pieces a.quote a.pieces))) one.is_name
+                (true_both (is_white a.before) (is_white a.after && (is_quote a.quote && are_pieces a.quote a.pieces)) one.white_before
+                (true_both (is_white a.after) (is_quote a.quote && are_pieces a.quote a.pieces) one.white_behind
+                (true_both (is_quote a.quote) (are_pieces a.quote a.pieces) one.is_quote one.are))))) more.are;
+            few = let f = more.few in omega (arith, f);
+            white = more.white;
+            says = more.says ∙ append_assoc ss (s.0.0 ∷ []) (settings_of more.attributes) ∙ ap (λ x. ss ++ x ∷ settings_of more.attributes) one.says;
+            spelt = gap.2 ∙ ap (λ t. gap.0 ++ t) (one.spelt ∙ ap (λ t. name_text one.name ++ (one.before ++ (61 ∷ (one.behind
+                ++ (one.quote ∷ (pieces_text one.pieces ++ one.quote ∷ t)))))) more.spelt)
+                ∙ regroup a (attributes_text more.attributes) (more.space ++ (end_text b ++ rest));
+          }
+    ]
