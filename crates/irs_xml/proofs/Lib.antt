@@ -9,6 +9,9 @@ mod LeafLemmas
 mod ContentSteps
 mod CommentLaws
 mod TagLaws
+mod Shorter
+mod ChildSteps
+mod ContentLaws
 mod Seeing
 mod Allowed
 mod NameReads

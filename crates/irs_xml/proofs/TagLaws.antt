@@ -175,13 +175,20 @@ quote_sound cs q rest e =
       ]
     ]
 
-pub quote_complete : (q : ℕ) (rest : List ℕ) → is_quote q ≡ true → quote_at (q ∷ rest) ≡ Some (q, rest)
+double_quote : (rest : List ℕ) → quote_at (34 ∷ rest) ≡ Some (34, rest)
 unfolding quote_at
+double_quote rest = refl
+
+single_quote : (rest : List ℕ) → quote_at (39 ∷ rest) ≡ Some (39, rest)
+unfolding quote_at
+single_quote rest = refl
+
+pub quote_complete : (q : ℕ) (rest : List ℕ) → is_quote q ≡ true → quote_at (q ∷ rest) ≡ Some (q, rest)
 quote_complete q rest h = elim (cases_Bool (nat_eq q 34)) [
-  | inl e ↦ let is = eq_true q 34 e in subst (λ x. choose (after (codes "'") (x ∷ rest)) (λ rest. Some (39, rest))
-      (choose (after (34 ∷ []) (x ∷ rest)) (λ rest. Some (34, rest)) None) ≡ Some (x, rest)) (sym is) refl
-  | inr e ↦ let is : q ≡ 39 = grind (arith, nat_tests) in subst (λ x. choose (after (codes "'") (x ∷ rest)) (λ rest. Some (39, rest))
-      (choose (after (34 ∷ []) (x ∷ rest)) (λ rest. Some (34, rest)) None) ≡ Some (x, rest)) (sym is) refl
+  | inl e ↦ subst (λ x. quote_at (x ∷ rest) ≡ Some (x, rest)) (sym (eq_true q 34 e)) (double_quote rest)
+  | inr e ↦
+      let is : q ≡ 39 = grind (arith, nat_tests) in
+      subst (λ x. quote_at (x ∷ rest) ≡ Some (x, rest)) (sym is) (single_quote rest)
 ]
 
 pub record ReadEquals (cs rest : List ℕ) : Type 0 where
@@ -347,3 +354,200 @@ settings_sound (suc n) ss cs out b rest e =
                 ∙ regroup a (attributes_text more.attributes) (more.space ++ (end_text b ++ rest));
           }
     ]
+
+-- what stands behind a name in a tag
+
+space_no_colon : (c : ℕ) → is_space c ≡ true → nat_eq c 58 ≡ false
+unfolding is_space
+space_no_colon c h = grind (arith, nat_tests)
+
+space_no_qname : (c : ℕ) → is_space c ≡ true → is_qname_char c ≡ false
+space_no_qname c h = both_false (is_name_char c) (nat_eq c 58) (space_no_name c h) (space_no_colon c h)
+  where
+    both_false : (a b : Bool) → a ≡ false → b ≡ false → a || b ≡ false
+    both_false a b e f = rw (e) f
+
+white_no_qname : (s rest : List ℕ) → is_white s ≡ true → begins is_qname_char rest ≡ false → begins is_qname_char (s ++ rest) ≡ false
+white_no_qname [] rest w r = r
+white_no_qname (c ∷ s) rest w r = space_no_qname c (both_true (is_space c) (is_white s) w).0
+
+equals_no_qname : (rest : List ℕ) → begins is_qname_char (61 ∷ rest) ≡ false
+unfolding is_name_char is_name_start
+equals_no_qname rest = refl
+
+end_no_qname : (b : Bool) (rest : List ℕ) → begins is_qname_char (end_text b ++ rest) ≡ false
+unfolding is_name_char is_name_start
+end_no_qname false rest = refl
+end_no_qname true rest = refl
+
+end_no_space : (b : Bool) (rest : List ℕ) → begins is_space (end_text b ++ rest) ≡ false
+unfolding is_space
+end_no_space false rest = refl
+end_no_space true rest = refl
+
+quote_no_space : (q : ℕ) (rest : List ℕ) → is_quote q ≡ true → begins is_space (q ∷ rest) ≡ false
+unfolding is_space
+quote_no_space q rest h = grind (arith, nat_tests)
+
+-- what an attribute is behind its white space
+abbrev attribute_tail : Attribute → List ℕ → List ℕ
+attribute_tail a rest =
+    name_text a.name ++ (a.before ++ (61 ∷ (a.after ++ (a.quote ∷ (pieces_text a.pieces ++ a.quote ∷ rest)))))
+
+record Lawful (a : Attribute) : Type 0 where
+  gap : is_gap a.gap ≡ true
+  name : is_qname a.name ≡ true
+  before : is_white a.before ≡ true
+  behind : is_white a.after ≡ true
+  quote : is_quote a.quote ≡ true
+  pieces : are_pieces a.quote a.pieces ≡ true
+
+lawful : (a : Attribute) → is_attribute a ≡ true → Lawful a
+lawful a h =
+    let x = both_true (is_gap a.gap) (is_qname a.name && (is_white a.before && (is_white a.after && (is_quote a.quote && are_pieces a.quote a.pieces)))) h in
+    let y = both_true (is_qname a.name) (is_white a.before && (is_white a.after && (is_quote a.quote && are_pieces a.quote a.pieces))) x.1 in
+    let z = both_true (is_white a.before) (is_white a.after && (is_quote a.quote && are_pieces a.quote a.pieces)) y.1 in
+    let u = both_true (is_white a.after) (is_quote a.quote && are_pieces a.quote a.pieces) z.1 in
+    let v = both_true (is_quote a.quote) (are_pieces a.quote a.pieces) u.1 in
+    record { gap = x.0; name = y.0; before = z.0; behind = u.0; quote = v.0; pieces = v.1 }
+
+setting_complete : (a : Attribute) (rest : List ℕ) → Lawful a → setting_at (attribute_tail a rest) ≡ Some (setting_of a, rest)
+unfolding setting_at
+setting_complete a rest l =
+    let behind_name = a.before ++ (61 ∷ (a.after ++ (a.quote ∷ (pieces_text a.pieces ++ a.quote ∷ rest)))) in
+    let name = qname_complete a.name behind_name l.name
+    (white_no_qname a.before (61 ∷ (a.after ++ (a.quote ∷ (pieces_text a.pieces ++ a.quote ∷ rest)))) l.before
+    (equals_no_qname (a.after ++ (a.quote ∷ (pieces_text a.pieces ++ a.quote ∷ rest))))) in
+    let eq = equals_complete a.before a.after (a.quote ∷ (pieces_text a.pieces ++ a.quote ∷ rest)) l.before l.behind
+    (quote_no_space a.quote (pieces_text a.pieces ++ a.quote ∷ rest) l.quote) in
+    let quote = quote_complete a.quote (pieces_text a.pieces ++ a.quote ∷ rest) l.quote in
+    let value = value_complete (length (pieces_text a.pieces ++ a.quote ∷ rest)) a.quote [] a.pieces rest l.quote l.pieces (omega arith) in
+    rw name (rw eq (rw quote (rw value refl)))
+
+-- a name begins neither with `>` nor with `/`, nor with white space
+start_plain : (c : ℕ) → is_name_start c ≡ true → (nat_eq c 62 ≡ false) × (nat_eq c 47 ≡ false) × (is_space c ≡ false)
+unfolding is_name_start is_space
+start_plain c h = (grind (arith, nat_tests), grind (arith, nat_tests), grind (arith, nat_tests))
+
+nc_begins : (ns : List ℕ) → is_nc_name ns ≡ true → (c : ℕ) × (cs : List ℕ) × (ns ≡ c ∷ cs) × (is_name_start c ≡ true)
+nc_begins [] h = absurd (cc h)
+nc_begins (c ∷ cs) h = (c, cs, refl, (both_true (is_name_start c) (list_all is_name_char cs) h).0)
+
+pub prefixed_begins : (p l : List ℕ) → is_prefix p && is_nc_name l ≡ true → (c : ℕ) × (cs : List ℕ) × (prefixed p l ≡ c ∷ cs) × (is_name_start c ≡ true)
+prefixed_begins [] l h = nc_begins l h
+prefixed_begins (c ∷ p) l h =
+    let b = both_true (is_nc_name (c ∷ p)) (is_nc_name l) h in
+    (c, p ++ 58 ∷ l, refl, (both_true (is_name_start c) (list_all is_name_char p) b.0).0)
+
+plain_no_end : (c : ℕ) (cs : List ℕ) → is_name_start c ≡ true → tag_end_at (c ∷ cs) ≡ None
+unfolding tag_end_at
+plain_no_end c cs h = let p = start_plain c h in let x = p.0 in let y = p.1 in rw (x, y) refl
+
+name_no_end : (n : QName) (rest : List ℕ) → is_qname n ≡ true → tag_end_at (name_text n ++ rest) ≡ None
+name_no_end n rest h =
+    let b = prefixed_begins n.prefix n.local h in
+    ap (λ t. tag_end_at (t ++ rest)) b.2 ∙ plain_no_end b.0 (b.1 ++ rest) b.3
+
+name_no_space : (n : QName) (rest : List ℕ) → is_qname n ≡ true → begins is_space (name_text n ++ rest) ≡ false
+name_no_space n rest h =
+    let b = prefixed_begins n.prefix n.local h in
+    ap (λ t. begins is_space (t ++ rest)) b.2 ∙ (start_plain b.0 b.3).2
+
+gap_white : (s : List ℕ) → is_gap s ≡ true → is_white s ≡ true
+gap_white [] h = absurd (cc h)
+gap_white (c ∷ s) h = h
+
+settings_finish : (n : ℕ) (ss : List Setting) (space : List ℕ) (b : Bool) (rest : List ℕ) → is_white space ≡ true
+    → settings_at n ss (space ++ (end_text b ++ rest)) ≡ Some ((ss ++ [], b), rest)
+unfolding settings_at
+settings_finish zero ss space b rest w =
+    let skip = skip-white space (end_text b ++ rest) w (end_no_space b rest) in
+    let end = end_complete b rest in
+    rw (skip, end) (ap (λ t. Some ((t, b), rest)) (sym (append-nil ss)))
+settings_finish (suc n) ss space b rest w =
+    let skip = skip-white space (end_text b ++ rest) w (end_no_space b rest) in
+    let end = end_complete b rest in
+    rw (skip, end) (ap (λ t. Some ((t, b), rest)) (sym (append-nil ss)))
+
+settings_next : (n : ℕ) (ss : List Setting) (a : Attribute) (rest : List ℕ) → Lawful a
+    → settings_at (suc n) ss (a.gap ++ attribute_tail a rest) ≡ settings_at n (ss ++ setting_of a ∷ []) rest
+unfolding settings_at
+settings_next n ss a rest l =
+    let behind_name = a.before ++ (61 ∷ (a.after ++ (a.quote ∷ (pieces_text a.pieces ++ a.quote ∷ rest)))) in
+    let plain_space = name_no_space a.name behind_name l.name in
+    let skip = skip-white a.gap (attribute_tail a rest) (gap_white a.gap l.gap) plain_space in
+    let none = name_no_end a.name behind_name l.name in
+    let gap = gap_complete a.gap (attribute_tail a rest) l.gap plain_space in
+    let one = setting_complete a rest l in
+    rw (skip, none, gap) (rw one refl)
+
+pub settings_complete : (n : ℕ) (ss : List Setting) (xs : List Attribute) (space : List ℕ) (b : Bool) (rest : List ℕ) → are_attributes xs ≡ true
+    → length xs ≤ n → is_white space ≡ true
+    → settings_at n ss (attributes_text xs ++ (space ++ (end_text b ++ rest))) ≡ Some ((ss ++ settings_of xs, b), rest)
+settings_complete n ss [] space b rest are few w = settings_finish n ss space b rest w
+settings_complete zero ss (a ∷ xs) space b rest are few w = absurd (omega (arith, few))
+settings_complete (suc n) ss (a ∷ xs) space b rest are few w =
+    let h = both_true (is_attribute a) (are_attributes xs) are in
+    let left = attributes_text xs ++ (space ++ (end_text b ++ rest)) in
+    let more = settings_complete n (ss ++ setting_of a ∷ []) xs space b rest h.1 (omega (arith, few)) w in
+    ap (settings_at (suc n) ss) (sym (regroup a (attributes_text xs) (space ++ (end_text b ++ rest))))
+    ∙ settings_next n ss a left (lawful a h.0) ∙ more
+    ∙ ap (λ t. Some ((t, b), rest)) (append_assoc ss (setting_of a ∷ []) (settings_of xs))
+
+pub record ReadTag (cs : List ℕ) (o : Opening) (b : Bool) (rest : List ℕ) : Type 0 where
+  pub tag : Tag
+  pub is_tag : is_tag tag ≡ true
+  pub few : length tag.attributes ≤ most_attributes
+  pub says : o ≡ opening_of tag
+  pub spelt : 60 ∷ cs ≡ tag_text tag ++ (end_text b ++ rest)
+
+opening_parts : (p l p' l' : List ℕ) (s s' : List Setting) → p ≡ p' → l ≡ l' → s ≡ s'
+    → ◌≡◌ {A = Opening} (record { prefix = p; local = l; settings = s }) (record { prefix = p'; local = l'; settings = s' })
+opening_parts p l p' l' s s' a b c = λ i. record { prefix = a i; local = b i; settings = c i }
+
+pub tag_sound : (cs : List ℕ) (o : Opening) (b : Bool) (rest : List ℕ) → tag_at cs ≡ Some ((o, b), rest) → ReadTag cs o b rest
+unfolding tag_at
+tag_sound cs o b rest e =
+    let a = bind_some (qname_at cs) _ ((o, b), rest) e in
+    let s = bind_some (settings_at most_attributes [] a.0.1) _ ((o, b), rest) a.2 in
+    let is = same_some s.2 in
+    let name = qname_sound cs a.0.0.0 a.0.0.1 a.0.1 a.1 in
+    let ss = settings_sound most_attributes [] a.0.1 s.0.0.0 s.0.0.1 s.0.1 s.1 in
+    record {
+      tag = record { name = name.name; attributes = ss.attributes; space = ss.space };
+      is_tag = true_both (is_qname name.name) (are_attributes ss.attributes && is_white ss.space) name.is_name
+          (true_both (are_attributes ss.attributes) (is_white ss.space) ss.are ss.white);
+      few = ss.few;
+      says = sym (ap (λ p. p.0.0) is) ∙ opening_parts _ _ _ _ _ _ name.says_prefix name.says_local ss.says;
+      spelt = ap (λ t. 60 ∷ t) (name.spelt ∙ ap (λ t. name_text name.name ++ t) (ss.spelt
+          ∙ ap (λ p. attributes_text ss.attributes ++ (ss.space ++ (end_text p.0.1 ++ p.1))) is)
+          ∙ regroup_tag (name_text name.name) (attributes_text ss.attributes) ss.space (end_text b ++ rest));
+    }
+  where
+    regroup_tag : (n x s y : List ℕ) → n ++ (x ++ (s ++ y)) ≡ (n ++ (x ++ s)) ++ y
+    regroup_tag n x s y = sym (simp append_assoc)
+
+attributes_no_qname : (xs : List Attribute) (space : List ℕ) (b : Bool) (rest : List ℕ) → are_attributes xs ≡ true → is_white space ≡ true
+    → begins is_qname_char (attributes_text xs ++ (space ++ (end_text b ++ rest))) ≡ false
+attributes_no_qname [] space b rest are w = white_no_qname space (end_text b ++ rest) w (end_no_qname b rest)
+attributes_no_qname (a ∷ xs) space b rest are w =
+    let h = both_true (is_attribute a) (are_attributes xs) are in
+    let l = lawful a h.0 in
+    ap (begins is_qname_char) (sym (regroup a (attributes_text xs) (space ++ (end_text b ++ rest))))
+    ∙ gap_no_qname a.gap (attribute_tail a (attributes_text xs ++ (space ++ (end_text b ++ rest)))) l.gap
+  where
+    gap_no_qname : (s rest : List ℕ) → is_gap s ≡ true → begins is_qname_char (s ++ rest) ≡ false
+    gap_no_qname [] rest g = absurd (cc g)
+    gap_no_qname (c ∷ s) rest g = space_no_qname c (both_true (is_space c) (is_white s) g).0
+
+-- a tag behind its `<`
+pub tag_complete : (t : Tag) (b : Bool) (rest : List ℕ) → is_tag t ≡ true → length t.attributes ≤ most_attributes
+    → tag_at (name_text t.name ++ (attributes_text t.attributes ++ (t.space ++ (end_text b ++ rest)))) ≡ Some ((opening_of t, b), rest)
+unfolding tag_at
+tag_complete t b rest h few =
+    let x = both_true (is_qname t.name) (are_attributes t.attributes && is_white t.space) h in
+    let y = both_true (are_attributes t.attributes) (is_white t.space) x.1 in
+    let behind = attributes_text t.attributes ++ (t.space ++ (end_text b ++ rest)) in
+    let name = qname_complete t.name behind x.0 (attributes_no_qname t.attributes t.space b rest y.0 y.1) in
+    let settings = settings_complete most_attributes [] t.attributes t.space b rest y.0 few y.1 in
+    rw name (rw settings refl)

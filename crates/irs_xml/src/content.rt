@@ -262,7 +262,8 @@ fn child<'a>(
         return Err(Failure::NotXml);
     }
     let tag = tag(reader, alloc)?;
-    let outer = scope.len();
+    let around = scope.as_slice();
+    let outer = around.len();
     declare_all(scope, alloc, tag.settings.as_slice())?;
     if !is_opened(scope.as_slice(), &tag) {
         return Err(Failure::NotXml);

@@ -9,9 +9,9 @@ use Rattle.irs_xml.proofs.inside.leaf.Goals as goal
 pub returns-then-is_white : goal.returns-then-is_white
 returns-then-is_white c =
     let white : is_white (string_bytes c.args.text) ≡ true = ap is_white (sym c.as_str.ensures.value) ∙ sym c.is_white.ensures ∙ c.if-is_white.true in
-    view-Object c.args.members ∙ sym (leaf_white (string_bytes c.args.text) c.args.members.entries c.if-is_empty.ensures.1 white)
+    view-Object c.args.members ∙ sym (leaf_white (string_bytes c.args.text) c.args.members.entries (λ e. absurd (cc (c.if-is_empty.ensures.1 e))) white)
 
 pub returns : goal.returns
 returns c =
     let black : is_white (string_bytes c.args.text) ≡ false = ap is_white (sym c.as_str.ensures.value) ∙ sym c.is_white.ensures ∙ c.if-is_white.false in
-    IfOk-weaker c.with_text.result _ _ (λ v is. is ∙ sym (leaf_text (string_bytes c.args.text) c.args.members.entries c.if-is_empty.ensures.1 black)) c.with_text.ensures
+    IfOk-weaker c.with_text.result _ _ (λ v is. is ∙ sym (leaf_text (string_bytes c.args.text) c.args.members.entries (λ e. absurd (cc (c.if-is_empty.ensures.1 e))) black)) c.with_text.ensures

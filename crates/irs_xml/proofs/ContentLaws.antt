@@ -1,0 +1,488 @@
+-- What is read as content and as elements is spelt as such, and what is spelt as such is read.
+use Rattle.std.proofs.Common.{◌≡◌, ◌≢◌, ◌⊎◌, inl, inr, ℕ, zero, suc, ◌+◌, ◌<◌, ◌≤◌, Bool, true, false, cond, not, ◌&&◌, ◌||◌, List, [], ◌∷◌, ◌++◌, length, Option, Some, None, nat_eq, refl, sym, ap, subst, ◌∙◌, arith, append_assoc, length-append}
+use Rattle.std.proofs.lemmas.Bool.{cases_Bool}
+use Rattle.std.proofs.lemmas.Bool.Decides.{nat_tests}
+use Rattle.std.proofs.lemmas.List.{append-nil}
+use Rattle.std.proofs.lemmas.Str.{chars-encodes, length-encode, len_utf8_bounds}
+use Rattle.std.specs.Char.{encode_utf8, IsScalar}
+use Rattle.std.specs.List.{list_all}
+use Rattle.std.specs.Prelude.{codes}
+use Rattle.std.specs.Str.{encode_utf8_all, all_scalars}
+use Rattle.serde_json.specs.Data.{Data, Members, object, string, no_members}
+use Rattle.irs_xml.specs.Characters.{is_space, is_white, ends_after}
+use Rattle.irs_xml.specs.Comments.{after, comment_text, is_comment, cdata_text, is_cdata, Instruction, is_instruction, instruction_text}
+use Rattle.irs_xml.specs.Content.{Element, empty, full, Content, nothing, character, reference, cdata, comment, instruction, child, element_text, content_text, is_char_data, IsTagIn, IsElement, IsContent}
+use Rattle.irs_xml.specs.Names.{is_name_start, is_name_char, is_nc_name, QName, name_text, prefixed, is_prefix, is_qname}
+use Rattle.irs_xml.specs.Namespaces.{Setting, Opening, Scope, opening_of, settings_of, is_opened, scope_in}
+use Rattle.irs_xml.specs.References.{Reference, reference_text, character_of, is_reference}
+use Rattle.irs_xml.specs.Reading.{Got, ◌>>=◌, choose, skip_space, Inside, Mark, ending, commented, sectioned, instructed, nested, referred, standing, mark_at, markup_at, piece_at, content_at, closing_name_at, closing_at, filled_at, element_at, child_at, as_child, finished, begun, with_one, with_text, with_character, comment_at, instruction_at, data_at, reference_at, tag_at}
+use Rattle.irs_xml.specs.Seen.{seen}
+use Rattle.irs_xml.specs.Tags.{Tag, tag_text, is_tag, attributes_text}
+use Rattle.irs_xml.specs.Values.{Child, is_ours, key_of, named, both, element_data, element_child, children_in, text_in, with_children, with_settings, value_from, leaf_value}
+use Rattle.irs_xml.proofs.Steps.{same_some, bind_some, choose_some, chosen, both_true, true_both, eq_true, true_eq, false_eq, after_sound, after_complete, after-append, begins, white_run, run_white, skip_sound, skip-white}
+use Rattle.irs_xml.proofs.NameReads.{char_no_return, start_no_return}
+use Rattle.irs_xml.proofs.NameLaws.{prefixed_name}
+use Rattle.irs_xml.proofs.ReferenceLaws.{reference_sound, reference_complete, tail}
+use Rattle.irs_xml.proofs.CommentLaws.{comment_sound, comment_complete, data_sound, data_complete, instruction_sound, instruction_complete}
+use Rattle.irs_xml.proofs.TagLaws.{end_text, ReadTag, tag_sound, tag_complete}
+
+-- names in end tags
+
+char_scalar : (c : ℕ) → is_name_char c ≡ true → IsScalar c
+unfolding is_name_char is_name_start
+char_scalar c h = grind (arith, nat_tests)
+
+start_char : (c : ℕ) → is_name_start c ≡ true → is_name_char c ≡ true
+unfolding is_name_char
+start_char c h = rw h refl
+
+nc_chars : (ns : List ℕ) → is_nc_name ns ≡ true → list_all is_name_char ns ≡ true
+nc_chars [] h = refl
+nc_chars (c ∷ cs) h =
+    let b = both_true (is_name_start c) (list_all is_name_char cs) h in
+    true_both (is_name_char c) (list_all is_name_char cs) (start_char c b.0) b.1
+
+chars_scalars : (ns : List ℕ) → list_all is_name_char ns ≡ true → all_scalars ns ≡ true
+chars_scalars [] h = refl
+chars_scalars (c ∷ cs) h =
+    let b = both_true (is_name_char c) (list_all is_name_char cs) h in
+    true_both _ (all_scalars cs) (char_scalar c b.0) (chars_scalars cs b.1)
+
+plain_step : (c : ℕ) (cs : List ℕ) → c ≢ 13 → ends_after false (c ∷ cs) ≡ c ∷ ends_after false cs
+unfolding ends_after
+plain_step c cs h = grind (arith, nat_tests)
+
+chars_plain : (ns : List ℕ) → list_all is_name_char ns ≡ true → ends_after false ns ≡ ns
+unfolding ends_after
+chars_plain [] h = refl
+chars_plain (c ∷ cs) h =
+    let b = both_true (is_name_char c) (list_all is_name_char cs) h in
+    plain_step c cs (char_no_return c b.0) ∙ ap (λ t. c ∷ t) (chars_plain cs b.1)
+
+seen_name : (ns : List ℕ) → is_nc_name ns ≡ true → seen (encode_utf8_all ns) ≡ ns
+unfolding seen
+seen_name ns h = ap (ends_after false) (chars-encodes ns (chars_scalars ns (nc_chars ns h))) ∙ chars_plain ns (nc_chars ns h)
+
+not_empty : (c : ℕ) (cs : List ℕ) → nat_eq (length (encode_utf8_all (c ∷ cs))) 0 ≡ false
+not_empty c cs =
+    let a = length-append (encode_utf8 c) (encode_utf8_all cs) in
+    let b = length-encode c in
+    let d = (len_utf8_bounds c).0 in
+    false_eq (length (encode_utf8_all (c ∷ cs))) 0 (λ e. absurd (omega (arith, a, b, d, e)))
+
+bind_after : (a b d cs : List ℕ) → (after a cs >>= after b >>= after d) ≡ after (a ++ (b ++ d)) cs
+bind_after a b d cs = regroup (after a cs) ∙ sym (after-append a (b ++ d) cs)
+  where
+    regroup : (o : Option (List ℕ)) → (o >>= after b >>= after d) ≡ (o >>= after (b ++ d))
+    regroup None = refl
+    regroup (Some x) = sym (after-append b d x)
+
+closing_name_is : (p l cs : List ℕ) → is_prefix p && is_nc_name l ≡ true
+    → closing_name_at (encode_utf8_all p) (encode_utf8_all l) cs ≡ after (prefixed p l) cs
+unfolding closing_name_at
+closing_name_is [] l cs h = ap (λ w. after w cs) (seen_name l h)
+closing_name_is (c ∷ p) l cs h =
+    let b = both_true (is_nc_name (c ∷ p)) (is_nc_name l) h in
+    let filled = not_empty c p in
+    rw filled (ap (λ w. after w cs >>= after (codes ":") >>= after (seen (encode_utf8_all l))) (seen_name (c ∷ p) b.0)
+    ∙ ap (λ w. after (c ∷ p) cs >>= after (codes ":") >>= after w) (seen_name l b.1)
+    ∙ bind_after (c ∷ p) (codes ":") l cs)
+
+pub record ReadClosing (t : Tag) (cs rest : List ℕ) : Type 0 where
+  pub space : List ℕ
+  pub white : is_white space ≡ true
+  pub spelt : cs ≡ name_text t.name ++ (space ++ (codes ">" ++ rest))
+
+closing_sound : (t : Tag) (cs rest : List ℕ) → is_qname t.name ≡ true → closing_at (opening_of t) cs ≡ Some rest → ReadClosing t cs rest
+unfolding closing_at
+closing_sound t cs rest h e =
+    let b = bind_some (closing_name_at (encode_utf8_all t.name.prefix) (encode_utf8_all t.name.local) cs) _ rest e in
+    let name = after_sound (name_text t.name) cs b.0 (sym (closing_name_is t.name.prefix t.name.local cs h) ∙ b.1) in
+    record {
+      space = white_run b.0;
+      white = run_white b.0;
+      spelt = name ∙ ap (λ t'. name_text t.name ++ t') (skip_sound b.0 ∙ ap (λ x. white_run b.0 ++ x) (after_sound (codes ">") (skip_space b.0) rest b.2));
+    }
+
+end_no_space : (rest : List ℕ) → begins is_space (62 ∷ rest) ≡ false
+unfolding is_space
+end_no_space rest = refl
+
+closing_complete : (t : Tag) (space rest : List ℕ) → is_qname t.name ≡ true → is_white space ≡ true
+    → closing_at (opening_of t) (name_text t.name ++ (space ++ (codes ">" ++ rest))) ≡ Some rest
+unfolding closing_at
+closing_complete t space rest h w =
+    let name = closing_name_is t.name.prefix t.name.local (name_text t.name ++ (space ++ (codes ">" ++ rest))) h
+    ∙ after_complete (name_text t.name) (space ++ (codes ">" ++ rest)) in
+    let skip = skip-white space (62 ∷ rest) w (end_no_space rest) in
+    rw name (rw skip refl)
+
+-- marks
+
+abbrev mark_text : Mark → List ℕ
+mark_text ending = codes "</"
+mark_text commented = codes "<!--"
+mark_text sectioned = codes "<![CDATA["
+mark_text instructed = codes "<?"
+mark_text nested = codes "<"
+mark_text referred = codes "&"
+mark_text (standing c) = c ∷ []
+
+-- what a character of text keeps
+abbrev Keeps : Mark → List ℕ → Type 0
+Keeps ending cs = Unit {0}
+Keeps commented cs = Unit {0}
+Keeps sectioned cs = Unit {0}
+Keeps instructed cs = Unit {0}
+Keeps nested cs = Unit {0}
+Keeps referred cs = Unit {0}
+Keeps (standing c) cs = (is_char_data c ≡ true) × (after (codes "]]>") (c ∷ cs) ≡ None)
+
+record ReadMark (cs : List ℕ) (m : Mark) (mid : List ℕ) : Type 0 where
+  spelt : cs ≡ mark_text m ++ mid
+  keeps : Keeps m mid
+
+markup_word : (k m : Mark) (w cs x mid : List ℕ) → mark_text k ≡ 60 ∷ w → Keeps k x → after w cs ≡ Some x
+    → ◌≡◌ {A = Got Mark} (Some (k, x)) (Some (m, mid)) → ReadMark (60 ∷ cs) m mid
+markup_word k m w cs x mid text keeps found is =
+    let same : ◌≡◌ {A = Mark × List ℕ} (k, x) (m, mid) = same_some is in
+    subst (λ (p : Mark × List ℕ). ReadMark (60 ∷ cs) p.0 p.1) same
+    (record { spelt = ap (λ t. 60 ∷ t) (after_sound w cs x found) ∙ ap (λ t. t ++ x) (sym text); keeps = keeps })
+
+markup_sound : (cs : List ℕ) (m : Mark) (mid : List ℕ) → markup_at cs ≡ Some (m, mid) → ReadMark (60 ∷ cs) m mid
+unfolding markup_at
+markup_sound cs m mid e =
+    elim (choose_some (after (codes "/") cs) (λ rest. Some (ending, rest)) _ (m, mid) e) [
+      | inl h ↦ markup_word ending m (codes "/") cs h.0 mid refl tt h.1 h.2
+      | inr a ↦ elim (choose_some (after (codes "!--") cs) (λ rest. Some (commented, rest)) _ (m, mid) a.1) [
+        | inl h ↦ markup_word commented m (codes "!--") cs h.0 mid refl tt h.1 h.2
+        | inr b ↦ elim (choose_some (after (codes "![CDATA[") cs) (λ rest. Some (sectioned, rest)) _ (m, mid) b.1) [
+          | inl h ↦ markup_word sectioned m (codes "![CDATA[") cs h.0 mid refl tt h.1 h.2
+          | inr d ↦ elim (choose_some (after (codes "?") cs) (λ rest. Some (instructed, rest)) (Some (nested, cs)) (m, mid) d.1) [
+            | inl h ↦ markup_word instructed m (codes "?") cs h.0 mid refl tt h.1 h.2
+            | inr h ↦ markup_word nested m [] cs cs mid refl tt refl h.1
+          ]
+        ]
+      ]
+    ]
+
+standing_word : (c x : ℕ) (m : Mark) (cs mid : List ℕ) → is_char_data c ≡ true → after (codes "]]>") (c ∷ cs) ≡ None
+    → ◌≡◌ {A = Got Mark} (Some (standing c, cs)) (Some (m, mid)) → ReadMark (c ∷ cs) m mid
+standing_word c x m cs mid plain no is =
+    let same : ◌≡◌ {A = Mark × List ℕ} (standing c, cs) (m, mid) = same_some is in
+    subst (λ (p : Mark × List ℕ). ReadMark (c ∷ cs) p.0 p.1) same (record { spelt = refl; keeps = (plain, no) })
+
+not_false : (b : Bool) → b ≡ false → not b ≡ true
+not_false b e = rw e refl
+
+not_true : (b : Bool) → not b ≡ true → b ≡ false
+not_true true e = absurd (cc e)
+not_true false e = refl
+
+no_bracket : (c : ℕ) (cs : List ℕ) → nat_eq c 93 ≡ false → after (codes "]]>") (c ∷ cs) ≡ None
+no_bracket c cs e = rw e refl
+
+bracket_after : (cs : List ℕ) → after (codes "]]>") (93 ∷ cs) ≡ after (codes "]>") cs
+bracket_after cs = refl
+
+mark_sound : (cs : List ℕ) (m : Mark) (mid : List ℕ) → mark_at cs ≡ Some (m, mid) → ReadMark cs m mid
+unfolding mark_at
+mark_sound [] m mid e = absurd (cc e)
+mark_sound (c ∷ cs) m mid e =
+    elim (chosen (nat_eq c 60) (markup_at cs) _ (Some (m, mid)) e) [
+      | inl h ↦ subst (λ x. ReadMark (x ∷ cs) m mid) (sym (eq_true c 60 h.0)) (markup_sound cs m mid h.1)
+      | inr a ↦ elim (chosen (nat_eq c 38) (Some (referred, cs)) _ (Some (m, mid)) a.1) [
+        | inl h ↦
+            let same : ◌≡◌ {A = Mark × List ℕ} (referred, cs) (m, mid) = same_some h.1 in
+            subst (λ (p : Mark × List ℕ). ReadMark (c ∷ cs) p.0 p.1) same (record { spelt = ap (λ x. x ∷ cs) (eq_true c 38 h.0); keeps = tt })
+        | inr b ↦
+            let plain = true_both (not (nat_eq c 60)) (not (nat_eq c 38)) (not_false (nat_eq c 60) a.0) (not_false (nat_eq c 38) b.0) in
+            elim (chosen (nat_eq c 93) (choose (after (codes "]>") cs) (λ rest. None) (Some (standing 93, cs))) (Some (standing c, cs)) (Some (m, mid)) b.1) [
+              | inl h ↦ elim (choose_some (after (codes "]>") cs) (λ rest. None) (Some (standing 93, cs)) (m, mid) h.1) [
+                | inl k ↦ absurd (let x = k.2 in cc x)
+                | inr k ↦ subst (λ x. ReadMark (x ∷ cs) m mid) (sym (eq_true c 93 h.0)) (standing_word 93 0 m cs mid refl k.0 k.1)
+              ]
+              | inr h ↦ standing_word c 0 m cs mid plain (no_bracket c cs h.0) h.1
+            ]
+      ]
+    ]
+
+-- what stands in an element, put behind what was read of it
+
+abbrev some_child : List Child → Bool
+some_child [] = false
+some_child (c ∷ cs) = true
+
+abbrev pub with_content : Inside → List ℕ → List Child → Inside
+with_content i text cs = record { text = i.text ++ text; members = with_children cs i.members; has_child = i.has_child || some_child cs }
+
+inside_parts : (t t' : List ℕ) (ms : Members) (b b' : Bool) → t ≡ t' → b ≡ b'
+    → ◌≡◌ {A = Inside} (record { text = t; members = ms; has_child = b }) (record { text = t'; members = ms; has_child = b' })
+inside_parts t t' ms b b' e f = λ i. record { text = e i; members = ms; has_child = f i }
+
+or_false : (b : Bool) → b || false ≡ b
+or_false true = refl
+or_false false = refl
+
+or_true : (b : Bool) → b || true ≡ true
+or_true true = refl
+or_true false = refl
+
+nothing_more : (i : Inside) → i ≡ with_content i [] []
+nothing_more i = inside_parts i.text (i.text ++ []) i.members i.has_child (i.has_child || false) (sym (append-nil i.text)) (sym (or_false i.has_child))
+
+text_more : (i : Inside) (a b : List ℕ) (cs : List Child) → with_content (with_text i (i.text ++ a)) b cs ≡ with_content i (a ++ b) cs
+text_more i a b cs =
+    inside_parts ((i.text ++ a) ++ b) (i.text ++ (a ++ b)) (with_children cs i.members) (i.has_child || some_child cs) (i.has_child || some_child cs)
+    (append_assoc i.text a b) refl
+
+child_more : (i : Inside) (c : Child) (text : List ℕ) (cs : List Child) → with_content (with_one i c) text cs ≡ with_content i text (c ∷ cs)
+child_more i c text cs =
+    inside_parts (i.text ++ text) (i.text ++ text) (with_children (c ∷ cs) i.members) true (i.has_child || true) refl (sym (or_true i.has_child))
+
+-- elements and content that were read
+
+pub record ReadElement (root : List ℕ) (levels : ℕ) (kept : Bool) (outer : Scope) (cs : List ℕ) (c : Child) (rest : List ℕ) : Type 0 where
+  pub element : Element
+  pub ok : IsElement levels outer element
+  pub means : element_child root kept outer element ≡ Some c
+  pub spelt : 60 ∷ cs ≡ element_text element ++ rest
+
+pub record ReadContent (root : List ℕ) (levels : ℕ) (kept : Bool) (scope : Scope) (i : Inside) (cs : List ℕ) (j : Inside) (rest : List ℕ) : Type 0 where
+  pub content : Content
+  pub children : List Child
+  pub ok : IsContent levels scope content
+  pub means : children_in root kept scope content ≡ Some children
+  pub is : j ≡ with_content i (text_in content) children
+  pub spelt : cs ≡ content_text content ++ (codes "</" ++ rest)
+
+after_less : (w cs t : List ℕ) → after w (cs ++ t) ≡ None → after w cs ≡ None
+after_less [] cs t e = absurd (cc e)
+after_less (x ∷ w) [] t e = refl
+after_less (x ∷ w) (c ∷ cs) t e = by_test (nat_eq c x) (after_less w cs t) e
+  where
+    by_test : (b : Bool) → (after w (cs ++ t) ≡ None → after w cs ≡ None) → cond b (after w (cs ++ t)) None ≡ None → cond b (after w cs) None ≡ None
+    by_test true f h = f h
+    by_test false f h = refl
+
+-- the piece in front of content that was read
+module _ (root : List ℕ) (levels : ℕ) (kept : Bool) (scope : Scope) where
+  with_character_front : (i : Inside) (x : ℕ) (mid : List ℕ) (j : Inside) (rest cs : List ℕ) → cs ≡ x ∷ mid → Keeps (standing x) mid
+      → ReadContent root levels kept scope (with_character i x) mid j rest → ReadContent root levels kept scope i cs j rest
+  with_character_front i x mid j rest cs e k r = record {
+    content = character x r.content;
+    children = r.children;
+    ok = (k.0, after_less (codes "]]>") (x ∷ content_text r.content) (codes "</" ++ rest)
+        (ap (λ t. after (codes "]]>") (x ∷ t)) (sym r.spelt) ∙ k.1), r.ok);
+    means = r.means;
+    is = r.is ∙ text_more i (encode_utf8 x) (text_in r.content) r.children;
+    spelt = e ∙ ap (λ t. x ∷ t) r.spelt;
+  }
+
+  with_reference_front : (i : Inside) (x : Reference) (mid : List ℕ) (j : Inside) (rest cs : List ℕ) → cs ≡ reference_text x ++ mid → is_reference x ≡ true
+      → ReadContent root levels kept scope (with_character i (character_of x)) mid j rest → ReadContent root levels kept scope i cs j rest
+  with_reference_front i x mid j rest cs e k r = record {
+    content = reference x r.content;
+    children = r.children;
+    ok = (k, r.ok);
+    means = r.means;
+    is = r.is ∙ text_more i (encode_utf8 (character_of x)) (text_in r.content) r.children;
+    spelt = e ∙ ap (λ t. reference_text x ++ t) r.spelt ∙ sym (append_assoc (reference_text x) (content_text r.content) (codes "</" ++ rest));
+  }
+
+  with_data_front : (i : Inside) (x : List ℕ) (mid : List ℕ) (j : Inside) (rest cs : List ℕ) → cs ≡ cdata_text x ++ mid → is_cdata x ≡ true
+      → ReadContent root levels kept scope (with_text i (i.text ++ encode_utf8_all x)) mid j rest → ReadContent root levels kept scope i cs j rest
+  with_data_front i x mid j rest cs e k r = record {
+    content = cdata x r.content;
+    children = r.children;
+    ok = (k, r.ok);
+    means = r.means;
+    is = r.is ∙ text_more i (encode_utf8_all x) (text_in r.content) r.children;
+    spelt = e ∙ ap (λ t. cdata_text x ++ t) r.spelt ∙ sym (append_assoc (cdata_text x) (content_text r.content) (codes "</" ++ rest));
+  }
+
+  with_comment_front : (i : Inside) (x : List ℕ) (mid : List ℕ) (j : Inside) (rest cs : List ℕ) → cs ≡ comment_text x ++ mid → is_comment x ≡ true
+      → ReadContent root levels kept scope i mid j rest → ReadContent root levels kept scope i cs j rest
+  with_comment_front i x mid j rest cs e k r = record {
+    content = comment x r.content;
+    children = r.children;
+    ok = (k, r.ok);
+    means = r.means;
+    is = r.is;
+    spelt = e ∙ ap (λ t. comment_text x ++ t) r.spelt ∙ sym (append_assoc (comment_text x) (content_text r.content) (codes "</" ++ rest));
+  }
+
+  with_instruction_front : (i : Inside) (x : Instruction) (mid : List ℕ) (j : Inside) (rest cs : List ℕ) → cs ≡ instruction_text x ++ mid
+      → is_instruction x ≡ true → ReadContent root levels kept scope i mid j rest → ReadContent root levels kept scope i cs j rest
+  with_instruction_front i x mid j rest cs e k r = record {
+    content = instruction x r.content;
+    children = r.children;
+    ok = (k, r.ok);
+    means = r.means;
+    is = r.is;
+    spelt = e ∙ ap (λ t. instruction_text x ++ t) r.spelt ∙ sym (append_assoc (instruction_text x) (content_text r.content) (codes "</" ++ rest));
+  }
+
+  both_some : (x : Option Child) (c : Child) (ys : Option (List Child)) (cs : List Child) → x ≡ Some c → ys ≡ Some cs → both x ys ≡ Some (c ∷ cs)
+  both_some x c ys cs e f = rw (e, f) refl
+
+  with_child_front : (i : Inside) (x : Element) (c : Child) (mid : List ℕ) (j : Inside) (rest cs : List ℕ) → cs ≡ element_text x ++ mid
+      → IsElement levels scope x → element_child root kept scope x ≡ Some c
+      → ReadContent root levels kept scope (with_one i c) mid j rest → ReadContent root levels kept scope i cs j rest
+  with_child_front i x c mid j rest cs e ok means r = record {
+    content = child x r.content;
+    children = c ∷ r.children;
+    ok = (ok, r.ok);
+    means = both_some (element_child root kept scope x) c (children_in root kept scope r.content) r.children means r.means;
+    is = r.is ∙ child_more i c (text_in r.content) r.children;
+    spelt = e ∙ ap (λ t. element_text x ++ t) r.spelt ∙ sym (append_assoc (element_text x) (content_text r.content) (codes "</" ++ rest));
+  }
+
+-- what reads children reads elements
+pub record ReadsChildren (root : List ℕ) (levels : ℕ) (kept : Bool) (scope : Scope) (child : List ℕ → Got Child) : Type 0 where
+  pub sound : (cs : List ℕ) (c : Child) (rest : List ℕ) → child cs ≡ Some (c, rest) → ReadElement root levels kept scope cs c rest
+
+-- what content gives where one more piece may be looked at
+abbrev Later : (List ℕ → Got Child) → ℕ → Inside → List ℕ → (Bool × Inside) × List ℕ → Type 0
+Later child n j rest x = cond x.0.0 (Some (x.0.1, x.1)) (content_at child n x.0.1 x.1) ≡ Some (j, rest)
+
+module _ (root : List ℕ) (levels : ℕ) (kept : Bool) (scope : Scope) (child : List ℕ → Got Child) (n : ℕ) (j : Inside) (rest : List ℕ)
+    (r : ReadsChildren root levels kept scope child)
+    (ih : (i : Inside) (cs : List ℕ) → content_at child n i cs ≡ Some (j, rest) → ReadContent root levels kept scope i cs j rest) where
+  later : (x y : (Bool × Inside) × List ℕ) → ◌≡◌ {A = Got (Bool × Inside)} (Some x) (Some y) → Later child n j rest y → Later child n j rest x
+  later x y e l = subst (Later child n j rest) (sym (same_some e)) l
+
+  by_mark : (i : Inside) (cs : List ℕ) (m : Mark) (mid : List ℕ) (x : (Bool × Inside) × List ℕ) → ReadMark cs m mid
+      → piece_at child i m mid ≡ Some x → Later child n j rest x → ReadContent root levels kept scope i cs j rest
+  unfolding piece_at
+  by_mark i cs ending mid x mark piece l =
+      let is = same_some (later ((true, i), mid) x piece l) in record {
+        content = nothing;
+        children = [];
+        ok = tt;
+        means = refl;
+        is = sym (ap (λ p. p.0) is) ∙ nothing_more i;
+        spelt = mark.spelt ∙ ap (λ p. codes "</" ++ p.1) is;
+      }
+  by_mark i cs commented mid x mark piece l =
+      let b = bind_some (comment_at mid) (λ rest. Some ((false, i), rest)) x piece in
+      let c = comment_sound mid b.0 b.1 in
+      with_comment_front root levels kept scope i c.text b.0 j rest cs (mark.spelt ∙ c.spelt) c.is_comment
+      (ih i b.0 (later ((false, i), b.0) x b.2 l))
+  by_mark i cs sectioned mid x mark piece l =
+      let b = bind_some (data_at i.text mid) (λ r. Some ((false, with_text i r.0), r.1)) x piece in
+      let c = data_sound i.text mid b.0.0 b.0.1 b.1 in
+      with_data_front root levels kept scope i c.data_text b.0.1 j rest cs (mark.spelt ∙ c.spelt) c.is_cdata
+      (subst (λ t. ReadContent root levels kept scope (with_text i t) b.0.1 j rest) c.says
+      (ih (with_text i b.0.0) b.0.1 (later ((false, with_text i b.0.0), b.0.1) x b.2 l)))
+  by_mark i cs instructed mid x mark piece l =
+      let b = bind_some (instruction_at mid) (λ rest. Some ((false, i), rest)) x piece in
+      let c = instruction_sound mid b.0 b.1 in
+      with_instruction_front root levels kept scope i c.instruction b.0 j rest cs (mark.spelt ∙ c.spelt) c.is_instruction
+      (ih i b.0 (later ((false, i), b.0) x b.2 l))
+  by_mark i cs nested mid x mark piece l =
+      let b = bind_some (child mid) (λ r. Some ((false, with_one i r.0), r.1)) x piece in
+      let c = r.sound mid b.0.0 b.0.1 b.1 in
+      with_child_front root levels kept scope i c.element b.0.0 b.0.1 j rest cs (mark.spelt ∙ c.spelt) c.ok c.means
+      (ih (with_one i b.0.0) b.0.1 (later ((false, with_one i b.0.0), b.0.1) x b.2 l))
+  by_mark i cs referred mid x mark piece l =
+      let b = bind_some (reference_at mid) (λ r. Some ((false, with_character i r.0), r.1)) x piece in
+      let c = reference_sound mid b.0.0 b.0.1 b.1 in
+      with_reference_front root levels kept scope i c.reference b.0.1 j rest cs (mark.spelt ∙ c.spelt) c.is_reference
+      (subst (λ d. ReadContent root levels kept scope (with_character i d) b.0.1 j rest) c.says
+      (ih (with_character i b.0.0) b.0.1 (later ((false, with_character i b.0.0), b.0.1) x b.2 l)))
+  by_mark i cs (standing y) mid x mark piece l =
+      with_character_front root levels kept scope i y mid j rest cs mark.spelt mark.keeps
+      (ih (with_character i y) mid (later ((false, with_character i y), mid) x piece l))
+
+content_sound : (root : List ℕ) (levels : ℕ) (kept : Bool) (scope : Scope) (child : List ℕ → Got Child) (n : ℕ) (i : Inside) (cs : List ℕ) (j : Inside)
+    (rest : List ℕ) → ReadsChildren root levels kept scope child → content_at child n i cs ≡ Some (j, rest)
+    → ReadContent root levels kept scope i cs j rest
+unfolding content_at
+content_sound root levels kept scope child zero i cs j rest r e = absurd (cc e)
+content_sound root levels kept scope child (suc n) i cs j rest r e =
+    let m = bind_some (mark_at cs) _ (j, rest) e in
+    let p = bind_some (piece_at child i m.0.0 m.0.1) _ (j, rest) m.2 in
+    by_mark root levels kept scope child n j rest r (λ i' cs' e'. content_sound root levels kept scope child n i' cs' j rest r e')
+    i cs m.0.0 m.0.1 p.0 (mark_sound cs m.0.0 m.0.1 m.1) p.1 p.2
+
+-- the value of an element
+
+finished_is : (k : Bool) (ss : List Setting) (text : List ℕ) (cs : List Child)
+    → finished k (with_content (begun ss) text cs) ≡ element_data k ss text (Some cs)
+finished_is false ss text cs = refl
+finished_is true ss text [] = refl
+finished_is true ss text (c ∷ cs) = refl
+
+as_child_named : (ours : Bool) (o : Opening) (d : Option Data) (cs : List ℕ) (c : Child) (rest : List ℕ) → as_child ours o d cs ≡ Some (c, rest)
+    → (named (key_of ours o.local) d ≡ Some c) × (cs ≡ rest)
+as_child_named ours o None cs c rest e = absurd (cc e)
+as_child_named ours o (Some d) cs c rest e = let is = same_some e in (ap (λ p. Some p.0) is, ap (λ p. p.1) is)
+
+named_as_child : (ours : Bool) (o : Opening) (d : Option Data) (cs : List ℕ) (c : Child) → named (key_of ours o.local) d ≡ Some c
+    → as_child ours o d cs ≡ Some (c, cs)
+named_as_child ours o None cs c e = absurd (cc e)
+named_as_child ours o (Some d) cs c e = ap (λ x. Some (x, cs)) (same_some e)
+
+element_sound : (root : List ℕ) (levels : ℕ) (kept : Bool) (outer : Scope) (cs : List ℕ) (t : Tag) (b : Bool) (mid : List ℕ) (c : Child) (rest : List ℕ)
+    → IsTagIn outer t → 60 ∷ cs ≡ tag_text t ++ (end_text b ++ mid)
+    → ((k : Bool) (scope : Scope) → ReadsChildren root levels k scope (child_at root levels k scope))
+    → element_at (child_at root levels) root kept (scope_in outer (opening_of t).settings) (opening_of t, b) mid ≡ Some (c, rest)
+    → ReadElement root (suc levels) kept outer cs c rest
+unfolding element_at filled_at
+element_sound root levels kept outer cs t true mid c rest ok spelt r e =
+    let o = opening_of t in
+    let ours = is_ours root (scope_in outer o.settings) o in
+    let n = as_child_named ours o (finished (kept && ours) (begun o.settings)) mid c rest e in
+    record {
+      element = empty t;
+      ok = ok;
+      means = ap (named (key_of ours o.local)) (sym (finished_is (kept && ours) o.settings [] [])) ∙ n.0;
+      spelt = spelt ∙ sym (append_assoc (tag_text t) (codes "/>") mid) ∙ ap (λ x. (tag_text t ++ codes "/>") ++ x) n.1;
+    }
+element_sound root levels kept outer cs t false mid c rest ok spelt r e =
+    let o = opening_of t in
+    let inner = scope_in outer o.settings in
+    let ours = is_ours root inner o in
+    let k = kept && ours in
+    let f = bind_some (content_at (child_at root levels k inner) (length mid) (begun o.settings) mid
+    >>= λ inside. closing_at o inside.1 >>= λ rest. Some (inside.0, rest)) _ (c, rest) e in
+    let a = bind_some (content_at (child_at root levels k inner) (length mid) (begun o.settings) mid) _ f.0 f.1 in
+    let b = bind_some (closing_at o a.0.1) (λ rest. Some (a.0.0, rest)) f.0 a.2 in
+    let name = (both_true (is_qname t.name) _ ok.spelt).0 in
+    let content = content_sound root levels k inner (child_at root levels k inner) (length mid) (begun o.settings) mid a.0.0 a.0.1 (r k inner) a.1 in
+    let closing = closing_sound t a.0.1 b.0 name b.1 in
+    let same : ◌≡◌ {A = Inside × List ℕ} (a.0.0, b.0) f.0 = same_some b.2 in
+    let n = as_child_named ours o (finished k f.0.0) f.0.1 c rest f.2 in
+    let says : finished k f.0.0 ≡ element_data k o.settings (text_in content.content) (Some content.children) =
+    ap (λ p. finished k p.0) (sym same) ∙ ap (finished k) content.is ∙ finished_is k o.settings (text_in content.content) content.children in
+    record {
+      element = full t content.content closing.space;
+      ok = (ok, content.ok, closing.white);
+      means = ap (λ co. named (key_of ours o.local) (element_data k o.settings (text_in content.content) co)) content.means
+          ∙ ap (named (key_of ours o.local)) (sym says) ∙ n.0;
+      spelt = spelt ∙ ap (λ x. tag_text t ++ (62 ∷ x)) (content.spelt ∙ ap (λ x. content_text content.content ++ (codes "</" ++ x)) (closing.spelt
+          ∙ ap (λ x. name_text t.name ++ (closing.space ++ (codes ">" ++ x))) (ap (λ p. p.1) same ∙ n.1)))
+          ∙ regroup_element (tag_text t) (content_text content.content) (name_text t.name) closing.space rest;
+    }
+  where
+    regroup_element : (a b c d e : List ℕ)
+        → a ++ (62 ∷ (b ++ (codes "</" ++ (c ++ (d ++ (codes ">" ++ e)))))) ≡ (a ++ (62 ∷ (b ++ (codes "</" ++ (c ++ (d ++ codes ">")))))) ++ e
+    regroup_element a b c d e = sym (simp append_assoc)
+
+pub child_sound : (root : List ℕ) (levels : ℕ) (kept : Bool) (outer : Scope) → ReadsChildren root levels kept outer (child_at root levels kept outer)
+unfolding child_at
+child_sound root zero kept outer = record { sound = λ cs c rest e. absurd (cc e) }
+child_sound root (suc levels) kept outer = record {
+  sound = λ cs c rest e.
+      let t = bind_some (tag_at cs) _ (c, rest) e in
+      let tag = tag_sound cs t.0.0.0 t.0.0.1 t.0.1 t.1 in
+      elim (chosen (is_opened outer t.0.0.0) _ None (Some (c, rest)) t.2) [
+        | inl h ↦
+            let goes = ap (λ o. element_at (child_at root levels) root kept (scope_in outer o.settings) (o, t.0.0.1) t.0.1) (sym tag.says) ∙ h.1 in
+            element_sound root levels kept outer cs tag.tag t.0.0.1 t.0.1 c rest
+            (record { spelt = tag.is_tag; few = tag.few; opened = ap (is_opened outer) (sym tag.says) ∙ h.0 }) tag.spelt
+            (λ k s. child_sound root levels k s) goes
+        | inr h ↦ absurd (let k = h.1 in cc k)
+      ];
+}
