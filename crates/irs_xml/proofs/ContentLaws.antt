@@ -168,9 +168,9 @@ markup_sound cs m mid e =
 
 standing_word : (c x : ℕ) (m : Mark) (cs mid : List ℕ) → is_char_data c ≡ true → after (codes "]]>") (c ∷ cs) ≡ None
     → ◌≡◌ {A = Got Mark} (Some (standing c, cs)) (Some (m, mid)) → ReadMark (c ∷ cs) m mid
-standing_word c x m cs mid plain no is =
+standing_word c x m cs mid plain none is =
     let same : ◌≡◌ {A = Mark × List ℕ} (standing c, cs) (m, mid) = same_some is in
-    subst (λ (p : Mark × List ℕ). ReadMark (c ∷ cs) p.0 p.1) same (record { spelt = refl; keeps = (plain, no) })
+    subst (λ (p : Mark × List ℕ). ReadMark (c ∷ cs) p.0 p.1) same (record { spelt = refl; keeps = (plain, none) })
 
 not_false : (b : Bool) → b ≡ false → not b ≡ true
 not_false b e = rw e refl
@@ -344,7 +344,7 @@ pub record ReadsChildren (root : List ℕ) (levels : ℕ) (kept : Bool) (scope :
 
 -- what content gives where one more piece may be looked at
 abbrev Later : (List ℕ → Got Child) → ℕ → Inside → List ℕ → (Bool × Inside) × List ℕ → Type 0
-Later child n j rest x = cond x.0.0 (Some (x.0.1, x.1)) (content_at child n x.0.1 x.1) ≡ Some (j, rest)
+Later reads n j rest x = cond x.0.0 (Some (x.0.1, x.1)) (content_at reads n x.0.1 x.1) ≡ Some (j, rest)
 
 module _ (root : List ℕ) (levels : ℕ) (kept : Bool) (scope : Scope) (child : List ℕ → Got Child) (n : ℕ) (j : Inside) (rest : List ℕ)
     (r : ReadsChildren root levels kept scope child)
@@ -399,11 +399,11 @@ content_sound : (root : List ℕ) (levels : ℕ) (kept : Bool) (scope : Scope) (
     (rest : List ℕ) → ReadsChildren root levels kept scope child → content_at child n i cs ≡ Some (j, rest)
     → ReadContent root levels kept scope i cs j rest
 unfolding content_at
-content_sound root levels kept scope child zero i cs j rest r e = absurd (cc e)
-content_sound root levels kept scope child (suc n) i cs j rest r e =
+content_sound root levels kept scope reads zero i cs j rest r e = absurd (cc e)
+content_sound root levels kept scope reads (suc n) i cs j rest r e =
     let m = bind_some (mark_at cs) _ (j, rest) e in
-    let p = bind_some (piece_at child i m.0.0 m.0.1) _ (j, rest) m.2 in
-    by_mark root levels kept scope child n j rest r (λ i' cs' e'. content_sound root levels kept scope child n i' cs' j rest r e')
+    let p = bind_some (piece_at reads i m.0.0 m.0.1) _ (j, rest) m.2 in
+    by_mark root levels kept scope reads n j rest r (λ i' cs' e'. content_sound root levels kept scope reads n i' cs' j rest r e')
     i cs m.0.0 m.0.1 p.0 (mark_sound cs m.0.0 m.0.1 m.1) p.1 p.2
 
 -- the value of an element
@@ -486,3 +486,67 @@ child_sound root (suc levels) kept outer = record {
         | inr h ↦ absurd (let k = h.1 in cc k)
       ];
 }
+
+-- the way back
+
+content_step : (reads : List ℕ → Got Child) (n : ℕ) (i : Inside) (cs : List ℕ) (m : Mark) (mid : List ℕ) (k : Inside) (more : List ℕ)
+    → mark_at cs ≡ Some (m, mid) → piece_at reads i m mid ≡ Some ((false, k), more) → content_at reads (suc n) i cs ≡ content_at reads n k more
+unfolding content_at
+content_step reads n i cs m mid k more a b = rw (a, b) refl
+
+content_stop : (reads : List ℕ → Got Child) (n : ℕ) (i : Inside) (mid : List ℕ) → content_at reads (suc n) i (codes "</" ++ mid) ≡ Some (i, mid)
+unfolding content_at mark_at markup_at piece_at
+content_stop reads n i mid = refl
+
+mark_comment : (mid : List ℕ) → mark_at (codes "<!--" ++ mid) ≡ Some (commented, mid)
+unfolding mark_at markup_at
+mark_comment mid = refl
+
+mark_section : (mid : List ℕ) → mark_at (codes "<![CDATA[" ++ mid) ≡ Some (sectioned, mid)
+unfolding mark_at markup_at
+mark_section mid = refl
+
+mark_instruction : (mid : List ℕ) → mark_at (codes "<?" ++ mid) ≡ Some (instructed, mid)
+unfolding mark_at markup_at
+mark_instruction mid = refl
+
+mark_reference : (mid : List ℕ) → mark_at (38 ∷ mid) ≡ Some (referred, mid)
+unfolding mark_at
+mark_reference mid = refl
+
+start_no_mark : (c : ℕ) → is_name_start c ≡ true → (nat_eq c 47 ≡ false) × (nat_eq c 33 ≡ false) × (nat_eq c 63 ≡ false)
+unfolding is_name_start
+start_no_mark c h = (grind (arith, nat_tests), grind (arith, nat_tests), grind (arith, nat_tests))
+
+mark_child : (c : ℕ) (mid : List ℕ) → is_name_start c ≡ true → mark_at (60 ∷ (c ∷ mid)) ≡ Some (nested, c ∷ mid)
+unfolding mark_at markup_at
+mark_child c mid h =
+    let s = start_no_mark c h in let x = s.0 in let y = s.1 in let z = s.2 in rw (x, y, z) refl
+
+mark_other : (c : ℕ) (mid : List ℕ) → is_char_data c ≡ true → nat_eq c 93 ≡ false → mark_at (c ∷ mid) ≡ Some (standing c, mid)
+unfolding mark_at
+mark_other c mid h e =
+    let b = both_true (not (nat_eq c 60)) (not (nat_eq c 38)) h in
+    let x = not_true (nat_eq c 60) b.0 in let y = not_true (nat_eq c 38) b.1 in rw (x, y, e) refl
+
+mark_bracket : (mid : List ℕ) → after (codes "]>") mid ≡ None → mark_at (93 ∷ mid) ≡ Some (standing 93, mid)
+unfolding mark_at
+mark_bracket mid e = rw e refl
+
+mark_standing : (c : ℕ) (mid : List ℕ) → is_char_data c ≡ true → after (codes "]]>") (c ∷ mid) ≡ None → mark_at (c ∷ mid) ≡ Some (standing c, mid)
+mark_standing c mid h e = elim (cases_Bool (nat_eq c 93)) [
+  | inl b ↦
+      let is = eq_true c 93 b in
+      let none : after (codes "]>") mid ≡ None = ap (λ x. after (codes "]]>") (x ∷ mid)) (sym is) ∙ e in
+      subst (λ x. mark_at (x ∷ mid) ≡ Some (standing x, mid)) (sym is) (mark_bracket mid none)
+  | inr b ↦ mark_other c mid h b
+]
+
+-- `]]>` doesn't begin in text and end in an end tag or another mark
+after_mark : (x : ℕ) (cs t : List ℕ) → after (codes "]]>") (x ∷ cs) ≡ None → after (codes "]]>") (x ∷ (cs ++ (60 ∷ t))) ≡ None
+after_mark x [] t e = one (nat_eq x 93)
+  where
+    one : (s : Bool) → cond s (None {T = List ℕ}) None ≡ None
+    one s = ?
+after_mark x (y ∷ []) t e = ?
+after_mark x (y ∷ z ∷ cs) t e = ?

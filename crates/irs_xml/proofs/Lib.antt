@@ -12,6 +12,7 @@ mod TagLaws
 mod Shorter
 mod ChildSteps
 mod ContentLaws
+mod MiscSteps
 mod Seeing
 mod Allowed
 mod NameReads

@@ -17,14 +17,14 @@ use Rattle.irs_xml.proofs.ValueSteps.{reference_short}
 after_short : (w cs rest : List ℕ) → after w cs ≡ Some rest → length rest ≤ length cs
 after_short w cs rest e = let l = length_after w cs rest e in omega (arith, l)
 
-skip_short : (cs : List ℕ) → length (skip_space cs) ≤ length cs
+pub skip_short : (cs : List ℕ) → length (skip_space cs) ≤ length cs
 skip_short cs = let l = ap length (skip_sound cs) ∙ length-append (white_run cs) (skip_space cs) in omega (arith, l)
 
-comment_short : (cs rest : List ℕ) → comment_at cs ≡ Some rest → length rest ≤ length cs
+pub comment_short : (cs rest : List ℕ) → comment_at cs ≡ Some rest → length rest ≤ length cs
 comment_short cs rest e =
     let r = comment_sound cs rest e in let l = ap length r.spelt ∙ length-append (comment_text r.text) rest in omega (arith, l)
 
-instruction_short : (cs rest : List ℕ) → instruction_at cs ≡ Some rest → length rest ≤ length cs
+pub instruction_short : (cs rest : List ℕ) → instruction_at cs ≡ Some rest → length rest ≤ length cs
 instruction_short cs rest e =
     let r = instruction_sound cs rest e in
     let l = ap length r.spelt ∙ length-append (instruction_text r.instruction) rest in omega (arith, l)

@@ -13,3 +13,4 @@ pub mod Seen
 pub mod TagViews
 pub mod InsideViews
 pub mod MarkViews
+pub mod WordViews

@@ -348,9 +348,13 @@ encoding_at cs = after_any_case (codes "utf-8") cs
 abbrev pub standalone_at : List ℕ → Option (List ℕ)
 standalone_at cs = choose (after (codes "yes") cs) (λ rest. Some rest) (after (codes "no") cs)
 
+-- a name behind white space
+abbrev pub name_behind : List ℕ → List ℕ → Option (List ℕ)
+name_behind name cs = gap_at cs >>= after name
+
 -- a name and its word, where the name is there behind white space
 unfoldable pub pair_at : List ℕ → (List ℕ → Option (List ℕ)) → List ℕ → Option (List ℕ)
-pair_at name word cs = choose (gap_at cs >>= after name) (λ rest. quoted_at word rest) (Some cs)
+pair_at name word cs = choose (name_behind name cs) (λ rest. quoted_at word rest) (Some cs)
 
 -- the XML declaration behind its `<?xml` and white space
 unfoldable pub declared_at : List ℕ → Option (List ℕ)
@@ -358,8 +362,12 @@ declared_at cs =
     after (codes "version") cs >>= quoted_at version_at >>= pair_at (codes "encoding") encoding_at
     >>= pair_at (codes "standalone") standalone_at >>= λ rest. after (codes "?>") (skip_space rest)
 
+-- `<?xml` and white space
+abbrev pub opening_at : List ℕ → Option (List ℕ)
+opening_at cs = after (codes "<?xml") cs >>= gap_at
+
 unfoldable pub declaration_at : List ℕ → Option (List ℕ)
-declaration_at cs = choose (after (codes "<?xml") cs >>= gap_at) (λ rest. declared_at rest) (Some cs)
+declaration_at cs = choose (opening_at cs) (λ rest. declared_at rest) (Some cs)
 
 -- what may stand round the root; n is the most comments and instructions that are looked at
 unfoldable pub misc_at : ℕ → List ℕ → Option (List ℕ)

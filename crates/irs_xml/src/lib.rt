@@ -4,6 +4,7 @@
 mod chars;
 mod comments;
 mod content;
+mod document;
 mod failure;
 mod inside;
 mod members;

@@ -3,7 +3,7 @@ ghost use Rattle.irs_xml.specs.Comments.{after};
 ghost use Rattle.irs_xml.specs.Reading.{EndsName, NameOf, SplitsName, Takes, after_any_case, gap_at, name_at, skip_space as behind_space, Reads};
 ghost use Rattle.irs_xml.specs.Places.{LiesIn};
 ghost use Rattle.irs_xml.specs.Seen.{seen, FirstOf, Uncons};
-ghost use Rattle.std.specs.Prelude.{◌≡◌};
+ghost use Rattle.std.specs.Prelude.{◌≡◌, [], ◌∷◌};
 
 use crate::chars::{is_name_char, is_name_start, is_space};
 use std::marker::Model;
@@ -79,6 +79,40 @@ impl<'a> Reader<'a> {
         }
         self.rest = ahead.rest;
         true
+    }
+
+    /// The character stands here, and is taken.
+    pub(crate) fn eat_char(&mut self, c: char) -> bool
+        ensures { Takes result self.old self.new (after (c ∷ []) self.old) }
+    {
+        match first_of(self.rest) {
+            None => false,
+            Some((first, rest)) => if first == c {
+                self.rest = rest;
+                true
+            } else {
+                false
+            },
+        }
+    }
+
+    /// Another reader of what is left.
+    pub(crate) fn ahead(&self) -> Reader<'a>
+        ensures { result ≡ self.now }
+    {
+        Reader { rest: self.rest }
+    }
+
+    /// Goes on where the other reader is.
+    pub(crate) fn catch_up(&mut self, other: &Reader<'a>)
+        ensures { self.new ≡ other.now }
+    {
+        self.rest = other.rest;
+    }
+
+    /// How many bytes are left.
+    pub(crate) fn left(&self) -> usize {
+        self.rest.len()
     }
 
     /// The word, of small ASCII letters and signs, stands here in any case, and is taken.

@@ -1,0 +1,62 @@
+-- How what stands round the root goes on.
+use Rattle.std.proofs.Common.{◌≡◌, ℕ, zero, suc, ◌+◌, ◌<◌, ◌≤◌, List, [], ◌∷◌, length, Option, Some, None, refl, sym, ap, ◌∙◌, arith}
+use Rattle.std.specs.Prelude.{codes}
+use Rattle.irs_xml.specs.Comments.{after}
+use Rattle.irs_xml.specs.Reading.{◌>>=◌, choose, skip_space, comment_at, instruction_at, misc_at}
+use Rattle.irs_xml.proofs.Steps.{length_after}
+use Rattle.irs_xml.proofs.Shorter.{skip_short, comment_short, instruction_short}
+
+-- what is read from here gives what is read from the start
+pub record MiscGoes (cs all : List ℕ) : Type 0 where
+  pub fuel : ℕ
+  pub enough : length cs ≤ fuel
+  pub same : misc_at (suc fuel) cs ≡ misc_at (suc (length all)) all
+
+pub misc_starts : (all : List ℕ) → MiscGoes all all
+misc_starts all = record { fuel = length all; enough = omega arith; same = refl }
+
+pub misc_ends : (cs mid all : List ℕ) → MiscGoes cs all → skip_space cs ≡ mid → after (codes "<!--") mid ≡ None → after (codes "<?") mid ≡ None
+    → misc_at (suc (length all)) all ≡ Some mid
+unfolding misc_at
+misc_ends cs mid all g s a b = sym (rw (s, a, b) at g.same)
+
+pub misc_no_comment : (cs mid x all : List ℕ) → MiscGoes cs all → skip_space cs ≡ mid → after (codes "<!--") mid ≡ Some x → comment_at x ≡ None
+    → misc_at (suc (length all)) all ≡ None
+unfolding misc_at
+misc_no_comment cs mid x all g s a b = sym (rw (s, a, b) at g.same)
+
+pub misc_no_instruction : (cs mid x all : List ℕ) → MiscGoes cs all → skip_space cs ≡ mid → after (codes "<!--") mid ≡ None
+    → after (codes "<?") mid ≡ Some x → instruction_at x ≡ None → misc_at (suc (length all)) all ≡ None
+unfolding misc_at
+misc_no_instruction cs mid x all g s a b d = sym (rw (s, a, b, d) at g.same)
+
+later : (rest all : List ℕ) (n : ℕ) → length rest < n → misc_at n rest ≡ misc_at (suc (length all)) all → MiscGoes rest all
+later rest all zero l e = absurd (omega (arith, l))
+later rest all (suc n) l e = record { fuel = n; enough = omega (arith, l); same = e }
+
+pub misc_comment : (cs mid x rest all : List ℕ) → MiscGoes cs all → skip_space cs ≡ mid → after (codes "<!--") mid ≡ Some x → comment_at x ≡ Some rest
+    → MiscGoes rest all
+unfolding misc_at
+misc_comment cs mid x rest all g s a b =
+    let k = skip_short cs in let m = ap length s in let l = length_after (codes "<!--") mid x a in let d = comment_short x rest b in
+    let same : misc_at g.fuel rest ≡ misc_at (suc (length all)) all = rw (s, a, b) at g.same in
+    later rest all g.fuel (let e = g.enough in omega (arith, k, m, l, d, e)) same
+
+pub misc_instruction : (cs mid x rest all : List ℕ) → MiscGoes cs all → skip_space cs ≡ mid → after (codes "<!--") mid ≡ None
+    → after (codes "<?") mid ≡ Some x → instruction_at x ≡ Some rest → MiscGoes rest all
+unfolding misc_at
+misc_instruction cs mid x rest all g s a b d =
+    let k = skip_short cs in let m = ap length s in let l = length_after (codes "<?") mid x b in let y = instruction_short x rest d in
+    let same : misc_at g.fuel rest ≡ misc_at (suc (length all)) all = rw (s, a, b, d) at g.same in
+    later rest all g.fuel (let e = g.enough in omega (arith, k, m, l, y, e)) same
+
+pub comment_shorter : (cs mid x rest : List ℕ) → skip_space cs ≡ mid → after (codes "<!--") mid ≡ Some x → comment_at x ≡ Some rest → length rest < length cs
+comment_shorter cs mid x rest s a b =
+    let k = skip_short cs in let m = ap length s in let l = length_after (codes "<!--") mid x a in let d = comment_short x rest b in
+    omega (arith, k, m, l, d)
+
+pub instruction_shorter : (cs mid x rest : List ℕ) → skip_space cs ≡ mid → after (codes "<?") mid ≡ Some x → instruction_at x ≡ Some rest
+    → length rest < length cs
+instruction_shorter cs mid x rest s a b =
+    let k = skip_short cs in let m = ap length s in let l = length_after (codes "<?") mid x a in let d = instruction_short x rest b in
+    omega (arith, k, m, l, d)
