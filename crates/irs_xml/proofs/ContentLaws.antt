@@ -24,7 +24,7 @@ use Rattle.irs_xml.proofs.NameReads.{char_no_return, start_no_return}
 use Rattle.irs_xml.proofs.NameLaws.{prefixed_name}
 use Rattle.irs_xml.proofs.ReferenceLaws.{reference_sound, reference_complete, tail}
 use Rattle.irs_xml.proofs.CommentLaws.{comment_sound, comment_complete, data_sound, data_complete, instruction_sound, instruction_complete}
-use Rattle.irs_xml.proofs.TagLaws.{end_text, ReadTag, tag_sound, tag_complete}
+use Rattle.irs_xml.proofs.TagLaws.{end_text, ReadTag, prefixed_begins, reference_begins, reference_some, tag_sound, tag_complete}
 
 -- names in end tags
 
@@ -542,11 +542,179 @@ mark_standing c mid h e = elim (cases_Bool (nat_eq c 93)) [
   | inr b ↦ mark_other c mid h b
 ]
 
--- `]]>` doesn't begin in text and end in an end tag or another mark
+no_word : Option (List ℕ)
+no_word = None
+
+-- `]]>` doesn't begin in text and end in a mark that begins with `<`
 after_mark : (x : ℕ) (cs t : List ℕ) → after (codes "]]>") (x ∷ cs) ≡ None → after (codes "]]>") (x ∷ (cs ++ (60 ∷ t))) ≡ None
 after_mark x [] t e = one (nat_eq x 93)
   where
-    one : (s : Bool) → cond s (None {T = List ℕ}) None ≡ None
-    one s = ?
-after_mark x (y ∷ []) t e = ?
-after_mark x (y ∷ z ∷ cs) t e = ?
+    one : (s : Bool) → cond s None None ≡ no_word
+    one true = refl
+    one false = refl
+after_mark x (y ∷ []) t e = two (nat_eq x 93) (nat_eq y 93)
+  where
+    two : (s u : Bool) → cond s (cond u None None) None ≡ no_word
+    two true true = refl
+    two true false = refl
+    two false u = refl
+after_mark x (y ∷ z ∷ cs) t e = three (nat_eq x 93) (nat_eq y 93) (nat_eq z 62) e
+  where
+    three : (s u v : Bool) → cond s (cond u (cond v (Some cs) None) None) None ≡ None
+        → cond s (cond u (cond v (Some (cs ++ (60 ∷ t))) None) None) None ≡ None
+    three true true true e = absurd (cc e)
+    three true true false e = refl
+    three true false v e = refl
+    three false u v e = refl
+
+tag_begins : (t : Tag) (rest : List ℕ) → is_tag t ≡ true
+    → (c : ℕ) × (cs : List ℕ) × (name_text t.name ++ rest ≡ c ∷ cs) × (is_name_start c ≡ true)
+tag_begins t rest h =
+    let b = prefixed_begins t.name.prefix t.name.local (both_true (is_qname t.name) _ h).0 in
+    (b.0, b.1 ++ rest, ap (λ x. x ++ rest) b.2, b.3)
+
+element_long : (e : Element) → 1 ≤ length (element_text e)
+element_long (empty t) = omega arith
+element_long (full t c space) = omega arith
+
+tail_long : (r : Reference) (left : List ℕ) → length left ≤ length (tail (reference_text r ++ left))
+tail_long r left =
+    let a = ap length (reference_begins r left) in let b = length-append (reference_text r) left in let c = reference_some r in
+    omega (arith, a, b, c)
+
+-- an element behind its `<`
+abbrev pub behind : Element → List ℕ → List ℕ
+behind (empty t) rest = name_text t.name ++ (attributes_text t.attributes ++ (t.space ++ (codes "/>" ++ rest)))
+behind (full t c space) rest =
+    name_text t.name ++ (attributes_text t.attributes ++ (t.space ++ (codes ">" ++ (content_text c
+    ++ (codes "</" ++ (name_text t.name ++ (space ++ (codes ">" ++ rest))))))))
+
+pub element_begins : (e : Element) (rest : List ℕ) → element_text e ++ rest ≡ 60 ∷ behind e rest
+element_begins (empty t) rest =
+    ap (λ x. 60 ∷ x) (regroup (name_text t.name) (attributes_text t.attributes) t.space (codes "/>") rest)
+  where
+    regroup : (a b c d e : List ℕ) → ((a ++ (b ++ c)) ++ d) ++ e ≡ a ++ (b ++ (c ++ (d ++ e)))
+    regroup a b c d e = simp append_assoc
+element_begins (full t c space) rest =
+    ap (λ x. 60 ∷ x) (regroup (name_text t.name) (attributes_text t.attributes) t.space (content_text c) space rest)
+  where
+    regroup : (a b c d e f : List ℕ)
+        → ((a ++ (b ++ c)) ++ (62 ∷ (d ++ (codes "</" ++ (a ++ (e ++ codes ">")))))) ++ f
+        ≡ a ++ (b ++ (c ++ (62 ∷ (d ++ (60 ∷ 47 ∷ (a ++ (e ++ (62 ∷ f))))))))
+    regroup a b c d e f = simp append_assoc
+
+mark_element : (levels : ℕ) (scope : Scope) (e : Element) (rest : List ℕ) → IsElement levels scope e
+    → mark_at (60 ∷ behind e rest) ≡ Some (nested, behind e rest)
+mark_element zero scope (empty t) rest ok = absurd ok
+mark_element zero scope (full t c space) rest ok = absurd ok
+mark_element (suc n) scope (empty t) rest ok =
+    let b = tag_begins t (attributes_text t.attributes ++ (t.space ++ (codes "/>" ++ rest))) ok.spelt in
+    subst (λ x. mark_at (60 ∷ x) ≡ Some (nested, x)) (sym b.2) (mark_child b.0 b.1 b.3)
+mark_element (suc n) scope (full t c space) rest ok =
+    let b = tag_begins t (attributes_text t.attributes ++ (t.space ++ (codes ">" ++ (content_text c
+    ++ (codes "</" ++ (name_text t.name ++ (space ++ (codes ">" ++ rest)))))))) ok.0.spelt in
+    subst (λ x. mark_at (60 ∷ x) ≡ Some (nested, x)) (sym b.2) (mark_child b.0 b.1 b.3)
+
+-- what reads children reads every element
+pub record ReadsEach (root : List ℕ) (levels : ℕ) (kept : Bool) (scope : Scope) (reads : List ℕ → Got Child) : Type 0 where
+  pub complete : (e : Element) (c : Child) (rest : List ℕ) → IsElement levels scope e → element_child root kept scope e ≡ Some c
+      → reads (behind e rest) ≡ Some (c, rest)
+
+both_parts : (x : Option Child) (ys : Option (List Child)) (zs : List Child) → both x ys ≡ Some zs
+    → (c : Child) × (cs : List Child) × (x ≡ Some c) × (ys ≡ Some cs) × (c ∷ cs ≡ zs)
+both_parts None ys zs e = absurd (cc e)
+both_parts (Some c) None zs e = absurd (cc e)
+both_parts (Some c) (Some cs) zs e = (c, cs, refl, refl, same_some e)
+
+module _ (root : List ℕ) (levels : ℕ) (kept : Bool) (scope : Scope) (reads : List ℕ → Got Child) (r : ReadsEach root levels kept scope reads) where
+  piece_character : (i : Inside) (x : ℕ) (mid : List ℕ) → piece_at reads i (standing x) mid ≡ Some ((false, with_character i x), mid)
+  unfolding piece_at
+  piece_character i x mid = refl
+
+  piece_reference : (i : Inside) (x : Reference) (mid : List ℕ) → is_reference x ≡ true
+      → piece_at reads i referred (tail (reference_text x ++ mid)) ≡ Some ((false, with_character i (character_of x)), mid)
+  unfolding piece_at
+  piece_reference i x mid h = let e = reference_complete x mid h in rw e refl
+
+  piece_section : (i : Inside) (x mid : List ℕ) → is_cdata x ≡ true
+      → piece_at reads i sectioned (x ++ (codes "]]>" ++ mid)) ≡ Some ((false, with_text i (i.text ++ encode_utf8_all x)), mid)
+  unfolding piece_at
+  piece_section i x mid h = let e = data_complete i.text x mid h in rw e refl
+
+  piece_comment : (i : Inside) (x mid : List ℕ) → is_comment x ≡ true → piece_at reads i commented (x ++ (codes "-->" ++ mid)) ≡ Some ((false, i), mid)
+  unfolding piece_at
+  piece_comment i x mid h = let e = comment_complete x mid h in rw e refl
+
+  piece_instruction : (i : Inside) (x : Instruction) (mid : List ℕ) → is_instruction x ≡ true
+      → piece_at reads i instructed (x.target ++ (x.body ++ (codes "?>" ++ mid))) ≡ Some ((false, i), mid)
+  unfolding piece_at
+  piece_instruction i x mid h = let e = instruction_complete x mid h in rw e refl
+
+  piece_child : (i : Inside) (e : Element) (c : Child) (mid : List ℕ) → IsElement levels scope e → element_child root kept scope e ≡ Some c
+      → piece_at reads i nested (behind e mid) ≡ Some ((false, with_one i c), mid)
+  unfolding piece_at
+  piece_child i e c mid ok means = let read = r.complete e c mid ok means in rw read refl
+
+  content_complete : (n : ℕ) (i : Inside) (c : Content) (children : List Child) (rest : List ℕ) → IsContent levels scope c
+      → children_in root kept scope c ≡ Some children → length (content_text c ++ (codes "</" ++ rest)) ≤ n
+      → content_at reads n i (content_text c ++ (codes "</" ++ rest)) ≡ Some (with_content i (text_in c) children, rest)
+  content_complete zero i c children rest ok means l =
+      absurd (let k = length-append (content_text c) (codes "</" ++ rest) in omega (arith, l, k))
+  content_complete (suc n) i nothing children rest ok means l =
+      content_stop reads n i rest ∙ ap (λ j. Some (j, rest)) (nothing_more i) ∙ ap (λ cs. Some (with_content i [] cs, rest)) (same_some means)
+  content_complete (suc n) i (character x c) children rest ok means l =
+      let left = content_text c ++ (codes "</" ++ rest) in
+      content_step reads n i (x ∷ left) (standing x) left (with_character i x) left
+      (mark_standing x left ok.0 (after_mark x (content_text c) (47 ∷ rest) ok.1)) (piece_character i x left)
+      ∙ content_complete n (with_character i x) c children rest ok.2 means (omega (arith, l))
+      ∙ ap (λ j. Some (j, rest)) (text_more i (encode_utf8 x) (text_in c) children)
+  content_complete (suc n) i (reference x c) children rest ok means l =
+      let left = content_text c ++ (codes "</" ++ rest) in
+      let whole = append_assoc (reference_text x) (content_text c) (codes "</" ++ rest) ∙ reference_begins x left in
+      let long = ap length whole in let short = tail_long x left in
+      ap (content_at reads (suc n) i) whole
+      ∙ content_step reads n i (38 ∷ tail (reference_text x ++ left)) referred (tail (reference_text x ++ left)) (with_character i (character_of x)) left
+      (mark_reference (tail (reference_text x ++ left))) (piece_reference i x left ok.0)
+      ∙ content_complete n (with_character i (character_of x)) c children rest ok.1 means (omega (arith, l, long, short))
+      ∙ ap (λ j. Some (j, rest)) (text_more i (encode_utf8 (character_of x)) (text_in c) children)
+  content_complete (suc n) i (cdata x c) children rest ok means l =
+      let left = content_text c ++ (codes "</" ++ rest) in
+      let whole : cdata_text x ++ content_text c ++ (codes "</" ++ rest) ≡ codes "<![CDATA[" ++ (x ++ (codes "]]>" ++ left)) =
+      append_assoc (cdata_text x) (content_text c) (codes "</" ++ rest) ∙ ap (λ t. codes "<![CDATA[" ++ t) (append_assoc x (codes "]]>") left) in
+      let long = ap length whole in let long2 = length-append x (codes "]]>" ++ left) in
+      ap (content_at reads (suc n) i) whole
+      ∙ content_step reads n i (codes "<![CDATA[" ++ (x ++ (codes "]]>" ++ left))) sectioned (x ++ (codes "]]>" ++ left))
+      (with_text i (i.text ++ encode_utf8_all x)) left (mark_section (x ++ (codes "]]>" ++ left))) (piece_section i x left ok.0)
+      ∙ content_complete n (with_text i (i.text ++ encode_utf8_all x)) c children rest ok.1 means (omega (arith, l, long, long2))
+      ∙ ap (λ j. Some (j, rest)) (text_more i (encode_utf8_all x) (text_in c) children)
+  content_complete (suc n) i (comment x c) children rest ok means l =
+      let left = content_text c ++ (codes "</" ++ rest) in
+      let whole : comment_text x ++ content_text c ++ (codes "</" ++ rest) ≡ codes "<!--" ++ (x ++ (codes "-->" ++ left)) =
+      append_assoc (comment_text x) (content_text c) (codes "</" ++ rest) ∙ ap (λ t. codes "<!--" ++ t) (append_assoc x (codes "-->") left) in
+      let long = ap length whole in let long2 = length-append x (codes "-->" ++ left) in
+      ap (content_at reads (suc n) i) whole
+      ∙ content_step reads n i (codes "<!--" ++ (x ++ (codes "-->" ++ left))) commented (x ++ (codes "-->" ++ left)) i left
+      (mark_comment (x ++ (codes "-->" ++ left))) (piece_comment i x left ok.0)
+      ∙ content_complete n i c children rest ok.1 means (omega (arith, l, long, long2))
+  content_complete (suc n) i (instruction x c) children rest ok means l =
+      let left = content_text c ++ (codes "</" ++ rest) in
+      let whole : instruction_text x ++ content_text c ++ (codes "</" ++ rest) ≡ codes "<?" ++ (x.target ++ (x.body ++ (codes "?>" ++ left))) =
+      append_assoc (instruction_text x) (content_text c) (codes "</" ++ rest)
+      ∙ ap (λ t. codes "<?" ++ t) (append_assoc x.target (x.body ++ codes "?>") left ∙ ap (λ t. x.target ++ t) (append_assoc x.body (codes "?>") left)) in
+      let long = ap length whole in let long2 = length-append x.target (x.body ++ (codes "?>" ++ left)) in
+      let long3 = length-append x.body (codes "?>" ++ left) in
+      ap (content_at reads (suc n) i) whole
+      ∙ content_step reads n i (codes "<?" ++ (x.target ++ (x.body ++ (codes "?>" ++ left)))) instructed (x.target ++ (x.body ++ (codes "?>" ++ left))) i left
+      (mark_instruction (x.target ++ (x.body ++ (codes "?>" ++ left)))) (piece_instruction i x left ok.0)
+      ∙ content_complete n i c children rest ok.1 means (omega (arith, l, long, long2, long3))
+  content_complete (suc n) i (child e c) children rest ok means l =
+      let left = content_text c ++ (codes "</" ++ rest) in
+      let b = both_parts (element_child root kept scope e) (children_in root kept scope c) children means in
+      let whole = append_assoc (element_text e) (content_text c) (codes "</" ++ rest) ∙ element_begins e left in
+      let long = ap length (append_assoc (element_text e) (content_text c) (codes "</" ++ rest)) in
+      let long2 = length-append (element_text e) left in let long3 = element_long e in
+      ap (content_at reads (suc n) i) whole
+      ∙ content_step reads n i (60 ∷ behind e left) nested (behind e left) (with_one i b.0) left
+      (mark_element levels scope e left ok.0) (piece_child i e b.0 left ok.0 b.2)
+      ∙ content_complete n (with_one i b.0) c b.1 rest ok.1 b.3 (omega (arith, l, long, long2, long3))
+      ∙ ap (λ j. Some (j, rest)) (child_more i b.0 (text_in c) b.1) ∙ ap (λ cs. Some (with_content i (text_in c) cs, rest)) b.4

@@ -94,7 +94,7 @@ value_sound (suc n) quote text (c ∷ cs) out rest e =
 quote_no_mark : (q : ℕ) → is_quote q ≡ true → nat_eq 38 q ≡ false
 quote_no_mark q h = grind (arith, nat_tests)
 
-reference_begins : (r : Reference) (rest : List ℕ) → reference_text r ++ rest ≡ 38 ∷ tail (reference_text r ++ rest)
+pub reference_begins : (r : Reference) (rest : List ℕ) → reference_text r ++ rest ≡ 38 ∷ tail (reference_text r ++ rest)
 reference_begins less rest = refl
 reference_begins greater rest = refl
 reference_begins ampersand rest = refl
@@ -124,7 +124,7 @@ value_end : (n quote : ℕ) (text rest : List ℕ) → value_at (suc n) quote te
 unfolding value_at
 value_end n quote text rest = let e = true_eq quote in rw e (ap (λ t. Some (t, rest)) (sym (append-nil text)))
 
-reference_some : (r : Reference) → 1 ≤ length (reference_text r)
+pub reference_some : (r : Reference) → 1 ≤ length (reference_text r)
 reference_some less = omega arith
 reference_some greater = omega arith
 reference_some ampersand = omega arith

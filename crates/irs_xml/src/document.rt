@@ -236,10 +236,13 @@ fn begins(bytes: &[u8], front: &[u8]) -> bool
 {
     let mut left = bytes;
     for byte in front {
-        match left.split_first() {
-            Some((first, others)) if first == byte => left = others,
-            _ => return false,
+        let Some((first, others)) = left.split_first() else {
+            return false;
+        };
+        if first != byte {
+            return false;
         }
+        left = others;
     }
     true
 }
