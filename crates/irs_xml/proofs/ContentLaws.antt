@@ -12,6 +12,7 @@ use Rattle.serde_json.specs.Data.{Data, Members, object, string, no_members}
 use Rattle.irs_xml.specs.Characters.{is_space, is_white, ends_after}
 use Rattle.irs_xml.specs.Comments.{after, comment_text, is_comment, cdata_text, is_cdata, Instruction, is_instruction, instruction_text}
 use Rattle.irs_xml.specs.Content.{Element, empty, full, Content, nothing, character, reference, cdata, comment, instruction, child, element_text, content_text, is_char_data, IsTagIn, IsElement, IsContent}
+use Rattle.irs_xml.specs.Document.{tag_of}
 use Rattle.irs_xml.specs.Names.{is_name_start, is_name_char, is_nc_name, QName, name_text, prefixed, is_prefix, is_qname}
 use Rattle.irs_xml.specs.Namespaces.{Setting, Opening, Scope, opening_of, settings_of, is_opened, scope_in}
 use Rattle.irs_xml.specs.References.{Reference, reference_text, character_of, is_reference}
@@ -424,21 +425,29 @@ named_as_child : (ours : Bool) (o : Opening) (d : Option Data) (cs : List ℕ) (
 named_as_child ours o None cs c e = absurd (cc e)
 named_as_child ours o (Some d) cs c e = ap (λ x. Some (x, cs)) (same_some e)
 
-element_sound : (root : List ℕ) (levels : ℕ) (kept : Bool) (outer : Scope) (cs : List ℕ) (t : Tag) (b : Bool) (mid : List ℕ) (c : Child) (rest : List ℕ)
+-- an element of this tag
+pub record ReadTagged (root : List ℕ) (levels : ℕ) (kept : Bool) (outer : Scope) (cs : List ℕ) (t : Tag) (c : Child) (rest : List ℕ) : Type 0 where
+  pub read : ReadElement root levels kept outer cs c rest
+  pub tag : tag_of read.element ≡ t
+
+pub element_sound : (root : List ℕ) (levels : ℕ) (kept : Bool) (outer : Scope) (cs : List ℕ) (t : Tag) (b : Bool) (mid : List ℕ) (c : Child) (rest : List ℕ)
     → IsTagIn outer t → 60 ∷ cs ≡ tag_text t ++ (end_text b ++ mid)
     → ((k : Bool) (scope : Scope) → ReadsChildren root levels k scope (child_at root levels k scope))
     → element_at (child_at root levels) root kept (scope_in outer (opening_of t).settings) (opening_of t, b) mid ≡ Some (c, rest)
-    → ReadElement root (suc levels) kept outer cs c rest
+    → ReadTagged root (suc levels) kept outer cs t c rest
 unfolding element_at filled_at
 element_sound root levels kept outer cs t true mid c rest ok spelt r e =
     let o = opening_of t in
     let ours = is_ours root (scope_in outer o.settings) o in
     let n = as_child_named ours o (finished (kept && ours) (begun o.settings)) mid c rest e in
     record {
-      element = empty t;
-      ok = ok;
-      means = ap (named (key_of ours o.local)) (sym (finished_is (kept && ours) o.settings [] [])) ∙ n.0;
-      spelt = spelt ∙ sym (append_assoc (tag_text t) (codes "/>") mid) ∙ ap (λ x. (tag_text t ++ codes "/>") ++ x) n.1;
+      read = record {
+        element = empty t;
+        ok = ok;
+        means = ap (named (key_of ours o.local)) (sym (finished_is (kept && ours) o.settings [] [])) ∙ n.0;
+        spelt = spelt ∙ sym (append_assoc (tag_text t) (codes "/>") mid) ∙ ap (λ x. (tag_text t ++ codes "/>") ++ x) n.1;
+      };
+      tag = refl;
     }
 element_sound root levels kept outer cs t false mid c rest ok spelt r e =
     let o = opening_of t in
@@ -457,13 +466,16 @@ element_sound root levels kept outer cs t false mid c rest ok spelt r e =
     let says : finished k f.0.0 ≡ element_data k o.settings (text_in content.content) (Some content.children) =
     ap (λ p. finished k p.0) (sym same) ∙ ap (finished k) content.is ∙ finished_is k o.settings (text_in content.content) content.children in
     record {
-      element = full t content.content closing.space;
-      ok = (ok, content.ok, closing.white);
-      means = ap (λ co. named (key_of ours o.local) (element_data k o.settings (text_in content.content) co)) content.means
-          ∙ ap (named (key_of ours o.local)) (sym says) ∙ n.0;
-      spelt = spelt ∙ ap (λ x. tag_text t ++ (62 ∷ x)) (content.spelt ∙ ap (λ x. content_text content.content ++ (codes "</" ++ x)) (closing.spelt
-          ∙ ap (λ x. name_text t.name ++ (closing.space ++ (codes ">" ++ x))) (ap (λ p. p.1) same ∙ n.1)))
-          ∙ regroup_element (tag_text t) (content_text content.content) (name_text t.name) closing.space rest;
+      read = record {
+        element = full t content.content closing.space;
+        ok = (ok, content.ok, closing.white);
+        means = ap (λ co. named (key_of ours o.local) (element_data k o.settings (text_in content.content) co)) content.means
+            ∙ ap (named (key_of ours o.local)) (sym says) ∙ n.0;
+        spelt = spelt ∙ ap (λ x. tag_text t ++ (62 ∷ x)) (content.spelt ∙ ap (λ x. content_text content.content ++ (codes "</" ++ x)) (closing.spelt
+            ∙ ap (λ x. name_text t.name ++ (closing.space ++ (codes ">" ++ x))) (ap (λ p. p.1) same ∙ n.1)))
+            ∙ regroup_element (tag_text t) (content_text content.content) (name_text t.name) closing.space rest;
+      };
+      tag = refl;
     }
   where
     regroup_element : (a b c d e : List ℕ)
@@ -480,9 +492,9 @@ child_sound root (suc levels) kept outer = record {
       elim (chosen (is_opened outer t.0.0.0) _ None (Some (c, rest)) t.2) [
         | inl h ↦
             let goes = ap (λ o. element_at (child_at root levels) root kept (scope_in outer o.settings) (o, t.0.0.1) t.0.1) (sym tag.says) ∙ h.1 in
-            element_sound root levels kept outer cs tag.tag t.0.0.1 t.0.1 c rest
+            (element_sound root levels kept outer cs tag.tag t.0.0.1 t.0.1 c rest
             (record { spelt = tag.is_tag; few = tag.few; opened = ap (is_opened outer) (sym tag.says) ∙ h.0 }) tag.spelt
-            (λ k s. child_sound root levels k s) goes
+            (λ k s. child_sound root levels k s) goes).read
         | inr h ↦ absurd (let k = h.1 in cc k)
       ];
 }
@@ -542,7 +554,7 @@ mark_standing c mid h e = elim (cases_Bool (nat_eq c 93)) [
   | inr b ↦ mark_other c mid h b
 ]
 
-no_word : Option (List ℕ)
+abbrev no_word : Option (List ℕ)
 no_word = None
 
 -- `]]>` doesn't begin in text and end in a mark that begins with `<`
@@ -718,3 +730,107 @@ module _ (root : List ℕ) (levels : ℕ) (kept : Bool) (scope : Scope) (reads :
       (mark_element levels scope e left ok.0) (piece_child i e b.0 left ok.0 b.2)
       ∙ content_complete n (with_one i b.0) c b.1 rest ok.1 b.3 (omega (arith, l, long, long2, long3))
       ∙ ap (λ j. Some (j, rest)) (child_more i b.0 (text_in c) b.1) ∙ ap (λ cs. Some (with_content i (text_in c) cs, rest)) b.4
+
+-- elements on the way back
+
+abbrev pub is_bare : Element → Bool
+is_bare (empty t) = true
+is_bare (full t c space) = false
+
+-- an element behind its tag
+abbrev pub body : Element → List ℕ → List ℕ
+body (empty t) rest = rest
+body (full t c space) rest = content_text c ++ (codes "</" ++ (name_text t.name ++ (space ++ (codes ">" ++ rest))))
+
+pub tag_back : (levels : ℕ) (scope : Scope) (e : Element) (rest : List ℕ) → IsElement levels scope e
+    → tag_at (behind e rest) ≡ Some ((opening_of (tag_of e), is_bare e), body e rest)
+tag_back zero scope (empty t) rest ok = absurd ok
+tag_back zero scope (full t c space) rest ok = absurd ok
+tag_back (suc n) scope (empty t) rest ok = tag_complete t true rest ok.spelt ok.few
+tag_back (suc n) scope (full t c space) rest ok =
+    tag_complete t false (content_text c ++ (codes "</" ++ (name_text t.name ++ (space ++ (codes ">" ++ rest))))) ok.0.spelt ok.0.few
+
+pub opened_back : (levels : ℕ) (scope : Scope) (e : Element) → IsElement levels scope e → is_opened scope (opening_of (tag_of e)) ≡ true
+opened_back zero scope (empty t) ok = absurd ok
+opened_back zero scope (full t c space) ok = absurd ok
+opened_back (suc n) scope (empty t) ok = ok.opened
+opened_back (suc n) scope (full t c space) ok = ok.0.opened
+
+both_is : (x : Option Child) (c : Child) (ys : Option (List Child)) (cs : List Child) → x ≡ Some c → ys ≡ Some cs → both x ys ≡ Some (c ∷ cs)
+both_is x c ys cs e f = rw (e, f) refl
+
+foreign_element : (root : List ℕ) (scope : Scope) (e : Element) → (c : Child) × (element_child root false scope e ≡ Some c)
+foreign_element root scope (empty t) =
+    let o = opening_of t in ((key_of (is_ours root (scope_in scope o.settings) o) o.local, string []), refl)
+foreign_element root scope (full t c space) =
+    let o = opening_of t in ((key_of (is_ours root (scope_in scope o.settings) o) o.local, string []), refl)
+
+-- what a foreign element holds has members, whatever they are
+foreign_children : (root : List ℕ) (scope : Scope) (c : Content) → (cs : List Child) × (children_in root false scope c ≡ Some cs)
+foreign_children root scope nothing = ([], refl)
+foreign_children root scope (character x c) = foreign_children root scope c
+foreign_children root scope (reference x c) = foreign_children root scope c
+foreign_children root scope (cdata x c) = foreign_children root scope c
+foreign_children root scope (comment x c) = foreign_children root scope c
+foreign_children root scope (instruction x c) = foreign_children root scope c
+foreign_children root scope (child e c) =
+    let x = foreign_element root scope e in
+    let r = foreign_children root scope c in
+    (x.0 ∷ r.0, both_is (element_child root false scope e) x.0 (children_in root false scope c) r.0 x.1 r.1)
+
+has_children : (root : List ℕ) (k : Bool) (scope : Scope) (c : Content) (ss : List Setting) (text : List ℕ) (d : Data)
+    → element_data k ss text (children_in root k scope c) ≡ Some d
+    → (cs : List Child) × (children_in root k scope c ≡ Some cs) × (element_data k ss text (Some cs) ≡ Some d)
+has_children root false scope c ss text d e = let f = foreign_children root scope c in (f.0, f.1, e)
+has_children root true scope c ss text d e = by_option (children_in root true scope c) e
+  where
+    by_option : (o : Option (List Child)) → element_data true ss text o ≡ Some d
+        → (cs : List Child) × (o ≡ Some cs) × (element_data true ss text (Some cs) ≡ Some d)
+    by_option None e = absurd (cc e)
+    by_option (Some cs) e = (cs, refl, e)
+
+named_data : (key : List ℕ) (d : Option Data) (c : Child) → named key d ≡ Some c → (x : Data) × (d ≡ Some x) × (named key (Some x) ≡ Some c)
+named_data key None c e = absurd (cc e)
+named_data key (Some x) c e = (x, refl, e)
+
+pub element_back : (root : List ℕ) (levels : ℕ) (kept : Bool) (outer : Scope) (e : Element) (c : Child) (rest : List ℕ)
+    → IsElement (suc levels) outer e → element_child root kept outer e ≡ Some c
+    → ((k : Bool) (scope : Scope) → ReadsEach root levels k scope (child_at root levels k scope))
+    → element_at (child_at root levels) root kept (scope_in outer (opening_of (tag_of e)).settings) (opening_of (tag_of e), is_bare e) (body e rest)
+    ≡ Some (c, rest)
+unfolding element_at filled_at
+element_back root levels kept outer (empty t) c rest ok means r =
+    let o = opening_of t in
+    let ours = is_ours root (scope_in outer o.settings) o in
+    named_as_child ours o (finished (kept && ours) (begun o.settings)) rest c
+    (ap (named (key_of ours o.local)) (finished_is (kept && ours) o.settings [] []) ∙ means)
+element_back root levels kept outer (full t content space) c rest ok means r =
+    let o = opening_of t in
+    let inner = scope_in outer o.settings in
+    let ours = is_ours root inner o in
+    let k = kept && ours in
+    let d = named_data (key_of ours o.local) (element_data k o.settings (text_in content) (children_in root k inner content)) c means in
+    let h = has_children root k inner content o.settings (text_in content) d.0 d.1 in
+    let closing_text = name_text t.name ++ (space ++ (codes ">" ++ rest)) in
+    let name = (both_true (is_qname t.name) _ ok.0.spelt).0 in
+    let read = content_complete root levels k inner (child_at root levels k inner) (r k inner) (length (content_text content ++ (codes "</" ++ closing_text)))
+    (begun o.settings) content h.0 closing_text ok.1 h.1 (omega arith) in
+    let close = closing_complete t space rest name ok.2 in
+    let says : finished k (with_content (begun o.settings) (text_in content) h.0) ≡ Some d.0 =
+    finished_is k o.settings (text_in content) h.0 ∙ h.2 in
+    rw read (rw close (named_as_child ours o (finished k (with_content (begun o.settings) (text_in content) h.0)) rest c
+    (ap (named (key_of ours o.local)) says ∙ d.2)))
+
+pub child_complete : (root : List ℕ) (levels : ℕ) (kept : Bool) (outer : Scope) → ReadsEach root levels kept outer (child_at root levels kept outer)
+unfolding child_at
+child_complete root zero kept outer = record { complete = λ e c rest ok means. absurd (no_levels outer e ok) }
+  where
+    no_levels : (scope : Scope) (e : Element) → IsElement zero scope e → ⊥
+    no_levels scope (empty t) ok = ok
+    no_levels scope (full t c space) ok = ok
+child_complete root (suc levels) kept outer = record {
+  complete = λ e c rest ok means.
+      let tag = tag_back (suc levels) outer e rest ok in
+      let opened = opened_back (suc levels) outer e ok in
+      rw (tag) (rw (opened) (element_back root levels kept outer e c rest ok means (λ k s. child_complete root levels k s)));
+}

@@ -13,6 +13,7 @@ mod Shorter
 mod ChildSteps
 mod ContentLaws
 mod MiscSteps
+mod DocumentLaws
 mod Seeing
 mod Allowed
 mod NameReads

@@ -160,7 +160,7 @@ value_complete (suc n) quote text (refers r ∷ ps) rest q are l =
 
 -- attributes
 
-quote_sound : (cs : List ℕ) (q : ℕ) (rest : List ℕ) → quote_at cs ≡ Some (q, rest) → (is_quote q ≡ true) × (cs ≡ q ∷ rest)
+pub quote_sound : (cs : List ℕ) (q : ℕ) (rest : List ℕ) → quote_at cs ≡ Some (q, rest) → (is_quote q ≡ true) × (cs ≡ q ∷ rest)
 unfolding quote_at
 quote_sound cs q rest e =
     elim (choose_some (after (codes "'") cs) (λ rest. Some (39, rest)) (choose (after (34 ∷ []) cs) (λ rest. Some (34, rest)) None) (q, rest) e) [
@@ -385,7 +385,7 @@ unfolding is_space
 end_no_space false rest = refl
 end_no_space true rest = refl
 
-quote_no_space : (q : ℕ) (rest : List ℕ) → is_quote q ≡ true → begins is_space (q ∷ rest) ≡ false
+pub quote_no_space : (q : ℕ) (rest : List ℕ) → is_quote q ≡ true → begins is_space (q ∷ rest) ≡ false
 unfolding is_space
 quote_no_space q rest h = grind (arith, nat_tests)
 

@@ -1,11 +1,12 @@
 -- A document: XML 1.0 (fifth edition), 2.1, 2.8 and 2.9. No document type may stand, so no entity is declared.
-use Rattle.std.specs.Prelude.{◌≡◌, ℕ, Bool, true, false, ◌&&◌, List, [], ◌∷◌, ◌++◌, Option, Some, None, is_some}
-use Rattle.std.specs.Prelude.{if◌then◌else◌, codes, map}
+use Rattle.std.specs.Prelude.{◌≡◌, ℕ, Bool, true, false, ◌&&◌, List, [], ◌∷◌, ◌++◌, Option, Some, None}
+use Rattle.std.specs.Prelude.{if◌then◌else◌, codes, map, nat_eq}
+use Rattle.std.specs.List.{starts_with}
 use Rattle.std.specs.Char.{to_ascii_lowercase}
 use Rattle.std.specs.Str.{bytes_eq}
 use Rattle.serde_json.specs.Data.{Data, object, no_members, member}
 use Rattle.irs_xml.specs.Characters.{is_space, is_white, is_gap, line_ends, without_mark, IsText}
-use Rattle.irs_xml.specs.Comments.{after, is_comment, comment_text, Instruction, is_instruction, instruction_text}
+use Rattle.irs_xml.specs.Comments.{is_comment, comment_text, Instruction, is_instruction, instruction_text}
 use Rattle.irs_xml.specs.Content.{Element, empty, full, element_text, IsElement, most_levels}
 use Rattle.irs_xml.specs.Namespaces.{Scope, Opening, opening_of, first_scope, scope_in, namespace_of}
 use Rattle.irs_xml.specs.Tags.{Tag, is_quote}
@@ -105,7 +106,7 @@ root_namespace o = namespace_of (scope_in first_scope o.settings) o.prefix
 abbrev pub is_fpml : Option (List ℕ) → Bool
 is_fpml None = false
 is_fpml (Some []) = true
-is_fpml (Some (c ∷ cs)) = is_some (after (codes "http://www.fpml.org/FpML-5/") (c ∷ cs))
+is_fpml (Some (c ∷ cs)) = starts_with nat_eq (c ∷ cs) (codes "http://www.fpml.org/FpML-5/")
 
 pub record IsDocument (d : Document) : Type 0 where
   pub declared : is_xml_declaration d.declaration ≡ true

@@ -1,5 +1,4 @@
 //! Documents: XML 1.0 (fifth edition), 2.1, 2.8 and 2.9.
-ghost use Rattle.irs_xml.specs.Comments.{after};
 ghost use Rattle.irs_xml.specs.Document.{is_fpml as is_fpml_of, root_key as root_key_of};
 ghost use Rattle.irs_xml.specs.Namespaces.{namespace_of};
 ghost use Rattle.irs_xml.specs.Reading.{Gives, GivesValue, Passes, Takes, declaration_at, declared_at, document_at, misc_at, name_behind, opening_at, pair_at, quoted_at, root_at, root_by, standalone_at};
@@ -7,7 +6,7 @@ ghost use Rattle.irs_xml.specs.TagViews.{scope_view, tag_view};
 ghost use Rattle.irs_xml.specs.WordViews.{word_at};
 ghost use Rattle.serde_json.specs.Data.{member, no_members, object};
 ghost use Rattle.serde_json.specs.View.{view};
-ghost use Rattle.std.specs.Prelude.{◌≡◌, IfOk, Some, is_some, length, suc};
+ghost use Rattle.std.specs.Prelude.{◌≡◌, IfOk, Some, length, suc};
 
 use crate::comments::{comment, instruction};
 use crate::content::element;
@@ -23,7 +22,7 @@ use std::alloc::{AllocError, Global};
 const LEVELS_BELOW: u32 = 62;
 
 // What every namespace of FpML 5 begins with.
-const FPML: &str = "http://www.fpml.org/FpML-5/";
+const FPML: &[u8] = b"http://www.fpml.org/FpML-5/";
 
 // A word of the XML declaration.
 #[derive(Clone, Copy)]
@@ -227,22 +226,5 @@ fn root_key(local: &str) -> &'static str
 fn is_fpml(space: &str) -> bool
     ensures { result ≡ is_fpml_of (Some space.now) }
 {
-    space.is_empty() || begins(space.as_bytes(), FPML.as_bytes())
-}
-
-// The bytes begin with these.
-fn begins(bytes: &[u8], front: &[u8]) -> bool
-    ensures { result ≡ is_some (after front.now bytes.now) }
-{
-    let mut left = bytes;
-    for byte in front {
-        let Some((first, others)) = left.split_first() else {
-            return false;
-        };
-        if first != byte {
-            return false;
-        }
-        left = others;
-    }
-    true
+    space.is_empty() || space.as_bytes().starts_with(FPML)
 }
