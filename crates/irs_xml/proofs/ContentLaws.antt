@@ -526,7 +526,7 @@ mark_reference : (mid : List ℕ) → mark_at (38 ∷ mid) ≡ Some (referred, m
 unfolding mark_at
 mark_reference mid = refl
 
-start_no_mark : (c : ℕ) → is_name_start c ≡ true → (nat_eq c 47 ≡ false) × (nat_eq c 33 ≡ false) × (nat_eq c 63 ≡ false)
+pub start_no_mark : (c : ℕ) → is_name_start c ≡ true → (nat_eq c 47 ≡ false) × (nat_eq c 33 ≡ false) × (nat_eq c 63 ≡ false)
 unfolding is_name_start
 start_no_mark c h = (grind (arith, nat_tests), grind (arith, nat_tests), grind (arith, nat_tests))
 
@@ -615,16 +615,21 @@ element_begins (full t c space) rest =
         ≡ a ++ (b ++ (c ++ (62 ∷ (d ++ (60 ∷ 47 ∷ (a ++ (e ++ (62 ∷ f))))))))
     regroup a b c d e f = simp append_assoc
 
+-- what stands behind the `<` of an element begins with a name
+pub element_start : (levels : ℕ) (scope : Scope) (e : Element) (rest : List ℕ) → IsElement levels scope e
+    → (c : ℕ) × (cs : List ℕ) × (behind e rest ≡ c ∷ cs) × (is_name_start c ≡ true)
+element_start zero scope (empty t) rest ok = absurd ok
+element_start zero scope (full t c space) rest ok = absurd ok
+element_start (suc n) scope (empty t) rest ok =
+    tag_begins t (attributes_text t.attributes ++ (t.space ++ (codes "/>" ++ rest))) ok.spelt
+element_start (suc n) scope (full t c space) rest ok =
+    tag_begins t (attributes_text t.attributes ++ (t.space ++ (codes ">" ++ (content_text c
+    ++ (codes "</" ++ (name_text t.name ++ (space ++ (codes ">" ++ rest)))))))) ok.0.spelt
+
 mark_element : (levels : ℕ) (scope : Scope) (e : Element) (rest : List ℕ) → IsElement levels scope e
     → mark_at (60 ∷ behind e rest) ≡ Some (nested, behind e rest)
-mark_element zero scope (empty t) rest ok = absurd ok
-mark_element zero scope (full t c space) rest ok = absurd ok
-mark_element (suc n) scope (empty t) rest ok =
-    let b = tag_begins t (attributes_text t.attributes ++ (t.space ++ (codes "/>" ++ rest))) ok.spelt in
-    subst (λ x. mark_at (60 ∷ x) ≡ Some (nested, x)) (sym b.2) (mark_child b.0 b.1 b.3)
-mark_element (suc n) scope (full t c space) rest ok =
-    let b = tag_begins t (attributes_text t.attributes ++ (t.space ++ (codes ">" ++ (content_text c
-    ++ (codes "</" ++ (name_text t.name ++ (space ++ (codes ">" ++ rest)))))))) ok.0.spelt in
+mark_element levels scope e rest ok =
+    let b = element_start levels scope e rest ok in
     subst (λ x. mark_at (60 ∷ x) ≡ Some (nested, x)) (sym b.2) (mark_child b.0 b.1 b.3)
 
 -- what reads children reads every element

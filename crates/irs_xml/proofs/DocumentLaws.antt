@@ -234,12 +234,12 @@ pair_if_complete name test reads (Some p) rest r h plain none = pair_complete na
 
 -- declarations
 
-record ReadDeclaration (cs rest : List ℕ) : Type 0 where
-  declaration : Option Declaration
-  is_declaration : is_xml_declaration declaration ≡ true
-  spelt : cs ≡ declaration_text declaration ++ rest
+pub record ReadDeclaration (cs rest : List ℕ) : Type 0 where
+  pub declaration : Option Declaration
+  pub is_declaration : is_xml_declaration declaration ≡ true
+  pub spelt : cs ≡ declaration_text declaration ++ rest
 
-declaration_sound : (cs rest : List ℕ) → declaration_at cs ≡ Some rest → ReadDeclaration cs rest
+pub declaration_sound : (cs rest : List ℕ) → declaration_at cs ≡ Some rest → ReadDeclaration cs rest
 unfolding declaration_at declared_at
 declaration_sound cs rest e =
     elim (choose_some (opening_at cs) (λ rest. declared_at rest) (Some cs) rest e) [
@@ -277,7 +277,7 @@ declaration_sound cs rest e =
         → codes "<?xml" ++ (a ++ (b ++ (c ++ (d ++ (codes "?>" ++ e))))) ≡ (codes "<?xml" ++ (a ++ (b ++ (c ++ (d ++ codes "?>"))))) ++ e
     regroup a b c d e = ap (λ t. codes "<?xml" ++ t) (sym (simp append_assoc))
 
-declared_complete : (d : Declaration) (rest : List ℕ) → is_xml_declaration (Some d) ≡ true
+pub declared_complete : (d : Declaration) (rest : List ℕ) → is_xml_declaration (Some d) ≡ true
     → declaration_at (declaration_text (Some d) ++ rest) ≡ Some rest
 unfolding declaration_at declared_at
 declared_complete d rest h =

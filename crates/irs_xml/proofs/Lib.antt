@@ -14,6 +14,8 @@ mod ChildSteps
 mod ContentLaws
 mod MiscSteps
 mod DocumentLaws
+mod RootLaws
+mod TextLaws
 mod Seeing
 mod Allowed
 mod NameReads
