@@ -2,7 +2,7 @@
 use Rattle.std.proofs.Common.{◌≡◌, ◌≢◌, inl, inr, ℕ, Bool, true, false, cond, ◌&&◌, List, [], ◌∷◌, ◌++◌, length, Option, Some, None, nat_eq, refl, sym, ap, subst, ◌∙◌, arith}
 use Rattle.std.proofs.lemmas.Bool.{cases_Bool}
 use Rattle.std.proofs.lemmas.Bool.Decides.{nat_tests}
-use Rattle.std.proofs.lemmas.Str.{chars-encodes, encodes-chars, chars_past_char}
+use Rattle.std.proofs.lemmas.Str.{chars-encodes, chars-nil, encodes-chars, chars_past_char}
 use Rattle.std.specs.Char.{encode_utf8, IsScalar}
 use Rattle.std.specs.List.{list_all}
 use Rattle.std.specs.Str.{chars, encode_utf8_all, IsUtf8, all_scalars}
@@ -10,8 +10,13 @@ use Rattle.serde_json.specs.Data.{Data}
 use Rattle.irs_xml.specs.Characters.{is_char, ends_after, line_ends, without_mark, IsText}
 use Rattle.irs_xml.specs.Comments.{after}
 use Rattle.irs_xml.specs.Document.{XmlReads}
-use Rattle.irs_xml.specs.Reading.{Takes, document_at}
+use Rattle.irs_xml.specs.Places.{IsNotXml, ReadsNone}
+use Rattle.irs_xml.specs.Reading.{Fails, Takes, document_at}
 use Rattle.irs_xml.specs.Seen.{seen}
+use Rattle.irs_xml.specs.declared.failure.Failure.{Failure}
+use Rattle.irs_xml.specs.declared.failure.Failure.TheVariants.{NotXml as NotRead}
+use Rattle.irs_xml.specs.declared.reading.XmlErr.{XmlErr}
+use Rattle.irs_xml.specs.declared.reading.XmlErr.TheVariants.{NotXml, Memory}
 use Rattle.irs_xml.proofs.Allowed.{char_scalar}
 use Rattle.irs_xml.proofs.RootLaws.{document_sound, document_complete}
 use Rattle.irs_xml.proofs.Steps.{same_some, both_true, true_both, eq_true}
@@ -34,7 +39,7 @@ chars_of bytes cs t = ap chars t.spelt ∙ chars-encodes cs (allowed_scalars cs 
 
 pub allowed_of : (bytes cs : List ℕ) → IsText bytes cs → Allowed bytes
 allowed_of bytes cs t = record {
-  utf8 = (cs, allowed_scalars cs t.allowed, sym t.spelt);
+  utf8 = (cs, (allowed_scalars cs t.allowed, sym t.spelt));
   allowed = ap (list_all is_char) (chars_of bytes cs t) ∙ t.allowed;
 }
 
@@ -110,7 +115,38 @@ reads_one bytes d e r s = same_some (sym (reads_complete bytes d r) ∙ reads_co
 pub none_read : (bytes : List ℕ) (d : Data) → document_at (without_mark (seen bytes)) ≡ None → XmlReads bytes d → ⊥
 none_read bytes d e r = let k = sym e ∙ reads_complete bytes d r in absurd (cc k)
 
+pub failed : {A : Type 0} (e : Failure) (read : Option A) → e ≡ NotRead → Fails e read → read ≡ None
+failed e read is f = subst (λ x. Fails x read) is f
+
+-- the text is the bytes, and the reader stands at its front
+pub some_read : (bytes text reader : List ℕ) (d : Data) → text ≡ bytes → reader ≡ seen text → IsUtf8 bytes
+    → list_all is_char (chars text) ≡ true → document_at (without_mark reader) ≡ Some d → XmlReads bytes d
+some_read bytes text reader d is at u h e =
+    reads_sound bytes d (record { utf8 = u; allowed = ap (λ t. list_all is_char (chars t)) (sym is) ∙ h })
+    (ap (λ t. document_at (without_mark (seen t))) (sym is) ∙ ap (λ t. document_at (without_mark t)) (sym at) ∙ e)
+
+pub nothing_read : (bytes text reader : List ℕ) → text ≡ bytes → reader ≡ seen text → document_at (without_mark reader) ≡ None
+    → (d : Data) → XmlReads bytes d → ⊥
+nothing_read bytes text reader is at e d r =
+    none_read bytes d (ap (λ t. document_at (without_mark (seen t))) (sym is) ∙ ap (λ t. document_at (without_mark t)) (sym at) ∙ e) r
+
+pub none_encoded : (bytes : List ℕ) → ¬ (IsUtf8 bytes) → (d : Data) → XmlReads bytes d → ⊥
+none_encoded bytes not_one d r = not_one (allowed_of bytes r.characters r.text).utf8
+
+pub none_allowed : (text bytes : List ℕ) → text ≡ bytes → list_all is_char (chars text) ≡ false → (d : Data) → XmlReads bytes d → ⊥
+none_allowed text bytes e h d r =
+    let a = (allowed_of bytes r.characters r.text).allowed in
+    let k = sym h ∙ ap (λ t. list_all is_char (chars t)) e ∙ a in absurd (cc k)
+
+pub none_of : (bytes : List ℕ) (e : XmlErr) → IsNotXml e → ((d : Data) → XmlReads bytes d → ⊥) → ReadsNone bytes e
+none_of bytes (NotXml line column) is none = none
+none_of bytes Memory is none = absurd is
+
 -- the first character, and those behind it
+
+pub all_nothing : (text : List ℕ) → length text ≡ 0 → list_all is_char (chars text) ≡ true
+all_nothing [] e = ap (list_all is_char) chars-nil
+all_nothing (b ∷ bs) e = absurd (omega arith)
 
 pub all_step : (text rest : List ℕ) (c : ℕ) → IsUtf8 text → text ≡ encode_utf8 c ++ rest → is_char c ≡ true
     → list_all is_char (chars text) ≡ list_all is_char (chars rest)

@@ -1,6 +1,6 @@
 //! Lines and columns of a text, from 1.
 ghost use Rattle.irs_xml.specs.Places.{LiesIn, place_after};
-ghost use Rattle.std.specs.Prelude.{◌≡◌, ◌^◌, ◌<◌, length};
+ghost use Rattle.std.specs.Prelude.{◌≡◌, ◌^◌, ◌-◌, ◌<◌, length};
 
 /// The line and the column of what stands behind so many bytes of the text, or of its end.
 pub(crate) fn place(bytes: &[u8], at: usize) -> (u32, u32)
