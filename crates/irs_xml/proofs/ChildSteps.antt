@@ -1,10 +1,10 @@
 -- The steps of an element behind its `<`.
-use Rattle.std.proofs.Common.{◌≡◌, ◌≢◌, ℕ, zero, suc, ◌-◌, Bool, true, false, List, [], ◌∷◌, ◌++◌, map, length, take, Option, Some, None, refl, sym, ap, ◌∙◌, arith}
+use Rattle.std.proofs.Common.{◌≡◌, ◌≢◌, ℕ, zero, suc, ◌-◌, Bool, true, false, List, [], ◌∷◌, ◌++◌, length, take, Some, None, refl, sym, ap, ◌∙◌, arith}
 use Rattle.std.proofs.lemmas.List.{length-map}
 use Rattle.std.specs.Prelude.{string_bytes}
 use Rattle.std.proofs.Math.Seq.{take-append_seam}
 use Rattle.irs_xml.specs.Namespaces.{Scope, Opening, is_opened, scope_in}
-use Rattle.irs_xml.specs.Reading.{Got, ◌>>=◌, child_at, element_at, tag_at}
+use Rattle.irs_xml.specs.Reading.{child_at, element_at, tag_at}
 use Rattle.irs_xml.specs.TagViews.{scope_view}
 use Rattle.irs_xml.specs.declared.settings.Declaration.{Declaration}
 

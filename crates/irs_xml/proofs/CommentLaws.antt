@@ -1,5 +1,5 @@
 -- What is read as a comment, an instruction or a CDATA section is spelt as one, and what is spelt as one is read.
-use Rattle.std.proofs.Common.{◌≡◌, ◌≢◌, ◌⊎◌, inl, inr, ℕ, Bool, true, false, cond, not, ◌&&◌, List, [], ◌∷◌, ◌++◌, length, Option, Some, None, nat_eq, refl, sym, ap, subst, ◌∙◌, arith, append_assoc}
+use Rattle.std.proofs.Common.{◌≡◌, inl, inr, ℕ, Bool, true, false, cond, not, ◌&&◌, List, [], ◌∷◌, ◌++◌, Option, Some, None, nat_eq, refl, sym, ap, ◌∙◌, arith, append_assoc}
 use Rattle.std.proofs.lemmas.Bool.{cases_Bool}
 use Rattle.std.proofs.lemmas.Bool.Decides.{nat_tests}
 use Rattle.std.proofs.lemmas.List.{append-nil}
@@ -9,8 +9,8 @@ use Rattle.std.specs.Str.{encode_utf8_all}
 use Rattle.irs_xml.specs.Characters.{is_space, is_white, is_gap}
 use Rattle.irs_xml.specs.Comments.{after, lacks, is_comment, comment_text, is_cdata, cdata_text, Instruction, is_apart, is_xml, is_instruction, instruction_text}
 use Rattle.irs_xml.specs.Names.{is_name_char, is_name_start, is_nc_name}
-use Rattle.irs_xml.specs.Reading.{Got, ◌>>=◌, choose, name_at, gap_at, skip_space, past, comment_at, instruction_at, data_at}
-use Rattle.irs_xml.proofs.Steps.{same_some, bind_some, choose_some, chosen, both_true, true_both, eq_true, false_eq, after_sound, after_complete, past_found, begins, gap_sound}
+use Rattle.irs_xml.specs.Reading.{◌>>=◌, choose, name_at, gap_at, skip_space, past, comment_at, instruction_at, data_at}
+use Rattle.irs_xml.proofs.Steps.{same_some, bind_some, choose_some, chosen, both_true, true_both, after_sound, after_complete, past_found, begins, gap_sound}
 use Rattle.irs_xml.proofs.NameLaws.{name_sound, name_complete}
 
 abbrev nothing : Option (List ℕ)

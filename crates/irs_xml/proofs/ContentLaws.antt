@@ -1,5 +1,5 @@
 -- What is read as content and as elements is spelt as such, and what is spelt as such is read.
-use Rattle.std.proofs.Common.{◌≡◌, ◌≢◌, ◌⊎◌, inl, inr, ℕ, zero, suc, ◌+◌, ◌<◌, ◌≤◌, Bool, true, false, cond, not, ◌&&◌, ◌||◌, List, [], ◌∷◌, ◌++◌, length, Option, Some, None, nat_eq, refl, sym, ap, subst, ◌∙◌, arith, append_assoc, length-append}
+use Rattle.std.proofs.Common.{◌≡◌, ◌≢◌, inl, inr, ℕ, zero, suc, ◌≤◌, Bool, true, false, cond, not, ◌&&◌, ◌||◌, List, [], ◌∷◌, ◌++◌, length, Option, Some, None, nat_eq, refl, sym, ap, subst, ◌∙◌, arith, append_assoc, length-append}
 use Rattle.std.proofs.lemmas.Bool.{cases_Bool}
 use Rattle.std.proofs.lemmas.Bool.Decides.{nat_tests}
 use Rattle.std.proofs.lemmas.List.{append-nil}
@@ -8,24 +8,23 @@ use Rattle.std.specs.Char.{encode_utf8, IsScalar}
 use Rattle.std.specs.List.{list_all}
 use Rattle.std.specs.Prelude.{codes}
 use Rattle.std.specs.Str.{encode_utf8_all, all_scalars}
-use Rattle.serde_json.specs.Data.{Data, Members, object, string, no_members}
+use Rattle.serde_json.specs.Data.{Data, Members, string}
 use Rattle.irs_xml.specs.Characters.{is_space, is_white, ends_after}
 use Rattle.irs_xml.specs.Comments.{after, comment_text, is_comment, cdata_text, is_cdata, Instruction, is_instruction, instruction_text}
 use Rattle.irs_xml.specs.Content.{Element, empty, full, Content, nothing, character, reference, cdata, comment, instruction, child, element_text, content_text, is_char_data, IsTagIn, IsElement, IsContent}
 use Rattle.irs_xml.specs.Document.{tag_of}
-use Rattle.irs_xml.specs.Names.{is_name_start, is_name_char, is_nc_name, QName, name_text, prefixed, is_prefix, is_qname}
-use Rattle.irs_xml.specs.Namespaces.{Setting, Opening, Scope, opening_of, settings_of, is_opened, scope_in}
+use Rattle.irs_xml.specs.Names.{is_name_start, is_name_char, is_nc_name, name_text, prefixed, is_prefix, is_qname}
+use Rattle.irs_xml.specs.Namespaces.{Setting, Opening, Scope, opening_of, is_opened, scope_in}
 use Rattle.irs_xml.specs.References.{Reference, reference_text, character_of, is_reference}
 use Rattle.irs_xml.specs.Reading.{Got, ◌>>=◌, choose, skip_space, Inside, Mark, ending, commented, sectioned, instructed, nested, referred, standing, mark_at, markup_at, piece_at, content_at, closing_name_at, closing_at, filled_at, element_at, child_at, as_child, finished, begun, with_one, with_text, with_character, comment_at, instruction_at, data_at, reference_at, tag_at}
 use Rattle.irs_xml.specs.Seen.{seen}
 use Rattle.irs_xml.specs.Tags.{Tag, tag_text, is_tag, attributes_text}
-use Rattle.irs_xml.specs.Values.{Child, is_ours, key_of, named, both, element_data, element_child, children_in, text_in, with_children, with_settings, value_from, leaf_value}
-use Rattle.irs_xml.proofs.Steps.{same_some, bind_some, choose_some, chosen, both_true, true_both, eq_true, true_eq, false_eq, after_sound, after_complete, after-append, begins, white_run, run_white, skip_sound, skip-white}
-use Rattle.irs_xml.proofs.NameReads.{char_no_return, start_no_return}
-use Rattle.irs_xml.proofs.NameLaws.{prefixed_name}
+use Rattle.irs_xml.specs.Values.{Child, is_ours, key_of, named, both, element_data, element_child, children_in, text_in, with_children}
+use Rattle.irs_xml.proofs.Steps.{same_some, bind_some, choose_some, chosen, both_true, true_both, eq_true, false_eq, after_sound, after_complete, after-append, begins, white_run, run_white, skip_sound, skip-white}
+use Rattle.irs_xml.proofs.NameReads.{char_no_return}
 use Rattle.irs_xml.proofs.ReferenceLaws.{reference_sound, reference_complete, tail}
 use Rattle.irs_xml.proofs.CommentLaws.{comment_sound, comment_complete, data_sound, data_complete, instruction_sound, instruction_complete}
-use Rattle.irs_xml.proofs.TagLaws.{end_text, ReadTag, prefixed_begins, reference_begins, reference_some, tag_sound, tag_complete}
+use Rattle.irs_xml.proofs.TagLaws.{end_text, prefixed_begins, reference_begins, reference_some, tag_sound, tag_complete}
 
 -- names in end tags
 

@@ -1,12 +1,12 @@
 -- Members that are taken out and put back.
-use Rattle.std.proofs.Common.{◌≡◌, ℕ, Bool, true, false, cond, List, [], ◌∷◌, ◌++◌, map, Option, Some, None, option_map, string_bytes, nat_cmp, is_eq, Vec, Global, refl, ap, ◌∙◌}
+use Rattle.std.proofs.Common.{◌≡◌, ℕ, Bool, true, false, cond, List, [], ◌∷◌, ◌++◌, string_bytes, nat_cmp, is_eq, refl, ap}
 use Rattle.std.specs.BTreeMap.{is_at}
 use Rattle.std.specs.Cmp.Lexicographic.{slice_cmp}
 use Rattle.std.specs.Map.{remove_entry}
-use Rattle.serde_json.specs.Data.{Data, Items, no_items, item, Members, no_members, member, array}
+use Rattle.serde_json.specs.Data.{item, Members, member}
 use Rattle.serde_json.specs.View.{view, members_view, items_view}
-use Rattle.serde_json.specs.declared.value.Value.{Value, Array}
-use Rattle.serde_json.proofs.Views.{Entry, view-Array}
+use Rattle.serde_json.specs.declared.value.Value.{Value}
+use Rattle.serde_json.proofs.Views.{Entry}
 use Rattle.irs_xml.specs.Values.{without, item_last}
 
 apart : (b : Bool) (e : Entry) (es fs : List Entry) (ms : Members) → members_view fs ≡ ms

@@ -1,15 +1,14 @@
 -- What is read as a name is spelt as one, and what is spelt as one is read.
-use Rattle.std.proofs.Common.{◌≡◌, ◌≢◌, ◌⊎◌, inl, inr, ℕ, Bool, true, false, cond, ◌&&◌, ◌||◌, List, [], ◌∷◌, ◌++◌, length, Option, Some, None, nat_eq, refl, sym, ap, subst, ◌∙◌, arith, append_assoc}
+use Rattle.std.proofs.Common.{◌≡◌, inl, inr, ℕ, Bool, true, false, ◌&&◌, ◌||◌, List, [], ◌∷◌, ◌++◌, Some, None, nat_eq, refl, sym, ap, ◌∙◌, append_assoc}
 use Rattle.std.proofs.lemmas.Bool.{cases_Bool}
-use Rattle.std.proofs.lemmas.Bool.Decides.{nat_tests}
 use Rattle.std.specs.Char.{encode_utf8}
 use Rattle.std.specs.List.{list_all}
 use Rattle.std.specs.Prelude.{codes}
 use Rattle.std.specs.Str.{encode_utf8_all}
 use Rattle.irs_xml.specs.Comments.{after}
 use Rattle.irs_xml.specs.Names.{is_name_start, is_name_char, is_nc_name, QName, name_text, prefixed, is_prefix, is_qname}
-use Rattle.irs_xml.specs.Reading.{Got, ◌>>=◌, choose, name_run, name_rest, name_at, qname_at}
-use Rattle.irs_xml.proofs.Steps.{same_some, bind_some, choose_some, chosen, both_true, true_both, false_eq, after_sound, after_complete, begins}
+use Rattle.irs_xml.specs.Reading.{◌>>=◌, choose, name_run, name_rest, name_at, qname_at}
+use Rattle.irs_xml.proofs.Steps.{same_some, bind_some, choose_some, chosen, both_true, true_both, after_sound, begins}
 
 run_named : (cs : List ℕ) → list_all is_name_char (name_run cs) ≡ true
 run_named [] = refl

@@ -1,5 +1,5 @@
 -- What is read as a reference is spelt as one, and what is spelt as one is read.
-use Rattle.std.proofs.Common.{◌≡◌, ◌≢◌, ◌⊎◌, inl, inr, ℕ, ◌+◌, ◌*◌, ◌<◌, ◌≤◌, min, Bool, true, false, cond, ◌&&◌, List, [], ◌∷◌, ◌++◌, length, Option, Some, None, nat_eq, nat_lt, refl, sym, ap, subst, ◌∙◌, arith, append_assoc}
+use Rattle.std.proofs.Common.{◌≡◌, inl, inr, ℕ, ◌+◌, ◌*◌, ◌<◌, ◌≤◌, true, false, cond, ◌&&◌, List, [], ◌∷◌, ◌++◌, Some, None, nat_eq, nat_lt, refl, sym, ap, ◌∙◌, arith, append_assoc}
 use Rattle.std.proofs.lemmas.Bool.{cases_Bool}
 use Rattle.std.proofs.lemmas.Bool.Decides.{nat_tests}
 use Rattle.std.specs.Char.{is_digit, digit_value}
@@ -8,8 +8,8 @@ use Rattle.std.specs.Prelude.{codes}
 use Rattle.irs_xml.specs.Characters.{is_char}
 use Rattle.irs_xml.specs.Comments.{after}
 use Rattle.irs_xml.specs.References.{Reference, less, greater, ampersand, apostrophe, quotation, decimal, hexadecimal, reference_text, number_after, character_of, are_digits, is_reference}
-use Rattle.irs_xml.specs.Reading.{Got, ◌>>=◌, choose, capped, digits_at, number_at, character_at, reference_at}
-use Rattle.irs_xml.proofs.Steps.{same_some, bind_some, choose_some, chosen, both_true, true_both, eq_true, false_eq, after_sound, after_complete, begins}
+use Rattle.irs_xml.specs.Reading.{Got, capped, digits_at, number_at, character_at, reference_at}
+use Rattle.irs_xml.proofs.Steps.{same_some, bind_some, choose_some, chosen, both_true, true_both, eq_true, after_sound}
 
 -- past the last character
 

@@ -1,5 +1,5 @@
 -- What is read as a tag is spelt as one, and what is spelt as one is read.
-use Rattle.std.proofs.Common.{◌≡◌, ◌≢◌, ◌⊎◌, inl, inr, ℕ, zero, suc, ◌+◌, ◌<◌, ◌≤◌, Bool, true, false, cond, not, ◌&&◌, ◌||◌, List, [], ◌∷◌, ◌++◌, length, Option, Some, None, nat_eq, refl, sym, ap, subst, ◌∙◌, arith, append_assoc, length-append}
+use Rattle.std.proofs.Common.{◌≡◌, inl, inr, ℕ, zero, suc, ◌≤◌, Bool, true, false, cond, not, ◌&&◌, ◌||◌, List, [], ◌∷◌, ◌++◌, length, Some, None, nat_eq, refl, sym, ap, subst, ◌∙◌, arith, append_assoc, length-append}
 use Rattle.std.proofs.lemmas.Bool.{cases_Bool}
 use Rattle.std.proofs.lemmas.Bool.Decides.{nat_tests}
 use Rattle.std.proofs.lemmas.List.{append-nil}
@@ -15,9 +15,9 @@ use Rattle.irs_xml.specs.Namespaces.{Setting, Opening, setting_of, settings_of, 
 use Rattle.irs_xml.specs.References.{Reference, less, greater, ampersand, apostrophe, quotation, decimal, hexadecimal, reference_text, character_of, is_reference}
 use Rattle.irs_xml.specs.Reading.{Got, ◌>>=◌, choose, skip_space, gap_at, qname_at, reference_at, equals_at, quote_at, value_character_at, value_at, setting_at, tag_end_at, settings_at, tag_at}
 use Rattle.irs_xml.specs.Tags.{Piece, plain, refers, piece_text, piece_character, is_piece, pieces_text, are_pieces, pieces_value, Attribute, attribute_text, is_quote, is_attribute, attributes_text, are_attributes, Tag, tag_text, is_tag}
-use Rattle.irs_xml.proofs.Steps.{same_some, bind_some, choose_some, chosen, both_true, true_both, eq_true, eq_false, true_eq, false_eq, after_sound, after_complete, begins, white_run, run_white, skip_sound, skip_stops, skip-stop, skip-white, gap_sound, gap_complete, gap_none}
-use Rattle.irs_xml.proofs.NameLaws.{is_qname_char, ReadQName, qname_sound, qname_complete}
-use Rattle.irs_xml.proofs.ReferenceLaws.{ReadReference, reference_sound, reference_complete, tail}
+use Rattle.irs_xml.proofs.Steps.{same_some, bind_some, choose_some, chosen, both_true, true_both, eq_true, true_eq, after_sound, begins, white_run, run_white, skip_sound, skip-white, gap_sound, gap_complete}
+use Rattle.irs_xml.proofs.NameLaws.{is_qname_char, qname_sound, qname_complete}
+use Rattle.irs_xml.proofs.ReferenceLaws.{reference_sound, reference_complete, tail}
 use Rattle.irs_xml.proofs.CommentLaws.{space_no_name}
 
 not_false : (b : Bool) → b ≡ false → not b ≡ true

@@ -1,11 +1,10 @@
 -- The bytes of a document, and what they mean.
-use Rattle.std.proofs.Common.{◌≡◌, ◌≢◌, inl, inr, ℕ, Bool, true, false, cond, ◌&&◌, List, [], ◌∷◌, ◌++◌, length, Option, Some, None, nat_eq, refl, sym, ap, subst, ◌∙◌, arith}
+use Rattle.std.proofs.Common.{◌≡◌, inl, inr, ℕ, Bool, true, false, cond, List, [], ◌∷◌, ◌++◌, length, Option, Some, None, nat_eq, refl, sym, ap, subst, ◌∙◌, arith}
 use Rattle.std.proofs.lemmas.Bool.{cases_Bool}
-use Rattle.std.proofs.lemmas.Bool.Decides.{nat_tests}
 use Rattle.std.proofs.lemmas.Str.{chars-encodes, chars-nil, encodes-chars, chars_past_char}
-use Rattle.std.specs.Char.{encode_utf8, IsScalar}
+use Rattle.std.specs.Char.{encode_utf8}
 use Rattle.std.specs.List.{list_all}
-use Rattle.std.specs.Str.{chars, encode_utf8_all, IsUtf8, all_scalars}
+use Rattle.std.specs.Str.{chars, IsUtf8, all_scalars}
 use Rattle.serde_json.specs.Data.{Data}
 use Rattle.irs_xml.specs.Characters.{is_char, ends_after, line_ends, without_mark, IsText}
 use Rattle.irs_xml.specs.Comments.{after}

@@ -1,5 +1,5 @@
 -- Comments, processing instructions and CDATA sections: XML 1.0 (fifth edition), 2.5, 2.6 and 2.7.
-use Rattle.std.specs.Prelude.{ℕ, Bool, true, false, not, ◌&&◌, ◌||◌, ◌==◌, List, [], ◌∷◌, ◌++◌, Option, Some, None}
+use Rattle.std.specs.Prelude.{ℕ, Bool, true, not, ◌&&◌, ◌==◌, List, [], ◌∷◌, ◌++◌, Option, Some, None}
 use Rattle.std.specs.Prelude.{is_none, if◌then◌else◌, codes}
 use Rattle.std.specs.Str.{encode_utf8_all, str_eq_ignore_ascii_case}
 use Rattle.irs_xml.specs.Characters.{is_space}

@@ -1,5 +1,5 @@
 -- Elements and their content: XML 1.0 (fifth edition), 3 and 3.1.
-use Rattle.std.specs.Prelude.{◌≡◌, ℕ, zero, suc, ◌≤◌, Bool, true, not, ◌&&◌, ◌==◌, List, [], ◌∷◌, ◌++◌, Option, None}
+use Rattle.std.specs.Prelude.{◌≡◌, ℕ, zero, suc, ◌≤◌, Bool, true, not, ◌&&◌, ◌==◌, List, [], ◌∷◌, ◌++◌, None}
 use Rattle.std.specs.Prelude.{length, codes}
 use Rattle.irs_xml.specs.Characters.{is_white}
 use Rattle.irs_xml.specs.Comments.{after, is_comment, comment_text, is_cdata, cdata_text, Instruction, is_instruction}

@@ -8,7 +8,7 @@ use Rattle.serde_json.specs.Data.{Data, object, no_members, member}
 use Rattle.irs_xml.specs.Characters.{is_space, is_white, is_gap, line_ends, without_mark, IsText}
 use Rattle.irs_xml.specs.Comments.{is_comment, comment_text, Instruction, is_instruction, instruction_text}
 use Rattle.irs_xml.specs.Content.{Element, empty, full, element_text, IsElement, most_levels}
-use Rattle.irs_xml.specs.Namespaces.{Scope, Opening, opening_of, first_scope, scope_in, namespace_of}
+use Rattle.irs_xml.specs.Namespaces.{Opening, opening_of, first_scope, scope_in, namespace_of}
 use Rattle.irs_xml.specs.Tags.{Tag, is_quote}
 use Rattle.irs_xml.specs.Values.{Child, element_child}
 

@@ -1,6 +1,6 @@
 -- Namespaces in XML 1.0 (third edition): which namespace a prefix stands for, and what a tag may declare.
 use Rattle.std.specs.Prelude.{ℕ, Bool, true, false, not, ◌&&◌, ◌||◌, List, [], ◌∷◌, ◌++◌, Option, Some, None}
-use Rattle.std.specs.Prelude.{is_some, if◌then◌else◌, codes, nat_le, length}
+use Rattle.std.specs.Prelude.{is_some, if◌then◌else◌, codes}
 use Rattle.std.specs.List.{list_all, list_any}
 use Rattle.std.specs.Str.{bytes_eq, encode_utf8_all}
 use Rattle.irs_xml.specs.Tags.{Attribute, Tag, pieces_value}

@@ -1,6 +1,6 @@
 -- How the reader goes through the characters: functions from the characters to what is read and what is left behind it.
 -- The contracts of this crate's own functions cite them. What a document is and means doesn't rest on them.
-use Rattle.std.specs.Prelude.{◌≡◌, ℕ, zero, suc, ◌+◌, ◌*◌, min, Bool, true, false, not, ◌&&◌, ◌||◌, ◌==◌, List, [], ◌∷◌, ◌++◌}
+use Rattle.std.specs.Prelude.{◌≡◌, ℕ, zero, suc, ◌+◌, ◌*◌, min, Bool, true, false, ◌&&◌, ◌==◌, List, [], ◌∷◌, ◌++◌}
 use denote.Ref.{Bor}
 use Rattle.std.specs.Prelude.{MatchOption, length, Option, Some, None, Result, Ok, Err, if◌then◌else◌, codes}
 use Rattle.std.specs.Char.{encode_utf8, is_digit, digit_value, to_ascii_lowercase}
@@ -9,11 +9,10 @@ use Rattle.serde_json.specs.Data.{Data, string, object, Members, no_members, mem
 use Rattle.irs_xml.specs.Characters.{is_char, is_space, is_white}
 use Rattle.irs_xml.specs.Seen.{seen}
 use Rattle.irs_xml.specs.Comments.{after, is_xml}
-use Rattle.irs_xml.specs.Content.{most_attributes, most_levels}
+use Rattle.irs_xml.specs.Content.{most_attributes}
 use Rattle.irs_xml.specs.Document.{is_fpml, root_key}
 use Rattle.irs_xml.specs.Names.{is_name_start, is_name_char}
 use Rattle.irs_xml.specs.Namespaces.{Setting, Opening, Scope, first_scope, scope_in, namespace_of, is_opened}
-use Rattle.irs_xml.specs.Tags.{is_quote}
 use Rattle.irs_xml.specs.Values.{Child, is_ours, key_of, leaf_value, with_child, with_settings}
 use Rattle.irs_xml.specs.declared.failure.Failure.{Failure}
 use Rattle.irs_xml.specs.declared.failure.Failure.TheVariants.{NotXml, Memory}

@@ -1,5 +1,5 @@
 -- References: XML 1.0 (fifth edition), 4.1 and 4.6. No entity can be declared, so only the five predefined ones are.
-use Rattle.std.specs.Prelude.{◌≡◌, ℕ, ◌+◌, ◌*◌, Bool, true, false, ◌&&◌, List, [], ◌∷◌, ◌++◌, codes}
+use Rattle.std.specs.Prelude.{ℕ, ◌+◌, ◌*◌, Bool, true, false, ◌&&◌, List, [], ◌∷◌, ◌++◌, codes}
 use Rattle.std.specs.Char.{is_digit, digit_value}
 use Rattle.std.specs.List.{list_all}
 use Rattle.irs_xml.specs.Characters.{is_char}

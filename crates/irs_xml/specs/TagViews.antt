@@ -1,5 +1,5 @@
 -- What the types of tags stand for.
-use Rattle.std.specs.Prelude.{ℕ, List, map, Bool, string_bytes}
+use Rattle.std.specs.Prelude.{List, map, Bool, string_bytes}
 use Rattle.irs_xml.specs.Namespaces.{Setting, Opening, Scope}
 use Rattle.irs_xml.specs.declared.settings.Setting.{Setting as GivenSetting}
 use Rattle.irs_xml.specs.declared.settings.Tag.{Tag as GivenTag}

@@ -1,4 +1,4 @@
-use Rattle.std.proofs.Common.{◌≡◌, ◌-◌, ◌++◌, List, Bool, true, false, Some, None, map, ap, sym, ◌∙◌, subst, arith, length, take}
+use Rattle.std.proofs.Common.{◌≡◌, ◌-◌, ◌++◌, true, false, Some, map, ap, sym, ◌∙◌, arith, length, take}
 use Rattle.std.proofs.lemmas.Result.{err_from_is_err_and}
 use Rattle.irs_xml.specs.InsideViews.{inside_view}
 use Rattle.irs_xml.specs.MarkViews.{mark_view}

@@ -1,4 +1,4 @@
-use Rattle.std.proofs.Common.{◌≡◌, Some, ap, sym, ◌∙◌}
+use Rattle.std.proofs.Common.{Some, ap, sym, ◌∙◌}
 use Rattle.std.specs.Prelude.{codes}
 use Rattle.irs_xml.specs.Comments.{after}
 use Rattle.irs_xml.proofs.MiscSteps.{misc_ends, misc_no_comment, misc_no_instruction, misc_comment, misc_instruction, comment_shorter, instruction_shorter}

@@ -1,4 +1,4 @@
-use Rattle.std.proofs.Common.{◌≡◌, string_bytes, ap, sym, ◌∙◌, rules, option_map}
+use Rattle.std.proofs.Common.{◌≡◌, string_bytes, ap, ◌∙◌, option_map}
 use Rattle.serde_json.specs.Data.{put}
 use Rattle.serde_json.specs.Find.{get_member}
 use Rattle.serde_json.specs.View.{view, members_view}

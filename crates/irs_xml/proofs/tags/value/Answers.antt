@@ -1,4 +1,4 @@
-use Rattle.std.proofs.Common.{◌≡◌, ℕ, List, ◌∷◌, ◌++◌, string_bytes, ap, sym, ◌∙◌, subst}
+use Rattle.std.proofs.Common.{◌∷◌, string_bytes, ap, sym, ◌∙◌, subst}
 use Rattle.irs_xml.proofs.ValueSteps.{ValueGoes, value_stops, value_ends, value_wrong, value_more, value_shorter}
 use Rattle.irs_xml.proofs.tags.value.Goals as goal
 
