@@ -16,6 +16,8 @@ mod reading;
 mod references;
 mod settings;
 mod tags;
+#[cfg(test)]
+mod tests;
 
 pub use reading::{XmlErr, one_value, read_xml};
 pub use serde_json::Value;
