@@ -16,6 +16,7 @@ mod MiscSteps
 mod DocumentLaws
 mod RootLaws
 mod TextLaws
+mod SizeLaws
 mod Seeing
 mod Allowed
 mod NameReads

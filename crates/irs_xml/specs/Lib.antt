@@ -14,3 +14,4 @@ pub mod TagViews
 pub mod InsideViews
 pub mod MarkViews
 pub mod WordViews
+pub mod Sizes

@@ -19,5 +19,5 @@ mod tags;
 #[cfg(test)]
 mod tests;
 
-pub use reading::{XmlErr, one_value, read_xml};
+pub use reading::{XmlErr, no_larger, one_value, read_xml};
 pub use serde_json::Value;

@@ -4,10 +4,11 @@ ghost use Rattle.irs_xml.specs.Document.{XmlReads};
 ghost use Rattle.irs_xml.specs.Places.{IsNotXml, PlaceIn, ReadsNone};
 ghost use Rattle.irs_xml.specs.Reading.{GivesValue, document_at};
 ghost use Rattle.irs_xml.specs.Seen.{seen};
+ghost use Rattle.irs_xml.specs.Sizes.{text_size};
 ghost use Rattle.serde_json.specs.Data.{Data};
 ghost use Rattle.serde_json.specs.View.{view};
 ghost use Rattle.std.specs.List.{list_all};
-ghost use Rattle.std.specs.Prelude.{◌≡◌, ◌^◌, ◌-◌, ◌<◌, ℕ, List, IfErr, IfOk, MatchOption, true, false, length};
+ghost use Rattle.std.specs.Prelude.{◌≡◌, ◌^◌, ◌-◌, ◌<◌, ◌≤◌, ℕ, List, IfErr, IfOk, MatchOption, true, false, length};
 ghost use Rattle.std.specs.Str.{chars};
 
 use crate::chars::is_char;
@@ -56,6 +57,12 @@ pub fn read_xml(alloc: Global, bytes: &[u8]) -> Result<Value, XmlErr>
 /// At most one value is read from the same bytes.
 pub fn one_value()
     ensures { (bytes : List ℕ) (d e : Data) → XmlReads bytes d → XmlReads bytes e → d ≡ e }
+{
+}
+
+/// The strings of a value have no more bytes together than its document: nothing expands.
+pub fn no_larger()
+    ensures { (bytes : List ℕ) (d : Data) → XmlReads bytes d → text_size d ≤ length bytes }
 {
 }
 

@@ -70,7 +70,7 @@ fn what_is_no_document(rt: HostRuntime) {
 
 #[test]
 fn where_reading_stopped(rt: HostRuntime) {
-    assert_eq!(rt; stop(rt.alloc(), b"<swap/"), Some(XmlErr::NotXml(1, 7)));
+    assert_eq!(rt; stop(rt.alloc(), b"<swap"), Some(XmlErr::NotXml(1, 6)));
     assert_eq!(rt; stop(rt.alloc(), b"<swap>\n  \x01</swap>"), Some(XmlErr::NotXml(2, 3)));
     assert_eq!(rt; stop(rt.alloc(), b"<swap>\n\xFF</swap>"), Some(XmlErr::NotXml(2, 1)));
 }
