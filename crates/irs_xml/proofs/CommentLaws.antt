@@ -131,6 +131,7 @@ data_first (c ∷ d ∷ []) rest h = (first_two (nat_eq c 93) (nat_eq d 93), (on
     first_two true true = refl
     first_two true false = refl
     first_two false t = refl
+
     one : (s : Bool) → cond s nothing None ≡ None
     one true = refl
     one false = refl

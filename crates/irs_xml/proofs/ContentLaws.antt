@@ -207,7 +207,7 @@ mark_sound (c ∷ cs) m mid e =
       ]
     ]
 
--- what stands in an element, put behind what was read of it
+-- what is in an element, put after what was read of it
 
 abbrev some_child : List Child → Bool
 some_child [] = false
@@ -272,8 +272,12 @@ module _ (root : List ℕ) (levels : ℕ) (kept : Bool) (scope : Scope) where
   with_character_front i x mid j rest cs e k r = record {
     content = character x r.content;
     children = r.children;
-    ok = (k.0, after_less (codes "]]>") (x ∷ content_text r.content) (codes "</" ++ rest)
-        (ap (λ t. after (codes "]]>") (x ∷ t)) (sym r.spelt) ∙ k.1), r.ok);
+    ok = (
+      k.0,
+      after_less (codes "]]>") (x ∷ content_text r.content) (codes "</" ++ rest)
+          (ap (λ t. after (codes "]]>") (x ∷ t)) (sym r.spelt) ∙ k.1),
+      r.ok,
+    );
     means = r.means;
     is = r.is ∙ text_more i (encode_utf8 x) (text_in r.content) r.children;
     spelt = e ∙ ap (λ t. x ∷ t) r.spelt;
@@ -593,7 +597,7 @@ tail_long r left =
     let a = ap length (reference_begins r left) in let b = length-append (reference_text r) left in let c = reference_some r in
     omega (arith, a, b, c)
 
--- an element behind its `<`
+-- an element after its `<`
 abbrev pub behind : Element → List ℕ → List ℕ
 behind (empty t) rest = name_text t.name ++ (attributes_text t.attributes ++ (t.space ++ (codes "/>" ++ rest)))
 behind (full t c space) rest =
@@ -614,7 +618,7 @@ element_begins (full t c space) rest =
         ≡ a ++ (b ++ (c ++ (62 ∷ (d ++ (60 ∷ 47 ∷ (a ++ (e ++ (62 ∷ f))))))))
     regroup a b c d e f = simp append_assoc
 
--- what stands behind the `<` of an element begins with a name
+-- what comes after the `<` of an element begins with a name
 pub element_start : (levels : ℕ) (scope : Scope) (e : Element) (rest : List ℕ) → IsElement levels scope e
     → (c : ℕ) × (cs : List ℕ) × (behind e rest ≡ c ∷ cs) × (is_name_start c ≡ true)
 element_start zero scope (empty t) rest ok = absurd ok
@@ -741,7 +745,7 @@ abbrev pub is_bare : Element → Bool
 is_bare (empty t) = true
 is_bare (full t c space) = false
 
--- an element behind its tag
+-- an element after its tag
 abbrev pub body : Element → List ℕ → List ℕ
 body (empty t) rest = rest
 body (full t c space) rest = content_text c ++ (codes "</" ++ (name_text t.name ++ (space ++ (codes ">" ++ rest))))

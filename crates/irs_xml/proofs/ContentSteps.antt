@@ -3,7 +3,7 @@ use Rattle.std.proofs.Common.{◌≡◌, ℕ, zero, suc, ◌<◌, ◌≤◌, tru
 use Rattle.irs_xml.specs.Reading.{Got, Inside, Mark, mark_at, piece_at, content_at}
 use Rattle.irs_xml.specs.Values.{Child}
 
--- what is read behind what was read gives what is read from the start
+-- what is read after what was read gives what is read from the start
 pub record ContentGoes (child : List ℕ → Got Child) (i : Inside) (cs : List ℕ) (first : Inside) (all : List ℕ) : Type 0 where
   pub fuel : ℕ
   pub enough : length cs ≤ fuel

@@ -129,9 +129,9 @@ one_pair : (name : List ℕ) (test : List ℕ → Bool) (g : List ℕ) (cs mid r
 one_pair name test g cs mid rest gap e q = (
   record { gap = g; before = q.before; after = q.behind_equals; quote = q.quote; word = q.word },
   true_both (is_gap g) (is_white q.before && (is_white q.behind_equals && (is_quote q.quote && test q.word))) gap
-    (true_both (is_white q.before) (is_white q.behind_equals && (is_quote q.quote && test q.word)) q.white_before
-    (true_both (is_white q.behind_equals) (is_quote q.quote && test q.word) q.white_behind
-    (true_both (is_quote q.quote) (test q.word) q.is_quote q.is_word))),
+      (true_both (is_white q.before) (is_white q.behind_equals && (is_quote q.quote && test q.word)) q.white_before
+      (true_both (is_white q.behind_equals) (is_quote q.quote && test q.word) q.white_behind
+      (true_both (is_quote q.quote) (test q.word) q.is_quote q.is_word))),
   e ∙ ap (λ t. g ++ (name ++ t)) q.spelt ∙ regroup_pair g name q.before q.behind_equals q.word q.quote rest,
 )
 
@@ -181,7 +181,7 @@ no_pair : (name : List ℕ) (reads : List ℕ → Option (List ℕ)) (cs : List 
 unfolding pair_at
 no_pair name reads cs e = rw e refl
 
--- white space and what stands behind it
+-- white space and what comes after it
 gap_to : (s cs : List ℕ) (name : List ℕ) → is_white s ≡ true → begins is_space cs ≡ false → after name cs ≡ None → name_behind name (s ++ cs) ≡ None
 gap_to [] cs name w b e = let g = gap_none cs b in rw g refl
 gap_to (c ∷ s) cs name w b e = let g = gap_complete (c ∷ s) cs w b in rw g e

@@ -1,4 +1,4 @@
--- How what stands round the root goes on.
+-- How what is round the root goes on.
 use Rattle.std.proofs.Common.{◌≡◌, ℕ, zero, suc, ◌<◌, ◌≤◌, List, length, Some, None, refl, sym, ap, arith}
 use Rattle.std.specs.Prelude.{codes}
 use Rattle.irs_xml.specs.Comments.{after}

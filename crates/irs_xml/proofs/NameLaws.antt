@@ -117,7 +117,7 @@ qname_sound cs prefix local rest e =
     let first = b.0 in
     let n = name_sound cs first.0 first.1 b.1 in
     elim (choose_some (after (codes ":") first.1) (λ rest. name_at rest >>= λ local. Some ((first.0, local.0), local.1))
-      (Some (([], first.0), first.1)) ((prefix, local), rest) b.2) [
+    (Some (([], first.0), first.1)) ((prefix, local), rest) b.2) [
       | inl h ↦
           let m = bind_some (name_at h.0) (λ local. Some ((first.0, local.0), local.1)) ((prefix, local), rest) h.2 in
           let second = m.0 in

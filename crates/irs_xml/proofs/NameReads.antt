@@ -96,7 +96,7 @@ unfolding ends_after
 run-ends [] = refl
 run-ends (c ∷ cs) = elim (cases_Bool (is_name_char c)) [
   | inl h ↦ ap name_run (plain_next c cs (char_no_return c h)) ∙ run_more c (ends_after false cs) h
-        ∙ ap (λ t. c ∷ t) (run-ends cs) ∙ sym (run_more c cs h)
+      ∙ ap (λ t. c ∷ t) (run-ends cs) ∙ sym (run_more c cs h)
   | inr h ↦ none_run (ends_after false (c ∷ cs)) (other_front c cs h) ∙ (rw h refl)
 ]
 
@@ -105,7 +105,7 @@ unfolding ends_after
 rest-ends [] = refl
 rest-ends (c ∷ cs) = elim (cases_Bool (is_name_char c)) [
   | inl h ↦ ap name_rest (plain_next c cs (char_no_return c h)) ∙ rest_more c (ends_after false cs) h
-        ∙ rest-ends cs ∙ ap (ends_after false) (sym (rest_more c cs h))
+      ∙ rest-ends cs ∙ ap (ends_after false) (sym (rest_more c cs h))
   | inr h ↦ none_rest (ends_after false (c ∷ cs)) (other_front c cs h) ∙ ap (ends_after false) (sym (other_rest c cs h))
 ]
   where
@@ -137,7 +137,7 @@ no_name_other text behind c u e h = elim (cases_Bool (nat_eq c 13)) [
   | inr is ↦ ap name_at (seen_other text behind c u e (grind (arith, nat_tests))) ∙ no_start_case c _ h
 ]
 
--- a name, its first character and those behind it
+-- a name, its first character and those after it
 pub record Named (text behind left : List ℕ) (c : ℕ) : Type 0 where
   pub utf8 : IsUtf8 text
   pub begins : text ≡ encode_utf8 c ++ behind

@@ -125,7 +125,7 @@ character_sound base cs m rest low high e =
       | inr t ↦ absurd (let x = t.1 in cc x)
     ]
 
--- a reference that was read behind its `&`
+-- a reference that was read after its `&`
 pub record ReadReference (cs : List ℕ) (c : ℕ) (rest : List ℕ) : Type 0 where
   pub reference : Reference
   pub is_reference : is_reference reference ≡ true
@@ -237,7 +237,7 @@ abbrev pub tail : List ℕ → List ℕ
 tail [] = []
 tail (c ∷ cs) = cs
 
--- what a reference is behind its `&`
+-- what a reference is after its `&`
 pub reference_complete : (r : Reference) (rest : List ℕ) → is_reference r ≡ true
     → reference_at (tail (reference_text r ++ rest)) ≡ Some (character_of r, rest)
 unfolding reference_at

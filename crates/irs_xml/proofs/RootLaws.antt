@@ -21,7 +21,7 @@ use Rattle.irs_xml.proofs.TagLaws.{end_text, tag_sound}
 use Rattle.irs_xml.proofs.ContentLaws.{element_sound, child_sound, element_begins, element_start, start_no_mark, behind, body, is_bare, tag_back, opened_back, element_back, child_complete}
 use Rattle.irs_xml.proofs.DocumentLaws.{declaration_sound, declared_complete}
 
--- what stands round the root
+-- what is round the root
 
 abbrev blanks : List ℕ → List Misc → List Misc
 blanks [] ms = ms
@@ -122,7 +122,7 @@ misc_complete (suc n) (instruction i ∷ ms) rest h s l =
     let long3 = length-append i.body (codes "?>" ++ left) in
     ap (misc_at (suc (suc n))) whole ∙ misc_instruction (suc n) i left b.0 ∙ misc_complete n ms rest b.1 s (omega (arith, l, long, long2, long3))
 
--- a root ends what stands before it
+-- a root ends what comes before it
 
 less_no_space : (cs : List ℕ) → begins is_space (60 ∷ cs) ≡ false
 unfolding is_space

@@ -1,20 +1,19 @@
 -- A value has no more text than its document: nothing that is read grows.
-use Rattle.std.proofs.Common.{◌≡◌, ℕ, ◌+◌, ◌<◌, ◌≤◌, Bool, true, false, cond, ◌&&◌, List, [], ◌∷◌, ◌++◌, length, Option, Some, None, Ordering, Less, Equal, Greater, nat_eq, nat_cmp, is_eq, refl, sym, ap, subst, ◌∙◌, arith, length-append, inl, inr, codes}
-use Rattle.std.proofs.lemmas.Bool.{cases_Bool}
+use Rattle.std.proofs.Common.{◌≡◌, ℕ, ◌+◌, ◌<◌, ◌≤◌, Bool, true, false, cond, ◌&&◌, List, [], ◌∷◌, ◌++◌, length, Option, Some, None, Ordering, Less, Equal, Greater, nat_eq, nat_cmp, is_eq, refl, ap, subst, ◌∙◌, arith, length-append, inl, inr, codes}
 use Rattle.std.proofs.lemmas.Str.{length-encode, len_utf8_bounds, len_utf8_ascii, length-le-encodes, encodes-append}
-use Rattle.std.specs.Char.{encode_utf8, digit_value}
+use Rattle.std.specs.Char.{encode_utf8}
 use Rattle.std.specs.Cmp.Lexicographic.{slice_cmp}
 use Rattle.std.specs.Ordering.{match_ordering}
 use Rattle.std.specs.Str.{encode_utf8_all}
 use Rattle.serde_json.specs.Data.{Data, null, boolean, number, string, array, object, Items, no_items, item, Members, no_members, member, put}
 use Rattle.serde_json.specs.Find.{get_member}
-use Rattle.irs_xml.specs.Characters.{is_white, is_space, ends_after, line_ends, without_mark}
+use Rattle.irs_xml.specs.Characters.{is_white, is_space, ends_after, without_mark}
 use Rattle.irs_xml.specs.Sizes.{text_size, items_size, members_size}
 use Rattle.irs_xml.specs.Comments.{cdata_text, comment_text, instruction_text}
 use Rattle.irs_xml.specs.Content.{Element, empty, full, element_text, Content, nothing, character, reference, cdata, comment, instruction, child, content_text}
-use Rattle.irs_xml.specs.Document.{Document, document_text, document_value, declaration_text, misc_text, rooted, root_value, root_namespace, tag_of, XmlReads}
+use Rattle.irs_xml.specs.Document.{Document, document_text, document_value, declaration_text, misc_text, rooted, root_value, XmlReads}
 use Rattle.irs_xml.specs.Names.{name_text}
-use Rattle.irs_xml.specs.Namespaces.{Setting, Scope, settings_of, scope_in, opening_of, first_scope}
+use Rattle.irs_xml.specs.Namespaces.{Setting, Scope, settings_of, first_scope}
 use Rattle.irs_xml.specs.References.{Reference, less, greater, ampersand, apostrophe, quotation, decimal, hexadecimal, reference_text, character_of}
 use Rattle.irs_xml.specs.Tags.{Piece, plain, refers, piece_text, piece_character, pieces_text, pieces_value, Attribute, attribute_text, attributes_text, Tag, tag_text}
 use Rattle.irs_xml.specs.Values.{item_last, joined, without, with_child, with_children, Child, with_settings, is_counted, leaf_value, value_from, element_data, named, both, element_child, children_in, text_in}
@@ -48,7 +47,7 @@ taken_size k (member l e ms) = by_order (slice_cmp nat_cmp k l) (taken_size k ms
   where
     by_order : (o : Ordering) → option_size (get_member k ms) + members_size (without k ms) ≤ members_size ms
         → option_size (match_ordering o (get_member k ms) (Some e) (get_member k ms))
-          + members_size (cond (is_eq o) ms (member l e (without k ms))) ≤ text_size e + members_size ms
+        + members_size (cond (is_eq o) ms (member l e (without k ms))) ≤ text_size e + members_size ms
     by_order Less h = omega (arith, h)
     by_order Equal h = omega arith
     by_order Greater h = omega (arith, h)
@@ -202,10 +201,10 @@ all_settings_size (s ∷ ss) ms =
   where
     by_count : (b : Bool)
         → members_size (with_settings ss (put (64 ∷ s.local) (string s.value) ms))
-          ≤ members_size (put (64 ∷ s.local) (string s.value) ms) + settings_size ss
+        ≤ members_size (put (64 ∷ s.local) (string s.value) ms) + settings_size ss
         → members_size (with_settings ss ms) ≤ members_size ms + settings_size ss
         → members_size (with_settings ss (cond b (put (64 ∷ s.local) (string s.value) ms) ms))
-          ≤ members_size ms + (length s.value + settings_size ss)
+        ≤ members_size ms + (length s.value + settings_size ss)
     by_count true g h = let p = put_size (64 ∷ s.local) (string s.value) ms in omega (arith, g, p)
     by_count false g h = omega (arith, h)
 
@@ -217,7 +216,7 @@ leaf_most text (member k d ms) = by_white (is_white text)
   where
     by_white : (b : Bool)
         → text_size (cond b (object (member k d ms)) (object (put (codes "#text") (string text) (member k d ms))))
-          ≤ length text + members_size (member k d ms)
+        ≤ length text + members_size (member k d ms)
     by_white true = omega arith
     by_white false = let p = put_size (codes "#text") (string text) (member k d ms) in omega (arith, p)
 
@@ -273,16 +272,16 @@ mutual
       → element_child root kept scope e ≡ Some c → text_size c.1 ≤ width (element_text e)
   element_most root kept scope (empty t) c e =
       named_most _ _ _ c (λ d q.
-        let m = data_most _ (settings_of t.attributes) [] (Some []) 0 d no_children q in
-        let g = tag_most t in
-        let a = ahead (tag_text t) (codes "/>") in omega (arith, m, g, a)) e
+      let m = data_most _ (settings_of t.attributes) [] (Some []) 0 d no_children q in
+      let g = tag_most t in
+      let a = ahead (tag_text t) (codes "/>") in omega (arith, m, g, a)) e
   element_most root kept scope (full t content space) c e =
       named_most _ _ _ c (λ d q.
-        let m = data_most _ (settings_of t.attributes) (text_in content) _ (width (content_text content)) d
-            (λ cs p. content_most root _ _ content cs p) q in
-        let g = tag_most t in
-        let a = full_most (tag_text t) (content_text content) (codes "</" ++ (name_text t.name ++ (space ++ codes ">"))) in
-        omega (arith, m, g, a)) e
+      let m = data_most _ (settings_of t.attributes) (text_in content) _ (width (content_text content)) d
+      (λ cs p. content_most root _ _ content cs p) q in
+      let g = tag_most t in
+      let a = full_most (tag_text t) (content_text content) (codes "</" ++ (name_text t.name ++ (space ++ codes ">"))) in
+      omega (arith, m, g, a)) e
 
   content_most : (root : List ℕ) (kept : Bool) (scope : Scope) (c : Content) (cs : List Child)
       → children_in root kept scope c ≡ Some cs → length (text_in c) + children_size cs ≤ width (content_text c)
@@ -308,7 +307,7 @@ mutual
   content_most root kept scope (child el c) cs e =
       let w = width-append (element_text el) (content_text c) in
       let b = both_most _ _ (width (element_text el)) (width (content_text c)) (length (text_in c)) cs
-          (λ x p. element_most root kept scope el x p) (λ xs p. content_most root kept scope c xs p) e in omega (arith, w, b)
+      (λ x p. element_most root kept scope el x p) (λ xs p. content_most root kept scope c xs p) e in omega (arith, w, b)
 
 -- documents
 

@@ -9,7 +9,7 @@ use Rattle.irs_xml.specs.Reading.{◌>>=◌, choose, skip_space, gap_at, past}
 pub same_some : {A : Type 0} {x y : A} → ◌≡◌ {A = Option A} (Some x) (Some y) → x ≡ y
 same_some e = cc e
 
--- what gives something behind a step had something from the step
+-- what gives something after a step had something from the step
 pub bind_some : {A B : Type 0} (o : Option A) (f : A → Option B) (y : B) → (o >>= f) ≡ Some y
     → (x : A) × (o ≡ Some x) × (f x ≡ Some y)
 bind_some None f y e = absurd (cc e)

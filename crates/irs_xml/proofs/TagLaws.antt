@@ -328,7 +328,7 @@ settings_sound zero ss cs out b rest e =
     ]
 settings_sound (suc n) ss cs out b rest e =
     elim (choose_some (tag_end_at (skip_space cs)) (λ end. Some ((ss, end.0), end.1))
-      (gap_at cs >>= λ rest. setting_at rest >>= λ s. settings_at n (ss ++ s.0 ∷ []) s.1) ((out, b), rest) e) [
+    (gap_at cs >>= λ rest. setting_at rest >>= λ s. settings_at n (ss ++ s.0 ∷ []) s.1) ((out, b), rest) e) [
       | inl h ↦ settings_stop (suc n) ss cs out b rest h.0 h.1 h.2
       | inr h ↦
           let g = bind_some (gap_at cs) _ ((out, b), rest) h.1 in
@@ -355,7 +355,7 @@ settings_sound (suc n) ss cs out b rest e =
           }
     ]
 
--- what stands behind a name in a tag
+-- what comes after a name in a tag
 
 space_no_colon : (c : ℕ) → is_space c ≡ true → nat_eq c 58 ≡ false
 unfolding is_space
@@ -389,7 +389,7 @@ pub quote_no_space : (q : ℕ) (rest : List ℕ) → is_quote q ≡ true → beg
 unfolding is_space
 quote_no_space q rest h = grind (arith, nat_tests)
 
--- what an attribute is behind its white space
+-- what an attribute is after its white space
 abbrev attribute_tail : Attribute → List ℕ → List ℕ
 attribute_tail a rest =
     name_text a.name ++ (a.before ++ (61 ∷ (a.after ++ (a.quote ∷ (pieces_text a.pieces ++ a.quote ∷ rest)))))
@@ -540,7 +540,7 @@ attributes_no_qname (a ∷ xs) space b rest are w =
     gap_no_qname [] rest g = absurd (cc g)
     gap_no_qname (c ∷ s) rest g = space_no_qname c (both_true (is_space c) (is_white s) g).0
 
--- a tag behind its `<`
+-- a tag after its `<`
 pub tag_complete : (t : Tag) (b : Bool) (rest : List ℕ) → is_tag t ≡ true → length t.attributes ≤ most_attributes
     → tag_at (name_text t.name ++ (attributes_text t.attributes ++ (t.space ++ (end_text b ++ rest)))) ≡ Some ((opening_of t, b), rest)
 unfolding tag_at

@@ -42,7 +42,7 @@ allowed_of bytes cs t = record {
   allowed = ap (list_all is_char) (chars_of bytes cs t) ∙ t.allowed;
 }
 
--- the mark goes before or behind the ends of lines
+-- the mark goes before or after the ends of lines
 
 mark_stays : (cs : List ℕ) → ends_after false (0xFEFF ∷ cs) ≡ 0xFEFF ∷ ends_after false cs
 unfolding ends_after
@@ -141,7 +141,7 @@ pub none_of : (bytes : List ℕ) (e : XmlErr) → IsNotXml e → ((d : Data) →
 none_of bytes (NotXml line column) is none = none
 none_of bytes Memory is none = absurd is
 
--- the first character, and those behind it
+-- the first character, and those after it
 
 pub all_nothing : (text : List ℕ) → length text ≡ 0 → list_all is_char (chars text) ≡ true
 all_nothing [] e = ap (list_all is_char) chars-nil

@@ -24,7 +24,7 @@ reference_short cs c rest e =
     let some = reference_long r.reference in
     omega (arith, l, some)
 
--- what is read behind this text gives what is read from the start
+-- what is read after this text gives what is read from the start
 pub record ValueGoes (quote : ℕ) (text cs all : List ℕ) : Type 0 where
   pub fuel : ℕ
   pub enough : length cs ≤ fuel
@@ -95,4 +95,3 @@ value_stops quote text all g = sym g.same ∙ nothing g.fuel
     nothing : (n : ℕ) → value_at n quote text [] ≡ None
     nothing zero = refl
     nothing (suc n) = refl
-

@@ -23,7 +23,7 @@ abbrev pub is_gap : List ℕ → Bool
 is_gap [] = false
 is_gap (c ∷ cs) = is_space c && is_white cs
 
--- 2.11: CR LF is one LF, and so is a CR alone; after_return says that a CR stands before
+-- 2.11: CR LF is one LF, and so is a CR alone; after_return says that a CR comes before
 unfoldable pub ends_after : Bool → List ℕ → List ℕ
 ends_after after_return [] = []
 ends_after after_return (c ∷ cs) =
@@ -34,7 +34,7 @@ ends_after after_return (c ∷ cs) =
 abbrev pub line_ends : List ℕ → List ℕ
 line_ends cs = ends_after false cs
 
--- the characters behind one byte order mark, where one stands in front
+-- the characters after one byte order mark, where one is in front
 abbrev pub without_mark : List ℕ → List ℕ
 without_mark [] = []
 without_mark (c ∷ cs) = if c == 0xFEFF then cs else c ∷ cs

@@ -31,12 +31,12 @@ is_cdata cs = lacks (codes "]]>") cs
 abbrev pub cdata_text : List ℕ → List ℕ
 cdata_text cs = codes "<![CDATA[" ++ (cs ++ codes "]]>")
 
--- [16] PI: its target, and all that stands between the target and `?>`
+-- [16] PI: its target, and all that comes between the target and `?>`
 pub record Instruction : Type 0 where
   pub target : List ℕ
   pub body : List ℕ
 
--- white space stands between the target and what follows
+-- white space comes between the target and what follows
 abbrev pub is_apart : List ℕ → Bool
 is_apart [] = true
 is_apart (c ∷ cs) = is_space c

@@ -45,7 +45,7 @@ abbrev mutual
 abbrev pub is_char_data : ℕ → Bool
 is_char_data x = not (x == 60) && not (x == 38)
 
--- the most attributes that a tag may have, declarations counted; the most elements that may stand in each other
+-- the most attributes that a tag may have, declarations counted; the most elements that may nest
 abbrev pub most_attributes : ℕ
 most_attributes = 64
 
@@ -58,7 +58,7 @@ pub record IsTagIn (scope : Scope) (t : Tag) : Type 0 where
   pub few : length t.attributes ≤ most_attributes
   pub opened : is_opened scope (opening_of t) ≡ true
 
--- what may stand where elements may go so many levels deeper, in these declarations
+-- elements and content that follow the rules in this scope, where so many more levels are allowed
 abbrev mutual
   pub IsElement : ℕ → Scope → Element → Type 0
   IsElement zero scope (empty t) = ⊥
@@ -67,7 +67,7 @@ abbrev mutual
   IsElement (suc levels) scope (full t c space) =
       IsTagIn scope t × IsContent levels (scope_in scope (settings_of t.attributes)) c × (is_white space ≡ true)
 
-  -- no `]]>` begins where a character stands
+  -- no `]]>` begins where a character is
   pub IsContent : ℕ → Scope → Content → Type 0
   IsContent levels scope nothing = Unit {0}
   IsContent levels scope (character x c) =

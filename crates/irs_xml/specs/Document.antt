@@ -1,4 +1,4 @@
--- A document: XML 1.0 (fifth edition), 2.1, 2.8 and 2.9. No document type may stand, so no entity is declared.
+-- A document: XML 1.0 (fifth edition), 2.1, 2.8 and 2.9. No document type is allowed, so no entity is declared.
 use Rattle.std.specs.Prelude.{◌≡◌, ℕ, Bool, true, false, ◌&&◌, List, [], ◌∷◌, ◌++◌, Option, Some, None}
 use Rattle.std.specs.Prelude.{if◌then◌else◌, codes, map, nat_eq}
 use Rattle.std.specs.List.{starts_with}

@@ -117,6 +117,6 @@ is_opened_in scope o =
     && (is_some (namespace_of scope o.prefix)
     && (list_all (λ s. is_some (attribute_namespace scope s)) o.settings && are_unlike scope o.settings))
 
--- the tag may stand where these declarations are in scope
+-- the tag follows the rules in this scope
 abbrev pub is_opened : Scope → Opening → Bool
 is_opened outer o = is_opened_in (scope_in outer o.settings) o

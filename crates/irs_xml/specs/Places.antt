@@ -5,7 +5,7 @@ use Rattle.irs_xml.specs.Document.{XmlReads}
 use Rattle.irs_xml.specs.declared.reading.XmlErr.{XmlErr}
 use Rattle.irs_xml.specs.declared.reading.XmlErr.TheVariants.{NotXml, Memory}
 
--- the place behind bytes that begin at this place: LF ends a line
+-- the place after bytes that begin at this place: LF ends a line
 abbrev pub place_after : ℕ → ℕ → List ℕ → ℕ × ℕ
 place_after line column [] = (line, column)
 place_after line column (b ∷ bs) =

@@ -1,4 +1,4 @@
--- How the reader goes through the characters: functions from the characters to what is read and what is left behind it.
+-- How the reader goes through the characters: functions from the characters to what is read and what is left after it.
 -- The contracts of this crate's own functions cite them. What a document is and means doesn't rest on them.
 use Rattle.std.specs.Prelude.{◌≡◌, ℕ, zero, suc, ◌+◌, ◌*◌, min, Bool, true, false, ◌&&◌, ◌==◌, List, [], ◌∷◌, ◌++◌}
 use denote.Ref.{Bor}
@@ -17,7 +17,7 @@ use Rattle.irs_xml.specs.Values.{Child, is_ours, key_of, leaf_value, with_child,
 use Rattle.irs_xml.specs.declared.failure.Failure.{Failure}
 use Rattle.irs_xml.specs.declared.failure.Failure.TheVariants.{NotXml, Memory}
 
--- what is read, and the characters behind it
+-- what is read, and the characters after it
 abbrev pub Got : Type 0 → Type 0
 Got A = Option (A × List ℕ)
 
@@ -94,12 +94,12 @@ pub record SplitsName (text left : List ℕ) : Type 0 where
   pub is_run : name_run (chars text) ≡ run ++ name_run (chars left)
   pub is_rest : name_rest (chars text) ≡ name_rest (chars left)
 
--- no character of a name stands at the front
+-- no character of a name is at the front
 pub record EndsName (left : List ℕ) : Type 0 where
   pub no_run : name_run (chars left) ≡ []
   pub no_rest : name_rest (chars left) ≡ chars left
 
--- a name and the text behind it, where one stands at the front
+-- a name and the text after it, where one is at the front
 abbrev pub NameOf : List ℕ → Option (Bor (List ℕ) × Bor (List ℕ)) → Type 0
 NameOf text found =
     MatchOption found (name_at (seen text) ≡ None) (λ x. name_at (seen text) ≡ Some (x.0.now, seen x.1.now))
@@ -109,9 +109,9 @@ unfoldable pub qname_at : List ℕ → Got (List ℕ × List ℕ)
 qname_at cs = do
   first ← name_at cs
   choose (after (codes ":") first.1) (λ rest. name_at rest >>= λ local. Some ((first.0, local.0), local.1))
-    (Some (([], first.0), first.1))
+      (Some (([], first.0), first.1))
 
--- references, behind `&`
+-- references, after `&`
 
 -- past the last character all numbers are one
 abbrev pub capped : ℕ → ℕ
@@ -140,9 +140,9 @@ reference_at cs =
     (choose (after (codes "#x") cs) (λ rest. character_at 16 rest)
     (choose (after (codes "#") cs) (λ rest. character_at 10 rest) None))))))
 
--- comments, instructions and CDATA sections, behind what opens them
+-- comments, instructions and CDATA sections, after what opens them
 
--- behind the first place where the mark stands
+-- after the first place where the mark is
 abbrev pub past : List ℕ → List ℕ → Option (List ℕ)
 past mark [] = after mark []
 past mark (c ∷ cs) = choose (after mark (c ∷ cs)) (λ rest. Some rest) (past mark cs)
@@ -154,15 +154,15 @@ unfoldable pub instruction_at : List ℕ → Option (List ℕ)
 instruction_at cs = do
   target ← name_at cs
   if is_xml target.0 then None
-    else choose (after (codes "?>") target.1) (λ rest. Some rest) (gap_at target.1 >>= past (codes "?>"))
+      else choose (after (codes "?>") target.1) (λ rest. Some rest) (gap_at target.1 >>= past (codes "?>"))
 
--- the characters before the first `]]>`, put behind a text
+-- the characters before the first `]]>`, put after a text
 abbrev pub data_at : List ℕ → List ℕ → Got (List ℕ)
 data_at text [] = None
 data_at text (c ∷ cs) =
     choose (after (codes "]]>") (c ∷ cs)) (λ rest. Some (text, rest)) (data_at (text ++ encode_utf8 c) cs)
 
--- tags, behind `<`
+-- tags, after `<`
 
 -- `=` with white space round it
 unfoldable pub equals_at : List ℕ → Option (List ℕ)
@@ -179,7 +179,7 @@ value_character_at c cs =
     if c == 60 then None
     else (if c == 38 then reference_at cs else Some (if is_space c then 32 else c, cs))
 
--- the rest of a value, put behind what was read of it; n is the most characters that are looked at
+-- the rest of a value, put after what was read of it; n is the most characters that are looked at
 unfoldable pub value_at : ℕ → ℕ → List ℕ → List ℕ → Got (List ℕ)
 value_at zero quote text cs = None
 value_at (suc n) quote text [] = None
@@ -201,7 +201,7 @@ tag_end_at cs =
     choose (after (codes ">") cs) (λ rest. Some (false, rest))
     (choose (after (codes "/>") cs) (λ rest. Some (true, rest)) None)
 
--- the attributes of a tag behind those that were read, so many more being allowed, and how the tag ends
+-- the attributes of a tag after those that were read, so many more being allowed, and how the tag ends
 unfoldable pub settings_at : ℕ → List Setting → List ℕ → Got (List Setting × Bool)
 settings_at zero ss cs = choose (tag_end_at (skip_space cs)) (λ end. Some ((ss, end.0), end.1)) None
 settings_at (suc n) ss cs =
@@ -220,7 +220,7 @@ closing_name_at prefix local cs =
     if length prefix == 0 then after (seen local) cs
     else (after (seen prefix) cs >>= after (codes ":") >>= after (seen local))
 
--- the end of an end tag, behind `</`
+-- the end of an end tag, after `</`
 unfoldable pub closing_at : Opening → List ℕ → Option (List ℕ)
 closing_at o cs = closing_name_at o.prefix o.local cs >>= λ rest. after (codes ">") (skip_space rest)
 
@@ -236,7 +236,7 @@ pub data Mark : Type 0 where
   referred : Mark
   standing : ℕ → Mark
 
--- behind `<`
+-- after `<`
 unfoldable pub markup_at : List ℕ → Got Mark
 markup_at cs =
     choose (after (codes "/") cs) (λ rest. Some (ending, rest))
@@ -300,7 +300,7 @@ abbrev pub as_child : Bool → Opening → Option Data → List ℕ → Got Chil
 as_child ours o None cs = None
 as_child ours o (Some d) cs = Some ((key_of ours o.local, d), cs)
 
--- what was read of an element behind its tag: nothing, or its content and its end tag
+-- what was read of an element after its tag: nothing, or its content and its end tag
 unfoldable pub filled_at : (List ℕ → Got Child) → Opening × Bool → Inside → List ℕ → Got Inside
 filled_at child (o, true) i cs = Some (i, cs)
 filled_at child (o, false) i cs = do
@@ -308,14 +308,14 @@ filled_at child (o, false) i cs = do
   rest ← closing_at o inside.1
   Some (inside.0, rest)
 
--- an element behind its start tag or empty-element tag, in its own scope, by what reads its children
+-- an element after its start tag or empty-element tag, in its own scope, by what reads its children
 unfoldable pub element_at : (Bool → Scope → List ℕ → Got Child) → List ℕ → Bool → Scope → Opening × Bool → List ℕ → Got Child
 element_at child root kept inner tag cs =
     let ours = is_ours root inner tag.0 in
     filled_at (child (kept && ours) inner) tag (begun tag.0.settings) cs
     >>= λ r. as_child ours tag.0 (finished (kept && ours) r.0) r.1
 
--- an element behind its `<`, where elements may go so many levels deeper
+-- an element after its `<`, where elements may go so many levels deeper
 unfoldable pub child_at : List ℕ → ℕ → Bool → Scope → List ℕ → Got Child
 child_at root zero kept outer cs = None
 child_at root (suc levels) kept outer cs =
@@ -330,7 +330,7 @@ after_any_case [] cs = Some cs
 after_any_case (w ∷ ws) [] = None
 after_any_case (w ∷ ws) (c ∷ cs) = if to_ascii_lowercase c == w then after_any_case ws cs else None
 
--- a quoted word of the declaration, behind its name
+-- a quoted word of the declaration, after its name
 unfoldable pub quoted_at : (List ℕ → Option (List ℕ)) → List ℕ → Option (List ℕ)
 quoted_at word cs = do
   behind ← equals_at cs
@@ -347,15 +347,15 @@ encoding_at cs = after_any_case (codes "utf-8") cs
 abbrev pub standalone_at : List ℕ → Option (List ℕ)
 standalone_at cs = choose (after (codes "yes") cs) (λ rest. Some rest) (after (codes "no") cs)
 
--- a name behind white space
+-- a name after white space
 abbrev pub name_behind : List ℕ → List ℕ → Option (List ℕ)
 name_behind name cs = gap_at cs >>= after name
 
--- a name and its word, where the name is there behind white space
+-- a name and its word, where the name is there after white space
 unfoldable pub pair_at : List ℕ → (List ℕ → Option (List ℕ)) → List ℕ → Option (List ℕ)
 pair_at name word cs = choose (name_behind name cs) (λ rest. quoted_at word rest) (Some cs)
 
--- the XML declaration behind its `<?xml` and white space
+-- the XML declaration after its `<?xml` and white space
 unfoldable pub declared_at : List ℕ → Option (List ℕ)
 declared_at cs =
     after (codes "version") cs >>= quoted_at version_at >>= pair_at (codes "encoding") encoding_at
@@ -368,7 +368,7 @@ opening_at cs = after (codes "<?xml") cs >>= gap_at
 unfoldable pub declaration_at : List ℕ → Option (List ℕ)
 declaration_at cs = choose (opening_at cs) (λ rest. declared_at rest) (Some cs)
 
--- what may stand round the root; n is the most comments and instructions that are looked at
+-- what may be round the root; n is the most comments and instructions that are looked at
 unfoldable pub misc_at : ℕ → List ℕ → Option (List ℕ)
 misc_at zero cs = None
 misc_at (suc n) cs =
@@ -385,7 +385,7 @@ root_by None inner t cs = None
 root_by (Some root) inner t cs =
     if is_fpml (Some root) then (element_at (child_at root 62) root true inner t cs >>= as_root t.0) else None
 
--- the root element behind its `<`
+-- the root element after its `<`
 unfoldable pub root_at : List ℕ → Got Data
 root_at cs =
     tag_at cs >>= λ t.

@@ -24,7 +24,7 @@ reference_text quotation = codes "&quot;"
 reference_text (decimal ds) = codes "&#" ++ (ds ++ codes ";")
 reference_text (hexadecimal ds) = codes "&#x" ++ (ds ++ codes ";")
 
--- the number that digits write behind a number that was read before them
+-- the number that digits write after a number that was read before them
 abbrev pub number_after : ℕ → ℕ → List ℕ → ℕ
 number_after base n [] = n
 number_after base n (d ∷ ds) = number_after base (n * base + digit_value d) ds

@@ -54,7 +54,7 @@ attribute_text a =
 abbrev pub is_quote : ℕ → Bool
 is_quote c = c == 34 || c == 39
 
--- white space has to stand before each attribute
+-- white space has to come before each attribute
 abbrev pub is_attribute : Attribute → Bool
 is_attribute a =
     is_gap a.gap && (is_qname a.name && (is_white a.before && (is_white a.after

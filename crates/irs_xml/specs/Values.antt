@@ -18,7 +18,7 @@ use Rattle.irs_xml.specs.References.{character_of}
 abbrev pub is_counted : Setting → Bool
 is_counted s = bytes_eq s.prefix (codes "") && not (is_declaration s)
 
--- the members of the attributes that count, behind those that are there: `@NAME` with its value
+-- the members of the attributes that count, after those that are there: `@NAME` with its value
 abbrev pub with_settings : List Setting → Members → Members
 with_settings [] ms = ms
 with_settings (s ∷ ss) ms =
@@ -69,7 +69,7 @@ value_from settings text [] = Some (leaf_value text (with_settings settings no_m
 value_from settings text (c ∷ cs) =
     if is_white text then Some (object (with_children (c ∷ cs) (with_settings settings no_members))) else None
 
--- the text that stands directly in an element, in UTF-8; comments and instructions are passed over
+-- the text directly in an element, in UTF-8; comments and instructions are passed over
 abbrev pub text_in : Content → List ℕ
 text_in nothing = []
 text_in (character x c) = encode_utf8 x ++ text_in c
@@ -83,18 +83,18 @@ text_in (child e c) = text_in c
 abbrev pub is_ours : List ℕ → Scope → Opening → Bool
 is_ours root inner o = is_same (namespace_of inner o.prefix) (Some root)
 
--- the name of a child's member: its local part, behind a colon where the child is foreign
+-- the name of a child's member: its local part, after a colon where the child is foreign
 abbrev pub key_of : Bool → List ℕ → List ℕ
 key_of true local = local
 key_of false local = 58 ∷ local
 
--- the first child and those behind it, where each has a value
+-- the first child and those after it, where each has a value
 abbrev pub both : Option Child → Option (List Child) → Option (List Child)
 both None cs = None
 both (Some c) None = None
 both (Some c) (Some cs) = Some (c ∷ cs)
 
--- the value of an element that is kept; one that is foreign, or stands in a foreign one, is the empty string
+-- the value of an element that is kept; one that is foreign, or is in a foreign one, is the empty string
 abbrev pub element_data : Bool → List Setting → List ℕ → Option (List Child) → Option Data
 element_data false settings text children = Some (string [])
 element_data true settings text None = None
@@ -104,7 +104,7 @@ abbrev pub named : List ℕ → Option Data → Option Child
 named key None = None
 named key (Some d) = Some (key, d)
 
--- the member that an element makes, and those of the elements in content; none where text stands beside a child. What a
+-- the member that an element makes, and those of the elements in content; none where text is beside a child. What a
 -- foreign element holds is passed over
 abbrev mutual
   pub element_child : List ℕ → Bool → Scope → Element → Option Child

@@ -1,4 +1,4 @@
-//! Comments, processing instructions and CDATA sections, behind what opens them: XML 1.0 (fifth
+//! Comments, processing instructions and CDATA sections, after what opens them: XML 1.0 (fifth
 //! edition), 2.5, 2.6 and 2.7.
 ghost use Rattle.irs_xml.specs.Reading.{Gives, Passes, comment_at, data_at, instruction_at, past};
 ghost use Rattle.std.specs.Prelude.{◌≤◌, length, string_bytes};
@@ -27,10 +27,14 @@ pub(crate) fn instruction(reader: &mut Reader<'_>) -> Option<()>
     if reader.eat(b"?>") {
         return Some(());
     }
-    if reader.gap() { skip_past(reader, b"?>") } else { None }
+    if reader.gap() {
+        skip_past(reader, b"?>")
+    } else {
+        None
+    }
 }
 
-// Passes over what stands before the mark, and over the mark.
+// Passes over what comes before the mark, and over the mark.
 fn skip_past(reader: &mut Reader<'_>, mark: &[u8]) -> Option<()>
     ensures { Passes result reader.new (past mark.now reader.old) }
 {

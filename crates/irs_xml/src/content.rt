@@ -39,7 +39,7 @@ pub(crate) enum Mark {
     Character(char),
 }
 
-// What comes next, taken. No `]]>` may stand in text.
+// What comes next, taken. No `]]>` may be in text.
 #[tactic(auto, unfolding(crate::specs::Reading::mark_at))]
 fn next_mark(reader: &mut Reader<'_>) -> Option<Mark>
     ensures { Reads mark_view result reader.new (mark_at reader.old) }
@@ -56,7 +56,7 @@ fn next_mark(reader: &mut Reader<'_>) -> Option<Mark>
     }
 }
 
-// What comes next behind `<`.
+// What comes next after `<`.
 #[tactic(auto, unfolding(crate::specs::Reading::markup_at))]
 fn markup(reader: &mut Reader<'_>) -> Mark
     ensures { markup_at reader.old ≡ Some (mark_view result, reader.new) }
@@ -84,7 +84,7 @@ fn closing(reader: &mut Reader<'_>, tag: &Tag<'_>) -> Option<()>
     if reader.eat(b">") { Some(()) } else { None }
 }
 
-// The name of the start tag stands here, and is taken.
+// The name of the start tag is here, and is taken.
 #[tactic(auto, unfolding(crate::specs::Reading::closing_name_at))]
 fn closing_name(reader: &mut Reader<'_>, prefix: &str, local: &str) -> Option<()>
     ensures { Passes result reader.new (closing_name_at prefix.now local.now reader.old) }
@@ -99,11 +99,15 @@ fn closing_name(reader: &mut Reader<'_>, prefix: &str, local: &str) -> Option<()
     take_name(reader, local)
 }
 
-// The name stands here, and is taken.
+// The name is here, and is taken.
 fn take_name(reader: &mut Reader<'_>, name: &str) -> Option<()>
     ensures { Passes result reader.new (after (seen name.now) reader.old) }
 {
-    if reader.eat_name(name) { Some(()) } else { None }
+    if reader.eat_name(name) {
+        Some(())
+    } else {
+        None
+    }
 }
 
 // One piece of content, whose mark was read: whether it was the end.
@@ -185,7 +189,7 @@ fn content<'a>(
     }
 }
 
-// What stands in an element behind its tag, and its end tag.
+// What is in an element after its tag, and its end tag.
 #[cycle(element)]
 #[tactic(auto, unfolding(crate::specs::Reading::filled_at))]
 fn filled<'a>(
@@ -212,7 +216,7 @@ fn filled<'a>(
     Ok(())
 }
 
-/// An element behind its tag, in its own scope: its member's name, and its value.
+/// An element after its tag, in its own scope: its member's name, and its value.
 #[cycle(element)]
 #[tactic(auto, unfolding(crate::specs::Reading::element_at))]
 pub(crate) fn element<'a>(
@@ -244,7 +248,7 @@ fn is_ours(scope: &[Declaration<'_>], root: &str, tag: &Tag<'_>) -> bool
     is_same(namespace(scope, tag.prefix), Some(root))
 }
 
-// An element behind its `<`, where elements may go so many levels deeper.
+// An element after its `<`, where elements may go so many levels deeper.
 #[cycle(element)]
 fn child<'a>(
     reader: &mut Reader<'a>,

@@ -18,7 +18,7 @@ use crate::tags::{equals, quote, tag};
 use serde_json::{Map, Value};
 use std::alloc::{AllocError, Global};
 
-// How many elements may stand in each other below the root.
+// How many elements may nest below the root.
 const LEVELS_BELOW: u32 = 62;
 
 // What every namespace of FpML 5 begins with.
@@ -64,10 +64,14 @@ pub(crate) fn document(reader: &mut Reader<'_>, alloc: Global) -> Result<Value, 
 fn declaration(reader: &mut Reader<'_>) -> Option<()>
     ensures { Passes result reader.new (declaration_at reader.old) }
 {
-    if opens(reader) { declared(reader) } else { Some(()) }
+    if opens(reader) {
+        declared(reader)
+    } else {
+        Some(())
+    }
 }
 
-// `<?xml` and white space behind it stand here, and are taken.
+// `<?xml` and white space after it are here, and are taken.
 fn opens(reader: &mut Reader<'_>) -> bool
     ensures { Takes result reader.old reader.new (opening_at reader.old) }
 {
@@ -82,7 +86,7 @@ fn opens(reader: &mut Reader<'_>) -> bool
     true
 }
 
-// What an XML declaration holds behind its `<?xml`.
+// What an XML declaration holds after its `<?xml`.
 #[tactic(auto, unfolding(crate::specs::Reading::declared_at))]
 fn declared(reader: &mut Reader<'_>) -> Option<()>
     ensures { Passes result reader.new (declared_at reader.old) }
@@ -97,15 +101,19 @@ fn declared(reader: &mut Reader<'_>) -> Option<()>
     if reader.eat(b"?>") { Some(()) } else { None }
 }
 
-// A name and its word, if the name stands here behind white space.
+// A name and its word, if the name is here after white space.
 #[tactic(auto, unfolding(crate::specs::Reading::pair_at))]
 fn pair(reader: &mut Reader<'_>, name: &[u8], word: Word) -> Option<()>
     ensures { Passes result reader.new (pair_at name.now (word_at word) reader.old) }
 {
-    if names(reader, name) { quoted(reader, word) } else { Some(()) }
+    if names(reader, name) {
+        quoted(reader, word)
+    } else {
+        Some(())
+    }
 }
 
-// White space and the name stand here, and are taken.
+// White space and the name are here, and are taken.
 fn names(reader: &mut Reader<'_>, name: &[u8]) -> bool
     ensures { Takes result reader.old reader.new (name_behind name.now reader.old) }
 {
@@ -128,7 +136,11 @@ fn quoted(reader: &mut Reader<'_>, word: Word) -> Option<()>
     equals(reader)?;
     let mark = quote(reader)?;
     take_word(reader, word)?;
-    if reader.eat_char(mark) { Some(()) } else { None }
+    if reader.eat_char(mark) {
+        Some(())
+    } else {
+        None
+    }
 }
 
 // The word.
@@ -166,7 +178,7 @@ fn misc(reader: &mut Reader<'_>) -> Option<()>
     }
 }
 
-// The root element behind its `<`: the document's value.
+// The root element after its `<`: the document's value.
 #[tactic(auto, unfolding(crate::specs::Reading::root_at))]
 fn root(reader: &mut Reader<'_>, alloc: Global) -> Result<Value, Failure>
     ensures { Gives view result reader.new (root_at reader.old) }
@@ -180,7 +192,7 @@ fn root(reader: &mut Reader<'_>, alloc: Global) -> Result<Value, Failure>
     rooted(reader, alloc, &mut scope, &tag)
 }
 
-// The root element behind its tag, in its own scope.
+// The root element after its tag, in its own scope.
 #[tactic(auto, unfolding(crate::specs::Reading::root_by))]
 fn rooted<'a>(
     reader: &mut Reader<'a>,
@@ -198,7 +210,15 @@ fn rooted<'a>(
         return Err(Failure::NotXml);
     }
     let space = String::from_str(alloc, space)?;
-    let (_, value) = element(reader, alloc, scope, space.as_str(), LEVELS_BELOW, true, tag)?;
+    let (_, value) = element(
+        reader,
+        alloc,
+        scope,
+        space.as_str(),
+        LEVELS_BELOW,
+        true,
+        tag,
+    )?;
     Ok(one_member(alloc, tag.local, value)?)
 }
 

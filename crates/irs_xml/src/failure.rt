@@ -7,7 +7,7 @@ use std::alloc::{AllocError, AllocFailed};
 /// Why reading ended.
 #[derive(Clone, Copy, Debug, PartialEq, Eq)]
 pub(crate) enum Failure {
-    /// What stands there is no XML as this crate reads it.
+    /// What is there is no XML as this crate reads it.
     NotXml,
     /// There was no memory for the value.
     Memory,

@@ -17,7 +17,7 @@ use std::alloc::{AllocError, Global};
 /// What was read of an element so far.
 #[derive(Drop)]
 pub(crate) struct Inside {
-    /// The text that stands directly in it.
+    /// The text directly in it.
     pub(crate) text: String,
     /// The members of its attributes and children.
     pub(crate) members: Map<String, Value>,
@@ -35,7 +35,7 @@ pub(crate) fn begun(alloc: Global, settings: &[Setting<'_>]) -> Result<Inside, A
     })
 }
 
-/// Puts a character behind the text.
+/// Puts a character after the text.
 pub(crate) fn push(inside: &mut Inside, c: char) -> Result<(), AllocError>
     ensures { OnOk result (inside_view inside.new ≡ with_character (inside_view inside.old) c) }
 {
@@ -43,7 +43,7 @@ pub(crate) fn push(inside: &mut Inside, c: char) -> Result<(), AllocError>
     Ok(())
 }
 
-/// Puts a child behind those that were read.
+/// Puts a child after those that were read.
 pub(crate) fn put(
     inside: &mut Inside,
     alloc: Global,
@@ -125,7 +125,7 @@ fn is_space_byte(byte: u8) -> bool
     matches!(byte, b' ' | b'\t' | b'\n' | b'\r')
 }
 
-/// The name of an element's member: its local part, behind a colon where the element is foreign.
+/// The name of an element's member: its local part, after a colon where the element is foreign.
 pub(crate) fn key(alloc: Global, ours: bool, local: &str) -> Result<String, AllocError>
     ensures { IfOk result (λ name. string_bytes name ≡ key_of ours local.now) }
 {

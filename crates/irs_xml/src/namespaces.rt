@@ -10,6 +10,7 @@ use crate::settings::{Declaration, Setting, Tag};
 use std::alloc::{AllocError, Global};
 
 const XML_NAMESPACE: &str = "http://www.w3.org/XML/1998/namespace";
+
 const XMLNS_NAMESPACE: &str = "http://www.w3.org/2000/xmlns/";
 
 /// What is in scope round the root: no default, and the two prefixes that are bound by definition.
@@ -24,7 +25,7 @@ pub(crate) fn first_declarations<'a>(alloc: Global) -> Result<Vec<Declaration<'a
     Ok(scope)
 }
 
-// Puts a declaration behind those in scope.
+// Puts a declaration after those in scope.
 fn declare<'a>(
     scope: &mut Vec<Declaration<'a>>,
     alloc: Global,
@@ -40,7 +41,7 @@ fn declare<'a>(
     Ok(())
 }
 
-/// Puts the declarations of a tag behind those in scope.
+/// Puts the declarations of a tag after those in scope.
 pub(crate) fn declare_all<'a>(
     scope: &mut Vec<Declaration<'a>>,
     alloc: Global,
@@ -51,7 +52,12 @@ pub(crate) fn declare_all<'a>(
 {
     for setting in settings {
         if is_declaration(setting) {
-            declare(scope, alloc, declared_prefix(setting), setting.value.as_str())?;
+            declare(
+                scope,
+                alloc,
+                declared_prefix(setting),
+                setting.value.as_str(),
+            )?;
         }
     }
     Ok(())
@@ -62,7 +68,11 @@ pub(crate) fn declare_all<'a>(
 fn declared_prefix<'a>(setting: &Setting<'a>) -> &'a str
     ensures { result.now ≡ declared_prefix_of (setting_view setting.now) }
 {
-    if setting.prefix == "xmlns" { setting.local } else { "" }
+    if setting.prefix == "xmlns" {
+        setting.local
+    } else {
+        ""
+    }
 }
 
 /// The attribute declares a namespace.
@@ -195,7 +205,7 @@ fn have_namespaces(scope: &[Declaration<'_>], settings: &[Setting<'_>]) -> bool
     true
 }
 
-/// The tag may stand in this scope, its own declarations included.
+/// The tag follows the rules in this scope, its own declarations included.
 pub(crate) fn is_opened(scope: &[Declaration<'_>], tag: &Tag<'_>) -> bool
     ensures { result ≡ is_opened_in (scope_view scope.now) (opening_view tag.now) }
 {

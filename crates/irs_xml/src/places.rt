@@ -2,14 +2,14 @@
 ghost use Rattle.irs_xml.specs.Places.{LiesIn, place_after};
 ghost use Rattle.std.specs.Prelude.{◌≡◌, ◌^◌, ◌-◌, ◌<◌, length};
 
-/// The line and the column of what stands behind so many bytes of the text, or of its end.
+/// The line and the column of what comes after so many bytes of the text, or of its end.
 pub(crate) fn place(bytes: &[u8], at: usize) -> (u32, u32)
     ensures { length bytes.now < 2 ^ 32 - 1 → LiesIn bytes.now result.0 result.1 }
 {
     place_behind(&bytes[..at.min(bytes.len())])
 }
 
-// The line and the column behind bytes.
+// The line and the column after bytes.
 fn place_behind(bytes: &[u8]) -> (u32, u32)
     ensures { length bytes.now < 2 ^ 32 - 1 → place_after 1 1 bytes.now ≡ result }
 {

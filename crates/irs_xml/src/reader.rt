@@ -51,7 +51,7 @@ impl<'a> Reader<'a> {
         }
     }
 
-    /// White space stands here, and is passed over.
+    /// White space is here, and is passed over.
     pub(crate) fn gap(&mut self) -> bool
         ensures { Takes result self.old self.new (gap_at self.old) }
     {
@@ -67,7 +67,7 @@ impl<'a> Reader<'a> {
         }
     }
 
-    /// The word stands here, and is taken. Its bytes are ASCII characters.
+    /// The word is here, and is taken. Its bytes are ASCII characters.
     pub(crate) fn eat(&mut self, word: &[u8]) -> bool
         ensures { Takes result self.old self.new (after word.now self.old) }
     {
@@ -81,7 +81,7 @@ impl<'a> Reader<'a> {
         true
     }
 
-    /// The character stands here, and is taken.
+    /// The character is here, and is taken.
     pub(crate) fn eat_char(&mut self, c: char) -> bool
         ensures { Takes result self.old self.new (after (c ∷ []) self.old) }
     {
@@ -115,7 +115,7 @@ impl<'a> Reader<'a> {
         self.rest.len()
     }
 
-    /// The word, of small ASCII letters and signs, stands here in any case, and is taken.
+    /// The word, of small ASCII letters and signs, is here in any case, and is taken.
     pub(crate) fn eat_any_case(&mut self, word: &[u8]) -> bool
         ensures { Takes result self.old self.new (after_any_case word.now self.old) }
     {
@@ -129,7 +129,7 @@ impl<'a> Reader<'a> {
         true
     }
 
-    /// The name stands here, and is taken.
+    /// The name is here, and is taken.
     pub(crate) fn eat_name(&mut self, name: &str) -> bool
         ensures { Takes result self.old self.new (after (seen name.now) self.old) }
     {
@@ -154,7 +154,7 @@ impl<'a> Reader<'a> {
     }
 }
 
-// A name at the front, and what is behind it.
+// A name at the front, and what is after it.
 fn split_name(text: &str) -> Option<(&str, &str)>
     ensures { NameOf text.now result }
 {
@@ -166,7 +166,7 @@ fn split_name(text: &str) -> Option<(&str, &str)>
     Some(text.split_at(text.len() - left.len()))
 }
 
-// What is behind the characters of a name.
+// What is after the characters of a name.
 fn name_rest(text: &str) -> &str
     ensures splits { SplitsName text.now result.now }
     ensures ends { EndsName result.now }
@@ -181,7 +181,7 @@ fn name_rest(text: &str) -> &str
     }
 }
 
-// The first character and what is behind it, CR LF and CR being one LF.
+// The first character and what is after it, CR LF and CR being one LF.
 fn first_of(text: &str) -> Option<(char, &str)>
     ensures { FirstOf text.now result }
 {

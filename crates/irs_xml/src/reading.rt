@@ -57,16 +57,14 @@ pub fn read_xml(alloc: Global, bytes: &[u8]) -> Result<Value, XmlErr>
 /// At most one value is read from the same bytes.
 pub fn one_value()
     ensures { (bytes : List ℕ) (d e : Data) → XmlReads bytes d → XmlReads bytes e → d ≡ e }
-{
-}
+{}
 
 /// The strings of a value have no more bytes together than its document: nothing expands.
 pub fn no_larger()
     ensures { (bytes : List ℕ) (d : Data) → XmlReads bytes d → text_size d ≤ length bytes }
-{
-}
+{}
 
-// The document behind one byte order mark, where one stands in front.
+// The document after one byte order mark, where one is in front.
 fn unmarked(reader: &mut Reader<'_>, alloc: Global) -> Result<Value, Failure>
     ensures { GivesValue view result (document_at (without_mark reader.old)) }
 {

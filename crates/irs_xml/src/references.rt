@@ -1,4 +1,4 @@
-//! References, behind their `&`: XML 1.0 (fifth edition), 4.1 and 4.6.
+//! References, after their `&`: XML 1.0 (fifth edition), 4.1 and 4.6.
 ghost use Rattle.irs_xml.specs.Reading.{Reads, character_at, digits_at, number_at, reference_at};
 ghost use Rattle.std.specs.Prelude.{◌<◌, ◌≤◌, IfSome};
 
@@ -33,7 +33,7 @@ pub(crate) fn reference(reader: &mut Reader<'_>) -> Option<char>
     }
 }
 
-// The character whose number stands in these digits, up to a semicolon.
+// The character whose number these digits write, up to a semicolon.
 #[tactic(auto, unfolding(crate::specs::Reading::character_at))]
 fn character(reader: &mut Reader<'_>, base: u32) -> Option<char>
     requires low { 2 ≤ base }

@@ -1,4 +1,4 @@
-//! Tags, behind their `<`: XML 1.0 (fifth edition), 3.1 and 3.3.3.
+//! Tags, after their `<`: XML 1.0 (fifth edition), 3.1 and 3.3.3.
 ghost use Rattle.irs_xml.specs.Reading.{Gives, Passes, Reads, Tries, equals_at, qname_at, quote_at, setting_at, settings_at, tag_at, tag_end_at, value_at, value_character_at};
 ghost use Rattle.irs_xml.specs.Characters.{is_space as is_space_of};
 ghost use Rattle.irs_xml.specs.Content.{most_attributes};
@@ -46,10 +46,7 @@ fn qname<'a>(reader: &mut Reader<'a>) -> Option<(&'a str, &'a str)>
 }
 
 // The attributes of a tag and its end, and whether it is the tag of an empty element.
-fn settings<'a>(
-    reader: &mut Reader<'a>,
-    alloc: Global,
-) -> Result<(Vec<Setting<'a>>, bool), Failure>
+fn settings<'a>(reader: &mut Reader<'a>, alloc: Global) -> Result<(Vec<Setting<'a>>, bool), Failure>
     ensures { Gives (λ x. (map setting_view x.0.items, x.1)) result reader.new (settings_at most_attributes [] reader.old) }
 {
     let mut settings = Vec::new(alloc);

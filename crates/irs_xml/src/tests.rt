@@ -30,12 +30,31 @@ fn is_refused(alloc: Global, bytes: &[u8]) -> bool {
 
 #[test]
 fn elements_are_members(rt: HostRuntime) {
-    let text = b"<swap id=\"s\"><a> 1 </a><b u=\"&#9;\"/><a/><q:c xmlns:q=\"urn:q\">t<d/></q:c></swap>";
+    let text =
+        b"<swap id=\"s\"><a> 1 </a><b u=\"&#9;\"/><a/><q:c xmlns:q=\"urn:q\">t<d/></q:c></swap>";
     let json = "{\"swap\":{\":c\":\"\",\"@id\":\"s\",\"a\":[\" 1 \",\"\"],\"b\":{\"@u\":\"\\t\"}}}";
     assert!(rt; means(rt.alloc(), text, json));
-    assert!(rt; means(rt.alloc(), b"<a>]] &gt; ]]&gt;</a>", "{\"dataDocument\":\"]] > ]]>\"}"));
-    assert!(rt; means(rt.alloc(), b"<trade><a/><a/><a>3</a></trade>", "{\"trade\":{\"a\":[\"\",\"\",\"3\"]}}"));
-    assert!(rt; means(rt.alloc(), b"<swap><a s=\"u\">EUR</a></swap>", "{\"swap\":{\"a\":{\"#text\":\"EUR\",\"@s\":\"u\"}}}"));
+    assert!(rt;
+        means(
+            rt.alloc(),
+            b"<a>]] &gt; ]]&gt;</a>",
+            "{\"dataDocument\":\"]] > ]]>\"}"
+        )
+    );
+    assert!(rt;
+        means(
+            rt.alloc(),
+            b"<trade><a/><a/><a>3</a></trade>",
+            "{\"trade\":{\"a\":[\"\",\"\",\"3\"]}}"
+        )
+    );
+    assert!(rt;
+        means(
+            rt.alloc(),
+            b"<swap><a s=\"u\">EUR</a></swap>",
+            "{\"swap\":{\"a\":{\"#text\":\"EUR\",\"@s\":\"u\"}}}"
+        )
+    );
 }
 
 #[test]
@@ -44,9 +63,27 @@ fn one_document_in_several_spellings(rt: HostRuntime) {
     assert!(rt; means(rt.alloc(), b"<swap><a>x\ny</a></swap>", json));
     assert!(rt; means(rt.alloc(), b"\xEF\xBB\xBF<swap><a>x\ny</a></swap>", json));
     assert!(rt; means(rt.alloc(), b"<swap>\r\n <a>x\r\ny</a>\r</swap>\r\n", json));
-    assert!(rt; means(rt.alloc(), b"<?xml version='1.0' encoding='Utf-8'?>\n<!-- c --><swap><a>x<?p q?>&#xA;<![CDATA[y]]></a></swap>", json));
-    assert!(rt; means(rt.alloc(), b"<f:swap xmlns:f='http://www.fpml.org/FpML-5/confirmation'><f:a>x\ny</f:a></f:swap>", json));
-    assert!(rt; means(rt.alloc(), b"<swap xmlns='http://www.fpml.org/FpML-5/pretrade'><a>x\ny</a></swap>", json));
+    assert!(rt;
+        means(
+            rt.alloc(),
+            b"<?xml version='1.0' encoding='Utf-8'?>\n<!-- c --><swap><a>x<?p q?>&#xA;<![CDATA[y]]></a></swap>",
+            json
+        )
+    );
+    assert!(rt;
+        means(
+            rt.alloc(),
+            b"<f:swap xmlns:f='http://www.fpml.org/FpML-5/confirmation'><f:a>x\ny</f:a></f:swap>",
+            json
+        )
+    );
+    assert!(rt;
+        means(
+            rt.alloc(),
+            b"<swap xmlns='http://www.fpml.org/FpML-5/pretrade'><a>x\ny</a></swap>",
+            json
+        )
+    );
 }
 
 #[test]
@@ -56,8 +93,18 @@ fn what_is_no_document(rt: HostRuntime) {
     assert!(rt; is_refused(rt.alloc(), b"<swap>t<a/></swap>"));
     assert!(rt; is_refused(rt.alloc(), b"<swap><a></swap></a>"));
     assert!(rt; is_refused(rt.alloc(), b"<swap id='a' id='b'/>"));
-    assert!(rt; is_refused(rt.alloc(), b"<swap xmlns:p='u' xmlns:q='u' p:id='a' q:id='b'/>"));
-    assert!(rt; is_refused(rt.alloc(), b"<?xml version='1.0' encoding='ISO-8859-1'?><swap/>"));
+    assert!(rt;
+        is_refused(
+            rt.alloc(),
+            b"<swap xmlns:p='u' xmlns:q='u' p:id='a' q:id='b'/>"
+        )
+    );
+    assert!(rt;
+        is_refused(
+            rt.alloc(),
+            b"<?xml version='1.0' encoding='ISO-8859-1'?><swap/>"
+        )
+    );
     assert!(rt; is_refused(rt.alloc(), b"<swap xmlns='urn:x'/>"));
     assert!(rt; is_refused(rt.alloc(), b"<p:swap/>"));
     assert!(rt; is_refused(rt.alloc(), b"<swap>]]></swap>"));
@@ -71,8 +118,14 @@ fn what_is_no_document(rt: HostRuntime) {
 #[test]
 fn where_reading_stopped(rt: HostRuntime) {
     assert_eq!(rt; stop(rt.alloc(), b"<swap"), Some(XmlErr::NotXml(1, 6)));
-    assert_eq!(rt; stop(rt.alloc(), b"<swap>\n  \x01</swap>"), Some(XmlErr::NotXml(2, 3)));
-    assert_eq!(rt; stop(rt.alloc(), b"<swap>\n\xFF</swap>"), Some(XmlErr::NotXml(2, 1)));
+    assert_eq!(rt;
+        stop(rt.alloc(), b"<swap>\n  \x01</swap>"),
+        Some(XmlErr::NotXml(2, 3))
+    );
+    assert_eq!(rt;
+        stop(rt.alloc(), b"<swap>\n\xFF</swap>"),
+        Some(XmlErr::NotXml(2, 1))
+    );
 }
 
 // A document of so many elements, each in the last.
@@ -89,6 +142,8 @@ fn nested(alloc: Global, levels: usize) -> Result<String, std::alloc::AllocError
 
 #[test]
 fn how_deep_elements_nest(rt: HostRuntime) {
-    assert!(rt; nested(rt.alloc(), 63).is_ok_and(|text| read_xml(rt.alloc(), text.as_bytes()).is_ok()));
+    assert!(rt;
+        nested(rt.alloc(), 63).is_ok_and(|text| read_xml(rt.alloc(), text.as_bytes()).is_ok())
+    );
     assert!(rt; nested(rt.alloc(), 64).is_ok_and(|text| is_refused(rt.alloc(), text.as_bytes())));
 }

@@ -72,9 +72,9 @@ pub content-returns-in_err-piece-clause-gives : goal.content-returns-in_err-piec
 content-returns-in_err-piece-clause-gives t c =
     let p = err_from_is_err_and c.from_residual.result c.from_residual.ensures.1 in
     rw (p.1, p.2) (fails_then c.in_err-piece.field-0.0 _ _ c.in_err-piece.ensures.gives (λ none.
-      content_broken (mark_view c.in-Some.next) c.next_mark.new.reader c.pieces.invariant.goes c.in-Some.ensures
-      (ap (λ s. piece_at (child_at c.args.root.now c.args.levels c.args.kept s) (inside_view c.pieces.inside) (mark_view c.in-Some.next) c.next_mark.new.reader)
-      (sym c.pieces.invariant.scope) ∙ none)))
+    content_broken (mark_view c.in-Some.next) c.next_mark.new.reader c.pieces.invariant.goes c.in-Some.ensures
+    (ap (λ s. piece_at (child_at c.args.root.now c.args.levels c.args.kept s) (inside_view c.pieces.inside) (mark_view c.in-Some.next) c.next_mark.new.reader)
+    (sym c.pieces.invariant.scope) ∙ none)))
 
 pub content-returns-then-branch-clause-gives : goal.content-returns-then-branch-clause-gives
 content-returns-then-branch-clause-gives t c =

@@ -4,7 +4,7 @@ use Rattle.irs_xml.specs.Namespaces.{latest, namespace_of}
 use Rattle.irs_xml.specs.TagViews.{scope_view}
 use Rattle.irs_xml.proofs.namespaces.namespace.Given as goal
 
--- what is left, behind what was found, gives what all gives
+-- what is left, after what was found, gives what all gives
 abbrev pub invariant-loop-declaration : goal.invariant-loop-declaration
 invariant-loop-declaration l =
     latest (option_map (λ (n : Bor (List ℕ)). n.now) l.found) (scope_view (drop l.declaration-index l.scope)) l.prefix

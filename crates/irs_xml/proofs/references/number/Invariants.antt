@@ -2,7 +2,7 @@ use Rattle.std.proofs.Common.{◌≡◌, ◌≤◌, length}
 use Rattle.irs_xml.specs.Reading.{digits_at, number_at}
 use Rattle.irs_xml.proofs.references.number.Given as goal
 
--- the digits that are left, behind this number, give what all of them give
+-- the digits that are left, after this number, give what all of them give
 abbrev pub invariant-loop-c : goal.invariant-loop-c
 invariant-loop-c l = record {
   same : digits_at l.base l.number l.reader ≡ number_at l.base l.fn.reader;

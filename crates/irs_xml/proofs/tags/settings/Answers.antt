@@ -34,10 +34,10 @@ returns-in_err-setting c =
     let p = err_from_is_err_and c.from_residual.result c.from_residual.ensures.1 in
     let gap = took _ _ _ _ c.gap-has_gap.ensures c.if-not-has_gap.false in
     rw (p.1, p.2) (fails_then c.in_err-setting.field-0.0 _ _ c.in_err-setting.ensures (λ none.
-      sym c.attributes.invariant
-      ∙ settings_wrong c.attributes.left ss c.attributes.reader c.gap-has_gap.new.self
-      (behind_gap _ _ _ c.gap-has_gap.ensures) c.in_default.ensures.0 gap
-      (ap setting_at (sym c.in_default.ensures.1) ∙ none)))
+    sym c.attributes.invariant
+    ∙ settings_wrong c.attributes.left ss c.attributes.reader c.gap-has_gap.new.self
+    (behind_gap _ _ _ c.gap-has_gap.ensures) c.in_default.ensures.0 gap
+    (ap setting_at (sym c.in_default.ensures.1) ∙ none)))
 
 pub attributes-preserved : goal.attributes-preserved
 attributes-preserved c =

@@ -3,6 +3,6 @@ use Rattle.irs_xml.specs.Comments.{after}
 use Rattle.irs_xml.specs.Seen.{seen}
 use Rattle.irs_xml.proofs.reader.Reader.eat.Given as goal
 
--- what is left of the word stands ahead just where the whole word stands at the front
+-- what is left of the word is ahead just where the whole word is at the front
 abbrev pub invariant-loop-byte : goal.invariant-loop-byte
 invariant-loop-byte l = after (drop l.byte-index l.word) l.ahead ≡ after l.word (seen l.self-inside.rest.now)

@@ -3,7 +3,7 @@ use Rattle.irs_xml.specs.Comments.{after}
 use Rattle.irs_xml.specs.Seen.{seen}
 use Rattle.irs_xml.proofs.reader.Reader.eat_name.Given as goal
 
--- what is left of the name stands ahead just where the whole name stands at the front
+-- what is left of the name is ahead just where the whole name is at the front
 abbrev pub invariant-loop-c : goal.invariant-loop-c
 invariant-loop-c l = after l.word l.ahead ≡ after (seen l.name) (seen l.self-inside.rest.now)
 
