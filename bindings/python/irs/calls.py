@@ -13,6 +13,7 @@ from typing import Any, Dict, Iterable, Iterator, List, Mapping, Optional, Union
 
 from .errors import error_of
 from .library import Answer, Text, meaning, run
+from .looks import Looks
 from .rows import (Accrued, Derived, Exchange, Missing, Net, Payment, Period, Reset, Row, Stream, Verdict,
                    accrued_of, derived_of, inner_lines, row_of, verdict_of)
 
@@ -20,11 +21,13 @@ Document = Union[Text, Mapping[str, Any]]
 Day = Union[datetime.date, str]
 
 
-class Schedule:
-    """A schedule: its rows in order. `text` has the bytes that the program prints."""
+class Schedule(Looks):
+    """A schedule: its rows in order. `text` has the bytes that the program prints, and `document` the document
+    that it was made of, or `None`: it gives the names of the parties to those who look at the schedule."""
 
-    def __init__(self, text: bytes) -> None:
+    def __init__(self, text: bytes, document: Optional[Document] = None) -> None:
         self.text = text
+        self.document = document
         self.rows: List[Row] = [row_of(line) for line in inner_lines(text)]  # type: ignore[misc]
 
     def __iter__(self) -> Iterator[Row]:
@@ -109,7 +112,7 @@ def check(document: Document, calendars: Iterable[Text] = ()) -> None:
 
 def schedule(document: Document, fixings: Optional[Text] = None, calendars: Iterable[Text] = ()) -> Schedule:
     """The schedule of a document: every period, payment, exchange and reset."""
-    return Schedule(_with_rates("schedule", [], document, fixings, calendars))
+    return Schedule(_with_rates("schedule", [], document, fixings, calendars), document)
 
 
 def audit(document: Document, flows: Document, fixings: Optional[Text] = None,

@@ -1,0 +1,106 @@
+"""The files that a look is made of: a document, fixings, another party's cash flows and calendars.
+
+A file is read only as far as the engine's limit and one byte more, so the engine itself answers that it is too
+long. Calendars may be a folder: then the files are taken whose centres the document names.
+"""
+from __future__ import annotations
+
+import sys
+from pathlib import Path
+from typing import Any, Dict, List, NamedTuple, Optional, Sequence, Set
+
+from .documents import NotRead, children, json_of, text_of, value_of
+from .clean import shown
+from .library import Text
+
+#: The most bytes of a file (docs/FORMATS.md, 'Limits').
+MOST_BYTES = 4_194_304
+
+#: The most calendar files of a command.
+MOST_CALENDARS = 16
+
+
+class CantRead(Exception):
+    """A file can't be read. The text of the error is one plain sentence."""
+
+
+class Named(NamedTuple):
+    """A file: the name that it is shown by, and its bytes."""
+
+    name: str
+    content: bytes
+
+
+class Inputs(NamedTuple):
+    """What a look is made of. `fixings` and `flows` are `None` where there are none."""
+
+    document: Named
+    fixings: Optional[Named] = None
+    flows: Optional[Named] = None
+    calendars: Sequence[Named] = ()
+
+    def files(self) -> List[Named]:
+        """All files, in the order of a command's words."""
+        return [file for file in (self.document, self.fixings, self.flows, *self.calendars) if file is not None]
+
+
+def read_named(path: Path) -> Named:
+    """A file by its path; `-` is standard input. Raises `CantRead`."""
+    if str(path) == "-":
+        return Named("standard input", sys.stdin.buffer.read(MOST_BYTES + 1))
+    try:
+        with path.open("rb") as file:
+            return Named(path.name, file.read(MOST_BYTES + 1))
+    except OSError as why:
+        raise CantRead(f"{shown(str(path))} can't be read: {why.strerror or why}") from why
+
+
+def read_document(path: Path) -> Named:
+    """A document by its path, as JSON. Raises `CantRead`, also for XML."""
+    file = read_named(path)
+    try:
+        return Named(file.name, json_of(file.content))
+    except NotRead as why:
+        raise CantRead(f"{shown(file.name)}: {why}") from why
+
+
+def centres_of(value: Any) -> Set[str]:
+    """The texts of every `businessCenter` in a document's value."""
+    found: Set[str] = set()
+    left = [value]
+    while left:
+        item = left.pop()
+        if isinstance(item, dict):
+            found.update(text for text in map(text_of, children(item, "businessCenter")) if text)
+            left.extend(item.values())
+        elif isinstance(item, list):
+            left.extend(item)
+    return found
+
+
+def centres_in(calendar: bytes) -> List[str]:
+    """The centres of the sections of a calendar file."""
+    lines = [line.split() for line in calendar.decode(errors="replace").splitlines()]
+    return [words[1] for words in lines if len(words) == 2 and words[0] == "center"]
+
+
+def chosen(document: Text, files: Sequence[Named]) -> List[Named]:
+    """The calendar files, of those given, that hold a centre which the document names; each centre's first."""
+    by_centre: Dict[str, int] = {}
+    for place, file in enumerate(files):
+        for centre in centres_in(file.content):
+            by_centre.setdefault(centre, place)
+    places = sorted({by_centre[centre] for centre in centres_of(value_of(document)) if centre in by_centre})
+    return [files[place] for place in places][:MOST_CALENDARS]
+
+
+def read_calendars(paths: Sequence[Path], document: Text) -> List[Named]:
+    """The calendar files of paths, of which a folder stands for those that the document needs. Raises
+    `CantRead`."""
+    calendars: List[Named] = []
+    for path in paths:
+        if path.is_dir():
+            calendars += chosen(document, [read_named(file) for file in sorted(path.glob("*.cal"))])
+        else:
+            calendars.append(read_named(path))
+    return calendars

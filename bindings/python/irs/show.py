@@ -1,0 +1,254 @@
+"""`irs-show TERMS`: the schedule of a swap as tables on the terminal, or as CSV, a workbook or JSON.
+
+TERMS is a document of terms as JSON; `-` reads it from standard input. There is a table a stream and then the
+cash flows of all streams in date order. Every number is the engine's; running totals are sums of its amounts.
+The engine's answers are proved, and this layout of them isn't.
+"""
+from __future__ import annotations
+
+import argparse
+import io
+import json
+import os
+import sys
+from datetime import date
+from pathlib import Path
+from typing import Iterator, List, Optional, Sequence
+
+from .calls import schedule
+from .clean import shown
+from .errors import Error
+from .inputs import CantRead, Inputs, read_calendars, read_document, read_named
+from .ladder import CashFlow, cash_flows, view_sentence, viewer
+from .parties import Parties, parties_of
+from .printed import StreamText, printed, within
+from .sheets import csv_text, workbook
+from .tables import (RIGHT, Column, Table, exchange_table, flow_table, laid_out_rows, ledger_table, period_table,
+                     without)
+
+#: Columns of the periods that the terminal leaves out, unless they are asked for.
+UNADJUSTED = ("unadjusted_start", "unadjusted_end", "unadjusted_payment_date", "unadjusted_date", "reset_date")
+
+#: Columns that only a floating stream fills.
+RESETS = ("reset_date", "fixing_date", "observed")
+
+_MOVED = "* This date isn't the unadjusted one: business days or an offset moved it."
+
+_TOTALS = "Running totals are sums of the engine's amounts, by currency; what waits for a fixing isn't in them."
+
+
+class Asked(argparse.Namespace):
+    """The words of the command line."""
+
+    terms: Path
+    fixings: Optional[Path]
+    calendar: List[Path]
+    party: Optional[str]
+    since: Optional[date]
+    until: Optional[date]
+    next: Optional[int]
+    unadjusted: bool
+    table: str
+    csv: Optional[str]
+    xlsx: Optional[str]
+    json: bool
+
+
+def _count(text: str) -> int:
+    if not text.isdigit() or int(text) < 1:
+        raise argparse.ArgumentTypeError(f"{shown(text)} isn't a whole number from 1")
+    return int(text)
+
+
+def _day(text: str) -> date:
+    try:
+        return date.fromisoformat(text)
+    except ValueError:
+        raise argparse.ArgumentTypeError(f"{shown(text)} isn't a day as 2024-04-15") from None
+
+
+def parser() -> argparse.ArgumentParser:
+    """The words that irs-show takes."""
+    made = argparse.ArgumentParser(prog="irs-show", description=__doc__,
+                                   formatter_class=argparse.RawDescriptionHelpFormatter)
+    made.add_argument("terms", type=Path, metavar="TERMS", help="the document; - is standard input")
+    made.add_argument("--fixings", type=Path, metavar="FILE", help="a file of fixings")
+    made.add_argument("--calendar", type=Path, metavar="PATH", action="append", default=[],
+                      help="a calendar file, or a folder of them; may be repeated")
+    made.add_argument("--party", metavar="NAME", help="the party that the flows are seen from (the payer of stream 1)")
+    made.add_argument("--from", dest="since", type=_day, metavar="DATE", help="what falls due from that day")
+    made.add_argument("--to", dest="until", type=_day, metavar="DATE", help="what falls due up to that day")
+    made.add_argument("--next", type=_count, nargs="?", const=1, metavar="N",
+                      help="the next N cash flows of each stream (1), from --from or today")
+    made.add_argument("--unadjusted", action="store_true", help="with the unadjusted dates in columns of their own")
+    made.add_argument("--csv", metavar="FILE", help="writes CSV; - is standard output")
+    made.add_argument("--table", choices=("flows", "periods", "exchanges"), default="flows",
+                      help="the table for --csv (flows)")
+    made.add_argument("--xlsx", metavar="FILE", help="writes a workbook")
+    made.add_argument("--json", action="store_true", help="prints all tables as JSON")
+    return made
+
+
+def _widths(heads: Sequence[str], rows: Sequence[Sequence[str]]) -> List[int]:
+    widths = [len(head) for head in heads]
+    for row in rows:
+        widths = [max(width, len(cell)) for width, cell in zip(widths, row)]
+    return widths
+
+
+def _aligned(columns: Sequence[Column], rows: Sequence[Sequence[str]]) -> Iterator[str]:
+    heads = [column.head for column in columns]
+    widths = _widths(heads, rows)
+    form = "  ".join(f"{{:{'>' if column.kind in RIGHT else '<'}{width}}}" for column, width in zip(columns, widths))
+    yield form.format(*heads).rstrip()
+    yield "  ".join("-" * width for width in widths)
+    for row in rows:
+        yield form.format(*row).rstrip()
+
+
+def _starred(table: Table) -> Table:
+    """The table with a star after each adjusted date that isn't the unadjusted one."""
+    pairs = (("start", "unadjusted_start"), ("end", "unadjusted_end"), ("payment_date", "unadjusted_payment_date"),
+             ("date", "unadjusted_date"))
+    names = [column.name for column in table.columns]
+    places = [(names.index(one), names.index(other)) for one, other in pairs if one in names]
+    rows = []
+    for row in table.rows:
+        marked = list(row)
+        for one, other in places:
+            marked[one] = f"{row[one]}*" if row[one] and row[one] != row[other] else row[one]
+        rows.append(marked)
+    return Table(table.title, table.columns, rows)
+
+
+def _stream_table(table: Table, floating: bool, unadjusted: bool) -> Iterator[str]:
+    left = ["stream", "currency", "payment", *([] if floating else RESETS), *([] if unadjusted else UNADJUSTED)]
+    kept = without(_starred(table), left)
+    yield from _aligned(kept.columns, laid_out_rows(kept))
+
+
+def _head(stream: StreamText, parties: Parties) -> str:
+    sides = parties.side(stream.stream)
+    who = "" if sides is None else f"{parties.name(sides.payer)} pays {parties.name(sides.receiver)}, "
+    return f"Stream {stream.stream}: {who}{stream.currency}, {'floating' if stream.floating else 'fixed'}, {stream.day_count}"
+
+
+def stream_lines(stream: StreamText, parties: Parties, unadjusted: bool) -> Iterator[str]:
+    """The lines of a stream: its head, its periods, its exchanges."""
+    yield _head(stream, parties)
+    yield ""
+    if stream.periods:
+        yield from _stream_table(period_table([stream]), stream.floating, unadjusted)
+        yield ""
+    if stream.exchanges:
+        yield "Principal exchanges; a positive amount is paid by the stream's payer"
+        yield ""
+        yield from _stream_table(exchange_table([stream]), True, unadjusted)
+        yield ""
+
+
+def flow_lines(flows: Sequence[CashFlow], sentence: str) -> Iterator[str]:
+    """The lines of the cash flows in date order."""
+    yield f"Cash flows. {sentence}"
+    yield ""
+    table = ledger_table(flows)
+    open_flows = any(table.column("open"))
+    kept = table if open_flows else without(table, ["open"])
+    yield from _aligned(kept.columns, laid_out_rows(kept))
+    yield ""
+    yield _TOTALS
+    if open_flows:
+        yield "Open: how many amounts of the total wait for a fixing."
+
+
+def lines(streams: List[StreamText], parties: Parties, party: Optional[str], unadjusted: bool = False) -> Iterator[str]:
+    """The lines of the whole look. Raises `ValueError` for an unknown party."""
+    flows = cash_flows(streams, parties, party)
+    above = [line for stream in streams for line in stream_lines(stream, parties, unadjusted)]
+    yield from above
+    if any("*" in line for line in above):
+        yield _MOVED
+        yield ""
+    yield from flow_lines(flows, view_sentence(parties, viewer(parties, party)))
+
+
+def _records(table: Table) -> List[dict]:
+    names = [column.name for column in table.columns]
+    return [dict(zip(names, row)) for row in table.rows]
+
+
+def json_text(streams: List[StreamText], parties: Parties, party: Optional[str]) -> str:
+    """All tables as JSON: cells are texts, `null` where a number waits for a fixing."""
+    flows = cash_flows(streams, parties, party)
+    return json.dumps({
+        "seen_from": view_sentence(parties, viewer(parties, party)),
+        "streams": [_head(stream, parties) for stream in streams],
+        "flows": _records(flow_table(flows)),
+        "periods": _records(period_table(streams)),
+        "exchanges": _records(exchange_table(streams)),
+    }, indent=1)
+
+
+def _written(target: str, content: bytes) -> None:
+    if target == "-":
+        sys.stdout.buffer.write(content)
+        return
+    try:
+        Path(target).write_bytes(content)
+    except OSError as why:
+        raise CantRead(f"{shown(target)} can't be written: {why.strerror or why}") from why
+
+
+def _tables(streams: List[StreamText], parties: Parties, party: Optional[str]) -> List[Table]:
+    return [flow_table(cash_flows(streams, parties, party)), period_table(streams), exchange_table(streams)]
+
+
+def _shown(asked: Asked, streams: List[StreamText], parties: Parties) -> None:
+    if asked.csv is not None:
+        flows, periods, exchanges = _tables(streams, parties, asked.party)
+        table = {"flows": flows, "periods": periods, "exchanges": exchanges}[asked.table]
+        _written(asked.csv, csv_text(table).encode())
+    if asked.xlsx is not None:
+        sentence = view_sentence(parties, viewer(parties, asked.party))
+        _written(asked.xlsx, workbook(_tables(streams, parties, asked.party), [sentence]))
+    if asked.json:
+        print(json_text(streams, parties, asked.party))
+    if asked.csv is None and asked.xlsx is None and not asked.json:
+        print("\n".join(lines(streams, parties, asked.party, asked.unadjusted)))
+
+
+def _inputs(asked: Asked) -> Inputs:
+    document = read_document(asked.terms)
+    fixings = None if asked.fixings is None else read_named(asked.fixings)
+    return Inputs(document, fixings, None, read_calendars(asked.calendar, document.content))
+
+
+def _look(asked: Asked) -> None:
+    inputs = _inputs(asked)
+    made = schedule(inputs.document.content, None if inputs.fixings is None else inputs.fixings.content,
+                    [file.content for file in inputs.calendars])
+    since = asked.since or (date.today() if asked.next is not None else None)
+    _shown(asked, within(printed(made.text), since, asked.until, asked.next), parties_of(inputs.document.content))
+
+
+def main(arguments: Optional[List[str]] = None) -> int:
+    """Shows a schedule; 0 where it is shown, and 2, with a sentence, where there is none."""
+    asked = parser().parse_args(arguments, Asked())
+    if isinstance(sys.stdout, io.TextIOWrapper):
+        sys.stdout.reconfigure(errors="backslashreplace")
+    try:
+        _look(asked)
+        sys.stdout.flush()
+    except Error as refused:
+        print(f"irs-show: {refused.line}: {refused.sentence}", file=sys.stderr)
+        return 2
+    except (CantRead, ImportError, ValueError) as why:
+        print(f"irs-show: {why}", file=sys.stderr)
+        return 2
+    except BrokenPipeError:  # the reader has seen enough
+        os.dup2(os.open(os.devnull, os.O_WRONLY), sys.stdout.fileno())
+    return 0
+
+
+if __name__ == "__main__":
+    sys.exit(main())
