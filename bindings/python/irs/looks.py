@@ -26,7 +26,8 @@ class Looks:
     text: bytes
     document: Optional[Document]
 
-    def _printed(self) -> List[StreamText]:
+    def texts(self) -> List[StreamText]:
+        """The rows as the texts that the engine prints, stream by stream."""
         return printed(self.text)
 
     def _parties(self) -> Parties:
@@ -40,11 +41,11 @@ class Looks:
         flows are seen from the payer of stream 1. `since` and `until` are the first and the last day, and
         `next_of_each` keeps that many flows of each stream. Raises `ValueError` for an unknown party.
         """
-        return cash_flows(within(self._printed(), since, until, next_of_each), self._parties(), party)
+        return cash_flows(within(self.texts(), since, until, next_of_each), self._parties(), party)
 
     def tables(self, party: Optional[str] = None) -> List[Table]:
         """The tables of the schedule: its cash flows, its periods with resets and payments, its exchanges."""
-        streams = self._printed()
+        streams = self.texts()
         flows = cash_flows(streams, self._parties(), party)
         return [flow_table(flows), period_table(streams), exchange_table(streams)]
 

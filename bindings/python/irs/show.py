@@ -15,19 +15,18 @@ from datetime import date
 from pathlib import Path
 from typing import Iterator, List, Optional, Sequence
 
-from .calls import schedule
 from .clean import shown
-from .errors import Error
+from .engine import ask
 from .inputs import CantRead, Inputs, read_calendars, read_document, read_named
 from .ladder import CashFlow, cash_flows, view_sentence, viewer
 from .parties import Parties, parties_of
 from .printed import StreamText, printed, within
 from .sheets import csv_text, workbook
-from .tables import (RIGHT, Column, Table, exchange_table, flow_table, laid_out_rows, ledger_table, period_table,
-                     without)
+from .tables import (ADJUSTED_FROM, RIGHT, Column, Table, exchange_table, flow_table, laid_out_rows, ledger_table,
+                     moved_from, period_table, without)
 
 #: Columns of the periods that the terminal leaves out, unless they are asked for.
-UNADJUSTED = ("unadjusted_start", "unadjusted_end", "unadjusted_payment_date", "unadjusted_date", "reset_date")
+UNADJUSTED = tuple(ADJUSTED_FROM.values())
 
 #: Columns that only a floating stream fills.
 RESETS = ("reset_date", "fixing_date", "observed")
@@ -90,10 +89,8 @@ def parser() -> argparse.ArgumentParser:
 
 
 def _widths(heads: Sequence[str], rows: Sequence[Sequence[str]]) -> List[int]:
-    widths = [len(head) for head in heads]
-    for row in rows:
-        widths = [max(width, len(cell)) for width, cell in zip(widths, row)]
-    return widths
+    columns = zip(*rows) if rows else [()] * len(heads)
+    return [max(map(len, (head, *cells))) for head, cells in zip(heads, columns)]
 
 
 def _aligned(columns: Sequence[Column], rows: Sequence[Sequence[str]]) -> Iterator[str]:
@@ -107,17 +104,9 @@ def _aligned(columns: Sequence[Column], rows: Sequence[Sequence[str]]) -> Iterat
 
 
 def _starred(table: Table) -> Table:
-    """The table with a star after each adjusted date that isn't the unadjusted one."""
-    pairs = (("start", "unadjusted_start"), ("end", "unadjusted_end"), ("payment_date", "unadjusted_payment_date"),
-             ("date", "unadjusted_date"))
-    names = [column.name for column in table.columns]
-    places = [(names.index(one), names.index(other)) for one, other in pairs if one in names]
-    rows = []
-    for row in table.rows:
-        marked = list(row)
-        for one, other in places:
-            marked[one] = f"{row[one]}*" if row[one] and row[one] != row[other] else row[one]
-        rows.append(marked)
+    """The table with a star after each date that isn't the one that it was adjusted from."""
+    rows = [[f"{cell}*" if under else cell for cell, under in zip(row, unders)]
+            for row, unders in zip(table.rows, moved_from(table))]
     return Table(table.title, table.columns, rows)
 
 
@@ -225,10 +214,11 @@ def _inputs(asked: Asked) -> Inputs:
 
 def _look(asked: Asked) -> None:
     inputs = _inputs(asked)
-    made = schedule(inputs.document.content, None if inputs.fixings is None else inputs.fixings.content,
-                    [file.content for file in inputs.calendars])
+    reply = ask("schedule", inputs)
+    if reply.status:
+        raise CantRead(f"{reply.line}: {reply.sentence}" if reply.line else reply.sentence)
     since = asked.since or (date.today() if asked.next is not None else None)
-    _shown(asked, within(printed(made.text), since, asked.until, asked.next), parties_of(inputs.document.content))
+    _shown(asked, within(printed(reply.text), since, asked.until, asked.next), parties_of(inputs.document.content))
 
 
 def main(arguments: Optional[List[str]] = None) -> int:
@@ -239,9 +229,6 @@ def main(arguments: Optional[List[str]] = None) -> int:
     try:
         _look(asked)
         sys.stdout.flush()
-    except Error as refused:
-        print(f"irs-show: {refused.line}: {refused.sentence}", file=sys.stderr)
-        return 2
     except (CantRead, ImportError, ValueError) as why:
         print(f"irs-show: {why}", file=sys.stderr)
         return 2

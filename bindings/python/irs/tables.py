@@ -6,7 +6,7 @@ A cell is the text that the engine prints, or empty where a number waits for a f
 from __future__ import annotations
 
 from decimal import Decimal
-from typing import List, NamedTuple, Optional, Sequence
+from typing import List, NamedTuple, Optional, Sequence, Tuple
 
 from .ladder import RECEIVES, CashFlow
 from .printed import PaymentText, PeriodText, ResetText, StreamText, known
@@ -27,6 +27,14 @@ class Column(NamedTuple):
     name: str
     head: str
     kind: str
+
+
+class Cell(NamedTuple):
+    """A cell for the eye: its text, and below it the unadjusted date where that is another one."""
+
+    text: str
+    under: str
+    waits: bool
 
 
 class Table(NamedTuple):
@@ -132,6 +140,13 @@ def exchange_table(streams: Sequence[StreamText]) -> Table:
     return Table("Exchanges", columns, rows)
 
 
+#: Columns of dates, and those of the dates that they were adjusted from.
+ADJUSTED_FROM = {
+    "start": "unadjusted_start", "end": "unadjusted_end", "payment_date": "unadjusted_payment_date",
+    "date": "unadjusted_date", "fixing_date": "reset_date",
+}
+
+
 def without(table: Table, names: Sequence[str]) -> Table:
     """The table without the columns of these names."""
     places = [place for place, column in enumerate(table.columns) if column.name not in names]
@@ -193,3 +208,26 @@ def laid_out_rows(table: Table, waits: str = "waits") -> List[List[str]]:
     """The rows of a table for the eye."""
     columns = [laid_out(column, [row[place] for row in table.rows], waits) for place, column in enumerate(table.columns)]
     return [list(row) for row in zip(*columns)]
+
+
+def moved_from(table: Table) -> List[List[str]]:
+    """For each cell the date that it was adjusted from, where that is another one, else empty."""
+    names = [column.name for column in table.columns]
+    places = [names.index(ADJUSTED_FROM[name]) if ADJUSTED_FROM.get(name) in names else None for name in names]
+    return [[(row[place] or "") if place is not None and row[place] != cell else "" for cell, place in zip(row, places)]
+            for row in table.rows]
+
+
+def cells_of(table: Table, waits: str = "waits") -> List[List[Cell]]:
+    """The cells of a table for the eye, row by row."""
+    return [[Cell(text, under, printed is None) for text, under, printed in zip(texts, unders, row)]
+            for texts, unders, row in zip(laid_out_rows(table, waits), moved_from(table), table.rows)]
+
+
+def folded(table: Table, left_out: Sequence[str] = ()) -> Tuple[List[Column], List[List[Cell]]]:
+    """The columns and cells of a table, with each unadjusted date under its adjusted one in place of a
+    column of its own, and without the columns of these names."""
+    gone = {*ADJUSTED_FROM.values(), *left_out}
+    places = [place for place, column in enumerate(table.columns) if column.name not in gone]
+    cells = cells_of(table)
+    return [table.columns[place] for place in places], [[row[place] for place in places] for row in cells]

@@ -1,0 +1,59 @@
+"""One command of the engine over the files of a look: its status, its text, and its sentence with the files' names."""
+from __future__ import annotations
+
+from typing import Dict, List, NamedTuple, Optional
+
+from .clean import shown
+from .inputs import Inputs, Named
+from .library import Text, meaning, run
+
+#: What each command takes behind the document (docs/FORMATS.md, 'Commands, lines and statuses').
+_TAKES = {"check": (), "schedule": ("fixings",), "emit": ("fixings",), "net": ("fixings",), "audit": ("fixings", "flows")}
+
+
+class Reply(NamedTuple):
+    """What a command comes to: the status and the text that the program would have, the sentence that it
+    would say (empty at status 0), and the file that each word names."""
+
+    status: int
+    text: bytes
+    sentence: str
+    files: Dict[str, Named]
+    words: List[str]
+
+    @property
+    def line(self) -> str:
+        """The first line of the text."""
+        return self.text.decode(errors="replace").partition("\n")[0]
+
+
+def _word(file: Named, taken: Dict[str, Named]) -> str:
+    name = shown(file.name)
+    word, number = name, 1
+    while word in taken or word == "-":
+        number += 1
+        word = f"{name} ({number})"
+    return word
+
+
+def ask(command: str, inputs: Inputs) -> Reply:
+    """Asks the engine `check`, `schedule`, `emit`, `net` or `audit` over the files of a look."""
+    files: Dict[str, Named] = {}
+    words: List[str] = [command]
+
+    def add(file: Optional[Named]) -> None:
+        word = "-" if file is None else _word(file, files)
+        words.append(word)
+        if file is not None:
+            files[word] = file
+
+    add(inputs.document)
+    for what in _TAKES[command]:
+        add(inputs.fixings if what == "fixings" else inputs.flows)
+    for calendar in inputs.calendars:
+        add(calendar)
+    contents: Dict[str, Text] = {word: file.content for word, file in files.items()}
+    answer = run(words, contents)
+    line = answer.text.decode(errors="replace").partition("\n")[0]
+    sentence = "memory ran out" if answer.status == 7 else meaning(words, answer.status, line) if answer.status else ""
+    return Reply(answer.status, answer.text, sentence, files, words)

@@ -1,0 +1,216 @@
+"""Everything that a person looks at of one trade, made of the engine's answers: for the report and the page.
+
+The schedule, what falls due and the verdict on another party's cash flows are the engine's. What stands beside
+them (names, terms in words, the timeline) is made of the document's own texts and isn't proved.
+"""
+from __future__ import annotations
+
+import hashlib
+from datetime import date
+from decimal import Decimal
+from typing import Any, List, NamedTuple, Optional, Sequence
+
+from .calls import Schedule
+from .documents import streams_of, value_of
+from .clean import shown
+from .compare import Comparison, mark_of, side_by_side
+from .engine import Reply, ask
+from .inputs import Inputs, Named
+from .ladder import cash_flows, view_sentence, viewer
+from .parties import Parties, parties_of
+from .printed import UNKNOWN, StreamText, printed
+from .refusals import Refusal, refusal_of
+from .stubs import index_of_period, stubs_of
+from .tables import Cell, Column, Table, exchange_table, folded, ledger_table, period_table, separated
+from .timeline import Timeline, timeline
+from .words import Term, terms_of
+
+#: Tones of a sentence: agreed or done, waits for something, departs or refused.
+GOOD, WAITS, BAD = "good", "waits", "bad"
+
+
+class Said(NamedTuple):
+    """A sentence and its tone."""
+
+    text: str
+    tone: str
+
+
+class FileLine(NamedTuple):
+    """A file that the look is made of: what it is, its name, its size in bytes and its SHA-256 sum."""
+
+    what: str
+    name: str
+    size: int
+    sha256: str
+
+
+class Laid(NamedTuple):
+    """A table laid out for the eye."""
+
+    columns: List[Column]
+    rows: List[List[Cell]]
+
+
+class StreamLook(NamedTuple):
+    """A stream: its head, its terms in words, its periods and its exchanges."""
+
+    head: str
+    terms: List[Term]
+    periods: Laid
+    exchanges: Optional[Laid]
+
+
+class Wait(NamedTuple):
+    """A reset that waits for its fixing. `passed` says whether the day is before today."""
+
+    stream: int
+    period: str
+    day: str
+    index: str
+    passed: bool
+
+
+class NetRow(NamedTuple):
+    """What falls due on a day in a currency: who pays it, the amount without a sign, and a note on what
+    isn't known."""
+
+    day: str
+    payer: str
+    currency: str
+    amount: str
+    note: str
+
+
+class Look(NamedTuple):
+    """All of one trade. `refusal` says why there is no schedule; then the parts behind it are empty.
+    `flows_refusal` says why the other party's cash flows can't be compared."""
+
+    name: str
+    files: List[FileLine]
+    today: str
+    headline: Said
+    refusal: Optional[Refusal] = None
+    schedule: Optional[Schedule] = None
+    view: str = ""
+    streams: Sequence[StreamLook] = ()
+    ledger: Optional[Laid] = None
+    wide: Optional[Timeline] = None
+    narrow: Optional[Timeline] = None
+    waits: Sequence[Wait] = ()
+    net: Sequence[NetRow] = ()
+    net_refusal: str = ""
+    verdict: Optional[Said] = None
+    verdict_line: str = ""
+    comparisons: Sequence[Comparison] = ()
+    flows_refusal: Optional[Refusal] = None
+
+
+def _files(inputs: Inputs) -> List[FileLine]:
+    def line(what: str, file: Named) -> FileLine:
+        return FileLine(what, shown(file.name), len(file.content), hashlib.sha256(file.content).hexdigest())
+
+    lines = [line("terms", inputs.document)]
+    lines += [line(what, file) for what, file in (("fixings", inputs.fixings), ("their cash flows", inputs.flows)) if file]
+    return lines + [line("calendar", file) for file in inputs.calendars]
+
+
+def _head(stream: StreamText, parties: Parties) -> str:
+    sides = parties.side(stream.stream)
+    who = "" if sides is None else f"{parties.name(sides.payer)} pays {parties.name(sides.receiver)}, "
+    return f"Stream {stream.stream}: {who}{stream.currency}, {'floating' if stream.floating else 'fixed'}, {stream.day_count}"
+
+
+def _laid(table: Table, left_out: Sequence[str]) -> Laid:
+    return Laid(*folded(table, left_out))
+
+
+def _stream_look(stream: StreamText, terms: List[Term], parties: Parties) -> StreamLook:
+    left_out = ["stream", "currency", *([] if stream.floating else ["fixing_date", "observed"])]
+    exchanges = _laid(exchange_table([stream]), ["stream", "currency"]) if stream.exchanges else None
+    return StreamLook(_head(stream, parties), terms, _laid(period_table([stream]), left_out), exchanges)
+
+
+def _waits(stream: StreamText, element: Any, today: date) -> List[Wait]:
+    return [Wait(stream.stream, reset.number, reset.fixing, index_of_period(element, int(reset.number), len(stream.periods)),
+                 reset.fixing < today.isoformat())
+            for reset in stream.resets.values() if reset.observed == UNKNOWN]
+
+
+def _net_row(line: str, parties: Parties) -> NetRow:
+    _, day, currency, text, unknown = line.split(" ")
+    first = parties.sides[0]
+    assert first is not None  # the engine nets only streams that name their parties
+    amount = Decimal(text)
+    payer = parties.name(first.payer if amount > 0 else first.receiver) if amount else ""
+    waiting = "" if unknown == "0" else f"{unknown} amount{'' if unknown == '1' else 's'} not known"
+    if waiting and not amount:
+        return NetRow(day, "", currency, "", waiting)
+    return NetRow(day, payer, currency, separated(text.lstrip("-")), f"and {waiting}" if waiting else "")
+
+
+def _headline(streams: Sequence[StreamText]) -> Said:
+    payments = [payment for stream in streams for payment in stream.payments]
+    periods = sum(len(stream.periods) for stream in streams)
+    open_payments = sum(payment.amount == UNKNOWN for payment in payments)
+    made = f"{len(streams)} stream{'s' * (len(streams) != 1)}, {periods} periods, {len(payments)} payments"
+    if open_payments:
+        return Said(f"{made}, of which {open_payments} wait for a fixing.", WAITS)
+    return Said(f"{made}; every amount is known.", GOOD)
+
+
+def _verdict(reply: Reply) -> Said:
+    if reply.status == 1:
+        return Said(f"Departs: {reply.sentence}.", BAD)
+    _, rows, unfixed = reply.line.split()
+    if unfixed == "0":
+        return Said(f"Agrees in all {rows} rows.", GOOD)
+    return Said(f"Agrees in what is known: {rows} rows, but {unfixed} payment{'s' * (unfixed != '1')} wait for a fixing, "
+                "and their amounts weren't compared.", WAITS)
+
+
+def _with_flows(look: Look, inputs: Inputs) -> Look:
+    if inputs.flows is None:
+        return look
+    reply = ask("audit", inputs)
+    if reply.status > 1:
+        return look._replace(flows_refusal=refusal_of(reply))
+    ours = value_of(ask("emit", inputs).text)
+    comparisons = side_by_side(ours, value_of(inputs.flows.content), mark_of(reply.line))
+    return look._replace(verdict=_verdict(reply), verdict_line=reply.line, comparisons=comparisons)
+
+
+def _with_net(look: Look, inputs: Inputs, parties: Parties) -> Look:
+    reply = ask("net", inputs)
+    if reply.status:
+        return look._replace(net_refusal=reply.sentence)
+    return look._replace(net=[_net_row(line, parties) for line in reply.text.decode().splitlines()[1:-1]])
+
+
+def _with_timeline(look: Look, streams: Sequence[StreamText], elements: Sequence[Any], today: date) -> Look:
+    stubs = [stubs_of(element, len(stream.periods)) for stream, element in zip(streams, elements)]
+    return look._replace(wide=timeline(streams, stubs, today, 1000, 60), narrow=timeline(streams, stubs, today, 360, 30))
+
+
+def look_at(inputs: Inputs, today: date, party: Optional[str] = None) -> Look:
+    """The look of a trade: its schedule with all that goes with it, or why there is none.
+
+    `today` is the day that the timeline marks, and `party` the party that the flows are seen from. Raises
+    `ValueError` for an unknown party.
+    """
+    look = Look(shown(inputs.document.name), _files(inputs), today.isoformat(), Said("", BAD))
+    reply = ask("schedule", inputs)
+    if reply.status:
+        refusal = refusal_of(reply)
+        return look._replace(headline=Said(f"No schedule. {refusal.what}.", BAD), refusal=refusal)
+    document = inputs.document.content
+    streams, parties, elements = printed(reply.text), parties_of(document), streams_of(value_of(document))
+    terms = terms_of(document, parties)
+    look = look._replace(
+        headline=_headline(streams), schedule=Schedule(reply.text, document),
+        view=view_sentence(parties, viewer(parties, party)),
+        streams=[_stream_look(stream, said, parties) for stream, said in zip(streams, terms)],
+        ledger=_laid(ledger_table(cash_flows(streams, parties, party)), ()),
+        waits=sorted((wait for stream, element in zip(streams, elements) for wait in _waits(stream, element, today)),
+                     key=lambda wait: (wait.day, wait.stream)))
+    return _with_net(_with_flows(_with_timeline(look, streams, elements, today), inputs), inputs, parties)

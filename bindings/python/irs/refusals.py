@@ -1,0 +1,126 @@
+"""A refusal for people: what was refused, in one sentence, its place, and the lines around it."""
+from __future__ import annotations
+
+import json
+from typing import List, NamedTuple, Optional
+
+from .clean import shown
+from .engine import Reply
+from .inputs import Named
+from .places import Spot, element_spot, flow_spot
+
+#: How many lines are shown before and after the one at fault, and how many characters of a line.
+AROUND, MOST = 3, 120
+
+_WHAT = {
+    2: "The terms break a rule", 3: "A file isn't as such files are written", 5: "A file can't be read",
+    7: "Memory ran out", 8: "A file is too long",
+}
+
+
+class Line(NamedTuple):
+    """A line of a file: its number from 1, its text, and whether it is the one at fault."""
+
+    number: int
+    text: str
+    marked: bool
+
+
+class Refusal(NamedTuple):
+    """Why there is no answer. `line` is what the program prints, `sentence` what it says, and `rule` the
+    rule's name or empty. `steps` are the names on the way to the element; `file` and `lines` show the
+    text around it, and are empty where nothing can be shown."""
+
+    what: str
+    line: str
+    sentence: str
+    rule: str
+    stream: int
+    steps: List[str]
+    index: int
+    file: str
+    lines: List[Line]
+
+
+def _clip(text: str, column: int) -> str:
+    start = max(0, column - MOST // 2) if column > MOST - 20 else 0
+    cut = text[start:start + MOST]
+    return f"{'…' if start else ''}{shown(cut.expandtabs(4), 4 * MOST)}{'…' if start + MOST < len(text) else ''}"
+
+
+def lines_around(content: bytes, number: int, column: int = 0) -> List[Line]:
+    """The lines of a file around the one of that number, which is marked. Lines and columns of the
+    arguments count from 1 and from 0."""
+    lines = content.decode(errors="replace").split("\n")
+    first, last = max(1, number - AROUND), min(len(lines), number + AROUND)
+    return [Line(place, _clip(lines[place - 1].rstrip("\r"), column if place == number else 0), place == number)
+            for place in range(first, last + 1)]
+
+
+def _lines_at(content: bytes, spot: Optional[Spot]) -> List[Line]:
+    if spot is None:
+        return []
+    before = content.decode(errors="replace")[: spot.start]
+    return lines_around(content, before.count("\n") + 1, len(before) - before.rfind("\n") - 1)
+
+
+def _lines_of_bad_json(content: bytes) -> List[Line]:
+    try:
+        json.loads(content.decode())
+    except UnicodeDecodeError as why:
+        before = content[: why.start]
+        return lines_around(content, before.count(b"\n") + 1, len(before) - before.rfind(b"\n") - 1)
+    except json.JSONDecodeError as why:
+        return lines_around(content, why.lineno, why.colno - 1)
+    except (ValueError, RecursionError):
+        pass
+    return []
+
+
+def _of_rule(reply: Reply) -> Refusal:
+    _, rule, stream, path, index = reply.line.split()
+    content = reply.files[reply.words[1]].content
+    if rule == "K1":
+        lines = _lines_of_bad_json(content)
+    else:
+        lines = _lines_at(content, element_spot(content.decode(errors="replace"), int(stream), path, int(index)))
+    return Refusal(_WHAT[2], reply.line, reply.sentence, rule, int(stream), path.split("/"), int(index), reply.words[1], lines)
+
+
+def _of_flows(reply: Reply, kind: str, stream: int, path: str, index: int) -> Refusal:
+    word = reply.words[3]
+    content = reply.files[word].content
+    if kind == "notjson":
+        lines = _lines_of_bad_json(content)
+    else:
+        lines = _lines_at(content, flow_spot(content.decode(errors="replace"), stream, path, index))
+    return Refusal(_WHAT[3], reply.line, reply.sentence, "", stream, path.split("/"), index, word, lines)
+
+
+def _of_file(reply: Reply) -> Refusal:
+    words = reply.line.split()
+    if words[1] == "flows":
+        return _of_flows(reply, words[2], int(words[3]), words[4], int(words[5]))
+    calendars = reply.words[len(reply.words) - _calendars(reply):]
+    word = calendars[int(words[2]) - 1] if words[1] == "calendar" else reply.words[2]
+    number = int(words[-2])
+    return Refusal(_WHAT[3], reply.line, reply.sentence, "", 0, [], 0, word, lines_around(reply.files[word].content, number))
+
+
+def _calendars(reply: Reply) -> int:
+    before = {"check": 2, "audit": 4}.get(reply.words[0], 3)
+    return len(reply.words) - before
+
+
+def refusal_of(reply: Reply) -> Refusal:
+    """The refusal of a reply whose status is neither 0 nor 1."""
+    if reply.status == 2:
+        return _of_rule(reply)
+    if reply.status == 3:
+        return _of_file(reply)
+    return Refusal(_WHAT.get(reply.status, "The engine gives no answer"), reply.line, reply.sentence, "", 0, [], 0, "", [])
+
+
+def unread(file: Named, why: str) -> Refusal:
+    """The refusal of a file that this version can't read, with its first lines."""
+    return Refusal("This version can't read the file", "", why, "", 0, [], 0, shown(file.name), [])

@@ -1,0 +1,225 @@
+"""The terms of a stream in words, from the document's own texts.
+
+Each line names what FpML's element says; nothing is worked out. A rate is read in per cent by moving its point.
+The document was read by the engine before, so what is absent here is absent there.
+"""
+from __future__ import annotations
+
+import re
+from typing import Any, List, NamedTuple, Optional
+
+from .documents import Document, at, child, children, streams_of, text_at, text_of, value_of
+from .clean import shown
+from .parties import Parties
+from .tables import per_cent, separated
+
+#: How many steps of a schedule of values are written out.
+MOST_STEPS = 6
+
+_UNITS = {"D": "day", "W": "week", "M": "month", "Y": "year"}
+
+_CONVENTIONS = {
+    "FOLLOWING": "following", "MODFOLLOWING": "modified following", "PRECEDING": "preceding",
+    "MODPRECEDING": "modified preceding", "NEAREST": "nearest",
+}
+
+_DECIMAL = re.compile(r"[+-]?(\d+\.?\d*|\.\d+)")
+
+
+class Term(NamedTuple):
+    """A term of a stream: what it is about, and what the document says."""
+
+    about: str
+    says: str
+
+
+def rate(text: Optional[str]) -> str:
+    """A rate of the document in per cent, with its own digits.
+
+    >>> rate("0.0525")
+    '5.25%'
+    """
+    if text is None or not _DECIMAL.fullmatch(text):
+        return shown(text or "")
+    sign = "-" if text.startswith("-") else ""
+    whole, _, part = text.lstrip("+-").partition(".")
+    moved = per_cent(f"{whole or '0'}.{part.ljust(2, '0')}", max(len(part) - 2, 0))
+    return sign + moved
+
+
+def amount(text: Optional[str]) -> str:
+    """A notional of the document with thousands separators."""
+    return shown(text or "") if text is None or not _DECIMAL.fullmatch(text) else separated(text.lstrip("+"))
+
+
+def _every(frequency: Any) -> str:
+    count, period = text_at(frequency, "periodMultiplier"), text_at(frequency, "period")
+    if period == "T":
+        return "once over the whole term"
+    unit = _UNITS.get(period or "", "")
+    return f"every {unit}" if count == "1" else f"every {shown(count or '')} {unit}s"
+
+
+def tenor(element: Any) -> str:
+    """A tenor as ``3M``, and empty where there is none."""
+    count, period = text_at(element, "periodMultiplier"), text_at(element, "period")
+    return "" if count is None or period is None else shown(f"{count}{period}")
+
+
+def _centres(adjustments: Any) -> str:
+    named = [text_of(item) for item in children(child(adjustments, "businessCenters"), "businessCenter")]
+    if named:
+        return ", ".join(shown(name or "") for name in named)
+    reference = child(adjustments, "businessCentersReference")
+    href = reference.get("@href") if isinstance(reference, dict) else None
+    return f"the centres called {shown(str(href))}" if href is not None else ""
+
+
+def _adjusted(adjustments: Any) -> str:
+    convention = text_at(adjustments, "businessDayConvention")
+    if convention in (None, "NONE"):
+        return "not adjusted"
+    centres = _centres(adjustments)
+    return f"{_CONVENTIONS.get(convention or '', shown(convention or ''))}{f' in {centres}' if centres else ''}"
+
+
+def _offset(offset: Any, preposition: str, what: str) -> str:
+    count = text_at(offset, "periodMultiplier")
+    if count is None or count.lstrip("+-").strip("0") == "":
+        return f"{preposition} {what}"
+    days = count.lstrip("+-").lstrip("0")
+    kind = (text_at(offset, "dayType") or "").lower()
+    return f"{shown(days)} {kind} day{'' if days == '1' else 's'} {'before' if count.startswith('-') else 'after'} {what}"
+
+
+def _relative(text: Optional[str]) -> str:
+    return "start" if text == "CalculationPeriodStartDate" else "end"
+
+
+def _steps(schedule: Any, read: Any) -> str:
+    steps = children(schedule, "step")
+    said = [f"{shown(text_at(step, 'stepDate') or '')} {read(text_at(step, 'stepValue'))}" for step in steps[:MOST_STEPS]]
+    more = f", and {len(steps) - MOST_STEPS} more" if len(steps) > MOST_STEPS else ""
+    return f"; from {', '.join(said)}{more}" if said else ""
+
+
+def _schedule(schedule: Any, read: Any) -> str:
+    return read(text_at(schedule, "initialValue")) + _steps(schedule, read)
+
+
+def index_of(rate_element: Any) -> str:
+    """The index of a `floatingRate` or a `floatingRateCalculation`, with its tenor."""
+    name = shown(text_at(rate_element, "floatingRateIndex") or "")
+    return f"{name} {tenor(child(rate_element, 'indexTenor'))}".strip()
+
+
+def _floating(floating: Any) -> str:
+    parts = [index_of(floating)]
+    if child(floating, "floatingRateMultiplierSchedule") is not None:
+        parts.append(f"times {_schedule(child(floating, 'floatingRateMultiplierSchedule'), lambda text: shown(text or ''))}")
+    if child(floating, "spreadSchedule") is not None:
+        parts.append(f"plus {_schedule(child(floating, 'spreadSchedule'), rate)}")
+    return " ".join(parts)
+
+
+def _rate_terms(calculation: Any) -> List[Term]:
+    fixed, floating = child(calculation, "fixedRateSchedule"), child(calculation, "floatingRateCalculation")
+    if fixed is not None:
+        return [Term("Rate", f"fixed, {_schedule(fixed, rate)}")]
+    terms = [Term("Rate", _floating(floating))]
+    if text_at(floating, "initialRate") is not None:
+        terms.append(Term("First rate", rate(text_at(floating, "initialRate"))))
+    rounding = child(floating, "finalRateRounding")
+    if rounding is not None:
+        terms.append(Term("Rounding", f"{shown(text_at(rounding, 'roundingDirection') or '')}, "
+                                      f"{shown(text_at(rounding, 'precision') or '')} decimals of the rate"))
+    if text_at(floating, "negativeInterestRateTreatment") == "ZeroInterestRateMethod":
+        terms.append(Term("Negative rates", "count as zero"))
+    return terms
+
+
+def _stub(stub: Any) -> str:
+    if text_at(stub, "stubRate") is not None:
+        return rate(text_at(stub, "stubRate"))
+    return index_of(child(stub, "floatingRate"))
+
+
+def _stub_terms(stream: Any, dates: Any) -> List[Term]:
+    terms = []
+    for element, about in (("firstRegularPeriodStartDate", "First regular day"), ("lastRegularPeriodEndDate", "Last regular day"),
+                           ("stubPeriodType", "Stub")):
+        if text_at(dates, element) is not None:
+            terms.append(Term(about, shown(text_at(dates, element) or "")))
+    for element, about in (("initialStub", "Rate of the first stub"), ("finalStub", "Rate of the last stub")):
+        stub = at(stream, f"stubCalculationPeriodAmount/{element}")
+        if stub is not None:
+            terms.append(Term(about, _stub(stub)))
+    return terms
+
+
+def _date(element: Any) -> str:
+    return f"{shown(text_at(element, 'unadjustedDate') or '')}, {_adjusted(child(element, 'dateAdjustments'))}"
+
+
+def _period_terms(dates: Any) -> List[Term]:
+    frequency = child(dates, "calculationPeriodFrequency")
+    terms = [Term("Starts", _date(child(dates, "effectiveDate")))]
+    if child(dates, "firstPeriodStartDate") is not None:
+        terms.append(Term("First period starts", _date(child(dates, "firstPeriodStartDate"))))
+    roll = shown(text_at(frequency, "rollConvention") or "")
+    return terms + [
+        Term("Ends", _date(child(dates, "terminationDate"))),
+        Term("Periods", f"{_every(frequency)}, roll {roll}; {_adjusted(child(dates, 'calculationPeriodDatesAdjustments'))}"),
+    ]
+
+
+def _payment_terms(payments: Any) -> List[Term]:
+    end = _relative(text_at(payments, "payRelativeTo"))
+    when = _offset(child(payments, "paymentDaysOffset"), "at", f"the {end} of what is paid for")
+    adjusted = _adjusted(child(payments, "paymentDatesAdjustments"))
+    terms = [Term("Payments", f"{_every(child(payments, 'paymentFrequency'))}, {when}; {adjusted}")]
+    for element, about in (("firstPaymentDate", "First payment"), ("lastRegularPaymentDate", "Last regular payment")):
+        if text_at(payments, element) is not None:
+            terms.append(Term(about, shown(text_at(payments, element) or "")))
+    return terms
+
+
+def _reset_terms(resets: Any) -> List[Term]:
+    if resets is None:
+        return []
+    relative = text_at(resets, "resetRelativeTo") or "CalculationPeriodStartDate"
+    fixing = child(resets, "fixingDates")
+    when = _offset(fixing, "on", "that day") + (f", {_adjusted(fixing)}" if fixing is not None else "")
+    adjusted = _adjusted(child(resets, "resetDatesAdjustments"))
+    return [Term("Resets", f"at the {_relative(relative)} of each period, {adjusted}; fixed {when}")]
+
+
+def _exchange_terms(stream: Any) -> List[Term]:
+    exchanges = child(stream, "principalExchanges")
+    said = [word for element, word in (("initialExchange", "at the start"), ("intermediateExchange", "where the notional changes"),
+                                       ("finalExchange", "at the end")) if text_at(exchanges, element) in ("true", "1")]
+    return [Term("Principal exchanged", ", ".join(said))] if said else []
+
+
+def _amount_terms(calculation: Any) -> List[Term]:
+    notional = at(calculation, "notionalSchedule/notionalStepSchedule")
+    currency = shown(text_at(notional, "currency") or "")
+    terms = [Term("Notional", f"{currency} {_schedule(notional, amount)}"), *_rate_terms(calculation),
+             Term("Day count", shown(text_at(calculation, "dayCountFraction") or ""))]
+    method = text_at(calculation, "compoundingMethod")
+    return terms if method in (None, "None") else [*terms, Term("Compounding", shown(method or ""))]
+
+
+def stream_terms(stream: Any, number: int, parties: Parties) -> List[Term]:
+    """The terms of a stream in words, in the order in which people ask for them."""
+    sides = parties.side(number)
+    who = [] if sides is None else [Term("Who pays", f"{parties.name(sides.payer)} pays {parties.name(sides.receiver)}")]
+    dates = child(stream, "calculationPeriodDates")
+    return [*who, *_amount_terms(at(stream, "calculationPeriodAmount/calculation")), *_period_terms(dates),
+            *_stub_terms(stream, dates), *_payment_terms(child(stream, "paymentDates")),
+            *_reset_terms(child(stream, "resetDates")), *_exchange_terms(stream)]
+
+
+def terms_of(document: Document, parties: Parties) -> List[List[Term]]:
+    """The terms of each stream of a document, in order."""
+    return [stream_terms(stream, number, parties) for number, stream in enumerate(streams_of(value_of(document)), 1)]
