@@ -5,8 +5,8 @@
 # kit's command `rt` and nothing else. `make faults` makes each allocation of the program fail in turn,
 # `make hostile` runs it on the largest and the worst inputs, `make bench` counts what it takes; they want a C
 # compiler, Python and, for the counts, valgrind. `make library` builds the library for C, and `make bindings`
-# tries it.
-.PHONY: all irs try examples faults hostile bench library bindings test clean
+# tries it; `make desk` tries the page irs-desk in a real browser.
+.PHONY: all irs try examples faults hostile bench library bindings desk test clean
 DOC ?= examples/fixed_leg/terms.json
 
 all: irs
@@ -44,6 +44,9 @@ library:
 
 bindings: library
 	bindings/try
+
+desk:
+	bindings/desk_tests
 
 test:
 	.ci/run

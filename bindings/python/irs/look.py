@@ -11,7 +11,7 @@ from decimal import Decimal
 from typing import Any, List, NamedTuple, Optional, Sequence
 
 from .calls import Schedule
-from .documents import streams_of, value_of
+from .documents import NotRead, json_of, streams_of, value_of
 from .clean import shown
 from .compare import Comparison, mark_of, side_by_side
 from .engine import Reply, ask
@@ -19,7 +19,7 @@ from .inputs import Inputs, Named
 from .ladder import cash_flows, view_sentence, viewer
 from .parties import Parties, parties_of
 from .printed import UNKNOWN, StreamText, printed
-from .refusals import Refusal, refusal_of
+from .refusals import Refusal, refusal_of, unread
 from .stubs import index_of_period, stubs_of
 from .tables import Cell, Column, Table, exchange_table, folded, ledger_table, period_table, separated
 from .timeline import Timeline, timeline
@@ -169,14 +169,22 @@ def _verdict(reply: Reply) -> Said:
                 "and their amounts weren't compared.", WAITS)
 
 
+def _as_json(file: Named) -> Named:
+    return Named(file.name, json_of(file.content))
+
+
 def _with_flows(look: Look, inputs: Inputs) -> Look:
     if inputs.flows is None:
         return look
+    try:
+        inputs = inputs._replace(flows=_as_json(inputs.flows))
+    except NotRead as why:
+        return look._replace(flows_refusal=unread(inputs.flows, str(why)))
     reply = ask("audit", inputs)
     if reply.status > 1:
         return look._replace(flows_refusal=refusal_of(reply))
-    ours = value_of(ask("emit", inputs).text)
-    comparisons = side_by_side(ours, value_of(inputs.flows.content), mark_of(reply.line))
+    ours, theirs = value_of(ask("emit", inputs).text), value_of(reply.files[reply.words[3]].content)
+    comparisons = side_by_side(ours, theirs, mark_of(reply.line))
     return look._replace(verdict=_verdict(reply), verdict_line=reply.line, comparisons=comparisons)
 
 
@@ -192,6 +200,10 @@ def _with_timeline(look: Look, streams: Sequence[StreamText], elements: Sequence
     return look._replace(wide=timeline(streams, stubs, today, 1000, 60), narrow=timeline(streams, stubs, today, 360, 30))
 
 
+def _refused(look: Look, refusal: Refusal) -> Look:
+    return look._replace(headline=Said(f"No schedule. {refusal.what}.", BAD), refusal=refusal)
+
+
 def look_at(inputs: Inputs, today: date, party: Optional[str] = None) -> Look:
     """The look of a trade: its schedule with all that goes with it, or why there is none.
 
@@ -199,13 +211,16 @@ def look_at(inputs: Inputs, today: date, party: Optional[str] = None) -> Look:
     `ValueError` for an unknown party.
     """
     look = Look(shown(inputs.document.name), _files(inputs), today.isoformat(), Said("", BAD))
+    try:
+        inputs = inputs._replace(document=_as_json(inputs.document))
+    except NotRead as why:
+        return _refused(look, unread(inputs.document, str(why)))
     reply = ask("schedule", inputs)
     if reply.status:
-        refusal = refusal_of(reply)
-        return look._replace(headline=Said(f"No schedule. {refusal.what}.", BAD), refusal=refusal)
+        return _refused(look, refusal_of(reply))
     document = inputs.document.content
     streams, parties, elements = printed(reply.text), parties_of(document), streams_of(value_of(document))
-    terms = terms_of(document, parties)
+    terms = terms_of(document)
     look = look._replace(
         headline=_headline(streams), schedule=Schedule(reply.text, document),
         view=view_sentence(parties, viewer(parties, party)),

@@ -8,7 +8,7 @@ from __future__ import annotations
 from typing import Dict
 
 LIGHT = {
-    "paper": "#ffffff", "panel": "#f6f8fa", "ink": "#1b1f24", "faint": "#57606a", "line": "#8c959f", "hair": "#d8dee4",
+    "paper": "#ffffff", "panel": "#f6f8fa", "ink": "#1b1f24", "faint": "#57606a", "line": "#7d8590", "hair": "#d8dee4",
     "accent": "#0550ae", "on-accent": "#ffffff", "good": "#116329", "good-back": "#dafbe1", "waits": "#7d4e00",
     "waits-back": "#fff8c5", "bad": "#a40e26", "bad-back": "#ffebe9", "lane": "#ddeaf7", "stub": "#b4690e",
     "pay": "#0550ae", "reset": "#116329", "exchange": "#8250df", "today": "#a40e26",

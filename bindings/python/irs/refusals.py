@@ -19,11 +19,19 @@ _WHAT = {
 
 
 class Line(NamedTuple):
-    """A line of a file: its number from 1, its text, and whether it is the one at fault."""
+    """A line of a file: its number from 1, whether the fault is in it, and its text: what stands before the
+    faulty element, the element, and what stands after it."""
 
     number: int
-    text: str
     marked: bool
+    before: str
+    fault: str
+    after: str
+
+    @property
+    def text(self) -> str:
+        """The whole line."""
+        return self.before + self.fault + self.after
 
 
 class Refusal(NamedTuple):
@@ -42,26 +50,33 @@ class Refusal(NamedTuple):
     lines: List[Line]
 
 
-def _clip(text: str, column: int) -> str:
-    start = max(0, column - MOST // 2) if column > MOST - 20 else 0
-    cut = text[start:start + MOST]
-    return f"{'…' if start else ''}{shown(cut.expandtabs(4), 4 * MOST)}{'…' if start + MOST < len(text) else ''}"
+def _piece(text: str) -> str:
+    return shown(text.expandtabs(4), 4 * MOST)
 
 
-def lines_around(content: bytes, number: int, column: int = 0) -> List[Line]:
-    """The lines of a file around the one of that number, which is marked. Lines and columns of the
-    arguments count from 1 and from 0."""
+def _line(number: int, text: str, marked: bool, column: int, length: int) -> Line:
+    """The line with at most `MOST` characters around its fault, which is `length` long from `column` on."""
+    start = max(0, column - MOST // 2) if column + length > MOST else 0
+    last = start + MOST
+    return Line(number, marked, ("\u2026" if start else "") + _piece(text[start:column]), _piece(text[column:min(column + length, last)]),
+                _piece(text[min(column + length, last):last]) + ("\u2026" if last < len(text) else ""))
+
+
+def lines_around(content: bytes, number: int, column: int = 0, length: int = 0) -> List[Line]:
+    """The lines of a file around the one of that number, which is marked. Lines count from 1, columns from 0."""
     lines = content.decode(errors="replace").split("\n")
-    first, last = max(1, number - AROUND), min(len(lines), number + AROUND)
-    return [Line(place, _clip(lines[place - 1].rstrip("\r"), column if place == number else 0), place == number)
-            for place in range(first, last + 1)]
+    first, last = max(1, number - AROUND), min(len(lines) - (lines[-1] == ""), number + AROUND)
+    return [_line(place, lines[place - 1].rstrip("\r"), place == number, *((column, length) if place == number else (0, 0)))
+            for place in range(first, max(last, number) + 1)]
 
 
 def _lines_at(content: bytes, spot: Optional[Spot]) -> List[Line]:
     if spot is None:
         return []
-    before = content.decode(errors="replace")[: spot.start]
-    return lines_around(content, before.count("\n") + 1, len(before) - before.rfind("\n") - 1)
+    text = content.decode(errors="replace")
+    before = text[: spot.start]
+    length = len(text[spot.start:spot.end].partition("\n")[0])
+    return lines_around(content, before.count("\n") + 1, len(before) - before.rfind("\n") - 1, length)
 
 
 def _lines_of_bad_json(content: bytes) -> List[Line]:

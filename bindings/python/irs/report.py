@@ -14,7 +14,7 @@ from pathlib import Path
 from typing import List, Optional
 
 from .clean import shown
-from .inputs import CantRead, Inputs, Named, read_calendars, read_document, read_named
+from .inputs import CantRead, Inputs, Named, read_calendars, read_named
 from .look import look_at
 from .pages import environment, report
 
@@ -63,7 +63,7 @@ def _beside(trade: Path, *names: str) -> Optional[Named]:
 
 def inputs_of(asked: Asked, trade: Path) -> Inputs:
     """The files of a trade: those that options name, else those that lie beside it. Raises `CantRead`."""
-    document = read_document(trade)
+    document = read_named(trade)
     fixings = _beside(trade, f"{trade.stem}.fixings", "fixings") if asked.fixings is None else read_named(asked.fixings)
     flows = _beside(trade, f"{trade.stem}.flows.json") if asked.flows is None else read_named(asked.flows)
     folder = trade.with_name("calendars") if str(trade) != "-" else None

@@ -141,13 +141,9 @@ def flow_lines(flows: Sequence[CashFlow], sentence: str) -> Iterator[str]:
     yield f"Cash flows. {sentence}"
     yield ""
     table = ledger_table(flows)
-    open_flows = any(table.column("open"))
-    kept = table if open_flows else without(table, ["open"])
-    yield from _aligned(kept.columns, laid_out_rows(kept))
+    yield from _aligned(table.columns, laid_out_rows(table))
     yield ""
     yield _TOTALS
-    if open_flows:
-        yield "Open: how many amounts of the total wait for a fixing."
 
 
 def lines(streams: List[StreamText], parties: Parties, party: Optional[str], unadjusted: bool = False) -> Iterator[str]:

@@ -81,17 +81,19 @@ def flow_table(flows: Sequence[CashFlow]) -> Table:
 
 
 def ledger_table(flows: Sequence[CashFlow]) -> Table:
-    """The cash flows for the eye: what is received and what is paid in columns of their own, unsigned."""
+    """The cash flows for the eye: what is received and what is paid in columns of their own, unsigned. The last
+    column, how many amounts of the total aren't known, stands only where there are any."""
     columns = [Column("date", "Date", DATE), Column("weekday", "Day", WORD), Column("stream", "Stream", COUNT),
                Column("what", "What", WORD), Column("currency", "Cur", WORD), Column("receives", "Receives", AMOUNT),
-               Column("pays", "Pays", AMOUNT), Column("total", "Running total", AMOUNT), Column("open", "Open", COUNT)]
+               Column("pays", "Pays", AMOUNT), Column("total", "Running total", AMOUNT), Column("open", "Not known", COUNT)]
     rows = []
     for flow in flows:
         amount = None if flow.amount is None else _plain(flow.amount.copy_abs())
         sides = [amount, ""] if flow.direction == RECEIVES else ["", amount]
         rows.append([flow.date.isoformat(), WEEKDAYS[flow.date.weekday()], str(flow.stream), f"{flow.kind} {flow.number}",
                      flow.currency, *sides, _plain(flow.total) or "", str(flow.waiting) if flow.waiting else ""])
-    return Table("Cash flows", columns, rows)
+    table = Table("Cash flows", columns, rows)
+    return table if any(table.column("open")) else without(table, ["open"])
 
 
 _PERIOD_COLUMNS = [

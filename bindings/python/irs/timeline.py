@@ -16,6 +16,11 @@ MOST_BANDS = 16
 #: Heights in the picture's own units.
 AXIS, LANE, GAP = 22, 34, 10
 
+#: How wide the label of a year, of a month, and of the month in which a band begins is with its gap.
+YEAR, MONTH, START = 44, 34, 64
+
+_MONTHS = ("Jan", "Feb", "Mar", "Apr", "May", "Jun", "Jul", "Aug", "Sep", "Oct", "Nov", "Dec")
+
 
 class Tick(NamedTuple):
     """A line of a year or a month and its label, empty where there is no room for one."""
@@ -105,21 +110,23 @@ def _all_days(streams: Sequence[_Dates]) -> List[int]:
     return [day for dates in streams for days in (dates.boundaries, dates.payments, dates.resets, dates.exchanges) for day in days]
 
 
-def _ticks(scale: _Scale, room: float) -> List[Tick]:
+def _ticks(scale: _Scale) -> List[Tick]:
     first, last = date.fromordinal(scale.first), date.fromordinal(scale.last - 1)
     years = last.year - first.year + 1
-    step = next((step for step in (1, 2, 5, 10, 20, 50, 100) if room / max(1, years / step) >= 44), 200)
+    step = next((step for step in (1, 2, 5, 10, 20, 50, 100) if scale.width / max(1, years / step) >= YEAR), 200)
     ticks = [Tick(scale.x(date(year, 1, 1).toordinal()), str(year) if year % step == 0 else "", True)
-             for year in range(first.year, last.year + 1) if scale.first <= date(year, 1, 1).toordinal() < scale.last]
-    per_month = room / max(1.0, (scale.last - scale.first) / 30.4)
-    if per_month >= 4:
-        ticks += _months(scale, first, last, per_month >= 34)
+             for year in range(first.year, last.year + 1) if scale.first <= date(year, 1, 1).toordinal()]
+    a_month = scale.width / max(1.0, (scale.last - scale.first) / 30.4)
+    if a_month >= 4:
+        ticks += _months(scale, first, last, a_month >= MONTH)
+    if not any(tick.label and tick.x < scale.left + START for tick in ticks):
+        ticks.append(Tick(scale.left, f"{_MONTHS[first.month - 1]} {first.year}", False))
     return sorted(ticks)
 
 
 def _months(scale: _Scale, first: date, last: date, labelled: bool) -> List[Tick]:
     days = [date(year, month, 1) for year in range(first.year, last.year + 1) for month in range(2, 13)]
-    return [Tick(scale.x(day.toordinal()), f"{day:%b}" if labelled else "", False)
+    return [Tick(scale.x(day.toordinal()), _MONTHS[day.month - 1] if labelled else "", False)
             for day in days if scale.first <= day.toordinal() < scale.last]
 
 
@@ -149,7 +156,7 @@ def _bands(first: int, last: int, count: int) -> List[Sequence[int]]:
 def _band(streams: Sequence[_Dates], scale: _Scale, y: float, today: int) -> Band:
     lanes = [_lane(dates, scale, y + AXIS + place * LANE) for place, dates in enumerate(streams)]
     here = scale.x(today) if scale.first <= today < scale.last else None
-    return Band(y, AXIS + len(lanes) * LANE, _ticks(scale, scale.width), lanes, here)
+    return Band(y, AXIS + len(lanes) * LANE, _ticks(scale), lanes, here)
 
 
 def _sentence(streams: Sequence[StreamText], first: int, last: int) -> str:

@@ -10,7 +10,6 @@ from typing import Any, List, NamedTuple, Optional
 
 from .documents import Document, at, child, children, streams_of, text_at, text_of, value_of
 from .clean import shown
-from .parties import Parties
 from .tables import per_cent, separated
 
 #: How many steps of a schedule of values are written out.
@@ -174,8 +173,7 @@ def _period_terms(dates: Any) -> List[Term]:
 
 
 def _payment_terms(payments: Any) -> List[Term]:
-    end = _relative(text_at(payments, "payRelativeTo"))
-    when = _offset(child(payments, "paymentDaysOffset"), "at", f"the {end} of what is paid for")
+    when = _offset(child(payments, "paymentDaysOffset"), "at", f"period {_relative(text_at(payments, 'payRelativeTo'))}")
     adjusted = _adjusted(child(payments, "paymentDatesAdjustments"))
     terms = [Term("Payments", f"{_every(child(payments, 'paymentFrequency'))}, {when}; {adjusted}")]
     for element, about in (("firstPaymentDate", "First payment"), ("lastRegularPaymentDate", "Last regular payment")):
@@ -191,7 +189,7 @@ def _reset_terms(resets: Any) -> List[Term]:
     fixing = child(resets, "fixingDates")
     when = _offset(fixing, "on", "that day") + (f", {_adjusted(fixing)}" if fixing is not None else "")
     adjusted = _adjusted(child(resets, "resetDatesAdjustments"))
-    return [Term("Resets", f"at the {_relative(relative)} of each period, {adjusted}; fixed {when}")]
+    return [Term("Resets", f"at period {_relative(relative)}, {adjusted}; fixed {when}")]
 
 
 def _exchange_terms(stream: Any) -> List[Term]:
@@ -210,16 +208,14 @@ def _amount_terms(calculation: Any) -> List[Term]:
     return terms if method in (None, "None") else [*terms, Term("Compounding", shown(method or ""))]
 
 
-def stream_terms(stream: Any, number: int, parties: Parties) -> List[Term]:
+def stream_terms(stream: Any) -> List[Term]:
     """The terms of a stream in words, in the order in which people ask for them."""
-    sides = parties.side(number)
-    who = [] if sides is None else [Term("Who pays", f"{parties.name(sides.payer)} pays {parties.name(sides.receiver)}")]
     dates = child(stream, "calculationPeriodDates")
-    return [*who, *_amount_terms(at(stream, "calculationPeriodAmount/calculation")), *_period_terms(dates),
+    return [*_amount_terms(at(stream, "calculationPeriodAmount/calculation")), *_period_terms(dates),
             *_stub_terms(stream, dates), *_payment_terms(child(stream, "paymentDates")),
             *_reset_terms(child(stream, "resetDates")), *_exchange_terms(stream)]
 
 
-def terms_of(document: Document, parties: Parties) -> List[List[Term]]:
+def terms_of(document: Document) -> List[List[Term]]:
     """The terms of each stream of a document, in order."""
-    return [stream_terms(stream, number, parties) for number, stream in enumerate(streams_of(value_of(document)), 1)]
+    return [stream_terms(stream) for stream in streams_of(value_of(document))]

@@ -1,0 +1,285 @@
+"""`irs-desk`: the schedule, the breaks and the reason of a refusal on a page of this machine's browser.
+
+The page is served to this machine alone (127.0.0.1), at an address with a random part that nobody can guess. Drop a
+document, another party's cash flows and fixings, choose calendars, and look. Nothing is written to disk; the
+last looks stay in memory for their downloads, until newer ones take their place or the program ends. The
+engine's answers are proved, and this page isn't.
+"""
+from __future__ import annotations
+
+import argparse
+import io
+import logging
+import secrets
+import sys
+import threading
+import webbrowser
+from collections import OrderedDict
+from datetime import date
+from pathlib import Path
+from typing import Any, Dict, List, NamedTuple, Optional, Sequence, Tuple
+
+from .documents import json_of
+from .clean import shown
+from .engine import ask
+from .inputs import MOST_BYTES, MOST_CALENDARS, CantRead, Inputs, Named, centres_in, chosen, read_named
+from .insert import with_cashflows
+from .look import Look, look_at
+from .pages import TEMPLATES, environment, report, style
+from .sheets import csv_text
+
+#: The only address that the page is served at.
+ADDRESS = "127.0.0.1"
+
+#: How many looks stay in memory for their downloads.
+MOST_LOOKS = 4
+
+#: The most bytes of one request: every file at the engine's limit, and room for the form around them.
+MOST_REQUEST = (3 + MOST_CALENDARS) * (MOST_BYTES + 1) + (1 << 20)
+
+_HEADERS = {
+    "Content-Security-Policy": "default-src 'none'; style-src 'self'; script-src 'self'; form-action 'self'; "
+                               "base-uri 'none'; frame-ancestors 'none'",
+    "X-Content-Type-Options": "nosniff", "X-Frame-Options": "DENY", "Referrer-Policy": "no-referrer",
+    "Cache-Control": "no-store", "Cross-Origin-Opener-Policy": "same-origin", "Cross-Origin-Resource-Policy": "same-origin",
+}
+
+_log = logging.getLogger(__name__)
+
+
+class Kept(NamedTuple):
+    """A look with what it was made of, for its downloads."""
+
+    inputs: Inputs
+    look: Look
+    party: Optional[str]
+
+
+class Store:
+    """The last looks, by a random name. Threads may use it side by side."""
+
+    def __init__(self) -> None:
+        self._lock = threading.Lock()
+        self._kept: "OrderedDict[str, Kept]" = OrderedDict()
+
+    def keep(self, kept: Kept) -> str:
+        """Keeps a look in place of the oldest, and gives its name."""
+        name = secrets.token_urlsafe(8)
+        with self._lock:
+            self._kept[name] = kept
+            while len(self._kept) > MOST_LOOKS:
+                self._kept.popitem(last=False)
+        return name
+
+    def get(self, name: str) -> Optional[Kept]:
+        """The look of that name, or `None` where it isn't kept any more."""
+        with self._lock:
+            return self._kept.get(name)
+
+
+def _sent(files: Any, field: str) -> List[Named]:
+    """The files of a field of the form; a field that was left empty has none. One byte more than the engine's
+    limit is read, so the engine itself answers that a file is too long."""
+    return [Named(file.filename.replace("\\", "/").rsplit("/", 1)[-1] or "file", file.stream.read(MOST_BYTES + 1))
+            for file in files.getlist(field) if file.filename]
+
+
+def _one(files: Any, field: str) -> Optional[Named]:
+    return next(iter(_sent(files, field)), None)
+
+
+def _calendars(form: Any, files: Any, document: Named, offered: Sequence[Named]) -> List[Named]:
+    ticked = {int(text) for text in form.getlist("offered") if text.isdigit() and len(text) < 6}
+    taken = [file for place, file in enumerate(offered) if place in ticked]
+    if form.get("needed"):
+        taken += [file for file in chosen(document.content, offered) if file not in taken]
+    return taken + _sent(files, "calendars")
+
+
+def asked_for(form: Any, files: Any, offered: Sequence[Named]) -> Kept:
+    """The look that a form asks for. Raises `CantRead` without a document, and `ValueError` for an unknown
+    party."""
+    document = _one(files, "document")
+    if document is None:
+        raise CantRead("Choose a document of terms.")
+    inputs = Inputs(document, _one(files, "fixings"), _one(files, "flows"), _calendars(form, files, document, offered))
+    party = form.get("party", "").strip() or None
+    return Kept(inputs, look_at(inputs, date.today(), party), party)
+
+
+def download(kept: Kept, name: str) -> Optional[Tuple[bytes, str]]:
+    """The bytes and the media type of a download of a look, or `None` where there is none of that name."""
+    if name == "report.html":
+        return report([kept.look]).encode(), "text/html; charset=utf-8"
+    schedule = kept.look.schedule
+    if schedule is None:
+        return None
+    tables = {f"{table.title.lower().replace(' ', '-')}.csv": table for table in schedule.tables(kept.party)}
+    if name in tables:
+        return csv_text(tables[name]).encode(), "text/csv; charset=utf-8"
+    if name == "schedule.xlsx":
+        return schedule.workbook(kept.party), "application/vnd.openxmlformats-officedocument.spreadsheetml.sheet"
+    if name == "document.json":
+        document = kept.inputs.document
+        emitted = ask("emit", kept.inputs._replace(document=Named(document.name, json_of(document.content))))
+        return with_cashflows(json_of(document.content), emitted.text), "application/json"
+    return None
+
+
+def _flask() -> Any:
+    try:
+        import flask
+    except ImportError as missing:
+        raise ImportError("the page needs Flask, which isn't installed (Debian: python3-flask)") from missing
+    return flask
+
+
+def make_app(token: str, offered: Sequence[Named] = ()) -> Any:
+    """The page as a Flask application below `/TOKEN/`; `offered` are the calendar files to choose from.
+
+    Raises `ImportError` where Flask isn't installed.
+    """
+    flask = _flask()
+    templates = environment()
+    store = Store()
+    app = flask.Flask(__name__, static_folder=None, template_folder=None)
+    app.config.update(MAX_CONTENT_LENGTH=MOST_REQUEST)
+
+    class InMemory(flask.Request):  # type: ignore[misc, name-defined]
+        """A request whose files stay in memory; Werkzeug would write the larger ones to disk."""
+
+        def _get_file_stream(self, *_: Any, **__: Any) -> io.BytesIO:
+            return io.BytesIO()
+
+    app.request_class = InMemory
+    calendars = [(place, shown(file.name), ", ".join(map(shown, centres_in(file.content)))) for place, file in enumerate(offered)]
+
+    def form(sentence: str = "", status: int = 200) -> Any:
+        page = templates.get_template("desk_form.html").render(token=token, calendars=calendars, sentence=sentence)
+        return flask.Response(page, status, mimetype="text/html")
+
+    def kept_or_404(name: str) -> Kept:
+        kept = store.get(name)
+        if kept is None:
+            flask.abort(404)
+        return kept
+
+    @app.before_request
+    def guard() -> None:
+        host = flask.request.host.rsplit(":", 1)[0]
+        given = flask.request.path.split("/")[1]
+        if host not in (ADDRESS, "localhost") or not secrets.compare_digest(given.encode(), token.encode()):
+            flask.abort(404)
+
+    @app.after_request
+    def with_headers(response: Any) -> Any:
+        for name, value in _HEADERS.items():
+            response.headers[name] = value
+        return response
+
+    @app.get(f"/{token}/")
+    def start() -> Any:
+        return form()
+
+    @app.get(f"/{token}/look.css")
+    def css() -> Any:
+        return flask.Response(style(), mimetype="text/css")
+
+    @app.get(f"/{token}/desk.js")
+    def script() -> Any:
+        return flask.Response((TEMPLATES / "desk.js").read_text(encoding="utf-8"), mimetype="text/javascript")
+
+    @app.post(f"/{token}/look")
+    def look() -> Any:
+        try:
+            kept = asked_for(flask.request.form, flask.request.files, offered)
+        except (CantRead, ValueError) as why:
+            return form(str(why), 400)
+        return flask.redirect(f"/{token}/look/{store.keep(kept)}", 303)
+
+    @app.get(f"/{token}/look/<name>")
+    def shown_look(name: str) -> Any:
+        kept = kept_or_404(name)
+        page = templates.get_template("desk_look.html").render(token=token, name=name, look=kept.look)
+        return flask.Response(page, mimetype="text/html")
+
+    @app.get(f"/{token}/look/<name>/<what>")
+    def given(name: str, what: str) -> Any:
+        found = download(kept_or_404(name), what)
+        if found is None:
+            flask.abort(404)
+        content, kind = found
+        return flask.Response(content, content_type=kind, headers={"Content-Disposition": f'attachment; filename="{what}"'})
+
+    @app.errorhandler(404)
+    def missing(_: Any) -> Any:
+        return flask.Response("There is nothing at this address, or it isn't kept any more.\n", 404, mimetype="text/plain")
+
+    @app.errorhandler(413)
+    def too_large(_: Any) -> Any:
+        return form("The files together are larger than this page takes.", 413)
+
+    @app.errorhandler(500)
+    def failed(why: Any) -> Any:
+        return form("This look failed. The program's own output says more.", 500)
+
+    return app
+
+
+def make_server(app: Any, port: int = 0) -> Any:
+    """A server of the page at 127.0.0.1 alone; port 0 is any free one. It has `serve_forever` and `shutdown`."""
+    from werkzeug.serving import WSGIRequestHandler, make_server as made
+
+    class Quiet(WSGIRequestHandler):
+        """It writes no line a request: the address has the random part in it."""
+
+        def log_request(self, *_: Any, **__: Any) -> None:
+            return
+
+    return made(ADDRESS, port, app, threaded=True, request_handler=Quiet)
+
+
+class Asked(argparse.Namespace):
+    """The words of the command line."""
+
+    calendars: Optional[Path]
+    port: int
+    open: bool
+
+
+def parser() -> argparse.ArgumentParser:
+    """The words that irs-desk takes."""
+    made = argparse.ArgumentParser(prog="irs-desk", description=__doc__, formatter_class=argparse.RawDescriptionHelpFormatter)
+    made.add_argument("--calendars", type=Path, metavar="FOLDER", help="a folder of calendar files to choose from")
+    made.add_argument("--port", type=int, default=0, help="the port (any free one)")
+    made.add_argument("--open", action="store_true", help="opens the page in the browser")
+    return made
+
+
+def main(arguments: Optional[List[str]] = None) -> int:
+    """Serves the page until it is interrupted; 2, with a sentence, where it can't."""
+    asked = parser().parse_args(arguments, Asked())
+    logging.basicConfig(level=logging.WARNING, format="irs-desk: %(message)s")
+    try:
+        folder = asked.calendars
+        if folder is not None and not folder.is_dir():
+            raise CantRead(f"{shown(str(folder))} is no folder")
+        offered = [] if folder is None else [read_named(path) for path in sorted(folder.glob("*.cal"))]
+        token = secrets.token_urlsafe(24)
+        server = make_server(make_app(token, offered), asked.port)
+    except (CantRead, ImportError, OSError, OverflowError) as why:
+        print(f"irs-desk: {why}", file=sys.stderr)
+        return 2
+    address = f"http://{ADDRESS}:{server.server_port}/{token}/"
+    print(f"{address}\nThis page is for this machine alone. Ctrl-C ends it.", flush=True)
+    if asked.open:
+        webbrowser.open(address)
+    try:
+        server.serve_forever()
+    except KeyboardInterrupt:
+        pass
+    return 0
+
+
+if __name__ == "__main__":
+    sys.exit(main())
