@@ -17,7 +17,7 @@ import webbrowser
 from collections import OrderedDict
 from datetime import date
 from pathlib import Path
-from typing import Any, Dict, List, NamedTuple, Optional, Sequence, Tuple
+from typing import Any, List, NamedTuple, NoReturn, Optional, Sequence, Tuple
 
 from .documents import json_of
 from .clean import shown
@@ -43,9 +43,6 @@ _HEADERS = {
     "X-Content-Type-Options": "nosniff", "X-Frame-Options": "DENY", "Referrer-Policy": "no-referrer",
     "Cache-Control": "no-store", "Cross-Origin-Opener-Policy": "same-origin", "Cross-Origin-Resource-Policy": "same-origin",
 }
-
-_log = logging.getLogger(__name__)
-
 
 class Kept(NamedTuple):
     """A look with what it was made of, for its downloads."""
@@ -134,95 +131,109 @@ def _flask() -> Any:
     return flask
 
 
-def make_app(token: str, offered: Sequence[Named] = ()) -> Any:
-    """The page as a Flask application below `/TOKEN/`; `offered` are the calendar files to choose from.
+class Desk:
+    """The page below `/TOKEN/`; `offered` are the calendar files to choose from.
 
-    Raises `ImportError` where Flask isn't installed.
+    Raises `ImportError` where Flask or Jinja2 isn't installed.
     """
-    flask = _flask()
-    templates = environment()
-    store = Store()
-    app = flask.Flask(__name__, static_folder=None, template_folder=None)
-    app.config.update(MAX_CONTENT_LENGTH=MOST_REQUEST)
 
-    class InMemory(flask.Request):  # type: ignore[misc, name-defined]
+    def __init__(self, token: str, offered: Sequence[Named] = ()) -> None:
+        self.flask = _flask()
+        self.templates = environment()
+        self.token = token
+        self.offered = offered
+        self.store = Store()
+        self.calendars = [(place, shown(file.name), ", ".join(map(shown, centres_in(file.content))))
+                          for place, file in enumerate(offered)]
+
+    def page(self, template: str, status: int = 200, **values: Any) -> Any:
+        """A page of a template."""
+        text = self.templates.get_template(template).render(token=self.token, **values)
+        return self.flask.Response(text, status, mimetype="text/html")
+
+    def form(self, sentence: str = "", status: int = 200) -> Any:
+        """The page that asks for files, with a sentence on what was amiss."""
+        return self.page("desk_form.html", status, calendars=self.calendars, sentence=sentence)
+
+    def style(self) -> Any:
+        """The style sheet."""
+        return self.flask.Response(style(), mimetype="text/css")
+
+    def script(self) -> Any:
+        """The script of the form's drop zones."""
+        return self.flask.Response((TEMPLATES / "desk.js").read_text(encoding="utf-8"), mimetype="text/javascript")
+
+    def look(self) -> Any:
+        """Makes the look that the form asks for, and leads to it."""
+        try:
+            kept = asked_for(self.flask.request.form, self.flask.request.files, self.offered)
+        except (CantRead, ValueError) as why:
+            return self.form(str(why), 400)
+        return self.flask.redirect(f"/{self.token}/look/{self.store.keep(kept)}", 303)
+
+    def looked(self, name: str) -> Any:
+        """The page of a look."""
+        return self.page("desk_look.html", name=name, look=self._kept(name).look)
+
+    def given(self, name: str, what: str) -> Any:
+        """A download of a look."""
+        content, kind = download(self._kept(name), what) or self._nothing()
+        return self.flask.Response(content, content_type=kind, headers={"Content-Disposition": f'attachment; filename="{what}"'})
+
+    def _kept(self, name: str) -> Kept:
+        return self.store.get(name) or self._nothing()
+
+    def _nothing(self) -> NoReturn:
+        self.flask.abort(404)
+        raise AssertionError("abort raises")
+
+    def guard(self) -> None:
+        """Answers nothing to a request that hasn't the random part, or that names another host."""
+        host = self.flask.request.host.rsplit(":", 1)[0]
+        given = self.flask.request.path.split("/")[1]
+        if host not in (ADDRESS, "localhost") or not secrets.compare_digest(given.encode(), self.token.encode()):
+            self.flask.abort(404)
+
+    def with_headers(self, response: Any) -> Any:
+        """The answer with the headers that keep the page to itself."""
+        for name, value in _HEADERS.items():
+            response.headers[name] = value
+        return response
+
+    def missing(self, _: Exception) -> Any:
+        """What is said where there is nothing."""
+        return self.flask.Response("There is nothing at this address, or it isn't kept any more.\n", 404, mimetype="text/plain")
+
+    def too_large(self, _: Exception) -> Any:
+        """What is said of a request that is too large."""
+        return self.form("The files together are larger than this page takes.", 413)
+
+    def failed(self, _: Exception) -> Any:
+        """What is said where the page itself fails."""
+        return self.form("This look failed. The program's own output says more.", 500)
+
+
+def make_app(token: str, offered: Sequence[Named] = ()) -> Any:
+    """The page as a Flask application. Raises `ImportError` where Flask or Jinja2 isn't installed."""
+    desk = Desk(token, offered)
+
+    class InMemory(desk.flask.Request):  # type: ignore[misc, name-defined]
         """A request whose files stay in memory; Werkzeug would write the larger ones to disk."""
 
         def _get_file_stream(self, *_: Any, **__: Any) -> io.BytesIO:
             return io.BytesIO()
 
+    app = desk.flask.Flask(__name__, static_folder=None, template_folder=None)
+    app.config.update(MAX_CONTENT_LENGTH=MOST_REQUEST)
     app.request_class = InMemory
-    calendars = [(place, shown(file.name), ", ".join(map(shown, centres_in(file.content)))) for place, file in enumerate(offered)]
-
-    def form(sentence: str = "", status: int = 200) -> Any:
-        page = templates.get_template("desk_form.html").render(token=token, calendars=calendars, sentence=sentence)
-        return flask.Response(page, status, mimetype="text/html")
-
-    def kept_or_404(name: str) -> Kept:
-        kept = store.get(name)
-        if kept is None:
-            flask.abort(404)
-        return kept
-
-    @app.before_request
-    def guard() -> None:
-        host = flask.request.host.rsplit(":", 1)[0]
-        given = flask.request.path.split("/")[1]
-        if host not in (ADDRESS, "localhost") or not secrets.compare_digest(given.encode(), token.encode()):
-            flask.abort(404)
-
-    @app.after_request
-    def with_headers(response: Any) -> Any:
-        for name, value in _HEADERS.items():
-            response.headers[name] = value
-        return response
-
-    @app.get(f"/{token}/")
-    def start() -> Any:
-        return form()
-
-    @app.get(f"/{token}/look.css")
-    def css() -> Any:
-        return flask.Response(style(), mimetype="text/css")
-
-    @app.get(f"/{token}/desk.js")
-    def script() -> Any:
-        return flask.Response((TEMPLATES / "desk.js").read_text(encoding="utf-8"), mimetype="text/javascript")
-
-    @app.post(f"/{token}/look")
-    def look() -> Any:
-        try:
-            kept = asked_for(flask.request.form, flask.request.files, offered)
-        except (CantRead, ValueError) as why:
-            return form(str(why), 400)
-        return flask.redirect(f"/{token}/look/{store.keep(kept)}", 303)
-
-    @app.get(f"/{token}/look/<name>")
-    def shown_look(name: str) -> Any:
-        kept = kept_or_404(name)
-        page = templates.get_template("desk_look.html").render(token=token, name=name, look=kept.look)
-        return flask.Response(page, mimetype="text/html")
-
-    @app.get(f"/{token}/look/<name>/<what>")
-    def given(name: str, what: str) -> Any:
-        found = download(kept_or_404(name), what)
-        if found is None:
-            flask.abort(404)
-        content, kind = found
-        return flask.Response(content, content_type=kind, headers={"Content-Disposition": f'attachment; filename="{what}"'})
-
-    @app.errorhandler(404)
-    def missing(_: Any) -> Any:
-        return flask.Response("There is nothing at this address, or it isn't kept any more.\n", 404, mimetype="text/plain")
-
-    @app.errorhandler(413)
-    def too_large(_: Any) -> Any:
-        return form("The files together are larger than this page takes.", 413)
-
-    @app.errorhandler(500)
-    def failed(why: Any) -> Any:
-        return form("This look failed. The program's own output says more.", 500)
-
+    app.before_request(desk.guard)
+    app.after_request(desk.with_headers)
+    for path, view in (("", desk.form), ("look.css", desk.style), ("desk.js", desk.script), ("look/<name>", desk.looked),
+                       ("look/<name>/<what>", desk.given)):
+        app.add_url_rule(f"/{token}/{path}", view_func=view)
+    app.add_url_rule(f"/{token}/look", view_func=desk.look, methods=["POST"])
+    for status, told in ((404, desk.missing), (413, desk.too_large), (500, desk.failed)):
+        app.register_error_handler(status, told)
     return app
 
 

@@ -28,11 +28,11 @@ def json_of(document: bytes) -> bytes:
 
 
 def value_of(document: Document) -> Any:
-    """The JSON value of a document, or `None` where it has none."""
+    """The JSON value of a document, its numbers as their texts, or `None` where it has none."""
     if isinstance(document, Mapping):
         return document
     try:
-        return json.loads(as_bytes(document).decode())
+        return json.loads(as_bytes(document).decode(), parse_int=str, parse_float=str)
     except (ValueError, RecursionError):
         return None
 

@@ -5,8 +5,8 @@ sums of these amounts, exact, and for display alone.
 """
 from __future__ import annotations
 
+import datetime
 from collections import defaultdict
-from datetime import date
 from decimal import Context, Decimal
 from typing import Dict, Iterable, Iterator, List, NamedTuple, Optional, Tuple
 
@@ -30,13 +30,13 @@ class CashFlow(NamedTuple):
     says how many of them aren't.
     """
 
-    date: date
+    date: datetime.date
     stream: int
     kind: str
     number: int
     first_period: Optional[int]
     last_period: Optional[int]
-    unadjusted: date
+    unadjusted: datetime.date
     payer: Optional[str]
     receiver: Optional[str]
     direction: str
@@ -78,8 +78,8 @@ def _flow(stream: StreamText, parties: Parties, seen_from: Optional[str], kind: 
     received = sides is not None and seen_from == sides.receiver
     seen = of_payer if received else _flipped(of_payer)
     return CashFlow(
-        date=date.fromisoformat(dates[1]), stream=stream.stream, kind=kind, number=int(number),
-        first_period=periods[0], last_period=periods[1], unadjusted=date.fromisoformat(dates[0]),
+        date=datetime.date.fromisoformat(dates[1]), stream=stream.stream, kind=kind, number=int(number),
+        first_period=periods[0], last_period=periods[1], unadjusted=datetime.date.fromisoformat(dates[0]),
         payer=names[1] if turned else names[0], receiver=names[0] if turned else names[1],
         direction=RECEIVES if received != turned else PAYS, currency=stream.currency, amount=seen,
         total=None, waiting=0)

@@ -62,12 +62,13 @@ class StreamLook(NamedTuple):
 
 
 class Wait(NamedTuple):
-    """A reset that waits for its fixing. `passed` says whether the day is before today."""
+    """A reset that waits for its fixing: the fixing day, the index and tenor that it observes, and whether the
+    day is before today."""
 
     stream: int
     period: str
     day: str
-    index: str
+    observes: str
     passed: bool
 
 
@@ -143,19 +144,23 @@ def _net_row(line: str, parties: Parties) -> NetRow:
     assert first is not None  # the engine nets only streams that name their parties
     amount = Decimal(text)
     payer = parties.name(first.payer if amount > 0 else first.receiver) if amount else ""
-    waiting = "" if unknown == "0" else f"{unknown} amount{'' if unknown == '1' else 's'} not known"
+    waiting = "" if unknown == "0" else f"{_counted(int(unknown), 'amount')} not known"
     if waiting and not amount:
         return NetRow(day, "", currency, "", waiting)
     return NetRow(day, payer, currency, separated(text.lstrip("-")), f"and {waiting}" if waiting else "")
+
+
+def _counted(count: int, what: str) -> str:
+    return f"{count} {what}{'' if count == 1 else 's'}"
 
 
 def _headline(streams: Sequence[StreamText]) -> Said:
     payments = [payment for stream in streams for payment in stream.payments]
     periods = sum(len(stream.periods) for stream in streams)
     open_payments = sum(payment.amount == UNKNOWN for payment in payments)
-    made = f"{len(streams)} stream{'s' * (len(streams) != 1)}, {periods} periods, {len(payments)} payments"
+    made = f"{_counted(len(streams), 'stream')}, {_counted(periods, 'period')}, {_counted(len(payments), 'payment')}"
     if open_payments:
-        return Said(f"{made}, of which {open_payments} wait for a fixing.", WAITS)
+        return Said(f"{made}; {_counted(open_payments, 'amount')} not known, as a fixing is missing.", WAITS)
     return Said(f"{made}; every amount is known.", GOOD)
 
 
@@ -165,8 +170,8 @@ def _verdict(reply: Reply) -> Said:
     _, rows, unfixed = reply.line.split()
     if unfixed == "0":
         return Said(f"Agrees in all {rows} rows.", GOOD)
-    return Said(f"Agrees in what is known: {rows} rows, but {unfixed} payment{'s' * (unfixed != '1')} wait for a fixing, "
-                "and their amounts weren't compared.", WAITS)
+    return Said(f"Agrees in what is known: {rows} rows. Not compared, as a fixing is missing: "
+                f"{_counted(int(unfixed), 'amount')}.", WAITS)
 
 
 def _as_json(file: Named) -> Named:
@@ -176,10 +181,11 @@ def _as_json(file: Named) -> Named:
 def _with_flows(look: Look, inputs: Inputs) -> Look:
     if inputs.flows is None:
         return look
+    stated = inputs.flows
     try:
-        inputs = inputs._replace(flows=_as_json(inputs.flows))
+        inputs = inputs._replace(flows=_as_json(stated))
     except NotRead as why:
-        return look._replace(flows_refusal=unread(inputs.flows, str(why)))
+        return look._replace(flows_refusal=unread(stated, str(why)))
     reply = ask("audit", inputs)
     if reply.status > 1:
         return look._replace(flows_refusal=refusal_of(reply))

@@ -36,7 +36,8 @@ class Line(NamedTuple):
 
 class Refusal(NamedTuple):
     """Why there is no answer. `line` is what the program prints, `sentence` what it says, and `rule` the
-    rule's name or empty. `steps` are the names on the way to the element; `file` and `lines` show the
+    rule's name or empty. `steps` are the names on the way to the element, and `position`
+    is the index of the line (docs/RULES.md), or 0; `file` and `lines` show the
     text around it, and are empty where nothing can be shown."""
 
     what: str
@@ -45,7 +46,7 @@ class Refusal(NamedTuple):
     rule: str
     stream: int
     steps: List[str]
-    index: int
+    position: int
     file: str
     lines: List[Line]
 
@@ -81,7 +82,7 @@ def _lines_at(content: bytes, spot: Optional[Spot]) -> List[Line]:
 
 def _lines_of_bad_json(content: bytes) -> List[Line]:
     try:
-        json.loads(content.decode())
+        json.loads(content.decode(), parse_int=str, parse_float=str)
     except UnicodeDecodeError as why:
         before = content[: why.start]
         return lines_around(content, before.count(b"\n") + 1, len(before) - before.rfind(b"\n") - 1)

@@ -88,8 +88,6 @@ def _row(sheet: Any, table: Table, row: Sequence[Optional[str]], made: Any) -> L
         written = made(sheet, value=value)
         if number_format is not None:
             written.number_format = number_format
-        elif value is not None:
-            written.data_type = "s"  # a text that begins with = is no formula
         cells.append(written)
     return cells
 

@@ -13,7 +13,7 @@ import os
 import sys
 from datetime import date
 from pathlib import Path
-from typing import Iterator, List, Optional, Sequence
+from typing import Dict, Iterator, List, Optional, Sequence
 
 from .clean import shown
 from .engine import ask
@@ -157,7 +157,7 @@ def lines(streams: List[StreamText], parties: Parties, party: Optional[str], una
     yield from flow_lines(flows, view_sentence(parties, viewer(parties, party)))
 
 
-def _records(table: Table) -> List[dict]:
+def _records(table: Table) -> List[Dict[str, Optional[str]]]:
     names = [column.name for column in table.columns]
     return [dict(zip(names, row)) for row in table.rows]
 

@@ -201,8 +201,8 @@ def laid_out(column: Column, cells: Sequence[Optional[str]], waits: str) -> List
         places = _places(column, cells)
         return [waits if cell is None else per_cent(cell, places) if cell else "" for cell in cells]
     if column.kind in (AMOUNT, NOTIONAL):
-        places = _places(column, cells) if column.kind == NOTIONAL else None
-        return [waits if cell is None else separated(cell, places) for cell in cells]
+        kept = _places(column, cells) if column.kind == NOTIONAL else None
+        return [waits if cell is None else separated(cell, kept) for cell in cells]
     return [waits if cell is None else cell for cell in cells]
 
 

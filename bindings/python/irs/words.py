@@ -6,7 +6,7 @@ The document was read by the engine before, so what is absent here is absent the
 from __future__ import annotations
 
 import re
-from typing import Any, List, NamedTuple, Optional
+from typing import Any, Callable, List, NamedTuple, Optional
 
 from .documents import Document, at, child, children, streams_of, text_at, text_of, value_of
 from .clean import shown
@@ -21,6 +21,8 @@ _CONVENTIONS = {
     "FOLLOWING": "following", "MODFOLLOWING": "modified following", "PRECEDING": "preceding",
     "MODPRECEDING": "modified preceding", "NEAREST": "nearest",
 }
+
+Read = Callable[[Optional[str]], str]
 
 _DECIMAL = re.compile(r"[+-]?(\d+\.?\d*|\.\d+)")
 
@@ -95,14 +97,14 @@ def _relative(text: Optional[str]) -> str:
     return "start" if text == "CalculationPeriodStartDate" else "end"
 
 
-def _steps(schedule: Any, read: Any) -> str:
+def _steps(schedule: Any, read: Read) -> str:
     steps = children(schedule, "step")
     said = [f"{shown(text_at(step, 'stepDate') or '')} {read(text_at(step, 'stepValue'))}" for step in steps[:MOST_STEPS]]
     more = f", and {len(steps) - MOST_STEPS} more" if len(steps) > MOST_STEPS else ""
     return f"; from {', '.join(said)}{more}" if said else ""
 
 
-def _schedule(schedule: Any, read: Any) -> str:
+def _schedule(schedule: Any, read: Read) -> str:
     return read(text_at(schedule, "initialValue")) + _steps(schedule, read)
 
 

@@ -16,6 +16,7 @@ import unittest
 from datetime import date
 from decimal import Decimal
 from pathlib import Path
+from unittest import mock
 
 HERE = Path(__file__).resolve().parent
 EXAMPLES = HERE.parents[2] / "examples"
@@ -180,7 +181,10 @@ class Cells(unittest.TestCase):
             self.assertEqual(row["total"] and Decimal(row["total"]), totals.get(key, ""))
 
     def sides_of(self, trade):
+        """Who the flows are seen from and who pays each stream; two `None` where the terms don't say it."""
         streams = json.loads(trade.document.content)["dataDocument"]["trade"]["swap"]["swapStream"]
+        if "payerPartyReference" not in streams[0]:
+            return None, None
         payers = [stream["payerPartyReference"]["@href"] for stream in streams]
         return payers[0], payers
 
@@ -271,7 +275,7 @@ class Cells(unittest.TestCase):
             kind, number = row["What"][0].split()
             fields = rows[("x" if kind == "exchange" else "p", row["Stream"][0], number)]
             amount = printed_number(fields[-1])
-            received = payers[int(row["Stream"][0]) - 1] != seen_from
+            received = bool(payers) and payers[int(row["Stream"][0]) - 1] != seen_from
             if amount is not None and amount < 0:
                 received = not received
             shown, empty = (row["Receives"][0], row["Pays"][0]) if received else (row["Pays"][0], row["Receives"][0])
@@ -494,7 +498,7 @@ class Refusals(unittest.TestCase):
     def test_a_step_and_a_centre(self):
         files = Inputs(self.terms(b'"stepDate":"2024-07-15"', b'"stepDate":"2024-07-16"', "amortising/terms.json"))
         line, refusal = self.marked("check", files)
-        self.assertEqual((refusal.rule, refusal.index), ("K36", 2))
+        self.assertEqual((refusal.rule, refusal.position), ("K36", 2))
         self.assertIn("2024-07-16", line)
         line, refusal = self.marked("check", Inputs(named("business_days/terms.json")))
         self.assertIn('"businessCenter":["DEFR"]', line)
@@ -545,6 +549,55 @@ class Refusals(unittest.TestCase):
                 self.assertEqual(sum(line.marked for line in refusal.lines), 1, folder.name)
 
 
+@needs("jinja2")
+class Reports(unittest.TestCase):
+    def report(self, room, *arguments):
+        done = run_show(*arguments, "-o", f"{room}/report.html", "--today", "2026-11-29", module="irs.report")
+        return done, Page(Path(room, "report.html").read_text()) if Path(room, "report.html").exists() else None
+
+    def test_what_lies_beside_a_trade_is_used(self):
+        with tempfile.TemporaryDirectory() as room:
+            for name, source in (("A.json", "compounded/terms.json"), ("A.fixings", "compounded/fixings"), ("A.flows.json", "emitted/output"),
+                                 ("B.json", "business_days/terms.json"), ("C.json", "compounded/terms.json")):
+                Path(room, name).write_bytes(example(source))
+            Path(room, "calendars").mkdir()
+            Path(room, "calendars", "de.cal").write_bytes(example("business_days/de.cal"))
+            Path(room, "D.json").write_bytes(b"<FpML/>")
+            done, page = self.report(room, *(f"{room}/{name}.json" for name in "ABCD"))
+            self.assertEqual((done.returncode, done.stderr), (0, b""))
+            text = Path(room, "report.html").read_text()
+        links = [attributes["href"] for tag, attributes in page.tags if tag == "a"]
+        self.assertEqual(links, ["#trade-1", "#trade-2", "#trade-3", "#trade-4"])
+        self.assertEqual([len(table) for table in page.captioned("Periods")], [2, 5, 2])
+        for said in ("1 stream, 2 periods, 1 payment; every amount is known. Agrees in all 5 rows.", "1 amount not known, as a fixing is missing.",
+                     "This version can&#39;t read the file", "XML isn&#39;t read by this version"):
+            self.assertIn(said, text)
+
+    def test_options_name_other_files(self):
+        with tempfile.TemporaryDirectory() as room:
+            folder = EXAMPLES / "fixed_leg"
+            done, page = self.report(room, folder / "terms.json", "--flows", EXAMPLES / "audit_departs" / "flows.json")
+            self.assertEqual(done.returncode, 0, done.stderr)
+            marked = [attributes for tag, attributes in page.tags if tag == "td" and "departs" in (attributes.get("class") or "")]
+            self.assertEqual(len(marked), 2)
+
+    def test_what_it_refuses(self):
+        with tempfile.TemporaryDirectory() as room:
+            for arguments, sentence in (
+                    ((f"{room}/none.json",), b"none.json can't be read"),
+                    ((EXAMPLES / "net" / "terms.json", "--party", "nobody"), b"no party of the streams is called nobody"),
+                    ((EXAMPLES / "net" / "terms.json", EXAMPLES / "net" / "terms.json", "--flows", "x"), b"--flows goes with a single trade")):
+                done, page = self.report(room, *arguments)
+                self.assertEqual((done.returncode, page), (2, None))
+                self.assertIn(sentence, done.stderr)
+
+    def test_a_document_from_standard_input(self):
+        with tempfile.TemporaryDirectory() as room:
+            done = run_show("-", "-o", f"{room}/r.html", module="irs.report", stdin=example("fixed_leg/terms.json"))
+            self.assertEqual((done.returncode, done.stderr), (0, b""))
+            self.assertIn("25,277.78", Path(room, "r.html").read_text())
+
+
 class Sides(unittest.TestCase):
     def test_the_cell_that_the_audit_names_is_marked_and_no_other(self):
         files = Inputs(named("fixed_leg/terms.json"), None, named("audit_departs/flows.json"))
@@ -559,7 +612,7 @@ class Sides(unittest.TestCase):
         self.assertEqual(look_at(Inputs(terms, named("compounded/fixings"), flows), TODAY).verdict.tone, "good")
         open_look = look_at(Inputs(terms, None, flows), TODAY)
         self.assertEqual(open_look.verdict.tone, "waits")
-        self.assertIn("1 payment wait", open_look.verdict.text)
+        self.assertEqual(open_look.verdict.text, "Agrees in what is known: 5 rows. Not compared, as a fixing is missing: 1 amount.")
 
     def test_rows_that_one_side_lacks(self):
         mark = compare.mark_of("no 1 payment 2 missing")
@@ -573,6 +626,9 @@ class Sides(unittest.TestCase):
         look = look_at(Inputs(named("net/terms.json")), TODAY)
         self.assertEqual([(row.day, row.payer, row.amount, row.note) for row in look.net],
                          [("2024-07-15", "p1", "25,277.78", "and 1 amount not known"), ("2025-01-15", "p1", "25,555.56", "")])
+        made = trades.stream(1, "us", "2024-01-15", "2024-07-15", 6, "1000", "USD", "ACT/360", index="X", convention="NONE")
+        look = look_at(Inputs(Named("t", trades.document(made)), calendars=[Named("c", trades.CALENDAR)]), TODAY)
+        self.assertEqual([tuple(row) for row in look.net], [("2024-07-15", "", "USD", "", "1 amount not known")])
 
 
 class Insert(unittest.TestCase):
@@ -631,6 +687,9 @@ class Picture(unittest.TestCase):
         line = look_at(trades.stub(), TODAY).wide
         self.assertEqual([len(lane.stubs) for band in line.bands for lane in band.lanes], [2, 2])
         self.assertFalse(look_at(trades.vanilla(), TODAY).wide.has["stubs"])
+        dates = {"firstRegularPeriodStartDate": "2024-01-15", "lastRegularPeriodEndDate": "2025-01-15"}
+        made = trades.stream(1, "us", "2024-01-15", "2025-01-15", 6, "1000", "USD", "ACT/360", rate="0.01", dates=dates, convention="NONE")
+        self.assertFalse(look_at(Inputs(Named("t", trades.document(made))), TODAY).wide.has["stubs"])
 
 
 class Words(unittest.TestCase):
@@ -702,6 +761,84 @@ class Optional(unittest.TestCase):
         self.assertIn(b"plot() needs matplotlib, which isn't installed (Debian: python3-matplotlib)", done.stderr)
         done = self.without("jinja2", made + "assert s._repr_html_() is None")
         self.assertEqual(done.returncode, 0, done.stderr)
+
+
+@needs("flask")
+@needs("jinja2")
+class Desk(unittest.TestCase):
+    """The page without a browser: what stays in memory, who is answered, what is too large."""
+
+    def setUp(self):
+        from irs import desk
+        self.client = desk.make_app("token", [Named("test.cal", trades.CALENDAR)]).test_client()
+
+    def get(self, path, host="127.0.0.1:5000"):
+        return self.client.get(path, headers={"Host": host})
+
+    def look(self, **fields):
+        return self.client.post("/token/look", data=fields, headers={"Host": "127.0.0.1"}, content_type="multipart/form-data")
+
+    def test_no_upload_is_written(self):
+        """Any temporary file would be made by one of these two; a file of 3 MiB is one that Werkzeug writes to disk."""
+        content = example("fixed_leg/terms.json") + b" " * (3 << 20)
+        with mock.patch("tempfile.TemporaryFile", side_effect=AssertionError), \
+                mock.patch("tempfile.SpooledTemporaryFile.rollover", side_effect=AssertionError):
+            answer = self.look(document=(io.BytesIO(content), "terms.json"))
+        self.assertEqual(answer.status_code, 303)
+        self.assertIn("25,277.78", self.get(answer.headers["Location"]).text)
+
+    def test_who_is_answered(self):
+        self.assertEqual(self.get("/token/").status_code, 200)
+        self.assertEqual(self.get("/token/", "localhost:5000").status_code, 200)
+        for path, host in (("/", "127.0.0.1"), ("/toke/", "127.0.0.1"), ("/token2/", "127.0.0.1"), ("/token/", "evil.example"),
+                           ("/token/", "127.0.0.1.evil.example"), ("/token/look/x", "127.0.0.1"), ("/token/look/x/y", "127.0.0.1")):
+            self.assertEqual(self.get(path, host).status_code, 404, (path, host))
+
+    def test_headers(self):
+        for path in ("/token/", "/token/look.css", "/token/desk.js", "/nothing"):
+            headers = self.get(path).headers
+            policy = headers["Content-Security-Policy"]
+            self.assertIn("default-src 'none'", policy)
+            self.assertIn("script-src 'self'", policy)
+            self.assertNotIn("unsafe", policy)
+            self.assertEqual((headers["Referrer-Policy"], headers["Cache-Control"]), ("no-referrer", "no-store"))
+
+    def test_the_form_says_what_is_missing(self):
+        answer = self.look()
+        self.assertEqual(answer.status_code, 400)
+        self.assertIn("Choose a document of terms.", answer.text)
+        terms = (io.BytesIO(trades.stub().document.content), "t.json")
+        answer = self.look(document=terms, needed="1", party="<b>nobody")
+        self.assertEqual(answer.status_code, 400)
+        self.assertIn("no party of the streams is called &lt;b&gt;nobody", answer.text)
+
+    def test_only_offered_calendars_are_taken(self):
+        terms = trades.stub().document.content
+        for choice in ("9", "-1", "../test.cal", "0" * 30):
+            answer = self.look(document=(io.BytesIO(terms), "t.json"), offered=choice)
+            self.assertIn("K12", self.get(answer.headers["Location"]).text)
+        answer = self.look(document=(io.BytesIO(terms), "t.json"), offered="0")
+        self.assertNotIn("K12", self.get(answer.headers["Location"]).text)
+
+    def test_old_looks_are_dropped(self):
+        from irs.desk import MOST_LOOKS
+        terms = example("fixed_leg/terms.json")
+        places = [self.look(document=(io.BytesIO(terms), "t.json")).headers["Location"] for _ in range(MOST_LOOKS + 1)]
+        self.assertEqual([self.get(place).status_code for place in places], [404] + [200] * MOST_LOOKS)
+
+    def test_too_large_together(self):
+        from irs import desk
+        with mock.patch.object(desk, "MOST_REQUEST", 1000):
+            client = desk.make_app("token").test_client()
+        answer = client.post("/token/look", data={"document": (io.BytesIO(b" " * 2000), "t.json")}, headers={"Host": "127.0.0.1"})
+        self.assertEqual(answer.status_code, 413)
+        self.assertIn("larger than this page takes", answer.text)
+
+    def test_the_server_is_for_this_machine_alone(self):
+        from irs import desk
+        server = desk.make_server(desk.make_app("token"))
+        self.addCleanup(server.server_close)
+        self.assertEqual(server.socket.getsockname()[0], "127.0.0.1")
 
 
 class Notebook(unittest.TestCase):

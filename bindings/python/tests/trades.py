@@ -182,7 +182,7 @@ def random_trade(number: int) -> Inputs:
         several = floating and months in (1, 3) and count % 2 == 0 and rates.random() < 0.4
         streams.append(stream(
             place, rates.choice(("us", "them")), start.isoformat(), end.isoformat(), months,
-            str(rates.choice((1, 999, 10 ** 6, 12345678, 10 ** 9, 10 ** 13))), rates.choice(("USD", "EUR", "JPY", "BHD")),
+            rates.choice(("1", "999", "1000000", "12345678.1234", "0.5", "1000000000", "10000000000000")), rates.choice(("USD", "EUR", "JPY", "BHD")),
             rates.choice(("ACT/360", "30/360", "ACT/365.FIXED", "30E/360", "ACT/ACT.ISDA")),
             rate=None if floating else f"{rates.randint(-10000000, 90000000) / 10 ** 9:.9f}",
             index="A-TEST-INDEX" if floating else None, spread="0.001234567" if floating and rates.random() < 0.5 else None,
@@ -191,4 +191,7 @@ def random_trade(number: int) -> Inputs:
             compounding=rates.choice(("Straight", "Flat")) if several else None, pay_lag=rates.choice((0, 0, 2))))
     until = (start + timedelta(rates.randint(0, 4000))).isoformat()
     parties = PARTIES if rates.random() < 0.8 else []
+    if rates.random() < 0.2:
+        for made in streams:
+            del made["payerPartyReference"]
     return _inputs(f"random-{number}", document(*streams, parties=parties), until, number)
