@@ -97,15 +97,12 @@ def _relative(text: Optional[str]) -> str:
     return "start" if text == "CalculationPeriodStartDate" else "end"
 
 
-def _steps(schedule: Any, read: Read) -> str:
+def _steps(about: str, schedule: Any, read: Read) -> List[Term]:
     steps = children(schedule, "step")
-    said = [f"{shown(text_at(step, 'stepDate') or '')} {read(text_at(step, 'stepValue'))}" for step in steps[:MOST_STEPS]]
-    more = f", and {len(steps) - MOST_STEPS} more" if len(steps) > MOST_STEPS else ""
-    return f"; from {', '.join(said)}{more}" if said else ""
-
-
-def _schedule(schedule: Any, read: Read) -> str:
-    return read(text_at(schedule, "initialValue")) + _steps(schedule, read)
+    terms = [Term(f"{about} from {shown(text_at(step, 'stepDate') or '')}", read(text_at(step, "stepValue")))
+             for step in steps[:MOST_STEPS]]
+    more = len(steps) - MOST_STEPS
+    return [*terms, Term(f"{about} then", f"{more} more steps, which the periods show")] if more > 0 else terms
 
 
 def index_of(rate_element: Any) -> str:
@@ -114,20 +111,23 @@ def index_of(rate_element: Any) -> str:
     return f"{name} {tenor(child(rate_element, 'indexTenor'))}".strip()
 
 
-def _floating(floating: Any) -> str:
-    parts = [index_of(floating)]
-    if child(floating, "floatingRateMultiplierSchedule") is not None:
-        parts.append(f"times {_schedule(child(floating, 'floatingRateMultiplierSchedule'), lambda text: shown(text or ''))}")
-    if child(floating, "spreadSchedule") is not None:
-        parts.append(f"plus {_schedule(child(floating, 'spreadSchedule'), rate)}")
-    return " ".join(parts)
+def _factor(text: Optional[str]) -> str:
+    return shown(text or "")
+
+
+def _floating_terms(floating: Any) -> List[Term]:
+    multiplier, spread = child(floating, "floatingRateMultiplierSchedule"), child(floating, "spreadSchedule")
+    times = "" if multiplier is None else f" times {_factor(text_at(multiplier, 'initialValue'))}"
+    plus = "" if spread is None else f" plus {rate(text_at(spread, 'initialValue'))}"
+    return [Term("Rate", index_of(floating) + times + plus), *_steps("Multiplier", multiplier, _factor),
+            *_steps("Spread", spread, rate)]
 
 
 def _rate_terms(calculation: Any) -> List[Term]:
     fixed, floating = child(calculation, "fixedRateSchedule"), child(calculation, "floatingRateCalculation")
     if fixed is not None:
-        return [Term("Rate", f"fixed, {_schedule(fixed, rate)}")]
-    terms = [Term("Rate", _floating(floating))]
+        return [Term("Rate", f"fixed, {rate(text_at(fixed, 'initialValue'))}"), *_steps("Rate", fixed, rate)]
+    terms = _floating_terms(floating)
     if text_at(floating, "initialRate") is not None:
         terms.append(Term("First rate", rate(text_at(floating, "initialRate"))))
     rounding = child(floating, "finalRateRounding")
@@ -204,8 +204,8 @@ def _exchange_terms(stream: Any) -> List[Term]:
 def _amount_terms(calculation: Any) -> List[Term]:
     notional = at(calculation, "notionalSchedule/notionalStepSchedule")
     currency = shown(text_at(notional, "currency") or "")
-    terms = [Term("Notional", f"{currency} {_schedule(notional, amount)}"), *_rate_terms(calculation),
-             Term("Day count", shown(text_at(calculation, "dayCountFraction") or ""))]
+    terms = [Term("Notional", f"{currency} {amount(text_at(notional, 'initialValue'))}"), *_steps("Notional", notional, amount),
+             *_rate_terms(calculation), Term("Day count", shown(text_at(calculation, "dayCountFraction") or ""))]
     method = text_at(calculation, "compoundingMethod")
     return terms if method in (None, "None") else [*terms, Term("Compounding", shown(method or ""))]
 

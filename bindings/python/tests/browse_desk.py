@@ -8,6 +8,7 @@ import csv
 import io
 import json
 import os
+import shutil
 import subprocess
 import sys
 import tempfile
@@ -66,13 +67,13 @@ return found;
 
 def browser(folder):
     options = Options()
-    options.binary_location = "/usr/bin/chromium"
+    options.binary_location = shutil.which("chromium")
     for word in ("--headless=new", "--no-sandbox", "--disable-gpu", "--disable-dev-shm-usage", "--hide-scrollbars",
                  f"--user-data-dir={folder}/profile"):
         options.add_argument(word)
     options.add_experimental_option("prefs", {"download.default_directory": f"{folder}/downloads"})
     options.set_capability("goog:loggingPrefs", {"browser": "ALL"})
-    return webdriver.Chrome(service=Service("/usr/bin/chromedriver"), options=options)
+    return webdriver.Chrome(service=Service(shutil.which("chromedriver")), options=options)
 
 
 class Browser(unittest.TestCase):
@@ -229,10 +230,10 @@ class Desk(Browser):
 
     def test_a_name_that_climbs(self):
         before = sorted(str(path) for path in self.folder.rglob("*"))
-        self.drop("document", "../../../../tmp/evil.json", (EXAMPLES / "fixed_leg" / "terms.json").read_bytes())
+        self.drop("document", "../" * 9 + tempfile.gettempdir()[1:] + "/evil.json", (EXAMPLES / "fixed_leg" / "terms.json").read_bytes())
         self.look()
         self.assertIn("25,277.78", self.text())
-        self.assertFalse(os.path.exists("/tmp/evil.json"))
+        self.assertFalse(Path(tempfile.gettempdir(), "evil.json").exists())
         self.assertEqual(self.download("Report").name, "report.html")
         (self.folder / "downloads" / "report.html").unlink()
         after = sorted(str(path) for path in self.folder.rglob("*") if "profile" not in path.parts)

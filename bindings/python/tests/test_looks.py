@@ -8,6 +8,7 @@ import importlib.util
 import io
 import json
 import os
+import re
 import resource
 import subprocess
 import sys
@@ -33,6 +34,9 @@ from irs.printed import printed
 from irs.refusals import refusal_of
 
 TODAY = date(2026, 11, 29)
+
+#: Where the page stands in the tests without a browser.
+TOP = "/token/"
 
 HAS = {name: importlib.util.find_spec(name) is not None for name in ("jinja2", "flask", "openpyxl", "matplotlib")}
 
@@ -348,6 +352,15 @@ class Show(unittest.TestCase):
         self.assertEqual(last.split(), ["2025-01-15", "Wed", "2", "payment", "2", "USD", "28,111.11", "-55,411.11"])
         self.assertEqual(last.index("28,111.11") + len("28,111.11"), head.index("Pays") + len("Pays"))
 
+    def test_the_page_shows_what_is_printed(self):
+        """Each block of docs/LOOKING.md that begins with `$ irs-show`, run in the folder that the page names before it."""
+        page = (EXAMPLES.parent / "docs" / "LOOKING.md").read_text()
+        found = re.findall(r"In `examples/(\w+)`:\n\n    \$ irs-show (.*)\n((?:(?:    .*)?\n)+)", page)
+        self.assertEqual(len(found), 2)
+        for folder, words_of, block in found:
+            arguments = [EXAMPLES / folder / word if word in ("terms.json", "fixings") else word for word in words_of.split()]
+            self.assertEqual([line[4:] for line in block.rstrip().split("\n")], self.lines(*arguments))
+
     def test_from_to_and_next(self):
         folder = EXAMPLES / "amortising"
         lines = self.lines(folder / "terms.json", "--from", "2024-07-15", "--to", "2024-10-15")
@@ -376,7 +389,7 @@ class Show(unittest.TestCase):
                 ((EXAMPLES / "nowhere.json",), "nowhere.json can't be read: No such file or directory"),
                 ((EXAMPLES,), "can't be read: Is a directory"),
                 ((EXAMPLES / "fixed_leg" / "terms.json", "--party", "Bank\x1b[31m"), "no party of the streams is called Bank\\u001b[31m"),
-                ((EXAMPLES / "fixed_leg" / "terms.json", "--csv", "/nowhere/x.csv"), "/nowhere/x.csv can't be written")):
+                ((EXAMPLES / "fixed_leg" / "terms.json", "--csv", EXAMPLES / "nowhere" / "x.csv"), "x.csv can't be written")):
             done = run_show(*arguments)
             self.assertEqual((done.returncode, done.stdout), (2, b""))
             self.assertIn(sentence, done.stderr.decode())
@@ -700,6 +713,11 @@ class Words(unittest.TestCase):
         self.assertEqual(said[0]["Notional"], "USD 12,500,000")
         self.assertEqual(said[1]["Resets"], "at period start, following in TEST; fixed 2 business days before that day, preceding in TEST")
 
+    def test_steps(self):
+        said = [tuple(term) for term in words.terms_of(trades.amortising().document.content)[0]]
+        self.assertEqual(said[:2], [("Notional", "GBP 16,000,000"), ("Notional from 2024-06-15", "15,000,000")])
+        self.assertEqual(said[7], ("Notional then", "9 more steps, which the periods show"))
+
     def test_rates_keep_their_digits(self):
         for text, shown in (("0.05", "5%"), ("0.0525", "5.25%"), ("-0.001", "-0.1%"), ("1", "100%"), ("10", "1000%"), ("0", "0%"),
                             (".5", "50%"), ("0.000000001", "0.0000001%"), ("+0.05", "5%"), ("x", "x")):
@@ -776,7 +794,7 @@ class Desk(unittest.TestCase):
         return self.client.get(path, headers={"Host": host})
 
     def look(self, **fields):
-        return self.client.post("/token/look", data=fields, headers={"Host": "127.0.0.1"}, content_type="multipart/form-data")
+        return self.client.post(f"{TOP}look", data=fields, headers={"Host": "127.0.0.1"}, content_type="multipart/form-data")
 
     def test_no_upload_is_written(self):
         """Any temporary file would be made by one of these two; a file of 3 MiB is one that Werkzeug writes to disk."""
@@ -788,14 +806,14 @@ class Desk(unittest.TestCase):
         self.assertIn("25,277.78", self.get(answer.headers["Location"]).text)
 
     def test_who_is_answered(self):
-        self.assertEqual(self.get("/token/").status_code, 200)
-        self.assertEqual(self.get("/token/", "localhost:5000").status_code, 200)
-        for path, host in (("/", "127.0.0.1"), ("/toke/", "127.0.0.1"), ("/token2/", "127.0.0.1"), ("/token/", "evil.example"),
-                           ("/token/", "127.0.0.1.evil.example"), ("/token/look/x", "127.0.0.1"), ("/token/look/x/y", "127.0.0.1")):
+        self.assertEqual(self.get(TOP).status_code, 200)
+        self.assertEqual(self.get(TOP, "localhost:5000").status_code, 200)
+        for path, host in (("/", "127.0.0.1"), (TOP[:-2] + "/", "127.0.0.1"), (TOP[:-1] + "2/", "127.0.0.1"), (TOP, "evil.example"),
+                           (TOP, "127.0.0.1.evil.example"), (f"{TOP}look/x", "127.0.0.1"), (f"{TOP}look/x/y", "127.0.0.1")):
             self.assertEqual(self.get(path, host).status_code, 404, (path, host))
 
     def test_headers(self):
-        for path in ("/token/", "/token/look.css", "/token/desk.js", "/nothing"):
+        for path in (TOP, f"{TOP}look.css", f"{TOP}desk.js", "/nothing"):
             headers = self.get(path).headers
             policy = headers["Content-Security-Policy"]
             self.assertIn("default-src 'none'", policy)
@@ -830,7 +848,7 @@ class Desk(unittest.TestCase):
         from irs import desk
         with mock.patch.object(desk, "MOST_REQUEST", 1000):
             client = desk.make_app("token").test_client()
-        answer = client.post("/token/look", data={"document": (io.BytesIO(b" " * 2000), "t.json")}, headers={"Host": "127.0.0.1"})
+        answer = client.post(f"{TOP}look", data={"document": (io.BytesIO(b" " * 2000), "t.json")}, headers={"Host": "127.0.0.1"})
         self.assertEqual(answer.status_code, 413)
         self.assertIn("larger than this page takes", answer.text)
 
