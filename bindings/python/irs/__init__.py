@@ -13,12 +13,13 @@ from .book import Outcome, Summary
 from .builder import Overnight, swap
 from .calls import (Schedule, accrue, audit, average, check, emit, interpolate, net, overnight, schedule)
 from .errors import BadFile, BadWords, Error, NotText, Refused, TooLong
+from .ladder import CashFlow
 from .library import Answer, run
 from .rows import (Accrued, Derived, Exchange, Missing, Net, No, Payment, Period, Reset, Row, Stream, Verdict,
                    Yes)
 
 __all__ = [
-    "Accrued", "Answer", "BadFile", "BadWords", "Derived", "Error", "Exchange", "Missing", "Net", "No",
+    "Accrued", "Answer", "BadFile", "BadWords", "CashFlow", "Derived", "Error", "Exchange", "Missing", "Net", "No",
     "NotText", "Outcome", "Overnight", "Payment", "Period", "Refused", "Reset", "Row", "Schedule", "Stream", "Summary",
     "TooLong", "Verdict", "Yes", "accrue", "audit", "average", "check", "emit", "interpolate", "net",
     "overnight", "run", "schedule", "swap",

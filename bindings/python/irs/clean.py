@@ -28,6 +28,8 @@ def shown(text: str, most: int = 80) -> str:
     'Bank\\\\u202eknaB'
     """
     cut = text if len(text) <= most else text[: most - 1] + "\u2026"
+    if cut.isprintable():
+        return cut
     return "".join(_shown_character(character) for character in cut)
 
 

@@ -143,7 +143,7 @@ class Desk:
         self.token = token
         self.offered = offered
         self.store = Store()
-        self.calendars = [(place, shown(file.name), ", ".join(map(shown, centres_in(file.content))))
+        self.calendars = [(place, shown(file.name), shown(", ".join(centres_in(file.content)), 200))
                           for place, file in enumerate(offered)]
 
     def page(self, template: str, status: int = 200, **values: Any) -> Any:

@@ -6,7 +6,8 @@ answer, and it is lenient: what isn't there or isn't as expected is absent. Noth
 from __future__ import annotations
 
 import json
-from typing import Any, List, Mapping, Optional, Union
+from collections.abc import Mapping
+from typing import Any, List, Optional, Union
 
 from .library import Text, as_bytes
 
@@ -30,7 +31,7 @@ def json_of(document: bytes) -> bytes:
 def value_of(document: Document) -> Any:
     """The JSON value of a document, its numbers as their texts, or `None` where it has none."""
     if isinstance(document, Mapping):
-        return document
+        return dict(document)
     try:
         return json.loads(as_bytes(document).decode(), parse_int=str, parse_float=str)
     except (ValueError, RecursionError):
@@ -39,7 +40,7 @@ def value_of(document: Document) -> Any:
 
 def child(value: Any, name: str) -> Any:
     """The one member of that name. An array of one is its item; what is absent is `None`."""
-    found = value.get(name) if isinstance(value, Mapping) else None
+    found = value.get(name) if isinstance(value, dict) else None
     if isinstance(found, list):
         return found[0] if len(found) == 1 else None
     return found
@@ -47,7 +48,7 @@ def child(value: Any, name: str) -> Any:
 
 def children(value: Any, name: str) -> List[Any]:
     """All members of that name, in order. A single value is a list of one."""
-    found = value.get(name) if isinstance(value, Mapping) else None
+    found = value.get(name) if isinstance(value, dict) else None
     if found is None:
         return []
     return found if isinstance(found, list) else [found]
@@ -62,7 +63,7 @@ def at(value: Any, path: str) -> Any:
 
 def text_of(value: Any) -> Optional[str]:
     """The text of a leaf without white space at its ends, or `None` where it is no leaf."""
-    if isinstance(value, Mapping):
+    if isinstance(value, dict):
         value = value.get("#text")
     if isinstance(value, bool):
         return "true" if value else "false"

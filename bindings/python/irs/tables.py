@@ -30,11 +30,12 @@ class Column(NamedTuple):
 
 
 class Cell(NamedTuple):
-    """A cell for the eye: its text, and below it the unadjusted date where that is another one."""
+    """A cell for the eye: its text, below it the unadjusted date where that is another one, and how it stands:
+    ``right``, ``right open`` where it waits for a fixing, or empty."""
 
     text: str
     under: str
-    waits: bool
+    stands: str
 
 
 class Table(NamedTuple):
@@ -222,7 +223,9 @@ def moved_from(table: Table) -> List[List[str]]:
 
 def cells_of(table: Table, waits: str = "waits") -> List[List[Cell]]:
     """The cells of a table for the eye, row by row."""
-    return [[Cell(text, under, printed is None) for text, under, printed in zip(texts, unders, row)]
+    stands = ["right" if column.kind in RIGHT else "" for column in table.columns]
+    return [[Cell(text, under, "right open" if printed is None else side)
+             for text, under, printed, side in zip(texts, unders, row, stands)]
             for texts, unders, row in zip(laid_out_rows(table, waits), moved_from(table), table.rows)]
 
 

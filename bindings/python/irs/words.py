@@ -99,15 +99,15 @@ def _relative(text: Optional[str]) -> str:
 
 def _steps(about: str, schedule: Any, read: Read) -> List[Term]:
     steps = children(schedule, "step")
-    terms = [Term(f"{about} from {shown(text_at(step, 'stepDate') or '')}", read(text_at(step, "stepValue")))
+    terms = [Term(f"{about} {shown(text_at(step, 'stepDate') or '')}", read(text_at(step, "stepValue")))
              for step in steps[:MOST_STEPS]]
     more = len(steps) - MOST_STEPS
-    return [*terms, Term(f"{about} then", f"{more} more steps, which the periods show")] if more > 0 else terms
+    return [*terms, Term("and then", f"{more} more steps, which the periods show")] if more > 0 else terms
 
 
 def index_of(rate_element: Any) -> str:
     """The index of a `floatingRate` or a `floatingRateCalculation`, with its tenor."""
-    name = shown(text_at(rate_element, "floatingRateIndex") or "")
+    name = shown(text_at(rate_element, "floatingRateIndex") or "", 160)
     return f"{name} {tenor(child(rate_element, 'indexTenor'))}".strip()
 
 
@@ -119,14 +119,14 @@ def _floating_terms(floating: Any) -> List[Term]:
     multiplier, spread = child(floating, "floatingRateMultiplierSchedule"), child(floating, "spreadSchedule")
     times = "" if multiplier is None else f" times {_factor(text_at(multiplier, 'initialValue'))}"
     plus = "" if spread is None else f" plus {rate(text_at(spread, 'initialValue'))}"
-    return [Term("Rate", index_of(floating) + times + plus), *_steps("Multiplier", multiplier, _factor),
-            *_steps("Spread", spread, rate)]
+    return [Term("Rate", index_of(floating) + times + plus), *_steps("times, from", multiplier, _factor),
+            *_steps("plus, from", spread, rate)]
 
 
 def _rate_terms(calculation: Any) -> List[Term]:
     fixed, floating = child(calculation, "fixedRateSchedule"), child(calculation, "floatingRateCalculation")
     if fixed is not None:
-        return [Term("Rate", f"fixed, {rate(text_at(fixed, 'initialValue'))}"), *_steps("Rate", fixed, rate)]
+        return [Term("Rate", f"fixed, {rate(text_at(fixed, 'initialValue'))}"), *_steps("from", fixed, rate)]
     terms = _floating_terms(floating)
     if text_at(floating, "initialRate") is not None:
         terms.append(Term("First rate", rate(text_at(floating, "initialRate"))))
@@ -204,7 +204,7 @@ def _exchange_terms(stream: Any) -> List[Term]:
 def _amount_terms(calculation: Any) -> List[Term]:
     notional = at(calculation, "notionalSchedule/notionalStepSchedule")
     currency = shown(text_at(notional, "currency") or "")
-    terms = [Term("Notional", f"{currency} {amount(text_at(notional, 'initialValue'))}"), *_steps("Notional", notional, amount),
+    terms = [Term("Notional", f"{currency} {amount(text_at(notional, 'initialValue'))}"), *_steps("from", notional, amount),
              *_rate_terms(calculation), Term("Day count", shown(text_at(calculation, "dayCountFraction") or ""))]
     method = text_at(calculation, "compoundingMethod")
     return terms if method in (None, "None") else [*terms, Term("Compounding", shown(method or ""))]

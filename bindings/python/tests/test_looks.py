@@ -715,8 +715,8 @@ class Words(unittest.TestCase):
 
     def test_steps(self):
         said = [tuple(term) for term in words.terms_of(trades.amortising().document.content)[0]]
-        self.assertEqual(said[:2], [("Notional", "GBP 16,000,000"), ("Notional from 2024-06-15", "15,000,000")])
-        self.assertEqual(said[7], ("Notional then", "9 more steps, which the periods show"))
+        self.assertEqual(said[:2], [("Notional", "GBP 16,000,000"), ("from 2024-06-15", "15,000,000")])
+        self.assertEqual(said[7], ("and then", "9 more steps, which the periods show"))
 
     def test_rates_keep_their_digits(self):
         for text, shown in (("0.05", "5%"), ("0.0525", "5.25%"), ("-0.001", "-0.1%"), ("1", "100%"), ("10", "1000%"), ("0", "0%"),
