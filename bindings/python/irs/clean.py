@@ -1,14 +1,15 @@
 """Names and texts from documents, made safe to show: our rule, and no part of FpML.
 
-A name in a document may hold characters that don't show, or that turn the text around beside them. Such a
-character is written as its number. HTML is escaped by the templates and not here.
+A name in a document may hold characters that don't show, or that turn the text around beside
+them. Such a character is written as its number. HTML is escaped by the templates and not here.
 """
 from __future__ import annotations
 
 import unicodedata
 
-#: Kinds of characters that are written as their number: control characters, direction marks and others
-#: that don't show, halves of pairs, private and unassigned characters, ends of lines and of paragraphs.
+#: Kinds of characters that are written as their number: control characters, direction marks and
+#: others that don't show, halves of pairs, private and unassigned characters, ends of lines and
+#: of paragraphs.
 HIDDEN = frozenset({"Cc", "Cf", "Cs", "Co", "Cn", "Zl", "Zp"})
 
 #: What a spreadsheet takes for the beginning of a formula.
@@ -34,7 +35,8 @@ def shown(text: str, most: int = 80) -> str:
 
 
 def cell(text: str) -> str:
-    """The text for a cell of a spreadsheet: where it looks like a formula, an apostrophe stands before it.
+    """The text for a cell of a spreadsheet: where it looks like a formula, an apostrophe stands
+    before it.
 
     >>> cell("=1+1")
     "'=1+1"

@@ -1,34 +1,66 @@
-"""Two sets of cash flows side by side: ours, as the engine emits them, and another party's, as they state them.
+"""Two sets of cash flows side by side: ours, as the engine emits them, and another party's, as
+they state them.
 
-Which cell departs is the audit's answer and never this module's: it marks the cell that the audit names. Texts
-are shown as they are stated.
+Which cell departs is the audit's answer and never this module's: it marks the cell that the audit
+names. Texts are shown as they are stated.
 """
 from __future__ import annotations
 
 import re
 from typing import Any, Dict, FrozenSet, List, NamedTuple, Optional, Sequence
 
-from .documents import at, child, children, streams_of, text_at, text_of
+from .documents import at, child, children, streams_of, text_at
 from .clean import shown
 from .tables import separated
 
 #: The kinds of rows and their fields, in the order of docs/FORMATS.md, 'Cash flows'.
 FIELDS = {
-    "exchange": ("unadjustedPrincipalExchangeDate", "adjustedPrincipalExchangeDate", "principalExchangeAmount"),
-    "payment": ("unadjustedPaymentDate", "adjustedPaymentDate", "calculationPeriod", "currency", "amount"),
-    "period": ("unadjustedStartDate", "unadjustedEndDate", "adjustedStartDate", "adjustedEndDate",
-               "calculationPeriodNumberOfDays", "notionalAmount", "rate", "dayCountYearFraction"),
+    "exchange": (
+        "unadjustedPrincipalExchangeDate",
+        "adjustedPrincipalExchangeDate",
+        "principalExchangeAmount",
+    ),
+    "payment": (
+        "unadjustedPaymentDate",
+        "adjustedPaymentDate",
+        "calculationPeriod",
+        "currency",
+        "amount",
+    ),
+    "period": (
+        "unadjustedStartDate",
+        "unadjustedEndDate",
+        "adjustedStartDate",
+        "adjustedEndDate",
+        "calculationPeriodNumberOfDays",
+        "notionalAmount",
+        "rate",
+        "dayCountYearFraction",
+    ),
     "reset": ("resetDate", "adjustedFixingDate", "observedRate"),
 }
 
 #: The fields' names for people.
 HEADS = {
-    "unadjustedPrincipalExchangeDate": "Unadjusted", "adjustedPrincipalExchangeDate": "Date",
-    "principalExchangeAmount": "Amount", "unadjustedPaymentDate": "Unadjusted", "adjustedPaymentDate": "Paid on",
-    "calculationPeriod": "Periods", "currency": "Currency", "amount": "Amount", "unadjustedStartDate": "Unadj. start",
-    "unadjustedEndDate": "Unadj. end", "adjustedStartDate": "Start", "adjustedEndDate": "End",
-    "calculationPeriodNumberOfDays": "Days", "notionalAmount": "Notional", "rate": "Rate",
-    "dayCountYearFraction": "Fraction", "resetDate": "Reset", "adjustedFixingDate": "Fixing", "observedRate": "Observed",
+    "unadjustedPrincipalExchangeDate": "Unadjusted",
+    "adjustedPrincipalExchangeDate": "Date",
+    "principalExchangeAmount": "Amount",
+    "unadjustedPaymentDate": "Unadjusted",
+    "adjustedPaymentDate": "Paid on",
+    "calculationPeriod": "Periods",
+    "currency": "Currency",
+    "amount": "Amount",
+    "unadjustedStartDate": "Unadj. start",
+    "unadjustedEndDate": "Unadj. end",
+    "adjustedStartDate": "Start",
+    "adjustedEndDate": "End",
+    "calculationPeriodNumberOfDays": "Days",
+    "notionalAmount": "Notional",
+    "rate": "Rate",
+    "dayCountYearFraction": "Fraction",
+    "resetDate": "Reset",
+    "adjustedFixingDate": "Fixing",
+    "observedRate": "Observed",
 }
 
 _DECIMAL = re.compile(r"-?\d+(\.\d+)?")
@@ -39,7 +71,8 @@ Fields = Dict[str, str]
 
 
 class Mark(NamedTuple):
-    """What departs, as the audit names it: a field of a row; `missing` and `extra` are of the whole row."""
+    """What departs, as the audit names it: a field of a row; `missing` and `extra` are of the
+    whole row."""
 
     stream: int
     kind: str
@@ -48,7 +81,8 @@ class Mark(NamedTuple):
 
 
 class Pair(NamedTuple):
-    """The row of a number on both sides, `None` where a side has none, and the fields that are marked."""
+    """The row of a number on both sides, `None` where a side has none, and the fields that are
+    marked."""
 
     number: int
     ours: Optional[List[str]]
@@ -75,14 +109,21 @@ def _exchange(row: Any) -> Fields:
 
 
 def _payment(row: Any) -> Fields:
-    return {"unadjustedPaymentDate": _text(row, "unadjustedPaymentDate"), "adjustedPaymentDate": _text(row, "adjustedPaymentDate"),
-            "calculationPeriod": str(len(children(row, "calculationPeriod"))),
-            "currency": _text(row, "forecastPaymentAmount/currency"), "amount": _text(row, "forecastPaymentAmount/amount")}
+    return {
+        "unadjustedPaymentDate": _text(row, "unadjustedPaymentDate"),
+        "adjustedPaymentDate": _text(row, "adjustedPaymentDate"),
+        "calculationPeriod": str(len(children(row, "calculationPeriod"))),
+        "currency": _text(row, "forecastPaymentAmount/currency"),
+        "amount": _text(row, "forecastPaymentAmount/amount"),
+    }
 
 
 def _period(row: Any) -> Fields:
     fields = {field: _text(row, field) for field in FIELDS["period"]}
-    return {**fields, "rate": _text(row, "fixedRate") or _text(row, "floatingRateDefinition/calculatedRate")}
+    return {
+        **fields,
+        "rate": _text(row, "fixedRate") or _text(row, "floatingRateDefinition/calculatedRate"),
+    }
 
 
 def _reset(row: Any) -> Fields:
@@ -94,11 +135,17 @@ def _rows(stream: Any) -> Dict[str, Dict[int, Fields]]:
     flows = child(stream, "cashflows")
     payments = children(flows, "paymentCalculationPeriod")
     periods = [period for payment in payments for period in children(payment, "calculationPeriod")]
-    observed = {number: _reset(period) for number, period in enumerate(periods, 1)
-                if at(period, "floatingRateDefinition/rateObservation") is not None}
-    return {"exchange": dict(enumerate(map(_exchange, children(flows, "principalExchange")), 1)),
-            "payment": dict(enumerate(map(_payment, payments), 1)), "period": dict(enumerate(map(_period, periods), 1)),
-            "reset": observed}
+    observed = {
+        number: _reset(period)
+        for number, period in enumerate(periods, 1)
+        if at(period, "floatingRateDefinition/rateObservation") is not None
+    }
+    return {
+        "exchange": dict(enumerate(map(_exchange, children(flows, "principalExchange")), 1)),
+        "payment": dict(enumerate(map(_payment, payments), 1)),
+        "period": dict(enumerate(map(_period, periods), 1)),
+        "reset": observed,
+    }
 
 
 def _laid_out(field: str, text: str) -> str:
@@ -116,28 +163,49 @@ def _marked(mark: Optional[Mark], stream: int, kind: str, number: int) -> Frozen
         return frozenset(FIELDS[kind])
     if (mark.kind, mark.row) != (kind, number):
         return frozenset()
-    return frozenset(FIELDS[kind]) if mark.field in ("missing", "extra") else frozenset({mark.field})
+    return (
+        frozenset(FIELDS[kind]) if mark.field in ("missing", "extra") else frozenset({mark.field})
+    )
 
 
-def _comparison(stream: int, kind: str, ours: Dict[int, Fields], theirs: Dict[int, Fields], mark: Optional[Mark]) -> Comparison:
-    pairs = [Pair(number, _cells(kind, ours.get(number)), _cells(kind, theirs.get(number)), _marked(mark, stream, kind, number))
-             for number in sorted({*ours, *theirs})]
+def _comparison(
+    stream: int,
+    kind: str,
+    ours: Dict[int, Fields],
+    theirs: Dict[int, Fields],
+    mark: Optional[Mark],
+) -> Comparison:
+    pairs = [
+        Pair(
+            number,
+            _cells(kind, ours.get(number)),
+            _cells(kind, theirs.get(number)),
+            _marked(mark, stream, kind, number),
+        )
+        for number in sorted({*ours, *theirs})
+    ]
     return Comparison(stream, kind, FIELDS[kind], pairs, any(pair.marked for pair in pairs))
 
 
 def side_by_side(ours: Any, theirs: Any, mark: Optional[Mark]) -> List[Comparison]:
     """The rows of both sides by stream, kind and number, with the mark of the audit's answer.
 
-    `ours` and `theirs` are the values of documents of cash flows (docs/FORMATS.md, 'Cash flows'), `ours`
-    as `emit` prints it; `mark` is `None` where the audit finds no departure.
+    `ours` and `theirs` are the values of documents of cash flows (docs/FORMATS.md, 'Cash flows'),
+    `ours` as `emit` prints it; `mark` is `None` where the audit finds no departure.
     """
-    left, right = [_rows(stream) for stream in streams_of(ours)], [_rows(stream) for stream in streams_of(theirs)]
+    left, right = [_rows(stream) for stream in streams_of(ours)], [
+        _rows(stream) for stream in streams_of(theirs)
+    ]
     nothing: Dict[str, Dict[int, Fields]] = {kind: {} for kind in FIELDS}
     comparisons = []
     for number in range(1, max(len(left), len(right)) + 1):
         one = left[number - 1] if number <= len(left) else nothing
         other = right[number - 1] if number <= len(right) else nothing
-        comparisons += [_comparison(number, kind, one[kind], other[kind], mark) for kind in FIELDS if one[kind] or other[kind]]
+        comparisons += [
+            _comparison(number, kind, one[kind], other[kind], mark)
+            for kind in FIELDS
+            if one[kind] or other[kind]
+        ]
     return comparisons
 
 

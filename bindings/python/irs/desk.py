@@ -1,9 +1,10 @@
-"""`irs-desk`: the schedule, the breaks and the reason of a refusal on a page of this machine's browser.
+"""`irs-desk`: the schedule, the breaks and the reason of a refusal on a page of this machine's
+browser.
 
-The page is served to this machine alone (127.0.0.1), at an address with a random part that nobody can guess. Drop a
-document, another party's cash flows and fixings, choose calendars, and look. Nothing is written to disk; the
-last looks stay in memory for their downloads, until newer ones take their place or the program ends. The
-engine's answers are proved, and this page isn't.
+The page is served to this machine alone (127.0.0.1), at an address with a random part that nobody
+can guess. Drop a document, another party's cash flows and fixings, choose calendars, and look.
+Nothing is written to disk; the last looks stay in memory for their downloads, until newer ones
+take their place or the program ends. The engine's answers are proved, and this page isn't.
 """
 from __future__ import annotations
 
@@ -22,7 +23,16 @@ from typing import Any, List, NamedTuple, NoReturn, Optional, Sequence, Tuple
 from .documents import json_of
 from .clean import shown
 from .engine import ask
-from .inputs import MOST_BYTES, MOST_CALENDARS, CantRead, Inputs, Named, centres_in, chosen, read_named
+from .inputs import (
+    MOST_BYTES,
+    MOST_CALENDARS,
+    CantRead,
+    Inputs,
+    Named,
+    centres_in,
+    chosen,
+    read_named,
+)
 from .insert import with_cashflows
 from .look import Look, look_at
 from .pages import TEMPLATES, environment, report, style
@@ -34,15 +44,22 @@ ADDRESS = "127.0.0.1"
 #: How many looks stay in memory for their downloads.
 MOST_LOOKS = 4
 
-#: The most bytes of one request: every file at the engine's limit, and room for the form around them.
+#: The most bytes of one request: every file at the engine's limit, and room for the form around
+#: them.
 MOST_REQUEST = (3 + MOST_CALENDARS) * (MOST_BYTES + 1) + (1 << 20)
 
 _HEADERS = {
-    "Content-Security-Policy": "default-src 'none'; style-src 'self'; script-src 'self'; form-action 'self'; "
-                               "base-uri 'none'; frame-ancestors 'none'",
-    "X-Content-Type-Options": "nosniff", "X-Frame-Options": "DENY", "Referrer-Policy": "no-referrer",
-    "Cache-Control": "no-store", "Cross-Origin-Opener-Policy": "same-origin", "Cross-Origin-Resource-Policy": "same-origin",
+    "Content-Security-Policy": "default-src 'none'; style-src 'self'; script-src 'self'; "
+    "form-action 'self'; "
+    "base-uri 'none'; frame-ancestors 'none'",
+    "X-Content-Type-Options": "nosniff",
+    "X-Frame-Options": "DENY",
+    "Referrer-Policy": "no-referrer",
+    "Cache-Control": "no-store",
+    "Cross-Origin-Opener-Policy": "same-origin",
+    "Cross-Origin-Resource-Policy": "same-origin",
 }
+
 
 class Kept(NamedTuple):
     """A look with what it was made of, for its downloads."""
@@ -75,10 +92,16 @@ class Store:
 
 
 def _sent(files: Any, field: str) -> List[Named]:
-    """The files of a field of the form; a field that was left empty has none. One byte more than the engine's
-    limit is read, so the engine itself answers that a file is too long."""
-    return [Named(file.filename.replace("\\", "/").rsplit("/", 1)[-1] or "file", file.stream.read(MOST_BYTES + 1))
-            for file in files.getlist(field) if file.filename]
+    """The files of a field of the form; a field that was left empty has none. One byte more than
+    the engine's limit is read, so the engine itself answers that a file is too long."""
+    return [
+        Named(
+            file.filename.replace("\\", "/").rsplit("/", 1)[-1] or "file",
+            file.stream.read(MOST_BYTES + 1),
+        )
+        for file in files.getlist(field)
+        if file.filename
+    ]
 
 
 def _one(files: Any, field: str) -> Optional[Named]:
@@ -94,31 +117,45 @@ def _calendars(form: Any, files: Any, document: Named, offered: Sequence[Named])
 
 
 def asked_for(form: Any, files: Any, offered: Sequence[Named]) -> Kept:
-    """The look that a form asks for. Raises `CantRead` without a document, and `ValueError` for an unknown
-    party."""
+    """The look that a form asks for. Raises `CantRead` without a document, and `ValueError` for
+    an unknown party."""
     document = _one(files, "document")
     if document is None:
         raise CantRead("Choose a document of terms.")
-    inputs = Inputs(document, _one(files, "fixings"), _one(files, "flows"), _calendars(form, files, document, offered))
+    inputs = Inputs(
+        document,
+        _one(files, "fixings"),
+        _one(files, "flows"),
+        _calendars(form, files, document, offered),
+    )
     party = form.get("party", "").strip() or None
     return Kept(inputs, look_at(inputs, date.today(), party), party)
 
 
 def download(kept: Kept, name: str) -> Optional[Tuple[bytes, str]]:
-    """The bytes and the media type of a download of a look, or `None` where there is none of that name."""
+    """The bytes and the media type of a download of a look, or `None` where there is none of that
+    name."""
     if name == "report.html":
         return report([kept.look]).encode(), "text/html; charset=utf-8"
     schedule = kept.look.schedule
     if schedule is None:
         return None
-    tables = {f"{table.title.lower().replace(' ', '-')}.csv": table for table in schedule.tables(kept.party)}
+    tables = {
+        f"{table.title.lower().replace(' ', '-')}.csv": table
+        for table in schedule.tables(kept.party)
+    }
     if name in tables:
         return csv_text(tables[name]).encode(), "text/csv; charset=utf-8"
     if name == "schedule.xlsx":
-        return schedule.workbook(kept.party), "application/vnd.openxmlformats-officedocument.spreadsheetml.sheet"
+        return (
+            schedule.workbook(kept.party),
+            "application/vnd.openxmlformats-officedocument.spreadsheetml.sheet",
+        )
     if name == "document.json":
         document = kept.inputs.document
-        emitted = ask("emit", kept.inputs._replace(document=Named(document.name, json_of(document.content))))
+        emitted = ask(
+            "emit", kept.inputs._replace(document=Named(document.name, json_of(document.content)))
+        )
         return with_cashflows(json_of(document.content), emitted.text), "application/json"
     return None
 
@@ -127,7 +164,9 @@ def _flask() -> Any:
     try:
         import flask
     except ImportError as missing:
-        raise ImportError("the page needs Flask, which isn't installed (Debian: python3-flask)") from missing
+        raise ImportError(
+            "the page needs Flask, which isn't installed (Debian: python3-flask)"
+        ) from missing
     return flask
 
 
@@ -143,8 +182,10 @@ class Desk:
         self.token = token
         self.offered = offered
         self.store = Store()
-        self.calendars = [(place, shown(file.name), shown(", ".join(centres_in(file.content)), 200))
-                          for place, file in enumerate(offered)]
+        self.calendars = [
+            (place, shown(file.name), shown(", ".join(centres_in(file.content)), 200))
+            for place, file in enumerate(offered)
+        ]
 
     def page(self, template: str, status: int = 200, **values: Any) -> Any:
         """A page of a template."""
@@ -161,7 +202,9 @@ class Desk:
 
     def script(self) -> Any:
         """The script of the form's drop zones."""
-        return self.flask.Response((TEMPLATES / "desk.js").read_text(encoding="utf-8"), mimetype="text/javascript")
+        return self.flask.Response(
+            (TEMPLATES / "desk.js").read_text(encoding="utf-8"), mimetype="text/javascript"
+        )
 
     def look(self) -> Any:
         """Makes the look that the form asks for, and leads to it."""
@@ -178,7 +221,11 @@ class Desk:
     def given(self, name: str, what: str) -> Any:
         """A download of a look."""
         content, kind = download(self._kept(name), what) or self._nothing()
-        return self.flask.Response(content, content_type=kind, headers={"Content-Disposition": f'attachment; filename="{what}"'})
+        return self.flask.Response(
+            content,
+            content_type=kind,
+            headers={"Content-Disposition": f'attachment; filename="{what}"'},
+        )
 
     def _kept(self, name: str) -> Kept:
         return self.store.get(name) or self._nothing()
@@ -191,7 +238,9 @@ class Desk:
         """Answers nothing to a request that hasn't the random part, or that names another host."""
         host = self.flask.request.host.rsplit(":", 1)[0]
         given = self.flask.request.path.split("/")[1]
-        if host not in (ADDRESS, "localhost") or not secrets.compare_digest(given.encode(), self.token.encode()):
+        if host not in (ADDRESS, "localhost") or not secrets.compare_digest(
+            given.encode(), self.token.encode()
+        ):
             self.flask.abort(404)
 
     def with_headers(self, response: Any) -> Any:
@@ -202,7 +251,11 @@ class Desk:
 
     def missing(self, _: Exception) -> Any:
         """What is said where there is nothing."""
-        return self.flask.Response("There is nothing at this address, or it isn't kept any more.\n", 404, mimetype="text/plain")
+        return self.flask.Response(
+            "There is nothing at this address, or it isn't kept any more.\n",
+            404,
+            mimetype="text/plain",
+        )
 
     def too_large(self, _: Exception) -> Any:
         """What is said of a request that is too large."""
@@ -214,7 +267,8 @@ class Desk:
 
 
 def make_app(token: str, offered: Sequence[Named] = ()) -> Any:
-    """The page as a Flask application. Raises `ImportError` where Flask or Jinja2 isn't installed."""
+    """The page as a Flask application. Raises `ImportError` where Flask or Jinja2 isn't
+    installed."""
     desk = Desk(token, offered)
 
     class InMemory(desk.flask.Request):  # type: ignore[misc, name-defined]
@@ -228,8 +282,13 @@ def make_app(token: str, offered: Sequence[Named] = ()) -> Any:
     app.request_class = InMemory
     app.before_request(desk.guard)
     app.after_request(desk.with_headers)
-    for path, view in (("", desk.form), ("look.css", desk.style), ("desk.js", desk.script), ("look/<name>", desk.looked),
-                       ("look/<name>/<what>", desk.given)):
+    for path, view in (
+        ("", desk.form),
+        ("look.css", desk.style),
+        ("desk.js", desk.script),
+        ("look/<name>", desk.looked),
+        ("look/<name>/<what>", desk.given),
+    ):
         app.add_url_rule(f"/{token}/{path}", view_func=view)
     app.add_url_rule(f"/{token}/look", view_func=desk.look, methods=["POST"])
     for status, told in ((404, desk.missing), (413, desk.too_large), (500, desk.failed)):
@@ -238,7 +297,8 @@ def make_app(token: str, offered: Sequence[Named] = ()) -> Any:
 
 
 def make_server(app: Any, port: int = 0) -> Any:
-    """A server of the page at 127.0.0.1 alone; port 0 is any free one. It has `serve_forever` and `shutdown`."""
+    """A server of the page at 127.0.0.1 alone; port 0 is any free one. It has `serve_forever` and
+    `shutdown`."""
     from werkzeug.serving import WSGIRequestHandler, make_server as made
 
     class Quiet(WSGIRequestHandler):
@@ -260,8 +320,15 @@ class Asked(argparse.Namespace):
 
 def parser() -> argparse.ArgumentParser:
     """The words that irs-desk takes."""
-    made = argparse.ArgumentParser(prog="irs-desk", description=__doc__, formatter_class=argparse.RawDescriptionHelpFormatter)
-    made.add_argument("--calendars", type=Path, metavar="FOLDER", help="a folder of calendar files to choose from")
+    made = argparse.ArgumentParser(
+        prog="irs-desk", description=__doc__, formatter_class=argparse.RawDescriptionHelpFormatter
+    )
+    made.add_argument(
+        "--calendars",
+        type=Path,
+        metavar="FOLDER",
+        help="a folder of calendar files to choose from",
+    )
     made.add_argument("--port", type=int, default=0, help="the port (any free one)")
     made.add_argument("--open", action="store_true", help="opens the page in the browser")
     return made
@@ -275,7 +342,9 @@ def main(arguments: Optional[List[str]] = None) -> int:
         folder = asked.calendars
         if folder is not None and not folder.is_dir():
             raise CantRead(f"{shown(str(folder))} is no folder")
-        offered = [] if folder is None else [read_named(path) for path in sorted(folder.glob("*.cal"))]
+        offered = (
+            [] if folder is None else [read_named(path) for path in sorted(folder.glob("*.cal"))]
+        )
         token = secrets.token_urlsafe(24)
         server = make_server(make_app(token, offered), asked.port)
     except (CantRead, ImportError, OSError, OverflowError) as why:

@@ -1,4 +1,5 @@
-"""One command of the engine over the files of a look: its status, its text, and its sentence with the files' names."""
+"""One command of the engine over the files of a look: its status, its text, and its sentence with
+the files' names."""
 from __future__ import annotations
 
 from typing import Dict, List, NamedTuple, Optional
@@ -8,12 +9,18 @@ from .inputs import Inputs, Named
 from .library import Text, meaning, run
 
 #: What each command takes behind the document (docs/FORMATS.md, 'Commands, lines and statuses').
-_TAKES = {"check": (), "schedule": ("fixings",), "emit": ("fixings",), "net": ("fixings",), "audit": ("fixings", "flows")}
+_TAKES = {
+    "check": (),
+    "schedule": ("fixings",),
+    "emit": ("fixings",),
+    "net": ("fixings",),
+    "audit": ("fixings", "flows"),
+}
 
 
 class Reply(NamedTuple):
-    """What a command comes to: the status and the text that the program would have, the sentence that it
-    would say (empty at status 0), and the file that each word names."""
+    """What a command comes to: the status and the text that the program would have, the sentence
+    that it would say (empty at status 0), and the file that each word names."""
 
     status: int
     text: bytes
@@ -55,5 +62,11 @@ def ask(command: str, inputs: Inputs) -> Reply:
     contents: Dict[str, Text] = {word: file.content for word, file in files.items()}
     answer = run(words, contents)
     line = answer.text.decode(errors="replace").partition("\n")[0]
-    sentence = "memory ran out" if answer.status == 7 else meaning(words, answer.status, line) if answer.status else ""
+    sentence = (
+        "memory ran out"
+        if answer.status == 7
+        else meaning(words, answer.status, line)
+        if answer.status
+        else ""
+    )
     return Reply(answer.status, answer.text, sentence, files, words)

@@ -1,7 +1,8 @@
 """The files that a look is made of: a document, fixings, another party's cash flows and calendars.
 
-A file is read only as far as the engine's limit and one byte more, so the engine itself answers that it is too
-long. Calendars may be a folder: then the files are taken whose centres the document names.
+A file is read only as far as the engine's limit and one byte more, so the engine itself answers
+that it is too long. Calendars may be a folder: then the files are taken whose centres the
+document names.
 """
 from __future__ import annotations
 
@@ -41,7 +42,11 @@ class Inputs(NamedTuple):
 
     def files(self) -> List[Named]:
         """All files, in the order of a command's words."""
-        return [file for file in (self.document, self.fixings, self.flows, *self.calendars) if file is not None]
+        return [
+            file
+            for file in (self.document, self.fixings, self.flows, *self.calendars)
+            if file is not None
+        ]
 
 
 def read_named(path: Path) -> Named:
@@ -85,22 +90,27 @@ def centres_in(calendar: bytes) -> List[str]:
 
 
 def chosen(document: Text, files: Sequence[Named]) -> List[Named]:
-    """The calendar files, of those given, that hold a centre which the document names; each centre's first."""
+    """The calendar files, of those given, that hold a centre which the document names; each
+    centre's first."""
     by_centre: Dict[str, int] = {}
     for place, file in enumerate(files):
         for centre in centres_in(file.content):
             by_centre.setdefault(centre, place)
-    places = sorted({by_centre[centre] for centre in centres_of(value_of(document)) if centre in by_centre})
+    places = sorted(
+        {by_centre[centre] for centre in centres_of(value_of(document)) if centre in by_centre}
+    )
     return [files[place] for place in places][:MOST_CALENDARS]
 
 
 def read_calendars(paths: Sequence[Path], document: Text) -> List[Named]:
-    """The calendar files of paths, of which a folder stands for those that the document needs. Raises
-    `CantRead`."""
+    """The calendar files of paths, of which a folder stands for those that the document needs.
+    Raises `CantRead`."""
     calendars: List[Named] = []
     for path in paths:
         if path.is_dir():
-            calendars += chosen(document, [read_named(file) for file in sorted(path.glob("*.cal"))])
+            calendars += chosen(
+                document, [read_named(file) for file in sorted(path.glob("*.cal"))]
+            )
         else:
             calendars.append(read_named(path))
     return calendars

@@ -1,7 +1,9 @@
-"""Everything that a person looks at of one trade, made of the engine's answers: for the report and the page.
+"""Everything that a person looks at of one trade, made of the engine's answers: for the report
+and the page.
 
-The schedule, what falls due and the verdict on another party's cash flows are the engine's. What stands beside
-them (names, terms in words, the timeline) is made of the document's own texts and isn't proved.
+The schedule, what falls due and the verdict on another party's cash flows are the engine's. What
+stands beside them (names, terms in words, the timeline) is made of the document's own texts and
+isn't proved.
 """
 from __future__ import annotations
 
@@ -21,7 +23,16 @@ from .parties import Parties, parties_of
 from .printed import UNKNOWN, StreamText, printed
 from .refusals import Refusal, refusal_of, unread
 from .stubs import index_of_period, stubs_of
-from .tables import Cell, Column, Table, exchange_table, folded, ledger_table, period_table, separated
+from .tables import (
+    Cell,
+    Column,
+    Table,
+    exchange_table,
+    folded,
+    ledger_table,
+    period_table,
+    separated,
+)
 from .timeline import Timeline, timeline
 from .words import Term, terms_of
 
@@ -37,7 +48,8 @@ class Said(NamedTuple):
 
 
 class FileLine(NamedTuple):
-    """A file that the look is made of: what it is, its name, its size in bytes and its SHA-256 sum."""
+    """A file that the look is made of: what it is, its name, its size in bytes and its SHA-256
+    sum."""
 
     what: str
     name: str
@@ -62,8 +74,8 @@ class StreamLook(NamedTuple):
 
 
 class Wait(NamedTuple):
-    """A reset that waits for its fixing: the fixing day, the index and tenor that it observes, and whether the
-    day is before today."""
+    """A reset that waits for its fixing: the fixing day, the index and tenor that it observes,
+    and whether the day is before today."""
 
     stream: int
     period: str
@@ -73,8 +85,8 @@ class Wait(NamedTuple):
 
 
 class NetRow(NamedTuple):
-    """What falls due on a day in a currency: who pays it, the amount without a sign, and a note on what
-    isn't known."""
+    """What falls due on a day in a currency: who pays it, the amount without a sign, and a note
+    on what isn't known."""
 
     day: str
     payer: str
@@ -84,8 +96,8 @@ class NetRow(NamedTuple):
 
 
 class Look(NamedTuple):
-    """All of one trade. `refusal` says why there is no schedule; then the parts behind it are empty.
-    `flows_refusal` says why the other party's cash flows can't be compared."""
+    """All of one trade. `refusal` says why there is no schedule; then the parts behind it are
+    empty. `flows_refusal` says why the other party's cash flows can't be compared."""
 
     name: str
     files: List[FileLine]
@@ -109,17 +121,17 @@ class Look(NamedTuple):
 
 def _files(inputs: Inputs) -> List[FileLine]:
     def line(what: str, file: Named) -> FileLine:
-        return FileLine(what, shown(file.name), len(file.content), hashlib.sha256(file.content).hexdigest())
+        return FileLine(
+            what, shown(file.name), len(file.content), hashlib.sha256(file.content).hexdigest()
+        )
 
     lines = [line("terms", inputs.document)]
-    lines += [line(what, file) for what, file in (("fixings", inputs.fixings), ("their cash flows", inputs.flows)) if file]
+    lines += [
+        line(what, file)
+        for what, file in (("fixings", inputs.fixings), ("their cash flows", inputs.flows))
+        if file
+    ]
     return lines + [line("calendar", file) for file in inputs.calendars]
-
-
-def _head(stream: StreamText, parties: Parties) -> str:
-    sides = parties.side(stream.stream)
-    who = "" if sides is None else f"{parties.name(sides.payer)} pays {parties.name(sides.receiver)}, "
-    return f"Stream {stream.stream}: {who}{stream.currency}, {'floating' if stream.floating else 'fixed'}, {stream.day_count}"
 
 
 def _laid(table: Table, left_out: Sequence[str]) -> Laid:
@@ -128,14 +140,26 @@ def _laid(table: Table, left_out: Sequence[str]) -> Laid:
 
 def _stream_look(stream: StreamText, terms: List[Term], parties: Parties) -> StreamLook:
     left_out = ["stream", "currency", *([] if stream.floating else ["fixing_date", "observed"])]
-    exchanges = _laid(exchange_table([stream]), ["stream", "currency"]) if stream.exchanges else None
-    return StreamLook(_head(stream, parties), terms, _laid(period_table([stream]), left_out), exchanges)
+    exchanges = (
+        _laid(exchange_table([stream]), ["stream", "currency"]) if stream.exchanges else None
+    )
+    return StreamLook(
+        parties.heading(stream), terms, _laid(period_table([stream]), left_out), exchanges
+    )
 
 
 def _waits(stream: StreamText, element: Any, today: date) -> List[Wait]:
-    return [Wait(stream.stream, reset.number, reset.fixing, index_of_period(element, int(reset.number), len(stream.periods)),
-                 reset.fixing < today.isoformat())
-            for reset in stream.resets.values() if reset.observed == UNKNOWN]
+    return [
+        Wait(
+            stream.stream,
+            reset.number,
+            reset.fixing,
+            index_of_period(element, int(reset.number), len(stream.periods)),
+            reset.fixing < today.isoformat(),
+        )
+        for reset in stream.resets.values()
+        if reset.observed == UNKNOWN
+    ]
 
 
 def _net_row(line: str, parties: Parties) -> NetRow:
@@ -147,7 +171,9 @@ def _net_row(line: str, parties: Parties) -> NetRow:
     waiting = "" if unknown == "0" else f"{_counted(int(unknown), 'amount')} not known"
     if waiting and not amount:
         return NetRow(day, "", currency, "", waiting)
-    return NetRow(day, payer, currency, separated(text.lstrip("-")), f"and {waiting}" if waiting else "")
+    return NetRow(
+        day, payer, currency, separated(text.lstrip("-")), f"and {waiting}" if waiting else ""
+    )
 
 
 def _counted(count: int, what: str) -> str:
@@ -158,9 +184,13 @@ def _headline(streams: Sequence[StreamText]) -> Said:
     payments = [payment for stream in streams for payment in stream.payments]
     periods = sum(len(stream.periods) for stream in streams)
     open_payments = sum(payment.amount == UNKNOWN for payment in payments)
-    made = f"{_counted(len(streams), 'stream')}, {_counted(periods, 'period')}, {_counted(len(payments), 'payment')}"
+    counts = ((len(streams), "stream"), (periods, "period"), (len(payments), "payment"))
+    made = ", ".join(_counted(count, what) for count, what in counts)
     if open_payments:
-        return Said(f"{made}; {_counted(open_payments, 'amount')} not known, as a fixing is missing.", WAITS)
+        return Said(
+            f"{made}; {_counted(open_payments, 'amount')} not known, as a fixing is missing.",
+            WAITS,
+        )
     return Said(f"{made}; every amount is known.", GOOD)
 
 
@@ -170,8 +200,11 @@ def _verdict(reply: Reply) -> Said:
     _, rows, unfixed = reply.line.split()
     if unfixed == "0":
         return Said(f"Agrees in all {rows} rows.", GOOD)
-    return Said(f"Agrees in what is known: {rows} rows. Not compared, as a fixing is missing: "
-                f"{_counted(int(unfixed), 'amount')}.", WAITS)
+    return Said(
+        f"Agrees in what is known: {rows} rows. Not compared, as a fixing is missing: "
+        f"{_counted(int(unfixed), 'amount')}.",
+        WAITS,
+    )
 
 
 def _as_json(file: Named) -> Named:
@@ -189,7 +222,9 @@ def _with_flows(look: Look, inputs: Inputs) -> Look:
     reply = ask("audit", inputs)
     if reply.status > 1:
         return look._replace(flows_refusal=refusal_of(reply))
-    ours, theirs = value_of(ask("emit", inputs).text), value_of(reply.files[reply.words[3]].content)
+    ours, theirs = value_of(ask("emit", inputs).text), value_of(
+        reply.files[reply.words[3]].content
+    )
     comparisons = side_by_side(ours, theirs, mark_of(reply.line))
     return look._replace(verdict=_verdict(reply), verdict_line=reply.line, comparisons=comparisons)
 
@@ -198,12 +233,19 @@ def _with_net(look: Look, inputs: Inputs, parties: Parties) -> Look:
     reply = ask("net", inputs)
     if reply.status:
         return look._replace(net_refusal=reply.sentence)
-    return look._replace(net=[_net_row(line, parties) for line in reply.text.decode().splitlines()[1:-1]])
+    return look._replace(
+        net=[_net_row(line, parties) for line in reply.text.decode().splitlines()[1:-1]]
+    )
 
 
-def _with_timeline(look: Look, streams: Sequence[StreamText], elements: Sequence[Any], today: date) -> Look:
+def _with_timeline(
+    look: Look, streams: Sequence[StreamText], elements: Sequence[Any], today: date
+) -> Look:
     stubs = [stubs_of(element, len(stream.periods)) for stream, element in zip(streams, elements)]
-    return look._replace(wide=timeline(streams, stubs, today, 1000, 60), narrow=timeline(streams, stubs, today, 360, 30))
+    return look._replace(
+        wide=timeline(streams, stubs, today, 1000, 60),
+        narrow=timeline(streams, stubs, today, 360, 30),
+    )
 
 
 def _refused(look: Look, refusal: Refusal) -> Look:
@@ -213,8 +255,8 @@ def _refused(look: Look, refusal: Refusal) -> Look:
 def look_at(inputs: Inputs, today: date, party: Optional[str] = None) -> Look:
     """The look of a trade: its schedule with all that goes with it, or why there is none.
 
-    `today` is the day that the timeline marks, and `party` the party that the flows are seen from. Raises
-    `ValueError` for an unknown party.
+    `today` is the day that the timeline marks, and `party` the party that the flows are seen
+    from. Raises `ValueError` for an unknown party.
     """
     look = Look(shown(inputs.document.name), _files(inputs), today.isoformat(), Said("", BAD))
     try:
@@ -225,13 +267,27 @@ def look_at(inputs: Inputs, today: date, party: Optional[str] = None) -> Look:
     if reply.status:
         return _refused(look, refusal_of(reply))
     document = inputs.document.content
-    streams, parties, elements = printed(reply.text), parties_of(document), streams_of(value_of(document))
+    streams, parties, elements = (
+        printed(reply.text),
+        parties_of(document),
+        streams_of(value_of(document)),
+    )
     terms = terms_of(document)
     look = look._replace(
-        headline=_headline(streams), schedule=Schedule(reply.text, document),
+        headline=_headline(streams),
+        schedule=Schedule(reply.text, document),
         view=view_sentence(parties, viewer(parties, party)),
         streams=[_stream_look(stream, said, parties) for stream, said in zip(streams, terms)],
         ledger=_laid(ledger_table(cash_flows(streams, parties, party)), ()),
-        waits=sorted((wait for stream, element in zip(streams, elements) for wait in _waits(stream, element, today)),
-                     key=lambda wait: (wait.day, wait.stream)))
-    return _with_net(_with_flows(_with_timeline(look, streams, elements, today), inputs), inputs, parties)
+        waits=sorted(
+            (
+                wait
+                for stream, element in zip(streams, elements)
+                for wait in _waits(stream, element, today)
+            ),
+            key=lambda wait: (wait.day, wait.stream),
+        ),
+    )
+    return _with_net(
+        _with_flows(_with_timeline(look, streams, elements, today), inputs), inputs, parties
+    )

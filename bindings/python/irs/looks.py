@@ -1,7 +1,8 @@
-"""What a schedule offers people who look at it: cash flows, CSV, workbooks, a notebook's table and a picture.
+"""What a schedule offers people who look at it: cash flows, CSV, workbooks, a notebook's table
+and a picture.
 
-`irs.Schedule` has these methods. They read the schedule's text and the names of the document's parties, and
-compute no date, fraction or amount.
+`irs.Schedule` has these methods. They read the schedule's text and the names of the document's
+parties, and compute no date, fraction or amount.
 """
 from __future__ import annotations
 
@@ -19,9 +20,18 @@ from .tables import Table, exchange_table, flow_table, period_table
 Target = Union[str, Path, IO[str]]
 
 
+def tables_of(streams: List[StreamText], parties: Parties, party: Optional[str]) -> List[Table]:
+    """The tables of streams: their cash flows seen from a party, periods and exchanges.
+
+    Raises `ValueError` for an unknown party.
+    """
+    flows = cash_flows(streams, parties, party)
+    return [flow_table(flows), period_table(streams), exchange_table(streams)]
+
+
 class Looks:
-    """The methods of `irs.Schedule` for people. `text` is the schedule's text, and `document` the document
-    that it was made of, or `None` where it isn't known."""
+    """The methods of `irs.Schedule` for people. `text` is the schedule's text, and `document` the
+    document that it was made of, or `None` where it isn't known."""
 
     text: bytes
     document: Optional[Document]
@@ -33,25 +43,32 @@ class Looks:
     def _parties(self) -> Parties:
         return Parties([], {}) if self.document is None else parties_of(self.document)
 
-    def flows(self, party: Optional[str] = None, since: Optional[date] = None, until: Optional[date] = None,
-              next_of_each: Optional[int] = None) -> List[CashFlow]:
-        """The cash flows of all streams in date order, seen from a party, with running totals by currency.
+    def flows(
+        self,
+        party: Optional[str] = None,
+        since: Optional[date] = None,
+        until: Optional[date] = None,
+        next_of_each: Optional[int] = None,
+    ) -> List[CashFlow]:
+        """The cash flows of all streams in date order, seen from a party, with running totals by
+        currency.
 
-        `party` is the id, the `partyName` or the `partyId` of a party of the document; without it the
-        flows are seen from the payer of stream 1. `since` and `until` are the first and the last day, and
-        `next_of_each` keeps that many flows of each stream. Raises `ValueError` for an unknown party.
+        `party` is the id, the `partyName` or the `partyId` of a party of the document; without it
+        the flows are seen from the payer of stream 1. `since` and `until` are the first and the
+        last day, and `next_of_each` keeps that many flows of each stream. Raises `ValueError` for
+        an unknown party.
         """
         return cash_flows(within(self.texts(), since, until, next_of_each), self._parties(), party)
 
     def tables(self, party: Optional[str] = None) -> List[Table]:
-        """The tables of the schedule: its cash flows, its periods with resets and payments, its exchanges."""
-        streams = self.texts()
-        flows = cash_flows(streams, self._parties(), party)
-        return [flow_table(flows), period_table(streams), exchange_table(streams)]
+        """The tables of the schedule: its cash flows, its periods with resets and payments, its
+        exchanges."""
+        return tables_of(self.texts(), self._parties(), party)
 
     def to_csv(self, target: Target, table: str = "flows", party: Optional[str] = None) -> None:
-        """Writes a table as CSV to a file, or to the file of that name: `table` is ``flows``, ``periods`` or
-        ``exchanges``. Raises `ValueError` for another word and for an unknown party."""
+        """Writes a table as CSV to a file, or to the file of that name: `table` is ``flows``,
+        ``periods`` or ``exchanges``. Raises `ValueError` for another word and for an unknown
+        party."""
         names = ("flows", "periods", "exchanges")
         if table not in names:
             raise ValueError(f"a table is one of {', '.join(names)}")
@@ -63,7 +80,8 @@ class Looks:
             write_csv(asked, target)
 
     def to_excel(self, target: Union[str, Path, IO[bytes]], party: Optional[str] = None) -> None:
-        """Writes a workbook with a sheet for each of `tables`, to a file or to the file of that name.
+        """Writes a workbook with a sheet for each of `tables`, to a file or to the file of that
+        name.
 
         Raises `ImportError` where openpyxl isn't installed and `ValueError` for an unknown party.
         """
@@ -79,8 +97,10 @@ class Looks:
         return workbook(self.tables(party), [view_sentence(parties, viewer(parties, party))])
 
     def _repr_html_(self) -> Optional[str]:
-        """The tables for a notebook; `None`, which shows the plain text, where Jinja2 isn't installed."""
+        """The tables for a notebook; `None`, which shows the plain text, where Jinja2 isn't
+        installed."""
         from .pages import notebook
+
         try:
             return notebook(self)
         except ImportError:
@@ -89,8 +109,10 @@ class Looks:
     def plot(self, party: Optional[str] = None) -> Any:
         """A figure of matplotlib: the cash flows by date, an axis a currency, received upwards.
 
-        Raises `ImportError` where matplotlib isn't installed and `ValueError` for an unknown party.
+        Raises `ImportError` where matplotlib isn't installed and `ValueError` for an unknown
+        party.
         """
         from .plots import figure_of
+
         parties = self._parties()
         return figure_of(self.flows(party), view_sentence(parties, viewer(parties, party)))

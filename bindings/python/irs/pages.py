@@ -22,9 +22,16 @@ def environment() -> Any:
     try:
         import jinja2
     except ImportError as missing:
-        raise ImportError("a page needs Jinja2, which isn't installed (Debian: python3-jinja2)") from missing
-    made = jinja2.Environment(loader=jinja2.FileSystemLoader(TEMPLATES), autoescape=True, undefined=jinja2.StrictUndefined,
-                              trim_blocks=True, lstrip_blocks=True)
+        raise ImportError(
+            "a page needs Jinja2, which isn't installed (Debian: python3-jinja2)"
+        ) from missing
+    made = jinja2.Environment(
+        loader=jinja2.FileSystemLoader(TEMPLATES),
+        autoescape=True,
+        undefined=jinja2.StrictUndefined,
+        trim_blocks=True,
+        lstrip_blocks=True,
+    )
     made.globals.update(right=RIGHT, heads=HEADS)
     return made
 
@@ -39,10 +46,15 @@ def _style_sum(text: str) -> str:
 
 
 def report(looks: Sequence["Look"]) -> str:
-    """One HTML file with a section a trade: its style is in it, and it has no script and fetches nothing."""
+    """One HTML file with a section a trade: its style is in it, and it has no script and fetches
+    nothing."""
     text = style()
-    policy = f"default-src 'none'; style-src '{_style_sum(text)}'; base-uri 'none'; form-action 'none'"
-    return str(environment().get_template("report.html").render(looks=looks, style=text, policy=policy))
+    policy = (
+        f"default-src 'none'; style-src '{_style_sum(text)}'; base-uri 'none'; form-action 'none'"
+    )
+    return str(
+        environment().get_template("report.html").render(looks=looks, style=text, policy=policy)
+    )
 
 
 def notebook(schedule: "Looks") -> str:

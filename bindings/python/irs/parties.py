@@ -1,7 +1,7 @@
 """Who pays each stream, and what the parties are called, as a document says it.
 
-Sources: FpML's `payerPartyReference` and `receiverPartyReference` of a stream, and `party` of the document
-with its `partyName` and `partyId`.
+Sources: FpML's `payerPartyReference` and `receiverPartyReference` of a stream, and `party` of the
+document with its `partyName` and `partyId`.
 """
 from __future__ import annotations
 
@@ -9,6 +9,7 @@ from typing import Any, Dict, List, NamedTuple, Optional
 
 from .documents import Document, at, child, children, streams_of, text_of, value_of
 from .clean import shown
+from .printed import StreamText
 
 
 class Sides(NamedTuple):
@@ -19,14 +20,15 @@ class Sides(NamedTuple):
 
 
 class Parties(NamedTuple):
-    """The parties of a document: the sides of each stream in order, `None` where they aren't stated; and
-    the names of each party, by its id, the first of them to be shown."""
+    """The parties of a document: the sides of each stream in order, `None` where they aren't
+    stated; and the names of each party, by its id, the first of them to be shown."""
 
     sides: List[Optional[Sides]]
     names: Dict[str, List[str]]
 
     def name(self, party: str) -> str:
-        """The name to show for a party: its first name, else its id, with hidden characters made visible."""
+        """The name to show for a party: its first name, else its id, with hidden characters made
+        visible."""
         return shown(self.names.get(party, [party])[0])
 
     def side(self, stream: int) -> Optional[Sides]:
@@ -38,14 +40,26 @@ class Parties(NamedTuple):
         stated = [frozenset(sides) for sides in self.sides if sides is not None]
         return len(stated) == len(self.sides) > 0 and len(set(stated)) == 1 and len(stated[0]) == 2
 
+    def heading(self, stream: StreamText) -> str:
+        """A stream in one line: who pays whom, currency, kind of rate and day count."""
+        sides = self.side(stream.stream)
+        who = (
+            "" if sides is None else f"{self.name(sides.payer)} pays {self.name(sides.receiver)}, "
+        )
+        kind = "floating" if stream.floating else "fixed"
+        return f"Stream {stream.stream}: {who}{stream.currency}, {kind}, {stream.day_count}"
+
     def find(self, name: str) -> str:
-        """The id of the party of that id, name or `partyId`; raises `ValueError` where there is none."""
+        """The id of the party of that id, name or `partyId`; raises `ValueError` where there is
+        none."""
         ids = list(dict.fromkeys(party for sides in self.sides if sides for party in sides))
         for party in ids:
             if name == party or name in self.names.get(party, []):
                 return party
         known = ", ".join(self.name(party) for party in ids) or "none"
-        raise ValueError(f"no party of the streams is called {shown(name)}; the document has: {known}")
+        raise ValueError(
+            f"no party of the streams is called {shown(name)}; the document has: {known}"
+        )
 
 
 def _href(stream: Any, name: str) -> Optional[str]:
@@ -61,9 +75,18 @@ def _sides(stream: Any) -> Optional[Sides]:
 
 def _names(value: Any) -> Dict[str, List[str]]:
     names: Dict[str, List[str]] = {}
-    for holder in (value, at(value, "dataDocument"), at(value, "trade"), at(value, "dataDocument/trade")):
+    for holder in (
+        value,
+        at(value, "dataDocument"),
+        at(value, "trade"),
+        at(value, "dataDocument/trade"),
+    ):
         for party in children(holder, "party"):
-            called = [text_of(item) for kind in ("partyName", "partyId") for item in children(party, kind)]
+            called = [
+                text_of(item)
+                for kind in ("partyName", "partyId")
+                for item in children(party, kind)
+            ]
             known = [name for name in called if name]
             ident = party.get("@id") if isinstance(party, dict) else None
             if isinstance(ident, str) and known:

@@ -1,7 +1,7 @@
 """Where an element stands in the text of a document: for the lines around a fault.
 
-The engine names an element by its path; this module finds that path in the JSON text. It keeps nothing of the
-text but where a value begins and ends. The text is one that the engine read.
+The engine names an element by its path; this module finds that path in the JSON text. It keeps
+nothing of the text but where a value begins and ends. The text is one that the engine read.
 """
 from __future__ import annotations
 
@@ -19,7 +19,8 @@ _ROOTS = (("swap",), ("trade", "swap"), ("dataDocument", "trade", "swap"))
 
 
 class Spot(NamedTuple):
-    """Where a value stands in a text: the place of its first character and the place behind its last."""
+    """Where a value stands in a text: the place of its first character and the place behind its
+    last."""
 
     start: int
     end: int
@@ -31,7 +32,7 @@ def _skip(text: str, place: int) -> int:
 
 
 def _end(text: str, start: int) -> int:
-    if text[start:start + 1] not in ("{", "["):
+    if text[start : start + 1] not in ("{", "["):
         found = _STRING.match(text, start) or _SCALAR.match(text, start)
         return len(text) if found is None else found.end()
     depth = 0
@@ -59,7 +60,7 @@ def members_of(text: str, spot: Spot) -> Iterator[Tuple[str, Spot]]:
         end = _end(text, start)
         yield json.loads(name.group()), Spot(start, end)
         place = _skip(text, end)
-        if text[place:place + 1] != ",":
+        if text[place : place + 1] != ",":
             return
         place = _skip(text, place + 1)
 
@@ -70,11 +71,11 @@ def items_of(text: str, spot: Spot) -> Iterator[Spot]:
         yield spot
         return
     place = _skip(text, spot.start + 1)
-    while text[place:place + 1] not in ("", "]"):
+    while text[place : place + 1] not in ("", "]"):
         end = _end(text, place)
         yield Spot(place, end)
         place = _skip(text, end)
-        if text[place:place + 1] != ",":
+        if text[place : place + 1] != ",":
             return
         place = _skip(text, place + 1)
 
@@ -88,7 +89,8 @@ def item_of(text: str, spot: Spot, number: int) -> Optional[Spot]:
 
 
 def member_of(text: str, spot: Spot, name: str) -> Optional[Spot]:
-    """Where the member of that name stands: the last of equal names, as the engine reads it, or `None`."""
+    """Where the member of that name stands: the last of equal names, as the engine reads it, or
+    `None`."""
     only = item_of(text, spot, 1) or spot
     found = None
     for other, value in members_of(text, only):
@@ -120,7 +122,11 @@ def _below(text: str, spot: Spot, names: Sequence[str], index: int) -> Spot:
         found = member_of(text, spot, name)
         if found is None:
             return spot
-        spot = item_of(text, found, index or 1) or found if name in ("step", "businessCenter") else found
+        spot = (
+            item_of(text, found, index or 1) or found
+            if name in ("step", "businessCenter")
+            else found
+        )
     return spot
 
 
@@ -150,13 +156,17 @@ def _counted(text: str, flows: Spot, index: int) -> Optional[Spot]:
 
 
 def flow_spot(text: str, stream: int, path: str, index: int) -> Optional[Spot]:
-    """Where the element of a fault of cash flows stands, or the nearest one around it that is there."""
+    """Where the element of a fault of cash flows stands, or the nearest one around it that is
+    there."""
     top = stream_spot(text, stream) if stream else swap_spot(text)
     flows = None if top is None else member_of(text, top, "cashflows")
     if top is None or flows is None:
         return top or root_of(text)
     kind, *names = path.split("/")
     listed = member_of(text, flows, kind)
-    row = _counted(text, flows, index) if kind in ("calculationPeriod", "rateObservation") else (
-        None if listed is None else item_of(text, listed, index))
+    row = (
+        _counted(text, flows, index)
+        if kind in ("calculationPeriod", "rateObservation")
+        else (None if listed is None else item_of(text, listed, index))
+    )
     return flows if row is None else _below(text, row, names, 0)

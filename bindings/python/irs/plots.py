@@ -1,7 +1,7 @@
 """A picture of cash flows by matplotlib, for notebooks.
 
-The heights of the bars are the engine's amounts, as exact as a drawing needs them. What waits for a fixing is a
-hollow mark on the line of zero.
+The heights of the bars are the engine's amounts, as exact as a drawing needs them. What waits for
+a fixing is a hollow mark on the line of zero.
 """
 from __future__ import annotations
 
@@ -15,7 +15,9 @@ def _matplotlib() -> Any:
     try:
         from matplotlib import figure
     except ImportError as missing:
-        raise ImportError("plot() needs matplotlib, which isn't installed (Debian: python3-matplotlib)") from missing
+        raise ImportError(
+            "plot() needs matplotlib, which isn't installed (Debian: python3-matplotlib)"
+        ) from missing
     return figure
 
 
@@ -28,7 +30,14 @@ def _draw(axis: Any, currency: str, flows: Sequence[CashFlow]) -> None:
             axis.vlines(days, 0, heights, colors=colour, linewidth=2, label=f"{kind}s")
     waits = [flow.date for flow in flows if flow.amount is None]
     if waits:
-        axis.plot(waits, [0] * len(waits), "o", markerfacecolor="none", color="#57606a", label="waits for a fixing")
+        axis.plot(
+            waits,
+            [0] * len(waits),
+            "o",
+            markerfacecolor="none",
+            color="#57606a",
+            label="waits for a fixing",
+        )
     axis.axhline(0, color="#57606a", linewidth=0.8)
     axis.set_ylabel(f"{currency}, received above 0")
     axis.yaxis.set_major_formatter(lambda value, place: f"{value:,.0f}")
@@ -38,7 +47,9 @@ def _draw(axis: Any, currency: str, flows: Sequence[CashFlow]) -> None:
 def figure_of(flows: List[CashFlow], title: str) -> Any:
     """A figure with an axis a currency. Raises `ImportError` where matplotlib isn't installed."""
     currencies = sorted({flow.currency for flow in flows})
-    made = _matplotlib().Figure(figsize=(9, 2 + 2.2 * max(1, len(currencies))), layout="constrained")
+    made = _matplotlib().Figure(
+        figsize=(9, 2 + 2.2 * max(1, len(currencies))), layout="constrained"
+    )
     axes = made.subplots(max(1, len(currencies)), 1, sharex=True, squeeze=False)
     for axis, currency in zip(axes[:, 0], currencies):
         _draw(axis, currency, [flow for flow in flows if flow.currency == currency])

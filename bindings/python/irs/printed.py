@@ -1,7 +1,7 @@
 """The rows of a schedule as the texts that the engine prints, stream by stream.
 
-`irs.Schedule` has the same rows as dates and decimals. Here each field stays the text that was printed, so that
-a table shows what the engine says and nothing else.
+`irs.Schedule` has the same rows as dates and decimals. Here each field stays the text that was
+printed, so that a table shows what the engine says and nothing else.
 """
 from __future__ import annotations
 
@@ -78,7 +78,9 @@ def printed(text: bytes) -> List[StreamText]:
     for line in text.decode().splitlines()[1:-1]:
         mark, stream, *fields = line.split(" ")
         if mark == "stream":
-            streams.append(StreamText(int(stream), fields[0], fields[1], fields[2] == "float", [], [], [], {}))
+            streams.append(
+                StreamText(int(stream), fields[0], fields[1], fields[2] == "float", [], [], [], {})
+            )
         elif mark == "x":
             streams[-1].exchanges.append(ExchangeText(*fields))
         elif mark == "p":
@@ -91,13 +93,21 @@ def printed(text: bytes) -> List[StreamText]:
 
 
 def _due(stream: StreamText) -> List[Union[ExchangeText, PaymentText]]:
-    rows: List[Tuple[str, int, Union[ExchangeText, PaymentText]]] = [(row.adjusted, 0, row) for row in stream.exchanges]
+    rows: List[Tuple[str, int, Union[ExchangeText, PaymentText]]] = [
+        (row.adjusted, 0, row) for row in stream.exchanges
+    ]
     rows += [(row.adjusted, 1, row) for row in stream.payments]
-    return [row for _, _, row in sorted(rows, key=lambda due: (due[0], due[1], int(due[2].number)))]
+    return [
+        row for _, _, row in sorted(rows, key=lambda due: (due[0], due[1], int(due[2].number)))
+    ]
 
 
 def _covered(payments: List[PaymentText]) -> List[str]:
-    return [str(number) for row in payments for number in range(int(row.first_period), int(row.last_period) + 1)]
+    return [
+        str(number)
+        for row in payments
+        for number in range(int(row.first_period), int(row.last_period) + 1)
+    ]
 
 
 def _within(stream: StreamText, since: str, until: str, count: Optional[int]) -> StreamText:
@@ -105,13 +115,20 @@ def _within(stream: StreamText, since: str, until: str, count: Optional[int]) ->
     payments = [row for row in due if isinstance(row, PaymentText)]
     numbers = set(_covered(payments))
     return stream._replace(
-        exchanges=[row for row in due if isinstance(row, ExchangeText)], payments=payments,
-        periods=[row for row in stream.periods if row.number in numbers])
+        exchanges=[row for row in due if isinstance(row, ExchangeText)],
+        payments=payments,
+        periods=[row for row in stream.periods if row.number in numbers],
+    )
 
 
-def within(streams: List[StreamText], since: Optional[date] = None, until: Optional[date] = None,
-           next_of_each: Optional[int] = None) -> List[StreamText]:
-    """The streams with the rows alone that fall due from `since` to `until`, both included, and their periods.
+def within(
+    streams: List[StreamText],
+    since: Optional[date] = None,
+    until: Optional[date] = None,
+    next_of_each: Optional[int] = None,
+) -> List[StreamText]:
+    """The streams with the rows alone that fall due from `since` to `until`, both included, and
+    their periods.
 
     `next_of_each` keeps the first so many payments and exchanges of each stream.
     """

@@ -13,14 +13,17 @@ from .places import Spot, element_spot, flow_spot
 AROUND, MOST = 3, 120
 
 _WHAT = {
-    2: "The terms break a rule", 3: "A file isn't as such files are written", 5: "A file can't be read",
-    7: "Memory ran out", 8: "A file is too long",
+    2: "The terms break a rule",
+    3: "A file isn't as such files are written",
+    5: "A file can't be read",
+    7: "Memory ran out",
+    8: "A file is too long",
 }
 
 
 class Line(NamedTuple):
-    """A line of a file: its number from 1, whether the fault is in it, and its text: what stands before the
-    faulty element, the element, and what stands after it."""
+    """A line of a file: its number from 1, whether the fault is in it, and its text: what stands
+    before the faulty element, the element, and what stands after it."""
 
     number: int
     marked: bool
@@ -35,9 +38,9 @@ class Line(NamedTuple):
 
 
 class Refusal(NamedTuple):
-    """Why there is no answer. `line` is what the program prints, `sentence` what it says, and `rule` the
-    rule's name or empty. `steps` are the names on the way to the element, and `position`
-    is the index of the line (docs/RULES.md), or 0; `file` and `lines` show the
+    """Why there is no answer. `line` is what the program prints, `sentence` what it says, and
+    `rule` the rule's name or empty. `steps` are the names on the way to the element, and
+    `position` is the index of the line (docs/RULES.md), or 0; `file` and `lines` show the
     text around it, and are empty where nothing can be shown."""
 
     what: str
@@ -56,19 +59,33 @@ def _piece(text: str) -> str:
 
 
 def _line(number: int, text: str, marked: bool, column: int, length: int) -> Line:
-    """The line with at most `MOST` characters around its fault, which is `length` long from `column` on."""
+    """The line with at most `MOST` characters around its fault, which is `length` long from
+    `column` on."""
     start = max(0, column - MOST // 2) if column + length > MOST else 0
     last = start + MOST
-    return Line(number, marked, ("\u2026" if start else "") + _piece(text[start:column]), _piece(text[column:min(column + length, last)]),
-                _piece(text[min(column + length, last):last]) + ("\u2026" if last < len(text) else ""))
+    return Line(
+        number,
+        marked,
+        ("\u2026" if start else "") + _piece(text[start:column]),
+        _piece(text[column : min(column + length, last)]),
+        _piece(text[min(column + length, last) : last]) + ("\u2026" if last < len(text) else ""),
+    )
 
 
 def lines_around(content: bytes, number: int, column: int = 0, length: int = 0) -> List[Line]:
-    """The lines of a file around the one of that number, which is marked. Lines count from 1, columns from 0."""
+    """The lines of a file around the one of that number, which is marked. Lines count from 1,
+    columns from 0."""
     lines = content.decode(errors="replace").split("\n")
     first, last = max(1, number - AROUND), min(len(lines) - (lines[-1] == ""), number + AROUND)
-    return [_line(place, lines[place - 1].rstrip("\r"), place == number, *((column, length) if place == number else (0, 0)))
-            for place in range(first, max(last, number) + 1)]
+    return [
+        _line(
+            place,
+            lines[place - 1].rstrip("\r"),
+            place == number,
+            *((column, length) if place == number else (0, 0)),
+        )
+        for place in range(first, max(last, number) + 1)
+    ]
 
 
 def _lines_at(content: bytes, spot: Optional[Spot]) -> List[Line]:
@@ -76,8 +93,10 @@ def _lines_at(content: bytes, spot: Optional[Spot]) -> List[Line]:
         return []
     text = content.decode(errors="replace")
     before = text[: spot.start]
-    length = len(text[spot.start:spot.end].partition("\n")[0])
-    return lines_around(content, before.count("\n") + 1, len(before) - before.rfind("\n") - 1, length)
+    length = len(text[spot.start : spot.end].partition("\n")[0])
+    return lines_around(
+        content, before.count("\n") + 1, len(before) - before.rfind("\n") - 1, length
+    )
 
 
 def _lines_of_bad_json(content: bytes) -> List[Line]:
@@ -85,7 +104,9 @@ def _lines_of_bad_json(content: bytes) -> List[Line]:
         json.loads(content.decode(), parse_int=str, parse_float=str)
     except UnicodeDecodeError as why:
         before = content[: why.start]
-        return lines_around(content, before.count(b"\n") + 1, len(before) - before.rfind(b"\n") - 1)
+        return lines_around(
+            content, before.count(b"\n") + 1, len(before) - before.rfind(b"\n") - 1
+        )
     except json.JSONDecodeError as why:
         return lines_around(content, why.lineno, why.colno - 1)
     except (ValueError, RecursionError):
@@ -99,8 +120,20 @@ def _of_rule(reply: Reply) -> Refusal:
     if rule == "K1":
         lines = _lines_of_bad_json(content)
     else:
-        lines = _lines_at(content, element_spot(content.decode(errors="replace"), int(stream), path, int(index)))
-    return Refusal(_WHAT[2], reply.line, reply.sentence, rule, int(stream), path.split("/"), int(index), reply.words[1], lines)
+        lines = _lines_at(
+            content, element_spot(content.decode(errors="replace"), int(stream), path, int(index))
+        )
+    return Refusal(
+        _WHAT[2],
+        reply.line,
+        reply.sentence,
+        rule,
+        int(stream),
+        path.split("/"),
+        int(index),
+        reply.words[1],
+        lines,
+    )
 
 
 def _of_flows(reply: Reply, kind: str, stream: int, path: str, index: int) -> Refusal:
@@ -109,18 +142,32 @@ def _of_flows(reply: Reply, kind: str, stream: int, path: str, index: int) -> Re
     if kind == "notjson":
         lines = _lines_of_bad_json(content)
     else:
-        lines = _lines_at(content, flow_spot(content.decode(errors="replace"), stream, path, index))
-    return Refusal(_WHAT[3], reply.line, reply.sentence, "", stream, path.split("/"), index, word, lines)
+        lines = _lines_at(
+            content, flow_spot(content.decode(errors="replace"), stream, path, index)
+        )
+    return Refusal(
+        _WHAT[3], reply.line, reply.sentence, "", stream, path.split("/"), index, word, lines
+    )
 
 
 def _of_file(reply: Reply) -> Refusal:
     words = reply.line.split()
     if words[1] == "flows":
         return _of_flows(reply, words[2], int(words[3]), words[4], int(words[5]))
-    calendars = reply.words[len(reply.words) - _calendars(reply):]
+    calendars = reply.words[len(reply.words) - _calendars(reply) :]
     word = calendars[int(words[2]) - 1] if words[1] == "calendar" else reply.words[2]
     number = int(words[-2])
-    return Refusal(_WHAT[3], reply.line, reply.sentence, "", 0, [], 0, word, lines_around(reply.files[word].content, number))
+    return Refusal(
+        _WHAT[3],
+        reply.line,
+        reply.sentence,
+        "",
+        0,
+        [],
+        0,
+        word,
+        lines_around(reply.files[word].content, number),
+    )
 
 
 def _calendars(reply: Reply) -> int:
@@ -134,7 +181,17 @@ def refusal_of(reply: Reply) -> Refusal:
         return _of_rule(reply)
     if reply.status == 3:
         return _of_file(reply)
-    return Refusal(_WHAT.get(reply.status, "The engine gives no answer"), reply.line, reply.sentence, "", 0, [], 0, "", [])
+    return Refusal(
+        _WHAT.get(reply.status, "The engine gives no answer"),
+        reply.line,
+        reply.sentence,
+        "",
+        0,
+        [],
+        0,
+        "",
+        [],
+    )
 
 
 def unread(file: Named, why: str) -> Refusal:

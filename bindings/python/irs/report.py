@@ -1,9 +1,11 @@
-"""`irs-report TRADE.. -o report.html`: one HTML file on one or more trades, which needs nothing beside it.
+"""`irs-report TRADE.. -o report.html`: one HTML file on one or more trades, which needs nothing
+beside it.
 
-TRADE is a document of terms as JSON, NAME.json. What lies beside it is used as by irs-book: NAME.fixings, or a file
-`fixings` for all; NAME.flows.json, another party's cash flows; and the folder `calendars`. Options name others.
-The report has no script and fetches nothing. Every number is the engine's; running totals are sums of its
-amounts. The engine's answers are proved, and this layout of them isn't.
+TRADE is a document of terms as JSON, NAME.json. What lies beside it is used as by irs-book:
+NAME.fixings, or a file `fixings` for all; NAME.flows.json, another party's cash flows; and the
+folder `calendars`. Options name others. The report has no script and fetches nothing. Every
+number is the engine's; running totals are sums of its amounts. The engine's answers are proved,
+and this layout of them isn't.
 """
 from __future__ import annotations
 
@@ -13,6 +15,7 @@ from datetime import date
 from pathlib import Path
 from typing import List, Optional
 
+from .arguments import day, parser_of
 from .clean import shown
 from .inputs import CantRead, Inputs, Named, read_calendars, read_named
 from .look import look_at
@@ -31,25 +34,25 @@ class Asked(argparse.Namespace):
     today: date
 
 
-def _day(text: str) -> date:
-    try:
-        return date.fromisoformat(text)
-    except ValueError:
-        raise argparse.ArgumentTypeError(f"{shown(text)} isn't a day as 2024-04-15") from None
-
-
 def parser() -> argparse.ArgumentParser:
     """The words that irs-report takes."""
-    made = argparse.ArgumentParser(prog="irs-report", description=__doc__,
-                                   formatter_class=argparse.RawDescriptionHelpFormatter)
-    made.add_argument("trades", type=Path, nargs="+", metavar="TRADE", help="a document; - is standard input")
-    made.add_argument("-o", "--output", type=Path, required=True, metavar="FILE", help="where the report goes")
-    made.add_argument("--fixings", type=Path, metavar="FILE", help="a file of fixings, for every trade")
-    made.add_argument("--flows", type=Path, metavar="FILE", help="another party's cash flows, for a single trade")
-    made.add_argument("--calendar", type=Path, metavar="PATH", action="append", default=[],
-                      help="a calendar file, or a folder of them; may be repeated")
-    made.add_argument("--party", metavar="NAME", help="the party that the flows are seen from (the payer of stream 1)")
-    made.add_argument("--today", type=_day, default=date.today(), metavar="DATE", help="the day that the timeline marks")
+    made = parser_of("irs-report", __doc__ or "")
+    made.add_argument(
+        "trades", type=Path, nargs="+", metavar="TRADE", help="a document; - is standard input"
+    )
+    made.add_argument(
+        "-o", "--output", type=Path, required=True, metavar="FILE", help="where the report goes"
+    )
+    made.add_argument(
+        "--flows", type=Path, metavar="FILE", help="another party's cash flows, for a single trade"
+    )
+    made.add_argument(
+        "--today",
+        type=day,
+        default=date.today(),
+        metavar="DATE",
+        help="the day that the timeline marks",
+    )
     return made
 
 
@@ -62,10 +65,19 @@ def _beside(trade: Path, *names: str) -> Optional[Named]:
 
 
 def inputs_of(asked: Asked, trade: Path) -> Inputs:
-    """The files of a trade: those that options name, else those that lie beside it. Raises `CantRead`."""
+    """The files of a trade: those that options name, else those that lie beside it. Raises
+    `CantRead`."""
     document = read_named(trade)
-    fixings = _beside(trade, f"{trade.stem}.fixings", "fixings") if asked.fixings is None else read_named(asked.fixings)
-    flows = _beside(trade, f"{trade.stem}.flows.json") if asked.flows is None else read_named(asked.flows)
+    fixings = (
+        _beside(trade, f"{trade.stem}.fixings", "fixings")
+        if asked.fixings is None
+        else read_named(asked.fixings)
+    )
+    flows = (
+        _beside(trade, f"{trade.stem}.flows.json")
+        if asked.flows is None
+        else read_named(asked.flows)
+    )
     folder = trade.with_name("calendars") if str(trade) != "-" else None
     paths = asked.calendar or ([folder] if folder is not None and folder.is_dir() else [])
     return Inputs(document, fixings, flows, read_calendars(paths, document.content))
@@ -79,10 +91,15 @@ def main(arguments: Optional[List[str]] = None) -> int:
         made.error("--flows goes with a single trade")
     try:
         environment()
-        looks = [look_at(inputs_of(asked, trade), asked.today, asked.party) for trade in asked.trades]
+        looks = [
+            look_at(inputs_of(asked, trade), asked.today, asked.party) for trade in asked.trades
+        ]
         asked.output.write_text(report(looks), encoding="utf-8")
     except OSError as why:
-        print(f"irs-report: {shown(str(asked.output))} can't be written: {why.strerror or why}", file=sys.stderr)
+        print(
+            f"irs-report: {shown(str(asked.output))} can't be written: {why.strerror or why}",
+            file=sys.stderr,
+        )
         return 2
     except (CantRead, ImportError, ValueError) as why:
         print(f"irs-report: {why}", file=sys.stderr)

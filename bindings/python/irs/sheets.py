@@ -1,7 +1,8 @@
 """Tables as CSV and as workbooks of Excel.
 
-CSV has the printed digits. A workbook has numbers where a spreadsheet keeps every digit of them, and text where
-it would drop some (more than 15 digits), so no cell differs from what the engine prints.
+CSV has the printed digits. A workbook has numbers where a spreadsheet keeps every digit of them,
+and text where it would drop some (more than 15 digits), so no cell differs from what the engine
+prints.
 """
 from __future__ import annotations
 
@@ -35,7 +36,9 @@ def write_csv(table: Table, file: IO[str]) -> None:
     """Writes a table as CSV: a header with the columns' names, then the rows."""
     writer = csv.writer(file, lineterminator="\n")
     writer.writerow([column.name for column in table.columns])
-    writer.writerows([_word(text, column) for text, column in zip(row, table.columns)] for row in table.rows)
+    writer.writerows(
+        [_word(text, column) for text, column in zip(row, table.columns)] for row in table.rows
+    )
 
 
 def csv_text(table: Table) -> str:
@@ -77,7 +80,9 @@ def _openpyxl() -> Any:
     try:
         import openpyxl
     except ImportError as missing:
-        raise ImportError("a workbook needs openpyxl, which isn't installed (Debian: python3-openpyxl)") from missing
+        raise ImportError(
+            "a workbook needs openpyxl, which isn't installed (Debian: python3-openpyxl)"
+        ) from missing
     return openpyxl
 
 
@@ -109,7 +114,9 @@ def workbook(tables: Sequence[Table], about: Sequence[str] = ()) -> bytes:
         sheet = book.create_sheet(table.title)
         sheet.freeze_panes = "A2"
         for place, column in enumerate(table.columns):
-            sheet.column_dimensions[openpyxl.utils.get_column_letter(place + 1)].width = max(12, len(column.head) + 2)
+            sheet.column_dimensions[openpyxl.utils.get_column_letter(place + 1)].width = max(
+                12, len(column.head) + 2
+            )
         sheet.append([column.head for column in table.columns])
         for row in table.rows:
             sheet.append(_row(sheet, table, row, WriteOnlyCell))

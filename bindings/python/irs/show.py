@@ -1,8 +1,9 @@
-"""`irs-show TERMS`: the schedule of a swap as tables on the terminal, or as CSV, a workbook or JSON.
+"""`irs-show TERMS`: the schedule of a swap as tables on the terminal, or as CSV, a workbook or
+JSON.
 
-TERMS is a document of terms as JSON; `-` reads it from standard input. There is a table a stream and then the
-cash flows of all streams in date order. Every number is the engine's; running totals are sums of its amounts.
-The engine's answers are proved, and this layout of them isn't.
+TERMS is a document of terms as JSON; `-` reads it from standard input. There is a table a stream
+and then the cash flows of all streams in date order. Every number is the engine's; running totals
+are sums of its amounts. The engine's answers are proved, and this layout of them isn't.
 """
 from __future__ import annotations
 
@@ -15,15 +16,28 @@ from datetime import date
 from pathlib import Path
 from typing import Dict, Iterator, List, Optional, Sequence
 
+from .arguments import count, day, parser_of
 from .clean import shown
 from .engine import ask
 from .inputs import CantRead, Inputs, read_calendars, read_document, read_named
 from .ladder import CashFlow, cash_flows, view_sentence, viewer
+from .looks import tables_of
 from .parties import Parties, parties_of
 from .printed import StreamText, printed, within
 from .sheets import csv_text, workbook
-from .tables import (ADJUSTED_FROM, RIGHT, Column, Table, exchange_table, flow_table, laid_out_rows, ledger_table,
-                     moved_from, period_table, without)
+from .tables import (
+    ADJUSTED_FROM,
+    RIGHT,
+    Column,
+    Table,
+    exchange_table,
+    flow_table,
+    laid_out_rows,
+    ledger_table,
+    moved_from,
+    period_table,
+    without,
+)
 
 #: Columns of the periods that the terminal leaves out, unless they are asked for.
 UNADJUSTED = tuple(ADJUSTED_FROM.values())
@@ -33,7 +47,10 @@ RESETS = ("reset_date", "fixing_date", "observed")
 
 _MOVED = "* This date isn't the unadjusted one: business days or an offset moved it."
 
-_TOTALS = "Running totals are sums of the engine's amounts, by currency; what waits for a fixing isn't in them."
+_TOTALS = (
+    "Running totals are sums of the engine's amounts, by currency; "
+    "what waits for a fixing isn't in them."
+)
 
 
 class Asked(argparse.Namespace):
@@ -53,36 +70,38 @@ class Asked(argparse.Namespace):
     json: bool
 
 
-def _count(text: str) -> int:
-    if not text.isdigit() or int(text) < 1:
-        raise argparse.ArgumentTypeError(f"{shown(text)} isn't a whole number from 1")
-    return int(text)
-
-
-def _day(text: str) -> date:
-    try:
-        return date.fromisoformat(text)
-    except ValueError:
-        raise argparse.ArgumentTypeError(f"{shown(text)} isn't a day as 2024-04-15") from None
-
-
 def parser() -> argparse.ArgumentParser:
     """The words that irs-show takes."""
-    made = argparse.ArgumentParser(prog="irs-show", description=__doc__,
-                                   formatter_class=argparse.RawDescriptionHelpFormatter)
-    made.add_argument("terms", type=Path, metavar="TERMS", help="the document; - is standard input")
-    made.add_argument("--fixings", type=Path, metavar="FILE", help="a file of fixings")
-    made.add_argument("--calendar", type=Path, metavar="PATH", action="append", default=[],
-                      help="a calendar file, or a folder of them; may be repeated")
-    made.add_argument("--party", metavar="NAME", help="the party that the flows are seen from (the payer of stream 1)")
-    made.add_argument("--from", dest="since", type=_day, metavar="DATE", help="what falls due from that day")
-    made.add_argument("--to", dest="until", type=_day, metavar="DATE", help="what falls due up to that day")
-    made.add_argument("--next", type=_count, nargs="?", const=1, metavar="N",
-                      help="the next N cash flows of each stream (1), from --from or today")
-    made.add_argument("--unadjusted", action="store_true", help="with the unadjusted dates in columns of their own")
+    made = parser_of("irs-show", __doc__ or "")
+    made.add_argument(
+        "terms", type=Path, metavar="TERMS", help="the document; - is standard input"
+    )
+    made.add_argument(
+        "--from", dest="since", type=day, metavar="DATE", help="what falls due from that day"
+    )
+    made.add_argument(
+        "--to", dest="until", type=day, metavar="DATE", help="what falls due up to that day"
+    )
+    made.add_argument(
+        "--next",
+        type=count,
+        nargs="?",
+        const=1,
+        metavar="N",
+        help="the next N cash flows of each stream (1), from --from or today",
+    )
+    made.add_argument(
+        "--unadjusted",
+        action="store_true",
+        help="with the unadjusted dates in columns of their own",
+    )
     made.add_argument("--csv", metavar="FILE", help="writes CSV; - is standard output")
-    made.add_argument("--table", choices=("flows", "periods", "exchanges"), default="flows",
-                      help="the table for --csv (flows)")
+    made.add_argument(
+        "--table",
+        choices=("flows", "periods", "exchanges"),
+        default="flows",
+        help="the table for --csv (flows)",
+    )
     made.add_argument("--xlsx", metavar="FILE", help="writes a workbook")
     made.add_argument("--json", action="store_true", help="prints all tables as JSON")
     return made
@@ -96,7 +115,10 @@ def _widths(heads: Sequence[str], rows: Sequence[Sequence[str]]) -> List[int]:
 def _aligned(columns: Sequence[Column], rows: Sequence[Sequence[str]]) -> Iterator[str]:
     heads = [column.head for column in columns]
     widths = _widths(heads, rows)
-    form = "  ".join(f"{{:{'>' if column.kind in RIGHT else '<'}{width}}}" for column, width in zip(columns, widths))
+    form = "  ".join(
+        f"{{:{'>' if column.kind in RIGHT else '<'}{width}}}"
+        for column, width in zip(columns, widths)
+    )
     yield form.format(*heads).rstrip()
     yield "  ".join("-" * width for width in widths)
     for row in rows:
@@ -105,26 +127,28 @@ def _aligned(columns: Sequence[Column], rows: Sequence[Sequence[str]]) -> Iterat
 
 def _starred(table: Table) -> Table:
     """The table with a star after each date that isn't the one that it was adjusted from."""
-    rows = [[f"{cell}*" if under else cell for cell, under in zip(row, unders)]
-            for row, unders in zip(table.rows, moved_from(table))]
+    rows = [
+        [f"{cell}*" if under else cell for cell, under in zip(row, unders)]
+        for row, unders in zip(table.rows, moved_from(table))
+    ]
     return Table(table.title, table.columns, rows)
 
 
 def _stream_table(table: Table, floating: bool, unadjusted: bool) -> Iterator[str]:
-    left = ["stream", "currency", "payment", *([] if floating else RESETS), *([] if unadjusted else UNADJUSTED)]
+    left = [
+        "stream",
+        "currency",
+        "payment",
+        *([] if floating else RESETS),
+        *([] if unadjusted else UNADJUSTED),
+    ]
     kept = without(_starred(table), left)
     yield from _aligned(kept.columns, laid_out_rows(kept))
 
 
-def _head(stream: StreamText, parties: Parties) -> str:
-    sides = parties.side(stream.stream)
-    who = "" if sides is None else f"{parties.name(sides.payer)} pays {parties.name(sides.receiver)}, "
-    return f"Stream {stream.stream}: {who}{stream.currency}, {'floating' if stream.floating else 'fixed'}, {stream.day_count}"
-
-
 def stream_lines(stream: StreamText, parties: Parties, unadjusted: bool) -> Iterator[str]:
     """The lines of a stream: its head, its periods, its exchanges."""
-    yield _head(stream, parties)
+    yield parties.heading(stream)
     yield ""
     if stream.periods:
         yield from _stream_table(period_table([stream]), stream.floating, unadjusted)
@@ -146,7 +170,9 @@ def flow_lines(flows: Sequence[CashFlow], sentence: str) -> Iterator[str]:
     yield _TOTALS
 
 
-def lines(streams: List[StreamText], parties: Parties, party: Optional[str], unadjusted: bool = False) -> Iterator[str]:
+def lines(
+    streams: List[StreamText], parties: Parties, party: Optional[str], unadjusted: bool = False
+) -> Iterator[str]:
     """The lines of the whole look. Raises `ValueError` for an unknown party."""
     flows = cash_flows(streams, parties, party)
     above = [line for stream in streams for line in stream_lines(stream, parties, unadjusted)]
@@ -165,13 +191,16 @@ def _records(table: Table) -> List[Dict[str, Optional[str]]]:
 def json_text(streams: List[StreamText], parties: Parties, party: Optional[str]) -> str:
     """All tables as JSON: cells are texts, `null` where a number waits for a fixing."""
     flows = cash_flows(streams, parties, party)
-    return json.dumps({
-        "seen_from": view_sentence(parties, viewer(parties, party)),
-        "streams": [_head(stream, parties) for stream in streams],
-        "flows": _records(flow_table(flows)),
-        "periods": _records(period_table(streams)),
-        "exchanges": _records(exchange_table(streams)),
-    }, indent=1)
+    return json.dumps(
+        {
+            "seen_from": view_sentence(parties, viewer(parties, party)),
+            "streams": [parties.heading(stream) for stream in streams],
+            "flows": _records(flow_table(flows)),
+            "periods": _records(period_table(streams)),
+            "exchanges": _records(exchange_table(streams)),
+        },
+        indent=1,
+    )
 
 
 def _written(target: str, content: bytes) -> None:
@@ -184,18 +213,14 @@ def _written(target: str, content: bytes) -> None:
         raise CantRead(f"{shown(target)} can't be written: {why.strerror or why}") from why
 
 
-def _tables(streams: List[StreamText], parties: Parties, party: Optional[str]) -> List[Table]:
-    return [flow_table(cash_flows(streams, parties, party)), period_table(streams), exchange_table(streams)]
-
-
 def _shown(asked: Asked, streams: List[StreamText], parties: Parties) -> None:
     if asked.csv is not None:
-        flows, periods, exchanges = _tables(streams, parties, asked.party)
+        flows, periods, exchanges = tables_of(streams, parties, asked.party)
         table = {"flows": flows, "periods": periods, "exchanges": exchanges}[asked.table]
         _written(asked.csv, csv_text(table).encode())
     if asked.xlsx is not None:
         sentence = view_sentence(parties, viewer(parties, asked.party))
-        _written(asked.xlsx, workbook(_tables(streams, parties, asked.party), [sentence]))
+        _written(asked.xlsx, workbook(tables_of(streams, parties, asked.party), [sentence]))
     if asked.json:
         print(json_text(streams, parties, asked.party))
     if asked.csv is None and asked.xlsx is None and not asked.json:
@@ -214,7 +239,11 @@ def _look(asked: Asked) -> None:
     if reply.status:
         raise CantRead(f"{reply.line}: {reply.sentence}" if reply.line else reply.sentence)
     since = asked.since or (date.today() if asked.next is not None else None)
-    _shown(asked, within(printed(reply.text), since, asked.until, asked.next), parties_of(inputs.document.content))
+    _shown(
+        asked,
+        within(printed(reply.text), since, asked.until, asked.next),
+        parties_of(inputs.document.content),
+    )
 
 
 def main(arguments: Optional[List[str]] = None) -> int:

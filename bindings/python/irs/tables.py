@@ -1,7 +1,8 @@
 """The tables that people look at: columns and cells, the same for terminal, CSV, XLSX and HTML.
 
-A cell is the text that the engine prints, or empty where a number waits for a fixing. How a cell is laid out
-(thousands separators, per cent, cut zeros) is said by the kind of its column; it changes no digit.
+A cell is the text that the engine prints, or empty where a number waits for a fixing. How a cell
+is laid out (thousands separators, per cent, cut zeros) is said by the kind of its column; it
+changes no digit.
 """
 from __future__ import annotations
 
@@ -12,7 +13,15 @@ from .ladder import RECEIVES, CashFlow
 from .printed import PaymentText, PeriodText, ResetText, StreamText, known
 
 #: Kinds of columns. A rate is a decimal that people read in per cent; `mark` and `name` are words.
-COUNT, DATE, AMOUNT, NOTIONAL, RATE, FRACTION, WORD = "count", "date", "amount", "notional", "rate", "fraction", "word"
+COUNT, DATE, AMOUNT, NOTIONAL, RATE, FRACTION, WORD = (
+    "count",
+    "date",
+    "amount",
+    "notional",
+    "rate",
+    "fraction",
+    "word",
+)
 
 #: Kinds whose cells stand at the right of their column.
 RIGHT = frozenset({COUNT, AMOUNT, NOTIONAL, RATE, FRACTION})
@@ -30,8 +39,8 @@ class Column(NamedTuple):
 
 
 class Cell(NamedTuple):
-    """A cell for the eye: its text, below it the unadjusted date where that is another one, and how it stands:
-    ``right``, ``right open`` where it waits for a fixing, or empty."""
+    """A cell for the eye: its text, below it the unadjusted date where that is another one, and
+    how it stands: ``right``, ``right open`` where it waits for a fixing, or empty."""
 
     text: str
     under: str
@@ -39,8 +48,8 @@ class Cell(NamedTuple):
 
 
 class Table(NamedTuple):
-    """A table: its title, its columns, and rows of cells, `None` where a number waits for a fixing and
-    empty where a row has none."""
+    """A table: its title, its columns, and rows of cells, `None` where a number waits for a
+    fixing and empty where a row has none."""
 
     title: str
     columns: List[Column]
@@ -53,11 +62,20 @@ class Table(NamedTuple):
 
 
 _FLOW_COLUMNS = [
-    Column("date", "Date", DATE), Column("weekday", "Day", WORD), Column("unadjusted_date", "Unadjusted", DATE),
-    Column("stream", "Stream", COUNT), Column("kind", "What", WORD), Column("number", "No.", COUNT),
-    Column("first_period", "First period", COUNT), Column("last_period", "Last period", COUNT),
-    Column("payer", "Payer", WORD), Column("receiver", "Receiver", WORD), Column("direction", "Direction", WORD),
-    Column("currency", "Currency", WORD), Column("amount", "Amount", AMOUNT), Column("total", "Running total", AMOUNT),
+    Column("date", "Date", DATE),
+    Column("weekday", "Day", WORD),
+    Column("unadjusted_date", "Unadjusted", DATE),
+    Column("stream", "Stream", COUNT),
+    Column("kind", "What", WORD),
+    Column("number", "No.", COUNT),
+    Column("first_period", "First period", COUNT),
+    Column("last_period", "Last period", COUNT),
+    Column("payer", "Payer", WORD),
+    Column("receiver", "Receiver", WORD),
+    Column("direction", "Direction", WORD),
+    Column("currency", "Currency", WORD),
+    Column("amount", "Amount", AMOUNT),
+    Column("total", "Running total", AMOUNT),
     Column("waiting", "Not known so far", COUNT),
 ]
 
@@ -73,38 +91,82 @@ def _plain(amount: Optional[Decimal]) -> Optional[str]:
 def flow_table(flows: Sequence[CashFlow]) -> Table:
     """The cash flows in date order, a line a flow."""
     rows: List[List[Optional[str]]] = [
-        [flow.date.isoformat(), WEEKDAYS[flow.date.weekday()], flow.unadjusted.isoformat(), str(flow.stream), flow.kind,
-         str(flow.number), _optional(flow.first_period), _optional(flow.last_period), _optional(flow.payer),
-         _optional(flow.receiver), flow.direction, flow.currency, _plain(flow.amount),
-         _plain(flow.total) or "", str(flow.waiting)]
-        for flow in flows]
+        [
+            flow.date.isoformat(),
+            WEEKDAYS[flow.date.weekday()],
+            flow.unadjusted.isoformat(),
+            str(flow.stream),
+            flow.kind,
+            str(flow.number),
+            _optional(flow.first_period),
+            _optional(flow.last_period),
+            _optional(flow.payer),
+            _optional(flow.receiver),
+            flow.direction,
+            flow.currency,
+            _plain(flow.amount),
+            _plain(flow.total) or "",
+            str(flow.waiting),
+        ]
+        for flow in flows
+    ]
     return Table("Cash flows", _FLOW_COLUMNS, rows)
 
 
 def ledger_table(flows: Sequence[CashFlow]) -> Table:
-    """The cash flows for the eye: what is received and what is paid in columns of their own, unsigned. The last
-    column, how many amounts of the total aren't known, stands only where there are any."""
-    columns = [Column("date", "Date", DATE), Column("weekday", "Day", WORD), Column("stream", "Stream", COUNT),
-               Column("what", "What", WORD), Column("currency", "Cur", WORD), Column("receives", "Receives", AMOUNT),
-               Column("pays", "Pays", AMOUNT), Column("total", "Running total", AMOUNT), Column("open", "Not known", COUNT)]
+    """The cash flows for the eye: what is received and what is paid in columns of their own,
+    unsigned. The last column, how many amounts of the total aren't known, stands only where there
+    are any."""
+    columns = [
+        Column("date", "Date", DATE),
+        Column("weekday", "Day", WORD),
+        Column("stream", "Stream", COUNT),
+        Column("what", "What", WORD),
+        Column("currency", "Cur", WORD),
+        Column("receives", "Receives", AMOUNT),
+        Column("pays", "Pays", AMOUNT),
+        Column("total", "Running total", AMOUNT),
+        Column("open", "Not known", COUNT),
+    ]
     rows = []
     for flow in flows:
         amount = None if flow.amount is None else _plain(flow.amount.copy_abs())
         sides = [amount, ""] if flow.direction == RECEIVES else ["", amount]
-        rows.append([flow.date.isoformat(), WEEKDAYS[flow.date.weekday()], str(flow.stream), f"{flow.kind} {flow.number}",
-                     flow.currency, *sides, _plain(flow.total) or "", str(flow.waiting) if flow.waiting else ""])
+        rows.append(
+            [
+                flow.date.isoformat(),
+                WEEKDAYS[flow.date.weekday()],
+                str(flow.stream),
+                f"{flow.kind} {flow.number}",
+                flow.currency,
+                *sides,
+                _plain(flow.total) or "",
+                str(flow.waiting) if flow.waiting else "",
+            ]
+        )
     table = Table("Cash flows", columns, rows)
     return table if any(table.column("open")) else without(table, ["open"])
 
 
 _PERIOD_COLUMNS = [
-    Column("stream", "Stream", COUNT), Column("currency", "Currency", WORD), Column("period", "Period", COUNT),
-    Column("unadjusted_start", "Unadjusted start", DATE), Column("unadjusted_end", "Unadjusted end", DATE),
-    Column("start", "Start", DATE), Column("end", "End", DATE), Column("days", "Days", COUNT),
-    Column("fraction", "Fraction", FRACTION), Column("notional", "Notional", NOTIONAL), Column("rate", "Rate", RATE),
-    Column("reset_date", "Reset", DATE), Column("fixing_date", "Fixing", DATE), Column("observed", "Observed", RATE),
-    Column("payment", "Payment", COUNT), Column("unadjusted_payment_date", "Unadjusted payment", DATE),
-    Column("payment_date", "Paid on", DATE), Column("amount", "Amount", AMOUNT),
+    Column("stream", "Stream", COUNT),
+    Column("currency", "Currency", WORD),
+    Column("period", "Period", COUNT),
+    Column("unadjusted_start", "Unadjusted start", DATE),
+    Column("unadjusted_end", "Unadjusted end", DATE),
+    Column("start", "Start", DATE),
+    Column("end", "End", DATE),
+    Column("days", "Days", COUNT),
+    Column("fraction", "Fraction", FRACTION),
+    Column("notional", "Notional", NOTIONAL),
+    Column("rate", "Rate", RATE),
+    Column("reset_date", "Reset", DATE),
+    Column("fixing_date", "Fixing", DATE),
+    Column("observed", "Observed", RATE),
+    Column("payment", "Payment", COUNT),
+    Column("unadjusted_payment_date", "Unadjusted payment", DATE),
+    Column("payment_date", "Paid on", DATE),
+    Column("amount", "Amount", AMOUNT),
 ]
 
 
@@ -118,43 +180,75 @@ def _payment_cells(payment: Optional[PaymentText]) -> List[Optional[str]]:
     return [payment.number, payment.unadjusted, payment.adjusted, known(payment.amount)]
 
 
-def _period_row(stream: StreamText, period: PeriodText, payment: Optional[PaymentText]) -> List[Optional[str]]:
-    return [str(stream.stream), stream.currency, period.number, period.start, period.end, period.adjusted_start,
-            period.adjusted_end, period.days, period.fraction, period.notional, known(period.rate),
-            *_reset_cells(stream.resets.get(period.number)), *_payment_cells(payment)]
+def _period_row(
+    stream: StreamText, period: PeriodText, payment: Optional[PaymentText]
+) -> List[Optional[str]]:
+    return [
+        str(stream.stream),
+        stream.currency,
+        period.number,
+        period.start,
+        period.end,
+        period.adjusted_start,
+        period.adjusted_end,
+        period.days,
+        period.fraction,
+        period.notional,
+        known(period.rate),
+        *_reset_cells(stream.resets.get(period.number)),
+        *_payment_cells(payment),
+    ]
 
 
 def period_table(streams: Sequence[StreamText]) -> Table:
-    """The calculation periods with their resets; a payment stands on the line of its last period."""
+    """The calculation periods with their resets; a payment stands on the line of its last
+    period."""
     rows = []
     for stream in streams:
         payments = stream.payment_of()
-        rows += [_period_row(stream, period, payments.get(period.number)) for period in stream.periods]
+        rows += [
+            _period_row(stream, period, payments.get(period.number)) for period in stream.periods
+        ]
     return Table("Periods", _PERIOD_COLUMNS, rows)
 
 
 def exchange_table(streams: Sequence[StreamText]) -> Table:
-    """The principal exchanges, as the engine prints them: a positive amount is paid by the stream's payer."""
-    columns = [Column("stream", "Stream", COUNT), Column("currency", "Currency", WORD), Column("exchange", "Exchange", COUNT),
-               Column("unadjusted_date", "Unadjusted", DATE), Column("date", "Date", DATE), Column("amount", "Amount", AMOUNT)]
+    """The principal exchanges, as the engine prints them: a positive amount is paid by the
+    stream's payer."""
+    columns = [
+        Column("stream", "Stream", COUNT),
+        Column("currency", "Currency", WORD),
+        Column("exchange", "Exchange", COUNT),
+        Column("unadjusted_date", "Unadjusted", DATE),
+        Column("date", "Date", DATE),
+        Column("amount", "Amount", AMOUNT),
+    ]
     rows: List[List[Optional[str]]] = [
         [str(stream.stream), stream.currency, row.number, row.unadjusted, row.adjusted, row.amount]
-        for stream in streams for row in stream.exchanges]
+        for stream in streams
+        for row in stream.exchanges
+    ]
     return Table("Exchanges", columns, rows)
 
 
 #: Columns of dates, and those of the dates that they were adjusted from.
 ADJUSTED_FROM = {
-    "start": "unadjusted_start", "end": "unadjusted_end", "payment_date": "unadjusted_payment_date",
-    "date": "unadjusted_date", "fixing_date": "reset_date",
+    "start": "unadjusted_start",
+    "end": "unadjusted_end",
+    "payment_date": "unadjusted_payment_date",
+    "date": "unadjusted_date",
+    "fixing_date": "reset_date",
 }
 
 
 def without(table: Table, names: Sequence[str]) -> Table:
     """The table without the columns of these names."""
     places = [place for place, column in enumerate(table.columns) if column.name not in names]
-    return Table(table.title, [table.columns[place] for place in places],
-                 [[row[place] for place in places] for row in table.rows])
+    return Table(
+        table.title,
+        [table.columns[place] for place in places],
+        [[row[place] for place in places] for row in table.rows],
+    )
 
 
 def _grouped(digits: str) -> str:
@@ -166,7 +260,8 @@ def _decimals(text: str) -> int:
 
 
 def separated(text: str, places: Optional[int] = None) -> str:
-    """A printed number with thousands separators; with `places`, zeros behind that many decimals go.
+    """A printed number with thousands separators; with `places`, zeros behind that many decimals
+    go.
 
     >>> separated("-1234567.5000", 2)
     '-1,234,567.50'
@@ -179,7 +274,8 @@ def separated(text: str, places: Optional[int] = None) -> str:
 
 
 def per_cent(text: str, places: int = 7) -> str:
-    """A printed rate in per cent, by moving its point; `places` decimals are shown and the rest are zeros.
+    """A printed rate in per cent, by moving its point; `places` decimals are shown and the rest
+    are zeros.
 
     >>> per_cent("0.055000000", 2)
     '5.50%'
@@ -200,7 +296,9 @@ def laid_out(column: Column, cells: Sequence[Optional[str]], waits: str) -> List
     """The cells of a column for the eye, with `waits` for a number that isn't known."""
     if column.kind == RATE:
         places = _places(column, cells)
-        return [waits if cell is None else per_cent(cell, places) if cell else "" for cell in cells]
+        return [
+            waits if cell is None else per_cent(cell, places) if cell else "" for cell in cells
+        ]
     if column.kind in (AMOUNT, NOTIONAL):
         kept = _places(column, cells) if column.kind == NOTIONAL else None
         return [waits if cell is None else separated(cell, kept) for cell in cells]
@@ -209,30 +307,47 @@ def laid_out(column: Column, cells: Sequence[Optional[str]], waits: str) -> List
 
 def laid_out_rows(table: Table, waits: str = "waits") -> List[List[str]]:
     """The rows of a table for the eye."""
-    columns = [laid_out(column, [row[place] for row in table.rows], waits) for place, column in enumerate(table.columns)]
+    columns = [
+        laid_out(column, [row[place] for row in table.rows], waits)
+        for place, column in enumerate(table.columns)
+    ]
     return [list(row) for row in zip(*columns)]
 
 
 def moved_from(table: Table) -> List[List[str]]:
     """For each cell the date that it was adjusted from, where that is another one, else empty."""
     names = [column.name for column in table.columns]
-    places = [names.index(ADJUSTED_FROM[name]) if ADJUSTED_FROM.get(name) in names else None for name in names]
-    return [[(row[place] or "") if place is not None and row[place] != cell else "" for cell, place in zip(row, places)]
-            for row in table.rows]
+    places = [
+        names.index(ADJUSTED_FROM[name]) if ADJUSTED_FROM.get(name) in names else None
+        for name in names
+    ]
+    return [
+        [
+            (row[place] or "") if place is not None and row[place] != cell else ""
+            for cell, place in zip(row, places)
+        ]
+        for row in table.rows
+    ]
 
 
 def cells_of(table: Table, waits: str = "waits") -> List[List[Cell]]:
     """The cells of a table for the eye, row by row."""
     stands = ["right" if column.kind in RIGHT else "" for column in table.columns]
-    return [[Cell(text, under, "right open" if printed is None else side)
-             for text, under, printed, side in zip(texts, unders, row, stands)]
-            for texts, unders, row in zip(laid_out_rows(table, waits), moved_from(table), table.rows)]
+    return [
+        [
+            Cell(text, under, "right open" if printed is None else side)
+            for text, under, printed, side in zip(texts, unders, row, stands)
+        ]
+        for texts, unders, row in zip(laid_out_rows(table, waits), moved_from(table), table.rows)
+    ]
 
 
 def folded(table: Table, left_out: Sequence[str] = ()) -> Tuple[List[Column], List[List[Cell]]]:
-    """The columns and cells of a table, with each unadjusted date under its adjusted one in place of a
-    column of its own, and without the columns of these names."""
+    """The columns and cells of a table, with each unadjusted date under its adjusted one in place
+    of a column of its own, and without the columns of these names."""
     gone = {*ADJUSTED_FROM.values(), *left_out}
     places = [place for place, column in enumerate(table.columns) if column.name not in gone]
     cells = cells_of(table)
-    return [table.columns[place] for place in places], [[row[place] for place in places] for row in cells]
+    return [table.columns[place] for place in places], [
+        [row[place] for place in places] for row in cells
+    ]

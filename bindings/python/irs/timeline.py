@@ -1,7 +1,8 @@
 """A timeline of a schedule as an SVG picture: periods, stubs, resets, payments, exchanges, today.
 
-The picture is cut into bands, one under the other, so that 480 periods can be told apart like 60. Where a mark
-stands follows from the printed dates; no date is worked out. The templates write the picture's text.
+The picture is cut into bands, one under the other, so that 480 periods can be told apart like 60.
+Where a mark stands follows from the printed dates; no date is worked out. The templates write the
+picture's text.
 """
 from __future__ import annotations
 
@@ -10,13 +11,15 @@ from typing import Dict, Iterable, List, NamedTuple, Optional, Sequence, Set
 
 from .printed import StreamText
 
-#: The most bands of a picture. Where there are more periods than they hold, the marks stand closer.
+#: The most bands of a picture. Where there are more periods than they hold, the marks stand
+#: closer.
 MOST_BANDS = 16
 
 #: Heights in the picture's own units.
 AXIS, LANE, GAP = 22, 34, 10
 
-#: How wide the label of a year, of a month, and of the month in which a band begins is with its gap.
+#: How wide the label of a year, of a month, and of the month in which a band begins is with its
+#: gap.
 YEAR, MONTH, START = 44, 34, 64
 
 _MONTHS = ("Jan", "Feb", "Mar", "Apr", "May", "Jun", "Jul", "Aug", "Sep", "Oct", "Nov", "Dec")
@@ -101,21 +104,40 @@ def _dates(stream: StreamText, stubs: Set[int]) -> _Dates:
     spans = [(_number(row.adjusted_start), _number(row.adjusted_end)) for row in stream.periods]
     boundaries = [start for start, _ in spans] + [end for _, end in spans[-1:]]
     return _Dates(
-        f"{stream.stream} {stream.currency}", boundaries, [spans[number - 1] for number in sorted(stubs) if number <= len(spans)],
-        [_number(row.adjusted) for row in stream.payments], [_number(row.fixing) for row in stream.resets.values()],
-        [_number(row.adjusted) for row in stream.exchanges])
+        f"{stream.stream} {stream.currency}",
+        boundaries,
+        [spans[number - 1] for number in sorted(stubs) if number <= len(spans)],
+        [_number(row.adjusted) for row in stream.payments],
+        [_number(row.fixing) for row in stream.resets.values()],
+        [_number(row.adjusted) for row in stream.exchanges],
+    )
 
 
 def _all_days(streams: Sequence[_Dates]) -> List[int]:
-    return [day for dates in streams for days in (dates.boundaries, dates.payments, dates.resets, dates.exchanges) for day in days]
+    return [
+        day
+        for dates in streams
+        for days in (dates.boundaries, dates.payments, dates.resets, dates.exchanges)
+        for day in days
+    ]
 
 
 def _ticks(scale: _Scale) -> List[Tick]:
     first, last = date.fromordinal(scale.first), date.fromordinal(scale.last - 1)
     years = last.year - first.year + 1
-    step = next((step for step in (1, 2, 5, 10, 20, 50, 100) if scale.width / max(1, years / step) >= YEAR), 200)
-    ticks = [Tick(scale.x(date(year, 1, 1).toordinal()), str(year) if year % step == 0 else "", True)
-             for year in range(first.year, last.year + 1) if scale.first <= date(year, 1, 1).toordinal()]
+    step = next(
+        (
+            step
+            for step in (1, 2, 5, 10, 20, 50, 100)
+            if scale.width / max(1, years / step) >= YEAR
+        ),
+        200,
+    )
+    ticks = [
+        Tick(scale.x(date(year, 1, 1).toordinal()), str(year) if year % step == 0 else "", True)
+        for year in range(first.year, last.year + 1)
+        if scale.first <= date(year, 1, 1).toordinal()
+    ]
     a_month = scale.width / max(1.0, (scale.last - scale.first) / 30.4)
     if a_month >= 4:
         ticks += _months(scale, first, last, a_month >= MONTH)
@@ -125,9 +147,14 @@ def _ticks(scale: _Scale) -> List[Tick]:
 
 
 def _months(scale: _Scale, first: date, last: date, labelled: bool) -> List[Tick]:
-    days = [date(year, month, 1) for year in range(first.year, last.year + 1) for month in range(2, 13)]
-    return [Tick(scale.x(day.toordinal()), _MONTHS[day.month - 1] if labelled else "", False)
-            for day in days if scale.first <= day.toordinal() < scale.last]
+    days = [
+        date(year, month, 1) for year in range(first.year, last.year + 1) for month in range(2, 13)
+    ]
+    return [
+        Tick(scale.x(day.toordinal()), _MONTHS[day.month - 1] if labelled else "", False)
+        for day in days
+        if scale.first <= day.toordinal() < scale.last
+    ]
 
 
 def _path(xs: Iterable[float], shape: str) -> str:
@@ -135,17 +162,32 @@ def _path(xs: Iterable[float], shape: str) -> str:
 
 
 def _lane(dates: _Dates, scale: _Scale, y: float) -> Lane:
-    ends = [max(dates.boundaries[0], scale.first), min(dates.boundaries[-1], scale.last)] if dates.boundaries else [0, 0]
+    ends = (
+        [max(dates.boundaries[0], scale.first), min(dates.boundaries[-1], scale.last)]
+        if dates.boundaries
+        else [0, 0]
+    )
     left, right = (scale.x(ends[0]), scale.x(ends[1])) if ends[0] < ends[1] else (0.0, 0.0)
-    stubs = [(scale.x(max(start, scale.first)), scale.x(min(end, scale.last)))
-             for start, end in dates.stubs if start < scale.last and scale.first < end]
+    stubs = [
+        (scale.x(max(start, scale.first)), scale.x(min(end, scale.last)))
+        for start, end in dates.stubs
+        if start < scale.last and scale.first < end
+    ]
     top, bottom = y + 10, y + 24
     return Lane(
-        dates.label, y, left, right, [(start, end - start) for start, end in stubs],
+        dates.label,
+        y,
+        left,
+        right,
+        [(start, end - start) for start, end in stubs],
         _path(scale.within(dates.boundaries), f"M{{x}} {top}v14"),
         _path(scale.within(dates.payments), f"M{{x}} {bottom}l-3.5 7h7z"),
-        _path(scale.within(dates.resets), f"M{{x}} {y + 5}m-2.5 0a2.5 2.5 0 1 0 5 0a2.5 2.5 0 1 0-5 0"),
-        _path(scale.within(dates.exchanges), f"M{{x}} {y + 11}l6 6l-6 6l-6-6z"))
+        _path(
+            scale.within(dates.resets),
+            f"M{{x}} {y + 5}m-2.5 0a2.5 2.5 0 1 0 5 0a2.5 2.5 0 1 0-5 0",
+        ),
+        _path(scale.within(dates.exchanges), f"M{{x}} {y + 11}l6 6l-6 6l-6-6z"),
+    )
 
 
 def _bands(first: int, last: int, count: int) -> List[Sequence[int]]:
@@ -160,16 +202,21 @@ def _band(streams: Sequence[_Dates], scale: _Scale, y: float, today: int) -> Ban
 
 
 def _sentence(streams: Sequence[StreamText], first: int, last: int) -> str:
-    each = "; ".join(f"stream {stream.stream} has {len(stream.periods)} periods and {len(stream.payments)} payments"
-                     for stream in streams)
+    each = "; ".join(
+        f"stream {stream.stream} has {len(stream.periods)} periods "
+        f"and {len(stream.payments)} payments"
+        for stream in streams
+    )
     return f"Timeline from {date.fromordinal(first)} to {date.fromordinal(last)}: {each}."
 
 
-def timeline(streams: Sequence[StreamText], stubs: Sequence[Set[int]], today: date, width: int, most: int) -> Optional[Timeline]:
+def timeline(
+    streams: Sequence[StreamText], stubs: Sequence[Set[int]], today: date, width: int, most: int
+) -> Optional[Timeline]:
     """A picture `width` units wide with at most about `most` periods of a stream in a band.
 
-    `stubs` has the numbers of the periods of each stream that are asked to be stubs. `None` where the
-    streams have no rows.
+    `stubs` has the numbers of the periods of each stream that are asked to be stubs. `None` where
+    the streams have no rows.
     """
     dated = [_dates(stream, asked) for stream, asked in zip(streams, stubs)]
     days = _all_days(dated)
@@ -182,8 +229,14 @@ def timeline(streams: Sequence[StreamText], stubs: Sequence[Set[int]], today: da
     bands: List[Band] = []
     y = 4.0
     for start, end in _bands(first, last, count):
-        bands.append(_band(dated, _Scale(start, end, left, width - left - 12), y, today.toordinal()))
+        bands.append(
+            _band(dated, _Scale(start, end, left, width - left - 12), y, today.toordinal())
+        )
         y += bands[-1].height + GAP
-    has = {"stubs": any(dates.stubs for dates in dated), "resets": any(dates.resets for dates in dated),
-           "exchanges": any(dates.exchanges for dates in dated), "today": any(band.today is not None for band in bands)}
+    has = {
+        "stubs": any(dates.stubs for dates in dated),
+        "resets": any(dates.resets for dates in dated),
+        "exchanges": any(dates.exchanges for dates in dated),
+        "today": any(band.today is not None for band in bands),
+    }
     return Timeline(width, y, left, bands, _sentence(streams, first, last - 1), has)

@@ -1,7 +1,8 @@
 """The terms of a stream in words, from the document's own texts.
 
-Each line names what FpML's element says; nothing is worked out. A rate is read in per cent by moving its point.
-The document was read by the engine before, so what is absent here is absent there.
+Each line names what FpML's element says; nothing is worked out. A rate is read in per cent by
+moving its point. The document was read by the engine before, so what is absent here is absent
+there.
 """
 from __future__ import annotations
 
@@ -18,8 +19,11 @@ MOST_STEPS = 6
 _UNITS = {"D": "day", "W": "week", "M": "month", "Y": "year"}
 
 _CONVENTIONS = {
-    "FOLLOWING": "following", "MODFOLLOWING": "modified following", "PRECEDING": "preceding",
-    "MODPRECEDING": "modified preceding", "NEAREST": "nearest",
+    "FOLLOWING": "following",
+    "MODFOLLOWING": "modified following",
+    "PRECEDING": "preceding",
+    "MODPRECEDING": "modified preceding",
+    "NEAREST": "nearest",
 }
 
 Read = Callable[[Optional[str]], str]
@@ -50,7 +54,11 @@ def rate(text: Optional[str]) -> str:
 
 def amount(text: Optional[str]) -> str:
     """A notional of the document with thousands separators."""
-    return shown(text or "") if text is None or not _DECIMAL.fullmatch(text) else separated(text.lstrip("+"))
+    return (
+        shown(text or "")
+        if text is None or not _DECIMAL.fullmatch(text)
+        else separated(text.lstrip("+"))
+    )
 
 
 def _every(frequency: Any) -> str:
@@ -68,7 +76,9 @@ def tenor(element: Any) -> str:
 
 
 def _centres(adjustments: Any) -> str:
-    named = [text_of(item) for item in children(child(adjustments, "businessCenters"), "businessCenter")]
+    named = [
+        text_of(item) for item in children(child(adjustments, "businessCenters"), "businessCenter")
+    ]
     if named:
         return ", ".join(shown(name or "") for name in named)
     reference = child(adjustments, "businessCentersReference")
@@ -81,7 +91,8 @@ def _adjusted(adjustments: Any) -> str:
     if convention in (None, "NONE"):
         return "not adjusted"
     centres = _centres(adjustments)
-    return f"{_CONVENTIONS.get(convention or '', shown(convention or ''))}{f' in {centres}' if centres else ''}"
+    name = _CONVENTIONS.get(convention or "", shown(convention or ""))
+    return f"{name} in {centres}" if centres else name
 
 
 def _offset(offset: Any, preposition: str, what: str) -> str:
@@ -90,7 +101,8 @@ def _offset(offset: Any, preposition: str, what: str) -> str:
         return f"{preposition} {what}"
     days = count.lstrip("+-").lstrip("0")
     kind = (text_at(offset, "dayType") or "").lower()
-    return f"{shown(days)} {kind} day{'' if days == '1' else 's'} {'before' if count.startswith('-') else 'after'} {what}"
+    side = "before" if count.startswith("-") else "after"
+    return f"{shown(days)} {kind} day{'' if days == '1' else 's'} {side} {what}"
 
 
 def _relative(text: Optional[str]) -> str:
@@ -99,10 +111,16 @@ def _relative(text: Optional[str]) -> str:
 
 def _steps(about: str, schedule: Any, read: Read) -> List[Term]:
     steps = children(schedule, "step")
-    terms = [Term(f"{about} {shown(text_at(step, 'stepDate') or '')}", read(text_at(step, "stepValue")))
-             for step in steps[:MOST_STEPS]]
+    terms = [
+        Term(f"{about} {shown(text_at(step, 'stepDate') or '')}", read(text_at(step, "stepValue")))
+        for step in steps[:MOST_STEPS]
+    ]
     more = len(steps) - MOST_STEPS
-    return [*terms, Term("and then", f"{more} more steps, which the periods show")] if more > 0 else terms
+    return (
+        [*terms, Term("and then", f"{more} more steps, which the periods show")]
+        if more > 0
+        else terms
+    )
 
 
 def index_of(rate_element: Any) -> str:
@@ -116,24 +134,39 @@ def _factor(text: Optional[str]) -> str:
 
 
 def _floating_terms(floating: Any) -> List[Term]:
-    multiplier, spread = child(floating, "floatingRateMultiplierSchedule"), child(floating, "spreadSchedule")
+    multiplier, spread = child(floating, "floatingRateMultiplierSchedule"), child(
+        floating, "spreadSchedule"
+    )
     times = "" if multiplier is None else f" times {_factor(text_at(multiplier, 'initialValue'))}"
     plus = "" if spread is None else f" plus {rate(text_at(spread, 'initialValue'))}"
-    return [Term("Rate", index_of(floating) + times + plus), *_steps("times, from", multiplier, _factor),
-            *_steps("plus, from", spread, rate)]
+    return [
+        Term("Rate", index_of(floating) + times + plus),
+        *_steps("times, from", multiplier, _factor),
+        *_steps("plus, from", spread, rate),
+    ]
 
 
 def _rate_terms(calculation: Any) -> List[Term]:
-    fixed, floating = child(calculation, "fixedRateSchedule"), child(calculation, "floatingRateCalculation")
+    fixed, floating = child(calculation, "fixedRateSchedule"), child(
+        calculation, "floatingRateCalculation"
+    )
     if fixed is not None:
-        return [Term("Rate", f"fixed, {rate(text_at(fixed, 'initialValue'))}"), *_steps("from", fixed, rate)]
+        return [
+            Term("Rate", f"fixed, {rate(text_at(fixed, 'initialValue'))}"),
+            *_steps("from", fixed, rate),
+        ]
     terms = _floating_terms(floating)
     if text_at(floating, "initialRate") is not None:
         terms.append(Term("First rate", rate(text_at(floating, "initialRate"))))
     rounding = child(floating, "finalRateRounding")
     if rounding is not None:
-        terms.append(Term("Rounding", f"{shown(text_at(rounding, 'roundingDirection') or '')}, "
-                                      f"{shown(text_at(rounding, 'precision') or '')} decimals of the rate"))
+        terms.append(
+            Term(
+                "Rounding",
+                f"{shown(text_at(rounding, 'roundingDirection') or '')}, "
+                f"{shown(text_at(rounding, 'precision') or '')} decimals of the rate",
+            )
+        )
     if text_at(floating, "negativeInterestRateTreatment") == "ZeroInterestRateMethod":
         terms.append(Term("Negative rates", "count as zero"))
     return terms
@@ -147,11 +180,17 @@ def _stub(stub: Any) -> str:
 
 def _stub_terms(stream: Any, dates: Any) -> List[Term]:
     terms = []
-    for element, about in (("firstRegularPeriodStartDate", "First regular day"), ("lastRegularPeriodEndDate", "Last regular day"),
-                           ("stubPeriodType", "Stub")):
+    for element, about in (
+        ("firstRegularPeriodStartDate", "First regular day"),
+        ("lastRegularPeriodEndDate", "Last regular day"),
+        ("stubPeriodType", "Stub"),
+    ):
         if text_at(dates, element) is not None:
             terms.append(Term(about, shown(text_at(dates, element) or "")))
-    for element, about in (("initialStub", "Rate of the first stub"), ("finalStub", "Rate of the last stub")):
+    for element, about in (
+        ("initialStub", "Rate of the first stub"),
+        ("finalStub", "Rate of the last stub"),
+    ):
         stub = at(stream, f"stubCalculationPeriodAmount/{element}")
         if stub is not None:
             terms.append(Term(about, _stub(stub)))
@@ -159,7 +198,8 @@ def _stub_terms(stream: Any, dates: Any) -> List[Term]:
 
 
 def _date(element: Any) -> str:
-    return f"{shown(text_at(element, 'unadjustedDate') or '')}, {_adjusted(child(element, 'dateAdjustments'))}"
+    day = shown(text_at(element, "unadjustedDate") or "")
+    return f"{day}, {_adjusted(child(element, 'dateAdjustments'))}"
 
 
 def _period_terms(dates: Any) -> List[Term]:
@@ -168,17 +208,27 @@ def _period_terms(dates: Any) -> List[Term]:
     if child(dates, "firstPeriodStartDate") is not None:
         terms.append(Term("First period starts", _date(child(dates, "firstPeriodStartDate"))))
     roll = shown(text_at(frequency, "rollConvention") or "")
+    adjusted = _adjusted(child(dates, "calculationPeriodDatesAdjustments"))
     return terms + [
         Term("Ends", _date(child(dates, "terminationDate"))),
-        Term("Periods", f"{_every(frequency)}, roll {roll}; {_adjusted(child(dates, 'calculationPeriodDatesAdjustments'))}"),
+        Term("Periods", f"{_every(frequency)}, roll {roll}; {adjusted}"),
     ]
 
 
 def _payment_terms(payments: Any) -> List[Term]:
-    when = _offset(child(payments, "paymentDaysOffset"), "at", f"period {_relative(text_at(payments, 'payRelativeTo'))}")
+    when = _offset(
+        child(payments, "paymentDaysOffset"),
+        "at",
+        f"period {_relative(text_at(payments, 'payRelativeTo'))}",
+    )
     adjusted = _adjusted(child(payments, "paymentDatesAdjustments"))
-    terms = [Term("Payments", f"{_every(child(payments, 'paymentFrequency'))}, {when}; {adjusted}")]
-    for element, about in (("firstPaymentDate", "First payment"), ("lastRegularPaymentDate", "Last regular payment")):
+    terms = [
+        Term("Payments", f"{_every(child(payments, 'paymentFrequency'))}, {when}; {adjusted}")
+    ]
+    for element, about in (
+        ("firstPaymentDate", "First payment"),
+        ("lastRegularPaymentDate", "Last regular payment"),
+    ):
         if text_at(payments, element) is not None:
             terms.append(Term(about, shown(text_at(payments, element) or "")))
     return terms
@@ -189,33 +239,53 @@ def _reset_terms(resets: Any) -> List[Term]:
         return []
     relative = text_at(resets, "resetRelativeTo") or "CalculationPeriodStartDate"
     fixing = child(resets, "fixingDates")
-    when = _offset(fixing, "on", "that day") + (f", {_adjusted(fixing)}" if fixing is not None else "")
+    when = _offset(fixing, "on", "that day") + (
+        f", {_adjusted(fixing)}" if fixing is not None else ""
+    )
     adjusted = _adjusted(child(resets, "resetDatesAdjustments"))
     return [Term("Resets", f"at period {_relative(relative)}, {adjusted}; fixed {when}")]
 
 
 def _exchange_terms(stream: Any) -> List[Term]:
     exchanges = child(stream, "principalExchanges")
-    said = [word for element, word in (("initialExchange", "at the start"), ("intermediateExchange", "where the notional changes"),
-                                       ("finalExchange", "at the end")) if text_at(exchanges, element) in ("true", "1")]
+    said = [
+        word
+        for element, word in (
+            ("initialExchange", "at the start"),
+            ("intermediateExchange", "where the notional changes"),
+            ("finalExchange", "at the end"),
+        )
+        if text_at(exchanges, element) in ("true", "1")
+    ]
     return [Term("Principal exchanged", ", ".join(said))] if said else []
 
 
 def _amount_terms(calculation: Any) -> List[Term]:
     notional = at(calculation, "notionalSchedule/notionalStepSchedule")
     currency = shown(text_at(notional, "currency") or "")
-    terms = [Term("Notional", f"{currency} {amount(text_at(notional, 'initialValue'))}"), *_steps("from", notional, amount),
-             *_rate_terms(calculation), Term("Day count", shown(text_at(calculation, "dayCountFraction") or ""))]
+    terms = [
+        Term("Notional", f"{currency} {amount(text_at(notional, 'initialValue'))}"),
+        *_steps("from", notional, amount),
+        *_rate_terms(calculation),
+        Term("Day count", shown(text_at(calculation, "dayCountFraction") or "")),
+    ]
     method = text_at(calculation, "compoundingMethod")
-    return terms if method in (None, "None") else [*terms, Term("Compounding", shown(method or ""))]
+    return (
+        terms if method in (None, "None") else [*terms, Term("Compounding", shown(method or ""))]
+    )
 
 
 def stream_terms(stream: Any) -> List[Term]:
     """The terms of a stream in words, in the order in which people ask for them."""
     dates = child(stream, "calculationPeriodDates")
-    return [*_amount_terms(at(stream, "calculationPeriodAmount/calculation")), *_period_terms(dates),
-            *_stub_terms(stream, dates), *_payment_terms(child(stream, "paymentDates")),
-            *_reset_terms(child(stream, "resetDates")), *_exchange_terms(stream)]
+    return [
+        *_amount_terms(at(stream, "calculationPeriodAmount/calculation")),
+        *_period_terms(dates),
+        *_stub_terms(stream, dates),
+        *_payment_terms(child(stream, "paymentDates")),
+        *_reset_terms(child(stream, "resetDates")),
+        *_exchange_terms(stream),
+    ]
 
 
 def terms_of(document: Document) -> List[List[Term]]:

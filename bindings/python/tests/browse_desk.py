@@ -1,12 +1,10 @@
 """The page irs-desk and the report in a real browser: Debian's chromium, driven by Selenium.
 
-bindings/desk_tests runs it. IRS_PICTURES names a folder for pictures of report and page, at 1,280 and 400 pixels,
-light and dark.
+bindings/desk_tests runs it. IRS_PICTURES names a folder for pictures of report and page, at 1,280
+and 400 pixels, light and dark.
 """
 import base64
-import csv
 import io
-import json
 import os
 import shutil
 import subprocess
@@ -41,23 +39,26 @@ for (const kind of ["dragenter", "dragover", "drop"])
   zone.dispatchEvent(new DragEvent(kind, {bubbles: true, cancelable: true, dataTransfer: given}));
 """
 
-#: The elements that stick out of the page, and texts that are cut at their box; what scrolls by itself may.
+#: The elements that stick out of the page, and texts that are cut at their box; what scrolls by
+#: itself may.
 OUTSIDE = """
 const wide = document.documentElement.clientWidth, found = [];
-if (document.documentElement.scrollWidth > wide) found.push("page " + document.documentElement.scrollWidth);
-for (const element of document.querySelectorAll("body *")) {
+if (document.documentElement.scrollWidth > wide) found.push("page " +
+document.documentElement.scrollWidth); for (const element of document.querySelectorAll("body *")) {
   if (element.closest(".scroll, .lines, svg, details:not([open]), .skip")) continue;
   const box = element.getBoundingClientRect();
-  if (box.width && (box.right > wide + 1 || box.left < -1)) found.push(element.tagName + " " + element.textContent.slice(0, 40));
+  if (box.width && (box.right > wide + 1 || box.left < -1)) found.push(element.tagName + " " +
+  element.textContent.slice(0, 40));
 }
 for (const picture of document.querySelectorAll("svg.timeline")) {
   const frame = picture.getBoundingClientRect();
   if (!frame.width) continue;
   const texts = [...picture.querySelectorAll("text")].map((text) => text.getBoundingClientRect());
   texts.forEach((box, place) => {
-    if (box.left < frame.left - 1 || box.right > frame.right + 1 || box.top < frame.top - 1) found.push("label out of the picture");
-    for (const other of texts.slice(place + 1))
-      if (box.left < other.right && other.left < box.right && box.top < other.bottom && other.top < box.bottom)
+    if (box.left < frame.left - 1 || box.right > frame.right + 1 || box.top < frame.top - 1)
+    found.push("label out of the picture"); for (const other of texts.slice(place + 1))
+      if (box.left < other.right && other.left < box.right && box.top < other.bottom && other.top
+      < box.bottom)
         found.push("labels on each other");
   });
 }
@@ -68,8 +69,14 @@ return found;
 def browser(folder):
     options = Options()
     options.binary_location = shutil.which("chromium")
-    for word in ("--headless=new", "--no-sandbox", "--disable-gpu", "--disable-dev-shm-usage", "--hide-scrollbars",
-                 f"--user-data-dir={folder}/profile"):
+    for word in (
+        "--headless=new",
+        "--no-sandbox",
+        "--disable-gpu",
+        "--disable-dev-shm-usage",
+        "--hide-scrollbars",
+        f"--user-data-dir={folder}/profile",
+    ):
         options.add_argument(word)
     options.add_experimental_option("prefs", {"download.default_directory": f"{folder}/downloads"})
     options.set_capability("goog:loggingPrefs", {"browser": "ALL"})
@@ -87,10 +94,17 @@ class Browser(unittest.TestCase):
         (cls.folder / "calendars").mkdir()
         (cls.folder / "scratch").mkdir()
         (cls.folder / "calendars" / "test.cal").write_bytes(trades.CALENDAR)
-        (cls.folder / "calendars" / "de.cal").write_bytes((EXAMPLES / "business_days" / "de.cal").read_bytes())
-        cls.desk = subprocess.Popen([sys.executable, "-m", "irs.desk", "--calendars", str(cls.folder / "calendars")],
-                                    stdout=subprocess.PIPE, stderr=subprocess.PIPE, cwd=HERE.parent, text=True,
-                                    env={**os.environ, "TMPDIR": str(cls.folder / "scratch")})
+        (cls.folder / "calendars" / "de.cal").write_bytes(
+            (EXAMPLES / "business_days" / "de.cal").read_bytes()
+        )
+        cls.desk = subprocess.Popen(
+            [sys.executable, "-m", "irs.desk", "--calendars", str(cls.folder / "calendars")],
+            stdout=subprocess.PIPE,
+            stderr=subprocess.PIPE,
+            cwd=HERE.parent,
+            text=True,
+            env={**os.environ, "TMPDIR": str(cls.folder / "scratch")},
+        )
         cls.address = cls.desk.stdout.readline().strip()
         cls.driver = browser(cls.room.name)
 
@@ -108,19 +122,34 @@ class Browser(unittest.TestCase):
         self.driver.get(self.address)
 
     def tearDown(self):
-        """Nothing that a test loads breaks the page's policy or a script, and nothing is written to disk."""
-        self.assertEqual([entry["message"] for entry in self.driver.get_log("browser") if "favicon" not in entry["message"]], [])
+        """Nothing that a test loads breaks the page's policy or a script, and nothing is written
+        to disk."""
+        self.assertEqual(
+            [
+                entry["message"]
+                for entry in self.driver.get_log("browser")
+                if "favicon" not in entry["message"]
+            ],
+            [],
+        )
         self.assertEqual(os.listdir(self.folder / "scratch"), [])
 
     def sized(self, width, dark):
-        self.driver.execute_cdp_cmd("Emulation.setDeviceMetricsOverride",
-                                    {"width": width, "height": 900, "deviceScaleFactor": 1, "mobile": False})
+        self.driver.execute_cdp_cmd(
+            "Emulation.setDeviceMetricsOverride",
+            {"width": width, "height": 900, "deviceScaleFactor": 1, "mobile": False},
+        )
         value = "dark" if dark else "light"
-        self.driver.execute_cdp_cmd("Emulation.setEmulatedMedia", {"features": [{"name": "prefers-color-scheme", "value": value}]})
+        self.driver.execute_cdp_cmd(
+            "Emulation.setEmulatedMedia",
+            {"features": [{"name": "prefers-color-scheme", "value": value}]},
+        )
 
     def drop(self, field, name, content):
         zone = self.driver.find_element(By.ID, field).find_element(By.XPATH, "..")
-        self.driver.execute_script(DROP, zone, name, content.decode() if isinstance(content, bytes) else content)
+        self.driver.execute_script(
+            DROP, zone, name, content.decode() if isinstance(content, bytes) else content
+        )
 
     def choose(self, field, name, content):
         """Gives a file to a field; `name` may hold only what a file's name may."""
@@ -146,7 +175,11 @@ class Browser(unittest.TestCase):
             path.unlink()
         self.driver.find_element(By.LINK_TEXT, label).click()
         for _ in range(100):
-            found = [path for path in folder.iterdir() if path.suffix != ".crdownload" and not path.name.startswith(".")]
+            found = [
+                path
+                for path in folder.iterdir()
+                if path.suffix != ".crdownload" and not path.name.startswith(".")
+            ]
             if found and found[0].stat().st_size:
                 return found[0]
             time.sleep(0.1)
@@ -178,13 +211,19 @@ class Desk(Browser):
         self.drop_trade(trade)
         self.look()
         schedule = irs.schedule(trade.document.content, trade.fixings.content, [trades.CALENDAR])
-        for label, table in (("Cash flows, CSV", "flows"), ("Periods, CSV", "periods"), ("Exchanges, CSV", "exchanges")):
+        for label, table in (
+            ("Cash flows, CSV", "flows"),
+            ("Periods, CSV", "periods"),
+            ("Exchanges, CSV", "exchanges"),
+        ):
             file = io.StringIO(newline="")
             schedule.to_csv(file, table)
             self.assertEqual(self.download(label).read_bytes().decode(), file.getvalue())
         self.assertEqual(self.download("Workbook").read_bytes()[:2], b"PK")
         document = self.download("Document with its cash flows").read_bytes()
-        self.assertIsInstance(irs.audit(document, document, trade.fixings.content, [trades.CALENDAR]), irs.Yes)
+        self.assertIsInstance(
+            irs.audit(document, document, trade.fixings.content, [trades.CALENDAR]), irs.Yes
+        )
         report = self.download("Report")
         self.driver.get(report.as_uri())
         self.assertIn("Alder Bank pays Birch Pensions, JPY, fixed, ACT/365.FIXED", self.text())
@@ -193,17 +232,23 @@ class Desk(Browser):
         terms = (EXAMPLES / "business_days" / "terms.json").read_bytes()
         self.drop("document", "terms.json", terms.replace(b'"DEFR"', b'"DEFRX"'))
         self.look()
-        self.assertIn("K12: a centre of terminationDate's adjustments is in no calendar file", self.text())
+        self.assertIn(
+            "K12: a centre of terminationDate's adjustments is in no calendar file", self.text()
+        )
         self.assertIn("DEFRX", self.driver.find_element(By.CSS_SELECTOR, "li.fault").text)
         self.assertEqual(len(self.driver.find_elements(By.LINK_TEXT, "Workbook")), 0)
 
     def test_calendars_of_the_folder(self):
-        self.drop("document", "terms.json", (EXAMPLES / "business_days" / "terms.json").read_bytes())
+        self.drop(
+            "document", "terms.json", (EXAMPLES / "business_days" / "terms.json").read_bytes()
+        )
         self.look()
         self.assertIn("3,016,666.67", self.text())
         self.driver.get(self.address)
         self.driver.find_element(By.NAME, "needed").click()
-        self.drop("document", "terms.json", (EXAMPLES / "business_days" / "terms.json").read_bytes())
+        self.drop(
+            "document", "terms.json", (EXAMPLES / "business_days" / "terms.json").read_bytes()
+        )
         self.look()
         self.assertIn("K12", self.text())
 
@@ -213,15 +258,32 @@ class Desk(Browser):
         self.assertIn("XML isn't read by this version", self.text())
 
     def test_a_script_in_an_index(self):
-        made = trades.stream(1, "us", "2024-01-15", "2025-01-15", 6, "1000", "USD", "ACT/360", convention="NONE",
-                             index="<script>document.title='hit'</script><img src=x onerror=alert(1)>\u202e")
-        parties = [{"@id": "us", "partyName": "<b onclick=alert(1)>us</b>"}, {"@id": "them", "partyName": "\u202ethem"}]
+        made = trades.stream(
+            1,
+            "us",
+            "2024-01-15",
+            "2025-01-15",
+            6,
+            "1000",
+            "USD",
+            "ACT/360",
+            convention="NONE",
+            index="<script>document.title='hit'</script><img src=x onerror=alert(1)>\u202e",
+        )
+        parties = [
+            {"@id": "us", "partyName": "<b onclick=alert(1)>us</b>"},
+            {"@id": "them", "partyName": "\u202ethem"},
+        ]
         self.drop("document", "<img src=x>.json", trades.document(made, parties=parties))
         self.look()
-        self.assertIn("<script>document.title='hit'</script><img src=x onerror=alert(1)>\\u202e", self.text())
+        self.assertIn(
+            "<script>document.title='hit'</script><img src=x onerror=alert(1)>\\u202e", self.text()
+        )
         self.assertIn("<b onclick=alert(1)>us</b> pays \\u202ethem", self.text())
         self.assertEqual(self.driver.title, "<img src=x>.json")
-        self.assertEqual(len(self.driver.find_elements(By.CSS_SELECTOR, "main script, main img, main b")), 0)
+        self.assertEqual(
+            len(self.driver.find_elements(By.CSS_SELECTOR, "main script, main img, main b")), 0
+        )
 
     def test_five_mebibytes(self):
         self.choose("document", "big.json", b"[" + b" " * (5 << 20) + b"]")
@@ -230,7 +292,11 @@ class Desk(Browser):
 
     def test_a_name_that_climbs(self):
         before = sorted(str(path) for path in self.folder.rglob("*"))
-        self.drop("document", "../" * 9 + tempfile.gettempdir()[1:] + "/evil.json", (EXAMPLES / "fixed_leg" / "terms.json").read_bytes())
+        self.drop(
+            "document",
+            "../" * 9 + tempfile.gettempdir()[1:] + "/evil.json",
+            (EXAMPLES / "fixed_leg" / "terms.json").read_bytes(),
+        )
         self.look()
         self.assertIn("25,277.78", self.text())
         self.assertFalse(Path(tempfile.gettempdir(), "evil.json").exists())
@@ -247,11 +313,18 @@ class Desk(Browser):
         self.choose("document", "terms.json", (EXAMPLES / "fixed_leg" / "terms.json").read_bytes())
         fields = []
         while (active := self.press(Keys.TAB)).tag_name != "button":
-            self.assertNotEqual(self.driver.execute_script("return getComputedStyle(arguments[0]).outlineStyle", active), "none")
+            self.assertNotEqual(
+                self.driver.execute_script(
+                    "return getComputedStyle(arguments[0]).outlineStyle", active
+                ),
+                "none",
+            )
             fields.append(active.get_attribute("name") or active.text)
             self.assertLess(len(fields), 20)
-        self.assertEqual([field for field in fields if field != "offered"],
-                         ["To the content", "document", "flows", "fixings", "calendars", "needed", "party"])
+        self.assertEqual(
+            [field for field in fields if field != "offered"],
+            ["To the content", "document", "flows", "fixings", "calendars", "needed", "party"],
+        )
         before = self.driver.current_url
         self.press(Keys.ENTER)
         WebDriverWait(self.driver, 30).until(lambda driver: driver.current_url != before)
@@ -259,28 +332,54 @@ class Desk(Browser):
         reached = []
         for _ in range(14):
             active = self.press(Keys.TAB)
-            reached.append(active.text if active.tag_name == "a" else active.get_attribute("aria-label"))
-        self.assertEqual(reached[:8], ["To the content", "Look at another", "Cash flows, CSV", "Periods, CSV", "Exchanges, CSV",
-                                       "Workbook", "Document with its cash flows", "Report"])
+            reached.append(
+                active.text if active.tag_name == "a" else active.get_attribute("aria-label")
+            )
+        self.assertEqual(
+            reached[:8],
+            [
+                "To the content",
+                "Look at another",
+                "Cash flows, CSV",
+                "Periods, CSV",
+                "Exchanges, CSV",
+                "Workbook",
+                "Document with its cash flows",
+                "Report",
+            ],
+        )
         self.assertIn("Periods", reached)
 
     def test_without_the_random_part_there_is_nothing(self):
         root = self.address.rsplit("/", 2)[0]
-        for address in (root + "/", root + "/x/", self.address[:-2] + "x/", self.address + "look/none"):
+        for address in (
+            root + "/",
+            root + "/x/",
+            self.address[:-2] + "x/",
+            self.address + "look/none",
+        ):
             self.driver.get(address)
             self.assertIn("There is nothing at this address", self.driver.page_source)
         self.driver.get_log("browser")
 
 
 class Looks(Browser):
-    """No overflow and no clipped label, at 1,280 and 400 pixels, light and dark; pictures of both."""
+    """No overflow and no clipped label, at 1,280 and 400 pixels, light and dark; pictures of
+    both."""
 
     def picture(self, name, height=900):
         if PICTURES is None:
             return
-        clip = {"x": 0, "y": 0, "width": self.driver.execute_script("return document.documentElement.clientWidth"),
-                "height": height, "scale": 1}
-        shot = self.driver.execute_cdp_cmd("Page.captureScreenshot", {"captureBeyondViewport": True, "clip": clip})
+        clip = {
+            "x": 0,
+            "y": 0,
+            "width": self.driver.execute_script("return document.documentElement.clientWidth"),
+            "height": height,
+            "scale": 1,
+        }
+        shot = self.driver.execute_cdp_cmd(
+            "Page.captureScreenshot", {"captureBeyondViewport": True, "clip": clip}
+        )
         Path(PICTURES, f"{name}.png").write_bytes(base64.b64decode(shot["data"]))
 
     def each_size(self, name, height=900):
@@ -312,7 +411,13 @@ class Looks(Browser):
         self.each_size("desk-departs")
         self.sized(1280, False)
         self.driver.get(self.address)
-        self.drop("document", "terms.json", (EXAMPLES / "amortising" / "terms.json").read_bytes().replace(b'"2024-07-15"', b'"2024-07-16"'))
+        self.drop(
+            "document",
+            "terms.json",
+            (EXAMPLES / "amortising" / "terms.json")
+            .read_bytes()
+            .replace(b'"2024-07-15"', b'"2024-07-16"'),
+        )
         self.look()
         self.each_size("desk-refused")
 
@@ -322,7 +427,9 @@ class Looks(Browser):
         report = self.download("Report")
         self.driver.get(report.as_uri())
         self.sized(1280, True)
-        printed = self.driver.execute_cdp_cmd("Page.printToPDF", {"preferCSSPageSize": True, "printBackground": True})
+        printed = self.driver.execute_cdp_cmd(
+            "Page.printToPDF", {"preferCSSPageSize": True, "printBackground": True}
+        )
         content = base64.b64decode(printed["data"])
         self.assertEqual(content[:5], b"%PDF-")
         if PICTURES is not None:

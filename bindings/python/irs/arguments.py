@@ -1,0 +1,45 @@
+"""Words that the commands for people share: what they look at, and how a day is written."""
+from __future__ import annotations
+
+import argparse
+from datetime import date
+from pathlib import Path
+
+from .clean import shown
+
+
+def day(text: str) -> date:
+    """A day as ``2024-04-15``. Raises `argparse.ArgumentTypeError` for another text."""
+    try:
+        return date.fromisoformat(text)
+    except ValueError:
+        raise argparse.ArgumentTypeError(f"{shown(text)} isn't a day as 2024-04-15") from None
+
+
+def count(text: str) -> int:
+    """A whole number from 1. Raises `argparse.ArgumentTypeError` for another text."""
+    if not (text.isascii() and text.isdigit() and 1 <= int(text[:9]) == int(text)):
+        raise argparse.ArgumentTypeError(f"{shown(text)} isn't a whole number from 1")
+    return int(text)
+
+
+def parser_of(name: str, description: str) -> argparse.ArgumentParser:
+    """A parser with the options that say what is looked at."""
+    made = argparse.ArgumentParser(
+        prog=name, description=description, formatter_class=argparse.RawDescriptionHelpFormatter
+    )
+    made.add_argument("--fixings", type=Path, metavar="FILE", help="a file of fixings")
+    made.add_argument(
+        "--calendar",
+        type=Path,
+        metavar="PATH",
+        action="append",
+        default=[],
+        help="a calendar file, or a folder of them; may be repeated",
+    )
+    made.add_argument(
+        "--party",
+        metavar="NAME",
+        help="the party that the flows are seen from (the payer of stream 1)",
+    )
+    return made
