@@ -29,6 +29,7 @@ from .inputs import (
     CantRead,
     Inputs,
     Named,
+    at_most_sixteen,
     centres_in,
     chosen,
     read_named,
@@ -113,7 +114,7 @@ def _calendars(form: Any, files: Any, document: Named, offered: Sequence[Named])
     taken = [file for place, file in enumerate(offered) if place in ticked]
     if form.get("needed"):
         taken += [file for file in chosen(document.content, offered) if file not in taken]
-    return taken + _sent(files, "calendars")
+    return at_most_sixteen(taken + _sent(files, "calendars"))
 
 
 def asked_for(form: Any, files: Any, offered: Sequence[Named]) -> Kept:

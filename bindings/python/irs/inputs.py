@@ -102,6 +102,15 @@ def chosen(document: Text, files: Sequence[Named]) -> List[Named]:
     return [files[place] for place in places][:MOST_CALENDARS]
 
 
+def at_most_sixteen(calendars: List[Named]) -> List[Named]:
+    """The calendar files. Raises `CantRead` where there are more than a command takes."""
+    if len(calendars) > MOST_CALENDARS:
+        raise CantRead(
+            f"there are {len(calendars)} calendar files, and at most {MOST_CALENDARS} go"
+        )
+    return calendars
+
+
 def read_calendars(paths: Sequence[Path], document: Text) -> List[Named]:
     """The calendar files of paths, of which a folder stands for those that the document needs.
     Raises `CantRead`."""
@@ -113,4 +122,4 @@ def read_calendars(paths: Sequence[Path], document: Text) -> List[Named]:
             )
         else:
             calendars.append(read_named(path))
-    return calendars
+    return at_most_sixteen(calendars)

@@ -2,6 +2,7 @@
 from __future__ import annotations
 
 import base64
+import functools
 import hashlib
 from pathlib import Path
 from typing import TYPE_CHECKING, Any, Sequence
@@ -17,8 +18,9 @@ if TYPE_CHECKING:
 TEMPLATES = Path(__file__).with_name("templates")
 
 
+@functools.lru_cache(maxsize=None)
 def environment() -> Any:
-    """The templates. Raises `ImportError` where Jinja2 isn't installed."""
+    """The templates, read once. Raises `ImportError` where Jinja2 isn't installed."""
     try:
         import jinja2
     except ImportError as missing:

@@ -1255,6 +1255,12 @@ class Desk(unittest.TestCase):
         answer = self.look(document=(io.BytesIO(terms), "t.json"), offered="0")
         self.assertNotIn("K12", self.get(answer.headers["Location"]).text)
 
+    def test_more_calendars_than_a_command_takes(self):
+        files = [(io.BytesIO(b"center C%d\n" % number), f"{number}.cal") for number in range(17)]
+        answer = self.look(document=(io.BytesIO(b"{}"), "t.json"), calendars=files)
+        self.assertEqual(answer.status_code, 400)
+        self.assertIn("there are 17 calendar files, and at most 16 go", answer.text)
+
     def test_old_looks_are_dropped(self):
         from irs.desk import MOST_LOOKS
 
