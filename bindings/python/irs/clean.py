@@ -35,8 +35,8 @@ def shown(text: str, most: int = 80) -> str:
 
 
 def cell(text: str) -> str:
-    """The text for a cell of a spreadsheet: where it looks like a formula, an apostrophe stands
-    before it.
+    """The text for a cell of a spreadsheet: where it looks like a formula, an apostrophe is
+    put before it.
 
     >>> cell("=1+1")
     "'=1+1"

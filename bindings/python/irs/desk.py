@@ -292,8 +292,8 @@ def make_app(token: str, offered: Sequence[Named] = ()) -> Any:
     ):
         app.add_url_rule(f"/{token}/{path}", view_func=view)
     app.add_url_rule(f"/{token}/look", view_func=desk.look, methods=["POST"])
-    for status, told in ((404, desk.missing), (413, desk.too_large), (500, desk.failed)):
-        app.register_error_handler(status, told)
+    for status, said in ((404, desk.missing), (413, desk.too_large), (500, desk.failed)):
+        app.register_error_handler(status, said)
     return app
 
 

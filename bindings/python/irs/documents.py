@@ -1,6 +1,6 @@
 """A document as its JSON value, to be shown: the names of its parties and its terms in words.
 
-Only the engine says what the terms mean. This module reads a document for what stands beside the
+Only the engine says what the terms mean. This module reads a document for what is shown beside the
 engine's answer, and it is lenient: what isn't there or isn't as expected is absent. Nothing of it
 is proved.
 """

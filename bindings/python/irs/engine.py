@@ -8,7 +8,7 @@ from .clean import shown
 from .inputs import Inputs, Named
 from .library import Text, meaning, run
 
-#: What each command takes behind the document (docs/FORMATS.md, 'Commands, lines and statuses').
+#: What each command takes after the document (docs/FORMATS.md, 'Commands, lines and statuses').
 _TAKES = {
     "check": (),
     "schedule": ("fixings",),

@@ -112,7 +112,7 @@ def at_most_sixteen(calendars: List[Named]) -> List[Named]:
 
 
 def read_calendars(paths: Sequence[Path], document: Text) -> List[Named]:
-    """The calendar files of paths, of which a folder stands for those that the document needs.
+    """The calendar files of paths, where a folder means those that the document needs.
     Raises `CantRead`."""
     calendars: List[Named] = []
     for path in paths:

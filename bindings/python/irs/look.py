@@ -2,7 +2,7 @@
 and the page.
 
 The schedule, what falls due and the verdict on another party's cash flows are the engine's. What
-stands beside them (names, terms in words, the timeline) is made of the document's own texts and
+is shown beside them (names, terms in words, the timeline) is made of the document's own texts and
 isn't proved.
 """
 from __future__ import annotations
@@ -96,7 +96,7 @@ class NetRow(NamedTuple):
 
 
 class Look(NamedTuple):
-    """All of one trade. `refusal` says why there is no schedule; then the parts behind it are
+    """All of one trade. `refusal` says why there is no schedule; then the parts after it are
     empty. `flows_refusal` says why the other party's cash flows can't be compared."""
 
     name: str

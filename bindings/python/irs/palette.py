@@ -53,7 +53,7 @@ DARK = {
     "today": "#ffa198",
 }
 
-#: Text and what it stands on.
+#: Text and its background.
 TEXT = (
     ("ink", "paper"),
     ("ink", "panel"),
@@ -75,7 +75,7 @@ TEXT = (
     ("faint", "bad-back"),
 )
 
-#: Shapes that carry a meaning, and what they stand on.
+#: Shapes that carry a meaning, and their background.
 SHAPES = (
     ("line", "paper"),
     ("line", "panel"),

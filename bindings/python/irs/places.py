@@ -1,4 +1,4 @@
-"""Where an element stands in the text of a document: for the lines around a fault.
+"""The place of an element in the text of a document: for the lines around a fault.
 
 The engine names an element by its path; this module finds that path in the JSON text. It keeps
 nothing of the text but where a value begins and ends. The text is one that the engine read.
@@ -19,8 +19,7 @@ _ROOTS = (("swap",), ("trade", "swap"), ("dataDocument", "trade", "swap"))
 
 
 class Spot(NamedTuple):
-    """Where a value stands in a text: the place of its first character and the place behind its
-    last."""
+    """The place of a value in a text: that of its first character and that after its last."""
 
     start: int
     end: int
@@ -44,13 +43,13 @@ def _end(text: str, start: int) -> int:
 
 
 def root_of(text: str) -> Spot:
-    """Where the value of the whole text stands."""
+    """The place of the value of the whole text."""
     start = _skip(text, 0)
     return Spot(start, _end(text, start))
 
 
 def members_of(text: str, spot: Spot) -> Iterator[Tuple[str, Spot]]:
-    """The members of an object in order: their names and where their values stand."""
+    """The members of an object in order: their names and the places of their values."""
     place = _skip(text, spot.start + 1)
     while text[spot.start] == "{":
         name = _STRING.match(text, place)
@@ -66,7 +65,7 @@ def members_of(text: str, spot: Spot) -> Iterator[Tuple[str, Spot]]:
 
 
 def items_of(text: str, spot: Spot) -> Iterator[Spot]:
-    """Where the items of an array stand; a value that is no array is its own item."""
+    """The places of the items of an array; a value that is no array is its own item."""
     if text[spot.start] != "[":
         yield spot
         return
@@ -81,7 +80,7 @@ def items_of(text: str, spot: Spot) -> Iterator[Spot]:
 
 
 def item_of(text: str, spot: Spot, number: int) -> Optional[Spot]:
-    """Where the item of that number stands, from 1, or `None`."""
+    """The place of the item of that number, from 1, or `None`."""
     for place, item in enumerate(items_of(text, spot), 1):
         if place == number:
             return item
@@ -89,7 +88,7 @@ def item_of(text: str, spot: Spot, number: int) -> Optional[Spot]:
 
 
 def member_of(text: str, spot: Spot, name: str) -> Optional[Spot]:
-    """Where the member of that name stands: the last of equal names, as the engine reads it, or
+    """The place of the member of that name: the last of equal names, as the engine reads it, or
     `None`."""
     only = item_of(text, spot, 1) or spot
     found = None
@@ -99,7 +98,7 @@ def member_of(text: str, spot: Spot, name: str) -> Optional[Spot]:
 
 
 def swap_spot(text: str) -> Optional[Spot]:
-    """Where the swap of a document stands, or `None`."""
+    """The place of the swap of a document, or `None`."""
     for names in _ROOTS:
         spot: Optional[Spot] = root_of(text)
         for name in names:
@@ -110,7 +109,7 @@ def swap_spot(text: str) -> Optional[Spot]:
 
 
 def stream_spot(text: str, stream: int) -> Optional[Spot]:
-    """Where the stream of that number stands, from 1, or `None`."""
+    """The place of the stream of that number, from 1, or `None`."""
     swap = swap_spot(text)
     streams = None if swap is None else member_of(text, swap, "swapStream")
     return None if streams is None else item_of(text, streams, stream)
@@ -131,7 +130,7 @@ def _below(text: str, spot: Spot, names: Sequence[str], index: int) -> Spot:
 
 
 def element_spot(text: str, stream: int, path: str, index: int) -> Optional[Spot]:
-    """Where the element of a refusal stands, or the nearest one around it that is there.
+    """The place of the element of a refusal, or the nearest one around it that is there.
 
     `stream`, `path` and `index` are those of the refusal's line (docs/RULES.md).
     """
@@ -156,7 +155,7 @@ def _counted(text: str, flows: Spot, index: int) -> Optional[Spot]:
 
 
 def flow_spot(text: str, stream: int, path: str, index: int) -> Optional[Spot]:
-    """Where the element of a fault of cash flows stands, or the nearest one around it that is
+    """The place of the element of a fault of cash flows, or the nearest one around it that is
     there."""
     top = stream_spot(text, stream) if stream else swap_spot(text)
     flows = None if top is None else member_of(text, top, "cashflows")

@@ -22,8 +22,8 @@ _WHAT = {
 
 
 class Line(NamedTuple):
-    """A line of a file: its number from 1, whether the fault is in it, and its text: what stands
-    before the faulty element, the element, and what stands after it."""
+    """A line of a file: its number from 1, whether the fault is in it, and its text: what is
+    before the faulty element, the element, and what is after it."""
 
     number: int
     marked: bool

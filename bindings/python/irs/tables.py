@@ -23,7 +23,7 @@ COUNT, DATE, AMOUNT, NOTIONAL, RATE, FRACTION, WORD = (
     "word",
 )
 
-#: Kinds whose cells stand at the right of their column.
+#: Kinds whose cells are at the right of their column.
 RIGHT = frozenset({COUNT, AMOUNT, NOTIONAL, RATE, FRACTION})
 
 #: Days of the week as `date.weekday` counts them.
@@ -40,11 +40,11 @@ class Column(NamedTuple):
 
 class Cell(NamedTuple):
     """A cell for the eye: its text, below it the unadjusted date where that is another one, and
-    how it stands: ``right``, ``right open`` where it waits for a fixing, or empty."""
+    its place: ``right``, ``right open`` where it waits for a fixing, or empty."""
 
     text: str
     under: str
-    stands: str
+    place: str
 
 
 class Table(NamedTuple):
@@ -115,8 +115,8 @@ def flow_table(flows: Sequence[CashFlow]) -> Table:
 
 def ledger_table(flows: Sequence[CashFlow]) -> Table:
     """The cash flows for the eye: what is received and what is paid in columns of their own,
-    unsigned. The last column, how many amounts of the total aren't known, stands only where there
-    are any."""
+    unsigned. The last column, how many amounts of the total aren't known, is there only where
+    there are any."""
     columns = [
         Column("date", "Date", DATE),
         Column("weekday", "Day", WORD),
@@ -201,7 +201,7 @@ def _period_row(
 
 
 def period_table(streams: Sequence[StreamText]) -> Table:
-    """The calculation periods with their resets; a payment stands on the line of its last
+    """The calculation periods with their resets; a payment is on the line of its last
     period."""
     rows = []
     for stream in streams:
@@ -260,7 +260,7 @@ def _decimals(text: str) -> int:
 
 
 def separated(text: str, places: Optional[int] = None) -> str:
-    """A printed number with thousands separators; with `places`, zeros behind that many decimals
+    """A printed number with thousands separators; with `places`, zeros after that many decimals
     go.
 
     >>> separated("-1234567.5000", 2)
@@ -332,11 +332,11 @@ def moved_from(table: Table) -> List[List[str]]:
 
 def cells_of(table: Table, waits: str = "waits") -> List[List[Cell]]:
     """The cells of a table for the eye, row by row."""
-    stands = ["right" if column.kind in RIGHT else "" for column in table.columns]
+    sides = ["right" if column.kind in RIGHT else "" for column in table.columns]
     return [
         [
             Cell(text, under, "right open" if printed is None else side)
-            for text, under, printed, side in zip(texts, unders, row, stands)
+            for text, under, printed, side in zip(texts, unders, row, sides)
         ]
         for texts, unders, row in zip(laid_out_rows(table, waits), moved_from(table), table.rows)
     ]

@@ -1,7 +1,7 @@
 """A timeline of a schedule as an SVG picture: periods, stubs, resets, payments, exchanges, today.
 
 The picture is cut into bands, one under the other, so that 480 periods can be told apart like 60.
-Where a mark stands follows from the printed dates; no date is worked out. The templates write the
+The place of a mark follows from the printed dates; no date is worked out. The templates write the
 picture's text.
 """
 from __future__ import annotations
@@ -11,7 +11,7 @@ from typing import Dict, Iterable, List, NamedTuple, Optional, Sequence, Set
 
 from .printed import StreamText
 
-#: The most bands of a picture. Where there are more periods than they hold, the marks stand
+#: The most bands of a picture. Where there are more periods than they hold, the marks are
 #: closer.
 MOST_BANDS = 16
 
@@ -48,7 +48,7 @@ class Lane(NamedTuple):
 
 
 class Band(NamedTuple):
-    """A stretch of time: its ticks, its lanes, and where today stands in it."""
+    """A stretch of time: its ticks, its lanes, and the place of today in it."""
 
     y: float
     height: float
@@ -88,11 +88,11 @@ class _Scale(NamedTuple):
     width: float
 
     def x(self, day: int) -> float:
-        """Where a day stands."""
+        """The place of a day."""
         return round(self.left + (day - self.first) * self.width / (self.last - self.first), 1)
 
     def within(self, days: Iterable[int]) -> List[float]:
-        """Where the days of the band stand; the first day counts and the last doesn't."""
+        """The places of the days of the band; the first day counts and the last doesn't."""
         return [self.x(day) for day in days if self.first <= day < self.last]
 
 

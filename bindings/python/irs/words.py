@@ -133,6 +133,27 @@ def _factor(text: Optional[str]) -> str:
     return shown(text or "")
 
 
+def _overnight_terms(parameters: Any) -> List[Term]:
+    """The terms of FpML's `calculationParameters`: how daily rates make the rate of a period."""
+    method = text_at(parameters, "calculationMethod")
+    if method is None:
+        return []
+    names = (
+        ("lookback", "lookback"),
+        ("observationShift", "observation shift"),
+        ("lockout", "lockout"),
+    )
+    days = [
+        f"{what} of {shown(text_at(parameters, f'{element}/offsetDays') or '')} days"
+        for element, what in names
+        if child(parameters, element) is not None
+    ]
+    named = children(child(parameters, "applicableBusinessDays"), "businessCenter")
+    centres = ", ".join(shown(text_of(centre) or "") for centre in named)
+    said = ", ".join([f"daily rates by {shown(method)}", *days])
+    return [Term("Overnight", f"{said}; business days of {centres}")]
+
+
 def _floating_terms(floating: Any) -> List[Term]:
     multiplier, spread = child(floating, "floatingRateMultiplierSchedule"), child(
         floating, "spreadSchedule"
@@ -143,6 +164,7 @@ def _floating_terms(floating: Any) -> List[Term]:
         Term("Rate", index_of(floating) + times + plus),
         *_steps("times, from", multiplier, _factor),
         *_steps("plus, from", spread, rate),
+        *_overnight_terms(child(floating, "calculationParameters")),
     ]
 
 

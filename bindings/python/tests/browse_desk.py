@@ -65,6 +65,37 @@ for (const picture of document.querySelectorAll("svg.timeline")) {
 return found;
 """
 
+#: The texts whose contrast to their background is below 4.5 to 1 (WCAG 2.1 AA), as the browser
+#: draws them.
+FAINT = """
+const parts = (colour) => colour.match(/[\\d.]+/g).map(Number);
+const luminance = (colour) => {
+  const [r, g, b] = parts(colour).map((part) => part / 255)
+    .map((part) => part <= 0.04045 ? part / 12.92 : ((part + 0.055) / 1.055) ** 2.4);
+  return 0.2126 * r + 0.7152 * g + 0.0722 * b;
+};
+const back = (element) => {
+  for (let at = element; at; at = at.parentElement) {
+    const colour = getComputedStyle(at).backgroundColor;
+    if (!(parts(colour).length === 4 && parts(colour)[3] === 0)) return colour;
+  }
+  return "rgb(255, 255, 255)";
+};
+const found = [];
+for (const element of document.querySelectorAll("body *")) {
+  const texts = [...element.childNodes].filter((node) => node.nodeType === 3);
+  const own = texts.some((node) => node.textContent.trim());
+  if (!own || !element.getClientRects().length) continue;
+  const style = getComputedStyle(element);
+  const ink = element.namespaceURI.endsWith("svg") ? style.fill : style.color;
+  const [dark, light] = [luminance(ink), luminance(back(element))].sort((a, b) => a - b);
+  const ratio = (light + 0.05) / (dark + 0.05);
+  const text = element.textContent.trim().slice(0, 30);
+  if (ratio < 4.5) found.push(element.tagName + " " + text + " " + ratio.toFixed(2));
+}
+return found;
+"""
+
 
 def browser(folder):
     options = Options()
@@ -387,7 +418,18 @@ class Looks(Browser):
             for dark in (False, True):
                 self.sized(width, dark)
                 self.assertEqual(self.driver.execute_script(OUTSIDE), [], (name, width, dark))
+                self.assertEqual(self.driver.execute_script(FAINT), [], (name, width, dark))
                 self.picture(f"{name}-{width}-{'dark' if dark else 'light'}", height)
+
+    def test_the_checks_can_fail(self):
+        """A text that is wider than the page and one that is too faint are found."""
+        self.driver.execute_script(
+            "const wide = document.createElement('p');"
+            "document.querySelector('main').append(wide);"
+            "wide.textContent = 'wide'; wide.style.width = '3000px'; wide.style.color = '#999';"
+        )
+        self.assertTrue(self.driver.execute_script(OUTSIDE))
+        self.assertEqual(self.driver.execute_script(FAINT), ["P wide 2.85"])
 
     def test_the_form(self):
         self.each_size("desk-form")

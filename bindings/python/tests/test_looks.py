@@ -36,7 +36,7 @@ from irs.refusals import refusal_of
 
 TODAY = date(2026, 11, 29)
 
-#: Where the page stands in the tests without a browser.
+#: The address of the page in the tests without a browser.
 TOP = "/token/"
 
 HAS = {
@@ -1077,6 +1077,23 @@ class Words(unittest.TestCase):
             said[:2], [("Notional", "GBP 16,000,000"), ("from 2024-06-15", "15,000,000")]
         )
         self.assertEqual(said[7], ("and then", "9 more steps, which the periods show"))
+
+    def test_overnight(self):
+        parameters = {
+            "calculationMethod": "Compounding",
+            "lookback": {"offsetDays": "5"},
+            "applicableBusinessDays": {"businessCenter": ["USGS", {"#text": " GBLO "}]},
+        }
+        floating = {"floatingRateIndex": "USD-SOFR", "calculationParameters": parameters}
+        calculation = {"floatingRateCalculation": floating}
+        terms = words.stream_terms({"calculationPeriodAmount": {"calculation": calculation}})
+        self.assertIn(
+            (
+                "Overnight",
+                "daily rates by Compounding, lookback of 5 days; business days of USGS, GBLO",
+            ),
+            terms,
+        )
 
     def test_rates_keep_their_digits(self):
         for text, shown in (
