@@ -23,6 +23,13 @@ def count(text: str) -> int:
     return int(text)
 
 
+def port(text: str) -> int:
+    """A port, from 0 to 65535. Raises `argparse.ArgumentTypeError` for another text."""
+    if not (text.isascii() and text.isdigit() and len(text) < 6 and int(text) < 65536):
+        raise argparse.ArgumentTypeError(f"{shown(text)} isn't a port from 0 to 65535")
+    return int(text)
+
+
 def parser_of(name: str, description: str) -> argparse.ArgumentParser:
     """A parser with the options that say what is looked at."""
     made = argparse.ArgumentParser(

@@ -20,13 +20,14 @@ from datetime import date
 from pathlib import Path
 from typing import Any, List, NamedTuple, NoReturn, Optional, Sequence, Tuple
 
+from .arguments import port
 from .documents import json_of
 from .clean import shown
 from .engine import ask
 from .inputs import (
     MOST_BYTES,
     MOST_CALENDARS,
-    CantRead,
+    Stopped,
     Inputs,
     Named,
     at_most_sixteen,
@@ -36,6 +37,7 @@ from .inputs import (
 )
 from .insert import with_cashflows
 from .look import Look, look_at
+from .parties import UnknownParty
 from .pages import TEMPLATES, environment, report, style
 from .sheets import csv_text
 
@@ -118,11 +120,11 @@ def _calendars(form: Any, files: Any, document: Named, offered: Sequence[Named])
 
 
 def asked_for(form: Any, files: Any, offered: Sequence[Named]) -> Kept:
-    """The look that a form asks for. Raises `CantRead` without a document, and `ValueError` for
+    """The look that a form asks for. Raises `Stopped` without a document, and `UnknownParty` for
     an unknown party."""
     document = _one(files, "document")
     if document is None:
-        raise CantRead("Choose a document of terms.")
+        raise Stopped("Choose a document of terms.")
     inputs = Inputs(
         document,
         _one(files, "fixings"),
@@ -211,7 +213,7 @@ class Desk:
         """Makes the look that the form asks for, and leads to it."""
         try:
             kept = asked_for(self.flask.request.form, self.flask.request.files, self.offered)
-        except (CantRead, ValueError) as why:
+        except (Stopped, UnknownParty) as why:
             return self.form(str(why), 400)
         return self.flask.redirect(f"/{self.token}/look/{self.store.keep(kept)}", 303)
 
@@ -297,9 +299,9 @@ def make_app(token: str, offered: Sequence[Named] = ()) -> Any:
     return app
 
 
-def make_server(app: Any, port: int = 0) -> Any:
+def make_server(app: Any, number: int = 0) -> Any:
     """A server of the page at 127.0.0.1 alone; port 0 is any free one. It has `serve_forever` and
-    `shutdown`."""
+    `shutdown`. Raises `Stopped` where the port can't be had."""
     from werkzeug.serving import WSGIRequestHandler, make_server as made
 
     class Quiet(WSGIRequestHandler):
@@ -308,7 +310,10 @@ def make_server(app: Any, port: int = 0) -> Any:
         def log_request(self, *_: Any, **__: Any) -> None:
             return
 
-    return made(ADDRESS, port, app, threaded=True, request_handler=Quiet)
+    try:
+        return made(ADDRESS, number, app, threaded=True, request_handler=Quiet)
+    except OSError as why:
+        raise Stopped(f"port {number} can't be had: {why.strerror or why}") from why
 
 
 class Asked(argparse.Namespace):
@@ -330,7 +335,7 @@ def parser() -> argparse.ArgumentParser:
         metavar="FOLDER",
         help="a folder of calendar files to choose from",
     )
-    made.add_argument("--port", type=int, default=0, help="the port (any free one)")
+    made.add_argument("--port", type=port, default=0, metavar="N", help="the port (any free one)")
     made.add_argument("--open", action="store_true", help="opens the page in the browser")
     return made
 
@@ -342,13 +347,13 @@ def main(arguments: Optional[List[str]] = None) -> int:
     try:
         folder = asked.calendars
         if folder is not None and not folder.is_dir():
-            raise CantRead(f"{shown(str(folder))} is no folder")
+            raise Stopped(f"{shown(str(folder))} is no folder")
         offered = (
             [] if folder is None else [read_named(path) for path in sorted(folder.glob("*.cal"))]
         )
         token = secrets.token_urlsafe(24)
         server = make_server(make_app(token, offered), asked.port)
-    except (CantRead, ImportError, OSError, OverflowError) as why:
+    except (Stopped, ImportError) as why:
         print(f"irs-desk: {why}", file=sys.stderr)
         return 2
     address = f"http://{ADDRESS}:{server.server_port}/{token}/"

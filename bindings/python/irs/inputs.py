@@ -21,7 +21,7 @@ MOST_BYTES = 4_194_304
 MOST_CALENDARS = 16
 
 
-class CantRead(Exception):
+class Stopped(Exception):
     """A file can't be read. The text of the error is one plain sentence."""
 
 
@@ -50,23 +50,23 @@ class Inputs(NamedTuple):
 
 
 def read_named(path: Path) -> Named:
-    """A file by its path; `-` is standard input. Raises `CantRead`."""
+    """A file by its path; `-` is standard input. Raises `Stopped`."""
     if str(path) == "-":
         return Named("standard input", sys.stdin.buffer.read(MOST_BYTES + 1))
     try:
         with path.open("rb") as file:
             return Named(path.name, file.read(MOST_BYTES + 1))
     except OSError as why:
-        raise CantRead(f"{shown(str(path))} can't be read: {why.strerror or why}") from why
+        raise Stopped(f"{shown(str(path))} can't be read: {why.strerror or why}") from why
 
 
 def read_document(path: Path) -> Named:
-    """A document by its path, as JSON. Raises `CantRead`, also for XML."""
+    """A document by its path, as JSON. Raises `Stopped`, also for XML."""
     file = read_named(path)
     try:
         return Named(file.name, json_of(file.content))
     except NotRead as why:
-        raise CantRead(f"{shown(file.name)}: {why}") from why
+        raise Stopped(f"{shown(file.name)}: {why}") from why
 
 
 def centres_of(value: Any) -> Set[str]:
@@ -103,9 +103,9 @@ def chosen(document: Text, files: Sequence[Named]) -> List[Named]:
 
 
 def at_most_sixteen(calendars: List[Named]) -> List[Named]:
-    """The calendar files. Raises `CantRead` where there are more than a command takes."""
+    """The calendar files. Raises `Stopped` where there are more than a command takes."""
     if len(calendars) > MOST_CALENDARS:
-        raise CantRead(
+        raise Stopped(
             f"there are {len(calendars)} calendar files, and at most {MOST_CALENDARS} go"
         )
     return calendars
@@ -113,7 +113,7 @@ def at_most_sixteen(calendars: List[Named]) -> List[Named]:
 
 def read_calendars(paths: Sequence[Path], document: Text) -> List[Named]:
     """The calendar files of paths, where a folder means those that the document needs.
-    Raises `CantRead`."""
+    Raises `Stopped`."""
     calendars: List[Named] = []
     for path in paths:
         if path.is_dir():

@@ -50,7 +50,7 @@ class CashFlow(NamedTuple):
 
 def viewer(parties: Parties, party: Optional[str]) -> Optional[str]:
     """The id of the party that the flows are seen from: the named one, else the payer of stream 1
-    where all streams are between the same two parties, else `None`. Raises `ValueError` for an
+    where all streams are between the same two parties, else `None`. Raises `UnknownParty` for an
     unknown name.
     """
     if party is not None:
@@ -169,7 +169,7 @@ def cash_flows(
     """The cash flows of the streams in date order.
 
     `party` is the party that they are seen from, by id, name or `partyId`; see `viewer` where it
-    is `None`. Raises `ValueError` for an unknown party.
+    is `None`. Raises `UnknownParty` for an unknown party.
     """
     seen_from = viewer(parties, party)
     flows = [flow for stream in streams for flow in _of_stream(stream, parties, seen_from)]

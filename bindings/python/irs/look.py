@@ -9,13 +9,13 @@ from __future__ import annotations
 
 import hashlib
 from datetime import date
-from decimal import Decimal
 from typing import Any, List, NamedTuple, Optional, Sequence
 
 from .calls import Schedule
 from .documents import NotRead, json_of, streams_of, value_of
 from .clean import shown
 from .compare import Comparison, mark_of, side_by_side
+from .due import counted, net_rows, net_table
 from .engine import Reply, ask
 from .inputs import Inputs, Named
 from .ladder import cash_flows, view_sentence, viewer
@@ -23,16 +23,7 @@ from .parties import Parties, parties_of
 from .printed import UNKNOWN, StreamText, printed
 from .refusals import Refusal, refusal_of, unread
 from .stubs import index_of_period, stubs_of
-from .tables import (
-    Cell,
-    Column,
-    Table,
-    exchange_table,
-    folded,
-    ledger_table,
-    period_table,
-    separated,
-)
+from .tables import Cell, Column, Table, exchange_table, folded, ledger_table, period_table
 from .timeline import Timeline, timeline
 from .words import Term, terms_of
 
@@ -84,17 +75,6 @@ class Wait(NamedTuple):
     passed: bool
 
 
-class NetRow(NamedTuple):
-    """What falls due on a day in a currency: who pays it, the amount without a sign, and a note
-    on what isn't known."""
-
-    day: str
-    payer: str
-    currency: str
-    amount: str
-    note: str
-
-
 class Look(NamedTuple):
     """All of one trade. `refusal` says why there is no schedule; then the parts after it are
     empty. `flows_refusal` says why the other party's cash flows can't be compared."""
@@ -111,7 +91,7 @@ class Look(NamedTuple):
     wide: Optional[Timeline] = None
     narrow: Optional[Timeline] = None
     waits: Sequence[Wait] = ()
-    net: Sequence[NetRow] = ()
+    net: Optional[Laid] = None
     net_refusal: str = ""
     verdict: Optional[Said] = None
     verdict_line: str = ""
@@ -162,34 +142,15 @@ def _waits(stream: StreamText, element: Any, today: date) -> List[Wait]:
     ]
 
 
-def _net_row(line: str, parties: Parties) -> NetRow:
-    _, day, currency, text, unknown = line.split(" ")
-    first = parties.sides[0]
-    assert first is not None  # the engine nets only streams that name their parties
-    amount = Decimal(text)
-    payer = parties.name(first.payer if amount > 0 else first.receiver) if amount else ""
-    waiting = "" if unknown == "0" else f"{_counted(int(unknown), 'amount')} not known"
-    if waiting and not amount:
-        return NetRow(day, "", currency, "", waiting)
-    return NetRow(
-        day, payer, currency, separated(text.lstrip("-")), f"and {waiting}" if waiting else ""
-    )
-
-
-def _counted(count: int, what: str) -> str:
-    return f"{count} {what}{'' if count == 1 else 's'}"
-
-
 def _headline(streams: Sequence[StreamText]) -> Said:
     payments = [payment for stream in streams for payment in stream.payments]
     periods = sum(len(stream.periods) for stream in streams)
     open_payments = sum(payment.amount == UNKNOWN for payment in payments)
     counts = ((len(streams), "stream"), (periods, "period"), (len(payments), "payment"))
-    made = ", ".join(_counted(count, what) for count, what in counts)
+    made = ", ".join(counted(count, what) for count, what in counts)
     if open_payments:
         return Said(
-            f"{made}; {_counted(open_payments, 'amount')} not known, as a fixing is missing.",
-            WAITS,
+            f"{made}; {counted(open_payments, 'amount')} not known, as a fixing is missing.", WAITS
         )
     return Said(f"{made}; every amount is known.", GOOD)
 
@@ -202,7 +163,7 @@ def _verdict(reply: Reply) -> Said:
         return Said(f"Agrees in all {rows} rows.", GOOD)
     return Said(
         f"Agrees in what is known: {rows} rows. Not compared, as a fixing is missing: "
-        f"{_counted(int(unfixed), 'amount')}.",
+        f"{counted(int(unfixed), 'amount')}.",
         WAITS,
     )
 
@@ -233,9 +194,7 @@ def _with_net(look: Look, inputs: Inputs, parties: Parties) -> Look:
     reply = ask("net", inputs)
     if reply.status:
         return look._replace(net_refusal=reply.sentence)
-    return look._replace(
-        net=[_net_row(line, parties) for line in reply.text.decode().splitlines()[1:-1]]
-    )
+    return look._replace(net=_laid(net_table(net_rows(reply.text, parties)), ()))
 
 
 def _with_timeline(
@@ -256,7 +215,7 @@ def look_at(inputs: Inputs, today: date, party: Optional[str] = None) -> Look:
     """The look of a trade: its schedule with all that goes with it, or why there is none.
 
     `today` is the day that the timeline marks, and `party` the party that the flows are seen
-    from. Raises `ValueError` for an unknown party.
+    from. Raises `UnknownParty` for an unknown party.
     """
     look = Look(shown(inputs.document.name), _files(inputs), today.isoformat(), Said("", BAD))
     try:

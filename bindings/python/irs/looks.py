@@ -23,7 +23,7 @@ Target = Union[str, Path, IO[str]]
 def tables_of(streams: List[StreamText], parties: Parties, party: Optional[str]) -> List[Table]:
     """The tables of streams: their cash flows seen from a party, periods and exchanges.
 
-    Raises `ValueError` for an unknown party.
+    Raises `UnknownParty` for an unknown party.
     """
     flows = cash_flows(streams, parties, party)
     return [flow_table(flows), period_table(streams), exchange_table(streams)]
@@ -55,8 +55,8 @@ class Looks:
 
         `party` is the id, the `partyName` or the `partyId` of a party of the document; without it
         the flows are seen from the payer of stream 1. `since` and `until` are the first and the
-        last day, and `next_of_each` keeps that many flows of each stream. Raises `ValueError` for
-        an unknown party.
+        last day, and `next_of_each` keeps that many flows of each stream. Raises `UnknownParty`
+        for an unknown party.
         """
         return cash_flows(within(self.texts(), since, until, next_of_each), self._parties(), party)
 
@@ -83,7 +83,8 @@ class Looks:
         """Writes a workbook with a sheet for each of `tables`, to a file or to the file of that
         name.
 
-        Raises `ImportError` where openpyxl isn't installed and `ValueError` for an unknown party.
+        Raises `ImportError` where openpyxl isn't installed and `UnknownParty` for an unknown
+        party.
         """
         content = self.workbook(party)
         if isinstance(target, (str, Path)):
@@ -109,7 +110,7 @@ class Looks:
     def plot(self, party: Optional[str] = None) -> Any:
         """A figure of matplotlib: the cash flows by date, an axis a currency, received upwards.
 
-        Raises `ImportError` where matplotlib isn't installed and `ValueError` for an unknown
+        Raises `ImportError` where matplotlib isn't installed and `UnknownParty` for an unknown
         party.
         """
         from .plots import figure_of

@@ -12,6 +12,10 @@ from .clean import shown
 from .printed import StreamText
 
 
+class UnknownParty(ValueError):
+    """No party of the streams has that name. The text of the error is one plain sentence."""
+
+
 class Sides(NamedTuple):
     """Who pays a stream and who receives it, as the references of the document name them."""
 
@@ -50,14 +54,14 @@ class Parties(NamedTuple):
         return f"Stream {stream.stream}: {who}{stream.currency}, {kind}, {stream.day_count}"
 
     def find(self, name: str) -> str:
-        """The id of the party of that id, name or `partyId`; raises `ValueError` where there is
-        none."""
+        """The id of the party of that id, name or `partyId`; raises `UnknownParty` where there
+        is none."""
         ids = list(dict.fromkeys(party for sides in self.sides if sides for party in sides))
         for party in ids:
             if name == party or name in self.names.get(party, []):
                 return party
         known = ", ".join(self.name(party) for party in ids) or "none"
-        raise ValueError(
+        raise UnknownParty(
             f"no party of the streams is called {shown(name)}; the document has: {known}"
         )
 

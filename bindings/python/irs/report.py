@@ -17,8 +17,9 @@ from typing import List, Optional
 
 from .arguments import day, parser_of
 from .clean import shown
-from .inputs import CantRead, Inputs, Named, read_calendars, read_named
+from .inputs import Stopped, Inputs, Named, read_calendars, read_named
 from .look import look_at
+from .parties import UnknownParty
 from .pages import environment, report
 
 
@@ -66,7 +67,7 @@ def _beside(trade: Path, *names: str) -> Optional[Named]:
 
 def inputs_of(asked: Asked, trade: Path) -> Inputs:
     """The files of a trade: those that options name, else those that lie beside it. Raises
-    `CantRead`."""
+    `Stopped`."""
     document = read_named(trade)
     fixings = (
         _beside(trade, f"{trade.stem}.fixings", "fixings")
@@ -101,7 +102,7 @@ def main(arguments: Optional[List[str]] = None) -> int:
             file=sys.stderr,
         )
         return 2
-    except (CantRead, ImportError, ValueError) as why:
+    except (Stopped, ImportError, UnknownParty) as why:
         print(f"irs-report: {why}", file=sys.stderr)
         return 2
     return 0

@@ -18,11 +18,12 @@ from typing import Dict, Iterator, List, Optional, Sequence
 
 from .arguments import count, day, parser_of
 from .clean import shown
+from .due import net_rows, net_table
 from .engine import ask
-from .inputs import CantRead, Inputs, read_calendars, read_document, read_named
+from .inputs import Stopped, Inputs, read_calendars, read_document, read_named
 from .ladder import CashFlow, cash_flows, view_sentence, viewer
 from .looks import tables_of
-from .parties import Parties, parties_of
+from .parties import Parties, UnknownParty, parties_of
 from .printed import StreamText, printed, within
 from .sheets import csv_text, workbook
 from .tables import (
@@ -48,7 +49,7 @@ RESETS = ("reset_date", "fixing_date", "observed")
 _MOVED = "* This date isn't the unadjusted one: business days or an offset moved it."
 
 _TOTALS = (
-    "Running totals are sums of the engine's amounts, by currency; "
+    "Running totals are sums of the engine's amounts shown here, by currency; "
     "what waits for a fixing isn't in them."
 )
 
@@ -63,6 +64,7 @@ class Asked(argparse.Namespace):
     since: Optional[date]
     until: Optional[date]
     next: Optional[int]
+    net: bool
     unadjusted: bool
     table: str
     csv: Optional[str]
@@ -89,6 +91,11 @@ def parser() -> argparse.ArgumentParser:
         const=1,
         metavar="N",
         help="the next N cash flows of each stream (1), from --from or today",
+    )
+    made.add_argument(
+        "--net",
+        action="store_true",
+        help="what falls due between the two parties, in place of the tables",
     )
     made.add_argument(
         "--unadjusted",
@@ -173,7 +180,7 @@ def flow_lines(flows: Sequence[CashFlow], sentence: str) -> Iterator[str]:
 def lines(
     streams: List[StreamText], parties: Parties, party: Optional[str], unadjusted: bool = False
 ) -> Iterator[str]:
-    """The lines of the whole look. Raises `ValueError` for an unknown party."""
+    """The lines of the whole look. Raises `UnknownParty` for an unknown party."""
     flows = cash_flows(streams, parties, party)
     above = [line for stream in streams for line in stream_lines(stream, parties, unadjusted)]
     yield from above
@@ -210,7 +217,7 @@ def _written(target: str, content: bytes) -> None:
     try:
         Path(target).write_bytes(content)
     except OSError as why:
-        raise CantRead(f"{shown(target)} can't be written: {why.strerror or why}") from why
+        raise Stopped(f"{shown(target)} can't be written: {why.strerror or why}") from why
 
 
 def _shown(asked: Asked, streams: List[StreamText], parties: Parties) -> None:
@@ -233,17 +240,37 @@ def _inputs(asked: Asked) -> Inputs:
     return Inputs(document, fixings, None, read_calendars(asked.calendar, document.content))
 
 
+def _answer(command: str, inputs: Inputs) -> bytes:
+    reply = ask(command, inputs)
+    if reply.status:
+        raise Stopped(f"{reply.line}: {reply.sentence}" if reply.line else reply.sentence)
+    return reply.text
+
+
+def _shown_net(asked: Asked, since: Optional[date], text: bytes, parties: Parties) -> None:
+    first, last = str(since or date.min), str(asked.until or date.max)
+    rows = [row for row in net_rows(text, parties) if first <= row.day <= last][: asked.next]
+    table = net_table(rows)
+    if asked.csv is not None:
+        _written(asked.csv, csv_text(table).encode())
+    if asked.xlsx is not None:
+        _written(asked.xlsx, workbook([table]))
+    if asked.json:
+        print(json.dumps({"net": _records(table)}, indent=1))
+    if asked.csv is None and asked.xlsx is None and not asked.json:
+        print("What falls due between the two parties\n")
+        print("\n".join(_aligned(table.columns, laid_out_rows(table))))
+
+
 def _look(asked: Asked) -> None:
     inputs = _inputs(asked)
-    reply = ask("schedule", inputs)
-    if reply.status:
-        raise CantRead(f"{reply.line}: {reply.sentence}" if reply.line else reply.sentence)
+    parties = parties_of(inputs.document.content)
     since = asked.since or (date.today() if asked.next is not None else None)
-    _shown(
-        asked,
-        within(printed(reply.text), since, asked.until, asked.next),
-        parties_of(inputs.document.content),
-    )
+    if asked.net:
+        _shown_net(asked, since, _answer("net", inputs), parties)
+        return
+    streams = within(printed(_answer("schedule", inputs)), since, asked.until, asked.next)
+    _shown(asked, streams, parties)
 
 
 def main(arguments: Optional[List[str]] = None) -> int:
@@ -254,7 +281,7 @@ def main(arguments: Optional[List[str]] = None) -> int:
     try:
         _look(asked)
         sys.stdout.flush()
-    except (CantRead, ImportError, ValueError) as why:
+    except (Stopped, ImportError, UnknownParty) as why:
         print(f"irs-show: {why}", file=sys.stderr)
         return 2
     except BrokenPipeError:  # the reader has seen enough

@@ -517,6 +517,20 @@ class Show(unittest.TestCase):
             [line[:10] for line in lines if "payment" in line], ["2024-10-15", "2025-01-15"]
         )
 
+    def test_net(self):
+        """The amounts are those of examples/net, whose text has them with the sign of stream 1's
+        payer."""
+        folder = EXAMPLES / "net"
+        words_of = (folder / "terms.json", "--fixings", folder / "fixings", "--net")
+        lines = [line.split() for line in self.lines(*words_of)]
+        self.assertEqual(lines[-2], ["2024-07-15", "p2", "USD", "7,484.72"])
+        self.assertEqual(lines[-1], ["2025-01-15", "p1", "USD", "25,555.56"])
+        lines = self.lines(*words_of, "--from", "2024-07-16", "--csv", "-")
+        self.assertEqual(lines, ["date,payer,currency,amount,note", "2025-01-15,p1,USD,25555.56,"])
+        done = run_show(EXAMPLES / "fixed_leg" / "terms.json", "--net")
+        self.assertEqual(done.returncode, 2)
+        self.assertIn(b"refused K8 1 payerPartyReference 0", done.stderr)
+
     def test_standard_input_and_files(self):
         text = example("fixed_leg/terms.json")
         self.assertEqual(
@@ -937,10 +951,10 @@ class Sides(unittest.TestCase):
     def test_a_net_that_is_not_known_shows_no_amount(self):
         look = look_at(Inputs(named("net/terms.json")), TODAY)
         self.assertEqual(
-            [(row.day, row.payer, row.amount, row.note) for row in look.net],
+            [[cell.text for cell in row] for row in look.net.rows],
             [
-                ("2024-07-15", "p1", "25,277.78", "and 1 amount not known"),
-                ("2025-01-15", "p1", "25,555.56", ""),
+                ["2024-07-15", "p1", "USD", "25,277.78", "and 1 amount not known"],
+                ["2025-01-15", "p1", "USD", "25,555.56", ""],
             ],
         )
         made = trades.stream(
@@ -960,7 +974,8 @@ class Sides(unittest.TestCase):
             TODAY,
         )
         self.assertEqual(
-            [tuple(row) for row in look.net], [("2024-07-15", "", "USD", "", "1 amount not known")]
+            [[cell.text for cell in row] for row in look.net.rows],
+            [["2024-07-15", "", "USD", "", "1 amount not known"]],
         )
 
 
@@ -1303,12 +1318,24 @@ class Desk(unittest.TestCase):
         self.assertEqual(answer.status_code, 413)
         self.assertIn("larger than this page takes", answer.text)
 
+    def test_what_the_command_refuses(self):
+        for arguments, sentence in (
+            (("--calendars", EXAMPLES / "nowhere"), b"nowhere is no folder\n"),
+            (("--port", "65536"), b"65536 isn't a port from 0 to 65535\n"),
+        ):
+            done = run_show(*arguments, module="irs.desk")
+            self.assertEqual((done.returncode, done.stdout), (2, b""))
+            self.assertTrue(done.stderr.endswith(sentence), done.stderr)
+
     def test_the_server_is_for_this_machine_alone(self):
         from irs import desk
 
         server = desk.make_server(desk.make_app("token"))
         self.addCleanup(server.server_close)
         self.assertEqual(server.socket.getsockname()[0], "127.0.0.1")
+        done = run_show("--port", server.server_port, module="irs.desk")
+        said = f"irs-desk: port {server.server_port} can't be had: Address already in use\n"
+        self.assertEqual((done.returncode, done.stderr.decode()), (2, said))
 
 
 class Notebook(unittest.TestCase):
