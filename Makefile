@@ -1,19 +1,36 @@
-# `make` proves and builds the program, with a line a crate, leaves it as ./irs, and prints the schedule
-# of the shipped example. `make try DOC=FILE` prints the schedule of a document by the program as it
-# stands, unproved, for whoever wants to look before the proofs are done. `make examples` runs the
-# program on every example, and on those of docs/RULES.md, and compares. `make test` is the gate. They need the
-# kit's command `rt` and nothing else. `make faults` makes each allocation of the program fail in turn,
-# `make hostile` runs it on the largest and the worst inputs, `make bench` counts what it takes; they want a C
-# compiler, Python and, for the counts, valgrind. `make library` builds the library for C, and `make bindings`
-# tries it; `make desk` tries the page irs-desk in a real browser.
-.PHONY: all irs try examples faults hostile bench library bindings desk test clean
-DOC ?= examples/fixed_leg/terms.json
+# `make` shows the schedule of the shipped example within about a minute, by the program built without its proofs;
+# then it proves and builds the program, with a line a library, leaves it as ./irs and shows the same schedule.
+#
+#   make irs          the second half alone: the proved program
+#   make test         the gate (rt ci): every proof, test, must-fail edit and stored run
+#   make try          the program as it is, unproved, on files of yours: DOC=FILE FIX=FILE CALS='FILE FILE',
+#                     COMMAND=NAME, or ARGS='any words' (tools/try says more)
+#   make unproved     the program and the library for C without their proofs, in build/unproved
+#   make examples     the proved program on every example, and on those of docs/RULES.md
+#   make library      the proved library for C, and for the Python package
+#   make bindings     tries the library through C, C++, Java and Python (bindings/install installs what it uses)
+#   make desk         tries the page irs-desk in a real browser (bindings/install desk installs it)
+#   make dist         the packages, in dist/; make install PREFIX=/usr/local [DESTDIR=..] installs
+#   make faults       each allocation of the program fails in turn
+#   make hostile      the program on the largest and the worst inputs
+#   make bench        counts what it takes
+#
+# Proving wants the kit's command `rt` and nothing else. The look, the tools and the bindings want Python and a
+# C compiler too, and the counts valgrind.
+.PHONY: all irs try unproved examples faults hostile bench library bindings desk dist try-dist install test clean
+# With CDPATH set, `cd crates/irs` could go elsewhere.
+unexport CDPATH
+PREFIX ?= /usr/local
 
-all: irs
-	./irs schedule examples/fixed_leg/terms.json -
+all:
+	@tools/look
+	@$(MAKE) --no-print-directory irs
+	@echo '    ./irs schedule examples/fixed_leg/terms.json -'
+	@./irs schedule examples/fixed_leg/terms.json -
 
 irs:
-	tools/prove
+	@tools/version
+	@tools/prove
 	@mkdir -p crates/irs/out
 	@echo 'Proving and building the program itself.'
 	@cd crates/irs && rt run -- schedule ../../examples/fixed_leg/terms.json - > out/printed 2> out/told \
@@ -22,8 +39,10 @@ irs:
 	@echo 'The program is proved and built: ./irs'
 
 try:
-	@echo 'Not proved: this builds the program without its proofs, and may take two minutes.'
-	cd crates/irs && rt try --data document=$(abspath $(DOC)) -- schedule document -
+	@tools/try
+
+unproved:
+	@tools/unproved
 
 examples: irs
 	examples/compare
@@ -39,17 +58,28 @@ bench: irs
 	tools/bench
 
 library:
+	@tools/version
 	cd crates/irs_c && rt lib
 	bindings/build
 
-bindings: library
+# With no proved library here, bindings/try takes the unproved one, and says so.
+bindings:
 	bindings/try
 
 desk:
 	bindings/desk_tests
 
+dist: irs library
+	tools/dist
+
+try-dist:
+	tools/try_dist
+
+install: irs library
+	tools/install --prefix '$(PREFIX)' --destdir '$(or $(DESTDIR),/)'
+
 test:
-	.ci/run
+	@tools/gate
 
 clean:
-	rm -rf irs crates/*/out
+	rm -rf irs dist build crates/*/out
