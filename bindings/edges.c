@@ -33,6 +33,14 @@ int main(void) {
     /* any bytes in the name and the contents of a file that no word names */
     struct irs_file odd[] = { { S("\xff\0\xc0"), S("x") }, { S("D"), S("\0\xff\xfe\0") } };
     CHECK(irs_run(words, 2, odd, 2, out, 64, &needed) == 2 && needed == length);
+    /* the version, whole and with little room */
+    memset(out, '#', sizeof out);
+    irs_version(out, sizeof out, &needed);
+    CHECK(needed < sizeof out && out[needed] == '#' && !memcmp(out, "irs " IRS_VERSION ",", strlen("irs " IRS_VERSION ",")));
+    length = needed;
+    memset(out, '#', sizeof out);
+    irs_version(out, 3, &needed);
+    CHECK(needed == length && !memcmp(out, "irs#", 4));
     puts("edges: as they should be");
     return 0;
 }

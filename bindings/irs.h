@@ -1,9 +1,8 @@
 /* irs.h: what libirs offers to C and C++, and to whatever calls C.
 
    irs_run does what a command of the program irs does, on words and files in memory; irs_meaning says what
-   the line that it answers means. Words,
-   files, texts and statuses are those of the program (docs/FORMATS.md). Nothing is
-   kept between calls.
+   the line that it answers means; irs_version names the version. Words, files, texts and statuses are those
+   of the program (docs/FORMATS.md). Nothing is kept between calls.
 
    What a caller has to keep to:
    - no pointer is NULL, also where there is nothing behind it (irs_lend helps);
@@ -15,6 +14,10 @@
 #define IRS_H
 #include <stddef.h>
 #include <stdint.h>
+
+/* The version of this header; irs_version has that of the library. docs/STABILITY.md says what stays. */
+#define IRS_VERSION "1.0.0"
+
 #ifdef __cplusplus
 extern "C" {
 #endif
@@ -39,6 +42,10 @@ uint8_t irs_run(const struct irs_bytes *words, size_t n_words,
 uint8_t irs_meaning(const struct irs_bytes *words, size_t n_words, uint8_t status,
                     const uint8_t *line, size_t line_len,
                     uint8_t *out, size_t out_len, size_t *needed);
+
+/* Writes what `irs --version` prints, as "irs 1.0.0, schedule text 2" and a line with the logic sum of the kit that
+   proves it. The text goes to `out` and its length to `*needed` as the text of irs_run does. */
+void irs_version(uint8_t *out, size_t out_len, size_t *needed);
 
 /* Lends bytes; NULL with length 0 is fine here. */
 static inline struct irs_bytes irs_lend(const void *at, size_t len) {

@@ -18,6 +18,9 @@ from .library import Answer, run
 from .rows import (Accrued, Derived, Exchange, Missing, Net, No, Payment, Period, Reset, Row, Stream, Verdict,
                    Yes)
 
+#: The version of the package; VERSION at the top of the repository is where it is stated.
+__version__ = "1.0.0"
+
 __all__ = [
     "Accrued", "Answer", "BadFile", "BadWords", "CashFlow", "Derived", "Error", "Exchange", "Missing", "Net", "No",
     "NotText", "Outcome", "Overnight", "Payment", "Period", "Refused", "Reset", "Row", "Schedule", "Stream", "Summary",
