@@ -10,7 +10,7 @@
 #   make library      the proved library for C, and for the Python package
 #   make bindings     tries the library through C, C++, Java and Python (bindings/install installs what it uses)
 #   make desk         tries the page irs-desk in a real browser (bindings/install desk installs it)
-#   make dist         the packages, in dist/; make install PREFIX=/usr/local [DESTDIR=..] installs
+#   make dist         the packages, in dist/; make install [PREFIX=..] [DESTDIR=..] installs
 #   make faults       each allocation of the program fails in turn
 #   make hostile      the program on the largest and the worst inputs
 #   make bench        counts what it takes
@@ -20,7 +20,6 @@
 .PHONY: all irs try unproved examples faults hostile bench library bindings desk dist try-dist install test clean
 # With CDPATH set, `cd crates/irs` could go elsewhere.
 unexport CDPATH
-PREFIX ?= /usr/local
 
 all:
 	@tools/look
@@ -76,7 +75,7 @@ try-dist:
 	tools/try_dist
 
 install: irs library
-	tools/install --prefix '$(PREFIX)' --destdir '$(or $(DESTDIR),/)'
+	tools/install $(if $(PREFIX),--prefix '$(PREFIX)') $(if $(DESTDIR),--destdir '$(DESTDIR)')
 
 test:
 	@tools/gate

@@ -11,7 +11,7 @@ from pathlib import Path
 from typing import Iterable, List, Tuple
 
 TOP = Path(__file__).resolve().parent.parent
-JNA = Path("/usr/share/java/jna.jar")
+JNA = Path('/usr/share/java/jna.jar')
 
 #: The pages that are installed.
 PAGES = ("README.md", "CHANGELOG.md", "docs")
