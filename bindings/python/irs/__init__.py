@@ -1,7 +1,7 @@
 """Schedules of interest rate swaps and the audit of cash flows, by a library whose answers are proved.
 
     >>> import irs
-    >>> schedule = irs.schedule(open("B.json").read())
+    >>> schedule = irs.schedule(pathlib.Path("B.json"))
     >>> schedule.payments()[0].amount
     Decimal('25277.78')
 
@@ -12,9 +12,9 @@ only tested of what this package makes of its text.
 from .book import Outcome, Summary
 from .builder import Overnight, swap
 from .calls import (Schedule, accrue, audit, average, check, emit, interpolate, net, overnight, schedule)
-from .errors import BadFile, BadWords, Error, NotText, Refused, TooLong
+from .errors import BadFile, BadWords, Error, NoFile, NotText, OutOfMemory, Refused, TooLong
 from .ladder import CashFlow
-from .library import Answer, run
+from .library import Answer, engine, run
 from .rows import (Accrued, Derived, Exchange, Missing, Net, No, Payment, Period, Reset, Row, Stream, Verdict,
                    Yes)
 
@@ -23,7 +23,7 @@ __version__ = "1.0.0"
 
 __all__ = [
     "Accrued", "Answer", "BadFile", "BadWords", "CashFlow", "Derived", "Error", "Exchange", "Missing", "Net", "No",
-    "NotText", "Outcome", "Overnight", "Payment", "Period", "Refused", "Reset", "Row", "Schedule", "Stream", "Summary",
-    "TooLong", "Verdict", "Yes", "accrue", "audit", "average", "check", "emit", "interpolate", "net",
-    "overnight", "run", "schedule", "swap",
+    "NoFile", "NotText", "OutOfMemory", "Outcome", "Overnight", "Payment", "Period", "Refused", "Reset", "Row",
+    "Schedule", "Stream", "Summary", "TooLong", "Verdict", "Yes", "accrue", "audit", "average", "check", "emit",
+    "engine", "interpolate", "net", "overnight", "run", "schedule", "swap",
 ]

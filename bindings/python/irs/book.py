@@ -1,138 +1,207 @@
-"""A whole book: one command over many trades, on one process, on several, or on a cluster.
+"""A whole book: one command over many trades, in this process, in several, or on a cluster.
 
-A trade is a `Trade`: a name, a document, and what goes with it. `outcomes` gives an `Outcome` a trade as
-they are done; `run` adds them up. One trade that can't be worked is told as failed, and neither ends the run
-nor fails another. Where a worker dies, its chunk is tried again, `TRIES` times in all, and then told as
-failed. No trade is told twice.
+A trade is a `Trade`: a name, a document, and what goes with it, in memory or as paths that the worker reads.
+`outcomes` gives an `Outcome` a trade as they are done; `run` adds them up. Each trade ends with one of `VERDICTS`.
+One that can't be worked, kills its process or takes too long is `failed`, and neither ends the run nor
+fails another.
 """
 from __future__ import annotations
 
 import itertools
 import queue
-from collections import Counter
-from concurrent.futures import Executor, ProcessPoolExecutor
+from collections import Counter, deque
 from concurrent.futures import BrokenExecutor
-from typing import Any, Callable, Dict, Iterable, Iterator, List, NamedTuple, Optional, Sequence, Tuple
+from functools import partial
+from pathlib import Path
+from typing import Any, Callable, Deque, Dict, Iterable, Iterator, List, NamedTuple, Optional, Sequence, Tuple, Union
 
-from .library import Text, meaning, run as run_words
+from .calls import Item, Told, run_each
+from .common import Common, Loaded, common_of, loaded, read_file, stamp_of
+from .library import Text, as_bytes, engine
+from .plain import shown
+from .pool import Processes
 
 #: The commands that a book can be asked.
 COMMANDS = ("check", "schedule", "audit", "emit", "net")
 
-#: How often a chunk is tried, whose worker dies, before its trades are told as failed.
-TRIES = 10
+#: How a trade may end, the best first. `agrees` is an audit's alone, where every amount was compared; another command
+#: is `done`. `unverified`: it agrees, but amounts wait for a fixing and weren't compared. `departs`: the cash
+#: flows depart from the schedule. `refused`: the terms break a rule. `bad file`: a file isn't as such files are
+#: written, or isn't there. `failed`: it couldn't be worked.
+VERDICTS = ("agrees", "done", "unverified", "departs", "refused", "bad file", "failed")
+
+#: The verdicts that a run without fault has.
+CLEAN = ("agrees", "done")
+
+#: How often a trade that is alone is tried on an executor, where its worker dies.
+TRIES = 3
+
+#: How many names of failed trades a summary keeps.
+MOST_NAMES = 100
 
 
 class Trade(NamedTuple):
-    """A trade of a book. `fixings` and `flows` are `None` where there are none."""
+    """A trade of a book. `fixings` and `flows` are `None` where there are none; without fixings of its own a trade
+    has those that are common. A path is read by the worker."""
 
     name: str
-    document: Text
-    fixings: Optional[Text] = None
-    flows: Optional[Text] = None
+    document: Union[Text, Path]
+    fixings: Union[Text, Path, None] = None
+    flows: Union[Text, Path, None] = None
     calendars: Sequence[Text] = ()
 
 
 class Outcome(NamedTuple):
-    """What a trade comes to: its status, the first line of the text, and what that means in plain words.
+    """What a trade comes to: one of `VERDICTS`, the program's status, the first line of the text, and what that means.
 
-    `status` is `None` where the trade couldn't be worked at all; the line says why then.
+    `status` is `None` where the trade couldn't be worked at all; the line says why then. `stamp` has the sizes and
+    times of the files that were read.
     """
 
     name: str
+    verdict: str
     status: Optional[int]
     line: str
     sentence: str
+    stamp: str = ""
+
+
+def _kind(outcome: Outcome) -> str:
+    """The kind of an outcome within its verdict: the field that departs, the rule that is broken, the file."""
+    words = outcome.line.split()
+    if outcome.verdict == "departs":
+        return f"{words[2]} {words[4]}"
+    if outcome.verdict in ("refused", "bad file"):
+        return " ".join(words[:2]) if outcome.status != 2 else words[1]
+    return ""
 
 
 class Summary:
-    """How the trades of a run end: `agree`, `depart` by field, `refused` by rule, `bad` by file, `failed`."""
+    """How the trades of a run end: how many by verdict, and within a verdict by field, rule or file."""
 
-    def __init__(self) -> None:
-        self.trades = 0
-        self.done = 0
-        self.depart: Counter = Counter()
-        self.refused: Counter = Counter()
-        self.bad: Counter = Counter()
-        self.other: Counter = Counter()
+    def __init__(self, outcomes: Iterable[Outcome] = ()) -> None:
+        self.verdicts: Counter[str] = Counter()
+        self.kinds: Dict[str, Counter[str]] = {verdict: Counter() for verdict in VERDICTS}
         self.failed: List[str] = []
+        for outcome in outcomes:
+            self.add(outcome)
 
-    def add(self, outcome: Outcome) -> None:
-        """Counts a trade."""
-        self.trades += 1
-        words = outcome.line.split()
-        if outcome.status == 0:
-            self.done += 1
-        elif outcome.status == 1:
-            self.depart[f"{words[2]} {words[4]}"] += 1
-        elif outcome.status == 2:
-            self.refused[words[1]] += 1
-        elif outcome.status == 3:
-            self.bad[words[1]] += 1
-        elif outcome.status is None:
-            self.failed.append(outcome.name)
-        else:
-            self.other[outcome.line or f"status {outcome.status}"] += 1
+    def add(self, outcome: Outcome, name: Optional[str] = None) -> None:
+        """Counts a trade; `name` is how it is shown, where that is known already."""
+        self.verdicts[outcome.verdict] += 1
+        kind = _kind(outcome)
+        if kind:
+            self.kinds[outcome.verdict][kind] += 1
+        if outcome.verdict == "failed" and len(self.failed) < MOST_NAMES:
+            self.failed.append(shown(outcome.name) if name is None else name)
 
-    def counts(self) -> Iterator[Tuple[str, str, int]]:
-        """The lines of the summary: what, of which kind, how many."""
-        yield "done", "", self.done
-        for what in ("depart", "refused", "bad", "other"):
-            for kind, count in sorted(getattr(self, what).items()):
-                yield what, kind, count
-        yield "failed", "", len(self.failed)
+    @property
+    def trades(self) -> int:
+        """How many trades there are."""
+        return sum(self.verdicts.values())
+
+    def is_clean(self, accept: Iterable[str] = ()) -> bool:
+        """Whether there is a trade, and each agrees or is done, or has a verdict that is accepted."""
+        good = {*CLEAN, *accept}
+        return self.trades > 0 and all(verdict in good for verdict in self.verdicts)
 
     def __str__(self) -> str:
         lines = [f"{self.trades} trades"]
-        lines += ["%-8s %-44s %9d" % line for line in self.counts() if line[2]]
+        for verdict in VERDICTS:
+            if self.verdicts[verdict] or verdict != "done":
+                lines.append(f"{verdict:<12}{self.verdicts[verdict]:>9}")
+            lines += [f"  {shown(kind):<44}{count:>9}" for kind, count in sorted(self.kinds[verdict].items())]
         lines += [f"failed: {name}" for name in self.failed]
-        return "\n".join(lines)
+        more = self.verdicts["failed"] - len(self.failed)
+        return "\n".join(lines + ([f"failed: and {more} more"] if more else []))
+
+
+class _Unreadable(Exception):
+    """A file of a trade that can't be read."""
+
+
+def _read(source: Union[Text, Path]) -> bytes:
+    if not isinstance(source, Path):
+        return as_bytes(source)
+    try:
+        return read_file(source)
+    except OSError as why:
+        raise _Unreadable(f"{source.name}: {why.strerror or why}") from why
+
+
+def stamp(trade: Trade) -> str:
+    """The sizes and times of a trade's files as they are now; empty where none is a path."""
+    sources = (trade.document, trade.fixings, trade.flows)
+    stamps = [stamp_of(it) if isinstance(it, Path) else "" for it in sources]
+    return " ".join(stamps) if any(stamps) else ""
 
 
 def _first_line(text: bytes) -> str:
-    return text[: text.find(b"\n")].decode(errors="replace") if b"\n" in text else ""
+    return text.partition(b"\n")[0].decode(errors="replace")
 
 
-def _words_of(command: str, trade: Trade) -> Tuple[List[Text], Dict[str, Text]]:
-    files: Dict[str, Text] = {"document": trade.document}
-    words: List[Text] = [command, "document"]
-    if command != "check":
-        words.append("-" if trade.fixings is None else "fixings")
-        if trade.fixings is not None:
-            files["fixings"] = trade.fixings
-    if command == "audit":
-        words.append("flows")
-        if trade.flows is not None:
-            files["flows"] = trade.flows
-    for number, calendar in enumerate(trade.calendars, 1):
-        files[f"calendar {number}"] = calendar
-        words.append(f"calendar {number}")
-    return words, files
+def _missing(item: Item, calendars: Sequence[Tuple[str, bytes]], fixings: Optional[bytes]) -> str:
+    """Which fixings an audit lacked, by the schedule: how many, and the first."""
+    told = next(run_each("schedule", [item._replace(flows=None)], calendars, fixings))
+    resets = [line.split(" ") for line in told.text.decode(errors="replace").splitlines() if line.startswith("r ")]
+    lacking = [fields for fields in resets if fields[5] == "-"]
+    if not lacking:
+        return "no fixing is missing"
+    first = lacking[0]
+    return (f"{len(lacking)} of {len(resets)} resets have no fixing, the first in stream {first[1]}, "
+            f"period {first[2]}, fixed on {first[4]}")
 
 
-def outcome_of(command: str, trade: Trade) -> Outcome:
-    """What one trade comes to."""
-    words, files = _words_of(command, trade)
-    answer = run_words(words, files)
-    if answer.status == 0 and command in ("schedule", "emit", "net"):
-        return Outcome(trade.name, 0, f"{len(answer.text.splitlines())} lines", "")
-    line = _first_line(answer.text)
-    return Outcome(trade.name, answer.status, line, meaning(words, answer.status, line))
+def _verdict(command: str, told: Told) -> str:
+    """The verdict of an answer."""
+    if told.status == 0 and command == "audit":
+        return "agrees" if told.text.split()[2] == b"0" else "unverified"
+    if told.status in (3, 5, 8):
+        return "bad file"
+    return {0: "done", 1: "departs", 2: "refused"}.get(told.status, "failed")
 
 
-def _failed(trade: Trade, why: BaseException) -> Outcome:
-    return Outcome(trade.name, None, f"{type(why).__name__}: {why}", "the trade couldn't be worked")
+def _outcome(command: str, trade: Trade, common: Loaded) -> Outcome:
+    """What one trade comes to; `_Unreadable` or TypeError where its files can't be had."""
+    item = Item(_read(trade.document), None if trade.flows is None else _read(trade.flows),
+                None if trade.fixings is None else _read(trade.fixings))
+    document = as_bytes(item.document)
+    own = [(str(number), as_bytes(calendar)) for number, calendar in enumerate(trade.calendars, 1)]
+    calendars = common.calendars_for(document, own)
+    fixings = common.fixings_for(document) if item.fixings is None else None
+    told = next(run_each(command, [item], calendars, fixings))
+    verdict, line, sentence = _verdict(command, told), _first_line(told.text), told.sentence
+    if verdict == "done" and command in ("schedule", "emit", "net"):
+        line = f"{len(told.text.splitlines())} lines"
+    elif verdict == "unverified":
+        amounts = told.text.split()[2].decode()
+        sentence = f"the cash flows agree, but {amounts} amounts aren't compared: {_missing(item, calendars, fixings)}"
+    elif told.status == 5 and trade.flows is None:
+        sentence = "the trade has no cash flows"
+    elif told.status == 7:
+        line, sentence = "memory ran out", "the trade couldn't be worked"
+    return Outcome(trade.name, verdict, told.status, line, sentence)
 
 
-def _worked(command: str, trade: Trade) -> Outcome:
+def failed(trade: Trade, why: str) -> Outcome:
+    """The outcome of a trade that couldn't be worked."""
+    return Outcome(trade.name, "failed", None, why, "the trade couldn't be worked", stamp(trade))
+
+
+def outcome_of(command: str, trade: Trade, common: Common = Common()) -> Outcome:
+    """What one trade comes to; its verdict is `failed` where its files can't be read."""
+    before = stamp(trade)
     try:
-        return outcome_of(command, trade)
-    except Exception as why:  # a file that isn't text or bytes, or want of memory
-        return _failed(trade, why)
+        return _outcome(command, trade, loaded(common))._replace(stamp=before)
+    except _Unreadable as why:
+        return failed(trade, str(why))
+    except Exception as why:  # what is no text, or a common file that is gone
+        return failed(trade, f"{type(why).__name__}: {why}")
 
 
-def _work(command: str, chunk: List[Trade]) -> List[Outcome]:
-    return [_worked(command, trade) for trade in chunk]
+def work(command: str, common: Common, chunk: List[Trade]) -> List[Outcome]:
+    """What the trades of a chunk come to: what a worker does."""
+    return [outcome_of(command, trade, common) for trade in chunk]
 
 
 def _chunks(trades: Iterable[Trade], size: int) -> Iterator[List[Trade]]:
@@ -141,122 +210,141 @@ def _chunks(trades: Iterable[Trade], size: int) -> Iterator[List[Trade]]:
         yield [trade if isinstance(trade, Trade) else Trade(*trade) for trade in chunk]
 
 
-class _Pool:
-    """Submits chunks to an executor, and to a fresh one where that one breaks."""
+class _Submitted:
+    """The work on an executor that has `submit`: at most `ahead` chunks wait there at once.
 
-    def __init__(self, executor: Any, jobs: Optional[int]) -> None:
-        self.own: Optional[Executor] = None
-        self.jobs = jobs
-        self.executor = executor if executor is not None else self._fresh()
+    A chunk whose worker dies is tried again, each trade alone; a trade whose worker dies again alone is failed
+    after `TRIES`. Where the executor itself breaks, what is left is worked by processes of this machine.
+    """
 
-    def _fresh(self) -> Executor:
-        self.close()
-        self.own = ProcessPoolExecutor(self.jobs)
-        return self.own
+    def __init__(self, executor: Any, command: str, common: Common, ahead: int) -> None:
+        self.executor, self.command, self.ahead = executor, command, ahead
+        self.common = common
+        # A dask client sends what many calls share once to each worker.
+        self.sent: Any = executor.scatter([common], broadcast=True)[0] if hasattr(executor, "scatter") else common
+        self.options = {"pure": False} if hasattr(executor, "scatter") else {}
+        self.done: "queue.Queue[Tuple[int, Any]]" = queue.Queue()
+        self.waiting: Dict[int, Tuple[List[Trade], int]] = {}
+        self.again: Deque[Tuple[List[Trade], int]] = deque()
+        self.numbers = itertools.count()
+        self.is_broken = False
 
-    def submit(self, *asked: Any) -> Any:
+    def results(self, chunks: Iterator[List[Trade]]) -> Iterator[List[Outcome]]:
+        """The outcomes of each chunk, as they come."""
+        self._fill(chunks)
+        while self.waiting and not self.is_broken:
+            number, future = self.done.get()
+            yield from self._ended(*self.waiting.pop(number), future)
+            self._fill(chunks)
+        if self.is_broken:
+            left = [items for items, _ in [*self.waiting.values(), *self.again]]
+            own = Processes(partial(work, self.command, self.common), failed)
+            yield from own.results(itertools.chain(left, chunks))
+
+    def _fill(self, chunks: Iterator[List[Trade]]) -> None:
+        while len(self.waiting) < self.ahead and not self.is_broken:
+            if self.again:
+                items, tries = self.again.popleft()
+            else:
+                following = next(chunks, None)
+                if following is None:
+                    return
+                items, tries = following, 0
+            self._start(items, tries)
+
+    def _start(self, items: List[Trade], tries: int) -> None:
+        number = next(self.numbers)
+        self.waiting[number] = (items, tries)
         try:
-            return self._submit(*asked)
+            future = self.executor.submit(work, self.command, self.sent, items, **self.options)
         except BrokenExecutor:
-            self.executor = self._fresh()
-            return self._submit(*asked)
+            self.is_broken = True
+            return
+        future.add_done_callback(partial(self._tell, number))
 
-    def _submit(self, *asked: Any) -> Any:
-        # A dask client takes calls of equal arguments for one, unless it is told that they aren't.
-        if hasattr(self.executor, "scheduler_info"):
-            return self.executor.submit(*asked, pure=False)
-        return self.executor.submit(*asked)
+    def _tell(self, number: int, future: Any) -> None:
+        self.done.put((number, future))
 
-    def close(self) -> None:
-        if self.own is not None:
-            self.own.shutdown(wait=False, cancel_futures=True)
-
-
-def _submitted(pool: _Pool, command: str, chunks: Iterator[List[Trade]], most: int) -> Iterator[List[Outcome]]:
-    done: "queue.Queue[Tuple[int, Any]]" = queue.Queue()
-    waiting: Dict[int, Tuple[List[Trade], int]] = {}
-    numbers = itertools.count()
-
-    def start(number: int, chunk: List[Trade], tries: int) -> None:
-        waiting[number] = (chunk, tries)
-        future = pool.submit(_work, command, chunk)
-        future.add_done_callback(lambda ended, number=number: done.put((number, ended)))
-
-    for chunk in itertools.islice(chunks, most):
-        start(next(numbers), chunk, 1)
-    while waiting:
-        number, future = done.get()
-        chunk, tries = waiting.pop(number)
+    def _ended(self, items: List[Trade], tries: int, future: Any) -> Iterator[List[Outcome]]:
         try:
-            result = future.result()
+            yield future.result()
+        except KeyboardInterrupt:
+            raise
+        except BrokenExecutor:
+            self.is_broken = True
+            self.again.append((items, tries))
         except BaseException as why:  # a worker that died, or whatever a cluster says of it
-            if isinstance(why, KeyboardInterrupt):
-                raise
-            if tries < TRIES:
-                start(number, chunk, tries + 1)
-                continue
-            result = [_failed(trade, why) for trade in chunk]
-        yield result
-        for chunk in itertools.islice(chunks, 1):
-            start(next(numbers), chunk, 1)
+            if len(items) > 1:
+                self.again.extend(([trade], 0) for trade in items)
+            elif tries + 1 < TRIES:
+                self.again.append((items, tries + 1))
+            else:
+                yield [failed(trade, f"{type(why).__name__}: {why}") for trade in items]
 
 
-def _mapped(executor: Any, command: str, chunks: Iterator[List[Trade]]) -> Iterator[List[Outcome]]:
-    yield from executor.map(_Worker(command), chunks)
+def _parts(chunks: Iterator[List[Trade]], command: str, common: Common, executor: Any, jobs: Optional[int], ahead: int,
+           timeout: Optional[float]) -> Iterator[List[Outcome]]:
+    """The outcomes of each chunk, by whatever works them."""
+    worker = partial(work, command, common)
+    if executor is None and jobs == 1 and timeout is None:
+        return map(worker, chunks)
+    if executor is None:
+        return Processes(worker, failed, jobs, timeout).results(chunks)
+    if hasattr(executor, "submit"):
+        return _Submitted(executor, command, common, ahead).results(chunks)
+    found: Iterator[List[Outcome]] = executor.map(worker, chunks)
+    return found
 
 
-class _Worker:
-    """The work on a chunk as something that can be sent to another process."""
-
-    def __init__(self, command: str) -> None:
-        self.command = command
-
-    def __call__(self, chunk: List[Trade]) -> List[Outcome]:
-        return _work(self.command, chunk)
-
-
-def outcomes(trades: Iterable[Trade], command: str = "audit", *, executor: Any = None, jobs: Optional[int] = None,
-             chunk: int = 50, ahead: int = 64) -> Iterator[Outcome]:
+def outcomes(trades: Iterable[Trade], command: str = "audit", *, common: Optional[Common] = None, executor: Any = None,
+             jobs: Optional[int] = None, chunk: int = 50, ahead: int = 64,
+             timeout: Optional[float] = None) -> Iterator[Outcome]:
     """An outcome a trade, as they are done and in no order.
 
+    `common` has the calendars and the fixings that trades have in common (`common_of`), which go once to each worker.
     `executor` is anything with `submit`, as `concurrent.futures` and `dask.distributed.Client` have it, or
-    with `map` alone; without one, `jobs` processes of this machine work, and `jobs=1` works in this
-    process. A chunk of trades is sent at once, and at most `ahead` chunks wait.
+    with `map` alone; without one, `jobs` processes of this machine work (as many as it has processors), and
+    `jobs=1` without a timeout works in this process. `timeout` is the most seconds for a trade; it speaks of
+    processes of this machine. A chunk of trades is sent at once, and at most `ahead` chunks wait on an executor.
     """
     if command not in COMMANDS:
         raise ValueError(f"a book can be asked one of {', '.join(COMMANDS)}")
-    chunks = _chunks(trades, chunk)
-    if executor is None and jobs == 1:
-        parts: Iterator[List[Outcome]] = (_work(command, part) for part in chunks)
-        yield from itertools.chain.from_iterable(parts)
-        return
-    if executor is not None and not hasattr(executor, "submit"):
-        yield from itertools.chain.from_iterable(_mapped(executor, command, chunks))
-        return
-    pool = _Pool(executor, jobs)
+    for name, number in (("chunk", chunk), ("ahead", ahead), ("jobs", 1 if jobs is None else jobs)):
+        if number < 1:
+            raise ValueError(f"{name} is at least 1, and not {number}")
+    engine()  # ImportError here, where there is no library, and not in each worker
+    parts = _parts(_chunks(trades, chunk), command, common or Common(), executor, jobs, ahead, timeout)
     try:
-        yield from itertools.chain.from_iterable(_submitted(pool, command, chunks, ahead))
+        for part in parts:
+            yield from part
     finally:
-        pool.close()
+        if hasattr(parts, "close"):
+            parts.close()
 
 
-def _with_bar(told: Iterator[Outcome], total: Optional[int]) -> Iterator[Outcome]:
+def with_bar(told: Iterator[Outcome], total: Optional[int]) -> Iterator[Outcome]:
+    """The outcomes with a bar on standard error, where tqdm is installed."""
     try:
         from tqdm import tqdm
     except ImportError:
         return told
-    return tqdm(told, total=total, unit="trade")
+    bar: Iterator[Outcome] = tqdm(told, total=total, unit="trade")
+    return bar
 
 
-def run(trades: Iterable[Trade], command: str = "audit", *, executor: Any = None, jobs: Optional[int] = None,
-        chunk: int = 50, progress: bool = False, total: Optional[int] = None,
-        each: Optional[Callable[[Outcome], Any]] = None) -> Summary:
-    """Asks one command of every trade, and adds up how they end. `each` is called with every outcome;
-    `progress` shows a bar where tqdm is installed."""
-    told = outcomes(trades, command, executor=executor, jobs=jobs, chunk=chunk)
+def run(trades: Iterable[Trade], command: str = "audit", *, common: Optional[Common] = None, executor: Any = None,
+        jobs: Optional[int] = None, chunk: int = 50, timeout: Optional[float] = None, progress: bool = False,
+        total: Optional[int] = None, each: Optional[Callable[[Outcome], Any]] = None) -> Summary:
+    """Asks one command of every trade, and adds up how they end; see `outcomes`. `each` is called with every
+    outcome; `progress` shows a bar where tqdm is installed."""
+    told = outcomes(trades, command, common=common, executor=executor, jobs=jobs, chunk=chunk, timeout=timeout)
     summary = Summary()
-    for outcome in _with_bar(told, total) if progress else told:
+    for outcome in with_bar(told, total) if progress else told:
         summary.add(outcome)
         if each is not None:
             each(outcome)
     return summary
+
+
+__all__ = ["CLEAN", "COMMANDS", "VERDICTS", "Common", "Outcome", "Summary", "Trade", "common_of", "failed",
+           "outcome_of", "outcomes", "run", "stamp", "with_bar", "work"]

@@ -1,46 +1,79 @@
 """A function a command but for `bulk`: documents in, rows out.
 
 A document, a flow document, a calendar and a file of fixings are bytes or text as docs/FORMATS.md has
-them; a document may also be a mapping, which is written as JSON. Every call raises `Refused` where the
-terms break a rule, `BadFile` where a file isn't as such files are written, `TooLong` for a file of more
-than 4,194,304 bytes, `BadWords` for a parameter that the command doesn't take, and `MemoryError`.
+them, or a path (`pathlib.Path`), whose file is read; a document may also be a mapping, which is written as
+JSON. A name in a `str` is no path: it would be a document. Every call raises `Refused` where the terms break
+a rule, `BadFile` where a file isn't as such files are written, `TooLong` for a file of more than 4,194,304
+bytes, `BadWords` for a parameter that the command doesn't take, `OutOfMemory` where memory runs out, and
+TypeError for what is no document and no file.
 """
 from __future__ import annotations
 
 import datetime
 import json
-from typing import Any, Dict, Iterable, Iterator, List, Mapping, Optional, Union
+import os
+from decimal import Decimal
+from functools import cached_property
+from pathlib import Path
+from typing import Any, Dict, Iterable, Iterator, List, Mapping, NamedTuple, Optional, Sequence, Tuple, Union
 
 from .errors import error_of
 from .library import Answer, Text, meaning, run
 from .looks import Looks
+from .sides import Sides, sides_of
 from .rows import (Accrued, Derived, Exchange, Missing, Net, Payment, Period, Reset, Row, Stream, Verdict,
                    accrued_of, derived_of, inner_lines, row_of, verdict_of)
 
-Document = Union[Text, Mapping[str, Any]]
+File = Union[Text, "os.PathLike[str]"]
+Document = Union[File, Mapping[str, Any]]
 Day = Union[datetime.date, str]
+
+#: What a command takes at most.
+MOST_CALENDARS = 16
+
+#: A text of more characters is never taken for the name of a file.
+LONGEST_NAME = 1024
 
 
 class Schedule(Looks):
     """A schedule: its rows in order. `text` has the bytes that the program prints, and `document` the document
-    that it was made of, or `None`: it gives the names of the parties to those who look at the schedule."""
+    that it was made of, or `None`: it gives the names of the parties to those who look at the schedule.
 
-    def __init__(self, text: bytes, document: Optional[Document] = None) -> None:
+    `rows`, and what is made of them, are read from the text when they are first asked for.
+    """
+
+    def __init__(self, text: bytes, document: Union[Text, Mapping[str, Any], None] = None) -> None:
         self.text = text
         self.document = document
-        self.rows: List[Row] = [row_of(line) for line in inner_lines(text)]  # type: ignore[misc]
+
+    @cached_property
+    def sides(self) -> List[Sides]:
+        """Who pays and who receives each stream, as the document names them; empty without the document."""
+        return [] if self.document is None else sides_of(self.document)
+
+    @cached_property
+    def rows(self) -> List[Row]:
+        """All rows in the order of the text."""
+        return [row_of(line) for line in inner_lines(self.text)]  # type: ignore[misc]
 
     def __iter__(self) -> Iterator[Row]:
         return iter(self.rows)
 
     def __len__(self) -> int:
-        return len(self.rows)
+        return max(0, self.text.count(b"\n") - 2)
+
+    def __getitem__(self, place: Union[int, slice]) -> Any:
+        return self.rows[place]
 
     def __eq__(self, other: object) -> bool:
         return isinstance(other, Schedule) and self.text == other.text
 
     def __hash__(self) -> int:
         return hash(self.text)
+
+    def __repr__(self) -> str:
+        told = [f"{it.stream} {it.currency} {'float' if it.floating else 'fixed'}" for it in self.streams]
+        return f"<irs.Schedule of {len(self)} rows; {'; '.join(told)}>"
 
     def of(self, kind: type, stream: Optional[int] = None) -> List[Any]:
         """The rows of one kind, of one stream or of all."""
@@ -49,7 +82,8 @@ class Schedule(Looks):
     @property
     def streams(self) -> List[Stream]:
         """The streams in order."""
-        return self.of(Stream)
+        lines = self.text.split(b"\n")
+        return [row_of(line.decode()) for line in lines if line.startswith(b"stream ")]  # type: ignore[misc]
 
     def payments(self, stream: Optional[int] = None) -> List[Payment]:
         """The payments of a stream, or of all."""
@@ -67,22 +101,78 @@ class Schedule(Looks):
         """The resets of a stream, or of all."""
         return self.of(Reset, stream)
 
-    def frame(self, kind: type = Payment) -> Any:
-        """The rows of one kind as a pandas DataFrame, a column a field; payments where nothing is said."""
-        try:
-            import pandas
-        except ImportError as missing:
-            raise ImportError("Schedule.frame() wants pandas, which isn't installed") from missing
-        return pandas.DataFrame(self.of(kind), columns=kind._fields)  # type: ignore[attr-defined]
+    def frame(self, kind: type = Payment, numbers: str = "decimal", party: Optional[str] = None) -> Any:
+        """The rows of one kind as a pandas DataFrame; payments where nothing is said.
+
+        A column a field, and `currency`, `payer` and `receiver` of the stream, as the document names them.
+        Dates are datetime64, or `datetime.date` where one is past what pandas holds (2262). Amounts, rates
+        and notionals are `Decimal` with `numbers="decimal"`, or float64. With `party` the column `direction` says
+        whether that party pays or receives the row's amount, `None` where neither or where it is unknown.
+        ImportError without pandas; ValueError for other `numbers` or a kind that a schedule hasn't.
+        """
+        if numbers not in ("decimal", "float"):
+            raise ValueError("numbers are decimal or float")
+        if kind not in (Stream, Exchange, Payment, Period, Reset):
+            raise ValueError("a schedule has rows of the kinds Stream, Exchange, Payment, Period and Reset")
+        from .frames import frame_of
+        return frame_of(self, kind, numbers, party)
+
+
+def _named_instead(text: Text) -> bool:
+    """Whether a text is the name of a file, given in the place of the file."""
+    if not isinstance(text, str) or len(text) > LONGEST_NAME or "\n" in text or "{" in text:
+        return False
+    try:
+        return os.path.exists(text)
+    except ValueError:
+        return False
+
+
+def content(file: File) -> Text:
+    """What a file holds: a path is read, and bytes and texts are as they are; TypeError for anything else."""
+    if isinstance(file, os.PathLike):
+        return Path(file).read_bytes()
+    if not isinstance(file, (str, bytes, bytearray, memoryview)):
+        raise TypeError(f"a file is bytes, text or a path, and not {type(file).__name__}")
+    if _named_instead(file):
+        raise TypeError(f"{file!r} is the name of a file: give pathlib.Path({file!r})")
+    return file
+
+
+def _leaf(value: object) -> str:
+    """A value of Python as the text of a leaf: a decimal with its digits, a day as FpML writes it."""
+    if isinstance(value, Decimal):
+        return f"{value:f}"
+    if isinstance(value, datetime.date) and not isinstance(value, datetime.datetime):
+        return value.isoformat()
+    raise TypeError(f"a document has texts, whole numbers, decimals and days, and no {type(value).__name__}")
 
 
 def _document(document: Document) -> Text:
-    return json.dumps(document) if isinstance(document, Mapping) else document
+    if isinstance(document, Mapping):
+        return json.dumps(document, default=_leaf)
+    return content(document)
 
 
-def _asked(parts: List[Text], files: Dict[str, Text], calendars: Iterable[Text]) -> Answer:
+def _day(day: Day) -> str:
+    if isinstance(day, datetime.datetime):
+        day = day.date()
+    if isinstance(day, datetime.date):
+        return day.isoformat()
+    if isinstance(day, str):
+        return day
+    raise TypeError(f"a day is a datetime.date or a text as 2024-04-15, and not {type(day).__name__}")
+
+
+def _calendars(calendars: Iterable[File]) -> List[Text]:
+    if isinstance(calendars, (str, bytes, bytearray, memoryview, os.PathLike)):
+        raise TypeError("calendars are a list of files: write [calendar] for one")
+    return [content(calendar) for calendar in calendars]
+
+
+def _asked(parts: List[Text], files: Dict[str, Text], calendars: Iterable[File]) -> Answer:
     words = list(parts)
-    for number, calendar in enumerate(calendars, 1):
+    for number, calendar in enumerate(_calendars(calendars), 1):
         name = f"calendar {number}"
         files[name] = calendar
         words.append(name)
@@ -93,50 +183,99 @@ def _asked(parts: List[Text], files: Dict[str, Text], calendars: Iterable[Text])
     return answer
 
 
-def _with_rates(command: str, parameters: List[str], document: Document, rates: Optional[Text],
-                calendars: Iterable[Text], **more: Text) -> bytes:
-    files: Dict[str, Text] = {"document": _document(document), **more}
+def _with_rates(command: str, parameters: List[str], document: Text, rates: Optional[File],
+                calendars: Iterable[File], **more: Text) -> bytes:
+    files: Dict[str, Text] = {"document": document, **more}
     words: List[Text] = [command, *parameters, "document"]
     if rates is None:
         words.append("-")
     else:
-        files["rates"] = rates
+        files["rates"] = content(rates)
         words.append("rates")
     return _asked(words + list(more), files, calendars).text
 
 
-def check(document: Document, calendars: Iterable[Text] = ()) -> None:
+class Item(NamedTuple):
+    """A trade of `run_each`: its document, its cash flows, and fixings of its own in the place of the common ones."""
+
+    document: Text
+    flows: Optional[Text] = None
+    fixings: Optional[Text] = None
+
+
+class Told(NamedTuple):
+    """What a trade comes to: status, text, and what the first line means in one sentence (empty at status 0)."""
+
+    status: int
+    text: bytes
+    sentence: str
+
+
+def _words_of(command: str, item: Item, calendars: Sequence[Tuple[str, bytes]],
+              fixings: Optional[bytes]) -> Tuple[List[Text], Dict[str, Text]]:
+    files: Dict[str, Text] = {"document": item.document}
+    words: List[Text] = [command, "document"]
+    rates = fixings if item.fixings is None else item.fixings
+    if command != "check":
+        words.append("-" if rates is None else "fixings")
+        if rates is not None:
+            files["fixings"] = rates
+    if command == "audit":
+        words.append("flows")
+        if item.flows is not None:
+            files["flows"] = item.flows
+    # A calendar's name is a word, so that a sentence has it.
+    for name, calendar in calendars:
+        files[f"calendar {name}"] = calendar
+        words.append(f"calendar {name}")
+    return words, files
+
+
+def run_each(command: str, items: Iterable[Item], calendars: Sequence[Tuple[str, bytes]] = (),
+             fixings: Optional[bytes] = None) -> Iterator[Told]:
+    """One command over many trades, with the calendars (name and bytes) and the fixings that they have in common.
+
+    Each trade's answer is the one that it has alone. This is the one place where a book asks the library.
+    """
+    for item in items:
+        words, files = _words_of(command, item, calendars, fixings)
+        answer = run(words, files)
+        yield Told(answer.status, answer.text, meaning(words, answer.status, answer.text))
+
+
+def check(document: Document, calendars: Iterable[File] = ()) -> None:
     """Asks whether the terms keep every rule; raises `Refused` where they don't."""
     _asked(["check", "document"], {"document": _document(document)}, calendars)
 
 
-def schedule(document: Document, fixings: Optional[Text] = None, calendars: Iterable[Text] = ()) -> Schedule:
+def schedule(document: Document, fixings: Optional[File] = None, calendars: Iterable[File] = ()) -> Schedule:
     """The schedule of a document: every period, payment, exchange and reset."""
-    return Schedule(_with_rates("schedule", [], document, fixings, calendars), document)
+    text = _document(document)
+    return Schedule(_with_rates("schedule", [], text, fixings, calendars), text)
 
 
-def audit(document: Document, flows: Document, fixings: Optional[Text] = None,
-          calendars: Iterable[Text] = ()) -> Verdict:
+def audit(document: Document, flows: Document, fixings: Optional[File] = None,
+          calendars: Iterable[File] = ()) -> Verdict:
     """Compares cash flows with the schedule: `Yes`, or `No` with the first departure."""
-    return verdict_of(_with_rates("audit", [], document, fixings, calendars, flows=_document(flows)))
+    return verdict_of(_with_rates("audit", [], _document(document), fixings, calendars, flows=_document(flows)))
 
 
-def emit(document: Document, fixings: Optional[Text] = None, calendars: Iterable[Text] = ()) -> bytes:
+def emit(document: Document, fixings: Optional[File] = None, calendars: Iterable[File] = ()) -> bytes:
     """The schedule as cash flows in FpML's elements, one line of JSON."""
-    return _with_rates("emit", [], document, fixings, calendars)
+    return _with_rates("emit", [], _document(document), fixings, calendars)
 
 
-def accrue(day: Day, document: Document, fixings: Optional[Text] = None,
-           calendars: Iterable[Text] = ()) -> List[Accrued]:
+def accrue(day: Day, document: Document, fixings: Optional[File] = None,
+           calendars: Iterable[File] = ()) -> List[Accrued]:
     """What has accrued on a day in each stream; `BadWords` where the text is no day of the range."""
-    text = _with_rates("accrue", [str(day)], document, fixings, calendars)
+    text = _with_rates("accrue", [_day(day)], _document(document), fixings, calendars)
     return [accrued_of(line) for line in inner_lines(text)]
 
 
-def net(document: Document, fixings: Optional[Text] = None, calendars: Iterable[Text] = ()) -> List[Net]:
+def net(document: Document, fixings: Optional[File] = None, calendars: Iterable[File] = ()) -> List[Net]:
     """What falls due between the two parties, by date and currency. The streams have to name their
     payer and receiver (rule K8)."""
-    text = _with_rates("net", [], document, fixings, calendars)
+    text = _with_rates("net", [], _document(document), fixings, calendars)
     return [row_of(line) for line in inner_lines(text)]  # type: ignore[misc]
 
 
@@ -144,20 +283,21 @@ def _derived(text: bytes) -> List[Union[Derived, Missing]]:
     return [derived_of(line) for line in text.decode().splitlines()[1:]]
 
 
-def overnight(stream: int, document: Document, daily: Optional[Text] = None,
-              calendars: Iterable[Text] = ()) -> List[Union[Derived, Missing]]:
+def overnight(stream: int, document: Document, daily: Optional[File] = None,
+              calendars: Iterable[File] = ()) -> List[Union[Derived, Missing]]:
     """A rate a calculation period of a floating stream, compounded from the daily rates of its index."""
-    return _derived(_with_rates("overnight", [str(stream)], document, daily, calendars))
+    return _derived(_with_rates("overnight", [str(stream)], _document(document), daily, calendars))
 
 
-def average(stream: int, kind: str, step: str, document: Document, fixings: Optional[Text] = None,
-            calendars: Iterable[Text] = ()) -> List[Union[Derived, Missing]]:
+def average(stream: int, kind: str, step: str, document: Document, fixings: Optional[File] = None,
+            calendars: Iterable[File] = ()) -> List[Union[Derived, Missing]]:
     """A rate a calculation period of a floating stream, the mean of rates observed every `step`, as
     ``1W``; `kind` is ``plain`` or ``weighted``, which weighs a rate by its days."""
-    return _derived(_with_rates("average", [str(stream), kind, step], document, fixings, calendars))
+    return _derived(_with_rates("average", [str(stream), kind, step], _document(document), fixings, calendars))
 
 
-def interpolate(stream: int, side: str, low: str, high: str, document: Document, fixings: Optional[Text] = None,
-                calendars: Iterable[Text] = ()) -> Union[Derived, Missing]:
+def interpolate(stream: int, side: str, low: str, high: str, document: Document, fixings: Optional[File] = None,
+                calendars: Iterable[File] = ()) -> Union[Derived, Missing]:
     """The rate of a stub, ``initial`` or ``final``, on the line between the rates of two tenors."""
-    return _derived(_with_rates("interpolate", [str(stream), side, low, high], document, fixings, calendars))[0]
+    parameters = [str(stream), side, low, high]
+    return _derived(_with_rates("interpolate", parameters, _document(document), fixings, calendars))[0]

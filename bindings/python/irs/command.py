@@ -1,115 +1,338 @@
 """`irs-book FOLDER`: a night's run over a folder of documents.
 
 FOLDER has a document a trade, NAME.json, and beside it what it has of NAME.flows.json and NAME.fixings; a
-file `fixings` serves each trade that has none of its own. The folder `calendars` has the calendar files; a
-trade gets those that hold a centre which its document names. Each outcome is a line of the CSV, and the
-summary goes to standard output.
+file `fixings` serves each trade that has none of its own, and the folder `calendars` has the calendar files.
+--names-from FILE takes the trades from a CSV file instead, with the columns name, document, flows and fixings.
+
+Each outcome goes to the journal as it comes, a file of SQLite; at the end the CSV is written from it, and the
+summary goes to standard output. The status is 0 where there is a trade and all agree, 1 where one doesn't, and
+2 where the run couldn't be done or was ended.
 """
 from __future__ import annotations
 
 import argparse
+import contextlib
 import csv
-import json
+import fcntl
+import logging
+import os
+import signal
 import sys
 from pathlib import Path
-from typing import Any, Dict, Iterable, Iterator, List, Optional, Set
+from typing import Any, Dict, Iterator, List, NamedTuple, NoReturn, Optional, Set, Tuple
 
-from .book import COMMANDS, Outcome, Trade, run
+from .book import COMMANDS, Outcome, Summary, Trade, outcomes, stamp, with_bar
+from .common import Common, common_of, loaded
+from .journal import Journal
+from .library import engine
+from .plain import FORMULA, cell, shown
 
-#: What a command takes at most.
-MOST_CALENDARS = 16
+LOG = logging.getLogger("irs.book")
 
+#: The columns of the CSV file.
+COLUMNS = ("name", "verdict", "status", "line", "sentence")
 
-def centres_named(value: Any) -> Set[str]:
-    """The texts of every `businessCenter` in a JSON value."""
-    if isinstance(value, dict):
-        own = value.get("businessCenter", [])
-        found = {text for text in (own if isinstance(own, list) else [own]) if isinstance(text, str)}
-        return found.union(*(centres_named(member) for member in value.values()))
-    if isinstance(value, list):
-        return set().union(*(centres_named(item) for item in value))
-    return set()
+#: The columns of a manifest.
+MANIFEST = ("name", "document", "flows", "fixings")
 
 
-class Calendars:
-    """The calendar files of a folder, by the centres that they hold."""
-
-    def __init__(self, folder: Path) -> None:
-        self.files: List[bytes] = []
-        self.by_centre: Dict[str, int] = {}
-        for path in sorted(folder.glob("*.cal")) if folder.is_dir() else []:
-            content = path.read_bytes()
-            for line in content.decode(errors="replace").splitlines():
-                words = line.split()
-                if len(words) == 2 and words[0] == "center":
-                    self.by_centre.setdefault(words[1], len(self.files))
-            self.files.append(content)
-
-    def of(self, document: bytes) -> List[bytes]:
-        """The files with the centres that a document names, each once."""
-        try:
-            named = centres_named(json.loads(document))
-        except ValueError:
-            return []
-        numbers = {self.by_centre[name] for name in named if name in self.by_centre}
-        return [self.files[number] for number in sorted(numbers)][:MOST_CALENDARS]
+class CannotRun(Exception):
+    """The run can't be done, in a sentence."""
 
 
-def _read(path: Path) -> Optional[bytes]:
-    return path.read_bytes() if path.is_file() else None
+class Ended(BaseException):
+    """The run was ended by a signal."""
+
+    def __init__(self, number: int) -> None:
+        super().__init__(signal.Signals(number).name)
 
 
-def documents(folder: Path) -> List[Path]:
-    """The documents of a folder, in the order of their names."""
-    return sorted(path for path in folder.glob("*.json") if not path.name.endswith(".flows.json"))
+def trades_in(folder: Path) -> List[Trade]:
+    """A trade a document of the folder, in the order of their names; CannotRun where the folder can't be read."""
+    try:
+        names: Set[str] = set(os.listdir(folder))
+    except OSError as why:
+        raise CannotRun(f"{shown(str(folder))} can't be read: {why.strerror}") from why
+    documents = {name for name in names if name.endswith(".json") and not name.endswith(".flows.json")}
+    found = [name[:-len(".json")] for name in sorted(documents)]
+    for other in sorted(names - documents):
+        stem = other[:-len(".flows.json")] if other.endswith(".flows.json") else other[:-len(".fixings")]
+        if other.endswith((".flows.json", ".fixings")) and stem and f"{stem}.json" not in documents:
+            LOG.warning("%s has no document beside it", shown(other))
+    return [Trade(_as_utf8(name), folder / f"{name}.json", _there(folder, f"{name}.fixings", names),
+                  _there(folder, f"{name}.flows.json", names)) for name in found]
 
 
-def trades_of(folder: Path, paths: Iterable[Path]) -> Iterator[Trade]:
-    """A trade a document, read as it is asked for."""
-    calendars = Calendars(folder / "calendars")
-    common = _read(folder / "fixings")
-    for path in paths:
-        document = path.read_bytes()
-        own = _read(path.with_suffix(".fixings"))
-        flows = _read(path.with_suffix(".flows.json"))
-        yield Trade(path.stem, document, common if own is None else own, flows, calendars.of(document))
+def _as_utf8(name: str) -> str:
+    """A name as UTF-8 has it, whatever the locale."""
+    return os.fsencode(name).decode("utf-8", "surrogateescape")
 
 
-def executor_of(address: Optional[str]) -> Any:
-    """A client of the cluster at that address; none without one."""
+def _there(folder: Path, name: str, names: Set[str]) -> Optional[Path]:
+    return folder / name if name in names else None
+
+
+def trades_named(manifest: Path, folder: Path) -> List[Trade]:
+    """The trades of a manifest, whose files are named from the folder; CannotRun where it isn't one."""
+    try:
+        with open(manifest, newline="", encoding="utf-8-sig", errors="surrogateescape") as file:
+            return _of_manifest(csv.DictReader(file, strict=True), manifest, folder)
+    except (OSError, csv.Error) as why:
+        raise CannotRun(f"{shown(str(manifest))} can't be read: {why}") from why
+
+
+def _of_manifest(rows: "csv.DictReader[str]", manifest: Path, folder: Path) -> List[Trade]:
+    given = tuple(rows.fieldnames or ())
+    if not {"name", "document"} <= {*given} or not {*given} <= {*MANIFEST}:
+        raise CannotRun(f"{shown(str(manifest))} has other columns than {', '.join(MANIFEST)}")
+    found: Dict[str, Trade] = {}
+    for row in rows:
+        cells = [(row.get(column) or "").strip() for column in MANIFEST]
+        where = f"{shown(str(manifest))}, line {rows.line_num}"
+        if not cells[0] or not cells[1] or len(row) > len(given):
+            raise CannotRun(f"{where}: a row has a name, a document, and a cell a column")
+        if cells[0] in found:
+            raise CannotRun(f"{where}: the name {shown(cells[0])} comes twice")
+        document, flows, fixings = (folder / it if it else None for it in cells[1:])
+        assert document is not None
+        found[cells[0]] = Trade(cells[0], document, fixings, flows)
+    return list(found.values())
+
+
+def common_in(folder: Path) -> Common:
+    """The calendar files of the folder, and its fixings for all; CannotRun where those can't be read."""
+    calendars = []
+    for path in sorted((folder / "calendars").glob("*.cal")):
+        if path.is_file() and os.access(path, os.R_OK):
+            calendars.append(path)
+        else:
+            LOG.warning("the calendar %s can't be read: a trade that needs it breaks rule K12", shown(path.name))
+    fixings = folder / "fixings"
+    if os.path.lexists(fixings) and not (fixings.is_file() and os.access(fixings, os.R_OK)):
+        raise CannotRun(f"{shown(str(fixings))} can't be read")
+    return common_of(calendars, fixings if fixings.is_file() else None)
+
+
+@contextlib.contextmanager
+def client_of(address: Optional[str]) -> Iterator[Any]:
+    """A client of the cluster at that address, or `None`; CannotRun where there is none there."""
     if address is None:
-        return None
+        yield None
+        return
     try:
         from distributed import Client
-    except ImportError:
-        sys.exit("irs-book: --scheduler wants dask's `distributed`, which isn't installed")
-    return Client(address)
+    except ImportError as missing:
+        raise CannotRun("--scheduler wants dask's `distributed`, which isn't installed") from missing
+    try:
+        client = Client(address)
+    except (OSError, ValueError) as why:
+        raise CannotRun(f"there is no scheduler at {shown(address)}: {why}") from why
+    with client:
+        yield client
+
+
+@contextlib.contextmanager
+def journal_at(path: Path) -> Iterator[Journal]:
+    """The journal, which no other run writes meanwhile; CannotRun where it can't be opened."""
+    try:
+        lock = open(f"{path}.lock", "w", encoding="utf-8")
+    except OSError as why:
+        raise CannotRun(f"{shown(str(path))} can't be written: {why.strerror}") from why
+    with lock:
+        try:
+            fcntl.flock(lock, fcntl.LOCK_EX | fcntl.LOCK_NB)
+        except OSError as why:
+            raise CannotRun(f"another run writes {shown(str(path))}") from why
+        try:
+            journal = Journal(path)
+        except Exception as why:
+            raise CannotRun(f"{shown(str(path))} can't be written: {why}") from why
+        try:
+            yield journal
+        finally:
+            journal.close()
+
+
+def write_csv(path: Path, told: Iterator[Outcome]) -> None:
+    """Writes the outcomes to a temporary file beside it, and renames that; CannotRun where it can't be written."""
+    beside = path.with_name(f".{path.name}.{os.getpid()}")
+    try:
+        with open(beside, "w", newline="", encoding="utf-8") as out:
+            writer = csv.writer(out)
+            writer.writerow(COLUMNS)
+            for it in told:
+                status = "" if it.status is None else it.status
+                # The journal has names as they are shown; a formula's sign is what is left to take off.
+                writer.writerow([_cell(it.name), it.verdict, status, cell(it.line), cell(it.sentence)])
+            out.flush()
+            os.fsync(out.fileno())
+        os.replace(beside, path)
+    except OSError as why:
+        with contextlib.suppress(OSError):
+            beside.unlink()
+        raise CannotRun(f"{shown(str(path))} can't be written: {why.strerror}") from why
+
+
+def _cell(already_shown: str) -> str:
+    return "'" + already_shown if already_shown.startswith(FORMULA) else already_shown
+
+
+class Run(NamedTuple):
+    """A run over the trades that are left, and what it writes to."""
+
+    trades: List[Trade]
+    common: Common
+    asked: argparse.Namespace
+    journal: Journal
+
+    def work(self, executor: Any) -> None:
+        """Works the trades, each outcome into the journal."""
+        told = outcomes(self.trades, self.asked.command, common=self.common, executor=executor, jobs=self.asked.jobs,
+                        chunk=self.asked.chunk, timeout=self.asked.timeout)
+        if executor is None:
+            # Read before the processes start, which so have it already.
+            loaded(self.common)
+        with contextlib.closing(told):  # type: ignore[type-var]
+            for outcome in with_bar(told, len(self.trades)) if sys.stderr.isatty() else told:
+                if outcome.verdict == "failed":
+                    LOG.warning("%s failed: %s", shown(outcome.name), shown(outcome.line))
+                self.journal.add(outcome, shown(outcome.name), outcome.stamp)
+
+
+def left_of(trades: List[Trade], journal: Journal) -> List[Trade]:
+    """The trades that aren't in the journal, or whose files changed since; it forgets what is no trade any more."""
+    stamps = journal.stamps()
+    names = {shown(trade.name) for trade in trades}
+    journal.forget(name for name in list(stamps) if name not in names)
+    return [trade for trade in trades if stamps.get(shown(trade.name)) != stamp(trade)]
+
+
+def asked_of(words: argparse.Namespace, common: Common) -> Dict[str, str]:
+    """What the journal says of a run: a resumed one has to ask for the same."""
+    names = ", ".join(name for name, _ in common.calendars)
+    return {"command": words.command, "folder": shown(str(words.folder.resolve())), "library": engine(),
+            "calendars and common fixings": f"{names} {common.stamp}",
+            "manifest": shown(str(words.names_from.resolve())) if words.names_from else ""}
+
+
+def count(text: str) -> int:
+    """A number from 1 on, of a word of the command line."""
+    number = int(text)
+    if number < 1:
+        raise argparse.ArgumentTypeError("has to be at least 1")
+    return number
+
+
+def seconds(text: str) -> float:
+    """A time above 0, of a word of the command line."""
+    number = float(text)
+    if not 0 < number < 1e9:
+        raise argparse.ArgumentTypeError("has to be above 0")
+    return number
 
 
 def parsed(arguments: Optional[List[str]]) -> argparse.Namespace:
     """The words of the command line."""
-    parser = argparse.ArgumentParser(prog="irs-book", description=__doc__, formatter_class=argparse.RawDescriptionHelpFormatter)
+    parser = argparse.ArgumentParser(prog="irs-book", description=__doc__,
+                                     formatter_class=argparse.RawDescriptionHelpFormatter)
     parser.add_argument("folder", type=Path)
     parser.add_argument("--command", choices=COMMANDS, default="audit")
+    parser.add_argument("--names-from", type=Path, metavar="FILE", help="a manifest with the trades")
     parser.add_argument("--csv", type=Path, default=Path("irs-book.csv"), help="where the outcomes go (irs-book.csv)")
-    parser.add_argument("--jobs", type=int, default=None, help="processes (as many as there are processors)")
+    parser.add_argument("--journal", type=Path, help="where they go as they come (the CSV's name and .journal)")
+    parser.add_argument("--resume", action="store_true", help="go on with the journal that is there")
+    parser.add_argument("--accept", action="append", choices=["unverified"], default=[],
+                        help="a verdict that counts as 0")
+    parser.add_argument("--jobs", type=count, default=len(os.sched_getaffinity(0)), help="processes (one a processor)")
     parser.add_argument("--scheduler", metavar="ADDRESS", help="a dask scheduler, as tcp://host:8786")
-    parser.add_argument("--chunk", type=int, default=50, help="trades that are sent at once (50)")
+    parser.add_argument("--chunk", type=count, default=50, help="trades that are sent at once (50)")
+    parser.add_argument("--timeout", type=seconds, default=60.0, help="the most seconds for a trade here (60)")
+    parser.add_argument("--verbose", action="store_true", help="more on standard error")
     return parser.parse_args(arguments)
 
 
-def main(arguments: Optional[List[str]] = None) -> int:
-    """Runs the book; 0 where every trade is done, 1 where one isn't."""
-    asked = parsed(arguments)
-    paths = documents(asked.folder)
-    with open(asked.csv, "w", newline="") as out:
-        writer = csv.writer(out)
-        writer.writerow(Outcome._fields)
-        summary = run(trades_of(asked.folder, paths), asked.command, executor=executor_of(asked.scheduler),
-                      jobs=asked.jobs, chunk=asked.chunk, progress=sys.stderr.isatty(), total=len(paths),
-                      each=writer.writerow)
+def _end(number: int, _: Any) -> NoReturn:
+    # A second signal doesn't break off what ends the first one.
+    for each in (signal.SIGINT, signal.SIGTERM, signal.SIGHUP):
+        signal.signal(each, signal.SIG_IGN)
+    raise Ended(number)
+
+
+def _trades(words: argparse.Namespace) -> List[Trade]:
+    trades = trades_in(words.folder) if words.names_from is None else trades_named(words.names_from, words.folder)
+    if not trades:
+        raise CannotRun(f"there is no trade in {shown(str(words.names_from or words.folder))}")
+    return trades
+
+
+def _checked(path: Path) -> None:
+    """CannotRun where the CSV couldn't be written, before anything is worked."""
+    if path.is_dir():
+        raise CannotRun(f"{shown(str(path))} is a folder")
+    if not os.access(path.parent, os.W_OK | os.X_OK):
+        raise CannotRun(f"{shown(str(path.parent))} can't be written")
+
+
+def _summarised(journal: Journal) -> Summary:
+    journal.flush()
+    summary = Summary()
+    for outcome in journal.outcomes():
+        summary.add(outcome, outcome.name)
     print(summary)
-    return 0 if summary.done == summary.trades else 1
+    return summary
+
+
+def night(words: argparse.Namespace) -> int:
+    """The run that the words ask for."""
+    trades, common = _trades(words), common_in(words.folder)
+    _checked(words.csv)
+    with journal_at(words.journal or words.csv.with_name(f"{words.csv.name}.journal")) as journal:
+        try:
+            journal.begin(asked_of(words, common), words.resume)
+        except Exception as why:
+            raise CannotRun(shown(str(why))) from why
+        left = left_of(trades, journal)
+        LOG.info("%d trades, %d of them to be worked, by %s", len(trades), len(left), engine().partition("\n")[0])
+        try:
+            with client_of(words.scheduler) as executor:
+                Run(left, common, words, journal).work(executor)
+        except Ended as why:
+            _summarised(journal)
+            print(f"irs-book: ended by {why}; --resume goes on", file=sys.stderr)
+            return 2
+        summary = _summarised(journal)
+        write_csv(words.csv, journal.outcomes())
+    return 0 if summary.is_clean(words.accept) else 1
+
+
+def _printed_safely() -> Tuple[Any, ...]:
+    """Has standard output and standard error take names that their encoding lacks."""
+    streams = (sys.stdout, sys.stderr)
+    for stream in streams:
+        if hasattr(stream, "reconfigure"):
+            stream.reconfigure(errors="backslashreplace")
+    return streams
+
+
+def main(arguments: Optional[List[str]] = None) -> int:
+    """Runs the book: 0 where all agree, 1 where one doesn't, 2 where the run couldn't be done."""
+    words = parsed(arguments)
+    _printed_safely()
+    logging.basicConfig(format="irs-book: %(message)s", level=logging.INFO if words.verbose else logging.WARNING)
+    for number in (signal.SIGINT, signal.SIGTERM, signal.SIGHUP):
+        signal.signal(number, _end)
+    try:
+        return night(words)
+    except CannotRun as why:
+        print(f"irs-book: {why}", file=sys.stderr)
+        return 2
+    except Ended as why:
+        print(f"irs-book: ended by {why}", file=sys.stderr)
+        return 2
+    except Exception:
+        # A fault of this program mustn't look as if a trade departs.
+        LOG.exception("the run couldn't be done")
+        return 2
 
 
 if __name__ == "__main__":

@@ -1,7 +1,7 @@
 """What a call refuses, as errors with their place."""
 from __future__ import annotations
 
-from typing import Optional
+from typing import Any, Optional, Tuple, Type
 
 
 class Error(Exception):
@@ -14,7 +14,7 @@ class Error(Exception):
         self.line = line
         self.sentence = sentence
 
-    def __reduce__(self):
+    def __reduce__(self) -> Tuple[Type["Error"], Tuple[Any, ...]]:
         return type(self), (self.line, self.sentence)
 
 
@@ -65,8 +65,24 @@ class BadWords(Error, ValueError):
     status = 4
 
 
+class NoFile(Error, LookupError):
+    """A file that the words name isn't there. `word` is its place after the command, from 1."""
+
+    status = 5
+
+    def __init__(self, line: str, sentence: str) -> None:
+        super().__init__(line, sentence)
+        self.word: int = int(line.split()[-1])
+
+
+class OutOfMemory(Error, MemoryError):
+    """Memory ran out; there is no text."""
+
+    status = 7
+
+
 class TooLong(Error, ValueError):
-    """A file has more than 4,194,304 bytes. `word` is its place behind the command, from 1."""
+    """A file has more than 4,194,304 bytes. `word` is its place after the command, from 1."""
 
     status = 8
 
@@ -81,9 +97,16 @@ class NotText(Error, ValueError):
     status = 9
 
 
-def error_of(status: int, line: str, sentence: str) -> Exception:
-    """The error of an answer whose status isn't 0 or 1."""
-    if status == 7:
-        return MemoryError("memory ran out")
-    kinds = {kind.status: kind for kind in (Refused, BadFile, BadWords, TooLong, NotText)}
-    return kinds[status](line, sentence)
+#: The error of each status but 0, 1, and 6, which the library never answers.
+KINDS = {kind.status: kind for kind in (Refused, BadFile, BadWords, NoFile, OutOfMemory, TooLong, NotText)}
+
+
+def error_of(status: int, line: str, sentence: str) -> Error:
+    """The error of an answer whose status isn't 0 or 1; of a status that this package doesn't know a plain `Error`."""
+    if status == OutOfMemory.status:
+        return OutOfMemory(line, sentence or "memory ran out")
+    if status in KINDS:
+        return KINDS[status](line, sentence)
+    unknown = Error(line, sentence or f"the library answered status {status}")
+    unknown.status = status
+    return unknown

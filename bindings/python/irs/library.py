@@ -5,13 +5,20 @@ It keeps nothing between calls, so threads may call side by side.
 from __future__ import annotations
 
 import ctypes
+import functools
 import os
-from typing import Mapping, NamedTuple, Sequence, Union
+from typing import Mapping, NamedTuple, Optional, Sequence, Union
 
 Text = Union[bytes, str]
 
-#: How much room the first call of :func:`run` has for the text, in bytes.
+#: How much room the first call of :func:`run` has for the text, in bytes; a longer text is worked out twice.
 ROOM = 1 << 16
+
+#: The same for a command whose texts are long.
+ROOM_OF = {"emit": 1 << 20, "schedule": 1 << 18}
+
+#: No line that a status other than 0 has is longer than this, in bytes.
+LONGEST_LINE = 512
 
 
 class _Bytes(ctypes.Structure):
@@ -29,7 +36,9 @@ class Answer(NamedTuple):
     text: bytes
 
 
-def _load() -> ctypes.CDLL:
+@functools.lru_cache(maxsize=None)
+def _library() -> ctypes.CDLL:
+    """The library, loaded by the first call; ImportError where it isn't there."""
     here = os.path.dirname(os.path.abspath(__file__))
     path = os.environ.get("IRS_LIBRARY", os.path.join(here, "libirs.so"))
     if not os.path.exists(path):
@@ -41,6 +50,9 @@ def _load() -> ctypes.CDLL:
         ctypes.POINTER(_File), ctypes.c_size_t,
         ctypes.c_void_p, ctypes.c_size_t, ctypes.POINTER(ctypes.c_size_t),
     ]
+    if hasattr(library, "irs_version"):
+        library.irs_version.restype = None
+        library.irs_version.argtypes = [ctypes.c_void_p, ctypes.c_size_t, ctypes.POINTER(ctypes.c_size_t)]
     library.irs_meaning.restype = ctypes.c_uint8
     library.irs_meaning.argtypes = [
         ctypes.POINTER(_Bytes), ctypes.c_size_t, ctypes.c_uint8,
@@ -50,12 +62,13 @@ def _load() -> ctypes.CDLL:
     return library
 
 
-_LIBRARY = _load()
-
-
 def as_bytes(text: Text) -> bytes:
-    """Bytes as they are, and a text in UTF-8."""
-    return text.encode() if isinstance(text, str) else bytes(text)
+    """Bytes as they are, and a text in UTF-8; TypeError for anything else, a number among it."""
+    if isinstance(text, str):
+        return text.encode()
+    if isinstance(text, (bytes, bytearray, memoryview)):
+        return bytes(text)
+    raise TypeError(f"a file or a word is str or bytes, and not {type(text).__name__}")
 
 
 def _lent(text: Text) -> _Bytes:
@@ -63,43 +76,62 @@ def _lent(text: Text) -> _Bytes:
     return _Bytes(held, len(held))
 
 
-def run(words: Sequence[Text], files: Mapping[str, Text] = {}) -> Answer:
+def engine() -> str:
+    """What `irs --version` prints: the versions, and the logic sum of the kit that proves the library.
+
+    It is empty for a library that has no such call.
+    """
+    library = _library()
+    if not hasattr(library, "irs_version"):
+        return ""
+    out, needed = ctypes.create_string_buffer(1024), ctypes.c_size_t()
+    library.irs_version(out, len(out), ctypes.byref(needed))
+    return ctypes.string_at(out, min(needed.value, len(out))).decode()
+
+
+def run(words: Sequence[Text], files: Optional[Mapping[str, Text]] = None) -> Answer:
     """Does what the program does on a command line, with files from memory.
 
-    `words` are the words behind the program's name, `files` the bytes of each file that they name. A
-    file that isn't in `files` is one that can't be read: status 5.
+    `words` are the words after the program's name, `files` the bytes of each file that they name. A
+    file that isn't in `files` is one that can't be read: status 5. Where memory runs out the status is 7.
 
     >>> run(["check", "document"], {"document": b"["})
     Answer(status=2, text=b'refused K1 0 document 0\\n')
     """
     lent_words = (_Bytes * max(1, len(words)))(*[_lent(word) for word in words])
-    pairs = [_File(_lent(name), _lent(content)) for name, content in files.items()]
+    pairs = [_File(_lent(name), _lent(content)) for name, content in (files or {}).items()]
     lent_files = (_File * max(1, len(pairs)))(*pairs)
     needed = ctypes.c_size_t()
-    room = ROOM
+    library = _library()
+    room = ROOM_OF.get(str(words[0]), ROOM) if words else ROOM
     while True:
         out = ctypes.create_string_buffer(room)
-        status = _LIBRARY.irs_run(lent_words, len(words), lent_files, len(pairs), out, room, ctypes.byref(needed))
+        status = library.irs_run(lent_words, len(words), lent_files, len(pairs), out, room, ctypes.byref(needed))
         if needed.value <= room:
-            return Answer(status, out.raw[: needed.value])
+            return Answer(status, ctypes.string_at(out, needed.value))
         room = needed.value
 
 
 def meaning(words: Sequence[Text], status: int, line: Text) -> str:
     """What the line of an answer means, in one plain sentence; empty at status 0.
 
+    Of a text with several lines it is the first that counts.
+
     >>> meaning(["check", "document"], 2, "refused K1 0 document 0")
     "K1: the document isn't JSON"
     """
+    if status == 0:
+        return ""
     lent_words = (_Bytes * max(1, len(words)))(*[_lent(word) for word in words])
-    said = as_bytes(line)
+    said = as_bytes(line)[:LONGEST_LINE]
+    library = _library()
     needed = ctypes.c_size_t()
     room = 1024
     while True:
         out = ctypes.create_string_buffer(room)
-        done = _LIBRARY.irs_meaning(lent_words, len(words), status, said, len(said), out, room, ctypes.byref(needed))
+        done = library.irs_meaning(lent_words, len(words), status, said, len(said), out, room, ctypes.byref(needed))
         if done != 0:
             return ""
         if needed.value <= room:
-            return out.raw[: needed.value].decode()
+            return ctypes.string_at(out, needed.value).decode(errors="replace")
         room = needed.value

@@ -9,7 +9,7 @@ from __future__ import annotations
 from datetime import date
 from decimal import Decimal
 from fractions import Fraction
-from typing import Callable, Dict, List, NamedTuple, Optional, Union
+from typing import Any, Callable, Dict, List, NamedTuple, Optional, Tuple, Union
 
 
 class Stream(NamedTuple):
@@ -94,7 +94,7 @@ class Derived(NamedTuple):
     date: date
     rate: Decimal
     tenor: Optional[str]
-    index: str
+    index: str  # type: ignore[assignment]
 
 
 class Missing(NamedTuple):
@@ -124,19 +124,26 @@ Row = Union[Stream, Exchange, Payment, Period, Reset]
 Verdict = Union[Yes, No]
 
 
-def _optional(read: Callable[[str], object]) -> Callable[[str], object]:
-    return lambda text: None if text == "-" else read(text)
+def _amount(text: str) -> Optional[Decimal]:
+    return None if text == "-" else Decimal(text)
+
+
+def _is_floating(text: str) -> bool:
+    return text == "float"
+
+
+def _fraction(text: str) -> Fraction:
+    numerator, _, denominator = text.partition("/")
+    return Fraction(int(numerator), int(denominator))
 
 
 _day = date.fromisoformat
-_amount = _optional(Decimal)
-_flag = lambda text: text == "float"
 
-_READERS: Dict[str, tuple] = {
-    "stream": (Stream, (int, str, str, _flag)),
+_READERS: Dict[str, Tuple[Any, Tuple[Callable[[str], object], ...]]] = {
+    "stream": (Stream, (int, str, str, _is_floating)),
     "x": (Exchange, (int, int, _day, _day, Decimal)),
     "p": (Payment, (int, int, _day, _day, int, int, _amount)),
-    "c": (Period, (int, int, _day, _day, _day, _day, int, Fraction, Decimal, _amount)),
+    "c": (Period, (int, int, _day, _day, _day, _day, int, _fraction, Decimal, _amount)),
     "r": (Reset, (int, int, _day, _day, _amount)),
     "n": (Net, (_day, str, Decimal, int)),
 }
@@ -146,7 +153,8 @@ def row_of(line: str) -> Union[Row, Net]:
     """The row of a line of a schedule or of a net."""
     mark, *fields = line.split(" ")
     kind, readers = _READERS[mark]
-    return kind(*(read(field) for read, field in zip(readers, fields)))
+    row: Union[Row, Net] = kind(*(read(field) for read, field in zip(readers, fields)))
+    return row
 
 
 def inner_lines(text: bytes) -> List[str]:
@@ -160,7 +168,7 @@ def accrued_of(line: str) -> Accrued:
     if fields[2] == "none":
         return Accrued(int(fields[1]), None, None, None, None)
     _, stream, period, days, fraction, amount = fields
-    return Accrued(int(stream), int(period), int(days), Fraction(fraction), _amount(amount))
+    return Accrued(int(stream), int(period), int(days), _fraction(fraction), _amount(amount))
 
 
 def derived_of(line: str) -> Union[Derived, Missing]:

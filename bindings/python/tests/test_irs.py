@@ -1,23 +1,23 @@
-"""The package over the shipped examples: rows, errors and a book."""
+"""The package over the shipped examples: rows, arguments and errors."""
 import datetime
-import os
+import json
 import pickle
 import sys
 import unittest
 from decimal import Decimal
 from fractions import Fraction
+from pathlib import Path
 
-HERE = os.path.dirname(os.path.abspath(__file__))
-EXAMPLES = os.path.join(HERE, "..", "..", "..", "examples")
-sys.path.insert(0, os.path.join(HERE, ".."))
+HERE = Path(__file__).resolve().parent
+EXAMPLES = HERE.parent.parent.parent / "examples"
+sys.path.insert(0, str(HERE.parent))
 
 import irs
-from irs import book
+import irs.errors
 
 
 def example(name):
-    with open(os.path.join(EXAMPLES, name), "rb") as file:
-        return file.read()
+    return (EXAMPLES / name).read_bytes()
 
 
 class Rows(unittest.TestCase):
@@ -101,41 +101,135 @@ class Errors(unittest.TestCase):
             irs.check(b" " * 4_194_305)
 
 
-class OnlyMaps:
-    """An executor that has `map` alone."""
+class Arguments(unittest.TestCase):
+    """What a call takes: bytes, texts, paths and mappings, and TypeError for the rest."""
 
-    def map(self, work, chunks):
-        return map(work, chunks)
+    def test_a_path_is_read(self):
+        schedule = irs.schedule(EXAMPLES / "business_days" / "terms.json", calendars=[EXAMPLES / "business_days" / "de.cal"])
+        self.assertEqual(schedule.text, example("business_days/output"))
+
+    def test_a_name_in_the_place_of_a_file_is_no_document(self):
+        for call in (irs.schedule, irs.check):
+            with self.assertRaisesRegex(TypeError, "pathlib.Path"):
+                call(str(EXAMPLES / "fixed_leg" / "terms.json"))
+        with self.assertRaisesRegex(TypeError, "pathlib.Path"):
+            irs.schedule(example("compounded/terms.json"), fixings=str(EXAMPLES / "compounded" / "fixings"))
+
+    def test_numbers_are_no_documents(self):
+        for wrong in (3, True, None, 10**10, ["{}"], 1.5):
+            with self.assertRaises(TypeError):
+                irs.check(wrong)
+        for wrong in (0, False):
+            with self.assertRaises(TypeError):
+                irs.schedule(example("fixed_leg/terms.json"), fixings=wrong)
+        with self.assertRaises(TypeError):
+            irs.run(["check", "D"], {"D": 3})
+
+    def test_one_calendar_is_no_list_of_calendars(self):
+        calendar = example("business_days/de.cal")
+        for wrong in (calendar, calendar.decode(), bytearray(calendar), EXAMPLES / "business_days" / "de.cal"):
+            with self.assertRaisesRegex(TypeError, "list"):
+                irs.check(example("business_days/terms.json"), wrong)
+
+    def test_days_with_a_time(self):
+        day = datetime.datetime(2024, 4, 15, 17, 30)
+        self.assertEqual(irs.accrue(day, example("fixed_leg/terms.json"))[0].days, 91)
+        with self.assertRaises(TypeError):
+            irs.accrue(20240415, example("fixed_leg/terms.json"))
+
+    def test_a_mapping_with_decimals_and_days(self):
+        document = json.loads(example("fixed_leg/terms.json"))
+        text = json.dumps(document)
+        self.assertIn('"2024-01-15"', text)
+
+        def typed(value):
+            if isinstance(value, dict):
+                return {name: typed(member) for name, member in value.items()}
+            if isinstance(value, list):
+                return [typed(member) for member in value]
+            if value == "2024-01-15":
+                return datetime.date(2024, 1, 15)
+            return Decimal("0.05") if value == "0.05" else value
+
+        self.assertEqual(irs.schedule(typed(document)).text, example("fixed_leg/output"))
+        with self.assertRaises(TypeError):
+            irs.check({"swap": object()})
 
 
-class Books(unittest.TestCase):
-    def trades(self, count):
-        for number in range(count):
-            flows = example("audit_departs/flows.json" if number % 10 == 3 else "audit_agrees/flows.json")
-            document = example("business_days/terms.json") if number % 10 == 7 else example("fixed_leg/terms.json")
-            yield book.Trade(f"T{number}", document, None, flows)
+class Schedules(unittest.TestCase):
+    def test_rows_are_read_when_they_are_asked_for(self):
+        schedule = irs.schedule(example("fixed_leg/terms.json"))
+        self.assertNotIn("rows", vars(schedule))
+        self.assertEqual(len(schedule), 5)
+        self.assertEqual(repr(schedule), "<irs.Schedule of 5 rows; 1 USD fixed>")
+        self.assertNotIn("rows", vars(schedule))
+        self.assertEqual((schedule[0], schedule[-1]), (schedule.rows[0], schedule.rows[4]))
+        self.assertEqual(schedule[1:2], schedule.rows[1:2])
 
-    def test_one_process_and_several_agree(self):
-        one = book.run(self.trades(50), jobs=1)
-        several = book.run(self.trades(50), jobs=2, chunk=7)
-        for summary in (one, several):
-            self.assertEqual((summary.trades, summary.done), (50, 40))
-            self.assertEqual(dict(summary.depart), {"payment adjustedPaymentDate": 5})
-            self.assertEqual(dict(summary.refused), {"K12": 5})
+    def test_a_frame(self):
+        try:
+            import pandas
+        except ImportError:
+            self.skipTest("pandas isn't installed")
+        schedule = irs.schedule(example("net/terms.json"), example("net/fixings"))
+        frame = schedule.frame()
+        self.assertEqual(str(frame["adjusted"].dtype), "datetime64[ns]")
+        self.assertEqual(set(frame["currency"]), {"USD"})
+        self.assertIsInstance(frame["amount"][0], Decimal)
+        floats = schedule.frame(numbers="float", party=frame["payer"][0])
+        self.assertEqual(str(floats["amount"].dtype), "float64")
+        self.assertEqual(floats["amount"][0], float(frame["amount"][0]))
+        self.assertEqual(list(floats["direction"]), ["pays", "pays", "receives"])
+        self.assertNotEqual(frame["payer"][0], frame["receiver"][0])
+        self.assertIsInstance(schedule.frame(irs.Period), pandas.DataFrame)
+        with self.assertRaises(ValueError):
+            schedule.frame(irs.Net)
+        with self.assertRaises(ValueError):
+            schedule.frame(numbers="int")
 
-    def test_each_trade_is_told_once(self):
-        told = [outcome.name for outcome in book.outcomes(self.trades(40), jobs=2, chunk=3)]
-        self.assertEqual(sorted(told), sorted(f"T{number}" for number in range(40)))
+    def test_a_frame_of_a_day_past_what_pandas_holds(self):
+        try:
+            import pandas  # noqa: F401
+        except ImportError:
+            self.skipTest("pandas isn't installed")
+        document = example("fixed_leg/terms.json").replace(b"2024-01-15", b"2284-01-15").replace(b"2025-01-15", b"2285-01-15")
+        frame = irs.schedule(document).frame()
+        self.assertEqual(frame["adjusted"][1], datetime.date(2285, 1, 15))
 
-    def test_a_trade_that_can_not_be_worked(self):
-        bad = [book.Trade("bad", None), book.Trade("good", example("fixed_leg/terms.json"), None, example("audit_agrees/flows.json"))]
-        for summary in (
-            book.run(bad, jobs=2, chunk=1),
-            book.run(bad, jobs=2),
-            book.run(bad, jobs=1),
-            book.run(bad, executor=OnlyMaps()),
-        ):
-            self.assertEqual((summary.done, summary.failed), (1, ["bad"]))
+    def test_a_negative_amount_is_received_by_the_payer(self):
+        try:
+            import pandas  # noqa: F401
+        except ImportError:
+            self.skipTest("pandas isn't installed")
+        from irs.calls import Schedule
+        schedule = Schedule(example("two_currencies/output"), example("two_currencies_net/terms.json"))
+        frame = schedule.frame(irs.Exchange)
+        frame = schedule.frame(irs.Exchange, party=frame["payer"][0])
+        self.assertEqual(list(frame["direction"][:2]), ["receives", "pays"])
+
+
+class EveryStatus(unittest.TestCase):
+    def test_an_error_each(self):
+        for status, line in ((2, "refused K1 0 document 0"), (3, "bad fixings 1 syntax"), (4, "bad words"), (5, "no file 1"),
+                             (7, ""), (8, "too long 1"), (9, "")):
+            error = irs.errors.error_of(status, line, "why")
+            self.assertIsInstance(error, irs.Error)
+            self.assertEqual(error.status, status)
+            self.assertEqual(type(pickle.loads(pickle.dumps(error))), type(error))
+        self.assertIsInstance(irs.errors.error_of(7, "", ""), MemoryError)
+        self.assertEqual(irs.errors.error_of(42, "what", "").status, 42)
+
+    def test_a_meaning_of_a_long_text(self):
+        self.assertEqual(irs.library.meaning(["emit", "D", "-"], 0, b"x" * 30_000_000), "")
+        self.assertTrue(irs.library.meaning(["check", "D"], 2, b"refused K1 0 document 0\n" + b"x" * 30_000_000))
+
+
+class Version(unittest.TestCase):
+    def test_the_package_and_the_library(self):
+        stated = (EXAMPLES.parent / "VERSION").read_text().strip()
+        self.assertEqual(irs.__version__, stated)
+        if irs.engine():
+            self.assertEqual(irs.engine(), (EXAMPLES / "version" / "output").read_text())
 
 
 if __name__ == "__main__":

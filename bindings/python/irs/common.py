@@ -1,0 +1,141 @@
+"""What the trades of a book have in common: the calendar files, and a file of fixings for all.
+
+The library reads each file that it gets with each call. So a trade gets only the calendars and the fixings that it
+can need: those whose centre or index is in the document's bytes. A name that isn't there in these bytes
+can't be in a leaf of the document either, unless an escape of JSON spells it; a document with a backslash gets
+everything. So the answer is the one that all of them give.
+"""
+from __future__ import annotations
+
+import errno
+import functools
+import logging
+import os
+import re
+import stat
+from pathlib import Path
+from typing import Dict, List, NamedTuple, Optional, Sequence, Tuple, Union
+
+from .calls import MOST_CALENDARS, Item, run_each
+from .library import Text, as_bytes
+from .plain import shown
+
+LOG = logging.getLogger("irs.book")
+
+#: One more byte than a file may have, so that a longer one is seen as that (status 8).
+MOST_BYTES = 4_194_305
+
+#: The line of a calendar file that names a centre.
+CENTRE = re.compile(rb"^center[ \t]+([!-~]+)[ \t]*\r?$", re.M)
+
+#: A document that keeps every rule, to ask the library about a file of fixings alone.
+PLAIN = b"""{"swap":{"swapStream":{"calculationPeriodDates":{"@id":"cpd",
+"effectiveDate":{"unadjustedDate":"2024-01-15","dateAdjustments":{"businessDayConvention":"NONE"}},
+"terminationDate":{"unadjustedDate":"2025-01-15","dateAdjustments":{"businessDayConvention":"NONE"}},
+"calculationPeriodDatesAdjustments":{"businessDayConvention":"NONE"},
+"calculationPeriodFrequency":{"periodMultiplier":"1","period":"Y","rollConvention":"15"}},
+"paymentDates":{"paymentFrequency":{"periodMultiplier":"1","period":"Y"},
+"payRelativeTo":"CalculationPeriodEndDate","paymentDatesAdjustments":{"businessDayConvention":"NONE"}},
+"calculationPeriodAmount":{"calculation":{"notionalSchedule":{"notionalStepSchedule":
+{"initialValue":"1000000","currency":"USD"}},"fixedRateSchedule":{"initialValue":"0.05"},
+"dayCountFraction":"30/360"}}}}}"""
+
+
+def read_file(path: Path) -> bytes:
+    """The bytes of a file, at most one more than the library takes; OSError where it is no file to be read."""
+    with open(path, "rb", opener=_opened) as file:
+        if not stat.S_ISREG(os.fstat(file.fileno()).st_mode):
+            raise OSError(errno.EINVAL, "is no regular file", str(path))
+        return file.read(MOST_BYTES)
+
+
+def _opened(path: str, flags: int) -> int:
+    # A pipe that nobody writes to isn't waited for.
+    return os.open(path, flags | os.O_NONBLOCK)
+
+
+class Common(NamedTuple):
+    """The calendar files and the fixings that all trades have, as bytes or as paths that each worker reads once.
+
+    `calendars` are pairs of a name and the file. `stamp` tells apart what the paths hold at different times.
+    """
+
+    calendars: Tuple[Tuple[str, Union[bytes, Path]], ...] = ()
+    fixings: Union[bytes, Path, None] = None
+    stamp: str = ""
+
+
+def common_of(calendars: Sequence[Union[Text, Path]] = (), fixings: Union[Text, Path, None] = None) -> Common:
+    """What trades have in common, of files in memory or of paths."""
+    named: List[Tuple[str, Union[bytes, Path]]] = []
+    for number, calendar in enumerate(calendars, 1):
+        if isinstance(calendar, Path):
+            named.append((shown(calendar.name), calendar))
+        else:
+            named.append((str(number), as_bytes(calendar)))
+    held = fixings if fixings is None or isinstance(fixings, Path) else as_bytes(fixings)
+    paths = [it for it in (*calendars, fixings) if isinstance(it, Path)]
+    return Common(tuple(named), held, " ".join(stamp_of(path) for path in paths))
+
+
+def stamp_of(path: Path) -> str:
+    """The size and the time of a file, by which a changed one is seen; `-` where it isn't there."""
+    try:
+        about = path.stat()
+    except OSError:
+        return "-"
+    return f"{about.st_size}:{about.st_mtime_ns}"
+
+
+def _held(source: Union[bytes, Path]) -> bytes:
+    return read_file(source) if isinstance(source, Path) else source
+
+
+class Loaded:
+    """The common files, read, and the parts of them that a document can need."""
+
+    def __init__(self, common: Common) -> None:
+        self.calendars: List[Tuple[str, bytes, List[bytes]]] = []
+        for name, source in common.calendars:
+            try:
+                held = _held(source)
+            except OSError as why:
+                LOG.warning("the calendar %s can't be read: %s", name, shown(str(why)))
+                continue
+            self.calendars.append((name, held, CENTRE.findall(held)))
+        self.fixings = None if common.fixings is None else _held(common.fixings)
+        self.lines = {} if self.fixings is None else _by_index(self.fixings)
+
+    def calendars_for(self, document: bytes, own: Sequence[Tuple[str, bytes]] = ()) -> List[Tuple[str, bytes]]:
+        """A trade's own calendars, and those that its document can need. Where a command takes fewer, some are joined."""
+        every = b"\\" in document
+        needed = [*own, *((name, held) for name, held, centres in self.calendars
+                          if every or any(centre in document for centre in centres))]
+        if len(needed) <= MOST_CALENDARS:
+            return needed
+        groups = [needed[place::MOST_CALENDARS] for place in range(MOST_CALENDARS)]
+        return [(" and ".join(name for name, _ in group), b"\n".join(held for _, held in group)) for group in groups]
+
+    def fixings_for(self, document: bytes) -> Optional[bytes]:
+        """The lines of the common fixings that a document can need."""
+        if not self.lines or b"\\" in document:
+            return self.fixings
+        return b"".join(lines for index, lines in self.lines.items() if index in document)
+
+
+def _by_index(fixings: bytes) -> Dict[bytes, bytes]:
+    """The lines of each index; none where the library finds a fault in the file, which then is for it to report."""
+    if next(run_each("schedule", [Item(PLAIN)], (), fixings)).status != 0:
+        return {}
+    found: Dict[bytes, List[bytes]] = {}
+    for line in fixings.split(b"\n"):
+        fields = line.rstrip(b" \t\r").split(None, 3)
+        if fields and not line.startswith(b"#"):
+            found.setdefault(fields[-1], []).append(line + b"\n")
+    return {index: b"".join(lines) for index, lines in found.items()}
+
+
+@functools.lru_cache(maxsize=2)
+def loaded(common: Common) -> Loaded:
+    """The common files, read once in a process."""
+    return Loaded(common)

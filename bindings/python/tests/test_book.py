@@ -1,0 +1,278 @@
+"""A book from Python: verdicts, calendars, and workers that die or hang."""
+import json
+import os
+import random
+import signal
+import threading
+import time
+import unittest
+from concurrent.futures import ProcessPoolExecutor, ThreadPoolExecutor
+from pathlib import Path
+from tempfile import TemporaryDirectory
+from unittest import mock
+
+from books import ENDLESS, POISON, example, monthly
+
+import irs
+from irs import book, calls, library
+
+AGREES = example("audit_agrees/flows.json")
+DEPARTS = example("audit_departs/flows.json")
+FIXED = example("fixed_leg/terms.json")
+BUSINESS = example("business_days/terms.json")
+FRANKFURT = example("business_days/de.cal")
+
+
+def poisoned(words, files=None):
+    """The library's call, which kills its process on one document and takes for ever on another."""
+    document = (files or {}).get("document")
+    if document == POISON:
+        os.kill(os.getpid(), signal.SIGKILL)
+    while document == ENDLESS:
+        time.sleep(1)
+    return library.run(words, files)
+
+
+class OnlyMaps:
+    """An executor that has `map` alone."""
+
+    def map(self, work, chunks):
+        return map(work, chunks)
+
+
+class BrokenWorker:
+    """An executor whose workers die on a chunk with the poison in it, as a cluster says it."""
+
+    def __init__(self):
+        self.threads = ThreadPoolExecutor(2)
+
+    def submit(self, work, command, common, chunk):
+        return self.threads.submit(self.work, work, command, common, chunk)
+
+    def work(self, work, command, common, chunk):
+        if any(trade.document == POISON for trade in chunk):
+            raise OSError("the worker was killed")
+        return work(command, common, chunk)
+
+
+class Books(unittest.TestCase):
+    def trades(self, count):
+        for number in range(count):
+            flows = DEPARTS if number % 10 == 3 else AGREES
+            document = BUSINESS if number % 10 == 7 else FIXED
+            yield book.Trade(f"T{number}", document, None, flows)
+
+    def poisoned(self, count, *places, what=POISON):
+        for number in range(count):
+            yield book.Trade(f"T{number}", what if number in places else FIXED, None, AGREES)
+
+    def test_one_process_and_several_agree(self):
+        one = book.run(self.trades(50), jobs=1)
+        several = book.run(self.trades(50), jobs=2, chunk=7)
+        with ProcessPoolExecutor(2) as executor:
+            given = book.run(self.trades(50), executor=executor, chunk=7)
+        for summary in (one, several, given):
+            self.assertEqual(dict(summary.verdicts), {"agrees": 40, "departs": 5, "refused": 5})
+            self.assertEqual(dict(summary.kinds["departs"]), {"payment adjustedPaymentDate": 5})
+            self.assertEqual(dict(summary.kinds["refused"]), {"K12": 5})
+            self.assertFalse(summary.is_clean())
+
+    def test_each_trade_is_told_once(self):
+        told = [outcome.name for outcome in book.outcomes(self.trades(40), jobs=2, chunk=3)]
+        self.assertEqual(sorted(told), sorted(f"T{number}" for number in range(40)))
+
+    def test_a_trade_that_can_not_be_worked(self):
+        bad = [book.Trade("bad", None), book.Trade("good", FIXED, None, AGREES)]
+        for summary in (
+            book.run(bad, jobs=2, chunk=1),
+            book.run(bad, jobs=2),
+            book.run(bad, jobs=1),
+            book.run(bad, executor=OnlyMaps()),
+        ):
+            self.assertEqual((summary.verdicts["agrees"], summary.failed), (1, ["bad"]))
+
+    def test_nothing_is_not_clean(self):
+        summary = book.run([], jobs=1)
+        self.assertEqual((summary.trades, summary.is_clean(), summary.is_clean(["unverified"])), (0, False, False))
+
+    def test_numbers_that_can_not_be(self):
+        for wrong in ({"chunk": 0}, {"chunk": -1}, {"jobs": 0}, {"ahead": 0}):
+            with self.assertRaises(ValueError):
+                list(book.outcomes(self.trades(2), **wrong))
+        with self.assertRaises(ValueError):
+            list(book.outcomes(self.trades(2), "bulk"))
+
+    def test_a_worker_that_dies_costs_its_own_trade_alone(self):
+        with mock.patch.object(calls, "run", poisoned):
+            for place, jobs, chunk in ((0, 2, 50), (0, 4, 50), (150, 2, 7), (299, 4, 1)):
+                summary = book.run(self.poisoned(300, place), jobs=jobs, chunk=chunk)
+                self.assertEqual(dict(summary.verdicts), {"agrees": 299, "failed": 1}, (place, jobs, chunk))
+                self.assertEqual(summary.failed, [f"T{place}"])
+
+    def test_several_that_kill_their_worker(self):
+        with mock.patch.object(calls, "run", poisoned):
+            summary = book.run(self.poisoned(200, 0, 1, 77, 199), jobs=3, chunk=20)
+        self.assertEqual(dict(summary.verdicts), {"agrees": 196, "failed": 4})
+
+    def test_an_executor_that_breaks(self):
+        with mock.patch.object(calls, "run", poisoned), ProcessPoolExecutor(2) as executor:
+            summary = book.run(self.poisoned(300, 20), executor=executor, chunk=10)
+        self.assertEqual((dict(summary.verdicts), summary.failed), ({"agrees": 299, "failed": 1}, ["T20"]))
+
+    def test_a_worker_that_dies_on_a_cluster(self):
+        summary = book.run(self.poisoned(300, 20), executor=BrokenWorker(), chunk=10)
+        self.assertEqual((dict(summary.verdicts), summary.failed), ({"agrees": 299, "failed": 1}, ["T20"]))
+
+    def test_a_trade_that_takes_for_ever(self):
+        with mock.patch.object(calls, "run", poisoned):
+            told = {it.name: it for it in book.outcomes(self.poisoned(60, 5, what=ENDLESS), jobs=2, chunk=10, timeout=1.0)}
+        self.assertEqual({name for name, it in told.items() if it.verdict == "failed"}, {"T5"})
+        self.assertIn("longer than 1 s", told["T5"].line)
+        self.assertEqual(len(told), 60)
+
+    def test_workers_that_are_killed_in_the_middle_change_nothing(self):
+        document = monthly()
+        flows = irs.emit(document)
+        trades = [book.Trade(f"T{number}", document, None, flows if number % 5 else AGREES) for number in range(400)]
+        wanted = sorted(outcome[:5] for outcome in book.outcomes(trades, jobs=1))
+        stop, killed = threading.Event(), []
+
+        def kill():
+            while not stop.wait(0.5):
+                children = Path(f"/proc/self/task/{os.getpid()}/children").read_text().split()
+                if children:
+                    os.kill(int(random.choice(children)), signal.SIGKILL)
+                    killed.append(1)
+
+        killer = threading.Thread(target=kill)
+        killer.start()
+        try:
+            told = sorted(outcome[:5] for outcome in book.outcomes(trades, jobs=3, chunk=20))
+        finally:
+            stop.set()
+            killer.join()
+        self.assertEqual(told, wanted)
+        self.assertTrue(killed)
+
+    def test_no_process_is_left(self):
+        told = book.outcomes(self.trades(1000), jobs=2, chunk=5)
+        next(told)
+        told.close()
+        self.assertEqual(Path(f"/proc/self/task/{os.getpid()}/children").read_text().split(), [])
+
+
+class Verdicts(unittest.TestCase):
+    def outcome(self, command="audit", **trade):
+        common = trade.pop("common", book.Common())
+        return book.outcome_of(command, book.Trade("T", **trade), common)
+
+    def test_amounts_that_were_not_compared(self):
+        document = example("compounded/terms.json")
+        flows = irs.emit(document)
+        told = self.outcome(document=document, flows=flows)
+        self.assertEqual((told.verdict, told.status), ("unverified", 0))
+        self.assertIn("1 amounts aren't compared: 2 of 2 resets have no fixing", told.sentence)
+        self.assertIn("stream 1, period 1, fixed on 2024-01-15", told.sentence)
+        summary = book.Summary([told])
+        self.assertEqual((summary.is_clean(), summary.is_clean(["unverified"])), (False, True))
+        fixings = example("compounded/fixings")
+        told = self.outcome(document=document, flows=irs.emit(document, fixings), fixings=fixings)
+        self.assertEqual((told.verdict, told.sentence), ("agrees", ""))
+
+    def test_a_verdict_each(self):
+        rows = (
+            (dict(document=FIXED, flows=AGREES), "agrees", 0),
+            (dict(document=FIXED, flows=DEPARTS), "departs", 1),
+            (dict(document=BUSINESS, flows=AGREES), "refused", 2),
+            (dict(document=FIXED, flows=b"{}"), "bad file", 3),
+            (dict(document=FIXED), "bad file", 5),
+            (dict(document=b" " * 4_194_305, flows=AGREES), "bad file", 8),
+            (dict(document=FIXED, flows=AGREES, fixings=b"what"), "bad file", 3),
+            (dict(document=Path("there is no such file"), flows=AGREES), "failed", None),
+        )
+        for trade, verdict, status in rows:
+            told = self.outcome(**trade)
+            self.assertEqual((told.verdict, told.status), (verdict, status), trade.keys())
+            self.assertIn(verdict, str(book.Summary([told])))
+        for command in ("check", "schedule", "emit", "net"):
+            document = example("net/terms.json")
+            told = self.outcome(command, document=document, fixings=example("net/fixings"))
+            self.assertEqual(told.verdict, "done", command)
+
+    def test_a_document_that_nests_deep(self):
+        told = self.outcome(document=b"[" * 100_000, flows=AGREES)
+        self.assertEqual((told.verdict, told.line), ("refused", "refused K1 0 document 0"))
+
+
+class Centres(unittest.TestCase):
+    """The calendars that a trade gets: what the library refuses by K12 with them, it refuses with all."""
+
+    def calendars(self, count=40):
+        other = FRANKFURT.replace(b"center DEFR", b"center X%03d")
+        return [other.replace(b"%03d", b"%03d" % number) for number in range(count)] + [FRANKFURT]
+
+    def verdict(self, document, calendars):
+        common = book.common_of(calendars)
+        return book.outcome_of("check", book.Trade("T", document), common).line
+
+    def test_however_a_centre_is_written(self):
+        self.assertIn(b'"DEFR"', BUSINESS)
+        self.assertEqual(self.verdict(BUSINESS, []), "refused K12 1 calculationPeriodDates/terminationDate/dateAdjustments 1")
+        spellings = [b'"DEFR"', b'" DEFR"', b'"DEFR\\n"', b'"\\u0044EFR"', b'{"#text":"DEFR"}',
+                     b'{"@businessCenterScheme":"x","#text":" DEFR "}']
+        for spelling in spellings:
+            document = BUSINESS.replace(b'"DEFR"', spelling)
+            self.assertEqual(self.verdict(document, self.calendars()), "ok", spelling)
+
+    def test_more_than_sixteen_are_named(self):
+        passed_over = {"businessCenter": [f"X{number:03}" for number in range(40)]}
+        document = json.loads(BUSINESS)
+        trade = document["dataDocument"]["trade"]
+        root = {"dataDocument": {"trade": trade, "passedOver": passed_over}}
+        self.assertEqual(self.verdict(json.dumps(root).encode(), self.calendars()), "ok")
+
+    def test_a_calendar_that_is_no_calendar(self):
+        broken = FRANKFURT.replace(b"weekend", b"weekends")
+        told = book.outcome_of("check", book.Trade("T", BUSINESS), book.common_of([broken]))
+        self.assertEqual((told.verdict, told.line), ("bad file", "bad calendar 1 3 syntax"))
+        fine = book.outcome_of("check", book.Trade("T", FIXED), book.common_of([broken]))
+        self.assertEqual(fine.verdict, "done")
+
+    def test_its_name_is_said(self):
+        with TemporaryDirectory() as room:
+            path = Path(room, "Frankfurt.cal")
+            path.write_bytes(FRANKFURT.replace(b"weekend", b"weekends"))
+            told = book.outcome_of("check", book.Trade("T", BUSINESS), book.common_of([path]))
+        self.assertIn("Frankfurt.cal", told.sentence)
+
+
+class CommonFixings(unittest.TestCase):
+    def test_they_are_those_of_a_trade_alone(self):
+        document, own = example("compounded/terms.json"), example("compounded/fixings")
+        others = b"".join(b"2024-01-%02d 0.01 3M OTHER-%d\n" % (day, number) for number in range(50) for day in range(1, 29))
+        for fixings in (own, others + own, own + b"\r\n" + others, b"# a remark\n" + own):
+            told = book.outcome_of("audit", book.Trade("T", document, None, irs.emit(document, own)),
+                                   book.common_of((), fixings))
+            self.assertEqual(told.verdict, "agrees")
+        told = book.outcome_of("audit", book.Trade("T", document, own, irs.emit(document, own)), book.common_of((), others))
+        self.assertEqual(told.verdict, "agrees")
+
+    def test_a_fault_in_them_is_told(self):
+        document = example("compounded/terms.json")
+        told = book.outcome_of("schedule", book.Trade("T", document), book.common_of((), b"2024-01-15 x 3M OTHER\n"))
+        self.assertEqual((told.verdict, told.line), ("bad file", "bad fixings 1 syntax"))
+        twice = b"2024-01-15 0.01 3M OTHER\n" * 2
+        told = book.outcome_of("schedule", book.Trade("T", document), book.common_of((), twice))
+        self.assertEqual((told.verdict, told.line), ("bad file", "bad fixings 2 repeat"))
+
+    def test_a_name_that_an_escape_spells(self):
+        own = example("compounded/fixings")
+        name = own.split()[-1]
+        self.assertIn(name, example("compounded/terms.json"))
+        escaped = example("compounded/terms.json").replace(name, b"\\u%04x" % name[0] + name[1:])
+        told = book.outcome_of("audit", book.Trade("T", escaped, None, irs.emit(escaped, own)), book.common_of((), own))
+        self.assertEqual(told.verdict, "agrees")
+
+
+if __name__ == "__main__":
+    unittest.main()
