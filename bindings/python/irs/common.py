@@ -107,7 +107,7 @@ class Loaded:
         self.lines = {} if self.fixings is None else _by_index(self.fixings)
 
     def calendars_for(self, document: bytes, own: Sequence[Tuple[str, bytes]] = ()) -> List[Tuple[str, bytes]]:
-        """A trade's own calendars, and those that its document can need. Where a command takes fewer, some are joined."""
+        """A trade's own calendars, and those that its document can need; some are joined where they are too many."""
         every = b"\\" in document
         needed = [*own, *((name, held) for name, held, centres in self.calendars
                           if every or any(centre in document for centre in centres))]

@@ -27,5 +27,6 @@ def monthly(years: int = 20) -> bytes:
     document = example("fixed_leg/terms.json").replace(b'"2025-01-15"', b'"%d-01-15"' % (2024 + years))
     return document.replace(b'"periodMultiplier":"6"', b'"periodMultiplier":"1"')
 
+
 # What dies in a test dies on purpose.
 logging.getLogger("irs.book").setLevel(logging.ERROR)

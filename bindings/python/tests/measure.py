@@ -1,92 +1,218 @@
-"""How long a book takes: by one process, by several, and by a dask cluster on this machine.
+"""How long a night takes: in one process, in all, and on a dask cluster of this machine.
 
-    python3 measure.py TRADES [KILL]
+    python3 measure.py [--trades 100000] [--kinds 1000] [--jobs 1,2,4] [--dask 2] [--kill SECONDS] [--lines 105000]
 
-The trades are documents of one fixed stream each, over twenty years of months, which differ in roll, dates,
-notional, rate and day count; each is audited against the cash flows that the library emits for it, every
-tenth against those of its neighbour. With KILL a worker is killed by its number in the middle, twice.
+The book is a folder of trades of 240 monthly periods, two streams: a fixed one, and a floating one with calendars
+and fixings. There are `--kinds` different trades, and the folder has links to them. All have one file of fixings
+of `--lines` lines in common. Every tenth trade is audited against the flows of another one, and departs.
+Each figure is of one run; what else the machine did meanwhile is in its load, which is printed.
 """
+from __future__ import annotations
+
+import argparse
 import os
+import random
+import resource
 import signal
 import sys
+import tempfile
 import threading
 import time
+from datetime import date, timedelta
+from pathlib import Path
+from typing import Any, Callable, List, Optional
 
-sys.path.insert(0, os.path.join(os.path.dirname(os.path.abspath(__file__)), ".."))
+sys.path.insert(0, str(Path(__file__).resolve().parent.parent))
+
 import irs
 from irs import book
+from irs.command import common_in, trades_in
 
-COUNTS = ["1/1", "ACT/ACT.ISDA", "ACT/365.FIXED", "ACT/360", "30/360", "30E/360", "30E/360.ISDA"]
-DOCUMENT = """{"swap":{"swapStream":{"calculationPeriodDates":{"@id":"cpd",
-"effectiveDate":{"unadjustedDate":"%s","dateAdjustments":{"businessDayConvention":"NONE"}},
-"terminationDate":{"unadjustedDate":"%s","dateAdjustments":{"businessDayConvention":"NONE"}},
-"calculationPeriodDatesAdjustments":{"businessDayConvention":"NONE"},
-"calculationPeriodFrequency":{"periodMultiplier":"1","period":"M","rollConvention":"%d"}},
-"paymentDates":{"paymentFrequency":{"periodMultiplier":"1","period":"M"},
-"payRelativeTo":"CalculationPeriodEndDate","paymentDatesAdjustments":{"businessDayConvention":"NONE"}},
+#: The days that the calendars and the fixings cover.
+FIRST, LAST = date(2000, 1, 1), date(2049, 12, 31)
+
+CENTRES = ("AAAA", "BBBB", "CCCC", "DDDD", "EEEE", "FFFF")
+
+ADJUSTED = '{"businessDayConvention":"%s","businessCenters":{"businessCenter":["%s","%s"]}}'
+
+STREAM = """{"calculationPeriodDates":{"@id":"cpd%(number)d",
+"effectiveDate":{"unadjustedDate":"%(start)s","dateAdjustments":{"businessDayConvention":"NONE"}},
+"terminationDate":{"unadjustedDate":"%(end)s","dateAdjustments":%(adjusted)s},
+"calculationPeriodDatesAdjustments":%(adjusted)s,
+"calculationPeriodFrequency":{"periodMultiplier":"1","period":"M","rollConvention":"%(roll)d"}},
+"paymentDates":{"calculationPeriodDatesReference":{"@href":"cpd%(number)d"},
+"paymentFrequency":{"periodMultiplier":"1","period":"M"},
+"payRelativeTo":"CalculationPeriodEndDate","paymentDatesAdjustments":%(adjusted)s},%(resets)s
 "calculationPeriodAmount":{"calculation":{"notionalSchedule":{"notionalStepSchedule":
-{"initialValue":"%d","currency":"USD"}},"fixedRateSchedule":{"initialValue":"0.%04d"},"dayCountFraction":"%s"}}}}}"""
+{"initialValue":"%(notional)d","currency":"USD"}},%(rate)s,"dayCountFraction":"ACT/360"}}}"""
+
+RESETS = """"resetDates":{"@id":"resets","calculationPeriodDatesReference":{"@href":"cpd%(number)d"},
+"resetRelativeTo":"CalculationPeriodStartDate",
+"fixingDates":{"periodMultiplier":"-2","period":"D","dayType":"Business","businessDayConvention":"PRECEDING",
+"businessCenters":{"businessCenter":"%(centre)s"},"dateRelativeTo":{"@href":"resets"}},
+"resetFrequency":{"periodMultiplier":"1","period":"M"},"resetDatesAdjustments":%(adjusted)s},"""
+
+FLOATING = """"floatingRateCalculation":{"floatingRateIndex":"USD-INDEX-%(index)d",
+"indexTenor":{"periodMultiplier":"1","period":"M"},"spreadSchedule":{"initialValue":"0.001"}}"""
 
 
-def document(k):
-    """Document k."""
-    year, month, day = 1950 + k % 100, 1 + k % 12, 1 + k % 28
-    return DOCUMENT % (f"{year}-{month:02}-{day:02}", f"{year + 20}-{month:02}-{day:02}", day, 1_000_000 + k, k % 10_000, COUNTS[k % 7])
+def calendar(centre: str) -> bytes:
+    """A calendar with some holidays a year."""
+    days = [
+        date(year, month, 1 + len(centre) % 5) for year in range(FIRST.year, LAST.year + 1) for month in (1, 5, 9, 12)
+    ]
+    lines = [f"center {centre}", f"cover {FIRST} {LAST}", "weekend SAT SUN", *map(str, days)]
+    return ("\n".join(lines) + "\n").encode()
 
 
-def trades(count):
-    """The trades of the book; documents and flows repeat after 1,000."""
-    documents = [document(k) for k in range(1_000)]
-    flows = [irs.emit(text) for text in documents]
-    for number in range(count):
-        k = number % 1_000
-        yield book.Trade(f"T{number}", documents[k], None, flows[k - 1 if k % 10 == 3 else k])
+def fixings(lines: int) -> bytes:
+    """Daily fixings of several indices."""
+    days = (LAST - FIRST).days + 1
+    rows = []
+    for number in range(lines):
+        day, index = FIRST + timedelta(number % days), number // days
+        rows.append(f"{day} {0.01 + number % 400 / 10000:.4f} 1M USD-INDEX-{index}\n")
+    return "".join(rows).encode()
 
 
-def timed(name, count, **how):
-    """Runs the book in one way, and says what it took."""
-    made = list(trades(count))
-    begun = time.monotonic()
-    summary = book.run(made, "audit", **how)
-    seconds = time.monotonic() - begun
-    print(f"{name}: {summary.trades} trades, {summary.done} agree, {sum(summary.depart.values())} depart, "
-          f"{len(summary.failed)} failed; {seconds:.1f} s, {count / seconds:.0f} a second", flush=True)
-    return summary
+def document(k: int, indices: int) -> bytes:
+    """Trade k."""
+    values = {
+        "start": f"{2001 + k % 20}-{1 + k % 12:02}-{1 + k % 28:02}",
+        "end": f"{2021 + k % 20}-{1 + k % 12:02}-{1 + k % 28:02}",
+        "roll": 1 + k % 28,
+        "notional": 1_000_000 + 1000 * k,
+        "centre": CENTRES[k % 6],
+        "adjusted": ADJUSTED % ("MODFOLLOWING", CENTRES[k % 6], CENTRES[(k + 1) % 6]),
+    }
+    fixed = STREAM % {
+        **values,
+        "number": 1,
+        "resets": "",
+        "rate": '"fixedRateSchedule":{"initialValue":"0.0%03d"}' % (k % 1000),
+    }
+    resets = RESETS % {**values, "number": 2}
+    floating = STREAM % {**values, "number": 2, "resets": resets, "rate": FLOATING % {"index": k % indices}}
+    return ('{"swap":{"swapStream":[%s,%s]}}' % (fixed, floating)).encode()
 
 
-def kill_twice(pids, pause):
-    """Kills a worker by its number, twice, each behind a pause."""
-    for _ in range(2):
-        time.sleep(pause)
+def linked(source: Path, to: Path) -> None:
+    """Links a file where the file system lets it have one more name; else copies it."""
+    try:
+        os.link(source, to)
+    except OSError:
+        to.write_bytes(source.read_bytes())
+
+
+def make_book(folder: Path, trades: int, kinds: int, lines: int) -> None:
+    """Writes the folder."""
+    (folder / "calendars").mkdir(parents=True)
+    for centre in CENTRES:
+        (folder / "calendars" / f"{centre}.cal").write_bytes(calendar(centre))
+    rates = fixings(lines)
+    (folder / "fixings").write_bytes(rates)
+    (folder / "kinds").mkdir()
+    calendars = [calendar(centre) for centre in CENTRES]
+    indices = max(1, lines // ((LAST - FIRST).days + 1))
+    for k in range(kinds):
+        text = document(k, indices)
+        (folder / "kinds" / f"{k}.json").write_bytes(text)
+        (folder / "kinds" / f"{k}.flows").write_bytes(
+            irs.emit(text, rates if k < 3 else own_lines(rates, k % indices), calendars)
+        )
+    for number in range(trades):
+        k = number % kinds
+        linked(folder / "kinds" / f"{k}.json", folder / f"T{number:07}.json")
+        linked(
+            folder / "kinds" / f"{(k + 1) % kinds if number % 10 == 3 else k}.flows",
+            folder / f"T{number:07}.flows.json",
+        )
+
+
+def own_lines(rates: bytes, index: int) -> bytes:
+    """The lines of one index."""
+    name = b" USD-INDEX-%d\n" % index
+    return b"".join(line for line in rates.splitlines(keepends=True) if line.endswith(name))
+
+
+def cpu() -> float:
+    """Seconds of processor that this process and its ended children took."""
+    own, ended = resource.getrusage(resource.RUSAGE_SELF), resource.getrusage(resource.RUSAGE_CHILDREN)
+    return own.ru_utime + own.ru_stime + ended.ru_utime + ended.ru_stime
+
+
+def timed(what: str, folder: Path, **how: Any) -> None:
+    """Runs the book once, and prints how it went."""
+    before, began = cpu(), time.monotonic()
+    trades, common = trades_in(folder), common_in(folder)
+    summary = book.run(trades, "audit", common=common, **how)
+    seconds = time.monotonic() - began
+    ended = ", ".join(f"{count} {verdict}" for verdict, count in sorted(summary.verdicts.items()))
+    each = 1000 * (cpu() - before) / summary.trades
+    print(f"{what}: {seconds:.1f} s, {summary.trades / seconds:.0f} a second, {each:.2f} ms of processor a trade")
+    print(f"    {ended}; load {os.getloadavg()[0]:.1f}", flush=True)
+
+
+def children() -> List[int]:
+    """The numbers of this process's children."""
+    return [int(pid) for pid in Path(f"/proc/self/task/{os.getpid()}/children").read_text().split()]
+
+
+def killer(pids: Callable[[], List[int]], pause: float, stop: threading.Event) -> None:
+    """Kills a worker, by its number, each `pause` seconds."""
+    while not stop.wait(pause):
         found = pids()
         if found:
-            os.kill(found[0], signal.SIGKILL)
-            print(f"a worker was killed", flush=True)
+            os.kill(random.choice(found), signal.SIGKILL)
 
 
-def children():
-    """The numbers of this process's children."""
-    path = f"/proc/{os.getpid()}/task/{os.getpid()}/children"
-    return [int(pid) for pid in open(path).read().split()]
+def with_killer(pause: Optional[float], pids: Callable[[], List[int]], what: str, folder: Path, **how: Any) -> None:
+    """A timed run in which a worker is killed each `pause` seconds, or in none where there is no pause."""
+    stop = threading.Event()
+    thread = threading.Thread(target=killer, args=(pids, pause, stop), daemon=True)
+    if pause:
+        thread.start()
+        what += f", a worker killed each {pause:g} s"
+    try:
+        timed(what, folder, **how)
+    finally:
+        stop.set()
 
 
-def main(count, kill):
-    timed("one process", count, jobs=1)
-    if kill:
-        threading.Thread(target=kill_twice, args=(children, 3.0), daemon=True).start()
-    timed("four processes", count, jobs=4)
+def on_dask(workers: int, folder: Path, pause: Optional[float]) -> None:
+    """The run on a dask cluster of this machine."""
     try:
         from distributed import Client
     except ImportError:
-        print("dask isn't installed")
+        print("dask's distributed isn't installed")
         return
-    with Client(n_workers=3, threads_per_worker=1, dashboard_address=None) as client:
-        client.run(os.getpid)
-        if kill:
-            workers = lambda: list(client.run(os.getpid).values())
-            threading.Thread(target=kill_twice, args=(workers, 3.0), daemon=True).start()
-        timed("three workers of a cluster", count, executor=client)
+    with Client(n_workers=workers, threads_per_worker=1, dashboard_address=None) as client:
+        with_killer(
+            pause, lambda: list(client.run(os.getpid).values()), f"{workers} workers of dask", folder, executor=client
+        )
+
+
+def main() -> None:
+    """Makes the book, and runs it each way."""
+    parser = argparse.ArgumentParser(description=__doc__, formatter_class=argparse.RawDescriptionHelpFormatter)
+    parser.add_argument("--trades", type=int, default=100_000)
+    parser.add_argument("--kinds", type=int, default=1_000)
+    parser.add_argument("--lines", type=int, default=105_000)
+    parser.add_argument("--jobs", default=f"1,{len(os.sched_getaffinity(0))}")
+    parser.add_argument("--dask", type=int, default=0)
+    parser.add_argument("--kill", type=float)
+    parser.add_argument("--folder", type=Path, help="where the book is, or is made")
+    asked = parser.parse_args()
+    print(irs.engine().replace("\n", ", ") + os.environ.get("IRS_LIBRARY", "the package's library"), flush=True)
+    with tempfile.TemporaryDirectory() as room:
+        folder = asked.folder or Path(room, "book")
+        if not folder.exists():
+            make_book(folder, asked.trades, asked.kinds, asked.lines)
+        for jobs in map(int, asked.jobs.split(",")):
+            with_killer(asked.kill, children, "this process" if jobs == 1 else f"{jobs} processes", folder, jobs=jobs)
+        if asked.dask:
+            on_dask(asked.dask, folder, asked.kill)
 
 
 if __name__ == "__main__":
-    main(int(sys.argv[1]), len(sys.argv) > 2)
+    main()

@@ -125,7 +125,9 @@ class Books(unittest.TestCase):
 
     def test_a_trade_that_takes_for_ever(self):
         with mock.patch.object(calls, "run", poisoned):
-            told = {it.name: it for it in book.outcomes(self.poisoned(60, 5, what=ENDLESS), jobs=2, chunk=10, timeout=1.0)}
+            told = {
+                it.name: it for it in book.outcomes(self.poisoned(60, 5, what=ENDLESS), jobs=2, chunk=10, timeout=1.0)
+            }
         self.assertEqual({name for name, it in told.items() if it.verdict == "failed"}, {"T5"})
         self.assertIn("longer than 1 s", told["T5"].line)
         self.assertEqual(len(told), 60)
@@ -217,9 +219,17 @@ class Centres(unittest.TestCase):
 
     def test_however_a_centre_is_written(self):
         self.assertIn(b'"DEFR"', BUSINESS)
-        self.assertEqual(self.verdict(BUSINESS, []), "refused K12 1 calculationPeriodDates/terminationDate/dateAdjustments 1")
-        spellings = [b'"DEFR"', b'" DEFR"', b'"DEFR\\n"', b'"\\u0044EFR"', b'{"#text":"DEFR"}',
-                     b'{"@businessCenterScheme":"x","#text":" DEFR "}']
+        self.assertEqual(
+            self.verdict(BUSINESS, []), "refused K12 1 calculationPeriodDates/terminationDate/dateAdjustments 1"
+        )
+        spellings = [
+            b'"DEFR"',
+            b'" DEFR"',
+            b'"DEFR\\n"',
+            b'"\\u0044EFR"',
+            b'{"#text":"DEFR"}',
+            b'{"@businessCenterScheme":"x","#text":" DEFR "}',
+        ]
         for spelling in spellings:
             document = BUSINESS.replace(b'"DEFR"', spelling)
             self.assertEqual(self.verdict(document, self.calendars()), "ok", spelling)
@@ -249,12 +259,17 @@ class Centres(unittest.TestCase):
 class CommonFixings(unittest.TestCase):
     def test_they_are_those_of_a_trade_alone(self):
         document, own = example("compounded/terms.json"), example("compounded/fixings")
-        others = b"".join(b"2024-01-%02d 0.01 3M OTHER-%d\n" % (day, number) for number in range(50) for day in range(1, 29))
+        others = b"".join(
+            b"2024-01-%02d 0.01 3M OTHER-%d\n" % (day, number) for number in range(50) for day in range(1, 29)
+        )
         for fixings in (own, others + own, own + b"\r\n" + others, b"# a remark\n" + own):
-            told = book.outcome_of("audit", book.Trade("T", document, None, irs.emit(document, own)),
-                                   book.common_of((), fixings))
+            told = book.outcome_of(
+                "audit", book.Trade("T", document, None, irs.emit(document, own)), book.common_of((), fixings)
+            )
             self.assertEqual(told.verdict, "agrees")
-        told = book.outcome_of("audit", book.Trade("T", document, own, irs.emit(document, own)), book.common_of((), others))
+        told = book.outcome_of(
+            "audit", book.Trade("T", document, own, irs.emit(document, own)), book.common_of((), others)
+        )
         self.assertEqual(told.verdict, "agrees")
 
     def test_a_fault_in_them_is_told(self):

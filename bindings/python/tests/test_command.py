@@ -41,8 +41,15 @@ class Command(unittest.TestCase):
 
     def start(self, *words, **more):
         environment = {**os.environ, "PYTHONPATH": str(PACKAGE), **more}
-        return subprocess.Popen([sys.executable, "-m", "irs.command", *words], cwd=self.room, env=environment,
-                                stdout=subprocess.PIPE, stderr=subprocess.PIPE, text=True, errors="surrogateescape")
+        return subprocess.Popen(
+            [sys.executable, "-m", "irs.command", *words],
+            cwd=self.room,
+            env=environment,
+            stdout=subprocess.PIPE,
+            stderr=subprocess.PIPE,
+            text=True,
+            errors="surrogateescape",
+        )
 
     def run_book(self, *words, **more):
         process = self.start(*(words or ("book",)), **more)
@@ -64,8 +71,18 @@ class Statuses(Command):
         status, out, said = self.run_book()
         self.assertEqual((status, said), (0, ""))
         self.assertEqual(self.verdicts(), {f"T{number}": "agrees" for number in range(5)})
-        self.assertEqual(out.splitlines(), ["5 trades", "agrees              5", "unverified          0", "departs             0",
-                                            "refused             0", "bad file            0", "failed              0"])
+        self.assertEqual(
+            out.splitlines(),
+            [
+                "5 trades",
+                "agrees              5",
+                "unverified          0",
+                "departs             0",
+                "refused             0",
+                "bad file            0",
+                "failed              0",
+            ],
+        )
 
     def test_one_departs(self):
         self.trade("A")
@@ -106,7 +123,7 @@ class Statuses(Command):
         document = example("compounded/terms.json")
         self.trade("A", document, irs.emit(document))
         self.assertEqual(self.run_book()[0], 1)
-        row, = self.rows()
+        (row,) = self.rows()
         self.assertEqual((row["verdict"], row["status"]), ("unverified", "0"))
         self.assertIn("1 amounts aren't compared: 2 of 2 resets have no fixing", row["sentence"])
         self.assertEqual(self.run_book("book", "--accept", "unverified")[0], 0)
@@ -116,7 +133,9 @@ class Statuses(Command):
         self.assertEqual(self.run_book("book", "--command", "schedule")[0], 0)
         self.assertEqual([(row["verdict"], row["line"]) for row in self.rows()], [("done", "7 lines")])
         self.assertEqual(self.run_book("book")[0], 1)
-        self.assertEqual([(row["verdict"], row["sentence"]) for row in self.rows()], [("bad file", "the trade has no cash flows")])
+        self.assertEqual(
+            [(row["verdict"], row["sentence"]) for row in self.rows()], [("bad file", "the trade has no cash flows")]
+        )
 
     def test_common_fixings_and_calendars(self):
         document = example("compounded/terms.json")
@@ -124,7 +143,9 @@ class Statuses(Command):
         self.trade("A", document, irs.emit(document, example("compounded/fixings")))
         calendar = example("business_days/de.cal")
         self.put("calendars/de.cal", calendar)
-        self.trade("B", example("business_days/terms.json"), irs.emit(example("business_days/terms.json"), None, [calendar]))
+        self.trade(
+            "B", example("business_days/terms.json"), irs.emit(example("business_days/terms.json"), None, [calendar])
+        )
         self.assertEqual(self.run_book()[0], 0)
         shutil.rmtree(self.folder / "calendars")
         self.run_book()
@@ -339,15 +360,27 @@ class Manifests(Command):
         self.put("terms/one.json", FIXED)
         self.put("flows/a.json", AGREES)
         self.put("flows/b.json", DEPARTS)
-        self.put("m.csv", b"name,document,flows,fixings\nT 1,terms/one.json,flows/a.json,\n\"=T,2\",terms/one.json,flows/b.json\n"
-                          b"T3,terms/gone.json,,\n")
+        self.put(
+            "m.csv",
+            b'name,document,flows,fixings\nT 1,terms/one.json,flows/a.json,\n"=T,2",terms/one.json,flows/b.json\n'
+            b"T3,terms/gone.json,,\n",
+        )
         status, _, _ = self.run_book("book", "--names-from", "book/m.csv")
         self.assertEqual(status, 1)
         self.assertEqual(self.verdicts(), {"T 1": "agrees", "'=T,2": "departs", "T3": "failed"})
 
     def test_manifests_that_are_none(self):
-        for content in (b"", b"name,flows\nA,b\n", b"name,document,what\nA,b,c\n", b"name,document\nA,\n", b"name,document\nA,b,c\n",
-                        b"name,document\nA,b\nA,c\n", b"name,document\n", b"\xff\xfe\x00", b'name,document\n"A'):
+        for content in (
+            b"",
+            b"name,flows\nA,b\n",
+            b"name,document,what\nA,b,c\n",
+            b"name,document\nA,\n",
+            b"name,document\nA,b,c\n",
+            b"name,document\nA,b\nA,c\n",
+            b"name,document\n",
+            b"\xff\xfe\x00",
+            b'name,document\n"A',
+        ):
             self.put("m.csv", content)
             status, out, said = self.run_book("book", "--names-from", "book/m.csv")
             self.assertEqual((status, out), (2, ""), content)

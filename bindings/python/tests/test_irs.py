@@ -24,7 +24,9 @@ class Rows(unittest.TestCase):
     def test_a_fixed_stream(self):
         schedule = irs.schedule(example("fixed_leg/terms.json"))
         self.assertEqual(schedule.text, example("fixed_leg/output"))
-        self.assertEqual([payment.amount for payment in schedule.payments()], [Decimal("25277.78"), Decimal("25555.56")])
+        self.assertEqual(
+            [payment.amount for payment in schedule.payments()], [Decimal("25277.78"), Decimal("25555.56")]
+        )
         first = schedule.periods(1)[0]
         self.assertEqual(first.fraction, Fraction(182, 360))
         self.assertEqual(first.start, datetime.date(2024, 1, 15))
@@ -44,18 +46,27 @@ class Rows(unittest.TestCase):
 
     def test_an_audit(self):
         self.assertEqual(irs.audit(example("fixed_leg/terms.json"), example("audit_agrees/flows.json")), irs.Yes(4, 0))
-        self.assertEqual(irs.audit(example("fixed_leg/terms.json"), example("audit_departs/flows.json")), irs.No(1, "payment", 2, "adjustedPaymentDate"))
+        self.assertEqual(
+            irs.audit(example("fixed_leg/terms.json"), example("audit_departs/flows.json")),
+            irs.No(1, "payment", 2, "adjustedPaymentDate"),
+        )
 
     def test_what_is_emitted_is_audited(self):
         emitted = irs.emit(example("compounded/terms.json"), example("compounded/fixings"))
         self.assertEqual(emitted, example("emitted/output"))
-        self.assertEqual(irs.audit(example("compounded/terms.json"), emitted, fixings=example("compounded/fixings")), irs.Yes(5, 0))
+        self.assertEqual(
+            irs.audit(example("compounded/terms.json"), emitted, fixings=example("compounded/fixings")), irs.Yes(5, 0)
+        )
 
     def test_what_has_accrued(self):
         day = datetime.date(2024, 4, 15)
-        self.assertEqual(irs.accrue(day, example("fixed_leg/terms.json")), [irs.Accrued(1, 1, 91, Fraction(91, 360), Decimal("12638.89"))])
-        self.assertEqual(irs.accrue("2025-01-15", example("fixed_leg/terms.json")), [irs.Accrued(1, None, None, None, None)])
-
+        self.assertEqual(
+            irs.accrue(day, example("fixed_leg/terms.json")),
+            [irs.Accrued(1, 1, 91, Fraction(91, 360), Decimal("12638.89"))],
+        )
+        self.assertEqual(
+            irs.accrue("2025-01-15", example("fixed_leg/terms.json")), [irs.Accrued(1, None, None, None, None)]
+        )
 
     def test_the_further_commands(self):
         day = datetime.date(2024, 7, 15)
@@ -63,12 +74,16 @@ class Rows(unittest.TestCase):
         self.assertEqual(net[0], irs.Net(day, "USD", Decimal("-7484.72"), 0))
         daily = example("overnight/daily")
         rates = irs.overnight(1, example("overnight/terms.json"), daily, [example("overnight/test.cal")])
-        self.assertEqual(rates, [irs.Derived(datetime.date(2024, 3, 28), Decimal("0.042006000"), "3M", "USD-TEST-INDEX")])
+        self.assertEqual(
+            rates, [irs.Derived(datetime.date(2024, 3, 28), Decimal("0.042006000"), "3M", "USD-TEST-INDEX")]
+        )
         mean = irs.average(1, "plain", "1W", example("average_plain/terms.json"), example("average_plain/fixings"))
         self.assertEqual(mean[0].rate, Decimal("0.063333333"))
         lacking = irs.average(1, "plain", "1W", example("average_plain/terms.json"))
         self.assertEqual(lacking, [irs.Missing(1, datetime.date(2024, 1, 15))])
-        stub = irs.interpolate(1, "initial", "1M", "2M", example("interpolate/terms.json"), example("interpolate/fixings"))
+        stub = irs.interpolate(
+            1, "initial", "1M", "2M", example("interpolate/terms.json"), example("interpolate/fixings")
+        )
         self.assertEqual((stub.rate, stub.tenor), (Decimal("0.051400000"), None))
 
 
@@ -84,13 +99,20 @@ class Errors(unittest.TestCase):
 
     def test_a_bad_calendar(self):
         with self.assertRaises(irs.BadFile) as caught:
-            irs.check(example("business_days/terms.json"), [example("business_days/de.cal"), example("business_days/de.cal")])
-        self.assertEqual((caught.exception.kind, caught.exception.file, caught.exception.row, caught.exception.fault), ("calendar", 2, 1, "repeat"))
+            irs.check(
+                example("business_days/terms.json"), [example("business_days/de.cal"), example("business_days/de.cal")]
+            )
+        self.assertEqual(
+            (caught.exception.kind, caught.exception.file, caught.exception.row, caught.exception.fault),
+            ("calendar", 2, 1, "repeat"),
+        )
 
     def test_bad_flows(self):
         with self.assertRaises(irs.BadFile) as caught:
             irs.audit(example("fixed_leg/terms.json"), "{}")
-        self.assertEqual((caught.exception.kind, caught.exception.fault, caught.exception.path), ("flows", "missing", "swap"))
+        self.assertEqual(
+            (caught.exception.kind, caught.exception.fault, caught.exception.path), ("flows", "missing", "swap")
+        )
 
     def test_a_day_that_is_none(self):
         with self.assertRaises(irs.BadWords):
@@ -105,7 +127,9 @@ class Arguments(unittest.TestCase):
     """What a call takes: bytes, texts, paths and mappings, and TypeError for the rest."""
 
     def test_a_path_is_read(self):
-        schedule = irs.schedule(EXAMPLES / "business_days" / "terms.json", calendars=[EXAMPLES / "business_days" / "de.cal"])
+        schedule = irs.schedule(
+            EXAMPLES / "business_days" / "terms.json", calendars=[EXAMPLES / "business_days" / "de.cal"]
+        )
         self.assertEqual(schedule.text, example("business_days/output"))
 
     def test_a_name_in_the_place_of_a_file_is_no_document(self):
@@ -192,7 +216,9 @@ class Schedules(unittest.TestCase):
             import pandas  # noqa: F401
         except ImportError:
             self.skipTest("pandas isn't installed")
-        document = example("fixed_leg/terms.json").replace(b"2024-01-15", b"2284-01-15").replace(b"2025-01-15", b"2285-01-15")
+        document = (
+            example("fixed_leg/terms.json").replace(b"2024-01-15", b"2284-01-15").replace(b"2025-01-15", b"2285-01-15")
+        )
         frame = irs.schedule(document).frame()
         self.assertEqual(frame["adjusted"][1], datetime.date(2285, 1, 15))
 
@@ -202,6 +228,7 @@ class Schedules(unittest.TestCase):
         except ImportError:
             self.skipTest("pandas isn't installed")
         from irs.calls import Schedule
+
         schedule = Schedule(example("two_currencies/output"), example("two_currencies_net/terms.json"))
         frame = schedule.frame(irs.Exchange)
         frame = schedule.frame(irs.Exchange, party=frame["payer"][0])
@@ -210,8 +237,15 @@ class Schedules(unittest.TestCase):
 
 class EveryStatus(unittest.TestCase):
     def test_an_error_each(self):
-        for status, line in ((2, "refused K1 0 document 0"), (3, "bad fixings 1 syntax"), (4, "bad words"), (5, "no file 1"),
-                             (7, ""), (8, "too long 1"), (9, "")):
+        for status, line in (
+            (2, "refused K1 0 document 0"),
+            (3, "bad fixings 1 syntax"),
+            (4, "bad words"),
+            (5, "no file 1"),
+            (7, ""),
+            (8, "too long 1"),
+            (9, ""),
+        ):
             error = irs.errors.error_of(status, line, "why")
             self.assertIsInstance(error, irs.Error)
             self.assertEqual(error.status, status)

@@ -14,7 +14,9 @@ from irs import rows
 
 days = st.dates()
 numbers = st.integers(min_value=1, max_value=8000)
-amounts = st.none() | st.decimals(allow_nan=False, allow_infinity=False, places=2, min_value=-10**14, max_value=10**14)
+amounts = st.none() | st.decimals(
+    allow_nan=False, allow_infinity=False, places=2, min_value=-(10**14), max_value=10**14
+)
 
 
 def shown(value):
@@ -30,7 +32,9 @@ class Readers(unittest.TestCase):
     @given(numbers, days, amounts)
     def test_a_net(self, unknown, day, amount):
         if amount is not None:
-            self.assertEqual(rows.row_of(f"n {day} USD {shown(amount)} {unknown}"), rows.Net(day, "USD", amount, unknown))
+            self.assertEqual(
+                rows.row_of(f"n {day} USD {shown(amount)} {unknown}"), rows.Net(day, "USD", amount, unknown)
+            )
 
     @given(numbers, numbers, numbers, amounts)
     def test_what_has_accrued(self, stream, period, passed, amount):
