@@ -123,8 +123,9 @@ def client_of(address: Optional[str]) -> Iterator[Any]:
         from distributed import Client
     except ImportError as missing:
         raise CannotRun("--scheduler wants dask's `distributed`, which isn't installed") from missing
+    connect: Any = Client
     try:
-        client = Client(address)
+        client = connect(address)
     except (OSError, ValueError) as why:
         raise CannotRun(f"there is no scheduler at {shown(address)}: {why}") from why
     with client:
