@@ -11,13 +11,15 @@
 #   make bindings     tries the library through C, C++, Java and Python (bindings/install installs what it uses)
 #   make desk         tries the page irs-desk in a real browser (bindings/install desk installs it)
 #   make dist         the packages, in dist/; make install [PREFIX=..] [DESTDIR=..] installs
+#   make try-dist     the packages, each in an empty root; make try-tools tries the tools
 #   make faults       each allocation of the program fails in turn
 #   make hostile      the program on the largest and the worst inputs
 #   make bench        counts what it takes
 #
 # Proving wants the kit's command `rt` and nothing else. The look, the tools and the bindings want Python and a
 # C compiler too, and the counts valgrind.
-.PHONY: all irs try unproved examples faults hostile bench library bindings desk dist try-dist install test clean
+.PHONY: all irs try unproved examples faults hostile bench library bindings desk dist try-dist try-tools install
+.PHONY: test clean
 # With CDPATH set, `cd crates/irs` could go elsewhere.
 unexport CDPATH
 
@@ -73,6 +75,9 @@ dist: irs library
 
 try-dist:
 	tools/try_dist
+
+try-tools:
+	tools/test_tools.py
 
 install: irs library
 	tools/install $(if $(PREFIX),--prefix '$(PREFIX)') $(if $(DESTDIR),--destdir '$(DESTDIR)')

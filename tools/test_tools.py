@@ -1,0 +1,283 @@
+#!/usr/bin/env python3
+"""Tests of the tools that stand round the program: `python3 tools/test_tools.py`. None of them builds or proves.
+
+They work in copies, in folders whose names have a space, with CDPATH set.
+"""
+from __future__ import annotations
+
+import os
+import re
+import shutil
+import subprocess
+import sys
+import tempfile
+import unittest
+from importlib.machinery import SourceFileLoader
+from importlib.util import module_from_spec, spec_from_loader
+from pathlib import Path
+from typing import Any, List, Tuple
+
+TOOLS = Path(__file__).resolve().parent
+TOP = TOOLS.parent
+sys.path.insert(0, str(TOOLS))
+sys.dont_write_bytecode = True
+
+import commands
+import tree
+
+
+def tool(name: str) -> Any:
+    """A tool as a module."""
+    loader = SourceFileLoader(name, str(TOOLS / name))
+    spec = spec_from_loader(name, loader)
+    assert spec is not None
+    module = module_from_spec(spec)
+    sys.modules[name] = module
+    loader.exec_module(module)
+    return module
+
+
+class InRoom(unittest.TestCase):
+    """A test in a folder of its own, whose name has a space."""
+
+    def setUp(self) -> None:
+        self.room = Path(tempfile.mkdtemp(prefix="a room "))
+        self.addCleanup(shutil.rmtree, self.room)
+
+    def copy(self, *names: str) -> Path:
+        """A copy of some files of the repository."""
+        top = self.room / "the copy"
+        for name in names:
+            for path in tree.files_of(TOP / name):
+                to = top / path.relative_to(TOP)
+                to.parent.mkdir(parents=True, exist_ok=True)
+                shutil.copy2(path, to)
+        return top
+
+    def program(self, name: str, text: str) -> Path:
+        """A program of that name, in the folder that comes first on PATH."""
+        path = self.room / "bin" / name
+        path.parent.mkdir(exist_ok=True)
+        path.write_text(text)
+        path.chmod(0o755)
+        return path
+
+    def run_tool(self, words: List[str], cwd: Path, **more: str) -> Tuple[int, str, str]:
+        """Runs a tool with CDPATH set."""
+        environment = {**os.environ, "PATH": f"{self.room / 'bin'}:{os.environ['PATH']}", "CDPATH": f"{self.room}:/", **more}
+        done = subprocess.run(words, cwd=cwd, env=environment, stdout=subprocess.PIPE, stderr=subprocess.PIPE, text=True,
+                              check=False)
+        return done.returncode, done.stdout, done.stderr
+
+
+class Table(unittest.TestCase):
+    def test_it_is_that_of_the_formats(self) -> None:
+        page = (TOP / "docs" / "FORMATS.md").read_text()
+        listed = re.findall(r"^    irs ([a-z]+) (.*)$", page, re.M)
+        found = [(it.name, " ".join(it.parameters)) for it in commands.commands()]
+        self.assertEqual(sorted(found), sorted(listed))
+        self.assertTrue(all(it.summary for it in commands.commands()))
+
+    def test_its_notes(self) -> None:
+        parameters, statuses, pages = commands.notes()
+        self.assertIn("DOC is", parameters)
+        self.assertIn("Status", statuses)
+        self.assertIn("docs/", pages)
+
+
+class Manual(InRoom):
+    def setUp(self) -> None:
+        super().setUp()
+        self.assertEqual(self.run_tool([str(TOOLS / "manual"), str(self.room / "man")], self.room)[0], 0)
+
+    def completed(self, *words: str) -> List[str]:
+        """What bash offers for the last word."""
+        script = ("source man/irs.bash; compopt() { :; }; COMP_WORDS=(irs \"$@\"); COMP_CWORD=$#; _irs; "
+                  "printf '%s\\n' \"${COMPREPLY[@]}\"")
+        done = self.run_tool(["bash", "-c", script, "bash", *words], self.room)
+        self.assertEqual(done[2], "")
+        return sorted(done[1].split("\n")[:-1])
+
+    def test_completions(self) -> None:
+        (self.room / "my terms.json").write_text("")
+        names = sorted([it.name for it in commands.commands()] + ["--help", "--version"])
+        self.assertEqual(self.completed(""), names)
+        self.assertEqual(self.completed("sch"), ["schedule"])
+        self.assertEqual(self.completed("schedule", "my"), ["my terms.json"])
+        self.assertEqual(self.completed("schedule", "d", ""), ["-", "bin", "man", "my terms.json"] if (self.room / "bin").exists()
+                         else ["-", "man", "my terms.json"])
+        self.assertEqual(self.completed("interpolate", "1", "i"), ["initial"])
+        self.assertEqual(self.completed("average", "1", ""), ["plain", "weighted"])
+        self.assertEqual(self.completed("check", "d", "a", "b", "my"), ["my terms.json"])
+        self.assertEqual(self.completed("nothing", ""), [""])
+
+    def test_the_page(self) -> None:
+        page = (self.room / "man" / "irs.1").read_text()
+        for command in commands.commands():
+            self.assertIn(f"irs {command.name}\\fR", page)
+        if shutil.which("mandoc"):
+            said = subprocess.run(["mandoc", "-T", "lint", "-W", "error", str(self.room / "man" / "irs.1")],
+                                  stdout=subprocess.PIPE, text=True, check=False).stdout
+            self.assertEqual(said, "")
+
+
+class Try(InRoom):
+    """The words of `make try`: a program that prints them stands in for the unproved one."""
+
+    def setUp(self) -> None:
+        super().setUp()
+        self.top = self.copy("tools", "examples/help", "examples/fixed_leg", "Makefile")
+        (self.top / "tools" / "unproved").write_text("#!/bin/sh\n")
+        build = self.top / "build" / "unproved"
+        build.mkdir(parents=True)
+        (build / "irs").write_text("#!/bin/sh\nprintf '%s\\n' \"$@\"\nexit 3\n")
+        (build / "irs").chmod(0o755)
+
+    def words(self, *given: str) -> List[str]:
+        """The words that the program got."""
+        status, out, said = self.run_tool(["make", "-s", "-C", str(self.top), "try", *given], self.room)
+        self.assertEqual(status, 2, said)
+        self.assertIn("NOT PROVED", said)
+        return out.splitlines()
+
+    def test_a_schedule(self) -> None:
+        example = str(self.top / "examples" / "fixed_leg" / "terms.json")
+        self.assertEqual(self.words(), ["schedule", example, "-"])
+        self.assertEqual(self.words("DOC=my terms.json", "FIX=my rates"), ["schedule", "my terms.json", "my rates"])
+
+    def test_calendars(self) -> None:
+        (self.top / "x y.cal").write_text("")
+        self.assertEqual(self.words("DOC=d", "CALS=x y.cal"), ["schedule", "d", "-", "x y.cal"])
+        self.assertEqual(self.words("DOC=d", "CALS=a.cal b.cal"), ["schedule", "d", "-", "a.cal", "b.cal"])
+        self.assertEqual(self.words("DOC=d", "CALS='x y.cal' b.cal"), ["schedule", "d", "-", "x y.cal", "b.cal"])
+
+    def test_other_commands(self) -> None:
+        self.assertEqual(self.words("COMMAND=audit", "DOC=d", "FLOWS=f g"), ["audit", "d", "-", "f g"])
+        self.assertEqual(self.words("COMMAND=accrue", "DATE=2024-04-15", "DOC=d"), ["accrue", "2024-04-15", "d", "-"])
+        self.assertEqual(self.words("ARGS=bulk 5"), ["bulk", "5"])
+        self.assertEqual(self.words("ARGS=check 'a b'"), ["check", "a b"])
+
+    def test_what_is_missing(self) -> None:
+        for given, said in (("COMMAND=audit", "give FLOWS="), ("COMMAND=what", "there is no command what")):
+            status, out, errors = self.run_tool(["make", "-s", "-C", str(self.top), "try", given], self.room)
+            self.assertNotEqual(status, 0)
+            self.assertEqual(out, "")
+            self.assertIn(said, errors)
+
+
+class Version(InRoom):
+    def setUp(self) -> None:
+        super().setUp()
+        places = [place.file for place in tool("version").VERSIONS + tool("version").KITS]
+        self.top = self.copy("tools", "VERSION", *places)
+        self.program("rt", "#!/bin/sh\necho 'rattle-kit-1z logic 0123456789abcdef'\n")
+
+    def version(self, *words: str) -> Tuple[int, str]:
+        """How tools/version ends, and what it says."""
+        status, _, said = self.run_tool(["tools/version", *words], self.top)
+        return status, said
+
+    def test_the_repository(self) -> None:
+        self.assertEqual(subprocess.run([str(TOOLS / "version"), "--sources"], check=False).returncode, 0)
+
+    def test_another_kit(self) -> None:
+        status, said = self.version()
+        self.assertEqual(status, 1)
+        self.assertIn("crates/irs_plain/src/help.rt states the kit's logic sum as", said)
+        self.assertEqual(self.version("--sources"), (0, ""))
+        self.assertEqual(self.version("--write")[0], 0)
+        self.assertEqual(self.version(), (0, ""))
+        self.assertIn("0123456789abcdef", (self.top / "examples" / "version" / "output").read_text())
+
+    def test_another_version(self) -> None:
+        (self.top / "VERSION").write_text("1.2.3\n")
+        status, said = self.version("--sources")
+        self.assertEqual((status, said.count("\n")), (1, 6))
+        self.assertEqual(self.version("--write")[0], 0)
+        self.assertIn('__version__ = "1.2.3"', (self.top / "bindings" / "python" / "irs" / "__init__.py").read_text())
+
+    def test_no_kit(self) -> None:
+        self.program("rt", "#!/bin/sh\nexit 1\n")
+        self.assertEqual(self.version()[0], 1)
+
+
+class Prove(InRoom):
+    def setUp(self) -> None:
+        super().setUp()
+        self.top = self.copy("tools/prove")
+        (self.top / "crates.txt").write_text("# crates\nlow:\nother:\nmid: low\nirs: mid\nrows: irs\n")
+        for name in ("low", "mid", "other", "irs"):
+            (self.top / "crates" / name / "src").mkdir(parents=True)
+            (self.top / "crates" / name / "src" / "lib.rt").write_text("x" * 100_000)
+        self.program("rt", "#!/bin/sh\nmkdir -p out\n[ \"${PWD##*/}\" != \"$BAD\" ] || { echo 'a goal is left'; exit 1; }\n")
+
+    def test_a_line_a_library(self) -> None:
+        status, out, _ = self.run_tool(["tools/prove"], self.top)
+        self.assertEqual(status, 0)
+        lines = out.splitlines()
+        self.assertEqual(lines[0], "Proving 2 libraries, lowest first; about 2 min on four cores.")
+        self.assertTrue(lines[1].startswith("low: proved in 0 s; 1 left, about "))
+        self.assertTrue(lines[2].startswith("mid: proved in 0 s; 0 left, about 0 s"))
+        again = self.run_tool(["tools/prove"], self.top)[1].splitlines()
+        self.assertEqual(again[0], "Proving 2 libraries, lowest first; about 16 s on four cores.")
+
+    def test_a_library_that_is_not_proved(self) -> None:
+        status, out, _ = self.run_tool(["tools/prove"], self.top, BAD="mid")
+        self.assertEqual(status, 1)
+        self.assertIn("mid isn't proved:\na goal is left", out)
+
+
+class Gate(InRoom):
+    def test_its_last_line_is_kept(self) -> None:
+        self.program("rt", "#!/bin/sh\necho 'rattle-kit-1z logic 0123456789abcdef'\n")
+        top = self.copy("tools/gate")
+        (top / ".ci").mkdir()
+        (top / "tools" / "version").write_text("#!/bin/sh\n")
+        for name, text in (("tools/version", "#!/bin/sh\n"), (".ci/run", "#!/bin/sh\necho one\necho '34 passed, 0 failed'\nexit $END\n")):
+            (top / name).write_text(text)
+            (top / name).chmod(0o755)
+        for end in ("0", "1"):
+            status, out, _ = self.run_tool(["tools/gate"], top, END=end)
+            self.assertEqual((status, out), (int(end), "one\n34 passed, 0 failed\n"))
+            self.assertEqual((top / "build" / "gate").read_text().splitlines()[1:],
+                             ["rattle-kit-1z logic 0123456789abcdef", "34 passed, 0 failed"])
+
+
+class Unproved(unittest.TestCase):
+    """What tools/unproved does to the module's text."""
+
+    MODULE = (b'define internal noundef i8 @"irs_c::exports::irs_run"(ptr noundef %a0) #0 {\n'
+              b"  call void @llvm.memset.p0.i64(ptr %r0, i8 -86, i64 1, i1 false)\n"
+              b"  call void @llvm.memset.p0.i64(ptr %r1, i8 0, i64 8, i1 false)\n"
+              b"  ret i8 0\n}\n"
+              b'define internal void @"irs_c::exports::irs_version"(ptr noundef %a0) #0 {\n  ret void\n}\n'
+              b'define internal void @"rattle-llvm-checks::Overflow"(i8 %a0) #8 {\nstart:\n  call void @llvm.trap()\n  unreachable\n}\n'
+              b'define i32 @main() #0 {\n  %r0 = call i8 @"irs_c::exports::irs_run"(ptr null)\n  ret i32 0\n}\n'
+              b'attributes #0 = { nounwind sanitize_address "frame-pointer"="all" }\n')
+
+    def test_what_changes(self) -> None:
+        unproved = tool("unproved")
+        text = unproved.exported(unproved.plain(self.MODULE, unproved.How(False, True)), ["irs_run", "irs_version"])
+        self.assertIn(b"define zeroext i8 @irs_run(", text)
+        self.assertIn(b"define void @irs_version(", text)
+        self.assertIn(b"call i8 @irs_run(", text)
+        self.assertIn(b"define internal i32 @main(", text)
+        self.assertIn(b"call void @llvm.trap()", text)
+        self.assertNotIn(b"i8 -86", text)
+        self.assertIn(b"i8 0, i64 8", text)
+        self.assertNotIn(b"sanitize_address", text)
+
+    def test_checks_that_are_emptied(self) -> None:
+        unproved = tool("unproved")
+        text = unproved.plain(self.MODULE, unproved.How(False, False))
+        self.assertNotIn(b"call void @llvm.trap()", text)
+        self.assertIn(b"ret i8 0", text)
+
+    def test_a_function_that_no_test_calls(self) -> None:
+        unproved = tool("unproved")
+        with self.assertRaisesRegex(unproved.Failed, "irs_more"):
+            unproved.exported(self.MODULE, ["irs_more"])
+
+
+if __name__ == "__main__":
+    unittest.main()
