@@ -10,6 +10,7 @@ Each figure is of one run; what else the machine did meanwhile is in its load, w
 from __future__ import annotations
 
 import argparse
+import multiprocessing
 import os
 import random
 import resource
@@ -155,7 +156,7 @@ def timed(what: str, folder: Path, **how: Any) -> None:
 
 def children() -> List[int]:
     """The numbers of this process's children."""
-    return [int(pid) for pid in Path(f"/proc/self/task/{os.getpid()}/children").read_text().split()]
+    return [child.pid for child in multiprocessing.active_children() if child.pid is not None]
 
 
 def killer(pids: Callable[[], List[int]], pause: float, stop: threading.Event) -> None:

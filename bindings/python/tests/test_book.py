@@ -1,5 +1,6 @@
 """A book from Python: verdicts, calendars, and workers that die or hang."""
 import json
+import multiprocessing
 import os
 import random
 import signal
@@ -141,9 +142,9 @@ class Books(unittest.TestCase):
 
         def kill():
             while not stop.wait(0.5):
-                children = Path(f"/proc/self/task/{os.getpid()}/children").read_text().split()
+                children = multiprocessing.active_children()
                 if children:
-                    os.kill(int(random.choice(children)), signal.SIGKILL)
+                    os.kill(random.choice(children).pid, signal.SIGKILL)
                     killed.append(1)
 
         killer = threading.Thread(target=kill)
@@ -160,7 +161,7 @@ class Books(unittest.TestCase):
         told = book.outcomes(self.trades(1000), jobs=2, chunk=5)
         next(told)
         told.close()
-        self.assertEqual(Path(f"/proc/self/task/{os.getpid()}/children").read_text().split(), [])
+        self.assertEqual(multiprocessing.active_children(), [])
 
 
 class Verdicts(unittest.TestCase):
