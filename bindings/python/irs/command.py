@@ -19,7 +19,7 @@ import os
 import signal
 import sys
 from pathlib import Path
-from typing import Any, Dict, Iterator, List, NamedTuple, NoReturn, Optional, Set, Tuple
+from typing import Any, Dict, Iterable, Iterator, List, NoReturn, Optional, Set, Tuple, Union
 
 from .book import COMMANDS, Outcome, Summary, Trade, outcomes, stamp, with_bar
 from .common import Common, common_of, loaded
@@ -47,20 +47,42 @@ class Ended(BaseException):
         super().__init__(signal.Signals(number).name)
 
 
-def trades_in(folder: Path) -> List[Trade]:
-    """A trade a document of the folder, in the order of their names; CannotRun where the folder can't be read."""
-    try:
-        names: Set[str] = set(os.listdir(folder))
-    except OSError as why:
-        raise CannotRun(f"{shown(str(folder))} can't be read: {why.strerror}") from why
-    documents = {name for name in names if name.endswith(".json") and not name.endswith(".flows.json")}
-    found = [name[:-len(".json")] for name in sorted(documents)]
-    for other in sorted(names - documents):
-        stem = other[:-len(".flows.json")] if other.endswith(".flows.json") else other[:-len(".fixings")]
-        if other.endswith((".flows.json", ".fixings")) and stem and f"{stem}.json" not in documents:
-            LOG.warning("%s has no document beside it", shown(other))
-    return [Trade(_as_utf8(name), folder / f"{name}.json", _there(folder, f"{name}.fixings", names),
-                  _there(folder, f"{name}.flows.json", names)) for name in found]
+#: What stands beside a document NAME.json, as endings of NAME.
+FLOWS, FIXINGS, DOCUMENT = ".flows.json", ".fixings", ".json"
+
+
+class Folder:
+    """The trades of a folder: a document each, in the order of their names.
+
+    It holds the names alone, and makes a trade as it is asked for. CannotRun where the folder can't be read.
+    """
+
+    def __init__(self, folder: Path) -> None:
+        self.folder = folder
+        beside: Dict[str, Set[str]] = {FLOWS: set(), FIXINGS: set(), DOCUMENT: set()}
+        try:
+            for name in os.listdir(folder):
+                ending = next((it for it in (FLOWS, FIXINGS, DOCUMENT) if name.endswith(it)), None)
+                if ending is not None:
+                    beside[ending].add(name[:-len(ending)])
+        except OSError as why:
+            raise CannotRun(f"{shown(str(folder))} can't be read: {why.strerror}") from why
+        self.names = sorted(beside[DOCUMENT])
+        self.flows, self.fixings = beside[FLOWS], beside[FIXINGS]
+        for ending in (FLOWS, FIXINGS):
+            for name in sorted(beside[ending] - beside[DOCUMENT]):
+                LOG.warning("%s has no document beside it", shown(name + ending))
+
+    def __len__(self) -> int:
+        return len(self.names)
+
+    def __iter__(self) -> Iterator[Trade]:
+        for name in self.names:
+            yield Trade(_as_utf8(name), self.folder / (name + DOCUMENT), self._beside(name, FIXINGS, self.fixings),
+                        self._beside(name, FLOWS, self.flows))
+
+    def _beside(self, name: str, ending: str, names: Set[str]) -> Optional[Path]:
+        return self.folder / (name + ending) if name in names else None
 
 
 def _as_utf8(name: str) -> str:
@@ -68,8 +90,8 @@ def _as_utf8(name: str) -> str:
     return os.fsencode(name).decode("utf-8", "surrogateescape")
 
 
-def _there(folder: Path, name: str, names: Set[str]) -> Optional[Path]:
-    return folder / name if name in names else None
+#: The trades of a run: how many, and each in turn, as often as they are asked for.
+Trades = Union[Folder, List[Trade]]
 
 
 def trades_named(manifest: Path, folder: Path) -> List[Trade]:
@@ -178,34 +200,29 @@ def _cell(already_shown: str) -> str:
     return "'" + already_shown if already_shown.startswith(FORMULA) else already_shown
 
 
-class Run(NamedTuple):
-    """A run over the trades that are left, and what it writes to."""
-
-    trades: List[Trade]
-    common: Common
-    asked: argparse.Namespace
-    journal: Journal
-
-    def work(self, executor: Any) -> None:
-        """Works the trades, each outcome into the journal."""
-        told = outcomes(self.trades, self.asked.command, common=self.common, executor=executor, jobs=self.asked.jobs,
-                        chunk=self.asked.chunk, timeout=self.asked.timeout)
-        if executor is None:
-            # Read before the processes start, which so have it already.
-            loaded(self.common)
-        with contextlib.closing(told):  # type: ignore[type-var]
-            for outcome in with_bar(told, len(self.trades)) if sys.stderr.isatty() else told:
-                if outcome.verdict == "failed":
-                    LOG.warning("%s failed: %s", shown(outcome.name), shown(outcome.line))
-                self.journal.add(outcome, shown(outcome.name), outcome.stamp)
+def work(trades: Iterable[Trade], count: int, common: Common, words: argparse.Namespace, executor: Any,
+         journal: Journal) -> None:
+    """Works the trades, each outcome into the journal."""
+    if executor is None:
+        # Read before the processes start, which so have it already.
+        loaded(common)
+    told = outcomes(trades, words.command, common=common, executor=executor, jobs=words.jobs, chunk=words.chunk,
+                    timeout=words.timeout)
+    with contextlib.closing(told):  # type: ignore[type-var]
+        for outcome in with_bar(told, count) if sys.stderr.isatty() else told:
+            if outcome.verdict == "failed":
+                LOG.warning("%s failed: %s", shown(outcome.name), shown(outcome.line))
+            journal.add(outcome, shown(outcome.name), outcome.stamp)
 
 
-def left_of(trades: List[Trade], journal: Journal) -> List[Trade]:
-    """The trades that aren't in the journal, or whose files changed since; it forgets what is no trade any more."""
+def done_before(trades: Trades, journal: Journal) -> Set[str]:
+    """The names of the trades that are in the journal and whose files are the same; it forgets what is no trade now."""
     stamps = journal.stamps()
+    if not stamps:
+        return set()
     names = {shown(trade.name) for trade in trades}
-    journal.forget(name for name in list(stamps) if name not in names)
-    return [trade for trade in trades if stamps.get(shown(trade.name)) != stamp(trade)]
+    journal.forget(name for name in stamps if name not in names)
+    return {trade.name for trade in trades if stamps.get(shown(trade.name)) == stamp(trade)}
 
 
 def asked_of(words: argparse.Namespace, common: Common) -> Dict[str, str]:
@@ -216,7 +233,7 @@ def asked_of(words: argparse.Namespace, common: Common) -> Dict[str, str]:
             "manifest": shown(str(words.names_from.resolve())) if words.names_from else ""}
 
 
-def count(text: str) -> int:
+def at_least_one(text: str) -> int:
     """A number from 1 on, of a word of the command line."""
     number = int(text)
     if number < 1:
@@ -244,9 +261,10 @@ def parsed(arguments: Optional[List[str]]) -> argparse.Namespace:
     parser.add_argument("--resume", action="store_true", help="go on with the journal that is there")
     parser.add_argument("--accept", action="append", choices=["unverified"], default=[],
                         help="a verdict that counts as 0")
-    parser.add_argument("--jobs", type=count, default=len(os.sched_getaffinity(0)), help="processes (one a processor)")
+    parser.add_argument("--jobs", type=at_least_one, default=len(os.sched_getaffinity(0)),
+                        help="processes (one a processor)")
     parser.add_argument("--scheduler", metavar="ADDRESS", help="a dask scheduler, as tcp://host:8786")
-    parser.add_argument("--chunk", type=count, default=50, help="trades that are sent at once (50)")
+    parser.add_argument("--chunk", type=at_least_one, default=50, help="trades that are sent at once (50)")
     parser.add_argument("--timeout", type=seconds, default=60.0, help="the most seconds for a trade here (60)")
     parser.add_argument("--verbose", action="store_true", help="more on standard error")
     return parser.parse_args(arguments)
@@ -259,9 +277,10 @@ def _end(number: int, _: Any) -> NoReturn:
     raise Ended(number)
 
 
-def _trades(words: argparse.Namespace) -> List[Trade]:
-    trades = trades_in(words.folder) if words.names_from is None else trades_named(words.names_from, words.folder)
-    if not trades:
+def _trades(words: argparse.Namespace) -> Trades:
+    folder, manifest = words.folder, words.names_from
+    trades: Trades = Folder(folder) if manifest is None else trades_named(manifest, folder)
+    if len(trades) == 0:
         raise CannotRun(f"there is no trade in {shown(str(words.names_from or words.folder))}")
     return trades
 
@@ -292,11 +311,12 @@ def night(words: argparse.Namespace) -> int:
             journal.begin(asked_of(words, common), words.resume)
         except Exception as why:
             raise CannotRun(shown(str(why))) from why
-        left = left_of(trades, journal)
-        LOG.info("%d trades, %d of them to be worked, by %s", len(trades), len(left), engine().partition("\n")[0])
+        done = done_before(trades, journal)
+        left, count = (trade for trade in trades if trade.name not in done), len(trades) - len(done)
+        LOG.info("%d trades, %d of them to be worked, by %s", len(trades), count, engine().partition("\n")[0])
         try:
             with client_of(words.scheduler) as executor:
-                Run(left, common, words, journal).work(executor)
+                work(left, count, common, words, executor, journal)
         except Ended as why:
             _summarised(journal)
             print(f"irs-book: ended by {why}; --resume goes on", file=sys.stderr)

@@ -27,7 +27,7 @@ sys.path.insert(0, str(Path(__file__).resolve().parent.parent))
 
 import irs
 from irs import book
-from irs.command import common_in, trades_in
+from irs.command import Folder, common_in
 
 #: The days that the calendars and the fixings cover.
 FIRST, LAST = date(2000, 1, 1), date(2049, 12, 31)
@@ -145,13 +145,14 @@ def cpu() -> float:
 def timed(what: str, folder: Path, **how: Any) -> None:
     """Runs the book once, and prints how it went."""
     before, began = cpu(), time.monotonic()
-    trades, common = trades_in(folder), common_in(folder)
+    trades, common = Folder(folder), common_in(folder)
     summary = book.run(trades, "audit", common=common, **how)
     seconds = time.monotonic() - began
     ended = ", ".join(f"{count} {verdict}" for verdict, count in sorted(summary.verdicts.items()))
     each = 1000 * (cpu() - before) / summary.trades
     print(f"{what}: {seconds:.1f} s, {summary.trades / seconds:.0f} a second, {each:.2f} ms of processor a trade")
-    print(f"    {ended}; load {os.getloadavg()[0]:.1f}", flush=True)
+    most = resource.getrusage(resource.RUSAGE_SELF).ru_maxrss / 1024
+    print(f"    {ended}; load {os.getloadavg()[0]:.1f}; {most:.0f} MB at most in this process", flush=True)
 
 
 def children() -> List[int]:
