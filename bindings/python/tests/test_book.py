@@ -2,6 +2,7 @@
 import json
 import multiprocessing
 import os
+import pickle
 import random
 import signal
 import threading
@@ -164,6 +165,41 @@ class Books(unittest.TestCase):
         self.assertEqual(multiprocessing.active_children(), [])
 
 
+class Clusters(unittest.TestCase):
+    def test_what_is_sent_for_a_trade_is_small(self):
+        folder = Path("/somewhere", "book")
+        trades = [book.Trade(f"T{n}", folder / f"T{n}.json", None, folder / f"T{n}.flows.json") for n in range(50)]
+        self.assertLess(len(pickle.dumps(trades)) / 50, 200)
+
+    def test_a_cluster_of_this_machine(self):
+        try:
+            from distributed import Client
+        except ImportError:
+            self.skipTest("dask's distributed isn't installed")
+        with TemporaryDirectory() as room:
+            names = {
+                "fixed.json": FIXED,
+                "agrees": AGREES,
+                "departs": DEPARTS,
+                "de.cal": FRANKFURT,
+                "business.json": BUSINESS,
+            }
+            for name, content in names.items():
+                Path(room, name).write_bytes(content)
+            common = book.common_of([Path(room, "de.cal")])
+            flows = Path(room, "business.flows")
+            flows.write_bytes(irs.emit(BUSINESS, None, [FRANKFURT]))
+            trades = [
+                book.Trade(f"T{n}", Path(room, "fixed.json"), None, Path(room, "departs" if n % 10 == 3 else "agrees"))
+                for n in range(90)
+            ]
+            trades += [book.Trade(f"B{n}", Path(room, "business.json"), None, flows) for n in range(10)]
+            trades.append(book.Trade("gone", Path(room, "gone.json")))
+            with Client(n_workers=2, threads_per_worker=1, dashboard_address=None) as client:
+                summary = book.run(trades, common=common, executor=client, chunk=7)
+        self.assertEqual(dict(summary.verdicts), {"agrees": 91, "departs": 9, "failed": 1})
+
+
 class Verdicts(unittest.TestCase):
     def outcome(self, command="audit", **trade):
         common = trade.pop("common", book.Common())
@@ -272,6 +308,30 @@ class CommonFixings(unittest.TestCase):
             "audit", book.Trade("T", document, own, irs.emit(document, own)), book.common_of((), others)
         )
         self.assertEqual(told.verdict, "agrees")
+
+    def test_they_cost_a_trade_no_more_than_its_own(self):
+        document, own = example("compounded/terms.json"), example("compounded/fixings")
+        others = (
+            b"%d-%02d-%02d 0.01 3M OTHER-%d\n" % (2000 + n // 336, 1 + n // 28 % 12, 1 + n % 28, k)
+            for k in range(420)
+            for n in range(250)
+        )
+        common = book.common_of((), b"".join(others) + own)
+        flows = irs.emit(document, own)
+        alone = [book.Trade("T", document, own, flows)] * 20
+        together = [book.Trade("T", document, None, flows)] * 20
+        book.work("audit", common, together[:1])
+
+        def least(trades):
+            times = []
+            for _ in range(5):
+                began = time.process_time()
+                self.assertTrue(all(it.verdict == "agrees" for it in book.work("audit", common, trades)))
+                times.append(time.process_time() - began)
+            return min(times)
+
+        # It was 29 times as much when each trade got all lines.
+        self.assertLess(least(together), 3 * least(alone))
 
     def test_a_fault_in_them_is_told(self):
         document = example("compounded/terms.json")

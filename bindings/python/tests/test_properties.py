@@ -10,7 +10,7 @@ try:
 except ImportError:
     raise unittest.SkipTest("hypothesis isn't installed")
 
-from irs import rows
+from irs import plain, rows
 
 days = st.dates()
 numbers = st.integers(min_value=1, max_value=8000)
@@ -21,6 +21,19 @@ amounts = st.none() | st.decimals(
 
 def shown(value):
     return "-" if value is None else f"{value:f}"
+
+
+class Shown(unittest.TestCase):
+    @given(st.text(), st.text())
+    def test_names_that_differ_are_shown_differently(self, one, other):
+        for text in (one, other):
+            self.assertTrue(plain.shown(text).isprintable())
+            self.assertFalse(plain.cell(text).startswith(("=", "+", "-", "@")))
+        self.assertEqual(plain.shown(one) == plain.shown(other), one == other)
+
+    @given(st.binary())
+    def test_a_name_of_any_bytes_is_text(self, name):
+        plain.shown(os.fsdecode(name)).encode("utf-8")
 
 
 class Readers(unittest.TestCase):
