@@ -6,6 +6,7 @@ from datetime import date
 from pathlib import Path
 
 from .clean import shown
+from .tools import Parser
 
 
 def day(text: str) -> date:
@@ -30,9 +31,9 @@ def port(text: str) -> int:
     return int(text)
 
 
-def parser_of(name: str, description: str) -> argparse.ArgumentParser:
+def parser_of(name: str, description: str) -> Parser:
     """A parser with the options that say what is looked at."""
-    made = argparse.ArgumentParser(
+    made = Parser(
         prog=name, description=description, formatter_class=argparse.RawDescriptionHelpFormatter
     )
     made.add_argument("--fixings", type=Path, metavar="FILE", help="a file of fixings")

@@ -9,7 +9,6 @@ import json
 from pathlib import Path
 from typing import Any, Iterator, List, NamedTuple, Optional
 
-from .calls import check
 from .errors import Refused
 from .tools import BadInput, read_bytes
 
@@ -24,6 +23,8 @@ class Document(NamedTuple):
 
 def read_document(path: Path) -> Document:
     """A document whose elements the engine can read; `BadInput` with its sentence where it can't (K1 to K7)."""
+    from .calls import check  # which has the methods of looks.py, and they read documents by this module
+
     content = read_bytes(path)
     try:
         check(content)

@@ -9,7 +9,8 @@ from __future__ import annotations
 import re
 from typing import Any, Dict, FrozenSet, List, NamedTuple, Optional, Sequence
 
-from .documents import at, child, children, streams_of, text_at
+from .carrier import child_of, items_of, streams_of
+from .documents import at, text_at
 from .clean import shown
 from .tables import separated
 
@@ -112,7 +113,7 @@ def _payment(row: Any) -> Fields:
     return {
         "unadjustedPaymentDate": _text(row, "unadjustedPaymentDate"),
         "adjustedPaymentDate": _text(row, "adjustedPaymentDate"),
-        "calculationPeriod": str(len(children(row, "calculationPeriod"))),
+        "calculationPeriod": str(len(items_of(row, "calculationPeriod"))),
         "currency": _text(row, "forecastPaymentAmount/currency"),
         "amount": _text(row, "forecastPaymentAmount/amount"),
     }
@@ -132,16 +133,16 @@ def _reset(row: Any) -> Fields:
 
 
 def _rows(stream: Any) -> Dict[str, Dict[int, Fields]]:
-    flows = child(stream, "cashflows")
-    payments = children(flows, "paymentCalculationPeriod")
-    periods = [period for payment in payments for period in children(payment, "calculationPeriod")]
+    flows = child_of(stream, "cashflows")
+    payments = items_of(flows, "paymentCalculationPeriod")
+    periods = [period for payment in payments for period in items_of(payment, "calculationPeriod")]
     observed = {
         number: _reset(period)
         for number, period in enumerate(periods, 1)
         if at(period, "floatingRateDefinition/rateObservation") is not None
     }
     return {
-        "exchange": dict(enumerate(map(_exchange, children(flows, "principalExchange")), 1)),
+        "exchange": dict(enumerate(map(_exchange, items_of(flows, "principalExchange")), 1)),
         "payment": dict(enumerate(map(_payment, payments), 1)),
         "period": dict(enumerate(map(_period, periods), 1)),
         "reset": observed,

@@ -27,7 +27,6 @@ from .engine import ask
 from .inputs import (
     MOST_BYTES,
     MOST_CALENDARS,
-    Stopped,
     Inputs,
     Named,
     at_most_sixteen,
@@ -37,9 +36,10 @@ from .inputs import (
 )
 from .insert import with_cashflows
 from .look import Look, look_at
-from .parties import UnknownParty
+from .packages import package
 from .pages import TEMPLATES, environment, report, style
 from .sheets import csv_text
+from .tools import BadInput, Parser, ended
 
 #: The only address that the page is served at.
 ADDRESS = "127.0.0.1"
@@ -120,11 +120,11 @@ def _calendars(form: Any, files: Any, document: Named, offered: Sequence[Named])
 
 
 def asked_for(form: Any, files: Any, offered: Sequence[Named]) -> Kept:
-    """The look that a form asks for. Raises `Stopped` without a document, and `UnknownParty` for
+    """The look that a form asks for. Raises `BadInput` without a document, and `UnknownParty` for
     an unknown party."""
     document = _one(files, "document")
     if document is None:
-        raise Stopped("Choose a document of terms.")
+        raise BadInput("Choose a document of terms.")
     inputs = Inputs(
         document,
         _one(files, "fixings"),
@@ -163,24 +163,14 @@ def download(kept: Kept, name: str) -> Optional[Tuple[bytes, str]]:
     return None
 
 
-def _flask() -> Any:
-    try:
-        import flask
-    except ImportError as missing:
-        raise ImportError(
-            "the page needs Flask, which isn't installed (Debian: python3-flask)"
-        ) from missing
-    return flask
-
-
 class Desk:
     """The page below `/TOKEN/`; `offered` are the calendar files to choose from.
 
-    Raises `ImportError` where Flask or Jinja2 isn't installed.
+    Raises `MissingPackage` where Flask or Jinja2 isn't installed.
     """
 
     def __init__(self, token: str, offered: Sequence[Named] = ()) -> None:
-        self.flask = _flask()
+        self.flask = package("flask", "the page", "Flask", "python3-flask")
         self.templates = environment()
         self.token = token
         self.offered = offered
@@ -213,7 +203,7 @@ class Desk:
         """Makes the look that the form asks for, and leads to it."""
         try:
             kept = asked_for(self.flask.request.form, self.flask.request.files, self.offered)
-        except (Stopped, UnknownParty) as why:
+        except BadInput as why:
             return self.form(str(why), 400)
         return self.flask.redirect(f"/{self.token}/look/{self.store.keep(kept)}", 303)
 
@@ -270,7 +260,7 @@ class Desk:
 
 
 def make_app(token: str, offered: Sequence[Named] = ()) -> Any:
-    """The page as a Flask application. Raises `ImportError` where Flask or Jinja2 isn't
+    """The page as a Flask application. Raises `MissingPackage` where Flask or Jinja2 isn't
     installed."""
     desk = Desk(token, offered)
 
@@ -301,7 +291,7 @@ def make_app(token: str, offered: Sequence[Named] = ()) -> Any:
 
 def make_server(app: Any, number: int = 0) -> Any:
     """A server of the page at 127.0.0.1 alone; port 0 is any free one. It has `serve_forever` and
-    `shutdown`. Raises `Stopped` where the port can't be had."""
+    `shutdown`. Raises `BadInput` where the port can't be had."""
     from werkzeug.serving import WSGIRequestHandler, make_server as made
 
     class Quiet(WSGIRequestHandler):
@@ -313,7 +303,7 @@ def make_server(app: Any, number: int = 0) -> Any:
     try:
         return made(ADDRESS, number, app, threaded=True, request_handler=Quiet)
     except OSError as why:
-        raise Stopped(f"port {number} can't be had: {why.strerror or why}") from why
+        raise BadInput(f"port {number} can't be had: {why.strerror or why}") from why
 
 
 class Asked(argparse.Namespace):
@@ -324,9 +314,9 @@ class Asked(argparse.Namespace):
     open: bool
 
 
-def parser() -> argparse.ArgumentParser:
+def parser() -> Parser:
     """The words that irs-desk takes."""
-    made = argparse.ArgumentParser(
+    made = Parser(
         prog="irs-desk", description=__doc__, formatter_class=argparse.RawDescriptionHelpFormatter
     )
     made.add_argument(
@@ -340,22 +330,15 @@ def parser() -> argparse.ArgumentParser:
     return made
 
 
-def main(arguments: Optional[List[str]] = None) -> int:
-    """Serves the page until it is interrupted; 2, with a sentence, where it can't."""
+def _served(arguments: Optional[List[str]]) -> int:
     asked = parser().parse_args(arguments, Asked())
     logging.basicConfig(level=logging.WARNING, format="irs-desk: %(message)s")
-    try:
-        folder = asked.calendars
-        if folder is not None and not folder.is_dir():
-            raise Stopped(f"{shown(str(folder))} is no folder")
-        offered = (
-            [] if folder is None else [read_named(path) for path in sorted(folder.glob("*.cal"))]
-        )
-        token = secrets.token_urlsafe(24)
-        server = make_server(make_app(token, offered), asked.port)
-    except (Stopped, ImportError) as why:
-        print(f"irs-desk: {why}", file=sys.stderr)
-        return 2
+    folder = asked.calendars
+    if folder is not None and not folder.is_dir():
+        raise BadInput(f"{shown(str(folder))} is no folder")
+    paths = [] if folder is None else sorted(folder.glob("*.cal"))
+    token = secrets.token_urlsafe(24)
+    server = make_server(make_app(token, [read_named(path) for path in paths]), asked.port)
     address = f"http://{ADDRESS}:{server.server_port}/{token}/"
     print(f"{address}\nThis page is for this machine alone. Ctrl-C ends it.", flush=True)
     if asked.open:
@@ -365,6 +348,11 @@ def main(arguments: Optional[List[str]] = None) -> int:
     except KeyboardInterrupt:
         pass
     return 0
+
+
+def main(arguments: Optional[List[str]] = None) -> int:
+    """Serves the page until it is interrupted; 2, with a sentence, where it can't."""
+    return ended("irs-desk", _served, arguments)
 
 
 if __name__ == "__main__":

@@ -8,21 +8,19 @@ from __future__ import annotations
 
 import sys
 from pathlib import Path
-from typing import Any, Dict, List, NamedTuple, Optional, Sequence, Set
+from typing import Dict, List, NamedTuple, Optional, Sequence, Set
 
-from .documents import NotRead, children, json_of, text_of, value_of
+from .carrier import texts_of
+from .documents import NotRead, json_of, value_of
 from .clean import shown
 from .library import Text
+from .tools import BadInput
 
 #: The most bytes of a file (docs/FORMATS.md, 'Limits').
 MOST_BYTES = 4_194_304
 
 #: The most calendar files of a command.
 MOST_CALENDARS = 16
-
-
-class Stopped(Exception):
-    """A file can't be read. The text of the error is one plain sentence."""
 
 
 class Named(NamedTuple):
@@ -50,37 +48,31 @@ class Inputs(NamedTuple):
 
 
 def read_named(path: Path) -> Named:
-    """A file by its path; `-` is standard input. Raises `Stopped`."""
+    """A file by its path; `-` is standard input. Raises `BadInput`."""
     if str(path) == "-":
         return Named("standard input", sys.stdin.buffer.read(MOST_BYTES + 1))
     try:
         with path.open("rb") as file:
             return Named(path.name, file.read(MOST_BYTES + 1))
     except OSError as why:
-        raise Stopped(f"{shown(str(path))} can't be read: {why.strerror or why}") from why
+        raise BadInput(f"{shown(str(path))} can't be read: {why.strerror or why}") from why
 
 
 def read_document(path: Path) -> Named:
-    """A document by its path, as JSON. Raises `Stopped`, also for XML."""
+    """A document by its path, as JSON. Raises `BadInput`, also for XML."""
     file = read_named(path)
     try:
         return Named(file.name, json_of(file.content))
     except NotRead as why:
-        raise Stopped(f"{shown(file.name)}: {why}") from why
+        raise BadInput(f"{shown(file.name)}: {why}") from why
 
 
-def centres_of(value: Any) -> Set[str]:
-    """The texts of every `businessCenter` in a document's value."""
-    found: Set[str] = set()
-    left = [value]
-    while left:
-        item = left.pop()
-        if isinstance(item, dict):
-            found.update(text for text in map(text_of, children(item, "businessCenter")) if text)
-            left.extend(item.values())
-        elif isinstance(item, list):
-            left.extend(item)
-    return found
+def centres_of(document: Text) -> Set[str]:
+    """The texts of every `businessCenter` in a document; none where it has no JSON value."""
+    try:
+        return set(texts_of(value_of(document), "businessCenter"))
+    except RecursionError:  # deeper than the engine reads
+        return set()
 
 
 def centres_in(calendar: bytes) -> List[str]:
@@ -96,16 +88,14 @@ def chosen(document: Text, files: Sequence[Named]) -> List[Named]:
     for place, file in enumerate(files):
         for centre in centres_in(file.content):
             by_centre.setdefault(centre, place)
-    places = sorted(
-        {by_centre[centre] for centre in centres_of(value_of(document)) if centre in by_centre}
-    )
+    places = sorted({by_centre[centre] for centre in centres_of(document) if centre in by_centre})
     return [files[place] for place in places][:MOST_CALENDARS]
 
 
 def at_most_sixteen(calendars: List[Named]) -> List[Named]:
-    """The calendar files. Raises `Stopped` where there are more than a command takes."""
+    """The calendar files. Raises `BadInput` where there are more than a command takes."""
     if len(calendars) > MOST_CALENDARS:
-        raise Stopped(
+        raise BadInput(
             f"there are {len(calendars)} calendar files, and at most {MOST_CALENDARS} go"
         )
     return calendars
@@ -113,7 +103,7 @@ def at_most_sixteen(calendars: List[Named]) -> List[Named]:
 
 def read_calendars(paths: Sequence[Path], document: Text) -> List[Named]:
     """The calendar files of paths, where a folder means those that the document needs.
-    Raises `Stopped`."""
+    Raises `BadInput`."""
     calendars: List[Named] = []
     for path in paths:
         if path.is_dir():

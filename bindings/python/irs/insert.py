@@ -7,7 +7,8 @@ from __future__ import annotations
 import json
 from typing import List, Tuple
 
-from .documents import child, streams_of, value_of
+from .carrier import child_of, streams_of
+from .documents import value_of
 from .places import member_of, stream_spot
 
 
@@ -19,7 +20,7 @@ def with_cashflows(document: bytes, emitted: bytes) -> bytes:
     text = document.decode()
     changes: List[Tuple[int, int, str]] = []
     for number, stream in enumerate(streams_of(value_of(emitted)), 1):
-        flows = json.dumps(child(stream, "cashflows"), separators=(",", ":"))
+        flows = json.dumps(child_of(stream, "cashflows"), separators=(",", ":"))
         spot = stream_spot(text, number)
         assert spot is not None  # the engine found the stream
         old = member_of(text, spot, "cashflows")

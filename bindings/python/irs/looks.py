@@ -83,7 +83,7 @@ class Looks:
         """Writes a workbook with a sheet for each of `tables`, to a file or to the file of that
         name.
 
-        Raises `ImportError` where openpyxl isn't installed and `UnknownParty` for an unknown
+        Raises `MissingPackage` where openpyxl isn't installed and `UnknownParty` for an unknown
         party.
         """
         content = self.workbook(party)
@@ -110,7 +110,7 @@ class Looks:
     def plot(self, party: Optional[str] = None) -> Any:
         """A figure of matplotlib: the cash flows by date, an axis a currency, received upwards.
 
-        Raises `ImportError` where matplotlib isn't installed and `UnknownParty` for an unknown
+        Raises `MissingPackage` where matplotlib isn't installed and `UnknownParty` for an unknown
         party.
         """
         from .plots import figure_of

@@ -9,6 +9,7 @@ from typing import TYPE_CHECKING, Any, Sequence
 
 from . import palette
 from .compare import HEADS
+from .packages import package
 from .tables import RIGHT, exchange_table, folded, ledger_table, period_table
 
 if TYPE_CHECKING:
@@ -20,13 +21,8 @@ TEMPLATES = Path(__file__).with_name("templates")
 
 @functools.lru_cache(maxsize=None)
 def environment() -> Any:
-    """The templates, read once. Raises `ImportError` where Jinja2 isn't installed."""
-    try:
-        import jinja2
-    except ImportError as missing:
-        raise ImportError(
-            "a page needs Jinja2, which isn't installed (Debian: python3-jinja2)"
-        ) from missing
+    """The templates, read once. Raises `MissingPackage` where Jinja2 isn't installed."""
+    jinja2 = package("jinja2", "a page", "Jinja2", "python3-jinja2")
     made = jinja2.Environment(
         loader=jinja2.FileSystemLoader(TEMPLATES),
         autoescape=True,

@@ -7,12 +7,14 @@ from __future__ import annotations
 
 from typing import Any, Dict, List, NamedTuple, Optional
 
-from .documents import Document, at, child, children, streams_of, text_of, value_of
+from .carrier import child_of, items_of, streams_of
+from .documents import Document, at, text_of, value_of
 from .clean import shown
 from .printed import StreamText
+from .tools import BadInput
 
 
-class UnknownParty(ValueError):
+class UnknownParty(BadInput, ValueError):
     """No party of the streams has that name. The text of the error is one plain sentence."""
 
 
@@ -67,7 +69,7 @@ class Parties(NamedTuple):
 
 
 def _href(stream: Any, name: str) -> Optional[str]:
-    reference = child(stream, name)
+    reference = child_of(stream, name)
     href = reference.get("@href") if isinstance(reference, dict) else None
     return href if isinstance(href, str) else None
 
@@ -85,11 +87,11 @@ def _names(value: Any) -> Dict[str, List[str]]:
         at(value, "trade"),
         at(value, "dataDocument/trade"),
     ):
-        for party in children(holder, "party"):
+        for party in items_of(holder, "party"):
             called = [
                 text_of(item)
                 for kind in ("partyName", "partyId")
-                for item in children(party, kind)
+                for item in items_of(party, kind)
             ]
             known = [name for name in called if name]
             ident = party.get("@id") if isinstance(party, dict) else None

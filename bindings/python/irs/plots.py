@@ -9,16 +9,7 @@ from typing import Any, List, Sequence
 
 from .clean import shown
 from .ladder import CashFlow
-
-
-def _matplotlib() -> Any:
-    try:
-        from matplotlib import figure
-    except ImportError as missing:
-        raise ImportError(
-            "plot() needs matplotlib, which isn't installed (Debian: python3-matplotlib)"
-        ) from missing
-    return figure
+from .packages import package
 
 
 def _draw(axis: Any, currency: str, flows: Sequence[CashFlow]) -> None:
@@ -45,11 +36,11 @@ def _draw(axis: Any, currency: str, flows: Sequence[CashFlow]) -> None:
 
 
 def figure_of(flows: List[CashFlow], title: str) -> Any:
-    """A figure with an axis a currency. Raises `ImportError` where matplotlib isn't installed."""
+    """A figure with an axis a currency. Raises `MissingPackage` where matplotlib isn't
+    installed."""
+    figure = package("matplotlib.figure", "plot()", "matplotlib", "python3-matplotlib")
     currencies = sorted({flow.currency for flow in flows})
-    made = _matplotlib().Figure(
-        figsize=(9, 2 + 2.2 * max(1, len(currencies))), layout="constrained"
-    )
+    made = figure.Figure(figsize=(9, 2 + 2.2 * max(1, len(currencies))), layout="constrained")
     axes = made.subplots(max(1, len(currencies)), 1, sharex=True, squeeze=False)
     for axis, currency in zip(axes[:, 0], currencies):
         _draw(axis, currency, [flow for flow in flows if flow.currency == currency])

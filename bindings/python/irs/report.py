@@ -16,11 +16,10 @@ from pathlib import Path
 from typing import List, Optional
 
 from .arguments import day, parser_of
-from .clean import shown
-from .inputs import Stopped, Inputs, Named, read_calendars, read_named
+from .inputs import Inputs, Named, read_calendars, read_named
 from .look import look_at
-from .parties import UnknownParty
 from .pages import environment, report
+from .tools import BadInput, Parser, ended, write_whole
 
 
 class Asked(argparse.Namespace):
@@ -35,7 +34,7 @@ class Asked(argparse.Namespace):
     today: date
 
 
-def parser() -> argparse.ArgumentParser:
+def parser() -> Parser:
     """The words that irs-report takes."""
     made = parser_of("irs-report", __doc__ or "")
     made.add_argument(
@@ -67,7 +66,7 @@ def _beside(trade: Path, *names: str) -> Optional[Named]:
 
 def inputs_of(asked: Asked, trade: Path) -> Inputs:
     """The files of a trade: those that options name, else those that lie beside it. Raises
-    `Stopped`."""
+    `BadInput`."""
     document = read_named(trade)
     fixings = (
         _beside(trade, f"{trade.stem}.fixings", "fixings")
@@ -84,28 +83,19 @@ def inputs_of(asked: Asked, trade: Path) -> Inputs:
     return Inputs(document, fixings, flows, read_calendars(paths, document.content))
 
 
+def _written(arguments: Optional[List[str]]) -> int:
+    asked = parser().parse_args(arguments, Asked())
+    if asked.flows is not None and len(asked.trades) > 1:
+        raise BadInput("--flows goes with a single trade")
+    environment()
+    looks = [look_at(inputs_of(asked, trade), asked.today, asked.party) for trade in asked.trades]
+    write_whole(report(looks), asked.output)
+    return 0
+
+
 def main(arguments: Optional[List[str]] = None) -> int:
     """Writes the report; 0 where it is written, and 2, with a sentence, where it isn't."""
-    made = parser()
-    asked = made.parse_args(arguments, Asked())
-    if asked.flows is not None and len(asked.trades) > 1:
-        made.error("--flows goes with a single trade")
-    try:
-        environment()
-        looks = [
-            look_at(inputs_of(asked, trade), asked.today, asked.party) for trade in asked.trades
-        ]
-        asked.output.write_text(report(looks), encoding="utf-8")
-    except OSError as why:
-        print(
-            f"irs-report: {shown(str(asked.output))} can't be written: {why.strerror or why}",
-            file=sys.stderr,
-        )
-        return 2
-    except (Stopped, ImportError, UnknownParty) as why:
-        print(f"irs-report: {why}", file=sys.stderr)
-        return 2
-    return 0
+    return ended("irs-report", _written, arguments)
 
 
 if __name__ == "__main__":

@@ -13,6 +13,7 @@ from decimal import Decimal
 from typing import IO, Any, List, Optional, Sequence, Tuple
 
 from .clean import cell
+from .packages import package
 from .tables import AMOUNT, COUNT, DATE, NOTIONAL, RATE, Column, Table
 
 #: How many digits a number of a spreadsheet keeps.
@@ -76,16 +77,6 @@ def _value(column: Column, text: Optional[str]) -> Tuple[Any, Optional[str]]:
     return _word(text, column), None
 
 
-def _openpyxl() -> Any:
-    try:
-        import openpyxl
-    except ImportError as missing:
-        raise ImportError(
-            "a workbook needs openpyxl, which isn't installed (Debian: python3-openpyxl)"
-        ) from missing
-    return openpyxl
-
-
 def _row(sheet: Any, table: Table, row: Sequence[Optional[str]], made: Any) -> List[Any]:
     cells = []
     for column, text in zip(table.columns, row):
@@ -100,9 +91,9 @@ def _row(sheet: Any, table: Table, row: Sequence[Optional[str]], made: Any) -> L
 def workbook(tables: Sequence[Table], about: Sequence[str] = ()) -> bytes:
     """A workbook with a sheet a table, and a first sheet that says what it is.
 
-    Raises `ImportError` where openpyxl isn't installed.
+    Raises `MissingPackage` where openpyxl isn't installed.
     """
-    openpyxl = _openpyxl()
+    openpyxl = package("openpyxl", "a workbook", "openpyxl", "python3-openpyxl")
     from openpyxl.cell import WriteOnlyCell
 
     book = openpyxl.Workbook(write_only=True)

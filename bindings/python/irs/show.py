@@ -20,10 +20,10 @@ from .arguments import count, day, parser_of
 from .clean import shown
 from .due import net_rows, net_table
 from .engine import ask
-from .inputs import Stopped, Inputs, read_calendars, read_document, read_named
+from .inputs import Inputs, read_calendars, read_document, read_named
 from .ladder import CashFlow, cash_flows, view_sentence, viewer
 from .looks import tables_of
-from .parties import Parties, UnknownParty, parties_of
+from .parties import Parties, parties_of
 from .printed import StreamText, printed, within
 from .sheets import csv_text, workbook
 from .tables import (
@@ -39,6 +39,7 @@ from .tables import (
     period_table,
     without,
 )
+from .tools import BadInput, Parser, ended, write_whole
 
 #: Columns of the periods that the terminal leaves out, unless they are asked for.
 UNADJUSTED = tuple(ADJUSTED_FROM.values())
@@ -72,7 +73,7 @@ class Asked(argparse.Namespace):
     json: bool
 
 
-def parser() -> argparse.ArgumentParser:
+def parser() -> Parser:
     """The words that irs-show takes."""
     made = parser_of("irs-show", __doc__ or "")
     made.add_argument(
@@ -210,24 +211,27 @@ def json_text(streams: List[StreamText], parties: Parties, party: Optional[str])
     )
 
 
-def _written(target: str, content: bytes) -> None:
-    if target == "-":
-        sys.stdout.buffer.write(content)
-        return
+def _written(target: str, text: str) -> None:
+    write_whole(text, None if target == "-" else Path(target))
+
+
+def _written_workbook(target: str, content: bytes) -> None:
     try:
         Path(target).write_bytes(content)
     except OSError as why:
-        raise Stopped(f"{shown(target)} can't be written: {why.strerror or why}") from why
+        raise BadInput(f"{shown(target)} can't be written: {why.strerror or why}") from why
 
 
 def _shown(asked: Asked, streams: List[StreamText], parties: Parties) -> None:
     if asked.csv is not None:
         flows, periods, exchanges = tables_of(streams, parties, asked.party)
         table = {"flows": flows, "periods": periods, "exchanges": exchanges}[asked.table]
-        _written(asked.csv, csv_text(table).encode())
+        _written(asked.csv, csv_text(table))
     if asked.xlsx is not None:
         sentence = view_sentence(parties, viewer(parties, asked.party))
-        _written(asked.xlsx, workbook(tables_of(streams, parties, asked.party), [sentence]))
+        _written_workbook(
+            asked.xlsx, workbook(tables_of(streams, parties, asked.party), [sentence])
+        )
     if asked.json:
         print(json_text(streams, parties, asked.party))
     if asked.csv is None and asked.xlsx is None and not asked.json:
@@ -243,7 +247,7 @@ def _inputs(asked: Asked) -> Inputs:
 def _answer(command: str, inputs: Inputs) -> bytes:
     reply = ask(command, inputs)
     if reply.status:
-        raise Stopped(f"{reply.line}: {reply.sentence}" if reply.line else reply.sentence)
+        raise BadInput(f"{reply.line}: {reply.sentence}" if reply.line else reply.sentence)
     return reply.text
 
 
@@ -252,9 +256,9 @@ def _shown_net(asked: Asked, since: Optional[date], text: bytes, parties: Partie
     rows = [row for row in net_rows(text, parties) if first <= row.day <= last][: asked.next]
     table = net_table(rows)
     if asked.csv is not None:
-        _written(asked.csv, csv_text(table).encode())
+        _written(asked.csv, csv_text(table))
     if asked.xlsx is not None:
-        _written(asked.xlsx, workbook([table]))
+        _written_workbook(asked.xlsx, workbook([table]))
     if asked.json:
         print(json.dumps({"net": _records(table)}, indent=1))
     if asked.csv is None and asked.xlsx is None and not asked.json:
@@ -273,20 +277,21 @@ def _look(asked: Asked) -> None:
     _shown(asked, streams, parties)
 
 
-def main(arguments: Optional[List[str]] = None) -> int:
-    """Shows a schedule; 0 where it is shown, and 2, with a sentence, where there is none."""
+def _run(arguments: Optional[List[str]]) -> int:
     asked = parser().parse_args(arguments, Asked())
     if isinstance(sys.stdout, io.TextIOWrapper):
         sys.stdout.reconfigure(errors="backslashreplace")
     try:
         _look(asked)
         sys.stdout.flush()
-    except (Stopped, ImportError, UnknownParty) as why:
-        print(f"irs-show: {why}", file=sys.stderr)
-        return 2
     except BrokenPipeError:  # the reader has seen enough
         os.dup2(os.open(os.devnull, os.O_WRONLY), sys.stdout.fileno())
     return 0
+
+
+def main(arguments: Optional[List[str]] = None) -> int:
+    """Shows a schedule; 0 where it is shown, and 2, with a sentence, where there is none."""
+    return ended("irs-show", _run, arguments)
 
 
 if __name__ == "__main__":

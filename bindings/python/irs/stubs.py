@@ -8,7 +8,8 @@ from __future__ import annotations
 
 from typing import Any, Set
 
-from .documents import at, child, text_at
+from .carrier import child_of
+from .documents import at, text_at
 from .words import index_of
 
 
@@ -19,7 +20,7 @@ def _day(element: Any, path: str) -> str:
 def stubs_of(stream: Any, periods: int) -> Set[int]:
     """The numbers of the periods that the terms of a stream ask to be stubs: the first, the last,
     or both."""
-    dates = child(stream, "calculationPeriodDates")
+    dates = child_of(stream, "calculationPeriodDates")
     start = _day(dates, "firstPeriodStartDate/unadjustedDate") or _day(
         dates, "effectiveDate/unadjustedDate"
     )

@@ -9,7 +9,8 @@ from __future__ import annotations
 import re
 from typing import Any, Callable, List, NamedTuple, Optional
 
-from .documents import Document, at, child, children, streams_of, text_at, text_of, value_of
+from .carrier import child_of, items_of, streams_of
+from .documents import Document, at, text_at, text_of, value_of
 from .clean import shown
 from .tables import per_cent, separated
 
@@ -77,11 +78,12 @@ def tenor(element: Any) -> str:
 
 def _centres(adjustments: Any) -> str:
     named = [
-        text_of(item) for item in children(child(adjustments, "businessCenters"), "businessCenter")
+        text_of(item)
+        for item in items_of(child_of(adjustments, "businessCenters"), "businessCenter")
     ]
     if named:
         return ", ".join(shown(name or "") for name in named)
-    reference = child(adjustments, "businessCentersReference")
+    reference = child_of(adjustments, "businessCentersReference")
     href = reference.get("@href") if isinstance(reference, dict) else None
     return f"the centres called {shown(str(href))}" if href is not None else ""
 
@@ -110,7 +112,7 @@ def _relative(text: Optional[str]) -> str:
 
 
 def _steps(about: str, schedule: Any, read: Read) -> List[Term]:
-    steps = children(schedule, "step")
+    steps = items_of(schedule, "step")
     terms = [
         Term(f"{about} {shown(text_at(step, 'stepDate') or '')}", read(text_at(step, "stepValue")))
         for step in steps[:MOST_STEPS]
@@ -126,7 +128,7 @@ def _steps(about: str, schedule: Any, read: Read) -> List[Term]:
 def index_of(rate_element: Any) -> str:
     """The index of a `floatingRate` or a `floatingRateCalculation`, with its tenor."""
     name = shown(text_at(rate_element, "floatingRateIndex") or "", 160)
-    return f"{name} {tenor(child(rate_element, 'indexTenor'))}".strip()
+    return f"{name} {tenor(child_of(rate_element, 'indexTenor'))}".strip()
 
 
 def _factor(text: Optional[str]) -> str:
@@ -146,16 +148,16 @@ def _overnight_terms(parameters: Any) -> List[Term]:
     days = [
         f"{what} of {shown(text_at(parameters, f'{element}/offsetDays') or '')} days"
         for element, what in names
-        if child(parameters, element) is not None
+        if child_of(parameters, element) is not None
     ]
-    named = children(child(parameters, "applicableBusinessDays"), "businessCenter")
+    named = items_of(child_of(parameters, "applicableBusinessDays"), "businessCenter")
     centres = ", ".join(shown(text_of(centre) or "") for centre in named)
     said = ", ".join([f"daily rates by {shown(method)}", *days])
     return [Term("Overnight", f"{said}; business days of {centres}")]
 
 
 def _floating_terms(floating: Any) -> List[Term]:
-    multiplier, spread = child(floating, "floatingRateMultiplierSchedule"), child(
+    multiplier, spread = child_of(floating, "floatingRateMultiplierSchedule"), child_of(
         floating, "spreadSchedule"
     )
     times = "" if multiplier is None else f" times {_factor(text_at(multiplier, 'initialValue'))}"
@@ -164,12 +166,12 @@ def _floating_terms(floating: Any) -> List[Term]:
         Term("Rate", index_of(floating) + times + plus),
         *_steps("times, from", multiplier, _factor),
         *_steps("plus, from", spread, rate),
-        *_overnight_terms(child(floating, "calculationParameters")),
+        *_overnight_terms(child_of(floating, "calculationParameters")),
     ]
 
 
 def _rate_terms(calculation: Any) -> List[Term]:
-    fixed, floating = child(calculation, "fixedRateSchedule"), child(
+    fixed, floating = child_of(calculation, "fixedRateSchedule"), child_of(
         calculation, "floatingRateCalculation"
     )
     if fixed is not None:
@@ -180,7 +182,7 @@ def _rate_terms(calculation: Any) -> List[Term]:
     terms = _floating_terms(floating)
     if text_at(floating, "initialRate") is not None:
         terms.append(Term("First rate", rate(text_at(floating, "initialRate"))))
-    rounding = child(floating, "finalRateRounding")
+    rounding = child_of(floating, "finalRateRounding")
     if rounding is not None:
         terms.append(
             Term(
@@ -197,7 +199,7 @@ def _rate_terms(calculation: Any) -> List[Term]:
 def _stub(stub: Any) -> str:
     if text_at(stub, "stubRate") is not None:
         return rate(text_at(stub, "stubRate"))
-    return index_of(child(stub, "floatingRate"))
+    return index_of(child_of(stub, "floatingRate"))
 
 
 def _stub_terms(stream: Any, dates: Any) -> List[Term]:
@@ -221,31 +223,31 @@ def _stub_terms(stream: Any, dates: Any) -> List[Term]:
 
 def _date(element: Any) -> str:
     day = shown(text_at(element, "unadjustedDate") or "")
-    return f"{day}, {_adjusted(child(element, 'dateAdjustments'))}"
+    return f"{day}, {_adjusted(child_of(element, 'dateAdjustments'))}"
 
 
 def _period_terms(dates: Any) -> List[Term]:
-    frequency = child(dates, "calculationPeriodFrequency")
-    terms = [Term("Starts", _date(child(dates, "effectiveDate")))]
-    if child(dates, "firstPeriodStartDate") is not None:
-        terms.append(Term("First period starts", _date(child(dates, "firstPeriodStartDate"))))
+    frequency = child_of(dates, "calculationPeriodFrequency")
+    terms = [Term("Starts", _date(child_of(dates, "effectiveDate")))]
+    if child_of(dates, "firstPeriodStartDate") is not None:
+        terms.append(Term("First period starts", _date(child_of(dates, "firstPeriodStartDate"))))
     roll = shown(text_at(frequency, "rollConvention") or "")
-    adjusted = _adjusted(child(dates, "calculationPeriodDatesAdjustments"))
+    adjusted = _adjusted(child_of(dates, "calculationPeriodDatesAdjustments"))
     return terms + [
-        Term("Ends", _date(child(dates, "terminationDate"))),
+        Term("Ends", _date(child_of(dates, "terminationDate"))),
         Term("Periods", f"{_every(frequency)}, roll {roll}; {adjusted}"),
     ]
 
 
 def _payment_terms(payments: Any) -> List[Term]:
     when = _offset(
-        child(payments, "paymentDaysOffset"),
+        child_of(payments, "paymentDaysOffset"),
         "at",
         f"period {_relative(text_at(payments, 'payRelativeTo'))}",
     )
-    adjusted = _adjusted(child(payments, "paymentDatesAdjustments"))
+    adjusted = _adjusted(child_of(payments, "paymentDatesAdjustments"))
     terms = [
-        Term("Payments", f"{_every(child(payments, 'paymentFrequency'))}, {when}; {adjusted}")
+        Term("Payments", f"{_every(child_of(payments, 'paymentFrequency'))}, {when}; {adjusted}")
     ]
     for element, about in (
         ("firstPaymentDate", "First payment"),
@@ -260,16 +262,16 @@ def _reset_terms(resets: Any) -> List[Term]:
     if resets is None:
         return []
     relative = text_at(resets, "resetRelativeTo") or "CalculationPeriodStartDate"
-    fixing = child(resets, "fixingDates")
+    fixing = child_of(resets, "fixingDates")
     when = _offset(fixing, "on", "that day") + (
         f", {_adjusted(fixing)}" if fixing is not None else ""
     )
-    adjusted = _adjusted(child(resets, "resetDatesAdjustments"))
+    adjusted = _adjusted(child_of(resets, "resetDatesAdjustments"))
     return [Term("Resets", f"at period {_relative(relative)}, {adjusted}; fixed {when}")]
 
 
 def _exchange_terms(stream: Any) -> List[Term]:
-    exchanges = child(stream, "principalExchanges")
+    exchanges = child_of(stream, "principalExchanges")
     said = [
         word
         for element, word in (
@@ -299,13 +301,13 @@ def _amount_terms(calculation: Any) -> List[Term]:
 
 def stream_terms(stream: Any) -> List[Term]:
     """The terms of a stream in words, in the order in which people ask for them."""
-    dates = child(stream, "calculationPeriodDates")
+    dates = child_of(stream, "calculationPeriodDates")
     return [
         *_amount_terms(at(stream, "calculationPeriodAmount/calculation")),
         *_period_terms(dates),
         *_stub_terms(stream, dates),
-        *_payment_terms(child(stream, "paymentDates")),
-        *_reset_terms(child(stream, "resetDates")),
+        *_payment_terms(child_of(stream, "paymentDates")),
+        *_reset_terms(child_of(stream, "resetDates")),
         *_exchange_terms(stream),
     ]
 

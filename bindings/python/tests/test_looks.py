@@ -1320,12 +1320,13 @@ class Desk(unittest.TestCase):
 
     def test_what_the_command_refuses(self):
         for arguments, sentence in (
-            (("--calendars", EXAMPLES / "nowhere"), b"nowhere is no folder\n"),
-            (("--port", "65536"), b"65536 isn't a port from 0 to 65535\n"),
+            (("--calendars", EXAMPLES / "nowhere"), b"nowhere is no folder"),
+            (("--port", "65536"), b"65536 isn't a port from 0 to 65535"),
         ):
             done = run_show(*arguments, module="irs.desk")
             self.assertEqual((done.returncode, done.stdout), (2, b""))
-            self.assertTrue(done.stderr.endswith(sentence), done.stderr)
+            self.assertIn(sentence, done.stderr)
+            self.assertEqual(done.stderr.count(b"\n"), 1)
 
     def test_the_server_is_for_this_machine_alone(self):
         from irs import desk
