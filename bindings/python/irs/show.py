@@ -28,6 +28,7 @@ from .printed import StreamText, printed, within
 from .sheets import csv_text, workbook
 from .tables import (
     ADJUSTED_FROM,
+    RESET_OF,
     RIGHT,
     Column,
     Table,
@@ -35,19 +36,19 @@ from .tables import (
     flow_table,
     laid_out_rows,
     ledger_table,
-    moved_from,
+    other_dates,
     period_table,
     without,
 )
 from .tools import BadInput, Parser, ended, write_whole
 
 #: Columns of the periods that the terminal leaves out, unless they are asked for.
-UNADJUSTED = tuple(ADJUSTED_FROM.values())
+UNADJUSTED = (*ADJUSTED_FROM.values(), *RESET_OF.values())
 
 #: Columns that only a floating stream fills.
 RESETS = ("reset_date", "fixing_date", "observed")
 
-_MOVED = "* This date isn't the unadjusted one: business days or an offset moved it."
+_MOVED = "* Business days or an offset moved this date."
 
 _TOTALS = (
     "Running totals are sums of the engine's amounts shown here, by currency; "
@@ -137,7 +138,7 @@ def _starred(table: Table) -> Table:
     """The table with a star after each date that isn't the one that it was adjusted from."""
     rows = [
         [f"{cell}*" if under else cell for cell, under in zip(row, unders)]
-        for row, unders in zip(table.rows, moved_from(table))
+        for row, unders in zip(table.rows, other_dates(table, ADJUSTED_FROM))
     ]
     return Table(table.title, table.columns, rows)
 

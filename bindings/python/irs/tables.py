@@ -7,7 +7,7 @@ changes no digit.
 from __future__ import annotations
 
 from decimal import Decimal
-from typing import List, NamedTuple, Optional, Sequence, Tuple
+from typing import List, Mapping, NamedTuple, Optional, Sequence, Tuple
 
 from .ladder import RECEIVES, CashFlow
 from .printed import PaymentText, PeriodText, ResetText, StreamText, known
@@ -237,8 +237,10 @@ ADJUSTED_FROM = {
     "end": "unadjusted_end",
     "payment_date": "unadjusted_payment_date",
     "date": "unadjusted_date",
-    "fixing_date": "reset_date",
 }
+
+#: The column of fixing dates, and that of the reset dates that they are counted from.
+RESET_OF = {"fixing_date": "reset_date"}
 
 
 def without(table: Table, names: Sequence[str]) -> Table:
@@ -314,19 +316,25 @@ def laid_out_rows(table: Table, waits: str = "waits") -> List[List[str]]:
     return [list(row) for row in zip(*columns)]
 
 
-def moved_from(table: Table) -> List[List[str]]:
-    """For each cell the date that it was adjusted from, where that is another one, else empty."""
+def other_dates(table: Table, others: Mapping[str, str]) -> List[List[str]]:
+    """For each cell the date of the column that `others` names beside its own, where that is
+    another date, else empty."""
     names = [column.name for column in table.columns]
-    places = [
-        names.index(ADJUSTED_FROM[name]) if ADJUSTED_FROM.get(name) in names else None
-        for name in names
-    ]
+    places = [names.index(others[name]) if others.get(name) in names else None for name in names]
     return [
         [
             (row[place] or "") if place is not None and row[place] != cell else ""
             for cell, place in zip(row, places)
         ]
         for row in table.rows
+    ]
+
+
+def _unders(table: Table) -> List[List[str]]:
+    adjusted, resets = other_dates(table, ADJUSTED_FROM), other_dates(table, RESET_OF)
+    return [
+        [f"from {day}" if day else f"reset {reset}" if reset else "" for day, reset in zip(*rows)]
+        for rows in zip(adjusted, resets)
     ]
 
 
@@ -338,14 +346,14 @@ def cells_of(table: Table, waits: str = "waits") -> List[List[Cell]]:
             Cell(text, under, "right open" if printed is None else side)
             for text, under, printed, side in zip(texts, unders, row, sides)
         ]
-        for texts, unders, row in zip(laid_out_rows(table, waits), moved_from(table), table.rows)
+        for texts, unders, row in zip(laid_out_rows(table, waits), _unders(table), table.rows)
     ]
 
 
 def folded(table: Table, left_out: Sequence[str] = ()) -> Tuple[List[Column], List[List[Cell]]]:
     """The columns and cells of a table, with each unadjusted date under its adjusted one in place
     of a column of its own, and without the columns of these names."""
-    gone = {*ADJUSTED_FROM.values(), *left_out}
+    gone = {*ADJUSTED_FROM.values(), *RESET_OF.values(), *left_out}
     places = [place for place, column in enumerate(table.columns) if column.name not in gone]
     cells = cells_of(table)
     return [table.columns[place] for place in places], [
