@@ -22,7 +22,8 @@ from typing import List, Optional, Sequence, Tuple
 from .calendar_files import WEEKDAYS, Calendar, corrected, differences, read_calendars, text_of
 from .calendar_sources import Choice, Source, shortened, source_of, years_text
 from .calls import check
-from .carrier import Document, read_document, streams_of, texts_of
+from .checked import Checked, read_checked
+from .documents import streams_of, texts_of
 from .centres import CENTRES
 from .csv_rows import DATE_FORMS, delimiter_of
 from .errors import Refused
@@ -73,7 +74,7 @@ def needed(paths: Sequence[Path], choice: Choice, shorten: bool) -> List[Calenda
     The engine decides whether they reach far enough; a year is added on both sides where they don't.
     `BadInput` where a centre can't be made, or the engine refuses a document for another reason.
     """
-    documents = [read_document(path) for path in paths]
+    documents = [read_checked(path) for path in paths]
     streams = [stream for document in documents for stream in streams_of(document.value)]
     codes = list(dict.fromkeys(texts_of(streams, "businessCenter")))
     years = [int(text[:4]) for text in texts_of(streams, "unadjustedDate")]
@@ -95,7 +96,7 @@ class _TooShort(Exception):
     """A document needs days outside the years of its calendars."""
 
 
-def _check_all(documents: Sequence[Document], text: str, wider: int) -> None:
+def _check_all(documents: Sequence[Checked], text: str, wider: int) -> None:
     for document in documents:
         try:
             check(document.content, [text])

@@ -9,8 +9,7 @@ from __future__ import annotations
 import re
 from typing import Any, Dict, FrozenSet, List, NamedTuple, Optional, Sequence
 
-from .carrier import child_of, items_of, streams_of
-from .documents import at, text_at
+from .documents import child_of, items_of, streams_of, text_at
 from .clean import shown
 from .tables import separated
 
@@ -101,8 +100,8 @@ class Comparison(NamedTuple):
     departs: bool
 
 
-def _text(row: Any, path: str) -> str:
-    return shown(text_at(row, path) or "")
+def _text(row: Any, *names: str) -> str:
+    return shown(text_at(row, *names) or "")
 
 
 def _exchange(row: Any) -> Fields:
@@ -114,8 +113,8 @@ def _payment(row: Any) -> Fields:
         "unadjustedPaymentDate": _text(row, "unadjustedPaymentDate"),
         "adjustedPaymentDate": _text(row, "adjustedPaymentDate"),
         "calculationPeriod": str(len(items_of(row, "calculationPeriod"))),
-        "currency": _text(row, "forecastPaymentAmount/currency"),
-        "amount": _text(row, "forecastPaymentAmount/amount"),
+        "currency": _text(row, "forecastPaymentAmount", "currency"),
+        "amount": _text(row, "forecastPaymentAmount", "amount"),
     }
 
 
@@ -123,12 +122,12 @@ def _period(row: Any) -> Fields:
     fields = {field: _text(row, field) for field in FIELDS["period"]}
     return {
         **fields,
-        "rate": _text(row, "fixedRate") or _text(row, "floatingRateDefinition/calculatedRate"),
+        "rate": _text(row, "fixedRate") or _text(row, "floatingRateDefinition", "calculatedRate"),
     }
 
 
 def _reset(row: Any) -> Fields:
-    observation = at(row, "floatingRateDefinition/rateObservation")
+    observation = child_of(row, "floatingRateDefinition", "rateObservation")
     return {field: _text(observation, field) for field in FIELDS["reset"]}
 
 
@@ -139,7 +138,7 @@ def _rows(stream: Any) -> Dict[str, Dict[int, Fields]]:
     observed = {
         number: _reset(period)
         for number, period in enumerate(periods, 1)
-        if at(period, "floatingRateDefinition/rateObservation") is not None
+        if child_of(period, "floatingRateDefinition", "rateObservation") is not None
     }
     return {
         "exchange": dict(enumerate(map(_exchange, items_of(flows, "principalExchange")), 1)),

@@ -1,16 +1,14 @@
-"""A document as its JSON value, to be shown: the names of its parties and its terms in words.
+"""The elements of a document of terms, read leniently: what isn't there or isn't as expected is absent.
 
-Only the engine says what the terms mean. Here a document is read for what is shown beside the
-engine's answer, and leniently: what isn't there or isn't as expected is absent. Nothing of it is
-proved.
+Only the engine says what terms mean. Names and texts are read here, to show them beside its answer, and to know
+which files a document needs (docs/FORMATS.md, 'The carrier'). Nothing of it is proved.
 """
 from __future__ import annotations
 
 import json
 from collections.abc import Mapping
-from typing import Any, Optional, Union
+from typing import Any, Iterator, List, Optional, Union
 
-from .carrier import child_of, leaf_text
 from .library import Text, as_bytes
 
 Document = Union[Text, Mapping[str, Any]]
@@ -30,28 +28,59 @@ def json_of(document: bytes) -> bytes:
 def value_of(document: Document) -> Any:
     """The JSON value of a document, its numbers as their texts, or `None` where it has none."""
     try:
-        if isinstance(document, Mapping):
-            text = json.dumps(document)
-        else:
-            text = as_bytes(document).decode()
+        text = json.dumps(document) if isinstance(document, Mapping) else as_bytes(document).decode()
         return json.loads(text, parse_int=str, parse_float=str)
     except (ValueError, RecursionError):
         return None
 
 
-def at(value: Any, path: str) -> Any:
-    """The element at a path below a value, or `None`."""
-    return child_of(value, *path.split("/"))
+def items_of(value: Any, name: str) -> List[Any]:
+    """The values of a member, as a list: a repeated element is an array or a single value."""
+    own = value.get(name) if isinstance(value, dict) else None
+    if own is None:
+        return []
+    return list(own) if isinstance(own, list) else [own]
 
 
-def text_of(value: Any) -> Optional[str]:
-    """The text of a leaf without white space at its ends, or `None` where it is no leaf."""
-    inner = value.get("#text") if isinstance(value, dict) else value
-    if isinstance(inner, bool):
-        return "true" if inner else "false"
-    return leaf_text(value)
+def child_of(value: Any, *names: str) -> Any:
+    """The element on this way down, or `None`."""
+    for name in names:
+        value = next(iter(items_of(value, name)), None)
+    return value
 
 
-def text_at(value: Any, path: str) -> Optional[str]:
-    """The text of the leaf at a path below a value, or `None`."""
-    return text_of(at(value, path))
+def leaf_text(value: Any) -> Optional[str]:
+    """The text of a leaf without white space at its ends: a string, `true` or `false`, or an object's `#text`.
+
+    `None` where it is no leaf.
+    """
+    if isinstance(value, dict):
+        value = value.get("#text")
+    if isinstance(value, bool):
+        return "true" if value else "false"
+    return value.strip(" \t\r\n") if isinstance(value, str) else None
+
+
+def text_at(value: Any, *names: str) -> Optional[str]:
+    """The text of the leaf on this way down, or `None`."""
+    return leaf_text(child_of(value, *names))
+
+
+def texts_of(value: Any, name: str) -> Iterator[str]:
+    """The texts of every member of this name, wherever it is."""
+    if isinstance(value, list):
+        for item in value:
+            yield from texts_of(item, name)
+    elif isinstance(value, dict):
+        yield from (text for text in map(leaf_text, items_of(value, name)) if text is not None)
+        for member in value.values():
+            yield from texts_of(member, name)
+
+
+def streams_of(value: Any) -> List[Any]:
+    """The streams of a document, in order."""
+    for way in (("swap",), ("trade", "swap"), ("dataDocument", "trade", "swap")):
+        swap = child_of(value, *way)
+        if swap is not None:
+            return items_of(swap, "swapStream")
+    return []

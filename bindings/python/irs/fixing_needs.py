@@ -12,7 +12,8 @@ from decimal import Decimal
 from typing import Any, Collection, Iterator, List, Optional, Sequence, Set, Tuple
 
 from .calls import overnight, schedule
-from .carrier import Document, child_of, leaf_text, streams_of
+from .checked import Checked
+from .documents import child_of, streams_of, text_at
 from .errors import Error, Refused
 from .rows import Missing, Reset
 from .tools import BadInput
@@ -39,8 +40,8 @@ Rate = Tuple[str, str]
 
 def _rate(value: Any) -> Rate:
     tenor = child_of(value, "indexTenor")
-    number, unit = (leaf_text(child_of(tenor, name)) for name in ("periodMultiplier", "period"))
-    index = leaf_text(child_of(value, "floatingRateIndex")) or ""
+    number, unit = (text_at(tenor, name) for name in ("periodMultiplier", "period"))
+    index = text_at(value, "floatingRateIndex") or ""
     return ("-" if number is None or unit is None else f"{int(number)}{unit}"), index
 
 
@@ -60,7 +61,7 @@ def _probe(resets: Sequence[Reset], streams: Sequence[Any], rates: Sequence[Rate
     return "\n".join(sorted(lines)) + "\n"
 
 
-def reset_needs(document: Document, calendars: Sequence[bytes], without: Collection[int] = ()) -> Set[Key]:
+def reset_needs(document: Checked, calendars: Sequence[bytes], without: Collection[int] = ()) -> Set[Key]:
     """The fixings that `schedule` asks for, but for the streams of `without`.
 
     `Refused` or `BadFile` where the engine gives no schedule.
@@ -84,7 +85,7 @@ def reset_needs(document: Document, calendars: Sequence[bytes], without: Collect
 
 
 def overnight_needs(
-    document: Document, stream: int, calendars: Sequence[bytes], until: Optional[datetime.date]
+    document: Checked, stream: int, calendars: Sequence[bytes], until: Optional[datetime.date]
 ) -> Set[Key]:
     """The daily rates that `overnight` asks for in a stream, up to a day.
 
@@ -105,7 +106,7 @@ def overnight_needs(
         days |= lacking
 
 
-def daily_streams(document: Document, indexes: Collection[str]) -> List[int]:
+def daily_streams(document: Checked, indexes: Collection[str]) -> List[int]:
     """The numbers of the floating streams with one of these indexes."""
     found: List[int] = []
     for number, stream in enumerate(streams_of(document.value), 1):
@@ -116,7 +117,7 @@ def daily_streams(document: Document, indexes: Collection[str]) -> List[int]:
 
 
 def needs_of(
-    document: Document,
+    document: Checked,
     calendars: Sequence[bytes],
     streams: Collection[int] = (),
     until: Optional[datetime.date] = None,
@@ -131,7 +132,7 @@ def needs_of(
     return {need for need in needs if until is None or need.date <= until}
 
 
-def every_need(document: Document, calendars: Sequence[bytes], daily: Collection[str]) -> Set[Key]:
+def every_need(document: Checked, calendars: Sequence[bytes], daily: Collection[str]) -> Set[Key]:
     """What a document needs in any way: what `schedule` asks for, and the daily rates of these indexes where
     `overnight` takes them."""
     needs = needs_of(document, calendars)

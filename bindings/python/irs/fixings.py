@@ -17,7 +17,7 @@ import sys
 from pathlib import Path
 from typing import List, Optional, Sequence, Set, Tuple
 
-from .carrier import read_document
+from .checked import read_checked
 from .csv_rows import DATE_FORMS, delimiter_of
 from .fixing_files import Columns, fixings_of, keys_of, text_of
 from .fixing_needs import Key, every_need, needs_of
@@ -36,7 +36,7 @@ def missing(
 ) -> List[Key]:
     """The fixings that a document needs and the file lacks, up to a day, by date. Of the streams the daily
     rates are meant that `overnight` compounds. `BadInput` where the engine gives no answer."""
-    needs = needs_of(read_document(document), [read_bytes(path) for path in calendars], streams, until)
+    needs = needs_of(read_checked(document), [read_bytes(path) for path in calendars], streams, until)
     return sorted(needs - (set(keys_of(fixings)) if fixings is not None else set()))
 
 
@@ -48,7 +48,7 @@ def unused(fixings: Path, documents: Sequence[Path], calendars: Sequence[Path]) 
     days = [read_bytes(path) for path in calendars]
     needed: Set[Key] = set()
     for document in documents:
-        needed |= every_need(read_document(document), days, daily)
+        needed |= every_need(read_checked(document), days, daily)
     return [key for key in lines if key not in needed]
 
 

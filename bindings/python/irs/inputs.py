@@ -10,8 +10,7 @@ import sys
 from pathlib import Path
 from typing import Dict, List, NamedTuple, Optional, Sequence, Set
 
-from .carrier import texts_of
-from .documents import NotRead, json_of, value_of
+from .documents import NotRead, json_of, texts_of, value_of
 from .clean import shown
 from .library import Text
 from .tools import BadInput

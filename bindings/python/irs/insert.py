@@ -7,8 +7,7 @@ from __future__ import annotations
 import json
 from typing import List, Tuple
 
-from .carrier import child_of, streams_of
-from .documents import value_of
+from .documents import child_of, streams_of, value_of
 from .places import member_of, stream_spot
 
 

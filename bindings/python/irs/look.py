@@ -12,8 +12,7 @@ from datetime import date
 from typing import Any, List, NamedTuple, Optional, Sequence
 
 from .calls import Schedule
-from .carrier import streams_of
-from .documents import NotRead, json_of, value_of
+from .documents import NotRead, json_of, streams_of, value_of
 from .clean import shown
 from .compare import Comparison, mark_of, side_by_side
 from .due import counted, net_rows, net_table

@@ -18,7 +18,7 @@ from typing import Any, Dict, List, Mapping, Optional, Tuple
 
 from .builder import Overnight, swap
 from .calls import check
-from .carrier import texts_of
+from .documents import texts_of
 from .conventions import TABLE
 from .errors import Refused
 from .tools import BadInput, Parser, ended, write_whole

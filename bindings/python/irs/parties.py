@@ -7,8 +7,7 @@ from __future__ import annotations
 
 from typing import Any, Dict, List, NamedTuple, Optional
 
-from .carrier import child_of, items_of, streams_of
-from .documents import Document, at, text_of, value_of
+from .documents import Document, child_of, items_of, leaf_text, streams_of, value_of
 from .clean import shown
 from .printed import StreamText
 from .tools import BadInput
@@ -83,13 +82,13 @@ def _names(value: Any) -> Dict[str, List[str]]:
     names: Dict[str, List[str]] = {}
     for holder in (
         value,
-        at(value, "dataDocument"),
-        at(value, "trade"),
-        at(value, "dataDocument/trade"),
+        child_of(value, "dataDocument"),
+        child_of(value, "trade"),
+        child_of(value, "dataDocument", "trade"),
     ):
         for party in items_of(holder, "party"):
             called = [
-                text_of(item)
+                leaf_text(item)
                 for kind in ("partyName", "partyId")
                 for item in items_of(party, kind)
             ]

@@ -64,7 +64,7 @@ def members_of(text: str, spot: Spot) -> Iterator[Tuple[str, Spot]]:
         place = _skip(text, place + 1)
 
 
-def items_of(text: str, spot: Spot) -> Iterator[Spot]:
+def item_spots(text: str, spot: Spot) -> Iterator[Spot]:
     """The places of the items of an array; a value that is no array is its own item."""
     if text[spot.start] != "[":
         yield spot
@@ -81,7 +81,7 @@ def items_of(text: str, spot: Spot) -> Iterator[Spot]:
 
 def item_of(text: str, spot: Spot, number: int) -> Optional[Spot]:
     """The place of the item of that number, from 1, or `None`."""
-    for place, item in enumerate(items_of(text, spot), 1):
+    for place, item in enumerate(item_spots(text, spot), 1):
         if place == number:
             return item
     return None
@@ -145,9 +145,9 @@ def element_spot(text: str, stream: int, path: str, index: int) -> Optional[Spot
 def _counted(text: str, flows: Spot, index: int) -> Optional[Spot]:
     """The calculation period of that number, counted through the payments of a stream."""
     payments = member_of(text, flows, "paymentCalculationPeriod")
-    for payment in () if payments is None else items_of(text, payments):
+    for payment in () if payments is None else item_spots(text, payments):
         periods = member_of(text, payment, "calculationPeriod")
-        for period in () if periods is None else items_of(text, periods):
+        for period in () if periods is None else item_spots(text, periods):
             index -= 1
             if index == 0:
                 return period

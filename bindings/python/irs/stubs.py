@@ -8,21 +8,20 @@ from __future__ import annotations
 
 from typing import Any, Set
 
-from .carrier import child_of
-from .documents import at, text_at
+from .documents import child_of, text_at
 from .words import index_of
 
 
-def _day(element: Any, path: str) -> str:
-    return (text_at(element, path) or "").rstrip("Z")
+def _day(element: Any, *names: str) -> str:
+    return (text_at(element, *names) or "").rstrip("Z")
 
 
 def stubs_of(stream: Any, periods: int) -> Set[int]:
     """The numbers of the periods that the terms of a stream ask to be stubs: the first, the last,
     or both."""
     dates = child_of(stream, "calculationPeriodDates")
-    start = _day(dates, "firstPeriodStartDate/unadjustedDate") or _day(
-        dates, "effectiveDate/unadjustedDate"
+    start = _day(dates, "firstPeriodStartDate", "unadjustedDate") or _day(
+        dates, "effectiveDate", "unadjustedDate"
     )
     first, last = _day(dates, "firstRegularPeriodStartDate"), _day(
         dates, "lastRegularPeriodEndDate"
@@ -32,7 +31,7 @@ def stubs_of(stream: Any, periods: int) -> Set[int]:
     final = (
         kind.endswith("Final")
         or bool(last)
-        and last != _day(dates, "terminationDate/unadjustedDate")
+        and last != _day(dates, "terminationDate", "unadjustedDate")
     )
     return {number for number, asked in ((1, initial), (periods, final)) if asked and periods}
 
@@ -43,7 +42,7 @@ def index_of_period(stream: Any, number: int, periods: int) -> str:
     A period with an `initialStub` or a `finalStub` of a `floatingRate` observes that one.
     """
     for element, place in (("initialStub", 1), ("finalStub", periods)):
-        floating = at(stream, f"stubCalculationPeriodAmount/{element}/floatingRate")
+        floating = child_of(stream, "stubCalculationPeriodAmount", element, "floatingRate")
         if number == place and floating is not None:
             return index_of(floating)
-    return index_of(at(stream, "calculationPeriodAmount/calculation/floatingRateCalculation"))
+    return index_of(child_of(stream, "calculationPeriodAmount", "calculation", "floatingRateCalculation"))

@@ -9,8 +9,7 @@ from __future__ import annotations
 import re
 from typing import Any, Callable, List, NamedTuple, Optional
 
-from .carrier import child_of, items_of, streams_of
-from .documents import Document, at, text_at, text_of, value_of
+from .documents import Document, child_of, items_of, leaf_text, streams_of, text_at, value_of
 from .clean import shown
 from .tables import per_cent, separated
 
@@ -78,7 +77,7 @@ def tenor(element: Any) -> str:
 
 def _centres(adjustments: Any) -> str:
     named = [
-        text_of(item)
+        leaf_text(item)
         for item in items_of(child_of(adjustments, "businessCenters"), "businessCenter")
     ]
     if named:
@@ -146,12 +145,12 @@ def _overnight_terms(parameters: Any) -> List[Term]:
         ("lockout", "lockout"),
     )
     days = [
-        f"{what} of {shown(text_at(parameters, f'{element}/offsetDays') or '')} days"
+        f"{what} of {shown(text_at(parameters, element, 'offsetDays') or '')} days"
         for element, what in names
         if child_of(parameters, element) is not None
     ]
     named = items_of(child_of(parameters, "applicableBusinessDays"), "businessCenter")
-    centres = ", ".join(shown(text_of(centre) or "") for centre in named)
+    centres = ", ".join(shown(leaf_text(centre) or "") for centre in named)
     said = ", ".join([f"daily rates by {shown(method)}", *days])
     return [Term("Overnight", f"{said}; business days of {centres}")]
 
@@ -215,7 +214,7 @@ def _stub_terms(stream: Any, dates: Any) -> List[Term]:
         ("initialStub", "Rate of the first stub"),
         ("finalStub", "Rate of the last stub"),
     ):
-        stub = at(stream, f"stubCalculationPeriodAmount/{element}")
+        stub = child_of(stream, "stubCalculationPeriodAmount", element)
         if stub is not None:
             terms.append(Term(about, _stub(stub)))
     return terms
@@ -285,7 +284,7 @@ def _exchange_terms(stream: Any) -> List[Term]:
 
 
 def _amount_terms(calculation: Any) -> List[Term]:
-    notional = at(calculation, "notionalSchedule/notionalStepSchedule")
+    notional = child_of(calculation, "notionalSchedule", "notionalStepSchedule")
     currency = shown(text_at(notional, "currency") or "")
     terms = [
         Term("Notional", f"{currency} {amount(text_at(notional, 'initialValue'))}"),
@@ -303,7 +302,7 @@ def stream_terms(stream: Any) -> List[Term]:
     """The terms of a stream in words, in the order in which people ask for them."""
     dates = child_of(stream, "calculationPeriodDates")
     return [
-        *_amount_terms(at(stream, "calculationPeriodAmount/calculation")),
+        *_amount_terms(child_of(stream, "calculationPeriodAmount", "calculation")),
         *_period_terms(dates),
         *_stub_terms(stream, dates),
         *_payment_terms(child_of(stream, "paymentDates")),

@@ -9,7 +9,7 @@ from commands import TOP, InAFolder, ran
 import irs
 from irs import new
 from irs.builder import Overnight, rate_text, swap
-from irs.carrier import child_of, streams_of, texts_of
+from irs.documents import child_of, streams_of, texts_of
 from irs.conventions import CONVENTIONS
 from irs.probes import end_of
 

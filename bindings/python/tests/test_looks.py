@@ -1396,7 +1396,7 @@ class Places(unittest.TestCase):
         self.assertEqual(text[spot.start : spot.end], '{"c":null}')
         first = next(places.members_of(text, root))[1]
         self.assertEqual(
-            [text[item.start : item.end] for item in places.items_of(text, first)],
+            [text[item.start : item.end] for item in places.item_spots(text, first)],
             ["1", '{"b":"}\\"]"}', '"x"'],
         )
 
