@@ -66,6 +66,22 @@ def built(proved: bool) -> Built:
     return found
 
 
+def is_as_proved(of: Built, room: Path) -> None:
+    """Failed where the program and the libraries aren't those that `rt run` and `rt lib` left in crates/*/out."""
+    archive = TOP / "crates" / "irs_c" / "out" / "libirs_c.a"
+    pairs = [(of.program, TOP / "crates" / "irs" / "out" / "irs")]
+    if archive.is_file():
+        made = room / "as proved"
+        made.mkdir()
+        output_of([str(TOP / "bindings" / "build"), str(archive), str(made)])
+        pairs += [(of.archive, made / "libirs.a"), (of.shared, made / "libirs.so")]
+    else:
+        raise Failed("there is no crates/irs_c/out/libirs_c.a: make library builds it")
+    for ours, proved in pairs:
+        if not proved.is_file() or ours.read_bytes() != proved.read_bytes():
+            raise Failed(f"{ours.relative_to(TOP)} isn't what was proved here: make irs library")
+
+
 def output_of(words: List[str], **more: object) -> str:
     """What a command prints; Failed where it doesn't end with 0."""
     try:
