@@ -64,9 +64,15 @@ class InRoom(unittest.TestCase):
 
     def run_tool(self, words: List[str], cwd: Path, **more: str) -> Tuple[int, str, str]:
         """Runs a tool with CDPATH set."""
-        environment = {**os.environ, "PATH": f"{self.room / 'bin'}:{os.environ['PATH']}", "CDPATH": f"{self.room}:/", **more}
-        done = subprocess.run(words, cwd=cwd, env=environment, stdout=subprocess.PIPE, stderr=subprocess.PIPE, text=True,
-                              check=False)
+        environment = {
+            **os.environ,
+            "PATH": f"{self.room / 'bin'}:{os.environ['PATH']}",
+            "CDPATH": f"{self.room}:/",
+            **more,
+        }
+        done = subprocess.run(
+            words, cwd=cwd, env=environment, stdout=subprocess.PIPE, stderr=subprocess.PIPE, text=True, check=False
+        )
         return done.returncode, done.stdout, done.stderr
 
 
@@ -92,8 +98,10 @@ class Manual(InRoom):
 
     def completed(self, *words: str) -> List[str]:
         """What bash offers for the last word."""
-        script = ("source man/irs.bash; compopt() { :; }; COMP_WORDS=(irs \"$@\"); COMP_CWORD=$#; _irs; "
-                  "printf '%s\\n' \"${COMPREPLY[@]}\"")
+        script = (
+            'source man/irs.bash; compopt() { :; }; COMP_WORDS=(irs "$@"); COMP_CWORD=$#; _irs; '
+            "printf '%s\\n' \"${COMPREPLY[@]}\""
+        )
         done = self.run_tool(["bash", "-c", script, "bash", *words], self.room)
         self.assertEqual(done[2], "")
         return sorted(done[1].split("\n")[:-1])
@@ -104,8 +112,10 @@ class Manual(InRoom):
         self.assertEqual(self.completed(""), names)
         self.assertEqual(self.completed("sch"), ["schedule"])
         self.assertEqual(self.completed("schedule", "my"), ["my terms.json"])
-        self.assertEqual(self.completed("schedule", "d", ""), ["-", "bin", "man", "my terms.json"] if (self.room / "bin").exists()
-                         else ["-", "man", "my terms.json"])
+        self.assertEqual(
+            self.completed("schedule", "d", ""),
+            ["-", "bin", "man", "my terms.json"] if (self.room / "bin").exists() else ["-", "man", "my terms.json"],
+        )
         self.assertEqual(self.completed("interpolate", "1", "i"), ["initial"])
         self.assertEqual(self.completed("average", "1", ""), ["plain", "weighted"])
         self.assertEqual(self.completed("check", "d", "a", "b", "my"), ["my terms.json"])
@@ -116,8 +126,12 @@ class Manual(InRoom):
         for command in commands.commands():
             self.assertIn(f"irs {command.name}\\fR", page)
         if shutil.which("mandoc"):
-            said = subprocess.run(["mandoc", "-T", "lint", "-W", "error", str(self.room / "man" / "irs.1")],
-                                  stdout=subprocess.PIPE, text=True, check=False).stdout
+            said = subprocess.run(
+                ["mandoc", "-T", "lint", "-W", "error", str(self.room / "man" / "irs.1")],
+                stdout=subprocess.PIPE,
+                text=True,
+                check=False,
+            ).stdout
             self.assertEqual(said, "")
 
 
@@ -209,7 +223,9 @@ class Prove(InRoom):
         for name in ("low", "mid", "other", "irs"):
             (self.top / "crates" / name / "src").mkdir(parents=True)
             (self.top / "crates" / name / "src" / "lib.rt").write_text("x" * 100_000)
-        self.program("rt", "#!/bin/sh\nmkdir -p out\n[ \"${PWD##*/}\" != \"$BAD\" ] || { echo 'a goal is left'; exit 1; }\n")
+        self.program(
+            "rt", '#!/bin/sh\nmkdir -p out\n[ "${PWD##*/}" != "$BAD" ] || { echo \'a goal is left\'; exit 1; }\n'
+        )
 
     def test_a_line_a_library(self) -> None:
         status, out, _ = self.run_tool(["tools/prove"], self.top)
@@ -233,27 +249,35 @@ class Gate(InRoom):
         top = self.copy("tools/gate")
         (top / ".ci").mkdir()
         (top / "tools" / "version").write_text("#!/bin/sh\n")
-        for name, text in (("tools/version", "#!/bin/sh\n"), (".ci/run", "#!/bin/sh\necho one\necho '34 passed, 0 failed'\nexit $END\n")):
+        for name, text in (
+            ("tools/version", "#!/bin/sh\n"),
+            (".ci/run", "#!/bin/sh\necho one\necho '34 passed, 0 failed'\nexit $END\n"),
+        ):
             (top / name).write_text(text)
             (top / name).chmod(0o755)
         for end in ("0", "1"):
             status, out, _ = self.run_tool(["tools/gate"], top, END=end)
             self.assertEqual((status, out), (int(end), "one\n34 passed, 0 failed\n"))
-            self.assertEqual((top / "build" / "gate").read_text().splitlines()[1:],
-                             ["rattle-kit-1z logic 0123456789abcdef", "34 passed, 0 failed"])
+            self.assertEqual(
+                (top / "build" / "gate").read_text().splitlines()[1:],
+                ["rattle-kit-1z logic 0123456789abcdef", "34 passed, 0 failed"],
+            )
 
 
 class Unproved(unittest.TestCase):
     """What tools/unproved does to the module's text."""
 
-    MODULE = (b'define internal noundef i8 @"irs_c::exports::irs_run"(ptr noundef %a0) #0 {\n'
-              b"  call void @llvm.memset.p0.i64(ptr %r0, i8 -86, i64 1, i1 false)\n"
-              b"  call void @llvm.memset.p0.i64(ptr %r1, i8 0, i64 8, i1 false)\n"
-              b"  ret i8 0\n}\n"
-              b'define internal void @"irs_c::exports::irs_version"(ptr noundef %a0) #0 {\n  ret void\n}\n'
-              b'define internal void @"rattle-llvm-checks::Overflow"(i8 %a0) #8 {\nstart:\n  call void @llvm.trap()\n  unreachable\n}\n'
-              b'define i32 @main() #0 {\n  %r0 = call i8 @"irs_c::exports::irs_run"(ptr null)\n  ret i32 0\n}\n'
-              b'attributes #0 = { nounwind sanitize_address "frame-pointer"="all" }\n')
+    MODULE = (
+        b'define internal noundef i8 @"irs_c::exports::irs_run"(ptr noundef %a0) #0 {\n'
+        b"  call void @llvm.memset.p0.i64(ptr %r0, i8 -86, i64 1, i1 false)\n"
+        b"  call void @llvm.memset.p0.i64(ptr %r1, i8 0, i64 8, i1 false)\n"
+        b"  ret i8 0\n}\n"
+        b'define internal void @"irs_c::exports::irs_version"(ptr noundef %a0) #0 {\n  ret void\n}\n'
+        b'define internal void @"rattle-llvm-checks::Overflow"(i8 %a0) #8 {\n'
+        b"start:\n  call void @llvm.trap()\n  unreachable\n}\n"
+        b'define i32 @main() #0 {\n  %r0 = call i8 @"irs_c::exports::irs_run"(ptr null)\n  ret i32 0\n}\n'
+        b'attributes #0 = { nounwind sanitize_address "frame-pointer"="all" }\n'
+    )
 
     def test_what_changes(self) -> None:
         unproved = tool("unproved")

@@ -186,7 +186,8 @@ def lay(of: Built, root: Path, prefix: str, libdir: str, room: Path) -> List[str
     link = libraries / "libirs.so"
     link.unlink(missing_ok=True)
     link.symlink_to("libirs.so.1")
-    write(PC.format(prefix=prefix or "${pcfiledir}/../..", libdir=libdir, version=of.version), libraries / "pkgconfig" / "irs.pc")
+    stated = PC.format(prefix=prefix or "${pcfiledir}/../..", libdir=libdir, version=of.version)
+    write(stated, libraries / "pkgconfig" / "irs.pc")
     output_of([str(TOP / "tools" / "manual"), str(room / "manual")])
     put(room / "manual" / "irs.1", base / "share" / "man" / "man1" / "irs.1")
     put(room / "manual" / "irs.bash", base / "share" / "bash-completion" / "completions" / "irs")
