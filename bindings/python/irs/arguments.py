@@ -1,11 +1,11 @@
-"""Words that the commands for people share: what they look at, and how a day is written."""
+"""Words of the command line that several commands take: days, numbers, and what a look is made of."""
 from __future__ import annotations
 
 import argparse
 from datetime import date
 from pathlib import Path
 
-from .clean import shown
+from .plain import brief
 from .tools import Parser
 
 
@@ -14,20 +14,20 @@ def day(text: str) -> date:
     try:
         return date.fromisoformat(text)
     except ValueError:
-        raise argparse.ArgumentTypeError(f"{shown(text)} isn't a day as 2024-04-15") from None
+        raise argparse.ArgumentTypeError(f"{brief(text)} isn't a date as 2024-04-15") from None
 
 
 def count(text: str) -> int:
     """A whole number from 1. Raises `argparse.ArgumentTypeError` for another text."""
     if not (text.isascii() and text.isdigit() and 1 <= int(text[:9]) == int(text)):
-        raise argparse.ArgumentTypeError(f"{shown(text)} isn't a whole number from 1")
+        raise argparse.ArgumentTypeError(f"{brief(text)} isn't a whole number from 1")
     return int(text)
 
 
 def port(text: str) -> int:
     """A port, from 0 to 65535. Raises `argparse.ArgumentTypeError` for another text."""
     if not (text.isascii() and text.isdigit() and len(text) < 6 and int(text) < 65536):
-        raise argparse.ArgumentTypeError(f"{shown(text)} isn't a port from 0 to 65535")
+        raise argparse.ArgumentTypeError(f"{brief(text)} isn't a port from 0 to 65535")
     return int(text)
 
 

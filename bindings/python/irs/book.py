@@ -16,7 +16,8 @@ from pathlib import Path
 from typing import Any, Callable, Deque, Dict, Iterable, Iterator, List, NamedTuple, Optional, Sequence, Tuple, Union
 
 from .calls import Item, Told, run_each
-from .common import Common, Loaded, common_of, loaded, read_file, stamp_of
+from .common import Common, Loaded, common_of, loaded, stamp_of
+from .files import read_regular
 from .library import Text, as_bytes, engine
 from .plain import shown
 from .pool import Processes
@@ -124,7 +125,7 @@ def _read(source: Union[Text, Path]) -> bytes:
     if not isinstance(source, Path):
         return as_bytes(source)
     try:
-        return read_file(source)
+        return read_regular(source)
     except OSError as why:
         raise _Unreadable(f"{source.name}: {why.strerror or why}") from why
 

@@ -5,19 +5,30 @@ Nothing here is proved; the engine reads each text before it is used or written.
 from __future__ import annotations
 
 import datetime
+import re
 from collections import Counter
 from dataclasses import dataclass, replace
 from pathlib import Path
 from typing import FrozenSet, Iterator, List, Sequence, Set, Tuple
 
+from .files import read_text
+from .plain import visible
 from .probes import check_calendars
-from .tools import BadInput, one_line, read_text
+from .tools import BadInput
 
 #: The weekdays as a calendar file has them, Monday first.
 WEEKDAYS = ("MON", "TUE", "WED", "THU", "FRI", "SAT", "SUN")
 
 #: How many holidays a section may list (docs/FORMATS.md).
 MOST_HOLIDAYS = 20_000
+
+#: The line of a calendar file that names a centre.
+_CENTRE = re.compile(rb"^center[ \t]+([!-~]+)[ \t]*\r?$", re.M)
+
+
+def centres_in(calendar: bytes) -> List[str]:
+    """The centres of the sections of a calendar file, in order."""
+    return [centre.decode("ascii") for centre in _CENTRE.findall(calendar)]
 
 
 def days_between(first: datetime.date, last: datetime.date) -> Iterator[datetime.date]:
@@ -57,7 +68,7 @@ def section(calendar: Calendar) -> str:
             f"{calendar.centre} has {len(listed)} days to list from {calendar.first} to {calendar.last};"
             f" a section has at most {MOST_HOLIDAYS}: ask for fewer years"
         )
-    lines = [f"# {one_line(remark)}" for remark in calendar.remarks]
+    lines = [f"# {visible(remark)}" for remark in calendar.remarks]
     lines += [f"center {calendar.centre}", f"cover {calendar.first} {calendar.last}", " ".join(("weekend", *weekend))]
     lines += [day.isoformat() for day in listed]
     return "\n".join(lines) + "\n"

@@ -6,17 +6,17 @@ says which years it knows, and gives no day outside them.
 from __future__ import annotations
 
 import datetime
-import importlib
 from collections import Counter
 from dataclasses import dataclass
 from pathlib import Path
-from types import ModuleType
 from typing import Any, Callable, Dict, FrozenSet, List, Optional, Protocol, Sequence, Tuple
 
 from .calendar_files import WEEKDAYS, days_between
 from .centres import CENTRES, VERSIONS, Known, Span
 from .csv_rows import day_of, rows_of
-from .tools import BadInput, read_bytes
+from .files import read_bytes
+from .packages import package
+from .tools import BadInput
 
 #: A year of a file that has fewer than this part of the usual number of days is one that the file doesn't know.
 THIN = 0.5
@@ -31,13 +31,6 @@ class Source(Protocol):
 
     def off(self, first: datetime.date, last: datetime.date) -> FrozenSet[datetime.date]:
         """Every day off from the first to the last, weekend days included."""
-
-
-def _module(name: str, package: str) -> ModuleType:
-    try:
-        return importlib.import_module(name)
-    except ImportError as why:
-        raise BadInput(f"the Python package {name} isn't installed (in Debian: {package})") from why
 
 
 def _known(code: str, source: str) -> Known:
@@ -59,7 +52,7 @@ class QuantLibSource:
 
     def __init__(self, code: str) -> None:
         known = _known(code, "quantlib")
-        self._module = _module("QuantLib", "quantlib-python")
+        self._module = package("QuantLib", "the source quantlib", "QuantLib", "quantlib-python")
         version = str(self._module.__version__)
         try:
             kind = getattr(self._module, known.calendar)
@@ -82,7 +75,7 @@ class HolidaysSource:
 
     def __init__(self, code: str) -> None:
         known = _known(code, "holidays")
-        module = _module("holidays", "python3-holidays")
+        module = package("holidays", "the source holidays", "`holidays`", "python3-holidays")
         version = str(module.__version__)
         options: Dict[str, object] = (
             {"include_sundays": False} if known.option == "no Sundays" else {"prov": known.option}
@@ -137,7 +130,7 @@ def spans_of(days: FrozenSet[datetime.date]) -> Tuple[Span, ...]:
 
 def ics_source(path: Path, weekend: Sequence[str]) -> ListedSource:
     """The all-day events of an ICS file. `BadInput` where it can't be read, or has an event that repeats."""
-    module = _module("icalendar", "python3-icalendar")
+    module = package("icalendar", "an ICS file", "`icalendar`", "python3-icalendar")
     try:
         events = module.Calendar.from_ical(read_bytes(path)).walk("VEVENT")
     except (ValueError, TypeError, LookupError, AttributeError) as why:  # whatever icalendar trips over

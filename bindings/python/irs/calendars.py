@@ -19,15 +19,17 @@ from collections import Counter
 from pathlib import Path
 from typing import List, Optional, Sequence, Tuple
 
+from .arguments import day
 from .calendar_files import WEEKDAYS, Calendar, corrected, differences, read_calendars, text_of
 from .calendar_sources import Choice, Source, shortened, source_of, years_text
 from .calls import check
-from .checked import Checked, read_checked
-from .documents import streams_of, texts_of
 from .centres import CENTRES
+from .checked import Checked, read_checked
 from .csv_rows import DATE_FORMS, delimiter_of
+from .documents import streams_of, texts_of
 from .errors import Refused
-from .tools import BadInput, Parser, ended, write_whole
+from .files import write_whole
+from .tools import BadInput, Parser, ended
 
 #: The years that the engine has.
 FIRST_YEAR, LAST_YEAR = 1901, 2299
@@ -169,13 +171,6 @@ def listing() -> str:
 # The command.
 
 
-def _day(text: str) -> datetime.date:
-    try:
-        return datetime.date.fromisoformat(text)
-    except ValueError as why:
-        raise argparse.ArgumentTypeError(f"'{text}' isn't a date as 2024-12-31") from why
-
-
 def _weekend(text: str) -> Tuple[str, ...]:
     days = tuple(text.upper().split())
     if not set(days) <= set(WEEKDAYS):
@@ -197,10 +192,10 @@ def parser() -> Parser:
     )
     words.add_argument("--weekend", type=_weekend, default=("SAT", "SUN"), help="of an ICS or a CSV ('SAT SUN')")
     words.add_argument(
-        "--off", action="append", type=_day, default=[], metavar="DATE", help="a day off that the source lacks"
+        "--off", action="append", type=day, default=[], metavar="DATE", help="a day off that the source lacks"
     )
     words.add_argument(
-        "--on", action="append", type=_day, default=[], metavar="DATE", help="a business day that the source has off"
+        "--on", action="append", type=day, default=[], metavar="DATE", help="a business day that the source has off"
     )
     words.add_argument("--shorten", action="store_true", help="leave out years that the source doesn't know")
     words.add_argument("-o", "--output", type=Path, metavar="FILE", help="where the file goes (standard output)")

@@ -20,16 +20,12 @@ from typing import Any, Dict, Iterable, Iterator, List, Mapping, NamedTuple, Opt
 from .errors import error_of
 from .library import Answer, Text, meaning, run
 from .looks import Looks
-from .sides import Sides, sides_of
 from .rows import (Accrued, Derived, Exchange, Missing, Net, Payment, Period, Reset, Row, Stream, Verdict,
                    accrued_of, derived_of, inner_lines, row_of, verdict_of)
 
 File = Union[Text, "os.PathLike[str]"]
 Document = Union[File, Mapping[str, Any]]
 Day = Union[datetime.date, str]
-
-#: What a command takes at most.
-MOST_CALENDARS = 16
 
 #: A text of more characters is never taken for the name of a file.
 LONGEST_NAME = 1024
@@ -45,11 +41,6 @@ class Schedule(Looks):
     def __init__(self, text: bytes, document: Union[Text, Mapping[str, Any], None] = None) -> None:
         self.text = text
         self.document = document
-
-    @cached_property
-    def sides(self) -> List[Sides]:
-        """Who pays and who receives each stream, as the document names them; empty without the document."""
-        return [] if self.document is None else sides_of(self.document)
 
     @cached_property
     def rows(self) -> List[Row]:
@@ -106,9 +97,10 @@ class Schedule(Looks):
 
         A column a field, and `currency`, `payer` and `receiver` of the stream, as the document names them.
         Dates are datetime64, or `datetime.date` where one is past what pandas holds (2262). Amounts, rates
-        and notionals are `Decimal` with `numbers="decimal"`, or float64. With `party` the column `direction` says
-        whether that party pays or receives the row's amount, `None` where neither or where it is unknown.
-        ImportError without pandas; ValueError for other `numbers` or a kind that a schedule hasn't.
+        and notionals are `Decimal` with `numbers="decimal"`, or float64. With `party`, an id or a name as in
+        `flows`, the column `direction` says whether that party pays or receives the row's amount, `None` where neither
+        or where the amount is unknown. ImportError without pandas; ValueError for other `numbers`, for a kind that a
+        schedule hasn't, and for an unknown party.
         """
         if numbers not in ("decimal", "float"):
             raise ValueError("numbers are decimal or float")

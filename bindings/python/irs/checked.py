@@ -7,7 +7,8 @@ from typing import Any, NamedTuple
 from .calls import check
 from .documents import value_of
 from .errors import Refused
-from .tools import BadInput, read_bytes
+from .files import read_for_engine
+from .tools import BadInput
 
 
 class Checked(NamedTuple):
@@ -20,7 +21,7 @@ class Checked(NamedTuple):
 
 def read_checked(path: Path) -> Checked:
     """The document of a file; `BadInput` with the engine's sentence where its elements can't be read (K1 to K7)."""
-    content = read_bytes(path)
+    content = read_for_engine(path)
     try:
         check(content)
     except Refused as why:

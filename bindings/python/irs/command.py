@@ -14,18 +14,23 @@ import argparse
 import contextlib
 import csv
 import fcntl
+import io
 import logging
 import os
 import signal
 import sys
 from pathlib import Path
-from typing import Any, Dict, Iterable, Iterator, List, NoReturn, Optional, Set, Tuple, Union
+from typing import Any, Dict, Iterable, Iterator, List, NoReturn, Optional, Set, Union
 
+from .arguments import count
 from .book import COMMANDS, Outcome, Summary, Trade, outcomes, stamp, with_bar
 from .common import Common, common_of, loaded
+from .files import whole_file
 from .journal import Journal
 from .library import engine
-from .plain import FORMULA, cell, shown
+from .packages import package
+from .plain import cell, shown
+from .tools import BadInput, Parser, ended
 
 LOG = logging.getLogger("irs.book")
 
@@ -34,10 +39,6 @@ COLUMNS = ("name", "verdict", "status", "line", "sentence")
 
 #: The columns of a manifest.
 MANIFEST = ("name", "document", "flows", "fixings")
-
-
-class CannotRun(Exception):
-    """The run can't be done, in a sentence."""
 
 
 class Ended(BaseException):
@@ -54,7 +55,7 @@ FLOWS, FIXINGS, DOCUMENT = ".flows.json", ".fixings", ".json"
 class Folder:
     """The trades of a folder: a document each, in the order of their names.
 
-    It holds the names alone, and makes a trade as it is asked for. CannotRun where the folder can't be read.
+    It holds the names alone, and makes a trade as it is asked for. `BadInput` where the folder can't be read.
     """
 
     def __init__(self, folder: Path) -> None:
@@ -66,7 +67,7 @@ class Folder:
                 if ending is not None:
                     beside[ending].add(name[:-len(ending)])
         except OSError as why:
-            raise CannotRun(f"{shown(str(folder))} can't be read: {why.strerror}") from why
+            raise BadInput(f"{shown(str(folder))} can't be read: {why.strerror}") from why
         self.names = sorted(beside[DOCUMENT])
         self.flows, self.fixings = beside[FLOWS], beside[FIXINGS]
         for ending in (FLOWS, FIXINGS):
@@ -95,26 +96,26 @@ Trades = Union[Folder, List[Trade]]
 
 
 def trades_named(manifest: Path, folder: Path) -> List[Trade]:
-    """The trades of a manifest, whose files are named from the folder; CannotRun where it isn't one."""
+    """The trades of a manifest, whose files are named from the folder; `BadInput` where it isn't one."""
     try:
         with open(manifest, newline="", encoding="utf-8-sig", errors="surrogateescape") as file:
             return _of_manifest(csv.DictReader(file, strict=True), manifest, folder)
     except (OSError, csv.Error) as why:
-        raise CannotRun(f"{shown(str(manifest))} can't be read: {why}") from why
+        raise BadInput(f"{shown(str(manifest))} can't be read: {why}") from why
 
 
 def _of_manifest(rows: "csv.DictReader[str]", manifest: Path, folder: Path) -> List[Trade]:
     given = tuple(rows.fieldnames or ())
     if not {"name", "document"} <= {*given} or not {*given} <= {*MANIFEST}:
-        raise CannotRun(f"{shown(str(manifest))} has other columns than {', '.join(MANIFEST)}")
+        raise BadInput(f"{shown(str(manifest))} has other columns than {', '.join(MANIFEST)}")
     found: Dict[str, Trade] = {}
     for row in rows:
         cells = [(row.get(column) or "").strip() for column in MANIFEST]
         where = f"{shown(str(manifest))}, line {rows.line_num}"
         if not cells[0] or not cells[1] or len(row) > len(given):
-            raise CannotRun(f"{where}: a row has a name, a document, and a cell a column")
+            raise BadInput(f"{where}: a row has a name, a document, and a cell a column")
         if cells[0] in found:
-            raise CannotRun(f"{where}: the name {shown(cells[0])} comes twice")
+            raise BadInput(f"{where}: the name {shown(cells[0])} comes twice")
         document, flows, fixings = (folder / it if it else None for it in cells[1:])
         assert document is not None
         found[cells[0]] = Trade(cells[0], document, fixings, flows)
@@ -122,7 +123,7 @@ def _of_manifest(rows: "csv.DictReader[str]", manifest: Path, folder: Path) -> L
 
 
 def common_in(folder: Path) -> Common:
-    """The calendar files of the folder, and its fixings for all; CannotRun where those can't be read."""
+    """The calendar files of the folder, and its fixings for all; `BadInput` where those can't be read."""
     calendars = []
     for path in sorted((folder / "calendars").glob("*.cal")):
         if path.is_file() and os.access(path, os.R_OK):
@@ -131,45 +132,41 @@ def common_in(folder: Path) -> Common:
             LOG.warning("the calendar %s can't be read: a trade that needs it breaks rule K12", shown(path.name))
     fixings = folder / "fixings"
     if os.path.lexists(fixings) and not (fixings.is_file() and os.access(fixings, os.R_OK)):
-        raise CannotRun(f"{shown(str(fixings))} can't be read")
+        raise BadInput(f"{shown(str(fixings))} can't be read")
     return common_of(calendars, fixings if fixings.is_file() else None)
 
 
 @contextlib.contextmanager
 def client_of(address: Optional[str]) -> Iterator[Any]:
-    """A client of the cluster at that address, or `None`; CannotRun where there is none there."""
+    """A client of the cluster at that address, or `None`; `BadInput` where there is none there."""
     if address is None:
         yield None
         return
+    distributed = package("distributed", "--scheduler", "dask's `distributed`", "python3-distributed")
     try:
-        from distributed import Client
-    except ImportError as missing:
-        raise CannotRun("--scheduler wants dask's `distributed`, which isn't installed") from missing
-    connect: Any = Client
-    try:
-        client = connect(address)
+        client = distributed.Client(address)
     except (OSError, ValueError) as why:
-        raise CannotRun(f"there is no scheduler at {shown(address)}: {why}") from why
+        raise BadInput(f"there is no scheduler at {shown(address)}: {why}") from why
     with client:
         yield client
 
 
 @contextlib.contextmanager
 def journal_at(path: Path) -> Iterator[Journal]:
-    """The journal, which no other run writes meanwhile; CannotRun where it can't be opened."""
+    """The journal, which no other run writes meanwhile; `BadInput` where it can't be opened."""
     try:
         lock = open(f"{path}.lock", "w", encoding="utf-8")
     except OSError as why:
-        raise CannotRun(f"{shown(str(path))} can't be written: {why.strerror}") from why
+        raise BadInput(f"{shown(str(path))} can't be written: {why.strerror}") from why
     with lock:
         try:
             fcntl.flock(lock, fcntl.LOCK_EX | fcntl.LOCK_NB)
         except OSError as why:
-            raise CannotRun(f"another run writes {shown(str(path))}") from why
+            raise BadInput(f"another run writes {shown(str(path))}") from why
         try:
             journal = Journal(path)
         except Exception as why:
-            raise CannotRun(f"{shown(str(path))} can't be written: {why}") from why
+            raise BadInput(f"{shown(str(path))} can't be written: {why}") from why
         try:
             yield journal
         finally:
@@ -177,27 +174,15 @@ def journal_at(path: Path) -> Iterator[Journal]:
 
 
 def write_csv(path: Path, told: Iterator[Outcome]) -> None:
-    """Writes the outcomes to a temporary file beside it, and renames that; CannotRun where it can't be written."""
-    beside = path.with_name(f".{path.name}.{os.getpid()}")
-    try:
-        with open(beside, "w", newline="", encoding="utf-8") as out:
-            writer = csv.writer(out)
-            writer.writerow(COLUMNS)
-            for it in told:
-                status = "" if it.status is None else it.status
-                # The journal has names as they are shown; a formula's sign is what is left to take off.
-                writer.writerow([_cell(it.name), it.verdict, status, cell(it.line), cell(it.sentence)])
-            out.flush()
-            os.fsync(out.fileno())
-        os.replace(beside, path)
-    except OSError as why:
-        with contextlib.suppress(OSError):
-            beside.unlink()
-        raise CannotRun(f"{shown(str(path))} can't be written: {why.strerror}") from why
-
-
-def _cell(already_shown: str) -> str:
-    return "'" + already_shown if already_shown.startswith(FORMULA) else already_shown
+    """Writes the outcomes, whose names are as they are shown; `BadInput` where the file can't be written."""
+    with whole_file(path) as file:
+        out = io.TextIOWrapper(file, encoding="utf-8", newline="")
+        writer = csv.writer(out)
+        writer.writerow(COLUMNS)
+        for it in told:
+            status = "" if it.status is None else it.status
+            writer.writerow([cell(it.name), it.verdict, status, cell(shown(it.line)), cell(shown(it.sentence))])
+        out.detach()
 
 
 def work(trades: Iterable[Trade], count: int, common: Common, words: argparse.Namespace, executor: Any,
@@ -233,14 +218,6 @@ def asked_of(words: argparse.Namespace, common: Common) -> Dict[str, str]:
             "manifest": shown(str(words.names_from.resolve())) if words.names_from else ""}
 
 
-def at_least_one(text: str) -> int:
-    """A number from 1 on, of a word of the command line."""
-    number = int(text)
-    if number < 1:
-        raise argparse.ArgumentTypeError("has to be at least 1")
-    return number
-
-
 def seconds(text: str) -> float:
     """A time above 0, of a word of the command line."""
     number = float(text)
@@ -251,8 +228,7 @@ def seconds(text: str) -> float:
 
 def parsed(arguments: Optional[List[str]]) -> argparse.Namespace:
     """The words of the command line."""
-    parser = argparse.ArgumentParser(prog="irs-book", description=__doc__,
-                                     formatter_class=argparse.RawDescriptionHelpFormatter)
+    parser = Parser(prog="irs-book", description=__doc__, formatter_class=argparse.RawDescriptionHelpFormatter)
     parser.add_argument("folder", type=Path)
     parser.add_argument("--command", choices=COMMANDS, default="audit")
     parser.add_argument("--names-from", type=Path, metavar="FILE", help="a manifest with the trades")
@@ -261,10 +237,10 @@ def parsed(arguments: Optional[List[str]]) -> argparse.Namespace:
     parser.add_argument("--resume", action="store_true", help="go on with the journal that is there")
     parser.add_argument("--accept", action="append", choices=["unverified"], default=[],
                         help="a verdict that counts as 0")
-    parser.add_argument("--jobs", type=at_least_one, default=len(os.sched_getaffinity(0)),
+    parser.add_argument("--jobs", type=count, default=len(os.sched_getaffinity(0)),
                         help="processes (one a processor)")
     parser.add_argument("--scheduler", metavar="ADDRESS", help="a dask scheduler, as tcp://host:8786")
-    parser.add_argument("--chunk", type=at_least_one, default=50, help="trades that are sent at once (50)")
+    parser.add_argument("--chunk", type=count, default=50, help="trades that are sent at once (50)")
     parser.add_argument("--timeout", type=seconds, default=60.0, help="the most seconds for a trade here (60)")
     parser.add_argument("--verbose", action="store_true", help="more on standard error")
     return parser.parse_args(arguments)
@@ -281,16 +257,16 @@ def _trades(words: argparse.Namespace) -> Trades:
     folder, manifest = words.folder, words.names_from
     trades: Trades = Folder(folder) if manifest is None else trades_named(manifest, folder)
     if len(trades) == 0:
-        raise CannotRun(f"there is no trade in {shown(str(words.names_from or words.folder))}")
+        raise BadInput(f"there is no trade in {shown(str(words.names_from or words.folder))}")
     return trades
 
 
 def _checked(path: Path) -> None:
-    """CannotRun where the CSV couldn't be written, before anything is worked."""
+    """`BadInput` where the CSV couldn't be written, before anything is worked."""
     if path.is_dir():
-        raise CannotRun(f"{shown(str(path))} is a folder")
+        raise BadInput(f"{shown(str(path))} is a folder")
     if not os.access(path.parent, os.W_OK | os.X_OK):
-        raise CannotRun(f"{shown(str(path.parent))} can't be written")
+        raise BadInput(f"{shown(str(path.parent))} can't be written")
 
 
 def _summarised(journal: Journal) -> Summary:
@@ -310,7 +286,7 @@ def night(words: argparse.Namespace) -> int:
         try:
             journal.begin(asked_of(words, common), words.resume)
         except Exception as why:
-            raise CannotRun(shown(str(why))) from why
+            raise BadInput(shown(str(why))) from why
         done = done_before(trades, journal)
         left, count = (trade for trade in trades if trade.name not in done), len(trades) - len(done)
         LOG.info("%d trades, %d of them to be worked, by %s", len(trades), count, engine().partition("\n")[0])
@@ -326,34 +302,21 @@ def night(words: argparse.Namespace) -> int:
     return 0 if summary.is_clean(words.accept) else 1
 
 
-def _printed_safely() -> Tuple[Any, ...]:
-    """Has standard output and standard error take names that their encoding lacks."""
-    streams = (sys.stdout, sys.stderr)
-    for stream in streams:
-        if hasattr(stream, "reconfigure"):
-            stream.reconfigure(errors="backslashreplace")
-    return streams
-
-
-def main(arguments: Optional[List[str]] = None) -> int:
-    """Runs the book: 0 where all agree, 1 where one doesn't, 2 where the run couldn't be done."""
+def _run(arguments: Optional[List[str]]) -> int:
     words = parsed(arguments)
-    _printed_safely()
     logging.basicConfig(format="irs-book: %(message)s", level=logging.INFO if words.verbose else logging.WARNING)
     for number in (signal.SIGINT, signal.SIGTERM, signal.SIGHUP):
         signal.signal(number, _end)
     try:
         return night(words)
-    except CannotRun as why:
-        print(f"irs-book: {why}", file=sys.stderr)
-        return 2
     except Ended as why:
         print(f"irs-book: ended by {why}", file=sys.stderr)
         return 2
-    except Exception:
-        # A fault of this program mustn't look as if a trade departs.
-        LOG.exception("the run couldn't be done")
-        return 2
+
+
+def main(arguments: Optional[List[str]] = None) -> int:
+    """Runs the book: 0 where all agree, 1 where one doesn't, 2 where the run couldn't be done."""
+    return ended("irs-book", _run, arguments)
 
 
 if __name__ == "__main__":

@@ -7,51 +7,20 @@ everything. So the answer is the one that all of them give.
 """
 from __future__ import annotations
 
-import errno
 import functools
+import json
 import logging
-import os
-import re
-import stat
 from pathlib import Path
 from typing import Dict, List, NamedTuple, Optional, Sequence, Tuple, Union
 
-from .calls import MOST_CALENDARS, Item, run_each
-from .library import Text, as_bytes
+from .calendar_files import centres_in
+from .calls import Item, run_each
+from .files import read_regular
+from .library import MOST_CALENDARS, Text, as_bytes
 from .plain import shown
+from .probes import SOUND
 
 LOG = logging.getLogger("irs.book")
-
-#: One more byte than a file may have, so that a longer one is seen as that (status 8).
-MOST_BYTES = 4_194_305
-
-#: The line of a calendar file that names a centre.
-CENTRE = re.compile(rb"^center[ \t]+([!-~]+)[ \t]*\r?$", re.M)
-
-#: A document that keeps every rule, to ask the library about a file of fixings alone.
-PLAIN = b"""{"swap":{"swapStream":{"calculationPeriodDates":{"@id":"cpd",
-"effectiveDate":{"unadjustedDate":"2024-01-15","dateAdjustments":{"businessDayConvention":"NONE"}},
-"terminationDate":{"unadjustedDate":"2025-01-15","dateAdjustments":{"businessDayConvention":"NONE"}},
-"calculationPeriodDatesAdjustments":{"businessDayConvention":"NONE"},
-"calculationPeriodFrequency":{"periodMultiplier":"1","period":"Y","rollConvention":"15"}},
-"paymentDates":{"paymentFrequency":{"periodMultiplier":"1","period":"Y"},
-"payRelativeTo":"CalculationPeriodEndDate","paymentDatesAdjustments":{"businessDayConvention":"NONE"}},
-"calculationPeriodAmount":{"calculation":{"notionalSchedule":{"notionalStepSchedule":
-{"initialValue":"1000000","currency":"USD"}},"fixedRateSchedule":{"initialValue":"0.05"},
-"dayCountFraction":"30/360"}}}}}"""
-
-
-def read_file(path: Path) -> bytes:
-    """The bytes of a file, at most one more than the library takes; OSError where it is no file to be read."""
-    with open(path, "rb", opener=_opened) as file:
-        if not stat.S_ISREG(os.fstat(file.fileno()).st_mode):
-            raise OSError(errno.EINVAL, "is no regular file", str(path))
-        return file.read(MOST_BYTES)
-
-
-def _opened(path: str, flags: int) -> int:
-    # A pipe that nobody writes to isn't waited for.
-    return os.open(path, flags | os.O_NONBLOCK)
 
 
 class Common(NamedTuple):
@@ -88,7 +57,7 @@ def stamp_of(path: Path) -> str:
 
 
 def _held(source: Union[bytes, Path]) -> bytes:
-    return read_file(source) if isinstance(source, Path) else source
+    return read_regular(source) if isinstance(source, Path) else source
 
 
 class Loaded:
@@ -102,7 +71,7 @@ class Loaded:
             except OSError as why:
                 LOG.warning("the calendar %s can't be read: %s", name, shown(str(why)))
                 continue
-            self.calendars.append((name, held, CENTRE.findall(held)))
+            self.calendars.append((name, held, [centre.encode() for centre in centres_in(held)]))
         self.fixings = None if common.fixings is None else _held(common.fixings)
         self.lines = {} if self.fixings is None else _by_index(self.fixings)
 
@@ -125,7 +94,7 @@ class Loaded:
 
 def _by_index(fixings: bytes) -> Dict[bytes, bytes]:
     """The lines of each index; none where the library finds a fault in the file, which then is for it to report."""
-    if next(run_each("schedule", [Item(PLAIN)], (), fixings)).status != 0:
+    if next(run_each("schedule", [Item(json.dumps(SOUND))], (), fixings)).status != 0:
         return {}
     found: Dict[bytes, List[bytes]] = {}
     for line in fixings.split(b"\n"):

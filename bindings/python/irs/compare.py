@@ -10,7 +10,7 @@ import re
 from typing import Any, Dict, FrozenSet, List, NamedTuple, Optional, Sequence
 
 from .documents import child_of, items_of, streams_of, text_at
-from .clean import shown
+from .plain import brief
 from .tables import separated
 
 #: The kinds of rows and their fields, in the order of docs/FORMATS.md, 'Cash flows'.
@@ -101,7 +101,7 @@ class Comparison(NamedTuple):
 
 
 def _text(row: Any, *names: str) -> str:
-    return shown(text_at(row, *names) or "")
+    return brief(text_at(row, *names) or "")
 
 
 def _exchange(row: Any) -> Fields:

@@ -11,7 +11,8 @@ import io
 from pathlib import Path
 from typing import Dict, List, NamedTuple, Optional
 
-from .tools import BadInput, read_text
+from .files import read_text
+from .tools import BadInput
 
 #: The forms of dates, by the names that a person writes, and as `strptime` has them. Zeros before a day or a month
 #: may be left out where something separates them.

@@ -21,23 +21,16 @@ from pathlib import Path
 from typing import Any, List, NamedTuple, NoReturn, Optional, Sequence, Tuple
 
 from .arguments import port
+from .calendar_files import centres_in
 from .documents import json_of
-from .clean import shown
 from .engine import ask
-from .inputs import (
-    MOST_BYTES,
-    MOST_CALENDARS,
-    Inputs,
-    Named,
-    at_most_sixteen,
-    centres_in,
-    chosen,
-    read_named,
-)
+from .inputs import Inputs, Named, at_most_sixteen, chosen, read_named
 from .insert import with_cashflows
+from .library import MOST_BYTES, MOST_CALENDARS
 from .look import Look, look_at
 from .packages import package
 from .pages import TEMPLATES, environment, report, style
+from .plain import brief, shown
 from .sheets import csv_text
 from .tools import BadInput, Parser, ended
 
@@ -176,7 +169,7 @@ class Desk:
         self.offered = offered
         self.store = Store()
         self.calendars = [
-            (place, shown(file.name), shown(", ".join(centres_in(file.content)), 200))
+            (place, brief(file.name), brief(", ".join(centres_in(file.content)), 200))
             for place, file in enumerate(offered)
         ]
 

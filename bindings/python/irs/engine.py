@@ -4,9 +4,9 @@ from __future__ import annotations
 
 from typing import Dict, List, NamedTuple, Optional
 
-from .clean import shown
 from .inputs import Inputs, Named
 from .library import Text, meaning, run
+from .plain import brief
 
 #: What each command takes after the document (docs/FORMATS.md, 'Commands, lines and statuses').
 _TAKES = {
@@ -35,7 +35,7 @@ class Reply(NamedTuple):
 
 
 def _word(file: Named, taken: Dict[str, Named]) -> str:
-    name = shown(file.name)
+    name = brief(file.name)
     word, number = name, 1
     while word in taken or word == "-":
         number += 1

@@ -13,9 +13,11 @@ from pathlib import Path
 from typing import Dict, Iterable, List, Optional, Sequence, Tuple
 
 from .csv_rows import Row, day_of, field_of, rows_of
+from .files import read_text
 from .fixing_needs import Key
+from .plain import visible
 from .probes import check_fixings
-from .tools import BadInput, one_line, read_text
+from .tools import BadInput
 
 #: How a rate of a CSV is written: digits with at most one point, perhaps a sign, and no exponent.
 NUMBER = re.compile(r"[+-]?([0-9]+\.?[0-9]*|\.[0-9]+)")
@@ -99,7 +101,7 @@ def _key_of(path: Path, row: Row, columns: Columns) -> Key:
 
 def text_of(fixings: Dict[Key, Decimal], remarks: Iterable[str] = ()) -> str:
     """A file of fixings by index, tenor and date, which the engine has read; `BadInput` where it refuses it."""
-    lines = [f"# {one_line(remark)}" for remark in remarks]
+    lines = [f"# {visible(remark)}" for remark in remarks]
     for key in sorted(fixings, key=_order):
         rate = fixings[key].normalize() if fixings[key] else Decimal(0)
         lines.append(f"{key.date} {rate:f} {key.tenor} {key.index}")

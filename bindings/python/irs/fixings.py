@@ -17,14 +17,14 @@ import sys
 from pathlib import Path
 from typing import List, Optional, Sequence, Set, Tuple
 
+from .arguments import day
 from .checked import read_checked
 from .csv_rows import DATE_FORMS, delimiter_of
+from .files import read_for_engine, write_whole
 from .fixing_files import Columns, fixings_of, keys_of, text_of
 from .fixing_needs import Key, every_need, needs_of
-from .tools import BadInput, Parser, ended, read_bytes, write_whole
-
-#: How many calendar files the engine takes (docs/FORMATS.md).
-MOST_CALENDARS = 16
+from .inputs import at_most_sixteen
+from .tools import BadInput, Parser, ended
 
 
 def missing(
@@ -36,7 +36,7 @@ def missing(
 ) -> List[Key]:
     """The fixings that a document needs and the file lacks, up to a day, by date. Of the streams the daily
     rates are meant that `overnight` compounds. `BadInput` where the engine gives no answer."""
-    needs = needs_of(read_checked(document), [read_bytes(path) for path in calendars], streams, until)
+    needs = needs_of(read_checked(document), [read_for_engine(path) for path in calendars], streams, until)
     return sorted(needs - (set(keys_of(fixings)) if fixings is not None else set()))
 
 
@@ -45,7 +45,7 @@ def unused(fixings: Path, documents: Sequence[Path], calendars: Sequence[Path]) 
     `overnight` takes. `BadInput` where the engine gives no answer."""
     lines = keys_of(fixings)
     daily = {key.index for key in lines if key.tenor == "1D"}
-    days = [read_bytes(path) for path in calendars]
+    days = [read_for_engine(path) for path in calendars]
     needed: Set[Key] = set()
     for document in documents:
         needed |= every_need(read_checked(document), days, daily)
@@ -56,10 +56,7 @@ def unused(fixings: Path, documents: Sequence[Path], calendars: Sequence[Path]) 
 
 
 def _until(text: str) -> datetime.date:
-    try:
-        return datetime.date.today() if text == "today" else datetime.date.fromisoformat(text)
-    except ValueError as why:
-        raise argparse.ArgumentTypeError(f"'{text}' isn't a date as 2025-12-31, nor today") from why
+    return datetime.date.today() if text == "today" else day(text)
 
 
 def _pair(text: str) -> Tuple[str, str]:
@@ -157,8 +154,7 @@ def _work(arguments: Optional[List[str]]) -> int:
         raise BadInput(
             "give one of CSV files, --missing DOC and --unused FILE; `irs-fixings --help` lists the options"
         )
-    if len(asked.calendars) > MOST_CALENDARS:
-        raise BadInput(f"there are {len(asked.calendars)} calendar files, and the engine takes {MOST_CALENDARS}")
+    at_most_sixteen(asked.calendars)
     if asked.missing is not None:
         return _listed(
             missing(asked.missing, asked.fixings, asked.calendars, asked.overnight, asked.until), asked.output

@@ -5,21 +5,17 @@ from datetime import date
 from decimal import Decimal
 from typing import TYPE_CHECKING, Any, List, Optional
 
-from .sides import Sides
+from .packages import package
+from .parties import Sides
 
 if TYPE_CHECKING:
     from .calls import Schedule
 
 
-def _sides(schedule: "Schedule", stream: int) -> Sides:
-    known = schedule.sides
-    return known[stream - 1] if stream <= len(known) else Sides(None, None)
-
-
-def _direction(row: Any, sides: Sides, party: str) -> Optional[str]:
+def _direction(row: Any, sides: Optional[Sides], party: str) -> Optional[str]:
     """Whether a party pays or receives the amount of a row: a positive one is paid by the stream's payer."""
     amount = getattr(row, "amount", None)
-    if amount is None or party not in sides:
+    if amount is None or sides is None or party not in sides:
         return None
     return "pays" if (party == sides.payer) == (amount >= 0) else "receives"
 
@@ -38,17 +34,15 @@ def _column(pandas: Any, values: List[Any], numbers: str) -> Any:
 
 def frame_of(schedule: "Schedule", kind: Any, numbers: str, party: Optional[str]) -> Any:
     """The rows of one kind; see `Schedule.frame`."""
-    try:
-        import pandas
-    except ImportError as missing:
-        raise ImportError("Schedule.frame() wants pandas, which isn't installed") from missing
+    pandas = package("pandas", "Schedule.frame()", "pandas", "python3-pandas")
     rows = schedule.of(kind)
-    sides = [_sides(schedule, row.stream) for row in rows]
+    sides = [schedule.parties.side(row.stream) for row in rows]
     currencies = {it.stream: it.currency for it in schedule.streams}
     columns = {name: _column(pandas, [getattr(row, name) for row in rows], numbers) for name in kind._fields}
     columns.setdefault("currency", [currencies[row.stream] for row in rows])
-    columns["payer"] = [it.payer for it in sides]
-    columns["receiver"] = [it.receiver for it in sides]
+    columns["payer"] = [None if it is None else it.payer for it in sides]
+    columns["receiver"] = [None if it is None else it.receiver for it in sides]
     if party is not None:
-        columns["direction"] = [_direction(row, it, party) for row, it in zip(rows, sides)]
+        seen_from = schedule.parties.find(party)
+        columns["direction"] = [_direction(row, it, seen_from) for row, it in zip(rows, sides)]
     return pandas.DataFrame(columns)

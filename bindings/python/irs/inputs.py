@@ -8,18 +8,18 @@ from __future__ import annotations
 
 import sys
 from pathlib import Path
-from typing import Dict, List, NamedTuple, Optional, Sequence, Set
+from typing import Dict, List, NamedTuple, Optional, Sequence, Set, TypeVar
 
+from .calendar_files import centres_in
 from .documents import NotRead, json_of, texts_of, value_of
-from .clean import shown
-from .library import Text
+from .files import read_for_engine
+from .library import MOST_BYTES, MOST_CALENDARS, Text
+from .plain import shown
 from .tools import BadInput
 
-#: The most bytes of a file (docs/FORMATS.md, 'Limits').
-MOST_BYTES = 4_194_304
 
-#: The most calendar files of a command.
-MOST_CALENDARS = 16
+#: A calendar file: its path, or its bytes and name.
+Calendar = TypeVar("Calendar")
 
 
 class Named(NamedTuple):
@@ -50,11 +50,7 @@ def read_named(path: Path) -> Named:
     """A file by its path; `-` is standard input. Raises `BadInput`."""
     if str(path) == "-":
         return Named("standard input", sys.stdin.buffer.read(MOST_BYTES + 1))
-    try:
-        with path.open("rb") as file:
-            return Named(path.name, file.read(MOST_BYTES + 1))
-    except OSError as why:
-        raise BadInput(f"{shown(str(path))} can't be read: {why.strerror or why}") from why
+    return Named(path.name, read_for_engine(path))
 
 
 def read_document(path: Path) -> Named:
@@ -74,12 +70,6 @@ def centres_of(document: Text) -> Set[str]:
         return set()
 
 
-def centres_in(calendar: bytes) -> List[str]:
-    """The centres of the sections of a calendar file."""
-    lines = [line.split() for line in calendar.decode(errors="replace").splitlines()]
-    return [words[1] for words in lines if len(words) == 2 and words[0] == "center"]
-
-
 def chosen(document: Text, files: Sequence[Named]) -> List[Named]:
     """The calendar files, of those given, that hold a centre which the document names; each
     centre's first."""
@@ -91,11 +81,11 @@ def chosen(document: Text, files: Sequence[Named]) -> List[Named]:
     return [files[place] for place in places][:MOST_CALENDARS]
 
 
-def at_most_sixteen(calendars: List[Named]) -> List[Named]:
-    """The calendar files. Raises `BadInput` where there are more than a command takes."""
+def at_most_sixteen(calendars: List[Calendar]) -> List[Calendar]:
+    """The calendar files. Raises `BadInput` where there are more than the engine takes."""
     if len(calendars) > MOST_CALENDARS:
         raise BadInput(
-            f"there are {len(calendars)} calendar files, and at most {MOST_CALENDARS} go"
+            f"there are {len(calendars)} calendar files, and the engine takes {MOST_CALENDARS}"
         )
     return calendars
 

@@ -11,6 +11,10 @@ from typing import Mapping, NamedTuple, Optional, Sequence, Union
 
 Text = Union[bytes, str]
 
+#: The most bytes of a file, and the most calendar files of a command (docs/FORMATS.md, 'Limits').
+MOST_BYTES = 4_194_304
+MOST_CALENDARS = 16
+
 #: How much room the first call of :func:`run` has for the text, in bytes; a longer text is worked out twice.
 ROOM = 1 << 16
 

@@ -12,14 +12,14 @@ from datetime import date
 from typing import Any, List, NamedTuple, Optional, Sequence
 
 from .calls import Schedule
-from .documents import NotRead, json_of, streams_of, value_of
-from .clean import shown
 from .compare import Comparison, mark_of, side_by_side
+from .documents import NotRead, json_of, streams_of, value_of
 from .due import counted, net_rows, net_table
 from .engine import Reply, ask
 from .inputs import Inputs, Named
 from .ladder import cash_flows, view_sentence, viewer
 from .parties import Parties, parties_of
+from .plain import brief
 from .printed import UNKNOWN, StreamText, printed
 from .refusals import Refusal, refusal_of, unread
 from .stubs import index_of_period, stubs_of
@@ -102,7 +102,7 @@ class Look(NamedTuple):
 def _files(inputs: Inputs) -> List[FileLine]:
     def line(what: str, file: Named) -> FileLine:
         return FileLine(
-            what, shown(file.name), len(file.content), hashlib.sha256(file.content).hexdigest()
+            what, brief(file.name), len(file.content), hashlib.sha256(file.content).hexdigest()
         )
 
     lines = [line("terms", inputs.document)]
@@ -217,7 +217,7 @@ def look_at(inputs: Inputs, today: date, party: Optional[str] = None) -> Look:
     `today` is the day that the timeline marks, and `party` the party that the flows are seen
     from. Raises `UnknownParty` for an unknown party.
     """
-    look = Look(shown(inputs.document.name), _files(inputs), today.isoformat(), Said("", BAD))
+    look = Look(brief(inputs.document.name), _files(inputs), today.isoformat(), Said("", BAD))
     try:
         inputs = inputs._replace(document=_as_json(inputs.document))
     except NotRead as why:

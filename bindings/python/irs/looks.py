@@ -7,6 +7,7 @@ parties, and compute no date, fraction or amount.
 from __future__ import annotations
 
 from datetime import date
+from functools import cached_property
 from pathlib import Path
 from typing import IO, Any, List, Optional, Union
 
@@ -40,7 +41,9 @@ class Looks:
         """The rows as the texts that the engine prints, stream by stream."""
         return printed(self.text)
 
-    def _parties(self) -> Parties:
+    @cached_property
+    def parties(self) -> Parties:
+        """The parties of the document, and who pays each stream; empty without the document."""
         return Parties([], {}) if self.document is None else parties_of(self.document)
 
     def flows(
@@ -58,12 +61,12 @@ class Looks:
         last day, and `next_of_each` keeps that many flows of each stream. Raises `UnknownParty`
         for an unknown party.
         """
-        return cash_flows(within(self.texts(), since, until, next_of_each), self._parties(), party)
+        return cash_flows(within(self.texts(), since, until, next_of_each), self.parties, party)
 
     def tables(self, party: Optional[str] = None) -> List[Table]:
         """The tables of the schedule: its cash flows, its periods with resets and payments, its
         exchanges."""
-        return tables_of(self.texts(), self._parties(), party)
+        return tables_of(self.texts(), self.parties, party)
 
     def to_csv(self, target: Target, table: str = "flows", party: Optional[str] = None) -> None:
         """Writes a table as CSV to a file, or to the file of that name: `table` is ``flows``,
@@ -92,10 +95,12 @@ class Looks:
         else:
             target.write(content)
 
+    def _view(self, party: Optional[str]) -> str:
+        return view_sentence(self.parties, viewer(self.parties, party))
+
     def workbook(self, party: Optional[str] = None) -> bytes:
         """The bytes of the workbook that `to_excel` writes."""
-        parties = self._parties()
-        return workbook(self.tables(party), [view_sentence(parties, viewer(parties, party))])
+        return workbook(self.tables(party), [self._view(party)])
 
     def _repr_html_(self) -> Optional[str]:
         """The tables for a notebook; `None`, which shows the plain text, where Jinja2 isn't
@@ -115,5 +120,4 @@ class Looks:
         """
         from .plots import figure_of
 
-        parties = self._parties()
-        return figure_of(self.flows(party), view_sentence(parties, viewer(parties, party)))
+        return figure_of(self.flows(party), self._view(party))

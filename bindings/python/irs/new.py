@@ -18,10 +18,11 @@ from typing import Any, Dict, List, Mapping, Optional, Tuple
 
 from .builder import Overnight, swap
 from .calls import check
-from .documents import texts_of
 from .conventions import TABLE
+from .documents import texts_of
 from .errors import Refused
-from .tools import BadInput, Parser, ended, write_whole
+from .files import write_whole
+from .tools import BadInput, Parser, ended
 
 #: The words of :func:`irs.swap` that are options of the same name, and what each says.
 OPTIONS: Mapping[str, str] = {

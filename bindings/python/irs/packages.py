@@ -1,4 +1,4 @@
-"""Packages that only some looks need, asked for where they are used."""
+"""Packages that only some commands need, asked for where they are used."""
 from __future__ import annotations
 
 from importlib import import_module

@@ -8,7 +8,7 @@ from __future__ import annotations
 from typing import Any, Dict, List, NamedTuple, Optional
 
 from .documents import Document, child_of, items_of, leaf_text, streams_of, value_of
-from .clean import shown
+from .plain import brief
 from .printed import StreamText
 from .tools import BadInput
 
@@ -34,7 +34,7 @@ class Parties(NamedTuple):
     def name(self, party: str) -> str:
         """The name to show for a party: its first name, else its id, with hidden characters made
         visible."""
-        return shown(self.names.get(party, [party])[0])
+        return brief(self.names.get(party, [party])[0])
 
     def side(self, stream: int) -> Optional[Sides]:
         """The sides of a stream, which counts from 1; `None` where they aren't stated."""
@@ -63,7 +63,7 @@ class Parties(NamedTuple):
                 return party
         known = ", ".join(self.name(party) for party in ids) or "none"
         raise UnknownParty(
-            f"no party of the streams is called {shown(name)}; the document has: {known}"
+            f"no party of the streams is called {brief(name)}; the document has: {known}"
         )
 
 

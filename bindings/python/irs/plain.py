@@ -1,28 +1,36 @@
-"""Names and texts from outside, safe to show on a terminal, in a log and in a cell of a spreadsheet."""
+"""Names and texts from outside, safe to show on a terminal, in a log, on a page and in a cell of a spreadsheet.
+
+The rule is this project's own. The templates escape HTML, and not this.
+"""
 from __future__ import annotations
 
 #: A spreadsheet takes a cell that begins with one of these for a formula.
-FORMULA = ("=", "+", "-", "@", "\t", "\r")
+FORMULA = ("=", "+", "-", "@")
 
 
 def _escaped(character: str) -> str:
-    if character == "\\":
-        return "\\\\"
     return character if character.isprintable() else character.encode("unicode_escape", "surrogatepass").decode()
 
 
-def shown(text: str) -> str:
-    """A text in which whatever isn't printable is escaped, as `\\x1b`, and a backslash is doubled.
+def visible(text: str) -> str:
+    r"""The text with an escape, as `\x1b`, for each character that isn't printable; what is visible stays as it is.
 
-    That is control characters, line ends, controls of writing direction, and bytes of a file name that are no
-    text. Two texts that differ are shown differently.
+    Such are control characters, line ends, controls of writing direction, and bytes of a file name that are no
+    text. It is for sentences and for lines of a file.
     """
-    if text.isprintable() and "\\" not in text:
-        return text
-    return "".join(map(_escaped, text))
+    return text if text.isprintable() else "".join(map(_escaped, text))
 
 
-def cell(text: str) -> str:
-    """A text as a cell of a CSV file: shown, and with `'` in front where a spreadsheet would see a formula."""
-    safe = shown(text)
-    return "'" + safe if safe.startswith(FORMULA) or text.startswith(FORMULA) else safe
+def shown(name: str) -> str:
+    """A name, visible and each backslash doubled: two names that differ are shown differently."""
+    return visible(name.replace("\\", "\\\\"))
+
+
+def brief(name: str, most: int = 80) -> str:
+    """A name as it is shown, but at most so many characters of it; `…` says that there are more."""
+    return shown(name if len(name) <= most else f"{name[:most - 1]}…")
+
+
+def cell(name: str) -> str:
+    """A name that is shown already as a cell of a spreadsheet: with `'` in front of what would be a formula."""
+    return f"'{name}" if name.startswith(FORMULA) else name

@@ -7,7 +7,6 @@ from __future__ import annotations
 
 from typing import Any, List, Sequence
 
-from .clean import shown
 from .ladder import CashFlow
 from .packages import package
 
@@ -44,5 +43,5 @@ def figure_of(flows: List[CashFlow], title: str) -> Any:
     axes = made.subplots(max(1, len(currencies)), 1, sharex=True, squeeze=False)
     for axis, currency in zip(axes[:, 0], currencies):
         _draw(axis, currency, [flow for flow in flows if flow.currency == currency])
-    made.suptitle(shown(title).replace("$", r"\$"), fontsize="medium")
+    made.suptitle(title.replace("$", r"\$"), fontsize="medium")
     return made

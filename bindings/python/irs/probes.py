@@ -56,13 +56,14 @@ def plain_stream(start: str, end: str, frequency: Mapping[str, str], roll: str, 
     }
 
 
-_SOUND = plain_stream("2024-01-01", "2025-01-01", frequency_of("1T"), "NONE")
+#: A document that keeps every rule, to ask about a calendar or a file of fixings alone.
+SOUND = plain_stream("2024-01-01", "2025-01-01", frequency_of("1T"), "NONE")
 
 
 def check_calendars(texts: Iterable[str]) -> None:
     """Asks the engine to read calendar files; `BadInput` with its sentence where it refuses one."""
     try:
-        check(_SOUND, list(texts))
+        check(SOUND, list(texts))
     except BadFile as why:
         raise BadInput(f"the engine refuses the calendar: {why.sentence}") from why
 
@@ -70,7 +71,7 @@ def check_calendars(texts: Iterable[str]) -> None:
 def check_fixings(text: str) -> None:
     """Asks the engine to read a file of fixings; `BadInput` with its sentence where it refuses it."""
     try:
-        schedule(_SOUND, text)
+        schedule(SOUND, text)
     except BadFile as why:
         raise BadInput(f"the engine refuses the fixings: {why.sentence}") from why
 

@@ -4,10 +4,10 @@ from __future__ import annotations
 import json
 from typing import List, NamedTuple, Optional
 
-from .clean import shown
 from .engine import Reply
 from .inputs import Named
 from .places import Spot, element_spot, flow_spot
+from .plain import brief, visible
 
 #: How many lines are shown before and after the one at fault, and how many characters of a line.
 AROUND, MOST = 3, 120
@@ -55,7 +55,7 @@ class Refusal(NamedTuple):
 
 
 def _piece(text: str) -> str:
-    return shown(text.expandtabs(4), 4 * MOST)
+    return visible(text.expandtabs(4))
 
 
 def _line(number: int, text: str, marked: bool, column: int, length: int) -> Line:
@@ -196,4 +196,4 @@ def refusal_of(reply: Reply) -> Refusal:
 
 def unread(file: Named, why: str) -> Refusal:
     """The refusal of a file that this version can't read, with its first lines."""
-    return Refusal("This version can't read the file", "", why, "", 0, [], 0, shown(file.name), [])
+    return Refusal("This version can't read the file", "", why, "", 0, [], 0, brief(file.name), [])

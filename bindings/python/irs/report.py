@@ -16,10 +16,11 @@ from pathlib import Path
 from typing import List, Optional
 
 from .arguments import day, parser_of
+from .files import write_whole
 from .inputs import Inputs, Named, read_calendars, read_named
 from .look import look_at
 from .pages import environment, report
-from .tools import BadInput, Parser, ended, write_whole
+from .tools import BadInput, Parser, ended
 
 
 class Asked(argparse.Namespace):

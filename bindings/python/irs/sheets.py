@@ -12,8 +12,8 @@ import io
 from decimal import Decimal
 from typing import IO, Any, List, Optional, Sequence, Tuple
 
-from .clean import cell
 from .packages import package
+from .plain import cell
 from .tables import AMOUNT, COUNT, DATE, NOTIONAL, RATE, Column, Table
 
 #: How many digits a number of a spreadsheet keeps.

@@ -8,7 +8,6 @@ are sums of its amounts. The engine's answers are proved, and this layout of the
 from __future__ import annotations
 
 import argparse
-import io
 import json
 import os
 import sys
@@ -17,9 +16,9 @@ from pathlib import Path
 from typing import Dict, Iterator, List, Optional, Sequence
 
 from .arguments import count, day, parser_of
-from .clean import shown
 from .due import net_rows, net_table
 from .engine import ask
+from .files import whole_file, write_whole
 from .inputs import Inputs, read_calendars, read_document, read_named
 from .ladder import CashFlow, cash_flows, view_sentence, viewer
 from .looks import tables_of
@@ -40,7 +39,7 @@ from .tables import (
     period_table,
     without,
 )
-from .tools import BadInput, Parser, ended, write_whole
+from .tools import BadInput, Parser, ended
 
 #: Columns of the periods that the terminal leaves out, unless they are asked for.
 UNADJUSTED = (*ADJUSTED_FROM.values(), *RESET_OF.values())
@@ -217,10 +216,8 @@ def _written(target: str, text: str) -> None:
 
 
 def _written_workbook(target: str, content: bytes) -> None:
-    try:
-        Path(target).write_bytes(content)
-    except OSError as why:
-        raise BadInput(f"{shown(target)} can't be written: {why.strerror or why}") from why
+    with whole_file(Path(target)) as out:
+        out.write(content)
 
 
 def _shown(asked: Asked, streams: List[StreamText], parties: Parties) -> None:
@@ -280,8 +277,6 @@ def _look(asked: Asked) -> None:
 
 def _run(arguments: Optional[List[str]]) -> int:
     asked = parser().parse_args(arguments, Asked())
-    if isinstance(sys.stdout, io.TextIOWrapper):
-        sys.stdout.reconfigure(errors="backslashreplace")
     try:
         _look(asked)
         sys.stdout.flush()

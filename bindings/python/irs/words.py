@@ -10,7 +10,7 @@ import re
 from typing import Any, Callable, List, NamedTuple, Optional
 
 from .documents import Document, child_of, items_of, leaf_text, streams_of, text_at, value_of
-from .clean import shown
+from .plain import brief
 from .tables import per_cent, separated
 
 #: How many steps of a schedule of values are written out.
@@ -45,7 +45,7 @@ def rate(text: Optional[str]) -> str:
     '5.25%'
     """
     if text is None or not _DECIMAL.fullmatch(text):
-        return shown(text or "")
+        return brief(text or "")
     sign = "-" if text.startswith("-") else ""
     whole, _, part = text.lstrip("+-").partition(".")
     moved = per_cent(f"{whole or '0'}.{part.ljust(2, '0')}", max(len(part) - 2, 0))
@@ -55,7 +55,7 @@ def rate(text: Optional[str]) -> str:
 def amount(text: Optional[str]) -> str:
     """A notional of the document with thousands separators."""
     return (
-        shown(text or "")
+        brief(text or "")
         if text is None or not _DECIMAL.fullmatch(text)
         else separated(text.lstrip("+"))
     )
@@ -66,13 +66,13 @@ def _every(frequency: Any) -> str:
     if period == "T":
         return "once over the whole term"
     unit = _UNITS.get(period or "", "")
-    return f"every {unit}" if count == "1" else f"every {shown(count or '')} {unit}s"
+    return f"every {unit}" if count == "1" else f"every {brief(count or '')} {unit}s"
 
 
 def tenor(element: Any) -> str:
     """A tenor as ``3M``, and empty where there is none."""
     count, period = text_at(element, "periodMultiplier"), text_at(element, "period")
-    return "" if count is None or period is None else shown(f"{count}{period}")
+    return "" if count is None or period is None else brief(f"{count}{period}")
 
 
 def _centres(adjustments: Any) -> str:
@@ -81,10 +81,10 @@ def _centres(adjustments: Any) -> str:
         for item in items_of(child_of(adjustments, "businessCenters"), "businessCenter")
     ]
     if named:
-        return ", ".join(shown(name or "") for name in named)
+        return ", ".join(brief(name or "") for name in named)
     reference = child_of(adjustments, "businessCentersReference")
     href = reference.get("@href") if isinstance(reference, dict) else None
-    return f"the centres called {shown(str(href))}" if href is not None else ""
+    return f"the centres called {brief(str(href))}" if href is not None else ""
 
 
 def _adjusted(adjustments: Any) -> str:
@@ -92,7 +92,7 @@ def _adjusted(adjustments: Any) -> str:
     if convention in (None, "NONE"):
         return "not adjusted"
     centres = _centres(adjustments)
-    name = _CONVENTIONS.get(convention or "", shown(convention or ""))
+    name = _CONVENTIONS.get(convention or "", brief(convention or ""))
     return f"{name} in {centres}" if centres else name
 
 
@@ -103,7 +103,7 @@ def _offset(offset: Any, preposition: str, what: str) -> str:
     days = count.lstrip("+-").lstrip("0")
     kind = (text_at(offset, "dayType") or "").lower()
     side = "before" if count.startswith("-") else "after"
-    return f"{shown(days)} {kind} day{'' if days == '1' else 's'} {side} {what}"
+    return f"{brief(days)} {kind} day{'' if days == '1' else 's'} {side} {what}"
 
 
 def _relative(text: Optional[str]) -> str:
@@ -113,7 +113,7 @@ def _relative(text: Optional[str]) -> str:
 def _steps(about: str, schedule: Any, read: Read) -> List[Term]:
     steps = items_of(schedule, "step")
     terms = [
-        Term(f"{about} {shown(text_at(step, 'stepDate') or '')}", read(text_at(step, "stepValue")))
+        Term(f"{about} {brief(text_at(step, 'stepDate') or '')}", read(text_at(step, "stepValue")))
         for step in steps[:MOST_STEPS]
     ]
     more = len(steps) - MOST_STEPS
@@ -126,12 +126,12 @@ def _steps(about: str, schedule: Any, read: Read) -> List[Term]:
 
 def index_of(rate_element: Any) -> str:
     """The index of a `floatingRate` or a `floatingRateCalculation`, with its tenor."""
-    name = shown(text_at(rate_element, "floatingRateIndex") or "", 160)
+    name = brief(text_at(rate_element, "floatingRateIndex") or "", 160)
     return f"{name} {tenor(child_of(rate_element, 'indexTenor'))}".strip()
 
 
 def _factor(text: Optional[str]) -> str:
-    return shown(text or "")
+    return brief(text or "")
 
 
 def _overnight_terms(parameters: Any) -> List[Term]:
@@ -145,13 +145,13 @@ def _overnight_terms(parameters: Any) -> List[Term]:
         ("lockout", "lockout"),
     )
     days = [
-        f"{what} of {shown(text_at(parameters, element, 'offsetDays') or '')} days"
+        f"{what} of {brief(text_at(parameters, element, 'offsetDays') or '')} days"
         for element, what in names
         if child_of(parameters, element) is not None
     ]
     named = items_of(child_of(parameters, "applicableBusinessDays"), "businessCenter")
-    centres = ", ".join(shown(leaf_text(centre) or "") for centre in named)
-    said = ", ".join([f"daily rates by {shown(method)}", *days])
+    centres = ", ".join(brief(leaf_text(centre) or "") for centre in named)
+    said = ", ".join([f"daily rates by {brief(method)}", *days])
     return [Term("Overnight", f"{said}; business days of {centres}")]
 
 
@@ -186,8 +186,8 @@ def _rate_terms(calculation: Any) -> List[Term]:
         terms.append(
             Term(
                 "Rounding",
-                f"{shown(text_at(rounding, 'roundingDirection') or '')}, "
-                f"{shown(text_at(rounding, 'precision') or '')} decimals of the rate",
+                f"{brief(text_at(rounding, 'roundingDirection') or '')}, "
+                f"{brief(text_at(rounding, 'precision') or '')} decimals of the rate",
             )
         )
     if text_at(floating, "negativeInterestRateTreatment") == "ZeroInterestRateMethod":
@@ -209,7 +209,7 @@ def _stub_terms(stream: Any, dates: Any) -> List[Term]:
         ("stubPeriodType", "Stub"),
     ):
         if text_at(dates, element) is not None:
-            terms.append(Term(about, shown(text_at(dates, element) or "")))
+            terms.append(Term(about, brief(text_at(dates, element) or "")))
     for element, about in (
         ("initialStub", "Rate of the first stub"),
         ("finalStub", "Rate of the last stub"),
@@ -221,7 +221,7 @@ def _stub_terms(stream: Any, dates: Any) -> List[Term]:
 
 
 def _date(element: Any) -> str:
-    day = shown(text_at(element, "unadjustedDate") or "")
+    day = brief(text_at(element, "unadjustedDate") or "")
     return f"{day}, {_adjusted(child_of(element, 'dateAdjustments'))}"
 
 
@@ -230,7 +230,7 @@ def _period_terms(dates: Any) -> List[Term]:
     terms = [Term("Starts", _date(child_of(dates, "effectiveDate")))]
     if child_of(dates, "firstPeriodStartDate") is not None:
         terms.append(Term("First period starts", _date(child_of(dates, "firstPeriodStartDate"))))
-    roll = shown(text_at(frequency, "rollConvention") or "")
+    roll = brief(text_at(frequency, "rollConvention") or "")
     adjusted = _adjusted(child_of(dates, "calculationPeriodDatesAdjustments"))
     return terms + [
         Term("Ends", _date(child_of(dates, "terminationDate"))),
@@ -253,7 +253,7 @@ def _payment_terms(payments: Any) -> List[Term]:
         ("lastRegularPaymentDate", "Last regular payment"),
     ):
         if text_at(payments, element) is not None:
-            terms.append(Term(about, shown(text_at(payments, element) or "")))
+            terms.append(Term(about, brief(text_at(payments, element) or "")))
     return terms
 
 
@@ -285,16 +285,16 @@ def _exchange_terms(stream: Any) -> List[Term]:
 
 def _amount_terms(calculation: Any) -> List[Term]:
     notional = child_of(calculation, "notionalSchedule", "notionalStepSchedule")
-    currency = shown(text_at(notional, "currency") or "")
+    currency = brief(text_at(notional, "currency") or "")
     terms = [
         Term("Notional", f"{currency} {amount(text_at(notional, 'initialValue'))}"),
         *_steps("from", notional, amount),
         *_rate_terms(calculation),
-        Term("Day count", shown(text_at(calculation, "dayCountFraction") or "")),
+        Term("Day count", brief(text_at(calculation, "dayCountFraction") or "")),
     ]
     method = text_at(calculation, "compoundingMethod")
     return (
-        terms if method in (None, "None") else [*terms, Term("Compounding", shown(method or ""))]
+        terms if method in (None, "None") else [*terms, Term("Compounding", brief(method or ""))]
     )
 
 

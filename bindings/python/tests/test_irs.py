@@ -205,6 +205,8 @@ class Schedules(unittest.TestCase):
         self.assertEqual(floats["amount"][0], float(frame["amount"][0]))
         self.assertEqual(list(floats["direction"]), ["pays", "pays", "receives"])
         self.assertNotEqual(frame["payer"][0], frame["receiver"][0])
+        with self.assertRaises(ValueError):
+            schedule.frame(party="nobody")
         self.assertIsInstance(schedule.frame(irs.Period), pandas.DataFrame)
         with self.assertRaises(ValueError):
             schedule.frame(irs.Net)

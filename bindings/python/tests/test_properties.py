@@ -28,7 +28,8 @@ class Shown(unittest.TestCase):
     def test_names_that_differ_are_shown_differently(self, one, other):
         for text in (one, other):
             self.assertTrue(plain.shown(text).isprintable())
-            self.assertFalse(plain.cell(text).startswith(("=", "+", "-", "@")))
+            self.assertFalse(plain.cell(plain.shown(text)).startswith(("=", "+", "-", "@", "\t", "\r")))
+            self.assertEqual(plain.visible(plain.visible(text)), plain.visible(text))
         self.assertEqual(plain.shown(one) == plain.shown(other), one == other)
 
     @given(st.binary())
