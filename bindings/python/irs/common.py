@@ -2,8 +2,8 @@
 
 The library reads each file that it gets with each call. So a trade gets only the calendars and the fixings that it
 can need: those whose centre or index is in the document's bytes. A name that isn't there in these bytes
-can't be in a leaf of the document either, unless an escape of JSON spells it; a document with a backslash gets
-everything. So the answer is the one that all of them give.
+can't be in a leaf of a JSON document either, unless an escape spells it; a document with a backslash, and one
+that doesn't begin as JSON does, gets everything. So the answer is the one that all of them give.
 """
 from __future__ import annotations
 
@@ -60,6 +60,11 @@ def _held(source: Union[bytes, Path]) -> bytes:
     return read_regular(source) if isinstance(source, Path) else source
 
 
+def spells_plainly(document: bytes) -> bool:
+    """Whether each name of a document is in its bytes as it is: it begins as JSON does, and has no escape."""
+    return document.lstrip(b" \t\r\n")[:1] in (b"{", b"[") and b"\\" not in document
+
+
 class Loaded:
     """The common files, read, and the parts of them that a document can need."""
 
@@ -77,7 +82,7 @@ class Loaded:
 
     def calendars_for(self, document: bytes, own: Sequence[Tuple[str, bytes]] = ()) -> List[Tuple[str, bytes]]:
         """A trade's own calendars, and those that its document can need; some are joined where they are too many."""
-        every = b"\\" in document
+        every = not spells_plainly(document)
         needed = [*own, *((name, held) for name, held, centres in self.calendars
                           if every or any(centre in document for centre in centres))]
         if len(needed) <= MOST_CALENDARS:
@@ -87,7 +92,7 @@ class Loaded:
 
     def fixings_for(self, document: bytes) -> Optional[bytes]:
         """The lines of the common fixings that a document can need."""
-        if not self.lines or b"\\" in document:
+        if not self.lines or not spells_plainly(document):
             return self.fixings
         return b"".join(lines for index, lines in self.lines.items() if index in document)
 

@@ -271,6 +271,13 @@ class Centres(unittest.TestCase):
             document = BUSINESS.replace(b'"DEFR"', spelling)
             self.assertEqual(self.verdict(document, self.calendars()), "ok", spelling)
 
+    def test_what_does_not_begin_as_json_gets_everything(self):
+        given = book.loaded(book.common_of(self.calendars(3), example("compounded/fixings")))
+        for document in (b"<swap>DE&#70;R</swap>", b"\xef\xbb\xbf{}", b"", b'{"a":"\\u0044"}'):
+            self.assertEqual(len(given.calendars_for(document)), 4, document)
+            self.assertEqual(given.fixings_for(document), example("compounded/fixings"))
+        self.assertEqual((given.calendars_for(b"{}"), given.fixings_for(b" [1]")), ([], b""))
+
     def test_more_than_sixteen_are_named(self):
         passed_over = {"businessCenter": [f"X{number:03}" for number in range(40)]}
         document = json.loads(BUSINESS)
