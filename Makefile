@@ -86,4 +86,4 @@ test:
 	@tools/gate
 
 clean:
-	rm -rf irs dist build crates/*/out
+	rm -rf irs dist build crates/*/out bindings/libirs.a bindings/libirs.so bindings/python/irs/libirs.so
