@@ -53,6 +53,6 @@ def net_table(rows: List[NetRow]) -> Table:
         Column("payer", "Who pays", WORD),
         Column("currency", "Cur", WORD),
         Column("amount", "Net amount", AMOUNT),
-        Column("note", "", WORD),
+        Column("note", "Note", WORD),
     ]
     return Table("Net", columns, [list(row) for row in rows])

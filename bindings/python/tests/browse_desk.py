@@ -321,6 +321,16 @@ class Desk(Browser):
         self.look()
         self.assertIn("big.json has more than 4,194,304 bytes", self.text())
 
+    def test_too_much_together(self):
+        path = self.folder / "huge.json"
+        with path.open("wb") as file:
+            file.truncate(100 << 20)
+        self.driver.find_element(By.ID, "document").send_keys(str(path))
+        self.look()
+        self.assertIn("larger than this page takes", self.driver.page_source)
+        path.unlink()
+        self.driver.get_log("browser")  # the browser reports status 413 there
+
     def test_a_name_that_climbs(self):
         before = sorted(str(path) for path in self.folder.rglob("*"))
         self.drop(
