@@ -23,7 +23,6 @@ from typing import Any, List, NamedTuple, NoReturn, Optional, Sequence, Tuple
 from .arguments import port
 from .calendar_files import centres_in
 from .documents import json_of
-from .engine import ask
 from .inputs import Inputs, Named, at_most_sixteen, chosen, read_named
 from .insert import with_cashflows
 from .library import MOST_BYTES, MOST_CALENDARS
@@ -31,6 +30,7 @@ from .look import Look, look_at
 from .packages import package
 from .pages import TEMPLATES, environment, report, style
 from .plain import brief, shown
+from .replies import ask
 from .sheets import csv_text
 from .tools import BadInput, Parser, ended
 

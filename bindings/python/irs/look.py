@@ -15,13 +15,13 @@ from .calls import Schedule
 from .compare import Comparison, mark_of, side_by_side
 from .documents import NotRead, json_of, streams_of, value_of
 from .due import counted, net_rows, net_table
-from .engine import Reply, ask
 from .inputs import Inputs, Named
 from .ladder import cash_flows, view_sentence, viewer
 from .parties import Parties, parties_of
 from .plain import brief
 from .printed import UNKNOWN, StreamText, printed
 from .refusals import Refusal, refusal_of, unread
+from .replies import Reply, ask
 from .stubs import index_of_period, stubs_of
 from .tables import Cell, Column, Table, exchange_table, folded, ledger_table, period_table
 from .timeline import Timeline, timeline

@@ -4,10 +4,10 @@ from __future__ import annotations
 import json
 from typing import List, NamedTuple, Optional
 
-from .engine import Reply
 from .inputs import Named
 from .places import Spot, element_spot, flow_spot
 from .plain import brief, visible
+from .replies import Reply
 
 #: How many lines are shown before and after the one at fault, and how many characters of a line.
 AROUND, MOST = 3, 120

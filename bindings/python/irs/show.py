@@ -17,13 +17,13 @@ from typing import Dict, Iterator, List, Optional, Sequence
 
 from .arguments import count, day, parser_of
 from .due import net_rows, net_table
-from .engine import ask
 from .files import whole_file, write_whole
 from .inputs import Inputs, read_calendars, read_document, read_named
 from .ladder import CashFlow, cash_flows, view_sentence, viewer
 from .looks import tables_of
 from .parties import Parties, parties_of
 from .printed import StreamText, printed, within
+from .replies import ask
 from .sheets import csv_text, workbook
 from .tables import (
     ADJUSTED_FROM,

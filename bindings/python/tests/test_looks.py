@@ -28,7 +28,7 @@ sys.path.insert(0, str(HERE.parent))
 import irs
 import trades
 from irs import compare, library, palette, places, plain, tables, words
-from irs.engine import ask
+from irs.replies import ask
 from irs.inputs import Inputs, Named
 from irs.insert import with_cashflows
 from irs.look import look_at
