@@ -226,24 +226,24 @@ def seconds(text: str) -> float:
     return number
 
 
-def parsed(arguments: Optional[List[str]]) -> argparse.Namespace:
-    """The words of the command line."""
-    parser = Parser(prog="irs-book", description=__doc__, formatter_class=argparse.RawDescriptionHelpFormatter)
-    parser.add_argument("folder", type=Path)
-    parser.add_argument("--command", choices=COMMANDS, default="audit")
-    parser.add_argument("--names-from", type=Path, metavar="FILE", help="a manifest with the trades")
-    parser.add_argument("--csv", type=Path, default=Path("irs-book.csv"), help="where the outcomes go (irs-book.csv)")
-    parser.add_argument("--journal", type=Path, help="where they go as they come (the CSV's name and .journal)")
-    parser.add_argument("--resume", action="store_true", help="go on with the journal that is there")
-    parser.add_argument("--accept", action="append", choices=["unverified"], default=[],
-                        help="a verdict that counts as 0")
-    parser.add_argument("--jobs", type=count, default=len(os.sched_getaffinity(0)),
-                        help="processes (one a processor)")
-    parser.add_argument("--scheduler", metavar="ADDRESS", help="a dask scheduler, as tcp://host:8786")
-    parser.add_argument("--chunk", type=count, default=50, help="trades that are sent at once (50)")
-    parser.add_argument("--timeout", type=seconds, default=60.0, help="the most seconds for a trade here (60)")
-    parser.add_argument("--verbose", action="store_true", help="more on standard error")
-    return parser.parse_args(arguments)
+def parser() -> Parser:
+    """The words that irs-book takes."""
+    made = Parser(prog="irs-book", description=__doc__, formatter_class=argparse.RawDescriptionHelpFormatter)
+    made.add_argument("folder", type=Path)
+    made.add_argument("--command", choices=COMMANDS, default="audit")
+    made.add_argument("--names-from", type=Path, metavar="FILE", help="a manifest with the trades")
+    made.add_argument("--csv", type=Path, default=Path("irs-book.csv"), help="where the outcomes go (irs-book.csv)")
+    made.add_argument("--journal", type=Path, help="where they go as they come (the CSV's name and .journal)")
+    made.add_argument("--resume", action="store_true", help="go on with the journal that is there")
+    made.add_argument("--accept", action="append", choices=["unverified"], default=[],
+                      help="a verdict that counts as 0")
+    made.add_argument("--jobs", type=count, default=len(os.sched_getaffinity(0)),
+                      help="processes (one a processor)")
+    made.add_argument("--scheduler", metavar="ADDRESS", help="a dask scheduler, as tcp://host:8786")
+    made.add_argument("--chunk", type=count, default=50, help="trades that are sent at once (50)")
+    made.add_argument("--timeout", type=seconds, default=60.0, help="the most seconds for a trade here (60)")
+    made.add_argument("--verbose", action="store_true", help="more on standard error")
+    return made
 
 
 def _end(number: int, _: Any) -> NoReturn:
@@ -303,7 +303,7 @@ def night(words: argparse.Namespace) -> int:
 
 
 def _run(arguments: Optional[List[str]]) -> int:
-    words = parsed(arguments)
+    words = parser().parse_args(arguments)
     logging.basicConfig(format="irs-book: %(message)s", level=logging.INFO if words.verbose else logging.WARNING)
     for number in (signal.SIGINT, signal.SIGTERM, signal.SIGHUP):
         signal.signal(number, _end)

@@ -90,7 +90,7 @@ def at_most_sixteen(calendars: List[Calendar]) -> List[Calendar]:
     return calendars
 
 
-def read_calendars(paths: Sequence[Path], document: Text) -> List[Named]:
+def calendars_at(paths: Sequence[Path], document: Text) -> List[Named]:
     """The calendar files of paths, where a folder means those that the document needs.
     Raises `BadInput`."""
     calendars: List[Named] = []

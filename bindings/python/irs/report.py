@@ -17,7 +17,7 @@ from typing import List, Optional
 
 from .arguments import day, parser_of
 from .files import write_whole
-from .inputs import Inputs, Named, read_calendars, read_named
+from .inputs import Inputs, Named, calendars_at, read_named
 from .look import look_at
 from .pages import environment, report
 from .tools import BadInput, Parser, ended
@@ -81,7 +81,7 @@ def inputs_of(asked: Asked, trade: Path) -> Inputs:
     )
     folder = trade.with_name("calendars") if str(trade) != "-" else None
     paths = asked.calendar or ([folder] if folder is not None and folder.is_dir() else [])
-    return Inputs(document, fixings, flows, read_calendars(paths, document.content))
+    return Inputs(document, fixings, flows, calendars_at(paths, document.content))
 
 
 def _written(arguments: Optional[List[str]]) -> int:
