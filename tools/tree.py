@@ -194,7 +194,7 @@ def lay(of: Built, root: Path, prefix: str, libdir: str, room: Path) -> List[str
     lay_pages(of, base / "share" / "doc" / "irs")
     if jar(base / "share" / "java" / "irs.jar", room):
         return []
-    return ["without irs.jar: it wants javac and Debian's libjna-java"]
+    return ["without irs.jar: it needs javac and Debian's libjna-java"]
 
 
 def lay_pages(of: Built, pages: Path) -> None:

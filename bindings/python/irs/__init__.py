@@ -5,7 +5,7 @@
     >>> schedule.payments()[0].amount
     Decimal('25277.78')
 
-What a document, a calendar and a file of fixings are stands in docs/FORMATS.md, the rules in
+What a document, a calendar and a file of fixings are is in docs/FORMATS.md, the rules are in
 docs/RULES.md; that the answers are the only ones is proved of the library's call (docs/PROOFS.md), and
 only tested of what this package makes of its text.
 """

@@ -20,7 +20,7 @@ from .common import Common, Loaded, common_of, loaded, stamp_of
 from .files import read_regular
 from .library import Text, as_bytes, engine
 from .plain import shown
-from .pool import Processes
+from .pool import TRIES, Processes
 
 #: The commands that a book can be asked.
 COMMANDS = ("check", "schedule", "audit", "emit", "net")
@@ -33,9 +33,6 @@ VERDICTS = ("agrees", "done", "unverified", "departs", "refused", "bad file", "f
 
 #: The verdicts that a run without fault has.
 CLEAN = ("agrees", "done")
-
-#: How often a trade that is alone is tried on an executor, where its worker dies.
-TRIES = 3
 
 #: How many names of failed trades a summary keeps.
 MOST_NAMES = 100

@@ -94,7 +94,7 @@ class HolidaysSource:
 
 
 class ListedSource:
-    """A list of holidays from a file, beside a weekend that doesn't change.
+    """A list of holidays from a file, and a weekend that doesn't change.
 
     The list knows the years from its first to its last day. A first or last year with less than half of the
     usual number of days is left out, since such a list often ends in the middle of a year.

@@ -48,7 +48,7 @@ class Ended(BaseException):
         super().__init__(signal.Signals(number).name)
 
 
-#: What stands beside a document NAME.json, as endings of NAME.
+#: What is beside a document NAME.json, as endings of NAME.
 FLOWS, FIXINGS, DOCUMENT = ".flows.json", ".fixings", ".json"
 
 

@@ -179,7 +179,7 @@ class Desk:
         return self.flask.Response(text, status, mimetype="text/html")
 
     def form(self, sentence: str = "", status: int = 200) -> Any:
-        """The page that asks for files, with a sentence on what was amiss."""
+        """The page that asks for files, with a sentence on what was wrong."""
         return self.page("desk_form.html", status, calendars=self.calendars, sentence=sentence)
 
     def style(self) -> Any:

@@ -19,7 +19,7 @@ from typing import Any, Callable, Deque, Generic, Iterator, List, NamedTuple, Op
 
 LOG = logging.getLogger("irs.book")
 
-#: How often an item that is alone is tried where its process dies.
+#: How often an item that is alone is tried where its process, or its worker on an executor, dies.
 TRIES = 3
 
 #: PR_SET_PDEATHSIG of Linux: the signal that a process gets when the one that started it ends.

@@ -1,7 +1,7 @@
 """`irs-report TRADE.. -o report.html`: one HTML file on one or more trades, which needs nothing
 beside it.
 
-TRADE is a document of terms as JSON, NAME.json. What lies beside it is used as by irs-book:
+TRADE is a document of terms as JSON, NAME.json. What is beside it is used as by irs-book:
 NAME.fixings, or a file `fixings` for all; NAME.flows.json, another party's cash flows; and the
 folder `calendars`. Options name others. The report has no script and fetches nothing. Every
 number is the engine's; running totals are sums of its amounts. The engine's answers are proved,
@@ -66,7 +66,7 @@ def _beside(trade: Path, *names: str) -> Optional[Named]:
 
 
 def inputs_of(asked: Asked, trade: Path) -> Inputs:
-    """The files of a trade: those that options name, else those that lie beside it. Raises
+    """The files of a trade: those that options name, else those that are beside it. Raises
     `BadInput`."""
     document = read_named(trade)
     fixings = (

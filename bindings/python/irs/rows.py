@@ -1,7 +1,7 @@
 """The rows of the texts that the library prints, as named tuples.
 
 Dates are `datetime.date`, amounts, notionals and rates `decimal.Decimal` with the decimals that the text
-has, fractions `fractions.Fraction`. What isn't known for want of a fixing is `None`. All numbers count
+has, fractions `fractions.Fraction`. What isn't known as a fixing is missing is `None`. All numbers count
 from 1.
 """
 from __future__ import annotations
