@@ -11,19 +11,53 @@ only tested of what this package makes of its text.
 """
 from .book import Outcome, Summary
 from .builder import Overnight, swap
-from .calls import (Schedule, accrue, audit, average, check, emit, interpolate, net, overnight, schedule)
+from .calls import Schedule, accrue, audit, average, check, emit, interpolate, net, overnight, schedule
 from .errors import BadFile, BadWords, Error, NoFile, NotText, OutOfMemory, Refused, TooLong
 from .ladder import CashFlow
 from .library import Answer, engine, run
-from .rows import (Accrued, Derived, Exchange, Missing, Net, No, Payment, Period, Reset, Row, Stream, Verdict,
-                   Yes)
+from .rows import Accrued, Derived, Exchange, Missing, Net, No, Payment, Period, Reset, Row, Stream, Verdict, Yes
 
 #: The version of the package; VERSION at the top of the repository is where it is stated.
 __version__ = "1.0.0"
 
 __all__ = [
-    "Accrued", "Answer", "BadFile", "BadWords", "CashFlow", "Derived", "Error", "Exchange", "Missing", "Net", "No",
-    "NoFile", "NotText", "OutOfMemory", "Outcome", "Overnight", "Payment", "Period", "Refused", "Reset", "Row",
-    "Schedule", "Stream", "Summary", "TooLong", "Verdict", "Yes", "accrue", "audit", "average", "check", "emit",
-    "engine", "interpolate", "net", "overnight", "run", "schedule", "swap",
+    "Accrued",
+    "Answer",
+    "BadFile",
+    "BadWords",
+    "CashFlow",
+    "Derived",
+    "Error",
+    "Exchange",
+    "Missing",
+    "Net",
+    "No",
+    "NoFile",
+    "NotText",
+    "OutOfMemory",
+    "Outcome",
+    "Overnight",
+    "Payment",
+    "Period",
+    "Refused",
+    "Reset",
+    "Row",
+    "Schedule",
+    "Stream",
+    "Summary",
+    "TooLong",
+    "Verdict",
+    "Yes",
+    "accrue",
+    "audit",
+    "average",
+    "check",
+    "emit",
+    "engine",
+    "interpolate",
+    "net",
+    "overnight",
+    "run",
+    "schedule",
+    "swap",
 ]

@@ -33,9 +33,7 @@ def port(text: str) -> int:
 
 def parser_of(name: str, description: str) -> Parser:
     """A parser with the options that say what is looked at."""
-    made = Parser(
-        prog=name, description=description, formatter_class=argparse.RawDescriptionHelpFormatter
-    )
+    made = Parser(prog=name, description=description, formatter_class=argparse.RawDescriptionHelpFormatter)
     made.add_argument("--fixings", type=Path, metavar="FILE", help="a file of fixings")
     made.add_argument(
         "--calendar",

@@ -146,8 +146,10 @@ def _missing(item: Item, calendars: Sequence[Tuple[str, bytes]], fixings: Option
     if not lacking:
         return "no fixing is missing"
     first = lacking[0]
-    return (f"{len(lacking)} of {len(resets)} resets have no fixing, the first in stream {first[1]}, "
-            f"period {first[2]}, fixed on {first[4]}")
+    return (
+        f"{len(lacking)} of {len(resets)} resets have no fixing, the first in stream {first[1]}, "
+        f"period {first[2]}, fixed on {first[4]}"
+    )
 
 
 def _verdict(command: str, told: Told) -> str:
@@ -161,8 +163,11 @@ def _verdict(command: str, told: Told) -> str:
 
 def _outcome(command: str, trade: Trade, common: Loaded) -> Outcome:
     """What one trade comes to; `_Unreadable` or TypeError where its files can't be had."""
-    item = Item(_read(trade.document), None if trade.flows is None else _read(trade.flows),
-                None if trade.fixings is None else _read(trade.fixings))
+    item = Item(
+        _read(trade.document),
+        None if trade.flows is None else _read(trade.flows),
+        None if trade.fixings is None else _read(trade.fixings),
+    )
     document = as_bytes(item.document)
     own = [(str(number), as_bytes(calendar)) for number, calendar in enumerate(trade.calendars, 1)]
     calendars = common.calendars_for(document, own)
@@ -280,8 +285,15 @@ class _Submitted:
                 yield [failed(trade, f"{type(why).__name__}: {why}") for trade in items]
 
 
-def _parts(chunks: Iterator[List[Trade]], command: str, common: Common, executor: Any, jobs: Optional[int], ahead: int,
-           timeout: Optional[float]) -> Iterator[List[Outcome]]:
+def _parts(
+    chunks: Iterator[List[Trade]],
+    command: str,
+    common: Common,
+    executor: Any,
+    jobs: Optional[int],
+    ahead: int,
+    timeout: Optional[float],
+) -> Iterator[List[Outcome]]:
     """The outcomes of each chunk, by whatever works them."""
     worker = partial(work, command, common)
     if executor is None and jobs == 1 and timeout is None:
@@ -294,9 +306,17 @@ def _parts(chunks: Iterator[List[Trade]], command: str, common: Common, executor
     return found
 
 
-def outcomes(trades: Iterable[Trade], command: str = "audit", *, common: Optional[Common] = None, executor: Any = None,
-             jobs: Optional[int] = None, chunk: int = 50, ahead: int = 64,
-             timeout: Optional[float] = None) -> Iterator[Outcome]:
+def outcomes(
+    trades: Iterable[Trade],
+    command: str = "audit",
+    *,
+    common: Optional[Common] = None,
+    executor: Any = None,
+    jobs: Optional[int] = None,
+    chunk: int = 50,
+    ahead: int = 64,
+    timeout: Optional[float] = None,
+) -> Iterator[Outcome]:
     """An outcome a trade, as they are done and in no order.
 
     `common` has the calendars and the fixings that trades have in common (`common_of`), which go once to each worker.
@@ -330,9 +350,19 @@ def with_bar(told: Iterator[Outcome], total: Optional[int]) -> Iterator[Outcome]
     return bar
 
 
-def run(trades: Iterable[Trade], command: str = "audit", *, common: Optional[Common] = None, executor: Any = None,
-        jobs: Optional[int] = None, chunk: int = 50, timeout: Optional[float] = None, progress: bool = False,
-        total: Optional[int] = None, each: Optional[Callable[[Outcome], Any]] = None) -> Summary:
+def run(
+    trades: Iterable[Trade],
+    command: str = "audit",
+    *,
+    common: Optional[Common] = None,
+    executor: Any = None,
+    jobs: Optional[int] = None,
+    chunk: int = 50,
+    timeout: Optional[float] = None,
+    progress: bool = False,
+    total: Optional[int] = None,
+    each: Optional[Callable[[Outcome], Any]] = None,
+) -> Summary:
     """Asks one command of every trade, and adds up how they end; see `outcomes`. `each` is called with every
     outcome; `progress` shows a bar where tqdm is installed."""
     told = outcomes(trades, command, common=common, executor=executor, jobs=jobs, chunk=chunk, timeout=timeout)
@@ -344,5 +374,20 @@ def run(trades: Iterable[Trade], command: str = "audit", *, common: Optional[Com
     return summary
 
 
-__all__ = ["CLEAN", "COMMANDS", "VERDICTS", "Common", "Outcome", "Summary", "Trade", "common_of", "failed",
-           "outcome_of", "outcomes", "run", "stamp", "with_bar", "work"]
+__all__ = [
+    "CLEAN",
+    "COMMANDS",
+    "VERDICTS",
+    "Common",
+    "Outcome",
+    "Summary",
+    "Trade",
+    "common_of",
+    "failed",
+    "outcome_of",
+    "outcomes",
+    "run",
+    "stamp",
+    "with_bar",
+    "work",
+]

@@ -20,8 +20,24 @@ from typing import Any, Dict, Iterable, Iterator, List, Mapping, NamedTuple, Opt
 from .errors import error_of
 from .library import Answer, Text, meaning, run
 from .looks import Looks
-from .rows import (Accrued, Derived, Exchange, Missing, Net, Payment, Period, Reset, Row, Stream, Verdict,
-                   accrued_of, derived_of, inner_lines, row_of, verdict_of)
+from .rows import (
+    Accrued,
+    Derived,
+    Exchange,
+    Missing,
+    Net,
+    Payment,
+    Period,
+    Reset,
+    Row,
+    Stream,
+    Verdict,
+    accrued_of,
+    derived_of,
+    inner_lines,
+    row_of,
+    verdict_of,
+)
 
 File = Union[Text, "os.PathLike[str]"]
 Document = Union[File, Mapping[str, Any]]
@@ -107,6 +123,7 @@ class Schedule(Looks):
         if kind not in (Stream, Exchange, Payment, Period, Reset):
             raise ValueError("a schedule has rows of the kinds Stream, Exchange, Payment, Period and Reset")
         from .frames import frame_of
+
         return frame_of(self, kind, numbers, party)
 
 
@@ -175,8 +192,9 @@ def _asked(parts: List[Text], files: Dict[str, Text], calendars: Iterable[File])
     return answer
 
 
-def _with_rates(command: str, parameters: List[str], document: Text, rates: Optional[File],
-                calendars: Iterable[File], **more: Text) -> bytes:
+def _with_rates(
+    command: str, parameters: List[str], document: Text, rates: Optional[File], calendars: Iterable[File], **more: Text
+) -> bytes:
     files: Dict[str, Text] = {"document": document, **more}
     words: List[Text] = [command, *parameters, "document"]
     if rates is None:
@@ -203,8 +221,9 @@ class Told(NamedTuple):
     sentence: str
 
 
-def _words_of(command: str, item: Item, calendars: Sequence[Tuple[str, bytes]],
-              fixings: Optional[bytes]) -> Tuple[List[Text], Dict[str, Text]]:
+def _words_of(
+    command: str, item: Item, calendars: Sequence[Tuple[str, bytes]], fixings: Optional[bytes]
+) -> Tuple[List[Text], Dict[str, Text]]:
     files: Dict[str, Text] = {"document": item.document}
     words: List[Text] = [command, "document"]
     rates = fixings if item.fixings is None else item.fixings
@@ -223,8 +242,9 @@ def _words_of(command: str, item: Item, calendars: Sequence[Tuple[str, bytes]],
     return words, files
 
 
-def run_each(command: str, items: Iterable[Item], calendars: Sequence[Tuple[str, bytes]] = (),
-             fixings: Optional[bytes] = None) -> Iterator[Told]:
+def run_each(
+    command: str, items: Iterable[Item], calendars: Sequence[Tuple[str, bytes]] = (), fixings: Optional[bytes] = None
+) -> Iterator[Told]:
     """One command over many trades, with the calendars (name and bytes) and the fixings that they have in common.
 
     Each trade's answer is the one that it has alone. This is the one place where a book asks the library.
@@ -246,8 +266,9 @@ def schedule(document: Document, fixings: Optional[File] = None, calendars: Iter
     return Schedule(_with_rates("schedule", [], text, fixings, calendars), text)
 
 
-def audit(document: Document, flows: Document, fixings: Optional[File] = None,
-          calendars: Iterable[File] = ()) -> Verdict:
+def audit(
+    document: Document, flows: Document, fixings: Optional[File] = None, calendars: Iterable[File] = ()
+) -> Verdict:
     """Compares cash flows with the schedule: `Yes`, or `No` with the first departure."""
     return verdict_of(_with_rates("audit", [], _document(document), fixings, calendars, flows=_document(flows)))
 
@@ -257,8 +278,9 @@ def emit(document: Document, fixings: Optional[File] = None, calendars: Iterable
     return _with_rates("emit", [], _document(document), fixings, calendars)
 
 
-def accrue(day: Day, document: Document, fixings: Optional[File] = None,
-           calendars: Iterable[File] = ()) -> List[Accrued]:
+def accrue(
+    day: Day, document: Document, fixings: Optional[File] = None, calendars: Iterable[File] = ()
+) -> List[Accrued]:
     """What has accrued on a day in each stream; `BadWords` where the text is no day of the range."""
     text = _with_rates("accrue", [_day(day)], _document(document), fixings, calendars)
     return [accrued_of(line) for line in inner_lines(text)]
@@ -275,21 +297,35 @@ def _derived(text: bytes) -> List[Union[Derived, Missing]]:
     return [derived_of(line) for line in text.decode().splitlines()[1:]]
 
 
-def overnight(stream: int, document: Document, daily: Optional[File] = None,
-              calendars: Iterable[File] = ()) -> List[Union[Derived, Missing]]:
+def overnight(
+    stream: int, document: Document, daily: Optional[File] = None, calendars: Iterable[File] = ()
+) -> List[Union[Derived, Missing]]:
     """A rate a calculation period of a floating stream, compounded from the daily rates of its index."""
     return _derived(_with_rates("overnight", [str(stream)], _document(document), daily, calendars))
 
 
-def average(stream: int, kind: str, step: str, document: Document, fixings: Optional[File] = None,
-            calendars: Iterable[File] = ()) -> List[Union[Derived, Missing]]:
+def average(
+    stream: int,
+    kind: str,
+    step: str,
+    document: Document,
+    fixings: Optional[File] = None,
+    calendars: Iterable[File] = (),
+) -> List[Union[Derived, Missing]]:
     """A rate a calculation period of a floating stream, the mean of rates observed every `step`, as
     ``1W``; `kind` is ``plain`` or ``weighted``, which weighs a rate by its days."""
     return _derived(_with_rates("average", [str(stream), kind, step], _document(document), fixings, calendars))
 
 
-def interpolate(stream: int, side: str, low: str, high: str, document: Document, fixings: Optional[File] = None,
-                calendars: Iterable[File] = ()) -> Union[Derived, Missing]:
+def interpolate(
+    stream: int,
+    side: str,
+    low: str,
+    high: str,
+    document: Document,
+    fixings: Optional[File] = None,
+    calendars: Iterable[File] = (),
+) -> Union[Derived, Missing]:
     """The rate of a stub, ``initial`` or ``final``, on the line between the rates of two tenors."""
     parameters = [str(stream), side, low, high]
     return _derived(_with_rates("interpolate", parameters, _document(document), fixings, calendars))[0]

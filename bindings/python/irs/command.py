@@ -65,7 +65,7 @@ class Folder:
             for name in os.listdir(folder):
                 ending = next((it for it in (FLOWS, FIXINGS, DOCUMENT) if name.endswith(it)), None)
                 if ending is not None:
-                    beside[ending].add(name[:-len(ending)])
+                    beside[ending].add(name[: -len(ending)])
         except OSError as why:
             raise BadInput(f"{shown(str(folder))} can't be read: {why.strerror}") from why
         self.names = sorted(beside[DOCUMENT])
@@ -79,8 +79,12 @@ class Folder:
 
     def __iter__(self) -> Iterator[Trade]:
         for name in self.names:
-            yield Trade(_as_utf8(name), self.folder / (name + DOCUMENT), self._beside(name, FIXINGS, self.fixings),
-                        self._beside(name, FLOWS, self.flows))
+            yield Trade(
+                _as_utf8(name),
+                self.folder / (name + DOCUMENT),
+                self._beside(name, FIXINGS, self.fixings),
+                self._beside(name, FLOWS, self.flows),
+            )
 
     def _beside(self, name: str, ending: str, names: Set[str]) -> Optional[Path]:
         return self.folder / (name + ending) if name in names else None
@@ -185,14 +189,22 @@ def write_csv(path: Path, told: Iterator[Outcome]) -> None:
         out.detach()
 
 
-def work(trades: Iterable[Trade], count: int, common: Common, words: argparse.Namespace, executor: Any,
-         journal: Journal) -> None:
+def work(
+    trades: Iterable[Trade], count: int, common: Common, words: argparse.Namespace, executor: Any, journal: Journal
+) -> None:
     """Works the trades, each outcome into the journal."""
     if executor is None:
         # Read before the processes start, which so have it already.
         loaded(common)
-    told = outcomes(trades, words.command, common=common, executor=executor, jobs=words.jobs, chunk=words.chunk,
-                    timeout=words.timeout)
+    told = outcomes(
+        trades,
+        words.command,
+        common=common,
+        executor=executor,
+        jobs=words.jobs,
+        chunk=words.chunk,
+        timeout=words.timeout,
+    )
     with contextlib.closing(told):  # type: ignore[type-var]
         for outcome in with_bar(told, count) if sys.stderr.isatty() else told:
             if outcome.verdict == "failed":
@@ -213,9 +225,13 @@ def done_before(trades: Trades, journal: Journal) -> Set[str]:
 def asked_of(words: argparse.Namespace, common: Common) -> Dict[str, str]:
     """What the journal says of a run: a resumed one has to ask for the same."""
     names = ", ".join(name for name, _ in common.calendars)
-    return {"command": words.command, "folder": shown(str(words.folder.resolve())), "library": engine(),
-            "calendars and common fixings": f"{names} {common.stamp}",
-            "manifest": shown(str(words.names_from.resolve())) if words.names_from else ""}
+    return {
+        "command": words.command,
+        "folder": shown(str(words.folder.resolve())),
+        "library": engine(),
+        "calendars and common fixings": f"{names} {common.stamp}",
+        "manifest": shown(str(words.names_from.resolve())) if words.names_from else "",
+    }
 
 
 def seconds(text: str) -> float:
@@ -235,10 +251,10 @@ def parser() -> Parser:
     made.add_argument("--csv", type=Path, default=Path("irs-book.csv"), help="where the outcomes go (irs-book.csv)")
     made.add_argument("--journal", type=Path, help="where they go as they come (the CSV's name and .journal)")
     made.add_argument("--resume", action="store_true", help="go on with the journal that is there")
-    made.add_argument("--accept", action="append", choices=["unverified"], default=[],
-                      help="a verdict that counts as 0")
-    made.add_argument("--jobs", type=count, default=len(os.sched_getaffinity(0)),
-                      help="processes (one a processor)")
+    made.add_argument(
+        "--accept", action="append", choices=["unverified"], default=[], help="a verdict that counts as 0"
+    )
+    made.add_argument("--jobs", type=count, default=len(os.sched_getaffinity(0)), help="processes (one a processor)")
     made.add_argument("--scheduler", metavar="ADDRESS", help="a dask scheduler, as tcp://host:8786")
     made.add_argument("--chunk", type=count, default=50, help="trades that are sent at once (50)")
     made.add_argument("--timeout", type=seconds, default=60.0, help="the most seconds for a trade here (60)")

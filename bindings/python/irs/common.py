@@ -83,8 +83,14 @@ class Loaded:
     def calendars_for(self, document: bytes, own: Sequence[Tuple[str, bytes]] = ()) -> List[Tuple[str, bytes]]:
         """A trade's own calendars, and those that its document can need; some are joined where they are too many."""
         every = not spells_plainly(document)
-        needed = [*own, *((name, held) for name, held, centres in self.calendars
-                          if every or any(centre in document for centre in centres))]
+        needed = [
+            *own,
+            *(
+                (name, held)
+                for name, held, centres in self.calendars
+                if every or any(centre in document for centre in centres)
+            ),
+        ]
         if len(needed) <= MOST_CALENDARS:
             return needed
         groups = [needed[place::MOST_CALENDARS] for place in range(MOST_CALENDARS)]

@@ -163,9 +163,7 @@ def _marked(mark: Optional[Mark], stream: int, kind: str, number: int) -> Frozen
         return frozenset(FIELDS[kind])
     if (mark.kind, mark.row) != (kind, number):
         return frozenset()
-    return (
-        frozenset(FIELDS[kind]) if mark.field in ("missing", "extra") else frozenset({mark.field})
-    )
+    return frozenset(FIELDS[kind]) if mark.field in ("missing", "extra") else frozenset({mark.field})
 
 
 def _comparison(
@@ -193,18 +191,14 @@ def side_by_side(ours: Any, theirs: Any, mark: Optional[Mark]) -> List[Compariso
     `ours` and `theirs` are the values of documents of cash flows (docs/FORMATS.md, 'Cash flows'),
     `ours` as `emit` prints it; `mark` is `None` where the audit finds no departure.
     """
-    left, right = [_rows(stream) for stream in streams_of(ours)], [
-        _rows(stream) for stream in streams_of(theirs)
-    ]
+    left, right = [_rows(stream) for stream in streams_of(ours)], [_rows(stream) for stream in streams_of(theirs)]
     nothing: Dict[str, Dict[int, Fields]] = {kind: {} for kind in FIELDS}
     comparisons = []
     for number in range(1, max(len(left), len(right)) + 1):
         one = left[number - 1] if number <= len(left) else nothing
         other = right[number - 1] if number <= len(right) else nothing
         comparisons += [
-            _comparison(number, kind, one[kind], other[kind], mark)
-            for kind in FIELDS
-            if one[kind] or other[kind]
+            _comparison(number, kind, one[kind], other[kind], mark) for kind in FIELDS if one[kind] or other[kind]
         ]
     return comparisons
 

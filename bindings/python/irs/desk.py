@@ -136,10 +136,7 @@ def download(kept: Kept, name: str) -> Optional[Tuple[bytes, str]]:
     schedule = kept.look.schedule
     if schedule is None:
         return None
-    tables = {
-        f"{table.title.lower().replace(' ', '-')}.csv": table
-        for table in schedule.tables(kept.party)
-    }
+    tables = {f"{table.title.lower().replace(' ', '-')}.csv": table for table in schedule.tables(kept.party)}
     if name in tables:
         return csv_text(tables[name]).encode(), "text/csv; charset=utf-8"
     if name == "schedule.xlsx":
@@ -149,9 +146,7 @@ def download(kept: Kept, name: str) -> Optional[Tuple[bytes, str]]:
         )
     if name == "document.json":
         document = kept.inputs.document
-        emitted = ask(
-            "emit", kept.inputs._replace(document=Named(document.name, json_of(document.content)))
-        )
+        emitted = ask("emit", kept.inputs._replace(document=Named(document.name, json_of(document.content))))
         return with_cashflows(json_of(document.content), emitted.text), "application/json"
     return None
 
@@ -188,9 +183,7 @@ class Desk:
 
     def script(self) -> Any:
         """The script of the form's drop zones."""
-        return self.flask.Response(
-            (TEMPLATES / "desk.js").read_text(encoding="utf-8"), mimetype="text/javascript"
-        )
+        return self.flask.Response((TEMPLATES / "desk.js").read_text(encoding="utf-8"), mimetype="text/javascript")
 
     def look(self) -> Any:
         """Makes the look that the form asks for, and leads to it."""
@@ -224,9 +217,7 @@ class Desk:
         """Answers nothing to a request that hasn't the random part, or that names another host."""
         host = self.flask.request.host.rsplit(":", 1)[0]
         given = self.flask.request.path.split("/")[1]
-        if host not in (ADDRESS, "localhost") or not secrets.compare_digest(
-            given.encode(), self.token.encode()
-        ):
+        if host not in (ADDRESS, "localhost") or not secrets.compare_digest(given.encode(), self.token.encode()):
             self.flask.abort(404)
 
     def with_headers(self, response: Any) -> Any:
@@ -309,9 +300,7 @@ class Asked(argparse.Namespace):
 
 def parser() -> Parser:
     """The words that irs-desk takes."""
-    made = Parser(
-        prog="irs-desk", description=__doc__, formatter_class=argparse.RawDescriptionHelpFormatter
-    )
+    made = Parser(prog="irs-desk", description=__doc__, formatter_class=argparse.RawDescriptionHelpFormatter)
     made.add_argument(
         "--calendars",
         type=Path,

@@ -62,9 +62,7 @@ def rate_of(path: Path, row: Row, columns: Columns) -> Decimal:
     value = Decimal(number).scaleb(-2 if columns.percent else 0)
     if abs(value) > 1 and not columns.any_size:
         meant = "" if columns.percent else ": is it in percent?"
-        raise BadInput(
-            f"{path} line {row.line}: {text} is above 100 percent{meant} (--yes-above-100-percent takes it)"
-        )
+        raise BadInput(f"{path} line {row.line}: {text} is above 100 percent{meant} (--yes-above-100-percent takes it)")
     exponent = value.normalize().as_tuple().exponent
     if isinstance(exponent, int) and -exponent > PLACES:
         raise BadInput(f"{path} line {row.line}: {text} has more than {PLACES} decimals as a decimal rate")

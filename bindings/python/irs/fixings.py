@@ -98,9 +98,7 @@ def parser() -> Parser:
     )
     words.add_argument("--yes-above-100-percent", action="store_true", help="take rates above 100 percent")
     words.add_argument("-o", "--output", type=Path, metavar="FILE", help="where the file goes (standard output)")
-    words.add_argument(
-        "--missing", type=Path, metavar="DOC", help="print what this document needs and --fixings lacks"
-    )
+    words.add_argument("--missing", type=Path, metavar="DOC", help="print what this document needs and --fixings lacks")
     words.add_argument("--fixings", type=Path, metavar="FILE", help="a file of fixings, for --missing")
     words.add_argument(
         "--overnight",
@@ -151,9 +149,7 @@ def _listed(keys: Sequence[Key], output: Optional[Path]) -> int:
 def _work(arguments: Optional[List[str]]) -> int:
     asked = parser().parse_args(arguments)
     if [bool(asked.csv), asked.missing is not None, asked.unused is not None].count(True) != 1:
-        raise BadInput(
-            "give one of CSV files, --missing DOC and --unused FILE; `irs-fixings --help` lists the options"
-        )
+        raise BadInput("give one of CSV files, --missing DOC and --unused FILE; `irs-fixings --help` lists the options")
     at_most_sixteen(asked.calendars)
     if asked.missing is not None:
         return _listed(

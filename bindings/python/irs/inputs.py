@@ -39,11 +39,7 @@ class Inputs(NamedTuple):
 
     def files(self) -> List[Named]:
         """All files, in the order of a command's words."""
-        return [
-            file
-            for file in (self.document, self.fixings, self.flows, *self.calendars)
-            if file is not None
-        ]
+        return [file for file in (self.document, self.fixings, self.flows, *self.calendars) if file is not None]
 
 
 def read_named(path: Path) -> Named:
@@ -84,9 +80,7 @@ def chosen(document: Text, files: Sequence[Named]) -> List[Named]:
 def at_most_sixteen(calendars: List[Calendar]) -> List[Calendar]:
     """The calendar files. Raises `BadInput` where there are more than the engine takes."""
     if len(calendars) > MOST_CALENDARS:
-        raise BadInput(
-            f"there are {len(calendars)} calendar files, and the engine takes {MOST_CALENDARS}"
-        )
+        raise BadInput(f"there are {len(calendars)} calendar files, and the engine takes {MOST_CALENDARS}")
     return calendars
 
 
@@ -96,9 +90,7 @@ def calendars_at(paths: Sequence[Path], document: Text) -> List[Named]:
     calendars: List[Named] = []
     for path in paths:
         if path.is_dir():
-            calendars += chosen(
-                document, [read_named(file) for file in sorted(path.glob("*.cal"))]
-            )
+            calendars += chosen(document, [read_named(file) for file in sorted(path.glob("*.cal"))])
         else:
             calendars.append(read_named(path))
     return at_most_sixteen(calendars)

@@ -24,11 +24,7 @@ def with_cashflows(document: bytes, emitted: bytes) -> bytes:
         assert spot is not None  # the engine found the stream
         old = member_of(text, spot, "cashflows")
         inside = text.index("{", spot.start) + 1
-        changes.append(
-            (inside, inside, f'"cashflows":{flows},')
-            if old is None
-            else (old.start, old.end, flows)
-        )
+        changes.append((inside, inside, f'"cashflows":{flows},') if old is None else (old.start, old.end, flows))
     for start, end, new in sorted(changes, reverse=True):
         text = text[:start] + new + text[end:]
     return text.encode()

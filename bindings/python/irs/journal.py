@@ -53,8 +53,10 @@ class Journal:
         """Writes an outcome; it is sure to be on the disk after at most half a second, or at `close`."""
         if not self.base.in_transaction:
             self.base.execute("begin")
-        self.base.execute("insert or replace into outcomes values (?, ?, ?, ?, ?, ?)",
-                          (name, outcome.verdict, outcome.status, outcome.line, outcome.sentence, stamp))
+        self.base.execute(
+            "insert or replace into outcomes values (?, ?, ?, ?, ?, ?)",
+            (name, outcome.verdict, outcome.status, outcome.line, outcome.sentence, stamp),
+        )
         if time.monotonic() - self.written >= SECONDS:
             self.flush()
 

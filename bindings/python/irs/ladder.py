@@ -62,18 +62,9 @@ def viewer(parties: Parties, party: Optional[str]) -> Optional[str]:
 def view_sentence(parties: Parties, seen_from: Optional[str]) -> str:
     """One sentence that says from which side the flows are seen."""
     if seen_from is None:
-        return (
-            "The terms don't name two parties, so each stream is seen from its payer, "
-            "and totals are by stream."
-        )
-    left = [
-        str(number)
-        for number, sides in enumerate(parties.sides, 1)
-        if sides is None or seen_from not in sides
-    ]
-    aside = (
-        f" Not in it, as this party has no part there: stream {', '.join(left)}." if left else ""
-    )
+        return "The terms don't name two parties, so each stream is seen from its payer, " "and totals are by stream."
+    left = [str(number) for number, sides in enumerate(parties.sides, 1) if sides is None or seen_from not in sides]
+    aside = f" Not in it, as this party has no part there: stream {', '.join(left)}." if left else ""
     return f"Seen from {parties.name(seen_from)}.{aside}"
 
 
@@ -94,11 +85,7 @@ def _flow(
     text = known(amount)
     of_payer = None if text is None else Decimal(text)
     sides = parties.side(stream.stream)
-    names = (
-        (None, None)
-        if sides is None
-        else (parties.name(sides.payer), parties.name(sides.receiver))
-    )
+    names = (None, None) if sides is None else (parties.name(sides.payer), parties.name(sides.receiver))
     turned = of_payer is not None and of_payer < 0
     received = sides is not None and seen_from == sides.receiver
     seen = of_payer if received else _flipped(of_payer)
@@ -120,9 +107,7 @@ def _flow(
     )
 
 
-def _of_stream(
-    stream: StreamText, parties: Parties, seen_from: Optional[str]
-) -> Iterator[CashFlow]:
+def _of_stream(stream: StreamText, parties: Parties, seen_from: Optional[str]) -> Iterator[CashFlow]:
     sides = parties.side(stream.stream)
     if seen_from is not None and (sides is None or seen_from not in sides):
         return
@@ -163,9 +148,7 @@ def _summed(flows: Iterable[CashFlow], by_stream: bool) -> Iterator[CashFlow]:
         yield flow._replace(total=totals[key], waiting=waiting[key])
 
 
-def cash_flows(
-    streams: List[StreamText], parties: Parties, party: Optional[str] = None
-) -> List[CashFlow]:
+def cash_flows(streams: List[StreamText], parties: Parties, party: Optional[str] = None) -> List[CashFlow]:
     """The cash flows of the streams in date order.
 
     `party` is the party that they are seen from, by id, name or `partyId`; see `viewer` where it

@@ -50,18 +50,27 @@ def _library() -> ctypes.CDLL:
     library = ctypes.CDLL(path)
     library.irs_run.restype = ctypes.c_uint8
     library.irs_run.argtypes = [
-        ctypes.POINTER(_Bytes), ctypes.c_size_t,
-        ctypes.POINTER(_File), ctypes.c_size_t,
-        ctypes.c_void_p, ctypes.c_size_t, ctypes.POINTER(ctypes.c_size_t),
+        ctypes.POINTER(_Bytes),
+        ctypes.c_size_t,
+        ctypes.POINTER(_File),
+        ctypes.c_size_t,
+        ctypes.c_void_p,
+        ctypes.c_size_t,
+        ctypes.POINTER(ctypes.c_size_t),
     ]
     if hasattr(library, "irs_version"):
         library.irs_version.restype = None
         library.irs_version.argtypes = [ctypes.c_void_p, ctypes.c_size_t, ctypes.POINTER(ctypes.c_size_t)]
     library.irs_meaning.restype = ctypes.c_uint8
     library.irs_meaning.argtypes = [
-        ctypes.POINTER(_Bytes), ctypes.c_size_t, ctypes.c_uint8,
-        ctypes.c_char_p, ctypes.c_size_t,
-        ctypes.c_void_p, ctypes.c_size_t, ctypes.POINTER(ctypes.c_size_t),
+        ctypes.POINTER(_Bytes),
+        ctypes.c_size_t,
+        ctypes.c_uint8,
+        ctypes.c_char_p,
+        ctypes.c_size_t,
+        ctypes.c_void_p,
+        ctypes.c_size_t,
+        ctypes.POINTER(ctypes.c_size_t),
     ]
     return library
 

@@ -101,15 +101,11 @@ class Look(NamedTuple):
 
 def _files(inputs: Inputs) -> List[FileLine]:
     def line(what: str, file: Named) -> FileLine:
-        return FileLine(
-            what, brief(file.name), len(file.content), hashlib.sha256(file.content).hexdigest()
-        )
+        return FileLine(what, brief(file.name), len(file.content), hashlib.sha256(file.content).hexdigest())
 
     lines = [line("terms", inputs.document)]
     lines += [
-        line(what, file)
-        for what, file in (("fixings", inputs.fixings), ("their cash flows", inputs.flows))
-        if file
+        line(what, file) for what, file in (("fixings", inputs.fixings), ("their cash flows", inputs.flows)) if file
     ]
     return lines + [line("calendar", file) for file in inputs.calendars]
 
@@ -120,12 +116,8 @@ def _laid(table: Table, left_out: Sequence[str]) -> Laid:
 
 def _stream_look(stream: StreamText, terms: List[Term], parties: Parties) -> StreamLook:
     left_out = ["stream", "currency", *([] if stream.floating else ["fixing_date", "observed"])]
-    exchanges = (
-        _laid(exchange_table([stream]), ["stream", "currency"]) if stream.exchanges else None
-    )
-    return StreamLook(
-        parties.heading(stream), terms, _laid(period_table([stream]), left_out), exchanges
-    )
+    exchanges = _laid(exchange_table([stream]), ["stream", "currency"]) if stream.exchanges else None
+    return StreamLook(parties.heading(stream), terms, _laid(period_table([stream]), left_out), exchanges)
 
 
 def _waits(stream: StreamText, element: Any, today: date) -> List[Wait]:
@@ -149,9 +141,7 @@ def _headline(streams: Sequence[StreamText]) -> Said:
     counts = ((len(streams), "stream"), (periods, "period"), (len(payments), "payment"))
     made = ", ".join(counted(count, what) for count, what in counts)
     if open_payments:
-        return Said(
-            f"{made}; {counted(open_payments, 'amount')} not known, as a fixing is missing.", WAITS
-        )
+        return Said(f"{made}; {counted(open_payments, 'amount')} not known, as a fixing is missing.", WAITS)
     return Said(f"{made}; every amount is known.", GOOD)
 
 
@@ -183,9 +173,7 @@ def _with_flows(look: Look, inputs: Inputs) -> Look:
     reply = ask("audit", inputs)
     if reply.status > 1:
         return look._replace(flows_refusal=refusal_of(reply))
-    ours, theirs = value_of(ask("emit", inputs).text), value_of(
-        reply.files[reply.words[3]].content
-    )
+    ours, theirs = value_of(ask("emit", inputs).text), value_of(reply.files[reply.words[3]].content)
     comparisons = side_by_side(ours, theirs, mark_of(reply.line))
     return look._replace(verdict=_verdict(reply), verdict_line=reply.line, comparisons=comparisons)
 
@@ -197,9 +185,7 @@ def _with_net(look: Look, inputs: Inputs, parties: Parties) -> Look:
     return look._replace(net=_laid(net_table(net_rows(reply.text, parties)), ()))
 
 
-def _with_timeline(
-    look: Look, streams: Sequence[StreamText], elements: Sequence[Any], today: date
-) -> Look:
+def _with_timeline(look: Look, streams: Sequence[StreamText], elements: Sequence[Any], today: date) -> Look:
     stubs = [stubs_of(element, len(stream.periods)) for stream, element in zip(streams, elements)]
     return look._replace(
         wide=timeline(streams, stubs, today, 1000, 60),
@@ -239,14 +225,8 @@ def look_at(inputs: Inputs, today: date, party: Optional[str] = None) -> Look:
         streams=[_stream_look(stream, said, parties) for stream, said in zip(streams, terms)],
         ledger=_laid(ledger_table(cash_flows(streams, parties, party)), ()),
         waits=sorted(
-            (
-                wait
-                for stream, element in zip(streams, elements)
-                for wait in _waits(stream, element, today)
-            ),
+            (wait for stream, element in zip(streams, elements) for wait in _waits(stream, element, today)),
             key=lambda wait: (wait.day, wait.stream),
         ),
     )
-    return _with_net(
-        _with_flows(_with_timeline(look, streams, elements, today), inputs), inputs, parties
-    )
+    return _with_net(_with_flows(_with_timeline(look, streams, elements, today), inputs), inputs, parties)

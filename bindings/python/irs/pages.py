@@ -47,12 +47,8 @@ def report(looks: Sequence["Look"]) -> str:
     """One HTML file with a section a trade: its style is in it, and it has no script and fetches
     nothing."""
     text = style()
-    policy = (
-        f"default-src 'none'; style-src '{_style_sum(text)}'; base-uri 'none'; form-action 'none'"
-    )
-    return str(
-        environment().get_template("report.html").render(looks=looks, style=text, policy=policy)
-    )
+    policy = f"default-src 'none'; style-src '{_style_sum(text)}'; base-uri 'none'; form-action 'none'"
+    return str(environment().get_template("report.html").render(looks=looks, style=text, policy=policy))
 
 
 def notebook(schedule: "Looks") -> str:

@@ -48,9 +48,7 @@ class Parties(NamedTuple):
     def heading(self, stream: StreamText) -> str:
         """A stream in one line: who pays whom, currency, kind of rate and day count."""
         sides = self.side(stream.stream)
-        who = (
-            "" if sides is None else f"{self.name(sides.payer)} pays {self.name(sides.receiver)}, "
-        )
+        who = "" if sides is None else f"{self.name(sides.payer)} pays {self.name(sides.receiver)}, "
         kind = "floating" if stream.floating else "fixed"
         return f"Stream {stream.stream}: {who}{stream.currency}, {kind}, {stream.day_count}"
 
@@ -62,9 +60,7 @@ class Parties(NamedTuple):
             if name == party or name in self.names.get(party, []):
                 return party
         known = ", ".join(self.name(party) for party in ids) or "none"
-        raise UnknownParty(
-            f"no party of the streams is called {brief(name)}; the document has: {known}"
-        )
+        raise UnknownParty(f"no party of the streams is called {brief(name)}; the document has: {known}")
 
 
 def _href(stream: Any, name: str) -> Optional[str]:
@@ -87,11 +83,7 @@ def _names(value: Any) -> Dict[str, List[str]]:
         child_of(value, "dataDocument", "trade"),
     ):
         for party in items_of(holder, "party"):
-            called = [
-                leaf_text(item)
-                for kind in ("partyName", "partyId")
-                for item in items_of(party, kind)
-            ]
+            called = [leaf_text(item) for kind in ("partyName", "partyId") for item in items_of(party, kind)]
             known = [name for name in called if name]
             ident = party.get("@id") if isinstance(party, dict) else None
             if isinstance(ident, str) and known:

@@ -121,11 +121,7 @@ def _below(text: str, spot: Spot, names: Sequence[str], index: int) -> Spot:
         found = member_of(text, spot, name)
         if found is None:
             return spot
-        spot = (
-            item_of(text, found, index or 1) or found
-            if name in ("step", "businessCenter")
-            else found
-        )
+        spot = item_of(text, found, index or 1) or found if name in ("step", "businessCenter") else found
     return spot
 
 

@@ -36,8 +36,9 @@ class _Chunk(NamedTuple):
     tries: int
 
 
-def _serve(pipe: Connection, others: List[Connection], work: Callable[[List[Any]], List[Any]], parent: int,
-           follows: bool) -> None:
+def _serve(
+    pipe: Connection, others: List[Connection], work: Callable[[List[Any]], List[Any]], parent: int, follows: bool
+) -> None:
     """What a process does: a chunk in, its results out, until the pipe is closed."""
     signal.signal(signal.SIGINT, signal.SIG_IGN)
     signal.signal(signal.SIGTERM, signal.SIG_DFL)
@@ -70,8 +71,9 @@ class _Process:
         self.pipe, its = context.Pipe()
         # The kernel counts the end of the thread that starts a process, and only the main one is sure to stay.
         follows = threading.current_thread() is threading.main_thread()
-        self.process = context.Process(target=_serve, args=(its, [*others, self.pipe], work, os.getpid(), follows),
-                                       daemon=True)
+        self.process = context.Process(
+            target=_serve, args=(its, [*others, self.pipe], work, os.getpid(), follows), daemon=True
+        )
         self.process.start()
         its.close()
         self.chunk: Optional[_Chunk] = None
@@ -106,8 +108,13 @@ class Processes(Generic[Item, Result]):
     alone; `None` is no limit. `lost` makes the result of an item that can't be worked, of the item and why.
     """
 
-    def __init__(self, work: Callable[[List[Item]], List[Result]], lost: Callable[[Item, str], Result],
-                 jobs: Optional[int] = None, timeout: Optional[float] = None) -> None:
+    def __init__(
+        self,
+        work: Callable[[List[Item]], List[Result]],
+        lost: Callable[[Item, str], Result],
+        jobs: Optional[int] = None,
+        timeout: Optional[float] = None,
+    ) -> None:
         self.work, self.lost, self.timeout = work, lost, timeout
         self.jobs = jobs or len(os.sched_getaffinity(0))
         self.running: List[_Process] = []

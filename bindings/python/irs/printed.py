@@ -78,9 +78,7 @@ def printed(text: bytes) -> List[StreamText]:
     for line in text.decode().splitlines()[1:-1]:
         mark, stream, *fields = line.split(" ")
         if mark == "stream":
-            streams.append(
-                StreamText(int(stream), fields[0], fields[1], fields[2] == "float", [], [], [], {})
-            )
+            streams.append(StreamText(int(stream), fields[0], fields[1], fields[2] == "float", [], [], [], {}))
         elif mark == "x":
             streams[-1].exchanges.append(ExchangeText(*fields))
         elif mark == "p":
@@ -93,21 +91,13 @@ def printed(text: bytes) -> List[StreamText]:
 
 
 def _due(stream: StreamText) -> List[Union[ExchangeText, PaymentText]]:
-    rows: List[Tuple[str, int, Union[ExchangeText, PaymentText]]] = [
-        (row.adjusted, 0, row) for row in stream.exchanges
-    ]
+    rows: List[Tuple[str, int, Union[ExchangeText, PaymentText]]] = [(row.adjusted, 0, row) for row in stream.exchanges]
     rows += [(row.adjusted, 1, row) for row in stream.payments]
-    return [
-        row for _, _, row in sorted(rows, key=lambda due: (due[0], due[1], int(due[2].number)))
-    ]
+    return [row for _, _, row in sorted(rows, key=lambda due: (due[0], due[1], int(due[2].number)))]
 
 
 def _covered(payments: List[PaymentText]) -> List[str]:
-    return [
-        str(number)
-        for row in payments
-        for number in range(int(row.first_period), int(row.last_period) + 1)
-    ]
+    return [str(number) for row in payments for number in range(int(row.first_period), int(row.last_period) + 1)]
 
 
 def _within(stream: StreamText, since: str, until: str, count: Optional[int]) -> StreamText:

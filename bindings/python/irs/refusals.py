@@ -94,9 +94,7 @@ def _lines_at(content: bytes, spot: Optional[Spot]) -> List[Line]:
     text = content.decode(errors="replace")
     before = text[: spot.start]
     length = len(text[spot.start : spot.end].partition("\n")[0])
-    return lines_around(
-        content, before.count("\n") + 1, len(before) - before.rfind("\n") - 1, length
-    )
+    return lines_around(content, before.count("\n") + 1, len(before) - before.rfind("\n") - 1, length)
 
 
 def _lines_of_bad_json(content: bytes) -> List[Line]:
@@ -104,9 +102,7 @@ def _lines_of_bad_json(content: bytes) -> List[Line]:
         json.loads(content.decode(), parse_int=str, parse_float=str)
     except UnicodeDecodeError as why:
         before = content[: why.start]
-        return lines_around(
-            content, before.count(b"\n") + 1, len(before) - before.rfind(b"\n") - 1
-        )
+        return lines_around(content, before.count(b"\n") + 1, len(before) - before.rfind(b"\n") - 1)
     except json.JSONDecodeError as why:
         return lines_around(content, why.lineno, why.colno - 1)
     except (ValueError, RecursionError):
@@ -120,9 +116,7 @@ def _of_rule(reply: Reply) -> Refusal:
     if rule == "K1":
         lines = _lines_of_bad_json(content)
     else:
-        lines = _lines_at(
-            content, element_spot(content.decode(errors="replace"), int(stream), path, int(index))
-        )
+        lines = _lines_at(content, element_spot(content.decode(errors="replace"), int(stream), path, int(index)))
     return Refusal(
         _WHAT[2],
         reply.line,
@@ -142,12 +136,8 @@ def _of_flows(reply: Reply, kind: str, stream: int, path: str, index: int) -> Re
     if kind == "notjson":
         lines = _lines_of_bad_json(content)
     else:
-        lines = _lines_at(
-            content, flow_spot(content.decode(errors="replace"), stream, path, index)
-        )
-    return Refusal(
-        _WHAT[3], reply.line, reply.sentence, "", stream, path.split("/"), index, word, lines
-    )
+        lines = _lines_at(content, flow_spot(content.decode(errors="replace"), stream, path, index))
+    return Refusal(_WHAT[3], reply.line, reply.sentence, "", stream, path.split("/"), index, word, lines)
 
 
 def _of_file(reply: Reply) -> Refusal:

@@ -62,11 +62,5 @@ def ask(command: str, inputs: Inputs) -> Reply:
     contents: Dict[str, Text] = {word: file.content for word, file in files.items()}
     answer = run(words, contents)
     line = answer.text.decode(errors="replace").partition("\n")[0]
-    sentence = (
-        "memory ran out"
-        if answer.status == 7
-        else meaning(words, answer.status, line)
-        if answer.status
-        else ""
-    )
+    sentence = "memory ran out" if answer.status == 7 else meaning(words, answer.status, line) if answer.status else ""
     return Reply(answer.status, answer.text, sentence, files, words)

@@ -38,15 +38,9 @@ class Asked(argparse.Namespace):
 def parser() -> Parser:
     """The words that irs-report takes."""
     made = parser_of("irs-report", __doc__ or "")
-    made.add_argument(
-        "trades", type=Path, nargs="+", metavar="TRADE", help="a document; - is standard input"
-    )
-    made.add_argument(
-        "-o", "--output", type=Path, required=True, metavar="FILE", help="where the report goes"
-    )
-    made.add_argument(
-        "--flows", type=Path, metavar="FILE", help="another party's cash flows, for a single trade"
-    )
+    made.add_argument("trades", type=Path, nargs="+", metavar="TRADE", help="a document; - is standard input")
+    made.add_argument("-o", "--output", type=Path, required=True, metavar="FILE", help="where the report goes")
+    made.add_argument("--flows", type=Path, metavar="FILE", help="another party's cash flows, for a single trade")
     made.add_argument(
         "--today",
         type=day,
@@ -69,16 +63,8 @@ def inputs_of(asked: Asked, trade: Path) -> Inputs:
     """The files of a trade: those that options name, else those that are beside it. Raises
     `BadInput`."""
     document = read_named(trade)
-    fixings = (
-        _beside(trade, f"{trade.stem}.fixings", "fixings")
-        if asked.fixings is None
-        else read_named(asked.fixings)
-    )
-    flows = (
-        _beside(trade, f"{trade.stem}.flows.json")
-        if asked.flows is None
-        else read_named(asked.flows)
-    )
+    fixings = _beside(trade, f"{trade.stem}.fixings", "fixings") if asked.fixings is None else read_named(asked.fixings)
+    flows = _beside(trade, f"{trade.stem}.flows.json") if asked.flows is None else read_named(asked.flows)
     folder = trade.with_name("calendars") if str(trade) != "-" else None
     paths = asked.calendar or ([folder] if folder is not None and folder.is_dir() else [])
     return Inputs(document, fixings, flows, calendars_at(paths, document.content))

@@ -37,9 +37,7 @@ def write_csv(table: Table, file: IO[str]) -> None:
     """Writes a table as CSV: a header with the columns' names, then the rows."""
     writer = csv.writer(file, lineterminator="\n")
     writer.writerow([column.name for column in table.columns])
-    writer.writerows(
-        [_word(text, column) for text, column in zip(row, table.columns)] for row in table.rows
-    )
+    writer.writerows([_word(text, column) for text, column in zip(row, table.columns)] for row in table.rows)
 
 
 def csv_text(table: Table) -> str:
@@ -105,9 +103,7 @@ def workbook(tables: Sequence[Table], about: Sequence[str] = ()) -> bytes:
         sheet = book.create_sheet(table.title)
         sheet.freeze_panes = "A2"
         for place, column in enumerate(table.columns):
-            sheet.column_dimensions[openpyxl.utils.get_column_letter(place + 1)].width = max(
-                12, len(column.head) + 2
-            )
+            sheet.column_dimensions[openpyxl.utils.get_column_letter(place + 1)].width = max(12, len(column.head) + 2)
         sheet.append([column.head for column in table.columns])
         for row in table.rows:
             sheet.append(_row(sheet, table, row, WriteOnlyCell))

@@ -50,8 +50,7 @@ RESETS = ("reset_date", "fixing_date", "observed")
 _MOVED = "* Business days or an offset moved this date."
 
 _TOTALS = (
-    "Running totals are sums of the engine's amounts shown here, by currency; "
-    "what waits for a fixing isn't in them."
+    "Running totals are sums of the engine's amounts shown here, by currency; " "what waits for a fixing isn't in them."
 )
 
 
@@ -76,15 +75,9 @@ class Asked(argparse.Namespace):
 def parser() -> Parser:
     """The words that irs-show takes."""
     made = parser_of("irs-show", __doc__ or "")
-    made.add_argument(
-        "terms", type=Path, metavar="TERMS", help="the document; - is standard input"
-    )
-    made.add_argument(
-        "--from", dest="since", type=day, metavar="DATE", help="what falls due from that day"
-    )
-    made.add_argument(
-        "--to", dest="until", type=day, metavar="DATE", help="what falls due up to that day"
-    )
+    made.add_argument("terms", type=Path, metavar="TERMS", help="the document; - is standard input")
+    made.add_argument("--from", dest="since", type=day, metavar="DATE", help="what falls due from that day")
+    made.add_argument("--to", dest="until", type=day, metavar="DATE", help="what falls due up to that day")
     made.add_argument(
         "--next",
         type=count,
@@ -123,10 +116,7 @@ def _widths(heads: Sequence[str], rows: Sequence[Sequence[str]]) -> List[int]:
 def _aligned(columns: Sequence[Column], rows: Sequence[Sequence[str]]) -> Iterator[str]:
     heads = [column.head for column in columns]
     widths = _widths(heads, rows)
-    form = "  ".join(
-        f"{{:{'>' if column.kind in RIGHT else '<'}{width}}}"
-        for column, width in zip(columns, widths)
-    )
+    form = "  ".join(f"{{:{'>' if column.kind in RIGHT else '<'}{width}}}" for column, width in zip(columns, widths))
     yield form.format(*heads).rstrip()
     yield "  ".join("-" * width for width in widths)
     for row in rows:
@@ -178,9 +168,7 @@ def flow_lines(flows: Sequence[CashFlow], sentence: str) -> Iterator[str]:
     yield _TOTALS
 
 
-def lines(
-    streams: List[StreamText], parties: Parties, party: Optional[str], unadjusted: bool = False
-) -> Iterator[str]:
+def lines(streams: List[StreamText], parties: Parties, party: Optional[str], unadjusted: bool = False) -> Iterator[str]:
     """The lines of the whole look. Raises `UnknownParty` for an unknown party."""
     flows = cash_flows(streams, parties, party)
     above = [line for stream in streams for line in stream_lines(stream, parties, unadjusted)]
@@ -227,9 +215,7 @@ def _shown(asked: Asked, streams: List[StreamText], parties: Parties) -> None:
         _written(asked.csv, csv_text(table))
     if asked.xlsx is not None:
         sentence = view_sentence(parties, viewer(parties, asked.party))
-        _written_workbook(
-            asked.xlsx, workbook(tables_of(streams, parties, asked.party), [sentence])
-        )
+        _written_workbook(asked.xlsx, workbook(tables_of(streams, parties, asked.party), [sentence]))
     if asked.json:
         print(json_text(streams, parties, asked.party))
     if asked.csv is None and asked.xlsx is None and not asked.json:

@@ -20,19 +20,11 @@ def stubs_of(stream: Any, periods: int) -> Set[int]:
     """The numbers of the periods that the terms of a stream ask to be stubs: the first, the last,
     or both."""
     dates = child_of(stream, "calculationPeriodDates")
-    start = _day(dates, "firstPeriodStartDate", "unadjustedDate") or _day(
-        dates, "effectiveDate", "unadjustedDate"
-    )
-    first, last = _day(dates, "firstRegularPeriodStartDate"), _day(
-        dates, "lastRegularPeriodEndDate"
-    )
+    start = _day(dates, "firstPeriodStartDate", "unadjustedDate") or _day(dates, "effectiveDate", "unadjustedDate")
+    first, last = _day(dates, "firstRegularPeriodStartDate"), _day(dates, "lastRegularPeriodEndDate")
     kind = "" if first or last else text_at(dates, "stubPeriodType") or ""
     initial = kind.endswith("Initial") or bool(first) and first != start
-    final = (
-        kind.endswith("Final")
-        or bool(last)
-        and last != _day(dates, "terminationDate", "unadjustedDate")
-    )
+    final = kind.endswith("Final") or bool(last) and last != _day(dates, "terminationDate", "unadjustedDate")
     return {number for number, asked in ((1, initial), (periods, final)) if asked and periods}
 
 

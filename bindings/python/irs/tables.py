@@ -180,9 +180,7 @@ def _payment_cells(payment: Optional[PaymentText]) -> List[Optional[str]]:
     return [payment.number, payment.unadjusted, payment.adjusted, known(payment.amount)]
 
 
-def _period_row(
-    stream: StreamText, period: PeriodText, payment: Optional[PaymentText]
-) -> List[Optional[str]]:
+def _period_row(stream: StreamText, period: PeriodText, payment: Optional[PaymentText]) -> List[Optional[str]]:
     return [
         str(stream.stream),
         stream.currency,
@@ -206,9 +204,7 @@ def period_table(streams: Sequence[StreamText]) -> Table:
     rows = []
     for stream in streams:
         payments = stream.payment_of()
-        rows += [
-            _period_row(stream, period, payments.get(period.number)) for period in stream.periods
-        ]
+        rows += [_period_row(stream, period, payments.get(period.number)) for period in stream.periods]
     return Table("Periods", _PERIOD_COLUMNS, rows)
 
 
@@ -298,9 +294,7 @@ def laid_out(column: Column, cells: Sequence[Optional[str]], waits: str) -> List
     """The cells of a column for the eye, with `waits` for a number that isn't known."""
     if column.kind == RATE:
         places = _places(column, cells)
-        return [
-            waits if cell is None else per_cent(cell, places) if cell else "" for cell in cells
-        ]
+        return [waits if cell is None else per_cent(cell, places) if cell else "" for cell in cells]
     if column.kind in (AMOUNT, NOTIONAL):
         kept = _places(column, cells) if column.kind == NOTIONAL else None
         return [waits if cell is None else separated(cell, kept) for cell in cells]
@@ -310,8 +304,7 @@ def laid_out(column: Column, cells: Sequence[Optional[str]], waits: str) -> List
 def laid_out_rows(table: Table, waits: str = "waits") -> List[List[str]]:
     """The rows of a table for the eye."""
     columns = [
-        laid_out(column, [row[place] for row in table.rows], waits)
-        for place, column in enumerate(table.columns)
+        laid_out(column, [row[place] for row in table.rows], waits) for place, column in enumerate(table.columns)
     ]
     return [list(row) for row in zip(*columns)]
 
@@ -322,10 +315,7 @@ def other_dates(table: Table, others: Mapping[str, str]) -> List[List[str]]:
     names = [column.name for column in table.columns]
     places = [names.index(others[name]) if others.get(name) in names else None for name in names]
     return [
-        [
-            (row[place] or "") if place is not None and row[place] != cell else ""
-            for cell, place in zip(row, places)
-        ]
+        [(row[place] or "") if place is not None and row[place] != cell else "" for cell, place in zip(row, places)]
         for row in table.rows
     ]
 
@@ -356,6 +346,4 @@ def folded(table: Table, left_out: Sequence[str] = ()) -> Tuple[List[Column], Li
     gone = {*ADJUSTED_FROM.values(), *RESET_OF.values(), *left_out}
     places = [place for place, column in enumerate(table.columns) if column.name not in gone]
     cells = cells_of(table)
-    return [table.columns[place] for place in places], [
-        [row[place] for place in places] for row in cells
-    ]
+    return [table.columns[place] for place in places], [[row[place] for place in places] for row in cells]

@@ -126,11 +126,7 @@ def _ticks(scale: _Scale) -> List[Tick]:
     first, last = date.fromordinal(scale.first), date.fromordinal(scale.last - 1)
     years = last.year - first.year + 1
     step = next(
-        (
-            step
-            for step in (1, 2, 5, 10, 20, 50, 100)
-            if scale.width / max(1, years / step) >= YEAR
-        ),
+        (step for step in (1, 2, 5, 10, 20, 50, 100) if scale.width / max(1, years / step) >= YEAR),
         200,
     )
     ticks = [
@@ -147,9 +143,7 @@ def _ticks(scale: _Scale) -> List[Tick]:
 
 
 def _months(scale: _Scale, first: date, last: date, labelled: bool) -> List[Tick]:
-    days = [
-        date(year, month, 1) for year in range(first.year, last.year + 1) for month in range(2, 13)
-    ]
+    days = [date(year, month, 1) for year in range(first.year, last.year + 1) for month in range(2, 13)]
     return [
         Tick(scale.x(day.toordinal()), _MONTHS[day.month - 1] if labelled else "", False)
         for day in days
@@ -163,9 +157,7 @@ def _path(xs: Iterable[float], shape: str) -> str:
 
 def _lane(dates: _Dates, scale: _Scale, y: float) -> Lane:
     ends = (
-        [max(dates.boundaries[0], scale.first), min(dates.boundaries[-1], scale.last)]
-        if dates.boundaries
-        else [0, 0]
+        [max(dates.boundaries[0], scale.first), min(dates.boundaries[-1], scale.last)] if dates.boundaries else [0, 0]
     )
     left, right = (scale.x(ends[0]), scale.x(ends[1])) if ends[0] < ends[1] else (0.0, 0.0)
     stubs = [
@@ -203,8 +195,7 @@ def _band(streams: Sequence[_Dates], scale: _Scale, y: float, today: int) -> Ban
 
 def _sentence(streams: Sequence[StreamText], first: int, last: int) -> str:
     each = "; ".join(
-        f"stream {stream.stream} has {len(stream.periods)} periods "
-        f"and {len(stream.payments)} payments"
+        f"stream {stream.stream} has {len(stream.periods)} periods " f"and {len(stream.payments)} payments"
         for stream in streams
     )
     return f"Timeline from {date.fromordinal(first)} to {date.fromordinal(last)}: {each}."
@@ -229,9 +220,7 @@ def timeline(
     bands: List[Band] = []
     y = 4.0
     for start, end in _bands(first, last, count):
-        bands.append(
-            _band(dated, _Scale(start, end, left, width - left - 12), y, today.toordinal())
-        )
+        bands.append(_band(dated, _Scale(start, end, left, width - left - 12), y, today.toordinal()))
         y += bands[-1].height + GAP
     has = {
         "stubs": any(dates.stubs for dates in dated),

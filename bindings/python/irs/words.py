@@ -54,11 +54,7 @@ def rate(text: Optional[str]) -> str:
 
 def amount(text: Optional[str]) -> str:
     """A notional of the document with thousands separators."""
-    return (
-        brief(text or "")
-        if text is None or not _DECIMAL.fullmatch(text)
-        else separated(text.lstrip("+"))
-    )
+    return brief(text or "") if text is None or not _DECIMAL.fullmatch(text) else separated(text.lstrip("+"))
 
 
 def _every(frequency: Any) -> str:
@@ -76,10 +72,7 @@ def tenor(element: Any) -> str:
 
 
 def _centres(adjustments: Any) -> str:
-    named = [
-        leaf_text(item)
-        for item in items_of(child_of(adjustments, "businessCenters"), "businessCenter")
-    ]
+    named = [leaf_text(item) for item in items_of(child_of(adjustments, "businessCenters"), "businessCenter")]
     if named:
         return ", ".join(brief(name or "") for name in named)
     reference = child_of(adjustments, "businessCentersReference")
@@ -117,11 +110,7 @@ def _steps(about: str, schedule: Any, read: Read) -> List[Term]:
         for step in steps[:MOST_STEPS]
     ]
     more = len(steps) - MOST_STEPS
-    return (
-        [*terms, Term("and then", f"{more} more steps, which the periods show")]
-        if more > 0
-        else terms
-    )
+    return [*terms, Term("and then", f"{more} more steps, which the periods show")] if more > 0 else terms
 
 
 def index_of(rate_element: Any) -> str:
@@ -156,9 +145,7 @@ def _overnight_terms(parameters: Any) -> List[Term]:
 
 
 def _floating_terms(floating: Any) -> List[Term]:
-    multiplier, spread = child_of(floating, "floatingRateMultiplierSchedule"), child_of(
-        floating, "spreadSchedule"
-    )
+    multiplier, spread = child_of(floating, "floatingRateMultiplierSchedule"), child_of(floating, "spreadSchedule")
     times = "" if multiplier is None else f" times {_factor(text_at(multiplier, 'initialValue'))}"
     plus = "" if spread is None else f" plus {rate(text_at(spread, 'initialValue'))}"
     return [
@@ -170,9 +157,7 @@ def _floating_terms(floating: Any) -> List[Term]:
 
 
 def _rate_terms(calculation: Any) -> List[Term]:
-    fixed, floating = child_of(calculation, "fixedRateSchedule"), child_of(
-        calculation, "floatingRateCalculation"
-    )
+    fixed, floating = child_of(calculation, "fixedRateSchedule"), child_of(calculation, "floatingRateCalculation")
     if fixed is not None:
         return [
             Term("Rate", f"fixed, {rate(text_at(fixed, 'initialValue'))}"),
@@ -245,9 +230,7 @@ def _payment_terms(payments: Any) -> List[Term]:
         f"period {_relative(text_at(payments, 'payRelativeTo'))}",
     )
     adjusted = _adjusted(child_of(payments, "paymentDatesAdjustments"))
-    terms = [
-        Term("Payments", f"{_every(child_of(payments, 'paymentFrequency'))}, {when}; {adjusted}")
-    ]
+    terms = [Term("Payments", f"{_every(child_of(payments, 'paymentFrequency'))}, {when}; {adjusted}")]
     for element, about in (
         ("firstPaymentDate", "First payment"),
         ("lastRegularPaymentDate", "Last regular payment"),
@@ -262,9 +245,7 @@ def _reset_terms(resets: Any) -> List[Term]:
         return []
     relative = text_at(resets, "resetRelativeTo") or "CalculationPeriodStartDate"
     fixing = child_of(resets, "fixingDates")
-    when = _offset(fixing, "on", "that day") + (
-        f", {_adjusted(fixing)}" if fixing is not None else ""
-    )
+    when = _offset(fixing, "on", "that day") + (f", {_adjusted(fixing)}" if fixing is not None else "")
     adjusted = _adjusted(child_of(resets, "resetDatesAdjustments"))
     return [Term("Resets", f"at period {_relative(relative)}, {adjusted}; fixed {when}")]
 
@@ -293,9 +274,7 @@ def _amount_terms(calculation: Any) -> List[Term]:
         Term("Day count", brief(text_at(calculation, "dayCountFraction") or "")),
     ]
     method = text_at(calculation, "compoundingMethod")
-    return (
-        terms if method in (None, "None") else [*terms, Term("Compounding", brief(method or ""))]
-    )
+    return terms if method in (None, "None") else [*terms, Term("Compounding", brief(method or ""))]
 
 
 def stream_terms(stream: Any) -> List[Term]:

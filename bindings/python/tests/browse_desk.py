@@ -125,9 +125,7 @@ class Browser(unittest.TestCase):
         (cls.folder / "calendars").mkdir()
         (cls.folder / "scratch").mkdir()
         (cls.folder / "calendars" / "test.cal").write_bytes(trades.CALENDAR)
-        (cls.folder / "calendars" / "de.cal").write_bytes(
-            (EXAMPLES / "business_days" / "de.cal").read_bytes()
-        )
+        (cls.folder / "calendars" / "de.cal").write_bytes((EXAMPLES / "business_days" / "de.cal").read_bytes())
         cls.desk = subprocess.Popen(
             [sys.executable, "-m", "irs.desk", "--calendars", str(cls.folder / "calendars")],
             stdout=subprocess.PIPE,
@@ -156,11 +154,7 @@ class Browser(unittest.TestCase):
         """Nothing that a test loads breaks the page's policy or a script, and nothing is written
         to disk."""
         self.assertEqual(
-            [
-                entry["message"]
-                for entry in self.driver.get_log("browser")
-                if "favicon" not in entry["message"]
-            ],
+            [entry["message"] for entry in self.driver.get_log("browser") if "favicon" not in entry["message"]],
             [],
         )
         self.assertEqual(os.listdir(self.folder / "scratch"), [])
@@ -178,9 +172,7 @@ class Browser(unittest.TestCase):
 
     def drop(self, field, name, content):
         zone = self.driver.find_element(By.ID, field).find_element(By.XPATH, "..")
-        self.driver.execute_script(
-            DROP, zone, name, content.decode() if isinstance(content, bytes) else content
-        )
+        self.driver.execute_script(DROP, zone, name, content.decode() if isinstance(content, bytes) else content)
 
     def choose(self, field, name, content):
         """Gives a file to a field; `name` may hold only what a file's name may."""
@@ -207,9 +199,7 @@ class Browser(unittest.TestCase):
         self.driver.find_element(By.LINK_TEXT, label).click()
         for _ in range(100):
             found = [
-                path
-                for path in folder.iterdir()
-                if path.suffix != ".crdownload" and not path.name.startswith(".")
+                path for path in folder.iterdir() if path.suffix != ".crdownload" and not path.name.startswith(".")
             ]
             if found and found[0].stat().st_size:
                 return found[0]
@@ -252,9 +242,7 @@ class Desk(Browser):
             self.assertEqual(self.download(label).read_bytes().decode(), file.getvalue())
         self.assertEqual(self.download("Workbook").read_bytes()[:2], b"PK")
         document = self.download("Document with its cash flows").read_bytes()
-        self.assertIsInstance(
-            irs.audit(document, document, trade.fixings.content, [trades.CALENDAR]), irs.Yes
-        )
+        self.assertIsInstance(irs.audit(document, document, trade.fixings.content, [trades.CALENDAR]), irs.Yes)
         report = self.download("Report")
         self.driver.get(report.as_uri())
         self.assertIn("Alder Bank pays Birch Pensions, JPY, fixed, ACT/365.FIXED", self.text())
@@ -263,23 +251,17 @@ class Desk(Browser):
         terms = (EXAMPLES / "business_days" / "terms.json").read_bytes()
         self.drop("document", "terms.json", terms.replace(b'"DEFR"', b'"DEFRX"'))
         self.look()
-        self.assertIn(
-            "K12: a centre of terminationDate's adjustments is in no calendar file", self.text()
-        )
+        self.assertIn("K12: a centre of terminationDate's adjustments is in no calendar file", self.text())
         self.assertIn("DEFRX", self.driver.find_element(By.CSS_SELECTOR, "li.fault").text)
         self.assertEqual(len(self.driver.find_elements(By.LINK_TEXT, "Workbook")), 0)
 
     def test_calendars_of_the_folder(self):
-        self.drop(
-            "document", "terms.json", (EXAMPLES / "business_days" / "terms.json").read_bytes()
-        )
+        self.drop("document", "terms.json", (EXAMPLES / "business_days" / "terms.json").read_bytes())
         self.look()
         self.assertIn("3,016,666.67", self.text())
         self.driver.get(self.address)
         self.driver.find_element(By.NAME, "needed").click()
-        self.drop(
-            "document", "terms.json", (EXAMPLES / "business_days" / "terms.json").read_bytes()
-        )
+        self.drop("document", "terms.json", (EXAMPLES / "business_days" / "terms.json").read_bytes())
         self.look()
         self.assertIn("K12", self.text())
 
@@ -307,14 +289,10 @@ class Desk(Browser):
         ]
         self.drop("document", "<img src=x>.json", trades.document(made, parties=parties))
         self.look()
-        self.assertIn(
-            "<script>document.title='hit'</script><img src=x onerror=alert(1)>\\u202e", self.text()
-        )
+        self.assertIn("<script>document.title='hit'</script><img src=x onerror=alert(1)>\\u202e", self.text())
         self.assertIn("<b onclick=alert(1)>us</b> pays \\u202ethem", self.text())
         self.assertEqual(self.driver.title, "<img src=x>.json")
-        self.assertEqual(
-            len(self.driver.find_elements(By.CSS_SELECTOR, "main script, main img, main b")), 0
-        )
+        self.assertEqual(len(self.driver.find_elements(By.CSS_SELECTOR, "main script, main img, main b")), 0)
 
     def test_five_mebibytes(self):
         self.choose("document", "big.json", b"[" + b" " * (5 << 20) + b"]")
@@ -355,9 +333,7 @@ class Desk(Browser):
         fields = []
         while (active := self.press(Keys.TAB)).tag_name != "button":
             self.assertNotEqual(
-                self.driver.execute_script(
-                    "return getComputedStyle(arguments[0]).outlineStyle", active
-                ),
+                self.driver.execute_script("return getComputedStyle(arguments[0]).outlineStyle", active),
                 "none",
             )
             fields.append(active.get_attribute("name") or active.text)
@@ -373,9 +349,7 @@ class Desk(Browser):
         reached = []
         for _ in range(14):
             active = self.press(Keys.TAB)
-            reached.append(
-                active.text if active.tag_name == "a" else active.get_attribute("aria-label")
-            )
+            reached.append(active.text if active.tag_name == "a" else active.get_attribute("aria-label"))
         self.assertEqual(
             reached[:8],
             [
@@ -418,9 +392,7 @@ class Looks(Browser):
             "height": height,
             "scale": 1,
         }
-        shot = self.driver.execute_cdp_cmd(
-            "Page.captureScreenshot", {"captureBeyondViewport": True, "clip": clip}
-        )
+        shot = self.driver.execute_cdp_cmd("Page.captureScreenshot", {"captureBeyondViewport": True, "clip": clip})
         Path(PICTURES, f"{name}.png").write_bytes(base64.b64decode(shot["data"]))
 
     def each_size(self, name, height=900):
@@ -466,9 +438,7 @@ class Looks(Browser):
         self.drop(
             "document",
             "terms.json",
-            (EXAMPLES / "amortising" / "terms.json")
-            .read_bytes()
-            .replace(b'"2024-07-15"', b'"2024-07-16"'),
+            (EXAMPLES / "amortising" / "terms.json").read_bytes().replace(b'"2024-07-15"', b'"2024-07-16"'),
         )
         self.look()
         self.each_size("desk-refused")
@@ -479,9 +449,7 @@ class Looks(Browser):
         report = self.download("Report")
         self.driver.get(report.as_uri())
         self.sized(1280, True)
-        printed = self.driver.execute_cdp_cmd(
-            "Page.printToPDF", {"preferCSSPageSize": True, "printBackground": True}
-        )
+        printed = self.driver.execute_cdp_cmd("Page.printToPDF", {"preferCSSPageSize": True, "printBackground": True})
         content = base64.b64decode(printed["data"])
         self.assertEqual(content[:5], b"%PDF-")
         if PICTURES is not None:

@@ -78,9 +78,7 @@ class AgainstQuantLib(InAFolder):
                         ql.Date(day.day, day.month, day.year) for day in (period.adjusted_start, period.adjusted_end)
                     ]
                     amount = 25_000_000 * 0.0285 * counts[row.fixed_day_count].yearFraction(*ends)
-                    self.assertLessEqual(
-                        abs(float(payment.amount) - amount), 0.51 if row.currency == "JPY" else 0.0051
-                    )
+                    self.assertLessEqual(abs(float(payment.amount) - amount), 0.51 if row.currency == "JPY" else 0.0051)
         self.assertGreater(rows, 250)
 
     def same_dates(self, schedule, stream, frequency, row, calendar, start):

@@ -40,10 +40,7 @@ TODAY = date(2026, 11, 29)
 #: The address of the page in the tests without a browser.
 TOP = "/token/"
 
-HAS = {
-    name: importlib.util.find_spec(name) is not None
-    for name in ("jinja2", "flask", "openpyxl", "matplotlib")
-}
+HAS = {name: importlib.util.find_spec(name) is not None for name in ("jinja2", "flask", "openpyxl", "matplotlib")}
 
 
 def needs(name):
@@ -150,9 +147,9 @@ class Cells(unittest.TestCase):
             trade = trades.random_trade(number)
             reply = ask("schedule", trade)
             self.assertEqual(reply.status, 0, (number, reply.line))
-            yield self.subTest(trade=number), trade, irs.Schedule(
-                reply.text, trade.document.content
-            ), rows_of(reply.text)
+            yield self.subTest(trade=number), trade, irs.Schedule(reply.text, trade.document.content), rows_of(
+                reply.text
+            )
 
     def check_periods(self, read, rows):
         """`read` has a mapping a period of the names of the CSV to texts, empty where a number
@@ -186,19 +183,12 @@ class Cells(unittest.TestCase):
             )
             number, unadjusted, adjusted, _, _, amount = payment or [""] * 6
             self.assertEqual(
-                [
-                    row[name]
-                    for name in ("payment", "unadjusted_payment_date", "payment_date", "amount")
-                ],
+                [row[name] for name in ("payment", "unadjusted_payment_date", "payment_date", "amount")],
                 [number, unadjusted, adjusted, "" if amount == "-" else amount],
             )
 
     def check_exchanges(self, read, rows):
-        expected = [
-            [key[1], rows[("stream", key[1], "")][0], *fields]
-            for key, fields in rows.items()
-            if key[0] == "x"
-        ]
+        expected = [[key[1], rows[("stream", key[1], "")][0], *fields] for key, fields in rows.items() if key[0] == "x"]
         self.assertEqual([list(row.values()) for row in read], expected)
 
     def check_flows(self, read, rows, sides):
@@ -208,9 +198,7 @@ class Cells(unittest.TestCase):
         self.assertEqual([row["date"] for row in read], sorted(row["date"] for row in read))
         totals, waiting = {}, {}
         for row in read:
-            fields = rows[
-                ("x" if row["kind"] == "exchange" else "p", row["stream"], row["number"])
-            ]
+            fields = rows[("x" if row["kind"] == "exchange" else "p", row["stream"], row["number"])]
             self.assertEqual([row["unadjusted_date"], row["date"]], fields[1:3])
             self.assertEqual(row["currency"], rows[("stream", row["stream"], "")][0])
             self.assertEqual(row["weekday"], date.fromisoformat(row["date"]).strftime("%a"))
@@ -281,11 +269,7 @@ class Cells(unittest.TestCase):
             with one:
                 book = openpyxl.load_workbook(io.BytesIO(schedule.workbook()))
                 flows, periods, exchanges = (
-                    list(
-                        self.sheet_rows(
-                            book[table.title], [column.name for column in table.columns]
-                        )
-                    )
+                    list(self.sheet_rows(book[table.title], [column.name for column in table.columns]))
                     for table in schedule.tables()
                 )
                 self.check_flows(flows, rows, self.sides_of(trade))
@@ -301,9 +285,7 @@ class Cells(unittest.TestCase):
                 page = Page(report([look_at(trade, TODAY)]))
                 read = [row for table in page.captioned("Periods") for row in table]
                 self.check_shown_periods(read, rows)
-                exchanges = [
-                    row for table in page.captioned("Principal exchanges") for row in table
-                ]
+                exchanges = [row for table in page.captioned("Principal exchanges") for row in table]
                 self.assertEqual(
                     [
                         [
@@ -337,9 +319,7 @@ class Cells(unittest.TestCase):
                 notional,
                 rate,
             ) = period
-            self.assertEqual(
-                [row[head][0] for head in ("Period", "Days", "Fraction")], [number, days, fraction]
-            )
+            self.assertEqual([row[head][0] for head in ("Period", "Days", "Fraction")], [number, days, fraction])
             self.assertEqual(
                 [*self.dates(row["Start"]), *self.dates(row["End"])],
                 [start, adjusted_start, end, adjusted_end],
@@ -350,14 +330,10 @@ class Cells(unittest.TestCase):
                 self.assertEqual(list(self.dates(row["Fixing"])), reset[1:3])
                 self.assertEqual(shown_number(row["Observed"][0]), printed_number(reset[3]))
             if payment is None:
-                self.assertEqual(
-                    [row[head][0] for head in ("Payment", "Paid on", "Amount")], ["", "", ""]
-                )
+                self.assertEqual([row[head][0] for head in ("Payment", "Paid on", "Amount")], ["", "", ""])
             else:
                 self.assertEqual([row["Payment"][0], *self.dates(row["Paid on"])], payment[:3])
-                self.assertEqual(
-                    row["Amount"][0].replace(",", "").replace("waits", "-"), payment[5]
-                )
+                self.assertEqual(row["Amount"][0].replace(",", "").replace("waits", "-"), payment[5])
 
     def check_ledger(self, read, rows, sides):
         seen_from, payers = sides
@@ -369,11 +345,7 @@ class Cells(unittest.TestCase):
             received = bool(payers) and payers[int(row["Stream"][0]) - 1] != seen_from
             if amount is not None and amount < 0:
                 received = not received
-            shown, empty = (
-                (row["Receives"][0], row["Pays"][0])
-                if received
-                else (row["Pays"][0], row["Receives"][0])
-            )
+            shown, empty = (row["Receives"][0], row["Pays"][0]) if received else (row["Pays"][0], row["Receives"][0])
             self.assertEqual((row["Date"][0], empty), (fields[2], ""))
             self.assertEqual(
                 shown.replace(",", "").replace("waits", "-").lstrip("-") or "-",
@@ -394,13 +366,9 @@ class Cells(unittest.TestCase):
                 ]
                 as_json = json.loads(shown_by(*words_of, "--json"))
                 as_text = shown_by(*words_of)
-                read = [
-                    {name: text or "" for name, text in row.items()} for row in as_json["periods"]
-                ]
+                read = [{name: text or "" for name, text in row.items()} for row in as_json["periods"]]
                 self.check_periods(read, rows)
-                read = [
-                    {name: text or "" for name, text in row.items()} for row in as_json["flows"]
-                ]
+                read = [{name: text or "" for name, text in row.items()} for row in as_json["flows"]]
                 self.check_flows(read, rows, self.sides_of(trade))
                 self.check_terminal(as_text, rows)
 
@@ -408,9 +376,7 @@ class Cells(unittest.TestCase):
         lines = iter(text.splitlines())
         for stream, _, period, reset, payment in periods_of(rows):
             cells = next(
-                line.replace("*", "").split()
-                for line in lines
-                if line.split()[:1] == [period[0]] and "/" in line
+                line.replace("*", "").split() for line in lines if line.split()[:1] == [period[0]] and "/" in line
             )
             self.assertEqual(cells[:5], [period[0], *period[3:7]])
             expected = [*period[7:8], printed_number(period[8])] + (
@@ -480,33 +446,24 @@ class Show(unittest.TestCase):
             last.split(),
             ["2025-01-15", "Wed", "2", "payment", "2", "USD", "28,111.11", "-55,411.11"],
         )
-        self.assertEqual(
-            last.index("28,111.11") + len("28,111.11"), head.index("Pays") + len("Pays")
-        )
+        self.assertEqual(last.index("28,111.11") + len("28,111.11"), head.index("Pays") + len("Pays"))
 
     def test_the_page_shows_what_is_printed(self):
         """Each block of docs/LOOKING.md that begins with `$ irs-show`, run in the folder that the
         page names before it."""
         page = (EXAMPLES.parent / "docs" / "LOOKING.md").read_text()
-        found = re.findall(
-            r"In `examples/(\w+)`:\n\n    \$ irs-show (.*)\n((?:(?:    .*)?\n)+)", page
-        )
+        found = re.findall(r"In `examples/(\w+)`:\n\n    \$ irs-show (.*)\n((?:(?:    .*)?\n)+)", page)
         self.assertEqual(len(found), 2)
         for folder, words_of, block in found:
             arguments = [
-                EXAMPLES / folder / word if word in ("terms.json", "fixings") else word
-                for word in words_of.split()
+                EXAMPLES / folder / word if word in ("terms.json", "fixings") else word for word in words_of.split()
             ]
-            self.assertEqual(
-                [line[4:] for line in block.rstrip().split("\n")], self.lines(*arguments)
-            )
+            self.assertEqual([line[4:] for line in block.rstrip().split("\n")], self.lines(*arguments))
 
     def test_from_to_and_next(self):
         folder = EXAMPLES / "amortising"
         lines = self.lines(folder / "terms.json", "--from", "2024-07-15", "--to", "2024-10-15")
-        self.assertEqual(
-            [line[:10] for line in lines if "payment" in line], ["2024-07-15", "2024-10-15"]
-        )
+        self.assertEqual([line[:10] for line in lines if "payment" in line], ["2024-07-15", "2024-10-15"])
         self.assertIn(
             "2024-10-15 Tue 1 payment 3 USD 6,388.89 -15,868.06",
             [" ".join(line.split()) for line in lines],
@@ -514,9 +471,7 @@ class Show(unittest.TestCase):
         lines = self.lines(folder / "terms.json", "--from", "2024-07-16", "--next")
         self.assertEqual([line[:10] for line in lines if "payment" in line], ["2024-10-15"])
         lines = self.lines(folder / "terms.json", "--from", "2024-07-16", "--next", "2")
-        self.assertEqual(
-            [line[:10] for line in lines if "payment" in line], ["2024-10-15", "2025-01-15"]
-        )
+        self.assertEqual([line[:10] for line in lines if "payment" in line], ["2024-10-15", "2025-01-15"])
 
     def test_net(self):
         """The amounts are those of examples/net, whose text has them with the sign of stream 1's
@@ -534,9 +489,7 @@ class Show(unittest.TestCase):
 
     def test_standard_input_and_files(self):
         text = example("fixed_leg/terms.json")
-        self.assertEqual(
-            self.lines("-", stdin=text), self.lines(EXAMPLES / "fixed_leg" / "terms.json")
-        )
+        self.assertEqual(self.lines("-", stdin=text), self.lines(EXAMPLES / "fixed_leg" / "terms.json"))
         lines = self.lines("-", "--csv", "-", "--table", "periods", stdin=text)
         self.assertEqual(
             lines[1],
@@ -602,9 +555,7 @@ class Show(unittest.TestCase):
     def test_a_terminal_that_has_only_ascii(self):
         terms = json.loads(example("fixed_leg/terms.json"))
         stream = terms["swap"]["swapStream"]
-        stream["payerPartyReference"], stream["receiverPartyReference"] = {"@href": "Zürich"}, {
-            "@href": "b"
-        }
+        stream["payerPartyReference"], stream["receiverPartyReference"] = {"@href": "Zürich"}, {"@href": "b"}
         lines = self.lines(
             "-",
             stdin=json.dumps(terms, ensure_ascii=False).encode(),
@@ -643,9 +594,7 @@ class Names(unittest.TestCase):
         )
 
     def test_hidden_characters_are_numbers(self):
-        self.assertEqual(
-            plain.brief(self.BAD), "<script>alert(1)</script>\\u202e\\u2066\\x1b[31m\\u200b"
-        )
+        self.assertEqual(plain.brief(self.BAD), "<script>alert(1)</script>\\u202e\\u2066\\x1b[31m\\u200b")
         self.assertEqual(plain.brief("a" * 100), "a" * 79 + "\u2026")
         self.assertEqual(plain.cell("=1+1"), "'=1+1")
 
@@ -657,9 +606,7 @@ class Names(unittest.TestCase):
         text = report([look_at(self.trade(name=name), TODAY)])
         page = Page(text)
         self.assertNotIn("script", [tag for tag, _ in page.tags])
-        self.assertFalse(
-            [name for _, attributes in page.tags for name in attributes if name.startswith("on")]
-        )
+        self.assertFalse([name for _, attributes in page.tags for name in attributes if name.startswith("on")])
         for character in "\u202e\u2066\x1b\u200b":
             self.assertNotIn(character, text)
         self.assertIn("&lt;script&gt;alert(1)&lt;/script&gt;\\u202e", text)
@@ -682,9 +629,7 @@ class Names(unittest.TestCase):
             policy,
             f"default-src 'none'; style-src 'sha256-{total}'; base-uri 'none'; form-action 'none'",
         )
-        self.assertNotIn(
-            "style", [name for _, attributes in Page(text).tags for name in attributes]
-        )
+        self.assertNotIn("style", [name for _, attributes in Page(text).tags for name in attributes])
 
     def test_csv_has_no_formula(self):
         schedule = irs.schedule(self.trade().document.content, calendars=[trades.CALENDAR])
@@ -751,11 +696,7 @@ class Refusals(unittest.TestCase):
             )
 
     def test_a_step_and_a_centre(self):
-        files = Inputs(
-            self.terms(
-                b'"stepDate":"2024-07-15"', b'"stepDate":"2024-07-16"', "amortising/terms.json"
-            )
-        )
+        files = Inputs(self.terms(b'"stepDate":"2024-07-15"', b'"stepDate":"2024-07-16"', "amortising/terms.json"))
         line, refusal = self.marked("check", files)
         self.assertEqual((refusal.rule, refusal.position), ("K36", 2))
         self.assertIn("2024-07-16", line)
@@ -764,9 +705,7 @@ class Refusals(unittest.TestCase):
 
     def test_places_in_other_files(self):
         calendar = named("business_days/de.cal")
-        line, _ = self.marked(
-            "check", Inputs(named("business_days/terms.json"), calendars=[calendar, calendar])
-        )
+        line, _ = self.marked("check", Inputs(named("business_days/terms.json"), calendars=[calendar, calendar]))
         self.assertEqual(line, "center DEFR")
         line, _ = self.marked(
             "schedule",
@@ -775,9 +714,7 @@ class Refusals(unittest.TestCase):
         self.assertEqual(line, "2024-01-15 0.05 3M")
         for old, new in ((b'"25555.56"', b'"x"'), (b'"0.5111111111"', b'"y"')):
             flows = self.terms(old, new, "audit_departs/flows.json")
-            line, refusal = self.marked(
-                "audit", Inputs(named("fixed_leg/terms.json"), None, flows)
-            )
+            line, refusal = self.marked("audit", Inputs(named("fixed_leg/terms.json"), None, flows))
             self.assertIn(new.decode(), line)
 
     def test_what_is_no_json(self):
@@ -795,32 +732,22 @@ class Refusals(unittest.TestCase):
         self.assertLess(len(line), 130)
 
     def test_too_long_and_too_deep(self):
-        refusal = refusal_of(
-            ask("check", Inputs(Named("big.json", b" " * (library.MOST_BYTES + 1))))
-        )
+        refusal = refusal_of(ask("check", Inputs(Named("big.json", b" " * (library.MOST_BYTES + 1)))))
         self.assertEqual(refusal.sentence, "big.json has more than 4,194,304 bytes")
 
     def test_every_rule_of_the_pages_examples_has_a_place(self):
         """Each refused example of the folder gives a marked line, but for that of an unreadable
         file."""
         for folder in sorted(EXAMPLES.iterdir()):
-            words_of = (
-                (folder / "command").read_text().split() if (folder / "command").is_file() else []
-            )
-            status = (
-                (folder / "status").read_text().strip() if (folder / "status").is_file() else "0"
-            )
+            words_of = (folder / "command").read_text().split() if (folder / "command").is_file() else []
+            status = (folder / "status").read_text().strip() if (folder / "status").is_file() else "0"
             if status in ("2", "3") and words_of[1] in ("schedule", "audit", "net"):
                 names = words_of[2:]
-                files = [
-                    Named(name, (folder / name).read_bytes()) for name in names if name != "-"
-                ]
+                files = [Named(name, (folder / name).read_bytes()) for name in names if name != "-"]
                 by_name = {file.name: file for file in files}
                 flows = by_name[names[2]] if words_of[1] == "audit" else None
                 rest = names[3:] if flows else names[2:]
-                asked = Inputs(
-                    files[0], by_name.get(names[1]), flows, [by_name[name] for name in rest]
-                )
+                asked = Inputs(files[0], by_name.get(names[1]), flows, [by_name[name] for name in rest])
                 refusal = refusal_of(ask(words_of[1], asked))
                 self.assertEqual(refusal.line + "\n", (folder / "output").read_text())
                 self.assertEqual(sum(line.marked for line in refusal.lines), 1, folder.name)
@@ -829,14 +756,10 @@ class Refusals(unittest.TestCase):
 @needs("jinja2")
 class Reports(unittest.TestCase):
     def report(self, room, *arguments):
-        done = run_show(
-            *arguments, "-o", f"{room}/report.html", "--today", "2026-11-29", module="irs.report"
-        )
+        done = run_show(*arguments, "-o", f"{room}/report.html", "--today", "2026-11-29", module="irs.report")
         return (
             done,
-            Page(Path(room, "report.html").read_text())
-            if Path(room, "report.html").exists()
-            else None,
+            Page(Path(room, "report.html").read_text()) if Path(room, "report.html").exists() else None,
         )
 
     def test_what_lies_beside_a_trade_is_used(self):
@@ -869,9 +792,7 @@ class Reports(unittest.TestCase):
     def test_options_name_other_files(self):
         with tempfile.TemporaryDirectory() as room:
             folder = EXAMPLES / "fixed_leg"
-            done, page = self.report(
-                room, folder / "terms.json", "--flows", EXAMPLES / "audit_departs" / "flows.json"
-            )
+            done, page = self.report(room, folder / "terms.json", "--flows", EXAMPLES / "audit_departs" / "flows.json")
             self.assertEqual(done.returncode, 0, done.stderr)
             marked = [
                 attributes
@@ -926,16 +847,12 @@ class Sides(unittest.TestCase):
             if pair.marked
         ]
         self.assertEqual(marks, [(1, "payment", 2, ["adjustedPaymentDate"])])
-        self.assertEqual(
-            (look.verdict_line, look.verdict.tone), ("no 1 payment 2 adjustedPaymentDate", "bad")
-        )
+        self.assertEqual((look.verdict_line, look.verdict.tone), ("no 1 payment 2 adjustedPaymentDate", "bad"))
 
     def test_the_tone_says_what_was_not_compared(self):
         terms = named("compounded/terms.json")
         flows = Named("flows.json", irs.emit(terms.content, example("compounded/fixings")))
-        self.assertEqual(
-            look_at(Inputs(terms, named("compounded/fixings"), flows), TODAY).verdict.tone, "good"
-        )
+        self.assertEqual(look_at(Inputs(terms, named("compounded/fixings"), flows), TODAY).verdict.tone, "good")
         open_look = look_at(Inputs(terms, None, flows), TODAY)
         self.assertEqual(open_look.verdict.tone, "waits")
         self.assertEqual(
@@ -997,9 +914,7 @@ class Insert(unittest.TestCase):
             self.assertEqual(with_cashflows(once, emitted), once)
             left = once.decode()
             for stream in json.loads(emitted)["swap"]["swapStream"]:
-                left = left.replace(
-                    f'"cashflows":{json.dumps(stream["cashflows"], separators=(",", ":"))},', "", 1
-                )
+                left = left.replace(f'"cashflows":{json.dumps(stream["cashflows"], separators=(",", ":"))},', "", 1)
             self.assertEqual(left.encode(), document)
 
 
@@ -1028,18 +943,10 @@ class Picture(unittest.TestCase):
             for line in (look.wide, look.narrow):
                 for place, stream in enumerate(streams):
                     lanes = [band.lanes[place] for band in line.bands]
-                    self.assertEqual(
-                        sum(lane.payments.count("M") for lane in lanes), len(stream.payments)
-                    )
-                    self.assertEqual(
-                        sum(lane.resets.count("M") for lane in lanes), len(stream.resets)
-                    )
-                    self.assertEqual(
-                        sum(lane.exchanges.count("M") for lane in lanes), len(stream.exchanges)
-                    )
-                    self.assertEqual(
-                        sum(lane.boundaries.count("M") for lane in lanes), len(stream.periods) + 1
-                    )
+                    self.assertEqual(sum(lane.payments.count("M") for lane in lanes), len(stream.payments))
+                    self.assertEqual(sum(lane.resets.count("M") for lane in lanes), len(stream.resets))
+                    self.assertEqual(sum(lane.exchanges.count("M") for lane in lanes), len(stream.exchanges))
+                    self.assertEqual(sum(lane.boundaries.count("M") for lane in lanes), len(stream.periods) + 1)
 
     def test_sixty_and_four_hundred_and_eighty(self):
         for make in (trades.vanilla, trades.forty_years):
@@ -1069,31 +976,23 @@ class Picture(unittest.TestCase):
             dates=dates,
             convention="NONE",
         )
-        self.assertFalse(
-            look_at(Inputs(Named("t", trades.document(made))), TODAY).wide.has["stubs"]
-        )
+        self.assertFalse(look_at(Inputs(Named("t", trades.document(made))), TODAY).wide.has["stubs"])
 
 
 class Words(unittest.TestCase):
     def test_terms(self):
-        said = [
-            {term.about: term.says for term in terms}
-            for terms in words.terms_of(trades.stub().document.content)
-        ]
+        said = [{term.about: term.says for term in terms} for terms in words.terms_of(trades.stub().document.content)]
         self.assertEqual(said[1]["Rate"], "USD-TERM-SOFR 3M plus 0.15%")
         self.assertEqual(said[0]["Rate"], "fixed, 3.85%")
         self.assertEqual(said[0]["Notional"], "USD 12,500,000")
         self.assertEqual(
             said[1]["Resets"],
-            "at period start, following in TEST; "
-            "fixed 2 business days before that day, preceding in TEST",
+            "at period start, following in TEST; " "fixed 2 business days before that day, preceding in TEST",
         )
 
     def test_steps(self):
         said = [tuple(term) for term in words.terms_of(trades.amortising().document.content)[0]]
-        self.assertEqual(
-            said[:2], [("Notional", "GBP 16,000,000"), ("from 2024-06-15", "15,000,000")]
-        )
+        self.assertEqual(said[:2], [("Notional", "GBP 16,000,000"), ("from 2024-06-15", "15,000,000")])
         self.assertEqual(said[7], ("and then", "9 more steps, which the periods show"))
 
     def test_overnight(self):
@@ -1140,9 +1039,7 @@ class Colours(unittest.TestCase):
 
     def luminance(self, colour):
         parts = [int(colour[place : place + 2], 16) / 255 for place in (1, 3, 5)]
-        linear = [
-            part / 12.92 if part <= 0.04045 else ((part + 0.055) / 1.055) ** 2.4 for part in parts
-        ]
+        linear = [part / 12.92 if part <= 0.04045 else ((part + 0.055) / 1.055) ** 2.4 for part in parts]
         return 0.2126 * linear[0] + 0.7152 * linear[1] + 0.0722 * linear[2]
 
     def contrast(self, one, other):
@@ -1158,9 +1055,7 @@ class Colours(unittest.TestCase):
             self.assertEqual(colours.keys(), palette.LIGHT.keys())
             for pairs, least in ((palette.TEXT, 4.5), (palette.SHAPES, 3.0)):
                 for ink, back in pairs:
-                    self.assertGreaterEqual(
-                        self.contrast(colours[ink], colours[back]), least, (name, ink, back)
-                    )
+                    self.assertGreaterEqual(self.contrast(colours[ink], colours[back]), least, (name, ink, back))
 
 
 class Optional(unittest.TestCase):
@@ -1183,8 +1078,7 @@ class Optional(unittest.TestCase):
                 "openpyxl",
                 "show",
                 (terms, "--xlsx", "x"),
-                "irs-show: a workbook needs openpyxl, which isn't installed "
-                "(Debian: python3-openpyxl)",
+                "irs-show: a workbook needs openpyxl, which isn't installed " "(Debian: python3-openpyxl)",
             ),
             (
                 "jinja2",
@@ -1200,9 +1094,7 @@ class Optional(unittest.TestCase):
             ),
         ):
             done = self.without(package, self.main(module, *arguments))
-            self.assertEqual(
-                (done.returncode, done.stdout, done.stderr.decode()), (2, b"", sentence + "\n")
-            )
+            self.assertEqual((done.returncode, done.stdout, done.stderr.decode()), (2, b"", sentence + "\n"))
 
     def test_python(self):
         terms = str(EXAMPLES / "fixed_leg" / "terms.json")
@@ -1269,9 +1161,7 @@ class Desk(unittest.TestCase):
             self.assertIn("default-src 'none'", policy)
             self.assertIn("script-src 'self'", policy)
             self.assertNotIn("unsafe", policy)
-            self.assertEqual(
-                (headers["Referrer-Policy"], headers["Cache-Control"]), ("no-referrer", "no-store")
-            )
+            self.assertEqual((headers["Referrer-Policy"], headers["Cache-Control"]), ("no-referrer", "no-store"))
 
     def test_the_form_says_what_is_missing(self):
         answer = self.look()
@@ -1300,13 +1190,8 @@ class Desk(unittest.TestCase):
         from irs.desk import MOST_LOOKS
 
         terms = example("fixed_leg/terms.json")
-        places = [
-            self.look(document=(io.BytesIO(terms), "t.json")).headers["Location"]
-            for _ in range(MOST_LOOKS + 1)
-        ]
-        self.assertEqual(
-            [self.get(place).status_code for place in places], [404] + [200] * MOST_LOOKS
-        )
+        places = [self.look(document=(io.BytesIO(terms), "t.json")).headers["Location"] for _ in range(MOST_LOOKS + 1)]
+        self.assertEqual([self.get(place).status_code for place in places], [404] + [200] * MOST_LOOKS)
 
     def test_too_large_together(self):
         from irs import desk
@@ -1350,9 +1235,7 @@ class Notebook(unittest.TestCase):
     @needs("jinja2")
     def test_html(self):
         page = Page(self.schedule()._repr_html_())
-        self.assertEqual(
-            [table["caption"] for table in page.tables], ["Cash flows", "Periods", "Exchanges"]
-        )
+        self.assertEqual([table["caption"] for table in page.tables], ["Cash flows", "Periods", "Exchanges"])
 
     @needs("matplotlib")
     def test_plot(self):
@@ -1362,16 +1245,8 @@ class Notebook(unittest.TestCase):
             [axis.get_ylabel() for axis in figure.axes],
             ["JPY, received above 0", "USD, received above 0"],
         )
-        drawn = [
-            segment[1][1]
-            for collection in figure.axes[0].collections
-            for segment in collection.get_segments()
-        ]
-        expected = [
-            float(flow.amount)
-            for flow in schedule.flows("Birch Pensions")
-            if flow.currency == "JPY"
-        ]
+        drawn = [segment[1][1] for collection in figure.axes[0].collections for segment in collection.get_segments()]
+        expected = [float(flow.amount) for flow in schedule.flows("Birch Pensions") if flow.currency == "JPY"]
         self.assertEqual(sorted(drawn), sorted(expected))
 
     def test_flows(self):

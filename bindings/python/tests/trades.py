@@ -62,11 +62,7 @@ def stream(
     """A stream of terms: fixed with a `rate`, floating with an `index`."""
     receiver = "them" if payer == "us" else "us"
     once = months == 0
-    frequency = (
-        {**every(1, "T"), "rollConvention": "NONE"}
-        if once
-        else {**every(months, "M"), "rollConvention": roll}
-    )
+    frequency = {**every(1, "T"), "rollConvention": "NONE"} if once else {**every(months, "M"), "rollConvention": roll}
     pay = every(1, "T") if once else every(pay_months or months, "M")
     notionals: Json = {"initialValue": notional, "currency": currency}
     if steps:
@@ -100,11 +96,7 @@ def stream(
             "paymentFrequency": pay,
             **({"firstPaymentDate": first_payment} if first_payment else {}),
             "payRelativeTo": "CalculationPeriodEndDate",
-            **(
-                {"paymentDaysOffset": {**every(pay_lag, "D"), "dayType": "Business"}}
-                if pay_lag
-                else {}
-            ),
+            **({"paymentDaysOffset": {**every(pay_lag, "D"), "dayType": "Business"}} if pay_lag else {}),
             "paymentDatesAdjustments": adjusted(convention if not pay_lag else "FOLLOWING"),
         },
         "calculationPeriodAmount": {"calculation": calculation},
@@ -145,9 +137,7 @@ def fixings_of(terms: bytes, until: str, rates: random.Random) -> bytes:
     lines = set()
     streams = json.loads(terms)["dataDocument"]["trade"]["swap"]["swapStream"]
     for reset in irs.schedule(terms, calendars=[CALENDAR]).resets():
-        floating = streams[reset.stream - 1]["calculationPeriodAmount"]["calculation"][
-            "floatingRateCalculation"
-        ]
+        floating = streams[reset.stream - 1]["calculationPeriodAmount"]["calculation"]["floatingRateCalculation"]
         tenor = f"{floating['indexTenor']['periodMultiplier']}{floating['indexTenor']['period']}"
         lines.add((reset.fixing.isoformat(), tenor, floating["floatingRateIndex"]))
     return "".join(
@@ -172,9 +162,7 @@ def vanilla() -> Inputs:
     return _inputs(
         "vanilla",
         document(
-            stream(
-                1, "us", "2021-03-15", "2036-03-15", 12, "25000000", "EUR", "30/360", rate="0.0125"
-            ),
+            stream(1, "us", "2021-03-15", "2036-03-15", 12, "25000000", "EUR", "30/360", rate="0.0125"),
             stream(
                 2,
                 "them",
@@ -326,11 +314,7 @@ def overnight() -> Inputs:
     )
     rates = random.Random(5)
     days = (date(2025, 3, 10) + timedelta(place) for place in range(570))
-    daily = "".join(
-        f"{day} {rates.randint(380, 440) / 10000:.4f} 1D USD-SOFR\n"
-        for day in days
-        if day.weekday() < 5
-    )
+    daily = "".join(f"{day} {rates.randint(380, 440) / 10000:.4f} 1D USD-SOFR\n" for day in days if day.weekday() < 5)
     answer = irs.run(
         ["overnight", "2", "terms", "daily", "cal"],
         {"terms": terms, "daily": daily.encode(), "cal": CALENDAR},
@@ -349,9 +333,7 @@ def forty_years() -> Inputs:
     return _inputs(
         "forty-years",
         document(
-            stream(
-                1, "us", "2015-01-15", "2055-01-15", 1, "10000000", "EUR", "30E/360", rate="0.0175"
-            ),
+            stream(1, "us", "2015-01-15", "2055-01-15", 1, "10000000", "EUR", "30E/360", rate="0.0175"),
             stream(
                 2,
                 "them",
@@ -415,9 +397,7 @@ def random_trade(number: int) -> Inputs:
                 start.isoformat(),
                 end.isoformat(),
                 months,
-                rates.choice(
-                    ("1", "999", "1000000", "12345678.1234", "0.5", "1000000000", "10000000000000")
-                ),
+                rates.choice(("1", "999", "1000000", "12345678.1234", "0.5", "1000000000", "10000000000000")),
                 rates.choice(("USD", "EUR", "JPY", "BHD")),
                 rates.choice(("ACT/360", "30/360", "ACT/365.FIXED", "30E/360", "ACT/ACT.ISDA")),
                 rate=None if floating else f"{rates.randint(-10000000, 90000000) / 10 ** 9:.9f}",
