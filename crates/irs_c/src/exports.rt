@@ -1,6 +1,6 @@
 //! What C calls. The form of the call is this project's own; `bindings/irs.h` has it in C's words.
 ghost use Rattle.std.specs.Prelude.{◌≡◌, ◌≢◌, ◌⊎◌, ℕ, ◌<◌, List, ◌++◌, length, take, drop, map, OnOk, IfOk, IfErr};
-ghost use Rattle.irs_cli.specs.Commands.{texts};
+ghost use Rattle.irs_cli.specs.Commands.{IsListed, texts};
 ghost use Rattle.irs_cli.specs.Due.{Due, IsOneAnswer};
 ghost use Rattle.irs_cli.specs.Given.{TellsAll};
 ghost use Rattle.irs_c.specs.Given.{words_in, file_in, AreText, IsAbsent};
@@ -44,6 +44,9 @@ pub extern "C" fn irs_run(
     ensures due { result ≢ 5 → result ≢ 7 → result ≢ 9 → (text : List ℕ)
         × Due (words_in words.now) (file_in files.now) result text
         × Shown out.old out.new needed.new text }
+    // 4 comes for words that are no listed command, and always for them.
+    ensures only_unlisted { result ≡ 4 → IsListed (words_in words.now) → ⊥ }
+    ensures unlisted { (IsListed (words_in words.now) → ⊥) → result ≢ 7 → result ≢ 9 → result ≡ 4 }
     // The statuses are these, and 6 is none of them.
     ensures listed { (result < 10) × (result ≢ 6) }
     // Where every file that the words name is lent, one status and one text are due.
@@ -149,6 +152,8 @@ fn append(text: &mut Vec<u8>, part: &[u8]) -> Result<(), u8>
 fn answer(alloc: Global, words: &[Bytes<'_>], files: &[File<'_>]) -> Result<(u8, Vec<u8>), u8>
     ensures due { IfOk result (λ r. r.0 ≢ 5 → Due (words_in words.now) (file_in files.now) r.0 r.1.items) }
     ensures absent { IfOk result (λ r. r.0 ≡ 5 → IsAbsent (words_in words.now) (file_in files.now) r.1.items) }
+    ensures only_unlisted { IfOk result (λ r. r.0 ≡ 4 → IsListed (words_in words.now) → ⊥) }
+    ensures unlisted { IfOk result (λ r. (IsListed (words_in words.now) → ⊥) → r.0 ≡ 4) }
     ensures ok { IfOk result (λ r. (r.0 < 9) × (r.0 ≢ 6) × (r.0 ≢ 7)) }
     ensures text { IfOk result (λ _. AreText words.now) }
     ensures not_text { IfErr result (λ s. s ≡ 9 → AreText words.now → ⊥) }
@@ -162,6 +167,8 @@ fn answer(alloc: Global, words: &[Bytes<'_>], files: &[File<'_>]) -> Result<(u8,
 fn run_kept(alloc: Global, words: &[String], files: &[File<'_>]) -> Result<(u8, Vec<u8>), u8>
     ensures due { IfOk result (λ r. r.0 ≢ 5 → Due (texts words.now) (file_in files.now) r.0 r.1.items) }
     ensures absent { IfOk result (λ r. r.0 ≡ 5 → IsAbsent (texts words.now) (file_in files.now) r.1.items) }
+    ensures only_unlisted { IfOk result (λ r. r.0 ≡ 4 → IsListed (texts words.now) → ⊥) }
+    ensures unlisted { IfOk result (λ r. (IsListed (texts words.now) → ⊥) → r.0 ≡ 4) }
     ensures ok { IfOk result (λ r. (r.0 < 9) × (r.0 ≢ 6) × (r.0 ≢ 7)) }
     ensures err { IfErr result (λ s. s ≡ 7) }
 {

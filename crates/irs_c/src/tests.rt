@@ -33,8 +33,8 @@ fn what_a_line_means(rt: HostRuntime) {
     let mut needed = 0;
     let line = b"no file 1\n";
     let status = irs_meaning(rt.alloc(), &words(), 5, line, &mut out, &mut needed);
-    assert_eq!(rt; (status, needed), (0, 15));
-    assert_eq!(rt; &out[..16], b"no such file: D#".as_slice());
+    assert_eq!(rt; (status, needed), (0, 19));
+    assert_eq!(rt; &out[..20], b"couldn't be read: D#".as_slice());
 }
 
 #[test]

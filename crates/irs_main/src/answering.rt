@@ -5,20 +5,22 @@
 ghost use Rattle.std.specs.Prelude.{◌≡◌, ℕ, ◌<◌, List, Some, None, map, option_map, OnOk, OnErr};
 ghost use Rattle.irs_outside.specs.Outside.{Grew, GrewByFront, Rose};
 ghost use Rattle.irs_plain.specs.Kept.{front_of, sink_of};
+ghost use Rattle.irs_plain.specs.Shown.{shown};
 ghost use Rattle.irs_plain.specs.Words.{texts};
 ghost use Rattle.irs_main.specs.Answering.{Explained, Printed, Ran, explanation_of, itself_of};
 
 use crate::pieces::{put_lines, put_parts};
-use irs_cli::{Files, PutFailed, Sink, Status, run};
-use irs_plain::{COMMANDS, HELP, Kept, VERSION, meaning};
+use irs_cli::{Files, Memory, PutFailed, Sink, Status, run};
+use irs_plain::{COMMANDS, HELP, Kept, VERSION, meaning, shown_words};
 use std::alloc::Global;
 
 /// Answers the words: prints what they ask for, and says on `errors` what a status other than 0 means.
 ///
 /// The single word `--help` or `--version` is answered with its text and 0, or 6 where a put failed. All
-/// other words are run, as `run` says. On every status but 0 the sentence for it goes to `errors` as a
-/// line, and behind it, for words that are no listed command, the listed commands, a line each. Nothing
-/// is put on `errors` behind a put that failed.
+/// other words are run, as `run` says, once their shown form is made; where memory runs out for that, the
+/// status is 7. On every status but 0 the sentence for it goes to `errors` as a line, with each word as
+/// `shown_words` shows it. After it, for words that are no listed command, come the listed commands, a
+/// line each. Nothing is written to `errors` after a write that failed.
 pub fn answer<F: Files, S: Sink, E: Sink>(
     alloc: Global,
     words: &[String],
@@ -42,20 +44,33 @@ pub fn answer<F: Files, S: Sink, E: Sink>(
         (S.written (sink_of out.old)) (S.written (sink_of out.new))
         (S.faults (sink_of out.old)) (S.faults (sink_of out.new)) result }
 
-    // What the status and the first bytes that were put mean is said.
+    // What the status and the first bytes that were put mean is said, with the words as they are shown.
     ensures explained { Explained
-        (explanation_of (map (λ c. c.now) COMMANDS) (texts words.now) result (front_of out.new))
+        (explanation_of (map (λ c. c.now) COMMANDS) (map shown (texts words.now)) result (front_of out.new))
         (E.written errors.old) (E.written errors.new) (E.faults errors.old) (E.faults errors.new) }
 
     // Where all is done nothing is put there.
     ensures silent { result ≡ 0 → errors.new ≡ errors.old }
 {
-    let status = match about_itself(words) {
-        Some(text) => print(out, text),
-        None => run_words(alloc, words, files, out),
-    };
-    explain(errors, words, status, out.front());
-    status
+    match about_itself(words) {
+        Some(text) => {
+            let status = print(out, text);
+            explain(errors, &[], status, out.front());
+            status
+        }
+        None => match shown_words(alloc, words) {
+            Ok(shown) => {
+                let status = run_words(alloc, words, files, out);
+                explain(errors, &shown, status, out.front());
+                status
+            }
+            Err(Memory) => {
+                let status = Status::NoMemory.number();
+                explain(errors, &[], status, &[]);
+                status
+            }
+        },
+    }
 }
 
 // What the program says of itself, where its one word asks for that.

@@ -39,6 +39,9 @@ pub trait Files {
     /// The bytes under a name, where the source tells them. No call changes them.
     ghost told: { Self → List ℕ → Option (List ℕ) };
 
+    /// The bytes that a fetch of at most so many under a name gives. No clause says where they come from.
+    ghost gives: { Self → List ℕ → ℕ → List ℕ → Type 0 };
+
     /// How often a fetch has failed. The count never falls.
     ghost faults: { Self → ℕ };
 
@@ -51,6 +54,9 @@ pub trait Files {
         ensures bytes { IfOk result (λ b. IfSome (told self.old name.now) (λ xs. b.items ≡ take most xs)) }
         ensures fits { IfOk result (λ b. length b.items ≤ most) }
         ensures told { (n : List ℕ) → told self.new n ≡ told self.old n }
+        // The bytes are what such a fetch gives; afterwards no fetch gives anything else.
+        ensures gave { IfOk result (λ b. gives self.old name.now most b.items) }
+        ensures same { (n : List ℕ) (k : ℕ) (b : List ℕ) → gives self.new n k b → gives self.old n k b }
         ensures rose { IsErrOf result FetchErr.Failed → Rose (faults self.old) (faults self.new) }
         ensures failed { IsErrOf result FetchErr.Failed → failed self.new ≡ Some name.now }
         ensures quiet { (IsErrOf result FetchErr.Failed → ⊥)

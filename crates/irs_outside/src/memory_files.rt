@@ -2,7 +2,7 @@
 //! library.
 ghost use Rattle.std.specs.Prelude.{◌≡◌, ◌≢◌, ℕ, ◌≤◌, List, [], ◌∷◌, ◌++◌, length, take, Some, None, IfOk};
 ghost use Rattle.std.specs.Prelude.{IfSome, IsErrOf, OnOk, OnErr};
-ghost use Rattle.irs_outside.specs.Outside.{Rose, next_count};
+ghost use Rattle.irs_outside.specs.Outside.{IsFrontUnder, Rose, next_count};
 ghost use Rattle.irs_outside.specs.MemFiles.{file_under, marked_calls, calls_so_far, faults_so_far, last_failed};
 ghost use Rattle.irs_outside.specs.MemFiles.{IsMarked};
 
@@ -71,6 +71,8 @@ impl MemFiles {
 impl Files for MemFiles {
     ghost told = { file_under };
 
+    ghost gives = { λ m name most bytes. IsFrontUnder (file_under m name) most bytes };
+
     ghost faults = { faults_so_far };
 
     ghost failed = { last_failed };
@@ -80,6 +82,9 @@ impl Files for MemFiles {
         ensures bytes { IfOk result (λ b. IfSome (file_under self.old name.now) (λ xs. b.items ≡ take most xs)) }
         ensures fits { IfOk result (λ b. length b.items ≤ most) }
         ensures told { (n : List ℕ) → file_under self.new n ≡ file_under self.old n }
+        ensures gave { IfOk result (λ b. IsFrontUnder (file_under self.old name.now) most b.items) }
+        ensures same { (n : List ℕ) (k : ℕ) (b : List ℕ) → IsFrontUnder (file_under self.new n) k b
+            → IsFrontUnder (file_under self.old n) k b }
         ensures rose { IsErrOf result FetchErr.Failed → Rose (faults_so_far self.old) (faults_so_far self.new) }
         ensures failed { IsErrOf result FetchErr.Failed → last_failed self.new ≡ Some name.now }
         ensures quiet { (IsErrOf result FetchErr.Failed → ⊥)

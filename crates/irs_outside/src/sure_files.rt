@@ -36,9 +36,11 @@ impl SureFiles {
 }
 
 impl Files for SureFiles {
-    ghost use Rattle.std.specs.Prelude.{Some, None};
+    ghost use Rattle.std.specs.Prelude.{◌≡◌, take, Some, None};
 
     ghost told = { λ m name. Some (sure_file m name) };
+
+    ghost gives = { λ m name most bytes. bytes ≡ take most (sure_file m name) };
 
     ghost faults = { λ m. 0 };
 

@@ -2,3 +2,4 @@ pub mod TableLaws
 pub mod KeptLemmas
 pub mod StatusLemmas
 pub mod CutLemmas
+pub mod ShownLaws

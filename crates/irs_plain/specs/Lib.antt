@@ -5,3 +5,4 @@ pub mod Lookup
 pub mod Words
 pub mod Sentences
 pub mod Kept
+pub mod Shown

@@ -126,7 +126,7 @@ told words status line =
     else (if status == 2 then refused line
     else (if status == 3 then bad_file words line
     else (if status == 4 then codes "these words are no listed command: " ∷ codes "irs --help lists them" ∷ []
-    else (if status == 5 then codes "no such file: " ∷ named words (third line) ∷ []
+    else (if status == 5 then codes "couldn't be read: " ∷ named words (third line) ∷ []
     else (if status == 6 then codes "the text couldn't be written to standard output" ∷ []
     else (if status == 7 then codes "there wasn't enough memory" ∷ []
     else (if status == 8 then named words (third line) ∷ codes " has more than 4,194,304 bytes" ∷ []

@@ -8,10 +8,12 @@ mod help;
 mod kept;
 mod lines;
 mod lookup;
+mod shown;
 mod table;
 mod words;
 
 pub use help::{COMMANDS, HELP, VERSION};
 pub use kept::Kept;
 pub use lines::{Sentence, meaning};
+pub use shown::shown_words;
 pub use table::rules_listed;

@@ -303,7 +303,7 @@ fn told<'a>(words: &'a [String], status: u8, line: &'a [u8]) -> Sentence<'a>
             b"irs --help lists them",
             b"",
         ),
-        Some(Status::NoFile) => short(b"no such file: ", named(words, third(line)), b""),
+        Some(Status::NoFile) => short(b"couldn't be read: ", named(words, third(line)), b""),
         Some(Status::PutFailed) => short(
             b"the text couldn't be written to standard output",
             b"",

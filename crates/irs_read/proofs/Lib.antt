@@ -9,3 +9,4 @@ pub mod Words
 pub mod Streams
 pub mod LawfulSwaps
 pub mod StatedTables
+pub mod Outcomes

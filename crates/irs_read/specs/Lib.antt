@@ -6,3 +6,4 @@ pub mod References
 pub mod Meaning
 pub mod Reading
 pub mod Stated
+pub mod Outcomes

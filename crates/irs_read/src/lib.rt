@@ -12,7 +12,7 @@ mod swap;
 mod table;
 
 pub use document::{first_in_document, the_swap};
-pub use reader::{ReadErr, read_swap};
+pub use reader::{ReadErr, read_swap, swap_of_document_is_determined};
 pub use table::{
     NAMES, ROWS, SWAP_NAMES, SWAP_ROWS, lines_follow, rows_whole, swap_rows_whole, tables_listed,
 };

@@ -1,7 +1,10 @@
 //! Reading a trade's document: the swap that it spells, or the first rule that it breaks.
 ghost use Rattle.irs_base.specs.Faults.{IfBroken};
 ghost use Rattle.irs_base.specs.Order.{First, is_before};
+ghost use Rattle.irs_base.specs.Outcomes.{Determined, IfMemory};
+ghost use Rattle.irs_base.specs.declared.places.Broken.{Broken as BrokenRule};
 ghost use Rattle.irs_read.specs.Documents.{DocumentFault};
+ghost use Rattle.irs_read.specs.Outcomes.{swap_of_document};
 ghost use Rattle.irs_read.specs.Reading.{Means};
 ghost use Rattle.irs_read.specs.Stated.{EachStated};
 ghost use Rattle.irs_terms.specs.Lawful.{IsLawful};
@@ -21,15 +24,27 @@ pub type ReadErr = Stopped<Broken>;
 
 /// The swap that a document spells. Its terms are lawful; what must stand in the document stands
 /// there, and each leaf has a value of its kind, so no default stands in for what must be said.
-/// `Broken` tells the first broken rule of K2 to K7; no swap is answered where one is broken.
+/// `Broken` reports the first broken rule of K2 to K7; no swap is returned where one is broken. `Memory`
+/// comes only for a document that breaks none.
 pub fn read_swap(alloc: Global, v: &Value) -> Result<Swap, ReadErr>
     ensures means { IfOk result (λ swap. Means (view v.now) swap) }
     ensures lawful { IfOk result (λ swap. IsLawful swap) }
     ensures stated { IfOk result (λ _. EachStated (view v.now)) }
     ensures broken { IfBroken result (First is_before (DocumentFault (view v.now))) }
+    // Running out of memory hides no broken rule.
+    ensures memory { IfMemory result ((f : BrokenRule) → DocumentFault (view v.now) f → ⊥) }
 {
     match clean_swap(v) {
         Err(broken) => Err(ReadErr::Broken(broken)),
         Ok(found) => Ok(swap_of(alloc, found)?),
     }
+}
+
+/// A law: a document means one swap and breaks no rule of K2 to K7, or one rule is the first that it
+/// breaks.
+pub fn swap_of_document_is_determined(v: &Value)
+    ensures { Determined (swap_of_document (view v.now)) }
+{
+    // hands the prover a right outcome
+    let _outcome = clean_swap(v);
 }

@@ -1,0 +1,7 @@
+use Rattle.std.proofs.Common.{◌≡◌, string_bytes}
+use Rattle.std.specs.List.{flat_map}
+use Rattle.irs_plain.specs.Shown.{shown_char}
+use Rattle.irs_plain.proofs.shown.shown.Given as goal
+
+abbrev pub invariant-loop-c : goal.invariant-loop-c
+invariant-loop-c l = string_bytes l.shown ≡ flat_map shown_char l.yielded

@@ -1,0 +1,51 @@
+-- Reading a document has one outcome: it means one swap, or one rule is the first that it breaks.
+use Rattle.std.proofs.Common.{◌≡◌, Result, Ok, Err, refl, sym, ap, ◌∙◌}
+use Rattle.std.specs.Borrow.{Bor}
+use Rattle.std.specs.Prelude.{IfErr, IfOk}
+use Rattle.irs_base.specs.Order.{First, is_before}
+use Rattle.irs_base.specs.Outcomes.{Determined, answered, refused}
+use Rattle.irs_base.specs.declared.places.Broken.{Broken}
+use Rattle.irs_base.proofs.FaultOrder.{broken_ties}
+use Rattle.irs_base.proofs.Firsts.{one_first}
+use Rattle.irs_read.specs.Documents.{DocumentFault, Way, the_swap}
+use Rattle.irs_read.specs.Meaning.{swap_in}
+use Rattle.irs_read.specs.Outcomes.{swap_of_document}
+use Rattle.irs_read.specs.Reading.{Means}
+use Rattle.irs_terms.specs.declared.stream_list.Swap.{Swap}
+use Rattle.serde_json.specs.Data.{Data}
+use Rattle.serde_json.specs.View.{view}
+use Rattle.serde_json.specs.declared.value.Value.{Value}
+
+-- what the way leads to, or d where a rule ends it
+end_or : Data → Way → Data
+end_or d (Ok at) = at
+end_or d (Err f) = d
+
+-- a document means one swap at most
+one_meaning : (d : Data) (s t : Swap) → Means d s → Means d t → s ≡ t
+one_meaning d s t p q = p.says ∙ ap swap_in (ap (end_or d) (sym p.found ∙ q.found)) ∙ sym q.says
+
+-- the document breaks no rule, and its swap is there
+clean_determined : (d at : Data) → the_swap d ≡ Ok at → ((f : Broken) → DocumentFault d f → ⊥)
+    → Determined (swap_of_document d)
+clean_determined d at found clean =
+    let means : Means d (swap_in at) = record { clean = clean; at = at; found = found; says = refl } in
+    answered (swap_in at)
+    (record { is = means; only = λ s h. one_meaning d s (swap_in at) h means })
+    (λ f first. clean f first.0)
+
+-- a rule is the first that the document breaks
+broken_determined : (d : Data) (f : Broken) → First is_before (DocumentFault d) f → Determined (swap_of_document d)
+broken_determined d f first =
+    refused f
+    (record { is = first; only = λ g h. one_first is_before broken_ties (DocumentFault d) g f h first })
+    (λ s means. means.clean f first.0)
+
+-- the way to the swap was taken, and the rules were considered: one outcome is left
+pub document_determined : (d : Data) (outcome : Result (Bor Value) Broken)
+    → IfOk outcome (λ swap. the_swap d ≡ Ok (view swap.now))
+    → IfOk outcome (λ _. (f : Broken) → DocumentFault d f → ⊥)
+    → IfErr outcome (First is_before (DocumentFault d))
+    → Determined (swap_of_document d)
+document_determined d (Ok swap) found clean broken = clean_determined d (view swap.now) found clean
+document_determined d (Err f) found clean broken = broken_determined d f broken
