@@ -9,9 +9,12 @@ use Rattle.irs_base.specs.Order.{First, Only, is_before}
 use Rattle.irs_base.specs.declared.places.Broken.{Broken}
 use Rattle.irs_base.specs.declared.stopped.Stopped.{Stopped}
 use Rattle.irs_base.specs.declared.stopped.Stopped.TheVariants as stopped
-use Rattle.irs_json.specs.Reading.{Reads}
-use Rattle.irs_json.specs.declared.reading.JsonErr.{JsonErr}
-use Rattle.irs_json.specs.declared.reading.JsonErr.TheVariants as json
+use Rattle.irs_xml.proofs.TextLaws.{reads_one}
+use Rattle.irs_answers.specs.Forms.{IsReadable, ReadsAs, Spelt, Written}
+use Rattle.irs_answers.specs.declared.forms.Form.{Form}
+use Rattle.irs_answers.specs.declared.forms.Form.TheVariants.{Json, Xml}
+use Rattle.irs_answers.specs.declared.forms.ReadErr.{ReadErr}
+use Rattle.irs_answers.specs.declared.forms.ReadErr.TheVariants as reading
 use Rattle.irs_read.specs.Documents.{DocumentFault}
 use Rattle.irs_read.specs.Meaning.{streams_in, swap_in}
 use Rattle.irs_read.specs.Reading.{Means}
@@ -47,11 +50,11 @@ use Rattle.irs_answers.specs.Given.{Given}
 use Rattle.irs_answers.specs.Replying.{reply_status, reply_text}
 use Rattle.irs_answers.specs.Messages.{refused, unreadable, bad_calendar, bad_fixings}
 use Rattle.irs_answers.specs.Steps.{Is, Refuses}
-use Rattle.irs_answers.specs.Due.{IsJson, Spells, AreFixings, BadCalendars, BadFixings, BreaksSides, BreaksSidesIf}
+use Rattle.irs_answers.specs.Due.{Spells, AreFixings, BadCalendars, BadFixings, BreaksSides, BreaksSidesIf}
 use Rattle.irs_answers.specs.Due.{HasSides, IsFixingsFault, KeepsTerms, SidesIf, Facts, facts, Answered, rates_for}
 use Rattle.irs_answers.specs.Due.{DueKept, DueDated, DueTerms, DueFixings, DueCalendars, DueSides, DueDocument, DueFor}
 use Rattle.irs_answers.specs.Due.{Passes}
-use Rattle.irs_answers.specs.Outcomes.{Answer, answer_of, of_json, of_stopped, Ends, FixingsFail, IfRefused, IfAnswered}
+use Rattle.irs_answers.specs.Outcomes.{Answer, answer_of, of_read, of_stopped, Ends, FixingsFail, IfRefused, IfAnswered}
 use Rattle.irs_answers.specs.Outcomes.{IsRuleFirst, IsUnscheduled, IsScheduled}
 use Rattle.irs_answers.proofs.FirstLemmas.{one_first, one_fixings_fault, no_fixings}
 use Rattle.irs_answers.proofs.SameRates.{SameRates, same_back, same_file, schedule_same, kept_same, first_same_table}
@@ -61,8 +64,12 @@ use Rattle.irs_answers.proofs.StepLemmas.{rules_more}
 
 -- ---- the files say one thing
 
-pub one_reading : (bytes : List ℕ) (v w : Data) → Reads bytes v → Reads bytes w → w ≡ v
-one_reading bytes v w h k = same_Some w v (sym k.1 ∙ h.1)
+one_as : (form : Form) (bytes : List ℕ) (v w : Data) → ReadsAs form bytes v → ReadsAs form bytes w → w ≡ v
+one_as Json bytes v w h k = same_Some w v (sym k.1 ∙ h.1)
+one_as Xml bytes v w h k = reads_one bytes w v k h
+
+pub one_reading : (t : Written) (v w : Data) → Spelt t v → Spelt t w → w ≡ v
+one_reading t v w h k = one_as t.form t.bytes v w h k
 
 same_ok : {A E : Type 0} (x y : A) → (let r : Result A E = Ok x in r ≡ Ok y) → x ≡ y
 same_ok x y e = cc
@@ -188,9 +195,9 @@ module _ (t : Task) (g : Given) (swap : Swap) (sides : Option Sides) (cal : List
 -- ---- each step that is passed
 
 module _ (t : Task) (g : Given) (status : ℕ) (text : List ℕ) where
-  pub in_json : (v : Data) → Reads g.document v → DueDocument t g v status text → DueFor t g status text
-  in_json v is h =
-      read (Reads g.document) (Is 2 (refused unreadable) status text) (λ w. DueDocument t g w status text) v is
+  pub in_text : (v : Data) → Spelt g.document v → DueDocument t g v status text → DueFor t g status text
+  in_text v is h =
+      read (Spelt g.document) (Is 2 (refused unreadable) status text) (λ w. DueDocument t g w status text) v is
       (λ w other. subst (λ (x : Data). DueDocument t g x status text) (sym (one_reading g.document v w is other)) h)
 
   pub in_swap : (v : Data) (swap : Swap) → Means v swap → DueSides t g v swap status text
@@ -210,7 +217,7 @@ module _ (t : Task) (g : Given) (status : ℕ) (text : List ℕ) where
   pub in_document : (swap : Swap) (sides : Option Sides) → Spells t g.document swap sides
       → DueCalendars t g swap sides status text → DueFor t g status text
   in_document swap sides s h =
-      in_json s.value s.reads (in_swap s.value swap s.means (in_sides s.value swap sides s.has_sides h))
+      in_text s.value s.reads (in_swap s.value swap s.means (in_sides s.value swap sides s.has_sides h))
 
   pub in_calendars : (swap : Swap) (sides : Option Sides) (cal : List Section) → CalFiles g.calendars cal
       → DueFixings t g swap sides cal status text → DueCalendars t g swap sides status text
@@ -256,9 +263,9 @@ passed_answer t g f r p h =
 -- ---- the step that fails
 
 module _ (t : Task) (g : Given) where
-  at_json : (IsJson g.document → ⊥) → DueFor t g 2 (refused unreadable)
-  at_json never =
-      unread (Reads g.document) (Is 2 (refused unreadable) 2 (refused unreadable))
+  at_text : (IsReadable g.document → ⊥) → DueFor t g 2 (refused unreadable)
+  at_text never =
+      unread (Spelt g.document) (Is 2 (refused unreadable) 2 (refused unreadable))
       (λ v. DueDocument t g v 2 (refused unreadable)) (λ v reads. never (v, reads)) (refl, refl)
 
   at_document : (v : Data) (b : Broken) → First is_before (DocumentFault v) b → DueDocument t g v 2 (refused b)
@@ -318,23 +325,23 @@ module _ (t : Task) (g : Given) where
 
   -- ---- the errors of the calls are what is due
 
-  pub refuse_json : (e : JsonErr) → (e ≡ json.NotJson → (v : Data) → Reads g.document v → ⊥)
-      → IfRefused (of_json e) (Ends (DueFor t g))
-  refuse_json json.NotJson h = record { due = at_json (λ k. h refl k.0 k.1); verdict = omega arith }
-  refuse_json json.Memory h = tt
+  pub refuse_text : (e : ReadErr) → (e ≡ reading.Unreadable → (v : Data) → Spelt g.document v → ⊥)
+      → IfRefused (of_read e) (Ends (DueFor t g))
+  refuse_text reading.Unreadable h = record { due = at_text (λ k. h refl k.0 k.1); verdict = omega arith }
+  refuse_text reading.Memory h = tt
 
-  pub refuse_read : (v : Data) (e : Stopped Broken) → Reads g.document v
+  pub refuse_read : (v : Data) (e : Stopped Broken) → Spelt g.document v
       → IfStopped e (First is_before (DocumentFault v)) → IfRefused (of_stopped e) (Ends (DueFor t g))
   refuse_read v (stopped.Broken b) reads first =
-      record { due = in_json t g 2 (refused b) v reads (at_document v b first); verdict = omega arith }
+      record { due = in_text t g 2 (refused b) v reads (at_document v b first); verdict = omega arith }
   refuse_read v stopped.Memory reads first = tt
 
-  pub refuse_sides : (v : Data) (swap : Swap) (b : Broken) → Reads g.document v → Means v swap → BreaksSides t v b
+  pub refuse_sides : (v : Data) (swap : Swap) (b : Broken) → Spelt g.document v → Means v swap → BreaksSides t v b
       → IfRefused (Rule b) (Ends (DueFor t g))
   refuse_sides v swap b reads means first =
       record {
         due =
-            in_json t g 2 (refused b) v reads (in_swap t g 2 (refused b) v swap means (at_sides v swap b first));
+            in_text t g 2 (refused b) v reads (in_swap t g 2 (refused b) v swap means (at_sides v swap b first));
         verdict =
             omega arith;
       }

@@ -5,7 +5,7 @@ use Rattle.std.specs.Result.{IsErrAnd}
 use Rattle.serde_json.specs.Data.{Data}
 use Rattle.irs_base.specs.declared.places.Broken.{Broken}
 use Rattle.irs_base.specs.declared.places.Place.{Place}
-use Rattle.irs_json.specs.Reading.{Reads}
+use Rattle.irs_answers.specs.Forms.{IsReadable, Spelt, Written}
 use Rattle.irs_schedule.specs.Parts.{Part}
 use Rattle.irs_audit.specs.FlowFaults.{FlowFault}
 use Rattle.irs_audit.specs.FlowMeaning.{streams_in}
@@ -19,7 +19,7 @@ use Rattle.irs_audit.specs.declared.error.FlowErr.TheVariants as flowing
 use Rattle.irs_audit.specs.declared.error.ShapeKind.{ShapeKind}
 use Rattle.irs_audit.specs.declared.error.ShapeKind.TheVariants.{NotJson}
 use Rattle.irs_answers.specs.declared.refusals.Refusal.TheVariants.{Flows}
-use Rattle.irs_answers.specs.Due.{IsJson, DueFlows, DueStated, DueVerdict}
+use Rattle.irs_answers.specs.Due.{DueFlows, DueStated, DueVerdict}
 use Rattle.irs_answers.specs.Steps.{Is}
 use Rattle.irs_answers.specs.FlowMessages.{bad_flows, whole_document, verdict_status, verdict_text}
 use Rattle.irs_answers.specs.Outcomes.{Ends, FlowsFail, IfRefused, SpellsFlows}
@@ -28,16 +28,16 @@ use Rattle.irs_answers.proofs.FirstLemmas.{one_first}
 use Rattle.irs_answers.proofs.StepLemmas.{read, unread}
 use Rattle.irs_base.specs.Order.{First, Only, is_before}
 
-at_json : (bytes : List ℕ) (s : List Part) → (IsJson bytes → ⊥) → DueFlows bytes s 3 (bad_flows NotJson whole_document)
-at_json bytes s never =
+at_text : (file : Written) (s : List Part) → (IsReadable file → ⊥) → DueFlows file s 3 (bad_flows NotJson whole_document)
+at_text file s never =
     let text = bad_flows NotJson whole_document in
-    unread (Reads bytes) (Is 3 text 3 text) (λ v. DueStated v s 3 text) (λ v reads. never (v, reads)) (refl, refl)
+    unread (Spelt file) (Is 3 text 3 text) (λ v. DueStated v s 3 text) (λ v reads. never (v, reads)) (refl, refl)
 
-in_json : (bytes : List ℕ) (s : List Part) (v : Data) (status : ℕ) (text : List ℕ) → Reads bytes v
-    → DueStated v s status text → DueFlows bytes s status text
-in_json bytes s v status text reads h =
-    read (Reads bytes) (Is 3 (bad_flows NotJson whole_document) status text) (λ w. DueStated w s status text) v reads
-    (λ w other. subst (λ (x : Data). DueStated x s status text) (sym (one_reading bytes v w reads other)) h)
+in_text : (file : Written) (s : List Part) (v : Data) (status : ℕ) (text : List ℕ) → Spelt file v
+    → DueStated v s status text → DueFlows file s status text
+in_text file s v status text reads h =
+    read (Spelt file) (Is 3 (bad_flows NotJson whole_document) status text) (λ w. DueStated w s status text) v reads
+    (λ w other. subst (λ (x : Data). DueStated x s status text) (sym (one_reading file v w reads other)) h)
 
 abbrev Faulty : Data → ℕ → List ℕ → Type 0
 Faulty v status text =
@@ -53,19 +53,19 @@ at_fault s v b first =
       (refl, refl),
     )
 
-due_shape : (bytes : List ℕ) (s : List Part) (v : Data) (how : ShapeKind) (place : Place) → Reads bytes v
-    → IsFirstShape v how place → DueFlows bytes s 3 (bad_flows how place)
-due_shape bytes s v how place reads h =
+due_shape : (file : Written) (s : List Part) (v : Data) (how : ShapeKind) (place : Place) → Spelt file v
+    → IsFirstShape v how place → DueFlows file s 3 (bad_flows how place)
+due_shape file s v how place reads h =
     rw (h.kind_is, h.place_is)
-    (in_json bytes s v 3 (bad_flows (kind_of h.fault.rule) h.fault.place) reads (at_fault s v h.fault h.first))
+    (in_text file s v 3 (bad_flows (kind_of h.fault.rule) h.fault.place) reads (at_fault s v h.fault h.first))
 
-pub refuse_flows : (bytes : List ℕ) (s : List Part) (e : FlowErr) → FlowsFail bytes e
-    → IfRefused (Flows e) (Ends (DueFlows bytes s))
-refuse_flows bytes s (flowing.Shape how place) (inl h) =
-    rw (h.1, h.2) (record { due = at_json bytes s h.0; verdict = omega arith })
-refuse_flows bytes s (flowing.Shape how place) (inr h) =
-    record { due = due_shape bytes s h.0 how place h.1 h.2; verdict = omega arith }
-refuse_flows bytes s flowing.Memory h = tt
+pub refuse_flows : (file : Written) (s : List Part) (e : FlowErr) → FlowsFail file e
+    → IfRefused (Flows e) (Ends (DueFlows file s))
+refuse_flows file s (flowing.Shape how place) (inl h) =
+    rw (h.1, h.2) (record { due = at_text file s h.0; verdict = omega arith })
+refuse_flows file s (flowing.Shape how place) (inr h) =
+    record { due = due_shape file s h.0 how place h.1 h.2; verdict = omega arith }
+refuse_flows file s flowing.Memory h = tt
 
 -- the flows that a file states are one list
 same_ok : {E : Type 0} (x y : Data) → (let r : Result Data E = Ok x in r ≡ Ok y) → x ≡ y
@@ -80,10 +80,10 @@ verdict_low : (w : Verdict) → verdict_status w < 4
 verdict_low (Yes rows unfixed) = omega arith
 verdict_low (No d) = omega arith
 
-pub due_verdict : (bytes : List ℕ) (s : List Part) (flows : List FlowPart) (w : Verdict) → SpellsFlows bytes flows
+pub due_verdict : (file : Written) (s : List Part) (flows : List FlowPart) (w : Verdict) → SpellsFlows file flows
     → IsVerdict flows s w → ((o : Verdict) → IsVerdict flows s o → o ≡ w)
-    → Ends (DueFlows bytes s) (verdict_status w) (verdict_text w)
-due_verdict bytes s flows w spells is only =
+    → Ends (DueFlows file s) (verdict_status w) (verdict_text w)
+due_verdict file s flows w spells is only =
     let v = spells.0 in
     let status = verdict_status w in
     let text = verdict_text w in
@@ -92,7 +92,7 @@ due_verdict bytes s flows w spells is only =
     read (FlowsOf v) (Faulty v status text) (λ f. DueVerdict f s status text) flows spells.2
     (λ f of. subst (λ (x : List FlowPart). DueVerdict x s status text)
     (sym (one_flows v flows f spells.2 of)) due) in
-    record { due = in_json bytes s v status text spells.1 stated; verdict = verdict_low w }
+    record { due = in_text file s v status text spells.1 stated; verdict = verdict_low w }
 
 -- an error that is handed on
 pub failed_by : {A : Type 0} (r : Result A FlowErr) (e : FlowErr) (P : FlowErr → Type 0) → IsErr r

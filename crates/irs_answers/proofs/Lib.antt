@@ -6,6 +6,8 @@ pub mod StepLemmas
 pub mod SameDerived
 pub mod DerivedSame
 pub mod DueLemmas
+pub mod XmlValues
+pub mod CarrierLemmas
 pub mod PassLemmas
 pub mod FileLimits
 pub mod AccrueLemmas

@@ -5,7 +5,7 @@ use Rattle.irs_base.specs.PathList.{paths, printed}
 use Rattle.irs_base.specs.Paths.{path_of}
 use Rattle.irs_answers.specs.Messages.{refused, unreadable}
 
--- the line of a document without a JSON reading
+-- the line of a document without a reading
 pub refused_unreadable : refused unreadable ≡ codes "refused K1 0 document 0\n"
 unfolding path_of printed paths
 refused_unreadable = rw (decimal_digit 1 (omega arith), decimal_digit 0 (omega arith)) refl

@@ -4,7 +4,8 @@ use Rattle.std.proofs.lemmas.Option.{same_Some}
 use Rattle.serde_json.specs.Data.{Data}
 use Rattle.irs_base.specs.Order.{First, Only, is_before}
 use Rattle.irs_base.specs.declared.places.Broken.{Broken}
-use Rattle.irs_json.specs.Reading.{Reads}
+use Rattle.irs_answers.specs.Forms.{Spelt, Written}
+use Rattle.irs_xml.specs.Document.{XmlReads}
 use Rattle.irs_audit.specs.FlowFaults.{FlowFault}
 use Rattle.irs_audit.specs.FlowParts.{FlowPart}
 use Rattle.irs_audit.specs.FlowReading.{FlowsOf, kind_of}
@@ -40,6 +41,7 @@ use Rattle.irs_terms.specs.declared.frequency.Frequency.{Frequency}
 use Rattle.irs_answers.specs.declared.tasks.Task.{Task}
 use Rattle.irs_answers.specs.declared.tasks.Task.TheVariants.{Check, Schedule, Audit, Emit, Accrue, Net as OfNet}
 use Rattle.irs_answers.specs.declared.tasks.Task.TheVariants.{Overnight, Average, Interpolate}
+use Rattle.irs_answers.specs.Carried.{DueCarrier, carrier_text}
 use Rattle.irs_answers.specs.Given.{Given}
 use Rattle.irs_answers.specs.Messages.{all_kept, refused, unreadable, bad_calendar, bad_fixings}
 use Rattle.irs_answers.specs.Steps.{Is, Refuses, Rules}
@@ -89,10 +91,10 @@ module _ (s u : ℕ) (t v : List ℕ) where
       step_both (FlowsOf w) (Faulty w s t) (Faulty w u v) (λ f. DueVerdict f p s t) (λ f. DueVerdict f p u v)
       (one_fault w) (one_verdict p) h k
 
-  one_flows : (bytes : List ℕ) (p : List Part) → DueFlows bytes p s t → DueFlows bytes p u v → Same
-  one_flows bytes p h k =
+  one_flows : (x : Written) (p : List Part) → DueFlows x p s t → DueFlows x p u v → Same
+  one_flows x p h k =
       let text = bad_flows NotJson whole_document in
-      step_both (Reads bytes) (Is 3 text s t) (Is 3 text u v) (λ w. DueStated w p s t) (λ w. DueStated w p u v)
+      step_both (Spelt x) (Is 3 text s t) (Is 3 text u v) (λ w. DueStated w p s t) (λ w. DueStated w p u v)
       (both 3 text) (one_stated p) h k
 
   one_netted : (sides : Option Sides) (p : List Part) → TellsNet sides p t → TellsNet sides p v → t ≡ v
@@ -226,8 +228,16 @@ module _ (s u : ℕ) (t v : List ℕ) where
 
     one_for : DueFor task g s t → DueFor task g u v → Same
     one_for h k =
-        step_both (Reads g.document) (Is 2 (refused unreadable) s t) (Is 2 (refused unreadable) u v)
+        step_both (Spelt g.document) (Is 2 (refused unreadable) s t) (Is 2 (refused unreadable) u v)
         (λ w. DueDocument task g w s t) (λ w. DueDocument task g w u v) (both 2 (refused unreadable)) one_document h k
+
+-- one status and one text are due for a carrier
+pub one_carrier : (s u : ℕ) (t v : List ℕ) (bytes : List ℕ) → DueCarrier bytes s t → DueCarrier bytes u v
+    → (s ≡ u) × (t ≡ v)
+one_carrier s u t v bytes h k =
+    step_both (XmlReads bytes) (Is 2 (refused unreadable) s t) (Is 2 (refused unreadable) u v)
+    (λ w. Is 0 (carrier_text w) s t) (λ w. Is 0 (carrier_text w) u v) (both s u t v 2 (refused unreadable))
+    (λ w. both s u t v 0 (carrier_text w)) h k
 
 pub one_due : (task : Task) (g : Given) → IsOneDue task g
 one_due task g s u t v h k = one_for s u t v task g h k

@@ -2,7 +2,6 @@
 use Rattle.std.specs.Prelude.{◌≡◌, ℕ, List, [], Option, Some, None, Bool, true, false, if◌then◌else◌}
 use Rattle.serde_json.specs.Data.{Data}
 use Rattle.irs_base.specs.declared.places.Broken.{Broken}
-use Rattle.irs_json.specs.Reading.{Reads}
 use Rattle.irs_read.specs.Documents.{DocumentFault}
 use Rattle.irs_read.specs.Reading.{Means}
 use Rattle.irs_terms.specs.declared.stream_list.Swap.{Swap}
@@ -32,6 +31,7 @@ use Rattle.irs_answers.specs.declared.tasks.Task.{Task}
 use Rattle.irs_answers.specs.declared.tasks.Task.TheVariants.{Check, Schedule, Audit, Emit, Accrue, Net, Overnight}
 use Rattle.irs_answers.specs.declared.tasks.Task.TheVariants.{Average, Interpolate}
 use Rattle.irs_answers.specs.Tasks.{nets, uses_rates}
+use Rattle.irs_answers.specs.Forms.{Spelt, Written}
 use Rattle.irs_answers.specs.Given.{Given}
 use Rattle.irs_answers.specs.Messages.{refused, unreadable, bad_calendar, bad_fixings, all_kept}
 use Rattle.irs_answers.specs.Steps.{Is, Refuses, Rules, Step}
@@ -39,10 +39,6 @@ use Rattle.irs_answers.specs.Derived.{DueAverage, DueInterpolate, DueOvernight}
 use Rattle.irs_answers.specs.Netted.{TellsNet}
 use Rattle.irs_net.specs.Parties.{BreaksK8Of, SidesOf}
 use Rattle.irs_net.specs.declared.sides.Sides.{Sides}
-
--- the bytes have a JSON reading
-abbrev pub IsJson : List ℕ → Type 0
-IsJson bytes = (v : Data) × Reads bytes v
 
 -- the rates of a file of fixings, none without one
 abbrev pub AreFixings : Option (List ℕ) → RateTable → Type 0
@@ -100,16 +96,16 @@ abbrev pub DueVerdict : List FlowPart → List Part → ℕ → List ℕ → Typ
 DueVerdict flows s status text =
     (w : Verdict) × Only (IsVerdict flows s) w × Is (verdict_status w) (verdict_text w) status text
 
--- the flows have a JSON reading: its first fault, or the flows that it states
+-- the flows have a reading: its first fault, or the flows that it states
 abbrev pub DueStated : Data → List Part → ℕ → List ℕ → Type 0
 DueStated v s status text =
     Step (FlowsOf v) ((b : Broken) × Only (First is_before (FlowFault v)) b
     × Is 3 (bad_flows (kind_of b.rule) b.place) status text) (λ flows. DueVerdict flows s status text)
 
--- what is due for the bytes of flows against a schedule
-abbrev pub DueFlows : List ℕ → List Part → ℕ → List ℕ → Type 0
-DueFlows bytes s status text =
-    Step (Reads bytes) (Is 3 (bad_flows NotJson whole_document) status text) (λ v. DueStated v s status text)
+-- what is due for the text of flows against a schedule
+abbrev pub DueFlows : Written → List Part → ℕ → List ℕ → Type 0
+DueFlows w s status text =
+    Step (Spelt w) (Is 3 (bad_flows NotJson whole_document) status text) (λ v. DueStated v s status text)
 
 -- what is due for a task where no rule is broken and the schedule is the only one
 abbrev pub Answered : Task → Given → Facts → ℕ → List ℕ → Type 0
@@ -176,16 +172,16 @@ DueDocument t g v status text =
 -- what is due for a task and its files; K1: the document has no reading
 abbrev pub DueFor : Task → Given → ℕ → List ℕ → Type 0
 DueFor t g status text =
-    Step (Reads g.document) (Is 2 (refused unreadable) status text) (λ v. DueDocument t g v status text)
+    Step (Spelt g.document) (Is 2 (refused unreadable) status text) (λ v. DueDocument t g v status text)
 
 -- one status and one text are due for a task and its files
 abbrev pub IsOneDue : Task → Given → Type 0
 IsOneDue t g = (s u : ℕ) (x y : List ℕ) → DueFor t g s x → DueFor t g u y → (s ≡ u) × (x ≡ y)
 
--- the bytes have a reading, it means the swap, and these are the sides that the task asks for
-pub record Spells (t : Task) (bytes : List ℕ) (swap : Swap) (sides : Option Sides) : Type 0 where
+-- the text has a reading, it means the swap, and these are the sides that the task asks for
+pub record Spells (t : Task) (document : Written) (swap : Swap) (sides : Option Sides) : Type 0 where
   pub value : Data
-  pub reads : Reads bytes value
+  pub reads : Spelt document value
   pub means : Means value swap
   pub has_sides : HasSides t value sides
 

@@ -1,6 +1,7 @@
 -- The files of a task, by what they are to it.
 use Rattle.std.specs.Prelude.{ℕ, ◌+◌, ◌<◌, ◌≤◌, List, [], length, map, All, Option, None, option_map, IfSome}
 use Rattle.irs_base.specs.Limits.{most_bytes, most_files}
+use Rattle.irs_answers.specs.Forms.{Written, no_text, written_by}
 use Rattle.irs_answers.specs.declared.files.TaskFiles.{TaskFiles}
 
 -- one byte more than a file may have
@@ -11,25 +12,24 @@ too_many = most_bytes + 1
 abbrev pub most_calendars : ℕ
 most_calendars = most_files
 
--- the bytes of the files
+-- the files: the texts of the document and of the flows, and the bytes of the others
 pub record Given : Type 0 where
-  pub document : List ℕ
+  pub document : Written
   pub fixings : Option (List ℕ)
-  pub flows : List ℕ
+  pub flows : Written
   pub calendars : List (List ℕ)
 
 -- no file
 abbrev pub no_files : Given
-no_files = record { document = []; fixings = None; flows = []; calendars = [] }
+no_files = record { document = no_text; fixings = None; flows = no_text; calendars = [] }
 
 -- the files as the code keeps them
 abbrev pub given_by : TaskFiles → Given
 given_by f =
     record {
-      document = f.document.items;
+      document = written_by f.document;
       fixings = option_map (λ v. v.items) f.fixings;
-      flows =
-          f.flows.items;
+      flows = written_by f.flows;
       calendars = map (λ v. v.items) f.calendars.items;
     }
 

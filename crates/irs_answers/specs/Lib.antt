@@ -1,8 +1,10 @@
 pub mod Tasks
+pub mod Forms
 pub mod Given
 pub mod Messages
 pub mod FlowMessages
 pub mod Steps
+pub mod Carried
 pub mod Accrued
 pub mod Netted
 pub mod Derived

@@ -21,7 +21,7 @@ refused_at b path =
 abbrev pub refused : Broken → List ℕ
 refused b = refused_at b (path_of b.place.elem)
 
--- the document has no JSON reading
+-- the document has no reading
 abbrev pub unreadable : Broken
 unreadable = record { rule = K1; place = record { stream = 0; elem = document; index = 0 } }
 

@@ -6,6 +6,11 @@ use Rattle.irs_base.specs.declared.stopped.Stopped.{Stopped}
 use Rattle.irs_base.specs.declared.stopped.Stopped.TheVariants as stopped
 use Rattle.irs_json.specs.declared.JsonErr.{JsonErr}
 use Rattle.irs_json.specs.declared.JsonErr.TheVariants as json
+use Rattle.irs_xml.specs.declared.XmlErr.{XmlErr}
+use Rattle.irs_xml.specs.declared.XmlErr.TheVariants as xml
+use Rattle.irs_answers.specs.Forms.{IsReadable, Spelt, Written}
+use Rattle.irs_answers.specs.declared.forms.ReadErr.{ReadErr}
+use Rattle.irs_answers.specs.declared.forms.ReadErr.TheVariants as reading
 use Rattle.irs_calendar.specs.Calendars.{spot_of}
 use Rattle.irs_calendar.specs.declared.calendars.CalErr.{CalErr}
 use Rattle.irs_calendar.specs.declared.sections.Section.{Section}
@@ -17,7 +22,6 @@ use Rattle.irs_schedule.specs.DatedRules.{DatedKept, DatedBroken}
 use Rattle.irs_schedule.specs.Parts.{Part}
 use Rattle.irs_schedule.specs.Schedules.{IsSchedule}
 use Rattle.irs_terms.specs.declared.stream_list.Swap.{Swap}
-use Rattle.irs_json.specs.Reading.{Reads}
 use Rattle.serde_json.specs.Data.{Data}
 use Rattle.irs_audit.specs.FlowParts.{FlowPart}
 use Rattle.irs_audit.specs.FlowReading.{FlowsOf, IsFirstShape}
@@ -30,13 +34,23 @@ use Rattle.irs_answers.specs.declared.replies.Reply.{Reply}
 use Rattle.irs_answers.specs.Messages.{refused, unreadable, bad_calendar, bad_fixings}
 use Rattle.irs_answers.specs.FlowMessages.{bad_flows, whole_document}
 use Rattle.irs_answers.specs.Replying.{reply_status, reply_text}
-use Rattle.irs_answers.specs.Due.{IsJson, KeepsTerms, IsFixingsFault}
+use Rattle.irs_answers.specs.Due.{KeepsTerms, IsFixingsFault}
 use Rattle.irs_answers.specs.Steps.{Is}
 
+-- the errors of the two readers, where the place in XML is dropped
+abbrev pub of_json : JsonErr → ReadErr
+of_json json.NotJson = reading.Unreadable
+of_json json.Memory = reading.Memory
+
+-- the same of XML
+abbrev pub of_xml : XmlErr → ReadErr
+of_xml (xml.NotXml line column) = reading.Unreadable
+of_xml xml.Memory = reading.Memory
+
 -- the refusals that errors of the calls below become: a document without a reading, and want of memory
-abbrev pub of_json : JsonErr → Refusal
-of_json json.NotJson = Rule unreadable
-of_json json.Memory = Memory
+abbrev pub of_read : ReadErr → Refusal
+of_read reading.Unreadable = Rule unreadable
+of_read reading.Memory = Memory
 
 -- a document or a swap that breaks a rule, and want of memory there
 abbrev pub of_stopped : Stopped Broken → Refusal
@@ -90,16 +104,16 @@ FixingsFail bytes (fixing.Syntax line) = IsFixingsFault bytes (fixing.Syntax lin
 FixingsFail bytes (fixing.Repeat line) = IsFixingsFault bytes (fixing.Repeat line)
 FixingsFail bytes fixing.Memory = Unit {0}
 
--- the bytes have a reading, and it states the flows
-abbrev pub SpellsFlows : List ℕ → List FlowPart → Type 0
-SpellsFlows bytes flows = (v : Data) × Reads bytes v × FlowsOf v flows
+-- the text has a reading, and it states the flows
+abbrev pub SpellsFlows : Written → List FlowPart → Type 0
+SpellsFlows w flows = (v : Data) × Spelt w v × FlowsOf v flows
 
 -- an error of a file of flows tells that it has no reading, or the first fault of its reading, or of want of memory
-abbrev pub FlowsFail : List ℕ → FlowErr → Type 0
-FlowsFail bytes (flowing.Shape kind place) =
-    (¬ (IsJson bytes) × (kind ≡ NotJson) × (place ≡ whole_document))
-    ⊎ ((v : Data) × Reads bytes v × IsFirstShape v kind place)
-FlowsFail bytes flowing.Memory = Unit {0}
+abbrev pub FlowsFail : Written → FlowErr → Type 0
+FlowsFail w (flowing.Shape kind place) =
+    (¬ (IsReadable w) × (kind ≡ NotJson) × (place ≡ whole_document))
+    ⊎ ((v : Data) × Spelt w v × IsFirstShape v kind place)
+FlowsFail w flowing.Memory = Unit {0}
 
 -- no rule of the swap is broken, and the schedule is the only one
 pub record IsScheduled (swap : Swap) (cal : List Section) (table : RateTable) (s : List Part) : Type 0 where

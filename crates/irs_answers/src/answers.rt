@@ -3,6 +3,7 @@ ghost use Rattle.std.specs.Prelude.{◌≡◌};
 ghost use Rattle.irs_emit.specs.Emitted.{emit_text};
 ghost use Rattle.irs_answers.specs.Accrued.{TellsAccrued};
 ghost use Rattle.irs_answers.specs.Due.{Answered, DueFlows, Passes};
+ghost use Rattle.irs_answers.specs.Forms.{written_by};
 ghost use Rattle.irs_answers.specs.Found.{facts_by};
 ghost use Rattle.irs_answers.specs.Given.{given_by};
 ghost use Rattle.irs_answers.specs.Messages.{all_kept};
@@ -16,6 +17,7 @@ use crate::derived::{average_answer, interpolate_answer, overnight_answer};
 use crate::due::Found;
 use crate::files::TaskFiles;
 use crate::flows::verdict_on;
+use crate::forms::Source;
 use crate::netting::net_answer;
 use crate::refusals::Refusal;
 use crate::replies::{Reply, verdict_reply};
@@ -61,8 +63,8 @@ fn check_answer(alloc: Global) -> Result<Reply, Refusal>
     Ok(Reply::line(alloc, Status::Done, b"ok\n")?)
 }
 
-fn audit_answer(alloc: Global, flows: &[u8], schedule: &Schedule) -> Result<Reply, Refusal>
-    ensures { IfAnswered result (Ends (DueFlows flows.now schedule.now)) }
+fn audit_answer(alloc: Global, flows: &Source, schedule: &Schedule) -> Result<Reply, Refusal>
+    ensures { IfAnswered result (Ends (DueFlows (written_by flows.now) schedule.now)) }
 {
     let verdict = verdict_on(alloc, schedule, flows)?;
     Ok(verdict_reply(alloc, verdict)?)

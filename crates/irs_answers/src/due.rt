@@ -14,12 +14,13 @@ ghost use Rattle.irs_answers.specs.Tasks.{IsLawfulTask};
 
 use crate::answers::answer_by;
 use crate::files::TaskFiles;
+use crate::forms::read_document;
 use crate::refusals::Refusal;
 use crate::replies::Reply;
 use crate::tasks::Task;
 use irs_base::{Broken, Memory};
 use irs_calendar::Calendars;
-use irs_json::{Value, parse};
+use irs_json::Value;
 use irs_net::{Sides, read_sides};
 use irs_read::read_swap;
 use irs_resets::{FixErr, Fixings};
@@ -75,7 +76,7 @@ pub fn find(alloc: Global, task: Task, files: &TaskFiles) -> Result<Found, Refus
     ensures lawful { IfOk result (λ f. IsLawful f.swap) }
     ensures refused { IfErr result (λ r. IfRefused r (Ends (DueFor task (given_by files.now)))) }
 {
-    let document = parse(alloc, &files.document)?;
+    let document = read_document(alloc, &files.document)?;
     let swap = read_swap(alloc, &document)?;
     let sides = sides_for(&task, &document)?;
     let calendars = Calendars::read(alloc, &files.calendars)?;

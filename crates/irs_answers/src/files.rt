@@ -2,17 +2,18 @@
 ghost use Rattle.std.specs.Prelude.{◌≡◌};
 ghost use Rattle.irs_answers.specs.Given.{given_by, no_files};
 
+use crate::forms::Source;
 use std::alloc::Global;
 
-/// The bytes of the files of a task, by what they are to it.
+/// The files of a task, by what they are to it.
 #[derive(Drop)]
 pub struct TaskFiles {
     /// The document.
-    pub document: Vec<u8>,
+    pub document: Source,
     /// The file of fixings, where there is one.
     pub fixings: Option<Vec<u8>>,
     /// The cash flows, empty for a task that has none.
-    pub flows: Vec<u8>,
+    pub flows: Source,
     /// The calendar files, in order.
     pub calendars: Vec<Vec<u8>>,
 }
@@ -23,9 +24,9 @@ impl TaskFiles {
         ensures { given_by result ≡ no_files }
     {
         TaskFiles {
-            document: Vec::new(alloc),
+            document: Source::empty(alloc),
             fixings: None,
-            flows: Vec::new(alloc),
+            flows: Source::empty(alloc),
             calendars: Vec::new(alloc),
         }
     }

@@ -1,13 +1,14 @@
 //! The cash flows of an audit, and the verdict on them.
 ghost use Rattle.std.specs.Prelude.{◌≡◌, IfOk, IfErr};
 ghost use Rattle.irs_answers.specs.Due.{DueFlows};
+ghost use Rattle.irs_answers.specs.Forms.{written_by};
 ghost use Rattle.irs_answers.specs.FlowMessages.{verdict_status, verdict_text, whole_document};
 ghost use Rattle.irs_answers.specs.Outcomes.{Ends, FlowsFail, IfRefused, SpellsFlows};
 ghost use Rattle.irs_answers.specs.declared.refusals.Refusal.TheVariants.{Flows as OfFlows};
 
+use crate::forms::{ReadErr, Source, read_document};
 use irs_audit::{FlowErr, Flows, ShapeKind, Verdict, audit, read_flows};
 use irs_base::{Elem, Place};
-use irs_json::{JsonErr, parse};
 use irs_schedule::Schedule;
 use std::alloc::Global;
 
@@ -15,24 +16,25 @@ use std::alloc::Global;
 pub(crate) fn verdict_on(
     alloc: Global,
     schedule: &Schedule,
-    bytes: &[u8],
+    source: &Source,
 ) -> Result<Verdict, FlowErr>
-    ensures verdict { IfOk result (λ w. Ends (DueFlows bytes.now schedule.now) (verdict_status w) (verdict_text w)) }
-    ensures fault { IfErr result (λ e. IfRefused (OfFlows e) (Ends (DueFlows bytes.now schedule.now))) }
+    ensures verdict { IfOk result
+        (λ w. Ends (DueFlows (written_by source.now) schedule.now) (verdict_status w) (verdict_text w)) }
+    ensures fault { IfErr result (λ e. IfRefused (OfFlows e) (Ends (DueFlows (written_by source.now) schedule.now))) }
 {
-    let flows = spelt_flows(alloc, bytes)?;
+    let flows = spelt_flows(alloc, source)?;
     Ok(audit(schedule, &flows))
 }
 
-// The flows that the bytes of a file state, or their first fault.
-fn spelt_flows(alloc: Global, bytes: &[u8]) -> Result<Flows, FlowErr>
-    ensures spells { IfOk result (λ flows. SpellsFlows bytes.now flows) }
-    ensures fault { IfErr result (λ e. FlowsFail bytes.now e) }
+// The flows that a text states, or its first fault.
+fn spelt_flows(alloc: Global, source: &Source) -> Result<Flows, FlowErr>
+    ensures spells { IfOk result (λ flows. SpellsFlows (written_by source.now) flows) }
+    ensures fault { IfErr result (λ e. FlowsFail (written_by source.now) e) }
 {
-    match parse(alloc, bytes) {
+    match read_document(alloc, source) {
         Ok(document) => read_flows(alloc, &document),
-        Err(JsonErr::NotJson) => Err(FlowErr::Shape(ShapeKind::NotJson, whole_document())),
-        Err(JsonErr::Memory) => Err(FlowErr::Memory),
+        Err(ReadErr::Unreadable) => Err(FlowErr::Shape(ShapeKind::NotJson, whole_document())),
+        Err(ReadErr::Memory) => Err(FlowErr::Memory),
     }
 }
 

@@ -4,19 +4,23 @@
 
 mod accruing;
 mod answers;
+mod carrier;
 mod derived;
 mod due;
 mod files;
 mod flow_messages;
 mod flows;
+mod forms;
 mod messages;
 mod netting;
 mod refusals;
 mod replies;
 mod tasks;
 
+pub use carrier::carrier;
 pub use due::{Found, find, reply_of, schedule_of};
 pub use files::TaskFiles;
+pub use forms::{Form, ReadErr, Source, read_document};
 pub use refusals::Refusal;
 pub use replies::Reply;
 pub use tasks::Task;

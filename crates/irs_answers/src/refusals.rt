@@ -1,15 +1,15 @@
 //! Why a task isn't carried out.
 ghost use Rattle.std.specs.Prelude.{◌≡◌};
 ghost use Rattle.irs_answers.specs.Messages.{unreadable};
-ghost use Rattle.irs_answers.specs.Outcomes.{of_json, of_stopped};
+ghost use Rattle.irs_answers.specs.Outcomes.{of_read, of_stopped};
 ghost use Rattle.irs_answers.specs.declared.refusals.Refusal.TheVariants.{Rule as OfRule, Calendars as OfCalendars};
 ghost use Rattle.irs_answers.specs.declared.refusals.Refusal.TheVariants.{Fixings as OfFixings, Flows as OfFlows};
 ghost use Rattle.irs_answers.specs.declared.refusals.Refusal.TheVariants.{Memory as OfMemory};
 
+use crate::forms::ReadErr;
 use irs_audit::FlowErr;
 use irs_base::{Broken, Elem, Memory, Place, Rule, Stopped};
 use irs_calendar::CalErr;
-use irs_json::JsonErr;
 use irs_resets::FixErr;
 
 /// Why a task isn't carried out: the first step that fails.
@@ -35,13 +35,14 @@ impl From<Memory> for Refusal {
     }
 }
 
-impl From<JsonErr> for Refusal {
-    ghost from_gives = { λ e r. r ≡ of_json e };
+// What `read_document` answers.
+impl From<ReadErr> for Refusal {
+    ghost from_gives = { λ e r. r ≡ of_read e };
 
-    fn from(e: JsonErr) -> Refusal {
+    fn from(e: ReadErr) -> Refusal {
         match e {
-            JsonErr::NotJson => Refusal::Rule(unreadable()),
-            JsonErr::Memory => Refusal::Memory,
+            ReadErr::Unreadable => Refusal::Rule(unreadable()),
+            ReadErr::Memory => Refusal::Memory,
         }
     }
 }
@@ -91,7 +92,7 @@ impl From<FlowErr> for Refusal {
     }
 }
 
-/// The rule that a document without a JSON reading breaks.
+/// The rule that a document without a reading breaks.
 fn unreadable() -> Broken
     ensures { result ≡ unreadable }
 {

@@ -21,6 +21,7 @@ use Rattle.irs_audit.proofs.VerdictLemmas.{one_verdict}
 use Rattle.irs_answers.specs.declared.tasks.Task.TheVariants.{Schedule}
 use Rattle.irs_answers.specs.declared.refusals.Refusal.{Refusal}
 use Rattle.irs_answers.specs.declared.refusals.Refusal.TheVariants.{Rule, Calendars, Fixings, Flows, Memory}
+use Rattle.irs_answers.specs.Forms.{json_text}
 use Rattle.irs_answers.specs.Due.{Spells, facts}
 use Rattle.irs_answers.specs.Outcomes.{Answer, answer_of, Ends, IfRefused, IsScheduled, IsUnscheduled}
 use Rattle.irs_answers.proofs.DueLemmas.{passes_by, refuse_rules}
@@ -37,7 +38,7 @@ use Rattle.irs_bulk.specs.declared.totals.Totals.{Totals}
 -- ---- the schedule that is made is that of the document
 
 module _ (plain : Bool) (k : ℕ) (swap : Swap) (cal : List Section) (table : RateTable)
-    (spells : Spells Schedule (document_text plain k) swap None) (files : CalFiles (calendar_text ∷ []) cal)
+    (spells : Spells Schedule (json_text (document_text plain k)) swap None) (files : CalFiles (calendar_text ∷ []) cal)
     (without : table ≡ []) where
   pub schedule_by : (r : Result (List Part) Refusal) → IfOk r (IsScheduled swap cal table)
       → IfOk r (IsScheduleOf plain k)

@@ -8,6 +8,7 @@ use Rattle.irs_calendar.specs.declared.calendars.CalErr.{CalErr}
 use Rattle.irs_calendar.specs.declared.sections.Section.{Section}
 use Rattle.irs_answers.specs.declared.tasks.Task.TheVariants.{Schedule}
 use Rattle.irs_answers.specs.Due.{DueFor, Facts, Passes}
+use Rattle.irs_answers.specs.Forms.{json_text, no_text}
 use Rattle.irs_answers.specs.Given.{Given}
 use Rattle.irs_answers.specs.Steps.{Is, Step}
 use Rattle.irs_audit.specs.StatedFlows.{stated_flows}
@@ -26,7 +27,13 @@ use Rattle.irs_schedule.specs.Parts.{Part}
 -- the files of document k, or of its plain form: the calendar of its centre, and no fixings
 abbrev pub files_of : Bool → ℕ → Given
 files_of plain k =
-    record { document = document_text plain k; fixings = None; flows = []; calendars = calendar_text ∷ [] }
+    record {
+      document = json_text (document_text plain k);
+      fixings = None;
+      flows = no_text;
+      calendars =
+          calendar_text ∷ [];
+    }
 
 -- the sections of the calendar, or its first fault
 abbrev pub IsCalendar : Result (List Section) CalErr → Type 0

@@ -5,6 +5,7 @@
 ghost use Rattle.std.specs.Prelude.{◌≡◌, ◌<◌, ◌≤◌, ◌^◌, [], ◌∷◌, map, IfErr, IfOk};
 ghost use Rattle.irs_terms.specs.Lawful.{IsLawful};
 ghost use Rattle.irs_answers.specs.Due.{Spells};
+ghost use Rattle.irs_answers.specs.Forms.{json_text};
 ghost use Rattle.irs_answers.specs.Outcomes.{Ends, IfAnswered, IfRefused};
 ghost use Rattle.irs_answers.specs.Replying.{reply_status, reply_text};
 ghost use Rattle.irs_answers.specs.declared.tasks.Task.TheVariants.{Schedule as OfSchedule};
@@ -15,11 +16,10 @@ ghost use Rattle.irs_bulk.specs.BulkRuns.{IsScheduleOf, agree_of, first_of, one_
 ghost use Rattle.irs_bulk.specs.Documents.{document_text, most_bulk};
 
 use crate::{Totals, bulk_calendar, bulk_doc, bulk_text};
-use irs_answers::{Refusal, Reply, schedule_of};
+use irs_answers::{Form, Refusal, Reply, Source, read_document, schedule_of};
 use irs_audit::{Verdict, audit, flows_of, sums_of};
 use irs_base::{Line, Memory, Status};
 use irs_calendar::{CalErr, Calendars};
-use irs_json::parse;
 use irs_read::read_swap;
 use irs_resets::Fixings;
 use irs_schedule::Schedule;
@@ -144,11 +144,13 @@ fn schedule_at(
 fn swap_at(alloc: Global, k: u32, plain: bool) -> Result<Swap, Refusal>
     requires low { 0 < k }
     requires high { k ≤ most_bulk }
-    ensures spells { IfOk result (λ swap. Spells OfSchedule (document_text plain k) swap None) }
+    ensures spells { IfOk result (λ swap. Spells OfSchedule (json_text (document_text plain k)) swap None) }
     ensures lawful { IfOk result IsLawful }
     ensures refused { IfErr result (λ r. IfRefused r (Ends (DueSchedule plain k))) }
 {
-    let document = parse(alloc, &bulk_doc(alloc, k, plain)?)?;
+    let bytes = bulk_doc(alloc, k, plain)?;
+    let form = Form::Json;
+    let document = read_document(alloc, &Source { form, bytes })?;
     Ok(read_swap(alloc, &document)?)
 }
 

@@ -1,5 +1,5 @@
 -- What the table of commands says of words.
-use Rattle.std.proofs.Common.{◌≡◌, ℕ, zero, suc, ◌+◌, ◌-◌, ◌<◌, ◌≤◌, inl, inr, List, [], ◌∷◌, ◌++◌, length, map, take}
+use Rattle.std.proofs.Common.{◌≡◌, ℕ, zero, suc, ◌+◌, ◌-◌, ◌<◌, ◌≤◌, inl, inr, List, [], ◌∷◌, ◌++◌, length, map}
 use Rattle.std.proofs.Common.{drop, Option, Some, None, get_or, Bool, true, false, refl, sym, ◌∙◌, ap, subst, arith}
 use Rattle.std.proofs.Common.{append_assoc, ℤ, String, string_bytes}
 use Rattle.std.specs.Prelude.{slice_get, option_map, nat_le, ◌&&◌, if◌then◌else◌}
@@ -18,7 +18,7 @@ use Rattle.irs_terms.specs.declared.frequency.Frequency.{Frequency}
 use Rattle.irs_answers.specs.declared.tasks.Task.TheVariants as task
 use Rattle.irs_answers.specs.Given.{most_calendars}
 use Rattle.irs_cli.specs.declared.commands.Request.{Request}
-use Rattle.irs_cli.specs.declared.commands.Request.TheVariants.{OverFiles, Bulk}
+use Rattle.irs_cli.specs.declared.commands.Request.TheVariants.{OverFiles, Bulk, Carrier}
 use Rattle.irs_cli.specs.declared.commands.Command.{Command}
 use Rattle.irs_cli.specs.declared.commands.Named.{Named}
 use Rattle.irs_cli.specs.Commands.{Words, texts, Wanted, Asked, Asks, AsksAs, AsksAccrue, AsksAverage, AsksBulk}
@@ -91,68 +91,70 @@ step_no roles place i ws w fs r all at role not e =
 
 -- ---- words are one command at most
 
-one_accrue : (ps : Words) (a b : Request) → AsksAccrue ps a → AsksAccrue ps b → b ≡ a
-one_accrue ps a b h k =
-    k.is ∙ ap (λ (d : ℤ). OverFiles (task.Accrue d)) (one_at IsDateWord one_date ps 0 h.date k.date h.is_date k.is_date)
+one_accrue : (ws : Words) (a b : Request) → AsksAccrue ws a → AsksAccrue ws b → b ≡ a
+one_accrue ws a b h k =
+    k.is ∙ ap (λ (d : ℤ). OverFiles (task.Accrue d)) (one_at IsDateWord one_date ws 0 h.date k.date h.is_date k.is_date)
     ∙ sym h.is
 
-one_bulk : (ps : Words) (a b : Request) → AsksBulk ps a → AsksBulk ps b → b ≡ a
-one_bulk ps a b h k =
-    k.is ∙ ap (λ (n : ℕ). Bulk n) (one_at IsCountWord one_count ps 0 h.count k.count h.is_count k.is_count) ∙ sym h.is
+one_bulk : (ws : Words) (a b : Request) → AsksBulk ws a → AsksBulk ws b → b ≡ a
+one_bulk ws a b h k =
+    k.is ∙ ap (λ (n : ℕ). Bulk n) (one_at IsCountWord one_count ws 0 h.count k.count h.is_count k.is_count) ∙ sym h.is
 
-one_overnight : (ps : Words) (a b : Request) → AsksOvernight ps a → AsksOvernight ps b → b ≡ a
-one_overnight ps a b h k =
+one_overnight : (ws : Words) (a b : Request) → AsksOvernight ws a → AsksOvernight ws b → b ≡ a
+one_overnight ws a b h k =
     k.is ∙ ap (λ (n : ℕ). OverFiles (task.Overnight n))
-    (one_at IsStreamWord one_stream ps 0 h.stream k.stream h.is_stream k.is_stream) ∙ sym h.is
+    (one_at IsStreamWord one_stream ws 0 h.stream k.stream h.is_stream k.is_stream) ∙ sym h.is
 
-one_average : (ps : Words) (a b : Request) → AsksAverage ps a → AsksAverage ps b → b ≡ a
-one_average ps a b h k =
-    let n = one_at IsStreamWord one_stream ps 0 h.stream k.stream h.is_stream k.is_stream in
-    let m = one_at IsMeanWord one_mean ps 1 h.mean k.mean h.is_mean k.is_mean in
-    let s = one_at IsStepWord one_step ps 2 h.step k.step h.is_step k.is_step in
+one_average : (ws : Words) (a b : Request) → AsksAverage ws a → AsksAverage ws b → b ≡ a
+one_average ws a b h k =
+    let n = one_at IsStreamWord one_stream ws 0 h.stream k.stream h.is_stream k.is_stream in
+    let m = one_at IsMeanWord one_mean ws 1 h.mean k.mean h.is_mean k.is_mean in
+    let s = one_at IsStepWord one_step ws 2 h.step k.step h.is_step k.is_step in
     k.is ∙ ap (λ (x : ℕ). OverFiles (task.Average x k.mean k.step)) n
     ∙ ap (λ (x : Mean). OverFiles (task.Average h.stream x k.step)) m
     ∙ ap (λ (x : ℕ). OverFiles (task.Average h.stream h.mean x)) s ∙ sym h.is
 
-one_interpolate : (ps : Words) (a b : Request) → AsksInterpolate ps a → AsksInterpolate ps b → b ≡ a
-one_interpolate ps a b h k =
-    let n = one_at IsStreamWord one_stream ps 0 h.stream k.stream h.is_stream k.is_stream in
-    let s = one_at IsSideWord one_side ps 1 h.side k.side h.is_side k.is_side in
-    let l = one_at IsTenorWord one_tenor ps 2 h.low k.low h.is_low k.is_low in
-    let m = one_at IsTenorWord one_tenor ps 3 h.high k.high h.is_high k.is_high in
+one_interpolate : (ws : Words) (a b : Request) → AsksInterpolate ws a → AsksInterpolate ws b → b ≡ a
+one_interpolate ws a b h k =
+    let n = one_at IsStreamWord one_stream ws 0 h.stream k.stream h.is_stream k.is_stream in
+    let s = one_at IsSideWord one_side ws 1 h.side k.side h.is_side k.is_side in
+    let l = one_at IsTenorWord one_tenor ws 2 h.low k.low h.is_low k.is_low in
+    let m = one_at IsTenorWord one_tenor ws 3 h.high k.high h.is_high k.is_high in
     k.is ∙ ap (λ (x : ℕ). OverFiles (task.Interpolate x k.side k.low k.high)) n
     ∙ ap (λ (x : Side). OverFiles (task.Interpolate h.stream x k.low k.high)) s
     ∙ ap (λ (x : Frequency). OverFiles (task.Interpolate h.stream h.side x k.high)) l
     ∙ ap (λ (x : Frequency). OverFiles (task.Interpolate h.stream h.side h.low x)) m ∙ sym h.is
 
-one_request : (k : Kind) (ps : Words) (r q : Request) → IsRequest k ps r → IsRequest k ps q → q ≡ r
-one_request kind.Check ps r q h i = i ∙ sym h
-one_request kind.Schedule ps r q h i = i ∙ sym h
-one_request kind.Audit ps r q h i = i ∙ sym h
-one_request kind.Bulk ps r q h i = one_bulk ps r q h i
-one_request kind.Emit ps r q h i = i ∙ sym h
-one_request kind.Accrue ps r q h i = one_accrue ps r q h i
-one_request kind.Net ps r q h i = i ∙ sym h
-one_request kind.Overnight ps r q h i = one_overnight ps r q h i
-one_request kind.Average ps r q h i = one_average ps r q h i
-one_request kind.Interpolate ps r q h i = one_interpolate ps r q h i
+one_request : (k : Kind) (ws : Words) (r q : Request) → IsRequest k ws r → IsRequest k ws q → q ≡ r
+one_request kind.Check ws r q h i = i ∙ sym h
+one_request kind.Schedule ws r q h i = i ∙ sym h
+one_request kind.Audit ws r q h i = i ∙ sym h
+one_request kind.Bulk ws r q h i = one_bulk ws r q h i
+one_request kind.Emit ws r q h i = i ∙ sym h
+one_request kind.Accrue ws r q h i = one_accrue ws r q h i
+one_request kind.Net ws r q h i = i ∙ sym h
+one_request kind.Overnight ws r q h i = one_overnight ws r q h i
+one_request kind.Average ws r q h i = one_average ws r q h i
+one_request kind.Interpolate ws r q h i = one_interpolate ws r q h i
+one_request kind.Carrier ws r q h i = i.is ∙ sym h.is
 
 -- its parameters lie in their ranges
-lawful_by : (k : Kind) (ps : Words) (r : Request) → IsRequest k ps r → IsLawfulRequest r
-lawful_by kind.Check ps r h = subst IsLawfulRequest (sym h) tt
-lawful_by kind.Schedule ps r h = subst IsLawfulRequest (sym h) tt
-lawful_by kind.Audit ps r h = subst IsLawfulRequest (sym h) tt
-lawful_by kind.Bulk ps r h = subst IsLawfulRequest (sym h.is) h.is_count.is.to_most
-lawful_by kind.Emit ps r h = subst IsLawfulRequest (sym h) tt
-lawful_by kind.Accrue ps r h = subst IsLawfulRequest (sym h.is) tt
-lawful_by kind.Net ps r h = subst IsLawfulRequest (sym h) tt
-lawful_by kind.Overnight ps r h = subst IsLawfulRequest (sym h.is) tt
-lawful_by kind.Average ps r h = subst IsLawfulRequest (sym h.is) (step_lawful h.is_step.word h.step h.is_step.is)
-lawful_by kind.Interpolate ps r h =
+lawful_by : (k : Kind) (ws : Words) (r : Request) → IsRequest k ws r → IsLawfulRequest r
+lawful_by kind.Check ws r h = subst IsLawfulRequest (sym h) tt
+lawful_by kind.Schedule ws r h = subst IsLawfulRequest (sym h) tt
+lawful_by kind.Audit ws r h = subst IsLawfulRequest (sym h) tt
+lawful_by kind.Bulk ws r h = subst IsLawfulRequest (sym h.is) h.is_count.is.to_most
+lawful_by kind.Emit ws r h = subst IsLawfulRequest (sym h) tt
+lawful_by kind.Accrue ws r h = subst IsLawfulRequest (sym h.is) tt
+lawful_by kind.Net ws r h = subst IsLawfulRequest (sym h) tt
+lawful_by kind.Overnight ws r h = subst IsLawfulRequest (sym h.is) tt
+lawful_by kind.Average ws r h = subst IsLawfulRequest (sym h.is) (step_lawful h.is_step.word h.step h.is_step.is)
+lawful_by kind.Interpolate ws r h =
     subst IsLawfulRequest (sym h.is) (
       tenor_lawful h.is_low.word h.low h.is_low.is,
       tenor_lawful h.is_high.word h.high h.is_high.is,
     )
+lawful_by kind.Carrier ws r h = subst IsLawfulRequest (sym h.is) tt
 
 abbrev asked : Request → List Wanted → Asked
 asked r fs = record { request = r; files = fs }
@@ -160,7 +162,7 @@ asked r fs = record { request = r; files = fs }
 one_as : (k : Kind) (ws : Words) (a b : Asked) → AsksAs k ws a → AsksAs k ws b → b ≡ a
 one_as k ws a b h i =
     ap (λ (r : Request). asked r b.files)
-    (one_request k (take (params_of k) ws) a.request b.request h.request i.request)
+    (one_request k ws a.request b.request h.request i.request)
     ∙ ap (λ (f : List Wanted). asked a.request f) (i.files ∙ sym h.files)
 
 same_kind : (w : List ℕ) (k l : Kind) → kind_of w ≡ Some k → kind_of w ≡ Some l → l ≡ k
@@ -226,6 +228,7 @@ row_fits kind.Net = (refl, omega arith)
 row_fits kind.Overnight = (refl, omega arith)
 row_fits kind.Average = (refl, omega arith)
 row_fits kind.Interpolate = (refl, omega arith)
+row_fits kind.Carrier = (refl, omega arith)
 
 one_cal : (r : Role) → is_cal r ≤ 1
 one_cal Document = omega arith
@@ -283,4 +286,4 @@ few_cals ws a h =
 -- the parameters of a listed command lie in their ranges
 pub lawful_asked : (ws : Words) (a : Asked) → Asks ws a → IsLawfulRequest a.request
 lawful_asked ws a h = let f = formed ws a h in
-    lawful_by f.kind (take (params_of f.kind) f.words) a.request f.form.request
+    lawful_by f.kind f.words a.request f.form.request

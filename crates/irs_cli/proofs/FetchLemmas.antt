@@ -12,7 +12,7 @@ use Rattle.irs_answers.specs.Given.{Given, no_files, too_many}
 use Rattle.irs_cli.specs.declared.fetching.Unfetched.{Unfetched}
 use Rattle.irs_cli.specs.declared.fetching.Unfetched.TheVariants.{NoFile, TooLong, Memory}
 use Rattle.irs_cli.specs.Commands.{Wanted, wanted_by}
-use Rattle.irs_cli.specs.Given.{Told, Gathers, Reaches, with_file}
+use Rattle.irs_cli.specs.Given.{Told, Gathers, Reaches, text_as, with_file}
 use Rattle.irs_cli.specs.Fetching.{Holds, NotLong, FailedAt, OverAt, Stops, StopsOne, FetchesAll}
 use Rattle.irs_cli.proofs.FileLemmas.{gathers_reach, gathers_more}
 
@@ -96,11 +96,11 @@ stops_at told xs i d g failed before now Memory less h s = tt
 -- the next file is held too
 pub held_more : (told : Told) (xs : List Named) (i : ℕ) (d : Named) (g h : Given) (bytes : List ℕ) → i < length xs
     → Gathers (Holds told) (map wanted_by (take i xs)) no_files g → Holds told (get_or xs i d).name.now bytes
-    → h ≡ with_file g (get_or xs i d).role bytes → Gathers (Holds told) (map wanted_by (take (i + 1) xs)) no_files h
+    → h ≡ with_file g (get_or xs i d).role (text_as (get_or xs i d).name.now bytes) → Gathers (Holds told) (map wanted_by (take (i + 1) xs)) no_files h
 held_more told xs i d g h bytes less k held e =
     let n = get_or xs i d in
     let more : Gathers (Holds told) (map wanted_by (take i xs) ++ wanted_by n ∷ []) no_files
-    (with_file g n.role bytes) =
+    (with_file g n.role (text_as n.name.now bytes)) =
     gathers_more (Holds told) (map wanted_by (take i xs)) (wanted_by n) bytes no_files g k held in
     subst (λ (l : List Wanted). Gathers (Holds told) l no_files h) (sym (map_more wanted_by xs i d less))
     (subst (λ (x : Given). Gathers (Holds told) (map wanted_by (take i xs) ++ wanted_by n ∷ []) no_files x)

@@ -7,7 +7,8 @@ use Rattle.std.proofs.lemmas.List.{length-append}
 use Rattle.std.proofs.lemmas.List.Elements.{All-nil, All-cons, All-append}
 use Rattle.irs_cli.specs.declared.commands.Role.{Role}
 use Rattle.irs_cli.specs.declared.commands.Role.TheVariants.{Document, Fixings, Flows, Calendar}
-use Rattle.irs_cli.specs.Given.{with_file, Gathers, Each, Reaches}
+use Rattle.irs_answers.specs.Forms.{Written}
+use Rattle.irs_cli.specs.Given.{with_file, text_as, Gathers, Each, Reaches}
 use Rattle.irs_cli.proofs.CommandLemmas.{is_cal, cals}
 
 -- two firsts of one list are one, where passing one excludes being the other
@@ -31,7 +32,7 @@ pub gathers_none : (R : List ℕ → List ℕ → Type 0) (P Q : Wanted → Type
     → ((w : Wanted) (bytes : List ℕ) → R w.name bytes → Q w → ⊥) → Gathers R ws g h → Reaches P Q ws → ⊥
 gathers_none R P Q [] g h never k r = r
 gathers_none R P Q (w ∷ ws) g h never k (inl q) = never w k.0 k.1 q
-gathers_none R P Q (w ∷ ws) g h never k (inr r) = gathers_none R P Q ws (with_file g w.role k.0) h never k.2 r.1
+gathers_none R P Q (w ∷ ws) g h never k (inr r) = gathers_none R P Q ws (with_file g w.role (text_as w.name k.0)) h never k.2 r.1
 
 -- what is gathered by R and by S is the same, where R and S agree on the bytes of a name
 pub gathers_one : (R S : List ℕ → List ℕ → Type 0) (ws : List Wanted) (g h k : Given)
@@ -39,20 +40,20 @@ pub gathers_one : (R S : List ℕ → List ℕ → Type 0) (ws : List Wanted) (g
 gathers_one R S [] g h k same a b = b ∙ sym a
 gathers_one R S (w ∷ ws) g h k same a b =
     let e : b.0 ≡ a.0 = same w.name a.0 b.0 a.1 b.1 in
-    gathers_one R S ws (with_file g w.role a.0) h k same a.2
-    (subst (λ (x : List ℕ). Gathers S ws (with_file g w.role x) k) e b.2)
+    gathers_one R S ws (with_file g w.role (text_as w.name a.0)) h k same a.2
+    (subst (λ (x : List ℕ). Gathers S ws (with_file g w.role (text_as w.name x)) k) e b.2)
 
 pub gathers_with : (R S : List ℕ → List ℕ → Type 0) (E : Wanted → Type 0) (ws : List Wanted) (g h : Given)
     → ((w : Wanted) (bytes : List ℕ) → E w → R w.name bytes → S w.name bytes) → Each E ws → Gathers R ws g h
     → Gathers S ws g h
 gathers_with R S E [] g h f e k = k
 gathers_with R S E (w ∷ ws) g h f e k =
-    (k.0, f w k.0 e.0 k.1, gathers_with R S E ws (with_file g w.role k.0) h f e.1 k.2)
+    (k.0, f w k.0 e.0 k.1, gathers_with R S E ws (with_file g w.role (text_as w.name k.0)) h f e.1 k.2)
 
 pub gathers_more : (R : List ℕ → List ℕ → Type 0) (ws : List Wanted) (w : Wanted) (bytes : List ℕ) (g h : Given)
-    → Gathers R ws g h → R w.name bytes → Gathers R (ws ++ w ∷ []) g (with_file h w.role bytes)
-gathers_more R [] w bytes g h k r = (bytes, r, ap (λ (x : Given). with_file x w.role bytes) k)
-gathers_more R (v ∷ ws) w bytes g h k r = (k.0, k.1, gathers_more R ws w bytes (with_file g v.role k.0) h k.2 r)
+    → Gathers R ws g h → R w.name bytes → Gathers R (ws ++ w ∷ []) g (with_file h w.role (text_as w.name bytes))
+gathers_more R [] w bytes g h k r = (bytes, r, ap (λ (x : Given). with_file x w.role (text_as w.name bytes)) k)
+gathers_more R (v ∷ ws) w bytes g h k r = (k.0, k.1, gathers_more R ws w bytes (with_file g v.role (text_as v.name k.0)) h k.2 r)
 
 -- what comes next behind files that are gathered is reached
 pub gathers_reach : (R : List ℕ → List ℕ → Type 0) (P Q : Wanted
@@ -60,7 +61,7 @@ pub gathers_reach : (R : List ℕ → List ℕ → Type 0) (P Q : Wanted
     → ((v : Wanted) (bytes : List ℕ) → R v.name bytes → P v) → Gathers R ws g h → Q w → Reaches P Q (ws ++ w ∷ rest)
 gathers_reach R P Q [] rest w g h p k q = inl q
 gathers_reach R P Q (v ∷ ws) rest w g h p k q =
-    inr (p v k.0 k.1, gathers_reach R P Q ws rest w (with_file g v.role k.0) h p k.2 q)
+    inr (p v k.0 k.1, gathers_reach R P Q ws rest w (with_file g v.role (text_as v.name k.0)) h p k.2 q)
 
 -- ---- the limits of what is gathered
 
@@ -69,37 +70,37 @@ record Small (g : Given) : Type 0 where
   pub fixings : IfSome g.fixings (λ bytes. length bytes < too_many)
   pub calendars : All (λ bytes. length bytes < too_many) g.calendars
 
-with_small : (g : Given) (r : Role) (bytes : List ℕ) → Small g → length bytes < too_many → Small (with_file g r bytes)
-with_small g Document bytes s k = record { fixings = s.fixings; calendars = s.calendars }
-with_small g Fixings bytes s k = record { fixings = k; calendars = s.calendars }
-with_small g Flows bytes s k = record { fixings = s.fixings; calendars = s.calendars }
-with_small g Calendar bytes s k =
+with_small : (g : Given) (r : Role) (t : Written) → Small g → length t.bytes < too_many → Small (with_file g r t)
+with_small g Document t s k = record { fixings = s.fixings; calendars = s.calendars }
+with_small g Fixings t s k = record { fixings = k; calendars = s.calendars }
+with_small g Flows t s k = record { fixings = s.fixings; calendars = s.calendars }
+with_small g Calendar t s k =
     record {
       fixings = s.fixings;
       calendars =
-          All-append (λ (b : List ℕ). length b < too_many) g.calendars (bytes ∷ []) s.calendars
-          (All-cons (λ (b : List ℕ). length b < too_many) bytes [] k (All-nil (λ (b : List ℕ). length b < too_many)));
+          All-append (λ (b : List ℕ). length b < too_many) g.calendars (t.bytes ∷ []) s.calendars
+          (All-cons (λ (b : List ℕ). length b < too_many) t.bytes [] k (All-nil (λ (b : List ℕ). length b < too_many)));
     }
 
 gathers_small : (R : List ℕ → List ℕ → Type 0) (ws : List Wanted) (g h : Given)
     → ((name bytes : List ℕ) → R name bytes → length bytes < too_many) → Small g → Gathers R ws g h → Small h
 gathers_small R [] g h f s k = subst Small (sym k) s
 gathers_small R (w ∷ ws) g h f s k =
-    gathers_small R ws (with_file g w.role k.0) h f (with_small g w.role k.0 s (f w.name k.0 k.1)) k.2
+    gathers_small R ws (with_file g w.role (text_as w.name k.0)) h f (with_small g w.role (text_as w.name k.0) s (f w.name k.0 k.1)) k.2
 
-with_many : (g : Given) (r : Role) (bytes : List ℕ)
-    → length (with_file g r bytes).calendars ≡ length g.calendars + is_cal r
-with_many g Document bytes = omega arith
-with_many g Fixings bytes = omega arith
-with_many g Flows bytes = omega arith
-with_many g Calendar bytes = length-append g.calendars (bytes ∷ [])
+with_many : (g : Given) (r : Role) (t : Written)
+    → length (with_file g r t).calendars ≡ length g.calendars + is_cal r
+with_many g Document t = omega arith
+with_many g Fixings t = omega arith
+with_many g Flows t = omega arith
+with_many g Calendar t = length-append g.calendars (t.bytes ∷ [])
 
 gathers_many : (R : List ℕ → List ℕ → Type 0) (ws : List Wanted) (g h : Given) → Gathers R ws g h
     → length h.calendars ≡ length g.calendars + cals ws
 gathers_many R [] g h k = let e : length h.calendars ≡ length g.calendars = ap (λ (x : Given). length x.calendars) k in
     omega (arith, e)
-gathers_many R (w ∷ ws) g h k = let e = gathers_many R ws (with_file g w.role k.0) h k.2 in
-    let f = with_many g w.role k.0 in omega (arith, e, f)
+gathers_many R (w ∷ ws) g h k = let e = gathers_many R ws (with_file g w.role (text_as w.name k.0)) h k.2 in
+    let f = with_many g w.role (text_as w.name k.0) in omega (arith, e, f)
 
 pub gathers_within : (R : List ℕ → List ℕ → Type 0) (ws : List Wanted) (h : Given)
     → ((name bytes : List ℕ) → R name bytes → length bytes < too_many) → cals ws ≤ most_calendars

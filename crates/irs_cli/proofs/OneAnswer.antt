@@ -2,14 +2,14 @@
 use Rattle.std.proofs.Common.{◌≡◌, ℕ, List, sym, ◌∙◌}
 use Rattle.irs_answers.specs.Given.{Given}
 use Rattle.irs_answers.specs.Steps.{Is}
-use Rattle.irs_answers.proofs.OneAnswer.{one_due}
+use Rattle.irs_answers.proofs.OneAnswer.{one_carrier, one_due}
 use Rattle.irs_bulk.proofs.BulkRunLemmas.{one_bulk}
 use Rattle.irs_cli.specs.Commands.{Words}
 use Rattle.irs_cli.specs.Due.{Due, DueOf, IsOneAnswer, WordsCase, all_told, long_file, no_command}
 use Rattle.irs_cli.specs.Given.{Told, TellsAll}
 use Rattle.irs_cli.specs.Messages.{bad_words, too_long}
 use Rattle.irs_cli.specs.declared.commands.Request.{Request}
-use Rattle.irs_cli.specs.declared.commands.Request.TheVariants.{OverFiles, Bulk}
+use Rattle.irs_cli.specs.declared.commands.Request.TheVariants.{OverFiles, Bulk, Carrier}
 
 module _ (s u : ℕ) (t v : List ℕ) where
   abbrev Same : Type 0
@@ -21,6 +21,7 @@ module _ (s u : ℕ) (t v : List ℕ) where
   one_of : (r : Request) (g : Given) → DueOf r g s t → DueOf r g u v → Same
   one_of (OverFiles task) g h k = one_due task g s u t v h k
   one_of (Bulk n) g h k = one_bulk s u t v n h k
+  one_of Carrier g h k = one_carrier s u t v g.document.bytes h k
 
   module _ (ws : Words) (told : Told) (h : Due ws told s t) (k : Due ws told u v) where
     words_by : WordsCase ws told → Same

@@ -1,5 +1,5 @@
 -- The listed commands: a table, and what it says of words.
-use Rattle.std.specs.Prelude.{◌≡◌, ℕ, ◌+◌, List, [], ◌∷◌, ◌++◌, length, map, take, drop, Option, Some, None, unwrap_or}
+use Rattle.std.specs.Prelude.{◌≡◌, ℕ, ◌+◌, List, [], ◌∷◌, ◌++◌, length, map, drop, Option, Some, None, unwrap_or}
 use Rattle.std.specs.Prelude.{codes, slice_get, String, string_bytes, Bool, true, not, ◌&&◌, nat_le, ℤ, if◌then◌else◌}
 use Rattle.std.specs.Str.{bytes_eq}
 use Rattle.std.specs.declared.alloc.Global.{Global}
@@ -11,13 +11,14 @@ use Rattle.irs_answers.specs.declared.tasks.Task.TheVariants as task
 use Rattle.irs_cli.specs.declared.commands.Kind.{Kind}
 use Rattle.irs_cli.specs.declared.commands.Kind.TheVariants as kind
 use Rattle.irs_cli.specs.declared.commands.Request.{Request}
-use Rattle.irs_cli.specs.declared.commands.Request.TheVariants.{OverFiles, Bulk}
+use Rattle.irs_cli.specs.declared.commands.Request.TheVariants.{OverFiles, Bulk, Carrier as CarrierOf}
 use Rattle.irs_cli.specs.declared.commands.Role.{Role}
 use Rattle.irs_cli.specs.declared.commands.Role.TheVariants.{Document, Fixings, Flows, Calendar}
 use Rattle.irs_cli.specs.declared.commands.Named.{Named}
 use Rattle.irs_cli.specs.declared.commands.Command.{Command}
 use Rattle.irs_cli.specs.Params.{At, IsCountWord, IsDateWord, IsMeanWord, IsSideWord, IsStepWord, IsStreamWord}
-use Rattle.irs_cli.specs.Params.{IsTenorWord}
+use Rattle.irs_cli.specs.Params.{IsTenorWord, form_of}
+use Rattle.irs_answers.specs.declared.forms.Form.TheVariants.{Xml}
 
 -- the words behind the program's name, by their bytes
 abbrev pub Words : Type 0
@@ -64,7 +65,8 @@ kind_of w =
     if bytes_eq w (codes "net") then Some kind.Net else
     if bytes_eq w (codes "overnight") then Some kind.Overnight else
     if bytes_eq w (codes "average") then Some kind.Average else
-    if bytes_eq w (codes "interpolate") then Some kind.Interpolate else None
+    if bytes_eq w (codes "interpolate") then Some kind.Interpolate else
+    if bytes_eq w (codes "carrier") then Some kind.Carrier else None
 
 -- how many words come before its files
 abbrev pub params_of : Kind → ℕ
@@ -78,6 +80,7 @@ params_of kind.Net = 0
 params_of kind.Overnight = 1
 params_of kind.Average = 3
 params_of kind.Interpolate = 4
+params_of kind.Carrier = 0
 
 -- the roles of its first files, in the order of the words
 abbrev pub roles_of : Kind → List Role
@@ -91,6 +94,7 @@ roles_of kind.Net = Document ∷ Fixings ∷ []
 roles_of kind.Overnight = Document ∷ Fixings ∷ []
 roles_of kind.Average = Document ∷ Fixings ∷ []
 roles_of kind.Interpolate = Document ∷ Fixings ∷ []
+roles_of kind.Carrier = Document ∷ []
 
 -- how many calendars may follow
 abbrev pub calendars_of : Kind → ℕ
@@ -104,6 +108,7 @@ calendars_of kind.Net = most_calendars
 calendars_of kind.Overnight = most_calendars
 calendars_of kind.Average = most_calendars
 calendars_of kind.Interpolate = most_calendars
+calendars_of kind.Carrier = 0
 
 -- ---- what the table says of words
 
@@ -133,62 +138,70 @@ counts k n =
     nat_le (params_of k + length (roles_of k)) n && nat_le n (params_of k + length (roles_of k) + calendars_of k)
 
 -- `accrue` with its date
-pub record AsksAccrue (ps : Words) (r : Request) : Type 0 where
+pub record AsksAccrue (ws : Words) (r : Request) : Type 0 where
   pub date : ℤ
-  pub is_date : At IsDateWord ps 0 date
+  pub is_date : At IsDateWord ws 0 date
   pub is : r ≡ OverFiles (task.Accrue date)
 
 -- `bulk` with its number of documents
-pub record AsksBulk (ps : Words) (r : Request) : Type 0 where
+pub record AsksBulk (ws : Words) (r : Request) : Type 0 where
   pub count : ℕ
-  pub is_count : At IsCountWord ps 0 count
+  pub is_count : At IsCountWord ws 0 count
   pub is : r ≡ Bulk count
 
 -- `overnight` with its stream
-pub record AsksOvernight (ps : Words) (r : Request) : Type 0 where
+pub record AsksOvernight (ws : Words) (r : Request) : Type 0 where
   pub stream : ℕ
-  pub is_stream : At IsStreamWord ps 0 stream
+  pub is_stream : At IsStreamWord ws 0 stream
   pub is : r ≡ OverFiles (task.Overnight stream)
 
 -- `average` with its stream, its mean and its step
-pub record AsksAverage (ps : Words) (r : Request) : Type 0 where
+pub record AsksAverage (ws : Words) (r : Request) : Type 0 where
   pub stream : ℕ
-  pub is_stream : At IsStreamWord ps 0 stream
+  pub is_stream : At IsStreamWord ws 0 stream
   pub mean : Mean
-  pub is_mean : At IsMeanWord ps 1 mean
+  pub is_mean : At IsMeanWord ws 1 mean
   pub step : ℕ
-  pub is_step : At IsStepWord ps 2 step
+  pub is_step : At IsStepWord ws 2 step
   pub is : r ≡ OverFiles (task.Average stream mean step)
 
 -- `interpolate` with its stream, its side and its two tenors
-pub record AsksInterpolate (ps : Words) (r : Request) : Type 0 where
+pub record AsksInterpolate (ws : Words) (r : Request) : Type 0 where
   pub stream : ℕ
-  pub is_stream : At IsStreamWord ps 0 stream
+  pub is_stream : At IsStreamWord ws 0 stream
   pub side : Side
-  pub is_side : At IsSideWord ps 1 side
+  pub is_side : At IsSideWord ws 1 side
   pub low : Frequency
-  pub is_low : At IsTenorWord ps 2 low
+  pub is_low : At IsTenorWord ws 2 low
   pub high : Frequency
-  pub is_high : At IsTenorWord ps 3 high
+  pub is_high : At IsTenorWord ws 3 high
   pub is : r ≡ OverFiles (task.Interpolate stream side low high)
 
--- what a command of a kind asks for by its parameters
+-- `carrier` with the name of a document in XML
+pub record AsksCarrier (ws : Words) (r : Request) : Type 0 where
+  pub name : List ℕ
+  pub there : slice_get ws 0 ≡ Some name
+  pub is_xml : form_of name ≡ Xml
+  pub is : r ≡ CarrierOf
+
+-- what a command of a kind asks for by the words behind its name
 abbrev pub IsRequest : Kind → Words → Request → Type 0
-IsRequest kind.Check ps r = r ≡ OverFiles task.Check
-IsRequest kind.Schedule ps r = r ≡ OverFiles task.Schedule
-IsRequest kind.Audit ps r = r ≡ OverFiles task.Audit
-IsRequest kind.Bulk ps r = AsksBulk ps r
-IsRequest kind.Emit ps r = r ≡ OverFiles task.Emit
-IsRequest kind.Accrue ps r = AsksAccrue ps r
-IsRequest kind.Net ps r = r ≡ OverFiles task.Net
-IsRequest kind.Overnight ps r = AsksOvernight ps r
-IsRequest kind.Average ps r = AsksAverage ps r
-IsRequest kind.Interpolate ps r = AsksInterpolate ps r
+IsRequest kind.Check ws r = r ≡ OverFiles task.Check
+IsRequest kind.Schedule ws r = r ≡ OverFiles task.Schedule
+IsRequest kind.Audit ws r = r ≡ OverFiles task.Audit
+IsRequest kind.Bulk ws r = AsksBulk ws r
+IsRequest kind.Emit ws r = r ≡ OverFiles task.Emit
+IsRequest kind.Accrue ws r = AsksAccrue ws r
+IsRequest kind.Net ws r = r ≡ OverFiles task.Net
+IsRequest kind.Overnight ws r = AsksOvernight ws r
+IsRequest kind.Average ws r = AsksAverage ws r
+IsRequest kind.Interpolate ws r = AsksInterpolate ws r
+IsRequest kind.Carrier ws r = AsksCarrier ws r
 
 -- the words behind the name of a command of this kind are those of a
 pub record AsksAs (k : Kind) (ws : Words) (a : Asked) : Type 0 where
   pub fits : counts k (length ws) ≡ true
-  pub request : IsRequest k (take (params_of k) ws) a.request
+  pub request : IsRequest k ws a.request
   pub files : a.files ≡ files_from (roles_of k) (params_of k + 1) 0 (drop (params_of k) ws)
 
 -- the words are this command

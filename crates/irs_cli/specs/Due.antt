@@ -1,5 +1,6 @@
 -- What is due for the words and the files: status and text, by the first case that applies.
 use Rattle.std.specs.Prelude.{◌≡◌, ℕ, ◌≤◌, List}
+use Rattle.irs_answers.specs.Carried.{DueCarrier}
 use Rattle.irs_answers.specs.Due.{DueFor}
 use Rattle.irs_answers.specs.Given.{Given}
 use Rattle.irs_answers.specs.Steps.{Is}
@@ -7,7 +8,7 @@ use Rattle.irs_answers.specs.Tasks.{IsLawfulTask}
 use Rattle.irs_bulk.specs.BulkRuns.{DueBulk}
 use Rattle.irs_bulk.specs.Documents.{most_bulk}
 use Rattle.irs_cli.specs.declared.commands.Request.{Request}
-use Rattle.irs_cli.specs.declared.commands.Request.TheVariants.{OverFiles, Bulk}
+use Rattle.irs_cli.specs.declared.commands.Request.TheVariants.{OverFiles, Bulk, Carrier}
 use Rattle.irs_cli.specs.Commands.{Words, Asked, Asks, IsListed}
 use Rattle.irs_cli.specs.Given.{Told, AreTold, IsFirstLong, TellsAll}
 use Rattle.irs_cli.specs.Messages.{bad_words, too_long}
@@ -16,11 +17,13 @@ use Rattle.irs_cli.specs.Messages.{bad_words, too_long}
 abbrev pub DueOf : Request → Given → ℕ → List ℕ → Type 0
 DueOf (OverFiles task) g status text = DueFor task g status text
 DueOf (Bulk n) g status text = DueBulk n status text
+DueOf Carrier g status text = DueCarrier g.document.bytes status text
 
 -- the parameters of a request lie in their ranges
 abbrev pub IsLawfulRequest : Request → Type 0
 IsLawfulRequest (OverFiles task) = IsLawfulTask task
 IsLawfulRequest (Bulk n) = n ≤ most_bulk
+IsLawfulRequest Carrier = Unit {0}
 
 -- how words and files may be: the words are no listed command, a file is too long, or all files are told
 pub data WordsCase (ws : Words) (told : Told) : Type 0 where

@@ -3,25 +3,31 @@ use Rattle.std.specs.Prelude.{◌≡◌, ◌⊎◌, ℕ, ◌<◌, ◌≤◌, Lis
 use Rattle.irs_answers.specs.Given.{Given, no_files, too_many}
 use Rattle.irs_cli.specs.declared.commands.Role.{Role}
 use Rattle.irs_cli.specs.declared.commands.Role.TheVariants.{Document, Fixings, Flows, Calendar}
+use Rattle.irs_answers.specs.Forms.{Written}
 use Rattle.irs_cli.specs.Commands.{Words, Wanted, Asked, Asks}
+use Rattle.irs_cli.specs.Params.{form_of}
 
 -- what a source tells of each name
 abbrev pub Told : Type 0
 Told = List ℕ → Option (List ℕ)
 
--- the files with one more
-abbrev pub with_file : Given → Role → List ℕ → Given
-with_file g Document bytes = record { document = bytes; fixings = g.fixings; flows = g.flows; calendars = g.calendars }
-with_file g Fixings bytes =
-    record { document = g.document; fixings = Some bytes; flows = g.flows; calendars = g.calendars }
-with_file g Flows bytes = record { document = g.document; fixings = g.fixings; flows = bytes; calendars = g.calendars }
-with_file g Calendar bytes =
-    record { document = g.document; fixings = g.fixings; flows = g.flows; calendars = g.calendars ++ bytes ∷ [] }
+-- the text of a file of this name, whose form its name says
+abbrev pub text_as : List ℕ → List ℕ → Written
+text_as name bytes = record { form = form_of name; bytes = bytes }
+
+-- the files with one more; the form counts for the document and for the flows alone
+abbrev pub with_file : Given → Role → Written → Given
+with_file g Document t = record { document = t; fixings = g.fixings; flows = g.flows; calendars = g.calendars }
+with_file g Fixings t =
+    record { document = g.document; fixings = Some t.bytes; flows = g.flows; calendars = g.calendars }
+with_file g Flows t = record { document = g.document; fixings = g.fixings; flows = t; calendars = g.calendars }
+with_file g Calendar t =
+    record { document = g.document; fixings = g.fixings; flows = g.flows; calendars = g.calendars ++ t.bytes ∷ [] }
 
 -- h is g with the files of the list, in order and by role; R holds of each name and its bytes
 abbrev pub Gathers : (R : List ℕ → List ℕ → Type 0) → List Wanted → Given → Given → Type 0
 Gathers R [] g h = h ≡ g
-Gathers R (w ∷ ws) g h = (bytes : List ℕ) × R w.name bytes × Gathers R ws (with_file g w.role bytes) h
+Gathers R (w ∷ ws) g h = (bytes : List ℕ) × R w.name bytes × Gathers R ws (with_file g w.role (text_as w.name bytes)) h
 
 -- P holds of each file
 abbrev pub Each : (P : Wanted → Type 0) → List Wanted → Type 0

@@ -1,5 +1,9 @@
--- The words of a command that are parameters and no files.
+-- The words of a command that are parameters and no files; and what a file's name says of its form.
 use Rattle.std.specs.Prelude.{◌≡◌, ℕ, ◌+◌, ◌*◌, ◌≤◌, List, [], ◌∷◌, codes, decimal, Option, Some, None, slice_get, ℤ}
+use Rattle.std.specs.Prelude.{nat_eq, if◌then◌else◌}
+use Rattle.std.specs.List.{ends_with}
+use Rattle.irs_answers.specs.declared.forms.Form.{Form}
+use Rattle.irs_answers.specs.declared.forms.Form.TheVariants.{Json, Xml}
 use Rattle.irs_base.specs.Days.{IsDay}
 use Rattle.irs_base.specs.Limits.{most_streams}
 use Rattle.irs_base.specs.Texts.{IsDateText}
@@ -35,6 +39,10 @@ pub record IsStreamWord (w : List ℕ) (n : ℕ) : Type 0 where
   pub from_one : 1 ≤ n
   pub to_eight : n ≤ most_streams
   pub is : w ≡ (48 + n) ∷ []
+
+-- the form of a document or of cash flows: XML where the name of the file ends in `.xml`, and else JSON
+abbrev pub form_of : List ℕ → Form
+form_of name = if ends_with nat_eq name (codes ".xml") then Xml else Json
 
 -- the name of a mean
 abbrev pub mean_name : Mean → List ℕ

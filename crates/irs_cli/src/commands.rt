@@ -10,7 +10,10 @@
 //! `interpolate STREAM SIDE LOW HIGH DOC FIX CAL..` for the rate of its stub on a side between those of
 //! two tenors. `-` as FIX or DAILY means no fixings. Each takes 0 to 16 calendars.
 //!
-//! `bulk N` adds up the schedules of N documents of its own, and names no file.
+//! `bulk N` adds up the schedules of N documents of its own, and names no file. `carrier DOC` asks for the
+//! value of a document in XML as JSON; the name of DOC ends in `.xml`.
+//!
+//! A document or cash flows whose file's name ends in `.xml` are FpML XML, and else JSON.
 //!
 //! A command is data: how many of its words are parameters, the roles of its files in the order of the
 //! words, and how many calendars may follow.
@@ -19,7 +22,7 @@ ghost use Rattle.irs_cli.specs.Commands.{texts, kind_of, params_of, roles_of, ca
 ghost use Rattle.irs_cli.specs.Commands.{IsRequest, IsCommand, IsCommandAs, asked_by, wanted_by, files_from};
 ghost use Rattle.irs_cli.specs.Commands.{most_words};
 
-use crate::params::{accrue_of, average_of, bulk_of, interpolate_of, overnight_of};
+use crate::params::{accrue_of, average_of, bulk_of, carrier_of, interpolate_of, overnight_of};
 use irs_answers::Task;
 use irs_base::{MOST_FILES, Memory};
 use std::alloc::Global;
@@ -47,6 +50,8 @@ pub(crate) enum Kind {
     Average,
     /// `interpolate`: the rate of a stub between those of two tenors.
     Interpolate,
+    /// `carrier`: the value of a document in XML, as JSON.
+    Carrier,
 }
 
 /// What is asked for, with its parameters.
@@ -56,6 +61,8 @@ pub(crate) enum Request {
     OverFiles(Task),
     /// The sums over so many documents, which no word names.
     Bulk(u32),
+    /// The value of a document in XML, as JSON.
+    Carrier,
 }
 
 /// What a file is to a command.
@@ -115,6 +122,8 @@ fn kind_of(word: &str) -> Option<Kind>
         Some(Kind::Average)
     } else if word == "interpolate" {
         Some(Kind::Interpolate)
+    } else if word == "carrier" {
+        Some(Kind::Carrier)
     } else {
         None
     }
@@ -136,6 +145,7 @@ impl Kind {
             Kind::Overnight => 1,
             Kind::Average => 3,
             Kind::Interpolate => 4,
+            Kind::Carrier => 0,
         }
     }
 
@@ -154,6 +164,7 @@ impl Kind {
             Kind::Overnight => &[Role::Document, Role::Fixings],
             Kind::Average => &[Role::Document, Role::Fixings],
             Kind::Interpolate => &[Role::Document, Role::Fixings],
+            Kind::Carrier => &[Role::Document],
         }
     }
 
@@ -172,6 +183,7 @@ impl Kind {
             Kind::Overnight => MOST_FILES,
             Kind::Average => MOST_FILES,
             Kind::Interpolate => MOST_FILES,
+            Kind::Carrier => 0,
         }
     }
 }
@@ -200,11 +212,10 @@ fn command_as<'w>(
     if !counts(kind, words.len()) {
         return Ok(None);
     }
-    let (params, names) = words.split_at(kind.params());
-    let Some(request) = request_of(kind, params) else {
+    let Some(request) = request_of(kind, words) else {
         return Ok(None);
     };
-    let files = files_of(alloc, kind, names)?;
+    let files = files_of(alloc, kind, &words[kind.params()..])?;
     Ok(Some(Command { request, files }))
 }
 
@@ -216,22 +227,23 @@ fn counts(kind: Kind, words: usize) -> bool
     least <= words && words <= least + kind.calendars()
 }
 
-/// What a command asks for by its parameters.
-fn request_of(kind: Kind, params: &[String]) -> Option<Request>
-    ensures some { IfSome result (λ r. IsRequest kind (texts params.now) r) }
-    ensures none { IfNone result ((r : RequestSpec) → IsRequest kind (texts params.now) r → ⊥) }
+/// What a command asks for by the words behind its name.
+fn request_of(kind: Kind, words: &[String]) -> Option<Request>
+    ensures some { IfSome result (λ r. IsRequest kind (texts words.now) r) }
+    ensures none { IfNone result ((r : RequestSpec) → IsRequest kind (texts words.now) r → ⊥) }
 {
     match kind {
         Kind::Check => Some(Request::OverFiles(Task::Check)),
         Kind::Schedule => Some(Request::OverFiles(Task::Schedule)),
         Kind::Audit => Some(Request::OverFiles(Task::Audit)),
-        Kind::Bulk => bulk_of(params),
+        Kind::Bulk => bulk_of(words),
         Kind::Emit => Some(Request::OverFiles(Task::Emit)),
-        Kind::Accrue => accrue_of(params),
+        Kind::Accrue => accrue_of(words),
         Kind::Net => Some(Request::OverFiles(Task::Net)),
-        Kind::Overnight => overnight_of(params),
-        Kind::Average => average_of(params),
-        Kind::Interpolate => interpolate_of(params),
+        Kind::Overnight => overnight_of(words),
+        Kind::Average => average_of(words),
+        Kind::Interpolate => interpolate_of(words),
+        Kind::Carrier => carrier_of(words),
     }
 }
 

@@ -1,6 +1,7 @@
 //! Fetching the files of a command: all of them, in the order of the words.
 ghost use Rattle.std.specs.Prelude.{◌≡◌, ℕ, List, map, OnOk};
 ghost use Rattle.irs_cli.specs.Commands.{wanted_by};
+ghost use Rattle.irs_answers.specs.Forms.{written_by};
 ghost use Rattle.irs_answers.specs.Given.{given_by};
 ghost use Rattle.irs_cli.specs.Given.{with_file};
 ghost use Rattle.irs_cli.specs.Fetching.{FetchesOne, FetchesAll};
@@ -8,7 +9,8 @@ ghost use Rattle.irs_cli.specs.declared.fetching.Unfetched.TheVariants.{Memory a
 
 use crate::commands::{Named, Role};
 use crate::{FetchErr, Files};
-use irs_answers::TaskFiles;
+use crate::params::form_of;
+use irs_answers::{Source, TaskFiles};
 use irs_base::{MOST_BYTES, Memory};
 use std::alloc::Global;
 
@@ -34,15 +36,15 @@ impl From<Memory> for Unfetched {
     }
 }
 
-/// Takes the bytes of a file by its role.
-fn put_file(files: &mut TaskFiles, role: Role, bytes: Vec<u8>) -> Result<(), Memory>
-    ensures { OnOk result (given_by files.new ≡ with_file (given_by files.old) role bytes.items) }
+/// Takes the text of a file by its role; the form counts for the document and for the flows alone.
+fn put_file(files: &mut TaskFiles, role: Role, text: Source) -> Result<(), Memory>
+    ensures { OnOk result (given_by files.new ≡ with_file (given_by files.old) role (written_by text)) }
 {
     match role {
-        Role::Document => files.document = bytes,
-        Role::Fixings => files.fixings = Some(bytes),
-        Role::Flows => files.flows = bytes,
-        Role::Calendar => files.calendars.push(bytes)?,
+        Role::Document => files.document = text,
+        Role::Fixings => files.fixings = Some(text.bytes),
+        Role::Flows => files.flows = text,
+        Role::Calendar => files.calendars.push(text.bytes)?,
     }
     Ok(())
 }
@@ -60,7 +62,8 @@ pub(crate) fn fetch_all<F: Files>(
     let mut fetched = TaskFiles::new(alloc);
     for named in names {
         let bytes = fetch(alloc, files, named.name, named.place)?;
-        put_file(&mut fetched, named.role, bytes)?;
+        let form = form_of(named.name);
+        put_file(&mut fetched, named.role, Source { form, bytes })?;
     }
     Ok(fetched)
 }

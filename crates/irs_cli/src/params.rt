@@ -1,9 +1,9 @@
-//! The words of a command that are parameters and no files.
+//! What the words of a command ask for: its parameters, and the name that `carrier` takes.
 ghost use Rattle.std.specs.Prelude.{◌≡◌, ◌↔◌, ℕ, ℤ, Some, IfSome, IfNone, IsTrue};
 ghost use Rattle.irs_resets.specs.Tenors.{tenor_at};
 ghost use Rattle.irs_cli.specs.Commands.{texts, IsRequest};
 ghost use Rattle.irs_cli.specs.Params.{At, IsCountWord, IsDateWord, IsMeanWord, IsSideWord, IsStepWord, IsStreamWord};
-ghost use Rattle.irs_cli.specs.Params.{IsTenorWord, days_of};
+ghost use Rattle.irs_cli.specs.Params.{IsTenorWord, days_of, form_of};
 ghost use Rattle.irs_cli.specs.declared.commands.Kind.TheVariants as kind;
 ghost use Rattle.irs_cli.specs.declared.commands.Request.{Request as RequestSpec};
 ghost use Rattle.irs_average.specs.declared.means.Mean.{Mean as MeanSpec};
@@ -11,7 +11,7 @@ ghost use Rattle.irs_average.specs.declared.stubs.Side.{Side as SideSpec};
 ghost use Rattle.irs_terms.specs.declared.frequency.Frequency.{Frequency as FrequencySpec};
 
 use crate::commands::Request;
-use irs_answers::Task;
+use irs_answers::{Form, Task};
 use irs_average::{Mean, Side};
 use irs_base::{Day, read_date};
 use irs_bulk::MOST_BULK;
@@ -19,64 +19,88 @@ use irs_resets::tenor;
 use irs_terms::{Frequency, Unit};
 
 /// `accrue DATE` by its parameter.
-pub(crate) fn accrue_of(params: &[String]) -> Option<Request>
-    ensures some { IfSome result (λ r. IsRequest kind.Accrue (texts params.now) r) }
-    ensures none { IfNone result ((r : RequestSpec) → IsRequest kind.Accrue (texts params.now) r → ⊥) }
+pub(crate) fn accrue_of(words: &[String]) -> Option<Request>
+    ensures some { IfSome result (λ r. IsRequest kind.Accrue (texts words.now) r) }
+    ensures none { IfNone result ((r : RequestSpec) → IsRequest kind.Accrue (texts words.now) r → ⊥) }
 {
-    match date_at(params, 0) {
+    match date_at(words, 0) {
         Some(date) => Some(Request::OverFiles(Task::Accrue(date))),
         None => None,
     }
 }
 
 /// `bulk N` by its parameter.
-pub(crate) fn bulk_of(params: &[String]) -> Option<Request>
-    ensures some { IfSome result (λ r. IsRequest kind.Bulk (texts params.now) r) }
-    ensures none { IfNone result ((r : RequestSpec) → IsRequest kind.Bulk (texts params.now) r → ⊥) }
+pub(crate) fn bulk_of(words: &[String]) -> Option<Request>
+    ensures some { IfSome result (λ r. IsRequest kind.Bulk (texts words.now) r) }
+    ensures none { IfNone result ((r : RequestSpec) → IsRequest kind.Bulk (texts words.now) r → ⊥) }
 {
-    match count_at(params, 0) {
+    match count_at(words, 0) {
         Some(count) => Some(Request::Bulk(count)),
         None => None,
     }
 }
 
 /// `overnight STREAM` by its parameter.
-pub(crate) fn overnight_of(params: &[String]) -> Option<Request>
-    ensures some { IfSome result (λ r. IsRequest kind.Overnight (texts params.now) r) }
-    ensures none { IfNone result ((r : RequestSpec) → IsRequest kind.Overnight (texts params.now) r → ⊥) }
+pub(crate) fn overnight_of(words: &[String]) -> Option<Request>
+    ensures some { IfSome result (λ r. IsRequest kind.Overnight (texts words.now) r) }
+    ensures none { IfNone result ((r : RequestSpec) → IsRequest kind.Overnight (texts words.now) r → ⊥) }
 {
-    match stream_at(params, 0) {
+    match stream_at(words, 0) {
         Some(stream) => Some(Request::OverFiles(Task::Overnight(stream))),
         None => None,
     }
 }
 
 /// `average STREAM KIND STEP` by its parameters.
-pub(crate) fn average_of(params: &[String]) -> Option<Request>
-    ensures some { IfSome result (λ r. IsRequest kind.Average (texts params.now) r) }
-    ensures none { IfNone result ((r : RequestSpec) → IsRequest kind.Average (texts params.now) r → ⊥) }
+pub(crate) fn average_of(words: &[String]) -> Option<Request>
+    ensures some { IfSome result (λ r. IsRequest kind.Average (texts words.now) r) }
+    ensures none { IfNone result ((r : RequestSpec) → IsRequest kind.Average (texts words.now) r → ⊥) }
 {
-    let stream = stream_at(params, 0)?;
-    let mean = mean_at(params, 1)?;
-    let step = step_at(params, 2)?;
+    let stream = stream_at(words, 0)?;
+    let mean = mean_at(words, 1)?;
+    let step = step_at(words, 2)?;
     Some(Request::OverFiles(Task::Average { stream, mean, step }))
 }
 
 /// `interpolate STREAM SIDE LOW HIGH` by its parameters.
-pub(crate) fn interpolate_of(params: &[String]) -> Option<Request>
-    ensures some { IfSome result (λ r. IsRequest kind.Interpolate (texts params.now) r) }
-    ensures none { IfNone result ((r : RequestSpec) → IsRequest kind.Interpolate (texts params.now) r → ⊥) }
+pub(crate) fn interpolate_of(words: &[String]) -> Option<Request>
+    ensures some { IfSome result (λ r. IsRequest kind.Interpolate (texts words.now) r) }
+    ensures none { IfNone result ((r : RequestSpec) → IsRequest kind.Interpolate (texts words.now) r → ⊥) }
 {
-    let stream = stream_at(params, 0)?;
-    let side = side_at(params, 1)?;
-    let low = tenor_at(params, 2)?;
-    let high = tenor_at(params, 3)?;
+    let stream = stream_at(words, 0)?;
+    let side = side_at(words, 1)?;
+    let low = tenor_at(words, 2)?;
+    let high = tenor_at(words, 3)?;
     Some(Request::OverFiles(Task::Interpolate {
         stream,
         side,
         low,
         high,
     }))
+}
+
+/// `carrier DOC` by the name of its file, which ends in `.xml`.
+pub(crate) fn carrier_of(words: &[String]) -> Option<Request>
+    ensures some { IfSome result (λ r. IsRequest kind.Carrier (texts words.now) r) }
+    ensures none { IfNone result ((r : RequestSpec) → IsRequest kind.Carrier (texts words.now) r → ⊥) }
+{
+    let name = words.first()?;
+    match form_of(name.as_str()) {
+        Form::Xml => Some(Request::Carrier),
+        Form::Json => None,
+    }
+}
+
+/// The form of a document or of cash flows, by the name of the file: XML where it ends in `.xml`, and else
+/// JSON.
+pub(crate) fn form_of(name: &str) -> Form
+    ensures { result ≡ form_of name.now }
+{
+    if name.as_bytes().ends_with(b".xml") {
+        Form::Xml
+    } else {
+        Form::Json
+    }
 }
 
 // The day that the word with this index is a date of.

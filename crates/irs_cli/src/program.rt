@@ -17,7 +17,7 @@ use crate::fetching::fetch_all;
 use crate::putting::put_reply;
 use crate::refusals::Refusal;
 use crate::{Files, Sink};
-use irs_answers::{Reply, TaskFiles, reply_of};
+use irs_answers::{Reply, TaskFiles, carrier, reply_of};
 use irs_base::{Memory, Status};
 use irs_bulk::bulk;
 use std::alloc::Global;
@@ -32,7 +32,8 @@ use std::alloc::Global;
 /// `interpolate STREAM SIDE LOW HIGH DOC FIX CAL..`, with 0 to 16 calendars, and `-` as FIX or DAILY for
 /// no fixings.
 /// All files are fetched first, in the order of the words; the flows are read when no rule is broken.
-/// `bulk N`, with N from 1 to 500, names no file.
+/// `bulk N`, with N from 1 to 500, names no file. `carrier DOC` prints the value of a document in XML as
+/// JSON; its name ends in `.xml`. Every DOC and FLOWS with such a name is read as XML, and else as JSON.
 pub fn run<F: Files, S: Sink>(alloc: Global, words: &[String], files: &mut F, out: &mut S) -> u8
     // The statuses are 0 to 8, and what the files tell is the same afterwards.
     ensures listed { result < 9 }
@@ -114,5 +115,6 @@ fn reply_to(alloc: Global, request: Request, files: &TaskFiles) -> Result<Reply,
     match request {
         Request::OverFiles(task) => reply_of(alloc, task, files),
         Request::Bulk(count) => bulk(alloc, count),
+        Request::Carrier => carrier(alloc, &files.document.bytes),
     }
 }

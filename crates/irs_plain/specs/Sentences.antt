@@ -2,9 +2,10 @@
 use Rattle.irs_plain.specs.Cuts.{fifth, fourth, front, second, sixth, third}
 use Rattle.irs_plain.specs.Elements.{holder, name_words, possessive}
 use Rattle.irs_plain.specs.Lookup.{after, before}
-use Rattle.irs_plain.specs.Words.{calendar_name, fixings_name, flows_name, named}
+use Rattle.irs_plain.specs.Words.{calendar_name, document_name, fixings_name, flows_name, named}
 use Rattle.irs_plain.specs.declared.lines.Sentence.{Sentence}
-use Rattle.std.specs.Prelude.{ℕ, ◌==◌, ◌||◌, Bool, not, List, [], ◌∷◌, ◌++◌, map, codes, if◌then◌else◌}
+use Rattle.std.specs.Prelude.{ℕ, ◌==◌, ◌||◌, ◌&&◌, nat_eq, Bool, not, List, [], ◌∷◌, ◌++◌, map, codes, if◌then◌else◌}
+use Rattle.std.specs.List.{ends_with}
 use Rattle.std.specs.Str.{bytes_eq}
 
 -- parts one behind the other
@@ -26,20 +27,30 @@ unless_zero number text = if bytes_eq number (codes "0") then [] else text
 abbrev pub number_told : List ℕ → List ℕ → List ℕ
 number_told rule index = if bytes_eq rule (codes "K12") then codes "0" else index
 
--- what a rule says of an element, behind three parts
-abbrev pub about : List ℕ → List ℕ → List ℕ → List ℕ → List ℕ → List ℕ → List ℕ → List (List ℕ)
-about one two three rule stream path index =
+-- a text has no reading: the rule of a document, or the fault of cash flows
+abbrev pub is_unread : List ℕ → Bool
+is_unread rule = bytes_eq rule (codes "K1") || bytes_eq rule (codes "notjson")
+
+-- what is said behind the element of a text in the file of this name; without a reading, by the form of the text
+abbrev pub after_in : List ℕ → List ℕ → List ℕ
+after_in file rule =
+    if ends_with nat_eq file (codes ".xml") && is_unread rule then codes " isn't XML that this program reads"
+    else after rule
+
+-- what a rule says of an element of a text in the file of this name, behind three parts
+abbrev pub about : List ℕ → List ℕ → List ℕ → List ℕ → List ℕ → List ℕ → List ℕ → List ℕ → List (List ℕ)
+about one two three file rule stream path index =
     one ∷ two ∷ three
-    ∷ before rule ∷ holder path ∷ possessive (holder path) ∷ name_words path ∷ after rule
+    ∷ before rule ∷ holder path ∷ possessive (holder path) ∷ name_words path ∷ after_in file rule
     ∷ unless_zero stream (codes " (stream ") ∷ unless_zero stream stream
     ∷ unless_zero index (codes ", number ") ∷ unless_zero index index
     ∷ unless_zero stream (codes ")")
     ∷ []
 
 -- `refused RULE STREAM PATH INDEX`
-abbrev pub refused : List ℕ → List (List ℕ)
-refused line =
-    about (second line) (codes ": ") [] (second line) (third line) (fourth line)
+abbrev pub refused : List (List ℕ) → List ℕ → List (List ℕ)
+refused words line =
+    about (second line) (codes ": ") [] (document_name words) (second line) (third line) (fourth line)
     (number_told (second line) (fifth line))
 
 -- ---- a file at fault
@@ -72,7 +83,7 @@ bad_fixings words line =
 -- `bad flows KIND STREAM PATH INDEX`
 abbrev pub bad_flows : List (List ℕ) → List ℕ → List (List ℕ)
 bad_flows words line =
-    about (codes "cash flows (") (flows_name words) (codes "): ") (third line) (fourth line) (fifth line) (sixth line)
+    about (codes "cash flows (") (flows_name words) (codes "): ") (flows_name words) (third line) (fourth line) (fifth line) (sixth line)
 
 -- a file that is outside its grammar or its limits
 abbrev pub bad_file : List (List ℕ) → List ℕ → List (List ℕ)
@@ -123,7 +134,7 @@ departure words line =
 abbrev pub told : List (List ℕ) → ℕ → List ℕ → List (List ℕ)
 told words status line =
     if status == 1 then departure words line
-    else (if status == 2 then refused line
+    else (if status == 2 then refused words line
     else (if status == 3 then bad_file words line
     else (if status == 4 then codes "these words are no listed command: " ∷ codes "irs --help lists them" ∷ []
     else (if status == 5 then codes "couldn't be read: " ∷ named words (third line) ∷ []

@@ -44,6 +44,13 @@ fixings_place command =
     else (if bytes_eq command (codes "average") then 5
     else (if bytes_eq command (codes "interpolate") then 6 else 2))
 
+-- the place of the document
+abbrev pub document_place : List ℕ → ℕ
+document_place command =
+    if bytes_eq command (codes "accrue") || bytes_eq command (codes "overnight") then 2
+    else (if bytes_eq command (codes "average") then 4
+    else (if bytes_eq command (codes "interpolate") then 5 else 1))
+
 -- the command
 abbrev pub command : List (List ℕ) → List ℕ
 command words = word_at words 0
@@ -55,6 +62,10 @@ calendar_name words n = word_at words (before_calendars (command words) + number
 -- the name of the file of fixings
 abbrev pub fixings_name : List (List ℕ) → List ℕ
 fixings_name words = word_at words (fixings_place (command words))
+
+-- the name of the document
+abbrev pub document_name : List (List ℕ) → List ℕ
+document_name words = word_at words (document_place (command words))
 
 -- the name of the document of cash flows
 abbrev pub flows_name : List (List ℕ) → List ℕ

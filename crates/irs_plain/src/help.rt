@@ -3,7 +3,7 @@
 /// The listed commands. DOC is a document of terms, FLOWS one of cash flows, FIX and DAILY are files of
 /// fixings or `-` for none, CAL is a calendar file, DATE a date; the other words are those of the
 /// command.
-pub const COMMANDS: [&str; 10] = [
+pub const COMMANDS: [&str; 11] = [
     "check DOC CAL..",
     "schedule DOC FIX CAL..",
     "audit DOC FIX FLOWS CAL..",
@@ -13,6 +13,7 @@ pub const COMMANDS: [&str; 10] = [
     "overnight STREAM DOC DAILY CAL..",
     "average STREAM KIND STEP DOC FIX CAL..",
     "interpolate STREAM SIDE LOW HIGH DOC FIX CAL..",
+    "carrier DOC",
     "bulk N",
 ];
 
@@ -32,11 +33,12 @@ irs: proved schedules of interest rate swaps
                                   fixings of a stream, averaged; KIND is plain or weighted
   irs interpolate STREAM SIDE LOW HIGH DOC FIX CAL..
                                   the fixing of a stub between two tenors; SIDE is initial or final
+  irs carrier DOC                 the JSON value of a document in XML
   irs bulk N                      makes and audits the schedules of 1 to 500 built-in documents
 
-DOC is a document of terms and FLOWS one of cash flows, both FpML carried as JSON. FIX and DAILY are
-files of fixings, or - for none. CAL.. are 0 to 16 calendar files. DATE is YYYY-MM-DD, STREAM a
-number from 1; STEP, LOW and HIGH are periods such as 1D or 3M.
+DOC is a document of terms and FLOWS one of cash flows: FpML XML where the name ends in .xml, else FpML
+carried as JSON. FIX and DAILY are files of fixings, or - for none. CAL.. are 0 to 16 calendar files.
+DATE is YYYY-MM-DD, STREAM a number from 1; STEP, LOW and HIGH are periods such as 1D or 3M.
 
 Status  0 done                                 5 a file couldn't be read
         1 the cash flows depart                6 standard output couldn't be written

@@ -1,6 +1,7 @@
 //! The sentence for a line that the program wrote: what it means, with the names of the files that it
 //! speaks of.
-ghost use Rattle.irs_plain.specs.Sentences.{about as about_of, bad_calendar as bad_calendar_of};
+ghost use Rattle.irs_plain.specs.Sentences.{about as about_of, after_in as after_in_of, is_unread as is_unread_of};
+ghost use Rattle.irs_plain.specs.Sentences.{bad_calendar as bad_calendar_of};
 ghost use Rattle.irs_plain.specs.Sentences.{bad_file as bad_file_of, bad_fixings as bad_fixings_of};
 ghost use Rattle.irs_plain.specs.Sentences.{bad_flows as bad_flows_of, calendar_fault as calendar_fault_of};
 ghost use Rattle.irs_plain.specs.Sentences.{departure as departure_of, ending as ending_of};
@@ -15,7 +16,7 @@ ghost use Rattle.std.specs.Prelude.{◌≡◌, [], ◌∷◌};
 use crate::cuts::{fifth, fourth, front, is, second, sixth, third};
 use crate::elements::{holder, name_words, possessive};
 use crate::lookup::{after, before};
-use crate::words::{calendar_name, fixings_name, flows_name, named};
+use crate::words::{calendar_name, document_name, fixings_name, flows_name, named};
 use irs_base::Status;
 
 /// The most parts of a sentence.
@@ -39,12 +40,13 @@ fn short<'a>(first: &'a [u8], second: &'a [u8], third: &'a [u8]) -> Sentence<'a>
     }
 }
 
-// The first three parts of a sentence.
+// The first three parts of a sentence on a text, and the name of the text's file.
 #[derive(Clone, Copy)]
 struct Opening<'a> {
     first: &'a [u8],
     second: &'a [u8],
     third: &'a [u8],
+    file: &'a [u8],
 }
 
 // ---- a broken rule
@@ -63,6 +65,24 @@ fn number_told<'a>(rule: &[u8], index: &'a [u8]) -> &'a [u8]
     if is(rule, "K12") { b"0" } else { index }
 }
 
+// Whether the text has no reading, by the rule of a document or the fault of cash flows.
+fn is_unread(rule: &[u8]) -> bool
+    ensures { result ≡ is_unread_of rule.now }
+{
+    is(rule, "K1") || is(rule, "notjson")
+}
+
+// What is said behind the element of a text in the file of this name; without a reading, by the form of the text.
+fn after_in<'a>(file: &[u8], rule: &[u8]) -> &'a [u8]
+    ensures { result.now ≡ after_in_of file.now rule.now }
+{
+    if file.ends_with(b".xml") && is_unread(rule) {
+        b" isn't XML that this program reads"
+    } else {
+        after(rule)
+    }
+}
+
 // What a rule says of an element, behind an opening of three parts.
 fn about<'a>(
     opening: Opening<'a>,
@@ -72,8 +92,8 @@ fn about<'a>(
     index: &'a [u8],
 ) -> Sentence<'a>
     ensures { said result
-        ≡ joined (about_of opening.entry.first.now opening.entry.second.now opening.entry.third.now rule.now stream.now
-        path.now index.now) }
+        ≡ joined (about_of opening.entry.first.now opening.entry.second.now opening.entry.third.now
+        opening.entry.file.now rule.now stream.now path.now index.now) }
 {
     Sentence {
         parts: [
@@ -84,7 +104,7 @@ fn about<'a>(
             holder(path),
             possessive(holder(path)),
             name_words(path),
-            after(rule),
+            after_in(opening.file, rule),
             unless_zero(stream, b" (stream "),
             unless_zero(stream, stream),
             unless_zero(index, b", number "),
@@ -95,14 +115,15 @@ fn about<'a>(
 }
 
 // `refused RULE STREAM PATH INDEX`.
-fn refused(line: &[u8]) -> Sentence<'_>
-    ensures { said result ≡ joined (refused_of line.now) }
+fn refused<'a>(words: &'a [String], line: &'a [u8]) -> Sentence<'a>
+    ensures { said result ≡ joined (refused_of (texts words.now) line.now) }
 {
     let rule = second(line);
     let opening = Opening {
         first: rule,
         second: b": ",
         third: b"",
+        file: document_name(words),
     };
     let index = number_told(rule, fifth(line));
     about(opening, rule, third(line), fourth(line), index)
@@ -188,6 +209,7 @@ fn bad_flows<'a>(words: &'a [String], line: &'a [u8]) -> Sentence<'a>
         first: b"cash flows (",
         second: flows_name(words),
         third: b"): ",
+        file: flows_name(words),
     };
     about(opening, third(line), fourth(line), fifth(line), sixth(line))
 }
@@ -296,7 +318,7 @@ fn told<'a>(words: &'a [String], status: u8, line: &'a [u8]) -> Sentence<'a>
 {
     match Status::of(status) {
         Some(Status::NotAgreed) => departure(words, line),
-        Some(Status::RuleBroken) => refused(line),
+        Some(Status::RuleBroken) => refused(words, line),
         Some(Status::BadFile) => bad_file(words, line),
         Some(Status::BadWords) => short(
             b"these words are no listed command: ",

@@ -2,8 +2,10 @@
 //!
 //! `check DOC CAL..`, `schedule DOC FIX CAL..`, `audit DOC FIX FLOWS CAL..`, `emit DOC FIX CAL..`,
 //! `net DOC FIX CAL..`, `accrue DATE DOC FIX CAL..`, `overnight STREAM DOC DAILY CAL..`,
-//! `average STREAM KIND STEP DOC FIX CAL..` and `interpolate STREAM SIDE LOW HIGH DOC FIX CAL..`.
+//! `average STREAM KIND STEP DOC FIX CAL..`, `interpolate STREAM SIDE LOW HIGH DOC FIX CAL..` and
+//! `carrier DOC`.
 ghost use Rattle.irs_plain.specs.Words.{calendar_name as calendar_name_of, command as command_of};
+ghost use Rattle.irs_plain.specs.Words.{document_name as document_name_of, document_place as document_place_of};
 ghost use Rattle.irs_plain.specs.Words.{fixings_name as fixings_name_of, fixings_place as fixings_place_of};
 ghost use Rattle.irs_plain.specs.Words.{flows_name as flows_name_of, named as named_of, number as number_of, texts};
 ghost use Rattle.irs_plain.specs.Words.{word_at as word_at_of, before_calendars as before_calendars_of};
@@ -74,6 +76,21 @@ fn fixings_place(command: &[u8]) -> usize
     }
 }
 
+// The place of the document.
+fn document_place(command: &[u8]) -> usize
+    ensures { result ≡ document_place_of command.now }
+{
+    if is(command, "accrue") || is(command, "overnight") {
+        2
+    } else if is(command, "average") {
+        4
+    } else if is(command, "interpolate") {
+        5
+    } else {
+        1
+    }
+}
+
 // The command.
 fn command(words: &[String]) -> &[u8]
     ensures { result.now ≡ command_of (texts words.now) }
@@ -96,6 +113,13 @@ pub(crate) fn fixings_name(words: &[String]) -> &[u8]
     ensures { result.now ≡ fixings_name_of (texts words.now) }
 {
     word_at(words, fixings_place(command(words)))
+}
+
+/// The name of the document.
+pub(crate) fn document_name(words: &[String]) -> &[u8]
+    ensures { result.now ≡ document_name_of (texts words.now) }
+{
+    word_at(words, document_place(command(words)))
 }
 
 /// The name of the document of cash flows, which `audit` alone has.

@@ -15,7 +15,7 @@ mod ContentLaws
 mod MiscSteps
 mod DocumentLaws
 mod RootLaws
-mod TextLaws
+pub mod TextLaws
 mod SizeLaws
 mod Seeing
 mod Allowed

@@ -6,12 +6,12 @@ use Rattle.serde_json.specs.View.{view}
 use Rattle.irs_calendar.specs.Calendars.{spot_of}
 use Rattle.irs_calendar.specs.FirstFaults.{IsFirstFault}
 use Rattle.irs_calendar.specs.Grammar.{CalFiles}
-use Rattle.irs_json.specs.Reading.{Reads}
+use Rattle.irs_answers.specs.Forms.{Spelt}
 use Rattle.irs_answers.specs.declared.refusals.Refusal.TheVariants.{Rule, Calendars, Fixings}
 use Rattle.irs_answers.specs.Due.{DueFor, Spells, facts}
 use Rattle.irs_answers.specs.Given.{given_by}
-use Rattle.irs_answers.specs.Outcomes.{IfRefused, Ends, of_json, of_stopped}
-use Rattle.irs_answers.proofs.DueLemmas.{passes_by, refuse_json, refuse_read, refuse_sides, refuse_calendars}
+use Rattle.irs_answers.specs.Outcomes.{IfRefused, Ends, of_read, of_stopped}
+use Rattle.irs_answers.proofs.DueLemmas.{passes_by, refuse_text, refuse_read, refuse_sides, refuse_calendars}
 use Rattle.irs_answers.proofs.DueLemmas.{refuse_fixings, refuse_rules}
 use Rattle.irs_answers.proofs.FileLimits.{all_small}
 use Rattle.irs_answers.proofs.StepLemmas.{refused_by}
@@ -19,7 +19,7 @@ use Rattle.irs_answers.proofs.due.find.Goals as goal
 
 pub read-requires-clause-short : goal.read-requires-clause-short
 read-requires-clause-short c =
-    rw c.deref-2.ensures.value (all_small c.args.files.now.calendars.items c.requires.calendars)
+    rw c.deref.ensures.value (all_small c.args.files.now.calendars.items c.requires.calendars)
 
 pub returns-in_err-document-clause-refused : goal.returns-in_err-document-clause-refused
 returns-in_err-document-clause-refused c =
@@ -27,9 +27,8 @@ returns-in_err-document-clause-refused c =
     let made = c.from_residual in
     let t = c.args.task in
     let g = given_by c.args.files.now in
-    refused_by made.result (of_json e) (λ r. IfRefused r (Ends (DueFor t g))) made.ensures.0 made.ensures.1
-    (refuse_json t g e (λ q v reads. c.in_err-document.ensures.not_json (ap Err q) v
-    (subst (λ (l : List ℕ). Reads l v) (sym c.deref.ensures.value) reads)))
+    refused_by made.result (of_read e) (λ r. IfRefused r (Ends (DueFor t g))) made.ensures.0 made.ensures.1
+    (refuse_text t g e (λ q v reads. c.in_err-document.ensures.none (ap Err q) v reads))
 
 pub returns-in_err-swap-clause-refused : goal.returns-in_err-swap-clause-refused
 returns-in_err-swap-clause-refused c =
@@ -39,7 +38,7 @@ returns-in_err-swap-clause-refused c =
     let g = given_by c.args.files.now in
     let v : Data = view c.in_ok-document.document in
     refused_by made.result (of_stopped e) (λ r. IfRefused r (Ends (DueFor t g))) made.ensures.0 made.ensures.1
-    (refuse_read t g v e (subst (λ (l : List ℕ). Reads l v) c.deref.ensures.value c.in_ok-document.ensures.reads)
+    (refuse_read t g v e c.in_ok-document.ensures.reads
     c.in_err-swap.ensures.broken)
 
 pub returns-in_err-sides-clause-refused : goal.returns-in_err-sides-clause-refused
@@ -51,7 +50,7 @@ returns-in_err-sides-clause-refused c =
     let v : Data = view c.in_ok-document.document in
     refused_by made.result (Rule e) (λ r. IfRefused r (Ends (DueFor t g))) made.ensures.0 made.ensures.1
     (refuse_sides t g v c.in_ok-swap.swap e
-    (subst (λ (l : List ℕ). Reads l v) c.deref.ensures.value c.in_ok-document.ensures.reads)
+    c.in_ok-document.ensures.reads
     c.in_ok-swap.ensures.means c.in_err-sides.ensures.broken)
 
 pub returns-in_err-calendars-clause-refused : goal.returns-in_err-calendars-clause-refused
@@ -67,7 +66,7 @@ returns-in_err-calendars-clause-refused c =
     record {
       value = v;
       reads =
-          subst (λ (l : List ℕ). Reads l v) c.deref.ensures.value c.in_ok-document.ensures.reads;
+          c.in_ok-document.ensures.reads;
       means =
           c.in_ok-swap.ensures.means;
       has_sides = c.in_ok-sides.ensures.sides;
@@ -75,7 +74,7 @@ returns-in_err-calendars-clause-refused c =
     refused_by made.result (Calendars e) (λ r. IfRefused r (Ends (DueFor t g))) made.ensures.0 made.ensures.1
     (refuse_calendars t g swap sides e spells
     (subst (λ (l : List (Vec ℕ Global)). IfSome (spot_of e) (IsFirstFault (map (λ v. v.items) l)))
-    c.deref-2.ensures.value c.in_err-calendars.ensures.first))
+    c.deref.ensures.value c.in_err-calendars.ensures.first))
 
 pub returns-in_err-fixings-clause-refused : goal.returns-in_err-fixings-clause-refused
 returns-in_err-fixings-clause-refused c =
@@ -91,13 +90,13 @@ returns-in_err-fixings-clause-refused c =
     record {
       value = v;
       reads =
-          subst (λ (l : List ℕ). Reads l v) c.deref.ensures.value c.in_ok-document.ensures.reads;
+          c.in_ok-document.ensures.reads;
       means =
           c.in_ok-swap.ensures.means;
       has_sides = c.in_ok-sides.ensures.sides;
     } in
     let files : CalFiles g.calendars cal =
-    subst (λ (l : List (Vec ℕ Global)). CalFiles (map (λ v. v.items) l) cal) c.deref-2.ensures.value
+    subst (λ (l : List (Vec ℕ Global)). CalFiles (map (λ v. v.items) l) cal) c.deref.ensures.value
     c.in_ok-calendars.ensures.spelt in
     refused_by made.result (Fixings e) (λ r. IfRefused r (Ends (DueFor t g))) made.ensures.0 made.ensures.1
     (refuse_fixings t g swap sides cal e spells files c.in_err-fixings.ensures.fault)
@@ -116,13 +115,13 @@ returns-in_err-schedule-clause-refused c =
     record {
       value = v;
       reads =
-          subst (λ (l : List ℕ). Reads l v) c.deref.ensures.value c.in_ok-document.ensures.reads;
+          c.in_ok-document.ensures.reads;
       means =
           c.in_ok-swap.ensures.means;
       has_sides = c.in_ok-sides.ensures.sides;
     } in
     let files : CalFiles g.calendars cal =
-    subst (λ (l : List (Vec ℕ Global)). CalFiles (map (λ v. v.items) l) cal) c.deref-2.ensures.value
+    subst (λ (l : List (Vec ℕ Global)). CalFiles (map (λ v. v.items) l) cal) c.deref.ensures.value
     c.in_ok-calendars.ensures.spelt in
     refused_by made.result e (λ r. IfRefused r (Ends (DueFor t g))) made.ensures.0 made.ensures.1
     (refuse_rules t g swap sides cal c.in_ok-fixings.fixings e spells files c.in_ok-fixings.ensures.fixings
@@ -140,13 +139,13 @@ returns-clause-passes c =
     record {
       value = v;
       reads =
-          subst (λ (l : List ℕ). Reads l v) c.deref.ensures.value c.in_ok-document.ensures.reads;
+          c.in_ok-document.ensures.reads;
       means =
           c.in_ok-swap.ensures.means;
       has_sides = c.in_ok-sides.ensures.sides;
     } in
     let files : CalFiles g.calendars cal =
-    subst (λ (l : List (Vec ℕ Global)). CalFiles (map (λ v. v.items) l) cal) c.deref-2.ensures.value
+    subst (λ (l : List (Vec ℕ Global)). CalFiles (map (λ v. v.items) l) cal) c.deref.ensures.value
     c.in_ok-calendars.ensures.spelt in
     passes_by t g (facts swap sides cal c.in_ok-fixings.fixings c.in_ok-schedule.schedule) spells files
     c.in_ok-fixings.ensures.fixings c.in_ok-schedule.ensures.schedule
