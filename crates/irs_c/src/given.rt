@@ -1,5 +1,6 @@
 //! Words and files that a C caller lends.
 ghost use Rattle.std.specs.Prelude.{◌≡◌, ℕ, List, Some, None, option_map, string_bytes};
+ghost use Rattle.irs_outside.specs.Outside.{IsFrontUnder};
 ghost use Rattle.irs_c.specs.Given.{file_in};
 
 use irs_cli::{FetchErr, Files};
@@ -60,6 +61,8 @@ fn find<'a>(files: &'a [File<'a>], name: &[u8]) -> Option<&'a [u8]>
 
 impl<'a> Files for GivenFiles<'a> {
     ghost told = { λ m name. file_in m.files.now name };
+
+    ghost gives = { λ m name most bytes. IsFrontUnder (file_in m.files.now name) most bytes };
 
     ghost faults = { λ m. m.faults };
 

@@ -93,18 +93,25 @@ stops_at told xs i d g failed before now (TooLong p) less h s = (
 )
 stops_at told xs i d g failed before now Memory less h s = tt
 
+-- R holds of the next file too
+pub gathered_more : (R : List ℕ → List ℕ → Type 0) (xs : List Named) (i : ℕ) (d : Named) (g h : Given) (bytes : List ℕ)
+    → i < length xs → Gathers R (map wanted_by (take i xs)) no_files g → R (get_or xs i d).name.now bytes
+    → h ≡ with_file g (get_or xs i d).role (text_as (get_or xs i d).name.now bytes)
+    → Gathers R (map wanted_by (take (i + 1) xs)) no_files h
+gathered_more R xs i d g h bytes less k held e =
+    let n = get_or xs i d in
+    let next = with_file g n.role (text_as n.name.now bytes) in
+    let more : Gathers R (map wanted_by (take i xs) ++ wanted_by n ∷ []) no_files next =
+    gathers_more R (map wanted_by (take i xs)) (wanted_by n) bytes no_files g k held in
+    subst (λ (l : List Wanted). Gathers R l no_files h) (sym (map_more wanted_by xs i d less))
+    (subst (λ (x : Given). Gathers R (map wanted_by (take i xs) ++ wanted_by n ∷ []) no_files x) (sym e) more)
+
 -- the next file is held too
 pub held_more : (told : Told) (xs : List Named) (i : ℕ) (d : Named) (g h : Given) (bytes : List ℕ) → i < length xs
     → Gathers (Holds told) (map wanted_by (take i xs)) no_files g → Holds told (get_or xs i d).name.now bytes
-    → h ≡ with_file g (get_or xs i d).role (text_as (get_or xs i d).name.now bytes) → Gathers (Holds told) (map wanted_by (take (i + 1) xs)) no_files h
-held_more told xs i d g h bytes less k held e =
-    let n = get_or xs i d in
-    let more : Gathers (Holds told) (map wanted_by (take i xs) ++ wanted_by n ∷ []) no_files
-    (with_file g n.role (text_as n.name.now bytes)) =
-    gathers_more (Holds told) (map wanted_by (take i xs)) (wanted_by n) bytes no_files g k held in
-    subst (λ (l : List Wanted). Gathers (Holds told) l no_files h) (sym (map_more wanted_by xs i d less))
-    (subst (λ (x : Given). Gathers (Holds told) (map wanted_by (take i xs) ++ wanted_by n ∷ []) no_files x)
-    (sym e) more)
+    → h ≡ with_file g (get_or xs i d).role (text_as (get_or xs i d).name.now bytes)
+    → Gathers (Holds told) (map wanted_by (take (i + 1) xs)) no_files h
+held_more told = gathered_more (Holds told)
 
 pub all_by : (told : Told) (failed : Option (List ℕ)) (before now : ℕ) (ws : List Wanted)
     (r : Result TaskFiles Unfetched) (e : Unfetched) → IsErr r → IsErrAnd r (λ x. x ≡ e)

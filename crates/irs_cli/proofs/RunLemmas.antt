@@ -1,26 +1,28 @@
 -- What a run says, from what its parts say.
 use Rattle.std.proofs.Common.{◌≡◌, inl, inr, ℕ, ◌<◌, ◌≤◌, List, length, Option, Some, refl, sym, ◌∙◌, ap, subst, arith}
 use Rattle.std.specs.Prelude.{IfSome}
-use Rattle.irs_outside.specs.Outside.{Rose}
+use Rattle.irs_outside.specs.Outside.{Grew, GrewByFront, Rose}
 use Rattle.irs_cli.specs.declared.fetching.Unfetched.{Unfetched}
 use Rattle.irs_cli.specs.declared.fetching.Unfetched.TheVariants as fetching
 use Rattle.irs_answers.specs.Given.{Given, no_files, too_many}
 use Rattle.irs_answers.specs.Outcomes.{Ends}
 use Rattle.irs_cli.specs.Commands.{Words, Wanted, Asked, Asks, IsListed}
 use Rattle.irs_cli.specs.Given.{Told, Gathers, Reaches, IsTold, IsShort, IsLongAt, IsFirstLong, AreTold}
-use Rattle.irs_cli.specs.Fetching.{Holds, NotLong, FailedAt, OverAt, Stops}
+use Rattle.irs_cli.specs.Fetching.{FailedAt, Gives, Holds, IsGiven, NotLong, OverAt, Stops}
 use Rattle.irs_cli.specs.Messages.{bad_words, no_file, too_long}
 use Rattle.irs_cli.specs.Due.{Due, DueOf, no_command, long_file, all_told}
 use Rattle.irs_cli.specs.Outcomes.{of_fetch, IfRefused}
-use Rattle.irs_cli.specs.Run.{NoFile, Replies}
+use Rattle.irs_cli.specs.Run.{NoFile, Ran, Replies, Source, source, written}
 use Rattle.irs_cli.proofs.CommandLemmas.{one_command}
+use Rattle.irs_cli.proofs.OneAnswer.{one_answer}
+use Rattle.std.proofs.lemmas.Bool.{cases_lt}
 use Rattle.irs_cli.proofs.FileLemmas.{reaches_meet, reaches_with, gathers_none, gathers_one, gathers_with}
 
 -- ---- words that are no command
 
-pub unlisted_replies : (ws : Words) (told : Told) (failed : Option (List ℕ)) (n : ℕ) → (IsListed ws → ⊥)
-    → Replies ws told failed n n 4 bad_words
-unlisted_replies ws told failed n none =
+pub unlisted_replies : (ws : Words) (told : Told) (gives : Gives) (failed : Option (List ℕ)) (n : ℕ) → (IsListed ws → ⊥)
+    → Replies ws (source told gives failed n n) 4 bad_words
+unlisted_replies ws told gives failed n none =
     let due : Due ws told 4 bad_words = record {
       unlisted = λ _. (refl, refl);
       long = λ a place asks first. absurd (none (a, asks));
@@ -33,6 +35,7 @@ unlisted_replies ws told failed n none =
       not_memory = λ e. omega (arith, e);
       no_file = λ e. absurd (omega (arith, e));
       due = λ _. due;
+      worked_out = λ no _ _. absurd (no refl);
       quiet = λ _. refl;
       only_unlisted = λ _. none;
       when_unlisted = λ _. refl;
@@ -41,11 +44,11 @@ unlisted_replies ws told failed n none =
 
 -- ---- a file that can't be read
 
-no_file_replies : (ws : Words) (told : Told) (a : Asked) (failed : Option (List ℕ)) (before now place : ℕ) → Asks ws a
-    → Reaches (NotLong told) (FailedAt failed place) a.files → Rose before now
-    → Replies ws told failed before now 5 (no_file place)
-no_file_replies ws told a failed before now place asks h rose =
-    let none : NoFile ws told failed before now (no_file place) =
+no_file_replies : (ws : Words) (told : Told) (gives : Gives) (a : Asked) (failed : Option (List ℕ)) (before now place : ℕ)
+    → Asks ws a → Reaches (NotLong told) (FailedAt failed place) a.files → Rose before now
+    → Replies ws (source told gives failed before now) 5 (no_file place)
+no_file_replies ws told gives a failed before now place asks h rose =
+    let none : NoFile ws (source told gives failed before now) (no_file place) =
     record { asked = a; asks = asks; place = place; file = h; rose = rose; is_text = refl } in
     record {
       is_text = inr none;
@@ -53,6 +56,7 @@ no_file_replies ws told a failed before now place asks h rose =
       not_memory = λ e. omega (arith, e);
       no_file = λ _. none;
       due = λ no. absurd (no refl);
+      worked_out = λ _ no _. absurd (no refl);
       quiet = λ no. absurd (no refl);
       only_unlisted = λ e. absurd (omega (arith, e));
       when_unlisted = λ unlisted. absurd (unlisted (a, asks));
@@ -75,10 +79,10 @@ over_told told place w bytes k h = let l : too_many ≤ length bytes =
 abbrev Tells : Told → Wanted → Type 0
 Tells told w = (bytes : List ℕ) × (told w.name ≡ Some bytes)
 
-long_replies : (ws : Words) (told : Told) (a : Asked) (failed : Option (List ℕ)) (before now place : ℕ) → Asks ws a
-    → Reaches (NotLong told) (OverAt told place) a.files → now ≡ before
-    → Replies ws told failed before now 8 (too_long place)
-long_replies ws told a failed before now place asks h quiet =
+long_replies : (ws : Words) (told : Told) (gives : Gives) (a : Asked) (failed : Option (List ℕ)) (before now place : ℕ)
+    → Asks ws a → Reaches (NotLong told) (OverAt told place) a.files → now ≡ before
+    → Replies ws (source told gives failed before now) 8 (too_long place)
+long_replies ws told gives a failed before now place asks h quiet =
     let due : Due ws told 8 (too_long place) = record {
       unlisted = λ unlisted. absurd (unlisted (a, asks));
       long = λ b q other first.
@@ -112,19 +116,21 @@ long_replies ws told a failed before now place asks h quiet =
       not_memory = λ e. omega (arith, e);
       no_file = λ e. absurd (omega (arith, e));
       due = λ _. due;
+      worked_out = λ _ _ no. absurd (no refl);
       quiet = λ _. quiet;
       only_unlisted = λ e. absurd (omega (arith, e));
       when_unlisted = λ unlisted. absurd (unlisted (a, asks));
       listed = omega (arith);
     }
 
-pub stopped_replies : (ws : Words) (told : Told) (a : Asked) (failed : Option (List ℕ)) (before now : ℕ) (u : Unfetched)
-    → Asks ws a → Stops told a.files failed before now u → IfRefused (of_fetch u) (Replies ws told failed before now)
-stopped_replies ws told a failed before now (fetching.NoFile place) asks h =
-    no_file_replies ws told a failed before now place asks h.0 h.1
-stopped_replies ws told a failed before now (fetching.TooLong place) asks h =
-    long_replies ws told a failed before now place asks h.0 h.1
-stopped_replies ws told a failed before now fetching.Memory asks h = tt
+pub stopped_replies : (ws : Words) (told : Told) (gives : Gives) (a : Asked) (failed : Option (List ℕ)) (before now : ℕ)
+    (u : Unfetched) → Asks ws a → Stops told a.files failed before now u
+    → IfRefused (of_fetch u) (Replies ws (source told gives failed before now))
+stopped_replies ws told gives a failed before now (fetching.NoFile place) asks h =
+    no_file_replies ws told gives a failed before now place asks h.0 h.1
+stopped_replies ws told gives a failed before now (fetching.TooLong place) asks h =
+    long_replies ws told gives a failed before now place asks h.0 h.1
+stopped_replies ws told gives a failed before now fetching.Memory asks h = tt
 
 -- ---- files that are fetched
 
@@ -143,10 +149,11 @@ held_long told q w bytes h k =
     let s : length k.bytes < too_many = subst (λ (l : List ℕ). length l < too_many) same h.1 in
     omega (arith, s, k.long)
 
-pub ended_replies : (ws : Words) (told : Told) (a : Asked) (g : Given) (failed : Option (List ℕ)) (before now : ℕ)
-    → Asks ws a → Gathers (Holds told) a.files no_files g → now ≡ before → (status : ℕ) (text : List ℕ)
-    → Ends (DueOf a.request g) status text → Replies ws told failed before now status text
-ended_replies ws told a g failed before now asks held quiet status text h =
+pub ended_replies : (ws : Words) (told : Told) (gives : Gives) (a : Asked) (g : Given) (failed : Option (List ℕ))
+    (before now : ℕ) → Asks ws a → Gathers (Holds told) a.files no_files g → Gathers (IsGiven gives) a.files no_files g
+    → now ≡ before → (status : ℕ) (text : List ℕ)
+    → Ends (DueOf a.request g) status text → Replies ws (source told gives failed before now) status text
+ended_replies ws told gives a g failed before now asks held fetched quiet status text h =
     let due : Due ws told status text = record {
       unlisted = λ unlisted. absurd (unlisted (a, asks));
       long = λ b q other first.
@@ -170,8 +177,77 @@ ended_replies ws told a g failed before now asks held quiet status text h =
       not_memory = λ e. omega (arith, e, h.verdict);
       no_file = λ e. absurd (omega (arith, e, h.verdict));
       due = λ _. due;
+      worked_out = λ _ _ _. record { asked = a; asks = asks; given = g; fetched = fetched; due = h.due };
       quiet = λ _. quiet;
       only_unlisted = λ e. absurd (omega (arith, e, h.verdict));
       when_unlisted = λ unlisted. absurd (unlisted (a, asks));
       listed = omega (arith);
     }
+
+-- ---- what is written of a reply
+
+module _ (ws : Words) (files : Source) (status : ℕ) (text : List ℕ) (r : Replies ws files status text) where
+  -- fetches failed, so a file can't be read
+  failed_is_no_file : files.before < files.after → status ≡ 5
+  failed_is_no_file less = elim (cases_lt status 5) [
+    | inl low ↦ let same = r.quiet (λ e. omega (arith, low, e)) in absurd (omega (arith, less, same))
+    | inr high ↦ elim (cases_lt 5 status) [
+      | inl more ↦ let same = r.quiet (λ e. omega (arith, more, e)) in absurd (omega (arith, less, same))
+      | inr no_more ↦ omega (arith, high, no_more)
+    ]
+  ]
+
+  -- its text was put
+  pub put_ran : (old new : Option (List ℕ)) (before after : ℕ) → Grew old new text → after ≡ before
+      → Ran ws files (written old new before after) status
+  put_ran old new before after grew quiet = record {
+    listed = r.listed;
+    memory = λ e. absurd (r.not_memory e);
+    failed = λ e. (text, r.no_file e, grew);
+    put = λ e. absurd (r.not_put e);
+    due = λ no _ _. (text, r.due no, grew);
+    worked_out = λ low. (
+      text,
+      r.worked_out (λ e. omega (arith, low, e)) (λ e. omega (arith, low, e)) (λ e. omega (arith, low, e)),
+      grew,
+    );
+    one = one_answer ws files.told;
+    only_unlisted = r.only_unlisted;
+    unlisted = λ none _ _. r.when_unlisted none;
+    files_cause = λ less _ _. failed_is_no_file less;
+    out_cause = λ less. absurd (omega (arith, less, quiet));
+  }
+
+  -- a put failed
+  pub put_failed_ran : (old new : Option (List ℕ)) (before after : ℕ) → GrewByFront old new text → Rose before after
+      → Ran ws files (written old new before after) 6
+  put_failed_ran old new before after front rose = record {
+    listed = omega (arith);
+    memory = λ e. absurd (omega (arith, e));
+    failed = λ e. absurd (omega (arith, e));
+    put = λ _. (rose, (text, front, r.is_text));
+    due = λ _ no _. absurd (no refl);
+    worked_out = λ low. absurd (omega (arith, low));
+    one = one_answer ws files.told;
+    only_unlisted = λ e. absurd (omega (arith, e));
+    unlisted = λ _ no _. absurd (no refl);
+    files_cause = λ _ no _. absurd (no refl);
+    out_cause = λ _. refl;
+  }
+
+-- out of memory, before anything was put
+pub memory_ran : (ws : Words) (files : Source) (old : Option (List ℕ)) (faults : ℕ)
+    → Ran ws files (written old old faults faults) 7
+memory_ran ws files old faults = record {
+  listed = omega (arith);
+  memory = λ _. refl;
+  failed = λ e. absurd (omega (arith, e));
+  put = λ e. absurd (omega (arith, e));
+  due = λ _ _ no. absurd (no refl);
+  worked_out = λ low. absurd (omega (arith, low));
+  one = one_answer ws files.told;
+  only_unlisted = λ e. absurd (omega (arith, e));
+  unlisted = λ _ _ no. absurd (no refl);
+  files_cause = λ _ _ no. absurd (no refl);
+  out_cause = λ less. absurd (omega (arith, less));
+}

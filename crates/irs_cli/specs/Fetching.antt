@@ -9,6 +9,19 @@ use Rattle.irs_outside.specs.Outside.{Rose}
 use Rattle.irs_cli.specs.Commands.{Wanted}
 use Rattle.irs_cli.specs.Given.{Told, Gathers, Reaches}
 
+-- what fetches give: bytes under a name, at most so many
+abbrev pub Gives : Type 1
+Gives = List ℕ → ℕ → List ℕ → Type 0
+
+-- a fetch gives these bytes under the name, and they aren't too many
+abbrev pub IsGiven : Gives → List ℕ → List ℕ → Type 0
+IsGiven gives name bytes = gives name too_many bytes × (length bytes < too_many)
+
+-- the files of the list, in order and by role, as fetches give them
+abbrev pub AreGiven : Gives → List Wanted → Result TaskFiles Unfetched → Type 0
+AreGiven gives ws (Ok f) = Gathers (IsGiven gives) ws no_files (given_by f)
+AreGiven gives ws (Err e) = Unit {0}
+
 -- the bytes are those of the name, where it is told, and they aren't too many
 abbrev pub Holds : Told → List ℕ → List ℕ → Type 0
 Holds told name bytes = IfSome (told name) (λ xs. bytes ≡ xs) × (length bytes < too_many)

@@ -1,35 +1,95 @@
--- What a run says before it writes.
+-- What a run of the words comes to.
 use Rattle.std.specs.Prelude.{◌≡◌, ◌≢◌, ◌⊎◌, ℕ, ◌<◌, List, Option}
-use Rattle.irs_outside.specs.Outside.{Rose}
+use Rattle.irs_answers.specs.Given.{Given, no_files}
+use Rattle.irs_outside.specs.Outside.{Grew, GrewByFront, Rose}
 use Rattle.irs_cli.specs.Commands.{Words, Asked, Asks, IsListed}
-use Rattle.irs_cli.specs.Given.{Told, Reaches}
-use Rattle.irs_cli.specs.Fetching.{NotLong, FailedAt}
+use Rattle.irs_cli.specs.Given.{Gathers, Reaches, TellsAll, Told}
+use Rattle.irs_cli.specs.Fetching.{FailedAt, Gives, IsGiven, NotLong}
 use Rattle.irs_cli.specs.Messages.{no_file}
-use Rattle.irs_cli.specs.Due.{Due}
+use Rattle.irs_cli.specs.Due.{Due, DueOf, IsOneAnswer}
+
+-- the source of files: what it tells and gives before the run, the name of the last fetch that failed after it, and
+-- how many fetches have failed before and after it
+pub record Source : Type 1 where
+  pub told : Told
+  pub gives : Gives
+  pub failed : Option (List ℕ)
+  pub before : ℕ
+  pub after : ℕ
+
+-- the source with these
+abbrev pub source : Told → Gives → Option (List ℕ) → ℕ → ℕ → Source
+source told gives failed before after =
+    record { told = told; gives = gives; failed = failed; before = before; after = after }
+
+-- the sink: what is written, and how many puts have failed, before and after the run
+pub record Written : Type 0 where
+  pub old : Option (List ℕ)
+  pub new : Option (List ℕ)
+  pub before : ℕ
+  pub after : ℕ
+
+-- the sink with these
+abbrev pub written : Option (List ℕ) → Option (List ℕ) → ℕ → ℕ → Written
+written old new before after = record { old = old; new = new; before = before; after = after }
 
 -- the fetch of a file failed, and this text says so; no file before it that is told is too long
-pub record NoFile (ws : Words) (told : Told) (failed : Option (List ℕ)) (before now : ℕ) (text : List ℕ) : Type 0 where
+pub record NoFile (ws : Words) (files : Source) (text : List ℕ) : Type 0 where
   pub asked : Asked
   pub asks : Asks ws asked
   pub place : ℕ
-  pub file : Reaches (NotLong told) (FailedAt failed place) asked.files
-  pub rose : Rose before now
+  pub file : Reaches (NotLong files.told) (FailedAt files.failed place) asked.files
+  pub rose : Rose files.before files.after
   pub is_text : text ≡ no_file place
 
+-- the words are this command, these are its files as the fetches gave them, and status and text are due for them
+pub record IsWorkedOut (ws : Words) (gives : Gives) (status : ℕ) (text : List ℕ) : Type 0 where
+  pub asked : Asked
+  pub asks : Asks ws asked
+  pub given : Given
+  pub fetched : Gathers (IsGiven gives) asked.files no_files given
+  pub due : DueOf asked.request given status text
+
 -- the text is the one that is due, or says that a file can't be read
-abbrev pub IsDueText : Words → Told → Option (List ℕ) → ℕ → ℕ → List ℕ → Type 0
-IsDueText ws told failed before now text =
-    ((status : ℕ) × Due ws told status text) ⊎ NoFile ws told failed before now text
+abbrev pub IsDueText : Words → Source → List ℕ → Type 0
+IsDueText ws files text = ((status : ℕ) × Due ws files.told status text) ⊎ NoFile ws files text
 
 -- what a run says before it writes
-pub record Replies (ws : Words) (told : Told) (failed : Option (List ℕ)) (before now : ℕ) (status : ℕ)
-    (text : List ℕ) : Type 0 where
-  pub is_text : IsDueText ws told failed before now text
+pub record Replies (ws : Words) (files : Source) (status : ℕ) (text : List ℕ) : Type 0 where
+  pub is_text : IsDueText ws files text
   pub not_put : status ≢ 6
   pub not_memory : status ≢ 7
-  pub no_file : status ≡ 5 → NoFile ws told failed before now text
-  pub due : status ≢ 5 → Due ws told status text
-  pub quiet : status ≢ 5 → now ≡ before
+  pub no_file : status ≡ 5 → NoFile ws files text
+  pub due : status ≢ 5 → Due ws files.told status text
+  pub worked_out : status ≢ 4 → status ≢ 5 → status ≢ 8 → IsWorkedOut ws files.gives status text
+  pub quiet : status ≢ 5 → files.after ≡ files.before
   pub only_unlisted : status ≡ 4 → ¬ (IsListed ws)
   pub when_unlisted : ¬ (IsListed ws) → status ≡ 4
   pub listed : status < 9
+
+-- what a run comes to: its status, and what the source and the sink have seen
+pub record Ran (ws : Words) (files : Source) (out : Written) (status : ℕ) : Type 0 where
+  -- the statuses are 0 to 8
+  pub listed : status < 9
+  -- out of memory: nothing was written
+  pub memory : status ≡ 7 → out.new ≡ out.old
+  -- the fetch of a word that names a file failed, and the text says which
+  pub failed : status ≡ 5 → (text : List ℕ) × NoFile ws files text × Grew out.old out.new text
+  -- a put failed, and a front of the text due was written
+  pub put : status ≡ 6 → Rose out.before out.after
+      × ((text : List ℕ) × GrewByFront out.old out.new text × IsDueText ws files text)
+  -- any other status, and exactly its text, are what is due for the files that the source tells
+  pub due : status ≢ 5 → status ≢ 6 → status ≢ 7 → (text : List ℕ)
+      × Due ws files.told status text × Grew out.old out.new text
+  -- from 0 to 3, status and text are what is due for bytes that the fetches gave, those of each file that the words
+  -- name; so they are for a source that tells nothing, as the files of the system
+  pub worked_out : status < 4 → (text : List ℕ)
+      × IsWorkedOut ws files.gives status text × Grew out.old out.new text
+  -- where the source tells every file that the words name, one status and one text are due
+  pub one : TellsAll ws files.told → IsOneAnswer ws files.told
+  -- 4 comes for words that are no listed command, and always for them
+  pub only_unlisted : status ≡ 4 → IsListed ws → ⊥
+  pub unlisted : (IsListed ws → ⊥) → status ≢ 6 → status ≢ 7 → status ≡ 4
+  -- a fault of the files or of the sink is reported by the status
+  pub files_cause : files.before < files.after → status ≢ 6 → status ≢ 7 → status ≡ 5
+  pub out_cause : out.before < out.after → status ≡ 6

@@ -1,10 +1,10 @@
 //! Fetching the files of a command: all of them, in the order of the words.
-ghost use Rattle.std.specs.Prelude.{◌≡◌, ℕ, List, map, OnOk};
+ghost use Rattle.std.specs.Prelude.{◌≡◌, ℕ, List, map, IfOk, OnOk};
 ghost use Rattle.irs_cli.specs.Commands.{wanted_by};
 ghost use Rattle.irs_answers.specs.Forms.{written_by};
 ghost use Rattle.irs_answers.specs.Given.{given_by};
 ghost use Rattle.irs_cli.specs.Given.{with_file};
-ghost use Rattle.irs_cli.specs.Fetching.{FetchesOne, FetchesAll};
+ghost use Rattle.irs_cli.specs.Fetching.{AreGiven, FetchesOne, FetchesAll, IsGiven};
 ghost use Rattle.irs_cli.specs.declared.fetching.Unfetched.TheVariants.{Memory as OfMemory};
 
 use crate::commands::{Named, Role};
@@ -56,6 +56,7 @@ pub(crate) fn fetch_all<F: Files>(
     files: &mut F,
 ) -> Result<TaskFiles, Unfetched>
     ensures told { (n : List ℕ) → F.told files.new n ≡ F.told files.old n }
+    ensures given { AreGiven (F.gives files.old) (map wanted_by names.now) result }
     ensures all { FetchesAll (F.told files.old) (F.failed files.new) (F.faults files.old) (F.faults files.new)
         (map wanted_by names.now) result }
 {
@@ -76,6 +77,8 @@ fn fetch<F: Files>(
     place: u32,
 ) -> Result<Vec<u8>, Unfetched>
     ensures told { (n : List ℕ) → F.told files.new n ≡ F.told files.old n }
+    ensures given { IfOk result (λ b. IsGiven (F.gives files.old) name.now b.items) }
+    ensures same { (n : List ℕ) (k : ℕ) (b : List ℕ) → F.gives files.new n k b → F.gives files.old n k b }
     ensures one { FetchesOne (F.told files.old) (F.failed files.new) (F.faults files.old)
         (F.faults files.new) name.now place result }
 {

@@ -1,16 +1,14 @@
 //! The top call: `run` prints what its words ask for, and answers the status.
 //!
 //! Words, texts and statuses are this project's own. All memory is taken before the first put.
-ghost use Rattle.std.specs.Prelude.{◌≡◌, ◌≢◌, ◌⊎◌, ℕ, ◌<◌, List, IfOk};
-ghost use Rattle.irs_cli.specs.Commands.{texts, IsListed};
+ghost use Rattle.std.specs.Prelude.{◌≡◌, ℕ, List, IfOk};
+ghost use Rattle.irs_cli.specs.Commands.{texts};
 ghost use Rattle.irs_answers.specs.Given.{IsWithin, given_by};
 ghost use Rattle.irs_answers.specs.Outcomes.{Ends};
 ghost use Rattle.irs_answers.specs.Replying.{reply_status, reply_text};
-ghost use Rattle.irs_cli.specs.Due.{Due, DueOf, IsLawfulRequest, IsOneAnswer};
-ghost use Rattle.irs_cli.specs.Given.{TellsAll};
+ghost use Rattle.irs_cli.specs.Due.{DueOf, IsLawfulRequest};
 ghost use Rattle.irs_cli.specs.Outcomes.{IfAnswered};
-ghost use Rattle.irs_outside.specs.Outside.{Rose, Grew, GrewByFront};
-ghost use Rattle.irs_cli.specs.Run.{NoFile, Replies};
+ghost use Rattle.irs_cli.specs.Run.{Ran, Replies, source, written};
 
 use crate::commands::{Request, command_of};
 use crate::fetching::fetch_all;
@@ -35,41 +33,13 @@ use std::alloc::Global;
 /// `bulk N`, with N from 1 to 500, names no file. `carrier DOC` prints the value of a document in XML as
 /// JSON; its name ends in `.xml`. Every DOC and FLOWS with such a name is read as XML, and else as JSON.
 pub fn run<F: Files, S: Sink>(alloc: Global, words: &[String], files: &mut F, out: &mut S) -> u8
-    // The statuses are 0 to 8, and what the files tell is the same afterwards.
-    ensures listed { result < 9 }
+    // What the files tell is the same afterwards.
     ensures told { (n : List ℕ) → F.told files.new n ≡ F.told files.old n }
-
-    // Want of memory: nothing was written.
-    ensures memory { result ≡ 7 → S.written out.new ≡ S.written out.old }
-
-    // The fetch of a word that names a file failed, and the text says which.
-    ensures failed { result ≡ 5 → (text : List ℕ)
-        × NoFile (texts words.now) (F.told files.old) (F.failed files.new) (F.faults files.old)
-        (F.faults files.new) text
-        × Grew (S.written out.old) (S.written out.new) text }
-
-    // A put failed, and a front of the text due was written.
-    ensures put { result ≡ 6 → Rose (S.faults out.old) (S.faults out.new)
-        × ((text : List ℕ) × GrewByFront (S.written out.old) (S.written out.new) text
-        × (((status : ℕ) × Due (texts words.now) (F.told files.old) status text)
-        ⊎ NoFile (texts words.now) (F.told files.old) (F.failed files.new) (F.faults files.old)
-        (F.faults files.new) text)) }
-
-    // Any other status, and exactly its text, are what is due.
-    ensures due { result ≢ 5 → result ≢ 6 → result ≢ 7 → (text : List ℕ)
-        × Due (texts words.now) (F.told files.old) result text
-        × Grew (S.written out.old) (S.written out.new) text }
-
-    // Where the source tells every file that the words name, one status and one text are due.
-    ensures one { TellsAll (texts words.now) (F.told files.old) → IsOneAnswer (texts words.now) (F.told files.old) }
-
-    // 4 comes for words that are no listed command, and always for them.
-    ensures only_unlisted { result ≡ 4 → IsListed (texts words.now) → ⊥ }
-    ensures unlisted { (IsListed (texts words.now) → ⊥) → result ≢ 6 → result ≢ 7 → result ≡ 4 }
-
-    // A fault of the files or of the sink is told by the status.
-    ensures files_cause { F.faults files.old < F.faults files.new → result ≢ 6 → result ≢ 7 → result ≡ 5 }
-    ensures out_cause { S.faults out.old < S.faults out.new → result ≡ 6 }
+    ensures ran {
+        let source = source (F.told files.old) (F.gives files.old) (F.failed files.new) (F.faults files.old)
+            (F.faults files.new) in
+        let written = written (S.written out.old) (S.written out.new) (S.faults out.old) (S.faults out.new) in
+        Ran (texts words.now) source written result }
 {
     match answer(alloc, words, files) {
         Ok(reply) => match put_reply(out, &reply) {
@@ -84,8 +54,8 @@ pub fn run<F: Files, S: Sink>(alloc: Global, words: &[String], files: &mut F, ou
 fn answer<F: Files>(alloc: Global, words: &[String], files: &mut F) -> Result<Reply, Memory>
     ensures told { (n : List ℕ) → F.told files.new n ≡ F.told files.old n }
     ensures replies { IfOk result
-        (λ r. Replies (texts words.now) (F.told files.old) (F.failed files.new) (F.faults files.old)
-        (F.faults files.new) (reply_status r) (reply_text r)) }
+        (λ r. Replies (texts words.now) (source (F.told files.old) (F.gives files.old) (F.failed files.new)
+        (F.faults files.old) (F.faults files.new)) (reply_status r) (reply_text r)) }
 {
     match carry_out(alloc, words, files) {
         Ok(reply) => Ok(reply),
@@ -97,7 +67,8 @@ fn answer<F: Files>(alloc: Global, words: &[String], files: &mut F) -> Result<Re
 fn carry_out<F: Files>(alloc: Global, words: &[String], files: &mut F) -> Result<Reply, Refusal>
     ensures told { (n : List ℕ) → F.told files.new n ≡ F.told files.old n }
     ensures answered { IfAnswered result
-        (Replies (texts words.now) (F.told files.old) (F.failed files.new) (F.faults files.old) (F.faults files.new)) }
+        (Replies (texts words.now) (source (F.told files.old) (F.gives files.old) (F.failed files.new)
+        (F.faults files.old) (F.faults files.new))) }
 {
     let Some(command) = command_of(alloc, words)? else {
         return Err(Refusal::BadWords);

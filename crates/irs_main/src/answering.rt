@@ -7,10 +7,11 @@ ghost use Rattle.irs_outside.specs.Outside.{Grew, GrewByFront, Rose};
 ghost use Rattle.irs_plain.specs.Kept.{front_of, sink_of};
 ghost use Rattle.irs_plain.specs.Shown.{shown};
 ghost use Rattle.irs_plain.specs.Words.{texts};
-ghost use Rattle.irs_main.specs.Answering.{Explained, Printed, Ran, explanation_of, itself_of};
+ghost use Rattle.irs_cli.specs.Run.{Ran, source, written};
+ghost use Rattle.irs_main.specs.Answering.{Explained, Printed, explanation_of, itself_of};
 
 use crate::pieces::{put_lines, put_parts};
-use irs_cli::{Files, Memory, PutFailed, Sink, Status, run};
+use irs_cli::{Files, PutFailed, Sink, Status, run};
 use irs_plain::{COMMANDS, HELP, Kept, VERSION, meaning, shown_words};
 use std::alloc::Global;
 
@@ -39,10 +40,12 @@ pub fn answer<F: Files, S: Sink, E: Sink>(
         × (files.new ≡ files.old) }
 
     // Any other words are run.
-    ensures ran { itself_of HELP.now VERSION.now (texts words.now) ≡ None
-        → Ran (texts words.now) (F.told files.old) (F.failed files.new) (F.faults files.old) (F.faults files.new)
-        (S.written (sink_of out.old)) (S.written (sink_of out.new))
-        (S.faults (sink_of out.old)) (S.faults (sink_of out.new)) result }
+    ensures ran { itself_of HELP.now VERSION.now (texts words.now) ≡ None →
+        let source = source (F.told files.old) (F.gives files.old) (F.failed files.new) (F.faults files.old)
+            (F.faults files.new) in
+        let written = written (S.written (sink_of out.old)) (S.written (sink_of out.new))
+            (S.faults (sink_of out.old)) (S.faults (sink_of out.new)) in
+        Ran (texts words.now) source written result }
 
     // What the status and the first bytes that were put mean is said, with the words as they are shown.
     ensures explained { Explained
@@ -60,11 +63,11 @@ pub fn answer<F: Files, S: Sink, E: Sink>(
         }
         None => match shown_words(alloc, words) {
             Ok(shown) => {
-                let status = run_words(alloc, words, files, out);
+                let status = run(alloc, words, files, out);
                 explain(errors, &shown, status, out.front());
                 status
             }
-            Err(Memory) => {
+            Err(_) => {
                 let status = Status::NoMemory.number();
                 explain(errors, &[], status, &[]);
                 status
@@ -97,22 +100,6 @@ fn print<S: Sink>(out: &mut S, text: &str) -> u8
         Ok(()) => Status::Done.number(),
         Err(_) => Status::PutFailed.number(),
     }
-}
-
-// Runs the words.
-fn run_words<F: Files, S: Sink>(
-    alloc: Global,
-    words: &[String],
-    files: &mut F,
-    out: &mut Kept<S>,
-) -> u8
-    ensures listed { result < 9 }
-    ensures told { (n : List ℕ) → F.told files.new n ≡ F.told files.old n }
-    ensures ran { Ran (texts words.now) (F.told files.old) (F.failed files.new) (F.faults files.old)
-        (F.faults files.new) (S.written (sink_of out.old)) (S.written (sink_of out.new))
-        (S.faults (sink_of out.old)) (S.faults (sink_of out.new)) result }
-{
-    run(alloc, words, files, out)
 }
 
 /// Says what a status and the line that was printed with it mean, as far as `errors` takes it.

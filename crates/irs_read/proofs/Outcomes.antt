@@ -17,7 +17,7 @@ use Rattle.serde_json.specs.View.{view}
 use Rattle.serde_json.specs.declared.value.Value.{Value}
 
 -- what the way leads to, or d where a rule ends it
-end_or : Data → Way → Data
+abbrev end_or : Data → Way → Data
 end_or d (Ok at) = at
 end_or d (Err f) = d
 

@@ -2,9 +2,9 @@ use Rattle.std.proofs.Common.{arith, ◌≡◌, inl, inr, ℕ, List, [], ◌∷�
 use Rattle.irs_outside.specs.Outside.{Grew}
 use Rattle.irs_cli.specs.Commands.{Words, Wanted}
 use Rattle.irs_cli.specs.Due.{Due}
-use Rattle.irs_cli.specs.Fetching.{NotLong, FailedAt}
+use Rattle.irs_cli.specs.Fetching.{FailedAt, Gives, NotLong}
 use Rattle.irs_cli.specs.Given.{Reaches}
-use Rattle.irs_cli.specs.Run.{NoFile}
+use Rattle.irs_cli.specs.Run.{NoFile, source}
 use Rattle.irs_c.specs.Given.{file_in, AbsentAt, IsAbsent}
 use Rattle.irs_c.specs.declared.given.File.{File}
 use Rattle.irs_c.proofs.exports.run_kept.Goals as goal
@@ -26,13 +26,13 @@ reached gs hs failed place (w ∷ ws) told none (inl h) =
     inl (record { at = h.at; none = sym (told w.name) ∙ none w.name h.is_failed })
 reached gs hs failed place (w ∷ ws) told none (inr h) = inr (h.0, reached gs hs failed place ws told none h.1)
 
-absent : (ws : Words) (fs gs hs : List File) (failed : Option (List ℕ)) (faults now : ℕ) (before after : List ℕ)
-    → gs ≡ fs
+absent : (ws : Words) (fs gs hs : List File) (gives : Gives) (failed : Option (List ℕ)) (faults now : ℕ)
+    (before after : List ℕ) → gs ≡ fs
     → ((n : List ℕ) → file_in hs n ≡ file_in gs n) → ((n : List ℕ) → failed ≡ Some n → file_in hs n ≡ None)
     → before ≡ []
-    → (text : List ℕ) × NoFile ws (file_in gs) failed faults now text × Grew (Some before) (Some after) text
+    → (text : List ℕ) × NoFile ws (source (file_in gs) gives failed faults now) text × Grew (Some before) (Some after) text
     → IsAbsent ws (file_in fs) after
-absent ws fs gs hs failed faults now before after same told none empty (text, missed, grew) =
+absent ws fs gs hs gives failed faults now before after same told none empty (text, missed, grew) =
     let is : text ≡ after = grind arith in
     subst (λ (t : List ℕ). IsAbsent ws (file_in fs) t) is
     (subst (λ (xs : List File). IsAbsent ws (file_in xs) text) same
@@ -48,10 +48,10 @@ absent ws fs gs hs failed faults now before after same told none empty (text, mi
 pub returns-clause-due : goal.returns-clause-due
 returns-clause-due c ne5 =
     kept _ _ _ _ _ _ c.new-source.ensures c.new-kept.ensures
-    (c.run-status.ensures.due ne5 (rw c.number.ensures at c.if-status-number.false)
+    (c.run-status.ensures.ran.due ne5 (rw c.number.ensures at c.if-status-number.false)
     (rw c.number-else-status-number.ensures at c.if-status-number-2.false))
 
 pub returns-clause-absent : goal.returns-clause-absent
 returns-clause-absent c is5 =
-    absent _ _ _ _ _ _ _ _ _ c.new-source.ensures c.run-status.ensures.told c.run-status.new.files.absent
-    c.new-kept.ensures (c.run-status.ensures.failed is5)
+    absent _ _ _ _ _ _ _ _ _ _ c.new-source.ensures c.run-status.ensures.told c.run-status.new.files.absent
+    c.new-kept.ensures (c.run-status.ensures.ran.failed is5)

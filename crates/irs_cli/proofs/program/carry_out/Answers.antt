@@ -4,9 +4,9 @@ use Rattle.irs_cli.specs.Commands.{texts, Asks, asked_by, wanted_by}
 use Rattle.irs_answers.specs.Given.{given_by, no_files}
 use Rattle.irs_answers.specs.Replying.{reply_status, reply_text}
 use Rattle.irs_cli.specs.Given.{Gathers}
-use Rattle.irs_cli.specs.Fetching.{Holds, Stops}
+use Rattle.irs_cli.specs.Fetching.{Holds, IsGiven, Stops}
 use Rattle.irs_cli.specs.Outcomes.{of_fetch}
-use Rattle.irs_cli.specs.Run.{Replies}
+use Rattle.irs_cli.specs.Run.{Replies, source}
 use Rattle.irs_cli.proofs.CommandLemmas.{unlisted_by, asks_by, few_cals, lawful_asked}
 use Rattle.irs_cli.proofs.FileLemmas.{gathers_within}
 use Rattle.irs_cli.proofs.HandedReplies.{answered_by}
@@ -16,7 +16,8 @@ use Rattle.irs_cli.proofs.program.carry_out.Goals as goal
 pub returns-in_default-clause-answered : goal.returns-in_default-clause-answered
 returns-in_default-clause-answered g c =
     let ws = texts c.args.words.now in
-    unlisted_replies ws (g.F.Files.told c.args.files.now) (g.F.Files.failed c.args.files.now)
+    unlisted_replies ws (g.F.Files.told c.args.files.now) (g.F.Files.gives c.args.files.now)
+    (g.F.Files.failed c.args.files.now)
     (g.F.Files.faults c.args.files.now)
     (unlisted_by ws c.in_ok-command.field-0 c.in_ok-command.ensures c.in_default.is)
 
@@ -26,6 +27,7 @@ returns-in_err-fetched-clause-answered g c =
     let made = c.from_residual-in_err-fetched in
     let ws = texts c.args.words.now in
     let told = g.F.Files.told c.args.files.now in
+    let gives = g.F.Files.gives c.args.files.now in
     let failed = g.F.Files.failed c.fetch_all.new.files in
     let before = g.F.Files.faults c.args.files.now in
     let now = g.F.Files.faults c.fetch_all.new.files in
@@ -34,8 +36,8 @@ returns-in_err-fetched-clause-answered g c =
     let stops : Stops told (asked_by k).files failed before now e =
     subst (λ (l : List Named). Stops told (map wanted_by l) failed before now e) c.deref.ensures.value
     c.in_err-fetched.ensures.all in
-    answered_by made.result (of_fetch e) (Replies ws told failed before now) made.ensures.0 made.ensures.1
-    (stopped_replies ws told (asked_by k) failed before now e asks stops)
+    answered_by made.result (of_fetch e) (Replies ws (source told gives failed before now)) made.ensures.0 made.ensures.1
+    (stopped_replies ws told gives (asked_by k) failed before now e asks stops)
 
 pub reply_to-requires-clause-within : goal.reply_to-requires-clause-within
 reply_to-requires-clause-within g c =
@@ -65,7 +67,12 @@ returns-clause-answered g c =
     let held : Gathers (Holds told) (asked_by k).files no_files f =
     subst (λ (l : List Named). Gathers (Holds told) (map wanted_by l) no_files f) c.deref.ensures.value
     c.in_ok-fetched.ensures.all.0 in
+    let gives = g.F.Files.gives c.args.files.now in
+    let fetched : Gathers (IsGiven gives) (asked_by k).files no_files f =
+    subst (λ (l : List Named). Gathers (IsGiven gives) (map wanted_by l) no_files f) c.deref.ensures.value
+    c.in_ok-fetched.ensures.given in
     let reply = c.in_ok-reply_to.field-0 in
-    ended_replies ws told (asked_by k) f (g.F.Files.failed c.fetch_all.new.files) (g.F.Files.faults c.args.files.now)
-    (g.F.Files.faults c.fetch_all.new.files) asks held c.in_ok-fetched.ensures.all.1 (reply_status reply)
+    ended_replies ws told gives (asked_by k) f (g.F.Files.failed c.fetch_all.new.files)
+    (g.F.Files.faults c.args.files.now) (g.F.Files.faults c.fetch_all.new.files) asks held fetched
+    c.in_ok-fetched.ensures.all.1 (reply_status reply)
     (reply_text reply) c.in_ok-reply_to.ensures
