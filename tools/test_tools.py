@@ -243,6 +243,82 @@ class Prove(InRoom):
         self.assertIn("mid isn't proved:\na goal is left", out)
 
 
+class Words(InRoom):
+    """The editor's tool, over a page of every fault."""
+
+    PAGE = """# A page
+
+The payment stands behind the period, as a put option on a good business day. It stands.
+
+    $ irs schedule terms.json -
+    irs nothing terms.json; make nowhere DOC=x && tools/none | ./irs check terms.json
+    irs-schedule 2
+    this is told by hand, so many times
+    make try DOC=what
+
+- A [link](nowhere.md), [another](#a-page), `make examples` and `make never`, and docs/NOWHERE.md.
+
+| cell | which stands |
+|---|---|
+| `code | that stands` | crates/NAME |
+
+<!-- printed -->
+It stands behind.
+<!-- end -->
+Two lines of
+one sentence: %s.
+"""
+
+    def setUp(self) -> None:
+        super().setUp()
+        places = ["tools/words", "tools/commands.py", "examples/help", "examples/fixed_leg", "Makefile", ".gitignore"]
+        self.top = self.copy(*places, "bindings/python/pyproject.toml", "crates/irs/README.md")
+        (self.top / "README.md").write_text(self.PAGE % ("word " * 24))
+
+    def found(self, *words: str) -> Tuple[int, List[str]]:
+        """The status, and the lines without the texts that they show."""
+        status, out, said = self.run_tool(["tools/words", *words], self.room / "the copy")
+        self.assertEqual(said, "")
+        return status, [re.sub(r"(\)|words): .*", r"\1", line) for line in out.splitlines()]
+
+    def test_findings(self) -> None:
+        status, lines = self.found("README.md")
+        self.assertEqual(status, 1)
+        self.assertEqual(
+            lines[:-2],
+            [
+                "README.md:3: 'behind' (after)",
+                "README.md:3: 'stands' (is, appears, meets)",
+                "README.md:3: 'stands' (is, appears, meets)",
+                "README.md:6: there is no command irs nothing",
+                "README.md:6: there is no command make nowhere",
+                "README.md:6: there is no command tools/none",
+                "README.md:11: there is no nowhere.md",
+                "README.md:11: there is no docs/NOWHERE.md",
+                "README.md:11: there is no command make never",
+                "README.md:13: 'stands' (is, appears, meets)",
+                "README.md:20: 29 words",
+            ],
+        )
+        self.assertRegex(lines[-2], r"^README.md: \d+ words, 4 of the list, 1 sentences above 25, 6 wrong$")
+
+    def test_only_what_is_wrong(self) -> None:
+        status, lines = self.found("--wrong", "README.md")
+        self.assertEqual((status, len(lines), lines[-1]), (1, 7, "pages: 6 links or commands are wrong"))
+        (self.top / "README.md").write_text("It stands: `make try`, [here](README.md#no).\n")
+        self.assertEqual(self.found("--wrong")[1][0], "README.md:1: there is no heading README.md#no")
+        (self.top / "README.md").write_text("# A heading: `x`\n\nIt stands: `make try`, [here](#a-heading-x).\n")
+        self.assertEqual(self.found("--wrong"), (0, ["pages: 0 links or commands are wrong"]))
+
+    def test_comments(self) -> None:
+        source = self.top / "crates" / "irs" / "src" / "lib.rt"
+        source.parent.mkdir()
+        source.write_text("/// It stands here,\n/// and so many times.\nlet stands = 1;\n")
+        lines = self.found("--comments")[1]
+        self.assertIn("crates/irs/src/lib.rt:1: 'stands' (is, appears, meets)", lines)
+        self.assertIn("crates/irs/src/lib.rt:2: 'so many' (n, the number of)", lines)
+
+
 class Gate(InRoom):
     def test_its_last_line_is_kept(self) -> None:
         self.program("rt", "#!/bin/sh\necho 'rattle-kit-1z logic 0123456789abcdef'\n")
