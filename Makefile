@@ -48,6 +48,7 @@ unproved:
 examples: irs
 	examples/compare
 	tools/rules
+	tools/shown
 	tools/words --wrong
 
 faults: irs

@@ -319,6 +319,28 @@ one sentence: %s.
         self.assertIn("crates/irs/src/lib.rt:2: 'so many' (n, the number of)", lines)
 
 
+class Shown(unittest.TestCase):
+    """The commands of pages, and what they print there."""
+
+    def test_what_is_shown(self) -> None:
+        page = "    $ ./irs a b\n    one\n    ..\n    $ ./irs c\n    two\n\ntext\n\n    make\n    ./irs d\n\n    three\n"
+        found = list(tool("shown").shown(page))
+        self.assertEqual(found, [("a b", ["one", ".."]), ("c", ["two"]), ("d", ["three"])])
+
+    def test_what_is_printed(self) -> None:
+        is_as_shown = tool("shown").is_as_shown
+        self.assertTrue(is_as_shown(["one", "..", "end"], "one\n2\n3\nend\n"))
+        self.assertTrue(is_as_shown(["..", "end"], "end\n"))
+        self.assertFalse(is_as_shown(["one", ".."], "two\none\n"))
+        self.assertFalse(is_as_shown(["one"], "one\ntwo\n"))
+
+    def test_a_page_that_is_wrong(self) -> None:
+        for program, status in (("/bin/echo", 1), ("/bin/false", 1)):
+            done = subprocess.run([str(TOOLS / "shown"), program], stdout=subprocess.PIPE, text=True, check=False)
+            self.assertEqual(done.returncode, status)
+            self.assertIn("NOT as in README.md: irs schedule examples/fixed_leg/terms.json -", done.stdout)
+
+
 class Gate(InRoom):
     def test_its_last_line_is_kept(self) -> None:
         self.program("rt", "#!/bin/sh\necho 'rattle-kit-1z logic 0123456789abcdef'\n")
