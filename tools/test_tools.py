@@ -323,9 +323,9 @@ class Shown(unittest.TestCase):
     """The commands of pages, and what they print there."""
 
     def test_what_is_shown(self) -> None:
-        page = "    $ ./irs a b\n    one\n    ..\n    $ ./irs c\n    two\n\ntext\n\n    make\n    ./irs d\n\n    three\n"
+        page = "    $ ./irs a b\n    one\n    ..\n    $ ./irs c\n    two\n\ntext\n\n    make\n    ./irs d\n\n    three\n\n    make try DOC=e\n\n    four\n"
         found = list(tool("shown").shown(page))
-        self.assertEqual(found, [("a b", ["one", ".."]), ("c", ["two"]), ("d", ["three"])])
+        self.assertEqual(found, [("a b", ["one", ".."]), ("c", ["two"]), ("d", ["three"]), ("schedule e -", ["four"])])
 
     def test_what_is_printed(self) -> None:
         is_as_shown = tool("shown").is_as_shown
