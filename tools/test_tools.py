@@ -323,7 +323,8 @@ class Shown(unittest.TestCase):
     """The commands of pages, and what they print there."""
 
     def test_what_is_shown(self) -> None:
-        page = "    $ ./irs a b\n    one\n    ..\n    $ ./irs c\n    two\n\ntext\n\n    make\n    ./irs d\n\n    three\n\n    make try DOC=e\n\n    four\n"
+        page = "    $ ./irs a b\n    one\n    ..\n    $ ./irs c\n    two\n\ntext\n\n    make\n    ./irs d\n\n    three\n"
+        page += "\n    make try DOC=e\n\n    four\n"
         found = list(tool("shown").shown(page))
         self.assertEqual(found, [("a b", ["one", ".."]), ("c", ["two"]), ("d", ["three"]), ("schedule e -", ["four"])])
 
