@@ -272,7 +272,8 @@ one sentence: %s.
     def setUp(self) -> None:
         super().setUp()
         places = ["tools/words", "tools/commands.py", "examples/help", "examples/fixed_leg", "Makefile", ".gitignore"]
-        self.top = self.copy(*places, "bindings/python/pyproject.toml", "crates/irs/README.md")
+        self.top = self.copy(*places, "bindings/python/pyproject.toml")
+        (self.top / "crates" / "irs" / "src").mkdir(parents=True)
         (self.top / "README.md").write_text(self.PAGE % ("word " * 24))
 
     def found(self, *words: str) -> Tuple[int, List[str]]:
@@ -312,7 +313,6 @@ one sentence: %s.
 
     def test_comments(self) -> None:
         source = self.top / "crates" / "irs" / "src" / "lib.rt"
-        source.parent.mkdir()
         source.write_text("/// It stands here,\n/// and so many times.\nlet stands = 1;\n")
         lines = self.found("--comments")[1]
         self.assertIn("crates/irs/src/lib.rt:1: 'stands' (is, appears, meets)", lines)
