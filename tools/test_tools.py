@@ -319,7 +319,7 @@ one sentence: %s.
         self.assertIn("crates/irs/src/lib.rt:2: 'so many' (n, the number of)", lines)
 
 
-class Shown(unittest.TestCase):
+class Shown(InRoom):
     """The commands of pages, and what they print there."""
 
     def test_what_is_shown(self) -> None:
@@ -336,10 +336,11 @@ class Shown(unittest.TestCase):
         self.assertFalse(is_as_shown(["one"], "one\ntwo\n"))
 
     def test_a_page_that_is_wrong(self) -> None:
-        for program, status in (("/bin/echo", 1), ("/bin/false", 1)):
-            done = subprocess.run([str(TOOLS / "shown"), program], stdout=subprocess.PIPE, text=True, check=False)
-            self.assertEqual(done.returncode, status)
-            self.assertIn("NOT as in README.md: irs schedule examples/fixed_leg/terms.json -", done.stdout)
+        for body in ("echo irs-schedule 2", "exit 1"):
+            program = self.program("irs", f"#!/bin/sh\n{body}\n")
+            status, out, _ = self.run_tool([str(TOOLS / "shown"), str(program)], self.room)
+            self.assertEqual(status, 1)
+            self.assertIn("NOT as in README.md: irs schedule examples/fixed_leg/terms.json -", out)
 
 
 class Gate(InRoom):
