@@ -6,7 +6,7 @@
 #   make try          the program as it is, unproved, on files of yours: DOC=FILE FIX=FILE CALS='FILE FILE',
 #                     COMMAND=NAME, or ARGS='any words' (tools/try says more)
 #   make unproved     the program and the library for C without their proofs, in build/unproved
-#   make examples     the proved program on every example, and on those of docs/RULES.md
+#   make examples     the proved program on every example, and on those of docs/RULES.md; the pages' links and commands
 #   make library      the proved library for C, and for the Python package
 #   make bindings     tries the library through C, C++, Java and Python (bindings/install installs what it uses)
 #   make desk         tries the page irs-desk in a real browser (bindings/install desk installs it)
@@ -48,6 +48,8 @@ unproved:
 examples: irs
 	examples/compare
 	tools/rules
+	tools/shown
+	tools/words --wrong
 
 faults: irs
 	tools/faults

@@ -243,6 +243,106 @@ class Prove(InRoom):
         self.assertIn("mid isn't proved:\na goal is left", out)
 
 
+class Words(InRoom):
+    """The editor's tool, over a page of every fault."""
+
+    PAGE = """# A page
+
+The payment stands behind the period, as a put option on a good business day. It stands.
+
+    $ irs schedule terms.json -
+    irs nothing terms.json; make nowhere DOC=x && tools/none | ./irs check terms.json
+    irs-schedule 2
+    this is told by hand, so many times
+    make try DOC=what
+
+- A [link](nowhere.md), [another](#a-page), `make examples` and `make never`, and docs/NOWHERE.md.
+
+| cell | which stands |
+|---|---|
+| `code | that stands` | crates/NAME |
+
+<!-- printed -->
+It stands behind.
+<!-- end -->
+Two lines of
+one sentence: %s.
+"""
+
+    def setUp(self) -> None:
+        super().setUp()
+        places = ["tools/words", "tools/commands.py", "examples/help", "examples/fixed_leg", "Makefile", ".gitignore"]
+        self.top = self.copy(*places, "bindings/python/pyproject.toml")
+        (self.top / "crates" / "irs" / "src").mkdir(parents=True)
+        (self.top / "README.md").write_text(self.PAGE % ("word " * 24))
+
+    def found(self, *words: str) -> Tuple[int, List[str]]:
+        """The status, and the lines without the texts that they show."""
+        status, out, said = self.run_tool(["tools/words", *words], self.room / "the copy")
+        self.assertEqual(said, "")
+        return status, [re.sub(r"(\)|words): .*", r"\1", line) for line in out.splitlines()]
+
+    def test_findings(self) -> None:
+        status, lines = self.found("README.md")
+        self.assertEqual(status, 1)
+        self.assertEqual(
+            lines[:-2],
+            [
+                "README.md:3: 'behind' (after)",
+                "README.md:3: 'stands' (is, appears, meets)",
+                "README.md:3: 'stands' (is, appears, meets)",
+                "README.md:6: there is no command irs nothing",
+                "README.md:6: there is no command make nowhere",
+                "README.md:6: there is no command tools/none",
+                "README.md:11: there is no nowhere.md",
+                "README.md:11: there is no docs/NOWHERE.md",
+                "README.md:11: there is no command make never",
+                "README.md:13: 'stands' (is, appears, meets)",
+                "README.md:20: 29 words",
+            ],
+        )
+        self.assertRegex(lines[-2], r"^README.md: \d+ words, 4 of the list, 1 sentences above 25, 6 wrong$")
+
+    def test_only_what_is_wrong(self) -> None:
+        status, lines = self.found("--wrong", "README.md")
+        self.assertEqual((status, len(lines), lines[-1]), (1, 7, "pages: 6 links or commands are wrong"))
+        (self.top / "README.md").write_text("It stands: `make try`, [here](README.md#no).\n")
+        self.assertEqual(self.found("--wrong")[1][0], "README.md:1: there is no heading README.md#no")
+        (self.top / "README.md").write_text("# A heading: `x`\n\nIt stands: `make try`, [here](#a-heading-x).\n")
+        self.assertEqual(self.found("--wrong"), (0, ["pages: 0 links or commands are wrong"]))
+
+    def test_comments(self) -> None:
+        source = self.top / "crates" / "irs" / "src" / "lib.rt"
+        source.write_text("/// It stands here,\n/// and so many times.\nlet stands = 1;\n")
+        lines = self.found("--comments")[1]
+        self.assertIn("crates/irs/src/lib.rt:1: 'stands' (is, appears, meets)", lines)
+        self.assertIn("crates/irs/src/lib.rt:2: 'so many' (n, the number of)", lines)
+
+
+class Shown(InRoom):
+    """The commands of pages, and what they print there."""
+
+    def test_what_is_shown(self) -> None:
+        page = "    $ ./irs a b\n    one\n    ..\n    $ ./irs c\n    two\n\ntext\n\n    make\n    ./irs d\n\n    three\n"
+        page += "\n    make try DOC=e\n\n    four\n"
+        found = list(tool("shown").shown(page))
+        self.assertEqual(found, [("a b", ["one", ".."]), ("c", ["two"]), ("d", ["three"]), ("schedule e -", ["four"])])
+
+    def test_what_is_printed(self) -> None:
+        is_as_shown = tool("shown").is_as_shown
+        self.assertTrue(is_as_shown(["one", "..", "end"], "one\n2\n3\nend\n"))
+        self.assertTrue(is_as_shown(["..", "end"], "end\n"))
+        self.assertFalse(is_as_shown(["one", ".."], "two\none\n"))
+        self.assertFalse(is_as_shown(["one"], "one\ntwo\n"))
+
+    def test_a_page_that_is_wrong(self) -> None:
+        for body in ("echo irs-schedule 2", "exit 1"):
+            program = self.program("irs", f"#!/bin/sh\n{body}\n")
+            status, out, _ = self.run_tool([str(TOOLS / "shown"), str(program)], self.room)
+            self.assertEqual(status, 1)
+            self.assertIn("NOT as in README.md: irs schedule examples/fixed_leg/terms.json -", out)
+
+
 class Gate(InRoom):
     def test_its_last_line_is_kept(self) -> None:
         self.program("rt", "#!/bin/sh\necho 'rattle-kit-1z logic 0123456789abcdef'\n")
