@@ -9,7 +9,7 @@
    - `out` and `needed` overlap neither each other nor what is lent, and nobody writes to what is lent
      while the call runs; otherwise several threads may call at once;
    - it isn't called from a signal handler;
-   - the thread has at least 256 KiB of stack (JSON nests up to 127 deep), and the processor has SSE4.1. */
+   - the thread has at least 256 KiB of stack (JSON nests up to 127 deep, XML up to 63), and the processor has SSE4.1. */
 #ifndef IRS_H
 #define IRS_H
 #include <stddef.h>
@@ -25,7 +25,8 @@ extern "C" {
 /* Bytes that the caller lends for the call. `at` is never NULL, also where `len` is 0. */
 struct irs_bytes { const uint8_t *at; size_t len; };
 
-/* A file: a name as the words have it, and its bytes. Of several with one name the first counts. */
+/* A file: a name as the words have it, and its bytes. Of several with one name the first counts. A document or
+   cash flows whose name ends in `.xml` are read as FpML XML, and any other as JSON. */
 struct irs_file { struct irs_bytes name, bytes; };
 
 /* Answers the status of the command that the words are: 0 to 5 and 8 as the program has them, 7 where

@@ -24,7 +24,8 @@
 
 namespace irs {
 
-// A file that is lent for a call: its name as the words have it, and its bytes. Both stay the caller's.
+// A file that is lent for a call: its name as the words have it, and its bytes. Both stay the caller's. A document
+// or cash flows whose name ends in `.xml` are read as FpML XML, and any other as JSON.
 struct file {
     std::string_view name, bytes;
 };

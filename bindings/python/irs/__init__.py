@@ -11,7 +11,7 @@ only tested of what this package makes of its text.
 """
 from .book import Outcome, Summary
 from .builder import Overnight, swap
-from .calls import Schedule, accrue, audit, average, check, emit, interpolate, net, overnight, schedule
+from .calls import Schedule, accrue, audit, average, carrier, check, emit, interpolate, net, overnight, schedule
 from .errors import BadFile, BadWords, Error, NoFile, NotText, OutOfMemory, Refused, TooLong
 from .ladder import CashFlow
 from .library import Answer, engine, run
@@ -51,6 +51,7 @@ __all__ = [
     "accrue",
     "audit",
     "average",
+    "carrier",
     "check",
     "emit",
     "engine",

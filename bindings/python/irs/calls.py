@@ -1,8 +1,9 @@
 """A function a command but for `bulk`: documents in, rows out.
 
 A document, a flow document, a calendar and a file of fixings are bytes or text as docs/FORMATS.md has
-them, or a path (`pathlib.Path`), whose file is read; a document may also be a mapping, which is written as
-JSON. A name in a `str` is no path: it would be a document. Every call raises `Refused` where the terms break
+them, or a path (`pathlib.Path`), whose file is read. A document is read as XML where it begins with `<`, after a
+byte order mark and white space, and else as JSON, whatever the name of its file; it may also be a mapping, which
+is written as JSON. A name in a `str` is no path: it would be a document. Every call raises `Refused` where the terms break
 a rule, `BadFile` where a file isn't as such files are written, `TooLong` for a file of more than 4,194,304
 bytes, `BadWords` for a parameter that the command doesn't take, `OutOfMemory` where memory runs out, and
 TypeError for what is no document and no file.
@@ -17,6 +18,7 @@ from functools import cached_property
 from pathlib import Path
 from typing import Any, Dict, Iterable, Iterator, List, Mapping, NamedTuple, Optional, Sequence, Tuple, Union
 
+from .documents import word_for
 from .errors import error_of
 from .library import Answer, Text, meaning, run
 from .looks import Looks
@@ -192,17 +194,32 @@ def _asked(parts: List[Text], files: Dict[str, Text], calendars: Iterable[File])
     return answer
 
 
+def _of_document(command: str, document: Text, calendars: Iterable[File] = ()) -> Answer:
+    name = word_for("document", document)
+    return _asked([command, name], {name: document}, calendars)
+
+
 def _with_rates(
-    command: str, parameters: List[str], document: Text, rates: Optional[File], calendars: Iterable[File], **more: Text
+    command: str,
+    parameters: List[str],
+    document: Text,
+    rates: Optional[File],
+    calendars: Iterable[File],
+    flows: Optional[Text] = None,
 ) -> bytes:
-    files: Dict[str, Text] = {"document": document, **more}
-    words: List[Text] = [command, *parameters, "document"]
+    name = word_for("document", document)
+    files: Dict[str, Text] = {name: document}
+    words: List[Text] = [command, *parameters, name]
     if rates is None:
         words.append("-")
     else:
         files["rates"] = content(rates)
         words.append("rates")
-    return _asked(words + list(more), files, calendars).text
+    if flows is not None:
+        name = word_for("flows", flows)
+        files[name] = flows
+        words.append(name)
+    return _asked(words, files, calendars).text
 
 
 class Item(NamedTuple):
@@ -224,17 +241,19 @@ class Told(NamedTuple):
 def _words_of(
     command: str, item: Item, calendars: Sequence[Tuple[str, bytes]], fixings: Optional[bytes]
 ) -> Tuple[List[Text], Dict[str, Text]]:
-    files: Dict[str, Text] = {"document": item.document}
-    words: List[Text] = [command, "document"]
+    name = word_for("document", item.document)
+    files: Dict[str, Text] = {name: item.document}
+    words: List[Text] = [command, name]
     rates = fixings if item.fixings is None else item.fixings
     if command != "check":
         words.append("-" if rates is None else "fixings")
         if rates is not None:
             files["fixings"] = rates
     if command == "audit":
-        words.append("flows")
+        name = "flows" if item.flows is None else word_for("flows", item.flows)
+        words.append(name)
         if item.flows is not None:
-            files["flows"] = item.flows
+            files[name] = item.flows
     # A calendar's name is a word, so that a sentence has it.
     for name, calendar in calendars:
         files[f"calendar {name}"] = calendar
@@ -257,7 +276,7 @@ def run_each(
 
 def check(document: Document, calendars: Iterable[File] = ()) -> None:
     """Asks whether the terms keep every rule; raises `Refused` where they don't."""
-    _asked(["check", "document"], {"document": _document(document)}, calendars)
+    _of_document("check", _document(document), calendars)
 
 
 def schedule(document: Document, fixings: Optional[File] = None, calendars: Iterable[File] = ()) -> Schedule:
@@ -271,6 +290,11 @@ def audit(
 ) -> Verdict:
     """Compares cash flows with the schedule: `Yes`, or `No` with the first departure."""
     return verdict_of(_with_rates("audit", [], _document(document), fixings, calendars, flows=_document(flows)))
+
+
+def carrier(document: File) -> bytes:
+    """The value of a document in XML, as one line of JSON; `BadWords` where it doesn't begin with `<`."""
+    return _of_document("carrier", content(document)).text
 
 
 def emit(document: Document, fixings: Optional[File] = None, calendars: Iterable[File] = ()) -> bytes:

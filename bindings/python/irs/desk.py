@@ -146,7 +146,7 @@ def download(kept: Kept, name: str) -> Optional[Tuple[bytes, str]]:
         )
     if name == "document.json":
         document = kept.inputs.document
-        emitted = ask("emit", kept.inputs._replace(document=Named(document.name, json_of(document.content))))
+        emitted = ask("emit", kept.inputs)
         return with_cashflows(json_of(document.content), emitted.text), "application/json"
     return None
 

@@ -1,7 +1,7 @@
 """The elements of a document of terms, read leniently: what isn't there or isn't as expected is absent.
 
-Only the engine says what terms mean. Names and texts are read here, to show them beside its answer, and to know
-which files a document needs (docs/FORMATS.md, 'The carrier'). Nothing of it is proved.
+Only the engine says what terms mean, and what XML means as JSON. Names and texts are read here, to show them beside
+its answer, and to know which files a document needs (docs/FORMATS.md, 'The carrier'). Nothing of it is proved.
 """
 from __future__ import annotations
 
@@ -9,26 +9,44 @@ import json
 from collections.abc import Mapping
 from typing import Any, Iterator, List, Optional, Union
 
-from .library import Text, as_bytes
+from .library import Text, as_bytes, meaning, run
 
 Document = Union[Text, Mapping[str, Any]]
 
 
+#: How the name of a file ends that the engine reads as XML.
+XML = ".xml"
+
+
 class NotRead(ValueError):
-    """This version can't read the document. The text of the error is one plain sentence."""
+    """The engine has no reading of the document. The text of the error is one plain sentence."""
+
+
+def is_xml(document: Text) -> bool:
+    """Whether a document is meant as XML: it begins with `<`, after a byte order mark and white space."""
+    return as_bytes(document)[:1024].lstrip(b"\xef\xbb\xbf \t\r\n").startswith(b"<")
+
+
+def word_for(name: str, document: Text) -> str:
+    """The word that names a document to the engine, which reads it as XML where its name ends so."""
+    return name + XML if is_xml(document) else name
 
 
 def json_of(document: bytes) -> bytes:
-    """The document as JSON. Raises `NotRead` for XML, which this version doesn't read."""
-    if document.lstrip(b"\xef\xbb\xbf \t\r\n").startswith(b"<"):
-        raise NotRead("XML isn't read by this version")
-    return document
+    """The document as JSON; XML by the engine's `carrier`. Raises `NotRead` for XML that has no reading."""
+    if not is_xml(document):
+        return document
+    words = ["carrier", word_for("document", document)]
+    answer = run(words, {words[1]: document})
+    if answer.status:
+        raise NotRead(meaning(words, answer.status, answer.text) or "memory ran out")
+    return answer.text
 
 
 def value_of(document: Document) -> Any:
-    """The JSON value of a document, its numbers as their texts, or `None` where it has none."""
+    """The JSON value of a document, XML among it, its numbers as their texts, or `None` where it has none."""
     try:
-        text = json.dumps(document) if isinstance(document, Mapping) else as_bytes(document).decode()
+        text = json.dumps(document) if isinstance(document, Mapping) else json_of(as_bytes(document)).decode()
         return json.loads(text, parse_int=str, parse_float=str)
     except (ValueError, RecursionError):
         return None

@@ -11,10 +11,9 @@ from pathlib import Path
 from typing import Dict, List, NamedTuple, Optional, Sequence, Set, TypeVar
 
 from .calendar_files import centres_in
-from .documents import NotRead, json_of, texts_of, value_of
+from .documents import texts_of, value_of
 from .files import read_for_engine
 from .library import MOST_BYTES, MOST_CALENDARS, Text
-from .plain import shown
 from .tools import BadInput
 
 
@@ -47,15 +46,6 @@ def read_named(path: Path) -> Named:
     if str(path) == "-":
         return Named("standard input", sys.stdin.buffer.read(MOST_BYTES + 1))
     return Named(path.name, read_for_engine(path))
-
-
-def read_document(path: Path) -> Named:
-    """A document by its path, as JSON. Raises `BadInput`, also for XML."""
-    file = read_named(path)
-    try:
-        return Named(file.name, json_of(file.content))
-    except NotRead as why:
-        raise BadInput(f"{shown(file.name)}: {why}") from why
 
 
 def centres_of(document: Text) -> Set[str]:

@@ -13,14 +13,14 @@ from typing import Any, List, NamedTuple, Optional, Sequence
 
 from .calls import Schedule
 from .compare import Comparison, mark_of, side_by_side
-from .documents import NotRead, json_of, streams_of, value_of
+from .documents import streams_of, value_of
 from .due import counted, net_rows, net_table
 from .inputs import Inputs, Named
 from .ladder import cash_flows, view_sentence, viewer
 from .parties import Parties, parties_of
 from .plain import brief
 from .printed import UNKNOWN, StreamText, printed
-from .refusals import Refusal, refusal_of, unread
+from .refusals import Refusal, refusal_of
 from .replies import Reply, ask
 from .stubs import index_of_period, stubs_of
 from .tables import Cell, Column, Table, exchange_table, folded, ledger_table, period_table
@@ -158,18 +158,9 @@ def _verdict(reply: Reply) -> Said:
     )
 
 
-def _as_json(file: Named) -> Named:
-    return Named(file.name, json_of(file.content))
-
-
 def _with_flows(look: Look, inputs: Inputs) -> Look:
     if inputs.flows is None:
         return look
-    stated = inputs.flows
-    try:
-        inputs = inputs._replace(flows=_as_json(stated))
-    except NotRead as why:
-        return look._replace(flows_refusal=unread(stated, str(why)))
     reply = ask("audit", inputs)
     if reply.status > 1:
         return look._replace(flows_refusal=refusal_of(reply))
@@ -204,10 +195,6 @@ def look_at(inputs: Inputs, today: date, party: Optional[str] = None) -> Look:
     from. Raises `UnknownParty` for an unknown party.
     """
     look = Look(brief(inputs.document.name), _files(inputs), today.isoformat(), Said("", BAD))
-    try:
-        inputs = inputs._replace(document=_as_json(inputs.document))
-    except NotRead as why:
-        return _refused(look, unread(inputs.document, str(why)))
     reply = ask("schedule", inputs)
     if reply.status:
         return _refused(look, refusal_of(reply))

@@ -2,11 +2,11 @@
 from __future__ import annotations
 
 import json
-from typing import List, NamedTuple, Optional
+from typing import Callable, List, NamedTuple, Optional
 
-from .inputs import Named
+from .documents import is_xml
 from .places import Spot, element_spot, flow_spot
-from .plain import brief, visible
+from .plain import visible
 from .replies import Reply
 
 #: How many lines are shown before and after the one at fault, and how many characters of a line.
@@ -110,13 +110,17 @@ def _lines_of_bad_json(content: bytes) -> List[Line]:
     return []
 
 
+def _lines_of(content: bytes, unread: bool, find: Callable[[str], Optional[Spot]]) -> List[Line]:
+    # Places are found in JSON alone; of XML no line is shown.
+    if is_xml(content):
+        return []
+    return _lines_of_bad_json(content) if unread else _lines_at(content, find(content.decode(errors="replace")))
+
+
 def _of_rule(reply: Reply) -> Refusal:
     _, rule, stream, path, index = reply.line.split()
     content = reply.files[reply.words[1]].content
-    if rule == "K1":
-        lines = _lines_of_bad_json(content)
-    else:
-        lines = _lines_at(content, element_spot(content.decode(errors="replace"), int(stream), path, int(index)))
+    lines = _lines_of(content, rule == "K1", lambda text: element_spot(text, int(stream), path, int(index)))
     return Refusal(
         _WHAT[2],
         reply.line,
@@ -133,10 +137,7 @@ def _of_rule(reply: Reply) -> Refusal:
 def _of_flows(reply: Reply, kind: str, stream: int, path: str, index: int) -> Refusal:
     word = reply.words[3]
     content = reply.files[word].content
-    if kind == "notjson":
-        lines = _lines_of_bad_json(content)
-    else:
-        lines = _lines_at(content, flow_spot(content.decode(errors="replace"), stream, path, index))
+    lines = _lines_of(content, kind == "notjson", lambda text: flow_spot(text, stream, path, index))
     return Refusal(_WHAT[3], reply.line, reply.sentence, "", stream, path.split("/"), index, word, lines)
 
 
@@ -182,8 +183,3 @@ def refusal_of(reply: Reply) -> Refusal:
         "",
         [],
     )
-
-
-def unread(file: Named, why: str) -> Refusal:
-    """The refusal of a file that this version can't read, with its first lines."""
-    return Refusal("This version can't read the file", "", why, "", 0, [], 0, brief(file.name), [])

@@ -4,6 +4,7 @@ from __future__ import annotations
 
 from typing import Dict, List, NamedTuple, Optional
 
+from .documents import XML, is_xml
 from .inputs import Inputs, Named
 from .library import Text, meaning, run
 from .plain import brief
@@ -36,10 +37,12 @@ class Reply(NamedTuple):
 
 def _word(file: Named, taken: Dict[str, Named]) -> str:
     name = brief(file.name)
-    word, number = name, 1
+    ending = XML if is_xml(file.content) else ""
+    stem = name[: len(name) - len(ending)] if name.endswith(ending) else name
+    word, number = stem + ending, 1
     while word in taken or word == "-":
         number += 1
-        word = f"{name} ({number})"
+        word = f"{stem} ({number}){ending}"
     return word
 
 

@@ -18,7 +18,7 @@ from typing import Dict, Iterator, List, Optional, Sequence
 from .arguments import count, day, parser_of
 from .due import net_rows, net_table
 from .files import whole_file, write_whole
-from .inputs import Inputs, calendars_at, read_document, read_named
+from .inputs import Inputs, calendars_at, read_named
 from .ladder import CashFlow, cash_flows, view_sentence, viewer
 from .looks import tables_of
 from .parties import Parties, parties_of
@@ -223,7 +223,7 @@ def _shown(asked: Asked, streams: List[StreamText], parties: Parties) -> None:
 
 
 def _inputs(asked: Asked) -> Inputs:
-    document = read_document(asked.terms)
+    document = read_named(asked.terms)
     fixings = None if asked.fixings is None else read_named(asked.fixings)
     return Inputs(document, fixings, None, calendars_at(asked.calendar, document.content))
 

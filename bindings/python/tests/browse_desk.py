@@ -265,10 +265,14 @@ class Desk(Browser):
         self.look()
         self.assertIn("K12", self.text())
 
-    def test_xml_is_said_not_to_be_read(self):
-        self.drop("document", "trade.xml", b"<?xml version='1.0'?><dataDocument/>")
+    def test_xml(self):
+        self.drop("document", "trade.xml", b"<?xml version='1.0'?><dataDocument>")
         self.look()
-        self.assertIn("XML isn't read by this version", self.text())
+        self.assertIn("isn't XML that this program reads", self.text())
+        self.driver.get(self.address)
+        self.drop("document", "terms.xml", (EXAMPLES / "carrier" / "terms.xml").read_bytes())
+        self.look()
+        self.assertIn("K2", self.text())
 
     def test_a_script_in_an_index(self):
         made = trades.stream(

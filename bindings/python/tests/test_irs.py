@@ -20,6 +20,54 @@ def example(name):
     return (EXAMPLES / name).read_bytes()
 
 
+class Xml(unittest.TestCase):
+    TERMS, FIXINGS = example("xml_vanilla/terms.xml"), example("xml_vanilla/fixings")
+    CALENDARS = [example("xml_vanilla/target.cal")]
+
+    def test_a_document_in_xml(self):
+        for terms in (self.TERMS, self.TERMS.decode(), b"\xef\xbb\xbf" + self.TERMS, self.TERMS.split(b"?>\n", 1)[1]):
+            self.assertEqual(irs.schedule(terms, self.FIXINGS, self.CALENDARS).text, example("xml_vanilla/output"))
+        path = EXAMPLES / "xml_vanilla/terms.xml"
+        self.assertEqual(irs.schedule(path, self.FIXINGS, self.CALENDARS).text, example("xml_vanilla/output"))
+        irs.check(self.TERMS, self.CALENDARS)
+
+    def test_white_space_in_front(self):
+        # An XML declaration stands at the very front, and white space before another tag is XML.
+        body = self.TERMS.split(b"?>\n", 1)[1]
+        irs.check(b" \r\n\t" + body, self.CALENDARS)
+        with self.assertRaises(irs.Refused) as caught:
+            irs.check(b" " + self.TERMS, self.CALENDARS)
+        self.assertEqual(str(caught.exception.sentence), "K1: the document isn't XML that this program reads")
+
+    def test_cash_flows_in_xml(self):
+        trade = example("xml_audited/trade.xml")
+        self.assertEqual(irs.audit(trade, trade, self.FIXINGS, self.CALENDARS), irs.Yes(16, 1))
+        emitted = irs.emit(trade, self.FIXINGS, self.CALENDARS)
+        self.assertEqual(irs.audit(trade, emitted, self.FIXINGS, self.CALENDARS), irs.Yes(16, 1))
+        with self.assertRaises(irs.BadFile):
+            irs.audit(trade, trade[:-9], self.FIXINGS, self.CALENDARS)
+
+    def test_the_parties_of_xml(self):
+        made = irs.schedule(self.TERMS, self.FIXINGS, self.CALENDARS)
+        self.assertEqual({flow.direction for flow in made.flows(party="North Bank")}, {"pays", "receives"})
+        first = irs.net(self.TERMS, self.FIXINGS, self.CALENDARS)[0]
+        self.assertEqual((str(first.date), first.amount), ("2024-09-16", Decimal("-200159.72")))
+
+    def test_the_carrier(self):
+        self.assertEqual(irs.carrier(example("carrier/terms.xml")), example("carrier/output"))
+        self.assertEqual(irs.carrier("<swap/>"), b'{"swap":""}\n')
+        with self.assertRaises(irs.BadWords):
+            irs.carrier(b"{}")
+        with self.assertRaises(irs.Refused):
+            irs.carrier(b"<swap>")
+
+    def test_names_say_the_form_to_the_library(self):
+        terms = {"t.xml": self.TERMS, "t": self.TERMS, "c": self.CALENDARS[0]}
+        self.assertEqual(irs.run(["check", "t.xml", "c"], terms).text, b"ok\n")
+        self.assertEqual(irs.run(["check", "t", "c"], terms).text, b"refused K1 0 document 0\n")
+        self.assertEqual(irs.run(["carrier", "t"], terms).text, b"bad words\n")
+
+
 class Rows(unittest.TestCase):
     def test_a_fixed_stream(self):
         schedule = irs.schedule(example("fixed_leg/terms.json"))

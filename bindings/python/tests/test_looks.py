@@ -416,6 +416,24 @@ def run_show(*arguments, stdin=b"", module="irs.show", env=None):
     )
 
 
+class Xml(unittest.TestCase):
+    def test_a_trade_in_xml_looks_as_its_carrier(self):
+        trade = named("xml_audited/trade.xml")
+        inputs = Inputs(trade, named("xml_audited/fixings"), trade, [named("xml_audited/target.cal")])
+        look = look_at(inputs, TODAY, "North Bank")
+        self.assertEqual(look.verdict_line, "yes 16 1")
+        carried = Named("trade.json", irs.carrier(trade.content))
+        other = look_at(inputs._replace(document=carried, flows=carried), TODAY, "North Bank")
+        for name in ("headline", "view", "streams", "ledger", "waits", "verdict", "comparisons", "net", "wide"):
+            self.assertIsNotNone(getattr(look, name), name)
+            self.assertEqual(getattr(look, name), getattr(other, name), name)
+
+    def test_a_refusal_shows_no_lines_of_it(self):
+        trade = example("xml_vanilla/terms.xml").replace(b"30E/360", b"31/360")
+        refusal = look_at(Inputs(Named("t", trade), None, None, [named("xml_vanilla/target.cal")]), TODAY).refusal
+        self.assertEqual((refusal.rule, refusal.file, refusal.lines), ("K6", "t.xml", []))
+
+
 class Show(unittest.TestCase):
     def lines(self, *arguments, **more):
         done = run_show(*arguments, **more)
@@ -527,10 +545,13 @@ class Show(unittest.TestCase):
             self.assertEqual((done.returncode, done.stdout), (2, b""))
             self.assertIn(sentence, done.stderr.decode())
             self.assertNotIn("Traceback", done.stderr.decode())
-        done = run_show("-", stdin=b"<?xml version='1.0'?><FpML/>")
+        done = run_show("-", stdin=b"<?xml version='1.0'?><FpML>")
         self.assertEqual(
             (done.returncode, done.stderr),
-            (2, b"irs-show: standard input: XML isn't read by this version\n"),
+            (
+                2,
+                b"irs-show: refused K1 0 document 0: K1: the document isn't XML that this program reads\n",
+            ),
         )
         done = run_show(EXAMPLES / "fixed_leg" / "terms.json", "--from", "15.7.2024")
         self.assertIn(b"15.7.2024 isn't a date as 2024-04-15", done.stderr)
@@ -774,7 +795,7 @@ class Reports(unittest.TestCase):
                 Path(room, name).write_bytes(example(source))
             Path(room, "calendars").mkdir()
             Path(room, "calendars", "de.cal").write_bytes(example("business_days/de.cal"))
-            Path(room, "D.json").write_bytes(b"<FpML/>")
+            Path(room, "D.json").write_bytes(b"<FpML>")
             done, page = self.report(room, *(f"{room}/{name}.json" for name in "ABCD"))
             self.assertEqual((done.returncode, done.stderr), (0, b""))
             text = Path(room, "report.html").read_text()
@@ -784,8 +805,8 @@ class Reports(unittest.TestCase):
         for said in (
             "1 stream, 2 periods, 1 payment; every amount is known. Agrees in all 5 rows.",
             "1 amount not known, as a fixing is missing.",
-            "This version can&#39;t read the file",
-            "XML isn&#39;t read by this version",
+            "The terms break a rule",
+            "the document isn&#39;t XML that this program reads",
         ):
             self.assertIn(said, text)
 

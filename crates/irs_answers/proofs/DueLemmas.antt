@@ -10,7 +10,7 @@ use Rattle.irs_base.specs.declared.places.Broken.{Broken}
 use Rattle.irs_base.specs.declared.stopped.Stopped.{Stopped}
 use Rattle.irs_base.specs.declared.stopped.Stopped.TheVariants as stopped
 use Rattle.irs_xml.proofs.TextLaws.{reads_one}
-use Rattle.irs_answers.specs.Forms.{IsReadable, ReadsAs, Spelt, Written}
+use Rattle.irs_answers.specs.Forms.{IsReadable, ReadsAs, TextReads, SourceText}
 use Rattle.irs_answers.specs.declared.forms.Form.{Form}
 use Rattle.irs_answers.specs.declared.forms.Form.TheVariants.{Json, Xml}
 use Rattle.irs_answers.specs.declared.forms.ReadErr.{ReadErr}
@@ -68,7 +68,7 @@ one_as : (form : Form) (bytes : List ℕ) (v w : Data) → ReadsAs form bytes v 
 one_as Json bytes v w h k = same_Some w v (sym k.1 ∙ h.1)
 one_as Xml bytes v w h k = reads_one bytes w v k h
 
-pub one_reading : (t : Written) (v w : Data) → Spelt t v → Spelt t w → w ≡ v
+pub one_reading : (t : SourceText) (v w : Data) → TextReads t v → TextReads t w → w ≡ v
 one_reading t v w h k = one_as t.form t.bytes v w h k
 
 same_ok : {A E : Type 0} (x y : A) → (let r : Result A E = Ok x in r ≡ Ok y) → x ≡ y
@@ -195,9 +195,9 @@ module _ (t : Task) (g : Given) (swap : Swap) (sides : Option Sides) (cal : List
 -- ---- each step that is passed
 
 module _ (t : Task) (g : Given) (status : ℕ) (text : List ℕ) where
-  pub in_text : (v : Data) → Spelt g.document v → DueDocument t g v status text → DueFor t g status text
+  pub in_text : (v : Data) → TextReads g.document v → DueDocument t g v status text → DueFor t g status text
   in_text v is h =
-      read (Spelt g.document) (Is 2 (refused unreadable) status text) (λ w. DueDocument t g w status text) v is
+      read (TextReads g.document) (Is 2 (refused unreadable) status text) (λ w. DueDocument t g w status text) v is
       (λ w other. subst (λ (x : Data). DueDocument t g x status text) (sym (one_reading g.document v w is other)) h)
 
   pub in_swap : (v : Data) (swap : Swap) → Means v swap → DueSides t g v swap status text
@@ -265,7 +265,7 @@ passed_answer t g f r p h =
 module _ (t : Task) (g : Given) where
   at_text : (IsReadable g.document → ⊥) → DueFor t g 2 (refused unreadable)
   at_text never =
-      unread (Spelt g.document) (Is 2 (refused unreadable) 2 (refused unreadable))
+      unread (TextReads g.document) (Is 2 (refused unreadable) 2 (refused unreadable))
       (λ v. DueDocument t g v 2 (refused unreadable)) (λ v reads. never (v, reads)) (refl, refl)
 
   at_document : (v : Data) (b : Broken) → First is_before (DocumentFault v) b → DueDocument t g v 2 (refused b)
@@ -325,18 +325,18 @@ module _ (t : Task) (g : Given) where
 
   -- ---- the errors of the calls are what is due
 
-  pub refuse_text : (e : ReadErr) → (e ≡ reading.Unreadable → (v : Data) → Spelt g.document v → ⊥)
+  pub refuse_text : (e : ReadErr) → (e ≡ reading.Unreadable → (v : Data) → TextReads g.document v → ⊥)
       → IfRefused (of_read e) (Ends (DueFor t g))
   refuse_text reading.Unreadable h = record { due = at_text (λ k. h refl k.0 k.1); verdict = omega arith }
   refuse_text reading.Memory h = tt
 
-  pub refuse_read : (v : Data) (e : Stopped Broken) → Spelt g.document v
+  pub refuse_read : (v : Data) (e : Stopped Broken) → TextReads g.document v
       → IfStopped e (First is_before (DocumentFault v)) → IfRefused (of_stopped e) (Ends (DueFor t g))
   refuse_read v (stopped.Broken b) reads first =
       record { due = in_text t g 2 (refused b) v reads (at_document v b first); verdict = omega arith }
   refuse_read v stopped.Memory reads first = tt
 
-  pub refuse_sides : (v : Data) (swap : Swap) (b : Broken) → Spelt g.document v → Means v swap → BreaksSides t v b
+  pub refuse_sides : (v : Data) (swap : Swap) (b : Broken) → TextReads g.document v → Means v swap → BreaksSides t v b
       → IfRefused (Rule b) (Ends (DueFor t g))
   refuse_sides v swap b reads means first =
       record {

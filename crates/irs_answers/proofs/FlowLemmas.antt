@@ -5,7 +5,7 @@ use Rattle.std.specs.Result.{IsErrAnd}
 use Rattle.serde_json.specs.Data.{Data}
 use Rattle.irs_base.specs.declared.places.Broken.{Broken}
 use Rattle.irs_base.specs.declared.places.Place.{Place}
-use Rattle.irs_answers.specs.Forms.{IsReadable, Spelt, Written}
+use Rattle.irs_answers.specs.Forms.{IsReadable, TextReads, SourceText}
 use Rattle.irs_schedule.specs.Parts.{Part}
 use Rattle.irs_audit.specs.FlowFaults.{FlowFault}
 use Rattle.irs_audit.specs.FlowMeaning.{streams_in}
@@ -28,15 +28,15 @@ use Rattle.irs_answers.proofs.FirstLemmas.{one_first}
 use Rattle.irs_answers.proofs.StepLemmas.{read, unread}
 use Rattle.irs_base.specs.Order.{First, Only, is_before}
 
-at_text : (file : Written) (s : List Part) → (IsReadable file → ⊥) → DueFlows file s 3 (bad_flows NotJson whole_document)
+at_text : (file : SourceText) (s : List Part) → (IsReadable file → ⊥) → DueFlows file s 3 (bad_flows NotJson whole_document)
 at_text file s never =
     let text = bad_flows NotJson whole_document in
-    unread (Spelt file) (Is 3 text 3 text) (λ v. DueStated v s 3 text) (λ v reads. never (v, reads)) (refl, refl)
+    unread (TextReads file) (Is 3 text 3 text) (λ v. DueStated v s 3 text) (λ v reads. never (v, reads)) (refl, refl)
 
-in_text : (file : Written) (s : List Part) (v : Data) (status : ℕ) (text : List ℕ) → Spelt file v
+in_text : (file : SourceText) (s : List Part) (v : Data) (status : ℕ) (text : List ℕ) → TextReads file v
     → DueStated v s status text → DueFlows file s status text
 in_text file s v status text reads h =
-    read (Spelt file) (Is 3 (bad_flows NotJson whole_document) status text) (λ w. DueStated w s status text) v reads
+    read (TextReads file) (Is 3 (bad_flows NotJson whole_document) status text) (λ w. DueStated w s status text) v reads
     (λ w other. subst (λ (x : Data). DueStated x s status text) (sym (one_reading file v w reads other)) h)
 
 abbrev Faulty : Data → ℕ → List ℕ → Type 0
@@ -53,13 +53,13 @@ at_fault s v b first =
       (refl, refl),
     )
 
-due_shape : (file : Written) (s : List Part) (v : Data) (how : ShapeKind) (place : Place) → Spelt file v
+due_shape : (file : SourceText) (s : List Part) (v : Data) (how : ShapeKind) (place : Place) → TextReads file v
     → IsFirstShape v how place → DueFlows file s 3 (bad_flows how place)
 due_shape file s v how place reads h =
     rw (h.kind_is, h.place_is)
     (in_text file s v 3 (bad_flows (kind_of h.fault.rule) h.fault.place) reads (at_fault s v h.fault h.first))
 
-pub refuse_flows : (file : Written) (s : List Part) (e : FlowErr) → FlowsFail file e
+pub refuse_flows : (file : SourceText) (s : List Part) (e : FlowErr) → FlowsFail file e
     → IfRefused (Flows e) (Ends (DueFlows file s))
 refuse_flows file s (flowing.Shape how place) (inl h) =
     rw (h.1, h.2) (record { due = at_text file s h.0; verdict = omega arith })
@@ -80,7 +80,7 @@ verdict_low : (w : Verdict) → verdict_status w < 4
 verdict_low (Yes rows unfixed) = omega arith
 verdict_low (No d) = omega arith
 
-pub due_verdict : (file : Written) (s : List Part) (flows : List FlowPart) (w : Verdict) → SpellsFlows file flows
+pub due_verdict : (file : SourceText) (s : List Part) (flows : List FlowPart) (w : Verdict) → SpellsFlows file flows
     → IsVerdict flows s w → ((o : Verdict) → IsVerdict flows s o → o ≡ w)
     → Ends (DueFlows file s) (verdict_status w) (verdict_text w)
 due_verdict file s flows w spells is only =

@@ -4,7 +4,7 @@ use Rattle.std.proofs.lemmas.Option.{same_Some}
 use Rattle.serde_json.specs.Data.{Data}
 use Rattle.irs_base.specs.Order.{First, Only, is_before}
 use Rattle.irs_base.specs.declared.places.Broken.{Broken}
-use Rattle.irs_answers.specs.Forms.{Spelt, Written}
+use Rattle.irs_answers.specs.Forms.{TextReads, SourceText}
 use Rattle.irs_xml.specs.Document.{XmlReads}
 use Rattle.irs_audit.specs.FlowFaults.{FlowFault}
 use Rattle.irs_audit.specs.FlowParts.{FlowPart}
@@ -91,10 +91,10 @@ module _ (s u : ℕ) (t v : List ℕ) where
       step_both (FlowsOf w) (Faulty w s t) (Faulty w u v) (λ f. DueVerdict f p s t) (λ f. DueVerdict f p u v)
       (one_fault w) (one_verdict p) h k
 
-  one_flows : (x : Written) (p : List Part) → DueFlows x p s t → DueFlows x p u v → Same
+  one_flows : (x : SourceText) (p : List Part) → DueFlows x p s t → DueFlows x p u v → Same
   one_flows x p h k =
       let text = bad_flows NotJson whole_document in
-      step_both (Spelt x) (Is 3 text s t) (Is 3 text u v) (λ w. DueStated w p s t) (λ w. DueStated w p u v)
+      step_both (TextReads x) (Is 3 text s t) (Is 3 text u v) (λ w. DueStated w p s t) (λ w. DueStated w p u v)
       (both 3 text) (one_stated p) h k
 
   one_netted : (sides : Option Sides) (p : List Part) → TellsNet sides p t → TellsNet sides p v → t ≡ v
@@ -228,7 +228,7 @@ module _ (s u : ℕ) (t v : List ℕ) where
 
     one_for : DueFor task g s t → DueFor task g u v → Same
     one_for h k =
-        step_both (Spelt g.document) (Is 2 (refused unreadable) s t) (Is 2 (refused unreadable) u v)
+        step_both (TextReads g.document) (Is 2 (refused unreadable) s t) (Is 2 (refused unreadable) u v)
         (λ w. DueDocument task g w s t) (λ w. DueDocument task g w u v) (both 2 (refused unreadable)) one_document h k
 
 -- one status and one text are due for a carrier

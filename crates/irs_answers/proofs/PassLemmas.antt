@@ -6,7 +6,7 @@ use Rattle.irs_schedule.specs.Schedules.{IsSchedule}
 use Rattle.irs_terms.specs.declared.stream_list.Swap.{Swap}
 use Rattle.irs_read.specs.Reading.{Means}
 use Rattle.serde_json.specs.Data.{Data}
-use Rattle.irs_answers.specs.Forms.{Written}
+use Rattle.irs_answers.specs.Forms.{SourceText}
 use Rattle.irs_answers.specs.Given.{Given}
 use Rattle.irs_answers.specs.Due.{Answered, DueFor, Facts, Passes, Spells, facts, rates_for}
 use Rattle.irs_answers.specs.Tasks.{uses_rates}
@@ -15,7 +15,7 @@ use Rattle.irs_answers.proofs.DueLemmas.{one_calendars, one_fixings, one_meaning
 use Rattle.irs_answers.proofs.SameRates.{SameRates, schedule_same}
 
 -- a swap that is spelt is the only one
-one_swap : (t : Task) (w : Written) (f h : Facts) → Spells t w f.swap f.sides → Spells t w h.swap h.sides
+one_swap : (t : Task) (w : SourceText) (f h : Facts) → Spells t w f.swap f.sides → Spells t w h.swap h.sides
     → h.swap ≡ f.swap
 one_swap t w f h p q =
     let same : q.value ≡ p.value = one_reading w p.value q.value p.reads q.reads in

@@ -31,7 +31,7 @@ use Rattle.irs_answers.specs.declared.tasks.Task.{Task}
 use Rattle.irs_answers.specs.declared.tasks.Task.TheVariants.{Check, Schedule, Audit, Emit, Accrue, Net, Overnight}
 use Rattle.irs_answers.specs.declared.tasks.Task.TheVariants.{Average, Interpolate}
 use Rattle.irs_answers.specs.Tasks.{nets, uses_rates}
-use Rattle.irs_answers.specs.Forms.{Spelt, Written}
+use Rattle.irs_answers.specs.Forms.{TextReads, SourceText}
 use Rattle.irs_answers.specs.Given.{Given}
 use Rattle.irs_answers.specs.Messages.{refused, unreadable, bad_calendar, bad_fixings, all_kept}
 use Rattle.irs_answers.specs.Steps.{Is, Refuses, Rules, Step}
@@ -103,9 +103,9 @@ DueStated v s status text =
     × Is 3 (bad_flows (kind_of b.rule) b.place) status text) (λ flows. DueVerdict flows s status text)
 
 -- what is due for the text of flows against a schedule
-abbrev pub DueFlows : Written → List Part → ℕ → List ℕ → Type 0
+abbrev pub DueFlows : SourceText → List Part → ℕ → List ℕ → Type 0
 DueFlows w s status text =
-    Step (Spelt w) (Is 3 (bad_flows NotJson whole_document) status text) (λ v. DueStated v s status text)
+    Step (TextReads w) (Is 3 (bad_flows NotJson whole_document) status text) (λ v. DueStated v s status text)
 
 -- what is due for a task where no rule is broken and the schedule is the only one
 abbrev pub Answered : Task → Given → Facts → ℕ → List ℕ → Type 0
@@ -172,16 +172,16 @@ DueDocument t g v status text =
 -- what is due for a task and its files; K1: the document has no reading
 abbrev pub DueFor : Task → Given → ℕ → List ℕ → Type 0
 DueFor t g status text =
-    Step (Spelt g.document) (Is 2 (refused unreadable) status text) (λ v. DueDocument t g v status text)
+    Step (TextReads g.document) (Is 2 (refused unreadable) status text) (λ v. DueDocument t g v status text)
 
 -- one status and one text are due for a task and its files
 abbrev pub IsOneDue : Task → Given → Type 0
 IsOneDue t g = (s u : ℕ) (x y : List ℕ) → DueFor t g s x → DueFor t g u y → (s ≡ u) × (x ≡ y)
 
 -- the text has a reading, it means the swap, and these are the sides that the task asks for
-pub record Spells (t : Task) (document : Written) (swap : Swap) (sides : Option Sides) : Type 0 where
+pub record Spells (t : Task) (document : SourceText) (swap : Swap) (sides : Option Sides) : Type 0 where
   pub value : Data
-  pub reads : Spelt document value
+  pub reads : TextReads document value
   pub means : Means value swap
   pub has_sides : HasSides t value sides
 

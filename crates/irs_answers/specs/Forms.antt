@@ -8,13 +8,13 @@ use Rattle.irs_answers.specs.declared.forms.Form.TheVariants.{Json, Xml}
 use Rattle.irs_answers.specs.declared.forms.Source.{Source}
 
 -- the text of a document or of cash flows, and its form
-pub record Written : Type 0 where
+pub record SourceText : Type 0 where
   pub form : Form
   pub bytes : List ℕ
 
 -- the text as the code keeps it
-abbrev pub written_by : Source → Written
-written_by s = record { form = s.form; bytes = s.bytes.items }
+abbrev pub source_by : Source → SourceText
+source_by s = record { form = s.form; bytes = s.bytes.items }
 
 -- bytes in a form mean the value: a JSON text as serde_json reads it, or FpML XML
 abbrev pub ReadsAs : Form → List ℕ → Data → Type 0
@@ -22,17 +22,17 @@ ReadsAs Json bytes v = Reads bytes v
 ReadsAs Xml bytes v = XmlReads bytes v
 
 -- the text means the value
-abbrev pub Spelt : Written → Data → Type 0
-Spelt w v = ReadsAs w.form w.bytes v
+abbrev pub TextReads : SourceText → Data → Type 0
+TextReads w v = ReadsAs w.form w.bytes v
 
 -- a JSON text of these bytes
-abbrev pub json_text : List ℕ → Written
+abbrev pub json_text : List ℕ → SourceText
 json_text bytes = record { form = Json; bytes = bytes }
 
 -- no text
-abbrev pub no_text : Written
+abbrev pub no_text : SourceText
 no_text = json_text []
 
 -- the text has a reading in its form
-abbrev pub IsReadable : Written → Type 0
-IsReadable w = (v : Data) × Spelt w v
+abbrev pub IsReadable : SourceText → Type 0
+IsReadable w = (v : Data) × TextReads w v

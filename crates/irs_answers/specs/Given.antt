@@ -1,7 +1,7 @@
 -- The files of a task, by what they are to it.
 use Rattle.std.specs.Prelude.{ℕ, ◌+◌, ◌<◌, ◌≤◌, List, [], length, map, All, Option, None, option_map, IfSome}
 use Rattle.irs_base.specs.Limits.{most_bytes, most_files}
-use Rattle.irs_answers.specs.Forms.{Written, no_text, written_by}
+use Rattle.irs_answers.specs.Forms.{SourceText, no_text, source_by}
 use Rattle.irs_answers.specs.declared.files.TaskFiles.{TaskFiles}
 
 -- one byte more than a file may have
@@ -14,9 +14,9 @@ most_calendars = most_files
 
 -- the files: the texts of the document and of the flows, and the bytes of the others
 pub record Given : Type 0 where
-  pub document : Written
+  pub document : SourceText
   pub fixings : Option (List ℕ)
-  pub flows : Written
+  pub flows : SourceText
   pub calendars : List (List ℕ)
 
 -- no file
@@ -27,9 +27,9 @@ no_files = record { document = no_text; fixings = None; flows = no_text; calenda
 abbrev pub given_by : TaskFiles → Given
 given_by f =
     record {
-      document = written_by f.document;
+      document = source_by f.document;
       fixings = option_map (λ v. v.items) f.fixings;
-      flows = written_by f.flows;
+      flows = source_by f.flows;
       calendars = map (λ v. v.items) f.calendars.items;
     }
 

@@ -8,7 +8,7 @@ use Rattle.irs_json.specs.declared.JsonErr.{JsonErr}
 use Rattle.irs_json.specs.declared.JsonErr.TheVariants as json
 use Rattle.irs_xml.specs.declared.XmlErr.{XmlErr}
 use Rattle.irs_xml.specs.declared.XmlErr.TheVariants as xml
-use Rattle.irs_answers.specs.Forms.{IsReadable, Spelt, Written}
+use Rattle.irs_answers.specs.Forms.{IsReadable, TextReads, SourceText}
 use Rattle.irs_answers.specs.declared.forms.ReadErr.{ReadErr}
 use Rattle.irs_answers.specs.declared.forms.ReadErr.TheVariants as reading
 use Rattle.irs_calendar.specs.Calendars.{spot_of}
@@ -105,14 +105,14 @@ FixingsFail bytes (fixing.Repeat line) = IsFixingsFault bytes (fixing.Repeat lin
 FixingsFail bytes fixing.Memory = Unit {0}
 
 -- the text has a reading, and it states the flows
-abbrev pub SpellsFlows : Written → List FlowPart → Type 0
-SpellsFlows w flows = (v : Data) × Spelt w v × FlowsOf v flows
+abbrev pub SpellsFlows : SourceText → List FlowPart → Type 0
+SpellsFlows w flows = (v : Data) × TextReads w v × FlowsOf v flows
 
 -- an error of a file of flows tells that it has no reading, or the first fault of its reading, or of want of memory
-abbrev pub FlowsFail : Written → FlowErr → Type 0
+abbrev pub FlowsFail : SourceText → FlowErr → Type 0
 FlowsFail w (flowing.Shape kind place) =
     (¬ (IsReadable w) × (kind ≡ NotJson) × (place ≡ whole_document))
-    ⊎ ((v : Data) × Spelt w v × IsFirstShape v kind place)
+    ⊎ ((v : Data) × TextReads w v × IsFirstShape v kind place)
 FlowsFail w flowing.Memory = Unit {0}
 
 -- no rule of the swap is broken, and the schedule is the only one

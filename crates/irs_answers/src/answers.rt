@@ -3,7 +3,7 @@ ghost use Rattle.std.specs.Prelude.{◌≡◌};
 ghost use Rattle.irs_emit.specs.Emitted.{emit_text};
 ghost use Rattle.irs_answers.specs.Accrued.{TellsAccrued};
 ghost use Rattle.irs_answers.specs.Due.{Answered, DueFlows, Passes};
-ghost use Rattle.irs_answers.specs.Forms.{written_by};
+ghost use Rattle.irs_answers.specs.Forms.{source_by};
 ghost use Rattle.irs_answers.specs.Found.{facts_by};
 ghost use Rattle.irs_answers.specs.Given.{given_by};
 ghost use Rattle.irs_answers.specs.Messages.{all_kept};
@@ -64,7 +64,7 @@ fn check_answer(alloc: Global) -> Result<Reply, Refusal>
 }
 
 fn audit_answer(alloc: Global, flows: &Source, schedule: &Schedule) -> Result<Reply, Refusal>
-    ensures { IfAnswered result (Ends (DueFlows (written_by flows.now) schedule.now)) }
+    ensures { IfAnswered result (Ends (DueFlows (source_by flows.now) schedule.now)) }
 {
     let verdict = verdict_on(alloc, schedule, flows)?;
     Ok(verdict_reply(alloc, verdict)?)

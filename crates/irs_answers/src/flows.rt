@@ -1,7 +1,7 @@
 //! The cash flows of an audit, and the verdict on them.
 ghost use Rattle.std.specs.Prelude.{◌≡◌, IfOk, IfErr};
 ghost use Rattle.irs_answers.specs.Due.{DueFlows};
-ghost use Rattle.irs_answers.specs.Forms.{written_by};
+ghost use Rattle.irs_answers.specs.Forms.{source_by};
 ghost use Rattle.irs_answers.specs.FlowMessages.{verdict_status, verdict_text, whole_document};
 ghost use Rattle.irs_answers.specs.Outcomes.{Ends, FlowsFail, IfRefused, SpellsFlows};
 ghost use Rattle.irs_answers.specs.declared.refusals.Refusal.TheVariants.{Flows as OfFlows};
@@ -19,8 +19,8 @@ pub(crate) fn verdict_on(
     source: &Source,
 ) -> Result<Verdict, FlowErr>
     ensures verdict { IfOk result
-        (λ w. Ends (DueFlows (written_by source.now) schedule.now) (verdict_status w) (verdict_text w)) }
-    ensures fault { IfErr result (λ e. IfRefused (OfFlows e) (Ends (DueFlows (written_by source.now) schedule.now))) }
+        (λ w. Ends (DueFlows (source_by source.now) schedule.now) (verdict_status w) (verdict_text w)) }
+    ensures fault { IfErr result (λ e. IfRefused (OfFlows e) (Ends (DueFlows (source_by source.now) schedule.now))) }
 {
     let flows = spelt_flows(alloc, source)?;
     Ok(audit(schedule, &flows))
@@ -28,8 +28,8 @@ pub(crate) fn verdict_on(
 
 // The flows that a text states, or its first fault.
 fn spelt_flows(alloc: Global, source: &Source) -> Result<Flows, FlowErr>
-    ensures spells { IfOk result (λ flows. SpellsFlows (written_by source.now) flows) }
-    ensures fault { IfErr result (λ e. FlowsFail (written_by source.now) e) }
+    ensures spells { IfOk result (λ flows. SpellsFlows (source_by source.now) flows) }
+    ensures fault { IfErr result (λ e. FlowsFail (source_by source.now) e) }
 {
     match read_document(alloc, source) {
         Ok(document) => read_flows(alloc, &document),

@@ -1,5 +1,5 @@
 //! The two forms of a document's text, and the value that it means.
-ghost use Rattle.irs_answers.specs.Forms.{Spelt, no_text, written_by};
+ghost use Rattle.irs_answers.specs.Forms.{TextReads, no_text, source_by};
 ghost use Rattle.irs_answers.specs.Outcomes.{of_json, of_xml};
 ghost use Rattle.irs_json.specs.Reading.{Reads};
 ghost use Rattle.irs_xml.specs.Document.{XmlReads};
@@ -32,7 +32,7 @@ pub struct Source {
 impl Source {
     /// The empty text, as JSON.
     pub(crate) fn empty(alloc: Global) -> Source
-        ensures { written_by result ≡ no_text }
+        ensures { source_by result ≡ no_text }
     {
         Source {
             form: Form::Json,
@@ -74,8 +74,8 @@ impl From<XmlErr> for ReadErr {
 
 /// The value that a text means in its form. `Unreadable` comes only where it means none.
 pub fn read_document(alloc: Global, source: &Source) -> Result<Value, ReadErr>
-    ensures reads { IfOk result (λ v. Spelt (written_by source.now) (view v)) }
-    ensures none { IsErrOf result ReadErr.Unreadable → (d : Data) → ¬ (Spelt (written_by source.now) d) }
+    ensures reads { IfOk result (λ v. TextReads (source_by source.now) (view v)) }
+    ensures none { IsErrOf result ReadErr.Unreadable → (d : Data) → ¬ (TextReads (source_by source.now) d) }
 {
     match source.form {
         Form::Json => read_json(alloc, &source.bytes),

@@ -28,6 +28,20 @@ fn a_document_that_is_no_json(rt: HostRuntime) {
 }
 
 #[test]
+fn a_document_in_xml(rt: HostRuntime) {
+    let files = [File {
+        name: lent(b"d.xml"),
+        bytes: lent(b"<swap/>"),
+    }];
+    let words = [lent(b"carrier"), lent(b"d.xml")];
+    let mut out = [b'#'; 32];
+    let mut needed = 0;
+    let status = irs_run(rt.alloc(), &words, &files, &mut out, &mut needed);
+    assert_eq!(rt; (status, needed), (0, 12));
+    assert_eq!(rt; &out[..13], b"{\"swap\":\"\"}\n#".as_slice());
+}
+
+#[test]
 fn what_a_line_means(rt: HostRuntime) {
     let mut out = [b'#'; 64];
     let mut needed = 0;

@@ -7,7 +7,7 @@ use Rattle.std.proofs.lemmas.List.{length-append}
 use Rattle.std.proofs.lemmas.List.Elements.{All-nil, All-cons, All-append}
 use Rattle.irs_cli.specs.declared.commands.Role.{Role}
 use Rattle.irs_cli.specs.declared.commands.Role.TheVariants.{Document, Fixings, Flows, Calendar}
-use Rattle.irs_answers.specs.Forms.{Written}
+use Rattle.irs_answers.specs.Forms.{SourceText}
 use Rattle.irs_cli.specs.Given.{with_file, text_as, Gathers, Each, Reaches}
 use Rattle.irs_cli.proofs.CommandLemmas.{is_cal, cals}
 
@@ -70,7 +70,7 @@ record Small (g : Given) : Type 0 where
   pub fixings : IfSome g.fixings (λ bytes. length bytes < too_many)
   pub calendars : All (λ bytes. length bytes < too_many) g.calendars
 
-with_small : (g : Given) (r : Role) (t : Written) → Small g → length t.bytes < too_many → Small (with_file g r t)
+with_small : (g : Given) (r : Role) (t : SourceText) → Small g → length t.bytes < too_many → Small (with_file g r t)
 with_small g Document t s k = record { fixings = s.fixings; calendars = s.calendars }
 with_small g Fixings t s k = record { fixings = k; calendars = s.calendars }
 with_small g Flows t s k = record { fixings = s.fixings; calendars = s.calendars }
@@ -88,7 +88,7 @@ gathers_small R [] g h f s k = subst Small (sym k) s
 gathers_small R (w ∷ ws) g h f s k =
     gathers_small R ws (with_file g w.role (text_as w.name k.0)) h f (with_small g w.role (text_as w.name k.0) s (f w.name k.0 k.1)) k.2
 
-with_many : (g : Given) (r : Role) (t : Written)
+with_many : (g : Given) (r : Role) (t : SourceText)
     → length (with_file g r t).calendars ≡ length g.calendars + is_cal r
 with_many g Document t = omega arith
 with_many g Fixings t = omega arith

@@ -3,7 +3,7 @@ use Rattle.std.specs.Prelude.{◌≡◌, ◌⊎◌, ℕ, ◌<◌, ◌≤◌, Lis
 use Rattle.irs_answers.specs.Given.{Given, no_files, too_many}
 use Rattle.irs_cli.specs.declared.commands.Role.{Role}
 use Rattle.irs_cli.specs.declared.commands.Role.TheVariants.{Document, Fixings, Flows, Calendar}
-use Rattle.irs_answers.specs.Forms.{Written}
+use Rattle.irs_answers.specs.Forms.{SourceText}
 use Rattle.irs_cli.specs.Commands.{Words, Wanted, Asked, Asks}
 use Rattle.irs_cli.specs.Params.{form_of}
 
@@ -12,11 +12,11 @@ abbrev pub Told : Type 0
 Told = List ℕ → Option (List ℕ)
 
 -- the text of a file of this name, whose form its name says
-abbrev pub text_as : List ℕ → List ℕ → Written
+abbrev pub text_as : List ℕ → List ℕ → SourceText
 text_as name bytes = record { form = form_of name; bytes = bytes }
 
 -- the files with one more; the form counts for the document and for the flows alone
-abbrev pub with_file : Given → Role → Written → Given
+abbrev pub with_file : Given → Role → SourceText → Given
 with_file g Document t = record { document = t; fixings = g.fixings; flows = g.flows; calendars = g.calendars }
 with_file g Fixings t =
     record { document = g.document; fixings = Some t.bytes; flows = g.flows; calendars = g.calendars }

@@ -1,15 +1,15 @@
 //! Fetching the files of a command: all of them, in the order of the words.
 ghost use Rattle.std.specs.Prelude.{◌≡◌, ℕ, List, map, IfOk, OnOk};
 ghost use Rattle.irs_cli.specs.Commands.{wanted_by};
-ghost use Rattle.irs_answers.specs.Forms.{written_by};
+ghost use Rattle.irs_answers.specs.Forms.{source_by};
 ghost use Rattle.irs_answers.specs.Given.{given_by};
 ghost use Rattle.irs_cli.specs.Given.{with_file};
 ghost use Rattle.irs_cli.specs.Fetching.{AreGiven, FetchesOne, FetchesAll, IsGiven};
 ghost use Rattle.irs_cli.specs.declared.fetching.Unfetched.TheVariants.{Memory as OfMemory};
 
 use crate::commands::{Named, Role};
-use crate::{FetchErr, Files};
 use crate::params::form_of;
+use crate::{FetchErr, Files};
 use irs_answers::{Source, TaskFiles};
 use irs_base::{MOST_BYTES, Memory};
 use std::alloc::Global;
@@ -38,7 +38,7 @@ impl From<Memory> for Unfetched {
 
 /// Takes the text of a file by its role; the form counts for the document and for the flows alone.
 fn put_file(files: &mut TaskFiles, role: Role, text: Source) -> Result<(), Memory>
-    ensures { OnOk result (given_by files.new ≡ with_file (given_by files.old) role (written_by text)) }
+    ensures { OnOk result (given_by files.new ≡ with_file (given_by files.old) role (source_by text)) }
 {
     match role {
         Role::Document => files.document = text,

@@ -6,7 +6,7 @@ use Rattle.serde_json.specs.View.{view}
 use Rattle.irs_calendar.specs.Calendars.{spot_of}
 use Rattle.irs_calendar.specs.FirstFaults.{IsFirstFault}
 use Rattle.irs_calendar.specs.Grammar.{CalFiles}
-use Rattle.irs_answers.specs.Forms.{Spelt}
+use Rattle.irs_answers.specs.Forms.{TextReads}
 use Rattle.irs_answers.specs.declared.refusals.Refusal.TheVariants.{Rule, Calendars, Fixings}
 use Rattle.irs_answers.specs.Due.{DueFor, Spells, facts}
 use Rattle.irs_answers.specs.Given.{given_by}

@@ -1,5 +1,5 @@
 use Rattle.irs_answers.specs.Due.{DueFlows}
-use Rattle.irs_answers.specs.Forms.{written_by}
+use Rattle.irs_answers.specs.Forms.{source_by}
 use Rattle.irs_answers.specs.Outcomes.{Ends, IfRefused}
 use Rattle.irs_answers.specs.declared.refusals.Refusal.TheVariants.{Flows}
 use Rattle.irs_answers.proofs.FlowLemmas.{due_verdict, failed_by, refuse_flows}
@@ -8,12 +8,12 @@ use Rattle.irs_answers.proofs.flows.verdict_on.Goals as goal
 pub returns-in_err-flows-clause-fault : goal.returns-in_err-flows-clause-fault
 returns-in_err-flows-clause-fault c =
     let e = c.in_err-flows.field-0.0 in
-    let file = written_by c.args.source.now in
+    let file = source_by c.args.source.now in
     let s = c.args.schedule.now in
     failed_by c.from_residual.result e (λ x. IfRefused (Flows x) (Ends (DueFlows file s))) c.from_residual.ensures.0
     c.from_residual.ensures.1 (refuse_flows file s e c.in_err-flows.ensures.fault)
 
 pub returns-clause-verdict : goal.returns-clause-verdict
 returns-clause-verdict c =
-    due_verdict (written_by c.args.source.now) c.args.schedule.now _ c.audit.result c.in_ok-flows.ensures.spells
+    due_verdict (source_by c.args.source.now) c.args.schedule.now _ c.audit.result c.in_ok-flows.ensures.spells
     c.audit.ensures.verdict c.audit.ensures.only
