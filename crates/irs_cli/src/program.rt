@@ -35,9 +35,8 @@ use std::alloc::Global;
 pub fn run<F: Files, S: Sink>(alloc: Global, words: &[String], files: &mut F, out: &mut S) -> u8
     // What the files tell is the same afterwards.
     ensures told { (n : List ℕ) → F.told files.new n ≡ F.told files.old n }
-    ensures ran {
-        let source = source (F.told files.old) (F.gives files.old) (F.failed files.new) (F.faults files.old)
-            (F.faults files.new) in
+    ensures ran { let source = source (F.told files.old) (F.gives files.old) (F.failed files.new) (F.faults files.old)
+        (F.faults files.new) in
         let written = written (S.written out.old) (S.written out.new) (S.faults out.old) (S.faults out.new) in
         Ran (texts words.now) source written result }
 {

@@ -42,9 +42,9 @@ pub fn answer<F: Files, S: Sink, E: Sink>(
     // Any other words are run.
     ensures ran { itself_of HELP.now VERSION.now (texts words.now) ≡ None →
         let source = source (F.told files.old) (F.gives files.old) (F.failed files.new) (F.faults files.old)
-            (F.faults files.new) in
+        (F.faults files.new) in
         let written = written (S.written (sink_of out.old)) (S.written (sink_of out.new))
-            (S.faults (sink_of out.old)) (S.faults (sink_of out.new)) in
+        (S.faults (sink_of out.old)) (S.faults (sink_of out.new)) in
         Ran (texts words.now) source written result }
 
     // What the status and the first bytes that were put mean is said, with the words as they are shown.

@@ -27,8 +27,8 @@ low_printed c free low = grind arith
 byte_printed : (c k : ℕ) → is_control c ≡ false → k < length (encode_utf8 c) → IsPrinted (get_or (encode_utf8 c) k 0)
 byte_printed c k free less = elim (cases_lt (get_or (encode_utf8 c) k 0) 128) [
   | inl low ↦
-    let same = inside_one c [] (encode_utf8 c) k (sym (append-nil (encode_utf8 c))) less low in
-    subst IsPrinted same (low_printed c free (subst (λ (b : ℕ). b < 128) (sym same) low))
+      let same = inside_one c [] (encode_utf8 c) k (sym (append-nil (encode_utf8 c))) less low in
+      subst IsPrinted same (low_printed c free (subst (λ (b : ℕ). b < 128) (sym same) low))
   | inr high ↦ above_printed (get_or (encode_utf8 c) k 0) high
 ]
 
@@ -58,7 +58,7 @@ plain_printed false c free = encoded_printed c free
 
 char_by : (control : Bool) (c : ℕ) → is_control c ≡ control
     → Every IsPrinted (if control then codes "\\x" ++ two_digits c
-      else (if turns_text c then codes "\\u" ++ two_digits (c / 256) ++ two_digits c else encode_utf8 c))
+    else (if turns_text c then codes "\\u" ++ two_digits (c / 256) ++ two_digits c else encode_utf8 c))
 char_by true c is = control_printed c
 char_by false c free = plain_printed (turns_text c) c free
 

@@ -24,8 +24,7 @@ pub fn shown_words(alloc: Global, words: &[String]) -> Result<Vec<String>, Memor
 /// A law: no byte of a text as it is shown is a control, a line feed among them.
 pub fn what_is_shown_is_one_line()
     ensures { (text : List ℕ) → Every IsPrinted (shown_of text) }
-{
-}
+{}
 
 // A text as it is shown.
 fn shown(alloc: Global, text: &str) -> Result<String, Memory>
