@@ -1,5 +1,9 @@
 -- The text of a carrier: the value as serde_json writes it, and LF; it reads as the value.
-use Rattle.std.proofs.Common.{◌≡◌, ℕ, ◌≤◌, List, [], ◌∷◌, ◌++◌, false, Some, ap, ◌∙◌, sym, subst, arith}
+use Rattle.std.proofs.Common.{◌≡◌, ℕ, ◌≤◌, List, [], ◌∷◌, ◌++◌, false, Some, Result, Ok, Err, ap, ◌∙◌, sym, subst}
+use Rattle.std.proofs.Common.{refl, arith}
+use Rattle.std.specs.Prelude.{IfOk, IsErr}
+use Rattle.irs_base.specs.declared.memory.Memory.{Memory as WantOfMemory}
+use Rattle.std.specs.Result.{IsErrAnd}
 use Rattle.std.proofs.lemmas.Str.{IsUtf8-append, IsUtf8-from_ascii}
 use Rattle.std.proofs.lemmas.Str.Ascii.{IsAscii-nil, IsAscii-cons}
 use Rattle.std.specs.Str.{IsUtf8}
@@ -8,7 +12,22 @@ use Rattle.serde_json.specs.Read.{max_depth, read}
 use Rattle.serde_json.specs.Written.{compact_text, has_float}
 use Rattle.irs_emit.proofs.ReadBack.{Built, built_depth, built_floatless, line_feed}
 use Rattle.irs_json.specs.Reading.{Reads}
-use Rattle.irs_answers.specs.Carried.{MeansXml, carrier_text}
+use Rattle.irs_xml.proofs.TextLaws.{reads_one}
+use Rattle.irs_xml.specs.Document.{XmlReads}
+use Rattle.irs_xml.specs.Places.{ReadsNone}
+use Rattle.irs_xml.specs.declared.reading.XmlErr.{XmlErr}
+use Rattle.irs_xml.specs.declared.reading.XmlErr.TheVariants as xml
+use Rattle.irs_answers.specs.Carried.{DueCarrier, MeansXml, ReadsBack, carrier_text}
+use Rattle.irs_answers.specs.Messages.{refused, unreadable}
+use Rattle.irs_answers.specs.Outcomes.{Ends, IfRefused, answer_of, of_read, of_xml}
+use Rattle.irs_answers.specs.Steps.{Is}
+use Rattle.irs_answers.specs.declared.forms.ReadErr.{ReadErr}
+use Rattle.irs_answers.specs.declared.forms.ReadErr.TheVariants as reading
+use Rattle.irs_answers.specs.Replying.{reply_status, reply_text}
+use Rattle.irs_answers.specs.declared.refusals.Refusal.{Refusal}
+use Rattle.irs_answers.specs.declared.replies.Reply.{Reply}
+use Rattle.irs_answers.proofs.DueLemmas.{ends_by}
+use Rattle.irs_answers.proofs.StepLemmas.{read as read_one, unread}
 use Rattle.irs_answers.proofs.XmlValues.{xml_built}
 
 abbrev LF : List ℕ
@@ -34,3 +53,48 @@ module _ (v : Data) (bytes new : List ℕ) (from : MeansXml v) (text : has_float
       let reads : read new ≡ Some v =
       ap read line_is ∙ line_feed 127 v built ∙ ap read (sym same) ∙ back (omega (arith, deep)) in
       (subst IsUtf8 (sym e) (IsUtf8-append bytes LF utf8 feed_utf8), reads)
+
+-- ---- an error of the reader
+
+pub no_reading : {A : Type 0} (r : Result A ReadErr) (e : XmlErr) (bytes : List ℕ) → IsErr r
+    → IsErrAnd r (λ x. x ≡ of_xml e) → ReadsNone bytes e → r ≡ Err reading.Unreadable → (d : Data) → XmlReads bytes d
+    → ⊥
+no_reading (Ok x) e bytes h k none is d reads = absurd k
+no_reading (Err x) (xml.NotXml line column) bytes h k none is d reads = none d reads
+no_reading (Err x) xml.Memory bytes h k none is d reads = absurd (cc)
+
+-- ---- what a carrier comes to
+
+abbrev pub Carries : List ℕ → ℕ → List ℕ → Type 0
+Carries bytes status text = Ends (DueCarrier bytes) status text × (status ≡ 0 → ReadsBack bytes text)
+
+pub refuse_carrier : (bytes : List ℕ) (e : ReadErr) → (e ≡ reading.Unreadable → (v : Data) → XmlReads bytes v → ⊥)
+    → IfRefused (of_read e) (Carries bytes)
+refuse_carrier bytes reading.Unreadable h =
+    let line = refused unreadable in (
+      record {
+        due = unread (XmlReads bytes) (Is 2 line 2 line) (λ v. Is 0 (carrier_text v) 2 line) (h refl) (refl, refl);
+        verdict = omega arith;
+      },
+      λ e. absurd (omega (arith, e)),
+    )
+refuse_carrier bytes reading.Memory h = tt
+
+pub carries : (bytes text : List ℕ) (v : Data) → XmlReads bytes v → text ≡ carrier_text v → Reads text v
+    → Carries bytes 0 text
+carries bytes text v is e back = (
+  record {
+    due =
+        read_one (XmlReads bytes) (Is 2 (refused unreadable) 0 text) (λ w. Is 0 (carrier_text w) 0 text) v is
+        (λ w other. (refl, e ∙ ap carrier_text (reads_one bytes v w is other)));
+    verdict = omega arith;
+  },
+  λ _. (v, is, back),
+)
+
+-- the line of a refusal is no carrier
+pub refused_carries : (r : Refusal) (bytes : List ℕ) (o : Result Reply WantOfMemory) → IfRefused r (Carries bytes)
+    → IfOk o (λ p. answer_of r ≡ Some (reply_status p, reply_text p))
+    → IfOk o (λ p. reply_status p ≡ 0 → ReadsBack bytes (reply_text p))
+refused_carries r bytes (Ok p) h e = (ends_by r p (Carries bytes) e h).1
+refused_carries r bytes (Err m) h e = tt

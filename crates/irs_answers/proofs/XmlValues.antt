@@ -141,13 +141,16 @@ children_built n (c ∷ cs) ms h t =
 
 settings_in : (n : ℕ) (ss : List Setting) (ms : Members) → MembersIn n ms → MembersIn n (with_settings ss ms)
 settings_in n [] ms t = t
-settings_in n (s ∷ ss) ms t = by_count (is_counted s)
+settings_in n (s ∷ ss) ms t =
+    by_count (is_counted s)
+    (settings_in n ss (put (64 ∷ s.local) (string s.value) ms)
+    (put_in n (64 ∷ s.local) (string s.value) ms tt t)) (settings_in n ss ms t)
   where
-    by_count : (b : Bool) → MembersIn n (with_settings ss (cond b (put (64 ∷ s.local) (string s.value) ms) ms))
-    by_count true =
-        settings_in n ss (put (64 ∷ s.local) (string s.value) ms)
-        (put_in n (64 ∷ s.local) (string s.value) ms tt t)
-    by_count false = settings_in n ss ms t
+    by_count : (b : Bool) → MembersIn n (with_settings ss (put (64 ∷ s.local) (string s.value) ms))
+        → MembersIn n (with_settings ss ms)
+        → MembersIn n (with_settings ss (cond b (put (64 ∷ s.local) (string s.value) ms) ms))
+    by_count true h k = h
+    by_count false h k = k
 
 -- ---- values of elements
 
@@ -223,12 +226,12 @@ mutual
   element_built (suc n) root kept scope (full t content space) c is e =
       level_more n c.1
       (named_built (n + n + 2) _ _ c
-      (λ d q. data_built (n + n) _ _ _ _ d (λ cs p. content_built n root _ _ content cs is.1.0 p) q) e)
+      (λ d q. data_built (n + n) _ _ _ _ d (λ cs p. content_built n root _ _ content cs is.1 p) q) e)
 
   content_built : (n : ℕ) (root : List ℕ) (kept : Bool) (scope : Scope) (c : Content) (cs : List Child)
       → IsContent n scope c → children_in root kept scope c ≡ Some cs → AreBuilt (n + n) cs
   content_built n root kept scope nothing cs is e = no_children (n + n) cs e
-  content_built n root kept scope (character x c) cs is e = content_built n root kept scope c cs is.1.1 e
+  content_built n root kept scope (character x c) cs is e = content_built n root kept scope c cs is.2 e
   content_built n root kept scope (reference r c) cs is e = content_built n root kept scope c cs is.1 e
   content_built n root kept scope (cdata ds c) cs is e = content_built n root kept scope c cs is.1 e
   content_built n root kept scope (comment ds c) cs is e = content_built n root kept scope c cs is.1 e

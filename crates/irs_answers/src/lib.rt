@@ -4,7 +4,7 @@
 
 mod accruing;
 mod answers;
-mod carrier;
+mod carrying;
 mod derived;
 mod due;
 mod files;
@@ -17,7 +17,7 @@ mod refusals;
 mod replies;
 mod tasks;
 
-pub use carrier::carrier;
+pub use carrying::carrier;
 pub use due::{Found, find, reply_of, schedule_of};
 pub use files::TaskFiles;
 pub use forms::{Form, ReadErr, Source, read_document};

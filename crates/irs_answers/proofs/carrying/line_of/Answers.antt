@@ -1,6 +1,6 @@
 use Rattle.serde_json.specs.View.{view}
 use Rattle.irs_answers.proofs.CarrierLemmas.{line_is, line_reads}
-use Rattle.irs_answers.proofs.carrier.line_of.Goals as goal
+use Rattle.irs_answers.proofs.carrying.line_of.Goals as goal
 
 pub returns-clause-text : goal.returns-clause-text
 returns-clause-text c =
