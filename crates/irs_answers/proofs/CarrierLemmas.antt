@@ -59,7 +59,7 @@ module _ (v : Data) (bytes new : List ℕ) (from : MeansXml v) (text : has_float
 pub no_reading : {A : Type 0} (r : Result A ReadErr) (e : XmlErr) (bytes : List ℕ) → IsErr r
     → IsErrAnd r (λ x. x ≡ of_xml e) → ReadsNone bytes e → r ≡ Err reading.Unreadable → (d : Data) → XmlReads bytes d
     → ⊥
-no_reading (Ok x) e bytes h k none is d reads = absurd h
+no_reading (Ok x) e bytes h k none is d reads = absurd k
 no_reading (Err x) (xml.NotXml line column) bytes h k none is d reads = none d reads
 no_reading (Err x) xml.Memory bytes h k none is d reads = absurd (cc)
 
