@@ -12,7 +12,7 @@
 #   make desk         tries the page irs-desk in a real browser (bindings/install desk installs it)
 #   make dist         the packages, in dist/; make install [PREFIX=..] [DESTDIR=..] installs
 #   make try-dist     the packages, each in an empty root; make try-tools tries the tools
-#   make faults       each allocation of the program fails in turn
+#   make faults       each allocation and each call on a file fails in turn
 #   make hostile      the program on the largest and the worst inputs
 #   make bench        counts what it takes
 #

@@ -264,6 +264,74 @@ class Gate(InRoom):
             )
 
 
+class Faults(InRoom):
+    """tools/faults over a program that writes out the file of its second word, as it should or with a mistake."""
+
+    PROGRAM = r"""
+        #include <errno.h>
+        #include <fcntl.h>
+        #include <stdio.h>
+        #include <unistd.h>
+        static void put(const char *at, size_t left) {
+            while (left) {
+                ssize_t n = write(1, at, left);
+                if (n < 0 && errno == EINTR) continue;
+                if (n <= 0) { dprintf(2, "no output\n"); _exit(6); }
+                AFTER_A_WRITE
+                at += n, left -= n;
+            }
+        }
+        static void fault(void) {
+            if (errno == ENOMEM) { dprintf(2, "no memory\n"); _exit(7); }
+            put("no file 1\n", 10);
+            dprintf(2, "no file\n");
+            _exit(5);
+        }
+        int main(int n, char **words) {
+            static char text[1 << 20];
+            size_t length = 0;
+            ssize_t got;
+            int file;
+            while ((file = open(words[n > 2 ? 2 : 1], O_RDONLY)) < 0) if (errno != EINTR) fault();
+            while ((got = read(file, text + length, 4096)) != 0) {
+                if (got < 0 && errno == EINTR) continue;
+                if (got < 0) AFTER_A_FAILED_READ;
+                length += got;
+            }
+            close(file);
+            put(text, length);
+            return 0;
+        }
+    """
+
+    def faults(self, after_a_write: str = "", after_a_failed_read: str = "fault()") -> Tuple[int, str]:
+        """How `tools/faults calls` ends, and its last line."""
+        top = self.copy("tools")
+        example = top / "examples" / "one"
+        example.mkdir(parents=True)
+        (example / "command").write_text("irs show file\n")
+        (example / "file").write_text("a line\n" * 1000)
+        source = self.room / "program.c"
+        source.write_text(self.PROGRAM)
+        words = [f"-DAFTER_A_WRITE={after_a_write}", f"-DAFTER_A_FAILED_READ={after_a_failed_read}"]
+        subprocess.run(["cc", *words, "-o", str(self.room / "program"), str(source)], check=True)
+        status, out, said = self.run_tool(["tools/faults", "calls"], top, IRS=str(self.room / "program"))
+        self.assertEqual(said, "")
+        return status, out.splitlines()[-1]
+
+    def test_a_program_without_a_mistake(self) -> None:
+        status, last = self.faults()
+        self.assertRegex(last, "^[0-9,]+ tried, 0 wrong$")
+        self.assertEqual(status, 0)
+
+    def test_mistakes(self) -> None:
+        for mistake in ({"after_a_failed_read": "break"}, {"after_a_write": "if ((size_t)n < left) break;"}):
+            status, last = self.faults(**mistake)
+            self.assertEqual(status, 1)
+            self.assertNotRegex(last, ", 0 wrong$")
+            shutil.rmtree(self.room / "the copy")
+
+
 class Unproved(unittest.TestCase):
     """What tools/unproved does to the module's text."""
 
