@@ -332,6 +332,67 @@ class Faults(InRoom):
             shutil.rmtree(self.room / "the copy")
 
 
+@unittest.skipUnless(shutil.which("clang"), "clang isn't installed")
+class Fuzz(InRoom):
+    """What tools/fuzz.c asserts, over a library that answers as it should or with a mistake."""
+
+    LIBRARY = r"""
+        #include "irs.h"
+        #include <string.h>
+        static int calls;
+        static void show(const char *text, uint8_t *out, size_t room, size_t *needed) {
+            *needed = strlen(text);
+            memcpy(out, text, *needed < room ? *needed : room);
+        }
+        uint8_t irs_run(const struct irs_bytes *words, size_t n_words, const struct irs_file *files, size_t n_files,
+                        uint8_t *out, size_t room, size_t *needed) {
+            int audit = words[0].len == 5 && words[0].at[0] == 'a', emit = words[0].at[0] == 'e';
+            uint8_t status = 4;
+            const char *text = "bad words\n";
+            (void)n_words, (void)files, (void)n_files, calls++;
+            if (emit) status = 0, text = "{\"swap\":{\"swapStream\":[]}}\n";
+            if (audit) status = 0, text = "yes 4 0\n";
+            MISTAKE;
+            show(text, out, room, needed);
+            return status;
+        }
+        uint8_t irs_meaning(const struct irs_bytes *words, size_t n_words, uint8_t status, const uint8_t *line,
+                            size_t length, uint8_t *out, size_t room, size_t *needed) {
+            (void)words, (void)n_words, (void)line, (void)length;
+            show(status ? MEANING : "", out, room, needed);
+            return 0;
+        }
+    """
+
+    def broken(self, words: str, mistake: str = "", meaning: str = '"a meaning"') -> str:
+        """Which assertion a library breaks on these words; empty where none is."""
+        source, fuzzer = self.room / "library.c", self.room / "fuzzer"
+        source.write_text(self.LIBRARY.replace("MISTAKE", mistake).replace("MEANING", meaning))
+        flags = ["-fsanitize=fuzzer,address", f"-I{TOP / 'bindings'}", "-o", str(fuzzer)]
+        subprocess.run(["clang", *flags, str(TOOLS / "fuzz.c"), str(source)], check=True)
+        (self.room / "input").write_bytes(words.encode() + b"\n\xff\xffd\n{}")
+        done = subprocess.run([str(fuzzer), "input"], cwd=self.room, stderr=subprocess.PIPE, text=True, check=False)
+        found = re.search("^(BROKEN: .*|SUMMARY: .*)$", done.stderr, re.M)
+        self.assertEqual(done.returncode != 0, found is not None, done.stderr)
+        return found[1] if found else ""
+
+    def test_a_library_without_a_mistake(self) -> None:
+        self.assertEqual(self.broken("emit d -"), "")
+        self.assertEqual(self.broken("what"), "")
+
+    def test_mistakes(self) -> None:
+        for words, mistake, said in (
+            ("what", "status = 6", "a status that can't come"),
+            ("what", 'text = "bad words"', "its line has another form"),
+            ("check d", 'status = 0, text = "okay\\n"', "the text of a command"),
+            ("what", "if (calls > 1) status = 5", "the second call"),
+            ("what", "out[room ? strlen(text) : 0] = 0", "a byte is written"),
+            ("emit d -", 'if (audit) status = 1, text = "no 1 payment 1 amount\\n"', "isn't audited"),
+        ):
+            self.assertIn(said, self.broken(words, mistake), mistake)
+        self.assertIn("several lines", self.broken("what", meaning='"one\\ntwo"'))
+
+
 class Unproved(unittest.TestCase):
     """What tools/unproved does to the module's text."""
 
