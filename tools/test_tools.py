@@ -393,6 +393,78 @@ class Fuzz(InRoom):
         self.assertIn("several lines", self.broken("what", meaning='"one\\ntwo"'))
 
 
+class XmlBeside(unittest.TestCase):
+    """What tools/xml_beside reads itself, and which answers of the program it finds wrong."""
+
+    #: Each document, and its value; `None` for what has no reading.
+    ROWS: List[Tuple[str, Any]] = [
+        ("<swap/>", {"swap": ""}),
+        ('<requestConfirmation xmlns="http://www.fpml.org/FpML-5/confirmation"/>', {"dataDocument": ""}),
+        ('<f:trade xmlns:f="http://www.fpml.org/FpML-5/x"><f:a/></f:trade>', {"trade": {"a": ""}}),
+        ('<trade xmlns="http://www.fpml.org/FpML-5"/>', None),
+        ('<trade xmlns="urn:x"/>', None),
+        (
+            '<swap id="s"><a> 1 </a><b u="&#9;"/><a/><q:c xmlns:q="urn:q">t<d/></q:c></swap>',
+            {"swap": {":c": "", "@id": "s", "a": [" 1 ", ""], "b": {"@u": "\t"}}},
+        ),
+        ('<swap a="1">x</swap>', {"swap": {"@a": "1", "#text": "x"}}),
+        ('<swap a="1"> \t\r\n</swap>', {"swap": {"@a": "1"}}),
+        ('<swap xml:lang="de"> </swap>', {"swap": " "}),
+        ("<swap>\r\n&#13;<![CDATA[<&]]><!-- x -->\r</swap>", {"swap": "\n\r<&\n"}),
+        ("<swap><a/>&#32;<!-- x --></swap>", {"swap": {"a": ""}}),
+        ("<swap><a/>x</swap>", None),
+        ("<swap><a/>&#160;</swap>", None),
+        ('<swap>x<q:a xmlns:q="urn:q"/></swap>', None),
+        ("\ufeff<swap/>", {"swap": ""}),
+        ("\ufeff\ufeff<swap/>", None),
+        ('<swap><é a·="1"/><\U00010400/></swap>', {"swap": {"ze9z": {"@a-b7-": "1"}, "z10400z": ""}}),
+        ("<!DOCTYPE swap><swap/>", None),
+        ('<?xml version="1.1"?><swap/>', None),
+        ('<?xml version="1.0" encoding="utf-16"?><swap/>', None),
+        ("<swap>&nbsp;</swap>", None),
+        ("<swap>\ufffe</swap>", None),
+        ("<a>" * 63 + "</a>" * 63, {"dataDocument": ...}),
+        ("<a>" * 64 + "</a>" * 64, None),
+        ("<swap " + " ".join(f"a{n}='1'" for n in range(64)) + "/>", {"swap": ...}),
+        ("<swap xmlns:q='urn:q' " + " ".join(f"a{n}='1'" for n in range(64)) + "/>", None),
+    ]
+
+    def test_values(self) -> None:
+        beside = tool("xml_beside")
+        for text, value in self.ROWS:
+            try:
+                found = beside.read_beside(text.encode())
+            except beside.NoReading:
+                found = None
+            self.assertEqual(found is None, value is None, text)
+            if value is not None and ... not in value.values():
+                self.assertEqual(found, value, text)
+        for wrong in (b"\xff<swap/>", "<swap/>".encode("utf-16"), b"<swap>\xed\xa0\x80</swap>", b"<swap>\0</swap>"):
+            with self.assertRaises(beside.NoReading):
+                beside.read_beside(wrong)
+
+    def test_answers(self) -> None:
+        beside = tool("xml_beside")
+        document, right = '<swap id="ä"><b/><a>"</a></swap>'.encode(), '{"swap":{"@id":"ä","a":"\\"","b":""}}\n'
+        self.assertEqual(beside.compared(document, (0, right.encode())), (True, None))
+        self.assertEqual(beside.compared(b"<swap>", (2, b"refused K1 0 document 0\n")), (False, None))
+        for status, text in (
+            (0, right.replace('"b":""', '"b":" "')),
+            (0, right.replace(',"b":""', "")),
+            (0, right.replace(":", ": ")),
+            (0, right.replace("ä", "\\u00e4")),
+            (0, '{"swap":{"a":"\\"","@id":"ä","b":""}}\n'),
+            (0, '{"swap":{"@id":"ä","a":"","a":"\\"","b":""}}\n'),
+            (0, right.rstrip()),
+            (0, ""),
+            (2, "refused K1 0 document 0\n"),
+            (2, "refused K2 1 swap 0\n"),
+            (7, ""),
+        ):
+            self.assertIsNotNone(beside.compared(document, (status, text.encode()))[1], text)
+        self.assertIsNotNone(beside.compared(b"<swap>", (0, b'{"swap":""}\n'))[1])
+
+
 class Unproved(unittest.TestCase):
     """What tools/unproved does to the module's text."""
 
