@@ -12,14 +12,15 @@
 #   make desk         tries the page irs-desk in a real browser (bindings/install desk installs it)
 #   make dist         the packages, in dist/; make install [PREFIX=..] [DESTDIR=..] installs
 #   make try-dist     the packages, each in an empty root; make try-tools tries the tools
-#   make faults       each allocation of the program fails in turn
-#   make hostile      the program on the largest and the worst inputs
+#   make faults       each allocation and each call on a file fails in turn
+#   make fuzz         libFuzzer over the unproved library for a minute, or SECONDS=N
+#   make hostile      the program on the largest and the worst inputs, and beside another reader of XML
 #   make bench        counts what it takes
 #
 # Proving wants the kit's command `rt` and nothing else. The look, the tools and the bindings want Python and a
 # C compiler too, and the counts valgrind.
-.PHONY: all irs try unproved examples faults hostile bench library bindings desk dist try-dist try-tools install
-.PHONY: test clean
+.PHONY: all irs try unproved examples faults fuzz hostile bench library bindings desk dist try-dist try-tools
+.PHONY: install test clean
 # With CDPATH set, `cd crates/irs` could go elsewhere.
 unexport CDPATH
 
@@ -54,8 +55,12 @@ examples: irs
 faults: irs
 	tools/faults
 
+fuzz:
+	tools/fuzz $(SECONDS)
+
 hostile: irs
 	tools/hostile
+	tools/xml_beside
 
 bench: irs
 	tools/bench

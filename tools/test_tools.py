@@ -364,6 +364,208 @@ class Gate(InRoom):
             )
 
 
+class Faults(InRoom):
+    """tools/faults over a program that writes out the file of its second word, as it should or with a mistake."""
+
+    PROGRAM = r"""
+        #include <errno.h>
+        #include <fcntl.h>
+        #include <stdio.h>
+        #include <unistd.h>
+        static void put(const char *at, size_t left) {
+            while (left) {
+                ssize_t n = write(1, at, left);
+                if (n < 0 && errno == EINTR) continue;
+                if (n <= 0) { dprintf(2, "no output\n"); _exit(6); }
+                AFTER_A_WRITE
+                at += n, left -= n;
+            }
+        }
+        static void fault(void) {
+            if (errno == ENOMEM) { dprintf(2, "no memory\n"); _exit(7); }
+            put("no file 1\n", 10);
+            dprintf(2, "no file\n");
+            _exit(5);
+        }
+        int main(int n, char **words) {
+            static char text[1 << 20];
+            size_t length = 0;
+            ssize_t got;
+            int file;
+            while ((file = open(words[n > 2 ? 2 : 1], O_RDONLY)) < 0) if (errno != EINTR) fault();
+            while ((got = read(file, text + length, 4096)) != 0) {
+                if (got < 0 && errno == EINTR) continue;
+                if (got < 0) AFTER_A_FAILED_READ;
+                length += got;
+            }
+            close(file);
+            put(text, length);
+            return 0;
+        }
+    """
+
+    def faults(self, after_a_write: str = "", after_a_failed_read: str = "fault()") -> Tuple[int, str]:
+        """How `tools/faults calls` ends, and its last line."""
+        top = self.copy("tools")
+        example = top / "examples" / "one"
+        example.mkdir(parents=True)
+        (example / "command").write_text("irs show file\n")
+        (example / "file").write_text("a line\n" * 1000)
+        source = self.room / "program.c"
+        source.write_text(self.PROGRAM)
+        words = [f"-DAFTER_A_WRITE={after_a_write}", f"-DAFTER_A_FAILED_READ={after_a_failed_read}"]
+        subprocess.run(["cc", *words, "-o", str(self.room / "program"), str(source)], check=True)
+        status, out, said = self.run_tool(["tools/faults", "calls"], top, IRS=str(self.room / "program"))
+        self.assertEqual(said, "")
+        return status, out.splitlines()[-1]
+
+    def test_a_program_without_a_mistake(self) -> None:
+        status, last = self.faults()
+        self.assertRegex(last, "^[0-9,]+ tried, 0 wrong$")
+        self.assertEqual(status, 0)
+
+    def test_mistakes(self) -> None:
+        for mistake in ({"after_a_failed_read": "break"}, {"after_a_write": "if ((size_t)n < left) break;"}):
+            status, last = self.faults(**mistake)
+            self.assertEqual(status, 1)
+            self.assertNotRegex(last, ", 0 wrong$")
+            shutil.rmtree(self.room / "the copy")
+
+
+@unittest.skipUnless(shutil.which("clang"), "clang isn't installed")
+class Fuzz(InRoom):
+    """What tools/fuzz.c asserts, over a library that answers as it should or with a mistake."""
+
+    LIBRARY = r"""
+        #include "irs.h"
+        #include <string.h>
+        static int calls;
+        static void show(const char *text, uint8_t *out, size_t room, size_t *needed) {
+            *needed = strlen(text);
+            memcpy(out, text, *needed < room ? *needed : room);
+        }
+        uint8_t irs_run(const struct irs_bytes *words, size_t n_words, const struct irs_file *files, size_t n_files,
+                        uint8_t *out, size_t room, size_t *needed) {
+            int audit = words[0].len == 5 && words[0].at[0] == 'a', emit = words[0].at[0] == 'e';
+            uint8_t status = 4;
+            const char *text = "bad words\n";
+            (void)n_words, (void)files, (void)n_files, calls++;
+            if (emit) status = 0, text = "{\"swap\":{\"swapStream\":[]}}\n";
+            if (audit) status = 0, text = "yes 4 0\n";
+            MISTAKE;
+            show(text, out, room, needed);
+            return status;
+        }
+        uint8_t irs_meaning(const struct irs_bytes *words, size_t n_words, uint8_t status, const uint8_t *line,
+                            size_t length, uint8_t *out, size_t room, size_t *needed) {
+            (void)words, (void)n_words, (void)line, (void)length;
+            show(status ? MEANING : "", out, room, needed);
+            return 0;
+        }
+    """
+
+    def broken(self, words: str, mistake: str = "", meaning: str = '"a meaning"') -> str:
+        """Which assertion a library breaks on these words; empty where none is."""
+        source, fuzzer = self.room / "library.c", self.room / "fuzzer"
+        source.write_text(self.LIBRARY.replace("MISTAKE", mistake).replace("MEANING", meaning))
+        flags = ["-fsanitize=fuzzer,address", f"-I{TOP / 'bindings'}", "-o", str(fuzzer)]
+        subprocess.run(["clang", *flags, str(TOOLS / "fuzz.c"), str(source)], check=True)
+        (self.room / "input").write_bytes(words.encode() + b"\n\xff\xffd\n{}")
+        done = subprocess.run([str(fuzzer), "input"], cwd=self.room, stderr=subprocess.PIPE, text=True, check=False)
+        found = re.search("^(BROKEN: .*|SUMMARY: .*)$", done.stderr, re.M)
+        self.assertEqual(done.returncode != 0, found is not None, done.stderr)
+        return found[1] if found else ""
+
+    def test_a_library_without_a_mistake(self) -> None:
+        self.assertEqual(self.broken("emit d -"), "")
+        self.assertEqual(self.broken("what"), "")
+
+    def test_mistakes(self) -> None:
+        for words, mistake, said in (
+            ("what", "status = 6", "a status that can't come"),
+            ("what", 'text = "bad words"', "its line has another form"),
+            ("check d", 'status = 0, text = "okay\\n"', "the text of a command"),
+            ("what", "if (calls > 1) status = 5", "the second call"),
+            ("what", "out[room ? strlen(text) : 0] = 0", "a byte is written"),
+            ("emit d -", 'if (audit) status = 1, text = "no 1 payment 1 amount\\n"', "isn't audited"),
+        ):
+            self.assertIn(said, self.broken(words, mistake), mistake)
+        self.assertIn("several lines", self.broken("what", meaning='"one\\ntwo"'))
+
+
+class XmlBeside(unittest.TestCase):
+    """What tools/xml_beside reads itself, and which answers of the program it finds wrong."""
+
+    #: Each document, and its value; `None` for what has no reading.
+    ROWS: List[Tuple[str, Any]] = [
+        ("<swap/>", {"swap": ""}),
+        ('<requestConfirmation xmlns="http://www.fpml.org/FpML-5/confirmation"/>', {"dataDocument": ""}),
+        ('<f:trade xmlns:f="http://www.fpml.org/FpML-5/x"><f:a/></f:trade>', {"trade": {"a": ""}}),
+        ('<trade xmlns="http://www.fpml.org/FpML-5"/>', None),
+        ('<trade xmlns="urn:x"/>', None),
+        (
+            '<swap id="s"><a> 1 </a><b u="&#9;"/><a/><q:c xmlns:q="urn:q">t<d/></q:c></swap>',
+            {"swap": {":c": "", "@id": "s", "a": [" 1 ", ""], "b": {"@u": "\t"}}},
+        ),
+        ('<swap a="1">x</swap>', {"swap": {"@a": "1", "#text": "x"}}),
+        ('<swap a="1"> \t\r\n</swap>', {"swap": {"@a": "1"}}),
+        ('<swap xml:lang="de"> </swap>', {"swap": " "}),
+        ("<swap>\r\n&#13;<![CDATA[<&]]><!-- x -->\r</swap>", {"swap": "\n\r<&\n"}),
+        ("<swap><a/>&#32;<!-- x --></swap>", {"swap": {"a": ""}}),
+        ("<swap><a/>x</swap>", None),
+        ("<swap><a/>&#160;</swap>", None),
+        ('<swap>x<q:a xmlns:q="urn:q"/></swap>', None),
+        ("\ufeff<swap/>", {"swap": ""}),
+        ("\ufeff\ufeff<swap/>", None),
+        ('<swap><é a·="1"/><\U00010400/></swap>', {"swap": {"ze9z": {"@a.b7.": "1"}, "z10400z": ""}}),
+        ("<swap><!-\u0300 --></swap>", None),
+        ("<!DOCTYPE swap><swap/>", None),
+        ('<?xml version="1.1"?><swap/>', None),
+        ('<?xml version="1.0" encoding="utf-16"?><swap/>', None),
+        ("<swap>&nbsp;</swap>", None),
+        ("<swap>\ufffe</swap>", None),
+        ("<a>" * 63 + "</a>" * 63, {"dataDocument": ...}),
+        ("<a>" * 64 + "</a>" * 64, None),
+        ("<swap " + " ".join(f"a{n}='1'" for n in range(64)) + "/>", {"swap": ...}),
+        ("<swap xmlns:q='urn:q' " + " ".join(f"a{n}='1'" for n in range(64)) + "/>", None),
+    ]
+
+    def test_values(self) -> None:
+        beside = tool("xml_beside")
+        for text, value in self.ROWS:
+            try:
+                found = beside.read_beside(text.encode())
+            except beside.NoReading:
+                found = None
+            self.assertEqual(found is None, value is None, text)
+            if value is not None and ... not in value.values():
+                self.assertEqual(found, value, text)
+        for wrong in (b"\xff<swap/>", "<swap/>".encode("utf-16"), b"<swap>\xed\xa0\x80</swap>", b"<swap>\0</swap>"):
+            with self.assertRaises(beside.NoReading):
+                beside.read_beside(wrong)
+
+    def test_answers(self) -> None:
+        beside = tool("xml_beside")
+        document, right = '<swap id="ä"><b/><a>"</a></swap>'.encode(), '{"swap":{"@id":"ä","a":"\\"","b":""}}\n'
+        self.assertEqual(beside.compared(document, (0, right.encode())), (True, None))
+        self.assertEqual(beside.compared(b"<swap>", (2, b"refused K1 0 document 0\n")), (False, None))
+        for status, text in (
+            (0, right.replace('"b":""', '"b":" "')),
+            (0, right.replace(',"b":""', "")),
+            (0, right.replace(":", ": ")),
+            (0, right.replace("ä", "\\u00e4")),
+            (0, '{"swap":{"a":"\\"","@id":"ä","b":""}}\n'),
+            (0, '{"swap":{"@id":"ä","a":"","a":"\\"","b":""}}\n'),
+            (0, right.rstrip()),
+            (0, ""),
+            (2, "refused K1 0 document 0\n"),
+            (2, "refused K2 1 swap 0\n"),
+            (7, ""),
+        ):
+            self.assertIsNotNone(beside.compared(document, (status, text.encode()))[1], text)
+        self.assertIsNotNone(beside.compared(b"<swap>", (0, b'{"swap":""}\n'))[1])
+
+
 class Unproved(unittest.TestCase):
     """What tools/unproved does to the module's text."""
 

@@ -1,0 +1,260 @@
+/* What tools/fuzz asserts of the library for C, on bytes that libFuzzer makes; no part of the program.
+
+   An input is a line of words, and after it each file: the mark FF FF, the file's name, a line feed, the file's bytes.
+   tools/fuzz writes the examples so, and every command that they have is tried. */
+#include "irs.h"
+#include <ctype.h>
+#include <stdio.h>
+#include <stdlib.h>
+#include <string.h>
+
+enum { MOST_WORDS = 24, MOST_FILES = 20, UNTOUCHED = 0xA5 };
+
+struct input {
+    struct irs_bytes words[MOST_WORDS];
+    struct irs_file files[MOST_FILES];
+    size_t n_words, n_files;
+};
+
+struct answer {
+    uint8_t status;
+    uint8_t *text;
+    size_t length;
+};
+
+static void broken(const char *what) {
+    fprintf(stderr, "BROKEN: %s\n", what);
+    abort();
+}
+
+/* Where the mark or the end is. */
+static const uint8_t *mark(const uint8_t *at, const uint8_t *end) {
+    for (; at + 1 < end; at++)
+        if (at[0] == 0xFF && at[1] == 0xFF) return at;
+    return end;
+}
+
+/* Bytes of their own, so that a read past them is seen where it is copied. */
+static struct irs_bytes own(const uint8_t *at, size_t length) {
+    uint8_t *to = malloc(length ? length : 1);
+    struct irs_bytes bytes = {to, length};
+    if (!to) abort();
+    memcpy(to, at, length);
+    return bytes;
+}
+
+static void take_words(struct input *in, const uint8_t *at, const uint8_t *end) {
+    while (at < end && in->n_words < MOST_WORDS) {
+        const uint8_t *space = memchr(at, ' ', end - at);
+        const uint8_t *stop = space ? space : end;
+        in->words[in->n_words++] = own(at, stop - at);
+        at = space ? space + 1 : end;
+    }
+}
+
+static void take_file(struct input *in, const uint8_t *at, const uint8_t *end) {
+    const uint8_t *line = memchr(at, '\n', end - at);
+    if (!line || in->n_files == MOST_FILES) return;
+    in->files[in->n_files].name = own(at, line - at);
+    in->files[in->n_files++].bytes = own(line + 1, end - line - 1);
+}
+
+static void take(struct input *in, const uint8_t *at, const uint8_t *end) {
+    const uint8_t *next = mark(at, end);
+    const uint8_t *line = memchr(at, '\n', next - at);
+    in->n_words = in->n_files = 0;
+    take_words(in, at, line ? line : next);
+    while (next < end) {
+        const uint8_t *from = next + 2;
+        next = mark(from, end);
+        take_file(in, from, next);
+    }
+}
+
+static void drop(struct input *in) {
+    for (size_t i = 0; i < in->n_words; i++) free((void *)in->words[i].at);
+    for (size_t i = 0; i < in->n_files; i++) {
+        free((void *)in->files[i].name.at);
+        free((void *)in->files[i].bytes.at);
+    }
+}
+
+/* The answer to the words: first with no room for the text, then with all of it. */
+static struct answer run(const struct irs_bytes *words, size_t n_words, const struct irs_file *files, size_t n_files) {
+    struct answer is;
+    size_t again = 0;
+    uint8_t none[1] = {UNTOUCHED};
+    is.status = irs_run(words, n_words, files, n_files, none, 0, &is.length);
+    if (none[0] != UNTOUCHED) broken("a byte is written where there is no room");
+    is.text = malloc(is.length + 1);
+    if (!is.text) abort();
+    is.text[is.length] = UNTOUCHED;
+    if (irs_run(words, n_words, files, n_files, is.text, is.length + 1, &again) != is.status || again != is.length)
+        broken("the second call answers otherwise");
+    if (is.text[is.length] != UNTOUCHED) broken("a byte is written after the text");
+    return is;
+}
+
+/* Whether a text has a form: `%d` is a number, `%w` a word, and every other character is itself. */
+static int has_form(const uint8_t *at, size_t length, const char *form) {
+    const uint8_t *end = at + length;
+    for (; *form; form++) {
+        const uint8_t *from = at;
+        if (*form != '%') {
+            if (at == end || *at++ != (uint8_t)*form) return 0;
+            continue;
+        }
+        if (*++form == 'd')
+            while (at < end && isdigit(*at)) at++;
+        else
+            while (at < end && *at > ' ' && *at < 127) at++;
+        if (at == from) return 0;
+    }
+    return at == end;
+}
+
+static int begins(const struct answer *is, const char *front) {
+    size_t length = strlen(front);
+    return is->length >= length && !memcmp(is->text, front, length);
+}
+
+static int ends(const struct answer *is, const char *back) {
+    size_t length = strlen(back);
+    return is->length >= length && !memcmp(is->text + is->length - length, back, length);
+}
+
+static int is_word(struct irs_bytes word, const char *text) {
+    return word.len == strlen(text) && !memcmp(word.at, text, word.len);
+}
+
+/* How the text of each command begins and ends where it is done. */
+static const struct { const char *command, *front, *back; } DONE[] = {
+    {"check", "ok\n", "ok\n"},
+    {"schedule", "irs-schedule 2\nstream 1 ", "\nend\n"},
+    {"audit", "yes ", "\n"},
+    {"emit", "{\"swap\":{\"swapStream\":", "}\n"},
+    {"net", "irs-net 1\n", "\nend\n"},
+    {"accrue", "irs-accrued 1 ", "\nend\n"},
+    {"overnight", "# irs-fixings 1\n", "\n"},
+    {"average", "# irs-fixings 1\n", "\n"},
+    {"interpolate", "# irs-fixings 1\n", "\n"},
+};
+
+static int is_plain(const struct answer *is, uint8_t last) {
+    for (size_t i = 0; i < is->length; i++)
+        if ((is->text[i] < ' ' && is->text[i] != '\n') || is->text[i] > last) return 0;
+    return 1;
+}
+
+static void look_at_done(const struct answer *is, struct irs_bytes command) {
+    if (!ends(is, "\n") || !is_plain(is, 255)) broken("a text with a control character, or without a line feed at its end");
+    for (size_t i = 0; i < sizeof DONE / sizeof *DONE; i++) {
+        if (!is_word(command, DONE[i].command)) continue;
+        if (!begins(is, DONE[i].front) || !ends(is, DONE[i].back) || !is_plain(is, '~'))
+            broken("the text of a command has another form");
+    }
+}
+
+static int all_ascii(const struct input *in) {
+    for (size_t i = 0; i < in->n_words; i++)
+        for (size_t k = 0; k < in->words[i].len; k++)
+            if (in->words[i].at[k] >= 128) return 0;
+    return 1;
+}
+
+/* The status is a lawful one, and the text has the form of the status. */
+static void look_at(const struct answer *is, const struct input *in) {
+    static const char *const forms[10][4] = {
+        [1] = {"no %d %w %d %w\n"},
+        [2] = {"refused K%d %d %w %d\n"},
+        [3] = {"bad calendar %d %d %w\n", "bad fixings %d %w\n", "bad flows %w %d %w %d\n"},
+        [4] = {"bad words\n"},
+        [5] = {"no file %d\n"},
+        [8] = {"too long %d\n"},
+    };
+    int found = 0;
+    switch (is->status) {
+    case 0:
+        look_at_done(is, in->words[0]);
+        break;
+    case 9:
+        if (is->length || all_ascii(in)) broken("status 9 for words that are text, or with a text");
+        break;
+    default:
+        for (const char *const *form = is->status < 9 ? forms[is->status] : forms[0]; *form; form++)
+            found |= has_form(is->text, is->length, *form);
+        if (!found) broken("a status that can't come, or its line has another form");
+    }
+}
+
+/* The meaning of an answer is one line, and none where all is done; a character that isn't plain is one of the words. */
+static void look_at_meaning(const struct answer *is, const struct input *in) {
+    size_t length = 0, again = 0;
+    uint8_t done = irs_meaning(in->words, in->n_words, is->status, is->text, is->length, (uint8_t *)"", 0, &length);
+    if (is->status == 9) {
+        if (done != 9 || length) broken("a meaning for words that aren't text");
+        return;
+    }
+    if (done != 0 || (length == 0) != (is->status == 0)) broken("a status without a meaning, or 0 with one");
+    uint8_t *text = malloc(length + 1);
+    if (!text) abort();
+    text[length] = UNTOUCHED;
+    irs_meaning(in->words, in->n_words, is->status, is->text, is->length, text, length + 1, &again);
+    if (again != length || text[length] != UNTOUCHED) broken("the second call means otherwise");
+    if (memchr(text, '\n', length)) broken("a meaning of several lines");
+    for (size_t i = 0, known; i < length; i++) {
+        for (size_t w = known = 0; w < in->n_words && text[i] < ' '; w++)
+            known |= memchr(in->words[w].at, text[i], in->words[w].len) != NULL;
+        if (text[i] < ' ' && !known) broken("a control character in a meaning");
+    }
+    free(text);
+}
+
+/* `schedule` without fixings keeps and breaks the rules that `check` does. */
+static void compare_with_schedule(const struct answer *is, const struct input *in) {
+    struct irs_bytes words[MOST_WORDS + 1];
+    if (in->n_words < 2 || in->n_words == MOST_WORDS || is->status == 4 || is->status == 5 || is->status == 9) return;
+    words[0] = irs_lend("schedule", 8);
+    words[1] = in->words[1];
+    words[2] = irs_lend("-", 1);
+    memcpy(words + 3, in->words + 2, (in->n_words - 2) * sizeof *words);
+    struct answer made = run(words, in->n_words + 1, in->files, in->n_files);
+    if (made.status != is->status) broken("check and schedule differ in their status");
+    if (made.status != 0 && (made.length != is->length || memcmp(made.text, is->text, made.length)))
+        broken("check and schedule differ in their line");
+    free(made.text);
+}
+
+/* What is emitted is audited with yes. */
+static void audit_emitted(const struct answer *is, const struct input *in) {
+    struct irs_bytes words[MOST_WORDS + 1];
+    struct irs_file files[MOST_FILES + 1];
+    const char *name = "what emit prints";
+    if (in->n_words < 3 || in->n_words == MOST_WORDS || is->status != 0) return;
+    words[0] = irs_lend("audit", 5);
+    memcpy(words + 1, in->words + 1, 2 * sizeof *words);
+    words[3] = irs_lend(name, strlen(name));
+    memcpy(words + 4, in->words + 3, (in->n_words - 3) * sizeof *words);
+    files[0].name = words[3];
+    files[0].bytes = irs_lend(is->text, is->length);
+    memcpy(files + 1, in->files, in->n_files * sizeof *files);
+    struct answer audited = run(words, in->n_words + 1, files, in->n_files + 1);
+    if (audited.status != 0 || !begins(&audited, "yes ")) broken("what is emitted isn't audited with yes");
+    free(audited.text);
+}
+
+int LLVMFuzzerTestOneInput(const uint8_t *at, size_t length) {
+    struct input in;
+    take(&in, at, at + length);
+    /* A run over documents of its own reads nothing of the input. */
+    if (in.n_words > 0 && !is_word(in.words[0], "bulk")) {
+        struct answer is = run(in.words, in.n_words, in.files, in.n_files);
+        look_at(&is, &in);
+        look_at_meaning(&is, &in);
+        if (is_word(in.words[0], "check")) compare_with_schedule(&is, &in);
+        if (is_word(in.words[0], "emit")) audit_emitted(&is, &in);
+        free(is.text);
+    }
+    drop(&in);
+    return 0;
+}
