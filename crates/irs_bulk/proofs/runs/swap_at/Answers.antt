@@ -1,10 +1,10 @@
-use Rattle.std.proofs.Common.{◌≡◌, ℕ, List, Err, refl, sym, ◌∙◌, ap, subst}
+use Rattle.std.proofs.Common.{◌≡◌, ℕ, List, Err, refl, sym, ap, subst}
 use Rattle.serde_json.specs.Data.{Data}
 use Rattle.serde_json.specs.View.{view}
-use Rattle.irs_json.specs.Reading.{Reads}
 use Rattle.irs_answers.specs.declared.tasks.Task.TheVariants.{Schedule}
-use Rattle.irs_answers.specs.Outcomes.{Ends, IfRefused, of_json, of_stopped}
-use Rattle.irs_answers.proofs.DueLemmas.{refuse_json, refuse_read}
+use Rattle.irs_answers.specs.Forms.{TextReads, json_text}
+use Rattle.irs_answers.specs.Outcomes.{Ends, IfRefused, of_read, of_stopped}
+use Rattle.irs_answers.proofs.DueLemmas.{refuse_read, refuse_text}
 use Rattle.irs_answers.proofs.StepLemmas.{refused_by}
 use Rattle.irs_bulk.specs.BulkRuns.{DueSchedule, files_of}
 use Rattle.irs_bulk.specs.Documents.{document_text}
@@ -16,11 +16,11 @@ returns-in_err-document-clause-refused c =
     let made = c.from_residual-in_err-document in
     let plain = c.args.plain in
     let k = c.args.k in
-    let text : c.deref.result.now ≡ document_text plain k = c.deref.ensures.value ∙ c.in_ok-bulk_doc.ensures in
-    refused_by made.result (of_json e) (λ r. IfRefused r (Ends (DueSchedule plain k))) made.ensures.0 made.ensures.1
-    (refuse_json Schedule (files_of plain k) e
-    (λ q v reads. c.in_err-document.ensures.not_json (ap Err q) v
-    (subst (λ (l : List ℕ). Reads l v) (sym text) reads)))
+    let text : c.in_ok-bytes.bytes.items ≡ document_text plain k = c.in_ok-bytes.ensures in
+    refused_by made.result (of_read e) (λ r. IfRefused r (Ends (DueSchedule plain k))) made.ensures.0 made.ensures.1
+    (refuse_text Schedule (files_of plain k) e
+    (λ q v reads. c.in_err-document.ensures.none (ap Err q) v
+    (subst (λ (l : List ℕ). TextReads (json_text l) v) (sym text) reads)))
 
 pub returns-in_err-read_swap-clause-refused : goal.returns-in_err-read_swap-clause-refused
 returns-in_err-read_swap-clause-refused c =
@@ -28,21 +28,20 @@ returns-in_err-read_swap-clause-refused c =
     let made = c.from_residual-in_err-read_swap in
     let plain = c.args.plain in
     let k = c.args.k in
-    let text : c.deref.result.now ≡ document_text plain k = c.deref.ensures.value ∙ c.in_ok-bulk_doc.ensures in
+    let text : c.in_ok-bytes.bytes.items ≡ document_text plain k = c.in_ok-bytes.ensures in
     let v : Data = view c.in_ok-document.document in
     refused_by made.result (of_stopped e) (λ r. IfRefused r (Ends (DueSchedule plain k))) made.ensures.0 made.ensures.1
-    (refuse_read Schedule (files_of plain k) v e (subst (λ (l : List ℕ). Reads l v) text c.in_ok-document.ensures.reads)
+    (refuse_read Schedule (files_of plain k) v e
+    (subst (λ (l : List ℕ). TextReads (json_text l) v) text c.in_ok-document.ensures.reads)
     c.in_err-read_swap.ensures.broken)
 
 pub returns-clause-spells : goal.returns-clause-spells
 returns-clause-spells c =
-    let text : c.deref.result.now ≡ document_text c.args.plain c.args.k =
-    c.deref.ensures.value ∙ c.in_ok-bulk_doc.ensures in
+    let text : c.in_ok-bytes.bytes.items ≡ document_text c.args.plain c.args.k = c.in_ok-bytes.ensures in
     let v : Data = view c.in_ok-document.document in
     record {
       value = v;
-      reads = subst (λ (l : List ℕ). Reads l v) text c.in_ok-document.ensures.reads;
-      means =
-          c.in_ok-read_swap.ensures.means;
+      reads = subst (λ (l : List ℕ). TextReads (json_text l) v) text c.in_ok-document.ensures.reads;
+      means = c.in_ok-read_swap.ensures.means;
       has_sides = refl;
     }
