@@ -90,7 +90,7 @@ fn is_alone(partners: &[Option<u32>], place: usize) -> bool
     ensures { (o : Option ℕ) → At partners.now place o → result ≡ is_none o }
 {
     match partners[place] {
-        Some(_) => false,
+        Some(_partner) => false,
         None => true,
     }
 }
