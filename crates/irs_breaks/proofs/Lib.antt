@@ -1,0 +1,12 @@
+pub mod RowLemmas
+pub mod DateLemmas
+pub mod BlockLemmas
+pub mod NextBlock
+pub mod GapSteps
+pub mod Arrangements
+pub mod RowSteps
+pub mod Sorting
+pub mod Merging
+pub mod PairLaws
+pub mod Listing
+pub mod OnePairing

@@ -1,0 +1,5 @@
+use Rattle.irs_breaks.specs.Merging.{IsMergedTo}
+use Rattle.irs_breaks.proofs.pairing.merged.Given as goal
+
+abbrev pub invariant-loop-p : goal.invariant-loop-p
+invariant-loop-p l = IsMergedTo l.ours l.theirs l.p l.q l.rows.items

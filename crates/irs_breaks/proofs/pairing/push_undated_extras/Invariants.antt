@@ -1,0 +1,5 @@
+use Rattle.irs_breaks.specs.Undated.{ListsUndatedExtras}
+use Rattle.irs_breaks.proofs.pairing.push_undated_extras.Given as goal
+
+abbrev pub invariant-loop-place : goal.invariant-loop-place
+invariant-loop-place l = ListsUndatedExtras l.theirs l.initial.rows.items l.rows.items l.place
