@@ -6,7 +6,10 @@ use Rattle.std.specs.Result.{IsErrAnd}
 use Rattle.std.proofs.lemmas.Bool.{cases_lt}
 use Rattle.std.proofs.lemmas.List.{take_all, length-take-le, map_more, map-append}
 use Rattle.irs_outside.specs.Outside.{Rose}
+use Rattle.irs_answers.specs.declared.forms.Form.{Form}
+use Rattle.irs_cli.specs.Params.{form_of}
 use Rattle.irs_cli.specs.declared.commands.Named.{Named}
+use Rattle.irs_cli.specs.declared.commands.Role.{Role}
 use Rattle.irs_answers.specs.declared.files.TaskFiles.{TaskFiles}
 use Rattle.irs_answers.specs.Given.{Given, no_files, too_many}
 use Rattle.irs_cli.specs.declared.fetching.Unfetched.{Unfetched}
@@ -92,6 +95,12 @@ stops_at told xs i d g failed before now (TooLong p) less h s = (
   s.2,
 )
 stops_at told xs i d g failed before now Memory less h s = tt
+
+-- a file is kept in the form that its name says
+pub stored_as : (g h : Given) (role : Role) (name bytes : List ℕ) (form : Form)
+    → h ≡ with_file g role (record { form = form; bytes = bytes }) → form ≡ form_of name
+    → h ≡ with_file g role (text_as name bytes)
+stored_as g h role name bytes form e k = e ∙ ap (λ (f : Form). with_file g role (record { form = f; bytes = bytes })) k
 
 -- R holds of the next file too
 pub gathered_more : (R : List ℕ → List ℕ → Type 0) (xs : List Named) (i : ℕ) (d : Named) (g h : Given) (bytes : List ℕ)

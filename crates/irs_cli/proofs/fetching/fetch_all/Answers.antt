@@ -2,7 +2,7 @@ use Rattle.std.proofs.Common.{◌∙◌}
 use Rattle.irs_cli.specs.Commands.{wanted_by}
 use Rattle.std.proofs.Common.{map}
 use Rattle.irs_answers.specs.Given.{given_by}
-use Rattle.irs_cli.proofs.FetchLemmas.{holds_before, stops_before, stops_at, held_more, gathered_more, all_by}
+use Rattle.irs_cli.proofs.FetchLemmas.{holds_before, stops_before, stops_at, held_more, gathered_more, stored_as, all_by}
 use Rattle.irs_cli.specs.Fetching.{IsGiven}
 use Rattle.irs_cli.proofs.fetching.fetch_all.Goals as goal
 
@@ -29,15 +29,17 @@ loop-named-preserved g c =
     let later = g.F.Files.told c.loop-named.files in
     let got = c.in_ok-bytes.bytes.items in
     let l = c.loop-named in
+    let put = c.in_ok-put_file.ensures in
+    let form = c.form_of-form.ensures in
     record {
       told = λ n. c.fetch.ensures.told n ∙ l.invariant.told n;
       same = λ n k b h. l.invariant.same n k b (c.fetch.ensures.same n k b h);
       given = gathered_more (IsGiven (g.F.Files.gives c.args.files.now)) c.args.names.now l.named-index _
           (given_by l.fetched) (given_by c.put_file.new.files) got c.loop-named-test.true l.invariant.given
           (l.invariant.same _ _ got c.in_ok-bytes.ensures.given.0, c.in_ok-bytes.ensures.given.1)
-          c.in_ok-put_file.ensures;
+          (stored_as _ _ _ _ _ _ put form);
       quiet = c.in_ok-bytes.ensures.one.1 ∙ l.invariant.quiet;
       held = held_more told c.args.names.now l.named-index _ (given_by l.fetched)
           (given_by c.put_file.new.files) got c.loop-named-test.true l.invariant.held
-          (holds_before told later _ got l.invariant.told c.in_ok-bytes.ensures.one.0) c.in_ok-put_file.ensures;
+          (holds_before told later _ got l.invariant.told c.in_ok-bytes.ensures.one.0) (stored_as _ _ _ _ _ _ put form);
     }
