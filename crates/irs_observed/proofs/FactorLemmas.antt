@@ -1,11 +1,11 @@
 -- Factors: there is one after each number of observations, and how a loop reaches it.
-use Rattle.std.proofs.Common.{◌≡◌, inl, inr, ℕ, ◌+◌, ◌*◌, ◌^◌, ◌<◌, ◌≤◌, List, [], ◌∷◌, length, take, Option, Some, Result, Ok, Err, IfErr, ℤ, pos, ◌<ℤ◌}
-use Rattle.std.proofs.Common.{◌*ℤ◌, ◌+ℤ◌, refl, sym, subst, ◌∙◌, arith, lit≤}
+use Rattle.std.proofs.Common.{◌≡◌, inl, inr, ℕ, ◌+◌, ◌*◌, ◌^◌, ◌<◌, ◌≤◌, List, length, take, Option, Some, Result, Ok, Err, IfErr, ℤ, pos, ◌<ℤ◌}
+use Rattle.std.proofs.Common.{◌*ℤ◌, ◌+ℤ◌, refl, sym, subst, ◌∙◌, arith}
 use Rattle.std.specs.Prelude.{get_or, unsigned_abs}
 use Rattle.std.proofs.lemmas.Bool.{cases_lt}
 use Rattle.jiff_core.proofs.SignedLemmas.{signed_arith}
 use Rattle.irs_base.proofs.RoundingLaws.{nearest_once}
-use Rattle.irs_observed.specs.DailyRates.{AreKnown, DailyRates, Through}
+use Rattle.irs_observed.specs.DailyRates.{AreKnown, DailyRates}
 use Rattle.irs_observed.specs.Factors.{FactorPasses, Grows, GrowsBy, Precision, Reaches, one_factor, year_of}
 use Rattle.irs_observed.specs.ObservedRates.{CompoundsPast, rate_precision}
 use Rattle.irs_observed.specs.declared.observation.Observation.{Observation}

@@ -8,3 +8,4 @@ pub mod ThroughLemmas
 pub mod FactorLemmas
 pub mod OutcomeLemmas
 pub mod SizeLemmas
+pub mod RateLemmas

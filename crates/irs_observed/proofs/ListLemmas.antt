@@ -1,7 +1,7 @@
 -- Rising lists of days by their places.
-use Rattle.std.proofs.Common.{◌≡◌, inl, inr, ℕ, zero, suc, ◌+◌, ◌<◌, List, [], ◌∷◌, length, ℤ, ◌<ℤ◌, refl, arith}
+use Rattle.std.proofs.Common.{◌≡◌, inl, inr, ℕ, zero, suc, ◌<◌, List, [], ◌∷◌, length, ℤ, ◌<ℤ◌, refl, arith}
 use Rattle.jiff_core.proofs.SignedLemmas.{signed_arith}
-use Rattle.irs_base.specs.Listed.{AllAfter, IsRising, Member}
+use Rattle.irs_base.specs.Listed.{IsRising, Member}
 use Rattle.irs_base.specs.Members.{day_at}
 use Rattle.irs_base.proofs.Rising.{member_after}
 use Rattle.irs_observed.specs.PeriodMembers.{member_or_end}

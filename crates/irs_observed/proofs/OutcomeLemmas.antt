@@ -1,19 +1,18 @@
 -- A calculation period has one list of observations, or one first reason why it has none.
-use Rattle.std.proofs.Common.{◌≡◌, ◌⊎◌, inl, inr, ℕ, zero, suc, ◌+◌, ◌-◌, ◌<◌, ◌≤◌, List, [], ◌∷◌, ◌++◌, length, ℤ, pos}
+use Rattle.std.proofs.Common.{◌≡◌, ◌⊎◌, inl, inr, ℕ, zero, suc, ◌+◌, ◌<◌, List, [], ◌∷◌, ◌++◌, length, ℤ, pos}
 use Rattle.std.proofs.Common.{◌+ℤ◌, ◌-ℤ◌, ◌<ℤ◌, ◌≤ℤ◌, refl, sym, subst, ◌∙◌, ap, arith}
 use Rattle.std.proofs.lemmas.Bool.{cases_lt}
 use Rattle.jiff_core.proofs.SignedLemmas.{signed_arith}
 use Rattle.irs_base.specs.Days.{IsDay}
-use Rattle.irs_base.specs.Members.{EachNumbered, day_at}
+use Rattle.irs_base.specs.Members.{day_at}
 use Rattle.irs_base.specs.Order.{First, IsDecided}
 use Rattle.irs_base.specs.Outcomes.{Determined}
 use Rattle.irs_base.proofs.Decided.{order_of}
 use Rattle.irs_base.proofs.MemberLemmas.{numbered_there, one_numbered}
 use Rattle.irs_base.proofs.Outcomes.{unless_broken_determined}
-use Rattle.irs_base.proofs.Rising.{member_cases, member_new, member_old, rising_push}
-use Rattle.irs_calendar.specs.GoodDays.{DaySet, InCover, IsGood, Prev}
+use Rattle.irs_calendar.specs.GoodDays.{DaySet, IsGood, Prev}
 use Rattle.irs_adjust.specs.ConventionLaws.{one_prev}
-use Rattle.irs_adjust.proofs.FoundDays.{IsFound, decides_good, decides_in_cover, decides_le, decides_next, decides_prev}
+use Rattle.irs_adjust.proofs.FoundDays.{IsFound, decides_in_cover, decides_le, decides_next, decides_prev}
 use Rattle.irs_adjust.proofs.MovedDays.{decides_moves}
 use Rattle.irs_adjust.proofs.OffsetLaws.{one_moved}
 use Rattle.irs_observed.specs.ObservationPeriods.{IsObservationPeriod, ObservedPeriod, Shifts, back}
@@ -28,13 +27,12 @@ use Rattle.irs_observed.specs.declared.observation.NoObservations.TheVariants.{F
 use Rattle.irs_observed.specs.declared.observation.Observation.{Observation}
 use Rattle.irs_observed.specs.declared.offset.ObservationOffset.{ObservationOffset}
 use Rattle.irs_observed.specs.declared.offset.ObservationOffset.TheVariants.{Absent, Shift, Lookback, Lockout}
-use Rattle.irs_observed.proofs.ListLemmas.{at_or_end}
 use Rattle.irs_observed.proofs.MemberLemmas.{ListsTo, distance, lists_all, lists_more, lists_none, none_good, one_members}
 use Rattle.irs_observed.proofs.PeriodLemmas.{one_end, one_start}
 use Rattle.irs_observed.proofs.RuleLemmas.{none_lacks, observes, refused_few, refused_member, refused_period}
 use Rattle.irs_observed.proofs.RuleLemmas.{refused_uncovered}
 use Rattle.irs_observed.proofs.WeightLemmas.{adds_to, adds_up, has_weights}
-use Rattle.irs_observed.proofs.WalkLemmas.{first_member, member_at, prev_at, walk_of}
+use Rattle.irs_observed.proofs.WalkLemmas.{first_member, member_at, walk_of}
 
 -- ---- one of each
 

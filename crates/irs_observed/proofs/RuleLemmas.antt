@@ -1,17 +1,15 @@
 -- Why a calculation period has observations, or why it has none.
-use Rattle.std.proofs.Common.{◌≡◌, inl, inr, ℕ, ◌+◌, ◌<◌, ◌≤◌, List, length, ℤ, pos, ◌+ℤ◌, refl, sym, subst, arith, ap, ◌∙◌, Bool, false, IsTrue}
-use Rattle.std.specs.List.{slice_get}
+use Rattle.std.proofs.Common.{◌≡◌, ℕ, ◌<◌, ◌≤◌, List, length, ℤ, refl, sym, subst, arith, ap, Bool, false, IsTrue}
 use Rattle.irs_base.specs.Members.{day_at}
 use Rattle.irs_base.specs.Faults.{IfStopped}
 use Rattle.irs_base.specs.Order.{First}
 use Rattle.irs_base.specs.declared.stopped.Stopped.{Stopped}
 use Rattle.irs_base.specs.declared.stopped.Stopped.TheVariants.{Broken as OfBroken, Memory as OfMemory}
-use Rattle.irs_calendar.specs.GoodDays.{DaySet, Prev}
+use Rattle.irs_calendar.specs.GoodDays.{DaySet}
 use Rattle.irs_observed.specs.ObservationPeriods.{IsObservationPeriod, ObservedPeriod}
-use Rattle.irs_observed.specs.ObservationRules.{HasFewMembers, IsUncovered, IsUnobserved, Lacks, LacksDay, no_period}
+use Rattle.irs_observed.specs.ObservationRules.{HasFewMembers, Lacks, LacksDay, no_period}
 use Rattle.irs_observed.specs.ObservationRules.{reported_before, uncovered, unobserved}
-use Rattle.irs_observed.specs.ObservationWalk.{IsUnseen}
-use Rattle.irs_observed.specs.Observations.{AreObservations, AreObserved, ObservesOn, lockout_days, place_observed}
+use Rattle.irs_observed.specs.Observations.{AreObserved, ObservesOn, lockout_days, place_observed}
 use Rattle.irs_observed.specs.PeriodMembers.{AreMembers, IsMember, LeavesCover}
 use Rattle.irs_observed.specs.declared.observation.NoObservations.{NoObservations}
 use Rattle.irs_observed.specs.declared.observation.NoObservations.TheVariants.{FewMembers, NoDay}

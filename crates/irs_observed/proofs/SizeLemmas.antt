@@ -1,6 +1,6 @@
 -- How large rounded rates are.
 use Rattle.std.proofs.Common.{◌≡◌, ℕ, zero, suc, ◌+◌, ◌-◌, ◌*◌, ◌^◌, ◌<◌, ◌≤◌, ℤ, pos, negsuc, ◌<ℤ◌, ◌*ℤ◌, sym, subst, ◌∙◌}
-use Rattle.std.proofs.Common.{ap, arith, refl, unsigned_abs}
+use Rattle.std.proofs.Common.{ap, arith, unsigned_abs}
 use Rattle.std.proofs.Math.Nat.{mul-le-mul}
 use Rattle.std.proofs.lemmas.Nat.{pow-add}
 use Rattle.jiff_core.proofs.SignedLemmas.{signed_arith}

@@ -1,6 +1,6 @@
 -- What the members of an observation period are one after another, and their observation days.
 use Rattle.std.proofs.Common.{◌≡◌, inl, inr, ℕ, zero, suc, ◌+◌, ◌-◌, ◌<◌, ◌≤◌, min, List, length, ℤ, pos, negsuc, ◌-ℤ◌, ◌<ℤ◌, ◌≤ℤ◌}
-use Rattle.std.proofs.Common.{refl, sym, ◌∙◌, subst, ap, arith, add-one, Option, Some, None, IfSome, IfNone, false, ◌==◌}
+use Rattle.std.proofs.Common.{refl, sym, subst, ap, arith, add-one, Option, Some, None, IfSome, IfNone, false, ◌==◌}
 use Rattle.std.proofs.lemmas.Bool.Decides.{nat_tests}
 use Rattle.jiff_core.proofs.SignedLemmas.{signed_arith}
 use Rattle.irs_base.specs.Members.{day_at}
@@ -11,7 +11,7 @@ use Rattle.irs_adjust.specs.declared.ways.Way.TheVariants.{Back}
 use Rattle.irs_adjust.proofs.WayLemmas.{Reached, moved, reached_more, reached_none}
 use Rattle.irs_observed.specs.ObservationPeriods.{MovesBack}
 use Rattle.irs_observed.specs.ObservationWalk.{IsWalk, LooksBack, good_at}
-use Rattle.irs_observed.specs.PeriodMembers.{AreMembers, IsMember, LeavesCover, member_or_end}
+use Rattle.irs_observed.specs.PeriodMembers.{AreMembers, IsMember, LeavesCover}
 use Rattle.irs_observed.proofs.ListLemmas.{at_member, at_or_end, first_lowest, member_place, none_between}
 use Rattle.irs_observed.proofs.ListLemmas.{rises_to}
 use Rattle.irs_observed.proofs.MemberLemmas.{covered_day}

@@ -1,7 +1,7 @@
 -- The weights of observations are above 0, and add up to the days of the observation period.
 use Rattle.std.proofs.Common.{◌≡◌, ℕ, ◌+◌, ◌<◌, List, [], ◌∷◌, length, ℤ, pos, ◌+ℤ◌, ◌<ℤ◌, sym, subst, arith}
 use Rattle.jiff_core.proofs.SignedLemmas.{signed_arith}
-use Rattle.irs_base.specs.Days.{IsDay, all_days}
+use Rattle.irs_base.specs.Days.{IsDay}
 use Rattle.irs_base.specs.Members.{EachNumbered, Every, day_at}
 use Rattle.irs_calendar.specs.GoodDays.{DaySet}
 use Rattle.irs_observed.specs.ObservationPeriods.{IsObservationPeriod, ObservedPeriod}

@@ -1,5 +1,5 @@
 -- What is known of the members of an observation period, one after another.
-use Rattle.std.specs.Prelude.{◌≡◌, ℕ, ◌+◌, ◌<◌, ◌==◌, List, length, ℤ, pos, ◌-ℤ◌, ◌<ℤ◌, if◌then◌else◌}
+use Rattle.std.specs.Prelude.{ℕ, ◌+◌, ◌<◌, ◌==◌, List, length, ℤ, pos, ◌-ℤ◌, ◌<ℤ◌, if◌then◌else◌}
 use Rattle.irs_base.specs.Members.{day_at}
 use Rattle.irs_calendar.specs.GoodDays.{DaySet, IsGood, Prev}
 use Rattle.irs_observed.specs.ObservationPeriods.{MovesBack}

@@ -1,5 +1,5 @@
 -- The members of an observation period: the days from which a daily rate applies.
-use Rattle.std.specs.Prelude.{◌≡◌, ◌⊎◌, ℕ, ◌+◌, ℤ, List, ◌<ℤ◌, ◌≤ℤ◌, slice_index_or}
+use Rattle.std.specs.Prelude.{◌≡◌, ◌⊎◌, ℕ, ℤ, List, ◌<ℤ◌, ◌≤ℤ◌, slice_index_or}
 use Rattle.irs_base.specs.Listed.{Lists}
 use Rattle.irs_calendar.specs.GoodDays.{DaySet, InCover, IsGood}
 

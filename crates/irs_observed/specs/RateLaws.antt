@@ -1,5 +1,5 @@
 -- What holds of every observed rate.
-use Rattle.std.specs.Prelude.{◌≡◌, ◌^◌, ◌<◌, List, [], ◌∷◌, Some, IfSome, ℤ, pos, ◌≤ℤ◌, ◌*ℤ◌}
+use Rattle.std.specs.Prelude.{◌≡◌, ◌^◌, List, [], ◌∷◌, Some, IfSome, ℤ, pos, ◌≤ℤ◌, ◌*ℤ◌}
 use Rattle.irs_base.specs.Members.{Every}
 use Rattle.irs_observed.specs.DailyRates.{DailyRates}
 use Rattle.irs_observed.specs.ObservedRates.{Fraction, IsAveraged, IsObservedRate, IsPrinted}

@@ -12,6 +12,7 @@ mod offset;
 mod period;
 mod period_rates;
 mod products;
+mod rate_laws;
 mod rates;
 #[cfg(test)]
 mod tests;
@@ -22,5 +23,6 @@ pub use method::{CalculationMethod, YearDays};
 pub use observation::{NoObservations, Observation, ObservationList};
 pub use offset::ObservationOffset;
 pub use period_rates::{period_rate, printed_rate};
+pub use rate_laws::rates_keep_their_range;
 pub use rates::{FactorOutOfRange, ObservedRate, observed_rate};
 pub use walk::{observations, observations_are_determined};

@@ -4,7 +4,9 @@ use crate::{
     CalculationMethod, NoObservations, Observation, ObservationList, ObservationOffset,
     ObservedRate, YearDays, observations, observed_rate, period_rate, printed_rate,
 };
-use irs_base::{Civil, Day, Direction, Names, Stopped, Text, day_of};
+use irs_base::{
+    Civil, Day, Direction, MOST_BYTES, MOST_CENTERS, MOST_RATE, Names, Stopped, Text, day_of,
+};
 use irs_calendar::{Calendars, RunSet};
 use irs_resets::Fixings;
 use irs_terms::Rounding;
@@ -37,12 +39,28 @@ fn day(of: MonthDay) -> Option<Day> {
     })
 }
 
+fn calendars_of(alloc: Global, file: &[u8]) -> Option<Calendars> {
+    if file.len() > MOST_BYTES {
+        return None;
+    }
+    let files = [Vec::from_slice(alloc, file).ok()?];
+    Calendars::read(alloc, &files).ok()
+}
+
+fn fixings_of(alloc: Global, file: &[u8]) -> Option<Fixings> {
+    if file.len() > MOST_BYTES {
+        return None;
+    }
+    Fixings::read(alloc, file).ok()
+}
+
 fn good_days(alloc: Global, file: &[u8]) -> Option<RunSet> {
-    let mut files = Vec::new(alloc);
-    files.push(Vec::from_slice(alloc, file).ok()?).ok()?;
-    let calendars = Calendars::read(alloc, &files).ok()?;
+    let calendars = calendars_of(alloc, file)?;
     let mut names = Names::new(alloc);
     names.push(Text::from_bytes(alloc, b"USGS").ok()?).ok()?;
+    if names.len() > MOST_CENTERS as usize {
+        return None;
+    }
     calendars.select(alloc, &names).ok()
 }
 
@@ -281,9 +299,19 @@ fn rate_of(
     to: MonthDay,
 ) -> Option<ObservedRate> {
     let all = observed_over(alloc, USGS, offset, from, to)?.ok()?;
-    let daily = Fixings::read(alloc, fixings).ok()?;
+    let daily = fixings_of(alloc, fixings)?;
     let index = Text::from_bytes(alloc, b"USD-SOFR").ok()?;
     observed_rate(method, &all, &daily, &index).ok()?
+}
+
+fn rate_with(x: ObservedRate, multiplier: i64, spread: i64) -> Option<i64> {
+    if multiplier.unsigned_abs() > MOST_RATE {
+        return None;
+    }
+    if spread.unsigned_abs() > MOST_RATE {
+        return None;
+    }
+    Some(period_rate(x, multiplier, spread, TO_SEVEN))
 }
 
 // The rate in units of 10^-9 with a multiplier and a spread.
@@ -295,7 +323,7 @@ fn paid(
     spread: i64,
 ) -> Option<i64> {
     let x = rate_of(alloc, SOFR, method, offset, START, END)?;
-    Some(period_rate(x, multiplier, spread, TO_SEVEN))
+    rate_with(x, multiplier, spread)
 }
 
 #[test]

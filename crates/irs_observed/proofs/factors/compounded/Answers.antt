@@ -1,11 +1,9 @@
-use Rattle.std.proofs.Common.{rules, ◌≡◌, ◌+◌, ◌≤◌, ◌<◌, sym, arith, FitsSigned, to_z, List, ℕ}
+use Rattle.std.proofs.Common.{rules, ◌≡◌, ◌≤◌, ◌<◌, sym, arith, FitsSigned, to_z}
 use Rattle.std.specs.Prelude.{unsigned_abs}
 use Rattle.std.specs.Int.{w128}
 use Rattle.std.proofs.lemmas.Int.{to_z-of_z}
 use Rattle.irs_observed.specs.DailyRates.{DailyRates, daily_rates}
-use Rattle.irs_observed.specs.Factors.{FactorPasses, GrowsBy}
 use Rattle.irs_observed.specs.ObservedRates.{rate_precision}
-use Rattle.irs_observed.specs.declared.observation.Observation.{Observation}
 use Rattle.irs_observed.proofs.FactorLemmas.{compounds_more, passes_at, past_known}
 use Rattle.irs_observed.proofs.ThroughLemmas.{weight_at}
 use Rattle.irs_observed.proofs.factors.compounded.Goals as goal

@@ -1,4 +1,4 @@
-use Rattle.std.proofs.Common.{arith, subst, sym, ◌∷◌, [], ◌++◌, List, ℤ, ◌≤ℤ◌}
+use Rattle.std.proofs.Common.{subst, sym, List, ℤ, ◌≤ℤ◌}
 use Rattle.irs_base.proofs.Orders.{lt_false, lt_true}
 use Rattle.irs_calendar.specs.GoodDays.{DaySet}
 use Rattle.irs_observed.proofs.MemberLemmas.{ListsTo, covered_from, lists_all, lists_more, lists_none}

@@ -1,4 +1,4 @@
-use Rattle.std.proofs.Common.{◌≡◌, ◌+◌, ◌≤◌, ◌<◌, ◌∙◌, sym, ap, arith, take}
+use Rattle.std.proofs.Common.{◌+◌, sym, arith}
 use Rattle.irs_observed.proofs.ThroughLemmas.{total_first, total_more}
 use Rattle.irs_observed.proofs.rates.total_weight.Goals as goal
 

@@ -1,6 +1,5 @@
 use Rattle.std.proofs.Common.{◌≡◌, ◌<◌, length, arith, subst, sym, List, ℤ}
 use Rattle.irs_base.specs.Order.{First}
-use Rattle.irs_base.specs.declared.stopped.Stopped.{Stopped}
 use Rattle.irs_calendar.specs.GoodDays.{DaySet}
 use Rattle.irs_observed.specs.ObservationPeriods.{ObservedPeriod, observed_period}
 use Rattle.irs_observed.specs.ObservationRules.{Lacks, reported_before}
@@ -10,7 +9,7 @@ use Rattle.irs_observed.specs.PeriodMembers.{LeavesCover}
 use Rattle.irs_observed.specs.declared.observation.NoObservations.{NoObservations}
 use Rattle.irs_observed.specs.declared.observation.NoObservations.TheVariants.{NoDay}
 use Rattle.irs_observed.proofs.OutcomeLemmas.{adds_all, meets_all, refused_first, refused_unseen, walks, weights_all}
-use Rattle.irs_observed.proofs.RuleLemmas.{is_not, refused_few, refused_period, refused_uncovered, stopped_as}
+use Rattle.irs_observed.proofs.RuleLemmas.{is_not, refused_period, refused_uncovered, stopped_as}
 use Rattle.irs_observed.proofs.walk.observations.Goals as goal
 
 pub returns-in_default-clause-meets : goal.returns-in_default-clause-meets

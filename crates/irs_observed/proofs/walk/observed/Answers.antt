@@ -1,4 +1,4 @@
-use Rattle.std.proofs.Common.{◌≡◌, ◌+◌, ◌++◌, ◌∷◌, [], length, length-append, arith, ℕ, List, sym}
+use Rattle.std.proofs.Common.{◌≡◌, ◌+◌, ◌++◌, ◌∷◌, [], length, length-append, arith, ℕ}
 use Rattle.irs_base.proofs.MemberLemmas.{numbered_push}
 use Rattle.irs_observed.specs.Observations.{IsObservation}
 use Rattle.irs_observed.specs.declared.observation.Observation.{Observation}
