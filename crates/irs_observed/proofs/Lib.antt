@@ -1,0 +1,11 @@
+pub mod PeriodLemmas
+pub mod ListLemmas
+pub mod MemberLemmas
+pub mod WalkLemmas
+pub mod RuleLemmas
+pub mod WeightLemmas
+pub mod ThroughLemmas
+pub mod FactorLemmas
+pub mod OutcomeLemmas
+pub mod SizeLemmas
+pub mod RateLemmas

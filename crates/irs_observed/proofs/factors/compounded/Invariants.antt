@@ -1,0 +1,12 @@
+use Rattle.std.proofs.Common.{◌≤◌}
+use Rattle.std.specs.Prelude.{unsigned_abs}
+use Rattle.irs_observed.specs.DailyRates.{daily_rates}
+use Rattle.irs_observed.specs.ObservedRates.{rate_precision}
+use Rattle.irs_observed.proofs.FactorLemmas.{Compounds}
+use Rattle.irs_observed.proofs.factors.compounded.Given as goal
+
+abbrev pub invariant-loop-o : goal.invariant-loop-o
+invariant-loop-o l = record {
+  compounds : Compounds rate_precision l.basis (daily_rates l.daily l.index) l.observations l.o-index l.factor;
+  within : unsigned_abs l.factor ≤ rate_precision.most;
+}

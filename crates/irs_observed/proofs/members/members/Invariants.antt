@@ -1,0 +1,10 @@
+use Rattle.std.proofs.Common.{◌-ℤ◌}
+use Rattle.std.specs.Prelude.{unsigned_abs}
+use Rattle.irs_observed.proofs.MemberLemmas.{ListsTo}
+use Rattle.irs_observed.proofs.members.members.Given as goal
+
+abbrev pub invariant-loop-end : goal.invariant-loop-end
+invariant-loop-end g l = ListsTo (g.G.GoodDays.days l.days) l.fn.start l.end l.found l.day
+
+abbrev pub decreases-loop-end : goal.decreases-loop-end
+decreases-loop-end g l = unsigned_abs (l.end -ℤ l.day)

@@ -1,0 +1,10 @@
+pub mod ObservationPeriods
+pub mod PeriodMembers
+pub mod Observations
+pub mod ObservationWalk
+pub mod ObservationRules
+pub mod DailyRates
+pub mod Factors
+pub mod ObservedRates
+pub mod RateLaws
+pub mod Outcomes

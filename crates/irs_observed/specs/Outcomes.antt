@@ -1,0 +1,23 @@
+-- What the calls of this crate answer, and what they refuse.
+use Rattle.std.specs.Prelude.{List, Option}
+use Rattle.irs_base.specs.Outcomes.{Spec, unless_broken}
+use Rattle.irs_observed.specs.DailyRates.{DailyRates}
+use Rattle.irs_observed.specs.ObservationPeriods.{ObservedPeriod}
+use Rattle.irs_observed.specs.ObservationRules.{Lacks, reported_before}
+use Rattle.irs_observed.specs.Observations.{AreObservations}
+use Rattle.irs_observed.specs.ObservedRates.{Fraction, IsRateOrAbsent, PassesLimit}
+use Rattle.irs_observed.specs.declared.method.CalculationMethod.{CalculationMethod}
+use Rattle.irs_observed.specs.declared.rates.FactorOutOfRange.{FactorOutOfRange}
+use Rattle.irs_observed.specs.declared.observation.NoObservations.{NoObservations}
+use Rattle.irs_observed.specs.declared.observation.Observation.{Observation}
+
+-- the observations of a calculation period, or the first reason why there are none
+abbrev pub observations_of : ObservedPeriod → Spec (List Observation) NoObservations
+observations_of p = unless_broken reported_before (Lacks p) (AreObservations p)
+
+-- the observed rate, absent where a daily rate is, or the refusal that a factor passes its limit
+abbrev pub observed_rate_of : CalculationMethod → DailyRates → List Observation → Spec (Option Fraction) FactorOutOfRange
+observed_rate_of method daily os = record {
+  Answers = λ x. (PassesLimit method daily os → ⊥) × IsRateOrAbsent method daily os x;
+  Refuses = λ _. PassesLimit method daily os;
+}

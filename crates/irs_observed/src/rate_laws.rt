@@ -1,0 +1,25 @@
+//! What holds of every observed rate.
+ghost use Rattle.irs_observed.specs.DailyRates.{daily_rates};
+ghost use Rattle.irs_observed.specs.RateLaws.{NotAbove, NotBelow, OneGivesItself, ZeroGivesZero};
+
+use crate::method::CalculationMethod;
+use crate::observation::ObservationList;
+use irs_base::Text;
+use irs_resets::Fixings;
+
+/// Laws of the observed rate: where each daily rate is 0 it is 0; with one member, as it is printed,
+/// it is that member's daily rate; and an average lies between the least and the greatest daily rate.
+pub fn rates_keep_their_range(
+    method: CalculationMethod,
+    observations: &ObservationList,
+    daily: &Fixings,
+    index: &Text,
+)
+    ensures zero { ZeroGivesZero method (daily_rates daily.now index.now) observations.now }
+    ensures one { OneGivesItself method (daily_rates daily.now index.now) observations.now }
+    ensures not_below { NotBelow (daily_rates daily.now index.now) observations.now }
+    ensures not_above { NotAbove (daily_rates daily.now index.now) observations.now }
+{
+    // hands the prover that the weights are above 0
+    let _observations = observations.as_slice();
+}
