@@ -1,4 +1,6 @@
-use Rattle.std.proofs.Common.{◌∙◌}
+use Rattle.std.proofs.Common.{◌∙◌, [], get_or}
+use Rattle.irs_cli.specs.declared.commands.Named.{Named}
+use Rattle.irs_cli.specs.declared.commands.Role.TheVariants.{Document}
 use Rattle.irs_cli.specs.Commands.{wanted_by}
 use Rattle.std.proofs.Common.{map}
 use Rattle.irs_answers.specs.Given.{given_by}
@@ -29,17 +31,20 @@ loop-named-preserved g c =
     let later = g.F.Files.told c.loop-named.files in
     let got = c.in_ok-bytes.bytes.items in
     let l = c.loop-named in
-    let put = c.in_ok-put_file.ensures in
-    let form = c.form_of-form.ensures in
+    let first : Named = record { place = 0; role = Document; name = record { ref_ptr = (0, 0); now = [] } } in
+    let named = get_or c.args.names.now l.named-index first in
+    let stored =
+    stored_as (given_by l.fetched) (given_by c.put_file.new.files) named.role named.name.now got c.form_of-form.result
+    c.in_ok-put_file.ensures c.form_of-form.ensures in
     record {
       told = λ n. c.fetch.ensures.told n ∙ l.invariant.told n;
       same = λ n k b h. l.invariant.same n k b (c.fetch.ensures.same n k b h);
       given = gathered_more (IsGiven (g.F.Files.gives c.args.files.now)) c.args.names.now l.named-index _
           (given_by l.fetched) (given_by c.put_file.new.files) got c.loop-named-test.true l.invariant.given
           (l.invariant.same _ _ got c.in_ok-bytes.ensures.given.0, c.in_ok-bytes.ensures.given.1)
-          (stored_as _ _ _ _ _ _ put form);
+          stored;
       quiet = c.in_ok-bytes.ensures.one.1 ∙ l.invariant.quiet;
       held = held_more told c.args.names.now l.named-index _ (given_by l.fetched)
           (given_by c.put_file.new.files) got c.loop-named-test.true l.invariant.held
-          (holds_before told later _ got l.invariant.told c.in_ok-bytes.ensures.one.0) (stored_as _ _ _ _ _ _ put form);
+          (holds_before told later _ got l.invariant.told c.in_ok-bytes.ensures.one.0) stored;
     }
