@@ -1,11 +1,11 @@
 -- What is said of a status, put piece by piece: the sentence, its end, and the listed commands.
-use Rattle.std.proofs.Common.{◌≡◌, ℕ, ◌<◌, List, [], ◌++◌, codes, Option, inl, refl, sym, ◌∙◌, ap, subst, append_assoc}
+use Rattle.std.proofs.Common.{◌≡◌, ℕ, ◌<◌, List, [], ◌++◌, codes, Option, ◌⊎◌, inl, inr, refl, sym, ◌∙◌, ap, subst, append_assoc}
 use Rattle.std.proofs.Common.{◌==◌, if◌then◌else◌, arith}
 use Rattle.irs_outside.specs.Outside.{Grew, GrewByFront}
 use Rattle.irs_plain.specs.Sentences.{sentence_of}
 use Rattle.irs_cli.proofs.PutLemmas.{Through, first_part, through_last, through_last_part, through_more, through_part}
 use Rattle.irs_main.proofs.PieceLemmas.{grew_nothing, through_all}
-use Rattle.irs_main.specs.Answering.{Explained, explanation_of, lines_of, listing_of}
+use Rattle.irs_main.specs.Answering.{Explained, Printed, explanation_of, lines_of, listing_of}
 
 -- of 0 nothing is said
 pub nothing_said : (commands words : List (List ℕ)) (status : ℕ) (line : List ℕ) (a : Option (List ℕ)) (faults : ℕ)
@@ -14,6 +14,36 @@ unfolding explanation_of
 nothing_said commands words status line a faults none =
     let E : ℕ → Type 0 = λ n. Explained (explanation_of commands words n line) a a faults faults in
     subst E (sym none) (inl (grew_nothing a, refl))
+
+-- what is said of 0, 6 and 7 depends neither on the words nor on the line
+pub said_of_status : (commands words others : List (List ℕ)) (status : ℕ) (line another : List ℕ)
+    → (status ≡ 0) ⊎ ((status ≡ 6) ⊎ (status ≡ 7))
+    → explanation_of commands words status line ≡ explanation_of commands others status another
+unfolding explanation_of
+said_of_status commands words others status line another (inl is) =
+    subst (λ (n : ℕ). explanation_of commands words n line ≡ explanation_of commands others n another) (sym is) refl
+said_of_status commands words others status line another (inr (inl is)) =
+    subst (λ (n : ℕ). explanation_of commands words n line ≡ explanation_of commands others n another) (sym is) refl
+said_of_status commands words others status line another (inr (inr is)) =
+    subst (λ (n : ℕ). explanation_of commands words n line ≡ explanation_of commands others n another) (sym is) refl
+
+-- a text that was put is put whatever it is called
+pub explained_as : (text other : List ℕ) (old now : Option (List ℕ)) (before after : ℕ)
+    → Explained text old now before after → text ≡ other → Explained other old now before after
+explained_as text other old now before after h is = subst (λ (t : List ℕ). Explained t old now before after) is h
+
+-- a text that was printed whole has status 0, and else it is 6
+pub printed_status : (text : List ℕ) (old now : Option (List ℕ)) (before after status : ℕ)
+    → Printed text old now before after status → (status ≡ 0) ⊎ ((status ≡ 6) ⊎ (status ≡ 7))
+printed_status text old now before after status (inl whole) = inl whole.0
+printed_status text old now before after status (inr front) = inr (inl front.0)
+
+-- the same words and the same line have the same explanation
+pub said_of_same : (commands words others : List (List ℕ)) (status : ℕ) (line another : List ℕ) → words ≡ others
+    → line ≡ another → explanation_of commands words status line ≡ explanation_of commands others status another
+said_of_same commands words others status line another same here =
+    ap (λ (ws : List (List ℕ)). explanation_of commands ws status line) same
+    ∙ ap (λ (l : List ℕ). explanation_of commands others status l) here
 
 listed_at : (commands : List (List ℕ)) (status : ℕ) → status ≡ 4 → listing_of commands status ≡ lines_of commands
 listed_at commands status is = ap (λ (n : ℕ). listing_of commands n) is
