@@ -55,3 +55,11 @@ pub returns-clause-absent : goal.returns-clause-absent
 returns-clause-absent c is5 =
     absent _ _ _ _ _ _ _ _ _ _ c.new-source.ensures c.run-status.ensures.told c.run-status.new.files.absent
     c.new-kept.ensures (c.run-status.ensures.ran.failed is5)
+
+pub returns-clause-only_unlisted : goal.returns-clause-only_unlisted
+returns-clause-only_unlisted c is4 = c.run-status.ensures.ran.only_unlisted is4
+
+pub returns-clause-unlisted : goal.returns-clause-unlisted
+returns-clause-unlisted c none =
+    c.run-status.ensures.ran.unlisted none (rw c.number.ensures at c.if-status-number.false)
+    (rw c.number-else-status-number.ensures at c.if-status-number-2.false)
