@@ -3,8 +3,8 @@
 A document, a flow document, a calendar and a file of fixings are bytes or text as docs/FORMATS.md has
 them, or a path (`pathlib.Path`), whose file is read. A document is read as XML where it begins with `<`, after a
 byte order mark and white space, and else as JSON, whatever the name of its file; it may also be a mapping, which
-is written as JSON. A name in a `str` is no path: it would be a document. Every call raises `Refused` where the terms break
-a rule, `BadFile` where a file isn't as such files are written, `TooLong` for a file of more than 4,194,304
+is written as JSON. A name in a `str` is no path: it would be a document. Every call raises `Refused` where the terms
+break a rule, `BadFile` where a file isn't as such files are written, `TooLong` for a file of more than 4,194,304
 bytes, `BadWords` for a parameter that the command doesn't take, `OutOfMemory` where memory runs out, and
 TypeError for what is no document and no file.
 """
