@@ -79,7 +79,7 @@ fn is_fraction(frac: Frac, stated: StatedFraction) -> bool
 }
 
 /// A day that may be left out is stated, and is another one.
-pub(crate) fn day_is_wrong(day: Day, stated: Option<Day>) -> bool
+pub fn day_is_wrong(day: Day, stated: Option<Day>) -> bool
     ensures { IsTrue result ↔ StatedWrongly (λ d. d ≡ day) stated }
 {
     match stated {
@@ -99,7 +99,7 @@ pub(crate) fn day_is_not_right(day: Day, stated: Option<Day>) -> bool
 }
 
 /// A number of days is stated, and is another one.
-pub(crate) fn count_is_wrong(count: i64, stated: Option<i64>) -> bool
+pub fn count_is_wrong(count: i64, stated: Option<i64>) -> bool
     ensures { IsTrue result ↔ StatedWrongly (λ n. n ≡ count) stated }
 {
     match stated {
@@ -109,7 +109,7 @@ pub(crate) fn count_is_wrong(count: i64, stated: Option<i64>) -> bool
 }
 
 /// A currency is stated, and is another one.
-pub(crate) fn currency_is_wrong(currency: Currency, stated: Option<Currency>) -> bool
+pub fn currency_is_wrong(currency: Currency, stated: Option<Currency>) -> bool
     ensures { IsTrue result ↔ StatedWrongly (λ c. c ≡ currency) stated }
 {
     match stated {
@@ -119,7 +119,7 @@ pub(crate) fn currency_is_wrong(currency: Currency, stated: Option<Currency>) ->
 }
 
 /// A number is stated, and isn't `units` units of 10^-places.
-pub(crate) fn number_is_wrong(units: i128, places: u8, stated: Option<i128>) -> bool
+pub fn number_is_wrong(units: i128, places: u8, stated: Option<i128>) -> bool
     requires { places ≤ 12 }
     ensures { IsTrue result ↔ StatedWrongly (IsNumber units places) stated }
 {
@@ -141,7 +141,7 @@ pub(crate) fn amount_is_not_right(amount: Dec, stated: Option<i128>) -> bool
 }
 
 /// A fraction is stated, and isn't that of the period.
-pub(crate) fn fraction_is_wrong(frac: Frac, stated: Option<StatedFraction>) -> bool
+pub fn fraction_is_wrong(frac: Frac, stated: Option<StatedFraction>) -> bool
     requires { IsSmall frac }
     ensures { IsTrue result ↔ StatedWrongly (IsFraction frac) stated }
 {

@@ -18,6 +18,9 @@ mod stating;
 mod summing;
 
 pub use agreement::audit;
+pub use comparisons::{
+    count_is_wrong, currency_is_wrong, day_is_wrong, fraction_is_wrong, number_is_wrong,
+};
 pub use departures::{Departure, Field, RowKind, Verdict};
 pub use error::{FlowErr, ShapeKind};
 pub use flow_faults::first_in_flows;

@@ -10,3 +10,5 @@ pub mod Merging
 pub mod PairLaws
 pub mod Listing
 pub mod OnePairing
+pub mod FieldTies
+pub mod CountSteps

@@ -5,3 +5,6 @@ pub mod PairedRows
 pub mod Merging
 pub mod Undated
 pub mod Laws
+pub mod Values
+pub mod Fields
+pub mod Counting
