@@ -48,6 +48,16 @@ SWAP = f"""<dataDocument xmlns="{NAMESPACE}">
 FLOWS = "<cashflows><a b='1'>x</a></cashflows>\n<cashflows/>\n"
 
 
+def element(name, value):
+    """A value of the carrier as an element, or as several."""
+    if isinstance(value, list):
+        return "".join(element(name, it) for it in value)
+    if not isinstance(value, dict):
+        return f"<{name}>{value}</{name}>"
+    attributes = "".join(f' {it[1:]}="{value[it]}"' for it in value if it.startswith("@"))
+    return f"<{name}{attributes}>{''.join(element(it, value[it]) for it in value if it[0] != '@')}</{name}>"
+
+
 def takes_xml():
     """Whether the library reads XML."""
     return irs.run(["carrier", "document.xml"], {"document.xml": b"<swap/>"}).status == 0
@@ -280,6 +290,26 @@ class WithTheEngine(unittest.TestCase):
         streams = self.value(fpml.insert(SWAP, FLOWS))["dataDocument"]["trade"]["swap"]["swapStream"]
         self.assertEqual([it["cashflows"] for it in streams], [{"a": {"@b": "1", "#text": "x"}}, ""])
         self.assertEqual(list(streams[0]), sorted(streams[0]))
+
+    def test_what_is_emitted_is_audited_in_its_place(self):
+        for example, rates in (("fixed_leg", "-"), ("two_streams", "fixings"), ("two_currencies", "fixings")):
+            folder = TOP / "examples" / example
+            [(root, terms)] = json.loads((folder / "terms.json").read_bytes()).items()
+            files = {"terms.xml": element(root, terms)}
+            if rates != "-":
+                files[rates] = (folder / rates).read_bytes()
+            emitted = json.loads(irs.run(["emit", "terms.xml", rates], files).text)["swap"]["swapStream"]
+            streams = emitted if isinstance(emitted, list) else [emitted]
+            files["with.xml"] = fpml.insert(
+                files["terms.xml"], "\n".join(element("cashflows", it["cashflows"]) for it in streams)
+            )
+            for document in ("terms.xml", "with.xml"):
+                answer = irs.run(["audit", document, rates, "with.xml"], files)
+                self.assertEqual((answer.status, answer.text[:4]), (0, b"yes "), example)
+            moved = files["with.xml"].replace(b"<adjustedPaymentDate>2024-07-15", b"<adjustedPaymentDate>2024-07-16")
+            self.assertNotEqual(moved, files["with.xml"])
+            answer = irs.run(["audit", "terms.xml", rates, "moved.xml"], {**files, "moved.xml": moved})
+            self.assertEqual(answer.status, 1, example)
 
     def test_what_is_taken_out(self):
         document = SWAP.replace("</swap>", "<additionalPayment/></swap>").encode()
