@@ -146,6 +146,12 @@ static int is_plain(const struct answer *is, uint8_t last) {
     return 1;
 }
 
+static int is_known(struct irs_bytes command) {
+    for (size_t i = 0; i < sizeof DONE / sizeof *DONE; i++)
+        if (is_word(command, DONE[i].command)) return 1;
+    return 0;
+}
+
 static void look_at_done(const struct answer *is, struct irs_bytes command) {
     if (!ends(is, "\n") || !is_plain(is, 255)) broken("a text with a control character, or without a line feed at its end");
     for (size_t i = 0; i < sizeof DONE / sizeof *DONE; i++) {
@@ -165,7 +171,6 @@ static int all_ascii(const struct input *in) {
 /* The status is a lawful one, and the text has the form of the status. */
 static void look_at(const struct answer *is, const struct input *in) {
     static const char *const forms[10][4] = {
-        [1] = {"no %d %w %d %w\n"},
         [2] = {"refused K%d %d %w %d\n"},
         [3] = {"bad calendar %d %d %w\n", "bad fixings %d %w\n", "bad flows %w %d %w %d\n"},
         [4] = {"bad words\n"},
@@ -176,6 +181,11 @@ static void look_at(const struct answer *is, const struct input *in) {
     switch (is->status) {
     case 0:
         look_at_done(is, in->words[0]);
+        break;
+    case 1:
+        if (!is_known(in->words[0])) look_at_done(is, in->words[0]);
+        else if (!is_word(in->words[0], "audit") || !has_form(is->text, is->length, "no %d %w %d %w\n"))
+            broken("status 1 for another command than audit, or its line has another form");
         break;
     case 9:
         if (is->length || all_ascii(in)) broken("status 9 for words that are text, or with a text");

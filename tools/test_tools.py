@@ -485,6 +485,8 @@ class Fuzz(InRoom):
             ("what", "status = 6", "a status that can't come"),
             ("what", 'text = "bad words"', "its line has another form"),
             ("check d", 'status = 0, text = "okay\\n"', "the text of a command"),
+            ("check d", 'status = 1, text = "no 1 payment 1 amount\\n"', "status 1 for another command"),
+            ("audit d - d", 'status = 1, text = "no 1 payment\\n"', "its line has another form"),
             ("what", "if (calls > 1) status = 5", "the second call"),
             ("what", "out[room ? strlen(text) : 0] = 0", "a byte is written"),
             ("emit d -", 'if (audit) status = 1, text = "no 1 payment 1 amount\\n"', "isn't audited"),
