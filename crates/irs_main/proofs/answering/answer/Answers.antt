@@ -31,3 +31,6 @@ pub returns-in-Err-clause-explained : goal.returns-in-Err-clause-explained
 returns-in-Err-clause-explained g c =
     explained_as _ _ _ _ _ _ c.explain-in-Err.ensures.said
     (said_of_status _ _ _ _ _ _ (inr (inr c.number-status.ensures)))
+
+pub returns-in-Ok-clause-ran : goal.returns-in-Ok-clause-ran
+returns-in-Ok-clause-ran g c none = c.run-status.ensures.ran
