@@ -21,6 +21,7 @@ use Rattle.irs_accrue.specs.declared.accruals.Accrual.{Accrual}
 use Rattle.irs_accrue.specs.declared.accruals.Accrual.TheVariants.{Outside, Inside}
 use Rattle.irs_accrue.proofs.Periods.{RunsFromTo, one_number, rises_to, runs_from_to}
 
+-- a fraction made of its parts
 abbrev make_frac : ℤ → ℤ → Frac
 make_frac num den = record { num = num; den = den }
 
@@ -70,6 +71,7 @@ counted_den code s d m f started a =
     (λ (l : s <ℤ d). one_denominator code s d false f (a.some l).1)
     (λ (l : d ≤ℤ s). let e : d ≡ s = omega (arith, signed_arith, started, l) in (a.none e).2)
 
+-- the number is above 0
 abbrev IsAbove : ℤ → Type 0
 IsAbove z = pos 0 <ℤ z
 
@@ -92,6 +94,7 @@ scaled_above : (den : ℤ) → pos 0 <ℤ den → pos 0 <ℤ (den *ℤ pos (10 ^
 scaled_above (pos n) h = omega (arith, signed_arith, h)
 scaled_above (negsuc n) h = absurd (omega (arith, signed_arith, h))
 
+-- an amount made of its units and its decimals
 abbrev make_dec : ℤ → ℕ → Dec
 make_dec units places = record { units = units; places = places }
 
@@ -161,6 +164,7 @@ one_in p d (Inside m x f a) (Inside n y g b) kept h k =
     let own : AccruesIn p d n x f a = subst (λ (i : ℕ). AccruesIn p d i x f a) number h in
     ap (λ (i : ℕ). Inside i x f a) number ∙ in_period p d n x y f g a b kept own k
 
+-- a stream has one accrual on a day
 pub one_accrual : (parts : List Part) (stream : ℕ) (d : ℤ) (a b : Accrual) → IsWithin parts → Accrues parts stream d a
     → Accrues parts stream d b → a ≡ b
 one_accrual parts stream d a b kept h k =

@@ -45,6 +45,7 @@ pub record RunsFromTo (p : Part) (d : ℤ) (number : ℕ) : Type 0 where
   pub started : day_at p.adjusted (number - 1) ≤ℤ d
   pub not_ended : d <ℤ day_at p.adjusted number
 
+-- a period that runs has its number, and the day lies in it
 pub runs_from_to : (p : Part) (d : ℤ) (number : ℕ) (x : CalculationPeriod) → Runs p d number x → RunsFromTo p d number
 runs_from_to p d number x r =
     let h = has_entry p (number - 1) x r.is in
@@ -72,6 +73,7 @@ not_after xs i (suc n) j h e low =
     let next = next_day xs j h (omega (arith, e)) low in
     omega (arith, signed_arith, before, next)
 
+-- days that rise are in order
 pub rises_to : (xs : List ℤ) (i j : ℕ) → Rises xs → i ≤ j → j < length xs → day_at xs i ≤ℤ day_at xs j
 rises_to xs i j h le low = not_after xs i (j - i) j h (omega (arith, le)) low
 
@@ -85,6 +87,7 @@ not_both p d m n kept a b less =
     let starts = b.started in
     omega (arith, signed_arith, order, ends, starts)
 
+-- a day lies in one period
 pub one_number : (p : Part) (d : ℤ) (m n : ℕ) → KeepsBounds p → RunsFromTo p d m → RunsFromTo p d n → m ≡ n
 one_number p d m n kept a b = elim (cases_order m n) [
   | inl same ↦ same

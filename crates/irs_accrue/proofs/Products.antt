@@ -8,6 +8,7 @@ pub size_between : (z : ℤ) (n : ℕ) → pos 0 ≤ℤ z → z ≤ℤ pos n →
 size_between (pos a) n h k = omega (arith, signed_arith, h, k)
 size_between (negsuc a) n h k = absurd (omega (arith, signed_arith, h, k))
 
+-- a product of two bounded numbers is bounded
 pub product_of_two : (a b l m : ℕ) → a ≤ l → b ≤ m → a * b ≤ l * m
 product_of_two a b l m h k = mul-le-mul h k
 

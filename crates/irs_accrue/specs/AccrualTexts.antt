@@ -5,7 +5,7 @@ use Rattle.irs_schedule.specs.RowTexts.{dec_or_dash}
 use Rattle.irs_accrue.specs.declared.accruals.Accrual.{Accrual}
 use Rattle.irs_accrue.specs.declared.accruals.Accrual.TheVariants.{Outside, Inside}
 
--- the fields behind the stream's number
+-- the fields after the stream's number
 abbrev pub accrual_fields : Accrual → List ℕ
 accrual_fields Outside = codes " none"
 accrual_fields (Inside number days frac amount) =

@@ -1,5 +1,5 @@
--- What has accrued on a day: the simple interest of the calculation period that runs on it; that nothing but this
--- period is looked at is this project's own.
+-- What has accrued on a day: the simple interest of the calculation period that runs on it. That nothing but this
+-- period is looked at is our rule.
 use Rattle.std.specs.Prelude.{◌≡◌, ◌⊎◌, ℕ, ◌-◌, ◌^◌, ◌≤◌, List, length, Option, Some, None, ℤ, pos, ◌*ℤ◌, ◌<ℤ◌, ◌≤ℤ◌}
 use Rattle.std.specs.Prelude.{unsigned_abs, IfSome}
 use Rattle.irs_base.specs.Limits.{most_rate}
@@ -16,8 +16,8 @@ use Rattle.irs_accrue.specs.Shares.{HasRun}
 use Rattle.irs_accrue.specs.declared.accruals.Accrual.{Accrual}
 use Rattle.irs_accrue.specs.declared.accruals.Accrual.TheVariants.{Outside, Inside}
 
--- v is notional times rate times fraction to the nearest unit of so many decimals. Notionals are in units of 10^-4 and
--- rates in units of 10^-9
+-- v is notional times rate times fraction to the nearest unit of this number of decimals. Notionals are in units of
+-- 10^-4 and rates in units of 10^-9
 pub record IsInterest (places : ℕ) (notional rate : ℤ) (frac : Frac) (v : Dec) : Type 0 where
   pub decimals : v.places ≡ places
   pub rounded : Rounded Nearest (notional *ℤ rate *ℤ frac.num *ℤ pos (10 ^ places)) (frac.den *ℤ pos (10 ^ 13)) v.units

@@ -1,5 +1,5 @@
--- The part of a calculation period that has run before a day; that it is counted so is this project's own. The period
--- runs from s, included, to e, excluded, and d is a day of it.
+-- The part of a calculation period that has run before a day; that it is counted so is our rule. The period runs from
+-- s, included, to e, excluded, and d is a day of it.
 use Rattle.std.specs.Prelude.{◌≡◌, false, ℤ, pos, ◌-ℤ◌, ◌<ℤ◌}
 use Rattle.irs_terms.specs.declared.codes.DayCountCode.{DayCountCode}
 use Rattle.irs_terms.specs.declared.codes.DayCountCode.TheVariants.{OneOne, ActActIsda, Act365Fixed, Act360, Thirty360}
@@ -7,8 +7,8 @@ use Rattle.irs_terms.specs.declared.codes.DayCountCode.TheVariants.{ThirtyE360, 
 use Rattle.irs_terms.specs.declared.results.Frac.{Frac}
 use Rattle.irs_daycount.specs.Fractions.{Days, Fraction, denominator_of}
 
--- days and fraction by a code that counts from s to d: none on the first day, and behind it those of a period from s to
--- d that isn't its stream's last
+-- days and fraction by a code that counts from s to d. On the first day there are none. After it they are those of a
+-- period from s to d that isn't its stream's last
 pub record CountedTo (code : DayCountCode) (s d days : ℤ) (frac : Frac) : Type 0 where
   pub none : d ≡ s → (days ≡ pos 0) × (frac.num ≡ pos 0) × (frac.den ≡ denominator_of code)
   pub some : s <ℤ d → Days code s d false days × Fraction code s d false frac

@@ -1,6 +1,6 @@
 //! What has accrued on a day: the simple interest of the calculation period that runs on it.
 //!
-//! That nothing but this period is looked at, and no earlier one compounds, is this project's own.
+//! Nothing but this period is looked at, and no earlier one compounds: our rule.
 ghost use Rattle.std.specs.Prelude.{◌≡◌, ◌≤◌, length};
 ghost use Rattle.irs_accrue.specs.Accruals.{Accrues, HasPlaces, IsAccrual, Runs};
 ghost use Rattle.irs_accrue.specs.declared.accruals.Accrual.{Accrual};
@@ -17,8 +17,8 @@ use irs_terms::Frac;
 pub enum Accrual {
     /// The day is before the first adjusted boundary, or not before the last.
     Outside,
-    /// The number, from 1, of the calculation period that runs on the day; its days before the day
-    /// and their fraction, not reduced; and the amount in the decimals of the stream's currency, which
+    /// The number, from 1, of the calculation period that runs on the day, its days before the day,
+    /// and their fraction, not reduced. The amount is in the decimals of the stream's currency. It
     /// is absent where the period's rate isn't known or passes 10 in size.
     Inside {
         period: u32,
@@ -61,10 +61,11 @@ fn accrued_in(part: &StreamPart, d: Day) -> Accrual
     }
 }
 
-/// What has accrued on a day in the stream with this number, from 1: the simple interest, from its
-/// adjusted start to the day, of the calculation period that runs on it. This rule is this project's
-/// own; days and fraction are by the stream's day count (2006 ISDA Definitions, section 4.16), where a
-/// period is one year (`1/1`) by the part of its days that has run. It takes no memory.
+/// What has accrued on a day in the stream with this number, from 1. It is the simple interest of
+/// the calculation period that runs on the day, from the period's adjusted start to the day. This
+/// rule is ours. Days and fraction are by the stream's day count (2006 ISDA Definitions, section
+/// 4.16). Where a period is one year (`1/1`), the fraction is the part of its days that has run. It
+/// takes no memory.
 pub fn accrued(s: &Schedule, stream: u8, d: Day) -> Accrual
     requires from_one { 1 ≤ stream }
     requires to_last { stream ≤ length s.now }

@@ -12,7 +12,7 @@ use irs_base::{Dec, Direction, MOST_RATE, round};
 use irs_terms::{Currency, Frac};
 
 /// The interest on a notional in units of 10^-4 at a rate in units of 10^-9, in the decimals of the
-/// currency; `None` exactly where the rate isn't known or passes 10 in size.
+/// currency. `None` comes exactly where the rate isn't known or passes 10 in size.
 pub(crate) fn amount_of(
     currency: Currency,
     notional: i128,

@@ -15,7 +15,7 @@ pub(crate) struct RunningPeriod {
     pub(crate) period: CalculationPeriod,
 }
 
-// How many boundaries stand before the first that is after the day, or all of them.
+// The number of boundaries before the first that is after the day, or of all of them.
 fn boundaries_to(boundaries: &[Day], d: Day) -> usize
     ensures within { result ≤ length boundaries.now }
     ensures passed { (k : ℕ) → k < result → day_at boundaries.now k ≤ℤ d }

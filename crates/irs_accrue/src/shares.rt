@@ -1,8 +1,8 @@
 //! The part of a calculation period that has run before a day: its days, and their fraction by the
-//! day count (2006 ISDA Definitions, section 4.16).
+//! day count. Day counts are those of the 2006 ISDA Definitions, section 4.16.
 //!
-//! A period that runs is never its stream's last here, and `1/1` takes the part of the period's days:
-//! both are this project's own.
+//! Two rules are ours: a period that runs is never its stream's last here, and `1/1` takes the part
+//! of the period's days.
 ghost use Rattle.std.specs.Prelude.{◌≡◌, ◌<ℤ◌, ◌≤ℤ◌, pos, ◌-ℤ◌};
 ghost use Rattle.irs_daycount.specs.Fractions.{denominator_of};
 ghost use Rattle.irs_accrue.specs.Shares.{CountedTo, HasRun, OfWhole};

@@ -1,8 +1,7 @@
 //! The line of what has accrued in a stream: its mark and its fields, one space before each field, and
 //! a line feed.
 //!
-//! The format is this project's own. Amounts have the decimals of their currency; what isn't known is
-//! `-`.
+//! The format is ours. Amounts have the decimals of their currency; what isn't known is `-`.
 ghost use Rattle.std.specs.Prelude.{◌≡◌, ◌+◌, ◌≤◌, ◌++◌, length};
 ghost use Rattle.irs_accrue.specs.Accruals.{HasPlaces};
 ghost use Rattle.irs_accrue.specs.AccrualTexts.{accrual_fields, accrual_text};
@@ -11,7 +10,7 @@ use crate::Accrual;
 use irs_base::Line;
 use irs_schedule::{put_frac, put_optional};
 
-// The fields behind the stream's number.
+// The fields after the stream's number.
 fn put_fields(line: &mut Line, a: &Accrual)
     requires places { HasPlaces a.now }
     requires room { length line.old + 218 ≤ 512 }
@@ -34,8 +33,8 @@ fn put_fields(line: &mut Line, a: &Accrual)
     }
 }
 
-/// Puts the line of what has accrued in the stream with this number in the place of what the line
-/// holds: `a STREAM none`, or `a STREAM PERIOD DAYS NUM/DEN AMOUNT` with `-` where there is no amount.
+/// Replaces what the line holds by the line of what has accrued in the stream with this number. It
+/// is `a STREAM none`, or `a STREAM PERIOD DAYS NUM/DEN AMOUNT` with `-` where there is no amount.
 /// It takes no memory.
 #[tactic(auto, unfolding(crate::specs::AccrualTexts::accrual_text))]
 pub fn accrued_text(stream: u8, a: &Accrual, line: &mut Line)

@@ -7,6 +7,7 @@ use Rattle.irs_calendar.specs.GoodDays.{DaySet}
 use Rattle.irs_adjust.specs.ConventionLaws.{one_same, one_next, one_prev, one_modfollows, one_modprecedes, one_nearest}
 use Rattle.irs_adjust.specs.Codes.{Adjusts}
 
+-- a convention gives at most one day
 pub one_adjusts : (code : ConvCode) (s : DaySet) (d r t : ℤ) → Adjusts code s d r → Adjusts code s d t → r ≡ t
 one_adjusts Following s d r t a b = one_next s d r t a b
 one_adjusts ModFollowing s d r t a b = one_modfollows s d r t a b

@@ -54,9 +54,9 @@ decides_good s d inside = elim (cases_Bool (s.test d)) [
 distance : (a b : ℤ) → a ≤ℤ b → (n : ℕ) × (b ≡ a +ℤ pos n)
 distance a b h = (up b + down a - (down b + up a), omega (arith, signed_arith, h))
 
--- the next good day, and the one before
+-- the next business day, and the one before
 
--- a next good day from d on, or no good day from d on
+-- a next business day from d on, or no business day from d on
 abbrev NextOrNone : DaySet → ℤ → Type 0
 NextOrNone s d = ((r : ℤ) × Next s d r) ⊎ ((x : ℤ) → d ≤ℤ x → IsGood s x → ⊥)
 
@@ -105,6 +105,7 @@ next_within s (suc n) d inside ends = elim (decides_good s d inside) [
       next_later s d inside bad (next_within s n (d +ℤ pos 1) on (omega (arith, signed_arith, ends)))
 ]
 
+-- the cover has a next business day for a day, or none
 pub decides_next : (s : DaySet) (d : ℤ) → IsFound (Next s d)
 decides_next s d = elim (decides_in_cover s d) [
   | inr outside ↦ inr (λ r h. outside h.starts)
@@ -116,7 +117,7 @@ decides_next s d = elim (decides_in_cover s d) [
       ]
 ]
 
--- a previous good day from d back, or no good day from d back
+-- a previous business day from d back, or no business day from d back
 abbrev PrevOrNone : DaySet → ℤ → Type 0
 PrevOrNone s d = ((r : ℤ) × Prev s d r) ⊎ ((x : ℤ) → x ≤ℤ d → IsGood s x → ⊥)
 
@@ -156,6 +157,7 @@ prev_within s (suc n) d inside begins = elim (decides_good s d inside) [
       prev_earlier s d inside bad (prev_within s n (d -ℤ pos 1) back (omega (arith, signed_arith, begins)))
 ]
 
+-- the cover has a previous business day for a day, or none
 pub decides_prev : (s : DaySet) (d : ℤ) → IsFound (Prev s d)
 decides_prev s d = elim (decides_in_cover s d) [
   | inr outside ↦ inr (λ r h. outside h.starts)
@@ -169,6 +171,7 @@ decides_prev s d = elim (decides_in_cover s d) [
 
 -- the conventions
 
+-- whether two days lie in one month can be decided
 pub decides_same_month : (a b : ℤ) → IsDay a → IsDay b → IsDecided (SameMonth a b)
 decides_same_month a b first second =
     let m = has_month a first in

@@ -16,25 +16,30 @@ use Rattle.irs_adjust.proofs.MovedDays.{decides_moves, moves_day}
 use Rattle.irs_adjust.proofs.OffsetLaws.{one_moved}
 
 module _ (offset : Offset) (code : ConvCode) (set : DaySet) (start : ℤ) where
+  -- a start comes to at most one date
   pub one_date : (r t : ℤ) → MovesAndAdjusts offset code set start r → MovesAndAdjusts offset code set start t → r ≡ t
   one_date r t h k =
       let same = one_moved offset set start h.moved k.moved h.moves k.moves in
       one_adjusts code set k.moved r t (subst (λ (x : ℤ). Adjusts code set x r) same h.adjusts) k.adjusts
 
+  -- a start that comes to a date doesn't lack a result
   pub date_not_lacking : (r : ℤ) → MovesAndAdjusts offset code set start r → LacksResult offset code set start → ⊥
   date_not_lacking r h (inl none) = none.1 h.moved h.moves
   date_not_lacking r h (inr off) =
       let same = one_moved offset set start h.moved off.moved h.moves off.moves in
       off.none r (subst (λ (x : ℤ). Adjusts code set x r) same h.adjusts)
 
+  -- a start that comes to a date doesn't leave the range
   pub date_in_range : (r : ℤ) → MovesAndAdjusts offset code set start r → LeavesRange offset set start → ⊥
   date_in_range r h none = none.1 h.moved h.moves
 
+  -- a start that comes to a date fails in neither way
   pub either_fails : (r : ℤ) → MovesAndAdjusts offset code set start r
       → LacksResult offset code set start ⊎ LeavesRange offset set start → ⊥
   either_fails r h (inl lacks) = date_not_lacking r h lacks
   either_fails r h (inr leaves) = date_in_range r h leaves
 
+  -- a start can't fail in both ways
   pub one_failure : LeavesRange offset set start → LacksResult offset code set start → ⊥
   one_failure h (inl none) = let kinds : Calendar ≡ Business = sym h.0 ∙ none.0 in absurd (cc)
   one_failure h (inr off) = h.1 off.moved off.moves
@@ -53,6 +58,7 @@ module _ (offset : Offset) (code : ConvCode) (set : DaySet) (start : ℤ) where
       ((r : ℤ) × MovesAndAdjusts offset code set start r)
       ⊎ (LacksResult offset code set start ⊎ LeavesRange offset set start)
 
+  -- a start comes to a date, or fails in one of the two ways
   pub date_or_failure : IsDay start → InRange set → IsSaid offset → DateOrFailure
   date_or_failure day range said = elim (decides_moves offset set start) [
     | inl moved ↦
@@ -71,6 +77,7 @@ module _ (offset : Offset) (code : ConvCode) (set : DaySet) (start : ℤ) where
   leaves_of Unsaid e said none h =
       elim said [ inl zero ↦ absurd (none start (inl (zero, refl))) | inr kind ↦ absurd (kind e) ]
 
+  -- where a move out of range is what no move means, the offset is a Calendar one
   pub leaves_by : IsSaid offset → MovesNowhere offset set start → no_move_of offset.kind ≡ OutOfRange
       → offset.kind ≡ Calendar
   leaves_by said none h = leaves_of offset.kind refl said none h

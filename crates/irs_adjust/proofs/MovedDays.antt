@@ -23,13 +23,13 @@ next_on_good : (way : Way) (s : DaySet) (x y : ℤ) → IsNextOn way s x y → I
 next_on_good Ahead s x y next = next.good
 next_on_good Back s x y prev = prev.good
 
--- the n-th good day on that side is reached, or there are not so many
+-- the n-th business day on that side is reached, or there are fewer than n
 abbrev Walked : Way → DaySet → ℤ → ℕ → Type 0
 Walked way s d n =
     ((x : ℤ) × Reached way s d n x × (0 < n → IsGood s x))
     ⊎ ((more : ℕ) → n ≤ more → (r : ℤ) → MovesOn way s d more r → ⊥)
 
--- one good day more
+-- one business day more
 walk_on : (way : Way) (s : DaySet) (d : ℤ) (n : ℕ) (x : ℤ) → Reached way s d n x → IsFound (IsNextOn way s x)
     → Walked way s d (suc n)
 walk_on way s d n x reached (inl found) =
@@ -58,6 +58,7 @@ decides_business (pos zero) s d some = absurd (some refl)
 decides_business (pos (suc n)) s d some = decides_moves_on Ahead s d (suc n) (omega arith)
 decides_business (negsuc n) s d some = decides_moves_on Back s d (suc n) (omega arith)
 
+-- whether a day is in the range of dates can be decided
 pub decides_day : (d : ℤ) → IsDecided (IsDay d)
 decides_day d = elim (decides_le first_day d) [
   | inr before ↦ inr (λ day. before day.0)

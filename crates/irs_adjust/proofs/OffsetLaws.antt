@@ -18,6 +18,7 @@ one_of_kind Business n s d r t a b = one_business n s d r t a b
 one_of_kind Calendar n s d r t a b = a.is ∙ sym b.is
 one_of_kind Unsaid n s d r t a b = absurd a
 
+-- an offset moves a day to at most one day
 pub one_moved : (off : Offset) (s : DaySet) (d r t : ℤ) → Moves off s d r → Moves off s d t → r ≡ t
 one_moved off s d r t (inl a) (inl b) = a.1 ∙ sym b.1
 one_moved off s d r t (inl a) (inr b) = absurd (b.0 a.0)

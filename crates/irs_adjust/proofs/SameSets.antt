@@ -15,12 +15,14 @@ use Rattle.irs_adjust.specs.Ways.{away, good_days, MovesOn}
 use Rattle.irs_adjust.specs.Offsets.{MovesBusiness, MovesDays, Moves}
 use Rattle.irs_adjust.proofs.WayLemmas.{between}
 
+-- alike sets have the same cover
 pub same_cover : (s t : DaySet) (d : ℤ) → SameDays s t → InCover s d → InCover t d
 same_cover s t d same inside = record {
   from = subst (λ (z : ℤ). z ≤ℤ d) same.first inside.from;
   to = subst (λ (z : ℤ). d ≤ℤ z) same.last inside.to;
 }
 
+-- sets that say the same of each day do so in either order
 pub turned : (s t : DaySet) → SameDays s t → SameDays t s
 turned s t same = record {
   first = sym same.first;
@@ -34,12 +36,14 @@ turned s t same = record {
       to = subst (λ (z : ℤ). d ≤ℤ z) (sym same.last) inside.to;
     }
 
+-- alike sets have the same business days
 pub same_good : (s t : DaySet) (d : ℤ) → SameDays s t → IsGood s d → IsGood t d
 same_good s t d same good = record {
   inside = same_cover s t d same good.inside;
   passes = sym (same.test d good.inside) ∙ good.passes;
 }
 
+-- alike sets have the same next business day
 pub same_next : (s t : DaySet) (d r : ℤ) → SameDays s t → Next s d r → Next t d r
 same_next s t d r same next = record {
   starts = same_cover s t d same next.starts;
@@ -48,6 +52,7 @@ same_next s t d r same next = record {
   none_before = λ x low high g. next.none_before x low high (same_good t s x (turned s t same) g);
 }
 
+-- alike sets have the same previous business day
 pub same_prev : (s t : DaySet) (d r : ℤ) → SameDays s t → Prev s d r → Prev t d r
 same_prev s t d r same prev = record {
   starts = same_cover s t d same prev.starts;

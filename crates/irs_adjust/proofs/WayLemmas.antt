@@ -1,4 +1,4 @@
--- Good days on one side of a day, in the same way on both sides.
+-- Business days on one side of a day, in the same way on both sides.
 use Rattle.std.proofs.Common.{◌≡◌, inl, inr, ℕ, zero, suc, ◌+◌, ◌-◌, ◌<◌, ◌≤◌, arith, refl, sym, ◌∙◌, ap, subst, ℤ}
 use Rattle.std.proofs.Common.{pos, ◌+ℤ◌, ◌-ℤ◌, ◌≤ℤ◌, Bool, true, false}
 use Rattle.jiff_core.proofs.SignedLemmas.{signed_arith}
@@ -12,14 +12,17 @@ use Rattle.irs_adjust.specs.Ways.{away, IsNextOn, good_days, MovesOn}
 
 -- the facts on which the sides differ
 
+-- no days away from a day is the day itself
 pub away_here : (way : Way) (d : ℤ) → away way d 0 ≡ d
 away_here Ahead d = omega (arith, signed_arith)
 away_here Back d = omega (arith, signed_arith)
 
+-- steps in one direction add up
 pub away_on : (way : Way) (d : ℤ) (a b : ℕ) → away way (away way d a) b ≡ away way d (a + b)
 away_on Ahead d a b = omega (arith, signed_arith)
 away_on Back d a b = omega (arith, signed_arith)
 
+-- days between two days of the cover lie in it
 pub between : (way : Way) (s : DaySet) (d : ℤ) (a b : ℕ) → a ≤ b → InCover s d → InCover s (away way d b)
     → InCover s (away way d a)
 between Ahead s d a b h near far =
@@ -27,7 +30,7 @@ between Ahead s d a b h near far =
 between Back s d a b h near far =
     record { from = omega (arith, signed_arith, far.from, h); to = omega (arith, signed_arith, near.to) }
 
--- y is good and lies behind the days next to x of which none is good
+-- y is the first business day after x on that side: none of the days between is one
 pub record Gap (way : Way) (s : DaySet) (x y : ℤ) : Type 0 where
   pub starts : InCover s (away way x 1)
   pub span : ℕ
@@ -38,6 +41,7 @@ pub record Gap (way : Way) (s : DaySet) (x y : ℤ) : Type 0 where
 apart : (a b : ℤ) → a ≤ℤ b → (n : ℕ) × (b ≡ a +ℤ pos n)
 apart a b h = (up b + down a - (down b + up a), omega (arith, signed_arith, h))
 
+-- between a day and the nearest business day on that side there is none
 pub gap_of : (way : Way) (s : DaySet) (x y : ℤ) → IsNextOn way s x y → Gap way s x y
 gap_of Ahead s x y next =
     let n = apart (x +ℤ pos 1) y next.after in
@@ -60,6 +64,7 @@ gap_of Back s x y prev =
           (omega (arith, signed_arith)) g;
     }
 
+-- the first business day after others on that side is the nearest one
 pub next_of : (way : Way) (s : DaySet) (x y : ℤ) → Gap way s x y → IsNextOn way s x y
 next_of Ahead s x y gap = record {
   starts = gap.starts;
@@ -80,7 +85,7 @@ next_of Back s x y gap = record {
       gap.none n.0 (omega (arith, signed_arith, e, gap.is, low)) (subst (IsGood s) e g);
 }
 
--- counts of good days
+-- counts of business days
 
 -- the count over two stretches is the sum of theirs
 pub good_days-add : (way : Way) (s : DaySet) (d : ℤ) (a b : ℕ)
@@ -106,7 +111,7 @@ not_good s x inside bad = elim (cases_Bool (s.test x)) [
   | inr fails ↦ fails
 ]
 
--- up to the nearest good day there is one
+-- up to the nearest business day there is one
 one_counted : (way : Way) (s : DaySet) (x y : ℤ) (gap : Gap way s x y) → InCover s x
     → good_days way s x (suc gap.span) ≡ 1
 one_counted way s x y gap here =
@@ -145,7 +150,7 @@ first_place t (suc n) holds = elim (cases_Bool (t 0)) [
     below t k fails rest zero h = fails
     below t k fails rest (suc j) h = rest j (omega (arith, h))
 
--- x is d, or lies on that side of it with n good days on the way
+-- x is d, or lies on that side of it with n business days on the way
 pub record Reached (way : Way) (s : DaySet) (d : ℤ) (n : ℕ) (x : ℤ) : Type 0 where
   pub starts : InCover s d
   pub inside : InCover s x
@@ -153,6 +158,7 @@ pub record Reached (way : Way) (s : DaySet) (d : ℤ) (n : ℕ) (x : ℤ) : Type
   pub is : x ≡ away way d span
   pub count : good_days way s d span ≡ n
 
+-- before any step the day itself is reached
 pub reached_none : (way : Way) (s : DaySet) (d : ℤ) → InCover s d → Reached way s d 0 d
 reached_none way s d starts = record {
   starts = starts;
@@ -162,6 +168,7 @@ reached_none way s d starts = record {
   count = refl;
 }
 
+-- from the n-th business day the nearest one on that side is the next in number
 pub reached_more : (way : Way) (s : DaySet) (d : ℤ) (n : ℕ) (x y : ℤ) → Reached way s d n x → IsNextOn way s x y
     → Reached way s d (suc n) y
 reached_more way s d n x y r next =
@@ -178,6 +185,7 @@ reached_more way s d n x y r next =
       count = omega (arith, good_days-add way s d r.span (suc gap.span), one', r.count);
     }
 
+-- a business day that is reached after n business days is the n-th
 pub moved : (way : Way) (s : DaySet) (d : ℤ) (n : ℕ) (x : ℤ) → 0 < n → Reached way s d n x → IsGood s x
     → MovesOn way s d n x
 moved way s d n x some r good = from_span r.span refl
@@ -195,7 +203,7 @@ moved way s d n x some r good = from_span r.span refl
       count = subst (λ (i : ℕ). good_days way s d i ≡ n) (sym e) r.count;
     }
 
--- where a good day stands on that side, there is a nearest one
+-- where a business day lies on that side, there is a nearest one
 exists_next : (way : Way) (s : DaySet) (x r : ℤ) (n : ℕ) → InCover s x → r ≡ away way x (suc n) → IsGood s r
     → (y : ℤ) × IsNextOn way s x y
 exists_next way s x r n here is good =
@@ -215,7 +223,7 @@ exists_next way s x r n here is good =
     differ : (b : Bool) → b ≡ true → b ≡ false → ⊥
     differ b t f = cc (t, f)
 
--- where there is no next good day, no more of them can be counted
+-- where there is no next business day, no more of them can be counted
 pub none_moved : (way : Way) (s : DaySet) (d : ℤ) (n more : ℕ) (x : ℤ) → n < more → Reached way s d n x
     → ((y : ℤ) → IsNextOn way s x y → ⊥) → (r : ℤ) → MovesOn way s d more r → ⊥
 none_moved way s d n more x fewer reached none r m = elim (cases_lt reached.span (suc m.span)) [
@@ -254,7 +262,7 @@ no_two way s d n p q below first second hit =
     (good_days-add way s d (suc p) (suc m)) in
     omega (arith, sum, one, first, second)
 
--- the n-th good day on one side is one day
+-- the n-th business day on one side is one day
 pub one_moves : (way : Way) (s : DaySet) (d : ℤ) (n : ℕ) (r t : ℤ) → MovesOn way s d n r → MovesOn way s d n t → r ≡ t
 one_moves way s d n r t a b = elim (cases_lt a.span b.span) [
   | inl low ↦ absurd (no_two way s d n a.span b.span low a.count b.count

@@ -1,4 +1,4 @@
--- A day has at most one adjusted day, and a good day stays.
+-- A day has at most one adjusted day, and a business day stays.
 use Rattle.std.proofs.Common.{◌≡◌, ◌⊎◌, inl, inr, arith, refl, sym, ◌∙◌, subst, ℤ, ◌<ℤ◌}
 use Rattle.jiff_core.proofs.SignedLemmas.{signed_arith}
 use Rattle.irs_base.specs.Days.{IsDay}
@@ -9,9 +9,11 @@ use Rattle.irs_adjust.specs.Conventions.{SameMonth, ModFollows, ModPrecedes, Goe
 cases_order : (a b : ℤ) → (a <ℤ b) ⊎ ((b <ℤ a) ⊎ (a ≡ b))
 cases_order a b = grind (arith, signed_arith)
 
+-- two days that are the same as a third are the same
 pub one_same : (d r t : ℤ) → r ≡ d → t ≡ d → r ≡ t
 one_same d r t a b = a ∙ sym b
 
+-- a day has at most one next business day
 pub one_next : (s : DaySet) (d r t : ℤ) → Next s d r → Next s d t → r ≡ t
 one_next s d r t a b = elim (cases_order r t) [
   | inl low ↦ absurd (b.none_before r a.after low a.good)
@@ -21,6 +23,7 @@ one_next s d r t a b = elim (cases_order r t) [
   ]
 ]
 
+-- a day has at most one previous business day
 pub one_prev : (s : DaySet) (d r t : ℤ) → Prev s d r → Prev s d t → r ≡ t
 one_prev s d r t a b = elim (cases_order r t) [
   | inl low ↦ absurd (a.none_after t low b.before b.good)
@@ -30,6 +33,7 @@ one_prev s d r t a b = elim (cases_order r t) [
   ]
 ]
 
+-- a business day is its own next one
 pub next_stays : (s : DaySet) (d : ℤ) → IsGood s d → Next s d d
 next_stays s d good = record {
   starts = good.inside;
@@ -38,6 +42,7 @@ next_stays s d good = record {
   none_before = λ x low high g. absurd (omega (arith, signed_arith, low, high));
 }
 
+-- a business day is its own previous one
 pub prev_stays : (s : DaySet) (d : ℤ) → IsGood s d → Prev s d d
 prev_stays s d good = record {
   starts = good.inside;
@@ -49,6 +54,7 @@ prev_stays s d good = record {
 own_month : (d : ℤ) → IsDay d → SameMonth d d
 own_month d day = let m = has_month d day in record { month = m.0; of_first = m.1; of_second = m.1 }
 
+-- MODFOLLOWING gives at most one day
 pub one_modfollows : (s : DaySet) (d r t : ℤ) → ModFollows s d r → ModFollows s d t → r ≡ t
 one_modfollows s d r t a b =
     let f = one_next s d a.following b.following a.next b.next in
@@ -63,10 +69,12 @@ one_modfollows s d r t a b =
       ]
     ]
 
+-- MODFOLLOWING leaves a business day
 pub modfollows_stays : (s : DaySet) (d : ℤ) → IsDay d → IsGood s d → ModFollows s d d
 modfollows_stays s d day good =
     record { following = d; next = next_stays s d good; choice = inl (own_month d day, refl) }
 
+-- MODPRECEDING gives at most one day
 pub one_modprecedes : (s : DaySet) (d r t : ℤ) → ModPrecedes s d r → ModPrecedes s d t → r ≡ t
 one_modprecedes s d r t a b =
     let p = one_prev s d a.preceding b.preceding a.prev b.prev in
@@ -81,10 +89,12 @@ one_modprecedes s d r t a b =
       ]
     ]
 
+-- MODPRECEDING leaves a business day
 pub modprecedes_stays : (s : DaySet) (d : ℤ) → IsDay d → IsGood s d → ModPrecedes s d d
 modprecedes_stays s d day good =
     record { preceding = d; prev = prev_stays s d good; choice = inl (own_month d day, refl) }
 
+-- NEAREST gives at most one day
 pub one_nearest : (s : DaySet) (d r t : ℤ) → GoesNearest s d r → GoesNearest s d t → r ≡ t
 one_nearest s d r t a b = elim a.choice [
   | inl here ↦ elim b.choice [
@@ -100,5 +110,6 @@ one_nearest s d r t a b = elim a.choice [
   ]
 ]
 
+-- NEAREST leaves a business day
 pub nearest_stays : (s : DaySet) (d : ℤ) → IsGood s d → GoesNearest s d d
 nearest_stays s d good = record { inside = good.inside; choice = inl (good, refl) }

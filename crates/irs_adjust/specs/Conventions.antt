@@ -26,7 +26,7 @@ pub record ModPrecedes (s : DaySet) (d r : ℤ) : Type 0 where
 abbrev pub IsSundayOrMonday : ℤ → Type 0
 IsSundayOrMonday d = (weekday_at d ≡ 6) ⊎ (weekday_at d ≡ 0)
 
--- NEAREST: a good day stays; of the others a Sunday or a Monday goes on, and any other day goes back
+-- NEAREST: a business day stays; of the others a Sunday or a Monday goes on, and any other day goes back
 pub record GoesNearest (s : DaySet) (d r : ℤ) : Type 0 where
   pub inside : InCover s d
   pub choice : (IsGood s d × (r ≡ d))

@@ -8,7 +8,7 @@ use Rattle.irs_calendar.specs.GoodDays.{DaySet}
 use Rattle.irs_adjust.specs.declared.ways.Way.TheVariants.{Ahead, Back}
 use Rattle.irs_adjust.specs.Ways.{MovesOn}
 
--- r is the n-th good day after d, or before it where n is negative
+-- r is the n-th business day after d, or before it where n is negative
 abbrev pub MovesBusiness : ℤ → DaySet → ℤ → ℤ → Type 0
 MovesBusiness (pos n) s d r = MovesOn Ahead s d n r
 MovesBusiness (negsuc n) s d r = MovesOn Back s d (suc n) r

@@ -1,4 +1,4 @@
--- Good days that are counted on one side of a day.
+-- Business days that are counted on one side of a day.
 use Rattle.std.specs.Prelude.{◌≡◌, ℕ, zero, suc, ◌+◌, ℤ, pos, ◌+ℤ◌, ◌-ℤ◌, if◌then◌else◌}
 use Rattle.irs_adjust.specs.declared.ways.Way.{Way}
 use Rattle.irs_adjust.specs.declared.ways.Way.TheVariants.{Ahead, Back}
@@ -9,7 +9,7 @@ abbrev pub away : Way → ℤ → ℕ → ℤ
 away Ahead d n = d +ℤ pos n
 away Back d n = d -ℤ pos n
 
--- r is the good day nearest to d on that side, d left out
+-- r is the business day nearest to d on that side, d left out
 abbrev pub IsNextOn : Way → DaySet → ℤ → ℤ → Type 0
 IsNextOn Ahead s d r = Next s (d +ℤ pos 1) r
 IsNextOn Back s d r = Prev s (d -ℤ pos 1) r
@@ -19,7 +19,8 @@ abbrev pub good_days : Way → DaySet → ℤ → ℕ → ℕ
 good_days way s d zero = 0
 good_days way s d (suc n) = good_days way s d n + (if s.test (away way d (suc n)) then 1 else 0)
 
--- d and r lie in the cover, r is good and on that side of d, and of the days from d, left out, to r exactly n are good
+-- d and r lie in the cover, and r is a business day on that side of d. Of the days from d, left out, to r exactly n are
+-- business days
 pub record MovesOn (way : Way) (s : DaySet) (d : ℤ) (n : ℕ) (r : ℤ) : Type 0 where
   pub starts : InCover s d
   pub good : IsGood s r

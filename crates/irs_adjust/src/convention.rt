@@ -8,7 +8,8 @@ use irs_calendar::GoodDays;
 
 /// A business day convention (2006 ISDA Definitions, section 4.12; FpML `businessDayConvention`).
 ///
-/// What every implementation keeps: a day has at most one adjusted day, and a good day stays.
+/// What every implementation keeps: a day has at most one adjusted day, and a business day stays as
+/// it is.
 pub trait Convention {
     /// r is the adjusted day of d.
     ghost adjusts: { Self → DaySet → ℤ → ℤ → Type 0 };

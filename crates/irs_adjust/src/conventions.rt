@@ -1,8 +1,8 @@
 //! The six business day conventions.
 //!
 //! FOLLOWING, MODFOLLOWING and PRECEDING are those of the 2006 ISDA Definitions, section 4.12.
-//! MODPRECEDING, NEAREST and NONE are rules of this project's own: MODPRECEDING is the mirror of
-//! MODFOLLOWING, NEAREST goes by the day of the week, and NONE leaves the day as it is.
+//! MODPRECEDING, NEAREST and NONE are our rules. MODPRECEDING is the mirror of MODFOLLOWING,
+//! NEAREST depends on the day of the week, and NONE leaves the day as it is.
 ghost use Rattle.std.specs.Prelude.{◌≡◌, refl};
 ghost use Rattle.irs_calendar.specs.GoodDays.{Next, Prev};
 ghost use Rattle.irs_adjust.specs.Conventions.{ModFollows, ModPrecedes, GoesNearest};
@@ -15,7 +15,7 @@ use crate::months::in_same_month;
 use irs_base::{Day, DayName, weekday};
 use irs_calendar::GoodDays;
 
-/// FOLLOWING: the first good day at or after the day.
+/// FOLLOWING: the first business day at or after the day.
 #[derive(Clone, Copy)]
 pub struct Following;
 
@@ -24,7 +24,7 @@ pub struct Following;
 #[derive(Clone, Copy)]
 pub struct ModFollowing;
 
-/// PRECEDING: the last good day at or before the day.
+/// PRECEDING: the last business day at or before the day.
 #[derive(Clone, Copy)]
 pub struct Preceding;
 
@@ -33,7 +33,7 @@ pub struct Preceding;
 #[derive(Clone, Copy)]
 pub struct ModPreceding;
 
-/// NEAREST: a good day of the cover stays; a Sunday or a Monday that isn't good goes to the
+/// NEAREST: a business day of the cover stays. A Sunday or a Monday that isn't one goes to the
 /// FOLLOWING day, any other such day to the PRECEDING day. How far these are doesn't count.
 #[derive(Clone, Copy)]
 pub struct Nearest;

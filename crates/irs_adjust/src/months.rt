@@ -13,8 +13,8 @@ pub fn in_same_month(a: Day, b: Day) -> bool
     a.number() == b.number() || is_in_month_of(a, b)
 }
 
-// Whether b lies in the month of a: the days between them, counted from the place of a in its month,
-// lead to no place outside it.
+// Whether b lies in the month of a. The days between them are added to the place of a in its month,
+// and lead to a place in it.
 fn is_in_month_of(a: Day, b: Day) -> bool
     ensures { IsTrue result ↔ SameMonth a b }
 {

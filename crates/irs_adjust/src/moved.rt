@@ -1,6 +1,6 @@
-//! A day that is moved by an offset and then adjusted, as a payment date is (FpML
-//! `paymentDaysOffset`, `paymentDatesAdjustments`) and a fixing date (FpML `fixingDates`). This order
-//! of the two steps is this project's own.
+//! A day that is moved by an offset and then adjusted. A payment date is one (FpML
+//! `paymentDaysOffset`, `paymentDatesAdjustments`), and so is a fixing date (FpML `fixingDates`).
+//! The order of the two steps is our rule.
 ghost use Rattle.std.specs.Prelude.{◌≡◌, ◌⊎◌, ℤ, IfOk, IsErrOf};
 ghost use Rattle.irs_adjust.specs.MovedDays.{MovesAndAdjusts, LacksResult, LeavesRange, no_move_of};
 ghost use Rattle.irs_terms.specs.DayTypes.{IsSaid};
@@ -20,8 +20,8 @@ pub enum NoDate {
     OutOfRange,
 }
 
-/// The start moved by the offset and then adjusted by the convention, over the good days of `days`,
-/// or why there is no such date. No memory is taken.
+/// The start moved by the offset and then adjusted by the convention, over the business days of
+/// `days`, or why there is no such date. No memory is taken.
 pub fn move_and_adjust<G: GoodDays>(
     offset: Offset,
     code: ConvCode,

@@ -1,4 +1,4 @@
-//! Offsets of days: a number of calendar days, or of good days.
+//! Offsets of days: a number of calendar days, or of business days.
 ghost use Rattle.std.specs.Prelude.{◌≡◌, ◌⊎◌, ℤ, pos, IfSome, IfNone};
 ghost use Rattle.irs_terms.specs.declared.codes.DayKind.TheVariants.{Unsaid};
 ghost use Rattle.irs_adjust.specs.Offsets.{Moves, MovesBusiness, MovesDays};
@@ -11,9 +11,9 @@ use irs_terms::{DayKind, Offset};
 /// The day moved by the offset (FpML `periodMultiplier` and `dayType` of an offset in days); `None`
 /// exactly where there is none. No memory is taken.
 ///
-/// An offset of 0 leaves the day. A Business offset n takes the n-th good day strictly after the
-/// day (n above 0) or before it (n below 0), all days from the day to the result lying in the
-/// cover. A Calendar offset adds n days, which must stay in the range of dates.
+/// An offset of 0 leaves the day. A Business offset n takes the n-th business day strictly after
+/// the day (n above 0) or before it (n below 0). All days from the day to the result have to lie in
+/// the cover. A Calendar offset adds n days, which must stay in the range of dates.
 pub fn move_by<G: GoodDays>(off: Offset, g: &G, d: Day) -> Option<Day>
     // The days are 0, or their kind is said.
     requires { (off.days ≡ pos 0) ⊎ (off.kind ≡ Unsaid → ⊥) }

@@ -1,7 +1,7 @@
-//! One good day after another, ahead or back.
+//! One business day after another, ahead or back.
 //!
-//! A Business offset goes from a day to the n-th good day on one side of it. Both sides are walked
-//! in the same way, so there is one loop.
+//! A Business offset goes from a day to the n-th business day on one side of it. Both sides are
+//! walked in the same way, so there is one loop.
 ghost use Rattle.std.specs.Prelude.{◌<◌, ℤ, IfSome, IfNone};
 ghost use Rattle.irs_base.specs.Days.{IsDay};
 ghost use Rattle.irs_calendar.specs.GoodDays.{InCover};
@@ -10,7 +10,7 @@ ghost use Rattle.irs_adjust.specs.Ways.{IsNextOn, MovesOn};
 use irs_base::{Day, plus};
 use irs_calendar::GoodDays;
 
-/// The side on which good days are counted.
+/// The side on which business days are counted.
 #[derive(Clone, Copy, PartialEq, Eq)]
 pub enum Way {
     /// After the day.
@@ -19,7 +19,7 @@ pub enum Way {
     Back,
 }
 
-/// The good day nearest to the day on that side, the day itself left out.
+/// The business day nearest to the day on that side, the day itself left out.
 fn step<G: GoodDays>(way: Way, g: &G, d: Day) -> Option<Day>
     requires { (x : ℤ) → InCover (G.days g.now) x → IsDay x }
     ensures some { IfSome result (IsNextOn way (G.days g.now) d) }
@@ -31,7 +31,7 @@ fn step<G: GoodDays>(way: Way, g: &G, d: Day) -> Option<Day>
     }
 }
 
-/// The n-th good day on that side; `None` exactly where there is none in the cover.
+/// The n-th business day on that side; `None` exactly where there is none in the cover.
 pub fn walk<G: GoodDays>(way: Way, g: &G, d: Day, n: u32) -> Option<Day>
     requires { 0 < n }
     ensures some { IfSome result (MovesOn way (G.days g.now) d n) }

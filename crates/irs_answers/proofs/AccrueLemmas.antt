@@ -18,6 +18,7 @@ one_accrued d k (p ∷ ps) x y h i =
     i.2.2 ∙ ap (λ (z : Accrual). accrual_text k z ++ i.2.0) a ∙ ap (λ (z : List ℕ). accrual_text k h.0 ++ z) r
     ∙ sym h.2.2
 
+-- a schedule has one text of what has accrued on a day
 pub one_page : (d : ℤ) (ps : List Part) (x y : List ℕ) → TellsAccrued d ps x → TellsAccrued d ps y → x ≡ y
 one_page d ps x y h k = h.2 ∙ ap (λ (l : List ℕ). accrued_page d l) (one_accrued d 1 ps k.0 h.0 k.1 h.1) ∙ sym k.2
 

@@ -44,9 +44,11 @@ module _ (v : Data) (bytes new : List ℕ) (from : MeansXml v) (text : has_float
   same : bytes ≡ compact_text v
   same = text (built_floatless 127 v built)
 
+  -- the line is the text of the value and its end
   pub line_is : new ≡ carrier_text v
   line_is = e ∙ ap (λ (t : List ℕ). t ++ LF) same
 
+  -- the line reads as the value
   pub line_reads : (depth v ≤ max_depth → read bytes ≡ Some v) → IsUtf8 bytes → Reads new v
   line_reads back utf8 =
       let deep = built_depth 127 v built in
@@ -56,6 +58,7 @@ module _ (v : Data) (bytes new : List ℕ) (from : MeansXml v) (text : has_float
 
 -- ---- an error of the reader
 
+-- an error of the reader of XML says that the bytes mean nothing
 pub no_reading : {A : Type 0} (r : Result A ReadErr) (e : XmlErr) (bytes : List ℕ) → IsErr r
     → IsErrAnd r (λ x. x ≡ of_xml e) → ReadsNone bytes e → r ≡ Err reading.Unreadable → (d : Data) → XmlReads bytes d
     → ⊥
@@ -65,9 +68,11 @@ no_reading (Err x) xml.Memory bytes h k none is d reads = absurd (cc)
 
 -- ---- what a carrier comes to
 
+-- status and text are due for the bytes, and at status 0 the text reads back
 abbrev pub Carries : List ℕ → ℕ → List ℕ → Type 0
 Carries bytes status text = Ends (DueCarrier bytes) status text × (status ≡ 0 → ReadsBack bytes text)
 
+-- bytes that mean nothing are refused
 pub refuse_carrier : (bytes : List ℕ) (e : ReadErr) → (e ≡ reading.Unreadable → (v : Data) → XmlReads bytes v → ⊥)
     → IfRefused (of_read e) (Carries bytes)
 refuse_carrier bytes reading.Unreadable h =
@@ -80,6 +85,7 @@ refuse_carrier bytes reading.Unreadable h =
     )
 refuse_carrier bytes reading.Memory h = tt
 
+-- the text of the value is due
 pub carries : (bytes text : List ℕ) (v : Data) → XmlReads bytes v → text ≡ carrier_text v → Reads text v
     → Carries bytes 0 text
 carries bytes text v is e back = (

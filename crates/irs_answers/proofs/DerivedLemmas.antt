@@ -50,6 +50,7 @@ use Rattle.irs_answers.proofs.StepLemmas.{broken, kept, read, unread}
 same_leg : (f g : FloatTerms) → (let l : Leg = Floating f in l ≡ Floating g) → f ≡ g
 same_leg f g e = cc
 
+-- a number names one floating stream
 pub one_floating : (swap : Swap) (n : ℕ) (x y : FloatingStream) → IsFloatingAt swap n x → IsFloatingAt swap n y → y ≡ x
 one_floating swap n x y h k =
     let s : y.stream ≡ x.stream = same_Some y.stream x.stream (sym k.at ∙ h.at) in
@@ -58,15 +59,19 @@ one_floating swap n x y h k =
 
 module _ (swap : Swap) (cal : List Section) (parts : List Part) (h : IsUnfixed swap cal parts) (n : ℕ)
     (x : FloatingStream) (k : IsFloatingAt swap n x) where
+  -- the stream is lawful
   pub stream_lawful : IsLawfulStream x.stream
   stream_lawful = lawful_stream swap h.lawful _ x.stream k.at
 
+  -- its terms keep the rules
   pub stream_kept : TermsKept cal x.stream
   stream_kept = terms_kept swap cal h.lawful h.terms _ x.stream k.at
 
+  -- its floating leg is lawful
   pub float_lawful : IsLawfulFloat x.float
   float_lawful = subst IsLawfulLeg k.pays stream_lawful.leg
 
+  -- what is asked of daily rates is lawful
   pub overnight_asked : (days : DaySet) (rates : RateTable) → days ≡ reset_days cal x.stream
       → IsAsked (asked swap n parts days rates)
   overnight_asked days rates e = record {
@@ -79,6 +84,7 @@ module _ (swap : Swap) (cal : List Section) (parts : List Part) (h : IsUnfixed s
     reset_set = e;
   }
 
+  -- what is asked of a stub is lawful
   pub stub_is_asked : (side : Side) (low high : Frequency) (rates : RateTable) → IsLawfulTenor low → IsLawfulTenor high
       → IsStubAsked (stub_asked swap n side low high parts rates)
   stub_is_asked side low high rates l m = record {
@@ -115,14 +121,17 @@ module _ (swap : Swap) (n : ℕ) (Next : FloatingStream → ℕ → List ℕ →
         read (IsFloatingAt swap n) (NotFloating n status text) (λ y. Next y status text) x k
         (λ y other. subst (λ (z : FloatingStream). Next z status text) (sym (one_floating swap n x y k other)) h)
 
+    -- a broken rule of the task is refused
     pub refuse_broken : (b : Broken) → Next x 2 (refused b) → IfRefused (Rule b) (Ends Whole)
     refuse_broken b h = record { due = in_floating 2 (refused b) h; verdict = omega arith }
 
+    -- an error of the task is refused
     pub refuse_stopped : (P : Broken → Type 0) (e : Stopped Broken) → IfStopped e P
         → ((b : Broken) → P b → Next x 2 (refused b)) → IfRefused (of_stopped e) (Ends Whole)
     refuse_stopped P (stopped.Broken b) h due = refuse_broken b (due b h)
     refuse_stopped P stopped.Memory h due = tt
 
+    -- the text of the task is due
     pub ends_done : (text : List ℕ) → Next x 0 text → Ends Whole 0 text
     ends_done text h = record { due = in_floating 0 text h; verdict = omega arith }
 
@@ -149,12 +158,14 @@ due_printed K F P float rows keeps are one =
       (refl, refl),
     )
 
+-- the first broken rule of compounded rates is due
 pub compounded_first : (a : Asked) (float : FloatTerms) (b : Broken) → IsFirstDerived a b
     → ((x y : Broken) → IsFirstDerived a x → IsFirstDerived a y → x ≡ y) → DueCompounded a float 2 (refused b)
 compounded_first a float b first one =
     due_first (OvernightKept a) (IsFirstDerived a) (PrintsOne (IsOvernight a) float 2 (refused b)) b
     (λ k f. k f.fault f.first.0) first one
 
+-- compounded rates are due
 pub compounded_rows : (a : Asked) (float : FloatTerms) (rows : List DerivedRow) → OvernightKept a → IsOvernight a rows
     → ((x y : List DerivedRow) → IsOvernight a x → IsOvernight a y → x ≡ y)
     → DueCompounded a float 0 (file_text rows float.tenor float.index)
@@ -162,12 +173,14 @@ compounded_rows a float rows keeps are one =
     due_printed (OvernightKept a) (Refuses (IsFirstDerived a) 0 (file_text rows float.tenor float.index))
     (IsOvernight a) float rows keeps are one
 
+-- the first broken rule of averages is due
 pub averaged_first : (a : AverageAsked) (float : FloatTerms) (b : Broken) → IsFirstOfAverage a b
     → ((x y : Broken) → IsFirstOfAverage a x → IsFirstOfAverage a y → x ≡ y) → DueAveraged a float 2 (refused b)
 averaged_first a float b first one =
     due_first (AverageKept a) (IsFirstOfAverage a) (PrintsOne (IsAverage a) float 2 (refused b)) b
     (λ k f. k f.fault f.first.0) first one
 
+-- averages are due
 pub averaged_rows : (a : AverageAsked) (float : FloatTerms) (rows : List DerivedRow) → AverageKept a → IsAverage a rows
     → ((x y : List DerivedRow) → IsAverage a x → IsAverage a y → x ≡ y)
     → DueAveraged a float 0 (file_text rows float.tenor float.index)
@@ -175,11 +188,13 @@ averaged_rows a float rows keeps are one =
     due_printed (AverageKept a) (Refuses (IsFirstOfAverage a) 0 (file_text rows float.tenor float.index))
     (IsAverage a) float rows keeps are one
 
+-- a broken rule of a stub is due
 pub stub_broken : (a : StubAsked) (b : Broken) → IsStubBroken a b
     → ((x y : Broken) → IsStubBroken a x → IsStubBroken a y → x ≡ y) → DueStub a 2 (refused b)
 stub_broken a b first one =
     due_first (StubKept a) (IsStubBroken a) (PrintsStub a 2 (refused b)) b (λ k f. k f.fault f.breaks) first one
 
+-- the rate of a stub is due
 pub stub_printed : (a : StubAsked) (row : DerivedRow) (index : List ℕ) (tenor : Option Frequency) → StubKept a
     → IsInterpolated a row → ((x y : DerivedRow) → IsInterpolated a x → IsInterpolated a y → x ≡ y)
     → GivesIndex a.swap a.number a.side index tenor → DueStub a 0 (file_text (row ∷ []) tenor index)
@@ -213,6 +228,7 @@ stub_short swap n side index tenor lawful gives =
 pub floats_by : (swap : Swap) (n : ℕ) (x : FloatingStream) → IsFloatingAt swap n x → Floats swap n
 floats_by swap n x k = (x.float, record { from_one = k.from_one; stream = x.stream; at = k.at; pays = k.pays })
 
+-- a number of a floating stream names one
 pub stream_by : (swap : Swap) (n : ℕ) → Floats swap n → (x : FloatingStream) × IsFloatingAt swap n x
 stream_by swap n f =
     (record { stream = f.1.stream; float = f.0 }, record { from_one = f.1.from_one; at = f.1.at; pays = f.1.pays })

@@ -54,6 +54,7 @@ module _ (t u : RateTable) (e : SameRates t u) (swap : Swap) (cal : List Section
       (overnight_first t u e swap n parts days) (overnight_first u t back swap n parts days)
       (overnight_same t u e swap n parts days) (overnight_same u t back swap n parts days) h
 
+  -- what is due for compounded rates depends on the rates alone
   pub overnight_due : (n : ℕ) → DueOvernight n swap cal t parts status text
       → DueOvernight n swap cal u parts status text
   overnight_due n h =
@@ -75,6 +76,7 @@ module _ (t u : RateTable) (e : SameRates t u) (swap : Swap) (cal : List Section
       (average_first t u e swap n parts days kind step) (average_first u t back swap n parts days kind step)
       (average_same t u e swap n parts days kind step) (average_same u t back swap n parts days kind step) h
 
+  -- what is due for averages depends on the rates alone
   pub average_due : (n : ℕ) (kind : Mean) (step : ℕ) → DueAverage n kind step swap cal t parts status text
       → DueAverage n kind step swap cal u parts status text
   average_due n kind step h =
@@ -103,6 +105,7 @@ module _ (t u : RateTable) (e : SameRates t u) (swap : Swap) (parts : List Part)
         k.2,
       )) h
 
+  -- what is due for a stub depends on the rates alone
   pub interpolate_due : (n : ℕ) (side : Side) (low high : Frequency)
       → DueInterpolate n side low high swap t parts status text
       → DueInterpolate n side low high swap u parts status text

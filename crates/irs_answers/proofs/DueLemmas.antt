@@ -68,12 +68,14 @@ one_as : (form : Form) (bytes : List ℕ) (v w : Data) → ReadsAs form bytes v 
 one_as Json bytes v w h k = same_Some w v (sym k.1 ∙ h.1)
 one_as Xml bytes v w h k = reads_one bytes w v k h
 
+-- a text has one reading
 pub one_reading : (t : SourceText) (v w : Data) → TextReads t v → TextReads t w → w ≡ v
 one_reading t v w h k = one_as t.form t.bytes v w h k
 
 same_ok : {A E : Type 0} (x y : A) → (let r : Result A E = Ok x in r ≡ Ok y) → x ≡ y
 same_ok x y e = cc
 
+-- a value means one swap
 pub one_meaning : (v : Data) (s t : Swap) → Means v s → Means v t → t ≡ s
 one_meaning v s t h k =
     let at : k.at ≡ h.at = same_ok k.at h.at (sym k.found ∙ h.found) in
@@ -114,15 +116,18 @@ sides_first : (b : Bool) (v : Data) (x y : Broken) → BreaksSidesIf b v x → B
 sides_first true v x y h k = one_first (BreaksK8Of v) x y h k
 sides_first false v x y h k = absurd h
 
+-- files spell one list of sections
 pub one_calendars : (files : List (List ℕ)) (s t : List Section) → CalFiles files s → CalFiles files t → t ≡ s
 one_calendars files s t h k = same_ok t s (sym (spelt_is_read files t k) ∙ spelt_is_read files s h)
 
+-- a file gives one set of rates
 pub one_fixings : (o : Option (List ℕ)) (t u : RateTable) → AreFixings o t → AreFixings o u → SameRates t u
 one_fixings None t u h k = λ index slot. rw (h, k) refl
 one_fixings (Some bytes) t u h k = same_file bytes t u h k
 
 -- ---- rates that can't be told apart
 
+-- the rates that a task uses are the same if the rates are
 pub same_if : (b : Bool) (t u : RateTable) → SameRates t u → SameRates (if b then t else []) (if b then u else [])
 same_if true t u e = e
 same_if false t u e = λ index slot. refl
@@ -195,11 +200,13 @@ module _ (t : Task) (g : Given) (swap : Swap) (sides : Option Sides) (cal : List
 -- ---- each step that is passed
 
 module _ (t : Task) (g : Given) (status : ℕ) (text : List ℕ) where
+  -- what is due for the reading is due
   pub in_text : (v : Data) → TextReads g.document v → DueDocument t g v status text → DueFor t g status text
   in_text v is h =
       read (TextReads g.document) (Is 2 (refused unreadable) status text) (λ w. DueDocument t g w status text) v is
       (λ w other. subst (λ (x : Data). DueDocument t g x status text) (sym (one_reading g.document v w is other)) h)
 
+  -- what is due for the swap is due for its value
   pub in_swap : (v : Data) (swap : Swap) → Means v swap → DueSides t g v swap status text
       → DueDocument t g v status text
   in_swap v swap is h =
@@ -207,6 +214,7 @@ module _ (t : Task) (g : Given) (status : ℕ) (text : List ℕ) where
       (λ w. DueSides t g v w status text) swap is
       (λ w other. subst (λ (x : Swap). DueSides t g v x status text) (sym (one_meaning v swap w is other)) h)
 
+  -- what is due for the sides is due for the swap
   pub in_sides : (v : Data) (swap : Swap) (sides : Option Sides) → HasSides t v sides
       → DueCalendars t g swap sides status text → DueSides t g v swap status text
   in_sides v swap sides is h =
@@ -214,11 +222,13 @@ module _ (t : Task) (g : Given) (status : ℕ) (text : List ℕ) where
       (λ o other. subst (λ (x : Option Sides). DueCalendars t g swap x status text)
       (sym (one_sided t v sides o is other)) h)
 
+  -- what is due after the document is due
   pub in_document : (swap : Swap) (sides : Option Sides) → Spells t g.document swap sides
       → DueCalendars t g swap sides status text → DueFor t g status text
   in_document swap sides s h =
       in_text s.value s.reads (in_swap s.value swap s.means (in_sides s.value swap sides s.has_sides h))
 
+  -- what is due after the calendars is due for them
   pub in_calendars : (swap : Swap) (sides : Option Sides) (cal : List Section) → CalFiles g.calendars cal
       → DueFixings t g swap sides cal status text → DueCalendars t g swap sides status text
   in_calendars swap sides cal is h =
@@ -226,6 +236,7 @@ module _ (t : Task) (g : Given) (status : ℕ) (text : List ℕ) where
       (λ c other. subst (λ (x : List Section). DueFixings t g swap sides x status text)
       (sym (one_calendars g.calendars cal c is other)) h)
 
+  -- what is due after the rates is due for them
   pub in_fixings : (swap : Swap) (sides : Option Sides) (cal : List Section) (table : RateTable)
       → AreFixings g.fixings table → DueTerms t g swap sides cal table status text
       → DueFixings t g swap sides cal status text
@@ -233,12 +244,14 @@ module _ (t : Task) (g : Given) (status : ℕ) (text : List ℕ) where
       read (AreFixings g.fixings) (BadFixings g status text) (λ q. DueTerms t g swap sides cal q status text) table is
       (λ q other. terms_same t g swap sides cal table q (one_fixings g.fixings table q is other) status text h)
 
+  -- what is due after the rules of the terms is due if they are kept
   pub in_terms : (swap : Swap) (sides : Option Sides) (cal : List Section) (table : RateTable) → KeepsTerms swap cal
       → DueDated t g swap sides cal table status text → DueTerms t g swap sides cal table status text
   in_terms swap sides cal table is h =
       kept (KeepsTerms swap cal) (Refuses (IsFirstOfTerms swap cal) status text)
       (DueDated t g swap sides cal table status text) is h
 
+  -- what is due after the rules of dates and amounts is due if they are kept
   pub in_dated : (swap : Swap) (sides : Option Sides) (cal : List Section) (table : RateTable)
       → DatedKept swap cal (rates_for t table) → DueKept t g swap sides cal table status text
       → DueDated t g swap sides cal table status text
@@ -246,6 +259,7 @@ module _ (t : Task) (g : Given) (status : ℕ) (text : List ℕ) where
       kept (DatedKept swap cal (rates_for t table)) (Refuses (DatedBroken swap cal (rates_for t table)) status text)
       (DueKept t g swap sides cal table status text) is h
 
+  -- what is due at the end is due where every step passes
   pub passed : (f : Facts) → Passes t g f → Answered t g f status text → DueFor t g status text
   passed f p h =
       in_document f.swap f.sides p.document
@@ -254,6 +268,7 @@ module _ (t : Task) (g : Given) (status : ℕ) (text : List ℕ) where
       (in_terms f.swap f.sides f.cal f.table p.terms
       (in_dated f.swap f.sides f.cal f.table p.dated (f.parts, p.schedule, h)))))
 
+-- an answer at the end is the answer where every step passes
 pub passed_answer : (t : Task) (g : Given) (f : Facts) (r : Result Reply Refusal) → Passes t g f
     → IfAnswered r (Ends (Answered t g f)) → IfAnswered r (Ends (DueFor t g))
 passed_answer t g f r p h =
@@ -325,17 +340,20 @@ module _ (t : Task) (g : Given) where
 
   -- ---- the errors of the calls are what is due
 
+  -- a text without a reading is refused
   pub refuse_text : (e : ReadErr) → (e ≡ reading.Unreadable → (v : Data) → TextReads g.document v → ⊥)
       → IfRefused (of_read e) (Ends (DueFor t g))
   refuse_text reading.Unreadable h = record { due = at_text (λ k. h refl k.0 k.1); verdict = omega arith }
   refuse_text reading.Memory h = tt
 
+  -- a document that breaks a rule is refused
   pub refuse_read : (v : Data) (e : Stopped Broken) → TextReads g.document v
       → IfStopped e (First is_before (DocumentFault v)) → IfRefused (of_stopped e) (Ends (DueFor t g))
   refuse_read v (stopped.Broken b) reads first =
       record { due = in_text t g 2 (refused b) v reads (at_document v b first); verdict = omega arith }
   refuse_read v stopped.Memory reads first = tt
 
+  -- parties that break a rule are refused
   pub refuse_sides : (v : Data) (swap : Swap) (b : Broken) → TextReads g.document v → Means v swap → BreaksSides t v b
       → IfRefused (Rule b) (Ends (DueFor t g))
   refuse_sides v swap b reads means first =
@@ -355,6 +373,7 @@ module _ (t : Task) (g : Given) where
             omega arith;
       }
 
+  -- a faulty calendar file is refused
   pub refuse_calendars : (swap : Swap) (sides : Option Sides) (e : CalErr) → Spells t g.document swap sides
       → IfSome (spot_of e) (IsFirstCalendarFault g.calendars) → IfRefused (Calendars e) (Ends (DueFor t g))
   refuse_calendars swap sides (calendar.Syntax file line) spells h = calendar_due swap sides _ spells h
@@ -373,6 +392,7 @@ module _ (t : Task) (g : Given) where
             omega arith;
       }
 
+  -- a faulty file of fixings is refused
   pub refuse_fixings : (swap : Swap) (sides : Option Sides) (cal : List Section) (e : FixErr)
       → Spells t g.document swap sides → CalFiles g.calendars cal → FixingsFail g.fixings e
       → IfRefused (Fixings e) (Ends (DueFor t g))
@@ -396,6 +416,7 @@ module _ (t : Task) (g : Given) where
             omega arith;
       })
 
+  -- a broken rule of the swap is refused
   pub refuse_rules : (swap : Swap) (sides : Option Sides) (cal : List Section) (table : RateTable) (r : Refusal)
       → Spells t g.document swap sides → CalFiles g.calendars cal → AreFixings g.fixings table
       → IfRefused r (IsUnscheduled swap cal (rates_for t table)) → IfRefused r (Ends (DueFor t g))

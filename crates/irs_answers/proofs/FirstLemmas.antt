@@ -14,11 +14,13 @@ use Rattle.irs_answers.specs.Outcomes.{FixingsFail}
 
 -- ---- broken rules
 
+-- a set of broken rules has one first
 pub one_first : (P : Broken → Type 0) (f g : Broken) → First is_before P f → First is_before P g → g ≡ f
 one_first P f g h k = one_of_order is_before broken_ties P g f k h
 
 -- ---- files of fixings
 
+-- a file of fixings has one first fault
 pub one_fixings_fault : (o : Option (List ℕ)) (f g : FixErr) → IsFixingsFault o f → IsFixingsFault o g → g ≡ f
 one_fixings_fault None f g h k = absurd h
 one_fixings_fault (Some bytes) f g h k = one_fault bytes f g h k

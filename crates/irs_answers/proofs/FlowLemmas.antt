@@ -59,6 +59,7 @@ due_shape file s v how place reads h =
     rw (h.kind_is, h.place_is)
     (in_text file s v 3 (bad_flows (kind_of h.fault.rule) h.fault.place) reads (at_fault s v h.fault h.first))
 
+-- faulty cash flows are refused
 pub refuse_flows : (file : SourceText) (s : List Part) (e : FlowErr) → FlowsFail file e
     → IfRefused (Flows e) (Ends (DueFlows file s))
 refuse_flows file s (flowing.Shape how place) (inl h) =
@@ -80,6 +81,7 @@ verdict_low : (w : Verdict) → verdict_status w < 4
 verdict_low (Yes rows unfixed) = omega arith
 verdict_low (No d) = omega arith
 
+-- the verdict on stated flows is due
 pub due_verdict : (file : SourceText) (s : List Part) (flows : List FlowPart) (w : Verdict) → SpellsFlows file flows
     → IsVerdict flows s w → ((o : Verdict) → IsVerdict flows s o → o ≡ w)
     → Ends (DueFlows file s) (verdict_status w) (verdict_text w)

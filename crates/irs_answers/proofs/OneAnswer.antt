@@ -239,5 +239,6 @@ one_carrier s u t v bytes h k =
     (λ w. Is 0 (carrier_text w) s t) (λ w. Is 0 (carrier_text w) u v) (both s u t v 2 (refused unreadable))
     (λ w. both s u t v 0 (carrier_text w)) h k
 
+-- one status and one text are due for a task and its files
 pub one_due : (task : Task) (g : Given) → IsOneDue task g
 one_due task g s u t v h k = one_for s u t v task g h k

@@ -75,6 +75,7 @@ module _ (t u : RateTable) (e : SameRates t u) (part : Part) (kind : Mean) (step
 
 module _ (t u : RateTable) (e : SameRates t u) (swap : Swap) (n : ℕ) (parts : List Part) (days : DaySet) (kind : Mean)
     (step : ℕ) where
+  -- averages depend on the rates alone
   pub average_same : (rows : List DerivedRow) → IsAverage (averaged (asked swap n parts days t) kind step) rows
       → IsAverage (averaged (asked swap n parts days u) kind step) rows
   average_same rows h = record {
@@ -93,6 +94,7 @@ module _ (t u : RateTable) (e : SameRates t u) (swap : Swap) (n : ℕ) (parts : 
         (subst (λ (s : MeanSource). BreaksMeans s f) h.has.is h.breaks);
   }
 
+-- whether averages break a rule depends on the rates alone
 pub average_kept : (t u : RateTable) → SameRates t u
     → (swap : Swap) (n : ℕ) (parts : List Part) (days : DaySet) (kind : Mean) (step : ℕ)
     → AverageKept (averaged (asked swap n parts days t) kind step)
@@ -100,6 +102,7 @@ pub average_kept : (t u : RateTable) → SameRates t u
 average_kept t u e swap n parts days kind step h f b =
     h f (average_breaks u t (same_back t u e) swap n parts days kind step f b)
 
+-- which rule averages break first depends on the rates alone
 pub average_first : (t u : RateTable) → SameRates t u
     → (swap : Swap) (n : ℕ) (parts : List Part) (days : DaySet) (kind : Mean) (step : ℕ) (x : Broken)
     → IsFirstOfAverage (averaged (asked swap n parts days t) kind step) x
@@ -164,6 +167,7 @@ module _ (t u : RateTable) (e : SameRates t u) (swap : Swap) (n : ℕ) (side : S
         is = refl;
       }
 
+  -- the rate of a stub depends on the rates alone
   pub stub_same : (row : DerivedRow) → IsInterpolated (stub_asked swap n side low high parts t) row
       → IsInterpolated (stub_asked swap n side low high parts u) row
   stub_same row h = record {
@@ -189,12 +193,14 @@ stub_breaks t u e swap n side low high parts f (inr h) = inr (record {
   is = h.is;
 })
 
+-- whether a stub breaks a rule depends on the rates alone
 pub stub_kept : (t u : RateTable) → SameRates t u
     → (swap : Swap) (n : ℕ) (side : Side) (low high : Frequency) (parts : List Part)
     → StubKept (stub_asked swap n side low high parts t) → StubKept (stub_asked swap n side low high parts u)
 stub_kept t u e swap n side low high parts h f b =
     h f (stub_breaks u t (same_back t u e) swap n side low high parts f b)
 
+-- which rule a stub breaks first depends on the rates alone
 pub stub_first : (t u : RateTable) → SameRates t u
     → (swap : Swap) (n : ℕ) (side : Side) (low high : Frequency) (parts : List Part) (x : Broken)
     → IsStubBroken (stub_asked swap n side low high parts t) x

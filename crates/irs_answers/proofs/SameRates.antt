@@ -20,6 +20,7 @@ use Rattle.irs_schedule.specs.Outcomes.{resets_over, schedule_of, stream_of}
 use Rattle.irs_schedule.specs.Parts.{Part}
 use Rattle.irs_schedule.specs.Schedules.{IsPart, IsSchedule}
 
+-- sameness of rates goes both ways
 pub same_back : (t u : RateTable) → SameRates t u → SameRates u t
 same_back t u e index slot = sym (e index slot)
 
@@ -50,6 +51,7 @@ module _ (t u : RateTable) (e : SameRates t u) where
   parts_same cal (s ∷ ss) [] h = absurd h
   parts_same cal (s ∷ ss) (p ∷ ps) h = (part_same (stream_sets cal s) s p h.0, parts_same cal ss ps h.1)
 
+  -- a schedule depends on the rates alone
   pub schedule_same : (swap : Swap) (cal : List Section) (parts : List Part) → IsSchedule swap cal t parts
       → IsSchedule swap cal u parts
   schedule_same swap cal parts h = parts_same cal swap.streams parts h
@@ -87,6 +89,7 @@ module _ (t u : RateTable) (e : SameRates t u) where
       (λ n s p. stream_answers (stream_sets cal s) s p)
       (λ n s b k. (k.0, stream_refuses (stream_sets cal s) s k.0 k.1, k.2)) 1 swap.streams x h
 
+-- whether a schedule breaks a rule depends on the rates alone
 pub kept_same : (t u : RateTable) → SameRates t u → (swap : Swap) (cal : List Section) → DatedKept swap cal t
     → DatedKept swap cal u
 kept_same t u e swap cal kept x h = kept x (first_same_table u t (same_back t u e) swap cal x h)

@@ -9,21 +9,25 @@ use Rattle.irs_base.specs.Order.{Only}
 use Rattle.irs_answers.specs.Replying.{reply_status, reply_text}
 use Rattle.irs_answers.specs.Outcomes.{Answer, answer_of, IfRefused, IfAnswered, Ends}
 
+-- what follows from an answer that is there
 pub some_more : (o : Option Answer) (P Q : ℕ → List ℕ → Type 0)
     → ((status : ℕ) (text : List ℕ) → P status text → Q status text) → IfSome o (λ a. P a.0 a.1)
     → IfSome o (λ a. Q a.0 a.1)
 some_more None P Q f h = tt
 some_more (Some a) P Q f h = f a.0 a.1 h
 
+-- what follows from a reply or a refusal
 pub answered_more : (r : Result Reply Refusal) (P Q : ℕ → List ℕ → Type 0)
     → ((status : ℕ) (text : List ℕ) → P status text → Q status text) → IfAnswered r P → IfAnswered r Q
 answered_more (Ok o) P Q f h = f (reply_status o) (reply_text o) h
 answered_more (Err e) P Q f h = some_more (answer_of e) P Q f h
 
+-- what follows from a refusal
 pub refused_more : (r : Refusal) (P Q : ℕ → List ℕ → Type 0)
     → ((status : ℕ) (text : List ℕ) → P status text → Q status text) → IfRefused r P → IfRefused r Q
 refused_more r P Q f h = some_more (answer_of r) P Q f h
 
+-- what follows from an end
 pub ends_more : (P Q : ℕ → List ℕ → Type 0) → ((status : ℕ) (text : List ℕ) → P status text → Q status text)
     → (status : ℕ) (text : List ℕ) → Ends P status text → Ends Q status text
 ends_more P Q f status text h = record { due = f status text h.due; verdict = h.verdict }
@@ -79,6 +83,7 @@ step_both Reads F G N M fails next h k = elim h.case [
   | inr x ↦ next x.0 (h.next x.0 x.1) (k.next x.0 x.1)
 ]
 
+-- what two have in common that pass the same rules
 pub rules_both : {C : Type 0} (K F G N M : Type 0) → (F → G → C) → (N → M → C) → Rules K F N → Rules K G M → C
 rules_both K F G N M fails next h k = elim h.case [
   | inl none ↦ fails (h.fails none) (k.fails none)
@@ -87,11 +92,13 @@ rules_both K F G N M fails next h k = elim h.case [
 
 -- ---- errors of the calls become refusals
 
+-- an error that becomes a refusal
 pub refused_by : {A : Type 0} (r : Result A Refusal) (e : Refusal) (P : Refusal → Type 0) → IsErr r
     → IsErrAnd r (λ x. x ≡ e) → P e → IfErr r P
 refused_by (Ok x) e P h k p = tt
 refused_by (Err x) e P h k p = subst P (sym k) p
 
+-- an error that becomes an answer
 pub answered_by : (r : Result Reply Refusal) (e : Refusal) (P : ℕ → List ℕ → Type 0) → IsErr r → IsErrAnd r (λ x. x ≡ e)
     → IfRefused e P → IfAnswered r P
 answered_by (Ok x) e P h k p = absurd k

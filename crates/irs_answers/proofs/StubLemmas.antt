@@ -19,6 +19,7 @@ one_given : (side : Side) (o : Option StubTerms) (i j : List ℕ) (f g : Option 
 one_given side None i j f g h k = absurd h
 one_given side (Some stubs) i j f g h k = same_given j i g f (same_Some (Index j g) (Index i f) (sym k ∙ h))
 
+-- a stub has one index and tenor
 pub one_index : (swap : Swap) (n : ℕ) (side : Side) (i j : List ℕ) (f g : Option Frequency) → GivesIndex swap n side i f
     → GivesIndex swap n side j g → (j ≡ i) × (g ≡ f)
 one_index swap n side i j f g h k =

@@ -255,5 +255,6 @@ root_built None local e v is r = absurd (cc r)
 root_built (Some n) local e v is r =
     rooted_built local _ v (λ c p. element_built most_levels n true first_scope e c is p) r
 
+-- a value of XML is built of strings, arrays and objects, at most 127 deep
 pub xml_built : (bytes : List ℕ) (v : Data) → XmlReads bytes v → Built 127 v
 xml_built bytes v r = root_built _ _ r.document.root v r.well_formed.root r.means

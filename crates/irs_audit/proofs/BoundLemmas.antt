@@ -57,6 +57,7 @@ covering_few : (a n : ℕ) (ys : List PaymentEntry) → Covers a ys n → length
 covering_few a n [] h = omega (arith, h)
 covering_few a n (y ∷ ys) h = omega (arith, h.0, h.1, covering_few (y.last_period + 1) n ys h.2)
 
+-- a stream has at most as many payments as periods
 pub payments_few : (p : Part) → KeepsBounds p → length p.payments ≤ length p.periods
 payments_few p h = let few = covering_few 1 (length p.periods) p.payments h.covers in omega (arith, few)
 

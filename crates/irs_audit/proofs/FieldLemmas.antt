@@ -27,6 +27,7 @@ use Rattle.irs_audit.specs.FieldTables.{first_true}
 use Rattle.irs_audit.proofs.TableLemmas.{Stands, table_first}
 use Rattle.irs_base.specs.Order.{IsFirst}
 
+-- the fields of an exchange, and whether each departs
 abbrev exchange_table : Bool → Bool → Bool → List (Field × Bool)
 exchange_table a b c =
     (UnadjustedPrincipalExchangeDate, a) ∷ (AdjustedPrincipalExchangeDate, b) ∷ (PrincipalExchangeAmount, c) ∷ []
@@ -38,6 +39,7 @@ exchange_all x y a b c AdjustedPrincipalExchangeDate h = inr (inl refl)
 exchange_all x y a b c PrincipalExchangeAmount h = inr (inr (inl refl))
 exchange_all x y a b c _ h = absurd h
 
+-- the first true field of the table is the first departure of an exchange
 pub exchange_first : (x : Exchange) (y : FlowExchange) (a b c : Bool)
     → (IsTrue a ↔ ExchangeDeparts x y UnadjustedPrincipalExchangeDate)
     → (IsTrue b ↔ ExchangeDeparts x y AdjustedPrincipalExchangeDate)
@@ -49,6 +51,7 @@ exchange_first x y a b c p q r =
       (omega arith, (omega arith, tt)),
     ) (exchange_all x y a b c)
 
+-- the fields of a payment, and whether each departs
 abbrev payment_table : Bool → Bool → Bool → Bool → Bool → List (Field × Bool)
 payment_table a b c d e =
     (UnadjustedPaymentDate, a) ∷ (AdjustedPaymentDate, b) ∷ (PeriodCount, c) ∷ (CurrencyField, d) ∷ (Amount, e) ∷ []
@@ -62,6 +65,7 @@ payment_all currency x y a b c d e CurrencyField h = inr (inr (inr (inl refl)))
 payment_all currency x y a b c d e Amount h = inr (inr (inr (inr (inl refl))))
 payment_all currency x y a b c d e _ h = absurd h
 
+-- the first true field of the table is the first departure of a payment
 pub payment_first : (currency : Currency) (x : PaymentEntry) (y : FlowPayment) (a b c d e : Bool)
     → (IsTrue a ↔ PaymentDeparts currency x y UnadjustedPaymentDate)
     → (IsTrue b ↔ PaymentDeparts currency x y AdjustedPaymentDate)
@@ -74,6 +78,7 @@ payment_first currency x y a b c d e p q r s t =
       (omega arith, (omega arith, (omega arith, (omega arith, tt)))),
     ) (payment_all currency x y a b c d e)
 
+-- the fields of a calculation period, and whether each departs
 abbrev period_table : Bool → Bool → Bool → Bool → Bool → Bool → Bool → Bool → List (Field × Bool)
 period_table a b c d e f g h =
     (UnadjustedStartDate, a) ∷ (UnadjustedEndDate, b) ∷ (AdjustedStartDate, c) ∷ (AdjustedEndDate, d)
@@ -91,6 +96,7 @@ period_all x y a b c d e f g h Rate m = inr (inr (inr (inr (inr (inr (inl refl))
 period_all x y a b c d e f g h DayCountYearFraction m = inr (inr (inr (inr (inr (inr (inr (inl refl)))))))
 period_all x y a b c d e f g h _ m = absurd m
 
+-- the first true field of the table is the first departure of a calculation period
 pub period_first : (x : CalculationPeriod) (y : FlowPeriod) (a b c d e f g h : Bool)
     → (IsTrue a ↔ PeriodDeparts x y UnadjustedStartDate) → (IsTrue b ↔ PeriodDeparts x y UnadjustedEndDate)
     → (IsTrue c ↔ PeriodDeparts x y AdjustedStartDate) → (IsTrue d ↔ PeriodDeparts x y AdjustedEndDate)
@@ -107,6 +113,7 @@ period_first x y a b c d e f g h p q r s t u v w =
     )
     (period_all x y a b c d e f g h)
 
+-- the fields of a reset, and whether each departs
 abbrev reset_table : Bool → Bool → Bool → List (Field × Bool)
 reset_table a b c = (ResetDate, a) ∷ (AdjustedFixingDate, b) ∷ (ObservedRate, c) ∷ []
 
@@ -116,6 +123,7 @@ reset_all x y a b c AdjustedFixingDate h = inr (inl refl)
 reset_all x y a b c ObservedRate h = inr (inr (inl refl))
 reset_all x y a b c _ h = absurd h
 
+-- the first true field of the table is the first departure of a reset
 pub reset_first : (x : Reset) (y : FlowReset) (a b c : Bool)
     → (IsTrue a ↔ ResetDeparts x y ResetDate) → (IsTrue b ↔ ResetDeparts x y AdjustedFixingDate)
     → (IsTrue c ↔ ResetDeparts x y ObservedRate)

@@ -33,16 +33,18 @@ object_alone name (string s) h = absurd (omega arith)
 object_alone name (array ds) h = absurd (omega arith)
 object_alone name (object ms) h = refl
 
--- an element that stands once is the first of its values
+-- an element that occurs once is the first of its values
 first_value : (o : Option Data) → option_and_then (λ m. slice_get (items_of m) 0) o ≡ slice_get (values_of o) 0
 first_value None = refl
 first_value (Some m) = refl
 
+-- an element that may be absent is the first of its values
 pub once_is : (name : List ℕ) (d : Data) → once name d ≡ slice_get (values_in name (Some d)) 0
 once_is name d = first_value (child_of name d)
 
 -- ---- the cash flows of a stream
 
+-- payments have at most the most calculation periods
 abbrev IsFew : Option Data → Type 0
 IsFew o = length (periods_of (payments_in o)) ≤ most_rows
 
@@ -55,6 +57,7 @@ once_few stream (x ∷ []) none = elim (le_or_lt (length (periods_of (payments_i
 ]
 once_few stream (x ∷ y ∷ rest) none = absurd (none (at stream K7 cashflows) refl)
 
+-- the values of `cashflows`
 abbrev Values : Data → List Data
 Values d = values_in (codes "cashflows") (Some d)
 
@@ -80,6 +83,7 @@ streams_few ds none = elim (le_or_lt (length ds) most_streams) [
   | inr lt ↦ absurd (none (at 0 K7 swap_stream) (many_streams lt))
 ]
 
+-- the values of `swapStream`
 abbrev Streams : Data → List Data
 Streams d = values_in (codes "swapStream") (Some d)
 
@@ -89,6 +93,7 @@ swap_few d none = λ j x e.
     let there = object_alone (codes "swapStream") d (omega (arith, within)) in
     streams_few (Streams d) (λ f q. none f (inr (there, q))) j x e
 
+-- a document without faults has few calculation periods in each stream
 pub flows_few : (d s : Data) → the_swap d ≡ Ok s → ((f : Broken) → FlowFault d f → ⊥) → AllHaveFewPeriods (Streams s)
 flows_few d s e none = swap_few s (λ f q. none f (below s f e q))
 
@@ -97,8 +102,9 @@ pub few_at : (vs : List Value) (j : ℕ) (v : Value) → slice_get vs j ≡ Some
     → HasFewPeriods (view v)
 few_at vs j v found h = h j (view v) (slice_get-map view vs j ∙ ap (option_map view) found)
 
--- ---- what is told
+-- ---- what is reported
 
+-- the first broken rule is the shape that is reported
 pub first_shape : (d : Data) (f : Broken) → IsFirstBroken (FlowFault d) (Some f)
     → IsFirstFault d (Shape (kind_of f.rule) f.place)
 first_shape d f p =

@@ -16,29 +16,36 @@ use Rattle.irs_base.specs.Order.{IsFirstBroken}
 abbrev pub flow_code_names : List (List ℕ)
 flow_code_names = map (λ n. n.now) FLOW_NAMES
 
+-- the names of the table of calculation periods, as the code has them
 abbrev pub period_code_names : List (List ℕ)
 period_code_names = map (λ n. n.now) PERIOD_NAMES
 
+-- the rows of cash flows in the code are those of the definition
 pub flow_rows_are : FLOW_ROWS ≡ flow_rows
 unfolding flow_rows flow_table printed paths
 flow_rows_are = refl
 
+-- the names of cash flows in the code are those of the definition
 pub flow_names_are : flow_code_names ≡ flow_names
 unfolding flow_names flow_table
 flow_names_are = refl
 
+-- the rows of calculation periods in the code are those of the definition
 pub period_rows_are : PERIOD_ROWS ≡ period_rows
 unfolding period_rows period_table printed paths
 period_rows_are = refl
 
+-- the names of calculation periods in the code are those of the definition
 pub period_names_are : period_code_names ≡ period_names
 unfolding period_names period_table
 period_names_are = refl
 
+-- the lines of cash flows are the elements of the table of paths
 pub flow_lines_are : map (λ (l : Line). l.path) flow_table.lines ≡ flow_elements
 unfolding flow_table flow_elements printed paths
 flow_lines_are = refl
 
+-- the lines of calculation periods are the elements of the table of paths
 pub period_lines_are : map (λ (l : Line). l.path) period_table.lines ≡ period_elements
 unfolding period_table period_elements printed paths
 period_lines_are = refl
@@ -51,6 +58,7 @@ flow_first s r k i d a p =
     by_tables (λ rows names. IsFirstBroken (FaultAt rows names s r k i d) a) FLOW_ROWS flow_rows flow_code_names
     flow_names flow_rows_are flow_names_are p
 
+-- the first fault by the code's table is that by the definition's
 pub period_first : (s r : ℕ) (k : Kind) (i : ℕ) (d : Data) (a : Option Broken)
     → IsFirstBroken (FaultAt PERIOD_ROWS period_code_names s r k i d) a
     → IsFirstBroken (FaultAt period_rows period_names s r k i d) a

@@ -30,7 +30,7 @@ three = tt
 seven : IsOfTables K7
 seven = tt
 
--- the kind of such a rule is told
+-- such a rule has a kind that is reported
 pub told : (k : Rule) → IsOfTables k → kind_of k ≢ NotJson
 told K2 h e = cc
 told K3 h e = cc
@@ -52,6 +52,7 @@ last_kind k h second third fourth fifth sixth = absurd h
 
 -- ---- those that end the way to the swap
 
+-- a way that ends, ends at a rule of the tables
 abbrev Good : Way → Type 0
 Good (Ok d) = Unit {0}
 Good (Err f) = IsOfTables f.rule

@@ -27,7 +27,7 @@ in_periods stream flows few none j period e =
     stated period_rows period_names period stream (0 + j + 1)
     (λ f q. none f (inr (in_period f few (j, (period, (e, inl q))))))
 
--- the `cashflows` of a stream stands once, and nothing is passed over in it
+-- the `cashflows` of a stream occurs once, and nothing is passed over in it
 in_flows : (stream : ℕ) (ds : List Data) → ((f : Broken) → OnceFault stream ds f → ⊥)
     → (flows : Data) × (slice_get ds 0 ≡ Some flows) × AreStated flows
 in_flows stream [] none = absurd (none (at stream K2 cashflows) refl)
@@ -74,5 +74,6 @@ in_swap d none j x e =
       | inr many ↦ absurd (none (at 0 K7 swap_stream) (inr (there, many_streams many)))
     ]
 
+-- in a document without faults nothing is passed over
 pub flows_stated : (d : Data) → ((f : Broken) → FlowFault d f → ⊥) → EachFlowStated d
 flows_stated d none s found j x e = in_swap s (λ f q. none f (below s f found q)) j x e

@@ -29,21 +29,25 @@ use Rattle.irs_base.specs.Order.{IsFirstBroken, earlier_broken}
 
 -- ---- one fault, where a test is true
 
+-- a fault that depends on a test is the first where the test is true
 pub fault_if_first : (b : Bool) (x : Broken) (a : Option Broken) → a ≡ fault_if b x → IsFirstBroken (FaultIf b x) a
 fault_if_first b x a e = first_is (FaultIf b x) (fault_if b x) a e (first_if x b)
 
+-- the only fault is the first
 pub alone : (x : Broken) (a : Option Broken) → a ≡ Some x → IsFirstBroken (λ f. f ≡ x) a
 alone x a e = first_is (λ f. f ≡ x) (Some x) a e (first_one (λ f. f ≡ x) x refl (λ g h. h))
 
 -- ---- what an object's members break, beside what it breaks by itself
 
 module _ (P Q : Broken → Type 0) where
+  -- what a value breaks: by itself, or by its members where it is an object
   abbrev WithMembers : Data → Broken → Type 0
   WithMembers d f = P f ⊎ ((is_some (names_of d) ≡ true) × Q f)
 
   named : (o : Option (List (List ℕ))) (ns : List (List ℕ)) → o ≡ Some ns → is_some o ≡ true
   named o ns e = rw e refl
 
+  -- what is no object breaks what it breaks by itself
   pub object_none : (d : Data) (a : Option Broken) → names_of d ≡ None → IsFirstBroken P a
       → IsFirstBroken (WithMembers d) a
   object_none d a h p = first_same _ _ a (λ f q. inl q) (only d h) p
@@ -52,6 +56,7 @@ module _ (P Q : Broken → Type 0) where
       only d h f (inl q) = q
       only d h f (inr (t, q)) = let e : is_some (names_of d) ≡ false = rw h refl in absurd (true≢false (sym t ∙ e))
 
+  -- an object breaks the earlier of what it and its members break
   pub object_some : (d : Data) (ns : List (List ℕ)) (a b s : Option Broken) → names_of d ≡ Some ns
       → s ≡ earlier_broken a b → IsFirstBroken P a → IsFirstBroken Q b → IsFirstBroken (WithMembers d) s
   object_some d ns a b s h e p q =
@@ -71,6 +76,7 @@ get_right [] ys k = let e : length {A = Data} [] + k ≡ k = omega arith in rw e
 get_right (x ∷ xs) ys k = let e : length (x ∷ xs) + k ≡ suc (length xs + k) = omega arith in rw e (get_right xs ys k)
 
 module _ (stream : ℕ) where
+  -- a fault of the calculation period with that number
   abbrev At : ℕ → Data → Broken → Type 0
   At i x f = PeriodFault stream i x f
 
@@ -151,6 +157,7 @@ periods_fit vs i v h is =
 
 -- ---- all periods
 
+-- too many calculation periods break K7
 pub many_first : (stream : ℕ) (ds : List Data) (a : Option Broken) → most_rows < length ds
     → a ≡ Some (at stream K7 flow_period) → IsFirstBroken (PeriodsFault stream ds) a
 many_first stream ds a h e = first_is _ _ a e (first_one _ _ (many_periods h) (only ds h))
@@ -160,6 +167,7 @@ many_first stream ds a h e = first_is _ _ a e (first_one _ _ (many_periods h) (o
     only ds h g (many_periods e) = refl
     only ds h g (in_period _ le q) = absurd (omega arith)
 
+-- where they are few, the first fault of one of them is the first of all
 pub few_first : (stream : ℕ) (ds : List Data) (a : Option Broken) → length ds ≤ most_rows
     → IsFirstBroken (PeriodsFrom stream 0 ds) a → IsFirstBroken (PeriodsFault stream ds) a
 few_first stream ds a h p = first_same _ _ a (λ f q. in_period f h q) (inner ds h) p
@@ -169,20 +177,25 @@ few_first stream ds a h p = first_same _ _ a (λ f q. in_period f h q) (inner ds
     inner ds h g (many_periods e) = absurd (omega arith)
     inner ds h g (in_period _ le q) = q
 
+-- a test that is true shows that they are few
 pub test_few : (n : ℕ) (b : Bool) → b ≡ nat_le n most_rows → b ≡ true → n ≤ most_rows
 test_few n b e h = let k : nat_le n most_rows ≡ true = sym e ∙ h in grind (arith, nat_tests)
 
+-- a test that is false shows that they are many
 pub test_many : (n : ℕ) (b : Bool) → b ≡ nat_le n most_rows → b ≡ false → most_rows < n
 test_many n b e h = let k : nat_le n most_rows ≡ false = sym e ∙ h in grind (arith, nat_tests)
 
+-- few calculation periods are all looked into
 pub few_is : (ds : List Data) → length ds ≤ most_rows → ds ≡ few ds
 few_is ds h = let k : nat_le (length ds) most_rows ≡ true = grind (arith, nat_tests) in rw k refl
 
+-- of too many calculation periods none is looked into
 pub many_is : (ds : List Data) → most_rows < length ds → [] ≡ few ds
 many_is ds h = let k : nat_le (length ds) most_rows ≡ false = grind (arith, nat_tests) in rw k refl
 
 -- ---- streams
 
+-- a swap without streams breaks K2
 pub none_first : (ds : List Data) (a : Option Broken) → length ds ≡ 0 → a ≡ Some (at 0 K2 swap_stream)
     → IsFirstBroken (StreamsFault ds) a
 none_first ds a h e = first_is _ _ a e (first_one _ _ (no_stream h) (only ds h))
@@ -192,6 +205,7 @@ none_first ds a h e = first_is _ _ a e (first_one _ _ (no_stream h) (only ds h))
     only ds h g (many_streams e) = absurd (omega arith)
     only ds h g (in_stream _ lo hi q) = absurd (omega arith)
 
+-- a swap with too many streams breaks K7
 pub too_many_first : (ds : List Data) (a : Option Broken) → most_streams < length ds → a ≡ Some (at 0 K7 swap_stream)
     → IsFirstBroken (StreamsFault ds) a
 too_many_first ds a h e = first_is _ _ a e (first_one _ _ (many_streams h) (only ds h))
@@ -201,6 +215,7 @@ too_many_first ds a h e = first_is _ _ a e (first_one _ _ (many_streams h) (only
     only ds h g (many_streams e) = refl
     only ds h g (in_stream _ lo hi q) = absurd (omega arith)
 
+-- where the streams are few, the first fault of one of them is the first of all
 pub each_first : (ds : List Data) (a : Option Broken) → 0 < length ds → length ds ≤ most_streams
     → IsFirstBroken (Among (λ j. StreamFault (j + 1)) ds) a → IsFirstBroken (StreamsFault ds) a
 each_first ds a lo hi p = first_same _ _ a (λ f q. in_stream f lo hi q) (inner ds lo hi) p
@@ -213,6 +228,7 @@ each_first ds a lo hi p = first_same _ _ a (λ f q. in_stream f lo hi q) (inner 
 
 -- ---- the document
 
+-- a document whose way to the swap ends has that fault first
 pub ended_first : (d : Data) (f : Broken) → the_swap d ≡ Err f → IsFirstBroken (FlowFault d) (Some f)
 ended_first d f e = first_one _ f (ended f e) (only d f e)
   where
@@ -220,6 +236,7 @@ ended_first d f e = first_one _ f (ended f e) (only d f e)
     only d f e g (ended _ h) = cc
     only d f e g (below s _ h q) = cc
 
+-- a document with a swap has the faults of the swap
 pub below_first : (d s : Data) (a : Option Broken) → the_swap d ≡ Ok s → IsFirstBroken (SwapFault s) a
     → IsFirstBroken (FlowFault d) a
 below_first d s a e p = first_same _ _ a (λ f q. below s f e q) (only d s e) p
@@ -230,9 +247,11 @@ below_first d s a e p = first_same _ _ a (λ f q. below s f e q) (only d s e) p
 
 -- ---- steps of the loops
 
+-- a sound object breaks nothing by itself
 pub own_none : (stream elem : ℕ) (d : Data) → is_sound d ≡ true → IsFirstBroken (OwnFault stream elem d) None
 own_none stream elem d h = fault_if_first (not (is_sound d)) (at stream K3 elem) None (rw h refl)
 
+-- what isn't sound breaks K3
 pub own_some : (stream elem : ℕ) (d : Data) (a : Option Broken) → is_sound d ≡ false → a ≡ Some (at stream K3 elem)
     → IsFirstBroken (OwnFault stream elem d) a
 own_some stream elem d a h e = fault_if_first (not (is_sound d)) (at stream K3 elem) a (rw h e)
@@ -263,6 +282,7 @@ count_step vs i v list lt is these =
     let same = sym (length-map list view) ∙ ap length these in
     omega (arith, long, same)
 
+-- the periods of one payment more are at most those of all payments
 pub count_fits : (vs : List Value) (i : ℕ) (v : Value) (list : List Value) → i < length vs → v ≡ get_or vs i v
     → map view list ≡ periods_in (view v)
     → length (periods_of (map view (take i vs))) + length list ≤ length (periods_of (map view vs))
@@ -271,6 +291,7 @@ count_fits vs i v list lt is these =
     let same = sym (length-map list view) ∙ ap length these in
     omega (arith, fits, same)
 
+-- more than the most fails the test
 pub many_test : (n : ℕ) → most_rows < n → false ≡ nat_le n most_rows
 many_test n h = let k : nat_le n most_rows ≡ false = grind (arith, nat_tests) in sym k
 

@@ -1,5 +1,5 @@
--- The orders of departures and of fields: no two departures share a place, and what is the first of two sets of which
--- one follows the other.
+-- The orders of departures and of fields. No two departures share a place. Where one of two sets follows the other, the
+-- first of both is known.
 use Rattle.std.proofs.Common.{◌≡◌, ℕ, ◌≤◌, false, Option, Some, None, ◌⊎◌, inl, inr, refl, sym, ◌∙◌, ap, arith}
 use Rattle.std.proofs.Common.{if◌then◌else◌}
 use Rattle.std.specs.Prelude.{◌==◌}

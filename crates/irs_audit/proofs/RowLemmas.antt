@@ -26,6 +26,7 @@ module _ (kind : RowKind) (p : Part) (g : FlowPart) where
   abbrev pub NoneBelow : ℕ → Type 0
   NoneBelow i = (j : ℕ) (f : Field) → j < i → KindDeparts kind p g j f → ⊥
 
+  -- where row i doesn't depart either, no row up to it does
   pub none_more : (i : ℕ) → NoneBelow i → IsFirst field_before (KindDeparts kind p g i) None → NoneBelow (i + 1)
   none_more i below here j f h d =
       elim (cases_order j i) [
@@ -36,9 +37,11 @@ module _ (kind : RowKind) (p : Part) (g : FlowPart) where
         | inr (inr l) ↦ omega (arith, h, l)
       ]
 
+  -- before the first row none departs
   pub none_before : NoneBelow 0
   none_before j f h d = omega (arith, h)
 
+  -- where no row departs, there is no first departure
   pub none_found : (k last : ℕ) → NoneBelow last → IsFirst departs_before (AmongRows k kind p g last) None
   none_found k last below = λ d m. let low = m.low in let high = m.high in
       below (d.row - 1) d.field (omega (arith, low, high)) m.departs
@@ -53,6 +56,7 @@ module _ (kind : RowKind) (p : Part) (g : FlowPart) where
     | inr (inr l) ↦ level_later row (i + 1) _ (omega (arith, low, l))
   ]
 
+  -- the first departure of the first row that departs is the first of all
   pub row_found : (k last i : ℕ) (field : Field) → i < last → NoneBelow i
       → First field_before (KindDeparts kind p g i) field
       → First departs_before (AmongRows k kind p g last)
@@ -102,6 +106,7 @@ later_row k kind d e a b c f h =
     level_same e.stream d.stream _ (c ∙ sym a)
     (level_same (kind_place e.kind) (kind_place d.kind) _ (ap kind_place (f ∙ sym b)) (level_later e.row d.row _ h))
 
+-- rows past the one after the schedule's last depart with that one
 pub extended : (k : ℕ) (kind : RowKind) (p : Part) (g : FlowPart) (n : ℕ) (o : Option Departure)
     → ((j : ℕ) (f : Field) → n ≤ j → KindDeparts kind p g j f → KindDeparts kind p g n Extra)
     → IsFirst departs_before (AmongRows k kind p g (n + 1)) o → IsFirst departs_before (OfKind k kind p g) o
@@ -201,12 +206,15 @@ by_kind k a b p g d e h m n =
     (level_later (kind_place e.kind) (kind_place d.kind) _ (omega (arith, c, f, h)))
 
 module _ (k : ℕ) (p : Part) (g : FlowPart) where
+  -- a departure among the exchanges or the payments
   abbrev UpToPayments : Departure → Type 0
   UpToPayments d = OfKind k Exchange p g d ⊎ OfKind k Payment p g d
 
+  -- or among the calculation periods
   abbrev UpToPeriods : Departure → Type 0
   UpToPeriods d = UpToPayments d ⊎ OfKind k Period p g d
 
+  -- or among the resets
   abbrev OfEach : Departure → Type 0
   OfEach d = UpToPeriods d ⊎ OfKind k Reset p g d
 

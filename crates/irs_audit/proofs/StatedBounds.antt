@@ -32,6 +32,7 @@ amount_statable : (currency : Currency) (v : Dec) → IsAmount currency v → Is
 amount_statable currency v h =
     record { decimals = omega (arith, h.places, decimals_few currency.letters); size = h.size }
 
+-- a notional can be stated
 pub notional_statable : (n : ℤ) → IsNotional n → IsStatable n 4
 notional_statable (pos n) h = record { decimals = omega arith; size = omega (arith, signed_arith, h) }
 notional_statable (negsuc n) h = absurd (omega (arith, signed_arith, h))
@@ -43,17 +44,20 @@ rate_statable r h = record { decimals = omega arith; size = omega (arith, h) }
 observed_statable : (r : ℤ) → IsRate r → IsStatableRate r
 observed_statable r h = record { decimals = omega arith; size = omega (arith, h) }
 
+-- the amount of an exchange can be stated
 pub exchange_statable : (p : Part) (j : ℕ) (x : Exchange) → KeepsBounds p → slice_get p.exchanges j ≡ Some x
     → IsStatableDec x.amount
 exchange_statable p j x h e =
     amount_statable p.currency x.amount
     (every_get (λ (y : Exchange). IsAmount p.currency y.amount) p.exchanges j x h.exchanged e)
 
+-- the amount of a payment can be stated
 pub payment_statable : (p : Part) (j : ℕ) (y : PaymentEntry) → KeepsBounds p → slice_get p.payments j ≡ Some y
     → IfSome y.amount IsStatableDec
 payment_statable p j y h e =
     IfSome_then y.amount (every_get (HasAmount p.currency) p.payments j y h.paid e) (amount_statable p.currency)
 
+-- the observed rate of a reset can be stated
 pub reset_statable : (p : Part) (j : ℕ) (r : Reset) → KeepsBounds p → slice_get p.resets j ≡ Some r
     → IfSome r.observed IsStatableRate
 reset_statable p j r h e =
@@ -65,6 +69,7 @@ entry_statable : (p : Part) (j : ℕ) (e : PeriodEntry) → IsEntry p.day_count 
 entry_statable p j e h =
     record { notional = notional_statable e.notional h.notional; rate = IfSome_then e.rate h.rate rate_statable }
 
+-- the numbers of a calculation period can be stated
 pub period_statable : (p : Part) (j : ℕ) (x : CalculationPeriod) → KeepsBounds p → period_at p j ≡ Some x
     → IsStatablePeriod x
 period_statable p j x h e = elim (slice_get_cases p.periods j).1 [

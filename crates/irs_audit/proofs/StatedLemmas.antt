@@ -141,6 +141,7 @@ periods_get p i (suc j) (e ∷ es) =
     let same : i + 1 + j ≡ i + suc j = omega arith in
     periods_get p (i + 1) j es ∙ ap (λ (n : ℕ). option_map (stated_at p n) (slice_get es j)) same
 
+-- the stated period at a place is that of the schedule's period there
 pub stated_get : (p : Part) (j : ℕ) → slice_get (stated_periods_from p 0 p.periods) j
     ≡ option_map (stated_at p j) (slice_get p.periods j)
 stated_get p j =
@@ -195,6 +196,7 @@ stream_agrees : (o : Option Part) (kind : RowKind) (row : ℕ) (f : Field) → (
 stream_agrees None kind row f each d = d
 stream_agrees (Some p) kind row f each d = part_agrees p kind (row - 1) f (each p refl) d.1
 
+-- the flows that state a schedule agree with it
 pub flows_agree : (s : List Part) → IsWithin s → Agrees (stated_flows s) s
 flows_agree s h d m =
     let k = d.stream - 1 in
@@ -202,7 +204,7 @@ flows_agree s h d m =
     stream_agrees (slice_get s k) d.kind d.row d.field (λ p e. every_get KeepsBounds s k p h.each e)
     (subst D (slice_get-map stated_part s k) m.1)
 
--- one period more is stated, and those behind it are left
+-- one period more is stated, and those after it are left
 pub one_period_more : (p : Part) (j : ℕ) (x : CalculationPeriod) (before : List FlowPeriod) → period_at p j ≡ Some x
     → (before ++ period_with x (option_map stated_reset (slice_get p.resets j)) ∷ [])
     ++ stated_periods_from p (j + 1) (drop (j + 1) p.periods) ≡ before ++ stated_periods_from p j (drop j p.periods)

@@ -21,6 +21,7 @@ module _ (f : List FlowPart) (s : List Part) where
   abbrev pub NoneUpTo : ℕ → Type 0
   NoneUpTo i = (d : Departure) → d.stream ≤ i → Departs f s d → ⊥
 
+  -- a departure of the stream at place i
   abbrev pub OfPlace : ℕ → Departure → Type 0
   OfPlace i = OfStream (i + 1) (slice_get s i) (slice_get f i)
 
@@ -37,9 +38,11 @@ module _ (f : List FlowPart) (s : List Part) where
       let Q : ℕ → Type 0 = λ n. StreamDeparts (slice_get s n) (slice_get f n) d.kind d.row d.field in
       (omega (arith, a), subst Q (sym e) m.departs)
 
+  -- before the first stream none departs
   pub none_before : NoneUpTo 0
   none_before d h m = let low = m.0 in omega (arith, h, low)
 
+  -- where stream i doesn't depart either, no stream up to it does
   pub none_more : (i : ℕ) → NoneUpTo i → IsFirst departs_before (OfPlace i) None → NoneUpTo (i + 1)
   none_more i below here d h m = let low = m.0 in
       elim (cases_lt i d.stream) [ inl l ↦ here d (to_place i d (omega (arith, l, h)) m) | inr l ↦ below d l m ]
@@ -55,11 +58,12 @@ module _ (f : List FlowPart) (s : List Part) where
         | inr (inr l) ↦ level_later e.stream d.stream _ (omega (arith, a, l))
       ]
 
+  -- the first departure of the first stream that departs is the first of all
   pub place_found : (i : ℕ) (d : Departure) → NoneUpTo i → First departs_before (OfPlace i) d
       → First departs_before (Departs f s) d
   place_found i d below here = (from_place i d here.0, λ e m. place_order i d e below here m)
 
-  -- a stream of the flows past the one behind the schedule's last
+  -- a stream of the flows past the one after the schedule's last
   extra_stream : (j : ℕ) (kind : RowKind) (row : ℕ) (field : Field) → length s ≤ j
       → StreamDeparts (slice_get s j) (slice_get f j) kind row field
       → StreamDeparts (slice_get s (length s)) (slice_get f (length s)) Stream 0 Extra
@@ -73,6 +77,7 @@ module _ (f : List FlowPart) (s : List Part) where
         | inr w ↦ absurd (let q = w.1 in rw (past, q) at d)
       ]
 
+  -- where no stream departs, there is no first departure
   pub none_at_all : NoneUpTo (length s + 1) → IsFirst departs_before (Departs f s) None
   none_at_all below = λ d m. elim (cases_lt (length s + 1) d.stream) [
     | inl l ↦

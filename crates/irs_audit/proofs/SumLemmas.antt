@@ -36,6 +36,7 @@ days_size (negsuc n) f = omega (arith, f.sfits)
 payment_rows_few : (p : Part) → KeepsBounds p → payment_rows p ≤ 2 * most_periods
 payment_rows_few p h = let payments = payments_few p h in omega (arith, h.few, payments)
 
+-- the payments of a schedule fit 32 bits
 pub payment_rows_fit : (s : List Part) → IsWithin s → fold (λ n p. n + payment_rows p) 0 s < 2 ^ 32
 payment_rows_fit s h = let few = sum_few payment_rows (2 * most_periods) 0 s payment_rows_few h.each in
     omega (arith, few, h.few)

@@ -13,7 +13,7 @@ abbrev pub Decides : (Field → Type 0) → List (Field × Bool) → Type 0
 Decides P [] = Unit {0}
 Decides P (t ∷ ts) = (IsTrue t.1 ↔ P t.0) × Decides P ts
 
--- its fields stand in order, none before place n
+-- its fields are in order, none before place n
 abbrev pub InOrder : ℕ → List (Field × Bool) → Type 0
 InOrder n [] = Unit {0}
 InOrder n (t ∷ ts) = (n ≤ field_place t.0) × InOrder (field_place t.0) ts
@@ -35,7 +35,7 @@ above n [] g h s = absurd s
 above n (t ∷ ts) g h (inl e) = moved n t.0 g e h.0
 above n (t ∷ ts) g h (inr s) = let k = above (field_place t.0) ts g h.1 s in omega (arith, h.0, k)
 
--- a field that doesn't depart can stand before them
+-- a field that doesn't depart may come before them
 passed : (P : Field → Type 0) (f : Field) (ts : List (Field × Bool)) (o : Option Field) → (P f → ⊥)
     → IsFirst field_before (StandsWith P ts) o → IsFirst field_before (StandsWith P ((f, false) ∷ ts)) o
 passed P f ts o never h =

@@ -44,6 +44,7 @@ twice (negsuc u) a b =
     ap (λ (z : ℤ). z *ℤ pos b) (negsuc-*ℤ-pos u a) ∙ neg_pos (suc u * a) b ∙ ap (λ (n : ℕ). neg_ℤ (pos n)) e
     ∙ sym (negsuc-*ℤ-pos u (a * b))
 
+-- numbers that compare equal are equal
 pub equal_bits : (m n : ℕ) → IsTrue (nat_eq m n) → m ≡ n
 equal_bits m n t = grind (arith, nat_tests)
 
@@ -59,15 +60,18 @@ same_bits w a b f g = (
 pub power_small : (n : ℕ) → n ≤ 12 → 10 ^ n ≤ 10 ^ 12
 power_small n h = pow-le-pow_right {n = 10} (omega arith) {i = n} {j = 12} h
 
+-- a power of 10 for at most 12 decimals fits 64 bits
 pub power_fits : (n : ℕ) → n ≤ 12 → 10 ^ n < 2 ^ 64
 power_fits n h = let l = power_small n h in omega (arith, l)
 
 some_power : (n : ℕ) → 0 < 10 ^ n
 some_power n = let l = one-le-pow n 10 (omega arith) in omega (arith, l)
 
+-- a power of 10 is above 0
 pub power_positive : (n : ℕ) → pos 0 <ℤ pos (10 ^ n)
 power_positive n = let l = some_power n in omega (arith, signed_arith, l)
 
+-- the powers for p and for 12 - p decimals give that for 12
 pub both_powers : (p : ℕ) → p ≤ 12 → 10 ^ (12 - p) * 10 ^ p ≡ 10 ^ 12
 both_powers p h = sym (pow-add 10 (12 - p) p) ∙ ap (λ (n : ℕ). 10 ^ n) (sub-add_cancel h)
 
@@ -82,6 +86,7 @@ scaled_down u s p h e =
     cancel_signed (u *ℤ pos (10 ^ (12 - p))) s (10 ^ p) (some_power p)
     (twice u (10 ^ (12 - p)) (10 ^ p) ∙ ap (λ (n : ℕ). u *ℤ pos n) (both_powers p h) ∙ sym e)
 
+-- a stated number is the schedule's where both are equal in units of 10^-12
 pub number_decided : (u s : ℤ) (p : ℕ) (r : Bool) → p ≤ 12 → (IsTrue r ↔ ((u *ℤ pos (10 ^ (12 - p))) ≡ s))
     → (IsTrue r ↔ IsNumber u p s)
 number_decided u s p r h d = (λ t. scaled_up u s p h (d.0 t), λ e. d.1 (scaled_down u s p h e))
@@ -130,11 +135,13 @@ scaled_within (pos k) n h range =
     let product : k * 10 ^ n ≤ most_numerator * 10 ^ 12 = mul-le-mul small power in
     rw (pos-*ℤ-pos k (10 ^ n)) (omega (arith, signed_arith), omega (arith, signed_arith, product))
 
+-- a numerator times a power of 10 for at most 12 decimals fits 128 bits
 pub scaled_fits : (num : ℤ) (n : ℕ) → n ≤ 12 → (pos 0 ≤ℤ num) × (num ≤ℤ pos most_numerator)
     → FitsSigned w128 (num *ℤ pos (10 ^ n))
 scaled_fits num n h range = let within = scaled_within num n h range in
     fits_between w128 (num *ℤ pos (10 ^ n)) (omega (arith, signed_arith, within))
 
+-- a fraction with fewer than four decimals is exact
 pub exact_fraction : (f : Frac) (s : StatedFraction) (r : Bool) → s.places < 4
     → (IsTrue r ↔ ((s.units *ℤ f.den) ≡ (f.num *ℤ pos (10 ^ s.places)))) → (IsTrue r ↔ IsFraction f s)
 exact_fraction f s r h d = (
@@ -142,6 +149,7 @@ exact_fraction f s r h d = (
   λ q. d.1 (q.exact h),
 )
 
+-- a fraction with four decimals or more is rounded to the nearest
 pub near_fraction : (f : Frac) (s : StatedFraction) (q : ℤ) (r : Bool) → 4 ≤ s.places → s.places ≤ 12 → pos 0 <ℤ f.den
     → Rounded Nearest (f.num *ℤ pos (10 ^ s.places)) f.den q → (IsTrue r ↔ (q ≡ s.units)) → (IsTrue r ↔ IsFraction f s)
 near_fraction f s q r low high den is d = (
@@ -150,5 +158,6 @@ near_fraction f s q r low high den is d = (
   λ k. d.1 (nearest_once (f.num *ℤ pos (10 ^ s.places)) f.den q s.units den is (k.nearest low)),
 )
 
+-- a fraction with more than twelve decimals is none
 pub not_a_fraction : (f : Frac) (s : StatedFraction) → 12 < s.places → IsFraction f s → ⊥
 not_a_fraction f s h k = let l = k.decimals in omega (arith, h, l)

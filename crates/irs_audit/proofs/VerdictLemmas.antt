@@ -37,6 +37,7 @@ few_if : (b : Bool) (m n : ℕ) → m ≡ (if b then n else 0) → m ≤ n
 few_if true m n e = omega (arith, e)
 few_if false m n e = omega (arith, e)
 
+-- a stream has at most the most rows
 pub rows_few : (p : Part) → KeepsBounds p → stream_rows p ≤ most_stream_rows
 rows_few p h =
     let payments = payments_few p h in
@@ -53,21 +54,25 @@ count_few test a [] = omega arith
 count_few test a (x ∷ xs) = let rest = count_few test (a + cond (test x) 1 0) xs in let one = one_few (test x) in
     omega (arith, rest, one)
 
+-- a stream has at most the most payments without amount
 pub unfixed_few : (p : Part) → KeepsBounds p → stream_unfixed p ≤ most_periods
 unfixed_few p h =
     let payments = payments_few p h in
     let count = count_few (λ (y : PaymentEntry). is_none y.amount) 0 p.payments in
     omega (arith, h.few, payments, count)
 
+-- a sum over streams is bounded by their number times the most of each
 pub sum_few : (f : Part → ℕ) (c a : ℕ) (ps : List Part) → ((p : Part) → KeepsBounds p → f p ≤ c) → Every KeepsBounds ps
     → fold (λ n p. n + f p) a ps ≤ a + c * length ps
 sum_few f c a [] each h = omega arith
 sum_few f c a (p ∷ ps) each h = let rest = sum_few f c (a + f p) ps each h.1 in let one = each p h.0 in
     omega (arith, rest, one)
 
+-- the rows of a schedule fit 32 bits
 pub row_count_fits : (s : List Part) → IsWithin s → row_count s < 2 ^ 32
 row_count_fits s h = let few = sum_few stream_rows most_stream_rows 0 s rows_few h.each in omega (arith, few, h.few)
 
+-- the payments without amount fit 32 bits
 pub unfixed_count_fits : (s : List Part) → IsWithin s → unfixed_count s < 2 ^ 32
 unfixed_count_fits s h = let few = sum_few stream_unfixed most_periods 0 s unfixed_few h.each in
     omega (arith, few, h.few)

@@ -11,8 +11,8 @@ use Rattle.irs_audit.specs.declared.flows.FlowReset.{FlowReset}
 use Rattle.irs_audit.specs.FlowParts.{FlowPart}
 use Rattle.irs_audit.specs.FieldDepartures.{ExchangeDeparts, PaymentDeparts, PeriodDeparts, ResetDeparts}
 
--- A row of the schedule and one of the flows, each where there is one: one that only the schedule has is
--- missing, one that only the flows have is extra, and the fields of both are compared by Fields.
+-- A row of the schedule and one of the flows, each where there is one. One that only the schedule has is missing, and
+-- one that only the flows have is extra. Where both are there, Fields compares their fields.
 abbrev pub RowDeparts : {X Y : Type 0} → (X → Y → Field → Type 0) → Option X → Option Y → Field → Type 0
 RowDeparts Fields (Some x) (Some y) field = Fields x y field
 RowDeparts Fields (Some x) None field = field ≡ Missing
@@ -32,8 +32,8 @@ KindDeparts Payment p g j field =
 KindDeparts Period p g j field = RowDeparts PeriodDeparts (period_at p j) (slice_get g.periods j) field
 KindDeparts Reset p g j field = RowDeparts ResetDeparts (slice_get p.resets j) (stated_reset g j) field
 
--- A stream of the schedule and one of the flows, each where there is one: of a stream that only one of
--- them has nothing else departs. Rows count from 1.
+-- A stream of the schedule and one of the flows, each where there is one. Where only one of them is there, nothing else
+-- departs. Rows count from 1.
 abbrev pub StreamDeparts : Option Part → Option FlowPart → RowKind → ℕ → Field → Type 0
 StreamDeparts (Some p) (Some g) kind row field = (0 < row) × KindDeparts kind p g (row - 1) field
 StreamDeparts (Some p) None kind row field = (kind ≡ Stream) × (row ≡ 0) × (field ≡ Missing)

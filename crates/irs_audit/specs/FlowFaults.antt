@@ -28,7 +28,7 @@ FaultIf b x f = (b ≡ true) × (f ≡ x)
 
 -- ---- an object of which most members are passed over
 
--- d is an object, and its `@id` and `@href` are texts where they stand
+-- d is an object, and its `@id` and `@href`, where they occur, are texts
 abbrev pub is_sound : Data → Bool
 is_sound d = is_some (names_of d) && not (has_odd d)
 
@@ -44,17 +44,17 @@ sole [] = None
 sole (x ∷ []) = Some x
 sole (x ∷ y ∷ rest) = None
 
--- whether `calculatedRate` stands in the one `floatingRateDefinition` of a period
+-- whether the one `floatingRateDefinition` of a period has a `calculatedRate`
 abbrev pub has_calculated_rate : Data → Bool
 has_calculated_rate d =
     is_some (option_and_then (child_of (codes "calculatedRate"))
     (sole (values_in (codes "floatingRateDefinition") (Some d))))
 
--- whether both rates stand in a period
+-- whether a period has both rates
 abbrev pub has_both_rates : Data → Bool
 has_both_rates d = is_some (child_of (codes "fixedRate") d) && has_calculated_rate d
 
--- the faults of the calculation period with this number: those of its table, and that both rates stand
+-- the faults of the calculation period with this number: those of its table, and that it has both rates
 abbrev pub PeriodFault : ℕ → ℕ → Data → Broken → Type 0
 PeriodFault stream number d f =
     FaultAt period_rows period_names stream 0 (Object Free) number d f
@@ -68,7 +68,7 @@ periods_in d = values_in (codes "calculationPeriod") (Some d)
 abbrev pub periods_of : List Data → List Data
 periods_of payments = flat_map periods_in payments
 
--- the faults of calculation periods that come behind so many others of the stream
+-- the faults of calculation periods that come after the first `before` of the stream
 abbrev pub PeriodsFrom : ℕ → ℕ → List Data → Broken → Type 0
 PeriodsFrom stream before = Among (λ j. PeriodFault stream (before + j + 1))
 
@@ -95,7 +95,7 @@ CashflowsFault stream d f =
     FaultAt flow_rows flow_names stream 0 (Object Free) 0 d f
     ⊎ PeriodsFault stream (periods_of (payments_in (Some d))) f
 
--- the faults of the values of `cashflows`, which stands once
+-- the faults of the values of `cashflows`, which occurs once
 abbrev pub OnceFault : ℕ → List Data → Broken → Type 0
 OnceFault stream [] f = f ≡ at stream K2 cashflows
 OnceFault stream (x ∷ []) f = CashflowsFault stream x f

@@ -1,6 +1,5 @@
--- The elements of cash flows (FpML's `cashflows` of an InterestRateStream), line by line: the path, what
--- stands there, and how often. Which elements are in the profile, their counts and their order are this
--- project's own.
+-- The elements of cash flows (FpML's `cashflows` of an InterestRateStream), line by line: the path, what is there, and
+-- how often. Which elements are in the profile, their counts and their order are our rule.
 use Rattle.irs_base.specs.Elements.{cashflows, flow_period}
 use Rattle.irs_base.specs.Limits.{most_rows}
 use Rattle.irs_base.specs.PathList.{printed}
@@ -68,7 +67,7 @@ period_table = record {
       ∷ [];
 }
 
--- the elements of `cashflows` in the table of paths, and those of a calculation period behind them
+-- the elements of `cashflows` in the table of paths, and those of a calculation period after them
 unfoldable pub flow_elements : List (List ℕ)
 flow_elements = take (flow_period - (cashflows + 1)) (drop (cashflows + 1) printed)
 

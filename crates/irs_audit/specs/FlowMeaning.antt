@@ -1,5 +1,4 @@
--- The cash flows that a document states: each field is the value of the leaf at its element, where the
--- leaf stands.
+-- The cash flows that a document states: each field is the value of the leaf at its element, where the leaf occurs.
 use Rattle.irs_audit.specs.FlowFaults.{payments_in, periods_in, periods_of}
 use Rattle.irs_audit.specs.FlowParts.{FlowPart}
 use Rattle.irs_audit.specs.declared.flows.FlowExchange.{FlowExchange}

@@ -32,7 +32,7 @@ kind_of K6 = Value
 kind_of K7 = Count
 kind_of k = NotJson
 
--- a refusal tells kind and place of the first fault, and never that there is no JSON
+-- a refusal has kind and place of the first fault, and is never that there is no JSON
 pub record IsFirstShape (d : Data) (kind : ShapeKind) (place : Place) : Type 0 where
   pub fault : Broken
   pub first : IsFirstBroken (FlowFault d) (Some fault)

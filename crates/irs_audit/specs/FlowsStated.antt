@@ -1,5 +1,5 @@
--- That nothing is passed over in the cash flows of a document: what must stand stands, and each leaf that
--- stands has a value of its kind. So a field of what is read is absent exactly where its leaf is.
+-- Nothing is passed over in the cash flows of a document. What must occur does, and each leaf that occurs has a value
+-- of its kind. So a field of what is read is absent exactly where its leaf is.
 use Rattle.irs_audit.specs.FlowFaults.{payments_in, periods_of}
 use Rattle.irs_audit.specs.FlowLines.{flow_names, flow_rows, period_names, period_rows}
 use Rattle.irs_elements.specs.Find.{once, values_in}

@@ -14,8 +14,8 @@ IsNumber units places stated = (stated *ℤ pos (10 ^ places)) ≡ (units *ℤ p
 abbrev pub IsAmount : Dec → ℤ → Type 0
 IsAmount v stated = IsNumber v.units v.places stated
 
--- A stated fraction is that of a period: with fewer than four decimals it is equal to it, with four or more it is
--- the period's fraction rounded to the nearest of that many decimals. No flows are read with more than twelve.
+-- A stated fraction is that of a period. With fewer than four decimals it is equal to it. With four or more it is the
+-- period's fraction rounded to the nearest of that many decimals. No flows are read with more than twelve.
 pub record IsFraction (f : Frac) (stated : StatedFraction) : Type 0 where
   pub decimals : stated.places ≤ 12
   pub exact : stated.places < 4 → (stated.units *ℤ f.den) ≡ (f.num *ℤ pos (10 ^ stated.places))

@@ -41,8 +41,8 @@ fn first_of_stream(
     }
 }
 
-// The first departure. Where a stream of the flows is past the one behind the schedule's last, that one
-// departs too.
+// The first departure. Where a stream of the flows is past the one after the schedule's last, that
+// one departs too.
 fn first_departure(ours: &[StreamPart], theirs: &[FlowStream]) -> Option<Departure>
     requires { length ours.now ≤ 8 }
     ensures { IsFirst departs_before (Departs theirs.now ours.now) result }
@@ -69,10 +69,10 @@ fn verdict(s: &Schedule, f: &Flows) -> Verdict
     }
 }
 
-/// Whether the flows agree with the schedule (FpML 5, `cashflows` of an InterestRateStream; the rules of
-/// agreement are this project's own). `No` comes exactly where a row or a field departs, with the first
-/// departure by stream, kind of row, row and field; `Yes` counts the schedule's exchanges, payments,
-/// calculation periods and resets, and its payments without amount. It takes no memory.
+/// Whether the flows agree with the schedule (FpML 5, `cashflows` of an InterestRateStream). The
+/// rules of agreement are ours. `No` comes exactly where a row or a field departs, with the first
+/// departure by stream, kind of row, row and field. `Yes` counts the schedule's exchanges,
+/// payments, calculation periods and resets, and its payments without amount. It takes no memory.
 pub fn audit(s: &Schedule, f: &Flows) -> Verdict
     ensures verdict { IsVerdict f.now s.now result }
     ensures no { IsNo result ↔ ((d : Departure) × Departs f.now s.now d) }

@@ -10,7 +10,7 @@ use crate::StatedFraction;
 use irs_base::{Day, Dec, Direction, round};
 use irs_terms::{Currency, Frac};
 
-// With at least so many decimals a stated fraction is rounded, with fewer it is exact.
+// A stated fraction with at least this number of decimals is rounded; one with fewer is exact.
 const LEAST_ROUNDED: u8 = 4;
 
 fn quotient(p: i128, q: i128) -> i128

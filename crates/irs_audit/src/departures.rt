@@ -1,5 +1,5 @@
-//! Departures: where cash flows don't agree with a schedule. The order of streams, kinds of rows, rows
-//! and fields in which they are told is this project's own.
+//! Departures: where cash flows don't agree with a schedule. They are reported by streams, kinds of
+//! rows, rows and fields, in an order that is our rule.
 
 /// A kind of rows, in the order in which they are compared.
 #[derive(Clone, Copy, PartialEq, Eq)]
@@ -16,8 +16,8 @@ pub enum RowKind {
     Reset,
 }
 
-/// What departs: the whole row, or the field of that name in FpML `cashflows`, in the order in which
-/// the fields of a row are compared.
+/// What departs: the whole row, or the field of that name in FpML `cashflows`. The order is that in
+/// which the fields of a row are compared.
 #[derive(Clone, Copy, PartialEq, Eq)]
 pub enum Field {
     /// The schedule has the row and the flows lack it.
@@ -80,8 +80,8 @@ pub struct Departure {
 /// The verdict of an audit.
 #[derive(Clone, Copy)]
 pub enum Verdict {
-    /// The flows agree with the schedule: how many exchanges, payments, calculation periods and resets
-    /// the schedule has, and how many of its payments have no amount yet.
+    /// The flows agree with the schedule. It counts the exchanges, payments, calculation periods
+    /// and resets of the schedule, and its payments that have no amount yet.
     Yes { rows: u32, unfixed: u32 },
     /// The flows depart from it, and here first.
     No(Departure),

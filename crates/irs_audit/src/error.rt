@@ -5,7 +5,7 @@ ghost use Rattle.std.specs.Prelude.{◌≡◌};
 use irs_base::{Memory, Place};
 use thiserror::Error;
 
-/// How a document of cash flows is out of shape, in the order in which faults are told.
+/// How a document of cash flows is out of shape, in the order in which faults are reported.
 #[derive(Clone, Copy, Debug, PartialEq, Eq)]
 pub enum ShapeKind {
     /// The text has no JSON reading. `read_flows` takes a value and never answers it.
@@ -20,7 +20,7 @@ pub enum ShapeKind {
     Profile,
     /// A leaf's text is outside its grammar.
     Value,
-    /// An element stands too often, or `fixedRate` and `calculatedRate` both stand in a period.
+    /// An element occurs too often, or a period has both `fixedRate` and `calculatedRate`.
     Count,
 }
 

@@ -1,7 +1,8 @@
 //! The first fault of a document of cash flows: its own, and those of its streams, of their
-//! `cashflows`, and of the calculation periods, which are counted through all payments of a stream.
+//! `cashflows`, and of the calculation periods. Periods are counted through all payments of a
+//! stream.
 //!
-//! The carrier, the table and the order of faults are this project's own.
+//! The carrier, the table and the order of faults are our rule.
 ghost use Rattle.irs_audit.specs.FlowFaults.{CashflowsFault, FlowFault, OnceFault, OwnFault, PeriodFault, PeriodsFault};
 ghost use Rattle.irs_audit.specs.FlowFaults.{PeriodsFrom, StreamFault, StreamsFault, SwapFault, at as at_of};
 ghost use Rattle.irs_audit.specs.FlowFaults.{has_both_rates as has_both_rates_of};
@@ -51,7 +52,7 @@ fn is_odd(v: &Value, name: &str) -> bool
     }
 }
 
-// Whether `v` is an object whose `@id` and `@href` are texts where they stand.
+// Whether `v` is an object whose `@id` and `@href`, where they occur, are texts.
 fn is_sound(v: &Value) -> bool
     ensures { result ≡ is_sound_of (view v.now) }
 {
@@ -81,7 +82,7 @@ fn sole(list: &[Value]) -> Option<&Value>
     }
 }
 
-// Whether `calculatedRate` stands in the one `floatingRateDefinition` of a period.
+// Whether the one `floatingRateDefinition` of a period has a `calculatedRate`.
 fn has_calculated_rate(v: &Value) -> bool
     ensures { result ≡ has_calculated_rate_of (view v.now) }
 {
@@ -91,7 +92,7 @@ fn has_calculated_rate(v: &Value) -> bool
     }
 }
 
-// Whether both rates stand in a period.
+// Whether a period has both rates.
 fn has_both_rates(v: &Value) -> bool
     ensures { result ≡ has_both_rates_of (view v.now) }
 {
@@ -122,7 +123,7 @@ fn period_fault(stream: u8, number: u32, v: &Value) -> Option<Broken>
     earlier(own, both_rates_fault(stream, v))
 }
 
-// The first fault of calculation periods that come behind so many others.
+// The first fault of calculation periods that come after the first `before` of the stream.
 fn periods_behind(stream: u8, before: u32, list: &[Value]) -> Option<Broken>
     requires { before + length list.now < 2 ^ 32 }
     ensures { IsFirstBroken (PeriodsFrom stream before (map view list.now)) result }
@@ -202,7 +203,7 @@ fn cashflows_fault(stream: u8, v: &Value) -> Option<Broken>
     earlier(own, periods_fault(stream, payments_of(Some(v))))
 }
 
-// The first fault of the values of `cashflows`, which stands once.
+// The first fault of the values of `cashflows`, which occurs once.
 fn once_fault(stream: u8, list: &[Value]) -> Option<Broken>
     ensures { IsFirstBroken (OnceFault stream (map view list.now)) result }
 {

@@ -66,13 +66,13 @@ fn flows_of(alloc: Global, v: &Value) -> Result<Flows, Memory>
 }
 
 /// The cash flows that a document states. `Shape` comes exactly where the document has a fault, and
-/// tells the first: the least stream, then the kind in the order of `ShapeKind`, then the element in the
-/// order of the table, then the index. They are the rules K2 to K7 read on the tables of cash flows;
-/// `NotJson` is never answered. Dates are day numbers from 1970-01-01, amounts and rates in units of
-/// 10^-12.
+/// has the first. Faults are in the order of their streams, and then of their kinds (`ShapeKind`).
+/// Those of one kind are in the order of the table's elements, and then of the index. The faults
+/// are the rules K2 to K7 on the tables of cash flows; `NotJson` never comes. Dates are day numbers
+/// from 1970-01-01, amounts and rates in units of 10^-12.
 pub fn read_flows(alloc: Global, v: &Value) -> Result<Flows, FlowErr>
     ensures flows { IfOk result (λ flows. FlowsOf (view v.now) flows) }
-    // No field is passed over: each leaf that stands has a value of its kind.
+    // No field is passed over: each leaf that occurs has a value of its kind.
     ensures stated { IfOk result (λ _. EachFlowStated (view v.now)) }
     ensures fault { IfErr result (λ e. IsFirstFault (view v.now) e) }
 {

@@ -36,7 +36,7 @@ fn reset_of(v: &Value) -> Option<FlowReset>
     }
 }
 
-// The first of two amounts that stands.
+// The first of two amounts that is there.
 fn first_of(a: Option<i128>, b: Option<i128>) -> Option<i128>
     ensures { result ≡ either a b }
 {

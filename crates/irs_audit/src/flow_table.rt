@@ -1,9 +1,9 @@
 //! The tables of the elements of cash flows (FpML `cashflows` of an InterestRateStream).
 //!
-//! There are two: one of what stands in `cashflows`, and one of a calculation period. In the first the
-//! calculation periods are passed over, since they are counted through all payments of the stream and
-//! each is looked into with that number. The order of the rows, the counts, and which elements are in
-//! the profile, are this project's own.
+//! There are two: one of the elements of `cashflows`, and one of a calculation period. In the first
+//! the calculation periods are passed over. They are counted through all payments of the stream,
+//! and each is looked into with that number. The order of the rows, the counts, and which elements
+//! are in the profile, are our rule.
 ghost use Rattle.irs_audit.specs.FlowLines.{flow_elements, flow_names, flow_rows, flow_table, period_elements};
 ghost use Rattle.irs_audit.specs.FlowLines.{period_names, period_rows, period_table};
 ghost use Rattle.irs_elements.specs.Lines.{Line};
@@ -20,24 +20,24 @@ pub const FLOWS: Kind = Kind::Object(Choice::Free);
 
 /// The rows of `cashflows`: parent, place among the elements, kind, count.
 pub const FLOW_ROWS: [Row; 18] = [
-    row!(0, 131, FLOWS, Count::One),
-    row!(0, 132, OBJECT, Count::UpTo(MOST_ROWS)),
-    row!(1, 133, Kind::Leaf(Leaf::Date), Count::Maybe),
-    row!(1, 134, Kind::Leaf(Leaf::Date), Count::Maybe),
-    row!(1, 135, Kind::Leaf(Leaf::Amount), Count::Maybe),
-    row!(0, 136, OBJECT, Count::UpTo(MOST_ROWS)),
-    row!(5, 137, Kind::Leaf(Leaf::Date), Count::Maybe),
-    row!(5, 138, Kind::Leaf(Leaf::Date), Count::Maybe),
-    row!(5, 139, OBJECT, Count::Maybe),
-    row!(8, 140, Kind::Leaf(Leaf::CurrencyName), Count::Maybe),
-    row!(8, 141, Kind::Leaf(Leaf::Amount), Count::Maybe),
-    row!(0, 131, Kind::Passed, Count::Maybe),
-    row!(1, 131, Kind::Passed, Count::Maybe),
-    row!(1, 131, Kind::Passed, Count::Maybe),
-    row!(5, 131, Kind::Passed, Count::Maybe),
-    row!(5, 131, Kind::Passed, Count::Maybe),
-    row!(5, 131, Kind::Passed, Count::Maybe),
-    row!(5, 131, Kind::Refused, Count::Maybe),
+    row!(0, 141, FLOWS, Count::One),
+    row!(0, 142, OBJECT, Count::UpTo(MOST_ROWS)),
+    row!(1, 143, Kind::Leaf(Leaf::Date), Count::Maybe),
+    row!(1, 144, Kind::Leaf(Leaf::Date), Count::Maybe),
+    row!(1, 145, Kind::Leaf(Leaf::Amount), Count::Maybe),
+    row!(0, 146, OBJECT, Count::UpTo(MOST_ROWS)),
+    row!(5, 147, Kind::Leaf(Leaf::Date), Count::Maybe),
+    row!(5, 148, Kind::Leaf(Leaf::Date), Count::Maybe),
+    row!(5, 149, OBJECT, Count::Maybe),
+    row!(8, 150, Kind::Leaf(Leaf::CurrencyName), Count::Maybe),
+    row!(8, 151, Kind::Leaf(Leaf::Amount), Count::Maybe),
+    row!(0, 141, Kind::Passed, Count::Maybe),
+    row!(1, 141, Kind::Passed, Count::Maybe),
+    row!(1, 141, Kind::Passed, Count::Maybe),
+    row!(5, 141, Kind::Passed, Count::Maybe),
+    row!(5, 141, Kind::Passed, Count::Maybe),
+    row!(5, 141, Kind::Passed, Count::Maybe),
+    row!(5, 141, Kind::Refused, Count::Maybe),
 ];
 
 /// The name at each row of `cashflows`.
@@ -62,7 +62,7 @@ pub const FLOW_NAMES: [&str; 18] = [
     "fixedPaymentAmount",
 ];
 
-/// For each row of `cashflows` the number of the row behind its last member; 0 where it has none.
+/// For each row of `cashflows` the number of the row after its last member; 0 where it has none.
 pub const FLOW_ENDS: [usize; 18] = [12, 14, 0, 0, 0, 18, 0, 0, 11, 0, 0, 0, 0, 0, 0, 0, 0, 0];
 
 /// What a calculation period is: an object.
@@ -70,31 +70,31 @@ pub const PERIOD: Kind = Kind::Object(Choice::Free);
 
 /// The rows of a calculation period.
 pub const PERIOD_ROWS: [Row; 25] = [
-    row!(0, 142, PERIOD, Count::One),
-    row!(0, 143, Kind::Leaf(Leaf::Date), Count::Maybe),
-    row!(0, 144, Kind::Leaf(Leaf::Date), Count::Maybe),
-    row!(0, 145, Kind::Leaf(Leaf::Date), Count::Maybe),
-    row!(0, 146, Kind::Leaf(Leaf::Date), Count::Maybe),
-    row!(0, 147, Kind::Leaf(Leaf::Whole), Count::Maybe),
-    row!(0, 148, Kind::Leaf(Leaf::Amount), Count::Maybe),
-    row!(0, 149, Kind::Leaf(Leaf::Amount), Count::Maybe),
-    row!(0, 150, Kind::Leaf(Leaf::Fraction), Count::Maybe),
-    row!(0, 151, OBJECT, Count::Maybe),
-    row!(9, 152, Kind::Leaf(Leaf::Amount), Count::Maybe),
-    row!(9, 153, OBJECT, Count::Maybe),
-    row!(11, 154, Kind::Leaf(Leaf::Date), Count::Maybe),
-    row!(11, 155, Kind::Leaf(Leaf::Date), Count::Maybe),
-    row!(11, 156, Kind::Leaf(Leaf::Amount), Count::Maybe),
-    row!(0, 142, Kind::Passed, Count::Maybe),
-    row!(0, 142, Kind::Passed, Count::Maybe),
-    row!(9, 142, Kind::Passed, Count::Maybe),
-    row!(9, 142, Kind::Passed, Count::Maybe),
-    row!(11, 142, Kind::Passed, Count::Maybe),
-    row!(11, 142, Kind::Passed, Count::Maybe),
-    row!(11, 142, Kind::Passed, Count::Maybe),
-    row!(0, 142, Kind::Refused, Count::Maybe),
-    row!(9, 142, Kind::Refused, Count::Maybe),
-    row!(9, 142, Kind::Refused, Count::Maybe),
+    row!(0, 152, PERIOD, Count::One),
+    row!(0, 153, Kind::Leaf(Leaf::Date), Count::Maybe),
+    row!(0, 154, Kind::Leaf(Leaf::Date), Count::Maybe),
+    row!(0, 155, Kind::Leaf(Leaf::Date), Count::Maybe),
+    row!(0, 156, Kind::Leaf(Leaf::Date), Count::Maybe),
+    row!(0, 157, Kind::Leaf(Leaf::Whole), Count::Maybe),
+    row!(0, 158, Kind::Leaf(Leaf::Amount), Count::Maybe),
+    row!(0, 159, Kind::Leaf(Leaf::Amount), Count::Maybe),
+    row!(0, 160, Kind::Leaf(Leaf::Fraction), Count::Maybe),
+    row!(0, 161, OBJECT, Count::Maybe),
+    row!(9, 162, Kind::Leaf(Leaf::Amount), Count::Maybe),
+    row!(9, 163, OBJECT, Count::Maybe),
+    row!(11, 164, Kind::Leaf(Leaf::Date), Count::Maybe),
+    row!(11, 165, Kind::Leaf(Leaf::Date), Count::Maybe),
+    row!(11, 166, Kind::Leaf(Leaf::Amount), Count::Maybe),
+    row!(0, 152, Kind::Passed, Count::Maybe),
+    row!(0, 152, Kind::Passed, Count::Maybe),
+    row!(9, 152, Kind::Passed, Count::Maybe),
+    row!(9, 152, Kind::Passed, Count::Maybe),
+    row!(11, 152, Kind::Passed, Count::Maybe),
+    row!(11, 152, Kind::Passed, Count::Maybe),
+    row!(11, 152, Kind::Passed, Count::Maybe),
+    row!(0, 152, Kind::Refused, Count::Maybe),
+    row!(9, 152, Kind::Refused, Count::Maybe),
+    row!(9, 152, Kind::Refused, Count::Maybe),
 ];
 
 /// The name at each row of a calculation period.
@@ -140,14 +140,15 @@ pub fn flow_tables_listed()
     ensures period_names { map (λ n. n.now) PERIOD_NAMES ≡ period_names }
 {}
 
-/// The lines are the elements of the table of paths from behind `cashflows` to its end, in its order.
+/// The lines are the elements of the table of paths from after `cashflows` to its end, in its
+/// order.
 #[tactic(auto, using(crate::proofs::FlowLaws::flow_lines_are, crate::proofs::FlowLaws::period_lines_are))]
 pub fn flow_lines_follow()
     ensures flows { map (λ (l : Line). l.path) flow_table.lines ≡ flow_elements }
     ensures periods { map (λ (l : Line). l.path) period_table.lines ≡ period_elements }
 {}
 
-/// The rows of `cashflows` are whole: each stands behind its parent, a choice is among the members of
+/// The rows of `cashflows` are whole. Each comes after its parent, a choice is among the members of
 /// its row, and no two rows of one parent have one name.
 pub fn flow_rows_whole()
     ensures { is_whole FLOW_ROWS 1 (drop 1 FLOW_ROWS) (drop 1 (map (λ n. n.now) FLOW_NAMES)) ≡ true }

@@ -26,7 +26,7 @@ pub struct FlowPayment {
     pub unadjusted: Option<Day>,
     /// `adjustedPaymentDate`.
     pub adjusted: Option<Day>,
-    /// How many calculation periods stand in the payment.
+    /// The number of calculation periods in the payment.
     pub periods: u32,
     /// `forecastPaymentAmount/currency`.
     pub currency: Option<Currency>,

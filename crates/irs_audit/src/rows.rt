@@ -106,9 +106,9 @@ fn first_row(
     None
 }
 
-/// The first departure among the rows of a stream. Where a row departs that is past the one behind the
-/// schedule's last, that one departs too; and so a period does where a reset departs that is past the
-/// schedule's last period.
+/// The first departure among the rows of a stream. Where a row departs that is past the one after
+/// the schedule's last, that one departs too. So does a period where a reset departs that is past
+/// the schedule's last period.
 pub(crate) fn first_of_rows(stream: u8, ours: &StreamPart, theirs: &FlowStream) -> Option<Departure>
     ensures { IsFirst departs_before (AmongStream stream ours.now theirs.now) result }
 {

@@ -1,5 +1,5 @@
 //! The cash flows that state a schedule: a row for each of its rows, with each field that it knows.
-//! That they state every field, and fractions with ten decimals, is this project's own.
+//! That they state every field, and fractions with ten decimals, is our rule.
 ghost use Rattle.std.specs.Prelude.{◌≡◌, ◌+◌, ◌-◌, ◌<◌, ◌*◌, ◌^◌, ◌*ℤ◌, unsigned_abs, map};
 ghost use Rattle.std.specs.Prelude.{option_map, slice_get, IfOk, IfSome};
 ghost use Rattle.irs_audit.specs.Agreement.{Agrees};
@@ -192,11 +192,11 @@ fn flows(alloc: Global, s: &Schedule) -> Result<Flows, Memory>
     Ok(Flows::new(streams))
 }
 
-/// The cash flows that state a schedule (FpML 5, `cashflows` of an InterestRateStream; which fields are
-/// stated is this project's own): a row for each of its rows, with every field that is compared. Amounts,
-/// notionals and rates are stated as they are, in units of 10^-12, and a fraction with ten decimals,
-/// rounded to the nearest; what the schedule doesn't know isn't stated. These flows agree with the
-/// schedule, so `audit` says yes to them. `Memory` comes only for want of memory.
+/// The cash flows that state a schedule (FpML 5, `cashflows` of an InterestRateStream). There is a
+/// row for each of its rows, with every field that is compared; which fields are stated is our
+/// rule. Amounts, notionals and rates are stated as they are, in units of 10^-12. A fraction has
+/// ten decimals, rounded to the nearest. What the schedule doesn't know isn't stated. These flows
+/// agree with the schedule, so `audit` says yes to them. `Memory` comes only where memory ran out.
 pub fn flows_of(alloc: Global, s: &Schedule) -> Result<Flows, Memory>
     ensures value { IfOk result (λ f. f ≡ stated_flows s.now) }
     ensures agrees { Agrees (stated_flows s.now) s.now }

@@ -39,6 +39,7 @@ use Rattle.irs_average.proofs.SampleLemmas.{one_samples, shares_out}
 abbrev pub source_with : AverageAsked → Part → FloatTerms → MeanSource
 source_with a part float = mean_source part (averaging_by a.kind a.step a.of.days (own_lines a.of.rates float))
 
+-- the part of a stream that pays floating is what its averages are worked out from
 pub has_mean_source : (a : AverageAsked) (float : FloatTerms) → PaysFloating a.of.swap a.of.number float → (part : Part)
     → slice_get a.of.parts (a.of.number - 1) ≡ Some part → HasMeanSource a (source_with a part float)
 has_mean_source a float pays part at = record { float = float; pays = pays; part = part; at = at; is = refl }
@@ -53,15 +54,18 @@ one_mean_source a x y p q =
     p.is ∙ same ∙ sym q.is
 
 module _ (a : AverageAsked) (source : MeanSource) (has : HasMeanSource a source) where
+  -- means over that source are the averages of the stream
   pub average_rows : (rows : List DerivedRow) → AreMeans source rows → IsAverage a rows
   average_rows rows are = record { source = source; has = has; are = are }
 
   breaks_source : (f : Fault) → BreaksAverage a f → BreaksMeans source f
   breaks_source f b = subst (λ (s : MeanSource). BreaksMeans s f) (one_mean_source a b.source source b.has has) b.breaks
 
+  -- where no rule is broken over that source, none is for the stream
   pub average_kept : ((f : Fault) → BreaksMeans source f → ⊥) → AverageKept a
   average_kept kept f b = kept f (breaks_source f b)
 
+  -- the first rule broken over that source is the first for the stream
   pub average_broken : (f : Fault) (x : Broken) → First derived_before (BreaksMeans source) f
       → x ≡ in_stream a.of.number f → IsFirstOfAverage a x
   average_broken f x first is = record {

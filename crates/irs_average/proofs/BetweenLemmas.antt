@@ -15,10 +15,12 @@ times k a b h =
     let f : k * (up a + down b) ≤ k * (up b + down a) = mul-le-mul_left k e in
     omega (arith, signed_arith, f)
 
+-- a weight keeps the order of two numbers
 pub scaled : (a b w : ℤ) → a ≤ℤ b → pos 0 ≤ℤ w → (a *ℤ w) ≤ℤ (b *ℤ w)
 scaled a b (pos k) h low = let f = times k a b h in omega (arith, signed_arith, f)
 scaled a b (negsuc k) h low = absurd (omega (arith, signed_arith, low))
 
+-- a weight spreads over a sum
 pub spread : (a v w : ℤ) → a *ℤ (v +ℤ w) ≡ a *ℤ v +ℤ a *ℤ w
 spread a v w =
     let e : up (v +ℤ w) + down v + down w ≡ up v + up w + down (v +ℤ w) = omega (arith, signed_arith) in
@@ -61,6 +63,7 @@ pub small_within : (n : ℕ) (x : ℤ) → (neg_ℤ (pos n) ≤ℤ x) × (x ≤�
 small_within n (pos a) h = omega (arith, signed_arith, h)
 small_within n (negsuc a) h = omega (arith, signed_arith, h)
 
+-- a number of bounded size lies between the bounds
 pub within_small : (n : ℕ) (x : ℤ) → unsigned_abs x ≤ n → (neg_ℤ (pos n) ≤ℤ x) × (x ≤ℤ pos n)
 within_small n (pos a) h = (omega (arith, signed_arith, h), omega (arith, signed_arith, h))
 within_small n (negsuc a) h = (omega (arith, signed_arith, h), omega (arith, signed_arith, h))

@@ -45,6 +45,7 @@ stream_resets sets fix s p h q is f breaks =
     let same : is.layout ≡ h.0 = one_layout sets s is.layout h.0 is.is_layout (layout_is sets s h.0 kept) in
     h.2.1.2.2.1.0 f (subst (λ m. BreaksResets (resets_over sets s m) f) same breaks)
 
+-- a schedule of dates that break no rule breaks none on resets
 pub no_resets_broken : (swap : Swap) (cal : List Section) (fix : RateTable) → IsLawful swap → BreaksNone swap cal
     → DatedKept swap cal fix → (i : ℕ) (s : Stream) → slice_get swap.streams i ≡ Some s → (q : Part)
     (is : IsPart (stream_sets cal s) fix s q) (f : Fault)

@@ -16,7 +16,7 @@ use Rattle.irs_average.specs.StubRates.{IsFoundBetween, IsOnLine, IsStubFound, I
 use Rattle.irs_average.proofs.BetweenLemmas.{line_within, rounded_within, small_within, within_small}
 use Rattle.irs_average.proofs.TenorLemmas.{one_tenor}
 
--- the value that stands on the line
+-- the value on the line
 abbrev pub weighed : ℤ → ℤ → ℤ → ℤ → ℤ
 weighed low high width days = low *ℤ width +ℤ (high -ℤ low) *ℤ days
 
@@ -33,6 +33,7 @@ rounded_on_line low high width days x l g above from to r a b =
     let within = line_within low high width days l g from to a b in
     rounded_within (weighed low high width days) width x l g above r within.0 within.1
 
+-- a rate on the line between two rates is a rate in range
 pub line_small : (low high width days x : ℤ) → pos 0 <ℤ width → pos 0 ≤ℤ days → days ≤ℤ width
     → Rounded Nearest (weighed low high width days) width x → IsRate low → IsRate high → IsRate x
 line_small low high width days x above from to r a b =
@@ -71,6 +72,7 @@ module _ (low high : Option ℤ) (near far end fixing : ℤ) (order : near <ℤ 
 
 -- there is one row
 module _ (source : StubSource) (period : ℕ) where
+  -- a stub has one row
   pub one_stub_row : (x y : DerivedRow) → IsStubRow source period x → IsStubRow source period y → x ≡ y
   one_stub_row x y p q =
       let near : p.near ≡ q.near =

@@ -46,6 +46,7 @@ divisor_is : (kind : Mean) (days : ℤ) (os : List Observation) → ShareOut day
 divisor_is Plain days os h = sym (sum_of_ones os)
 divisor_is Weighted days os h = sym h.whole
 
+-- the divisor of a mean is above 0
 pub divisor_above : (kind : Mean) (days : ℤ) (os : List Observation) → pos 0 <ℤ days → 0 < length os
     → pos 0 <ℤ divisor kind days os
 divisor_above Plain days os above some = omega (arith, signed_arith, some)
@@ -127,5 +128,6 @@ module _ (kind : Mean) (days : ℤ) (os : List Observation) (above : pos 0 <ℤ 
       (divisor_above kind days os above shares.some) in
       (Rate x.0, record { known = e; rounded = x.1 })
 
+  -- the observations have a mean, or a first day without a rate
   pub mean_there : (found : Found) × IsMeanFound kind days os found
   mean_there = mean_by (first_absent os) refl

@@ -50,6 +50,7 @@ module _ (source : MeanSource) where
     ],
   )
 
+  -- where no fixing date is out of order and no observation is lacking, no rule is broken
   pub means_kept : ((n : ℕ) → NotAfter source.resets n → ⊥) → ((f : Fault) → BreaksSamples source f → ⊥) → (f : Fault)
       → BreaksMeans source f → ⊥
   means_kept rising samples f b = elim b [

@@ -17,6 +17,7 @@ use Rattle.irs_average.specs.MeanSources.{MeanSource, mean_period_at}
 use Rattle.irs_average.proofs.MeanLemmas.{mean_there, one_mean_found}
 use Rattle.irs_average.proofs.SampleLemmas.{one_samples, samples_there, shares_out}
 
+-- a period has a day at least
 pub longer : (s e : ℤ) → s <ℤ e → pos 0 <ℤ (e -ℤ s)
 longer s e h = omega (arith, signed_arith, h)
 
@@ -45,6 +46,7 @@ module _ (source : MeanSource) (rises : Rises source.adjusted) where
       same_row x.period y.period x.fixing y.fixing x.found y.found (p.period ∙ sym q.period) (p.fixing
       ∙ sym q.fixing) found
 
+  -- a source has one list of averages
   pub one_means : (xs ys : List DerivedRow) → AreMeans source xs → AreMeans source ys → xs ≡ ys
   one_means xs ys p q =
       let a = p.many in

@@ -19,8 +19,9 @@ use Rattle.irs_average.specs.Means.{ShareOut, sum_over}
 use Rattle.irs_average.specs.Samples.{AreSamples, IsSample, LacksSample, step_day, step_end}
 use Rattle.irs_average.proofs.StepCounts.{before_end, multiples_below, one_count}
 
--- ---- what stands at a place
+-- ---- what is at a place
 
+-- the element at a place of a numbered list has what its number says
 pub numbered_read : {X : Type 0} (P : ℕ → X → Type 0) (n k : ℕ) (xs : List X) (d : X) → EachNumbered P n xs
     → k < length xs → P (n + k) (get_or xs k d)
 numbered_read P n k [] d h low = absurd (omega (arith, low))
@@ -41,7 +42,7 @@ first_of (o ∷ os) some = o
 
 -- ---- steps
 
--- the day of a step, or the end of the period behind all of them
+-- the day of a step, or the end of the period after all of them
 abbrev point : ℤ → ℤ → ℕ → ℕ → ℕ → ℤ
 point s e step n k = if nat_lt k n then step_day s step k else e
 
@@ -67,7 +68,7 @@ none_left : (e x : ℤ) → x ≡ e → pos 0 ≡ e -ℤ x
 none_left e x h = omega (arith, signed_arith, h)
 
 module _ (lines : RateLines) (set : DaySet) (s e : ℤ) (step n : ℕ) where
-  -- the weights behind a place are the days from there to the end
+  -- the weights after a place are the days from there to the end
   weights_left : (m : ℕ) (os : List Observation) → EachNumbered (IsSample lines set s e step n) m os → m + length os ≡ n
       → sum_over (λ o. o.weight) os ≡ e -ℤ point s e step n m
   weights_left m [] h all =
@@ -115,6 +116,7 @@ module _ (lines : RateLines) (set : DaySet) (s e : ℤ) (step n : ℕ) where
     small = All-push IsSmall os o h.small small;
   }
 
+  -- one observation more
   pub samples_pushed : (k : ℕ) (os pushed : List Observation) (o : Observation) → Samples k os
       → IsSample lines set s e step n k o → IsSmall o → pushed ≡ os ++ o ∷ [] → Samples (k + 1) pushed
   samples_pushed k os pushed o h is small e = subst (Samples (k + 1)) (sym e) (samples_more k os o h is small)
@@ -152,6 +154,7 @@ module _ (lines : RateLines) (set : DaySet) (step : ℕ) (s e : ℤ) where
         whole = weights_left lines set s e step n 0 os are.each (omega arith) ∙ ap (λ (x : ℤ). e -ℤ x) start;
       }
 
+  -- an observation made of its parts
   abbrev sample_by : ℤ → ℤ → Option ℤ → Observation
   sample_by d w r = record { day = d; weight = w; rate = r }
 
@@ -201,9 +204,10 @@ module _ (lines : RateLines) (set : DaySet) (step : ℕ) (s e : ℤ) where
       some_days : (s e : ℤ) (n : ℕ) → s <ℤ e → s +ℤ pos n ≡ e → 1 ≤ n
       some_days s e n order is = omega (arith, signed_arith, order, is)
 
--- ---- behind the loop
+-- ---- after the loop
 
 module _ (lines : RateLines) (set : DaySet) (s e : ℤ) (step n : ℕ) where
+  -- as many observations as steps are all of the period
   pub whole : (k : ℕ) (os : List Observation) → ((j : ℕ) → j < n ↔ step_day s step j <ℤ e) → n ≤ k → k ≤ n
       → Samples lines set s e step n k os → AreSamples lines set step s e os
   whole k os counted from to h = let many = h.many in

@@ -15,6 +15,7 @@ less m d some h = omega (arith, some, h)
 no_more : (m d : ℕ) → m < d → m ≤ d - 1
 no_more m d h = omega (arith, h)
 
+-- the steps that begin before the end are those below (days - 1) / step + 1
 pub multiples_below : (days step k : ℕ) → 1 ≤ days → 1 ≤ step → k < (days - 1) / step + 1 ↔ k * step < days
 multiples_below days step k some wide =
     let both : (k ≤ (days - 1) / step) ↔ (k * step ≤ days - 1) = le-div_iff_mul-le wide in (
@@ -26,6 +27,7 @@ multiples_below days step k some wide =
 pub before_end : (s e : ℤ) (days m : ℕ) → s +ℤ pos days ≡ e → m < days ↔ (s +ℤ pos m) <ℤ e
 before_end s e days m is = (λ h. omega (arith, signed_arith, is, h), λ h. omega (arith, signed_arith, is, h))
 
+-- a count with the same numbers below it is the same
 pub one_count : (m n : ℕ) (P : ℕ → Type 0) → ((k : ℕ) → k < m ↔ P k) → ((k : ℕ) → k < n ↔ P k) → m ≡ n
 one_count m n P a b =
     let not_less : m < n → ⊥ = λ h. let there = (a m).1 ((b m).0 h) in omega (arith, there) in

@@ -35,11 +35,13 @@ use Rattle.irs_average.specs.declared.stubs.Side.{Side}
 use Rattle.irs_average.specs.declared.stubs.Side.TheVariants.{Initial, Last}
 use Rattle.irs_average.proofs.LineLemmas.{one_stub_row, row_within}
 
--- ---- what is asked, as it is asked for compounded rates
+-- ---- the request, as for compounded rates
 
+-- the request, with the business days of the stream's reset dates
 abbrev pub with_days : (a : StubAsked) → IsStubAsked a → Asked
 with_days a h = asked a.swap a.number a.parts (reset_days h.calendars h.floats.1.stream) a.rates
 
+-- that request is one for compounded rates
 pub is_with_days : (a : StubAsked) (h : IsStubAsked a) → IsAsked (with_days a h)
 is_with_days a h = record {
   lawful = h.lawful;
@@ -94,6 +96,7 @@ stub_with a part index tenor =
     let period : ℕ = number_on a.side (length part.adjusted - 1) in
     record { period = period; tenor = tenor; source = stub_source part period index a.low a.high a.rates }
 
+-- a stream with an index for its stub has the stub
 pub has_stub : (a : StubAsked) → IsStubAsked a → (part : Part) → slice_get a.parts (a.number - 1) ≡ Some part
     → (index : List ℕ) (tenor : Option Frequency) → GivesIndex a.swap a.number a.side index tenor
     → HasStub a (stub_with a part index tenor)
@@ -148,6 +151,7 @@ numbered_on : (side : Side) (s : Stream) (span : Span) (n i : ℕ) → IsStubOn 
 numbered_on Initial s span n i h = h.1
 numbered_on Last s span n i h = h.1
 
+-- a stub made of its parts
 abbrev stub_by : ℕ → Option Frequency → StubSource → Stub
 stub_by period tenor source = record { period = period; tenor = tenor; source = source }
 
@@ -159,13 +163,14 @@ is_with a stub has =
     let source = has.is ∙ ap (λ (i : ℕ). stub_source has.part i stub.source.index a.low a.high a.rates) period in
     λ t. stub_by (period t) stub.tenor (source t)
 
+-- a side of a stream has one stub
 pub one_stub : (a : StubAsked) (x y : Stub) → HasStub a x → HasStub a y → x ≡ y
 one_stub a x y p q =
     let same = one_index a x.source.index y.source.index x.tenor y.tenor p.gives q.gives in
     let parts = some_part p.part q.part (sym p.at ∙ q.at) in
     is_with a x p ∙ (λ t. stub_with a (parts t) (same.0 t) (same.1 t)) ∙ sym (is_with a y q)
 
--- the tenors of its source are those that are asked
+-- the tenors of its source are those of the request
 low_of : (a : StubAsked) (stub : Stub) → HasStub a stub → stub.source.low ≡ a.low
 low_of a stub has = ap (λ (s : StubSource). s.low) has.is
 
@@ -217,6 +222,7 @@ pub row_there : (a : StubAsked) (r : Result DerivedRow Broken) → IfOk r (IsInt
 row_there a (Ok row) is broken kept = (row, is)
 row_there a (Err x) is broken kept = absurd (kept broken.fault broken.breaks)
 
+-- where there is a row, no rule is broken
 pub row_kept : (a : StubAsked) (r : Result DerivedRow Broken) → IfOk r (IsInterpolated a) → IfOk r (λ _. StubKept a)
 row_kept a (Ok row) is = row_keeps a row is
 row_kept a (Err x) is = tt

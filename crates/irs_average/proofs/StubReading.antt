@@ -74,6 +74,7 @@ number_few : (side : Side) (n : ℕ) → 1 ≤ n → n < 2 ^ 32 → number_on si
 number_few Initial n some few = omega arith
 number_few Last n some few = few
 
+-- a row with a rate in range prints a fixing file that gives its rate back
 pub stub_reads_back : (a : StubAsked) → IsStubAsked a → Every KeepsBounds a.parts → (row : DerivedRow)
     → IsInterpolated a row → IsInRange row → StubReadsBack a row
 stub_reads_back a h bounds row is range = λ stub has.
@@ -88,6 +89,7 @@ stub_reads_back a h bounds row is range = λ stub has.
     let small : row.period < 2 ^ 32 = subst (λ (n : ℕ). n < 2 ^ 32) (sym (is.is.number ∙ number)) short in
     are_fixings stub.tenor stub.source.index (row ∷ []) (lawful_stub a h stub has) (one_kept row range small)
 
+-- each row that is returned does so
 pub read_back : (a : StubAsked) → IsStubAsked a → Every KeepsBounds a.parts → (r : Result DerivedRow Broken)
     → IfOk r (IsInterpolated a) → IfOk r IsInRange → IfOk r (StubReadsBack a)
 read_back a h bounds (Ok row) is range = stub_reads_back a h bounds row is range

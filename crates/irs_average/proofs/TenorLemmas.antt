@@ -16,6 +16,7 @@ use Rattle.irs_average.specs.TenorEnds.{EndsMonths, EndsTenor, EndsUnits}
 same_number : (d s : ℤ) (m n : ℕ) → d ≡ s +ℤ pos m → d ≡ s +ℤ pos n → m ≡ n
 same_number d s m n a b = omega (arith, signed_arith, a, b)
 
+-- a number of months from a start ends on one day
 pub one_months : (start : ℤ) (months : ℕ) (a b : ℤ) → EndsMonths start months a → EndsMonths start months b → a ≡ b
 one_months start months a b p q =
     let month : p.month ≡ q.month = same_month start p.month q.month p.in_month q.in_month in
@@ -33,12 +34,13 @@ one_units M start count a b p q = one_months start count a b p q
 one_units Y start count a b p q = one_months start (12 * count) a b p q
 one_units T start count a b p q = absurd p
 
+-- a tenor from a start ends on one day
 pub one_tenor : (start : ℤ) (tenor : Frequency) (a b : ℤ) → EndsTenor start tenor a → EndsTenor start tenor b → a ≡ b
 one_tenor start tenor a b p q = one_units tenor.unit start tenor.count a b p q
 
 -- ---- by the calendar
 
--- a day's own number stands in its month
+-- a day's own number occurs in its month
 numbered_in : (start month : ℤ) (c : Civil) → IsDay start → InMonth start month → IsCivilOf start c
     → start +ℤ pos 1 ≡ month_start month +ℤ pos c.day
 numbered_in start month c day is has =
@@ -59,11 +61,13 @@ months_end start month c months day is has =
       ends = refl;
     }
 
+-- a day in range that is found is where the months end
 pub months_some : (start : ℤ) (months : ℕ) (o : Option ℤ) (x : ℤ) → SomeIff o (IsDay x) x → EndsMonths start months x
     → IfSome o (λ d. IsDay d × EndsMonths start months d)
 months_some start months None x h is = tt
 months_some start months (Some d) x h is = (subst IsDay (sym h.1) h.0, subst (EndsMonths start months) (sym h.1) is)
 
+-- where no day is found, the months end out of range
 pub months_none : (start : ℤ) (months : ℕ) (o : Option ℤ) (x : ℤ) → SomeIff o (IsDay x) x → EndsMonths start months x
     → IfNone o ((d : ℤ) → IsDay d → EndsMonths start months d → ⊥)
 months_none start months None x h is = λ d day ends. h (subst IsDay (one_months start months d x ends is) day)
@@ -71,6 +75,7 @@ months_none start months (Some d) x h is = tt
 
 -- ---- around an end
 
+-- where two tenors don't end around the stub's end, nothing lies between them
 pub not_around : (start end : ℤ) (low high : Frequency) (near far : ℤ) → EndsTenor start low near
     → EndsTenor start high far → ((near <ℤ far) × (near ≤ℤ end) × (end ≤ℤ far) → ⊥) → (x y : ℤ)
     → LiesBetween start end low high x y → ⊥
@@ -82,5 +87,6 @@ not_around start end low high near far a b none x y h =
     let by_last : LiesBetween start end low high near far = subst (LiesBetween start end low high near) last by_first in
     none (by_last.order, by_last.from, by_last.to)
 
+-- what is false isn't true
 pub is_not : (b : Bool) → b ≡ false → IsTrue b → ⊥
 is_not b p q = cc (p, q)

@@ -1,4 +1,4 @@
--- The averages that are asked for a stream of a swap, and the first broken rule.
+-- The averages of a stream of a swap, and the first broken rule.
 use Rattle.std.specs.Prelude.{◌≡◌, ℕ, ◌-◌, ◌≤◌, List, Some, ℤ, slice_get}
 use Rattle.irs_base.specs.Faults.{in_stream}
 use Rattle.irs_base.specs.Order.{First}
@@ -25,17 +25,17 @@ use Rattle.irs_average.specs.declared.means.Mean.{Mean}
 abbrev pub most_step : ℕ
 most_step = 6_993
 
--- the stream, the schedule, the good days and the rates; the mean, and the days from one observation to the next
+-- the stream, the schedule, the business days and the rates; the mean, and the days from one observation to the next
 pub record AverageAsked : Type 0 where
   pub of : Asked
   pub kind : Mean
   pub step : ℕ
 
--- what is asked, of these
+-- a request for averages, of these parts
 abbrev pub averaged : Asked → Mean → ℕ → AverageAsked
 averaged of kind step = record { of = of; kind = kind; step = step }
 
--- what is asked of the stream is as for compounded rates, and a step has 1 to 6,993 days
+-- the request for the stream is as for compounded rates, and a step has 1 to 6,993 days
 pub record IsAverageAsked (a : AverageAsked) : Type 0 where
   pub stream : IsAsked a.of
   pub some : 1 ≤ a.step

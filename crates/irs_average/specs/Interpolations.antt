@@ -12,7 +12,7 @@ use Rattle.irs_average.specs.Means.{IsWithin}
 use Rattle.irs_average.specs.StubRates.{IsStubRow, LiesOutside, tenor_rate}
 use Rattle.irs_average.specs.Stubs.{HasStub, Stub, StubAsked}
 
--- the row of the stub that is asked
+-- the row of the requested stub
 pub record IsInterpolated (a : StubAsked) (row : DerivedRow) : Type 0 where
   pub stub : Stub
   pub has : HasStub a stub
@@ -22,11 +22,11 @@ pub record IsInterpolated (a : StubAsked) (row : DerivedRow) : Type 0 where
 abbrev pub LacksStub : StubAsked → Type 0
 LacksStub a = (stub : Stub) → HasStub a stub → ⊥
 
--- where K45 is told
+-- the place of K45
 abbrev pub no_stub : Fault
 no_stub = fault_at K45 stub_amount 0
 
--- where K46 is told: with the number of the stub's period
+-- the place of K46: the number of the stub's period
 abbrev pub outside_at : ℕ → Fault
 outside_at period = fault_at K46 stub_amount period
 
@@ -45,7 +45,7 @@ BreaksStub a f = (LacksStub a × (f ≡ no_stub)) ⊎ BreaksTenors a f
 abbrev pub StubKept : StubAsked → Type 0
 StubKept a = (f : Fault) → BreaksStub a f → ⊥
 
--- x is the rule that is broken, in the stream that is asked
+-- x is the broken rule, in the requested stream
 pub record IsStubBroken (a : StubAsked) (x : Broken) : Type 0 where
   pub fault : Fault
   pub breaks : BreaksStub a fault

@@ -15,7 +15,7 @@ abbrev pub IsMeanFound : Mean → ℤ → List Observation → Found → Type 0
 IsMeanFound kind days os (Rate x) = IsMean kind days os x
 IsMeanFound kind days os (Missing d) = first_absent os ≡ Some d
 
--- a period from s to e, with the mean, the days from one observation to the next, the rates and the good days
+-- a period from s to e, with the mean, the days from one observation to the next, the rates and the business days
 pub record MeanPeriod : Type 0 where
   pub kind : Mean
   pub step : ℕ

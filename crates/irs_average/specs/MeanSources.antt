@@ -14,7 +14,7 @@ use Rattle.irs_average.specs.declared.means.Mean.{Mean}
 abbrev pub own_lines : RateTable → FloatTerms → RateLines
 own_lines rates float = record { rates = rates; index = float.index; tenor = float.tenor }
 
--- the mean, and the days from one observation to the next; the good days of reset dates, and the rates
+-- the mean, and the days from one observation to the next; the business days of reset dates, and the rates
 pub record Averaging : Type 0 where
   pub kind : Mean
   pub step : ℕ

@@ -21,8 +21,8 @@ pub record StubSource : Type 0 where
   pub high : Frequency
   pub rates : RateTable
 
--- from the start the two tenors end on these days, both in range and the first before the second; and the end is one
--- of them or lies between
+-- from the start the two tenors end on these days, both in range and the first before the second. The end is one of
+-- them or lies between
 pub record LiesBetween (start end : ℤ) (low high : Frequency) (near far : ℤ) : Type 0 where
   pub near_ends : EndsTenor start low near
   pub near_day : IsDay near

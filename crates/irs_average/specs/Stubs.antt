@@ -41,8 +41,8 @@ pub record GivesIndex (swap : Swap) (number : ℕ) (side : Side) (index : List �
   pub at : slice_get swap.streams (number - 1) ≡ Some stream
   pub gives : GivesOn side stream.stubs index tenor
 
--- period i of n is the stub on that side: the first one where it begins before the regular span, the last one where
--- it ends after it
+-- period i of n is the stub on that side. It is the first one where that begins before the regular span, or the last
+-- one where that ends after it
 abbrev pub IsStubOn : Side → Stream → Span → ℕ → ℕ → Type 0
 IsStubOn Initial s span n i = IsInitial s span i
 IsStubOn Last s span n i = IsFinal s span n i
@@ -62,13 +62,13 @@ pub record StubAsked : Type 0 where
   pub parts : List Part
   pub rates : RateTable
 
--- what is asked, of these
+-- a request for a stub's rate, of these parts
 abbrev pub stub_asked : Swap → ℕ → Side → Frequency → Frequency → List Part → RateTable → StubAsked
 stub_asked swap number side low high parts rates =
     record { swap = swap; number = number; side = side; low = low; high = high; parts = parts; rates = rates }
 
--- the stream floats, the parts are the schedule of the swap without fixings, by calendars with which no rule is
--- broken, and both tenors count 1 to 999 of a unit other than the term
+-- the stream floats, and both tenors count 1 to 999 of a unit other than the term. The parts are the schedule of the
+-- swap without fixings, by calendars with which no rule is broken
 pub record IsStubAsked (a : StubAsked) : Type 0 where
   pub lawful : IsLawful a.swap
   pub floats : Floats a.swap a.number
@@ -97,7 +97,7 @@ stub_source part i index low high rates = record {
   rates = rates;
 }
 
--- the stream has a stub on the side that is asked, with a `floatingRate`
+-- the stream has a stub on the requested side, with a `floatingRate`
 pub record HasStub (a : StubAsked) (stub : Stub) : Type 0 where
   pub gives : GivesIndex a.swap a.number a.side stub.source.index stub.tenor
   pub part : Part

@@ -5,8 +5,7 @@ use Rattle.irs_terms.specs.declared.frequency.Frequency.{Frequency}
 use Rattle.irs_terms.specs.declared.frequency.Unit.{Unit as FrequencyUnit}
 use Rattle.irs_terms.specs.declared.frequency.Unit.TheVariants.{D, W, M, Y, T}
 
--- so many months after a start: the day of the start's own number in that month, or its last day where the month is
--- shorter
+-- the day of the start's own number, this number of months later, or the last day of that month where it is shorter
 pub record EndsMonths (start : ℤ) (months : ℕ) (end : ℤ) : Type 0 where
   pub month : ℤ
   pub in_month : InMonth start month
@@ -14,7 +13,7 @@ pub record EndsMonths (start : ℤ) (months : ℕ) (end : ℤ) : Type 0 where
   pub numbered : start +ℤ pos 1 ≡ month_start month +ℤ pos number
   pub ends : end ≡ day_in_month number (month +ℤ pos months)
 
--- so many units after a start; the term is no tenor and ends nowhere
+-- the day this number of units after a start; the term is no tenor and ends nowhere
 abbrev pub EndsUnits : FrequencyUnit → ℤ → ℕ → ℤ → Type 0
 EndsUnits D start count end = end ≡ start +ℤ pos count
 EndsUnits W start count end = end ≡ start +ℤ pos (7 * count)

@@ -1,6 +1,6 @@
 //! Averages of a stream's rate over each calculation period (2006 ISDA Definitions, section 6.2, on
-//! two or more reset dates in a calculation period). That the days of observation go by a step from
-//! the start of the period, and the rounding, are this project's own.
+//! two or more reset dates in a calculation period). Two things are our rule: days of observation
+//! follow each other by a step from the start of the period, and averages are rounded.
 ghost use Rattle.std.specs.Prelude.{◌≡◌, All, List, IfOk};
 ghost use Rattle.irs_base.specs.Faults.{IfBroken};
 ghost use Rattle.irs_base.specs.declared.places.Broken.{Broken as BrokenRule};
@@ -20,19 +20,20 @@ use irs_schedule::Schedule;
 use irs_terms::Swap;
 use std::alloc::Global;
 
-/// For each calculation period of a floating stream, from its adjusted start to its adjusted end,
-/// the average of its rates, in units of 10^-9, with the fixing date of the period; or the first
-/// day whose rate has no line. `stream` counts from 1, `step` is 1 to 6,993 days, `s` is the
-/// schedule of the swap without fixings, and `days` are the good days of the stream's reset dates.
+/// The average of a floating stream's rates for each calculation period, from its adjusted start to
+/// its adjusted end. It is in units of 10^-9, with the fixing date of the period. Where a rate has
+/// no line, the first such day comes in its place. `stream` counts from 1, and `step` is 1 to 6,993
+/// days. `s` is the schedule of the swap without fixings, and `days` are the business days of the
+/// stream's reset dates.
 ///
-/// A rate is observed every `step` days from the start of the period, on the last good day at or
-/// before that day, in the line of the stream's index and tenor. By the weighted mean it counts for
-/// the days to the next of these days, and the last for those to the end of the period. The average
-/// is rounded at 9 decimals, a half up.
+/// A rate is observed every `step` days from the start of the period. Its day is the last business
+/// day at or before that one. It is read in the line of the stream's index and tenor. Its weight in
+/// the weighted mean is the days to the next of these days, or from the last one to the end of the
+/// period. The average is rounded at 9 decimals, a half up.
 ///
-/// `Broken` is exactly the first of: the lowest period with K41, its fixing date isn't after that
-/// of the period before it; the lowest period with K43, no good day in the cover stands at or
-/// before a day of observation. `Memory` comes where memory ran out.
+/// `Broken` is exactly the first of two. K41 is in the lowest period whose fixing date isn't after
+/// that of the period before it. K43 is in the lowest period where the cover has no business day at
+/// or before a day of observation. `Memory` comes where memory ran out.
 pub fn average<G: GoodDays>(
     alloc: Global,
     s: &Schedule,
@@ -43,7 +44,7 @@ pub fn average<G: GoodDays>(
     days: &G,
     fix: &Fixings,
 ) -> Result<Derived, DerErr>
-    // `check_stream` finds nothing, and schedule and good days are those of the swap.
+    // `check_stream` finds nothing, and schedule and business days are those of the swap.
     requires { IsAverageAsked (averaged (asked swap.now stream s.now (G.days days.now) fix.now) kind step) }
     ensures ok { let a = averaged (asked swap.now stream s.now (G.days days.now) fix.now) kind step in
         IfOk result (IsAverage a) }
@@ -54,8 +55,8 @@ pub fn average<G: GoodDays>(
         IfOk result (λ _. AverageKept a) }
     ensures broken { let a = averaged (asked swap.now stream s.now (G.days days.now) fix.now) kind step in
         IfBroken result (IsFirstOfAverage a) }
-    // At every exit: where no rule is broken there is a list of averages; there is at most one, and
-    // one rule that is broken first.
+    // At every exit: where no rule is broken there is a list of averages. There is at most one
+    // list, and one rule that is broken first.
     ensures exists { let a = averaged (asked swap.now stream s.now (G.days days.now) fix.now) kind step in
         AverageKept a → (rows : List Row) × IsAverage a rows }
     ensures one { let a = averaged (asked swap.now stream s.now (G.days days.now) fix.now) kind step in

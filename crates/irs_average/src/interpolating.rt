@@ -72,7 +72,7 @@ fn stub_row(
     }
 }
 
-// The row of the stub that is asked.
+// The row of the requested stub.
 fn asked_row(
     s: &Schedule,
     swap: &Swap,
@@ -99,18 +99,19 @@ fn asked_row(
 }
 
 /// The rate of a floating stream's stub on a side, in units of 10^-9, with the number of its period
-/// and its fixing date; or that date, where the rate of a tenor has no line. `stream` counts from
-/// 1, `s` is the schedule of the swap without fixings, and a tenor is 1 to 999 days, weeks, months
-/// or years.
+/// and its fixing date. Where the rate of a tenor has no line, that date comes in its place.
+/// `stream` counts from 1, and `s` is the schedule of the swap without fixings. A tenor is 1 to 999
+/// days, weeks, months or years.
 ///
 /// The rate lies on the line through the rates of the two tenors of the stub's index on the fixing
-/// date, each at the day on which its tenor ends. A tenor starts on the adjusted start of the stub;
-/// one of months or years ends on the day of the same number, or the last day of a shorter month.
-/// The rate is that at the adjusted end of the stub, rounded at 9 decimals, a half up.
+/// date. Each of them is at the day on which its tenor ends. A tenor starts on the adjusted start
+/// of the stub. One of months or years ends on the day of the same number, or the last day of a
+/// shorter month. The rate is that at the adjusted end of the stub, rounded at 9 decimals, a half
+/// up.
 ///
-/// `Broken` is exactly K45, the stream has no stub on that side, or no `floatingRate` for it; else
-/// K46, a tenor ends out of the range of dates, the first doesn't end before the second, or the
-/// stub ends before the first or after the second. No memory is taken.
+/// `Broken` is exactly K45 or else K46. By K45 the stream has a stub on that side, with a
+/// `floatingRate`. By K46 both tenors end in the range of dates, the first before the second. The
+/// stub ends at one of these days or between them. No memory is taken.
 pub fn interpolate(
     s: &Schedule,
     swap: &Swap,

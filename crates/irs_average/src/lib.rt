@@ -1,5 +1,5 @@
-//! Rates of a floating stream that are worked out of other rates: averages over each calculation
-//! period, and the rate of a stub between those of two tenors, as lines of a fixing file.
+//! Rates of a floating stream that are worked out of other rates, as lines of a fixing file. They
+//! are averages over each calculation period, and the rate of a stub between those of two tenors.
 #![tactic(auto)]
 
 mod averaging;

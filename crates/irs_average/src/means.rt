@@ -1,5 +1,5 @@
-//! The two means of the rates that were observed in a calculation period (2006 ISDA Definitions,
-//! section 6.2, on two or more reset dates in a calculation period).
+//! The two means of the rates that were observed in a calculation period. The 2006 ISDA
+//! Definitions, section 6.2, have them for two or more reset dates in a calculation period.
 ghost use Rattle.std.specs.Prelude.{◌≡◌, ◌+◌, ◌*◌, ◌^◌, ◌<◌, ◌≤◌, All, IfSome, None, length, pos, unwrap_or, ◌<ℤ◌};
 ghost use Rattle.std.specs.Prelude.{◌+ℤ◌, unsigned_abs};
 ghost use Rattle.irs_base.specs.Days.{all_days};
@@ -51,7 +51,7 @@ fn counted(kind: Mean, o: Observation) -> i128
     }
 }
 
-// A sum of so many and one more.
+// A sum of `count` numbers, and one more.
 fn added(sum: i128, more: i128, count: usize) -> i128
     requires sum { unsigned_abs sum ≤ count * (2 * 10 ^ 10 * all_days) }
     requires more { unsigned_abs more ≤ 2 * 10 ^ 10 * all_days }

@@ -1,4 +1,4 @@
-//! The observations of a calculation period for an average: every so many days from its start.
+//! The observations of a calculation period for an average: one every `step` days from its start.
 ghost use Rattle.std.specs.Prelude.{◌≡◌, ◌↔◌, ℕ, ℤ, ◌+◌, ◌*◌, ◌^◌, ◌<◌, ◌≤◌, IfOk, IfSome, IfNone, All};
 ghost use Rattle.std.specs.Prelude.{◌<ℤ◌, ◌-ℤ◌};
 ghost use Rattle.irs_base.specs.Days.{IsDay};
@@ -15,7 +15,7 @@ use irs_resets::Fixings;
 use irs_terms::FloatTerms;
 use std::alloc::Global;
 
-/// The steps of a period: every so many days from its start, as many as begin before its end.
+/// The steps of a period: one every `step` days from its start, as many as begin before its end.
 #[derive(Drop)]
 pub(crate) struct Steps {
     start: Day,
@@ -64,7 +64,7 @@ impl Steps {
         ahead(self.start, k * self.step)
     }
 
-    // The day of the step behind it, or the end of the period behind the last.
+    // The day of the step after it, or the end of the period after the last.
     fn next_day(&self, k: u32) -> Day
         requires { k < self.now.count }
         ensures { result ≡ step_end self.now.start self.now.end self.now.step self.now.count k }

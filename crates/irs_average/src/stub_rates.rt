@@ -23,8 +23,8 @@ fn are_around(near: Day, far: Day, end: Day) -> bool
     near < far && near <= end && end <= far
 }
 
-/// The days on which two tenors end; `None` exactly where they don't lie in range and in order, or
-/// the end of the stub doesn't lie between them.
+/// The days on which two tenors end. `None` comes exactly where they don't lie in range and in
+/// order, or the end of the stub doesn't lie between them.
 pub(crate) fn ends_around(
     start: Day,
     end: Day,
@@ -63,7 +63,7 @@ fn added(a: i128, b: i128) -> i128
     a + b
 }
 
-// What stands on the line through two rates that lie `width` days apart, `days` behind the first;
+// The value on the line through two rates that lie `width` days apart, `days` after the first;
 // times the width.
 fn line_value(low: i64, high: i64, width: i64, days: i64) -> i128
     requires low { IsRate low }

@@ -10,7 +10,7 @@ use irs_overnight::stream_at;
 use irs_schedule::StreamPart;
 use irs_terms::{Frequency, StubRate, StubTerms, Swap};
 
-/// A side of a stream on which a stub may stand.
+/// A side of a stream on which a stub may be.
 #[derive(Clone, Copy, PartialEq, Eq)]
 pub enum Side {
     /// The first calculation period (FpML `initialStub`).
@@ -42,9 +42,9 @@ fn index_on(side: Side, stubs: &StubTerms) -> Option<(&Text, Option<Frequency>)>
     }
 }
 
-/// The index and the tenor that are given for the stub of a stream on a side (FpML `floatingRate`
-/// of `initialStub` or `finalStub`), by the number of the stream, from 1; `None` exactly where none
-/// is given. No memory is taken.
+/// The index and the tenor of the stub of a stream on a side (FpML `floatingRate` of `initialStub`
+/// or `finalStub`). The stream's number counts from 1. `None` comes exactly where none is given. No
+/// memory is taken.
 pub fn stub_index(swap: &Swap, stream: u8, side: Side) -> Option<(&Text, Option<Frequency>)>
     ensures some { IfSome result (λ r. GivesIndex swap.now stream side r.0.now r.1) }
     ensures none { IfNone result ((i : List ℕ) (t : Option Tenor) → GivesIndex swap.now stream side i t → ⊥) }

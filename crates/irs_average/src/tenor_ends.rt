@@ -1,5 +1,5 @@
-//! The day on which a tenor ends (2006 ISDA Definitions, section 7.3, 'Designated Maturity').
-//! That a tenor isn't adjusted for good days is this project's own.
+//! The day on which a tenor ends (2006 ISDA Definitions, section 7.3, 'Designated Maturity'). That
+//! a tenor isn't adjusted for business days is our rule.
 ghost use Rattle.std.specs.Prelude.{◌*◌, ℤ, IfSome, IfNone};
 ghost use Rattle.irs_base.specs.Days.{IsDay};
 ghost use Rattle.irs_average.specs.TenorEnds.{EndsMonths, EndsTenor};
@@ -7,7 +7,8 @@ ghost use Rattle.irs_average.specs.TenorEnds.{EndsMonths, EndsTenor};
 use irs_base::{Day, civil_of, month_day, month_index, plus};
 use irs_terms::{Frequency, Unit};
 
-// The day so many months after a start: of the start's own number, or the last of a shorter month.
+// The day this number of months after a start: of the start's own number, or the last of a shorter
+// month.
 fn months_after(start: Day, months: u32) -> Option<Day>
     ensures some { IfSome result (λ d. IsDay d × EndsMonths start months d) }
     ensures none { IfNone result ((d : ℤ) → IsDay d → EndsMonths start months d → ⊥) }

@@ -17,7 +17,7 @@ covers_made from to f n last [] h = h
 covers_made from to f n last (y ∷ ys) h = (h.0, h.1, covers_made from to f (to (f y) + 1) last ys h.2)
 
 module _ {X : Type 0} (from to : X → ℕ) where
-  -- they begin behind the last number at the latest
+  -- they begin right after the last number at the latest
   pub covers_low : (n last : ℕ) (xs : List X) → CoverNumbers from to n xs last → n ≤ last + 1
   covers_low n last [] h = omega (arith, h)
   covers_low n last (x ∷ xs) h = omega (arith, h.0, h.1, covers_low (to x + 1) last xs h.2)

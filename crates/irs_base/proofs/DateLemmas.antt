@@ -23,6 +23,7 @@ in_range_true n day =
     and_true (is_le (int_cmp first_day n)) (is_le (int_cmp n last_day)) (true_le first_day n day.0)
     (true_le n last_day day.1)
 
+-- a number that passes the test of the range is a day
 pub range_is_true : (n : ℤ) → is_in_range n ≡ true → IsDay n
 range_is_true n h = let b = both_true (is_le (int_cmp first_day n)) (is_le (int_cmp n last_day)) h in
     (le_true first_day n b.0, le_true n last_day b.1)
@@ -34,6 +35,7 @@ civil_true y m d h =
     (and_true (nat_le 1 d) (nat_le d (days_in_month (pos y) m)) (le_nat 1 d h.2.0)
     (le_nat d (days_in_month (pos y) m) h.2.1))
 
+-- numbers that pass the test of a date are a date
 pub civil_is_true : (y m d : ℕ) → y < 10000 → is_civil y m d ≡ true → IsCivilDate (pos y) m d
 civil_is_true y m d small h =
     let b = both_true (nat_le 1 m && nat_le m 12) (nat_le 1 d && nat_le d (days_in_month (pos y) m)) h in
@@ -44,6 +46,7 @@ civil_is_true y m d small h =
       (nat_is_le 1 d ds.0, nat_is_le d (days_in_month (pos y) m) ds.1),
     )
 
+-- what the search for a date finds is the number of the day
 pub day_is : (r : Option ℤ) (y m d : ℕ) (z : ℤ) → z ≡ pos y → y < 10000 → IfSome r (λ n. HasDate n z m d)
     → IfSome r (λ n. IsDay n) → IfNone r ((n : ℤ) → IsDay n → HasDate n z m d → ⊥) → r ≡ day_number y m d
 day_is (Some n) y m d z e small some range none =

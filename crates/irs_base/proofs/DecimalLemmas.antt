@@ -37,6 +37,7 @@ digits_true (b ∷ bs) h =
     let q = both (nat_le 48 b) (nat_le b 57) p.0 in
     (grind (arith, nat_tests, q.0), grind (arith, nat_tests, q.1), digits_true bs p.1)
 
+-- digits pass the test of digits
 pub true_digits : (bs : List ℕ) → AreDigits bs → list_all is_digit bs ≡ true
 true_digits [] h = refl
 true_digits (b ∷ bs) h =
@@ -44,9 +45,11 @@ true_digits (b ∷ bs) h =
     let r : nat_le b 57 ≡ true = grind (arith, nat_tests, h.1) in
     rw (l, r) (true_digits bs h.2)
 
+-- bytes that pass the test are digits
 pub digits_are : (bs : List ℕ) (r : Bool) → r ≡ list_all is_digit bs → IsTrue r → AreDigits bs
 digits_are bs r e h = digits_true bs (sym e ∙ h)
 
+-- the test of digits finds digits
 pub are_all_digits : (bs : List ℕ) (r : Bool) → r ≡ list_all is_digit bs → AreDigits bs → IsTrue r
 are_all_digits bs r e h = e ∙ true_digits bs h
 
@@ -127,6 +130,7 @@ cut_parts text w f places v cut u = elim cut.is [
   ]
 ]
 
+-- digits as long as they have to be get no zeros
 pub padded_whole : (w : List ℕ) → padded (length w) w ≡ w
 padded_whole [] = refl
 padded_whole (c ∷ cs) = ap (λ (l : List ℕ). c ∷ l) (padded_whole cs)
@@ -171,7 +175,7 @@ cancel a b p some e =
 some_power : (k : ℕ) → 0 < 10 ^ k
 some_power k = let p = one-le-pow k 10 (omega arith) in omega (arith, p)
 
--- digits behind a whole number of the last units are zeros
+-- the digits after a whole number of the last units are zeros
 all_zeros : (v n : ℕ) (f : List ℕ) → AreDigits f → v * 10 ^ length f ≡ number_after n f → list_all is_zero f ≡ true
 all_zeros v n [] h e = refl
 all_zeros v n (c ∷ cs) h e =
@@ -185,7 +189,7 @@ all_zeros v n (c ∷ cs) h e =
     let z : c ≡ 48 = omega (arith, same, h.0, h.1) in
     rw z rest
 
--- a number of so many places has zeros behind them
+-- a number of these places has zeros after them
 pub zeros_needed : (v n p : ℕ) (f : List ℕ) → AreDigits f → v * 10 ^ length f ≡ number_after n f * 10 ^ p
     → list_all is_zero (drop p f) ≡ true
 zeros_needed v n zero f h e = all_zeros v n f h (omega (arith, e))
@@ -227,6 +231,7 @@ not_parts text w f p v cut h u =
     let are : AreParts u.whole u.fraction = (u.whole_digits, u.fraction_digits, u.some, u.short) in
     h (subst (λ (l : List ℕ). AreParts w l) parts.1 (subst (λ (l : List ℕ). AreParts l u.fraction) parts.0 are))
 
+-- a text with another digit than 0 after the last place spells no number of these places
 pub not_zeros : (text w f : List ℕ) (p v : ℕ) → IsCut text w f → (list_all is_zero (drop p f) ≡ true → ⊥)
     → IsUnsigned text p v → ⊥
 not_zeros text w f p v cut h u =
@@ -236,7 +241,7 @@ not_zeros text w f p v cut h u =
     h (subst (λ (l : List ℕ). list_all is_zero (drop p l) ≡ true) parts.1
     (zeros_needed v (number_after 0 u.whole) p u.fraction u.fraction_digits e))
 
--- a text stands for one number at most
+-- a text spells one number at most
 pub one_unsigned : (text : List ℕ) (p v k : ℕ) → IsUnsigned text p v → IsUnsigned text p k → v ≡ k
 one_unsigned text p v k a b =
     let cut : IsCut text b.whole b.fraction = record { no_point = no_point b.whole b.whole_digits; is = b.is } in
@@ -251,7 +256,7 @@ one_unsigned text p v k a b =
 pub eighteen : (n : ℕ) → n ≤ 18 → (0 + 1) * 10 ^ n ≤ 10 ^ 18
 eighteen n h = let m = pow-le-pow_right {n = 10} (omega arith) {i = n} {j = 18} h in omega (arith, m)
 
--- and for twelve places behind them
+-- and for twelve places after them
 pub twelve_more : (w f p : ℕ) → p ≤ 12 → w < 10 ^ 18 → f < 10 ^ p → w * 10 ^ p + f < 10 ^ 30
 twelve_more w f p k h l =
     let b : 10 ^ p ≤ 10 ^ 12 = pow-le-pow_right {n = 10} (omega arith) {i = p} {j = 12} k in
@@ -267,7 +272,7 @@ at_most_eighteen w n h l =
 shifted : (n x a r s t : ℕ) → s ≡ (10 * n + x) * a + r → t ≡ (10 * 0 + x) * a + r → s ≡ n * (10 * a) + t
 shifted n x a r s t p q = omega (arith, p, q)
 
--- what digits spell behind others
+-- what digits spell after others
 pub apart : (n : ℕ) (ds : List ℕ) → number_after n ds ≡ n * 10 ^ length ds + number_of ds
 apart n [] = omega arith
 apart n (c ∷ cs) =
@@ -302,15 +307,17 @@ sign_first s text p v low u = elim u.is [
     point_starts [] d e = let k = head_same s 46 text u.fraction e in omega (arith, k, low)
     point_starts (c ∷ cs) d e = let k = head_same s c text (cs ++ 46 ∷ u.fraction) e in omega (arith, k, d.0, low)
 
--- where no number stands behind the sign, the text is no decimal
+-- if no number follows the sign, the text is no decimal
 pub plus_none : (ds : List ℕ) (p : ℕ) (v : ℤ) → ((n : ℕ) → IsUnsigned ds p n → ⊥) → DecText (43 ∷ ds) p v → ⊥
 plus_none ds p v none (bare _ _ n u) = sign_first 43 ds p n (omega arith) u
 plus_none ds p v none (plus _ _ n u) = none n u
 
+-- a minus before what spells no number spells none
 pub minus_none : (ds : List ℕ) (p : ℕ) (v : ℤ) → ((n : ℕ) → IsUnsigned ds p n → ⊥) → DecText (45 ∷ ds) p v → ⊥
 minus_none ds p v none (bare _ _ n u) = sign_first 45 ds p n (omega arith) u
 minus_none ds p v none (minus _ _ n u) = none n u
 
+-- a text without a sign that spells no number is no decimal
 pub bare_none : (text : List ℕ) (p : ℕ) (v : ℤ) → ((rest : List ℕ) → text ≡ 43 ∷ rest → ⊥)
     → ((rest : List ℕ) → text ≡ 45 ∷ rest → ⊥) → ((n : ℕ) → IsUnsigned text p n → ⊥) → DecText text p v → ⊥
 bare_none text p v no_plus no_minus none (bare _ _ n u) = none n u

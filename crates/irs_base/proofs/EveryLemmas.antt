@@ -9,25 +9,30 @@ use Rattle.irs_base.specs.Members.{EachNumbered, Every, Pairs}
 
 -- ---- lists that are made of others
 
+-- what holds of each member of two lists holds of each member of both together
 pub every_both : {X : Type 0} (P : X → Type 0) (xs ys : List X) → Every P xs → Every P ys → Every P (xs ++ ys)
 every_both P [] ys h k = k
 every_both P (x ∷ xs) ys h k = (h.0, every_both P xs ys h.1 k)
 
+-- what holds of each member of the list made of a member holds of all these lists together
 pub every_flat : {X Y : Type 0} (P : Y → Type 0) (Q : X → Type 0) (f : X → List Y) → ((x : X) → Q x → Every P (f x))
     → (xs : List X) → Every Q xs → Every P (flat_map f xs)
 every_flat P Q f each [] h = tt
 every_flat P Q f each (x ∷ xs) h = every_both P (f x) (flat_map f xs) (each x h.0) (every_flat P Q f each xs h.1)
 
+-- what holds of what is made of a member holds of each member made
 pub every_map : {X Y : Type 0} (P : Y → Type 0) (Q : X → Type 0) (f : X → Y) → ((x : X) → Q x → P (f x)) → (xs : List X)
     → Every Q xs → Every P (map f xs)
 every_map P Q f each [] h = tt
 every_map P Q f each (x ∷ xs) h = (each x h.0, every_map P Q f each xs h.1)
 
+-- what holds of each member made holds of what is made of each member
 pub every_made : {X Y : Type 0} (P : Y → Type 0) (f : X → Y) (xs : List X) → Every P (map f xs)
     → Every (λ x. P (f x)) xs
 every_made P f [] h = tt
 every_made P f (x ∷ xs) h = (h.0, every_made P f xs h.1)
 
+-- what holds of each member holds of each numbered member
 pub every_enumerated : {X : Type 0} (P : X → Type 0) (n : ℕ) (xs : List X) → Every P xs
     → Every (λ (e : ℕ × X). P e.1) (enumerate_from n xs)
 every_enumerated P n [] h = tt
@@ -35,10 +40,12 @@ every_enumerated P n (x ∷ xs) h = (h.0, every_enumerated P (n + 1) xs h.1)
 
 -- ---- from other words for each member
 
+-- what holds of all holds of each member
 pub every_any : {X : Type 0} (P : X → Type 0) → ((x : X) → P x) → (xs : List X) → Every P xs
 every_any P each [] = tt
 every_any P each (x ∷ xs) = (each x, every_any P each xs)
 
+-- the two words for each member agree
 pub every_all : {X : Type 0} (P : X → Type 0) (xs : List X) → All P xs → Every P xs
 every_all P [] h = tt
 every_all P (x ∷ xs) h = (All-head P x xs h, every_all P xs (All-tail P x xs h))
@@ -49,6 +56,7 @@ pub every_numbered : {X : Type 0} (P : ℕ → X → Type 0) (Q : X → Type 0) 
 every_numbered P Q n [] law h = tt
 every_numbered P Q n (x ∷ xs) law h = (law n x h.0, every_numbered P Q (n + 1) xs law h.1)
 
+-- what follows for each number of the list holds of each member
 pub all_numbered : {X : Type 0} (P : ℕ → X → Type 0) (Q : X → Type 0) (n : ℕ) (xs : List X)
     → ((i : ℕ) (x : X) → n ≤ i → i < n + length xs → P i x → Q x) → EachNumbered P n xs → All Q xs
 all_numbered P Q n [] law h = All-nil Q
@@ -91,6 +99,7 @@ one_made f P Q one (y ∷ ys) (z ∷ zs) e within h k =
 
 -- ---- partners
 
+-- lists that are paired have one length
 pub pairs_length : {X Y : Type 0} (R : X → Y → Type 0) (xs : List X) (ys : List Y) → Pairs R xs ys
     → length ys ≡ length xs
 pairs_length R [] [] h = refl
@@ -119,7 +128,7 @@ one_partners R (x ∷ xs) one (y ∷ ys) [] h k = absurd k
 one_partners R (x ∷ xs) one (y ∷ ys) (z ∷ zs) h k =
     ap₂ ◌∷◌ (one zero x refl y z h.0 k.0) (one_partners R xs (λ i w at. one (suc i) w at) ys zs h.1 k.1)
 
--- what holds of each of the first n members and of the one behind them, holds of each of the first n + 1
+-- what holds of each of the first n members and of the next one holds of each of the first n + 1
 pub below_more : {X : Type 0} (P : X → Type 0) (xs : List X) (n : ℕ) (x : X) → slice_get xs n ≡ Some x → P x
     → ((i : ℕ) (y : X) → i < n → slice_get xs i ≡ Some y → P y) → (i : ℕ) (y : X) → i < n + 1
     → slice_get xs i ≡ Some y → P y

@@ -18,6 +18,7 @@ whole r n e i = record { rule = r; place = record { stream = n; elem = e; index 
 same_whole : (r q : Rule) (n m e d i j : ℕ) → r ≡ q → n ≡ m → e ≡ d → i ≡ j → whole r n e i ≡ whole q m d j
 same_whole r q n m e d i j a b c k = λ t. whole (a t) (b t) (c t) (k t)
 
+-- two broken rules of which neither comes first are one
 pub broken_ties : AreTied is_before
 broken_ties f g p q =
     let streams = tied f.place.stream g.place.stream _ _ p q in
@@ -32,6 +33,7 @@ broken_order_in =
     level_order (λ (f : Broken). rule_number f.rule) _
     (level_order (λ (f : Broken). f.place.elem) _ (rank_order (λ (f : Broken). f.place.index)))
 
+-- the order of broken rules is an order
 pub broken_order : IsOrder is_before
 broken_order = level_order (λ (f : Broken). f.place.stream) _ broken_order_in
 
@@ -40,6 +42,7 @@ broken_order = level_order (λ (f : Broken). f.place.stream) _ broken_order_in
 same_fault : (r q : Rule) (e d i j : ℕ) → r ≡ q → e ≡ d → i ≡ j → fault_at r e i ≡ fault_at q d j
 same_fault r q e d i j a b c = λ t. fault_at (a t) (b t) (c t)
 
+-- two faults of which neither comes first are one
 pub fault_ties : AreTied comes_before
 fault_ties f g p q =
     let turns = tied (turn f.rule) (turn g.rule) _ _ p q in
@@ -48,12 +51,14 @@ fault_ties f g p q =
     let index : f.index ≡ g.index = tied_last _ _ elements.1 elements.2 in
     same_fault f.rule g.rule _ _ _ _ (same_rule f.rule g.rule numbers.0) elements.0 index
 
+-- the order of faults is an order
 pub fault_order : IsOrder comes_before
 fault_order =
     level_order (λ (f : Fault). turn f.rule) _
     (level_order (λ (f : Fault). rule_number f.rule) _
     (level_order (λ (f : Fault). f.elem) _ (rank_order (λ (f : Fault). f.index))))
 
+-- no faults come before one another without end
 pub fault_founded : IsFounded comes_before
 fault_founded =
     level_founded (λ (f : Fault). turn f.rule) _

@@ -12,6 +12,7 @@ use Rattle.irs_base.specs.Fields.{is_space, begins_space, without_gap, fields}
 abbrev pub AllBefore : List ℕ → ℕ → Type 0
 AllBefore bytes i = (k : ℕ) → k < i → is_space (get_or bytes k 0) ≡ true
 
+-- the gap ends at the first byte that is no space
 pub gap_here : (bytes : List ℕ) (i : ℕ) → i < length bytes → is_space (get_or bytes i 0) ≡ false → AllBefore bytes i
     → drop i bytes ≡ without_gap bytes
 gap_here [] i within solid all = absurd (omega (arith, within))
@@ -20,6 +21,7 @@ gap_here (b ∷ bs) (suc i) within solid all =
     let first : is_space b ≡ true = all 0 (omega arith) in
     rw first (gap_here bs i (omega (arith, within)) solid (λ k h. all (suc k) (omega (arith, h))))
 
+-- spaces alone leave nothing
 pub gap_alone : (bytes : List ℕ) → AllBefore bytes (length bytes) → [] ≡ without_gap bytes
 gap_alone [] all = refl
 gap_alone (b ∷ bs) all =
@@ -34,7 +36,7 @@ same_fields (b ∷ bs) = elim (cases_Bool (is_space b)) [
   | inr solid ↦ rw (solid, solid) refl
 ]
 
--- with nothing behind its gap a text has no fields
+-- with nothing after its gap a text has no fields
 pub none_behind : (bytes rest : List ℕ) → rest ≡ without_gap bytes → (length rest == 0) ≡ true → fields bytes ≡ []
 none_behind bytes [] e none = sym (same_fields bytes) ∙ ap fields (sym e)
 none_behind bytes (b ∷ bs) e none = absurd (nat_eq-suc-zero (length bs) none)
@@ -42,6 +44,7 @@ none_behind bytes (b ∷ bs) e none = absurd (nat_eq-suc-zero (length bs) none)
     nat_eq-suc-zero : (n : ℕ) → (suc n == 0) ≡ true → ⊥
     nat_eq-suc-zero n h = grind (arith, nat_tests, h)
 
+-- what is left after the gap begins with no space
 pub begins_solid : (bytes : List ℕ) → begins_space (without_gap bytes) ≡ false
 begins_solid [] = refl
 begins_solid (b ∷ bs) = elim (cases_Bool (is_space b)) [
@@ -49,6 +52,7 @@ begins_solid (b ∷ bs) = elim (cases_Bool (is_space b)) [
   | inr solid ↦ rw solid solid
 ]
 
+-- what is left after the gap is no longer than the text
 pub not_longer : (bytes : List ℕ) → length (without_gap bytes) ≤ length bytes
 not_longer [] = omega arith
 not_longer (b ∷ bs) = elim (cases_Bool (is_space b)) [
@@ -63,13 +67,16 @@ skip_one bytes i within gap =
     let e : i + 1 ≡ suc i = omega arith in
     rw (e, drop-cons bytes i 0 within, gap) refl
 
+-- the rest of a text is all that comes after its first bytes
 pub whole_rest : (bytes : List ℕ) (i : ℕ) → i ≤ length bytes → take (length bytes - i) (drop i bytes) ≡ drop i bytes
 whole_rest bytes i h = take_all (length bytes - i) (drop i bytes) (omega (arith, length-drop i bytes))
 
+-- a text from a byte on that is no space begins with none
 pub begins_at : (bytes : List ℕ) (i : ℕ) → i < length bytes → is_space (get_or bytes i 0) ≡ false
     → begins_space (drop i bytes) ≡ false
 begins_at bytes i within no_gap = rw (drop-cons bytes i 0 within, no_gap) refl
 
+-- no fields are left at the end of a text
 pub none_left : (bytes : List ℕ) (i : ℕ) → length bytes ≤ i → fields (drop i bytes) ≡ []
 none_left [] zero h = refl
 none_left [] (suc i) h = refl
@@ -96,6 +103,7 @@ field_at (b ∷ c ∷ cs) (suc (suc i)) some within gap none =
         → fields (b ∷ c ∷ cs) ≡ with_byte b (fields (c ∷ cs))
     begun b c cs first second = rw (first, second) refl
 
+-- a text without spaces is one field
 pub field_alone : (bytes : List ℕ) → 0 < length bytes
     → ((k : ℕ) → k < length bytes → is_space (get_or bytes k 0) ≡ false) → fields bytes ≡ bytes ∷ []
 field_alone [] some none = absurd (omega (arith, some))
@@ -117,6 +125,7 @@ pub first_solid : (bytes : List ℕ) → begins_space bytes ≡ false → is_spa
 first_solid [] h = refl
 first_solid (b ∷ bs) h = h
 
+-- the first field ends at the first space
 pub field_here : (bytes : List ℕ) (i : ℕ) → begins_space bytes ≡ false → i < length bytes
     → is_space (get_or bytes i 0) ≡ true → ((k : ℕ) → k < i → is_space (get_or bytes k 0) ≡ false)
     → fields bytes ≡ take i bytes ∷ fields (drop i bytes)

@@ -9,12 +9,14 @@ use Rattle.irs_base.specs.Order.{First, IsFirst, earlier, level}
 
 -- ---- levels
 
+-- an order of two levels is transitive
 pub level_trans : (a b c : ℕ) (s t u : Bool) → (s ≡ true → t ≡ true → u ≡ true) → level a b s ≡ true
     → level b c t ≡ true → level a c u ≡ true
 level_trans a b c true true u h p q = let e : u ≡ true = h refl refl in rw e (grind (arith, nat_tests))
 level_trans a b c true false u h p q = grind (arith, nat_tests)
 level_trans a b c false t u h p q = grind (arith, nat_tests)
 
+-- of two in order the third comes after the one or before the other
 pub level_split : (a b c : ℕ) (s t u : Bool) → (s ≡ true → t ≡ false → u ≡ true) → level a c s ≡ true
     → level a b t ≡ false → level b c u ≡ true
 level_split a b c true false u h p q = let e : u ≡ true = h refl refl in rw e (grind (arith, nat_tests))
@@ -25,10 +27,12 @@ level_split a b c false t u h p q = grind (arith, nat_tests)
 pub level_same : (a b : ℕ) (t : Bool) → a ≡ b → t ≡ false → level a b t ≡ false
 level_same a b t e f = rw f (grind (arith, nat_tests))
 
+-- a later level comes later
 pub level_later : (a b : ℕ) (t : Bool) → b < a → level a b t ≡ false
 level_later a b true h = grind (arith, nat_tests)
 level_later a b false h = grind (arith, nat_tests)
 
+-- an earlier level comes earlier
 pub level_earlier : (a b : ℕ) (t : Bool) → a < b → level a b t ≡ true
 level_earlier a b true h = grind (arith, nat_tests)
 level_earlier a b false h = grind (arith, nat_tests)
@@ -40,9 +44,11 @@ tied a b true false p q = absurd (grind (arith, nat_tests))
 tied a b false true p q = absurd (grind (arith, nat_tests))
 tied a b false false p q = (grind (arith, nat_tests), refl, refl)
 
+-- two numbers of which neither is less are equal
 pub tied_last : (a b : ℕ) → nat_lt a b ≡ false → nat_lt b a ≡ false → a ≡ b
 tied_last a b p q = grind (arith, nat_tests)
 
+-- the test finds that a number is not less
 pub lt_false : (a b : ℕ) → (a < b → ⊥) → nat_lt a b ≡ false
 lt_false a b h = elim (cases_order a b) [
   | inl same ↦ grind (arith, nat_tests)
@@ -50,6 +56,7 @@ lt_false a b h = elim (cases_order a b) [
   | inr (inr more) ↦ grind (arith, nat_tests)
 ]
 
+-- where the test fails the number is not less
 pub false_lt : (a b : ℕ) → nat_lt a b ≡ false → a < b → ⊥
 false_lt a b e h = grind (arith, nat_tests)
 
@@ -61,6 +68,7 @@ pub record IsOrder {X : Type 0} (before : X → X → Bool) : Type 0 where
   pub trans : (h g f : X) → before h g ≡ true → before g f ≡ true → before h f ≡ true
   pub split : (h g f : X) → before h f ≡ true → before h g ≡ false → before g f ≡ true
 
+-- ranks order what has them
 pub rank_order : {X : Type 0} (rank : X → ℕ) → IsOrder (λ (f g : X). nat_lt (rank f) (rank g))
 rank_order rank = record {
   itself = λ f. grind (arith, nat_tests);
@@ -68,6 +76,7 @@ rank_order rank = record {
   split = λ h g f p q. grind (arith, nat_tests);
 }
 
+-- ranks and an order below them are an order
 pub level_order : {X : Type 0} (rank : X → ℕ) (next : X → X → Bool) → IsOrder next
     → IsOrder (λ (f g : X). level (rank f) (rank g) (next f g))
 level_order rank next order = record {
@@ -150,10 +159,12 @@ none_by_rank rank P no_lowest x holds = none_below rank P no_lowest (suc (rank x
 abbrev pub IsFounded : {X : Type 0} → (X → X → Bool) → Type 1
 IsFounded {X} before = (P : X → Type 0) → ((x : X) → First before P x → ⊥) → (x : X) → P x → ⊥
 
+-- ranks fall no further than 0
 pub rank_founded : {X : Type 0} (rank : X → ℕ) → IsFounded (λ (f g : X). nat_lt (rank f) (rank g))
 rank_founded rank P no_first =
     none_by_rank rank P (λ x h lower. no_first x (h, λ y p. lt_false (rank y) (rank x) (λ less. lower y less p)))
 
+-- an order of two levels has no endless fall if its lower level has none
 pub level_founded : {X : Type 0} (rank : X → ℕ) (next : X → X → Bool) → IsFounded next
     → IsFounded (λ (f g : X). level (rank f) (rank g) (next f g))
 level_founded {X} rank next founded P no_first = none_by_rank rank P (λ x h lower.

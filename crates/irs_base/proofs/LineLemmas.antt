@@ -83,10 +83,12 @@ line_alone (b ∷ c ∷ cs) some none =
         → lines_of (b ∷ c ∷ cs) ≡ with_byte b (lines_of (c ∷ cs))
     begun b c cs first second = rw (first, second, both_false (b == 13)) refl
 
+-- an empty line has no CR to lose
 pub empty_stays : (line : List ℕ) → length line ≤ 0 → line ≡ without_cr line
 empty_stays [] h = refl
 empty_stays (b ∷ bs) h = absurd (omega (arith, h))
 
+-- what comes after a byte, by two counts
 pub rest_of : (bytes : List ℕ) (i : ℕ) → i < length bytes
     → take (length bytes - (i + 1)) (drop (i + 1) bytes) ≡ drop (suc i) bytes
 rest_of bytes i h = let e : i + 1 ≡ suc i = omega arith in

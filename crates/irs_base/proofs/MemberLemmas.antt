@@ -8,6 +8,7 @@ use Rattle.std.proofs.lemmas.List.{take_more}
 use Rattle.std.proofs.lemmas.Option.{slice_get_within, get_or_from_slice_get}
 use Rattle.irs_base.specs.Members.{EachNumbered, Every, Pairs, HoldsOf}
 
+-- what is there is the same where both are the same
 pub some_is : {X : Type 0} (a b : X) → Some a ≡ Some b → a ≡ b
 some_is a b e = cc
 
@@ -21,6 +22,7 @@ every_get P (y ∷ ys) (suc j) x h e = every_get P ys j x h.1 e
 abbrev pub NoneOf : {X : Type 0} → (X → Type 0) → List X → ℕ → Type 0
 NoneOf P xs i = (n : ℕ) → n ≤ i → HoldsOf P xs n → ⊥
 
+-- none of the first members has it, and the next has it not
 pub none_of_more : {X : Type 0} (P : X → Type 0) (xs : List X) (i : ℕ) (x : X) → slice_get xs i ≡ Some x → (P x → ⊥)
     → NoneOf P xs i → NoneOf P xs (i + 1)
 none_of_more P xs i x at good below n le h = elim (cases_lt n (i + 1)) [
@@ -31,6 +33,7 @@ none_of_more P xs i x at good below n le h = elim (cases_lt n (i + 1)) [
       good (subst P same h.holds)
 ]
 
+-- paired lists stay paired with one more pair
 pub pairs_push : {X Y : Type 0} (R : X → Y → Type 0) (xs : List X) (ys : List Y) (x : X) (y : Y) → Pairs R xs ys → R x y
     → Pairs R (xs ++ x ∷ []) (ys ++ y ∷ [])
 pairs_push R [] [] x y h r = (r, tt)
@@ -38,6 +41,7 @@ pairs_push R [] (z ∷ ys) x y h r = absurd h
 pairs_push R (z ∷ xs) [] x y h r = absurd h
 pairs_push R (z ∷ xs) (w ∷ ys) x y h r = (h.0, pairs_push R xs ys x y h.1 r)
 
+-- the first members are paired with one more
 pub pairs_more : {X Y : Type 0} (R : X → Y → Type 0) (xs : List X) (i : ℕ) (ys : List Y) (x : X) (y : Y)
     → slice_get xs i ≡ Some x → Pairs R (take i xs) ys → R x y → Pairs R (take (i + 1) xs) (ys ++ y ∷ [])
 pairs_more R xs i ys x y at h r =
@@ -55,6 +59,7 @@ pairs_there R (x ∷ xs) partner =
     let rest = pairs_there R xs (λ i z at. partner (suc i) z at) in
     (first.0 ∷ rest.0, (first.1, rest.1))
 
+-- a list is paired with one list if a member is with one
 pub one_paired : {X Y : Type 0} (R : X → Y → Type 0) → ((x : X) (y z : Y) → R x y → R x z → y ≡ z)
     → (xs : List X) (ys zs : List Y) → Pairs R xs ys → Pairs R xs zs → ys ≡ zs
 one_paired R one [] [] [] h k = refl
@@ -64,11 +69,13 @@ one_paired R one (x ∷ xs) [] zs h k = absurd h
 one_paired R one (x ∷ xs) (y ∷ ys) [] h k = absurd k
 one_paired R one (x ∷ xs) (y ∷ ys) (z ∷ zs) h k = ap₂ ◌∷◌ (one x y z h.0 k.0) (one_paired R one xs ys zs h.1 k.1)
 
+-- a list numbered by a relation with one more member
 pub numbered_push : {X : Type 0} (P : ℕ → X → Type 0) (n m : ℕ) (xs : List X) (x : X) → EachNumbered P n xs
     → n + length xs ≡ m → P m x → EachNumbered P n (xs ++ x ∷ [])
 numbered_push P n m [] x h e p = (subst (λ (k : ℕ). P k x) (omega (arith, e)) p, tt)
 numbered_push P n m (y ∷ xs) x h e p = (h.0, numbered_push P (n + 1) m xs x h.1 (omega (arith, e)) p)
 
+-- a relation with one member for each number has one list of a length
 pub one_numbered : {X : Type 0} (P : ℕ → X → Type 0) → ((n : ℕ) (x y : X) → P n x → P n y → x ≡ y)
     → (n : ℕ) (xs ys : List X) → length xs ≡ length ys → EachNumbered P n xs → EachNumbered P n ys → xs ≡ ys
 one_numbered P one n [] [] e h k = refl
@@ -77,6 +84,7 @@ one_numbered P one n (x ∷ xs) [] e h k = absurd (omega (arith, e))
 one_numbered P one n (x ∷ xs) (y ∷ ys) e h k =
     ap₂ ◌∷◌ (one n x y h.0 k.0) (one_numbered P one (n + 1) xs ys (omega (arith, e)) h.1 k.1)
 
+-- what follows of each numbered member
 pub numbered_map : {X : Type 0} (P Q : ℕ → X → Type 0) (n : ℕ) (xs : List X)
     → ((m : ℕ) (x : X) → n ≤ m → m < n + length xs → P m x → Q m x) → EachNumbered P n xs → EachNumbered Q n xs
 numbered_map P Q n [] f h = tt
@@ -103,6 +111,7 @@ numbered_has P n (x ∷ xs) k h low high = elim (cases_lt n k) [
   | inr less ↦ let same : n ≡ k = omega (arith, low, less) in (x, subst (λ (j : ℕ). P j x) same h.0)
 ]
 
+-- the member at a place of a numbered list
 pub numbered_get : {X : Type 0} (P : ℕ → X → Type 0) (n k : ℕ) (xs : List X) (x : X) → EachNumbered P n xs
     → slice_get xs k ≡ Some x → P (n + k) x
 numbered_get P n k [] x h at = absurd (let low = slice_get_within [] k x at in omega (arith, low))

@@ -230,6 +230,7 @@ if_out_of_memory : {R : Type 0} (P : Type 0) (e : Stopped R) → P → IfOutOfMe
 if_out_of_memory P (OfBroken r) h = tt
 if_out_of_memory P OfMemory h = h
 
+-- what holds always holds where memory ran out
 pub if_memory : {A R : Type 0} (P : Type 0) (r : Result A (Stopped R)) → P → IfMemory r P
 if_memory P (Ok a) h = tt
 if_memory P (Err e) h = if_out_of_memory P e h

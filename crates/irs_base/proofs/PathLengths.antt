@@ -23,13 +23,16 @@ short_at (q ∷ qs) zero p h e =
     subst (λ (x : List ℕ). is_short x ≡ true) (same_Some q p e) (both_true (is_short q) (list_all is_short qs) h).0
 short_at (q ∷ qs) (suc i) p h e = short_at qs i p (both_true (is_short q) (list_all is_short qs) h).1 e
 
+-- no path of the table is longer than the longest
 pub path_short : (i : ℕ) (p : List ℕ) → slice_get (map (λ p. p.now) PATHS) i ≡ Some p → length p ≤ longest_path
 path_short i p e = let s = short_at (map (λ p. p.now) PATHS) i p all_short e in grind (arith, nat_tests, s)
 
+-- the code's table of paths is that of the specification
 pub paths_are : map (λ p. p.now) PATHS ≡ printed
 unfolding paths printed
 paths_are = refl
 
+-- the path at a place of the code is that of the specification
 pub path_found : (i : ℕ) (p : List ℕ) → slice_get (map (λ p. p.now) PATHS) i ≡ Some p → p ≡ path_of i
 unfolding path_of
 path_found i p e = sym (ap name_in (subst (λ (ps : List (List ℕ)). slice_get ps i ≡ Some p) paths_are e))

@@ -140,10 +140,12 @@ is_plain text d e =
     none_some : (n : ℤ) → None ≡ Some n → ⊥
     none_some n e = cc
 
+-- a date that is read is the one that the text spells
 pub some_plain : (text : List ℕ) (r : Option ℤ) → r ≡ date_at text → IfSome r (IsPlainDate text)
 some_plain text None e = tt
 some_plain text (Some d) e = (is_plain text d (sym e)).1
 
+-- where none is read the text spells none
 pub none_plain : (text : List ℕ) (r : Option ℤ) → r ≡ date_at text
     → IfNone r ((d : ℤ) → IsDay d → IsPlainDate text d → ⊥)
 none_plain text None e = λ d day p. none_some d (e ∙ plain_is text d day p)

@@ -16,5 +16,6 @@ below (suc n) k t h =
       | inr g ↦ below n k (and_r _ (are_powers n) t) (omega arith)
     ]
 
+-- the table has the powers of ten
 pub power_at : (k : ℕ) → k ≤ 18 → get_or POWERS k 0 ≡ 10 ^ k
 power_at k h = below 19 k tt (omega (arith, h))

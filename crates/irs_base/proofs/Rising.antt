@@ -4,24 +4,28 @@ use Rattle.std.proofs.Common.{subst, ◌∙◌, arith}
 use Rattle.jiff_core.proofs.SignedLemmas.{signed_arith}
 use Rattle.irs_base.specs.Listed.{Member, AllAfter, IsRising}
 
+-- no number is less than itself
 pub not_itself : (x : ℤ) → ¬ (x <ℤ x)
 not_itself x h = omega (arith, signed_arith)
 
--- what stands in a list is after what all of it is after
+-- a member of a list is after what all of the list is after
 pub member_after : (x d : ℤ) (xs : List ℤ) → AllAfter x xs → Member d xs → x <ℤ d
 member_after x d [] after m = absurd m
 member_after x d (y ∷ ys) after (inl here) = subst (λ z. x <ℤ z) (sym here) after.0
 member_after x d (y ∷ ys) after (inr there) = member_after x d ys after.1 there
 
+-- a day of a list is one of the list with one more
 pub member_old : (d y : ℤ) (xs : List ℤ) → Member d xs → Member d (xs ++ y ∷ [])
 member_old d y [] m = absurd m
 member_old d y (x ∷ xs) (inl here) = inl here
 member_old d y (x ∷ xs) (inr there) = inr (member_old d y xs there)
 
+-- the day that is added is in the list
 pub member_new : (y : ℤ) (xs : List ℤ) → Member y (xs ++ y ∷ [])
 member_new y [] = inl refl
 member_new y (x ∷ xs) = inr (member_new y xs)
 
+-- a day of a list with one more is in the list or the one more
 pub member_cases : (d y : ℤ) (xs : List ℤ) → Member d (xs ++ y ∷ []) → Member d xs ⊎ (d ≡ y)
 member_cases d y [] (inl here) = inr here
 member_cases d y [] (inr none) = absurd none
@@ -32,12 +36,13 @@ after_push : (x y : ℤ) (xs : List ℤ) → AllAfter x xs → x <ℤ y → AllA
 after_push x y [] after h = (h, tt)
 after_push x y (z ∷ zs) after h = (after.0, after_push x y zs after.1 h)
 
+-- a rising list with a later day rises
 pub rising_push : (y : ℤ) (xs : List ℤ) → IsRising xs → ((d : ℤ) → Member d xs → d <ℤ y) → IsRising (xs ++ y ∷ [])
 rising_push y [] rising below = (tt, tt)
 rising_push y (x ∷ xs) rising below =
     (after_push x y xs rising.0 (below x (inl refl)), rising_push y xs rising.1 (λ d m. below d (inr m)))
 
--- a day of both that is not the first of one stands behind it
+-- a day of both that is not the first of one comes after it
 behind : (x y d : ℤ) (ys : List ℤ) → x <ℤ d → x ≡ y → Member d (y ∷ ys) → Member d ys
 behind x y d ys later same (inl here) = absurd (not_itself x (subst (λ z. x <ℤ z) (here ∙ sym same) later))
 behind x y d ys later same (inr there) = there

@@ -24,6 +24,7 @@ multiple_order k m n h =
 both_ways : (m n : ℤ) → m ≤ℤ n → n ≤ℤ m → m ≡ n
 both_ways m n h k = omega (arith, signed_arith, h, k)
 
+-- a fraction is rounded to one nearest number
 pub nearest_once : (p q m n : ℤ) → pos 0 <ℤ q → Rounded Nearest p q m → Rounded Nearest p q n → m ≡ n
 nearest_once p (negsuc k) m n h a b = absurd (omega (arith, signed_arith, h))
 nearest_once p (pos k) m n h a b =
@@ -45,11 +46,13 @@ up_once p (pos k) m n h a b =
     (multiple_order k m n (omega (arith, signed_arith, a, b)))
     (multiple_order k n m (omega (arith, signed_arith, a, b)))
 
+-- a fraction is rounded to one number, in each direction
 pub rounded_once : (dir : Direction) (p q m n : ℤ) → pos 0 <ℤ q → Rounded dir p q m → Rounded dir p q n → m ≡ n
 rounded_once Up p q m n h a b = up_once p q m n h a b
 rounded_once Down p q m n h a b = down_once p q m n h a b
 rounded_once Nearest p q m n h a b = nearest_once p q m n h a b
 
+-- a fraction has a nearest number
 pub nearest_exists : (p q : ℤ) → pos 0 <ℤ q → (m : ℤ) × Rounded Nearest p q m
 nearest_exists p q h =
     let k = int_div_euclid p q in
@@ -112,5 +115,6 @@ rounded_is Up p q low = up_choice p q (int_lt (pos 0) (int_rem_euclid p q)) refl
 rounded_is Down p q low = down_low p q (int_div_euclid p q) (int_rem_euclid p q) (quotient_and_rest p q low)
 rounded_is Nearest p q low = near_choice p q (int_lt (int_rem_euclid p q) (q -ℤ int_rem_euclid p q)) refl low
 
+-- the rounded number is that of the function
 pub rounded_value : (dir : Direction) (p q m : ℤ) → pos 0 <ℤ q → Rounded dir p q m → m ≡ rounded dir p q
 rounded_value dir p q m low h = rounded_once dir p q m (rounded dir p q) low h (rounded_is dir p q low)

@@ -11,20 +11,23 @@ use Rattle.irs_base.specs.Days.{IsDay}
 use Rattle.irs_base.specs.Decimals.{AreDigits, number_after, number_of}
 use Rattle.irs_base.specs.Texts.{IsPlainDate, day_text, digit_row, two_digits, unsigned_dec}
 
--- each byte is behind the space
+-- each byte is above the space
 abbrev pub Visible : List ℕ → Type 0
 Visible [] = Unit {0}
 Visible (x ∷ xs) = (33 ≤ x) × Visible xs
 
+-- visible texts are visible together
 pub visible_append : (a b : List ℕ) → Visible a → Visible b → Visible (a ++ b)
 visible_append [] b h k = k
 visible_append (x ∷ a) b h k = (h.0, visible_append a b h.1 k)
 
 -- ---- days
 
+-- two digits are visible
 pub two_visible : (n : ℕ) → Visible (two_digits n)
 two_visible n = (omega arith, (omega arith, tt))
 
+-- a date is visible
 pub day_visible : (d : ℤ) → Visible (day_text d)
 unfolding day_text
 day_visible d =
@@ -46,19 +49,22 @@ plain d day = record { year = year_of d; month = month_of d; day = day_of_month 
 
 -- ---- digits
 
+-- digits are visible
 pub digits_visible : (s : List ℕ) → AreDigits s → Visible s
 digits_visible [] h = tt
 digits_visible (c ∷ cs) h = (omega (arith, h.0), digits_visible cs h.2)
 
+-- digits after digits are digits
 pub digits_append : (a b : List ℕ) → AreDigits a → AreDigits b → AreDigits (a ++ b)
 digits_append [] b h k = k
 digits_append (x ∷ a) b h k = (h.0, h.1, digits_append a b h.2 k)
 
--- digits behind others
+-- digits after others
 pub digits_behind : (n : ℕ) (a b : List ℕ) → number_after n (a ++ b) ≡ number_after (number_after n a) b
 digits_behind n [] b = refl
 digits_behind n (x ∷ a) b = digits_behind (10 * n + (x - 48)) a b
 
+-- a digit is a digit
 pub one_digit : (n : ℕ) → n < 10 → AreDigits ((48 + n) ∷ [])
 one_digit n h = (omega arith, omega arith, tt)
 
@@ -82,12 +88,13 @@ spells_more n ds l h = (
 pub spells_decimal : (n : ℕ) → n < 2 ^ 64 → IsSpelt n (decimal n)
 spells_decimal n h = decimal_by_steps IsSpelt spells_one spells_more n h
 
+-- a row of digits has digits alone
 pub row_digits : (k n : ℕ) → AreDigits (digit_row k n)
 row_digits zero n = tt
 row_digits (suc k) n =
     digits_append (digit_row k (n / 10)) ((48 + n % 10) ∷ []) (row_digits k (n / 10)) (one_digit (n % 10) (omega arith))
 
--- behind the digits of the whole part they spell the whole
+-- after the digits of the whole part they spell the whole
 pub row_spells : (k n : ℕ) → number_after (n / 10 ^ k) (digit_row k n) ≡ n
 row_spells zero n = omega arith
 row_spells (suc k) n =
@@ -98,6 +105,7 @@ row_spells (suc k) n =
     digits_behind (n / 10 ^ suc k) (digit_row k (n / 10)) ((48 + n % 10) ∷ [])
     ∙ one_more (number_after (n / 10 ^ suc k) (digit_row k (n / 10))) n rest
 
+-- the number after a number is not 0
 pub not_none : (k : ℕ) → suc k ≢ 0
 not_none k e = omega (arith, e)
 

@@ -5,14 +5,14 @@ use Rattle.std.specs.Str.{bytes_eq}
 
 -- how many elements there are
 abbrev pub count : ℕ
-count = 157
+count = 167
 
 -- a name, where there is one
 abbrev pub name_in : Option (List ℕ) → List ℕ
 name_in (Some p) = p
 name_in None = []
 
--- the path of a child: its name alone right below the stream, else behind its parent's path
+-- the path of a child: its name alone right below the stream, else its parent's path and its name
 abbrev pub path_below : List (List ℕ) → ℕ → List ℕ → List ℕ
 path_below paths parent name = if parent == 2 then name else name_in (slice_get paths parent) ++ 47 ∷ name
 
@@ -22,7 +22,7 @@ no_twin parent name [] names = true
 no_twin parent name (p ∷ ps) [] = true
 no_twin parent name (p ∷ ps) (n ∷ ns) = (not (p == parent) || not (bytes_eq n name)) && no_twin parent name ps ns
 
--- from the place n on, each element stands behind its parent, has its path, and has no twin
+-- from the place n on, each element comes after its parent, has its path, and has no twin
 abbrev pub fits_from : List (List ℕ) → ℕ → List ℕ → List (List ℕ) → List (List ℕ) → Bool
 fits_from all n [] [] [] = true
 fits_from all n (parent ∷ parents) (name ∷ names) (path ∷ paths) =
@@ -186,6 +186,10 @@ notional_step_date = 81
 abbrev pub fixed_rate_step_date : ℕ
 fixed_rate_step_date = 87
 
+-- `calculationPeriodAmount/calculation/floatingRateCalculation/indexTenor`
+abbrev pub index_tenor : ℕ
+index_tenor = 91
+
 -- `calculationPeriodAmount/calculation/floatingRateCalculation/floatingRateMultiplierSchedule/step/stepDate`
 abbrev pub multiplier_step_date : ℕ
 multiplier_step_date = 97
@@ -194,50 +198,70 @@ multiplier_step_date = 97
 abbrev pub spread_step_date : ℕ
 spread_step_date = 102
 
+-- `calculationPeriodAmount/calculation/floatingRateCalculation/initialRate`
+abbrev pub initial_rate : ℕ
+initial_rate = 104
+
+-- `calculationPeriodAmount/calculation/floatingRateCalculation/calculationParameters`
+abbrev pub calculation_parameters : ℕ
+calculation_parameters = 109
+
+-- `calculationPeriodAmount/calculation/floatingRateCalculation/calculationParameters/applicableBusinessDays`
+abbrev pub applicable_business_days : ℕ
+applicable_business_days = 117
+
 -- `calculationPeriodAmount/calculation/dayCountFraction`
 abbrev pub day_count_fraction : ℕ
-day_count_fraction = 109
+day_count_fraction = 119
 
 -- `calculationPeriodAmount/calculation/compoundingMethod`
 abbrev pub compounding_method : ℕ
-compounding_method = 110
+compounding_method = 120
 
 -- `stubCalculationPeriodAmount`
 abbrev pub stub_amount : ℕ
-stub_amount = 111
+stub_amount = 121
 
 -- `stubCalculationPeriodAmount/calculationPeriodDatesReference`
 abbrev pub stub_amount_reference : ℕ
-stub_amount_reference = 112
+stub_amount_reference = 122
 
 -- `stubCalculationPeriodAmount/initialStub`
 abbrev pub initial_stub : ℕ
-initial_stub = 113
+initial_stub = 123
+
+-- `stubCalculationPeriodAmount/initialStub/floatingRate`
+abbrev pub initial_stub_floating_rate : ℕ
+initial_stub_floating_rate = 124
 
 -- `stubCalculationPeriodAmount/finalStub`
 abbrev pub final_stub : ℕ
-final_stub = 120
+final_stub = 130
+
+-- `stubCalculationPeriodAmount/finalStub/floatingRate`
+abbrev pub final_stub_floating_rate : ℕ
+final_stub_floating_rate = 131
 
 -- `principalExchanges`
 abbrev pub principal_exchanges : ℕ
-principal_exchanges = 127
+principal_exchanges = 137
 
 -- `cashflows`
 abbrev pub cashflows : ℕ
-cashflows = 131
+cashflows = 141
 
 -- `principalExchange`
 abbrev pub flow_exchange : ℕ
-flow_exchange = 132
+flow_exchange = 142
 
 -- `paymentCalculationPeriod`
 abbrev pub flow_payment : ℕ
-flow_payment = 136
+flow_payment = 146
 
 -- `calculationPeriod`
 abbrev pub flow_period : ℕ
-flow_period = 142
+flow_period = 152
 
 -- `rateObservation`
 abbrev pub flow_observation : ℕ
-flow_observation = 153
+flow_observation = 163

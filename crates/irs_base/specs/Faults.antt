@@ -1,4 +1,4 @@
--- Broken rules of one stream, and the answers of calls that tell them.
+-- Broken rules of one stream, and the answers of calls that report them.
 use Rattle.std.specs.Prelude.{ℕ, Result, Ok, Err}
 use Rattle.irs_base.specs.declared.places.Rule.{Rule}
 use Rattle.irs_base.specs.declared.places.Fault.{Fault}

@@ -21,7 +21,7 @@ abbrev pub ends_field : List ℕ → Bool
 ends_field [] = true
 ends_field (b ∷ bs) = is_space b
 
--- what stands between spaces and tabs
+-- what spaces and tabs separate
 abbrev pub fields : List ℕ → List (List ℕ)
 fields [] = []
 fields (b ∷ bs) =

@@ -29,6 +29,10 @@ most_multiplier = 999
 abbrev pub most_offset : ℕ
 most_offset = 60
 
+-- the most days of an observation shift, a lookback or a lockout
+abbrev pub most_observation_offset : ℕ
+most_observation_offset = 30
+
 -- 10^13, in units of 10^-4
 abbrev pub most_notional : ℕ
 most_notional = 10 ^ 17

@@ -55,6 +55,7 @@ answer x = record {
 
 -- one specification, then the next over its answer
 infixl 10 ◌>>=◌
+-- a specification, then the next one over its answer
 abbrev pub ◌>>=◌ : {A B R : Type 0} → Spec A R → (A → Spec B R) → Spec B R
 spec >>= next = record {
   Answers = λ b. (a : _) × spec.Answers a × (next a).Answers b;

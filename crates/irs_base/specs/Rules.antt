@@ -4,8 +4,9 @@ use Rattle.irs_base.specs.declared.places.Rule.{Rule}
 use Rattle.irs_base.specs.declared.places.Rule.TheVariants.{K1, K2, K3, K4, K5, K6, K7, K8, K10, K11, K12, K13, K14}
 use Rattle.irs_base.specs.declared.places.Rule.TheVariants.{K15, K16, K17, K18, K19, K20, K21, K30, K31, K32, K33, K34}
 use Rattle.irs_base.specs.declared.places.Rule.TheVariants.{K35, K36, K37, K38, K39, K40, K41, K42, K43, K44, K45, K46}
+use Rattle.irs_base.specs.declared.places.Rule.TheVariants.{K47, K48, K49}
 
--- the number behind the K
+-- the number after the K
 abbrev pub rule_number : Rule → ℕ
 rule_number K1 = 1
 rule_number K2 = 2
@@ -44,3 +45,6 @@ rule_number K43 = 43
 rule_number K44 = 44
 rule_number K45 = 45
 rule_number K46 = 46
+rule_number K47 = 47
+rule_number K48 = 48
+rule_number K49 = 49

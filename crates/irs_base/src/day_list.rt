@@ -30,7 +30,7 @@ impl DayList {
         }
     }
 
-    /// Puts a day behind the others; where memory ran out the list is as it was.
+    /// Appends a day. If memory ran out the list is as it was.
     #[tactic(auto, using(crate::proofs::DayListLemmas::are_days_more))]
     pub fn push(&mut self, x: Day) -> Result<(), Memory>
         ensures ok { OnOk result (self.new ≡ self.old ++ x ∷ []) }

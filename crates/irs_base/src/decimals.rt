@@ -45,7 +45,7 @@ fn are_zeros_past(digits: &[u8], places: u8) -> bool
     digits.iter().skip(places as usize).all(|b| *b == b'0')
 }
 
-// What stands before the first point, and behind it.
+// What comes before the first point, and after it.
 fn cut_at_point(text: &[u8]) -> (&[u8], &[u8])
     ensures { IsCut text.now result.0.now result.1.now }
 {
@@ -57,7 +57,7 @@ fn cut_at_point(text: &[u8]) -> (&[u8], &[u8])
     (text, &[])
 }
 
-/// The digits before and behind the point of a decimal without sign. `None` comes exactly where the text
+/// The digits before and after the point of a decimal without sign. `None` comes exactly where the text
 /// isn't one: digits with at most one point, at least one digit, at most 18 before the point. The limit is
 /// this project's own.
 pub fn decimal_parts(text: &[u8]) -> Option<(&[u8], &[u8])>
@@ -73,7 +73,7 @@ pub fn decimal_parts(text: &[u8]) -> Option<(&[u8], &[u8])>
     }
 }
 
-// The first digit, a zero where there is none, and those behind it.
+// The first digit, a zero if there is none, and those after it.
 fn first_digit(digits: &[u8]) -> (u8, &[u8])
     requires { AreDigits digits.now }
     ensures digit { result.0 ≤ 9 }
@@ -94,7 +94,7 @@ fn with_digit(n: u64, digit: u8) -> u64
     10 * n + u64::from(digit)
 }
 
-// The number that the first `count` digits spell behind those of n, zeros standing for digits that lack;
+// The number that the first `count` digits spell after those of n, with zeros for digits that are absent;
 // it is below 10^18.
 #[tactic(auto, using(crate::proofs::DecimalLemmas::room_left))]
 fn number_behind(n: u64, digits: &[u8], count: u8) -> u64
@@ -131,8 +131,8 @@ fn with_parts(units: u64, parts: u64, places: u8) -> u128
     u128::from(units) * u128::from(power_of_ten(places)) + u128::from(parts)
 }
 
-/// The number that the digits before a point and the first `places` behind it spell, zeros standing for
-/// digits that lack: so many units of 10^-places. It is below 10^30.
+/// The number that the digits before a point and the first `places` after it spell, with zeros for
+/// digits that are absent, in units of 10^-places. It is below 10^30.
 pub fn number_of_parts(whole: &[u8], fraction: &[u8], places: u8) -> u128
     requires whole { AreDigits whole.now }
     requires fraction { AreDigits fraction.now }
@@ -159,7 +159,7 @@ fn read_unsigned(text: &[u8], places: u8) -> Option<u128>
     Some(number_of_parts(whole, fraction, places))
 }
 
-// What stands behind a sign, where the text begins with it.
+// What follows a sign, if the text begins with it.
 fn behind_sign(sign: u8, text: &[u8]) -> Option<&[u8]>
     ensures some { IfSome result (λ rest. text.now ≡ sign ∷ rest.now) }
     ensures none { IfNone result ((rest : List ℕ) → text.now ≡ sign ∷ rest → ⊥) }

@@ -25,7 +25,7 @@ const POWERS: [u64; 19] = [
     1_000_000_000_000_000_000,
 ];
 
-// The two digits of each number below 100, one pair behind the other. It is a reference, since a table
+// The two digits of each number below 100, one pair after the other. It is a reference, since a table
 // by value is laid down anew at each use.
 const PAIRS: &[u8; 200] =
     b"00010203040506070809101112131415161718192021222324252627282930313233343536373839404142434445464748495051525354555657585960616263646566676869707172737475767778798081828384858687888990919293949596979899";

@@ -12,7 +12,7 @@ ghost use Rattle.irs_base.specs.declared.elements.TheConstants.{NAMES, PARENTS, 
 use std::marker::Model;
 
 /// The number of elements in the table.
-pub const ELEMENTS: u8 = 157;
+pub const ELEMENTS: u8 = 167;
 
 /// An element, by its place in the table of paths. Contracts see the place.
 #[derive(Clone, Copy, Debug, PartialEq, Eq)]
@@ -148,47 +148,65 @@ impl Elem {
     /// `calculationPeriodAmount/calculation/fixedRateSchedule/step/stepDate`.
     pub const FIXED_RATE_STEP_DATE: Elem = Elem { place: 87 };
 
+    /// `calculationPeriodAmount/calculation/floatingRateCalculation/indexTenor`.
+    pub const INDEX_TENOR: Elem = Elem { place: 91 };
+
     /// `calculationPeriodAmount/calculation/floatingRateCalculation/floatingRateMultiplierSchedule/step/stepDate`.
     pub const MULTIPLIER_STEP_DATE: Elem = Elem { place: 97 };
 
     /// `calculationPeriodAmount/calculation/floatingRateCalculation/spreadSchedule/step/stepDate`.
     pub const SPREAD_STEP_DATE: Elem = Elem { place: 102 };
 
+    /// `calculationPeriodAmount/calculation/floatingRateCalculation/initialRate`.
+    pub const INITIAL_RATE: Elem = Elem { place: 104 };
+
+    /// `calculationPeriodAmount/calculation/floatingRateCalculation/calculationParameters`.
+    pub const CALCULATION_PARAMETERS: Elem = Elem { place: 109 };
+
+    /// `calculationPeriodAmount/calculation/floatingRateCalculation/calculationParameters/applicableBusinessDays`.
+    pub const APPLICABLE_BUSINESS_DAYS: Elem = Elem { place: 117 };
+
     /// `calculationPeriodAmount/calculation/dayCountFraction`.
-    pub const DAY_COUNT_FRACTION: Elem = Elem { place: 109 };
+    pub const DAY_COUNT_FRACTION: Elem = Elem { place: 119 };
 
     /// `calculationPeriodAmount/calculation/compoundingMethod`.
-    pub const COMPOUNDING_METHOD: Elem = Elem { place: 110 };
+    pub const COMPOUNDING_METHOD: Elem = Elem { place: 120 };
 
     /// `stubCalculationPeriodAmount`.
-    pub const STUB_AMOUNT: Elem = Elem { place: 111 };
+    pub const STUB_AMOUNT: Elem = Elem { place: 121 };
 
     /// `stubCalculationPeriodAmount/calculationPeriodDatesReference`.
-    pub const STUB_AMOUNT_REFERENCE: Elem = Elem { place: 112 };
+    pub const STUB_AMOUNT_REFERENCE: Elem = Elem { place: 122 };
 
     /// `stubCalculationPeriodAmount/initialStub`.
-    pub const INITIAL_STUB: Elem = Elem { place: 113 };
+    pub const INITIAL_STUB: Elem = Elem { place: 123 };
+
+    /// `stubCalculationPeriodAmount/initialStub/floatingRate`.
+    pub const INITIAL_STUB_FLOATING_RATE: Elem = Elem { place: 124 };
 
     /// `stubCalculationPeriodAmount/finalStub`.
-    pub const FINAL_STUB: Elem = Elem { place: 120 };
+    pub const FINAL_STUB: Elem = Elem { place: 130 };
+
+    /// `stubCalculationPeriodAmount/finalStub/floatingRate`.
+    pub const FINAL_STUB_FLOATING_RATE: Elem = Elem { place: 131 };
 
     /// `principalExchanges`.
-    pub const PRINCIPAL_EXCHANGES: Elem = Elem { place: 127 };
+    pub const PRINCIPAL_EXCHANGES: Elem = Elem { place: 137 };
 
     /// `cashflows`.
-    pub const CASHFLOWS: Elem = Elem { place: 131 };
+    pub const CASHFLOWS: Elem = Elem { place: 141 };
 
     /// `principalExchange`.
-    pub const FLOW_EXCHANGE: Elem = Elem { place: 132 };
+    pub const FLOW_EXCHANGE: Elem = Elem { place: 142 };
 
     /// `paymentCalculationPeriod`.
-    pub const FLOW_PAYMENT: Elem = Elem { place: 136 };
+    pub const FLOW_PAYMENT: Elem = Elem { place: 146 };
 
     /// `calculationPeriod`.
-    pub const FLOW_PERIOD: Elem = Elem { place: 142 };
+    pub const FLOW_PERIOD: Elem = Elem { place: 152 };
 
     /// `rateObservation`.
-    pub const FLOW_OBSERVATION: Elem = Elem { place: 153 };
+    pub const FLOW_OBSERVATION: Elem = Elem { place: 163 };
 
     /// The element at a place of the table; `None` exactly past its end.
     pub fn at(place: u8) -> Option<Elem>
@@ -230,27 +248,28 @@ pub fn paths_listed()
     ensures { map (λ p. p.now) PATHS ≡ printed }
 {}
 
-/// The table is whole: each element stands behind its parent, its path is its parent's path with
-/// its own name behind a `/` (the name alone right below the stream), and no two elements of one
-/// parent have one name, so that no path stands twice.
+/// The table is whole: each element comes after its parent, its path is its parent's path, a `/` and
+/// its own name (the name alone right below the stream), and no two elements of one parent have one
+/// name, so that no path is there twice.
 pub fn table_fits()
     ensures { fits_from (map (λ p. p.now) PATHS) 3 (drop 3 PARENTS) (drop 3 (map (λ n. n.now) NAMES))
         (drop 3 (map (λ p. p.now) PATHS)) ≡ true }
 {}
 
 /// The place of the element that the path continues; the stream for a path of one name.
-pub const PARENTS: [u8; 157] = [
+pub const PARENTS: [u8; 167] = [
     0, 0, 1, 2, 2, 4, 5, 5, 7, 7, 7, 10, 4, 12, 12, 14, 14, 14, 17, 4, 19, 19, 19, 22, 4, 24, 24,
     26, 26, 26, 29, 4, 4, 4, 4, 34, 34, 34, 2, 38, 38, 40, 40, 38, 38, 38, 38, 46, 46, 46, 38, 50,
     50, 50, 53, 2, 55, 55, 55, 58, 58, 58, 58, 58, 58, 64, 58, 55, 67, 67, 55, 70, 70, 70, 73, 2,
     75, 76, 77, 78, 78, 80, 80, 78, 76, 84, 84, 86, 86, 76, 89, 89, 91, 91, 89, 94, 94, 96, 96, 89,
-    99, 99, 101, 101, 89, 89, 105, 105, 89, 76, 76, 2, 111, 111, 113, 114, 114, 116, 116, 113, 111,
-    120, 121, 121, 123, 123, 120, 2, 127, 127, 127, 2, 2, 132, 132, 132, 2, 136, 136, 136, 139,
-    139, 2, 142, 142, 142, 142, 142, 142, 142, 142, 142, 151, 2, 153, 153, 153,
+    99, 99, 101, 101, 89, 89, 105, 105, 89, 89, 109, 109, 111, 109, 113, 109, 115, 109, 117, 76,
+    76, 2, 121, 121, 123, 124, 124, 126, 126, 123, 121, 130, 131, 131, 133, 133, 130, 2, 137, 137,
+    137, 2, 2, 142, 142, 142, 2, 146, 146, 146, 149, 149, 2, 152, 152, 152, 152, 152, 152, 152,
+    152, 152, 161, 2, 163, 163, 163,
 ];
 
 /// The name of each element.
-pub const NAMES: [&str; 157] = [
+pub const NAMES: [&str; 167] = [
     "document",
     "swap",
     "swapStream",
@@ -360,6 +379,16 @@ pub const NAMES: [&str; 157] = [
     "roundingDirection",
     "precision",
     "negativeInterestRateTreatment",
+    "calculationParameters",
+    "calculationMethod",
+    "observationShift",
+    "offsetDays",
+    "lookback",
+    "offsetDays",
+    "lockout",
+    "offsetDays",
+    "applicableBusinessDays",
+    "businessCenter",
     "dayCountFraction",
     "compoundingMethod",
     "stubCalculationPeriodAmount",
@@ -411,7 +440,7 @@ pub const NAMES: [&str; 157] = [
 ];
 
 /// The path of each element.
-pub const PATHS: [&str; 157] = [
+pub const PATHS: [&str; 167] = [
     "document",
     "swap",
     "swapStream",
@@ -521,6 +550,16 @@ pub const PATHS: [&str; 157] = [
     "calculationPeriodAmount/calculation/floatingRateCalculation/finalRateRounding/roundingDirection",
     "calculationPeriodAmount/calculation/floatingRateCalculation/finalRateRounding/precision",
     "calculationPeriodAmount/calculation/floatingRateCalculation/negativeInterestRateTreatment",
+    "calculationPeriodAmount/calculation/floatingRateCalculation/calculationParameters",
+    "calculationPeriodAmount/calculation/floatingRateCalculation/calculationParameters/calculationMethod",
+    "calculationPeriodAmount/calculation/floatingRateCalculation/calculationParameters/observationShift",
+    "calculationPeriodAmount/calculation/floatingRateCalculation/calculationParameters/observationShift/offsetDays",
+    "calculationPeriodAmount/calculation/floatingRateCalculation/calculationParameters/lookback",
+    "calculationPeriodAmount/calculation/floatingRateCalculation/calculationParameters/lookback/offsetDays",
+    "calculationPeriodAmount/calculation/floatingRateCalculation/calculationParameters/lockout",
+    "calculationPeriodAmount/calculation/floatingRateCalculation/calculationParameters/lockout/offsetDays",
+    "calculationPeriodAmount/calculation/floatingRateCalculation/calculationParameters/applicableBusinessDays",
+    "calculationPeriodAmount/calculation/floatingRateCalculation/calculationParameters/applicableBusinessDays/businessCenter",
     "calculationPeriodAmount/calculation/dayCountFraction",
     "calculationPeriodAmount/calculation/compoundingMethod",
     "stubCalculationPeriodAmount",

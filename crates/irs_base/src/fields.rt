@@ -35,7 +35,7 @@ fn split_field(bytes: &[u8]) -> (&[u8], &[u8])
     (bytes, &[])
 }
 
-/// The first field of a line, and what stands behind it.
+/// The first field of a line, and what follows it.
 #[tactic(auto, using(crate::proofs::FieldLemmas::same_fields, crate::proofs::FieldLemmas::begins_solid, crate::proofs::FieldLemmas::not_longer))]
 pub fn first_field(bytes: &[u8]) -> Option<(&[u8], &[u8])>
     ensures fields { MatchOption result (fields bytes.now ≡ []) (λ p. fields bytes.now ≡ p.0.now ∷ fields p.1.now) }

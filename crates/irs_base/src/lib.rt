@@ -1,4 +1,4 @@
-//! What the crates of the project stand on, but for irs_json: days and months, decimals and rounding, lists,
+//! What the other crates use, except irs_json: days and months, decimals and rounding, lists,
 //! texts and lines, and the places of broken rules.
 #![tactic(auto)]
 

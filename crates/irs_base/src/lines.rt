@@ -13,7 +13,7 @@ fn before_return(line: &[u8]) -> &[u8]
     }
 }
 
-/// The first line, and the bytes behind its end.
+/// The first line, and the bytes after its end.
 pub fn split_line(bytes: &[u8]) -> (&[u8], &[u8])
     requires { 0 < length bytes.now }
     ensures lines { lines_of bytes.now ≡ result.0.now ∷ lines_of result.1.now }

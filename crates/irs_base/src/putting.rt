@@ -9,7 +9,7 @@ use crate::line::push_signed_number;
 use crate::{Day, Dec, Line};
 
 impl Line {
-    /// Puts a space and a text.
+    /// Writes a space and a text.
     #[tactic(auto, using(crate::proofs::TextLemmas::appended))]
     pub fn put_field(&mut self, bytes: &[u8])
         requires { length self.old + length bytes.now < 512 }
@@ -20,7 +20,7 @@ impl Line {
         self.push(bytes);
     }
 
-    /// Puts a mark and a whole number.
+    /// Writes a mark and a whole number.
     #[tactic(auto, using(crate::proofs::TextLemmas::appended, crate::proofs::TextLengths::length_signed))]
     pub fn put_whole(&mut self, mark: u8, n: i128)
         requires { length self.old + 41 ≤ 512 }
@@ -31,7 +31,7 @@ impl Line {
         self.push_whole(n);
     }
 
-    /// Puts a mark and a whole number of 64 bits.
+    /// Writes a mark and a whole number of 64 bits.
     pub fn put_signed(&mut self, mark: u8, n: i64)
         requires { length self.old + 41 ≤ 512 }
         ensures text { self.new ≡ self.old ++ mark ∷ signed_decimal n }
@@ -41,7 +41,7 @@ impl Line {
         push_signed_number(self, n);
     }
 
-    /// Puts a space and a number that counts.
+    /// Writes a space and a count.
     #[tactic(auto, using(crate::proofs::TextLemmas::appended))]
     pub fn put_number(&mut self, n: u32)
         requires { length self.old + 41 ≤ 512 }
@@ -52,7 +52,7 @@ impl Line {
         self.push_number(n);
     }
 
-    /// Puts a space and a day: `YYYY-MM-DD`.
+    /// Writes a space and a day: `YYYY-MM-DD`.
     #[tactic(auto, using(crate::proofs::TextLemmas::appended, crate::proofs::TextLengths::length_day))]
     pub fn put_day(&mut self, d: Day)
         requires { length self.old + 11 ≤ 512 }
@@ -63,7 +63,7 @@ impl Line {
         self.push_day(d);
     }
 
-    /// Puts a space and a decimal.
+    /// Writes a space and a decimal.
     #[tactic(auto, using(crate::proofs::TextLemmas::appended, crate::proofs::TextLengths::length_dec))]
     pub fn put_dec(&mut self, v: Dec)
         requires places { v.places ≤ most_places }

@@ -17,7 +17,7 @@ pub enum Status {
     BadWords,
     /// A file can't be read.
     NoFile,
-    /// A put failed.
+    /// A write failed.
     PutFailed,
     /// Memory ran out.
     NoMemory,

@@ -36,7 +36,7 @@ impl Text {
         })
     }
 
-    /// Puts a byte behind the others; where memory ran out the text is as it was.
+    /// Appends a byte. If memory ran out the text is as it was.
     pub fn push(&mut self, x: u8) -> Result<(), Memory>
         ensures ok { OnOk result (self.new ≡ self.old ++ x ∷ []) }
         ensures err { OnErr result (self.new ≡ self.old) }

@@ -40,6 +40,7 @@ use Rattle.irs_bulk.specs.declared.totals.Totals.{Totals}
 module _ (plain : Bool) (k : ℕ) (swap : Swap) (cal : List Section) (table : RateTable)
     (spells : Spells Schedule (json_text (document_text plain k)) swap None) (files : CalFiles (calendar_text ∷ []) cal)
     (without : table ≡ []) where
+  -- a schedule over the swap, the calendar and the fixings is the schedule of document k
   pub schedule_by : (r : Result (List Part) Refusal) → IfOk r (IsScheduled swap cal table)
       → IfOk r (IsScheduleOf plain k)
   schedule_by (Ok s) h = (
@@ -49,6 +50,7 @@ module _ (plain : Bool) (k : ℕ) (swap : Swap) (cal : List Section) (table : Ra
   )
   schedule_by (Err e) h = tt
 
+  -- a refusal of the swap, the calendar and the fixings is that of document k
   pub unscheduled_by : (r : Result (List Part) Refusal) → IfErr r (λ e. IfRefused e (IsUnscheduled swap cal table))
       → IfErr r (λ e. IfRefused e (Ends (DueSchedule plain k)))
   unscheduled_by (Ok s) h = tt
@@ -78,6 +80,7 @@ one_sums (suc k) t u h i =
     let b : i.2.0 ≡ h.2.0 = one_adds (suc k) h.2.0 i.2.0 h.2.1 i.2.1 in
     i.2.2 ∙ ap (λ (x : Totals). both_totals x i.2.0) a ∙ ap (λ (x : Totals). both_totals h.0 x) b ∙ sym h.2.2
 
+-- the sums up to k and those of document k + 1 are the sums up to k + 1
 pub sums_more : (k : ℕ) (t u : Totals) → AreSums k t → Adds (suc k) u → AreSums (suc k) (both_totals t u)
 sums_more k t u h a = (t, h, (u, a, refl))
 
@@ -108,6 +111,7 @@ bulk_stops n k status text stop due = record {
   case = inl (k, stop);
 }
 
+-- the line of the sums over all documents is what is due
 pub bulk_sums : (n : ℕ) (t : Totals) → AreSums n t → DueBulk n 0 (line_text t)
 bulk_sums n t h = record {
   stops = λ k stop. absurd (stop.none (sums_have n k t h stop.low stop.high));
@@ -162,6 +166,7 @@ at_document k status text some h = record {
   verdict = h.verdict;
 }
 
+-- a refusal of document k is what is due for k
 pub refused_document : (k : ℕ) (r : Refusal) → IfRefused r (Ends (DueSchedule false k)) → IfRefused r (Ends (DueAt k))
 refused_document k r h = refused_with r (Ends (DueSchedule false k)) (Ends (DueAt k)) (at_document k) h
 
@@ -173,6 +178,7 @@ at_plain k s is status text some h = record {
   verdict = h.verdict;
 }
 
+-- where document k has a schedule, a refusal of its plain form is what is due for k
 pub refused_plain : (k : ℕ) (s : List Part) (r : Refusal) → IsScheduleOf false k s
     → IfRefused r (Ends (DueSchedule true k)) → IfRefused r (Ends (DueAt k))
 refused_plain k s r is h = refused_with r (Ends (DueSchedule true k)) (Ends (DueAt k)) (at_plain k s is) h
@@ -192,6 +198,7 @@ at_stop n k t below sums status text some h =
     } in
     record { due = bulk_stops n (suc k) status text stop h.due; verdict = h.verdict }
 
+-- the first k that is refused decides the run
 pub bulk_refused : (n k : ℕ) (t : Totals) (r : Refusal) → k < n → AreSums k t → IfRefused r (Ends (DueAt (suc k)))
     → IfRefused r (Ends (DueBulk n))
 bulk_refused n k t r below sums h =

@@ -42,7 +42,7 @@ convention_text plain k = if plain then codes "NONE" else slice_index_or convent
 unfoldable pub notional_text : ℕ → List ℕ
 notional_text k = decimal (1000000 + 1000 * k)
 
--- k in four digits behind the point
+-- k in four digits after the point
 unfoldable pub rate_text : ℕ → List ℕ
 rate_text k = codes "0." ++ two_digits (k / 100) ++ two_digits (k % 100)
 

@@ -195,12 +195,12 @@ fn document(alloc: Global, k: u32, convention: &str) -> Result<Vec<u8>, Memory>
     Ok(text)
 }
 
-/// Document k of `bulk`, for k from 1 to 500 (FpML 5 as JSON; which documents they are is this project's
-/// own): a fixed stream of twenty years in USD, with monthly periods and payments. Its roll is 1 + k mod
-/// 28, and its effective date that day of month 1 + k mod 12 of the year 1950 + k div 12; the notional is
-/// 1000000 + 1000 k and the rate k in units of 10^-4. The day counts take turns by k, and so do the
-/// conventions of all four adjustments, on the centre BULK; a plain document has NONE in each. `Memory`
-/// comes only for want of memory.
+/// Document k of `bulk`, for k from 1 to 500, in FpML 5 as JSON. Which documents they are is our
+/// rule. Each is a fixed stream of twenty years in USD, with monthly periods and payments. Its roll
+/// is 1 + k mod 28. Its effective date is that day of month 1 + k mod 12 of the year 1950 + k div
+/// 12. The notional is 1000000 + 1000 k, and the rate is k in units of 10^-4. The day counts take
+/// turns by k, and so do the conventions of all four adjustments, on the centre BULK. A plain
+/// document has NONE in each. `Memory` comes only where memory ran out.
 #[tactic(auto, unfolding(crate::specs::Documents::document_text))]
 pub fn bulk_doc(alloc: Global, k: u32, plain: bool) -> Result<Vec<u8>, Memory>
     requires low { 0 < k }

@@ -18,9 +18,9 @@ fn put_holidays(text: &mut Vec<u8>, year: u32) -> Result<(), Memory>
     put(text, "\n")
 }
 
-/// The calendar file of `bulk` (the format is this project's own): the centre BULK from 1949-01-01 to
-/// 2012-12-31, closed on Saturdays, Sundays, and each first of January and 25th of December. `Memory`
-/// comes only for want of memory.
+/// The calendar file of `bulk`, in a format of ours. Its one centre is BULK, from 1949-01-01 to
+/// 2012-12-31. It is closed on Saturdays, Sundays, and each first of January and 25th of December.
+/// `Memory` comes only where memory ran out.
 #[tactic(auto, using(crate::proofs::CalendarLengths::calendar_short), unfolding(crate::specs::BulkCalendars::calendar_text))]
 pub fn bulk_calendar(alloc: Global) -> Result<Vec<u8>, Memory>
     ensures value { IfOk result (λ text. text.items ≡ calendar_text) }

@@ -1,5 +1,6 @@
-//! `bulk`: documents that differ in dates, convention, notional, rate and day count, the calendar of
-//! their centre, and the sums over their schedules that a run prints. All of it is this project's own.
+//! `bulk`: documents that differ in dates, convention, notional, rate and day count, the calendar
+//! of their centre, and the sums over their schedules. A run prints the sums. All of it is our
+//! rule.
 #![tactic(auto)]
 
 mod digits;

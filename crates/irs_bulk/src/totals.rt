@@ -87,8 +87,8 @@ fn put_total(line: &mut Line, total: i128)
     line.put_dec(Dec { units, places: 2 });
 }
 
-/// Puts the line of a run, `bulk N ROWS TOTAL DAYS AGREE FIRST`, with its line feed, in the place of what
-/// the line holds. TOTAL has two decimals, to which the sum is rounded.
+/// Replaces what the line holds by the line of a run, `bulk N ROWS TOTAL DAYS AGREE FIRST`, with
+/// its line feed. TOTAL has two decimals, to which the sum is rounded.
 #[tactic(auto, unfolding(crate::specs::BulkLines::line_text))]
 pub fn bulk_text(totals: &Totals, line: &mut Line)
     requires { IsRun totals.now }

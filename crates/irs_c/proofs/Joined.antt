@@ -16,7 +16,7 @@ joined_suc (p ∷ ps) (suc i) d less =
     ap (λ (l : List ℕ). p.now ++ l) (joined_suc ps i d (omega (arith, less)))
     ∙ sym (append_assoc p.now (joined (texts_in (take i ps))) (get_or ps i d).now)
 
--- the next part is behind the others
+-- the next part is after the others
 pub joined_more : (old new part : List ℕ) (ps : List (Bor (List ℕ))) (i : ℕ) (d : Bor (List ℕ)) → i < length ps
     → old ≡ joined (texts_in (take i ps)) → new ≡ old ++ part → part ≡ (get_or ps i d).now
     → new ≡ joined (texts_in (take (i + 1) ps))

@@ -9,6 +9,7 @@ use Rattle.irs_c.specs.declared.given.Bytes.{Bytes}
 use Rattle.irs_cli.specs.Commands.{texts}
 use Rattle.irs_c.specs.Given.{AreText, words_in}
 
+-- words that were made into text are text
 pub are_text : (made : List (String Global)) (ws : List Bytes) → texts made ≡ words_in ws → AreText ws
 are_text made [] e = λ k d less. absurd (omega (arith, less))
 are_text [] (w ∷ ws) e = absurd (cc)

@@ -1,4 +1,4 @@
-//! What C calls. The form of the call is this project's own; `bindings/irs.h` has it in C's words.
+//! What C calls. The form of the call is ours; `bindings/irs.h` has it in C's words.
 ghost use Rattle.std.specs.Prelude.{◌≡◌, ◌≢◌, ◌⊎◌, ℕ, ◌<◌, List, ◌++◌, length, take, drop, map, OnOk, IfOk, IfErr};
 ghost use Rattle.irs_cli.specs.Commands.{IsListed, texts};
 ghost use Rattle.irs_cli.specs.Due.{Due, IsOneAnswer};
@@ -14,14 +14,14 @@ use irs_cli::run;
 use irs_plain::{VERSION, meaning};
 use std::alloc::Global;
 
-/// Runs a command of the program over lent words and files, and answers its status: 0 done, 1 the
-/// flows don't agree, 2 a rule is broken, 3 a calendar, fixing or flow file is outside its grammar or
-/// limits, 4 the words are no listed command, 5 a file that the words name isn't lent, 7 want of
-/// memory, 8 a file is too long, 9 a word isn't UTF-8. Status 6 never comes.
+/// Runs a command of the program over lent words and files, and returns its status. 0: done. 1: the
+/// flows don't agree. 2: a rule is broken. 3: a calendar, fixing or flow file is outside its
+/// grammar or limits. 4: the words are no listed command. 5: a file that the words name isn't lent.
+/// 7: out of memory. 8: a file is too long. 9: a word isn't UTF-8. Status 6 never comes.
 ///
 /// The text that the program would print goes to `out` as far as it has room, and its length to
-/// `needed`: where that is more than `out` has, a second call with as much room gives all of it. At 7
-/// and 9 there is no text. It keeps nothing between calls.
+/// `needed`. Where `needed` is more than `out` has, a second call with that much room gives all of
+/// the text. At 7 and 9 there is no text. The call keeps nothing for the next one.
 #[unsafe(no_mangle)]
 pub extern "C" fn irs_run(
     alloc: Global,
@@ -30,7 +30,7 @@ pub extern "C" fn irs_run(
     out: &mut [u8],
     needed: &mut usize,
 ) -> u8
-    // Want of memory, or a word that isn't UTF-8: no text.
+    // Out of memory, or a word that isn't UTF-8: no text.
     ensures memory { result ≡ 7 → (out.new ≡ out.old) × (needed.new ≡ 0) }
     ensures not_text { result ≡ 9 → (AreText words.now → ⊥) × (out.new ≡ out.old)
         × (needed.new ≡ 0) }
@@ -66,8 +66,9 @@ pub extern "C" fn irs_run(
     }
 }
 
-/// What the line of an answer means, in one plain sentence: `words` are those of the command, `status`
-/// and `line` what `irs_run` answered. 0 done, 7 want of memory, 9 a word isn't UTF-8.
+/// What the line of an answer means, in one plain sentence. `words` are those of the command;
+/// `status` and `line` are what `irs_run` returned. It returns 0 when done, 7 where memory ran out,
+/// and 9 where a word isn't UTF-8.
 ///
 /// The sentence goes to `out` as far as it has room, and its length to `needed`, as the text of
 /// `irs_run` does. At 0 as `status` it is empty.
@@ -80,7 +81,7 @@ pub extern "C" fn irs_meaning(
     out: &mut [u8],
     needed: &mut usize,
 ) -> u8
-    // Want of memory, or a word that isn't UTF-8: no sentence.
+    // Out of memory, or a word that isn't UTF-8: no sentence.
     ensures memory { result ≡ 7 → (out.new ≡ out.old) × (needed.new ≡ 0) }
     ensures not_text { result ≡ 9 → (AreText words.now → ⊥) × (out.new ≡ out.old)
         × (needed.new ≡ 0) }
@@ -125,7 +126,7 @@ fn sentence(alloc: Global, words: &[Bytes<'_>], status: u8, line: &[u8]) -> Resu
     joined(alloc, &meaning(&words, status, line).parts)
 }
 
-// The parts of a sentence one behind the other, or 7 where memory ran out.
+// The parts of a sentence one after the other, or 7 where memory ran out.
 fn joined(alloc: Global, parts: &[&[u8]]) -> Result<Vec<u8>, u8>
     ensures text { IfOk result (λ t. t.items ≡ joined_of (map (λ p. p.now) parts.now)) }
     ensures err { IfErr result (λ s. s ≡ 7) }
@@ -181,7 +182,7 @@ fn run_kept(alloc: Global, words: &[String], files: &[File<'_>]) -> Result<(u8, 
     Ok((status, kept.text))
 }
 
-// The words as text, or 9 where one isn't UTF-8, or 7 for want of memory.
+// The words as text, or 9 where one isn't UTF-8, or 7 where memory ran out.
 fn words_of(alloc: Global, words: &[Bytes<'_>]) -> Result<Vec<String>, u8>
     ensures ok { IfOk result (λ v. texts v.items ≡ words_in words.now) }
     ensures text { IfOk result (λ _. AreText words.now) }

@@ -4,17 +4,17 @@ ghost use Rattle.std.specs.Prelude.{◌≡◌, [], Some};
 use irs_cli::{PutFailed, Sink};
 use std::alloc::Global;
 
-/// What was put, and how often a put failed for want of memory.
+/// What was written, and how often a write failed as memory ran out.
 #[derive(Drop)]
 pub(crate) struct Kept {
-    /// All bytes that were put, in order.
+    /// All bytes that were written, in order.
     pub(crate) text: Vec<u8>,
-    /// How many puts failed; it stays at its most, 2^64 - 1.
+    /// How many writes failed; it stays at its most, 2^64 - 1.
     pub(crate) faults: u64,
 }
 
 impl Kept {
-    /// A sink in which nothing was put.
+    /// A sink to which nothing was written.
     pub(crate) fn new(alloc: Global) -> Kept
         ensures { result.text.items ≡ [] }
     {

@@ -1,5 +1,5 @@
-//! The library for C: a call that does what a command of the program does, on words and files in
-//! memory, and one that says what the line of an answer means.
+//! The library for C. One call does what a command of the program does, on words and files in
+//! memory. Another says what the line of an answer means.
 #![tactic(auto)]
 
 mod exports;

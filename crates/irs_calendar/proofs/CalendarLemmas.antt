@@ -12,12 +12,14 @@ use Rattle.irs_calendar.specs.Sections.{is_named, section_named}
 use Rattle.irs_calendar.specs.Selected.{with_found, sections_named, first_missing}
 use Rattle.irs_calendar.specs.Calendars.{Spot, in_file, then_file, calendars_in, SpotFails}
 
+-- past the end of a list nothing is left
 pub drop_all : {A : Type 0} (xs : List A) (i : ℕ) → length xs ≤ i → drop i xs ≡ []
 drop_all [] zero h = refl
 drop_all [] (suc i) h = refl
 drop_all (x ∷ xs) zero h = absurd (omega (arith, h))
 drop_all (x ∷ xs) (suc i) h = drop_all xs i (omega (arith, h))
 
+-- the texts of the files
 abbrev pub texts : List (Vec ℕ Global) → List (List ℕ)
 texts files = map {A = Vec ℕ Global} {B = List ℕ} (λ f. f.items) files
 
@@ -27,6 +29,7 @@ next_text files i f text within is t =
     let k : i + 1 ≡ suc i = omega arith in
     rw (k, t) (ap texts (drop-cons files i f within ∙ ap (λ (g : Vec ℕ Global). g ∷ drop (suc i) files) (sym is)))
 
+-- a file that is read hands its sections to the rest of the files
 pub file_read : (k : ℕ) (done d : List Section) (files : List (Vec ℕ Global)) (i : ℕ) (f : Vec ℕ Global) (text : List ℕ)
     (whole : Result (List Section) Spot) → calendars_in k done (texts (drop i files)) ≡ whole → i < length files
     → f ≡ get_or files i f → text ≡ f.items → in_file k (sections_of done text) ≡ Ok d
@@ -38,6 +41,7 @@ file_read k done d files i f text whole kept within is t read =
     subst (λ (r : Result (List Section) Spot). then_file r (λ e. calendars_in (k + 1) e (texts (drop (i + 1) files)))
     ≡ whole) read a
 
+-- a fault in a file is the fault of all
 pub file_fails : (k : ℕ) (done : List Section) (files : List (Vec ℕ Global)) (i : ℕ) (f : Vec ℕ Global) (text : List ℕ)
     (whole : Result (List Section) Spot) (o : Option Spot) → calendars_in k done (texts (drop i files)) ≡ whole
     → i < length files → f ≡ get_or files i f → text ≡ f.items → SpotFails o (in_file k (sections_of done text))
@@ -50,6 +54,7 @@ file_fails k done files i f text whole (Some s) kept within is t read =
     sym (subst (λ (r : Result (List Section) Spot).
     then_file r (λ e. calendars_in (k + 1) e (texts (drop (i + 1) files))) ≡ whole) read a)
 
+-- after the last file the sections so far are the result
 pub files_end : (k : ℕ) (done : List Section) (files : List (Vec ℕ Global)) (i : ℕ) (whole : Result (List Section) Spot)
     → calendars_in k done (texts (drop i files)) ≡ whole → length files ≤ i → whole ≡ Ok done
 unfolding calendars_in
@@ -75,6 +80,7 @@ pub record Picks (ss front : List Section) (k : ℕ) (left names : List (List �
   pub missing : first_missing ss k left ≡ first_missing ss 1 names
   pub sections : front ++ sections_named ss left ≡ sections_named ss names
 
+-- a centre that is found adds its section
 pub name_found : (ss front : List Section) (k : ℕ) (names : List (List ℕ)) (i : ℕ) (n : List ℕ) (s : Section)
     → Picks ss front k (drop i names) names → i < length names → n ≡ get_or names i n → section_named ss n ≡ Some s
     → Picks ss (front ++ s ∷ []) (k + 1) (drop (i + 1) names) names
@@ -90,6 +96,7 @@ name_found ss front k names i n s picks within is found =
           ≡ sections_named ss names) found p.sections;
     }
 
+-- a centre that isn't found is the first one missing
 pub name_missing : (ss front : List Section) (k : ℕ) (names : List (List ℕ)) (i : ℕ) (n : List ℕ)
     → Picks ss front k (drop i names) names → i < length names → n ≡ get_or names i n → section_named ss n ≡ None
     → first_missing ss 1 names ≡ Some k
@@ -100,6 +107,7 @@ name_missing ss front k names i n picks within is missing =
     sym (subst (λ (b : Bool). (if b then first_missing ss (k + 1) (drop (i + 1) names) else Some k)
     ≡ first_missing ss 1 names) named p.missing)
 
+-- where each centre was found, the sections are those of the names
 pub names_end : (ss front : List Section) (k : ℕ) (names : List (List ℕ)) (i : ℕ)
     → Picks ss front k (drop i names) names → length names ≤ i
     → (first_missing ss 1 names ≡ None) × (front ≡ sections_named ss names)

@@ -31,7 +31,7 @@ open_is (s ∷ ss) d =
     apart false false true o = refl
     apart false false false o = refl
 
--- from an open day to where open days end, and to where the closed ones behind them end
+-- from an open day to where open days end, and to where the closed ones after them end
 pub record Turn (test : ℤ → Bool) (first : ℤ) (limit k end next : ℕ) : Type 0 where
   pub after : k ≤ end
   pub within : end ≤ limit
@@ -69,7 +69,7 @@ closed_by ss d h = open_is ss d ∙ elim h [
 open_by : (ss : List Section) (d : ℤ) → any_listed ss d ≡ false → any_off ss d ≡ false → all_open ss d ≡ true
 open_by ss d l o = open_is ss d ∙ rw (l, o) refl
 
--- behind closed days, of which there is one at least, there is no whole week of open ones
+-- after closed days, of which there is one at least, there is no whole week of open ones
 some_shut : (off : ℕ → Bool) (w m : ℕ) → w < 7 → off w ≡ true → IsStretch off true w m → 1 ≤ m
 some_shut off w m low on stretch = elim (cases_zero m) [
   | inl none ↦
@@ -106,6 +106,7 @@ weekend_shut ss first limit k m i w weekend below stretch low high =
     ∙ subst (λ (p : ℕ). off_on ss ((p + (i - w.day)) % 7) ≡ true) (weekend.place below)
     (stretch.same (i - w.day) (omega (arith, low, high)))
 
+-- from an open day to the end of the open days, and on to the end of the closed ones
 pub turn : (ss : List Section) (first : ℤ) (limit k h end behind next : ℕ) (w : Weekend) (week : Week)
     → IsWeek (off_on ss) week → IsWeekend ss first limit k w → IsNext (λ i. any_listed ss (first +ℤ pos i)) k h limit
     → AreHeld (λ i. any_listed ss (first +ℤ pos i)) end behind w.day limit → end ≡ min w.day h
@@ -146,7 +147,7 @@ turn ss first limit k h end behind next w week is_week weekend listed holidays i
     before_day : (e d h : ℕ) → e ≡ min d h → (e ≡ d → ⊥) → e < d
     before_day e d h is other = grind arith
 
--- the weekend behind that
+-- the weekend after that
 pub weekend_later : (ss : List Section) (first : ℤ) (limit k h end behind next : ℕ) (w later : Weekend) (week : Week)
     → IsWeek (off_on ss) week → IsWeekend ss first limit k w → k ≤ end → end ≤ limit → end < behind
     → (end < w.day → behind ≤ w.day) → end ≡ min w.day h → next ≡ day_after week w end behind
@@ -204,6 +205,7 @@ from_first ss first i =
     let e : ((weekday_at first + 0) % 7 + i) % 7 ≡ (weekday_at first + i) % 7 = omega arith in
     off_later ss first 0 i i (omega arith) ∙ ap (off_on ss) e
 
+-- where no weekday is closed, there is no weekend ahead
 pub weekend_none : (ss : List Section) (first : ℤ) (limit place n : ℕ) → place ≡ weekday_at first → place < 7
     → IsStretch (off_on ss) false place n → n ≡ 7
     → IsWeekend ss first limit 0 (record { day = limit + 1; place = place })
@@ -216,6 +218,7 @@ weekend_none ss first limit place n is low stretch all = record {
   closed = λ below. absurd (omega (arith, below));
 }
 
+-- the first weekend comes after the open weekdays from the first day on
 pub weekend_first : (ss : List Section) (first : ℤ) (limit place n : ℕ) → place ≡ weekday_at first
     → IsStretch (off_on ss) false place n → (n ≡ 7 → ⊥)
     → IsWeekend ss first limit 0 (record { day = n; place = (place + n) % 7 })

@@ -12,6 +12,7 @@ use Rattle.irs_calendar.specs.Selected.{later, earlier, latest_first, earliest_l
 use Rattle.irs_calendar.specs.Selected.{CoversCommon}
 use Rattle.irs_calendar.proofs.CalendarLemmas.{drop_all}
 
+-- the sections that are borrowed
 abbrev pub sections_at : List (Bor Section) → List Section
 sections_at xs = map {A = Bor Section} {B = Section} (λ s. s.now) xs
 
@@ -28,17 +29,20 @@ pub first_more : (ss : List (Bor Section)) (i : ℕ) (x : Bor Section) (a whole 
 first_more ss i x a whole within is kept =
     subst (λ (l : List Section). latest_first a l ≡ whole) (next_section ss i x within is) kept
 
+-- the earliest last day, with one section more
 pub last_more : (ss : List (Bor Section)) (i : ℕ) (x : Bor Section) (a whole : ℤ) → i < length ss → x ≡ get_or ss i x
     → earliest_last a (sections_at (drop i ss)) ≡ whole
     → earliest_last (earlier a x.now.last) (sections_at (drop (i + 1) ss)) ≡ whole
 last_more ss i x a whole within is kept =
     subst (λ (l : List Section). earliest_last a l ≡ whole) (next_section ss i x within is) kept
 
+-- after the last section the latest first day is the one at hand
 pub first_end : (ss : List (Bor Section)) (i : ℕ) (a whole : ℤ) → length ss ≤ i
     → latest_first a (sections_at (drop i ss)) ≡ whole → a ≡ whole
 first_end ss i a whole past kept =
     subst (λ (l : List (Bor Section)). latest_first a (sections_at l) ≡ whole) (drop_all ss i past) kept
 
+-- after the last section the earliest last day is the one at hand
 pub last_end : (ss : List (Bor Section)) (i : ℕ) (a whole : ℤ) → length ss ≤ i
     → earliest_last a (sections_at (drop i ss)) ≡ whole → a ≡ whole
 last_end ss i a whole past kept =
@@ -90,6 +94,7 @@ within_all (s ∷ ss) a b d low high all =
     within_all ss (later a s.first) (earlier b s.last) d (is_later a s.first d low all.0)
     (is_earlier b s.last d high all.1) all.2
 
+-- a set with the days of the sections has the cover that is common to them
 pub covers_common : (ss : List Section) (t : DaySet) → SameDays t (set_of_sections ss) → CoversCommon ss t
 covers_common ss t same d = (
   (λ inside.

@@ -20,6 +20,7 @@ use Rattle.irs_base.specs.Lines.{lines_of}
 use Rattle.irs_calendar.specs.Calendars.{Spot, in_file, then_file, calendars_in, GivesAll}
 use Rattle.irs_calendar.proofs.RisingLemmas.{not_true}
 
+-- where neither is, both are false
 pub or_false : (a b : Bool) → (a || b) ≡ false → (a ≡ false) × (b ≡ false)
 or_false true b h = absurd (cc)
 or_false false b h = (refl, h)
@@ -27,11 +28,13 @@ or_false false b h = (refl, h)
 both_false : (a b : Bool) → a ≡ false → b ≡ false → (a || b) ≡ false
 both_false a b h k = rw (h, k) refl
 
+-- names differ in either order
 pub turned : (n m : List ℕ) → bytes_eq n m ≡ false → bytes_eq m n ≡ false
 turned n m h =
     not_true (bytes_eq m n) (λ t. let e = (bytes_eq-Decides m n).0 t in let u = (bytes_eq-Decides n m).1 (sym e) in
     cc (u, h))
 
+-- a name that is in no section is in none after a section of another name is added
 pub named_behind : (n : List ℕ) (ss : List Section) (s : Section) → is_named n ss ≡ false → bytes_eq s.name n ≡ false
     → is_named n (ss ++ s ∷ []) ≡ false
 named_behind n [] s h k = both_false (bytes_eq s.name n) false k refl
@@ -53,6 +56,7 @@ IsNew done (Named n) = is_named n done ≡ false
 IsNew done (Covered n a b) = is_named n done ≡ false
 IsNew done (Open s) = is_named s.name done ≡ false
 
+-- the centres of the sections so far differ, and so does that of the section at hand
 pub record Apart (s : State) : Type 0 where
   pub done : AreDistinct s.done
   pub part : IsNew s.done s.part
@@ -73,6 +77,7 @@ center_apart done (Named m) n t h k e = absurd (cc e)
 center_apart done (Covered m a b) n t h k e = absurd (cc e)
 center_apart done (Open s) n t h k e = begun_apart (done ++ s ∷ []) n t (distinct_push done s h k) e
 
+-- two results with the same state have one state
 pub same_state : {E : Type 0} {x y : State} → ◌≡◌ {A = Result State E} (Ok x) (Ok y) → x ≡ y
 same_state e = cc e
 
@@ -126,15 +131,18 @@ end_apart done (Open s) ss h k e = subst AreDistinct (same_list e) (distinct_pus
     same_list : {E : Type 0} {x y : List Section} → ◌≡◌ {A = Result (List Section) E} (Ok x) (Ok y) → x ≡ y
     same_list e = cc e
 
+-- a step that succeeds with its line number succeeds without it
 pub numbered_ok : {A : Type 0} (n : ℕ) (r : Result A Fault) (x : A) → numbered n r ≡ Ok x → r ≡ Ok x
 numbered_ok n (Ok y) x e = ap (λ z. Ok z) (cc e)
 numbered_ok n (Err f) x e = absurd (cc e)
 
+-- where two steps succeed, so does the first
 pub then_ok : {A B : Type 0} (r : Result A Place) (f : A → Result B Place) (y : B) → then_read r f ≡ Ok y
     → (x : A) × (r ≡ Ok x) × (f x ≡ Ok y)
 then_ok (Ok x) f y e = (x, refl, e)
 then_ok (Err p) f y e = absurd (cc e)
 
+-- the centres of a file that is read differ
 pub sections_apart : (n : ℕ) (s : State) (ls : List (List ℕ)) (ss : List Section) → Apart s → sections_in n s ls ≡ Ok ss
     → AreDistinct ss
 unfolding sections_in
@@ -144,15 +152,18 @@ sections_apart n s (l ∷ ls) ss h e =
     sections_apart (n + 1) p.0 ls ss
     (line_apart s p.0 (kind_of l) h (numbered_ok n (after_line s (kind_of l)) p.0 p.1)) p.2
 
+-- a step that succeeds with its file number succeeds without it
 pub file_ok : {A : Type 0} (k : ℕ) (r : Result A Place) (x : A) → in_file k r ≡ Ok x → r ≡ Ok x
 file_ok k (Ok y) x e = ap (λ z. Ok z) (cc e)
 file_ok k (Err f) x e = absurd (cc e)
 
+-- where two files are read, so is the first
 pub then_file_ok : {A B : Type 0} (r : Result A Spot) (f : A → Result B Spot) (y : B) → then_file r f ≡ Ok y
     → (x : A) × (r ≡ Ok x) × (f x ≡ Ok y)
 then_file_ok (Ok x) f y e = (x, refl, e)
 then_file_ok (Err p) f y e = absurd (cc e)
 
+-- the centres of all files that are read differ
 pub calendars_apart : (k : ℕ) (done : List Section) (fs : List (List ℕ)) (ss : List Section) → AreDistinct done
     → calendars_in k done fs ≡ Ok ss → AreDistinct ss
 unfolding calendars_in
@@ -166,6 +177,7 @@ calendars_apart k done (f ∷ fs) ss h e =
     (record { done = h; part = tt }) (file_ok k (sections_of done f) p.0 p.1) in
     calendars_apart (k + 1) p.0 fs ss apart p.2
 
+-- the centres of a result that gives all sections differ
 pub given_apart : (r : Result (List Section) CalErr) (fs : List (List ℕ)) → GivesAll r (calendars_in 1 [] fs)
     → IfOk r (λ ss. AreDistinct ss)
 given_apart (Ok ss) fs h = calendars_apart 1 [] fs ss tt h

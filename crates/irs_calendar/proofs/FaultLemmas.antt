@@ -50,13 +50,13 @@ says_cover : (a : ℤ) × (b : ℤ) × (kind_of cover_line ≡ Cover a b)
 unfolding cover_line days_from_civil day_count days_of_years days_of_months
 says_cover = (_, _, refl)
 
--- reading lines and more lines goes through the state behind the first
+-- reading lines and more lines goes through the state after the first
 
 -- what the lines make of a state, whatever follows
 record Reaches (s t : State) (ls : List (List ℕ)) : Type 0 where
   reads : (n : ℕ) (more : List (List ℕ)) → sections_in n s (ls ++ more) ≡ sections_in (n + length ls) t more
   grown : (x : List Section) × (t.done ≡ s.done ++ x)
-  -- no section has begun where none has begun behind the lines
+  -- no section has begun where none has begun after the lines
   quiet : t.part ≡ Between → t ≡ s
 
 reaches_none : (s : State) → Reaches s s []
@@ -77,6 +77,7 @@ begun_grown done n t e = elim (cases_Bool (is_named n done)) [
   | inr new ↦ ap (λ (u : State). u.done) (sym (same_state (rw new at e)))
 ]
 
+-- the sections that are done begin with those given
 abbrev Grown : List Section → State → Type 0
 Grown done t = (x : List Section) × (t.done ≡ done ++ x)
 
@@ -127,7 +128,7 @@ line_grown s t (Weekend w) e = weekend_grown s.done s.part w t e
 line_grown s t (Holiday d) e = holiday_grown s.done s.part d t e
 line_grown s t Wrong e = absurd (cc e)
 
--- behind a line that says something a section has begun
+-- after a line that says something a section has begun
 
 not_between : (t u : State) → t ≡ u → (u.part ≡ Between → ⊥) → t.part ≡ Between → ⊥
 not_between t u e never = subst (λ (x : State). x.part ≡ Between → ⊥) (sym e) never
@@ -353,7 +354,7 @@ can_go_on files lines earlier t before r =
     let s = reads_spell 1 files (lines ++ c.0) earlier c.1 before (r.reads 1 c.0 ∙ c.2) in
     record { more = c.0; earlier = earlier; own = s.0; spells = s.2 }
 
--- what reading the lines to the end gives, from a state behind them
+-- what reading the lines to the end gives, from a state after them
 
 end_reads : (n : ℕ) (t : State) → sections_in n t [] ≡ numbered n (at_end t.done t.part)
 unfolding sections_in
@@ -377,7 +378,7 @@ reads_from files lines earlier before own c s =
     subst (λ (x : List Section). sections_in 1 (fresh x) lines ≡ Ok (x ++ own))
     (one_earlier files before earlier s.before c) (spelt_reads 1 files lines before own s)
 
--- where the lines are whole sections, the end of the state behind them is those
+-- where the lines are whole sections, the end of the state after them is those
 ends_with : (files lines : List (List ℕ)) (earlier before own : List Section) (t : State) → CalFiles files earlier
     → Reaches (fresh earlier) t lines → Spells files lines before own → at_end t.done t.part ≡ Ok (earlier ++ own)
 ends_with files lines earlier before own t c r s =
@@ -387,7 +388,7 @@ ends_with files lines earlier before own t c r s =
 apart_results : {A : Type 0} {p : Place} {x : A} → ◌≡◌ {A = Result A Place} (Err p) (Ok x) → ⊥
 apart_results e = cc e
 
--- nothing goes on behind a line that fails
+-- nothing goes on after a line that fails
 goes_no_further : (files lines : List (List ℕ)) (earlier : List Section) (t : State) (l : List ℕ) (f : Fault)
     → CalFiles files earlier → Reaches (fresh earlier) t lines → after_line t (kind_of l) ≡ Err f
     → CanGoOn files (lines ++ l ∷ []) → ⊥
@@ -405,6 +406,7 @@ begun_repeat done n e = elim (cases_Bool (is_named n done)) [
   | inr new ↦ absurd (let k = rw new at e in cc k)
 ]
 
+-- the line names a centre that an earlier section has
 abbrev Repeats : List Section → Part → Said → Type 0
 Repeats done part said =
     (name : List ℕ) × (said ≡ Center name) × (all : List Section) × (at_end done part ≡ Ok all)
@@ -474,6 +476,7 @@ center_never_many done (Named m) n e = cc e
 center_never_many done (Covered m a b) n e = cc e
 center_never_many done (Open s) n e = begun_never_many (done ++ s ∷ []) n e
 
+-- the line is a holiday that fits, and its section is full
 record Overflows (part : Part) (said : Said) : Type 0 where
   section : Section
   day : ℤ

@@ -9,6 +9,7 @@ use Rattle.irs_calendar.specs.Words.{kind_of}
 use Rattle.irs_base.specs.Lines.{lines_of}
 use Rattle.irs_calendar.specs.Files.{Place, numbered, then_read, sections_in, FileFails}
 
+-- a line that is read hands its state to the next line
 pub goes_on : (n : ℕ) (s t : State) (line : List ℕ) (lines more : List (List ℕ)) (whole : Result (List Section) Place)
     → sections_in n s lines ≡ whole → lines ≡ line ∷ more → numbered n (after_line s (kind_of line)) ≡ Ok t
     → sections_in (n + 1) t more ≡ whole
@@ -17,6 +18,7 @@ goes_on n s t line lines more whole kept split read =
     let k = subst (λ (ls : List (List ℕ)). sections_in n s ls ≡ whole) split kept in
     subst (λ (r : Result State Place). then_read r (λ u. sections_in (n + 1) u more) ≡ whole) read k
 
+-- a line at fault ends the file with its fault
 pub stops : (n : ℕ) (s : State) (line : List ℕ) (lines more : List (List ℕ)) (whole : Result (List Section) Place)
     (e : Place) → sections_in n s lines ≡ whole → lines ≡ line ∷ more → numbered n (after_line s (kind_of line)) ≡ Err e
     → whole ≡ Err e
@@ -25,6 +27,7 @@ stops n s line lines more whole e kept split read =
     let k = subst (λ (ls : List (List ℕ)). sections_in n s ls ≡ whole) split kept in
     sym (subst (λ (r : Result State Place). then_read r (λ u. sections_in (n + 1) u more) ≡ whole) read k)
 
+-- a line that fails ends the file so
 pub fails : (n : ℕ) (s : State) (line : List ℕ) (lines more : List (List ℕ)) (whole : Result (List Section) Place)
     (e : FileErr) → sections_in n s lines ≡ whole → lines ≡ line ∷ more
     → FileFails e (numbered n (after_line s (kind_of line))) → FileFails e whole
@@ -32,6 +35,7 @@ fails n s line lines more whole errors.Memory kept split read = tt
 fails n s line lines more whole (errors.Fault f k) kept split read =
     stops n s line lines more whole (f, k) kept split read
 
+-- after the last line the state at the end is the result
 pub ended : (n : ℕ) (s : State) (rest : List ℕ) (whole : Result (List Section) Place)
     → sections_in n s (lines_of rest) ≡ whole → length rest ≤ 0 → numbered n (at_end s.done s.part) ≡ whole
 unfolding sections_in

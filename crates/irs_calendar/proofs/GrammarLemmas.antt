@@ -29,6 +29,7 @@ use Rattle.irs_calendar.proofs.DistinctLemmas.{turned}
 
 -- holidays that rise
 
+-- a later day in the cover may be appended to holidays that rise
 pub rises_more : (low last d : ℤ) (hs : List ℤ) → RisesWithin low last hs → low ≤ℤ d → d ≤ℤ last
     → all_before d hs ≡ true → RisesWithin low last (hs ++ d ∷ [])
 rises_more low last d [] rise from to before = (from, to, tt)
@@ -37,6 +38,7 @@ rises_more low last d (h ∷ hs) rise from to before =
     let later = lt_true h d b.0 in
     (rise.0, rise.1, rises_more (h +ℤ pos 1) last d hs rise.2 (omega (arith, signed_arith, later)) to b.1)
 
+-- a holiday that rises lies in the cover, after those before it
 pub rises_to : (low last d : ℤ) (hs ys : List ℤ) → RisesWithin low last (hs ++ d ∷ ys)
     → (low ≤ℤ d) × (d ≤ℤ last) × (all_before d hs ≡ true)
 rises_to low last d [] ys rise = (rise.0, rise.1, refl)
@@ -63,12 +65,14 @@ length_front (h ∷ hs) d ys = let r = length_front hs d ys in omega (arith, r)
 
 -- what the section at hand has said so far
 
+-- the lines of the section at hand
 abbrev said_part : Part → List Said
 said_part Between = []
 said_part (Named n) = Center n ∷ []
 said_part (Covered n a b) = Center n ∷ Cover a b ∷ []
 said_part (Open s) = section_lines s
 
+-- the section at hand is lawful once it is open
 abbrev pub IsLawfulPart : Part → Type 0
 IsLawfulPart Between = Unit {0}
 IsLawfulPart (Named n) = Unit {0}
@@ -198,6 +202,7 @@ end_continues done (Covered m a b) ss lawful e = absurd (cc e)
 end_continues done (Open s) ss lawful e =
     record { new = s ∷ []; is = sym (same_list e); says = refl; lawful = (lawful, tt) }
 
+-- lines that are read continue the state to the sections
 pub reads_continue : (n : ℕ) (s : State) (ls : List (List ℕ)) (ss : List Section) → IsLawfulPart s.part
     → sections_in n s ls ≡ Ok ss → Continues s (said_lines ls) ss
 unfolding sections_in
@@ -211,7 +216,7 @@ lawful_joined : (a b : List Section) → AreLawful a → AreLawful b → AreLawf
 lawful_joined [] b ha hb = hb
 lawful_joined (s ∷ a) b ha hb = (ha.0, lawful_joined a b ha.1 hb)
 
--- the files from some position on, behind sections that are done
+-- the files from some position on, after sections that are done
 record Files (done : List Section) (fs : List (List ℕ)) (ss : List Section) : Type 0 where
   parts : List (List Section)
   whole : ss ≡ done ++ joined parts
@@ -266,6 +271,7 @@ after_covered : (m : List ℕ) (a b : ℤ) (c : Said) (more : List Said) (new : 
 after_covered m a b c more [] e = absurd (cc e)
 after_covered m a b c more (x ∷ xs) e = (x.weekend, cc e)
 
+-- the lines of holidays
 abbrev days_said : List ℤ → List Said
 days_said hs = map (λ d. Holiday d) hs
 
@@ -373,6 +379,7 @@ new_name (s ∷ a) y ys h =
 
 -- where sections are spelt, each line is read
 
+-- the state after one line, from which the rest goes on
 record Next (s : State) (said : Said) (more : List Said) (ss : List Section) : Type 0 where
   state : State
   reads : after_line s said ≡ Ok state
@@ -532,6 +539,7 @@ ends done (Named m) ss go = absurd (named_ends m go.new go.says)
 ends done (Covered m a b) ss go = absurd (covered_ends m a b go.new go.says)
 ends done (Open s) ss go = end_open done s ss go.new go.is go.says
 
+-- lines that continue the state to sections of different names are read
 pub lines_read : (n : ℕ) (s : State) (ls : List (List ℕ)) (ss : List Section) → Continues s (said_lines ls) ss
     → AreDistinct ss → sections_in n s ls ≡ Ok ss
 unfolding sections_in
@@ -540,10 +548,12 @@ lines_read n s (l ∷ ls) ss go distinct =
     let next = next_line s (kind_of l) (said_lines ls) ss go distinct in
     rw next.reads (lines_read (n + 1) next.state ls ss next.goes distinct)
 
+-- the front of lawful sections is lawful
 pub lawful_front : (a b : List Section) → AreLawful (a ++ b) → AreLawful a
 lawful_front [] b h = tt
 lawful_front (s ∷ a) b h = (h.0, lawful_front a b h.1)
 
+-- the rest of lawful sections is lawful
 pub lawful_back : (a b : List Section) → AreLawful (a ++ b) → AreLawful b
 lawful_back [] b h = h
 lawful_back (s ∷ a) b h = lawful_back a b h.1

@@ -18,7 +18,7 @@ abbrev pub Holds : ℤ → List Run → Type 0
 Holds x [] = ⊥
 Holds x (r ∷ rs) = ((r.first ≤ℤ x) × (x ≤ℤ r.last)) ⊎ Holds x rs
 
--- the runs rise from a day on, with a gap behind each, and the gaps end before another day
+-- the runs rise from a day on, with a gap after each, and the gaps end before another day
 abbrev pub Rise : ℤ → ℤ → List Run → Type 0
 Rise from next [] = Unit {0}
 Rise from next (r ∷ rs) =
@@ -67,6 +67,7 @@ pub record Among (test : ℤ → Bool) (first : ℤ) (limit k : ℕ) (rs : List 
   pub sound : (x : ℤ) → Holds x rs → test x ≡ true
   pub complete : (i : ℕ) → i < k → i < limit → test (first +ℤ pos i) ≡ true → Holds (first +ℤ pos i) rs
 
+-- before the first day there are no runs
 pub among_none : (test : ℤ → Bool) (first : ℤ) (limit k : ℕ) (rs : List Run) → k ≡ 0 → rs ≡ []
     → Among test first limit k rs
 among_none test first limit k rs none empty = subst (Among test first limit k) (sym empty) (record {
@@ -167,6 +168,7 @@ any_holds (r ∷ rs) x h = elim (or_cases (holds_day x r) (list_any (holds_day x
   | inr rest ↦ inr (any_holds rs x rest)
 ]
 
+-- runs up to the last day of the cover are the days that pass the test
 pub represents : (test : ℤ → Bool) (c : CoveredRuns) (limit k : ℕ) → c.last +ℤ pos 1 ≡ c.first +ℤ pos limit → limit ≤ k
     → Among test c.first limit k c.runs → Represents test c
 represents test c limit k end all a = record {

@@ -18,9 +18,11 @@ use Rattle.irs_calendar.proofs.RunLemmas.{place_any}
 use Rattle.irs_calendar.proofs.CalendarLemmas.{found_is}
 use Rattle.irs_calendar.proofs.DistinctLemmas.{turned, named_behind}
 
+-- the key is the name
 abbrev is_key : List ℕ → Vec ℕ Global → Bool
 is_key name k = is_eq (slice_cmp nat_cmp name k.items)
 
+-- the order of two names
 abbrev order : Vec ℕ Global → Vec ℕ Global → Ordering
 order a b = slice_cmp nat_cmp a.items b.items
 
@@ -99,6 +101,7 @@ index_with m n ss s k index entries named = record {
     some_none : (x : ℕ) → ◌≡◌ {A = Option ℕ} (Some x) None → ⊥
     some_none x e = cc e
 
+-- a section at some place has its name in the list
 pub named_at : (ss : List Section) (i : ℕ) (s : Section) (name : List ℕ) → slice_get ss i ≡ Some s → s.name ≡ name
     → is_named name ss ≡ true
 named_at ss i s name at named = place_any (λ t. bytes_eq t.name name) ss i s at ((bytes_eq-Decides s.name name).1 named)
@@ -129,6 +132,7 @@ found_at (t ∷ ts) (suc i) s name apart at named = elim (cases_Bool (bytes_eq t
   | inr other ↦ rw other (found_at ts i s name apart.1 at named)
 ]
 
+-- a name that no section has finds none
 pub none_found : (ss : List Section) (name : List ℕ) → is_named name ss ≡ false → section_named ss name ≡ None
 none_found ss name none = empty (section_named ss name) (sym (found_is ss name) ∙ none)
   where

@@ -10,15 +10,19 @@ use Rattle.irs_calendar.specs.Rising.{IsRising, IsAfter, all_before}
 use Rattle.irs_calendar.specs.Machine.{fits_section}
 use Rattle.irs_base.proofs.Orders.{lt_true, lt_false, true_lt, both_true}
 
+-- numbers that compare equal are equal
 pub eq_true : (a b : ℤ) → int_eq a b ≡ true → a ≡ b
 eq_true a b h = grind (arith, signed_arith)
 
+-- equal numbers compare equal
 pub true_eq : (a b : ℤ) → a ≡ b → int_eq a b ≡ true
 true_eq a b h = grind (arith, signed_arith)
 
+-- numbers that compare unequal differ
 pub eq_false : (a b : ℤ) → int_eq a b ≡ false → a ≡ b → ⊥
 eq_false a b h e = let t = true_eq a b e in cc (t, h)
 
+-- what isn't true is false
 pub not_true : (b : Bool) → (b ≡ true → ⊥) → b ≡ false
 not_true true h = absurd (h refl)
 not_true false h = refl
@@ -31,11 +35,13 @@ after_all (y ∷ ys) d h zero x at = let b = both_true (is_lt (int_cmp y d)) (al
 after_all (y ∷ ys) d h (suc i) x at = let b = both_true (is_lt (int_cmp y d)) (all_before d ys) h in
     after_all ys d b.1 i x at
 
+-- a day after each day of a list is after all
 pub all_after : (days : List ℤ) (d : ℤ) → ((i : ℕ) (x : ℤ) → slice_get days i ≡ Some x → x <ℤ d)
     → all_before d days ≡ true
 all_after [] d h = refl
 all_after (y ∷ ys) d h = rw (true_lt y d (h 0 y refl), all_after ys d (λ i x at. h (suc i) x at)) refl
 
+-- a holiday that fits comes after those of the section
 pub fits_after : (s : Section) (d : ℤ) → fits_section s d ≡ true → IsAfter d s.holidays
 fits_after s d h =
     let a = both_true (is_le (int_cmp s.first d)) (is_le (int_cmp d s.last) && all_before d s.holidays) h in

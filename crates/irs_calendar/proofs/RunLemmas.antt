@@ -1,4 +1,4 @@
--- Good days and the runs that hold them.
+-- Business days and the runs that hold them.
 use Rattle.std.proofs.Common.{◌≡◌, ◌⊎◌, inl, inr, ℕ, zero, suc, ◌+◌, ◌*◌, ◌^◌, ◌<◌, Bool, true, false, ◌||◌, List, []}
 use Rattle.std.proofs.Common.{◌∷◌, length, slice_get, Some, arith, refl, sym, ◌∙◌, ap, subst, ℤ, pos, ◌+ℤ◌, ◌≤ℤ◌, ◌<ℤ◌}
 use Rattle.std.proofs.lemmas.Bool.{or_cases}
@@ -23,6 +23,7 @@ any_place p (x ∷ xs) h = elim (or_cases (p x) (list_any p xs) h) [
   | inr later ↦ let r = any_place p xs later in (suc r.0, r.1, r.2, r.3)
 ]
 
+-- a list with an element that passes a test has one
 pub place_any : {A : Type 0} (p : A → Bool) (xs : List A) (i : ℕ) (x : A) → slice_get xs i ≡ Some x → p x ≡ true
     → list_any p xs ≡ true
 place_any p [] i x at passes = absurd (cc)
@@ -38,7 +39,7 @@ place_any p (y ∷ ys) (suc i) x at passes = or_right (p y) (list_any p ys) (pla
     or_right true b h = refl
     or_right false b h = h
 
--- where a good day lies
+-- where a business day lies
 pub record Held (c : CoveredRuns) (d : ℤ) : Type 0 where
   pub index : ℕ
   pub run : Run
@@ -46,12 +47,14 @@ pub record Held (c : CoveredRuns) (d : ℤ) : Type 0 where
   pub from : run.first ≤ℤ d
   pub to : d ≤ℤ run.last
 
+-- a run holds each business day
 pub held : (c : CoveredRuns) (d : ℤ) → IsGood (set_of_runs c) d → Held c d
 held c d good =
     let p = any_place (holds_day d) c.runs good.passes in
     let ends = both_true (is_le (int_cmp p.1.first d)) (is_le (int_cmp d p.1.last)) p.3 in
     record { index = p.0; run = p.1; at = p.2; from = le_true p.1.first d ends.0; to = le_true d p.1.last ends.1 }
 
+-- each day of a run is a business day
 pub good_held : (c : CoveredRuns) (d : ℤ) (i : ℕ) (r : Run) → AreRuns c → slice_get c.runs i ≡ Some r → r.first ≤ℤ d
     → d ≤ℤ r.last → IsGood (set_of_runs c) d
 good_held c d i r are at from to =
@@ -62,13 +65,14 @@ good_held c d i r are at from to =
       passes = place_any (holds_day d) c.runs i r at (rw (true_le r.first d from, true_le d r.last to) refl);
     }
 
--- what ends before a day stands in front, and likewise what begins by it
+-- what ends before a day comes first, and likewise what begins by it
 pub ends_downward : (c : CoveredRuns) (d : ℤ) → AreRuns c → IsDownward (comes_before Last d) c.runs
 ends_downward c d are i j r s lower atr ats passes =
     let gap = are.apart i j r s lower atr ats in
     let full = are.filled j s ats in
     true_lt r.last d (omega (arith, signed_arith, gap, full, lt_true s.last d passes))
 
+-- once a run begins after a day, so do all later ones
 pub begins_downward : (c : CoveredRuns) (d : ℤ) → AreRuns c → IsDownward (comes_before First d) c.runs
 begins_downward c d are i j r s lower atr ats passes =
     let gap = are.apart i j r s lower atr ats in
@@ -83,7 +87,7 @@ same_run : (c : CoveredRuns) (i k : ℕ) (r s : Run) → i ≡ k → slice_get c
     → slice_get c.runs i ≡ Some s → r ≡ s
 same_run c i k r s e atr ats = same_Some r s (sym atr ∙ subst (λ n. slice_get c.runs n ≡ Some s) e ats)
 
--- no good day lies between d and the first run that doesn't end before it
+-- no business day lies between d and the first run that doesn't end before it
 none_to_run : (c : CoveredRuns) (d : ℤ) (k : ℕ) (r : Run) → AreRuns c → Splits (comes_before Last d) c.runs k
     → slice_get c.runs k ≡ Some r → (x : ℤ) → d ≤ℤ x → x <ℤ r.first → IsGood (set_of_runs c) x → ⊥
 none_to_run c d k r are cut at x low high good =
@@ -99,6 +103,7 @@ none_to_run c d k r are cut at x low high good =
       ]
     ]
 
+-- where the first run that ends at or after a day begins after it, its first day is next
 pub next_run : (c : CoveredRuns) (d : ℤ) (k : ℕ) (r : Run) → AreRuns c → InCover (set_of_runs c) d
     → Splits (comes_before Last d) c.runs k → slice_get c.runs k ≡ Some r → d <ℤ r.first
     → Next (set_of_runs c) d r.first
@@ -109,6 +114,7 @@ next_run c d k r are inside cut at before = record {
   none_before = none_to_run c d k r are cut at;
 }
 
+-- where that run has begun, the day is its own next one
 pub next_here : (c : CoveredRuns) (d : ℤ) (k : ℕ) (r : Run) → AreRuns c → InCover (set_of_runs c) d
     → Splits (comes_before Last d) c.runs k → slice_get c.runs k ≡ Some r → r.first ≤ℤ d → Next (set_of_runs c) d d
 next_here c d k r are inside cut at from = record {
@@ -118,6 +124,7 @@ next_here c d k r are inside cut at from = record {
   none_before = λ x low high g. omega (arith, signed_arith, low, high);
 }
 
+-- where no run ends at or after a day, there is no next one
 pub none_next : (c : CoveredRuns) (d : ℤ) (k : ℕ) → Splits (comes_before Last d) c.runs k → k ≡ length c.runs → (x : ℤ)
     → Next (set_of_runs c) d x → ⊥
 none_next c d k cut all x next =
@@ -125,7 +132,7 @@ none_next c d k cut all x next =
     let front : h.index < k = omega (arith, all, slice_get_within c.runs h.index h.run h.at) in
     omega (arith, signed_arith, lt_true h.run.last d (cut.below h.index h.run front h.at), h.to, next.after)
 
--- no good day lies between d and the last run that begins by it
+-- no business day lies between d and the last run that begins by it
 none_from_run : (c : CoveredRuns) (d : ℤ) (k : ℕ) (r : Run) → AreRuns c → Splits (comes_before First d) c.runs (k + 1)
     → slice_get c.runs k ≡ Some r → (x : ℤ) → r.last <ℤ x → x ≤ℤ d → IsGood (set_of_runs c) x → ⊥
 none_from_run c d k r are cut at x low high good =
@@ -147,6 +154,7 @@ none_from_run c d k r are cut at x low high good =
       ]
     ]
 
+-- where the last run that begins by a day ends before it, its last day is the previous one
 pub prev_run : (c : CoveredRuns) (d : ℤ) (k : ℕ) (r : Run) → AreRuns c → InCover (set_of_runs c) d
     → Splits (comes_before First d) c.runs (k + 1) → slice_get c.runs k ≡ Some r → r.last <ℤ d
     → Prev (set_of_runs c) d r.last
@@ -157,6 +165,7 @@ prev_run c d k r are inside cut at before = record {
   none_after = none_from_run c d k r are cut at;
 }
 
+-- where that run goes on, the day is its own previous one
 pub prev_here : (c : CoveredRuns) (d : ℤ) (k : ℕ) (r : Run) → AreRuns c → InCover (set_of_runs c) d
     → Splits (comes_before First d) c.runs (k + 1) → slice_get c.runs k ≡ Some r → d ≤ℤ r.last
     → Prev (set_of_runs c) d d
@@ -167,6 +176,7 @@ prev_here c d k r are inside cut at to = record {
   none_after = λ x low high g. omega (arith, signed_arith, low, high);
 }
 
+-- where no run begins by a day, there is no previous one
 pub none_prev : (c : CoveredRuns) (d : ℤ) → Splits (comes_before First d) c.runs 0 → (x : ℤ)
     → Prev (set_of_runs c) d x → ⊥
 none_prev c d cut x prev =
@@ -218,6 +228,7 @@ begins_late c are (suc i) r at =
     before_it (x ∷ xs) zero r at = (x, refl)
     before_it (x ∷ xs) (suc i) r at = before_it xs i r at
 
+-- a set has fewer than 2^32 runs
 pub few_runs : (c : CoveredRuns) (n : ℕ) → AreRuns c → IsDay c.first → IsDay c.last → n ≡ length c.runs → n < 2 ^ 32
 few_runs c zero are low high all = omega arith
 few_runs c (suc n) are low high all =
@@ -234,7 +245,7 @@ pub in_cover : (c : CoveredRuns) (d : ℤ) → false ≡ is_lt (int_cmp d c.firs
     → InCover (set_of_runs c) d
 in_cover c d low high = record { from = lt_false d c.first (sym low); to = lt_false c.last d (sym high) }
 
--- a good day is the next one from itself on
+-- a business day is the next one from itself on
 pub next_of_good : (c : CoveredRuns) (d r : ℤ) → Next (set_of_runs c) d r → IsGood (set_of_runs c) d → r ≡ d
 next_of_good c d r next good = elim (cases_ltz d r) [
   | inl later ↦ absurd (next.none_before d (omega (arith, signed_arith)) later good)
@@ -244,6 +255,7 @@ next_of_good c d r next good = elim (cases_ltz d r) [
     cases_ltz : (a b : ℤ) → (a <ℤ b) ⊎ (b ≤ℤ a)
     cases_ltz a b = grind (arith, signed_arith)
 
+-- a business day is its own next one
 pub next_is_self : (s : DaySet) (d : ℤ) → IsGood s d → Next s d d
 next_is_self s d good = record {
   starts = good.inside;

@@ -20,12 +20,12 @@ abbrev pub in_file : {A : Type 0} → ℕ → Result A Place → Result A Spot
 in_file k (Ok x) = Ok x
 in_file k (Err e) = Err (record { fault = e.0; file = k; line = e.1 })
 
--- one file read behind another: the first fault ends it
+-- one file read after another: the first fault ends it
 abbrev pub then_file : {A B : Type 0} → Result A Spot → (A → Result B Spot) → Result B Spot
 then_file (Ok x) f = f x
 then_file (Err e) f = Err e
 
--- the sections of files from position k on, behind those that were read
+-- the sections of files from position k on, after those that were read
 unfoldable pub calendars_in : ℕ → List Section → List (List ℕ) → Result (List Section) Spot
 calendars_in k done [] = Ok done
 calendars_in k done (f ∷ fs) = then_file (in_file k (sections_of done f)) (λ d. calendars_in (k + 1) d fs)

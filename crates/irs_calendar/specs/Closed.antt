@@ -33,13 +33,13 @@ pub record IsNext (test : ℕ → Bool) (k h limit : ℕ) : Type 0 where
   pub clear : (i : ℕ) → k ≤ i → i < h → test i ≡ false
   pub found : h < limit → test h ≡ true
 
--- n lies behind k, and all bits from k up to it are set
+-- n lies after k, and all bits from k up to it are set
 pub record AreSet (word k n : ℕ) : Type 0 where
   pub later : k < n
   pub within : n ≤ 64
   pub set : (i : ℕ) → k ≤ i → i < n → bit_at word i ≡ 1
 
--- n lies behind e; where e lies before a bound, so does n or is it, and below the limit the test holds from e up to n
+-- n lies after e, and not beyond a bound that e is below; below the limit the test holds from e up to n
 pub record AreHeld (test : ℕ → Bool) (e n bound limit : ℕ) : Type 0 where
   pub later : e < n
   pub within : e < bound → n ≤ bound

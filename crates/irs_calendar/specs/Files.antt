@@ -19,7 +19,7 @@ abbrev pub numbered : {A : Type 0} → ℕ → Result A Fault → Result A Place
 numbered n (Ok x) = Ok x
 numbered n (Err f) = Err (f, n)
 
--- one line read behind another: the first fault ends it
+-- one line read after another: the first fault ends it
 abbrev pub then_read : {A B : Type 0} → Result A Place → (A → Result B Place) → Result B Place
 then_read (Ok x) f = f x
 then_read (Err e) f = Err e
@@ -29,7 +29,7 @@ unfoldable pub sections_in : ℕ → State → List (List ℕ) → Result (List 
 sections_in n s [] = numbered n (at_end s.done s.part)
 sections_in n s (l ∷ ls) = then_read (numbered n (after_line s (kind_of l))) (λ t. sections_in (n + 1) t ls)
 
--- all of a file, behind the sections of the files before it
+-- all of a file, after the sections of the files before it
 abbrev pub sections_of : List Section → List ℕ → Result (List Section) Place
 sections_of done bytes = sections_in 1 (record { done = done; part = Between }) (lines_of bytes)
 

@@ -1,4 +1,4 @@
--- The first faulty line of calendar files: what stands before it can go on to lawful files, and with it nothing can.
+-- The first faulty line of calendar files. The lines before it can go on to lawful files, and with it nothing can.
 use Rattle.std.specs.Prelude.{◌≡◌, ◌⊎◌, ℕ, ◌+◌, true, List, [], ◌∷◌, ◌++◌, length, ℤ}
 use Rattle.irs_base.specs.Limits.{most_holidays}
 use Rattle.irs_base.specs.Lines.{lines_of}
@@ -22,14 +22,14 @@ pub record Spells (files lines : List (List ℕ)) (earlier own : List Section) :
 abbrev pub SpellNone : List (List ℕ) → List (List ℕ) → Type 0
 SpellNone files lines = (earlier own : List Section) → Spells files lines earlier own → ⊥
 
--- some lines, put behind those of one more file, make it spell sections
+-- some lines, appended to those of one more file, make it spell sections
 pub record CanGoOn (files lines : List (List ℕ)) : Type 0 where
   pub more : List (List ℕ)
   pub earlier : List Section
   pub own : List Section
   pub spells : Spells files (lines ++ more) earlier own
 
--- the line is a centre's behind whole sections, one of which has its name
+-- the line is a centre's after whole sections, one of which has its name
 pub record IsRepeat (files lines : List (List ℕ)) (line : List ℕ) : Type 0 where
   pub earlier : List Section
   pub own : List Section
@@ -38,7 +38,7 @@ pub record IsRepeat (files lines : List (List ℕ)) (line : List ℕ) : Type 0 w
   pub says : kind_of line ≡ Center name
   pub named : is_named name (earlier ++ own) ≡ true
 
--- the line is a holiday that fits behind those of the file's last section, which are 20,000
+-- the line is a holiday that fits after those of the file's last section, which are 20,000
 pub record IsOneTooMany (files lines : List (List ℕ)) (line : List ℕ) : Type 0 where
   pub earlier : List Section
   pub own : List Section
@@ -55,7 +55,7 @@ IsKind Syntax files lines line = (IsRepeat files lines line → ⊥) × (IsOneTo
 IsKind Repeat files lines line = IsRepeat files lines line
 IsKind TooMany files lines line = IsOneTooMany files lines line
 
--- what comes behind the lines is at fault: the next line, or the file's end, where no sections are spelt
+-- what comes after the lines is at fault: the next line, or the file's end, where no sections are spelt
 abbrev pub IsFaultBehind : Fault → List (List ℕ) → List (List ℕ) → List (List ℕ) → Type 0
 IsFaultBehind fault files lines [] = (fault ≡ Syntax) × SpellNone files lines
 IsFaultBehind fault files lines (line ∷ rest) = (CanGoOn files (lines ++ line ∷ []) → ⊥) × IsKind fault files lines line

@@ -1,4 +1,4 @@
--- Good days, and the next and the previous one. Days are numbers counted from 1970-01-01.
+-- Business days, and the next and the previous one. Days are numbers counted from 1970-01-01.
 use Rattle.std.specs.Prelude.{◌≡◌, Bool, ℤ, ◌≤ℤ◌, ◌<ℤ◌, IsTrue}
 use Rattle.irs_base.specs.Days.{first_day, last_day}
 
@@ -18,14 +18,14 @@ pub record IsGood (s : DaySet) (d : ℤ) : Type 0 where
   pub inside : InCover s d
   pub passes : IsTrue (s.test d)
 
--- r is the first good day at or after d, and all days from d to r lie in the cover
+-- r is the first business day at or after d, and all days from d to r lie in the cover
 pub record Next (s : DaySet) (d r : ℤ) : Type 0 where
   pub starts : InCover s d
   pub after : d ≤ℤ r
   pub good : IsGood s r
   pub none_before : (x : ℤ) → d ≤ℤ x → x <ℤ r → IsGood s x → ⊥
 
--- r is the last good day at or before d, and all days from r to d lie in the cover
+-- r is the last business day at or before d, and all days from r to d lie in the cover
 pub record Prev (s : DaySet) (d r : ℤ) : Type 0 where
   pub starts : InCover s d
   pub before : r ≤ℤ d

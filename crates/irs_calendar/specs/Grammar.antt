@@ -57,7 +57,7 @@ abbrev pub joined : List (List Section) → List Section
 joined [] = []
 joined (p ∷ ps) = p ++ joined ps
 
--- the files, in order, spell these sections; a centre stands once over all files
+-- the files, in order, spell these sections; a centre occurs once over all files
 pub record CalFiles (files : List (List ℕ)) (sections : List Section) : Type 0 where
   pub parts : List (List Section)
   pub whole : sections ≡ joined parts

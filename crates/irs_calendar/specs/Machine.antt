@@ -35,21 +35,21 @@ said_of given.Wrong = Wrong
 abbrev pub begun : List Section → List ℕ → Result State Fault
 begun done name = if is_named name done then Err Repeat else Ok (record { done = done; part = Named name })
 
--- behind a line that begins a section: the section before it is done
+-- after a line that begins a section: the section before it is done
 abbrev pub after_center : List Section → Part → List ℕ → Result State Fault
 after_center done Between name = begun done name
 after_center done (Named n) name = Err Syntax
 after_center done (Covered n a b) name = Err Syntax
 after_center done (Open s) name = begun (done ++ s ∷ []) name
 
--- behind a cover, which follows the name
+-- after a cover, which follows the name
 abbrev pub after_cover : List Section → Part → ℤ → ℤ → Result State Fault
 after_cover done Between a b = Err Syntax
 after_cover done (Named n) a b = Ok (record { done = done; part = Covered n a b })
 after_cover done (Covered n c d) a b = Err Syntax
 after_cover done (Open s) a b = Err Syntax
 
--- behind a weekend, which follows the cover and opens the section
+-- after a weekend, which follows the cover and opens the section
 abbrev pub after_weekend : List Section → Part → List Bool → Result State Fault
 after_weekend done Between w = Err Syntax
 after_weekend done (Named n) w = Err Syntax
@@ -57,11 +57,11 @@ after_weekend done (Covered n a b) w =
     Ok (record { done = done; part = Open (record { name = n; first = a; last = b; weekend = w; holidays = [] }) })
 after_weekend done (Open s) w = Err Syntax
 
--- the day lies in the cover, behind the holidays so far
+-- the day lies in the cover, after the holidays so far
 abbrev pub fits_section : Section → ℤ → Bool
 fits_section s d = is_le (int_cmp s.first d) && (is_le (int_cmp d s.last) && all_before d s.holidays)
 
--- behind a holiday of the open section, which fits it where it rises and lies in the cover
+-- after a holiday of the open section, which fits it where it rises and lies in the cover
 abbrev pub after_holiday : List Section → Part → ℤ → Result State Fault
 after_holiday done Between d = Err Syntax
 after_holiday done (Named n) d = Err Syntax

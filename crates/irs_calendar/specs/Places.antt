@@ -1,4 +1,4 @@
--- Where the sections of a list stand, by the names of their centres.
+-- Where the sections of a list are, by the names of their centres.
 use Rattle.std.specs.Prelude.{◌≡◌, ℕ, false, List, Option, Some, None, slice_get, Vec}
 use Rattle.std.specs.Global.{Global}
 use Rattle.std.specs.Ordering.{nat_cmp}

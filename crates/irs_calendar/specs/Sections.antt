@@ -14,7 +14,7 @@ is_named name ss = list_any (λ s. bytes_eq s.name name) ss
 abbrev pub section_named : List Section → List ℕ → Option Section
 section_named ss name = find (λ s. bytes_eq s.name name) ss
 
--- no two have the same name: each name differs from those behind it
+-- no two have the same name: each name differs from those after it
 abbrev pub AreDistinct : List Section → Type 0
 AreDistinct [] = Unit {0}
 AreDistinct (s ∷ ss) = (is_named s.name ss ≡ false) × AreDistinct ss

@@ -1,4 +1,4 @@
--- The good days of a list of centres.
+-- The business days of a list of centres.
 use Rattle.std.specs.Prelude.{ℕ, ◌+◌, Bool, ◌&&◌, List, [], ◌∷◌, Option, Some, None, ℤ, ◌≤ℤ◌, ◌↔◌, if◌then◌else◌}
 use Rattle.std.specs.List.{list_all}
 use Rattle.std.specs.Ordering.{int_cmp, is_le, is_lt}
@@ -43,7 +43,7 @@ abbrev pub sections_named : List Section → List (List ℕ) → List Section
 sections_named ss [] = []
 sections_named ss (n ∷ ns) = with_found (section_named ss n) (sections_named ss ns)
 
--- the good days of the centres with these names
+-- the business days of the centres with these names
 abbrev pub day_set_of : List Section → List (List ℕ) → DaySet
 day_set_of ss names = set_of_sections (sections_named ss names)
 

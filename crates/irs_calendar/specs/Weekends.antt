@@ -15,7 +15,7 @@ off_on ss p = list_any (λ s. slice_index_or s.weekend p false) ss
 abbrev pub any_off : List Section → ℤ → Bool
 any_off ss d = off_on ss (weekday_at d)
 
--- n days from the weekday on are all closed, or are all open, and the day behind them isn't; at most a week
+-- n days from the weekday on are all closed, or are all open, and the day after them isn't; at most a week
 pub record IsStretch (off : ℕ → Bool) (closed : Bool) (p n : ℕ) : Type 0 where
   pub few : n ≤ 7
   pub same : (i : ℕ) → i < n → off ((p + i) % 7) ≡ closed
@@ -25,7 +25,7 @@ pub record IsStretch (off : ℕ → Bool) (closed : Bool) (p n : ℕ) : Type 0 w
 abbrev pub AreShut : (ℕ → Bool) → List ℕ → Type 0
 AreShut off shut = (p : ℕ) → p < 7 → IsStretch off true p (slice_index_or shut p 0)
 
--- how far away the next closed weekday then is, behind open ones
+-- how far away the next closed weekday then is, after open ones
 abbrev pub AreNext : (ℕ → Bool) → List ℕ → List ℕ → Type 0
 AreNext off shut next =
     (p : ℕ) → p < 7 → (slice_index_or shut p 0 ≤ slice_index_or next p 0)

@@ -17,7 +17,7 @@ is_plain b = nat_le 33 b && nat_le b 126
 abbrev pub is_center_name : List ℕ → Bool
 is_center_name n = nat_le (length n) most_name && list_all is_plain n
 
--- what `center` and the fields behind it say
+-- what `center` and the fields after it say
 abbrev pub said_center : List (List ℕ) → Said
 said_center [] = Wrong
 said_center (n ∷ []) = if is_center_name n then Center n else Wrong
@@ -29,7 +29,7 @@ cover_of None b = Wrong
 cover_of (Some a) None = Wrong
 cover_of (Some a) (Some b) = if is_le (int_cmp a b) then Cover a b else Wrong
 
--- what `cover` and the fields behind it say
+-- what `cover` and the fields after it say
 abbrev pub said_cover : List (List ℕ) → Said
 said_cover [] = Wrong
 said_cover (a ∷ []) = Wrong
@@ -86,7 +86,7 @@ abbrev pub is_comment : List ℕ → Bool
 is_comment [] = false
 is_comment (b ∷ bs) = b == 35
 
--- a field stands at the line's very beginning
+-- what the fields of a line say; white space before the first one is wrong
 abbrev pub said_in_place : Bool → List (List ℕ) → Said
 said_in_place gap [] = Nothing
 said_in_place true (w ∷ ws) = Wrong

@@ -1,8 +1,9 @@
-//! Calendar files: which days are good in which centre.
+//! Calendar files: which days are business days in which centre.
 //!
-//! A file is a list of sections, none at all included. A section has, each on a line of its own and
-//! in this order, `center NAME`, `cover DATE DATE`, `weekend` with 0 to 7 different names of MON to
-//! SUN, and then its holidays, which rise strictly inside the cover. The format is this project's own.
+//! A file is a list of sections, possibly none. Each part of a section is on a line of its
+//! own. They are `center NAME`, `cover DATE DATE`, `weekend` with 0 to 7 different names of MON to
+//! SUN, and then the holidays. The holidays rise strictly inside the cover. The format is
+//! ours.
 ghost use Rattle.std.specs.Prelude.{◌≡◌, ◌≤◌, List, [], length, map, Some, Ok, All, IsOk, IfOk, IfErr};
 ghost use Rattle.std.specs.Prelude.{IfSome, IsSome, None};
 ghost use Rattle.irs_base.specs.Limits.{most_bytes, most_centers, most_files};
@@ -28,7 +29,7 @@ use std::alloc::{AllocFailed, Global};
 use std::marker::Model;
 use thiserror::Error;
 
-/// The first faulty line over the files in order, as file and line, both from 1; or want of memory.
+/// The first faulty line over the files in order, as file and line, both from 1; or out of memory.
 /// On one line `Syntax` comes before the others.
 #[derive(Clone, Copy, Debug, Error)]
 pub enum CalErr {
@@ -47,7 +48,7 @@ pub enum CalErr {
     Memory,
 }
 
-/// Why no set of good days was selected.
+/// Why no set of business days was selected.
 #[derive(Clone, Copy, Debug, Error)]
 pub enum SelErr {
     /// The first name that is in no file, as its position from 1.
@@ -168,7 +169,8 @@ impl Calendars {
         // Files with a faulty line spell no sections.
         ensures refused { IfErr result (λ e. IsSome (spot_of e) → (ss : List Section)
             → CalFiles (map (λ f. f.items) files.now) ss → ⊥) }
-        // An error is at the first fault: what stands before can go on, and with the line nothing can.
+        // An error is at the first fault: the lines before it can go on, and with the faulty line
+        // nothing can.
         ensures first { IfErr result (λ e. IfSome (spot_of e) (IsFirstFault (map (λ f. f.items) files.now))) }
         // Where sections are read there is no fault.
         ensures faultless { IfOk result (λ c. (s : Spot) → IsFirstFault (map (λ f. f.items) files.now) s → ⊥) }
@@ -188,10 +190,10 @@ impl Calendars {
         self.sections.has_name(name.as_slice())
     }
 
-    /// The good days of the centres with these names: the cover is what their covers have in
-    /// common, and a day of it is good where its weekday is on no weekend list of theirs and the day
-    /// is on no holiday list. `NoCenter` comes exactly with the first position, from 1, whose name
-    /// is in no file.
+    /// The business days of the centres with these names. The cover is what their covers have in
+    /// common. A day of it is a business day if no weekend list of theirs has its weekday and no
+    /// holiday list has the day. `NoCenter` comes exactly with the first position, from 1, whose
+    /// name is in no file.
     pub fn select(&self, alloc: Global, names: &Names) -> Result<RunSet, SelErr>
         requires { length names.now ≤ most_centers }
         ensures found { IsOk result → first_missing self.now 1 names.now ≡ None }

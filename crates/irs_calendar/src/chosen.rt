@@ -1,4 +1,4 @@
-//! The good days of several centres together: a payment waits for all of them.
+//! The business days of several centres together: a payment waits for all of them.
 ghost use Rattle.std.specs.Prelude.{◌≡◌, ◌<◌, ◌^◌, pos, ◌+ℤ◌, ◌≤ℤ◌, IfOk, map};
 ghost use Rattle.irs_base.specs.Days.{first_day, last_day};
 ghost use Rattle.irs_calendar.specs.GoodDays.{SameDays};
@@ -46,7 +46,7 @@ pub fn days_after(first: Day, last: Day) -> u32
     (last.number() - first.number()) as u32
 }
 
-/// The good days of all the sections together.
+/// The business days of all the sections together.
 pub fn chosen_days(alloc: Global, sections: &[&Section]) -> Result<RunSet, Memory>
     ensures { IfOk result (λ s. SameDays (set_of_runs s) (set_of_sections (map (λ s. s.now) sections.now))) }
 {

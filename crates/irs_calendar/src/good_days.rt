@@ -1,18 +1,19 @@
-//! Good days: days of a cover on which business is done.
+//! Business days: days of a cover on which business is done.
 //!
-//! A set of good days has a cover, from a first day to a last one, outside of which nothing is
-//! known and so no day is good. Whoever looks for a good day looks through days of the cover alone.
+//! A set of business days has a cover, from a first day to a last one. Outside it nothing is known,
+//! so no day there is a business day. A search for a business day looks through days of the cover
+//! alone.
 ghost use Rattle.std.specs.Prelude.{◌≡◌, ◌↔◌, ℤ, IsTrue, IfSome, IfNone};
 ghost use Rattle.irs_base.specs.Days.{IsDay};
 ghost use Rattle.irs_calendar.specs.GoodDays.{DaySet, InCover, IsGood, Next, Prev};
 
 use irs_base::Day;
 
-/// A set of good days in a cover: the business days of one centre or of several together
-/// (2006 ISDA Definitions, article 1, 'Business Day').
+/// A set of business days in a cover: the business days of one centre or of several together (2006
+/// ISDA Definitions, article 1, 'Business Day').
 ///
-/// What every implementation keeps: a good day lies in the cover, and no good day lies strictly
-/// between a day and the answer of a search that starts there. No call takes memory.
+/// What every implementation keeps: a business day lies in the cover. Between a day and the result
+/// of a search that starts there lies no business day. No call takes memory.
 pub trait GoodDays {
     /// The cover, and the test of its days.
     ghost days: { Self → DaySet };
@@ -27,14 +28,14 @@ pub trait GoodDays {
     fn is_good(&self, d: Day) -> bool
         ensures { IsTrue result ↔ IsGood (days self.now) d };
 
-    /// The first good day at or after the day; `None` exactly where the day is outside the cover,
-    /// or none follows in it.
+    /// The first business day at or after the day; `None` exactly where the day is outside the
+    /// cover, or none follows in it.
     fn next_good(&self, d: Day) -> Option<Day>
         ensures some { IfSome result (Next (days self.now) d) }
         ensures none { IfNone result ((r : ℤ) → Next (days self.now) d r → ⊥) };
 
-    /// The last good day at or before the day; `None` exactly where the day is outside the cover,
-    /// or none comes before it there.
+    /// The last business day at or before the day; `None` exactly where the day is outside the
+    /// cover, or none comes before it there.
     fn prev_good(&self, d: Day) -> Option<Day>
         ensures some { IfSome result (Prev (days self.now) d) }
         ensures none { IfNone result ((r : ℤ) → Prev (days self.now) d r → ⊥) };

@@ -1,4 +1,4 @@
-//! Business days of centres: calendar files, and the good days of centres as sorted runs.
+//! Business days of centres: calendar files, and the business days of centres as sorted runs.
 #![tactic(auto)]
 
 mod calendars;

@@ -1,7 +1,7 @@
-//! What each line of a calendar file makes of the lines before it: the section at hand goes on, a new
-//! one begins, or the line is at fault.
+//! What each line of a calendar file does after the lines before it. It continues the section at
+//! hand, begins a new one, or is at fault.
 //!
-//! On one line a fault of the grammar comes before a centre that stands twice and before a holiday
+//! On one line a fault of the grammar comes before a centre that occurs twice and before a holiday
 //! too many.
 ghost use Rattle.std.specs.Prelude.{◌≡◌, Ok};
 ghost use Rattle.irs_calendar.specs.Machine.{fits_section, begun, after_center, after_cover, after_weekend};
@@ -21,13 +21,13 @@ use std::alloc::Global;
 pub enum Fault {
     /// It is outside the grammar.
     Syntax,
-    /// Its centre stands in an earlier section.
+    /// Its centre is in an earlier section.
     Repeat,
     /// It is one holiday more than a centre may have.
     TooMany,
 }
 
-/// A fault, or want of memory.
+/// A fault, or out of memory.
 #[derive(Drop)]
 pub enum StepErr {
     /// What is wrong with the line.
@@ -70,7 +70,7 @@ fn on_center(alloc: Global, done: SectionList, part: Part, name: &[u8]) -> Resul
     }
 }
 
-/// `cover` stands right behind `center`.
+/// `cover` comes right after `center`.
 fn on_cover(done: SectionList, part: Part, first: Day, last: Day) -> Result<State, StepErr>
     ensures { Gives result (after_cover done part first last) }
 {
@@ -85,7 +85,7 @@ fn on_cover(done: SectionList, part: Part, first: Day, last: Day) -> Result<Stat
     }
 }
 
-/// `weekend` stands right behind `cover`.
+/// `weekend` comes right after `cover`.
 fn on_weekend(
     alloc: Global,
     done: SectionList,
@@ -118,7 +118,7 @@ fn fits(section: &Section, d: Day) -> bool
     section.first <= d && d <= section.last && section.holidays.is_after(d)
 }
 
-/// Holidays stand behind `weekend`.
+/// Holidays come after `weekend`.
 fn on_holiday(done: SectionList, part: Part, d: Day) -> Result<State, StepErr>
     ensures { Gives result (after_holiday done part d) }
 {

@@ -104,7 +104,7 @@ pub fn marked_from(marks: &[u64], k: u32, h: u32, limit: u32) -> u32
     next_marked(marks, k, limit)
 }
 
-/// The bit behind those that are set in a row from bit k on; of a whole word behind the first.
+/// The bit after those that are set in a row from bit k on; of a whole word after the first.
 fn behind_set(word: u64, k: u32) -> u32
     requires below { k < 64 }
     requires set { bit_at word k ≡ 1 }
@@ -118,8 +118,8 @@ fn behind_set(word: u64, k: u32) -> u32
     }
 }
 
-/// The day behind those that are marked in a row from day `end` on, or one that is still marked; not
-/// beyond the bound, where the bound is ahead.
+/// The day after those that are marked in a row from day `end` on, or one that is still marked. It
+/// isn't beyond the bound, where the bound is ahead.
 pub fn behind_marked(marks: &[u64], end: u32, bound: u32, limit: u32) -> u32
     requires below { end ≤ limit }
     requires room { limit ≤ 64 * length marks.now }

@@ -1,5 +1,5 @@
-//! The runs of days that several sections leave open, from one closed day to the next, so that a set
-//! is made in the time of its runs and the holidays.
+//! The runs of days that several sections leave open, from one closed day to the next. So a set is
+//! made in a time that grows with its runs and the holidays.
 ghost use Rattle.std.specs.Prelude.{IfOk, map};
 ghost use Rattle.irs_calendar.specs.Represents.{Represents};
 ghost use Rattle.irs_calendar.specs.Sections.{all_open};

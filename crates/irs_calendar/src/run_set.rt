@@ -1,7 +1,7 @@
-//! Good days as sorted runs, so that a good day is found in few steps.
+//! Business days as sorted runs, so that a business day is found in few steps.
 //!
-//! A set of good days is kept as its cover and its runs and nothing else. The runs are read through
-//! one call, which takes a step, so the number of steps of a search is the number of runs it reads.
+//! A set of business days is kept as its cover and its runs and nothing else. One call reads a run,
+//! and each call is a step. So the number of steps of a search is the number of runs it reads.
 ghost use Rattle.std.specs.Prelude.{◌≡◌, ◌+◌, ◌-◌, ◌*◌, ◌^◌, ◌<◌, ◌≤◌, ℤ, length, IfSome, IfNone};
 ghost use Rattle.irs_calendar.specs.GoodDays.{Next, Prev, IsWhole};
 ghost use Rattle.irs_calendar.specs.Runs.{CoveredRuns, AreRuns, set_of_runs};
@@ -13,9 +13,9 @@ use irs_base::Day;
 use std::marker::{Brand, Model};
 use std::sync::ledger::{Blank, Ledger};
 
-/// Good days as sorted runs in a cover: every day of a run is good, and between two runs lies at
-/// least one day that isn't. Contracts see the cover and the runs, and as `GoodDays` the set of the
-/// runs' days.
+/// Business days as sorted runs in a cover. Every day of a run is a business day, and between two
+/// runs lies at least one day that isn't. Contracts see the cover and the runs, and as `GoodDays`
+/// the set of the runs' days.
 #[derive(Drop)]
 pub struct RunSet {
     first: Day,

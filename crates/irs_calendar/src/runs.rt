@@ -1,4 +1,4 @@
-//! Runs of good days, in order.
+//! Runs of business days, in order.
 ghost use Rattle.std.specs.Prelude.{◌≡◌, ◌+◌, ◌<◌, [], ◌∷◌, length, slice_get};
 
 use crate::Steps;
@@ -9,7 +9,7 @@ use std::sync::ledger::Ledger;
 /// A first and a last day, every day between them being good.
 #[derive(Clone, Copy)]
 pub struct Run {
-    /// The first good day of the run.
+    /// The first business day of the run.
     pub first: Day,
     /// The last one; it is included.
     pub last: Day,

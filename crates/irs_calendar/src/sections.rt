@@ -20,7 +20,7 @@ pub struct Section {
     pub holidays: Holidays,
 }
 
-// So many days before 1970-01-01 lies a Monday: the first day, 1901-01-01, is a Tuesday.
+// This number of days before 1970-01-01 lies a Monday: the first day, 1901-01-01, is a Tuesday.
 const SINCE_A_MONDAY: i32 = 1 - FIRST_DAY;
 
 /// The place in the week, from Monday.

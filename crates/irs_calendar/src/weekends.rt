@@ -15,8 +15,8 @@ pub struct Weekend {
     pub place: usize,
 }
 
-/// The closed weekdays: from each one on, how long it stays closed, how far away the next closed one
-/// then is, and which one that is.
+/// The closed weekdays, and for each of them how long the weekend stays closed from it on. It also
+/// says which weekday closes next, and how far away that is.
 #[derive(Drop)]
 pub struct Week {
     shut: [u8; 7],
@@ -115,8 +115,8 @@ pub fn first_weekend(sections: &[&Section], first: Day, limit: u32) -> Weekend
     }
 }
 
-/// The day after those that are closed from day `end` on, which is the weekend's, or a holiday and
-/// `behind` is the day after the holidays.
+/// The day after those that are closed from day `end` on. They are the weekend's, or there is a
+/// holiday and `behind` is the day after the holidays.
 pub fn day_after(week: &Week, weekend: Weekend, end: u32, behind: u32) -> u32
     requires weekday { weekend.place < 7 }
     requires few { end < 2 ^ 30 }

@@ -27,7 +27,7 @@ fn is_good_name(name: &[u8]) -> bool
     name.len() <= MOST_NAME && are_plain(name)
 }
 
-/// A line `center NAME`, by what stands behind its first word.
+/// A line `center NAME`, by what follows its first word.
 fn center(rest: &[u8]) -> Said<'_>
     ensures { said_of result ≡ said_center (fields rest.now) }
 {

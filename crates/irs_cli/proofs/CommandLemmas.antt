@@ -30,9 +30,11 @@ use Rattle.irs_cli.specs.Params.{IsCountWord, IsDateWord, IsMeanWord, IsSideWord
 use Rattle.irs_cli.proofs.ParamLemmas.{one_at, one_count, one_date, one_mean, one_side, one_step, one_stream, one_tenor}
 use Rattle.irs_cli.proofs.ParamLemmas.{step_lawful, tenor_lawful}
 
+-- equal texts are equal where they are there
 pub ap_some : {x y : List ℕ} → x ≡ y → (let o : Option (List ℕ) = Some x in o ≡ Some y)
 ap_some e = ap Some e
 
+-- a word of the command line, by its bytes
 pub word_at : (ns : List (String Global)) (i : ℕ) (x : String Global) → i < length ns → x ≡ get_or ns i x
     → slice_get (texts ns) i ≡ Some (string_bytes x)
 word_at ns i x below e =
@@ -45,6 +47,7 @@ drop_suc [] i w e = cc
 drop_suc (x ∷ ws) zero w e = ap (λ (z : List ℕ). z ∷ ws) (same_Some x w e)
 drop_suc (x ∷ ws) (suc i) w e = drop_suc ws i w e
 
+-- the words from a place on begin with its word
 pub drop_at : (ws : Words) (i : ℕ) (w : List ℕ) → slice_get ws i ≡ Some w → drop i ws ≡ w ∷ drop (i + 1) ws
 drop_at ws i w e = let n : suc i ≡ i + 1 = omega arith in drop_suc ws i w e ∙ ap (λ (k : ℕ). w ∷ drop k ws) n
 
@@ -54,13 +57,16 @@ files_at : (roles : List Role) (place i : ℕ) (w : List ℕ) (ws : Words) → s
     ++ files_from roles (place + 1) (i + 1) (drop (i + 1) ws)
 files_at roles place i w ws e = ap (λ (l : Words). files_from roles place i l) (drop_at ws i w e)
 
+-- a word that names a file is kept
 pub kept_yes : (role : Role) (place : ℕ) (w : List ℕ) → is_file role w ≡ true
     → kept role place w ≡ record { place = place; role = role; name = w } ∷ []
 kept_yes role place w e = ap (λ (b : Bool). if b then record { place = place; role = role; name = w } ∷ [] else []) e
 
+-- a word that names none is not
 pub kept_no : (role : Role) (place : ℕ) (w : List ℕ) → is_file role w ≡ false → kept role place w ≡ []
 kept_no role place w e = ap (λ (b : Bool). if b then record { place = place; role = role; name = w } ∷ [] else []) e
 
+-- the files so far, with the file of the next word
 pub step_yes : (roles : List Role) (place i : ℕ) (ws : Words) (fs : List Named) (n : Named) (all : List Wanted)
     → slice_get ws i ≡ Some n.name.now → n.role ≡ role_at roles i → n.place ≡ place → is_file n.role n.name.now ≡ true
     → map wanted_by fs ++ files_from roles place i (drop i ws) ≡ all
@@ -77,6 +83,7 @@ step_yes roles place i ws fs n all at role p is e =
     ∙ append_assoc (map wanted_by fs) (wanted_by n ∷ []) rest
     ∙ ap (λ (l : List Wanted). map wanted_by fs ++ l) (sym these) ∙ e
 
+-- the files so far, where the next word names none
 pub step_no : (roles : List Role) (place i : ℕ) (ws : Words) (w : List ℕ) (fs : List Named) (r : Role)
     (all : List Wanted) → slice_get ws i ≡ Some w → r ≡ role_at roles i → is_file r w ≡ false
     → map wanted_by fs ++ files_from roles place i (drop i ws) ≡ all
@@ -168,6 +175,7 @@ one_as k ws a b h i =
 same_kind : (w : List ℕ) (k l : Kind) → kind_of w ≡ Some k → kind_of w ≡ Some l → l ≡ k
 same_kind w k l h i = same_Some l k (sym i ∙ h)
 
+-- words are one command at most
 pub one_command : (ws : Words) (a b : Asked) → Asks ws a → Asks ws b → b ≡ a
 one_command [] a b h k = absurd h
 one_command (w ∷ ws) a b h k =
@@ -175,18 +183,22 @@ one_command (w ∷ ws) a b h k =
 
 -- ---- the command of words
 
+-- where no command is found the words are none
 pub unlisted_by : (ws : Words) (o : Option Command) → IsCommand ws (option_map asked_by o) → o ≡ None → IsListed ws → ⊥
 unlisted_by ws o e n = subst (λ (x : Option Command). IsCommand ws (option_map asked_by x)) n e
 
+-- the command that is found is the one of the words
 pub asks_by : (ws : Words) (o : Option Command) (c : Command) → IsCommand ws (option_map asked_by o) → o ≡ Some c
     → Asks ws (asked_by c)
 asks_by ws o c e is = subst (λ (x : Option Command). IsCommand ws (option_map asked_by x)) is e
 
+-- the command of a name is that of the words
 pub command_by : (w : List ℕ) (ws : Words) (k : Kind) (o : Option Asked) → kind_of w ≡ Some k → IsCommandAs k ws o
     → IsCommand (w ∷ ws) o
 command_by w ws k None e h = λ l. h l.0 (subst (λ (x : Kind). AsksAs x ws l.0) (same_kind w k l.1.0 e l.1.1) l.1.2)
 command_by w ws k (Some a) e h = (k, e, h)
 
+-- words with an unknown name are no listed command
 pub no_kind : (w : List ℕ) (ws : Words) → kind_of w ≡ None → IsListed (w ∷ ws) → ⊥
 no_kind w ws e l = let i : kind_of w ≡ Some l.1.0 = l.1.1 in cc
 
@@ -202,12 +214,14 @@ formed (w ∷ ws) a h = record { kind = h.0; words = ws; form = h.2 }
 
 -- ---- how many calendars there are
 
+-- 1 for a calendar, else 0
 abbrev pub is_cal : Role → ℕ
 is_cal Document = 0
 is_cal Fixings = 0
 is_cal Flows = 0
 is_cal Calendar = 1
 
+-- the number of calendars among files
 abbrev pub cals : List Wanted → ℕ
 cals [] = 0
 cals (w ∷ ws) = is_cal w.role + cals ws
@@ -266,6 +280,7 @@ both false b e = cc
 at_most : (a b : ℕ) → nat_le a b ≡ true → a ≤ b
 at_most a b e = grind (arith, nat_tests)
 
+-- a command has at most 16 calendars
 pub few_cals : (ws : Words) (a : Asked) → Asks ws a → cals a.files ≤ most_calendars
 few_cals ws a h =
     let f = formed ws a h in

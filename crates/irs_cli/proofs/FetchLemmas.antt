@@ -24,11 +24,13 @@ use Rattle.irs_cli.proofs.FileLemmas.{gathers_reach, gathers_more}
 abbrev Same : Told → Told → Type 0
 Same told later = (n : List ℕ) → later n ≡ told n
 
+-- what a source holds later it held before
 pub holds_before : (told later : Told) (name bytes : List ℕ) → Same told later → Holds later name bytes
     → Holds told name bytes
 holds_before told later name bytes e h =
     (subst (λ (o : Option (List ℕ)). IfSome o (λ xs. bytes ≡ xs)) (e name) h.0, h.1)
 
+-- what ended a later fetch would have ended an earlier one
 pub stops_before : (told later : Told) (failed : Option (List ℕ)) (before mid now : ℕ) (name : List ℕ) (place : ℕ)
     (u : Unfetched) → Same told later → mid ≡ before → StopsOne later failed mid now name place u
     → StopsOne told failed before now name place u
@@ -45,6 +47,7 @@ short_by : (o : Option (List ℕ)) (bytes : List ℕ) → IfSome o (λ xs. bytes
 short_by None bytes h k = tt
 short_by (Some xs) bytes h k = subst (λ (l : List ℕ). length l < too_many) h k
 
+-- a file that was read is not too long
 pub held_short : (told : Told) (w : Wanted) (bytes : List ℕ) → Holds told w.name bytes → NotLong told w
 held_short told w bytes h = short_by (told w.name) bytes h.0 h.1
 
@@ -80,6 +83,7 @@ reach_at told Q xs i n g less e h q =
     (gathers_reach (Holds told) (NotLong told) Q (map wanted_by (take i xs)) (map wanted_by (drop (i + 1) xs))
     (wanted_by n) no_files g (held_short told) h q)
 
+-- a fetch that ends is at the place of its file
 pub stops_at : (told : Told) (xs : List Named) (i : ℕ) (d : Named) (g : Given) (failed : Option (List ℕ))
     (before now : ℕ) (u : Unfetched) → i < length xs → Gathers (Holds told) (map wanted_by (take i xs)) no_files g
     → StopsOne told failed before now (get_or xs i d).name.now (get_or xs i d).place u
@@ -122,6 +126,7 @@ pub held_more : (told : Told) (xs : List Named) (i : ℕ) (d : Named) (g h : Giv
     → Gathers (Holds told) (map wanted_by (take (i + 1) xs)) no_files h
 held_more told = gathered_more (Holds told)
 
+-- an error of one fetch is that of all
 pub all_by : (told : Told) (failed : Option (List ℕ)) (before now : ℕ) (ws : List Wanted)
     (r : Result TaskFiles Unfetched) (e : Unfetched) → IsErr r → IsErrAnd r (λ x. x ≡ e)
     → Stops told ws failed before now e → FetchesAll told failed before now ws r
@@ -131,6 +136,7 @@ all_by told failed before now ws (Err x) e h k s =
 
 -- ---- the first bytes of a file
 
+-- bytes with fewer than asked are the whole file
 pub front_whole : (n : ℕ) (o : Option (List ℕ)) (b : List ℕ) → IfSome o (λ xs. b ≡ take n xs) → length b < n
     → IfSome o (λ xs. b ≡ xs)
 front_whole n None b h short = tt
@@ -140,6 +146,7 @@ front_whole n (Some xs) b h short = elim (cases_lt (length xs) n) [
       let k : length b ≡ length (take n xs) = ap (λ (x : List ℕ). length x) h in absurd (omega arith)
 ]
 
+-- as many bytes as asked mean a long file
 pub front_long : (n : ℕ) (o : Option (List ℕ)) (b : List ℕ) → IfSome o (λ xs. b ≡ take n xs) → n ≤ length b
     → IfSome o (λ xs. n ≤ length xs)
 front_long n None b h long = tt

@@ -43,6 +43,7 @@ gathers_one R S (w ∷ ws) g h k same a b =
     gathers_one R S ws (with_file g w.role (text_as w.name a.0)) h k same a.2
     (subst (λ (x : List ℕ). Gathers S ws (with_file g w.role (text_as w.name x)) k) e b.2)
 
+-- files are gathered by another relation that their names keep
 pub gathers_with : (R S : List ℕ → List ℕ → Type 0) (E : Wanted → Type 0) (ws : List Wanted) (g h : Given)
     → ((w : Wanted) (bytes : List ℕ) → E w → R w.name bytes → S w.name bytes) → Each E ws → Gathers R ws g h
     → Gathers S ws g h
@@ -50,6 +51,7 @@ gathers_with R S E [] g h f e k = k
 gathers_with R S E (w ∷ ws) g h f e k =
     (k.0, f w k.0 e.0 k.1, gathers_with R S E ws (with_file g w.role (text_as w.name k.0)) h f e.1 k.2)
 
+-- files are gathered with one more
 pub gathers_more : (R : List ℕ → List ℕ → Type 0) (ws : List Wanted) (w : Wanted) (bytes : List ℕ) (g h : Given)
     → Gathers R ws g h → R w.name bytes → Gathers R (ws ++ w ∷ []) g (with_file h w.role (text_as w.name bytes))
 gathers_more R [] w bytes g h k r = (bytes, r, ap (λ (x : Given). with_file x w.role (text_as w.name bytes)) k)
@@ -102,6 +104,7 @@ gathers_many R [] g h k = let e : length h.calendars ≡ length g.calendars = ap
 gathers_many R (w ∷ ws) g h k = let e = gathers_many R ws (with_file g w.role (text_as w.name k.0)) h k.2 in
     let f = with_many g w.role (text_as w.name k.0) in omega (arith, e, f)
 
+-- gathered files are within the limits
 pub gathers_within : (R : List ℕ → List ℕ → Type 0) (ws : List Wanted) (h : Given)
     → ((name bytes : List ℕ) → R name bytes → length bytes < too_many) → cals ws ≤ most_calendars
     → Gathers R ws no_files h → IsWithin h

@@ -6,6 +6,7 @@ use Rattle.irs_answers.specs.declared.replies.Reply.{Reply}
 use Rattle.irs_cli.specs.declared.refusals.Refusal.{Refusal}
 use Rattle.irs_cli.specs.Outcomes.{IfAnswered, IfRefused}
 
+-- an error that becomes an answer
 pub answered_by : (r : Result Reply Refusal) (e : Refusal) (P : ℕ → List ℕ → Type 0) → IsErr r → IsErrAnd r (λ x. x ≡ e)
     → IfRefused e P → IfAnswered r P
 answered_by (Ok x) e P h k p = absurd k
@@ -16,16 +17,20 @@ pub if_none : {X : Type 0} (o : Option X) (P : Type 0) → P → IfNone o P
 if_none None P p = p
 if_none (Some x) P p = tt
 
+-- what follows where there is nothing
 pub none_then : {X : Type 0} (o : Option X) (P Q : Type 0) → IfNone o P → (P → Q) → IfNone o Q
 none_then None P Q p f = f p
 none_then (Some x) P Q p f = tt
 
+-- a result is one value
 pub ok_same : {A E : Type 0} (r : Result A E) (x y : A) → r ≡ Ok x → r ≡ Ok y → x ≡ y
 ok_same r x y h k = cc
 
+-- a result is no value and error at once
 pub ok_not_err : {A E : Type 0} (r : Result A E) (x : A) (e : E) → r ≡ Ok x → r ≡ Err e → ⊥
 ok_not_err r x e h k = cc
 
+-- what is false is not true
 pub not_true : (b : Bool) → b ≡ false → IsTrue b → ⊥
 not_true true e h = cc
 not_true false e h = cc

@@ -30,5 +30,6 @@ module _ (s u : ℕ) (t v : List ℕ) where
         both 8 (too_long place) (h.long a place asks first) (k.long a place asks first)
     words_by (all_told a g asks files) = one_of a.request g (h.given a g asks files) (k.given a g asks files)
 
+-- one answer is due where the source says what every file holds
 pub one_answer : (ws : Words) (told : Told) → TellsAll ws told → IsOneAnswer ws told
 one_answer ws told all s u t v h k = words_by s u t v ws told h k (h.case all)

@@ -27,10 +27,12 @@ one_at Is one ps i x y h k =
     let same : k.word ≡ h.word = same_Some k.word h.word (sym k.there ∙ h.there) in
     one h.word x y h.is (subst (λ (w : List ℕ). Is w y) same k.is)
 
+-- a word spells one date
 pub one_date : (w : List ℕ) (d e : ℤ) → IsDateWord w d → IsDateWord w e → e ≡ d
 one_date w d e h k =
     same_Some e d (day_is w (Some e) (k.in_range, k.is) tt ∙ sym (day_is w (Some d) (h.in_range, h.is) tt))
 
+-- a word spells one count
 pub one_count : (w : List ℕ) (n m : ℕ) → IsCountWord w n → IsCountWord w m → m ≡ n
 one_count w n m h k =
     decimal_injective m n (let l = k.to_most in omega (arith, l)) (let l = h.to_most in
@@ -39,6 +41,7 @@ one_count w n m h k =
 one_byte : (x y : ℕ) → (let l : List ℕ = x ∷ [] in l ≡ y ∷ []) → x ≡ y
 one_byte x y e = cc
 
+-- a word spells one stream
 pub one_stream : (w : List ℕ) (n m : ℕ) → IsStreamWord w n → IsStreamWord w m → m ≡ n
 one_stream w n m h k = let e : 48 + m ≡ 48 + n = one_byte (48 + m) (48 + n) (sym k.is ∙ h.is) in omega (arith, e)
 
@@ -48,6 +51,7 @@ same_mean Plain Weighted e = absurd (cc)
 same_mean Weighted Plain e = absurd (cc)
 same_mean Weighted Weighted e = refl
 
+-- a word names one mean
 pub one_mean : (w : List ℕ) (m n : Mean) → IsMeanWord w m → IsMeanWord w n → n ≡ m
 one_mean w m n h k = same_mean n m (sym k.is ∙ h.is)
 
@@ -57,12 +61,15 @@ same_side Initial Last e = absurd (cc)
 same_side Last Initial e = absurd (cc)
 same_side Last Last e = refl
 
+-- a word names one side
 pub one_side : (w : List ℕ) (s t : Side) → IsSideWord w s → IsSideWord w t → t ≡ s
 one_side w s t h k = same_side t s (sym k.is ∙ h.is)
 
+-- a word spells one tenor
 pub one_tenor : (w : List ℕ) (f g : Frequency) → IsTenorWord w f → IsTenorWord w g → g ≡ f
 one_tenor w f g h k = same_Some g f (same_Some (Some g) (Some f) (sym k.is ∙ h.is))
 
+-- a word spells one step
 pub one_step : (w : List ℕ) (n m : ℕ) → IsStepWord w n → IsStepWord w m → m ≡ n
 one_step w n m h k =
     let same : k.step ≡ h.step = one_tenor w h.step k.step h.is_tenor k.is_tenor in
@@ -161,6 +168,7 @@ dash_none : (b : Bool) (f : Frequency) → (let o : Option (Option Frequency) = 
 dash_none true f e = cc
 dash_none false f e = cc
 
+-- a tenor that a word spells is lawful
 pub tenor_lawful : (w : List ℕ) (f : Frequency) → IsTenorWord w f → IsLawfulTenor f
 tenor_lawful [] f h = let e = h.is in cc
 tenor_lawful (a ∷ []) f h = absurd (dash_none (a == 45) f h.is)
@@ -187,5 +195,6 @@ days_few M count n low high e = cc
 days_few Y count n low high e = cc
 days_few T count n low high e = cc
 
+-- a step that a word spells is within its limits
 pub step_lawful : (w : List ℕ) (n : ℕ) → IsStepWord w n → (1 ≤ n) × (n ≤ most_step)
 step_lawful w n h = let f = tenor_lawful w h.step h.is_tenor in days_few h.step.unit h.step.count n f.0.0 f.0.1 h.days

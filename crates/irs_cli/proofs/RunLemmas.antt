@@ -20,6 +20,7 @@ use Rattle.irs_cli.proofs.FileLemmas.{reaches_meet, reaches_with, gathers_none, 
 
 -- ---- words that are no command
 
+-- what a run says of words that are no listed command
 pub unlisted_replies : (ws : Words) (told : Told) (gives : Gives) (failed : Option (List ℕ)) (n : ℕ) → (IsListed ws → ⊥)
     → Replies ws (source told gives failed n n) 4 bad_words
 unlisted_replies ws told gives failed n none =
@@ -123,6 +124,7 @@ long_replies ws told gives a failed before now place asks h quiet =
       listed = omega (arith);
     }
 
+-- what a run says where a fetch ended it
 pub stopped_replies : (ws : Words) (told : Told) (gives : Gives) (a : Asked) (failed : Option (List ℕ)) (before now : ℕ)
     (u : Unfetched) → Asks ws a → Stops told a.files failed before now u
     → IfRefused (of_fetch u) (Replies ws (source told gives failed before now))
@@ -149,6 +151,7 @@ held_long told q w bytes h k =
     let s : length k.bytes < too_many = subst (λ (l : List ℕ). length l < too_many) same h.1 in
     omega (arith, s, k.long)
 
+-- what a run says where all files were fetched
 pub ended_replies : (ws : Words) (told : Told) (gives : Gives) (a : Asked) (g : Given) (failed : Option (List ℕ))
     (before now : ℕ) → Asks ws a → Gathers (Holds told) a.files no_files g → Gathers (IsGiven gives) a.files no_files g
     → now ≡ before → (status : ℕ) (text : List ℕ)

@@ -31,6 +31,7 @@ priced_first t ts (Some rates) there (inl priced) =
     inl (All-cons (λ (u : PeriodTerm). IsSome u.rates) t ts some priced)
 priced_first t ts (Some rates) there (inr unpriced) = inr (suc unpriced.0, unpriced.1, unpriced.2, unpriced.3)
 
+-- each period has a rate, or one has none
 pub decides_priced : (ts : List PeriodTerm) → AllPriced ts ⊎ SomeUnpriced ts
 decides_priced [] = inl (All-nil (λ (t : PeriodTerm). IsSome t.rates))
 decides_priced (t ∷ ts) = priced_first t ts t.rates refl (decides_priced ts)
@@ -159,5 +160,6 @@ one_amount_out code ps m n = one_first nat_lt tied_last (IsOutOfRange code ps) m
 pub out_within : (code : CompCode) (ps : List PeriodTerm) (n : ℕ) → IsOutOfRange code ps n → n ≤ length ps
 out_within code ps n out = number_within (code_for code ps) ps n out.1
 
+-- periods count from 1
 pub out_from_one : (code : CompCode) (ps : List PeriodTerm) (n : ℕ) → IsOutOfRange code ps n → 1 ≤ n
 out_from_one code ps n out = out.1.from_one

@@ -38,6 +38,7 @@ none_more code ps i below next n le x = elim (cases_lt n (i + 1)) [
   | inr more ↦ next (subst (Passes code ps) (omega (arith, le, more)) x)
 ]
 
+-- the balance after one more period
 pub balances_more : (code : CompCode) (ps : List PeriodTerm) (i : ℕ) (d : PeriodTerm) (before next : Balance)
     → All (IsTerm (denominator ps)) ps → i < length ps → Balances code ps i before
     → Takes code (get_or ps i d) before next → Balances code ps (i + 1) next
@@ -90,6 +91,7 @@ passes_here code ps n p before one there s t =
           → ⊥) s.keeps passes1;
     }
 
+-- a period that leaves the range is the first
 pub passes_first : (code : CompCode) (ps : List PeriodTerm) (i n : ℕ) (d : PeriodTerm) (before : Balance) → n ≡ i
     → i < length ps → Balances code ps i before → Stops code (get_or ps i d) before
     → First nat_lt (Passes code ps) (n + 1)
@@ -101,11 +103,13 @@ passes_first code ps i n d before e inside s t =
       λ m x. lt_false m (n + 1) (λ less. s.none_passes m (omega (arith, e, less)) x),
     )
 
+-- the first period has the denominator of all
 pub first_denominator : (ps : List PeriodTerm) (d : PeriodTerm) → 1 ≤ length ps
     → (get_or ps 0 d).frac.den ≡ denominator ps
 first_denominator [] d h = absurd (omega (arith, h))
 first_denominator (p ∷ ps) d h = refl
 
+-- the rounded balance is the amount
 pub pays_from : (code : CompCode) (ps : List PeriodTerm) (den : ℤ) (b : Balance) (places : ℕ) (m : ℤ)
     → den ≡ denominator ps → Balances code ps (length ps) b → RoundedAt code den b.sum places m → Pays code ps places m
 pays_from code ps den b places m e s r = record {

@@ -24,6 +24,7 @@ denominators Thirty360 = (omega (arith, signed_arith), omega (arith, signed_arit
 denominators ThirtyE360 = (omega (arith, signed_arith), omega (arith, signed_arith))
 denominators ThirtyE360Isda = (omega (arith, signed_arith), omega (arith, signed_arith))
 
+-- a fraction of days in range is a fraction of the amounts
 pub fraction_fits : (code : DayCountCode) (s e : ℤ) (f : Frac) → IsDay s → IsDay e → IsNumerator s e f.num
     → f.den ≡ denominator_of code → IsFraction f
 fraction_fits code s e f a b n is =

@@ -11,6 +11,7 @@ use Rattle.irs_compound.specs.PartsLaws.{AllFractions}
 use Rattle.irs_compound.specs.declared.periods.PeriodTerm.{PeriodTerm}
 use Rattle.irs_compound.proofs.AmountTheorems.{amount_decided, amount_there, one_amount_out}
 
+-- a payment has one amount, or one first period out of range
 pub payment_determined : (code : CompCode) (ps : List PeriodTerm) (places : ℕ) → AllFractions ps
     → Determined (payment_amount_of code ps places)
 payment_determined code ps places fractions =

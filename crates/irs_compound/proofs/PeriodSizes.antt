@@ -23,6 +23,7 @@ abbrev IsSmall : ℤ → Type 0
 IsSmall n = (pos 0 ≤ℤ n) × (n ≤ℤ pos most_numerator)
 
 module _ (a b : ℤ) (last : Bool) (from : IsDay a) (to : IsDay b) (order : a <ℤ b) where
+  -- a numerator is within its limit
   pub numerator_small : (code : DayCountCode)
       → (pos 0 ≤ℤ (fraction_of code a b last).num) × ((fraction_of code a b last).num ≤ℤ pos most_numerator)
   numerator_small code =
@@ -33,6 +34,7 @@ module _ (a b : ℤ) (last : Bool) (from : IsDay a) (to : IsDay b) (order : a <�
   elapsed_small : IsSmall (b -ℤ a)
   elapsed_small = (omega (arith, signed_arith, order), omega (arith, signed_arith, from, to))
 
+  -- the days of a period are within their limit
   pub days_small : (code : DayCountCode)
       → (pos 0 ≤ℤ days_of code a b last) × (days_of code a b last ≤ℤ pos most_numerator)
   unfolding days_of fraction_of

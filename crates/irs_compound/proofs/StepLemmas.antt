@@ -18,6 +18,7 @@ unpriced o r P e h = subst (λ (x : Option Rates). IsSomeAnd x P) e h
 abbrev pub SumsAfter : CompCode → PeriodTerm → Balance → Parts → Type 0
 SumsAfter code p b c = SumsWithin code p c (after code b c).sum (after code b c).kept
 
+-- a period within the range takes the balance on
 pub takes : (result : Option Balance) (code : CompCode) (p : PeriodTerm) (r : Rates) (before : Balance) (c : Parts)
     → p.rates ≡ Some r → RatesWithin r → StandsAt code p r before.kept c
     → SomeIff result (SumsAfter code p before c) (after code before c)
@@ -30,6 +31,7 @@ takes (Some b) code p r before c e w h k = record {
   is = k.1;
 }
 
+-- a period out of range stops it
 pub stops : (result : Option Balance) (code : CompCode) (p : PeriodTerm) (r : Rates) (before : Balance) (c : Parts)
     → p.rates ≡ Some r → StandsAt code p r before.kept c
     → SomeIff result (SumsAfter code p before c) (after code before c) → IfNone result (Stops code p before)
@@ -40,6 +42,7 @@ stops None code p r before c e h k = record {
   passes = λ w. k w.1;
 }
 
+-- rates out of range stop it
 pub stops_at_rates : (code : CompCode) (p : PeriodTerm) (r : Rates) (before : Balance) (c : Parts) → p.rates ≡ Some r
     → StandsAt code p r before.kept c → (RatesWithin r → ⊥) → Stops code p before
 stops_at_rates code p r before c e h k = record {

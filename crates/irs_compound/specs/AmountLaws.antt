@@ -43,6 +43,7 @@ rounded_sum_exists Flat ps sum k f = nearest_exists sum (pos (10 ^ (6 - k))) (ab
 rounded_sum_exists SpreadExclusive ps sum k f =
     nearest_exists sum (pos (10 ^ (6 - k))) (above (10 ^ (6 - k)) (ten_above (6 - k)))
 
+-- a payment has one amount
 pub pays_once : (code : CompCode) (ps : List PeriodTerm) (k : ℕ) (m n : ℤ) → AllFractions ps → Pays code ps k m
     → Pays code ps k n → m ≡ n
 pays_once code ps k m n f a b =
@@ -50,6 +51,7 @@ pays_once code ps k m n f a b =
     rounded_sum_once code ps (total a.parts) k m n f a.rounds
     (subst (λ (cs : List Parts). RoundedAt code (denominator ps) (total cs) k n) e b.rounds)
 
+-- a payment whose periods have rates has an amount
 pub pays_exists : (code : CompCode) (ps : List PeriodTerm) (k : ℕ) → AllFractions ps → AllPriced ps
     → (m : ℤ) × Pays code ps k m
 pays_exists code ps k f h =
@@ -75,14 +77,17 @@ one_amount code ps k None (Some n) f a b = absurd (priced_or_not ps b.0 a)
 one_amount code ps k (Some m) None f a b = absurd (priced_or_not ps a.0 b)
 one_amount code ps k (Some m) (Some n) f a b = ap Some (pays_once (code_for code ps) ps k m n f a.1 b.1)
 
+-- a payment of periods has one amount
 pub one_amount_of : (code : CompCode) (ps : List PeriodTerm) (k : ℕ) (m n : ℤ) → IsPayment ps → Pays code ps k m
     → Pays code ps k n → m ≡ n
 one_amount_of code ps k m n h a b = pays_once code ps k m n (all_fractions (denominator ps) ps h.2) a b
 
+-- a payment of periods with rates has an amount
 pub some_amount_of : (code : CompCode) (ps : List PeriodTerm) (k : ℕ) → IsPayment ps → AllPriced ps
     → (m : ℤ) × Pays code ps k m
 some_amount_of code ps k h p = pays_exists code ps k (all_fractions (denominator ps) ps h.2) p
 
+-- there is one list of what each period adds
 pub one_list : (code : CompCode) (ps : List PeriodTerm) (cs ds : List Parts) → IsPayment ps → Follows code ps cs
     → Follows code ps ds → cs ≡ ds
 one_list code ps cs ds h a b = follows_once code [] ps cs ds (all_fractions (denominator ps) ps h.2) a b

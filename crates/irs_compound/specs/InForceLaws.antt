@@ -13,6 +13,7 @@ use Rattle.irs_terms.specs.Lawful.{IsLawfulValues}
 use Rattle.irs_compound.specs.InForce.{LastOf, InForce, value_of, later_step, counted_step, last_from, value_in_force}
 use Rattle.irs_terms.specs.StepDates.{StepsRise}
 
+-- a day is at most itself
 pub same_day : (a : ℤ) → a ≤ℤ a
 same_day a = omega (arith, signed_arith)
 
@@ -84,6 +85,7 @@ behind s (t ∷ ss) h =
     (All-weaker (λ u. t.day <ℤ u.day) (λ u. s.day <ℤ u.day) (λ u k. omega (arith, signed_arith, k, h.0)) ss
     (behind t ss h.1))
 
+-- the later steps of rising steps rise
 pub rest : (s : Step) (ss : List Step) → StepsRise (s ∷ ss) → StepsRise ss
 rest s [] h = tt
 rest s (t ∷ ss) h = h.1

@@ -15,17 +15,21 @@ use Rattle.irs_terms.specs.declared.codes.CompCode.{CompCode}
 use Rattle.irs_terms.specs.declared.codes.CompCode.TheVariants.{Simple, Straight, Flat, SpreadExclusive}
 use Rattle.jiff_core.proofs.SignedLemmas.{signed_arith}
 
+-- the total of two lists
 pub total-append : (xs ys : List Parts) → total (xs ++ ys) ≡ total xs +ℤ total ys
 total-append [] ys = omega (arith, signed_arith)
 total-append (x ∷ xs) ys = let e = total-append xs ys in omega (arith, signed_arith, e)
 
+-- the total with one more
 pub total-push : (xs : List Parts) (x : Parts) → total (xs ++ x ∷ []) ≡ total xs +ℤ amount x
 total-push xs x = let e = total-append xs (x ∷ []) in omega (arith, signed_arith, e)
 
+-- what is kept of two lists
 pub kept-append : (code : CompCode) (xs ys : List Parts) → kept code (xs ++ ys) ≡ kept code xs +ℤ kept code ys
 kept-append code [] ys = omega (arith, signed_arith)
 kept-append code (x ∷ xs) ys = let e = kept-append code xs ys in omega (arith, signed_arith, e)
 
+-- what is kept with one more
 pub kept-push : (code : CompCode) (xs : List Parts) (x : Parts)
     → kept code (xs ++ x ∷ []) ≡ kept code xs +ℤ kept_of code x
 kept-push code xs x = let e = kept-append code xs (x ∷ []) in omega (arith, signed_arith, e)
@@ -71,6 +75,7 @@ priced_once : (o : Option Rates) (code : CompCode) (p : PeriodTerm) (before : �
 priced_once None code p before c d f h k = absurd h
 priced_once (Some r) code p before c d f h k = at_once code p r before c d f h k
 
+-- a period adds one pair of parts
 pub stands_once : (code : CompCode) (p : PeriodTerm) (earlier : List Parts) (c d : Parts) → IsFraction p.frac
     → Stands code p earlier c → Stands code p earlier d → c ≡ d
 stands_once code p earlier c d f h k = priced_once p.rates code p (kept code earlier) c d f h k
@@ -91,6 +96,7 @@ follows_once code earlier (p ∷ ps) (c ∷ cs) (d ∷ ds) f h k =
     follows_once code (earlier ++ c ∷ []) ps cs ds (All-tail (λ q. IsFraction q.frac) p ps f) h.1 k' in
     cc
 
+-- a period with rates adds some
 pub at_exists : (code : CompCode) (p : PeriodTerm) (r : Rates) (before : ℤ) → IsFraction p.frac
     → (c : Parts) × StandsAt code p r before c
 at_exists Simple p r before f = (record { main = p.notional *ℤ r.all_in *ℤ p.frac.num; extra = pos 0 }, (refl, refl))
@@ -116,10 +122,12 @@ priced_exists : (o : Option Rates) (code : CompCode) (p : PeriodTerm) (before : 
 priced_exists None code p before f h = cc
 priced_exists (Some r) code p before f h = at_exists code p r before f
 
+-- so it does after earlier periods
 pub stands_exists : (code : CompCode) (p : PeriodTerm) (earlier : List Parts) → IsFraction p.frac → IsSome p.rates
     → (c : Parts) × Stands code p earlier c
 stands_exists code p earlier f h = priced_exists p.rates code p (kept code earlier) f h
 
+-- each period of a payment adds some
 pub follows_exists : (code : CompCode) (earlier : List Parts) (ps : List PeriodTerm) → All (λ p. IsFraction p.frac) ps
     → AllPriced ps → (cs : List Parts) × FollowsFrom code earlier ps cs
 follows_exists code earlier [] f h = ([], tt)
@@ -163,5 +171,6 @@ number_within code ps n x =
 abbrev pub AllFractions : List PeriodTerm → Type 0
 AllFractions ps = All (λ p. IsFraction p.frac) ps
 
+-- terms with one denominator are fractions
 pub all_fractions : (den : ℤ) (ps : List PeriodTerm) → All (IsTerm den) ps → AllFractions ps
 all_fractions den ps h = All-weaker (IsTerm den) (λ p. IsFraction p.frac) (λ p t. t.1) ps h

@@ -122,6 +122,7 @@ one_fixed_rates values start a b r x y =
     let e : a.base ≡ b.base = one_in_force values start a.base b.base r x.0 y.0 in
     same_rates a b e (x.1 ∙ e ∙ sym y.1)
 
+-- the rates of a fixed stream are the value in force
 pub fixed_rates_value : (values : StepValues) (start rate : ℤ) (rates : Rates) → rate ≡ value_in_force values start
     → rates.base ≡ rate → rates.all_in ≡ rate → rates ≡ fixed_rates_of values start
 unfolding fixed_rates_of

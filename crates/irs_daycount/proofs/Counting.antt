@@ -57,6 +57,7 @@ one_day : (b : Bool) (x y : ℕ) → 365 * x + 366 * y + (if b then 365 else 366
 one_day true x y = omega arith
 one_day false x y = omega arith
 
+-- the places of two days differ by the parts of the days from the one to the other
 pub counted : (s : ℤ) (n : ℕ) → IsDay s → IsDay (s +ℤ pos n) → place_of (s +ℤ pos n) ≡ place_of s + (act_act_parts s n)
 counted s zero a b = let e : s +ℤ pos 0 ≡ s = omega (arith, signed_arith) in rw e (omega arith)
 counted s (suc n) a b =
@@ -79,6 +80,7 @@ later s e h = (
       omega (arith, signed_arith, k),
 )
 
+-- the difference of two places is the numerator of ACT/ACT.ISDA
 pub act_act_is : (s e : ℤ) (f : Frac) → s <ℤ e → IsDay s → IsDay e → f.num +ℤ pos (place_of s) ≡ pos (place_of e)
     → f.den ≡ pos act_act_denominator → ActAct s e f
 act_act_is s e f h a b num den =
@@ -93,6 +95,7 @@ tested : (b : Bool) (x y n : ℕ) → x + y ≡ n → x + (if b then 1 else 0) +
 tested true x y n h = omega (arith, h)
 tested false x y n h = omega (arith, h)
 
+-- the days that pass a test and those that don't are all days together
 pub counts_all : (test : ℤ → Bool) (s : ℤ) (n : ℕ) → days_counted test s n + days_counted (λ d. not (test d)) s n ≡ n
 counts_all test s zero = refl
 counts_all test s (suc n) =

@@ -13,6 +13,7 @@ use Rattle.irs_daycount.proofs.ThirtyBounds.{Bounded, us_bounded, e_bounded, isd
 moved : (s e n m : ℤ) → n ≡ m → Bounded s e m → Bounded s e n
 moved s e n m h b = subst (λ (k : ℤ). Bounded s e k) (sym h) b
 
+-- the numerator of each day count is from 0 to 366 times the actual days
 pub fraction_bounded : (code : DayCountCode) (s e : ℤ) (last : Bool) (f : Frac) → IsDay s → IsDay e → s <ℤ e
     → Fraction code s e last f → Bounded s e f.num
 fraction_bounded OneOne s e last f a b h x = (omega (arith, signed_arith, x), omega (arith, signed_arith, x, h))

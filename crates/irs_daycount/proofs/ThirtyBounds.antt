@@ -35,6 +35,7 @@ pub record Counted (s e : ℤ) (j k first second used_first used_second : ℕ) :
   pub used : (used_first ≤ 30) × (1 ≤ used_second) × (used_second ≤ 31)
   pub grows : j ≡ k → first < second → used_first ≤ used_second
 
+-- a count by months of 30 days is from 0 to 366 times the actual days
 pub within : (s e : ℤ) (j k m n f g : ℕ) (num : ℤ) → s <ℤ e → Counted s e j k m n f g
     → num ≡ pos 30 *ℤ (pos k -ℤ pos j) +ℤ (pos g -ℤ pos f) → (pos 0 ≤ℤ num) × (num ≤ℤ (pos 366 *ℤ (e -ℤ s)))
 within s e j k m n f g num h c is = elim (cases_lt j k) [
@@ -98,6 +99,7 @@ grows_isda true u c d long h less high top = absurd (omega (arith, h refl, less,
 grows_isda false true c d long h less high top = omega (arith, less, high, top)
 grows_isda false false c d long h less high top = omega (arith, less)
 
+-- the numerator is from 0 to 366 times the actual days
 abbrev pub Bounded : ℤ → ℤ → ℤ → Type 0
 Bounded s e num = (pos 0 ≤ℤ num) × (num ≤ℤ (pos 366 *ℤ (e -ℤ s)))
 
@@ -143,6 +145,7 @@ isda_dates s e y₁ m₁ d₁ y₂ m₂ d₂ last h a b =
     ap (λ (y : ℕ). days_in_month (pos y) m₁) same_year ∙ ap (λ (m : ℕ). days_in_month (pos y₂) m) same_month in
     grows_isda t u d₁ d₂ (days_in_month (pos y₁) m₁) ends less (omega (arith, b.0.2.1, same)) long₁.0)
 
+-- the days of 30E/360.ISDA are so bounded
 pub isda_bounded : (s e : ℤ) (last : Bool) → IsDay s → IsDay e → s <ℤ e
     → Bounded s e (isda_days (date_of s) (date_of e) last)
 isda_bounded s e last a b h =
@@ -186,11 +189,13 @@ us_dates s e y₁ m₁ d₁ y₂ m₂ d₂ h a b =
     )
     (λ same_year same_month less. grows_isda (d₁ == 31) t d₁ d₂ 31 (λ x. last_is d₁ x) less top₂ (omega arith))
 
+-- the days of 30E/360 are so bounded
 pub e_bounded : (s e : ℤ) → IsDay s → IsDay e → s <ℤ e → Bounded s e (euro_days (date_of s) (date_of e))
 e_bounded s e a b h =
     e_dates s e (year_of s) (month_of s) (day_of_month s) (year_of e) (month_of e) (day_of_month e) h (date_of_day s a)
     (date_of_day e b)
 
+-- the days of 30/360 are so bounded
 pub us_bounded : (s e : ℤ) → IsDay s → IsDay e → s <ℤ e → Bounded s e (bond_days (date_of s) (date_of e))
 us_bounded s e a b h =
     us_dates s e (year_of s) (month_of s) (day_of_month s) (year_of e) (month_of e) (day_of_month e) h (date_of_day s a)

@@ -54,6 +54,7 @@ pub fraction_value : (code : DayCountCode) (s e : ℤ) (last : Bool) (f : Frac) 
 fraction_value code s e last f h x =
     one_fraction code s e last f (fraction_of code s e last) x (fraction_is code s e last h)
 
+-- the denominator of a fraction is that of its day count
 pub one_denominator : (code : DayCountCode) (s e : ℤ) (last : Bool) (f : Frac) → Fraction code s e last f
     → f.den ≡ denominator_of code
 one_denominator OneOne s e last f a = a.1

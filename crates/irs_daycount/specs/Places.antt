@@ -9,7 +9,7 @@ use Rattle.irs_daycount.specs.Actual.{act_act_denominator}
 abbrev pub weight_of : ℕ → ℕ
 weight_of year = if is_leap_year (pos year) then 365 else 366
 
--- where the day begins that lies so many days after 1 January of the year
+-- the place where the day begins that is `days` days after 1 January of the year
 abbrev pub place_at : ℕ → ℕ → ℕ
 place_at year days = act_act_denominator * year + days * weight_of year
 

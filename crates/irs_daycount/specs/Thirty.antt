@@ -1,5 +1,5 @@
--- Day counts by years of 360 days and months of 30, the 2006 ISDA Definitions, section 4.16: date 1 is the start,
--- date 2 the end.
+-- Day counts by years of 360 days and months of 30, the 2006 ISDA Definitions, section 4.16. Date 1 is the start, date
+-- 2 the end.
 use Rattle.std.specs.Prelude.{ℕ, Bool, not, ◌&&◌, ◌||◌, ◌==◌, if◌then◌else◌, ℤ, pos, ◌+ℤ◌, ◌-ℤ◌, ◌*ℤ◌}
 use Rattle.jiff_core.specs.Calendar.{days_in_month}
 use Rattle.irs_base.specs.DateOf.{year_of, month_of, day_of_month}
@@ -34,8 +34,8 @@ is_february_end date = (date.month == 2) && (date.day == days_in_month date.year
 abbrev pub isda_d1 : Civil → ℕ
 isda_d1 date1 = if (date1.day == 31) || is_february_end date1 then 30 else date1.day
 
--- 30E/360.ISDA: D2 is the day of date 2, but 30 where that is 31, or the last day of February and the period isn't
--- the stream's last
+-- 30E/360.ISDA: D2 is the day of date 2, but 30 where that is 31. The last day of February becomes 30 too, unless the
+-- period is the stream's last
 abbrev pub isda_d2 : Civil → Bool → ℕ
 isda_d2 date2 last = if (date2.day == 31) || (is_february_end date2 && not last) then 30 else date2.day
 

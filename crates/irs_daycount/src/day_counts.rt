@@ -34,7 +34,7 @@ pub trait DayCount {
         → Fraction (code x) s e last f → Fraction (code x) s e last g → f ≡ g };
 }
 
-/// 1/1: each period is one year. Its days are actual days by a rule of this project's own.
+/// 1/1: each period is one year. Its days are actual days, which is our rule.
 #[derive(Clone, Copy)]
 pub struct OneOne;
 

@@ -13,9 +13,9 @@ use crate::thirty::{bond_days, euro_days, isda_days};
 use irs_base::Day;
 use irs_terms::{DayCountCode, Frac};
 
-/// The days of the period from `s` to `e`, which is after `s`: the numerator for the three 30/360
-/// kinds, and otherwise the days from `s`, included, to `e`, excluded. That 1/1 counts actual
-/// days is this project's own rule. `last` says that the period is its stream's last.
+/// The days of the period from `s` to `e`, which is after `s`. They are the numerator for the three
+/// 30/360 kinds, and otherwise the days from `s`, included, to `e`, excluded. That 1/1 counts
+/// actual days is our rule. `last` says that the period is its stream's last.
 pub fn days_by(code: DayCountCode, s: Day, e: Day, last: bool) -> i64
     requires { s <ℤ e }
     ensures days { Days code s e last result }
@@ -77,7 +77,7 @@ fn days_of(code: DayCountCode, s: Day, e: Day, last: bool) -> i64
     }
 }
 
-// The fraction of a period that has so many days.
+// The fraction of a period that has this number of days.
 fn fraction_from(code: DayCountCode, s: Day, e: Day, last: bool, days: i64) -> Frac
     requires order { s <ℤ e }
     requires days { Days code s e last days }

@@ -1,8 +1,8 @@
 //! 30/360, 30E/360 and 30E/360.ISDA: the 2006 ISDA Definitions, section 4.16.
 //!
-//! With date 1 the start and date 2 the end, Y, M and D their years, months and days, each
-//! counts 360 * (Y2 - Y1) + 30 * (M2 - M1) + (D2 - D1) days. The three differ in which D1 and D2
-//! they first move to 30.
+//! Date 1 is the start and date 2 the end; Y, M and D are their years, months and days. Each counts
+//! 360 * (Y2 - Y1) + 30 * (M2 - M1) + (D2 - D1) days. The three differ in which D1 and D2 they
+//! first move to 30.
 ghost use Rattle.std.specs.Prelude.{◌≡◌, ◌≤◌, pos, ◌+ℤ◌, ◌*ℤ◌, ◌-ℤ◌, ◌-◌, negsuc};
 ghost use Rattle.jiff_core.specs.Calendar.{IsBetween};
 ghost use Rattle.irs_base.specs.Days.{first_year, last_year};

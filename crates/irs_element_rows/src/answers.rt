@@ -1,11 +1,11 @@
 //! The answers of a row of several steps.
 use crate::told::Told;
 
-/// Tells answers, ` ; ` between them.
+/// Reports answers, ` ; ` between them.
 #[derive(Drop)]
 pub struct Answers<'t, 'a> {
     told: &'t mut Told<'a>,
-    /// What is told before the next answer.
+    /// What is reported before the next answer.
     between: &'static str,
 }
 
@@ -15,7 +15,7 @@ impl<'t, 'a> Answers<'t, 'a> {
         Answers { told, between: "" }
     }
 
-    /// Begins one answer more, which is to be told.
+    /// Begins one answer more, which is to be reported.
     pub fn next(&mut self) -> &mut Told<'a> {
         self.told.text(self.between);
         self.between = " ; ";

@@ -2,15 +2,15 @@
 use irs_json::{Value, parse};
 use std::alloc::Global;
 
-/// An edit at a place of a document. A place is named by the names on its way from the root, `/`
-/// between them; an item of an array is named by its number from 0.
+/// An edit at a place of a document. A place is the names on its way from the root, `/` between
+/// them. An item of an array is named by its number from 0.
 #[derive(Clone, Copy)]
 enum Edit<'a> {
-    /// `put PLACE TEXT`: what the JSON text says, in place of what stands there.
+    /// `put PLACE TEXT`: what the JSON text says, in place of what is there.
     Put { place: &'a str, text: &'a str },
-    /// `take PLACE`: nothing in place of what stands there.
+    /// `take PLACE`: nothing in place of what is there.
     Take { place: &'a str },
-    /// `repeat TIMES PLACE`: an array in place of what stands there, which has it so often.
+    /// `repeat TIMES PLACE`: an array in place of what is there, which has it so often.
     Repeat { times: u32, place: &'a str },
 }
 
@@ -32,7 +32,7 @@ fn edit_of(text: &str) -> Option<Edit> {
     }
 }
 
-// What stands at a place.
+// What is at a place.
 fn at_mut<'a>(alloc: Global, document: &'a mut Value, place: &str) -> Option<&'a mut Value> {
     let pointer = format!(in alloc; "/{place}").ok()?;
     document.pointer_mut(&pointer)
@@ -50,7 +50,7 @@ fn holder<'d, 'p>(
     }
 }
 
-// Puts what a JSON text says under a name of an object.
+// Sets a name of an object to what a JSON text says.
 fn put(alloc: Global, object: &mut Value, name: &str, text: &str) -> Option<()> {
     let members = object.as_object_mut()?;
     let name = String::from_str(alloc, name).ok()?;
@@ -86,7 +86,7 @@ fn make(alloc: Global, document: &mut Value, text: &str) -> Option<()> {
     Some(())
 }
 
-/// Makes edits, `;` between them, one behind the other.
+/// Makes edits, `;` between them, one after the other.
 pub fn make_edits(alloc: Global, document: &mut Value, edits: &str) -> Option<()> {
     for edit in edits.split(" ; ") {
         if !edit.is_empty() {

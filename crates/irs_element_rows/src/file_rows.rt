@@ -1,4 +1,4 @@
-//! The rows of files: each names a source of files and steps with it, ` ; ` between them, and says
+//! The rows of files: each names a source of files and steps with it, ` ; ` between them. It says
 //! what each fetch among the steps gives.
 use crate::answers::Answers;
 use crate::told::Told;
@@ -23,11 +23,11 @@ enum Source<'r> {
 /// A step with a source of files.
 #[derive(Clone, Copy)]
 enum Step<'a> {
-    /// `add NAME TEXT`: the text stands under the name.
+    /// `add NAME TEXT`: the name has the text.
     Add { name: &'a str, text: &'a str },
     /// `fail CALL`: that fetch, counted from 1, is to fail.
     Fail { call: u32 },
-    /// `remove NAME`: nothing stands under the name.
+    /// `remove NAME`: the name has nothing.
     Remove { name: &'a str },
     /// `fetch MOST NAME`: the first bytes of the file, or all of it where it is shorter.
     Fetch { most: usize, name: &'a str },
@@ -99,7 +99,7 @@ impl<'r> Source<'r> {
         }
     }
 
-    // Takes the step of a text: a fetch tells the bytes of a file, or `failed`.
+    // Takes the step of a text: a fetch reports the bytes of a file, or `failed`.
     fn step(&mut self, answers: &mut Answers, alloc: Global, text: &str) -> Option<()> {
         match step_of(text)? {
             Step::Add { name, text } => self.add(name, text),
@@ -127,7 +127,7 @@ fn tell_fetched(answers: &mut Answers, fetched: &Result<Vec<u8>, FetchErr>) -> O
     Some(())
 }
 
-/// Tells what the fetches among the steps with a source of files give.
+/// Reports what the fetches among the steps with a source of files give.
 pub fn tell_files(told: &mut Told, rt: &HostRuntime, name: &str, steps: &str) -> Option<()> {
     let mut source = source_of(rt, name)?;
     source.tell_steps(told, rt.alloc(), steps)

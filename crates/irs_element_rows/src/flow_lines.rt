@@ -68,7 +68,7 @@ impl Lines<'_, '_> {
     }
 }
 
-/// Tells the lines of cash flows.
+/// Reports the lines of cash flows.
 pub fn tell_flows(told: &mut Told, flows: &Flows) {
     let mut lines = Lines::new(told, flows.streams().len());
     for stream in flows.streams() {

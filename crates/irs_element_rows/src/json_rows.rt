@@ -1,5 +1,5 @@
-//! The rows of JSON texts: each asks whether a text is JSON, what a value says as a leaf, which
-//! members and items it has, or which rule ends the way to its swap.
+//! The rows of JSON texts. Each says whether a text is JSON, or what leaf a value is. Or it says
+//! which members and items a value has, or which rule ends the way to its swap.
 use crate::told::Told;
 use crate::values::Tell;
 use irs_json::{JsonErr, Value, child, items, leaf, members, parse};
@@ -74,7 +74,7 @@ fn tell_part(told: &mut Told, question: &str, value: &Value) -> Option<()> {
     }
 }
 
-/// Tells what is answered of a JSON text.
+/// Reports what is answered of a JSON text.
 pub fn tell_json(told: &mut Told, alloc: Global, question: &str, text: &str) -> Option<()> {
     match question {
         "parse" => tell_parsed(told, alloc, text.as_bytes()),

@@ -1,12 +1,12 @@
-//! The rows of leaves: each names a kind of text and a text, and says what it stands for; or a kind
-//! of leaf and a JSON text, and says which rule the text breaks.
+//! The rows of leaves. Each names a kind of text and a text, and says what value the text has. Or
+//! it names a kind of leaf and a JSON text, and says which rule the text breaks.
 use crate::told::Told;
 use crate::values::Tell;
 use irs_elements::{Leaf, codes, fractions, leaf_rule, numbers, words};
 use irs_json::{Value, parse};
 use std::alloc::Global;
 
-// What a text stands for as a code.
+// The value of a text as a code.
 fn tell_code(told: &mut Told, kind: &str, text: &str) -> Option<()> {
     match kind {
         "convention" => told.given(&codes::convention(text)),
@@ -27,7 +27,7 @@ fn tell_code(told: &mut Told, kind: &str, text: &str) -> Option<()> {
     Some(())
 }
 
-// What a text stands for as a name.
+// The value of a text as a name.
 fn tell_name(told: &mut Told, kind: &str, text: &str) -> Option<()> {
     match kind {
         "centre" => told.debug(&words::is_center_name(text.as_bytes())),
@@ -38,7 +38,7 @@ fn tell_name(told: &mut Told, kind: &str, text: &str) -> Option<()> {
     Some(())
 }
 
-// What a text stands for as a number.
+// The value of a text as a number.
 fn tell_number(told: &mut Told, kind: &str, text: &str) -> Option<()> {
     let bytes = text.as_bytes();
     match kind {
@@ -71,7 +71,7 @@ fn leaf_of(name: &str) -> Option<Leaf> {
     }
 }
 
-// What a value stands for as a kind of text, or the rule that it breaks as a kind of leaf.
+// The value of a JSON value as a kind of text, or the rule that it breaks as a kind of leaf.
 fn tell_value(told: &mut Told, kind: &str, value: &Value) -> Option<()> {
     match kind.strip_prefix("leaf ") {
         Some(leaf) => told.given(&leaf_rule(leaf_of(leaf)?, value)),
@@ -80,7 +80,7 @@ fn tell_value(told: &mut Told, kind: &str, value: &Value) -> Option<()> {
     Some(())
 }
 
-/// Tells a JSON text as a kind of text, or of leaf.
+/// Reports a JSON text as a kind of text, or of leaf.
 pub fn tell_leaf(told: &mut Told, alloc: Global, kind: &str, text: &str) -> Option<()> {
     let value = parse(alloc, text.as_bytes()).ok()?;
     tell_value(told, kind, &value)

@@ -1,10 +1,9 @@
-//! The element rows: documents in which an element is taken away, repeated or given another value,
-//! and what the readers of irs_read and irs_audit and the command `audit` tell of each; what the
-//! texts of leaves stand for; and worked examples of JSON texts, of the order of broken rules, of
-//! emitted cash flows, of files and sinks in memory, and of sentences.
+//! The element rows. An element of a document is taken away, repeated or given another value. A row
+//! has what the readers of irs_read and irs_audit and the command `audit` report of it. Other rows
+//! have the values of texts of leaves. The rest are worked examples of JSON texts, broken rules in
+//! order, emitted cash flows, files and sinks in memory, and sentences.
 //!
-//! The rows, their documents and what is expected of them stand in `data/`; their form is this
-//! project's own.
+//! The rows, their documents and the expected answers are in `data/`; their form is ours.
 #![tactic(auto)]
 
 use anyhow::ensure;

@@ -1,5 +1,5 @@
-//! The rows of the order in which broken rules are told: each has two of them, `, ` between them, and
-//! says whether the first comes before the second, or which of them is told.
+//! The rows of the order in which broken rules are reported. Each has two of them, `, ` between
+//! them. It says whether the first comes before the second, or which of them is reported.
 use crate::told::Told;
 use crate::values::Tell;
 use irs_base::{Broken, Elem, Place, Rule};
@@ -51,7 +51,8 @@ fn answer_of(text: &str) -> Option<Option<Broken>> {
     Some(Some(broken_of(text)?))
 }
 
-/// Tells whether the first of two broken rules comes before the second, or the earlier of two answers.
+/// Reports whether the first of two broken rules comes before the second, or the earlier of two
+/// answers.
 pub fn tell_order(told: &mut Told, question: &str, pair: &str) -> Option<()> {
     let (first, second) = pair.split_once(", ")?;
     match question {

@@ -35,9 +35,9 @@ pub enum Subject {
 pub struct Question<'a> {
     /// Of what it asks.
     subject: Subject,
-    /// What is asked, or the file of a document.
+    /// The kind of question, or the file of a document.
     kind: &'a str,
-    /// What it is asked of, or the edits of the document.
+    /// The subject of the question, or the edits of the document.
     given: &'a str,
 }
 
@@ -48,7 +48,7 @@ fn document_of(rt: &HostRuntime, file: &str) -> Option<Value> {
 }
 
 impl<'a> Question<'a> {
-    /// The question of a kind, and of what it is asked.
+    /// The question of a kind, with its subject.
     pub fn new(subject: Subject, kind: &'a str, given: &'a str) -> Question<'a> {
         Question {
             subject,
@@ -57,14 +57,14 @@ impl<'a> Question<'a> {
         }
     }
 
-    // The lines of a document behind its edits.
+    // The lines of a document after its edits.
     fn tell_document(self, told: &mut Told, rt: &HostRuntime, reader: Reader) -> Option<()> {
         let mut document = document_of(rt, self.kind)?;
         make_edits(rt.alloc(), &mut document, self.given)?;
         reader.tell(told, rt.alloc(), &document)
     }
 
-    /// Tells the answer: of a document its lines, else one line.
+    /// Reports the answer: of a document its lines, else one line.
     pub fn tell(self, told: &mut Told, rt: &HostRuntime) -> Option<()> {
         let (alloc, kind, given) = (rt.alloc(), self.kind, self.given);
         match self.subject {

@@ -1,4 +1,4 @@
-//! What the readers and the command `audit` tell of a document.
+//! What the readers and the command `audit` report of a document.
 use crate::flow_lines::tell_flows;
 use crate::swap_lines::tell_swap;
 use crate::told::Told;
@@ -22,7 +22,7 @@ pub enum Reader {
     Terms,
     /// `read_flows` of irs_audit: cash flows.
     Flows,
-    /// `run` of irs_cli: whether the cash flows that stand among the terms agree with them.
+    /// `run` of irs_cli: whether the cash flows among the terms agree with them.
     Audit,
     /// `emit_flows` of irs_emit: the cash flows of the schedule of a swap.
     Emit,
@@ -109,8 +109,9 @@ fn tell_emitted(told: &mut Told, alloc: Global, document: &Value) -> Option<()> 
 }
 
 impl Reader {
-    /// Tells the lines of a document: the first broken rule or the first fault with its place, or
-    /// what was read; of an audit what the command prints; the cash flows that are emitted.
+    /// Reports the lines of a document: the first broken rule or the first fault with its place, or
+    /// what was read. Of an audit it reports what the command prints, and also the cash flows that
+    /// are emitted.
     pub fn tell(self, told: &mut Told, alloc: Global, document: &Value) -> Option<()> {
         match self {
             Reader::Terms => tell_terms(told, alloc, document),

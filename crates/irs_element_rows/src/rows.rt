@@ -1,27 +1,28 @@
-//! The rows: each has three parts with `|` between them, a document, edits of it, and a line that has
-//! to be told of the document behind the edits; or a kind of question, what it is asked of, and what
-//! is answered.
+//! The rows. Each has three parts with `|` between them. They are a document, edits of it, and a
+//! line that has to be reported of the document after the edits. Or they are a kind of question,
+//! its subject, and the answer.
 use crate::questions::{Question, Subject};
 use crate::tally::Tally;
 use crate::told::Told;
 use anyhow::{Result, bail};
 use std::fs;
 
-// What a row asks, and the line that has to be told.
+// The question of a row, and the line that has to be reported.
 fn row_of(subject: Subject, text: &str) -> Option<(Question, &str)> {
     let (kind, rest) = text.split_once(" | ")?;
     let (given, line) = rest.rsplit_once(" | ")?;
     Some((Question::new(subject, kind, given), line))
 }
 
-// Prints all that is told.
+// Prints all that is reported.
 fn print_told(rt: &HostRuntime, question: Question) -> Option<()> {
     let mut told = Told::printed(rt);
     question.tell(&mut told, rt)?;
     told.is_printed().then_some(())
 }
 
-// Runs a row; where its line isn't told, prints it and what is told. Whether it is told.
+// Runs a row; where its line isn't reported, prints it and what is reported. Whether it is
+// reported.
 fn run_row(rt: &HostRuntime, subject: Subject, text: &str) -> Option<bool> {
     let (question, line) = row_of(subject, text)?;
     let mut told = Told::wanted(line);
@@ -64,10 +65,11 @@ fn run_lines(rt: &HostRuntime, subject: Subject, text: &str) -> Result<()> {
     Ok(())
 }
 
-/// Runs the rows of a file, a line each, and prints how many there were and of how many the line was
-/// told, and each of the others with what is told there. A line that begins with `#` is a remark: it
-/// is printed, and the rows are counted anew. A line that begins with `=` names a document: all that
-/// is told of it is printed. A line that is none of these is printed, and ends the program.
+/// Runs the rows of a file, a line each. Prints how many there were and of how many the line was
+/// reported. Prints each of the others with what is reported there. A line that begins with `#` is
+/// a remark: it is printed, and the rows are counted anew. A line that begins with `=` names a
+/// document: all that is reported of it is printed. A line that is none of these is printed, and
+/// ends the program.
 pub fn run_rows(rt: &HostRuntime, subject: Subject, file: &str) -> Result<()> {
     let text = fs::read_to_string(rt, file)?;
     run_lines(rt, subject, &text)

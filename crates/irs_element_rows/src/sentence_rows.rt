@@ -1,5 +1,5 @@
-//! The rows of sentences: each has a status, the words of a command line and the line that the program
-//! wrote, and says the sentence for it.
+//! The rows of sentences. Each has a status, the words of a command line and the line that the
+//! program wrote, and says the sentence for them.
 use crate::told::Told;
 use crate::words::words_of;
 use irs_plain::{Sentence, meaning};
@@ -11,7 +11,7 @@ fn line_of(alloc: Global, text: &str) -> Option<String> {
     format!(in alloc; "{text}{end}").ok()
 }
 
-// The parts of a sentence, one behind the other; `none` where they are empty.
+// The parts of a sentence, one after the other; `none` where they are empty.
 fn tell_parts(told: &mut Told, sentence: &Sentence) {
     let mut is_empty = true;
     for part in &sentence.parts {
@@ -23,7 +23,7 @@ fn tell_parts(told: &mut Told, sentence: &Sentence) {
     }
 }
 
-/// Tells the sentence for a status, the words of a command and a line, `|` between the two.
+/// Reports the sentence for a status, the words of a command and a line, `|` between the two.
 pub fn tell_sentence(told: &mut Told, alloc: Global, kind: &str, given: &str) -> Option<()> {
     let status = kind.strip_prefix("status ")?.parse::<u8>().ok()?;
     let (words, line) = given.split_once(" | ")?;

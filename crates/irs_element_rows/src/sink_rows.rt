@@ -1,5 +1,5 @@
-//! The rows of sinks: each names a sink and steps with it, ` ; ` between them, and says what each put
-//! and each question among the steps gives.
+//! The rows of sinks: each names a sink and steps with it, ` ; ` between them. It says what each
+//! write and each question among the steps gives.
 use crate::answers::Answers;
 use crate::told::Told;
 use irs_outside::{MemSink, PutFailed, Sink, SureSink};
@@ -9,7 +9,7 @@ use std::alloc::Global;
 /// A sink that is tried.
 #[derive(Drop)]
 enum Tried {
-    /// `memory ROOM`: a sink in memory, with room for so many bytes.
+    /// `memory ROOM`: a sink in memory, with room for ROOM bytes.
     Memory(MemSink),
     /// `kept ROOM`: one that keeps the first bytes, over a sink in memory.
     Kept(Kept<MemSink>),
@@ -20,9 +20,9 @@ enum Tried {
 /// A step with a sink.
 #[derive(Clone, Copy)]
 enum Step<'a> {
-    /// `fail CALL`: that put, counted from 1, is to fail.
+    /// `fail CALL`: that write, counted from 1, is to fail.
     Fail { call: u32 },
-    /// `put TIMES TEXT`: one put, of the text so often.
+    /// `put TIMES TEXT`: one write, of the text that number of times.
     Put { times: usize, text: &'a str },
     /// `bytes`: what the sink has.
     Bytes,
@@ -94,7 +94,7 @@ impl Tried {
         }
     }
 
-    // Puts a text so often, and tells whether all was put.
+    // Writes a text a number of times, and reports whether all was written.
     fn tell_put(&mut self, told: &mut Told, alloc: Global, text: &str, times: usize) -> Option<()> {
         let whole = text.repeat(alloc, times).ok()?;
         told.text(match self.put(whole.as_bytes()) {
@@ -104,7 +104,7 @@ impl Tried {
         Some(())
     }
 
-    // Takes the step of a text: a put tells whether all was put, a question its answer.
+    // Takes the step of a text: a write reports whether all was written, a question its answer.
     fn step(&mut self, answers: &mut Answers, alloc: Global, text: &str) -> Option<()> {
         match step_of(text)? {
             Step::Fail { call } => self.fail_at(call)?,
@@ -125,7 +125,7 @@ impl Tried {
     }
 }
 
-/// Tells what the puts and the questions among the steps with a sink give.
+/// Reports what the writes and the questions among the steps with a sink give.
 pub fn tell_sinks(told: &mut Told, alloc: Global, name: &str, steps: &str) -> Option<()> {
     let mut sink = sink_of(alloc, name)?;
     sink.tell_steps(told, alloc, steps)

@@ -144,7 +144,7 @@ impl Tell for FixTerms {
     }
 }
 
-/// Tells the lines of a swap.
+/// Reports the lines of a swap.
 pub fn tell_swap(told: &mut Told, swap: &Swap) {
     let mut lines = Lines::new(told, swap.streams.len());
     for stream in swap.streams.as_slice() {

@@ -5,7 +5,7 @@ use irs_audit::{FLOW_NAMES, FLOW_ROWS, PERIOD_NAMES, PERIOD_ROWS};
 use irs_elements::{Choice, Count, Kind, Leaf, Row};
 use irs_read::{NAMES, ROWS, SWAP_NAMES, SWAP_ROWS};
 
-/// At most so many rows stand above another one, below the first.
+/// The most rows above another one, below the first.
 const MOST_ABOVE: usize = 7;
 
 /// A table: its rows, and the name of each.
@@ -47,7 +47,7 @@ fn leaf_text(leaf: Leaf) -> &'static str {
 }
 
 impl Table<'_> {
-    // The row that is so many levels above another one; above the first, 0, is the first.
+    // The row that is a number of levels above another one; above the first, 0, is the first.
     fn above(self, place: usize, levels: usize) -> usize {
         let mut above = place;
         for _ in 0..levels {
@@ -144,7 +144,7 @@ fn tell_table(told: &mut Told, name: &str, rows: &[Row], names: &[&'static str])
     }
 }
 
-/// Tells the table of a swap, that of a stream, that of cash flows and that of their calculation
+/// Reports the table of a swap, that of a stream, that of cash flows and that of their calculation
 /// periods.
 pub fn tell_tables(told: &mut Told) {
     tell_table(told, "# the elements of a swap", &SWAP_ROWS, &SWAP_NAMES);

@@ -1,7 +1,7 @@
 //! How many rows were run, and how many of them were met.
 use std::io;
 
-/// How many rows were run since the last remark, and of how many the line was told.
+/// How many rows were run since the last remark, and of how many the line was reported.
 #[derive(Clone, Copy)]
 pub struct Tally {
     rows: u32,

@@ -1,27 +1,27 @@
-//! What is told of a row.
+//! What is reported of a row.
 use irs_base::{Day, civil_of};
 use itoa::{Buffer, Integer};
 use std::fmt;
 use std::fmt::{Debug, Write};
 
-/// What is told of a row, line by line: it is compared with the wanted line as it comes, or printed.
-/// Nothing of it is kept, so nothing of it can fail.
+/// What is reported of a row, line by line: it is compared with the wanted line as it comes, or
+/// printed. Nothing of it is kept, so nothing of it can fail.
 #[derive(Drop)]
 pub struct Told<'a> {
-    /// The line that has to be told.
+    /// The line that has to be reported.
     line: &'a str,
-    /// What of it is still to come; none once what is told has departed from it.
+    /// What of it is still to come; none once what is reported has departed from it.
     rest: Option<&'a str>,
-    /// Whether the line was told.
+    /// Whether the line was reported.
     is_told: bool,
-    /// Where to print what is told, if anywhere.
+    /// Where to print what is reported, if anywhere.
     echo: Option<&'a HostRuntime>,
     /// Whether all was printed that was to be.
     is_printed: bool,
 }
 
 impl<'a> Told<'a> {
-    /// What is told is compared with this line.
+    /// What is reported is compared with this line.
     pub fn wanted(line: &'a str) -> Told<'a> {
         Told {
             line,
@@ -32,7 +32,7 @@ impl<'a> Told<'a> {
         }
     }
 
-    /// What is told is printed.
+    /// What is reported is printed.
     pub fn printed(rt: &'a HostRuntime) -> Told<'a> {
         Told {
             line: "",
@@ -43,7 +43,7 @@ impl<'a> Told<'a> {
         }
     }
 
-    /// Whether the wanted line is among those that were told.
+    /// Whether the wanted line is among those that were reported.
     pub fn is_told(&self) -> bool {
         self.is_told
     }

@@ -1,4 +1,4 @@
-//! How the values of swaps and cash flows are told.
+//! How the values of swaps and cash flows are reported.
 use crate::told::Told;
 use irs_audit::StatedFraction;
 use irs_base::{Broken, Day, Dec, Place};
@@ -6,9 +6,9 @@ use irs_terms::{
     AdjustableDate, Adjustments, Centers, Currency, Frequency, Offset, StepValues, StubRate,
 };
 
-/// A value that can be told.
+/// A value that can be reported.
 pub trait Tell {
-    /// Tells the value, as a part of a line.
+    /// Reports the value, as a part of a line.
     fn tell(&self, told: &mut Told);
 }
 
@@ -66,7 +66,7 @@ impl Tell for Offset {
     }
 }
 
-/// The names of the centres, or what stands in their place, a space before each.
+/// The names of the centres, a space before each, or ` absent` or ` dangling`.
 impl Tell for Centers {
     fn tell(&self, told: &mut Told) {
         match self {

@@ -1,7 +1,7 @@
 //! The words of a command line.
 use std::alloc::Global;
 
-/// What stands between the spaces of a line.
+/// The texts between the spaces of a line.
 pub fn words_of(alloc: Global, line: &str) -> Option<Vec<String>> {
     let mut words = Vec::new(alloc);
     for word in line.split(' ') {

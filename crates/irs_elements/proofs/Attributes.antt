@@ -32,6 +32,7 @@ no_attribute_is_odd d names none found =
 
 -- where no name passes the first test or fails the second, none passes the first, and none fails both
 module _ (P Q : List ℕ → Bool) where
+  -- no name passes the first test, and none fails both
   abbrev IsPlain : List (List ℕ) → Type 0
   IsPlain names = (list_any P names ≡ false) × (list_any (λ name. not (P name || Q name)) names ≡ false)
 
@@ -41,6 +42,7 @@ module _ (P Q : List ℕ → Bool) where
   plain_name false false rest e = absurd cc
   plain_name true q rest e = absurd cc
 
+  -- names of which none passes the first test or fails the second are plain
   pub plain_names : (names : List (List ℕ)) → list_any (λ name. P name || not (Q name)) names ≡ false → IsPlain names
   plain_names [] e = (refl, refl)
   plain_names (name ∷ names) e =

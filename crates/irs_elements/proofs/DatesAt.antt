@@ -79,6 +79,7 @@ from_day s d day p =
     (true_both (int_le d last_day) (bytes_eq s (day_text d)) (is_int_le d last_day day.1)
     ((bytes_eq-Decides s (day_text d)).1 (is_its_text s d day p)))
 
+-- the text spells the day in the plain form, and the day is in range
 abbrev Plain : List ℕ → ℤ → Type 0
 Plain s d = IsDay d × IsPlainDate s d
 
@@ -94,6 +95,7 @@ plain_exact s = plain_tested s (is_text_of s (named_day s)) refl
 
 -- ---- a last Z
 
+-- the text spells the day, and the day is in range
 abbrev Dated : List ℕ → ℤ → Type 0
 Dated s d = IsDay d × IsDateText s d
 

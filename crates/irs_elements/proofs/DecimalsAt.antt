@@ -1,4 +1,4 @@
--- The function of a decimal's text gives the number that the text stands for.
+-- The function of a decimal's text gives the number that the text spells.
 use Rattle.irs_base.proofs.DecimalLemmas.{bare_none, digits_true, minus_none, not_parts, not_zeros, one_decimal}
 use Rattle.irs_base.proofs.DecimalLemmas.{plus_none, true_digits, unsigned_is}
 use Rattle.irs_base.specs.Decimals.{AreParts, DecText, bare, plus, minus, IsCut, IsUnsigned, is_digit, is_zero}
@@ -26,6 +26,7 @@ cut_one c cs w f false e h = record {
   ];
 }
 
+-- a text is cut at its first point
 pub cut_is : (s : List ℕ) → IsCut s (before_point s) (behind_point s)
 cut_is [] = record { no_point = refl; is = inl (refl, refl) }
 cut_is (c ∷ cs) = cut_one c cs (before_point cs) (behind_point cs) (c == 46) refl (cut_is cs)
@@ -42,6 +43,7 @@ is_short n e = grind (arith, nat_tests)
 short_is : (n : ℕ) → n ≤ 18 → nat_le n 18 ≡ true
 short_is n h = grind (arith, nat_tests)
 
+-- texts that pass the test are the parts of a decimal
 pub to_parts : (w f : List ℕ) → are_parts w f ≡ true → AreParts w f
 to_parts w f e =
     let a = both_true (list_all is_digit w) (list_all is_digit f
@@ -50,6 +52,7 @@ to_parts w f e =
     let c = both_true (nat_lt 0 (length w + length f)) (nat_le (length w) 18) b.1 in
     (digits_true w a.0, digits_true f b.0, is_some (length w + length f) c.0, is_short (length w) c.1)
 
+-- the parts of a decimal pass the test
 pub from_parts : (w f : List ℕ) → AreParts w f → are_parts w f ≡ true
 from_parts w f p =
     true_both (list_all is_digit w) (list_all is_digit f && (nat_lt 0 (length w + length f) && nat_le (length w) 18))
@@ -70,6 +73,7 @@ tested s p false b ea eb =
     λ v u. not_parts s (before_point s) (behind_point s) p v (cut_is s)
     (λ h. true≢false (sym (from_parts (before_point s) (behind_point s) h) ∙ ea)) u
 
+-- the function gives the unsigned number that the text spells, and none where it spells none
 pub unsigned_exact : (s : List ℕ) (p : ℕ) → Exact (IsUnsigned s p) (unsigned_at p s)
 unfolding unsigned_at
 unsigned_exact s p = tested s p _ _ refl refl
@@ -115,12 +119,13 @@ empty_none : (p n : ℕ) → IsUnsigned [] p n → ⊥
 unfolding unsigned_at
 empty_none p n u = unsigned_exact [] p n u
 
--- the text stands for the number that the function gives, and for none where it gives none
+-- the text spells the number that the function gives, and none where it gives none
 pub dec_exact : (s : List ℕ) (p : ℕ) → Exact (DecText s p) (dec_at p s)
 unfolding dec_at
 dec_exact [] p = λ v d. bare_none [] p v (λ rest e. cc) (λ rest e. cc) (empty_none p) d
 dec_exact (c ∷ cs) p = signed c cs p _ _ refl refl
 
+-- a reader that gives what is spelled agrees with the function
 pub dec_is : (s : List ℕ) (p : ℕ) (r : Option ℤ) → IfSome r (DecText s p) → IfNone r ((v : ℤ) → DecText s p v → ⊥)
     → r ≡ dec_at p s
 dec_is s p r some none =

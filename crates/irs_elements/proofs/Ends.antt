@@ -4,6 +4,6 @@ use Rattle.irs_elements.specs.declared.table.Row.{Row}
 use Rattle.std.proofs.Common.{◌≡◌, ℕ, ◌<◌, List, length, Some}
 use Rattle.std.specs.Prelude.{slice_get}
 
--- each of the first n rows stands before the end of its parent's members
+-- each of the first n rows is before the end of its parent's members
 abbrev pub HoldTo : List Row → List ℕ → ℕ → Type 0
 HoldTo rows ends n = (c : ℕ) (row : Row) → slice_get rows c ≡ Some row → c < n → c < end_at (length rows) ends row.parent

@@ -63,6 +63,7 @@ in_range v h =
     let high : int_le (pos v) (pos most_notional) ≡ true = grind (arith, ints, h) in
     rw (low, high) refl
 
+-- a notional of a few digits and no point is 10000 times their number
 pub few_is : (s : List ℕ) (n : ℕ) → few_digits_at s ≡ Some n → Some (pos (10000 * n)) ≡ notional_at s
 few_is s n e =
     let few = by_tests _ _ n s refl refl e in

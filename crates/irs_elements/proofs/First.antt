@@ -26,6 +26,7 @@ module _ (F : ℕ → Broken → Type 0) where
   abbrev pub Below : ℕ → Broken → Type 0
   Below n f = (c : ℕ) × ((c < n) × F c f)
 
+  -- before the first row there is no fault
   pub first_zero : IsFirst (Below 0) None
   first_zero = λ f (c, (h, x)). absurd (omega arith)
 
@@ -37,6 +38,7 @@ module _ (F : ℕ → Broken → Type 0) where
   joined n f (inl (c, (h, x))) = (c, (omega arith, x))
   joined n f (inr x) = (n, (omega arith, x))
 
+  -- with one row more the first fault is the earlier of two
   pub first_more : (n : ℕ) (a b : Option Broken) → IsFirst (Below n) a → IsFirst (F n) b
       → IsFirst (Below (n + 1)) (earlier a b)
   first_more n a b p q = first_same _ _ _ (joined n) (split n) (first_or _ _ _ _ p q)
@@ -47,6 +49,7 @@ module _ (F : ℕ → Broken → Type 0) where
   narrowed : (n : ℕ) → ((f : Broken) → F n f → ⊥) → (f : Broken) → Below (n + 1) f → Below n f
   narrowed n never f x = elim (split n f x) [ inl y ↦ y | inr y ↦ absurd (never f y) ]
 
+  -- a row without a fault changes nothing
   pub first_skip : (n : ℕ) (a : Option Broken) → IsFirst (Below n) a → ((f : Broken) → F n f → ⊥)
       → IsFirst (Below (n + 1)) a
   first_skip n a p never = first_same _ _ _ (widened n) (narrowed n never) p

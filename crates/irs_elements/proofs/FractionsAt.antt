@@ -22,9 +22,11 @@ use Rattle.std.proofs.lemmas.Nat.{pow-add}
 
 -- ---- the parts of a text
 
+-- the front of a text that is cut is the text before its point
 pub whole_is : (text w f : List ℕ) → IsCut text w f → w ≡ before_point text
 whole_is text w f h = (cut_once text w f (before_point text) (behind_point text) h (cut_is text)).0
 
+-- the rest of a text that is cut is the text after its point
 pub decimals_are : (text w f : List ℕ) → IsCut text w f → f ≡ behind_point text
 decimals_are text w f h = (cut_once text w f (before_point text) (behind_point text) h (cut_is text)).1
 
@@ -33,6 +35,7 @@ decimals_are text w f h = (cut_once text w f (before_point text) (behind_point t
 topped : (x a r t : ℕ) → x ≤ 9 → r < a → t ≡ (10 * 0 + x) * a + r → t < 10 * a
 topped x a r t h l e = let m : a * x ≤ a * 9 = mul-le-mul_left a h in omega (arith, m, e, l)
 
+-- n digits spell a number below 10^n
 pub below_power : (ds : List ℕ) → AreDigits ds → number_of ds < 10 ^ length ds
 below_power [] h = omega arith
 below_power (c ∷ cs) h =
@@ -179,6 +182,7 @@ stated_is text w f b p q e =
     ∙ ap (λ (l : List ℕ). if are_parts l f then Some (fraction_of l f) else None) p
     ∙ ap (λ (l : List ℕ). if are_parts (before_point text) l then Some (fraction_of (before_point text) l) else None) q
 
+-- the parts of a text give the fraction of the text
 pub fraction_is : (text w f : List ℕ) → IsCut text w f → AreParts w f → Some (fraction_of w f) ≡ fraction_at text
 fraction_is text w f cut parts =
     stated_is text w f true (whole_is text w f cut) (decimals_are text w f cut) (sym (from_parts w f parts))
@@ -197,6 +201,7 @@ no_fraction text none =
 
 -- ---- what the digits of both parts spell
 
+-- the units are those of the digits that are kept, and the carry
 pub units_are : (w k : List ℕ) (m c d : ℕ) → m ≡ number_after (number_of w) (padded (length k) k) → c ≡ d
     → m + c ≡ number_after (number_after 0 w) k + d
 units_are w k m c d parts carry = ap₂ ◌+◌ (parts ∙ ap (number_after (number_of w)) (padded_whole k)) carry

@@ -1,4 +1,4 @@
--- The rows of an object's members stand behind its own row, so those before it need not be looked at.
+-- The rows of an object's members come after its own row, so those before it need not be looked at.
 use Rattle.std.proofs.Common.{◌≡◌, ℕ, zero, suc, ◌+◌, ◌<◌, ◌≤◌, nat_lt, Bool, true, false, ◌&&◌, ◌||◌, ◌==◌, List, []}
 use Rattle.std.proofs.Common.{◌∷◌, length, take, Some, refl, sym, subst, arith}
 use Rattle.std.specs.Prelude.{slice_get}
@@ -48,6 +48,7 @@ more_fail p (suc n) k (x ∷ xs) row at before fails =
     let both = or_false (p (k, x)) (list_any p (take n (enumerate_from (k + 1) xs))) before in
     rw both.0 (more_fail p n (k + 1) xs row at both.1 (same_number p k n row false fails))
 
+-- a row that fails the test changes nothing
 pub one_more : (p : Test) (n : ℕ) (rows : List Row) (row : Row) → slice_get rows n ≡ Some row
     → list_any p (take n (enumerate_from 0 rows)) ≡ false → p (n, row) ≡ false
     → list_any p (take (n + 1) (enumerate_from 0 rows)) ≡ false
@@ -70,6 +71,7 @@ found p (suc n) k (x ∷ xs) row at passes =
     or_true (p (k, x)) (list_any p (enumerate_from (k + 1) xs))
     (found p n (k + 1) xs row at (same_number p k n row true passes))
 
+-- a row that passes the test is found
 pub found_at : (p : Test) (n : ℕ) (rows : List Row) (row : Row) → slice_get rows n ≡ Some row → p (n, row) ≡ true
     → list_any p (enumerate_from 0 rows) ≡ true
 found_at p n rows row at passes =

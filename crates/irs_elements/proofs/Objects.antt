@@ -4,6 +4,7 @@ use Rattle.serde_json.specs.Data.{Data, null, boolean, number, string, array, ob
 use Rattle.serde_json.specs.Find.{as_object}
 use Rattle.irs_json.specs.Names.{names_in, names_of}
 
+-- what is no object has no names
 pub no_object : (d : Data) → is_some (as_object d) ≡ false → names_of d ≡ None
 no_object null e = refl
 no_object (boolean b) e = refl
@@ -12,6 +13,7 @@ no_object (string s) e = refl
 no_object (array ds) e = refl
 no_object (object ms) e = cc
 
+-- an object has names
 pub an_object : (d : Data) → is_some (as_object d) ≡ true → (ns : List (List ℕ)) × (names_of d ≡ Some ns)
 an_object null e = cc
 an_object (boolean b) e = cc

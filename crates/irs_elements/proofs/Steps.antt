@@ -37,6 +37,7 @@ pub first_of_rule : {A : Type 0} (at : A → Broken) (o : Option A)
 first_of_rule at None = λ f (k, (e, is)). cc
 first_of_rule at (Some k) = first_one _ (at k) (k, (refl, refl)) (λ g (j, (e, is)). cc)
 
+-- a fault that depends on a test is the first where the test is true
 pub first_if : (f : Broken) (b : Bool) → IsFirstBroken (λ g. (b ≡ true) × (g ≡ f)) (fault_if b f)
 first_if f true = first_one _ f (refl, refl) (λ g (t, is). is)
 first_if f false = λ g (t, is). cc
@@ -77,7 +78,7 @@ module _ (rows : List Row) (names : List (List ℕ)) (stream : ℕ) where
   from_shape r i ch d f (odd _ _ _ _ e) = inr (inl (e, refl))
   from_shape r i ch d f (no_href _ _ _ _ e) = inr (inr (e, refl))
 
-  -- one that stands among the names stands among those of an object
+  -- a name of the list is a name of an object with that list
   unknown_of : (r i : ℕ) (ch : Choice) (d : Data) (o : Option (List (List ℕ))) → names_of d ≡ o
       → list_any (is_unknown rows names r) (names_among o) ≡ true
       → ShapeFault rows names stream r ch i d (place rows stream K4 r i)
@@ -90,6 +91,7 @@ module _ (rows : List Row) (names : List (List ℕ)) (stream : ℕ) where
   to_shape r i ch d f (inr (inl (e, is))) = rw is (odd r i ch d e)
   to_shape r i ch d f (inr (inr (e, is))) = rw is (no_href r i ch d e)
 
+  -- the first fault of an object beside those of its members
   abbrev pub shape_answer : ℕ → ℕ → Choice → Data → Option Broken
   shape_answer r i ch d =
       earlier_broken (earlier_broken (fault_if (list_any (is_unknown rows names r) (names_among (names_of d)))
@@ -97,6 +99,7 @@ module _ (rows : List Row) (names : List (List ℕ)) (stream : ℕ) where
       (earlier_broken (fault_if (has_odd d) (place rows stream K3 r i))
       (fault_if (lacks_href ch d) (place rows stream K2 r i)))
 
+  -- that answer is the first fault of the object's shape
   pub shape_first : (r i : ℕ) (ch : Choice) (d : Data)
       → IsFirstBroken (ShapeFault rows names stream r ch i d) (shape_answer r i ch d)
   shape_first r i ch d =
@@ -145,6 +148,7 @@ module _ (rows : List Row) (names : List (List ℕ)) (stream : ℕ) where
   to_object r i ch d ns h f (inl s) = shape r i ch d ns f h s
   to_object r i ch d ns h f (inr (c, (row, (m, u)))) = under r i c ch d ns f row h m u
 
+  -- the first fault of an object is the earlier of its shape's and its members'
   pub object_first : (r i : ℕ) (ch : Choice) (d : Data) (ns : List (List ℕ)) (a b : Option Broken)
       → names_of d ≡ Some ns
       → IsFirstBroken (ShapeFault rows names stream r ch i d) a → IsFirstBroken (MemberFault rows names stream r i d) b
@@ -158,14 +162,14 @@ module _ (rows : List Row) (names : List (List ℕ)) (stream : ℕ) where
   abbrev pub RowFault : ℕ → ℕ → Data → ℕ → Broken → Type 0
   RowFault r i d c f = (row : Row) × (IsMember rows names r c row × FaultUnder rows names stream c row i d f)
 
-  -- no member of row r stands before it
+  -- no member of row r is before it
   pub none_before : (r i : ℕ) (d : Data) → IsFirstBroken (Below (RowFault r i d) r) None
   none_before r i d = λ f (c, (h, (row, (m, u)))). absurd (omega (arith, h, m.later))
 
   to_members : (r i n : ℕ) (d : Data) (f : Broken) → Below (RowFault r i d) n f → MemberFault rows names stream r i d f
   to_members r i n d f (c, (h, (row, (m, u)))) = (c, (row, (m, u)))
 
-  -- each member of row r stands before row n
+  -- each member of row r is before row n
   abbrev pub AreBefore : ℕ → ℕ → Type 0
   AreBefore r n = (c : ℕ) (row : Row) → IsMember rows names r c row → c < n
 
@@ -181,6 +185,7 @@ module _ (rows : List Row) (names : List (List ℕ)) (stream : ℕ) where
       → Below (RowFault r i d) n f
   from_members r i n d before f (c, (row, (m, u))) = (c, (before c row m, (row, (m, u))))
 
+  -- the first fault of all rows is that of the members
   pub members_first : (r i n : ℕ) (d : Data) (a : Option Broken) → AreBefore r n
       → IsFirstBroken (Below (RowFault r i d) n) a
       → IsFirstBroken (MemberFault rows names stream r i d) a
@@ -194,12 +199,14 @@ module _ (rows : List Row) (names : List (List ℕ)) (stream : ℕ) where
   from_row r i c d row m f (row', (m', u)) =
       subst (λ (x : Row). FaultUnder rows names stream c x i d f) (one_row c row' row m'.found m.found) u
 
+  -- the first fault under a row is that of the row
   pub row_first : (r i c : ℕ) (d : Data) (row : Row) (a : Option Broken) → IsMember rows names r c row
       → IsFirstBroken (FaultUnder rows names stream c row i d) a → IsFirstBroken (RowFault r i d c) a
   row_first r i c d row a m p = first_same _ _ _ (λ f u. (row, (m, u))) (from_row r i c d row m) p
 
   -- ---- a member
 
+  -- a member that must occur and is absent breaks K2
   pub under_missing : (c i : ℕ) (row : Row) (d : Data) → is_element row.kind ≡ true → is_required row.count ≡ true
       → child_of (name_at names c) d ≡ None
       → IsFirstBroken (FaultUnder rows names stream c row i d)
@@ -213,6 +220,7 @@ module _ (rows : List Row) (names : List (List ℕ)) (stream : ℕ) where
       only c i row d ab g (too_many _ _ _ _ m el h t) = cc
       only c i row d ab g (inside _ _ j _ _ m x _ el h le at f) = cc
 
+  -- a member that may be absent, and is, breaks nothing
   pub under_absent : (c i : ℕ) (row : Row) (d : Data)
       → ((is_element row.kind ≡ true) → is_required row.count ≡ true → ⊥) → child_of (name_at names c) d ≡ None
       → IsFirstBroken (FaultUnder rows names stream c row i d) None
@@ -225,6 +233,7 @@ module _ (rows : List Row) (names : List (List ℕ)) (stream : ℕ) where
       none c i row d free ab g (too_many _ _ _ _ m el h t) = cc
       none c i row d free ab g (inside _ _ j _ _ m x _ el h le at f) = cc
 
+  -- a member that is out of the profile breaks K5
   pub under_refused : (c i : ℕ) (row : Row) (d m : Data) → is_refused row.kind ≡ true
       → child_of (name_at names c) d ≡ Some m
       → IsFirstBroken (FaultUnder rows names stream c row i d) (Some (place rows stream K5 row.parent i))
@@ -238,6 +247,7 @@ module _ (rows : List Row) (names : List (List ℕ)) (stream : ℕ) where
       only c i row d m nel ab g (too_many _ _ _ _ m' el h t) = cc
       only c i row d m nel ab g (inside _ _ j _ _ m' x _ el h le at f) = cc
 
+  -- a member that is passed over breaks nothing
   pub under_passed : (c i : ℕ) (row : Row) (d : Data) → is_element row.kind ≡ false → is_refused row.kind ≡ false
       → IsFirstBroken (FaultUnder rows names stream c row i d) None
   under_passed c i row d nel nrf = none c i row d nel nrf
@@ -249,6 +259,7 @@ module _ (rows : List Row) (names : List (List ℕ)) (stream : ℕ) where
       none c i row d nel nrf g (too_many _ _ _ _ m' el h t) = cc
       none c i row d nel nrf g (inside _ _ j _ _ m' x _ el h le at f) = cc
 
+  -- a member that occurs too often breaks K7
   pub under_many : (c i : ℕ) (row : Row) (d m : Data) → is_element row.kind ≡ true → is_refused row.kind ≡ false
       → child_of (name_at names c) d ≡ Some m
       → most row.count < length (items_of m)
@@ -264,6 +275,7 @@ module _ (rows : List Row) (names : List (List ℕ)) (stream : ℕ) where
       only c i row d m nrf h t g (inside _ _ j _ _ m' x _ el h' le at f) = let same : m' ≡ m = cc in
           let le' : length (items_of m) ≤ most row.count = rw (sym same) le in absurd (omega arith)
 
+  -- a member that occurs as often as it may breaks what its values break
   pub under_lawful : (c i : ℕ) (row : Row) (d m : Data) (a : Option Broken) → is_element row.kind ≡ true
       → is_refused row.kind ≡ false → child_of (name_at names c) d ≡ Some m
       → length (items_of m) ≤ most row.count
@@ -285,9 +297,11 @@ module _ (rows : List Row) (names : List (List ℕ)) (stream : ℕ) where
 
   -- ---- the values of a member
 
+  -- a fault of the j-th value of a member
   abbrev pub ItemFault : ℕ → Kind → (ℕ → ℕ) → List Data → ℕ → Broken → Type 0
   ItemFault c kind at ds j f = (x : Data) × ((slice_get ds j ≡ Some x) × FaultAt rows names stream c kind (at j) x f)
 
+  -- the first fault of all values is that of the member
   pub among_first : (c : ℕ) (kind : Kind) (at : ℕ → ℕ) (ds : List Data) (a : Option Broken)
       → IsFirstBroken (Below (ItemFault c kind at ds) (length ds)) a
       → IsFirstBroken (FaultAmong rows names stream c kind at ds) a
@@ -295,6 +309,7 @@ module _ (rows : List Row) (names : List (List ℕ)) (stream : ℕ) where
       first_same _ _ a (λ f (j, (h, (x, (e, f')))). (j, (x, (e, f'))))
       (λ f (j, (x, (e, f'))). (j, (slice_get_within ds j x e, (x, (e, f'))))) p
 
+  -- the first fault of a value is that of its place
   pub item_first : (c : ℕ) (kind : Kind) (at : ℕ → ℕ) (j : ℕ) (ds : List Data) (x : Data) (a : Option Broken)
       → slice_get ds j ≡ Some x
       → IsFirstBroken (FaultAt rows names stream c kind (at j) x) a → IsFirstBroken (ItemFault c kind at ds j) a
@@ -304,6 +319,7 @@ module _ (rows : List Row) (names : List (List ℕ)) (stream : ℕ) where
 
   -- ---- steps of the two loops
 
+  -- with one member more the first fault is the earlier of two
   pub member_step : (r i c : ℕ) (d : Data) (row : Row) (a b s : Option Broken) → slice_get rows c ≡ Some row
       → row.parent ≡ r → r < c
       → s ≡ earlier_broken a b → IsFirstBroken (Below (RowFault r i d) c) a
@@ -312,6 +328,7 @@ module _ (rows : List Row) (names : List (List ℕ)) (stream : ℕ) where
       first_is _ _ s e (first_more (RowFault r i d) c a b p
       (row_first r i c d row b (record { found = found; parent = up; later = later }) q))
 
+  -- a row that is no member changes nothing
   pub other_step : (r i c : ℕ) (d : Data) (row : Row) (a s : Option Broken) → slice_get rows c ≡ Some row
       → (row.parent ≡ r → r < c → ⊥)
       → s ≡ a → IsFirstBroken (Below (RowFault r i d) c) a → IsFirstBroken (Below (RowFault r i d) (c + 1)) s
@@ -319,7 +336,7 @@ module _ (rows : List Row) (names : List (List ℕ)) (stream : ℕ) where
       first_is _ _ s e (first_skip (RowFault r i d) c a p (λ f (row', (m, u)). let same : row' ≡ row =
       one_row c row' row m.found found in apart (rw (sym same) m.parent) m.later))
 
-  -- a leaf that stands once and breaks no rule
+  -- a leaf that occurs once and breaks no rule
   no_own_rule : (o : Option Rule) (k : Rule) → is_none o ≡ true → o ≡ Some k → ⊥
   no_own_rule None k none e = cc
   no_own_rule (Some x) k none e = cc
@@ -376,6 +393,7 @@ module _ (rows : List Row) (names : List (List ℕ)) (stream : ℕ) where
   none_under c i row d f some right (inside _ _ j _ _ m x _ el h le at q) =
       right_inside c _ j row.kind m x f (rw (sym h) right) at q
 
+  -- a member that is such a leaf changes nothing
   pub right_step : (r i c : ℕ) (d : Data) (row : Row) (a s : Option Broken) → slice_get rows c ≡ Some row
       → is_right_leaf names c row d ≡ true
       → s ≡ a → IsFirstBroken (Below (RowFault r i d) c) a → IsFirstBroken (Below (RowFault r i d) (c + 1)) s
@@ -388,6 +406,7 @@ module _ (rows : List Row) (names : List (List ℕ)) (stream : ℕ) where
         later = m.later;
       }) f (row', (m, u)))))
 
+  -- with one value more the first fault is the earlier of two
   pub item_step : (c : ℕ) (kind : Kind) (at : ℕ → ℕ) (j i : ℕ) (vs : List Value) (v : Value) (a b s : Option Broken)
       → slice_get vs j ≡ Some v → i ≡ at j
       → s ≡ earlier_broken a b → IsFirstBroken (Below (ItemFault c kind at (map view vs)) j) a

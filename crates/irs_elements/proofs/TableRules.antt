@@ -19,6 +19,7 @@ use Rattle.std.specs.List.{list_any}
 use Rattle.std.specs.Prelude.{is_some}
 use Rattle.std.specs.Str.{bytes_eq}
 
+-- the rule, if there is one, is one of the tables
 abbrev Told : Option Rule → Type 0
 Told None = Unit {0}
 Told (Some k) = IsOfTables k
@@ -66,6 +67,7 @@ module _ (rows : List Row) (names : List (List ℕ)) (stream : ℕ) where
   of_shape r i choice d f (unmet _ _ Neither _ _ e) = tt
 
   mutual
+    -- each rule that a value breaks is one of the tables
     pub of_table : (r i : ℕ) (kind : Kind) (d : Data) (f : Broken) → FaultAt rows names stream r kind i d f
         → IsOfTables f.rule
     of_table r i kind d f (own _ _ k _ _ e) = told (own_rule kind d) k e (of_own kind d)

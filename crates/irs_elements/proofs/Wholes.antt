@@ -18,6 +18,7 @@ both_digits : (w f : List ℕ) → AreDigits w → AreDigits f → AreDigits (w 
 both_digits [] f p q = q
 both_digits (c ∷ cs) f p q = (p.0, p.1, both_digits cs f p.2 q)
 
+-- more digits have a greater power of 10
 pub longer_power : (n m : ℕ) → n ≤ m → 10 ^ n ≤ 10 ^ m
 longer_power n m h = pow-le-pow_right {n = 10} (omega arith) {i = n} {j = m} h
 
@@ -71,5 +72,6 @@ by_test s z true e h =
     omega (arith, n, m)
 by_test s z false e h = cc
 
+-- a whole number that is read is below 10^10 in size
 pub whole_small : (s : List ℕ) (z : ℤ) → whole_at s ≡ Some z → unsigned_abs z < 10 ^ 10
 whole_small s z h = by_test s z (is_whole s) refl h

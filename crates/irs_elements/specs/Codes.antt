@@ -26,7 +26,7 @@ use Rattle.std.specs.Prelude.{ℕ, ◌+◌, ◌-◌, ◌*◌, nat_le, Bool, true
 use Rattle.std.specs.Prelude.{codes, if◌then◌else◌}
 use Rattle.std.specs.Str.{bytes_eq}
 
--- the value that stands beside the text in a list of codes
+-- the value beside the text in a list of codes
 abbrev pub among : {A : Type 0} → List (List ℕ × A) → List ℕ → Option A
 among [] s = None
 among (row ∷ rows) s = if bytes_eq s row.0 then Some row.1 else among rows s
@@ -113,7 +113,7 @@ day_roll_at (a ∷ b ∷ []) =
     if is_first_digit a && nat_le 48 b && nat_le b 57 then day_number_at (10 * (a - 48) + (b - 48)) else None
 day_roll_at (a ∷ b ∷ c ∷ rest) = None
 
--- the first of two values that stands
+-- the first of two values that is there
 abbrev pub either : {A : Type 0} → Option A → Option A → Option A
 either None b = b
 either (Some a) b = Some a

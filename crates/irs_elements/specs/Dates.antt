@@ -10,7 +10,7 @@ use Rattle.std.specs.Str.{bytes_eq}
 abbrev pub pair_at : List ℕ → ℕ → ℕ
 pair_at s i = 10 * (slice_index s i - 48) + (slice_index s (i + 1) - 48)
 
--- the day whose year, month and day stand where `YYYY-MM-DD` has them
+-- the day whose year, month and day are where `YYYY-MM-DD` has them
 abbrev pub named_day : List ℕ → ℤ
 named_day s = days_from_civil (pos (100 * pair_at s 0 + pair_at s 2)) (pair_at s 5) (pair_at s 8)
 

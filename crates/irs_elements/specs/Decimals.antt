@@ -1,33 +1,33 @@
--- The number that the text of a decimal stands for, as a function of the text.
+-- The number that the text of a decimal spells, as a function of the text.
 use Rattle.irs_base.specs.Decimals.{is_digit, is_zero, number_after, number_of, padded}
 use Rattle.std.specs.List.{list_all}
 use Rattle.std.specs.Prelude.{ℕ, ◌+◌, ◌-◌, ◌*◌, nat_lt, nat_le, Bool, ◌&&◌, ◌==◌, List, [], ◌∷◌, length, drop, ℤ, pos, neg_ℤ}
 use Rattle.std.specs.Prelude.{Option, Some, None, option_map, if◌then◌else◌}
 
--- what stands before the first point
+-- the text before the first point
 abbrev pub before_point : List ℕ → List ℕ
 before_point [] = []
 before_point (c ∷ cs) = if c == 46 then [] else c ∷ before_point cs
 
--- what stands behind the first point
+-- the text after the first point
 abbrev pub behind_point : List ℕ → List ℕ
 behind_point [] = []
 behind_point (c ∷ cs) = if c == 46 then cs else behind_point cs
 
--- digits before and behind the point, some in all, and at most 18 before it
+-- digits before and after the point, some in all, and at most 18 before it
 abbrev pub are_parts : List ℕ → List ℕ → Bool
 are_parts whole fraction =
     list_all is_digit whole
     && (list_all is_digit fraction && (nat_lt 0 (length whole + length fraction) && nat_le (length whole) 18))
 
--- in units of 10^-places; nothing but zeros stands past the places
+-- in units of 10^-places; past the places there are only zeros
 unfoldable pub unsigned_at : ℕ → List ℕ → Option ℕ
 unsigned_at places s =
     if are_parts (before_point s) (behind_point s)
     && list_all is_zero (drop places (behind_point s)) then Some
     (number_after (number_of (before_point s)) (padded places (behind_point s))) else None
 
--- the same behind an optional sign
+-- the same after an optional sign
 unfoldable pub dec_at : ℕ → List ℕ → Option ℤ
 dec_at places [] = None
 dec_at places (c ∷ cs) =
@@ -35,7 +35,7 @@ dec_at places (c ∷ cs) =
     (if c == 45 then option_map (λ n. neg_ℤ (pos n)) (unsigned_at places cs) else option_map pos
     (unsigned_at places (c ∷ cs)))
 
--- the number that a text of nothing but digits spells behind those of n
+-- the number that a text of nothing but digits spells after those of n
 abbrev pub digits_at : ℕ → List ℕ → Option ℕ
 digits_at n s = if list_all is_digit s then Some (number_after n s) else None
 

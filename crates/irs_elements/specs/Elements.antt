@@ -28,21 +28,21 @@ use Rattle.std.specs.Str.{bytes_eq}
 
 -- ---- counts
 
--- whether a member must stand
+-- whether a member must occur
 abbrev pub is_required : Count → Bool
 is_required One = true
 is_required Maybe = false
 is_required (OneTo n) = true
 is_required (UpTo n) = false
 
--- how often a member may stand
+-- how often a member may occur
 abbrev pub most : Count → ℕ
 most One = 1
 most Maybe = 1
 most (OneTo n) = n
 most (UpTo n) = n
 
--- the index of what stands at a member's j-th place, from 0, in an object with index i
+-- the index of the j-th value of a member, from 0, in an object with index i
 abbrev pub index_in : Count → ℕ → ℕ → ℕ
 index_in One i j = i
 index_in Maybe i j = i
@@ -99,7 +99,7 @@ lacks_href Reference d = is_none (child_of (codes "@href") d)
 
 -- ---- places
 
--- the element at a place of the table of paths; a place past its end stands for the document
+-- the element at a place of the table of paths; a place past its end is the document
 abbrev pub elem_of : ℕ → ℕ
 elem_of place = if nat_lt place count then place else 0
 
@@ -108,7 +108,7 @@ abbrev pub elem_in : Option Row → ℕ
 elem_in None = 0
 elem_in (Some row) = elem_of row.place
 
--- the element at row r; a row past the table stands for the document
+-- the element at row r; a row past the table is the document
 abbrev pub elem_at : List Row → ℕ → ℕ
 elem_at rows r = elem_in (slice_get rows r)
 
@@ -121,14 +121,14 @@ place rows stream rule r index =
 abbrev pub fault_if : Bool → Broken → Option Broken
 fault_if b f = if b then Some f else None
 
--- two of a choice stand too often, which has no index; none is an absence
+-- two of a choice occur together, which has no index; none is an absence
 abbrev pub unmet_place : List Row → ℕ → ℕ → ℕ → Unmet → Broken
 unmet_place rows stream r i Both = place rows stream K7 r 0
 unmet_place rows stream r i Neither = place rows stream K2 r i
 
 -- ---- names
 
--- the names behind their references
+-- the names that the references lead to
 abbrev pub texts : List (Bor (List ℕ)) → List (List ℕ)
 texts names = map (λ n. n.now) names
 
@@ -147,7 +147,7 @@ module _ (names : List (List ℕ)) where
   abbrev pub name_at : ℕ → List ℕ
   name_at c = name_in (slice_get names c)
 
-  -- whether the member at row c stands in the object d
+  -- whether the object d has the member at row c
   abbrev pub stands : ℕ → Data → Bool
   stands c d = is_some (child_of (name_at c) d)
 
@@ -169,11 +169,11 @@ module _ (rows : List Row) (names : List (List ℕ)) where
   is_known r name =
       list_any (λ (c, row). nat_lt r c && row.parent == r && bytes_eq (name_at names c) name) (enumerate_from 0 rows)
 
-  -- a name that is no attribute's and stands in no row
+  -- a name that is no attribute's and that no row has
   abbrev pub is_unknown : ℕ → List ℕ → Bool
   is_unknown r name = not (is_attribute name || is_known r name)
 
-  -- a name that is an attribute's or stands in no row
+  -- a name that is an attribute's or that no row has
   abbrev pub is_apart : ℕ → List ℕ → Bool
   is_apart r name = is_attribute name || not (is_known r name)
 
@@ -191,34 +191,34 @@ are_one_right k [] = false
 are_one_right k (d ∷ []) = is_none (leaf_rule k (leaf_of d))
 are_one_right k (d ∷ e ∷ ds) = false
 
--- the same of what a member stands for
+-- the same of the values of a member
 abbrev pub is_one_right : LeafKind → Option Data → Bool
 is_one_right k None = false
 is_one_right k (Some m) = are_one_right k (items_of m)
 
--- whether a member of that kind is a leaf that stands once and breaks no rule
+-- whether a member of that kind is a leaf that occurs once and breaks no rule
 abbrev pub is_right : Kind → Option Data → Bool
 is_right (Object c) m = false
 is_right (Leaf k) m = is_one_right k m
 is_right Passed m = false
 is_right Refused m = false
 
--- whether the member at row c of the object d is such a leaf, and may stand
+-- whether the member at row c of the object d is such a leaf, and may occur
 abbrev pub is_right_leaf : List (List ℕ) → ℕ → Row → Data → Bool
 is_right_leaf names c row d = nat_lt 0 (most row.count) && is_right row.kind (child_of (name_at names c) d)
 
 -- ---- where the members of an object end
 
--- the row behind the last member as it is told; where none is, that behind the last of the rows
+-- the row after the last member, where the table says it, else the row after the last one
 abbrev pub end_in : ℕ → Option ℕ → ℕ
 end_in all None = all
 end_in all (Some end) = end
 
--- the row behind the last member of the object at row r, in a table of so many rows
+-- the row after the last member of the object at row r, in a table of `all` rows
 abbrev pub end_at : ℕ → List ℕ → ℕ → ℕ
 end_at all ends r = end_in all (slice_get ends r)
 
--- each row stands before the end of its parent's members
+-- each row is before the end of its parent's members
 abbrev pub EndsHold : List Row → List ℕ → Type 0
 EndsHold rows ends = (c : ℕ) (row : Row) → slice_get rows c ≡ Some row → c < end_at (length rows) ends row.parent
 
@@ -234,12 +234,12 @@ module _ (rows : List Row) (names : List (List ℕ)) (stream : ℕ) where
     -- it is a reference without `@href`
     no_href : (r i : ℕ) (choice : Choice) (d : Data) → lacks_href choice d ≡ true
         → ShapeFault r choice i d (place rows stream K2 r i)
-    -- both or neither of two members stand
+    -- both or neither of two members occur
     unmet : (r i : ℕ) (u : Unmet) (choice : Choice) (d : Data) → choice_unmet names choice d ≡ Some u
         → ShapeFault r choice i d (unmet_place rows stream r i u)
 
   mutual
-    -- the rules that a value breaks which stands at row r with index i
+    -- the rules that a value at row r with index i breaks
     pub data FaultAt : ℕ → Kind → ℕ → Data → Broken → Type 0 where
       -- by itself
       own : (r i : ℕ) (k : Rule) (kind : Kind) (d : Data) → own_rule kind d ≡ Some k
@@ -255,17 +255,17 @@ module _ (rows : List Row) (names : List (List ℕ)) (stream : ℕ) where
 
     -- those of the member at row c of the object d, which has index i
     pub data FaultUnder : ℕ → Row → ℕ → Data → Broken → Type 0 where
-      -- it must stand, and is absent
+      -- it must occur, and is absent
       missing : (c i : ℕ) (row : Row) (d : Data) → is_element row.kind ≡ true → is_required row.count ≡ true
           → child_of (name_at names c) d ≡ None
           → FaultUnder c row i d (place rows stream K2 c (absent_index row.count i))
-      -- it is out of the profile, and stands
+      -- it is out of the profile, and occurs
       refused : (c i : ℕ) (row : Row) (d m : Data) → is_refused row.kind ≡ true → child_of (name_at names c) d ≡ Some m
           → FaultUnder c row i d (place rows stream K5 row.parent i)
-      -- it stands too often
+      -- it occurs too often
       too_many : (c i : ℕ) (row : Row) (d m : Data) → is_element row.kind ≡ true → child_of (name_at names c) d ≡ Some m
           → most row.count < length (items_of m) → FaultUnder c row i d (place rows stream K7 c 0)
-      -- it stands as often as it may, and a rule is broken in what stands there
+      -- it occurs as often as it may, and one of its values breaks a rule
       inside : (c i j : ℕ) (row : Row) (d m x : Data) (f : Broken) → is_element row.kind ≡ true
           → child_of (name_at names c) d ≡ Some m
           → length (items_of m) ≤ most row.count → slice_get (items_of m) j ≡ Some x

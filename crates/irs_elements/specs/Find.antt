@@ -9,11 +9,11 @@ use Rattle.serde_json.specs.declared.value.Value.{Value}
 use Rattle.std.specs.Borrow.{Bor}
 use Rattle.std.specs.Prelude.{ℕ, List, [], Option, Some, None, option_map, option_and_then, slice_get}
 
--- the value behind a reference, if there is one
+-- the value that the reference leads to, if there is one
 abbrev pub seen : Option (Bor Value) → Option Data
 seen o = option_map (λ v. view v.now) o
 
--- an element that stands once: a value, or the first of an array
+-- an element that occurs once: a value, or the first of an array
 abbrev pub once : List ℕ → Data → Option Data
 once name d = option_and_then (λ m. slice_get (items_of m) 0) (child_of name d)
 
@@ -21,7 +21,7 @@ once name d = option_and_then (λ m. slice_get (items_of m) 0) (child_of name d)
 abbrev pub member : List ℕ → Option Data → Option Data
 member name o = option_and_then (once name) o
 
--- the values that a member stands for: its items where it is an array
+-- the values of a member: its items where it is an array
 abbrev pub values_of : Option Data → List Data
 values_of None = []
 values_of (Some m) = items_of m

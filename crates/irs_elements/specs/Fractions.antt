@@ -8,9 +8,8 @@ use Rattle.irs_elements.specs.Decimals.{are_parts, before_point, behind_point}
 use Rattle.std.specs.Prelude.{◌≡◌, ◌⊎◌, ℕ, ◌+◌, ◌*◌, ◌^◌, nat_le, List, [], ◌∷◌, ◌++◌, length, take, drop, pos}
 use Rattle.std.specs.Prelude.{Option, Some, None, if◌then◌else◌}
 
--- The text is digits with at most one point, at least one digit, at most 18 before the point. v has as
--- many places as the text has decimals, at most 12, and is the value, rounded Nearest where the text
--- has more.
+-- The text is digits with at most one point, at least one digit, and at most 18 before the point. Its value is v, with
+-- as many places as the text has decimals. Where it has more than 12, v has 12 and is rounded Nearest.
 pub record IsFraction (text : List ℕ) (v : Dec) : Type 0 where
   pub whole : List ℕ
   pub fraction : List ℕ
@@ -26,7 +25,7 @@ abbrev pub carried : List ℕ → ℕ
 carried [] = 0
 carried (c ∷ cs) = if nat_le 53 c then 1 else 0
 
--- the digits before the point and the decimals that are kept, and what is carried from those behind them
+-- the digits before the point and the decimals that are kept, and what is carried from those after them
 abbrev pub fraction_of : List ℕ → List ℕ → Dec
 fraction_of whole fraction = record {
   units = pos (number_after (number_of whole) (take most_places fraction) + carried (drop most_places fraction));

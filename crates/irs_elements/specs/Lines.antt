@@ -13,11 +13,11 @@ use Rattle.std.specs.Str.{bytes_eq}
 
 -- ---- what a table says
 
--- what stands at a path
+-- what is at a path
 pub data Form : Type 0 where
   -- an object
   object : Form
-  -- an object of which at most one, or exactly one, of the two members of these names stands
+  -- an object of which at most one, or exactly one, of the two members of these names occurs
   at_most_one : String → String → Form
   exactly_one : String → String → Form
   -- an object that names another by its `@href`
@@ -25,8 +25,7 @@ pub data Form : Type 0 where
   -- a leaf of that kind
   leaf : LeafKind → Form
 
--- the path as it is printed, the path of the object that the element is a member of, what stands
--- there and how often
+-- the path as it is printed, the path of the object that the element is a member of, what is there, and how often
 pub record Line : Type 0 where
   pub path : List ℕ
   pub above : List ℕ
@@ -38,8 +37,8 @@ pub record Others : Type 0 where
   pub above : String
   pub names : List String
 
--- a table: the object that all of it lies in, with the path that the lines continue, the elements, and
--- the members that are passed over unread and those that are out of the profile
+-- a table: the object that all of it lies in, with the path that the lines continue, and the elements. Apart are the
+-- members that are passed over unread and those that are out of the profile
 pub record Table : Type 0 where
   pub whole : String
   pub top : String
@@ -54,7 +53,7 @@ abbrev last_name_in : List ℕ → List ℕ → List ℕ
 last_name_in name [] = name
 last_name_in name (c ∷ p) = last_name_in (if c == 47 then p else name) p
 
--- the part of a path behind its last `/`
+-- the part of a path after its last `/`
 abbrev pub last_name : List ℕ → List ℕ
 last_name p = last_name_in p p
 
@@ -67,7 +66,7 @@ abbrev path_of_member : List ℕ → List ℕ → List ℕ
 path_of_member [] name = name
 path_of_member (c ∷ p) name = c ∷ p ++ 47 ∷ name
 
--- how many paths stand before p
+-- the number of paths before p
 abbrev pub place_of : List (List ℕ) → List ℕ → ℕ
 place_of [] p = 0
 place_of (q ∷ qs) p = elim (bytes_eq q p) [ true ↦ 0 | false ↦ place_of qs p + 1 ]
@@ -93,9 +92,11 @@ abbrev pub row_paths : Table → List (List ℕ)
 row_paths t = codes t.top ∷ map (λ (l : Line). l.path) t.lines
 
 module _ (places rows : List (List ℕ)) where
+  -- the row of the member with a name, below the element at a path
   abbrev row_of_member : List ℕ → String → ℕ
   row_of_member path name = place_of rows (path_of_member path (codes name))
 
+  -- the kind of the element at a path, with its choice by rows
   abbrev kind_of : List ℕ → Form → Kind
   kind_of path object = Object Free
   kind_of path (at_most_one a b) = Object (AtMostOne (row_of_member path a) (row_of_member path b))
@@ -103,6 +104,7 @@ module _ (places rows : List (List ℕ)) where
   kind_of path reference = Object Reference
   kind_of path (leaf k) = Leaf k
 
+  -- the row of a line
   abbrev pub row_of : Line → Row
   row_of l = record {
     parent = place_of rows l.above;
@@ -129,7 +131,7 @@ abbrev pub other_names : List Others → List (List ℕ)
 other_names [] = []
 other_names (o ∷ os) = map codes o.names ++ other_names os
 
--- the row of the whole is its own parent, and it is an object that stands once
+-- the row of the whole is its own parent, and it is an object that occurs once
 abbrev pub first_row : ℕ → Row
 first_row place = record { parent = 0; place = place; kind = Object Free; count = One }
 

@@ -22,7 +22,7 @@ rate_at s = within (neg_ℤ (pos most_rate)) (pos most_rate) (dec_at 9 s)
 abbrev pub amount_at : List ℕ → Option ℤ
 amount_at s = dec_at 12 s
 
--- what stands behind a sign
+-- the text after a sign
 abbrev pub digits_of : List ℕ → List ℕ
 digits_of [] = []
 digits_of (c ∷ cs) = if c == 43 || c == 45 then cs else c ∷ cs
@@ -31,7 +31,7 @@ digits_of (c ∷ cs) = if c == 43 || c == 45 then cs else c ∷ cs
 abbrev pub has_no_point : List ℕ → Bool
 has_no_point s = list_all (λ b. not (b == 46)) s
 
--- at most nine digits behind a sign, without a point
+-- at most nine digits after a sign, without a point
 abbrev pub is_whole : List ℕ → Bool
 is_whole s = nat_le (length (digits_of s)) 9 && has_no_point s
 

@@ -1,4 +1,4 @@
--- Texts that are kept as they stand.
+-- Texts that are kept as they are.
 use Rattle.irs_base.specs.Limits.{most_index, most_name}
 use Rattle.irs_terms.specs.declared.currency.Currency.{Currency}
 use Rattle.std.specs.List.{list_all}

@@ -6,7 +6,7 @@ ghost use Rattle.std.specs.Prelude.{◌≡◌, Some, map, option_map};
 use irs_json::{LeafValue, Value, child, items, leaf};
 use itoa::Buffer;
 
-/// The element of that name in `v` that stands once: a value, or the first of an array.
+/// The element of that name in `v` that occurs once: a value, or the first of an array.
 pub fn once<'a>(v: &'a Value, name: &str) -> Option<&'a Value>
     ensures { seen result ≡ once_of name.now (view v.now) }
 {

@@ -1,6 +1,6 @@
-//! Day count fractions as cash flows state them (FpML `dayCountYearFraction`): a decimal without
-//! sign, at most 18 digits before its point and any number behind it. The limits are this project's
-//! own.
+//! Day count fractions as cash flows state them (FpML `dayCountYearFraction`). Each is a decimal
+//! without sign, with at most 18 digits before its point and any number after it. The limits are
+//! ours.
 ghost use Rattle.irs_base.specs.Decimals.{AreDigits, number_after};
 ghost use Rattle.irs_base.specs.Texts.{most_places};
 ghost use Rattle.irs_base.specs.declared.line.Dec.{Dec as DecRecord};
@@ -24,7 +24,7 @@ fn carry(digits: &[u8]) -> u128
     }
 }
 
-// The decimals that are kept, and those behind them.
+// The decimals that are kept, and those after them.
 fn kept(decimals: &[u8]) -> (&[u8], &[u8])
     ensures kept { result.0.now ≡ take most_places decimals.now }
     ensures left { result.1.now ≡ drop most_places decimals.now }

@@ -105,8 +105,8 @@ fn text_rule(kind: Leaf, text: &str) -> Option<Rule>
     }
 }
 
-/// The rule that a value breaks at a leaf: K3 where it is no leaf, K5 where its text is listed as
-/// out of the profile, K6 where the text is outside its grammar or range.
+/// The rule that a value breaks at a leaf. K3 comes where it is no leaf, K5 where its text is
+/// listed as out of the profile. K6 comes where the text is outside its grammar or range.
 pub fn leaf_rule(kind: Leaf, v: &Value) -> Option<Rule>
     ensures { result ≡ leaf_rule_of kind (leaf_of (view v.now)) }
 {

@@ -1,9 +1,9 @@
-//! Tables of FpML elements, and what is read by them: the kinds of leaf, the first broken rule of a
-//! value, and finding a value by its name.
+//! Tables of FpML elements and what is read by them. These are the kinds of leaf, the first broken
+//! rule of a value, and finding a value by its name.
 //!
-//! A table is this project's own form: rows with a parent, a place among the printed elements, a
-//! kind and a count, and beside them the names. The document of a trade and another party's cash
-//! flows have a table each, in the crates above; nothing here knows their rows.
+//! A table is a form of ours: rows with a parent, a place among the printed elements, a kind and a
+//! count. Their names are apart. The document of a trade has a table, and so have another party's
+//! cash flows, in the crates above. Nothing here knows their rows.
 #![tactic(auto)]
 
 pub mod codes;

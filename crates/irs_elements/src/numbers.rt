@@ -1,5 +1,5 @@
-//! Dates and numbers: what a text stands for, `None` exactly where it is outside the grammar or the
-//! range of its kind.
+//! Dates and numbers: the value of a text. `None` comes exactly where the text is outside the
+//! grammar or the range of its kind.
 ghost use Rattle.irs_elements.specs.Dates.{day_at};
 ghost use Rattle.irs_elements.specs.Decimals.{dec_at, digits_at, few_digits_at};
 ghost use Rattle.irs_elements.specs.Numbers.{amount_at, digits_of, has_no_point as no_point_of};
@@ -50,7 +50,8 @@ fn within(low: i128, high: i128, n: Option<i128>) -> Option<i128>
     }
 }
 
-// The number that a text of nothing but digits spells behind those of n; `None` exactly where a byte is no digit.
+// The number that a text of nothing but digits spells after those of n; `None` exactly where a byte
+// is no digit.
 #[tactic(auto, using(irs_base::proofs::DecimalLemmas::room_left, crate::proofs::FewDigits::room_for_one))]
 fn digits_behind(n: u32, digits: &[u8]) -> Option<u32>
     requires { (n + 1) * 10 ^ length digits.now ≤ 10 ^ 9 }
@@ -113,7 +114,7 @@ pub fn amount(text: &[u8]) -> Option<i128>
     decimal(text, 12)
 }
 
-// How many bytes there are behind a sign.
+// How many bytes there are after a sign.
 fn digits(text: &[u8]) -> usize
     ensures { result ≡ length (digits_of text.now) }
 {
@@ -140,7 +141,7 @@ fn has_no_point(text: &[u8]) -> bool
     text.iter().all(|b| *b != b'.')
 }
 
-/// A whole number: 1 to 9 digits behind an optional sign.
+/// A whole number: 1 to 9 digits after an optional sign.
 pub fn whole(text: &[u8]) -> Option<i128>
     ensures { result ≡ whole_at text.now }
 {

@@ -1,11 +1,11 @@
-//! The order in which broken rules are told, this project's own: the lower stream first, then the
-//! lower rule, then the earlier element, then the lower index.
+//! The order in which broken rules are reported, which is our rule. The lower stream comes first,
+//! then the lower rule, then the earlier element, then the lower index.
 ghost use Rattle.std.specs.Prelude.{◌≡◌};
 ghost use Rattle.irs_base.specs.Order.{earlier_broken as earlier_of, is_before, is_before_in};
 
 use irs_base::Broken;
 
-/// Whether `f` is told before `g`.
+/// Whether `f` is reported before `g`.
 pub fn comes_before(f: &Broken, g: &Broken) -> bool
     ensures { result ≡ is_before f.now g.now }
 {

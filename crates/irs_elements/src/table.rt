@@ -18,15 +18,15 @@ pub enum Kind {
 pub enum Choice {
     /// Nothing.
     Free,
-    /// The members of these two rows don't stand together.
+    /// The members of these two rows don't occur together.
     AtMostOne(usize, usize),
-    /// Exactly one of the members of these two rows stands.
+    /// Exactly one of the members of these two rows occurs.
     ExactlyOne(usize, usize),
     /// The object names another by its attribute `@href`.
     Reference,
 }
 
-/// How often a member stands.
+/// How often a member occurs.
 #[derive(Clone, Copy)]
 pub enum Count {
     /// Once.
@@ -40,7 +40,7 @@ pub enum Count {
     UpTo(u32),
 }
 
-/// A row of a table. It stands behind that of its parent; the first is the object that all of the
+/// A row of a table. It comes after that of its parent. The first row is the object that all of the
 /// table lies in, and its own parent.
 #[derive(Clone, Copy)]
 pub struct Row {
@@ -48,9 +48,9 @@ pub struct Row {
     pub parent: usize,
     /// The place of the element in the table of paths; of a passed or refused member it isn't used.
     pub place: u8,
-    /// What stands there.
+    /// What the member is.
     pub kind: Kind,
-    /// How often it stands.
+    /// How often it occurs.
     pub count: Count,
 }
 
@@ -67,15 +67,15 @@ macro_rules! row {
     };
 }
 
-/// A table of elements, and the stream in whose values it is followed: a row, a name and the end of
-/// its members for each element. Stream 0 stands for what lies outside the streams.
+/// A table of elements, and the stream in whose values it is followed. For each element it has a
+/// row, a name and the end of its members. Stream 0 is what lies outside the streams.
 #[derive(Clone, Copy)]
 pub struct Table<'t> {
     /// The rows.
     pub rows: &'t [Row],
     /// The name at each row.
     pub names: &'t [&'static str],
-    /// For each row the number of the row behind its last member; 0 where it has none. They save
+    /// For each row the number of the row after its last member; 0 where it has none. They save
     /// steps and change no answer: wrong ones aren't followed.
     pub ends: &'t [usize],
     /// The number of the stream, from 1.

@@ -1,7 +1,7 @@
 //! The first broken rule of a value, by a table of elements.
 //!
-//! The walk goes down the table and not down the value: each row's members stand behind it. It keeps
-//! nothing on the way, each step answers the first broken rule of its part.
+//! The walk goes down the table and not down the value: each row's members come after it. It keeps
+//! nothing on the way; each step returns the first broken rule of its part.
 ghost use Rattle.irs_elements.specs.Elements.{EndsHold, FaultAmong, FaultAt, FaultUnder, MemberFault, ShapeFault};
 ghost use Rattle.irs_elements.specs.Elements.{absent_index as absent_index_of, choice_unmet as choice_unmet_of};
 ghost use Rattle.irs_elements.specs.Elements.{elem_at, elem_of, end_at, fault_if, has_odd as has_odd_of};
@@ -31,9 +31,9 @@ use irs_json::{MemberIter, Value, child, is_attribute_name, items, members};
 // How an object fails its choice.
 #[derive(Clone, Copy)]
 enum Unmet {
-    // two members stand together that don't
+    // two members occur together that must not
     Both,
-    // none of two members stands
+    // none of two members occurs
     Neither,
 }
 
@@ -126,7 +126,7 @@ fn most(count: Count) -> u32
     }
 }
 
-// The index of what stands at a member's j-th place, from 0.
+// The index of the j-th value of a member, from 0.
 fn index_in(count: Count, index: u32, j: u32) -> u32
     requires { j < most_of count }
     ensures { result ≡ index_in_of count index j }
@@ -205,7 +205,7 @@ fn choice_fault(
     }
 }
 
-// Whether the row at c stands below the object at row r and has the name.
+// Whether the row at c is below the object at row r and has the name.
 fn is_named(table: &Table<'_>, r: usize, c: usize, row: &Row, name: &str) -> bool
     ensures { result
         ≡ (nat_lt r c && row.now.parent == r && bytes_eq (name_at (texts table.now.names.now) c) name.now) }
@@ -213,7 +213,7 @@ fn is_named(table: &Table<'_>, r: usize, c: usize, row: &Row, name: &str) -> boo
     r < c && row.parent == r && name_of(table.names, c) == name
 }
 
-// Whether a row below the object at row r has the name; these rows stand behind its own.
+// Whether a row below the object at row r has the name; these rows come after its own.
 fn is_known(table: &Table<'_>, r: usize, name: &str) -> bool
     ensures { result ≡ is_known_in table.now.rows.now (texts table.now.names.now) r name.now }
 {
@@ -362,8 +362,8 @@ fn whole_shape_fault(
     earlier(earlier(unknown, chosen), earlier(odd, href))
 }
 
-// The same, by a look at the names: where each is an element's and known, as most are, none is unknown
-// and no attribute is odd.
+// The same, by a look at the names. Most are those of known elements. Where all are, no name is
+// unknown and no attribute is odd.
 fn shape_fault(table: &Table<'_>, r: usize, choice: Choice, index: u32, v: &Value) -> Option<Broken>
     ensures { IsFirstBroken
         (ShapeFault table.now.rows.now (texts table.now.names.now) table.now.stream r choice index (view v.now))
@@ -376,8 +376,8 @@ fn shape_fault(table: &Table<'_>, r: usize, choice: Choice, index: u32, v: &Valu
     }
 }
 
-// The number of the row behind the last member of the object at row r; where none is told, that
-// behind the last row of the table.
+// The number of the row after the last member of the object at row r. Where the table doesn't say
+// it, that is the row after the last one.
 fn end_of(table: &Table<'_>, r: usize) -> usize
     ensures { result ≡ end_at (length table.now.rows.now) table.now.ends.now r }
 {
@@ -387,7 +387,7 @@ fn end_of(table: &Table<'_>, r: usize) -> usize
     }
 }
 
-// Whether each row stands before the end of its parent's members.
+// Whether each row is before the end of its parent's members.
 fn ends_hold(table: &Table<'_>) -> bool
     ensures { IsTrue result ↔ EndsHold table.now.rows.now table.now.ends.now }
 {
@@ -416,8 +416,8 @@ fn with_sure_ends<'t>(table: &Table<'t>) -> Table<'t>
     }
 }
 
-/// The first rule that is broken by `v`, which stands at row `r` of the table with this kind and
-/// index, in the stream of that number; `None` exactly where none is.
+/// The first rule that is broken by `v` at row `r` of the table, with this kind and index, in the
+/// stream of that number. `None` comes exactly where none is broken.
 pub fn first_fault(table: &Table<'_>, r: usize, kind: Kind, index: u32, v: &Value) -> Option<Broken>
     ensures { IsFirstBroken
         (FaultAt table.now.rows.now (texts table.now.names.now) table.now.stream r kind index (view v.now)) result }
@@ -461,7 +461,7 @@ fn object_fault(
     first_of(shape, members_fault(table, r, index, v))
 }
 
-// Whether the member of that name stands once, and is a leaf that breaks no rule.
+// Whether the member of that name occurs once, and is a leaf that breaks no rule.
 fn is_one_right_leaf(name: &str, leaf: Leaf, v: &Value) -> bool
     ensures { result ≡ is_one_right leaf (child_of name.now (view v.now)) }
 {
@@ -475,7 +475,7 @@ fn is_one_right_leaf(name: &str, leaf: Leaf, v: &Value) -> bool
     }
 }
 
-// Whether the member at row c is a leaf that stands once and breaks no rule, as most members are.
+// Whether the member at row c is a leaf that occurs once and breaks no rule, as most members are.
 fn is_right_leaf(table: &Table<'_>, c: usize, row: &Row, v: &Value) -> bool
     ensures { result ≡ is_right_leaf_of (texts table.now.names.now) c row.now (view v.now) }
 {

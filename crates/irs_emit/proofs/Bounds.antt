@@ -21,9 +21,11 @@ use Rattle.std.proofs.Common.{inr, sym, ap, ◌∙◌, subst, arith}
 use Rattle.std.proofs.lemmas.Option.{slice_get_cases, slice_get-get_or, IfSome_then}
 use Rattle.std.specs.Prelude.{slice_get, unwrap_or}
 
+-- an amount of a currency has at most 12 decimals
 pub few : (currency : Currency) (v : Dec) → IsAmount currency v → v.places ≤ 12
 few currency v h = let e = h.places in let l = decimals_few currency.letters in omega (arith, e, l)
 
+-- the amount of an exchange has at most 12 decimals
 pub exchange_few : (p : Part) (j : ℕ) (x : Exchange) → KeepsBounds p → slice_get p.exchanges j ≡ Some x
     → x.amount.places ≤ 12
 exchange_few p j x h e =
@@ -34,6 +36,7 @@ ordered : (a n : ℕ) (ys : List PaymentEntry) → 1 ≤ a → Covers a ys n
 ordered a n [] l h = tt
 ordered a n (y ∷ ys) l h = ((omega (arith, h.0), h.1), ordered (y.last_period + 1) n ys (omega arith) h.2)
 
+-- a payment of the schedule pays periods of it
 pub payment_kept : (p : Part) (j : ℕ) (y : PaymentEntry) → KeepsBounds p → slice_get p.payments j ≡ Some y → IsPaid y
 payment_kept p j y h e =
     let order = every_get (λ (y : PaymentEntry). (1 ≤ y.first_period)
@@ -46,6 +49,7 @@ payment_kept p j y h e =
           IfSome_then y.amount (every_get (HasAmount p.currency) p.payments j y h.paid e) (few p.currency);
     }
 
+-- the denominator of a day count is above 0
 pub above_zero : (code : DayCountCode) → pos 0 <ℤ denominator_of code
 above_zero OneOne = omega (arith, signed_arith)
 above_zero ActActIsda = omega (arith, signed_arith)
@@ -58,6 +62,7 @@ above_zero ThirtyE360Isda = omega (arith, signed_arith)
 entry_above : (code : DayCountCode) (e : PeriodEntry) → IsEntry code e → pos 0 <ℤ e.frac.den
 entry_above code e h = subst (λ (d : ℤ). pos 0 <ℤ d) (sym h.denominator) (above_zero code)
 
+-- the denominator of a period's fraction is above 0
 pub period_above : (p : Part) (j : ℕ) (x : CalculationPeriod) → KeepsBounds p → period_at p j ≡ Some x
     → pos 0 <ℤ x.frac.den
 period_above p j x h e = elim (slice_get_cases p.periods j).1 [

@@ -25,10 +25,12 @@ use Rattle.std.proofs.lemmas.Str.Ascii.{IsAscii-nil, IsAscii-cons}
 use Rattle.std.specs.Prelude.{slice_get}
 use Rattle.std.specs.Str.{IsUtf8}
 
+-- a value that may be absent is built to a depth
 abbrev OptionBuilt : ℕ → Option Data → Type 0
 OptionBuilt n None = Unit {0}
 OptionBuilt n (Some d) = Built n d
 
+-- each value of a list is built to a depth
 abbrev ListBuilt : ℕ → List Data → Type 0
 ListBuilt n ds = ItemsBuilt n (items_of ds)
 
@@ -141,12 +143,14 @@ cashflows_built p =
 stream_built : (p : Part) → Built 8 (stream_value p)
 stream_built p = (omega arith, (cashflows_built p, tt))
 
+-- the value of a schedule is built to a depth of 11
 pub emit_built : (s : List Part) → Built 11 (emit_value s)
 unfolding emit_value
 emit_built s = (omega arith, ((omega arith, ((omega arith, list_built 8 stream_value s stream_built), tt)), tt))
 
 -- ---- the text
 
+-- the compact text of the value, and a line feed, is the text of the cash flows
 pub text_is : (s : List Part) (v : Data) (bytes new : List ℕ) → v ≡ emit_value s
     → (has_float v ≡ false → bytes ≡ compact_text v) → new ≡ bytes ++ 10 ∷ [] → new ≡ emit_text s
 unfolding emit_text

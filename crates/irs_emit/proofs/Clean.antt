@@ -40,9 +40,11 @@ module _ (rows : List Row) (names : List (List ℕ)) (stream : ℕ) where
   abbrev pub MemberFree : ℕ → Row → ℕ → Data → Type 0
   MemberFree c row i d = (f : Broken) → FaultUnder rows names stream c row i d f → ⊥
 
+  -- a leaf that breaks no rule has no fault
   pub leaf_free : (r i : ℕ) (k : LeafKind) (d : Data) → leaf_rule k (leaf_of d) ≡ None → NoFault r (Leaf k) i d
   leaf_free r i k d e f (own _ _ rule _ _ h) = none_some rule (leaf_rule k (leaf_of d)) e h
 
+  -- a member that may be absent, and is, has none
   pub absent_free : (c i : ℕ) (row : Row) (d : Data) → child_of (name_at names c) d ≡ None
       → is_required row.count ≡ false → MemberFree c row i d
   absent_free c i row d e q f (missing _ _ _ _ el rq h) = false_true (is_required row.count) q rq
@@ -50,6 +52,7 @@ module _ (rows : List Row) (names : List (List ℕ)) (stream : ℕ) where
   absent_free c i row d e q f (too_many _ _ _ _ m el h lt) = none_some m (child_of (name_at names c) d) e h
   absent_free c i row d e q f (inside _ _ j _ _ m x _ el h le at g) = none_some m (child_of (name_at names c) d) e h
 
+  -- a member that is passed over has none
   pub passed_free : (c i : ℕ) (row : Row) (d : Data) → is_element row.kind ≡ false → is_refused row.kind ≡ false
       → MemberFree c row i d
   passed_free c i row d e q f (missing _ _ _ _ el rq h) = false_true (is_element row.kind) e el
@@ -61,6 +64,7 @@ module _ (rows : List Row) (names : List (List ℕ)) (stream : ℕ) where
   abbrev pub ValuesFree : ℕ → Row → ℕ → List Data → Type 0
   ValuesFree c row i ds = (j : ℕ) (x : Data) → slice_get ds j ≡ Some x → NoFault c row.kind (index_in row.count i j) x
 
+  -- a member that occurs as often as it may has none where none of its values has
   pub present_free : (c i : ℕ) (row : Row) (d m : Data) → child_of (name_at names c) d ≡ Some m
       → is_refused row.kind ≡ false → length (items_of m) ≤ most row.count → ValuesFree c row i (items_of m)
       → MemberFree c row i d
@@ -73,6 +77,7 @@ module _ (rows : List Row) (names : List (List ℕ)) (stream : ℕ) where
       same_some n m (child_of (name_at names c) d) h e in
       free j x (ap (λ y. slice_get (items_of y) j) (sym same) ∙ at) f g
 
+  -- one value without a fault is all values without one
   pub one_value : (c i : ℕ) (row : Row) (d : Data) → ((k : ℕ) → NoFault c row.kind k d) → ValuesFree c row i (d ∷ [])
   one_value c i row d free zero x e =
       subst (λ y. NoFault c row.kind (index_in row.count i zero) y) (same_some d x (Some d) refl e)
@@ -81,6 +86,7 @@ module _ (rows : List Row) (names : List (List ℕ)) (stream : ℕ) where
 
   -- ---- objects
 
+  -- both where the test is true, else the second alone
   abbrev EachIf : Bool → Type 0 → Type 0 → Type 0
   EachIf true A B = A × B
   EachIf false A B = B
@@ -116,6 +122,7 @@ module _ (rows : List Row) (names : List (List ℕ)) (stream : ℕ) where
       let later = tail_of (MemberFree n first i d) (Each r i d (n + 1) rest) ((first.parent == r) && nat_lt r n) h in
       subst (λ c. MemberFree c row i d) up (each_at r i d (n + 1) rest k row later e p (omega (arith, l)))
 
+  -- an object with known names has none where no member has
   pub object_free : (r i : ℕ) (d : Data) (ns : List (List ℕ)) → names_of d ≡ Some ns
       → list_any (is_unknown rows names r) ns ≡ false → has_odd d ≡ false → Each r i d 0 rows
       → NoFault r (Object Free) i d

@@ -53,17 +53,21 @@ use Rattle.std.proofs.Common.{[], ◌∷◌, ◌++◌, length, map, Result, Ok, 
 use Rattle.std.proofs.Common.{option_map, refl, sym, ap, ◌∙◌, subst, arith}
 use Rattle.std.specs.Prelude.{slice_get, unwrap_or}
 
+-- the rows of the table of cash flows
 abbrev F : List Row
 F = FLOW_ROWS
 
+-- their names
 abbrev M : List (List ℕ)
 M = flow_code_names
 
+-- the row of that number
 abbrev flow_at : ℕ → Row
 flow_at n = unwrap_or (slice_get F n) no_row
 
 -- ---- payments
 
+-- the forecast amount of a payment, by its parts
 abbrev forecast_with : Currency → Option Dec → Data
 forecast_with currency o =
     object (put_known (codes "amount") (option_map amount_leaf o)
@@ -88,6 +92,7 @@ forecast_free stream i c (Some v) e h =
       ),
     )
 
+-- a payment, by its parts
 abbrev payment_with : ℤ → ℤ → List Data → Currency → Option Dec → Data
 payment_with unadjusted adjusted ds c o = object (
     put (codes "adjustedPaymentDate") (day_leaf adjusted)
@@ -164,6 +169,7 @@ module _ {X : Type 0} (rows : List Row) (names : List (List ℕ)) (stream c : �
       subst (λ d. NoFault rows names stream c kind k d) (ap (λ o. unwrap_or o y) e) (law k x h.0)
   mapped_free kind (x ∷ xs) law h (suc j) y k e = mapped_free kind xs law h.1 j y k e
 
+  -- an array of values without faults has none
   pub array_free : (i : ℕ) (row : Row) (xs : List X)
       → ((k : ℕ) (x : X) → Q x → NoFault rows names stream c row.kind k (f x)) → Every Q xs
       → ValuesFree rows names stream c row i (list_of (items_from (map f xs)))
@@ -171,6 +177,7 @@ module _ {X : Type 0} (rows : List Row) (names : List (List ℕ)) (stream c : �
       mapped_free row.kind xs law h j y (index_in row.count i j)
       (ap (λ ds. slice_get ds j) (sym (from_items (map f xs))) ∙ e)
 
+-- the cash flows of a stream, by their parts
 abbrev cash : Option Data → Data → Data
 cash o payments = object (
     put_known (codes "principalExchange") o
@@ -272,6 +279,7 @@ unfolding fixed_value floating_value period_members
 one_rate x None = fixed_one x x.rate
 one_rate x (Some r) = refl
 
+-- the calculation periods of a payment have no fault
 abbrev IsGood : ℕ → Data → Type 0
 IsGood stream d = (number : ℕ) (f : Broken) → PeriodFault stream number d f → ⊥
 
@@ -316,6 +324,7 @@ cash_fault_free stream p h f (inr fault) =
 
 -- ---- streams
 
+-- a stream has no fault
 abbrev IsSoundStream : Data → Type 0
 IsSoundStream d = (number : ℕ) (f : Broken) → StreamFault number d f → ⊥
 
@@ -347,6 +356,7 @@ streams_free ds some few h f (many_streams lt) = absurd (omega (arith, few, lt))
 streams_free ds some few h f (in_stream g _ _ among) =
     every_get IsSoundStream ds among.0 among.1.0 h among.1.1.0 (among.0 + 1) f among.1.1.1
 
+-- the swap of a schedule
 abbrev swap_of : List Part → Data
 swap_of s = object_with (codes "swapStream") (array_of (map stream_value s))
 

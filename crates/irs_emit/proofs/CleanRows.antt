@@ -48,12 +48,15 @@ text_free k s b h = rw h refl
 leaf_kept : (k : LeafKind) (s : List ℕ) → Visible s → has_value k s ≡ true → leaf_rule k (leaf_of (string s)) ≡ None
 leaf_kept k s v h = ap (text_rule k) (trimmed s v) ∙ text_free k s true h
 
+-- the text of a day is a date
 pub day_kept : (d : ℤ) → IsDay d → leaf_rule Date (leaf_of (day_leaf d)) ≡ None
 day_kept d h = leaf_kept Date (day_text d) (day_visible d) (ap is_some (day_back d h))
 
+-- the text of a short number is an amount
 pub number_kept : (z : ℤ) (p : ℕ) → p ≤ 12 → IsShort z p → leaf_rule Amount (leaf_of (string (dec_text z p))) ≡ None
 number_kept z p l h = leaf_kept Amount (dec_text z p) (number_visible z p h) (ap is_some (number_back z p l h))
 
+-- three capital letters are a currency
 pub currency_kept : (c : Currency) → is_currency c.letters ≡ true
     → leaf_rule CurrencyName (leaf_of (currency_leaf c)) ≡ None
 currency_kept c h =
@@ -61,7 +64,7 @@ currency_kept c h =
     ∙ leaf_kept CurrencyName c.letters (currency_visible c.letters h) (ap is_some (currency_back c.letters h))
 
 module _ (rows : List Row) (names : List (List ℕ)) (stream : ℕ) where
-  -- a leaf that stands once
+  -- a leaf that occurs once
   pub leaf_member : (c i : ℕ) (row : Row) (d : Data) (k : LeafKind) (s : List ℕ)
       → child_of (name_at names c) d ≡ Some (string s) → row.kind ≡ Leaf k → 1 ≤ most row.count
       → leaf_rule k (leaf_of (string s)) ≡ None → MemberFree rows names stream c row i d
@@ -81,6 +84,7 @@ module _ (rows : List Row) (names : List (List ℕ)) (stream : ℕ) where
 
 -- ---- exchanges
 
+-- an exchange has no fault
 pub exchange_free : (stream i : ℕ) (x : Exchange) → IsExchangeShort x
     → NoFault FLOW_ROWS flow_code_names stream 1 (Object Free) i (exchange_value x)
 unfolding exchange_value
@@ -104,20 +108,25 @@ exchange_free stream i x h = object_free FLOW_ROWS flow_code_names stream 1 i (e
 
 -- ---- the rows of the tables
 
+-- the row where there is none
 abbrev pub no_row : Row
 no_row = record { parent = 0; place = 0; kind = Passed; count = Maybe }
 
+-- the rows of the table of a calculation period
 abbrev P : List Row
 P = PERIOD_ROWS
 
+-- their names
 abbrev N : List (List ℕ)
 N = period_code_names
 
+-- the row of that number
 abbrev row_at : ℕ → Row
 row_at n = unwrap_or (slice_get P n) no_row
 
 -- ---- resets
 
+-- a rate observation, by its parts
 abbrev observation_with : ℤ → ℤ → Option ℤ → Data
 observation_with reset fixing o =
     object (put_known (codes "observedRate") (option_map rate_leaf o)
@@ -162,6 +171,7 @@ observation_free : (stream i : ℕ) (r : Reset) → IsResetShort r
 unfolding observation_value
 observation_free stream i r h = observation_by stream i r.reset r.fixing r.observed h.reset h.fixing h.observed
 
+-- a floating rate definition, by its parts
 abbrev definition_with : Option ℤ → Reset → Data
 definition_with o r =
     object (put_known (codes "calculatedRate") (option_map rate_leaf o)
@@ -270,6 +280,7 @@ period_by stream i x d ns e known even has rate definition h = object_free P N s
   ),
 )
 
+-- a fixed calculation period, by its parts
 abbrev fixed_with : CalculationPeriod → Option ℤ → Data
 fixed_with x o = object (put_known (codes "fixedRate") (option_map rate_leaf o) (period_members x))
 

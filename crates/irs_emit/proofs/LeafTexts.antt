@@ -18,6 +18,7 @@ use Rattle.std.specs.Fmt.{decimal, signed_decimal}
 use Rattle.std.specs.Int.{w128}
 use Rattle.std.specs.Str.{IsAscii, IsUtf8, is_utf8}
 
+-- an ASCII text is kept as it is
 pub text_kept : (s : List ℕ) → IsAscii s → text_of s ≡ s
 text_kept s h = let e : is_utf8 s ≡ true = is_utf8-from_IsUtf8 s (IsUtf8-from_ascii s h) in rw e refl
 
@@ -54,6 +55,7 @@ day_ascii d day =
     date_ascii (year_of d) (month_of d) (day_of_month d) (omega (arith, signed_arith, range)) (omega (arith, is))
     (omega (arith, is, short))
 
+-- the text of a day is kept as it is
 pub day_kept : (d : ℤ) → IsDay d → text_of (day_text d) ≡ day_text d
 day_kept d day = text_kept (day_text d) (day_ascii d day)
 
@@ -79,6 +81,7 @@ dec_ascii (pos n) places h = dec_ascii_by n places (places == 0) h
 dec_ascii (negsuc n) places h =
     IsAscii-cons 45 (unsigned_dec (suc n) places) (omega arith) (dec_ascii_by (suc n) places (places == 0) h)
 
+-- the text of a number is kept as it is
 pub number_kept : (z : ℤ) (places : ℕ) → FitsSigned w128 z → text_of (dec_text z places) ≡ dec_text z places
 number_kept z places f = text_kept (dec_text z places) (dec_ascii z places (small_abs z f))
 
@@ -86,9 +89,11 @@ whole_ascii : (z : ℤ) → unsigned_abs z < 2 ^ 128 → IsAscii (signed_decimal
 whole_ascii (pos n) h = decimal_ascii n h
 whole_ascii (negsuc n) h = IsAscii-cons 45 (decimal (suc n)) (omega arith) (decimal_ascii (suc n) h)
 
+-- the text of a whole number is kept as it is
 pub count_kept : (z : ℤ) → FitsSigned w128 z → text_of (signed_decimal z) ≡ signed_decimal z
 count_kept z f = text_kept (signed_decimal z) (whole_ascii z (small_abs z f))
 
+-- a text that is UTF-8 is kept as it is
 pub text_is : (s t : List ℕ) → IsUtf8 s → t ≡ s → t ≡ text_of s
 text_is s t h e = let u : is_utf8 s ≡ true = is_utf8-from_IsUtf8 s h in rw u e
 
@@ -96,5 +101,6 @@ test_false : (b : Bool) → (b ≡ true → ⊥) → b ≡ false
 test_false true h = absurd (h refl)
 test_false false h = refl
 
+-- a text that isn't UTF-8 is empty
 pub text_none : (s : List ℕ) → (IsUtf8 s → ⊥) → [] ≡ text_of s
 text_none s h = let u : is_utf8 s ≡ false = test_false (is_utf8 s) (λ e. h (IsUtf8-from_is_utf8 s e)) in rw u refl

@@ -51,6 +51,7 @@ last_of s h x rest e = no_space x (last_visible rest x (subst Visible e h))
 pub trimmed : (s : List ℕ) → Visible s → trim s ≡ s
 trimmed s h = ap trim_back (front_stays s (first_of s h)) ∙ back_stays s (last_of s h)
 
+-- a string without white space is read as its text
 pub visible_text : (s : List ℕ) → Visible s → text_in (Some (string s)) ≡ Some s
 visible_text s h = ap Some (ap trim_back (front_stays s (first_of s h)) ∙ back_stays s (last_of s h))
 
@@ -132,6 +133,7 @@ unsigned_visible n zero h = let s : n < 10 ^ 18 = omega (arith, h) in
     digits_visible (decimal n) (spells_decimal n (small n s)).0
 unsigned_visible n (suc k) h = places_visible n k h
 
+-- the text of a number has no white space
 pub number_visible : (z : ℤ) (p : ℕ) → unsigned_abs z / 10 ^ p < 10 ^ 18 → Visible (dec_text z p)
 number_visible (pos n) p h = unsigned_visible n p h
 number_visible (negsuc n) p h = (omega arith, unsigned_visible (suc n) p h)
@@ -185,6 +187,7 @@ count_back (negsuc n) h =
     (sym (dec_is (45 ∷ decimal (suc n)) 0 (Some (negsuc n))
     (minus (decimal (suc n)) 0 (suc n) (whole_spelled_by (suc n) h)) tt))
 
+-- the text of a number of days has no white space
 pub count_visible : (z : ℤ) → unsigned_abs z < 10 ^ 9 → Visible (signed_decimal z)
 count_visible (pos n) h = digits_visible (decimal n) (spells_decimal n (omega arith)).0
 count_visible (negsuc n) h = (omega arith, digits_visible (decimal (suc n)) (spells_decimal (suc n) (omega arith)).0)
@@ -235,8 +238,10 @@ capitals_visible (c ∷ cs) h = let b = both_true (is_capital c) (list_all is_ca
     capital_visible : (c : ℕ) → is_capital c ≡ true → 33 ≤ c
     capital_visible c e = grind (arith, nat_tests)
 
+-- the text of a currency has no white space
 pub currency_visible : (s : List ℕ) → is_currency s ≡ true → Visible s
 currency_visible s h = capitals_visible s (both_true (length s == 3) (list_all is_capital s) h).1
 
+-- the text of a currency is read back as the currency
 pub currency_back : (s : List ℕ) → is_currency s ≡ true → currency_at s ≡ Some (record { letters = s })
 currency_back s h = rw h refl

@@ -29,6 +29,7 @@ use Rattle.irs_read.specs.Meaning.{said}
 said_text : {A : Type 0} (f : List ℕ → Option A) (s : List ℕ) → Visible s → said f (Some (string s)) ≡ f s
 said_text f s h = ap (option_and_then f) (visible_text s h)
 
+-- the leaf of a day reads back as the day
 pub day_reads : DayReadsBack
 day_reads d h = said_text day_at (day_text d) (day_visible d) ∙ day_back d h
 
@@ -36,15 +37,19 @@ number_reads : (z : ℤ) (p : ℕ) → p ≤ 12 → unsigned_abs z / 10 ^ p < 10
     → said amount_at (Some (string (dec_text z p))) ≡ Some (z *ℤ pos (10 ^ (12 - p)))
 number_reads z p l h = said_text amount_at (dec_text z p) (number_visible z p h) ∙ number_back z p l h
 
+-- the leaf of an amount reads back as the amount
 pub amount_reads : AmountReadsBack
 amount_reads v l h = number_reads v.units v.places l h
 
+-- the leaf of a notional reads back as the notional
 pub notional_reads : NotionalReadsBack
 notional_reads z h = number_reads z 4 (omega arith) h
 
+-- the leaf of a rate reads back as the rate
 pub rate_reads : RateReadsBack
 rate_reads z h = number_reads z 9 (omega arith) h
 
+-- the leaf of a number of days reads back as the number
 pub count_reads : CountReadsBack
 count_reads n h = said_text whole_at (signed_decimal n) (count_visible n h) ∙ count_back n h
 
@@ -55,6 +60,7 @@ fraction_read (pos n) some h =
     ∙ fraction_back n h)
 fraction_read (negsuc n) some h = absurd (omega (arith, signed_arith, some))
 
+-- the leaf of a fraction reads back as the fraction
 pub fraction_reads : FractionReadsBack
 fraction_reads f some h = fraction_read (rounded Nearest (f.num *ℤ pos (10 ^ 10)) f.den) some h
 
@@ -66,9 +72,11 @@ capitals_ascii [] h = IsAscii-nil
 capitals_ascii (c ∷ cs) h = let b = both_true (is_capital c) (list_all is_capital cs) h in
     IsAscii-cons c cs (below c b.0) (capitals_ascii cs b.1)
 
+-- the letters of a currency are ASCII
 pub currency_ascii : (s : List ℕ) → is_currency s ≡ true → IsAscii s
 currency_ascii s h = capitals_ascii s (both_true (length s == 3) (list_all is_capital s) h).1
 
+-- the leaf of a currency reads back as the currency
 pub currency_reads : CurrencyReadsBack
 currency_reads c h =
     ap (λ s. said currency_at (Some (string s))) (text_kept c.letters (currency_ascii c.letters h))

@@ -139,6 +139,7 @@ payment_member : (o : Option Data) (payments : Data)
 payment_member None payments = refl
 payment_member (Some d) payments = refl
 
+-- mapping a list keeps its length
 pub mapped_length : {X : Type 0} (f : X → Data) (xs : List X) → length (map f xs) ≡ length xs
 mapped_length f [] = refl
 mapped_length f (x ∷ xs) = ap suc (mapped_length f xs)
@@ -188,9 +189,11 @@ its_flows : (p : Part) → once (codes "cashflows") (stream_value p) ≡ Some (c
 unfolding cashflows_value
 its_flows p = refl
 
+-- the object of a stream reads back as its flows
 pub stream_reads : StreamReadsBack
 stream_reads p h = ap flows_in (its_flows p) ∙ flows_read p h
 
+-- the swap of the value is the object with the streams
 pub its_swap : (s : List Part) → the_swap (emit_value s)
     ≡ Ok (object_with (codes "swapStream") (array_of (map stream_value s)))
 unfolding emit_value

@@ -1,4 +1,4 @@
--- A text whose leaves are strings reads back as its value, with a line feed behind it too.
+-- A text whose leaves are strings reads back as its value, with a line feed after it too.
 use Rattle.json.specs.Token.{begin_object, end_object, begin_array, end_array, string as text_token}
 use Rattle.json.specs.Lex.{Lexeme, token, comma, colon, string_token, lex, between, fresh, punctuate}
 use Rattle.json.specs.Print.{escape, quoted}
@@ -19,6 +19,7 @@ use Rattle.std.specs.Prelude.{max, option_and_then}
 
 -- the leaves are strings, and arrays and objects nest at most n deep
 abbrev mutual
+  -- a value: a string, or an array or an object of built values
   pub Built : ℕ → Data → Type 0
   Built n null = ⊥
   Built n (boolean b) = ⊥
@@ -27,10 +28,12 @@ abbrev mutual
   Built n (array ds) = (0 < n) × ItemsBuilt (n - 1) ds
   Built n (object ms) = (0 < n) × MembersBuilt (n - 1) ms
 
+  -- the items of an array
   pub ItemsBuilt : ℕ → Items → Type 0
   ItemsBuilt n no_items = Unit {0}
   ItemsBuilt n (item d ds) = Built n d × ItemsBuilt n ds
 
+  -- the members of an object
   pub MembersBuilt : ℕ → Members → Type 0
   MembersBuilt n no_members = Unit {0}
   MembersBuilt n (member k d ms) = Built n d × MembersBuilt n ms
@@ -41,6 +44,7 @@ put_by n Less a b c p q r = p
 put_by n Equal a b c p q r = q
 put_by n Greater a b c p q r = r
 
+-- a member more is built to the same depth
 pub put_built : (n : ℕ) (k : List ℕ) (d : Data) (ms : Members) → Built n d → MembersBuilt n ms
     → MembersBuilt n (put k d ms)
 put_built n k d no_members h t = (h, tt)
@@ -56,6 +60,7 @@ max_within : (a b n : ℕ) → a ≤ n → b ≤ n → max a b ≤ n
 max_within a b n p q = grind arith
 
 mutual
+  -- a value that is built to a depth nests at most that deep
   pub built_depth : (n : ℕ) (d : Data) → Built n d → depth d ≤ n
   built_depth n null h = absurd h
   built_depth n (boolean b) h = absurd h
@@ -79,6 +84,7 @@ neither : (a b : Bool) → a ≡ false → b ≡ false → (a || b) ≡ false
 neither a b p q = rw (p, q) refl
 
 mutual
+  -- a value that is built has no number that is a float
   pub built_floatless : (n : ℕ) (d : Data) → Built n d → has_float d ≡ false
   built_floatless n null h = refl
   built_floatless n (boolean b) h = refl
@@ -99,6 +105,7 @@ mutual
 
 -- ---- their lexemes don't depend on what follows
 
+-- the lexemes of a text don't depend on what follows it
 abbrev Lexes : List ℕ → Type 0
 Lexes t = (ls : List Lexeme) × ((r : List ℕ) → lex between (t ++ r) ≡ ls ++ lex between r)
 

@@ -56,6 +56,7 @@ exchange_of : (a b : Option ℤ) (c : Option ℤ) (x : FlowExchange) → a ≡ x
     → (record { unadjusted = a; adjusted = b; amount = c }) ≡ x
 exchange_of a b c x p q r = rw (p, q, r) refl
 
+-- the object of an exchange reads back as its flow
 pub exchange_reads : ExchangeReadsBack
 unfolding exchange_value
 exchange_reads x h =
@@ -86,6 +87,7 @@ unfolding observation_value
 reset_at_name r None e = rw e refl
 reset_at_name r (Some z) e = rw e refl
 
+-- the object of a reset reads back as its flow
 pub reset_reads : ResetReadsBack
 reset_reads r h =
     reset_of _ _ _ (stated_reset r) (reset_at_name r r.observed refl
@@ -154,6 +156,7 @@ raw_stated x rate seen reset h e g =
     (day_reads x.adjusted_start h.adjusted_start) (day_reads x.adjusted_end h.adjusted_end) (count_reads x.days h.days)
     (notional_reads x.notional h.notional) e (fraction_reads x.frac h.fraction h.short) g
 
+-- the object of a calculation period reads back as its flow
 pub period_reads : PeriodReadsBack
 unfolding fixed_value floating_value definition_value
 period_reads x None h k =
@@ -166,6 +169,7 @@ period_reads x (Some r) h k =
 
 -- ---- payments
 
+-- the items of an array are the list it was made from
 pub from_items : (ds : List Data) → list_of (items_from ds) ≡ ds
 from_items [] = refl
 from_items (d ∷ ds) = ap (λ l. d ∷ l) (from_items ds)
@@ -181,6 +185,7 @@ one_listed p j h = elim (slice_get_cases p.periods j).1 [
   | inr w ↦ absurd (let past = w.0 in omega (arith, past))
 ]
 
+-- each calculation period of the payment is listed
 pub all_listed : (p : Part) (first n : ℕ) → first + n ≤ length p.periods → length (period_values p first n) ≡ n
 all_listed p first zero h = refl
 all_listed p first (suc n) h =
@@ -202,6 +207,7 @@ payment_with unadjusted adjusted ds forecast = object (
     (put (codes "unadjustedPaymentDate") (day_leaf unadjusted)
     no_members))))
 
+-- the forecast amount of a payment, by its parts
 abbrev forecast_with : Currency → Option Dec → Data
 forecast_with currency o =
     object (put_known (codes "amount") (option_map amount_leaf o)
@@ -221,6 +227,7 @@ payment_raw : (u a : ℤ) (ds : List Data) (currency : Currency) (o : Option Dec
 payment_raw u a ds currency None = refl
 payment_raw u a ds currency (Some v) = refl
 
+-- the object of a payment reads back as its flow
 pub payment_reads : PaymentReadsBack
 unfolding payment_value forecast_value
 payment_reads p y h =

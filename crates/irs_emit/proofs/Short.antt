@@ -1,6 +1,5 @@
--- The rows of every schedule are short: their dates are days, their currency is three capital letters, and their
--- numbers
--- have at most 18 digits before the point.
+-- The rows of every schedule are short. Their dates are days, their currency is three capital letters, and their
+-- numbers have at most 18 digits before the point.
 use Rattle.std.proofs.Common.{◌≡◌, ℕ, zero, suc, ◌+◌, ◌-◌, ◌*◌, ◌/◌, ◌^◌, ◌<◌, ◌≤◌, ◌==◌, true, List, [], ◌∷◌, length}
 use Rattle.std.proofs.Common.{All, Option, Some, None, IfSome, option_map, ℤ, pos, negsuc, ◌*ℤ◌, ◌≤ℤ◌, unsigned_abs}
 use Rattle.std.proofs.Common.{refl, sym, subst, arith}
@@ -110,6 +109,7 @@ fraction_few code e h =
 capital : (c : ℕ) → (65 ≤ c) × (c ≤ 90) → is_capital c ≡ true
 capital c h = grind (arith, nat_tests)
 
+-- a capital letter
 abbrev IsCapital : ℕ → Type 0
 IsCapital b = (65 ≤ b) × (b ≤ 90)
 
@@ -150,6 +150,7 @@ spans a n (y ∷ ys) l h =
     let first = h.0 in
     ((omega (arith, l, first), h.1, omega (arith, within)), spans (y.last_period + 1) n ys (omega arith) h.2)
 
+-- a payment pays periods of the schedule, and its amount is one of the currency
 abbrev IsPaidSpan : Part → PaymentEntry → Type 0
 IsPaidSpan p y = IsSpan (length p.periods) y × HasAmount p.currency y
 

@@ -35,7 +35,7 @@ map_push : (vs : List Value) (v : Value) → map view (vs ++ v ∷ []) ≡ map v
 map_push [] v = refl
 map_push (w ∷ vs) v = ap (λ l. view w ∷ l) (map_push vs v)
 
--- a period that was put last
+-- a period that was appended last
 pub listed_here : (p : Part) (j : ℕ) (x : CalculationPeriod) (vs ws : List Value) (v : Value) → period_at p j ≡ Some x
     → view v ≡ period_value x (slice_get p.resets j) → ws ≡ vs ++ v ∷ [] → map view ws ≡ map view vs ++ one_period p j
 listed_here p j x vs ws v there is e =

@@ -1,5 +1,5 @@
--- The cash flows of a schedule as a JSON value, in FpML's elements: a row for each row of the schedule,
--- each field of it that is known, and no other. Members stand in the byte order of their names.
+-- The cash flows of a schedule as a JSON value, in FpML's elements. There is a row for each row of the schedule, with
+-- each field of it that is known, and no other. Members are in the byte order of their names.
 use Rattle.std.specs.Prelude.{ℕ, zero, suc, ◌+◌, ◌-◌, List, [], ◌∷◌, ◌++◌, map, Option, Some, None, option_map}
 use Rattle.std.specs.Prelude.{slice_get, codes}
 use Rattle.irs_terms.specs.declared.currency.Currency.{Currency}
@@ -36,7 +36,7 @@ exchange_value x = object (
     (put (codes "unadjustedPrincipalExchangeDate") (day_leaf x.unadjusted)
     no_members)))
 
--- the amount of a payment; the currency stands also where the amount isn't known
+-- the amount of a payment; the currency is there also where the amount isn't known
 unfoldable pub forecast_value : Currency → PaymentEntry → Data
 forecast_value currency y = object (
     put_known (codes "amount") (option_map amount_leaf y.amount)
@@ -92,7 +92,7 @@ listed_period reset (Some x) = period_value x reset ∷ []
 abbrev pub one_period : Part → ℕ → List Data
 one_period p j = listed_period (slice_get p.resets j) (period_at p j)
 
--- so many periods from that place on
+-- n periods from that place on
 abbrev pub period_values : Part → ℕ → ℕ → List Data
 period_values p j zero = []
 period_values p j (suc n) = period_values p j n ++ one_period p (j + n)

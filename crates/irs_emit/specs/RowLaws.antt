@@ -12,7 +12,7 @@ use Rattle.irs_terms.specs.declared.results.Exchange.{Exchange}
 use Rattle.irs_terms.specs.declared.results.Reset.{Reset}
 use Rattle.std.specs.Prelude.{◌≡◌, ℕ, ◌/◌, ◌^◌, ◌<◌, ◌≤◌, length, ℤ, pos, ◌≤ℤ◌, unsigned_abs, Option, IfSome, true}
 
--- at most 18 digits stand before the point
+-- at most 18 digits are before the point
 abbrev pub IsShort : ℤ → ℕ → Type 0
 IsShort units places = unsigned_abs units / 10 ^ places < 10 ^ 18
 

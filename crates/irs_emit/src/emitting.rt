@@ -39,7 +39,7 @@ fn exchanges(alloc: Global, part: &StreamPart) -> Result<Option<Value>, Memory>
     Ok(Some(Value::Array(list)))
 }
 
-// Puts the calculation period at a place, counted from 0, behind the others, if there is one.
+// Appends the calculation period at a place, counted from 0, if there is one.
 #[tactic(auto, using(crate::proofs::Values::listed_here, crate::proofs::Bounds::period_above))]
 fn push_period(
     alloc: Global,
@@ -59,7 +59,7 @@ fn push_period(
     }
 }
 
-// So many calculation periods, from that place on, counted from 0.
+// `count` calculation periods, from that place on, counted from 0.
 #[tactic(auto, using(crate::proofs::Values::next_period, crate::proofs::Values::listed))]
 fn periods(alloc: Global, part: &StreamPart, first: usize, count: usize) -> Result<Value, Memory>
     requires { first + count < 2 ^ 63 }
@@ -155,13 +155,13 @@ fn document(alloc: Global, s: &Schedule) -> Result<Value, Memory>
     object_with(alloc, "swap", swap)
 }
 
-/// The cash flows of a schedule as a JSON document in FpML's elements: `swap`, and in it for each stream
-/// its `cashflows` (FpML `cashflows` of an InterestRateStream), with a row for each exchange, payment
-/// and calculation period. Each field that the schedule knows is stated, and no other: a date as
-/// `YYYY-MM-DD`, an amount with the decimals of its currency, a notional with 4 decimals, a rate with 9 and a
-/// fraction with 10, rounded to the nearest. The text is the compact one that `serde_json` writes,
-/// members in the byte order of their names, with a line feed behind it. `Memory` comes where memory
-/// runs out. The layout is this project's own.
+/// The cash flows of a schedule as a JSON document in FpML's elements. It has `swap`, and in it for
+/// each stream its `cashflows` (FpML `cashflows` of an InterestRateStream). They have a row for
+/// each exchange, payment and calculation period. Each field that the schedule knows is stated, and
+/// no other. A date is `YYYY-MM-DD`, and an amount has the decimals of its currency. A notional has
+/// 4 decimals, a rate 9 and a fraction 10, rounded to the nearest. The text is the compact one that
+/// `serde_json` writes, members in the byte order of their names, with a line feed at its end.
+/// `Memory` comes where memory runs out. The layout is ours.
 #[tactic(auto, using(crate::proofs::Built::text_is, crate::proofs::Built::text_reads))]
 pub fn emit_flows(alloc: Global, s: &Schedule) -> Result<Vec<u8>, Memory>
     ensures text { IfOk result (λ bytes. bytes.items ≡ emit_text s.now) }

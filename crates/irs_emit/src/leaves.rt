@@ -1,6 +1,6 @@
 //! The leaves of emitted cash flows. Each is a JSON string: a date `YYYY-MM-DD`, or a number in the
-//! spelling of the schedule's text, with the currency's decimals for an amount, 4 for a notional, 9 for a
-//! rate and 10 for a fraction.
+//! spelling of the schedule's text. An amount has the currency's decimals, a notional 4, a rate 9
+//! and a fraction 10.
 ghost use Rattle.std.specs.Prelude.{◌≡◌, ◌≤◌, IfOk, pos, ◌^◌, ◌<◌, ◌<ℤ◌, ◌*ℤ◌, unsigned_abs};
 ghost use Rattle.serde_json.specs.Data.{string};
 ghost use Rattle.serde_json.specs.View.{view};

@@ -17,7 +17,7 @@ use std::alloc::Global;
 // The members of an object.
 type Members = Map<String, Value>;
 
-/// Puts a member, where there is a value for it.
+/// Adds a member, where there is a value for it.
 pub(crate) fn put_known(
     members: &mut Members,
     alloc: Global,

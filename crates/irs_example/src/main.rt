@@ -1,6 +1,6 @@
-//! The crates as a library: a document becomes a schedule, of which two rows are printed, and which is asked
-//! for the next payment behind a day in each stream, and for the verdict on another party's cash flows.
-//! docs/LIBRARY.md goes through it step by step.
+//! The crates as a library. A document becomes a schedule, of which two rows are printed. Then come
+//! the next payment after a day in each stream, and the verdict on another party's cash flows. The
+//! page docs/LIBRARY.md goes through it step by step.
 #![tactic(auto)]
 
 ghost use Rattle.irs_schedule.specs.RowTexts.{HasPlaces};
@@ -17,7 +17,7 @@ use irs_schedule::{PaymentEntry, Row, Schedule, make_schedule, row_text};
 use std::alloc::Global;
 use std::fs;
 
-/// The day behind which a payment is sought.
+/// The day after which a payment is sought.
 const TODAY: &str = "2024-08-01";
 
 // Steps 1 to 6: from the bytes of a document to its schedule. There are no calendars and no fixings, as
@@ -55,7 +55,8 @@ fn print_first_rows(rt: &HostRuntime, schedule: &Schedule) -> Result<()> {
     Ok(())
 }
 
-// The first payment of a stream that is due behind a day, by its adjusted date; payments stand in order.
+// The first payment of a stream that is due after a day, by its adjusted date; payments are in
+// order.
 fn next_payment(payments: &[PaymentEntry], today: Day) -> Option<&PaymentEntry> {
     payments.iter().find(|payment| today < payment.adjusted)
 }

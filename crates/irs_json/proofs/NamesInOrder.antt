@@ -33,6 +33,7 @@ stands k (object ns) ms = inr (search rules, refl)
 
 -- ---- the order
 
+-- the name k is before each of the names
 abbrev Above : List ℕ → List (List ℕ) → Type 0
 Above k names = AllByRecursion (λ n. slice_cmp nat_cmp k n ≡ Less) names
 
@@ -58,6 +59,7 @@ sorted_one k d ms above rising =
           subst (IsStrictlySortedBy (slice_cmp nat_cmp)) (sym w.1) (above, rising)
     ]
 
+-- the names of an object's members rise where its keys do
 pub names_rise : (es : List Entry) → IsStrictlySortedBy string_cmp (keys_of es)
     → IsStrictlySortedBy (slice_cmp nat_cmp) (names_in (members_view es))
 unfolding IsStrictlySortedBy
@@ -67,6 +69,7 @@ names_rise (e ∷ es) h =
 
 -- ---- what is found
 
+-- the members have a value of this name that counts as present
 abbrev IsFound : List ℕ → Members → Type 0
 IsFound name ms = IsSome (option_and_then present (get_member name ms))
 
@@ -92,6 +95,7 @@ not_above k (n ∷ ns) above (suc i) lt e = not_above k ns above.1 i (omega arit
 
 -- ---- a name and a first member
 
+-- the names of the members that count as present
 abbrev Names : List Entry → List (List ℕ)
 Names es = names_in (members_view es)
 
@@ -173,6 +177,7 @@ found_is_named (e ∷ es) name found =
       | inr other ↦ add_name e es name (found_is_named es name (found_before e es name other found))
     ]
 
+-- a name is among the names of the members exactly where the object has a value of that name that counts as present
 pub names_are_found : (es : List Entry) → IsStrictlySortedBy string_cmp (keys_of es) → (name : List ℕ)
     → Contains (names_in (members_view es)) name ↔ IsSome (option_and_then present (get_member name (members_view es)))
 names_are_found es h name = (named_is_found es h name, found_is_named es name)

@@ -11,6 +11,7 @@ list_of-items_from : (ds : List Data) → list_of (items_from ds) ≡ ds
 list_of-items_from [] = refl
 list_of-items_from (d ∷ ds) = ap (λ r. d ∷ r) (list_of-items_from ds)
 
+-- the values of an array are its items
 pub items_of-Array : (v : Value) (l : Vec Value Global) → v ≡ Array l → map view l.items ≡ items_of (view v)
 items_of-Array v l is = rw (is, view-Array l) (sym (list_of-items_from (map view l.items)))
 
@@ -18,6 +19,7 @@ present-filled : (vs : List Value) → 0 < length vs → Some (array (items_view
 present-filled [] h = absurd (omega arith)
 present-filled (v ∷ vs) h = refl
 
+-- an array with items counts as present
 pub present-Array : (v : Value) (l : Vec Value Global) → v ≡ Array l → 0 < length l.items
     → Some (view v) ≡ present (view v)
 present-Array v l is h = rw (is, view-Array l) (present-filled l.items h)

@@ -1,4 +1,4 @@
--- An element as it stands in a JSON object.
+-- An element as it appears in a JSON object.
 use Rattle.serde_json.specs.Data.{Data, null, boolean, number, string, array, object, no_items, item}
 use Rattle.serde_json.specs.Find.{get}
 use Rattle.std.specs.Prelude.{ℕ, List, Option, Some, None, option_and_then}

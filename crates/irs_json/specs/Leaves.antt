@@ -34,7 +34,7 @@ abbrev pub is_attribute : List ℕ → Bool
 is_attribute [] = false
 is_attribute (x ∷ xs) = x == 64
 
--- what may stand in a leaf that is an object: `#text` and attributes
+-- the members that an object may have to be a leaf: `#text` and attributes
 abbrev pub is_beside : List ℕ → Bool
 is_beside name = bytes_eq name (codes "#text") || is_attribute name
 

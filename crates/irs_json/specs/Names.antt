@@ -3,7 +3,7 @@ use Rattle.serde_json.specs.Data.{Data, null, boolean, number, string, array, ob
 use Rattle.serde_json.specs.Data.{no_members, member}
 use Rattle.std.specs.Prelude.{ℕ, List, [], ◌∷◌, Option, Some, None}
 
--- the names of the members that don't count as absent, in the order in which they stand
+-- the names of the members that don't count as absent, in their order in the object
 abbrev pub names_in : Members → List (List ℕ)
 names_in no_members = []
 names_in (member k null ms) = names_in ms

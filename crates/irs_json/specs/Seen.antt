@@ -1,4 +1,4 @@
--- What the types of this crate stand for.
+-- The mathematical values that the types of this crate have.
 use Rattle.irs_json.specs.Leaves.{Leaf, word, whole, truth}
 use Rattle.irs_json.specs.declared.leaves.LeafValue.{LeafValue}
 use Rattle.irs_json.specs.declared.leaves.LeafValue.TheVariants.{Word, Whole, Truth}

@@ -1,5 +1,6 @@
-//! A leaf is a string, a whole number, a truth value, or an object with a member `#text` that is
-//! one of these and otherwise attributes alone. White space at both ends of a leaf is dropped.
+//! A leaf is a string, a whole number or a truth value. An object whose member `#text` is one of
+//! these, and whose other members are attributes, is a leaf too. White space at both ends of a leaf
+//! is dropped.
 ghost use Rattle.irs_json.specs.Leaves.{bare_leaf, is_attribute, is_beside, leaf_of};
 ghost use Rattle.irs_json.specs.Seen.{leaf_seen};
 ghost use Rattle.serde_json.specs.View.{view};
@@ -22,9 +23,9 @@ pub enum LeafValue<'a> {
     Truth(bool),
 }
 
-/// What `v` says as a leaf. `None` exactly where it is no leaf: null, an array, a number with a
-/// fraction or an exponent or past 64 bits, `-0`, an object without `#text`, one with an element
-/// beside it, or one whose `#text` is none of the three.
+/// The leaf that `v` is, or `None` exactly where it is none. Null, an array, `-0`, and a number
+/// with a fraction, with an exponent or past 64 bits are no leaves. Nor is an object without
+/// `#text`, with an element beside it, or with a `#text` that is none of the three.
 pub fn leaf<'a>(v: &'a Value) -> Option<LeafValue<'a>>
     ensures { option_map leaf_seen result ≡ leaf_of (view v.now) }
 {

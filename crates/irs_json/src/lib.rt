@@ -1,8 +1,9 @@
 //! The carrier: FpML elements in a value that `serde_json` read.
 //!
-//! This carrier is this project's own. An element is a member of a JSON object, a repeated element
-//! is an array (or one value where there is one), an attribute is a member whose name begins with
-//! `@`, and a member that is null or an empty array counts as absent.
+//! The mapping from JSON to elements is our rule. An element is a member
+//! of a JSON object, and an attribute is a member whose name begins with `@`. A repeated element is
+//! an array, or one value where there is one. A member that is null or an empty array counts as
+//! absent.
 #![tactic(auto)]
 
 mod carrier;

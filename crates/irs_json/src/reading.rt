@@ -11,8 +11,8 @@ use thiserror::Error;
 /// Why bytes gave no value.
 #[derive(Clone, Copy, Debug, PartialEq, Eq, Error)]
 pub enum JsonErr {
-    /// The bytes have no JSON reading: they are no UTF-8, no JSON text, nest past 127 levels, or
-    /// hold a number that is too large for a binary float.
+    /// The bytes have no JSON reading. They aren't UTF-8 or aren't JSON, they nest past 127 levels,
+    /// or they hold a number that is too large for a binary float.
     #[error("not JSON")]
     NotJson,
     /// There was no memory for the value.

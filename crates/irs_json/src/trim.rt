@@ -73,8 +73,8 @@ fn is_past_space(byte: Option<&u8>) -> bool
     }
 }
 
-/// The text without the white space at its ends. Most texts have none, as their first byte and their last
-/// tell.
+/// The text without the white space at its ends. Most texts have none, which their first and last
+/// byte show.
 pub(crate) fn trimmed(text: &str) -> &str
     ensures { result.now ≡ trim_of text.now }
 {

@@ -1,4 +1,4 @@
--- What is said of a status, put piece by piece: the sentence, its end, and the listed commands.
+-- What is said of a status, written piece by piece: the sentence, its end, and the listed commands.
 use Rattle.std.proofs.Common.{◌≡◌, ℕ, ◌<◌, List, [], ◌++◌, codes, Option, ◌⊎◌, inl, inr, refl, sym, ◌∙◌, ap, subst, append_assoc}
 use Rattle.std.proofs.Common.{◌==◌, if◌then◌else◌, arith}
 use Rattle.irs_outside.specs.Outside.{Grew, GrewByFront}
@@ -27,7 +27,7 @@ said_of_status commands words others status line another (inr (inl is)) =
 said_of_status commands words others status line another (inr (inr is)) =
     subst (λ (n : ℕ). explanation_of commands words n line ≡ explanation_of commands others n another) (sym is) refl
 
--- a text that was put is put whatever it is called
+-- an explanation that was written is also one of an equal text
 pub explained_as : (text other : List ℕ) (old now : Option (List ℕ)) (before after : ℕ)
     → Explained text old now before after → text ≡ other → Explained other old now before after
 explained_as text other old now before after h is = subst (λ (t : List ℕ). Explained t old now before after) is h
@@ -55,16 +55,19 @@ at_positive : (status : ℕ) (text : List ℕ) → 0 < status → (if status == 
 at_positive status text positive = grind arith
 
 module _ (commands words : List (List ℕ)) (status : ℕ) (line : List ℕ) where
+  -- the sentence of the status
   abbrev sentence : List ℕ
   sentence = sentence_of words status line
 
+  -- the listed commands, where they follow
   abbrev listing : List ℕ
   listing = listing_of commands status
 
+  -- the whole explanation
   abbrev text : List ℕ
   text = explanation_of commands words status line
 
-  -- of any other status there is a sentence and what stands behind it
+  -- any other status has a sentence and what follows it
   said_is : 0 < status → text ≡ (sentence ++ codes "\n") ++ listing
   unfolding explanation_of
   said_is positive = at_positive status ((sentence ++ codes "\n") ++ listing) positive
@@ -75,39 +78,39 @@ module _ (commands words : List (List ℕ)) (status : ℕ) (line : List ℕ) whe
         said_is positive ∙ append_assoc sentence (codes "\n") listing
         ∙ ap (λ (l : List ℕ). l ++ (codes "\n" ++ listing)) (sym is)
 
-    -- the sentence wasn't put whole
+    -- the sentence wasn't written whole
     pub sentence_failed : (a b : Option (List ℕ)) → GrewByFront a b parts → GrewByFront a b text
     sentence_failed a b k =
         let G : List ℕ → Type 0 = λ t. GrewByFront a b t in
         subst G (sym said_by) (first_part a b parts (codes "\n" ++ listing) k)
 
-    -- the sentence was put: its end and what stands behind it are left
+    -- the sentence was written: its end and what follows are left
     sentence_put : (a b : Option (List ℕ)) → Grew a b parts → Through a b (codes "\n" ++ listing) text
     sentence_put a b h = record { front = parts; grew = h; is = said_by }
 
-    -- its end wasn't put
+    -- its end wasn't written
     pub end_failed : (a b c : Option (List ℕ)) → Grew a b parts → GrewByFront b c (codes "\n") → GrewByFront a c text
     end_failed a b c h k = through_part a b c (codes "\n") listing text (sentence_put a b h) k
 
-    -- its end was put: what stands behind it is left
+    -- its end was written: what follows it is left
     end_put : (a b c : Option (List ℕ)) → Grew a b parts → Grew b c (codes "\n") → Through a c listing text
     end_put a b c h k = through_more a b c (codes "\n") listing text (sentence_put a b h) k
 
-    -- the listed commands weren't put whole
+    -- the listed commands weren't written whole
     pub listing_failed : (a b c d : Option (List ℕ)) → Grew a b parts → Grew b c (codes "\n") → status ≡ 4
         → GrewByFront c d (lines_of commands) → GrewByFront a d text
     listing_failed a b c d h k bad m =
         let G : List ℕ → Type 0 = λ t. GrewByFront c d t in
         through_last_part a c d listing text (end_put a b c h k) (subst G (sym (listed_at commands status bad)) m)
 
-    -- the listed commands were put
+    -- the listed commands were written
     pub listing_put : (a b c d : Option (List ℕ)) → Grew a b parts → Grew b c (codes "\n") → status ≡ 4
         → Grew c d (lines_of commands) → Grew a d text
     listing_put a b c d h k bad m =
         let G : List ℕ → Type 0 = λ t. Grew c d t in
         through_last a c d listing text (end_put a b c h k) (subst G (sym (listed_at commands status bad)) m)
 
-    -- there is nothing more to put
+    -- there is nothing more to write
     pub sentence_alone : (a b c : Option (List ℕ)) → Grew a b parts → Grew b c (codes "\n") → ¬ (status ≡ 4)
         → Grew a c text
     sentence_alone a b c h k other =

@@ -15,7 +15,7 @@ itself_of help version (word ∷ []) =
     else (if bytes_eq word (codes "--version") then Some version else None)
 itself_of help version (word ∷ another ∷ others) = None
 
--- the text was put and the status is 0; or a put failed, a front of the text was put, and the status is 6
+-- the text was written and the status is 0; or a write failed, a front of the text was written, and the status is 6
 abbrev pub Printed : (text : List ℕ) → (old now : Option (List ℕ)) → (before after : ℕ) → (status : ℕ) → Type 0
 Printed text old now before after status =
     ((status ≡ 0) × Grew old now text × (after ≡ before))
@@ -23,12 +23,12 @@ Printed text old now before after status =
 
 -- ---- what is said
 
--- texts with a line feed behind each
+-- texts with a line feed after each
 abbrev pub lines_of : List (List ℕ) → List ℕ
 lines_of [] = []
 lines_of (line ∷ lines) = (line ++ codes "\n") ++ lines_of lines
 
--- what stands behind the sentence: the listed commands, where the words are none of them
+-- the text after the sentence: the listed commands, where the words are none of them
 abbrev pub listing_of : (commands : List (List ℕ)) → (status : ℕ) → List ℕ
 listing_of commands status = if status == 4 then lines_of commands else []
 
@@ -38,7 +38,7 @@ explanation_of commands words status line =
     if status == 0 then []
     else (sentence_of words status line ++ codes "\n") ++ listing_of commands status
 
--- the text was put and no put failed, or one failed and a front of the text was put
+-- the text was written and no write failed, or one failed and a front of the text was written
 abbrev pub Explained : (text : List ℕ) → (old now : Option (List ℕ)) → (before after : ℕ) → Type 0
 Explained text old now before after =
     (Grew old now text × (after ≡ before)) ⊎ (GrewByFront old now text × Rose before after)

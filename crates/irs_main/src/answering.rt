@@ -1,7 +1,7 @@
-//! What the program does around `run`: it answers what is asked about itself, and says what each status
+//! What the program does around `run`. It prints its texts about itself, and says what each status
 //! but 0 means.
 //!
-//! Words, texts and statuses are this project's own.
+//! Words, texts and statuses are our rule.
 ghost use Rattle.std.specs.Prelude.{◌≡◌, ℕ, ◌<◌, List, Some, None, map, option_map, OnOk, OnErr};
 ghost use Rattle.irs_outside.specs.Outside.{Grew, GrewByFront, Rose};
 ghost use Rattle.irs_plain.specs.Kept.{front_of, sink_of};
@@ -17,11 +17,11 @@ use std::alloc::Global;
 
 /// Answers the words: prints what they ask for, and says on `errors` what a status other than 0 means.
 ///
-/// The single word `--help` or `--version` is answered with its text and 0, or 6 where a put failed. All
-/// other words are run, as `run` says, once their shown form is made; where memory runs out for that, the
-/// status is 7. On every status but 0 the sentence for it goes to `errors` as a line, with each word as
-/// `shown_words` shows it. After it, for words that are no listed command, come the listed commands, a
-/// line each. Nothing is written to `errors` after a write that failed.
+/// For the single word `--help` or `--version` it prints its text and returns 0, or 6 where a write
+/// failed. All other words are run, as `run` says, once their shown form is made. Where memory runs
+/// out for that, the status is 7. On every status but 0 the sentence for it goes to `errors` as a
+/// line, with each word as `shown_words` shows it. For words that are no listed command, the listed
+/// commands follow, a line each. Nothing is written to `errors` after a write that failed.
 pub fn answer<F: Files, S: Sink, E: Sink>(
     alloc: Global,
     words: &[String],
@@ -29,7 +29,7 @@ pub fn answer<F: Files, S: Sink, E: Sink>(
     out: &mut Kept<S>,
     errors: &mut E,
 ) -> u8
-    // The statuses are 0 to 8, and what the files tell is the same afterwards.
+    // The statuses are 0 to 8, and what is known of the files is the same afterwards.
     ensures listed { result < 9 }
     ensures told { (n : List ℕ) → F.told files.new n ≡ F.told files.old n }
 
@@ -47,12 +47,13 @@ pub fn answer<F: Files, S: Sink, E: Sink>(
         (S.faults (sink_of out.old)) (S.faults (sink_of out.new)) in
         Ran (texts words.now) source written result }
 
-    // What the status and the first bytes that were put mean is said, with the words as they are shown.
+    // The meaning of the status and of the first bytes that were written is said, with the words as
+    // they are shown.
     ensures explained { Explained
         (explanation_of (map (λ c. c.now) COMMANDS) (map shown (texts words.now)) result (front_of out.new))
         (E.written errors.old) (E.written errors.new) (E.faults errors.old) (E.faults errors.new) }
 
-    // Where all is done nothing is put there.
+    // Where all is done nothing is written there.
     ensures silent { result ≡ 0 → errors.new ≡ errors.old }
 {
     match about_itself(words) {
@@ -115,7 +116,8 @@ pub(crate) fn explain<E: Sink>(errors: &mut E, words: &[String], status: u8, lin
     }
 }
 
-// Puts the sentence for a status other than 0 and, where the words are no listed command, the listed ones.
+// Writes the sentence for a status other than 0 and, where the words are no listed command, the
+// listed ones.
 fn tell<E: Sink>(errors: &mut E, words: &[String], status: u8, line: &[u8]) -> Result<(), PutFailed>
     requires { 0 < status }
     ensures ok { OnOk result (Grew (E.written errors.old) (E.written errors.new)

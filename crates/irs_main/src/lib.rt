@@ -1,5 +1,5 @@
-//! What the program `irs` does: it prints what its words ask for, on standard output, and on standard
-//! error what a line means that isn't what was asked for.
+//! What the program `irs` does. It prints on standard output what its words call for. On standard
+//! error it says what a line means that reports something else.
 #![tactic(auto)]
 
 mod answering;

@@ -1,4 +1,4 @@
-//! Putting a text in pieces: nothing is put behind a put that failed.
+//! Writing a text in pieces: nothing is written after a write that failed.
 ghost use Rattle.std.specs.Prelude.{◌≡◌, ◌++◌, codes, map, OnOk, OnErr};
 ghost use Rattle.irs_outside.specs.Outside.{Grew, GrewByFront, Rose};
 ghost use Rattle.irs_plain.specs.Sentences.{joined};
@@ -6,7 +6,7 @@ ghost use Rattle.irs_main.specs.Answering.{lines_of};
 
 use irs_cli::{PutFailed, Sink};
 
-/// Puts parts, one behind the other.
+/// Writes parts, one after the other.
 pub(crate) fn put_parts<S: Sink>(out: &mut S, parts: &[&[u8]]) -> Result<(), PutFailed>
     ensures ok { OnOk result
         (Grew (S.written out.old) (S.written out.new) (joined (map (λ p. p.now) parts.now))) }
@@ -21,7 +21,7 @@ pub(crate) fn put_parts<S: Sink>(out: &mut S, parts: &[&[u8]]) -> Result<(), Put
     Ok(())
 }
 
-/// Puts texts, each with a line feed behind it.
+/// Writes texts, each with a line feed after it.
 pub(crate) fn put_lines<S: Sink>(out: &mut S, lines: &[&str]) -> Result<(), PutFailed>
     ensures ok { OnOk result
         (Grew (S.written out.old) (S.written out.new) (lines_of (map (λ l. l.now) lines.now))) }
@@ -36,7 +36,7 @@ pub(crate) fn put_lines<S: Sink>(out: &mut S, lines: &[&str]) -> Result<(), PutF
     Ok(())
 }
 
-// Puts a text and a line feed.
+// Writes a text and a line feed.
 fn put_line<S: Sink>(out: &mut S, line: &str) -> Result<(), PutFailed>
     ensures ok { OnOk result (Grew (S.written out.old) (S.written out.new) (line.now ++ codes "\n")) }
     ensures quiet { OnOk result (S.faults out.new ≡ S.faults out.old) }

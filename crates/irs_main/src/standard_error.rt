@@ -4,7 +4,7 @@ ghost use Rattle.std.specs.Prelude.{None};
 use irs_cli::{PutFailed, Sink};
 use std::io::{Stderr, Write};
 
-/// The standard error. It tells nothing of what was written.
+/// The standard error. What was written to it is unknown to the clauses.
 #[derive(Drop)]
 pub struct StandardError {
     to: Stderr,
@@ -12,7 +12,7 @@ pub struct StandardError {
 }
 
 impl StandardError {
-    /// Nothing was put yet.
+    /// Nothing was written yet.
     pub fn new(rt: &HostRuntime) -> StandardError {
         StandardError {
             to: rt.stderr(),

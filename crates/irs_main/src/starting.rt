@@ -9,8 +9,9 @@ use irs_plain::Kept;
 use std::env;
 use std::io::ErrorKind;
 
-/// Does what the words of the command line ask for, and answers the exit status: that of `answer`, or,
-/// where the words can't be gathered, 7 for want of memory and 9 for a word that isn't text.
+/// Does what the words of the command line call for, and returns the exit status. It is that of
+/// `answer` where the words can be gathered. Else it is 7 where memory runs out, and 9 for a word
+/// that isn't text.
 pub fn status_of(rt: &HostRuntime) -> u8
     ensures { result < 10 }
 {
@@ -28,8 +29,8 @@ pub fn status_of(rt: &HostRuntime) -> u8
     }
 }
 
-// The words behind the program's name, or the status where there are none to be had: 7 where memory ran
-// out, 9 where a word isn't text.
+// The words after the program's name. Where they can't be had, the status is 7 where memory ran
+// out, or 9 where a word isn't text.
 fn words_of(rt: &HostRuntime) -> Result<Vec<String>, u8>
     ensures { IfErr result (λ s. (s ≡ 7) ⊎ (s ≡ 9)) }
 {

@@ -14,11 +14,13 @@ use Rattle.std.proofs.lemmas.Map.Lookups.{exact_signed, exact_bytes}
 use Rattle.irs_net.specs.Nets.{key_order, same_key}
 use Rattle.irs_net.specs.declared.totals.NetKey.{NetKey}
 
+-- keys have a total order
 pub keys_total : IsTotalOrder key_order
 keys_total =
     then_total (on_total (λ (k : NetKey). k.date) int_cmp_total)
     (on_total (λ (k : NetKey). k.letters) nat_list_cmp_total)
 
+-- being the same key is an equivalence
 pub keys_equiv : IsEquivalence same_key
 keys_equiv = eq_by_cmp_equiv keys_total
 
@@ -42,6 +44,7 @@ tied_keys a b e =
     let h = both_equal (int_cmp a.date b.date) (slice_cmp nat_cmp a.letters b.letters) e in
     ap₂ make_key (exact_signed a.date b.date h.0) (exact_bytes a.letters b.letters h.1)
 
+-- keys that compare the same are equal
 pub same_keys : (a b : NetKey) → same_key a b ≡ true → a ≡ b
 same_keys a b e = tied_keys a b (is_equal (key_order a b) e)
 
@@ -54,6 +57,7 @@ module _ {K : Type 0} where
   read_at P (x ∷ xs) zero q low e h = subst P e h.0
   read_at P (x ∷ xs) (suc k) q low e h = read_at P xs k q (omega (arith, low)) e h.1
 
+  -- what holds for each key of a list holds for a member
   pub read_all : (P : K → Type 0) (xs : List K) (q : K) → Contains xs q → AllByRecursion P xs → P q
   read_all P xs q c h = read_at P xs c.0 q c.1 c.2 h
 
@@ -62,15 +66,19 @@ module _ {K : Type 0} where
   cases_at x xs zero q low e = inl e
   cases_at x xs (suc k) q low e = inr (k, omega (arith, low), e)
 
+  -- a member of a list is its first key or one of the others
   pub cons_cases : (x : K) (xs : List K) (q : K) → Contains (x ∷ xs) q → (x ≡ q) ⊎ Contains xs q
   cons_cases x xs q c = cases_at x xs c.0 q c.1 c.2
 
+  -- the first key is a member
   pub head_in : (x : K) (xs : List K) → Contains (x ∷ xs) x
   head_in x xs = (0, omega arith, refl)
 
+  -- a later key is a member
   pub tail_in : (x : K) (xs : List K) (q : K) → Contains xs q → Contains (x ∷ xs) q
   tail_in x xs q c = (suc c.0, let l = c.1 in omega (arith, l), c.2)
 
+  -- an empty list has no member
   pub none_in : (q : K) → Contains [] q → ⊥
   none_in q c = let l = c.1 in omega (arith, l)
 

@@ -84,9 +84,11 @@ net_is parts m ordered totals =
 
 -- ---- only one
 
+-- the row of a key, with its sum and the number of its unknown amounts
 abbrev pub row_at : List NetPart → NetKey → NetRow
 row_at parts key = row_of (key, make_total (known_sum key parts) (unknown_count key parts))
 
+-- a row made of its parts
 abbrev make_row : NetKey → Dec → ℕ → NetRow
 make_row key amount unknown =
     record { date = key.date; currency = record { letters = key.letters }; amount = amount; unknown = unknown }
@@ -97,6 +99,7 @@ pub rows_by_keys : (parts : List NetPart) (rows : List NetRow) → Every (IsSumO
 rows_by_keys parts [] h = refl
 rows_by_keys parts (r ∷ rs) h = ap₂ ◌∷◌ (ap₂ (make_row (row_key r)) h.0.amount h.0.unknown) (rows_by_keys parts rs h.1)
 
+-- the parts of a schedule have one net
 pub one_net : (parts : List NetPart) (a b : List NetRow) → IsNet parts a → IsNet parts b → a ≡ b
 one_net parts a b h k =
     let keys : map row_key a ≡ map row_key b =

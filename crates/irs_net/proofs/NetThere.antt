@@ -132,6 +132,7 @@ are_sums : (parts : List NetPart) (ks : List NetKey) → Every (IsSumOf parts) (
 are_sums parts [] = tt
 are_sums parts (k ∷ ks) = (record { amount = refl; unknown = refl }, are_sums parts ks)
 
+-- the parts of a schedule have a net
 pub net_there : (parts : List NetPart) → (rows : List NetRow) × IsNet parts rows
 net_there parts =
     let k = keyed parts in

@@ -16,6 +16,7 @@ use Rattle.irs_net.specs.NetParts.{exchange_part, parts_of, payment_part, signed
 use Rattle.irs_net.specs.NetTotals.{IsSmall, most_parts, most_units}
 use Rattle.irs_net.specs.declared.parts.NetPart.{NetPart}
 
+-- what holds for each element of a list holds for the one at a place
 pub every_at : {X : Type 0} (P : X → Type 0) (xs : List X) (i : ℕ) (x : X) → Every P xs → i < length xs
     → x ≡ get_or xs i x → P x
 every_at P [] i x h low e = absurd (omega (arith, low))
@@ -24,6 +25,7 @@ every_at P (y ∷ ys) (suc i) x h low e = every_at P ys i x h.1 (omega (arith, l
 
 -- ---- one stream more
 
+-- one stream more adds its parts
 pub parts_more : (ps : List Part) (bs : List Bool) (i : ℕ) (p : Part) → i < length ps → i < length bs
     → p ≡ get_or ps i p → parts_of (take (suc i) ps) bs ≡ parts_of (take i ps) bs ++ stream_parts (get_or bs i false) p
 parts_more [] bs i p low lower e = absurd (omega (arith, low))
@@ -63,6 +65,7 @@ streams_few (p ∷ ps) (b ∷ bs) h =
     let both = length-append (stream_parts b p) (parts_of ps bs) in
     omega (arith, own, rest, both)
 
+-- a schedule has at most `most_parts` parts
 pub parts_few : (ps : List Part) (bs : List Bool) → IsWithin ps → length (parts_of ps bs) ≤ most_parts
 parts_few ps bs h = let few = streams_few ps bs h.each in let streams = h.few in omega (arith, few, streams)
 
@@ -75,6 +78,7 @@ thousand (suc (suc zero)) h = omega arith
 thousand (suc (suc (suc zero))) h = omega arith
 thousand (suc (suc (suc (suc n)))) h = absurd (omega (arith, h))
 
+-- an amount is small
 pub amount_small : (currency : Currency) (v : Dec) → IsAmount currency v → unsigned_abs v.units ≤ most_units
 amount_small currency v h =
     let few = decimals_few currency.letters in
@@ -116,5 +120,6 @@ streams_small (p ∷ ps) [] h = tt
 streams_small (p ∷ ps) (b ∷ bs) h =
     every_both IsSmall (stream_parts b p) (parts_of ps bs) (stream_small b p h.0) (streams_small ps bs h.1)
 
+-- each amount of a schedule is small
 pub parts_small : (ps : List Part) (bs : List Bool) → IsWithin ps → Every IsSmall (parts_of ps bs)
 parts_small ps bs h = streams_small ps bs h.each

@@ -58,6 +58,7 @@ party_is name d p r = ap href_in r.one ∙ ap (option_and_then as_str) r.href
 
 -- ---- two parties
 
+-- the payer and the receiver of a stream
 abbrev Pair : Type 0
 Pair = List ℕ × List ℕ
 
@@ -89,6 +90,7 @@ paid : (d : Data) (pair : Pair) → parties_in d ≡ Some pair → IsPaid d pair
 paid d pair h =
     paid_by d (party_in (codes "payerPartyReference") d) (party_in (codes "receiverPartyReference") d) pair refl refl h
 
+-- the two parties where both are found
 abbrev some_pair : List ℕ → List ℕ → Option Pair
 some_pair p r = Some (p, r)
 
@@ -109,9 +111,11 @@ both_of true true e = (refl, refl)
 both_of true false e = absurd (cc)
 both_of false y e = absurd (cc)
 
+-- the two streams have the same payer and the same receiver
 abbrev same_order : Pair → Pair → Bool
 same_order a b = bytes_eq b.0 a.0 && bytes_eq b.1 a.1
 
+-- the payer of each stream is the receiver of the other
 abbrev other_order : Pair → Pair → Bool
 other_order a b = bytes_eq b.0 a.1 && bytes_eq b.1 a.0
 
@@ -178,6 +182,7 @@ not_backward f s h w =
 
 -- ---- all streams
 
+-- sides for each stream are those of the swap
 pub are_sides : (streams : List Data) (sides : Sides) → sides.count ≡ length streams
     → SidesTo streams (length streams) sides.forward → AreSides streams sides
 are_sides streams sides count to = record {
@@ -213,6 +218,7 @@ side_at streams i forward f s v begins there low found to first stream j within 
   | inr (inr more) ↦ absurd (omega (arith, more, within))
 ]
 
+-- one stream more adds its side
 pub sides_more : (streams : List Data) (i : ℕ) (forward : List Bool) (f s : Data) (v : Bool)
     → slice_get streams 0 ≡ Some f → slice_get streams i ≡ Some s → i < 8 → side_in f s ≡ Some v
     → SidesTo streams i forward → SidesTo streams (i + 1) (set forward i v)
@@ -223,6 +229,7 @@ sides_more streams i forward f s v begins there low found to = record {
       rw get_or-set_other (to.past j (omega (arith, behind)));
 }
 
+-- after the last stream the sides are those of the swap
 pub sides_done : (streams : List Data) (i n : ℕ) (forward : List Bool) → i ≡ n → n ≡ length streams
     → SidesTo streams i forward → AreSides streams (record { forward = forward; count = n })
 sides_done streams i n forward e k to =
@@ -249,6 +256,7 @@ le_or_lt i j = elim (cases_order j i) [
   | inr (inr more) ↦ inr (omega (arith, more))
 ]
 
+-- the first stream without a side is the first to break K8
 pub first_k8 : (streams : List Data) (i : ℕ) (forward : List Bool) (first stream : Data)
     → slice_get streams 0 ≡ Some first → slice_get streams i ≡ Some stream → side_in first stream ≡ None
     → SidesTo streams i forward
@@ -287,18 +295,21 @@ few_if d s false e clean found =
     let kind : own_rule (Object Free) s ≡ Some K3 = rw e refl in
     absurd (clean _ (below s _ found (inl (own 0 0 K3 (Object Free) s kind))))
 
+-- a document without faults has at least one stream and at most the most
 pub streams_few : (d s : Data) → ((f : Broken) → DocumentFault d f → ⊥) → the_swap d ≡ Ok s
     → (0 < length (streams_in s)) × (length (streams_in s) ≤ most_streams)
 streams_few d s clean found = few_if d s (is_some (names_of s)) refl clean found
 
 -- ---- of a document
 
+-- the way to an element that was found
 abbrev led_to : Data → Way
 led_to a = Ok a
 
 ok_is : (a b : Data) → led_to a ≡ led_to b → a ≡ b
 ok_is a b e = cc
 
+-- the first K8 of the streams is that of the document
 pub first_of : (d s : Data) (vs : List Data) (x : Broken) → the_swap d ≡ Ok s → vs ≡ streams_in s
     → First is_before (BreaksK8 vs) x → First is_before (BreaksK8Of d) x
 first_of d s vs x found are h = (
@@ -308,6 +319,7 @@ first_of d s vs x found are h = (
       h.1 y (subst (λ (ds : List Data). BreaksK8 ds y) (ap streams_in same ∙ sym are) b.breaks),
 )
 
+-- what follows from an error holds of each error
 pub if_err : {A E : Type 0} (r : Result A E) (P Q : E → Type 0) → ((e : E) → P e → Q e) → IfErr r P → IfErr r Q
 if_err (Ok x) P Q to h = tt
 if_err (Err e) P Q to h = to e h
@@ -364,18 +376,22 @@ same_at streams a b i h k = elim (le_or_lt (length streams) i) [
   | inr behind ↦ h.past i behind ∙ sym (k.past i behind)
 ]
 
+-- sides made of their parts
 abbrev make_sides : List Bool → ℕ → Sides
 make_sides forward count = record { forward = forward; count = count }
 
+-- the streams have one list of sides
 pub one_sides : (streams : List Data) (a b : Sides) → AreSides streams a → AreSides streams b → a ≡ b
 one_sides streams a b h k =
     ap₂ make_sides (same_flags a.forward b.forward (h.eight ∙ sym k.eight) (λ i. same_at streams a b i h k)) (h.count
     ∙ sym k.count)
 
+-- a document has one list of sides
 pub one_sides_of : (d : Data) (a b : Sides) → SidesOf d a → SidesOf d b → a ≡ b
 one_sides_of d a b h k =
     let same : h.swap ≡ k.swap = ok_is h.swap k.swap (sym h.found ∙ k.found) in
     one_sides (streams_in k.swap) a b (subst (λ (s : Data). AreSides (streams_in s) a) same h.are) k.are
 
+-- a document has one first K8
 pub one_k8 : (d : Data) (x y : Broken) → First is_before (BreaksK8Of d) x → First is_before (BreaksK8Of d) y → x ≡ y
 one_k8 d x y h k = one_first is_before broken_ties (BreaksK8Of d) x y h k

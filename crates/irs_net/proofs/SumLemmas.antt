@@ -74,6 +74,7 @@ over_more c (r ∷ rs) p ps =
     ∙ split_if (bytes_eq c.letters r.currency.letters) (given r p) (known_sum (row_key r) ps) (from_one c rs p)
     (over c rs ps)
 
+-- a row has the key of the part
 abbrev keyed : NetPart → List NetRow → Bool
 keyed p rows = list_any (same_key (part_key p)) (map row_key rows)
 

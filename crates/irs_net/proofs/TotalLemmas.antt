@@ -14,14 +14,17 @@ use Rattle.irs_net.specs.declared.totals.NetKey.{NetKey}
 use Rattle.irs_net.specs.declared.totals.NetTotal.{NetTotal}
 use Rattle.irs_net.proofs.KeyLemmas.{keys_equiv, same_keys}
 
+-- the part has this key
 abbrev Own : NetKey → NetPart → Bool
 Own key p = same_key key (part_key p)
 
+-- one part more adds its amount to the sum of its key
 pub known_push : (key : NetKey) (ps : List NetPart) (p : NetPart)
     → known_sum key (ps ++ p ∷ []) ≡ known_sum key ps +ℤ (if Own key p then known_units p.units else pos 0)
 known_push key [] p = omega (arith, signed_arith)
 known_push key (q ∷ ps) p = let e = known_push key ps p in rw e (omega (arith, signed_arith))
 
+-- one part more counts where its amount is unknown
 pub unknown_push : (key : NetKey) (ps : List NetPart) (p : NetPart)
     → unknown_count key (ps ++ p ∷ []) ≡ unknown_count key ps + (if Own key p && is_none p.units then 1 else 0)
 unknown_push key [] p = omega arith
@@ -35,6 +38,7 @@ or_false : (a : Bool) → (a || false) ≡ a
 or_false true = refl
 or_false false = refl
 
+-- one part more may bring its key
 pub any_push : (key : NetKey) (ps : List NetPart) (p : NetPart)
     → list_any (same_key key) (map part_key (ps ++ p ∷ [])) ≡ (list_any (same_key key) (map part_key ps) || Own key p)
 any_push key [] p = or_false (Own key p)
@@ -52,6 +56,7 @@ none_known key (p ∷ ps) h =
     let first = apart.0 in
     rw first (omega (arith, signed_arith, rest.0), omega (arith, rest.1))
 
+-- a total made of its parts
 abbrev pub make_total : ℤ → ℕ → NetTotal
 make_total known unknown = record { known = known; unknown = unknown }
 
@@ -61,6 +66,7 @@ total_if : (b : Bool) (known : ℤ) (unknown : ℕ) → (b ≡ false → (known 
 total_if true known unknown h = refl
 total_if false known unknown h = ap₂ make_total (sym (h refl).0) (sym (h refl).1)
 
+-- the total of a key is its sum and the number of its unknown amounts, or zero where the key is new
 pub so_far : (key : NetKey) (ps : List NetPart)
     → unwrap_or (total_at ps key) no_total ≡ make_total (known_sum key ps) (unknown_count key ps)
 so_far key ps =
@@ -90,6 +96,7 @@ own_key key ps p true e =
     ap (λ (t : NetTotal). Some (total_with t p.units)) (sym f)
 own_key key ps p false e = refl
 
+-- one part more changes the total of its key alone
 pub total_more : (key : NetKey) (ps : List NetPart) (p : NetPart)
     → total_at (ps ++ p ∷ []) key
     ≡ (if Own key p then Some (total_with (unwrap_or (total_at ps (part_key p)) no_total) p.units) else total_at ps key)
@@ -122,6 +129,7 @@ sum_small (negsuc a) (pos b) m n h k =
 sum_small (negsuc a) (negsuc b) m n h k =
     by_parts (negsuc a +ℤ negsuc b) (m + n) (omega (arith, signed_arith, h, k)) (omega (arith, signed_arith, h, k))
 
+-- the sum of small amounts is bounded by their number
 pub known_within : (key : NetKey) (ps : List NetPart) → Every IsSmall ps
     → unsigned_abs (known_sum key ps) ≤ length ps * most_units
 known_within key [] h = omega arith
@@ -136,6 +144,7 @@ one_or_none : (b : Bool) → (if b then 1 else 0) ≤ 1
 one_or_none true = omega arith
 one_or_none false = omega arith
 
+-- there are at most as many unknown amounts as parts
 pub unknown_within : (key : NetKey) (ps : List NetPart) → unknown_count key ps ≤ length ps
 unknown_within key [] = omega arith
 unknown_within key (p ∷ ps) = let rest = unknown_within key ps in

@@ -1,5 +1,5 @@
 -- The two parties of a swap and the sides of its streams: who pays each (FpML payerPartyReference and
--- receiverPartyReference). That all streams name the same two parties is a rule of this project's own, K8.
+-- receiverPartyReference). That all streams name the same two parties is our rule, K8.
 use Rattle.std.specs.Prelude.{◌≡◌, ℕ, ◌+◌, ◌≤◌, Bool, true, false, List, [], ◌∷◌, length, Some, Ok, slice_get}
 use Rattle.std.specs.Prelude.{slice_index_or, codes}
 use Rattle.irs_base.specs.Elements.{payer_party_reference}

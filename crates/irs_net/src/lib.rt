@@ -1,5 +1,5 @@
 //! The net of a schedule: what falls due between the two parties of a swap on each date and in each
-//! currency; who the two parties are, and the line of a row.
+//! currency. It also says who the two parties are, and writes the line of a row.
 #![tactic(auto)]
 
 mod parties;

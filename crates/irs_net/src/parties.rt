@@ -1,5 +1,5 @@
-//! The two parties of a stream (FpML `payerPartyReference`, `receiverPartyReference`): a reference is
-//! an object whose `@href` is a text, and an array of one object counts as that object.
+//! The two parties of a stream (FpML `payerPartyReference`, `receiverPartyReference`). A reference
+//! is an object whose `@href` is a text, and an array of one object counts as that object.
 ghost use Rattle.std.specs.Prelude.{◌≡◌, option_map};
 ghost use Rattle.serde_json.specs.View.{view};
 ghost use Rattle.irs_net.specs.FoundParties.{href_of, parties_in, parties_seen, party_in, side_in};

@@ -1,5 +1,5 @@
-//! What falls due between the two parties: the exchanges and payments of a schedule's streams, each on
-//! its adjusted date, with its sign between the two parties.
+//! What falls due between the two parties: the exchanges and payments of a schedule's streams. Each
+//! is on its adjusted date, with its sign between the two parties.
 ghost use Rattle.std.specs.Prelude.{◌≡◌, ◌++◌, ◌≤◌, map, length, IfOk, IfSome, OnOk, unsigned_abs, option_map};
 ghost use Rattle.irs_base.specs.Members.{Every};
 ghost use Rattle.irs_schedule.specs.Parts.{HasAmount, IsAmount};
@@ -13,7 +13,7 @@ use irs_terms::{Currency, Exchange};
 use std::alloc::Global;
 
 /// An exchange or a payment: its adjusted date, its currency, and its amount in the currency's
-/// decimals where it is known, positive where the party pays it that pays stream 1.
+/// decimals where it is known. The amount is positive where the party that pays stream 1 pays it.
 #[derive(Clone, Copy)]
 pub(crate) struct NetPart {
     /// The adjusted date on which it falls due.

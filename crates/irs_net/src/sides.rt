@@ -1,5 +1,5 @@
-//! The sides of a swap's streams: which of the two parties pays each. That all streams name the same
-//! two parties is a rule of this project's own, K8.
+//! The sides of a swap's streams: which of the two parties pays each. That all streams name the
+//! same two parties is our rule, K8.
 ghost use Rattle.std.specs.Prelude.{◌≡◌, ◌<◌, ◌≤◌, length, map, IfOk, IfErr};
 ghost use Rattle.serde_json.specs.View.{view};
 ghost use Rattle.irs_base.specs.Limits.{most_streams};
@@ -57,9 +57,9 @@ fn sides_of(streams: &[Value]) -> Result<Sides, Broken>
 }
 
 /// Which party pays each stream of a document that breaks none of K2 to K7. `Broken` is exactly the
-/// first K8, at the `payerPartyReference` of the lowest stream that breaks it: one of its two
-/// references isn't one object with a text as `@href`, the two are equal, or they aren't those of
-/// stream 1 in the same or the opposite order. It takes no memory.
+/// first K8, at the `payerPartyReference` of the lowest stream that breaks it. One of its two
+/// references isn't one object with a text as `@href`, or the two are equal. Or they aren't those
+/// of stream 1 in the same or the opposite order. It takes no memory.
 pub fn read_sides(v: &Value) -> Result<Sides, Broken>
     requires clean { (f : Broken) → DocumentFault (view v.now) f → ⊥ }
     ensures sides { IfOk result (SidesOf (view v.now)) }

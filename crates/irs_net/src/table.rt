@@ -1,6 +1,6 @@
 //! The net of a schedule: one row for each date and currency on which something falls due.
 //!
-//! That exchanges and payments of one date and currency are netted is this project's own.
+//! That exchanges and payments of one date and currency are netted is our rule.
 ghost use Rattle.std.specs.Prelude.{◌≡◌, List, map, length, IfOk};
 ghost use Rattle.irs_base.specs.Members.{Every};
 ghost use Rattle.irs_terms.specs.declared.currency.Currency.{Currency};
@@ -61,11 +61,11 @@ fn table_of(alloc: Global, totals: &NetTotals) -> Result<NetTable, Memory>
     Ok(table)
 }
 
-/// The net of a schedule, whose streams have these sides: a row for each adjusted date and currency on
-/// which an exchange or a payment falls due, with the sum of the amounts that are known and the number
-/// of those that aren't. An amount counts as it is in a stream that is paid by the party which pays
-/// stream 1, and negated in another. There is one such table, also where memory ran out, which is the
-/// only cause of `Memory`.
+/// The net of a schedule whose streams have these sides. It has a row for each adjusted date and
+/// currency on which an exchange or a payment falls due. The row has the sum of the amounts that
+/// are known and the number of those that aren't. An amount keeps its sign in a stream that is paid
+/// by the party which pays stream 1, and is negated in another. There is one such table, also where
+/// memory ran out, which is the only cause of `Memory`.
 pub fn net(alloc: Global, s: &Schedule, sides: &Sides) -> Result<NetTable, Memory>
     requires { sides.now.count ≡ length s.now }
     ensures ok { IfOk result (λ rows. Net s.now sides.now.forward rows) }

@@ -7,8 +7,8 @@ ghost use Rattle.irs_net.specs.NetTexts.{net_text};
 use crate::NetRow;
 use irs_base::Line;
 
-/// Puts the line of a row in the place of what the line holds: `n DATE CURRENCY AMOUNT UNKNOWN`. It
-/// takes no memory.
+/// Replaces what the line holds by the line of a row: `n DATE CURRENCY AMOUNT UNKNOWN`. It takes no
+/// memory.
 #[tactic(auto, unfolding(crate::specs::NetTexts::net_text))]
 pub fn net_text(row: &NetRow, line: &mut Line)
     requires { HasPlaces row.now }

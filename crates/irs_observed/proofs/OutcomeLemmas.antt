@@ -25,8 +25,8 @@ use Rattle.irs_observed.specs.PeriodMembers.{AreMembers, IsMember, LeavesCover, 
 use Rattle.irs_observed.specs.declared.observation.NoObservations.{NoObservations}
 use Rattle.irs_observed.specs.declared.observation.NoObservations.TheVariants.{FewMembers, NoDay}
 use Rattle.irs_observed.specs.declared.observation.Observation.{Observation}
-use Rattle.irs_observed.specs.declared.offset.ObservationOffset.{ObservationOffset}
-use Rattle.irs_observed.specs.declared.offset.ObservationOffset.TheVariants.{Absent, Shift, Lookback, Lockout}
+use Rattle.irs_terms.specs.declared.parameters.ObservationOffset.{ObservationOffset}
+use Rattle.irs_terms.specs.declared.parameters.ObservationOffset.TheVariants.{Absent, Shift, Lookback, Lockout}
 use Rattle.irs_observed.proofs.MemberLemmas.{ListsTo, distance, lists_all, lists_more, lists_none, none_good, one_members}
 use Rattle.irs_observed.proofs.PeriodLemmas.{one_end, one_start}
 use Rattle.irs_observed.proofs.RuleLemmas.{none_lacks, observes, refused_few, refused_member, refused_period}

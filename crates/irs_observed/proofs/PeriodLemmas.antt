@@ -4,8 +4,8 @@ use Rattle.jiff_core.proofs.SignedLemmas.{signed_arith}
 use Rattle.irs_calendar.specs.GoodDays.{DaySet}
 use Rattle.irs_adjust.proofs.OffsetLaws.{one_moved}
 use Rattle.irs_observed.specs.ObservationPeriods.{IsObservationPeriod, ObservedPeriod, Shifts, back}
-use Rattle.irs_observed.specs.declared.offset.ObservationOffset.{ObservationOffset}
-use Rattle.irs_observed.specs.declared.offset.ObservationOffset.TheVariants.{Absent, Shift, Lookback, Lockout}
+use Rattle.irs_terms.specs.declared.parameters.ObservationOffset.{ObservationOffset}
+use Rattle.irs_terms.specs.declared.parameters.ObservationOffset.TheVariants.{Absent, Shift, Lookback, Lockout}
 
 pub one_shift : (offset : ObservationOffset) (set : DaySet) (d r t : ℤ) → Shifts offset set d r → Shifts offset set d t
     → r ≡ t

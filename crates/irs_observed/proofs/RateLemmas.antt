@@ -14,8 +14,8 @@ use Rattle.irs_observed.specs.ObservedRates.{AddsBy, Fraction, IsAveraged, IsCom
 use Rattle.irs_observed.specs.ObservedRates.{rate_precision}
 use Rattle.irs_observed.specs.Observations.{total_weight}
 use Rattle.irs_observed.specs.RateLaws.{EachRate, NotAbove, NotBelow, OneGivesItself, ZeroGivesZero}
-use Rattle.irs_observed.specs.declared.method.CalculationMethod.{CalculationMethod}
-use Rattle.irs_observed.specs.declared.method.CalculationMethod.TheVariants.{Compounding, Averaging}
+use Rattle.irs_observed.specs.declared.method.DailyRateMethod.{DailyRateMethod}
+use Rattle.irs_observed.specs.declared.method.DailyRateMethod.TheVariants.{Compounding, Averaging}
 use Rattle.irs_observed.specs.declared.method.YearDays.{YearDays}
 use Rattle.irs_observed.specs.declared.method.YearDays.TheVariants.{Days360, Days365}
 use Rattle.irs_observed.specs.declared.observation.Observation.{Observation}
@@ -63,7 +63,7 @@ year_some : (year : YearDays) → 1 ≤ days_of_year year
 year_some Days360 = omega arith
 year_some Days365 = omega arith
 
-pub zero_gives_zero : (method : CalculationMethod) (daily : DailyRates) (os : List Observation)
+pub zero_gives_zero : (method : DailyRateMethod) (daily : DailyRates) (os : List Observation)
     → ZeroGivesZero method daily os
 zero_gives_zero (Compounding year) daily os x is zeros =
     let same = all_stay (days_of_year year) daily (year_some year) os (one_factor rate_precision) is.factor is.grows zeros in
@@ -190,12 +190,12 @@ module _ (daily : DailyRates) (o : Observation) (r z : ℤ) (x : Fraction) (know
       let lower = subst (λ (d : ℤ). Rounded Nearest (pos (10 ^ 9) *ℤ (r *ℤ pos o.weight)) d z) is.denominator upper in
       one_mean r z o.weight some lower
 
-one_method : (method : CalculationMethod) (daily : DailyRates) (o : Observation) (r z : ℤ) (x : Fraction) → 0 < o.weight
+one_method : (method : DailyRateMethod) (daily : DailyRates) (o : Observation) (r z : ℤ) (x : Fraction) → 0 < o.weight
     → daily o.observed ≡ Some r → IsObservedRate method daily (o ∷ []) x → IsPrinted x z → z ≡ r
 one_method (Compounding year) daily o r z x some known is printed = one_compounded daily o r z x known some year is printed
 one_method Averaging daily o r z x some known is printed = one_averaged daily o r z x known some is printed
 
-pub one_gives_itself : (method : CalculationMethod) (daily : DailyRates) (os : List Observation)
+pub one_gives_itself : (method : DailyRateMethod) (daily : DailyRates) (os : List Observation)
     → Every (λ o. 0 < o.weight) os → OneGivesItself method daily os
 one_gives_itself method daily os each o r z x one known is printed =
     let here = subst (λ (v : List Observation). Every (λ o. 0 < o.weight) v) one each in

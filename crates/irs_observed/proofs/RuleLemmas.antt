@@ -18,8 +18,8 @@ use Rattle.irs_observed.proofs.PeriodLemmas.{one_end, one_start}
 use Rattle.irs_base.proofs.MemberLemmas.{numbered_has}
 use Rattle.irs_observed.specs.ObservationWalk.{IsWalk, good_at}
 use Rattle.irs_observed.specs.declared.observation.Observation.{Observation}
-use Rattle.irs_observed.specs.declared.offset.ObservationOffset.{ObservationOffset}
-use Rattle.irs_observed.specs.declared.offset.ObservationOffset.TheVariants.{Absent, Shift, Lookback, Lockout}
+use Rattle.irs_terms.specs.declared.parameters.ObservationOffset.{ObservationOffset}
+use Rattle.irs_terms.specs.declared.parameters.ObservationOffset.TheVariants.{Absent, Shift, Lookback, Lockout}
 use Rattle.irs_observed.proofs.ListLemmas.{member_place}
 use Rattle.irs_observed.proofs.WalkLemmas.{own_place, prev_at}
 

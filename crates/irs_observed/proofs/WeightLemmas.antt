@@ -9,7 +9,7 @@ use Rattle.irs_observed.specs.ObservationWalk.{IsWalk}
 use Rattle.irs_observed.specs.Observations.{AddsUp, AreObserved, HasWeights, IsObservation, total_weight}
 use Rattle.irs_observed.specs.PeriodMembers.{member_or_end}
 use Rattle.irs_observed.specs.declared.observation.Observation.{Observation}
-use Rattle.irs_observed.specs.declared.offset.ObservationOffset.{ObservationOffset}
+use Rattle.irs_terms.specs.declared.parameters.ObservationOffset.{ObservationOffset}
 use Rattle.irs_observed.proofs.ListLemmas.{at_or_end, past_end}
 use Rattle.irs_observed.proofs.PeriodLemmas.{one_end, one_start}
 

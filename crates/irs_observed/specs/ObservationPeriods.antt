@@ -4,8 +4,8 @@ use Rattle.irs_terms.specs.declared.adjustments.Offset.{Offset}
 use Rattle.irs_terms.specs.declared.codes.DayKind.TheVariants.{Business}
 use Rattle.irs_calendar.specs.GoodDays.{DaySet}
 use Rattle.irs_adjust.specs.Offsets.{Moves}
-use Rattle.irs_observed.specs.declared.offset.ObservationOffset.{ObservationOffset}
-use Rattle.irs_observed.specs.declared.offset.ObservationOffset.TheVariants.{Absent, Shift, Lookback, Lockout}
+use Rattle.irs_terms.specs.declared.parameters.ObservationOffset.{ObservationOffset}
+use Rattle.irs_terms.specs.declared.parameters.ObservationOffset.TheVariants.{Absent, Shift, Lookback, Lockout}
 
 -- n applicable business days back
 abbrev pub back : ℕ → Offset

@@ -5,7 +5,7 @@ use Rattle.irs_calendar.specs.GoodDays.{DaySet, IsGood, Prev}
 use Rattle.irs_observed.specs.ObservationPeriods.{MovesBack}
 use Rattle.irs_observed.specs.Observations.{ObservesOn, place_observed}
 use Rattle.irs_observed.specs.PeriodMembers.{member_or_end}
-use Rattle.irs_observed.specs.declared.offset.ObservationOffset.{ObservationOffset}
+use Rattle.irs_terms.specs.declared.parameters.ObservationOffset.{ObservationOffset}
 
 -- the last good day at or before the member at a place; q is that of the first member
 abbrev pub good_at : ℤ → List ℤ → ℕ → ℤ

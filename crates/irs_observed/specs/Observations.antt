@@ -6,8 +6,8 @@ use Rattle.irs_calendar.specs.GoodDays.{DaySet, Prev}
 use Rattle.irs_observed.specs.ObservationPeriods.{IsObservationPeriod, MovesBack, ObservedPeriod}
 use Rattle.irs_observed.specs.PeriodMembers.{AreMembers, member_or_end}
 use Rattle.irs_observed.specs.declared.observation.Observation.{Observation}
-use Rattle.irs_observed.specs.declared.offset.ObservationOffset.{ObservationOffset}
-use Rattle.irs_observed.specs.declared.offset.ObservationOffset.TheVariants.{Absent, Shift, Lookback, Lockout}
+use Rattle.irs_terms.specs.declared.parameters.ObservationOffset.{ObservationOffset}
+use Rattle.irs_terms.specs.declared.parameters.ObservationOffset.TheVariants.{Absent, Shift, Lookback, Lockout}
 
 -- o is the observation day of the member d: the last good day at or before d, and under a lookback that day moved back
 abbrev pub ObservesOn : ObservationOffset → DaySet → ℤ → ℤ → Type 0

@@ -8,8 +8,8 @@ use Rattle.irs_terms.specs.declared.amounts.Rounding.{Rounding}
 use Rattle.irs_observed.specs.DailyRates.{AreKnown, DailyRates, Through}
 use Rattle.irs_observed.specs.Factors.{FactorPasses, Grows, Precision, one_factor}
 use Rattle.irs_observed.specs.Observations.{total_weight}
-use Rattle.irs_observed.specs.declared.method.CalculationMethod.{CalculationMethod}
-use Rattle.irs_observed.specs.declared.method.CalculationMethod.TheVariants.{Compounding, Averaging}
+use Rattle.irs_observed.specs.declared.method.DailyRateMethod.{DailyRateMethod}
+use Rattle.irs_observed.specs.declared.method.DailyRateMethod.TheVariants.{Compounding, Averaging}
 use Rattle.irs_observed.specs.declared.method.YearDays.{YearDays}
 use Rattle.irs_observed.specs.declared.method.YearDays.TheVariants.{Days360, Days365}
 use Rattle.irs_observed.specs.declared.observation.Observation.{Observation}
@@ -47,7 +47,7 @@ pub record IsAveraged (daily : DailyRates) (os : List Observation) (x : Fraction
   pub denominator : x.denominator ≡ pos (10 ^ 9) *ℤ pos (total_weight os)
 
 -- x is the observed rate by the daily rates of the observations, not rounded
-abbrev pub IsObservedRate : CalculationMethod → DailyRates → List Observation → Fraction → Type 0
+abbrev pub IsObservedRate : DailyRateMethod → DailyRates → List Observation → Fraction → Type 0
 IsObservedRate (Compounding year) daily os x = IsCompounded (days_of_year year) daily os x
 IsObservedRate Averaging daily os x = IsAveraged daily os x
 
@@ -57,12 +57,12 @@ pub record CompoundsPast (basis : ℕ) (daily : DailyRates) (os : List Observati
   pub passes : FactorPasses rate_precision basis daily os
 
 -- by averages none does
-abbrev pub PassesLimit : CalculationMethod → DailyRates → List Observation → Type 0
+abbrev pub PassesLimit : DailyRateMethod → DailyRates → List Observation → Type 0
 PassesLimit (Compounding year) daily os = CompoundsPast (days_of_year year) daily os
 PassesLimit Averaging daily os = ⊥
 
 -- the observed rate, or none where a daily rate is absent
-abbrev pub IsRateOrAbsent : CalculationMethod → DailyRates → List Observation → Option Fraction → Type 0
+abbrev pub IsRateOrAbsent : DailyRateMethod → DailyRates → List Observation → Option Fraction → Type 0
 IsRateOrAbsent method daily os None = AreKnown daily os → ⊥
 IsRateOrAbsent method daily os (Some x) = IsObservedRate method daily os x
 

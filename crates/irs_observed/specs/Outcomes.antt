@@ -6,7 +6,7 @@ use Rattle.irs_observed.specs.ObservationPeriods.{ObservedPeriod}
 use Rattle.irs_observed.specs.ObservationRules.{Lacks, reported_before}
 use Rattle.irs_observed.specs.Observations.{AreObservations}
 use Rattle.irs_observed.specs.ObservedRates.{Fraction, IsRateOrAbsent, PassesLimit}
-use Rattle.irs_observed.specs.declared.method.CalculationMethod.{CalculationMethod}
+use Rattle.irs_observed.specs.declared.method.DailyRateMethod.{DailyRateMethod}
 use Rattle.irs_observed.specs.declared.rates.FactorOutOfRange.{FactorOutOfRange}
 use Rattle.irs_observed.specs.declared.observation.NoObservations.{NoObservations}
 use Rattle.irs_observed.specs.declared.observation.Observation.{Observation}
@@ -16,7 +16,7 @@ abbrev pub observations_of : ObservedPeriod → Spec (List Observation) NoObserv
 observations_of p = unless_broken reported_before (Lacks p) (AreObservations p)
 
 -- the observed rate, absent where a daily rate is, or the refusal that a factor passes its limit
-abbrev pub observed_rate_of : CalculationMethod → DailyRates → List Observation → Spec (Option Fraction) FactorOutOfRange
+abbrev pub observed_rate_of : DailyRateMethod → DailyRates → List Observation → Spec (Option Fraction) FactorOutOfRange
 observed_rate_of method daily os = record {
   Answers = λ x. (PassesLimit method daily os → ⊥) × IsRateOrAbsent method daily os x;
   Refuses = λ _. PassesLimit method daily os;

@@ -3,7 +3,7 @@ use Rattle.std.specs.Prelude.{◌≡◌, ◌^◌, List, [], ◌∷◌, Some, IfS
 use Rattle.irs_base.specs.Members.{Every}
 use Rattle.irs_observed.specs.DailyRates.{DailyRates}
 use Rattle.irs_observed.specs.ObservedRates.{Fraction, IsAveraged, IsObservedRate, IsPrinted}
-use Rattle.irs_observed.specs.declared.method.CalculationMethod.{CalculationMethod}
+use Rattle.irs_observed.specs.declared.method.DailyRateMethod.{DailyRateMethod}
 use Rattle.irs_observed.specs.declared.observation.Observation.{Observation}
 
 -- each daily rate of the observations meets P
@@ -11,12 +11,12 @@ abbrev pub EachRate : DailyRates → (ℤ → Type 0) → List Observation → T
 EachRate daily P os = Every (λ o. IfSome (daily o.observed) P) os
 
 -- where each daily rate is 0 the observed rate is
-abbrev pub ZeroGivesZero : CalculationMethod → DailyRates → List Observation → Type 0
+abbrev pub ZeroGivesZero : DailyRateMethod → DailyRates → List Observation → Type 0
 ZeroGivesZero method daily os =
     (x : Fraction) → IsObservedRate method daily os x → EachRate daily (λ r. r ≡ pos 0) os → x.numerator ≡ pos 0
 
 -- with one member the printed observed rate is its daily rate
-abbrev pub OneGivesItself : CalculationMethod → DailyRates → List Observation → Type 0
+abbrev pub OneGivesItself : DailyRateMethod → DailyRates → List Observation → Type 0
 OneGivesItself method daily os =
     (o : Observation) (r z : ℤ) (x : Fraction) → os ≡ o ∷ [] → daily o.observed ≡ Some r → IsObservedRate method daily os x
     → IsPrinted x z → z ≡ r

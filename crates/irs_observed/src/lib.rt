@@ -8,7 +8,6 @@ mod factors;
 mod members;
 mod method;
 mod observation;
-mod offset;
 mod period;
 mod period_rates;
 mod products;
@@ -19,9 +18,8 @@ mod tests;
 mod walk;
 
 pub use daily::daily_rate;
-pub use method::{CalculationMethod, YearDays};
+pub use method::{DailyRateMethod, YearDays};
 pub use observation::{NoObservations, Observation, ObservationList};
-pub use offset::ObservationOffset;
 pub use period_rates::{period_rate, printed_rate};
 pub use rate_laws::rates_keep_their_range;
 pub use rates::{FactorOutOfRange, ObservedRate, observed_rate};

@@ -14,7 +14,7 @@ pub enum YearDays {
 /// How daily rates become one rate (FpML `calculationMethod`, in the words of
 /// the 2021 ISDA Definitions).
 #[derive(Clone, Copy, Debug, PartialEq, Eq)]
-pub enum CalculationMethod {
+pub enum DailyRateMethod {
     /// Each day's interest earns interest from the next day on.
     Compounding(YearDays),
     /// The average by the days for which each rate applies; it is the same for every day count.

@@ -2,11 +2,10 @@
 ghost use Rattle.std.specs.Prelude.{◌≡◌, ℤ, IfSome, IfNone};
 ghost use Rattle.irs_observed.specs.ObservationPeriods.{IsObservationPeriod, MovesBack, Shifts, observed_period};
 
-use crate::offset::ObservationOffset;
 use irs_adjust::move_by;
 use irs_base::Day;
 use irs_calendar::GoodDays;
-use irs_terms::{DayKind, Offset};
+use irs_terms::{DayKind, ObservationOffset, Offset};
 
 /// The day moved back by so many good days.
 pub(crate) fn moved_back<G: GoodDays>(n: u8, days: &G, d: Day) -> Option<Day>

@@ -2,7 +2,7 @@
 ghost use Rattle.irs_observed.specs.DailyRates.{daily_rates};
 ghost use Rattle.irs_observed.specs.RateLaws.{NotAbove, NotBelow, OneGivesItself, ZeroGivesZero};
 
-use crate::method::CalculationMethod;
+use crate::method::DailyRateMethod;
 use crate::observation::ObservationList;
 use irs_base::Text;
 use irs_resets::Fixings;
@@ -10,7 +10,7 @@ use irs_resets::Fixings;
 /// Laws of the observed rate: where each daily rate is 0 it is 0; with one member, as it is printed,
 /// it is that member's daily rate; and an average lies between the least and the greatest daily rate.
 pub fn rates_keep_their_range(
-    method: CalculationMethod,
+    method: DailyRateMethod,
     observations: &ObservationList,
     daily: &Fixings,
     index: &Text,

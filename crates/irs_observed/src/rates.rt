@@ -12,7 +12,7 @@ ghost use Rattle.irs_observed.specs.Outcomes.{observed_rate_of};
 
 use crate::averages::summed;
 use crate::factors::{ONE_FACTOR, compounded};
-use crate::method::{CalculationMethod, YearDays, days_of_year};
+use crate::method::{DailyRateMethod, YearDays, days_of_year};
 use crate::observation::{Observation, ObservationList};
 use crate::products::product;
 use irs_base::Text;
@@ -130,7 +130,7 @@ fn compounded_rate(
     index: &Text,
 ) -> Result<Option<ObservedRate>, FactorOutOfRange>
     requires weights { HasWeights observations.now }
-    ensures meets { let method = CalculationMethod.Compounding year in
+    ensures meets { let method = DailyRateMethod.Compounding year in
         MeetsExactly (observed_rate_of method (daily_rates daily.now index.now) observations.now) result }
 {
     let basis = days_of_year(year);
@@ -147,7 +147,7 @@ fn averaged_rate(
     index: &Text,
 ) -> Option<ObservedRate>
     requires weights { HasWeights observations.now }
-    ensures { IsRateOrAbsent CalculationMethod.Averaging (daily_rates daily.now index.now) observations.now result }
+    ensures { IsRateOrAbsent DailyRateMethod.Averaging (daily_rates daily.now index.now) observations.now result }
 {
     let sum = summed(observations, daily, index)?;
     Some(rate_of_sum(sum, total_weight(observations)))
@@ -163,7 +163,7 @@ fn averaged_rate(
 ///
 /// The error comes exactly where each daily rate is there and a factor passes 10^4 in size.
 pub fn observed_rate(
-    method: CalculationMethod,
+    method: DailyRateMethod,
     observations: &ObservationList,
     daily: &Fixings,
     index: &Text,
@@ -172,7 +172,7 @@ pub fn observed_rate(
 {
     let observations = observations.as_slice();
     match method {
-        CalculationMethod::Compounding(year) => compounded_rate(year, observations, daily, index),
-        CalculationMethod::Averaging => Ok(averaged_rate(observations, daily, index)),
+        DailyRateMethod::Compounding(year) => compounded_rate(year, observations, daily, index),
+        DailyRateMethod::Averaging => Ok(averaged_rate(observations, daily, index)),
     }
 }

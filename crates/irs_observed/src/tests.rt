@@ -1,15 +1,15 @@
 //! Calculation periods around Good Friday 2024, their observations and observed rates. The rates were
 //! worked out by exact fractions in a program of its own.
 use crate::{
-    CalculationMethod, NoObservations, Observation, ObservationList, ObservationOffset,
-    ObservedRate, YearDays, observations, observed_rate, period_rate, printed_rate,
+    DailyRateMethod, NoObservations, Observation, ObservationList, ObservedRate, YearDays,
+    observations, observed_rate, period_rate, printed_rate,
 };
 use irs_base::{
     Civil, Day, Direction, MOST_BYTES, MOST_CENTERS, MOST_RATE, Names, Stopped, Text, day_of,
 };
 use irs_calendar::{Calendars, RunSet};
 use irs_resets::Fixings;
-use irs_terms::Rounding;
+use irs_terms::{ObservationOffset, Rounding};
 use std::alloc::Global;
 use std::test::*;
 
@@ -282,7 +282,7 @@ const SOFR_WITHOUT: &[u8] = b"2024-03-20 0.0531 1D USD-SOFR\n2024-03-21 0.0530 1
 2024-03-27 0.0533 1D USD-SOFR\n2024-03-28 0.0534 1D USD-SOFR\n2024-04-01 0.0536 1D USD-SOFR
 2024-04-02 0.0533 1D USD-SOFR\n2024-04-03 0.0540 1D USD-SOFR\n2024-04-04 0.0532 1D USD-SOFR\n";
 
-const COMPOUNDING: CalculationMethod = CalculationMethod::Compounding(YearDays::Days360);
+const COMPOUNDING: DailyRateMethod = DailyRateMethod::Compounding(YearDays::Days360);
 
 /// The nearest one hundred-thousandth of a percentage point.
 const TO_SEVEN: Rounding = Rounding {
@@ -293,7 +293,7 @@ const TO_SEVEN: Rounding = Rounding {
 fn rate_of(
     alloc: Global,
     fixings: &[u8],
-    method: CalculationMethod,
+    method: DailyRateMethod,
     offset: ObservationOffset,
     from: MonthDay,
     to: MonthDay,
@@ -317,7 +317,7 @@ fn rate_with(x: ObservedRate, multiplier: i64, spread: i64) -> Option<i64> {
 // The rate in units of 10^-9 with a multiplier and a spread.
 fn paid(
     alloc: Global,
-    method: CalculationMethod,
+    method: DailyRateMethod,
     offset: ObservationOffset,
     multiplier: i64,
     spread: i64,
@@ -354,7 +354,7 @@ fn rates_of_a_period(rt: HostRuntime) {
             53_145_900,
         ),
         (
-            CalculationMethod::Averaging,
+            DailyRateMethod::Averaging,
             ObservationOffset::Absent,
             ONE,
             0,
@@ -393,7 +393,7 @@ fn observed_rates_as_printed(rt: HostRuntime) {
     let x = rate_of(alloc, SOFR, COMPOUNDING, absent, START, END);
     assert_eq!(rt; x.map(printed_rate), Some(53_374_869));
     // one member: the rate of the day before Good Friday, by either method
-    for method in [COMPOUNDING, CalculationMethod::Averaging] {
+    for method in [COMPOUNDING, DailyRateMethod::Averaging] {
         let x = rate_of(alloc, SOFR, method, absent, (3, 29), (4, 1));
         assert_eq!(rt; x.map(printed_rate), Some(53_400_000));
     }

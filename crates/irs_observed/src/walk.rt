@@ -14,10 +14,10 @@ ghost use Rattle.irs_observed.specs.declared.observation.NoObservations.TheVaria
 
 use crate::members::{days_ahead, leaves_cover, members};
 use crate::observation::{NoObservations, Observation, ObservationList};
-use crate::offset::ObservationOffset;
 use crate::period::{moved_back, observation_period};
 use irs_base::{Day, Stopped};
 use irs_calendar::GoodDays;
+use irs_terms::ObservationOffset;
 use std::alloc::Global;
 
 // The last good day at or before the member at a place; `first` is that of the first member.

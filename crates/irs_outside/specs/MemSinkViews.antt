@@ -3,7 +3,7 @@ use Rattle.std.specs.Prelude.{◌-◌, take, length}
 use Rattle.irs_outside.specs.declared.memory_sink.MemSink.TheInside.{Inside}
 use Rattle.irs_outside.specs.MemSinks.{SinkSeen}
 
--- what stands in the room that is used, and the rest of the room
+-- the bytes in the room that is used, and the size of the rest of the room
 abbrev pub sink_seen : Inside → SinkSeen
 sink_seen s = record {
   written = take s.used s.room.items;

@@ -15,6 +15,6 @@ abbrev pub is_marked_at : ℕ → Option ℕ → Bool
 is_marked_at call None = false
 is_marked_at call (Some marked) = nat_eq marked call
 
--- the next put is the one that is to fail
+-- the next write is the one that is to fail
 abbrev pub IsMarkedPut : SinkSeen → Type 0
 IsMarkedPut s = IsTrue (is_marked_at (next_count s.calls) s.marked)

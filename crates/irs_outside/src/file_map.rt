@@ -1,5 +1,5 @@
-//! Names and the bytes under them, in memory. Each name stands once; what is added under a name
-//! that stands already takes the place of what stood there.
+//! Names and the bytes under them, in memory. Each name occurs once: adding a name again replaces
+//! its bytes.
 ghost use Rattle.std.specs.Prelude.{◌≡◌, ◌≢◌, ℕ, List, take, Some, None, IfOk, OnOk, OnErr, option_map};
 ghost use Rattle.irs_outside.specs.FileMaps.{bytes_under};
 
@@ -25,7 +25,8 @@ impl FileMap {
         }
     }
 
-    /// Puts bytes under a name. Where no memory is found the map stays as it was.
+    /// Adds bytes under a name, and replaces those it had. Where no memory is found the map stays
+    /// as it was.
     pub(crate) fn add(&mut self, name: &str, bytes: &[u8]) -> Result<(), Memory>
         ensures under { OnOk result (bytes_under self.new name.now ≡ Some bytes.now) }
         ensures beside { OnOk result ((n : List ℕ) → n ≢ name.now → bytes_under self.new n ≡ bytes_under self.old n) }
@@ -37,7 +38,7 @@ impl FileMap {
         Ok(())
     }
 
-    /// The first `most` bytes under a name, none where the name doesn't stand.
+    /// The first `most` bytes under a name, or none where there is no such name.
     pub(crate) fn front(
         &self,
         alloc: Global,

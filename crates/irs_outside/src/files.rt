@@ -1,5 +1,5 @@
-//! Where the program's files come from: this project's own trait, so that every clause on the
-//! program speaks of any source of files, a folder and a table in memory alike.
+//! Where the program's files come from. The trait is ours, so that each clause on the program holds
+//! for any source of files. It holds for a folder as for a table in memory.
 ghost use Rattle.std.specs.Prelude.{◌≡◌, ℕ, ◌≤◌, List, length, take, Option, Some, IfOk, IfSome, IsErrOf};
 ghost use Rattle.irs_outside.specs.Outside.{Rose};
 ghost use Rattle.irs_outside.specs.declared.files.FetchErr.TheVariants.{Memory as OfMemory};
@@ -36,10 +36,11 @@ impl<T: Drop> From<AllocFailed<T>> for FetchErr {
 
 /// A source of files.
 pub trait Files {
-    /// The bytes under a name, where the source tells them. No call changes them.
+    /// The bytes under a name, where the source says what they are. No call changes them.
     ghost told: { Self → List ℕ → Option (List ℕ) };
 
-    /// The bytes that a fetch of at most so many under a name gives. No clause says where they come from.
+    /// The bytes that a fetch of at most that number under a name gives. No clause says where they
+    /// come from.
     ghost gives: { Self → List ℕ → ℕ → List ℕ → Type 0 };
 
     /// How often a fetch has failed. The count never falls.

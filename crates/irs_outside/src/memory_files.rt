@@ -39,8 +39,8 @@ impl MemFiles {
         }
     }
 
-    /// Puts bytes under a name, in the place of those that stood there. Where no memory is found
-    /// the files stay as they were.
+    /// Adds bytes under a name, and replaces those it had. Where no memory is found the files stay
+    /// as they were.
     pub fn add(&mut self, name: &str, bytes: &[u8]) -> Result<(), Memory>
         ensures under { OnOk result (file_under self.new name.now ≡ Some bytes.now) }
         ensures beside { OnOk result ((n : List ℕ) → n ≢ name.now → file_under self.new n ≡ file_under self.old n) }
@@ -77,7 +77,7 @@ impl Files for MemFiles {
 
     ghost failed = { last_failed };
 
-    /// `Failed` comes exactly at a call that is marked and at a name that doesn't stand.
+    /// `Failed` comes exactly at a call that is marked and at a name that isn't there.
     fn fetch(&mut self, alloc: Global, name: &str, most: usize) -> Result<Vec<u8>, FetchErr>
         ensures bytes { IfOk result (λ b. IfSome (file_under self.old name.now) (λ xs. b.items ≡ take most xs)) }
         ensures fits { IfOk result (λ b. length b.items ≤ most) }

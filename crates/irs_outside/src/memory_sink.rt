@@ -1,5 +1,5 @@
-//! A sink in memory, with room that is taken beforehand and a call that is to fail: for tests, and
-//! for whoever uses the program as a library.
+//! A sink in memory. Its room is taken beforehand, and a call can be marked to fail. It is for
+//! tests and for callers that use the program as a library.
 ghost use Rattle.std.specs.Prelude.{◌≡◌, ◌+◌, ◌-◌, ◌<◌, ◌≤◌, [], ◌++◌, take, length, Some, None, IfOk};
 ghost use Rattle.std.specs.Prelude.{OnOk, OnErr};
 ghost use Rattle.irs_outside.specs.Outside.{Rose, GrewByFront, next_count};

@@ -1,5 +1,5 @@
-//! Where the program's text goes: this project's own trait, so that every clause on the program
-//! speaks of any sink, standard output and a buffer in memory alike.
+//! Where the program's text goes. The trait is ours, so that each clause on the program holds for
+//! any sink, for standard output as for a buffer in memory.
 ghost use Rattle.std.specs.Prelude.{◌≡◌, ℕ, List, Option, OnOk, OnErr};
 ghost use Rattle.irs_outside.specs.Outside.{Rose, Grew, GrewByFront};
 
@@ -10,15 +10,15 @@ use thiserror::Error;
 #[error("the text can't be written")]
 pub struct PutFailed;
 
-/// Takes bytes, one piece behind the other.
+/// Takes bytes, one piece after the other.
 pub trait Sink {
-    /// What was written, where the sink tells it.
+    /// What was written, where the sink says it.
     ghost written: { Self → Option (List ℕ) };
 
-    /// How often a put has failed. The count never falls.
+    /// How often a write has failed. The count never falls.
     ghost faults: { Self → ℕ };
 
-    /// Appends the bytes, and takes no memory. A put that fails has appended a front of them, and
+    /// Appends the bytes, and takes no memory. A write that fails has appended a front of them, and
     /// the count of faults rose in this call.
     fn put(&mut self, bytes: &[u8]) -> Result<(), PutFailed>
         ensures ok { OnOk result (Grew (written self.old) (written self.new) bytes.now) }

@@ -1,4 +1,4 @@
-//! Files in memory that never fail: a name that doesn't stand is an empty file.
+//! Files in memory that never fail: a file that isn't there reads as empty.
 ghost use Rattle.std.specs.Prelude.{◌≡◌, ◌≢◌, ℕ, ◌≤◌, List, [], length, take, Some, None, IfOk};
 ghost use Rattle.std.specs.Prelude.{IsErrOf, OnOk, OnErr};
 ghost use Rattle.irs_outside.specs.SureFiles.{sure_file};
@@ -24,8 +24,8 @@ impl SureFiles {
         }
     }
 
-    /// Puts bytes under a name, in the place of those that stood there. Where no memory is found
-    /// the files stay as they were.
+    /// Adds bytes under a name, and replaces those it had. Where no memory is found the files stay
+    /// as they were.
     pub fn add(&mut self, name: &str, bytes: &[u8]) -> Result<(), Memory>
         ensures under { OnOk result (sure_file self.new name.now ≡ bytes.now) }
         ensures beside { OnOk result ((n : List ℕ) → n ≢ name.now → sure_file self.new n ≡ sure_file self.old n) }
@@ -46,7 +46,7 @@ impl Files for SureFiles {
 
     ghost failed = { λ m. None };
 
-    /// It answers the bytes or want of memory.
+    /// It returns the bytes, or `Memory`.
     fn fetch(&mut self, alloc: Global, name: &str, most: usize) -> Result<Vec<u8>, FetchErr>
         ensures bytes { IfOk result (λ b. b.items ≡ take most (sure_file self.old name.now)) }
         ensures fits { IfOk result (λ b. length b.items ≤ most) }

@@ -24,6 +24,7 @@ use Rattle.irs_overnight.proofs.PeriodLemmas.{some_basis}
 same_fault : (r q : Rule) (e d i j : ℕ) → r ≡ q → e ≡ d → i ≡ j → fault_at r e i ≡ fault_at q d j
 same_fault r q e d i j a b c = λ t. fault_at (a t) (b t) (c t)
 
+-- faults of derived rates that tie are equal
 pub derived_ties : AreTied derived_before
 derived_ties f g p q =
     let turns = tied (derived_turn f.rule) (derived_turn g.rule) _ _ p q in
@@ -32,6 +33,7 @@ derived_ties f g p q =
     let elem : f.elem ≡ g.elem = tied_last _ _ numbers.1 numbers.2 in
     same_fault f.rule g.rule _ _ _ _ (same_rule f.rule g.rule numbers.0) elem index.0
 
+-- where no number is below the other, their level decides nothing
 pub level_none : (m n : ℕ) → nat_lt m n ≡ false → level m n false ≡ false
 level_none m n h = elim (cases_order m n) [
   | inl same ↦ level_same m n false same refl
@@ -130,6 +132,7 @@ module _ (source : DailySource) (basis : ℕ) (is : basis_of source.day_count �
     ],
   )
 
+  -- where no fixing date is out of order and no period breaks a rule, none is broken
   pub derived_kept : ((n : ℕ) → NotAfter source.resets n → ⊥) → ((f : Fault) → BreaksPeriod source f → ⊥) → (f : Fault)
       → BreaksDerived source f → ⊥
   derived_kept rising periods f b = elim b [

@@ -1,4 +1,4 @@
--- Factors: there is one behind each number of observations, and how a loop reaches it.
+-- Factors: there is one after each number of observations, and how a loop reaches it.
 use Rattle.std.proofs.Common.{◌≡◌, inl, inr, ℕ, ◌+◌, ◌*◌, ◌^◌, ◌<◌, ◌≤◌, List, [], ◌∷◌, ◌++◌, length, take, Option}
 use Rattle.std.proofs.Common.{Some, None, IfSome, IfNone, ℤ, pos, ◌<ℤ◌, ◌*ℤ◌, ◌-ℤ◌, ◌+ℤ◌, refl, sym, subst, ◌∙◌, ap}
 use Rattle.std.proofs.Common.{arith, lit≤}
@@ -16,13 +16,14 @@ use Rattle.irs_overnight.specs.Factors.{FactorPasses, Grows, GrowsBy, IsCompound
 use Rattle.irs_overnight.specs.Factors.{one_factor, year_of}
 use Rattle.irs_overnight.specs.declared.observations.Observation.{Observation}
 
+-- a year has days
 pub above : (basis : ℕ) → 1 ≤ basis → pos 0 <ℤ year_of basis
 above basis some = let e : 0 < 10 ^ 9 * basis = omega (arith, some) in omega (arith, signed_arith, e)
 
 some_is : (a b : ℤ) → Some a ≡ Some b → a ≡ b
 some_is a b e = cc
 
--- the factor behind the first observations, and none up to it passes its limit
+-- the factor after the first observations, and none up to it passes its limit
 pub record Compounds (basis : ℕ) (os : List Observation) (k : ℕ) (f : ℤ) : Type 0 where
   pub reaches : Reaches basis os k f
   pub small : (j : ℕ) (g : ℤ) → j ≤ k → Reaches basis os j g → unsigned_abs g ≤ most_factor
@@ -36,7 +37,7 @@ module _ (basis : ℕ) (some : 1 ≤ basis) where
       nearest_once (f *ℤ (year_of basis +ℤ q.rate *ℤ o.weight)) (year_of basis) g h
       (above basis some) moved.rounded q.rounded
 
-  -- there is one factor behind the observations
+  -- there is one factor after the observations
   pub one_grown : (os : List Observation) (f g h : ℤ) → Grows basis os f g → Grows basis os f h → g ≡ h
   one_grown [] f g h p q = p ∙ sym q
   one_grown (o ∷ os) f g h p q =
@@ -50,12 +51,14 @@ module _ (basis : ℕ) (some : 1 ≤ basis) where
 
   module _ (os : List Observation) (k : ℕ) (f g : ℤ) (o : Observation) (low : k < length os) (is : get_or os k o ≡ o)
       (by : GrowsBy basis o f g) where
+    -- from the factor after k observations one reaches that after k + 1
     pub reaches_more : Reaches basis os k f → Reaches basis os (k + 1) g
     reaches_more r =
         let longer : take (k + 1) os ≡ take k os ++ o ∷ [] = take_more os k o low ∙ ap (λ z. take k os ++ z ∷ []) is in
         subst (λ (xs : List Observation). Grows basis xs one_factor g) (sym longer)
         (grows_push (take k os) o one_factor f g r by)
 
+    -- where that factor is within its limit, k + 1 observations compound
     pub compounds_more : Compounds basis os k f → unsigned_abs g ≤ most_factor → Compounds basis os (k + 1) g
     compounds_more c within =
         let reached = reaches_more c.reaches in
@@ -71,11 +74,13 @@ module _ (basis : ℕ) (some : 1 ≤ basis) where
           ];
         }
 
-  -- behind all of them
+  -- after all of them
   module _ (os : List Observation) (k : ℕ) (f : ℤ) (all : length os ≤ k) (c : Compounds basis os k f) where
+    -- the factor after all observations is that of the period
     pub grows_all : Grows basis os one_factor f
     grows_all = subst (λ (xs : List Observation). Grows basis xs one_factor f) (take_all k os all) c.reaches
 
+    -- no factor of the period passes its limit
     pub none_passes : FactorPasses basis os → ⊥
     none_passes p =
         let within = p.within in
@@ -86,6 +91,7 @@ module _ (basis : ℕ) (some : 1 ≤ basis) where
   small_one : (f : ℤ) → f ≡ one_factor → unsigned_abs f ≤ most_factor
   small_one f e = rw e (lit≤ tt)
 
+  -- the factor before any observation is 1
   pub compounds_none : (os : List Observation) → Compounds basis os 0 one_factor
   compounds_none os = record {
     reaches = refl;
@@ -110,10 +116,12 @@ module _ (basis : ℕ) (some : 1 ≤ basis) where
     compounded_so : IsCompounded basis days os r
     compounded_so = record { factor = f; grows = grows; rounded = rounded }
 
+    -- a rate that is answered is the compounded one
     pub rate_some : (answer : Option ℤ) → IfSome answer (λ x. x ≡ r) → IfSome answer (IsCompounded basis days os)
     rate_some None e = tt
     rate_some (Some x) e = rw e compounded_so
 
+    -- where no factor passes its limit and the rate is in range, no limit is passed
     pub rate_kept : (answer : Option ℤ) → (FactorPasses basis os → ⊥) → IfSome answer (λ x. x ≡ r)
         → IfSome answer IsRate → IfSome answer (λ _. PassesLimit basis days os → ⊥)
     rate_kept None none e small = tt
@@ -127,6 +135,7 @@ module _ (basis : ℕ) (some : 1 ≤ basis) where
           omega (arith, within, passed)
     ]
 
+    -- where all rates are known and none is answered, the rate passes its limit
     pub rate_none : (answer : Option ℤ) → first_absent os ≡ None → IfNone answer (most_rate < unsigned_abs r)
         → IfNone answer (PassesLimit basis days os)
     rate_none None known passes =

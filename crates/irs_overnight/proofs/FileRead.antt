@@ -85,6 +85,7 @@ fields_unbroken row (Missing d) tenor index lawful rate period =
     break_append (codes "# missing" ++ 32 ∷ decimal row.period) (32 ∷ day_text d)
     (break_append (codes "# missing") (32 ∷ decimal row.period) words (space, number)) (space, day)
 
+-- the line of a row
 abbrev line_of : Option Frequency → List ℕ → DerivedRow → List ℕ
 line_of tenor index row = fields_of row row.found tenor index
 
@@ -116,9 +117,11 @@ module _ (tenor : Option Frequency) (index : List ℕ) (lawful : IsLawfulLine in
 
 -- ---- the file
 
+-- the first line of a fixing file
 abbrev head_line : List ℕ
 head_line = codes "# irs-fixings 1"
 
+-- the lines of a fixing file with these rows
 abbrev lines_by : List DerivedRow → Option Frequency → List ℕ → List (List ℕ)
 lines_by rows tenor index = head_line ∷ map (line_of tenor index) rows
 
@@ -172,6 +175,7 @@ some_day a b e = cc
 some_tenor : (a b : Option Frequency) → Some a ≡ Some b → a ≡ b
 some_tenor a b e = cc
 
+-- the slot of a date and a tenor
 abbrev slot_of : ℤ → Option Frequency → Slot
 slot_of d t = record { date = d; tenor = t }
 
@@ -188,6 +192,7 @@ one_spelt line name other slot d t x y p q =
 
 module _ (tenor : Option Frequency) (index : List ℕ) (rows : List DerivedRow) (lawful : IsLawfulLine index tenor)
     (kept : AreKept rows) where
+  -- the lines of the file with these rows
   abbrev lines : List (List ℕ)
   lines = lines_by rows tenor index
 
@@ -294,6 +299,7 @@ module _ (tenor : Option Frequency) (index : List ℕ) (rows : List DerivedRow) 
       let rest = flat_map (λ (r : DerivedRow). derived_text_of r tenor index) rows in
       head_step rest ∙ ap (λ (ls : List (List ℕ)). head_line ∷ ls) (row_lines tenor index lawful rows kept)
 
+  -- the rows are those of a fixing file
   pub are_fixings : AreFixings rows tenor index
   are_fixings = record {
     clean = λ n f. not_faulty n (subst (λ (ls : List (List ℕ)). IsFaulty ls n) all_lines f);

@@ -69,6 +69,7 @@ module _ (adjusted : List ℤ) (resets : List Reset) (rows : List DerivedRow) (d
   range_at k row at =
       subst IsInRange (get_or_from_slice_get rows k row row at) (good k row (slice_get_within rows k row at))
 
+  -- the rows have days and rates in range, and their fixing dates rise
   pub kept_rows : AreKept rows
   kept_rows = record {
     days = λ k row at. (range_at k row at).day;
@@ -89,6 +90,7 @@ module _ (adjusted : List ℤ) (resets : List Reset) (rows : List DerivedRow) (d
         omega (arith, signed_arith, order, x, y);
   }
 
+-- the floating terms of a requested stream are lawful
 pub lawful_float : (a : Asked) → IsAsked a → (float : FloatTerms) → PaysFloating a.swap a.number float
     → IsLawfulFloat float
 lawful_float a h float pays =

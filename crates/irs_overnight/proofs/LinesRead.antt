@@ -66,6 +66,7 @@ index_trimmed index h =
 
 module _ (d : ℤ) (x : ℤ) (tenor : Option Frequency) (index : List ℕ) (day : IsDay d) (rate : IsRate x)
     (lawful : IsLawfulLine index tenor) where
+  -- the text of a date, a rate, a tenor and an index spells that rate
   pub spells_whole : Spells (day_text d ++ 32 ∷ (dec_text x 9 ++ 32 ∷ (tenor_text tenor ++ 32 ∷ index))) index
       (record { date = d; tenor = tenor }) x
   spells_whole =

@@ -18,6 +18,7 @@ one_observed : (lines : RateLines) (q : ℤ) (u : List ℤ) (e : ℤ) (os ps : L
 one_observed lines q u e os ps a b =
     one_numbered (IsObservation lines q u e) (λ k x y p r. p ∙ sym r) 0 os ps (a.many ∙ sym b.many) a.each b.each
 
+-- a period has one list of observations
 pub one_observations : (lines : RateLines) (set : DaySet) (s e : ℤ) (os ps : List Observation)
     → AreObservations lines set s e os → AreObservations lines set s e ps → os ≡ ps
 one_observations lines set s e os ps a b =
@@ -28,6 +29,7 @@ one_observations lines set s e os ps a b =
     one_observed lines b.first b.starts e os ps (subst (λ (q : ℤ). AreObserved lines q b.starts e os) first by_starts)
     b.observed
 
+-- where no rate is absent, the first is there and so are the others
 pub known_or : (rate : Option ℤ) (d : ℤ) (later : Option ℤ) → absent_or rate d later ≡ None
     → IsSome rate × (later ≡ None)
 known_or None d later h = absurd (cc)
@@ -48,6 +50,7 @@ pub record Observes (lines : RateLines) (q : ℤ) (u : List ℤ) (e : ℤ) (k : 
   pub each : EachNumbered (IsObservation lines q u e) 0 os
   pub small : All IsSmall os
 
+-- one observation more
 pub observes_more : (lines : RateLines) (q : ℤ) (u : List ℤ) (e : ℤ) (k : ℕ) (os : List Observation) (o : Observation)
     → Observes lines q u e k os → IsObservation lines q u e k o → IsSmall o
     → Observes lines q u e (k + 1) (os ++ o ∷ [])

@@ -28,6 +28,7 @@ grows_known basis (o ∷ os) f g p =
 some_day : (a b : ℤ) → Some a ≡ Some b → a ≡ b
 some_day a b e = cc
 
+-- two bases that are the same option are the same
 pub some_basis : (a b : ℕ) → Some a ≡ Some b → a ≡ b
 some_basis a b e = cc
 
@@ -44,6 +45,7 @@ basis_range Thirty360 basis h = absurd (cc)
 basis_range ThirtyE360 basis h = absurd (cc)
 basis_range ThirtyE360Isda basis h = absurd (cc)
 
+-- a divisor of a period with days is above 0
 pub positive : (days : ℤ) → pos 0 <ℤ days → pos 0 <ℤ (pos (10 ^ 6) *ℤ days)
 positive days h = omega (arith, signed_arith, h)
 
@@ -72,6 +74,7 @@ not_passed p os are kept h =
     let same = one_observations p.lines p.days p.start p.end h.observations os h.are are in
     kept (subst (λ (xs : List Observation). PassesLimit p.basis (p.end -ℤ p.start) xs) same h.passes)
 
+-- a period that lacks no day and passes no limit breaks no rule
 pub none_fails : (p : DailyPeriod) → (LacksDays p.days p.start p.end → ⊥) → (PassesRange p → ⊥) → NoneFails p
 none_fails p days range NoDays h = days h
 none_fails p days range OutOfRange h = range h

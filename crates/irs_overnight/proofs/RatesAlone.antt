@@ -106,6 +106,7 @@ module _ (t u : RateTable) (e : SameRates t u) (part : Part) (index : List ℕ) 
   }))
 
 module _ (t u : RateTable) (e : SameRates t u) (swap : Swap) (n : ℕ) (parts : List Part) (days : DaySet) where
+  -- rates that agree on each line give the same rows
   pub overnight_same : (rows : List DerivedRow) → IsOvernight (asked swap n parts days t) rows
       → IsOvernight (asked swap n parts days u) rows
   overnight_same rows h = record {
@@ -124,10 +125,12 @@ module _ (t u : RateTable) (e : SameRates t u) (swap : Swap) (n : ℕ) (parts : 
         (subst (λ (s : DailySource). BreaksDerived s f) h.has.is h.breaks);
   }
 
+-- rates that agree on each line break no rule alike
 pub overnight_kept : (t u : RateTable) → SameRates t u → (swap : Swap) (n : ℕ) (parts : List Part) (days : DaySet)
     → OvernightKept (asked swap n parts days t) → OvernightKept (asked swap n parts days u)
 overnight_kept t u e swap n parts days h f b = h f (overnight_breaks u t (same_back t u e) swap n parts days f b)
 
+-- rates that agree on each line break the same rule first
 pub overnight_first : (t u : RateTable) → SameRates t u
     → (swap : Swap) (n : ℕ) (parts : List Part) (days : DaySet) (x : Broken)
     → IsFirstDerived (asked swap n parts days t) x → IsFirstDerived (asked swap n parts days u) x

@@ -26,9 +26,11 @@ pub in_order : (adjusted : List ℤ) (i : ℕ) → Rises adjusted → IsPeriod a
     → day_at adjusted (i - 1) <ℤ day_at adjusted i
 in_order adjusted i rises period = next_day adjusted i rises period.0 period.1
 
+-- a row made of its parts
 abbrev pub made : ℕ → ℤ → Found → DerivedRow
 made i d f = record { period = i; fixing = d; found = f }
 
+-- rows with the same parts are the same
 pub same_row : (i j : ℕ) (c d : ℤ) (f g : Found) → i ≡ j → c ≡ d → f ≡ g → made i c f ≡ made j d g
 same_row i j c d f g a b e = λ t. made (a t) (b t) (e t)
 
@@ -44,6 +46,7 @@ module _ (source : DailySource) (rises : Rises source.adjusted) where
       same_row x.period y.period x.fixing y.fixing x.found y.found (p.period ∙ sym q.period) (p.fixing
       ∙ sym q.fixing) found
 
+  -- a source has one list of rows
   pub one_derived : (xs ys : List DerivedRow) → AreDerived source xs → AreDerived source ys → xs ≡ ys
   one_derived xs ys p q =
       let a = p.many in
@@ -56,7 +59,7 @@ some_number x y e = cc
 some_reset : (x y : Reset) → Some x ≡ Some y → x ≡ y
 some_reset x y e = cc
 
--- what stands at a place doesn't hang on what would stand behind the list
+-- the element at a place doesn't depend on the default for places past the end
 pub read_at : (resets : List Reset) (place : ℕ) (x d : Reset) → place < length resets → x ≡ get_or resets place x
     → get_or resets place d ≡ x
 read_at resets place x d low is =
@@ -83,6 +86,7 @@ rises_more resets place x y some low is_x is_y after before n high h = elim (cas
       after (rw (sym b) (rw (sym a) stands))
 ]
 
+-- a day at a place of the list is the day there
 pub day_read : (days : List ℤ) (place : ℕ) (d : ℤ) → place < length days → d ≡ get_or days place d
     → day_at days place ≡ d
 day_read days place d low is =

@@ -29,9 +29,11 @@ use Rattle.irs_overnight.specs.declared.derived.DerivedRow.{DerivedRow}
 use Rattle.irs_overnight.proofs.DerivedOrder.{derived_ties}
 use Rattle.irs_overnight.proofs.RowLemmas.{one_derived}
 
+-- two streams that are the same option are the same
 pub same_stream : (x y : Stream) → Some x ≡ Some y → x ≡ y
 same_stream x y e = cc
 
+-- two parts that are the same option are the same
 pub some_part : (x y : Part) → Some x ≡ Some y → x ≡ y
 some_part x y e = cc
 
@@ -72,21 +74,25 @@ asked_part a h =
     let floats : found.0.floating ≡ is_floating (Floating h.floats.0) = found.2.floating ∙ ap is_floating pays.pays in
     (found.0, found.1, floats)
 
+-- what holds for each part holds for the one at a place
 pub every_at : (P : Part → Type 0) (ps : List Part) (i : ℕ) (p : Part) → Every P ps → slice_get ps i ≡ Some p → P p
 every_at P [] i p each at = absurd (cc)
 every_at P (x ∷ ps) zero p each at = subst P (some_part x p at) each.0
 every_at P (x ∷ ps) (suc i) p each at = every_at P ps i p each.1 at
 
 module _ (a : Asked) (source : DailySource) (has : HasSource a source) where
+  -- rows over that source are the rates of the stream
   pub overnight_rows : (rows : List DerivedRow) → AreDerived source rows → IsOvernight a rows
   overnight_rows rows derived = record { source = source; has = has; derived = derived }
 
   breaks_source : (f : Fault) → BreaksOvernight a f → BreaksDerived source f
   breaks_source f b = subst (λ (s : DailySource). BreaksDerived s f) (one_source a b.source source b.has has) b.breaks
 
+  -- where no rule is broken over that source, none is for the stream
   pub overnight_kept : ((f : Fault) → BreaksDerived source f → ⊥) → OvernightKept a
   overnight_kept kept f b = kept f (breaks_source f b)
 
+  -- the first rule broken over that source is the first for the stream
   pub overnight_broken : (f : Fault) (x : Broken) → First derived_before (BreaksDerived source) f
       → x ≡ in_stream a.number f → IsFirstDerived a x
   overnight_broken f x first is = record {
@@ -112,10 +118,11 @@ one_broken a x y p q =
     one_first derived_before derived_ties (BreaksOvernight a) p.fault q.fault p.first q.first in
     p.is ∙ ap (in_stream a.number) same ∙ sym q.is
 
+-- a stream that is there isn't missing
 pub lacks : (o : Option Stream) (s : Stream) → o ≡ None → o ≡ Some s → ⊥
 lacks o s p q = cc
 
--- parts stand at the places of the list alone
+-- parts are at the places of the list alone
 pub asked_place : (a : Asked) → IsAsked a → (1 ≤ a.number) × (a.number - 1 < length a.parts)
 asked_place a h = let found = asked_part a h in
     (h.floats.1.from_one, slice_get_within a.parts (a.number - 1) found.0 found.1)
@@ -125,6 +132,7 @@ pub has_source : (a : Asked) → (h : IsAsked a) → (float : FloatTerms) → Pa
     → slice_get a.parts (a.number - 1) ≡ Some p → HasSource a (daily_source p float.index a.days a.rates)
 has_source a h float pays p at = record { float = float; pays = pays; part = p; at = at; is = refl }
 
+-- the part of a requested stream floats
 pub part_floats : (a : Asked) → IsAsked a → (p : Part) → slice_get a.parts (a.number - 1) ≡ Some p → IsTrue p.floating
 part_floats a h p at =
     let found = asked_part a h in

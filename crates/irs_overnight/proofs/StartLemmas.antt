@@ -8,6 +8,7 @@ use Rattle.irs_base.proofs.Rising.{member_cases, member_new, member_old, one_ris
 use Rattle.irs_calendar.specs.GoodDays.{DaySet, IsGood}
 use Rattle.irs_overnight.specs.Starts.{AreStarts, LeavesCover}
 
+-- what is false isn't true
 pub is_not : (b : Bool) → b ≡ false → IsTrue b → ⊥
 is_not b p q = cc (p, q)
 
@@ -97,7 +98,7 @@ module _ (set : DaySet) (s e : ℤ) (order : s <ℤ e) where
             omega (arith, signed_arith, from, low);
       }
 
-  -- it ends behind the cover
+  -- it ends after the cover
   pub leaves_past : (set.last +ℤ pos 1) <ℤ e → LeavesCover set s e
   leaves_past high = record {
     day = e -ℤ pos 1;
@@ -106,7 +107,7 @@ module _ (set : DaySet) (s e : ℤ) (order : s <ℤ e) where
     outside = λ h. let to = h.to in omega (arith, signed_arith, to, high);
   }
 
-  -- a period that starts in the cover and leaves it ends behind it
+  -- a period that starts in the cover and leaves it ends after it
   pub past_if : set.first ≤ℤ s → LeavesCover set s e → (set.last +ℤ pos 1) <ℤ e
   past_if first h =
       let from = h.from in

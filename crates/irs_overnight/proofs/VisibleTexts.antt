@@ -22,9 +22,11 @@ use Rattle.irs_resets.specs.Tenors.{digit_at, first_digit, tenor_at, tens, three
 use Rattle.irs_resets.specs.Tenors.{with_unit}
 use Rattle.irs_overnight.specs.Texts.{tenor_text, unit_text}
 
+-- a byte above the space is no white space
 pub no_space : (x : ℕ) → 33 ≤ x → is_space x ≡ false
 no_space x h = grind (arith, nat_tests)
 
+-- the text of a day in range is read back as the day
 pub day_back : (d : ℤ) → IsDay d → date_at (day_text d) ≡ Some d
 day_back d day = plain_is (day_text d) d day (plain d day)
 
@@ -56,16 +58,19 @@ rate_unsigned n k h =
 short_rate : (n : ℕ) → n ≤ 10 ^ 10 → n / 10 ^ 9 < 10 ^ 18
 short_rate n h = omega (arith, h)
 
+-- the text of a rate is read back as the rate
 pub rate_back : (x : ℤ) → IsRate x → DecText (dec_text x 9) 9 x
 rate_back (pos n) h = bare (unsigned_dec n 9) 9 n (rate_unsigned n 8 (short_rate n h))
 rate_back (negsuc n) h = minus (unsigned_dec (suc n) 9) 9 (suc n) (rate_unsigned (suc n) 8 (short_rate (suc n) h))
 
+-- the text of a rate has no white space
 pub rate_visible : (x : ℤ) → IsRate x → Visible (dec_text x 9)
 rate_visible (pos n) h = places_visible n 8 (short_rate n h)
 rate_visible (negsuc n) h = (omega arith, places_visible (suc n) 8 (short_rate (suc n) h))
 
 -- ---- tenors
 
+-- ds are the decimal digits of a number below 1000
 pub record IsShort (n : ℕ) (ds : List ℕ) : Type 0 where
   pub one : n < 10 → ds ≡ (48 + n) ∷ []
   pub two : 10 ≤ n → n < 100 → ds ≡ (48 + n / 10) ∷ (48 + n % 10) ∷ []
@@ -109,7 +114,7 @@ unit_back M h = (77, refl, refl, omega arith)
 unit_back Y h = (89, refl, refl, omega arith)
 unit_back T h = absurd (h refl)
 
--- the first byte is behind the space
+-- the first byte is after the space
 abbrev pub StartsVisible : List ℕ → Type 0
 StartsVisible [] = ⊥
 StartsVisible (x ∷ xs) = 33 ≤ x
@@ -125,6 +130,7 @@ rate_starts_by n k h =
     (starts_before (decimal a) 46 (digit_row (suc k) n)
     (digits_visible (decimal a) (spells_decimal a (omega (arith, h))).0) (omega arith))
 
+-- the text of a rate begins with no white space
 pub rate_starts : (x : ℤ) → IsRate x → StartsVisible (dec_text x 9)
 rate_starts (pos n) h = rate_starts_by n 8 (short_rate n h)
 rate_starts (negsuc n) h = omega arith
@@ -137,12 +143,14 @@ count_visible : (f : Frequency) → IsLawfulTenor f → Visible (decimal f.count
 count_visible f h = let high = h.0.1 in
     digits_visible (decimal f.count) (spells_decimal f.count (omega (arith, high))).0
 
+-- the text of a tenor has no white space
 pub tenor_visible : (tenor : Option Frequency) → IfSome tenor IsLawfulTenor → Visible (tenor_text tenor)
 tenor_visible None h = (omega arith, tt)
 tenor_visible (Some f) h = let u = unit_back f.unit h.1 in
     subst Visible (sym (tenor_made f u.0 u.1))
     (visible_append (decimal f.count) (u.0 ∷ []) (count_visible f h) (u.3, tt))
 
+-- the text of a tenor begins with no white space
 pub tenor_starts : (tenor : Option Frequency) → IfSome tenor IsLawfulTenor → StartsVisible (tenor_text tenor)
 tenor_starts None h = omega arith
 tenor_starts (Some f) h = let u = unit_back f.unit h.1 in
@@ -162,6 +170,7 @@ three_is n low high =
     let c = digit_is (n % 10) (omega arith) in
     rw (a, b, c) (ap (λ (m : ℕ). Some m) e)
 
+-- a frequency made of its parts
 abbrev frequency : ℕ → FrequencyUnit → Frequency
 frequency n u = record { count = n; unit = u }
 
@@ -184,6 +193,7 @@ tenor_by f n b ds h same short unit =
       ]
     ]
 
+-- the text of a tenor is read back as the tenor
 pub tenor_back : (tenor : Option Frequency) → IfSome tenor IsLawfulTenor → tenor_at (tenor_text tenor) ≡ Some tenor
 tenor_back None h = refl
 tenor_back (Some f) h =

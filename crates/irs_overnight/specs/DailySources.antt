@@ -8,8 +8,8 @@ use Rattle.irs_schedule.specs.Parts.{Part}
 use Rattle.irs_schedule.specs.RowsOf.{no_reset}
 use Rattle.irs_overnight.specs.Sources.{RateLines, daily_lines}
 
--- the adjusted boundaries of the calculation periods and their resets, the day count, the good days of
--- reset dates, and the daily rates
+-- the adjusted boundaries of the calculation periods and their resets, the day count, the business days of reset dates,
+-- and the daily rates
 pub record DailySource : Type 0 where
   pub adjusted : List ℤ
   pub resets : List Reset

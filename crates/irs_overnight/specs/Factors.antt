@@ -1,5 +1,5 @@
--- Daily rates compounded: the factors, in units of 10^-15, and the rate for the period, in units of 10^-9.
--- The product and its rounding are this project's own.
+-- Daily rates compounded: the factors, in units of 10^-15, and the rate for the period, in units of 10^-9. The product
+-- and its rounding are our rule.
 use Rattle.std.specs.Prelude.{◌≡◌, ◌⊎◌, ℕ, ◌*◌, ◌^◌, ◌<◌, ◌≤◌, List, [], ◌∷◌, length, take, Some, None, ℤ, pos, ◌+ℤ◌}
 use Rattle.std.specs.Prelude.{◌-ℤ◌, ◌*ℤ◌, unsigned_abs}
 use Rattle.irs_base.specs.Limits.{most_rate}
@@ -31,7 +31,7 @@ abbrev pub Grows : ℕ → List Observation → ℤ → ℤ → Type 0
 Grows basis [] f g = g ≡ f
 Grows basis (o ∷ os) f g = (h : ℤ) × GrowsBy basis o f h × Grows basis os h g
 
--- g is the factor behind the first observations
+-- g is the factor after the first observations
 abbrev pub Reaches : ℕ → List Observation → ℕ → ℤ → Type 0
 Reaches basis os count g = Grows basis (take count os) one_factor g
 

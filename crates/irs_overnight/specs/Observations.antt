@@ -7,7 +7,7 @@ use Rattle.irs_overnight.specs.Sources.{RateLines, rate_by}
 use Rattle.irs_overnight.specs.Starts.{AreStarts}
 use Rattle.irs_overnight.specs.declared.observations.Observation.{Observation}
 
--- the start behind the one at place k, counted from 0, or the end behind the last
+-- the start after the one at place k, counted from 0, or the end after the last
 abbrev pub next_start : List ℤ → ℤ → ℕ → ℤ
 next_start u e k = slice_index_or u (k + 1) e
 
@@ -30,7 +30,7 @@ pub record AreObserved (lines : RateLines) (q : ℤ) (u : List ℤ) (e : ℤ) (o
   pub many : length os ≡ length u
   pub each : EachNumbered (IsObservation lines q u e) 0 os
 
--- the observations of the period from s to e: the first on the last good day at or before s
+-- the observations of the period from s to e: the first on the last business day at or before s
 pub record AreObservations (lines : RateLines) (set : DaySet) (s e : ℤ) (os : List Observation) : Type 0 where
   pub starts : List ℤ
   pub are_starts : AreStarts set s e starts

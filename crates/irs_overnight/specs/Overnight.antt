@@ -22,7 +22,7 @@ use Rattle.irs_overnight.specs.DailySources.{DailySource, daily_source}
 use Rattle.irs_overnight.specs.Sources.{Floats, PaysFloating}
 use Rattle.irs_overnight.specs.declared.derived.DerivedRow.{DerivedRow}
 
--- the stream of a swap by its number, the parts of a schedule, good days and daily rates
+-- the stream of a swap by its number, the parts of a schedule, business days and daily rates
 pub record Asked : Type 0 where
   pub swap : Swap
   pub number : ℕ
@@ -30,12 +30,12 @@ pub record Asked : Type 0 where
   pub days : DaySet
   pub rates : RateTable
 
--- what is asked, of these
+-- a request for rates, of these parts
 abbrev pub asked : Swap → ℕ → List Part → DaySet → RateTable → Asked
 asked swap number parts days rates = record { swap = swap; number = number; parts = parts; days = days; rates = rates }
 
--- The stream floats, the parts are the schedule of the swap without fixings, by calendars with which no
--- rule is broken, and the days are the good days of the stream's reset dates in these calendars.
+-- The stream floats, and the parts are the schedule of the swap without fixings, by calendars with which no rule is
+-- broken. The days are the business days of the stream's reset dates in these calendars.
 pub record IsAsked (a : Asked) : Type 0 where
   pub lawful : IsLawful a.swap
   pub floats : Floats a.swap a.number

@@ -14,8 +14,8 @@ pub record IsLawfulLine (index : List ℕ) (tenor : Option Frequency) : Type 0 w
   pub named : IsLawfulIndex index
   pub lasting : IfSome tenor IsLawfulTenor
 
--- before its line feed the line of a rate spells that rate of the index, at the fixing date and the tenor; that
--- of a missing rate is passed over
+-- before its line feed the line of a rate spells that rate of the index, at the fixing date and the tenor. The line of
+-- a missing rate is passed over
 abbrev pub ReadsAs : DerivedRow → Found → Option Frequency → List ℕ → Type 0
 ReadsAs row (Rate x) tenor index =
     IsRate x → Spells (fields_of row (Rate x) tenor index) index (record { date = row.fixing; tenor = tenor }) x

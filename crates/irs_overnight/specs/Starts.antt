@@ -3,8 +3,7 @@ use Rattle.std.specs.Prelude.{◌≡◌, ◌⊎◌, ℤ, List, ◌<ℤ◌, ◌�
 use Rattle.irs_base.specs.Listed.{Lists}
 use Rattle.irs_calendar.specs.GoodDays.{DaySet, InCover, IsGood, Prev}
 
--- a daily rate holds from the day s on which the period starts, and from each good day after s and before
--- the day e on which it ends
+-- a daily rate holds from the first day s of the period, and from each business day after s and before its end e
 abbrev pub Starts : DaySet → ℤ → ℤ → ℤ → Type 0
 Starts set s e d = (d ≡ s) ⊎ ((s <ℤ d) × (d <ℤ e) × IsGood set d)
 
@@ -19,6 +18,6 @@ pub record LeavesCover (set : DaySet) (s e : ℤ) : Type 0 where
   pub to : day <ℤ e
   pub outside : InCover set day → ⊥
 
--- there is no good day at or before s in the cover, or a day of the period lies outside the cover
+-- there is no business day at or before s in the cover, or a day of the period lies outside the cover
 abbrev pub LacksDays : DaySet → ℤ → ℤ → Type 0
 LacksDays set s e = LeavesCover set s e ⊎ ((q : ℤ) → Prev set s q → ⊥)

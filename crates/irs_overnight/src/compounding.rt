@@ -22,21 +22,22 @@ use std::alloc::Global;
 /// ran out.
 pub type DerErr = Stopped<Broken>;
 
-/// For each calculation period of a floating stream, from its adjusted start to its adjusted end, the
-/// rate that the daily rates of the stream's index give, in units of 10^-9, with the fixing date of
-/// the period; or the first day whose daily rate has no line of tenor 1D. `stream` counts from 1, `s`
-/// is the schedule of the swap without fixings, and `days` are the good days of the stream's reset
-/// dates.
+/// The rate that the daily rates of a floating stream's index give for each calculation period,
+/// from its adjusted start to its adjusted end. It is in units of 10^-9, with the fixing date of
+/// the period. Where a daily rate has no line of tenor 1D, the first such day comes in its place.
+/// `stream` counts from 1, and `s` is the schedule of the swap without fixings. `days` are the
+/// business days of the stream's reset dates.
 ///
-/// A daily rate holds from the start of the period and from each good day in it to the next of these
-/// days, or to the end. It is observed on that day, the first on the last good day at or before the
-/// start. Factors are rounded at 15 decimals, a half up.
+/// A daily rate holds from the start of the period, or from a business day in it. It holds to the
+/// next of these days, or to the end, and is observed on the day from which it holds. The first is
+/// observed on the last business day at or before the start. Factors are rounded at 15 decimals, a
+/// half up.
 ///
-/// `Broken` is exactly the first of: K42, the day count is neither ACT/360 nor ACT/365.FIXED; the
-/// lowest period with K41, its fixing date isn't after that of the period before it; the lowest period
-/// with K43, a day of it lies outside the cover or no good day comes before its start, or K44, all its
-/// daily rates are there and a factor passes 10^20 units of 10^-15 or the rate 10 in size. `Memory`
-/// comes where memory ran out.
+/// `Broken` is exactly the first of four. K42: the day count is neither ACT/360 nor ACT/365.FIXED.
+/// K41: the fixing date of a period isn't after that of the period before it. K43: a day of a
+/// period lies outside the cover, or no business day comes before its start. K44: all daily rates
+/// of a period are there, and a factor passes 10^20 units of 10^-15 or the rate 10 in size. The
+/// lowest K41 comes before the lowest period with K43 or K44. `Memory` comes where memory ran out.
 pub fn overnight<G: GoodDays>(
     alloc: Global,
     s: &Schedule,
@@ -45,7 +46,7 @@ pub fn overnight<G: GoodDays>(
     days: &G,
     daily: &Fixings,
 ) -> Result<Derived, DerErr>
-    // `check_stream` finds nothing, and schedule and good days are those of the swap.
+    // `check_stream` finds nothing, and schedule and business days are those of the swap.
     requires { IsAsked (asked swap.now stream s.now (G.days days.now) daily.now) }
     ensures ok { let a = asked swap.now stream s.now (G.days days.now) daily.now in IfOk result (IsOvernight a) }
     // The rows print a fixing file that has exactly their rates.
@@ -54,8 +55,8 @@ pub fn overnight<G: GoodDays>(
         IfOk result (λ _. OvernightKept a) }
     ensures broken { let a = asked swap.now stream s.now (G.days days.now) daily.now in
         IfBroken result (IsFirstDerived a) }
-    // At every exit: where no rule is broken there is a list of rates; there is at most one, and one rule
-    // that is broken first.
+    // At every exit: where no rule is broken there is a list of rates. There is at most one list,
+    // and one rule that is broken first.
     ensures exists { let a = asked swap.now stream s.now (G.days days.now) daily.now in
         OvernightKept a → (rows : List Row) × IsOvernight a rows }
     ensures one { let a = asked swap.now stream s.now (G.days days.now) daily.now in

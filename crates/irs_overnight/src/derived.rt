@@ -7,7 +7,7 @@ use irs_terms::Listed;
 pub enum Found {
     /// The rate, in units of 10^-9.
     Rate(i64),
-    /// The first day on which a rate is asked for and has no line.
+    /// The first day that needs a rate and has no line.
     Missing(Day),
 }
 

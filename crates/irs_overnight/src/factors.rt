@@ -1,5 +1,5 @@
-//! Daily rates compounded: each factor is the one before it times 1 and the rate times its days over
-//! the days of a year. The product and its rounding at 15 decimals are this project's own.
+//! Daily rates compounded. Each factor is the one before it times 1 and the rate times its days
+//! over the days of a year. The product and its rounding at 15 decimals are our rule.
 ghost use Rattle.std.specs.Prelude.{◌≡◌, ◌+◌, ◌*◌, ◌^◌, ◌<◌, ◌≤◌, All, IfSome, IfNone, None, pos, ◌<ℤ◌, ◌+ℤ◌};
 ghost use Rattle.std.specs.Prelude.{◌-ℤ◌, ◌*ℤ◌, unsigned_abs};
 ghost use Rattle.irs_base.specs.Days.{all_days};
@@ -73,7 +73,7 @@ fn grown_factor(factor: i128, grown: i128) -> i128
     product(factor, grown)
 }
 
-// The factor behind another by a rate over a number of days.
+// The factor after another by a rate over a number of days.
 fn next_factor(basis: u16, factor: i128, rate: i64, weight: i64) -> i128
     requires range { (1 ≤ basis) × (basis ≤ 365) }
     requires factor { unsigned_abs factor ≤ most_factor }
@@ -86,7 +86,7 @@ fn next_factor(basis: u16, factor: i128, rate: i64, weight: i64) -> i128
     round(Direction::Nearest, grown_factor(factor, grown), year)
 }
 
-// The factor behind an observation whose rate is there.
+// The factor after an observation whose rate is there.
 fn grown_by(basis: u16, factor: i128, o: Observation) -> i128
     requires range { (1 ≤ basis) × (basis ≤ 365) }
     requires factor { unsigned_abs factor ≤ most_factor }
@@ -177,8 +177,8 @@ fn known_rate(basis: u16, days: i64, observations: &[Observation]) -> Option<i64
     small_rate(rate_of(basis, days, factor))
 }
 
-/// The rate of a period, or its first day without a daily rate; `None` exactly where each daily rate
-/// is there, and a factor or the rate passes its limit.
+/// The rate of a period, or its first day without a daily rate. `None` comes exactly where each
+/// daily rate is there, and a factor or the rate passes its limit.
 pub(crate) fn compounded_rate(basis: u16, days: i64, observations: &[Observation]) -> Option<Found>
     requires range { (1 ≤ basis) × (basis ≤ 365) }
     requires days { (pos 0 <ℤ days) × (unsigned_abs days < all_days) }

@@ -21,8 +21,8 @@ pub(crate) const ONE_DAY: Frequency = Frequency {
     unit: Unit::D,
 };
 
-/// A rate that was observed on a day, in units of 10^-9, `None` where it has no line; the weight is
-/// the number of days for which it holds.
+/// A rate that was observed on a day, in units of 10^-9, or `None` where it has no line. Its weight
+/// is the number of days for which it holds.
 #[derive(Clone, Copy)]
 pub struct Observation {
     /// The day on which the rate was observed.
@@ -33,7 +33,7 @@ pub struct Observation {
     pub rate: Option<i64>,
 }
 
-// The start behind the one at a place, or the end behind the last.
+// The start after the one at a place, or the end after the last.
 fn next_start(starts: &[Day], end: Day, place: usize) -> Day
     requires { place < length starts.now }
     ensures { result ≡ next_start starts.now end place }

@@ -1,5 +1,5 @@
-//! The days from which daily rates hold: the first day of a calculation period, and each good day
-//! after it in the period.
+//! The days from which daily rates hold: the first day of a calculation period, and each business
+//! day after it in the period.
 ghost use Rattle.std.specs.Prelude.{◌≡◌, ◌↔◌, ◌<◌, ◌-◌, IsTrue, IfOk, pos, ◌<ℤ◌, ◌≤ℤ◌, ◌-ℤ◌, ◌+ℤ◌, unsigned_abs};
 ghost use Rattle.irs_base.specs.Days.{all_days};
 ghost use Rattle.irs_overnight.specs.Starts.{AreStarts, LeavesCover};
@@ -24,7 +24,7 @@ pub fn days_ahead(start: Day, end: Day) -> u32
     (end.number() - start.number()) as u32
 }
 
-// Whether the day before the end lies behind the last day of a cover.
+// Whether the day before the end lies after the last day of a cover.
 fn ends_past(last: Day, end: Day) -> bool
     ensures { IsTrue result ↔ (last +ℤ pos 1) <ℤ end }
 {

@@ -1,4 +1,4 @@
-//! The floating stream of a swap that is asked for by its number.
+//! The floating stream of a swap with a number.
 ghost use Rattle.std.specs.Prelude.{◌≡◌, ◌↔◌, ◌-◌, ◌≤◌, slice_get, Some, None, IsTrue, IfSome, IfNone, SomeIff};
 ghost use Rattle.irs_terms.specs.declared.amounts.FloatTerms.{FloatTerms as Float};
 ghost use Rattle.irs_overnight.specs.DerivedRules.{no_floating_stream};
@@ -40,9 +40,9 @@ fn floats(swap: &Swap, number: u8) -> bool
     }
 }
 
-/// Whether rates can be derived for the stream with that number, from 1 (FpML `swapStream`): K40
-/// exactly where the swap has no such stream, or it is fixed, with that number in its place. The
-/// rule is this project's own. No memory is taken.
+/// Whether rates can be derived for the stream with that number, from 1 (FpML `swapStream`). K40,
+/// with that number as its stream, comes exactly where the swap has no such stream or the stream is
+/// fixed. The rule is ours. No memory is taken.
 pub fn check_stream(swap: &Swap, stream: u8) -> Option<Broken>
     ensures { SomeIff result (Floats swap.now stream → ⊥) (no_floating_stream stream) }
 {

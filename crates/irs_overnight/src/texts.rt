@@ -1,5 +1,5 @@
-//! The lines of a fixing file that derived rates print: DATE RATE TENOR INDEX, or a comment for a rate
-//! that is missing. The format is this project's own.
+//! The lines of a fixing file that derived rates print: DATE RATE TENOR INDEX, or a comment for a
+//! rate that is missing. The format is ours.
 ghost use Rattle.std.specs.Prelude.{◌≡◌, ◌+◌, ◌<◌, ◌≤◌, [], ◌∷◌, ◌++◌, length};
 ghost use Rattle.std.specs.Fmt.{decimal};
 ghost use Rattle.irs_base.specs.Limits.{most_index};
@@ -24,7 +24,7 @@ fn unit_text(unit: Unit) -> &'static str
     }
 }
 
-// Each of these puts a text behind what the line holds.
+// Each of these appends a text to the line.
 fn put_frequency(line: &mut Line, f: Frequency)
     requires { length line.old + 41 ≤ 512 }
     ensures text { line.new ≡ line.old ++ (decimal f.count ++ unit_text f.unit) }
@@ -86,15 +86,15 @@ fn put_fields(row: &DerivedRow, tenor: Option<Frequency>, index: &Text, line: &m
     }
 }
 
-/// Puts the line of a fixing file that a derived rate prints, with its line feed, in the place of what
-/// the line holds: `DATE RATE TENOR INDEX`, the rate with 9 decimals and the tenor `-` where there is
-/// none, or `# missing PERIOD DATE`. No memory is taken.
+/// Replaces what the line holds by the line of a fixing file that a derived rate prints, with its
+/// line feed. It is `DATE RATE TENOR INDEX` or `# missing PERIOD DATE`. The rate has 9 decimals,
+/// and the tenor is `-` where there is none. No memory is taken.
 #[tactic(auto, unfolding(crate::specs::Texts::derived_text_of))]
 pub fn derived_text(row: &DerivedRow, tenor: Option<Frequency>, index: &Text, line: &mut Line)
     requires { length index.now ≤ most_index }
     ensures text { line.new ≡ derived_text_of row.now tenor index.now }
-    // For an index and a tenor as terms have them the line of a rate spells it, and that of a missing
-    // rate is passed over.
+    // For an index and a tenor as terms have them the line of a rate spells it. The line of a
+    // missing rate is passed over.
     ensures reads { IsLawfulLine index.now tenor → ReadsAs row.now row.now.found tenor index.now }
 {
     // hands the prover the range of the fixing date
@@ -106,10 +106,10 @@ pub fn derived_text(row: &DerivedRow, tenor: Option<Frequency>, index: &Text, li
 
 ghost use Rattle.std.specs.Prelude.{codes};
 
-/// A law: for an index and a tenor as terms have them, rows with days and rates in range whose fixing
-/// dates rise print a fixing file, behind the line `# irs-fixings 1`, and its lines give exactly the
-/// rates of the rows: `Fixings::read` takes them, and none for a row whose rate is missing. The call
-/// does nothing but to say so.
+/// A law, for an index and a tenor as terms have them. Rows with days and rates in range whose
+/// fixing dates rise print a fixing file, after the line `# irs-fixings 1`. Its lines give exactly
+/// the rates of the rows. `Fixings::read` takes them, and none for a row whose rate is missing. The
+/// call does nothing but to say so.
 pub fn rates_read_back(rows: &Derived, tenor: Option<Frequency>, index: &Text)
     requires lawful { IsLawfulLine index.now tenor }
     requires kept { AreKept rows.now }

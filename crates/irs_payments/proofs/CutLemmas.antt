@@ -48,6 +48,7 @@ place_in P b (c ∷ cs) d h (inl here) = (c, h.0, sym here)
 place_in P b (c ∷ cs) d h (inr there) = place_in P b cs d h.1 there
 
 module _ (s : Stream) (b : List ℤ) where
+  -- before boundary 1 the first day alone ends a payment period
   pub no_cuts : AreCuts s b 1 (0 ∷ [])
   no_cuts = record {
     later = [];
@@ -61,6 +62,7 @@ module _ (s : Stream) (b : List ℤ) where
   wider : (i c : ℕ) → IsCut s b i c → IsCut s b (i + 1) c
   wider i c h = record { from_one = h.from_one; below = omega (arith, h.below); ends = h.ends }
 
+  -- a boundary that ends no payment period is left out
   pub pass_cut : (i : ℕ) (cuts : List ℕ) → AreCuts s b i cuts → (EndsAt s b i → ⊥) → AreCuts s b (i + 1) cuts
   pass_cut i cuts h off = record {
     later = h.later;
@@ -73,6 +75,7 @@ module _ (s : Stream) (b : List ℤ) where
     ];
   }
 
+  -- a boundary that ends a payment period is taken
   pub take_cut : (i : ℕ) (cuts : List ℕ) → IsRising b → 1 ≤ i → i < length b → AreCuts s b i cuts → EndsAt s b i
       → AreCuts s b (i + 1) (cuts ++ i ∷ [])
   take_cut i cuts rising low high h on =
@@ -98,6 +101,7 @@ all_after : (e : ℤ) (xs : List ℤ) → ((d : ℤ) → Member d xs → e <ℤ 
 all_after e [] h = tt
 all_after e (x ∷ xs) h = (h x (inl refl), all_after e xs (λ d m. h d (inr m)))
 
+-- the first boundary is the first day
 pub first_is : (e t : ℤ) (b : List ℤ) → RunsFromTo e t b → day_at b 0 ≡ e
 first_is e t b r =
     let p = place_of e b r.starts in
@@ -109,6 +113,7 @@ first_is e t b r =
       | inr first ↦ let same : 0 ≡ p.0 = omega arith in subst (λ (k : ℕ). day_at b k ≡ e) (sym same) p.2
     ]
 
+-- the boundary at the termination date is the last
 pub last_is : (e t : ℤ) (b : List ℤ) (k : ℕ) → RunsFromTo e t b → k < length b → day_at b k ≡ t → k + 1 ≡ length b
 last_is e t b k r l at = elim (cases_lt (k + 1) (length b)) [
   | inl more ↦
@@ -118,6 +123,7 @@ last_is e t b k r l at = elim (cases_lt (k + 1) (length b)) [
   | inr last ↦ omega arith
 ]
 
+-- a term of at least a day has two boundaries
 pub two_boundaries : (e t : ℤ) (b : List ℤ) → e <ℤ t → RunsFromTo e t b → 1 < length b
 two_boundaries e t b h r =
     let first = first_is e t b r in
@@ -133,6 +139,7 @@ two_boundaries e t b h r =
 module _ (s : Stream) (b : List ℤ) (run : RunsFromTo (first_day_of s) s.termination.day b) (later : List ℕ)
     (rising : IsRising (days_at b later)) (sound : EachPlace (IsCut s b (length b)) later) (complete : (place : ℕ)
     → 1 ≤ place → place < length b → EndsAt s b place → Member (day_at b place) (days_at b later)) where
+  -- the payment boundaries, with the first day in front
   abbrev pub pay_days : List ℤ
   pay_days = (first_day_of s) ∷ days_at b later
 
@@ -166,6 +173,7 @@ module _ (s : Stream) (b : List ℤ) (run : RunsFromTo (first_day_of s) s.termin
       subst (λ (z : ℤ). Member z (days_at b later)) p.2
       (complete p.0 low p.1 (subst (λ (z : ℤ). EndsPayment s (pay_anchor s b) z) (sym p.2) h.is))
 
+  -- they are the stream's payment boundaries
   pub pay_listed : PayList s b pay_days
   pay_listed = record {
     later = days_at b later;
@@ -173,10 +181,12 @@ module _ (s : Stream) (b : List ℤ) (run : RunsFromTo (first_day_of s) s.termin
     listed = record { rising = rising; sound = is_pay; complete = has_pay };
   }
 
+  -- each payment boundary is the boundary at its place
   pub pay_at : (k : ℕ) → k < length (0 ∷ later) → day_at pay_days k ≡ day_at b (cut_at (0 ∷ later) k)
   pay_at zero l = sym first
   pay_at (suc k) l = day_at-days_at b later k (omega arith)
 
+  -- there are as many payment boundaries as places
   pub length-pay : length pay_days ≡ length (0 ∷ later)
   length-pay = omega (arith, length-days_at b later)
 
@@ -200,6 +210,7 @@ module _ (s : Stream) (b : List ℤ) (run : RunsFromTo (first_day_of s) s.termin
         | inr past ↦ absurd (omega (arith, past, cut_within (k + 1) l))
       ]
 
+  -- the places rise from the first boundary to the last
   pub cut_places : ArePlaces b (0 ∷ later)
   cut_places = record { begins = refl; rise = cut_rises; within = cut_within }
 
@@ -224,6 +235,7 @@ module _ (s : Stream) (b : List ℤ) (run : RunsFromTo (first_day_of s) s.termin
       let is = last_is (first_day_of s) s.termination.day b (cut_at (0 ∷ later) p.0) run (cut_within p.0 l) at in
       subst (λ (k : ℕ). cut_at (0 ∷ later) k + 1 ≡ length b) last is
 
+  -- a stream has one list of payment boundaries
   pub one_pay : (pay : List ℤ) → PayList s b pay → pay ≡ pay_days
   one_pay pay h =
       let same = one_rising h.later (days_at b later) h.listed.rising rising (λ d m. has_pay d (h.listed.sound d m))

@@ -33,6 +33,7 @@ anchor_by_day (Some first) each one e given is_one is_e = given
 anchor_by_day None true one e given is_one is_e = is_one
 anchor_by_day None false one e given is_one is_e = is_e
 
+-- the payment anchor is a day in range
 pub pay_anchor_day : (s : Stream) (b : List ℤ) → IsLawfulStream s → AreDays b → IsDay (pay_anchor s b)
 pay_anchor_day s b lawful days =
     anchor_by_day s.pay.first (same_length s.pay.freq s.freq) (day_at b 1) (first_day_of s) lawful.pay.first
@@ -95,6 +96,7 @@ module _ (s : Stream) (b : List ℤ) (lawful : IsLawfulStream s) (run : RunsFrom
         )
       ]
 
+  -- the places of the payment boundaries are there
   pub cuts_there : (cuts : List ℕ) × AreCuts s b (length b) cuts
   cuts_there =
       let p = place_of (first_day_of s) b run.starts in
@@ -105,6 +107,7 @@ module _ (s : Stream) (b : List ℤ) (lawful : IsLawfulStream s) (run : RunsFrom
 -- where each payment has a date, the payments are there
 module _ (s : Stream) (set : DaySet) (b a : List ℤ) (cuts : List ℕ) (places : ArePlaces b cuts) (dates : (j : ℕ) → 1 ≤ j
     → j < length cuts → (r : ℤ) × IsPaymentDate s.pay set (day_at a (date_place s cuts j)) r) where
+  -- payment j with this adjusted date
   abbrev payment_at : ℕ → ℤ → Payment
   payment_at j r =
       record {
@@ -130,6 +133,7 @@ module _ (s : Stream) (set : DaySet) (b a : List ℤ) (cuts : List ℕ) (places 
       (before.0 ++ p ∷ []) None (is_payment_at (suc n) date.0 date.1) before.1 (refl, refl) in
       (before.0 ++ p ∷ [], subst (λ (k : ℕ). ArePaid s set b a cuts k (before.0 ++ p ∷ [])) one more)
 
+  -- where each date has a result, the payments are there
   pub paid_there : 0 < length cuts → (ps : List Payment) × ArePaid s set b a cuts (length cuts) ps
   paid_there some =
       let all : suc (length cuts - 1) ≡ length cuts = omega (arith, some) in

@@ -22,6 +22,7 @@ use Rattle.irs_base.specs.Members.{day_at}
 use Rattle.irs_base.proofs.Firsts.{lt_false, false_lt}
 use Rattle.irs_base.proofs.MemberLemmas.{numbered_push}
 
+-- a payment after those that cover the periods so far covers those up to its own last
 pub covers_push : (a n m : ℕ) (ys : List Payment) (y : Payment) → Covers a ys n → y.first_period ≡ n + 1
     → y.last_period ≡ m → n < m → Covers a (ys ++ y ∷ []) m
 covers_push a n m [] y h first last less = (omega (arith, h, first), omega (arith, first, last), omega (arith, last))
@@ -61,11 +62,13 @@ paid_more s set b a cuts j p old places low high h k =
           (covers_push 1 (cut_at cuts (j - 1)) (cut_at cuts j) old p k.covers h.first h.last rise);
     }
 
+-- a date that leaves the range is the first where none before it does
 pub leaves_first : (s : Stream) (set : DaySet) (a : List ℤ) (cuts : List ℕ) (limit n : ℕ)
     → LeavesAt s set a cuts limit n → NoneLeaves s set a cuts n → LeavesFirst s set a cuts limit n
 leaves_first s set a cuts limit n here none =
     (here, λ j at. lt_false j n (λ less. none j at.from_one less at.leaves))
 
+-- a date that lacks a result is the first where none before it does
 pub lacks_first : (s : Stream) (set : DaySet) (a : List ℤ) (cuts : List ℕ) (n : ℕ) → LacksAt s set a cuts n
     → NoneLacks s set a cuts n → LacksFirst s set a cuts n
 lacks_first s set a cuts n here none = (here, λ j at. lt_false j n (λ less. none j at.from_one less at.lacks))
@@ -110,11 +113,13 @@ module _ (s : Stream) (set : DaySet) (b a : List ℤ) (cuts : List ℕ) (j : ℕ
       subst (λ (o : Option ℕ). Dated s set b a cuts (j + 1) o new) (sym t.1) (later_first s set a cuts j n k)
   settled (Err NoResult) beyond old h k new after t = absurd t
 
+  -- one more payment, by its outcome
   pub dated_more : (payment : Result Payment NoDate) (beyond : Option ℕ) (old new : List Payment) (after : Option ℕ)
       → IsOutcome s set b a cuts j payment → Dated s set b a cuts j beyond old → Settles payment beyond j old new after
       → Dated s set b a cuts (j + 1) after new
   dated_more payment beyond old new after h k t = settled payment beyond old h k new after t
 
+  -- one more payment that doesn't lack a result
   pub lacks_more : (payment : Result Payment NoDate) (beyond : Option ℕ) (old new : List Payment) (after : Option ℕ)
       → IsOutcome s set b a cuts j payment → NoneLacks s set a cuts j → Settles payment beyond j old new after
       → NoneLacks s set a cuts (j + 1)
@@ -125,6 +130,7 @@ module _ (s : Stream) (set : DaySet) (b a : List ℤ) (cuts : List ℕ) (j : ℕ
       none_lacks_more s set a cuts j k (one_failure s.pay.offset s.pay.adj.code set (day_at a (date_place s cuts j)) h)
   lacks_more (Err NoResult) beyond old new after h k t = absurd t
 
+-- before the first payment none is dated
 pub none_dated : (s : Stream) (set : DaySet) (b a : List ℤ) (cuts : List ℕ) → ArePlaces b cuts
     → Dated s set b a cuts 1 None []
 none_dated s set b a cuts places = record {
@@ -134,6 +140,7 @@ none_dated s set b a cuts places = record {
   covers = omega (arith, places.begins);
 }
 
+-- the outcome of a date that fails is the way in which it fails
 pub outcome_err : (s : Stream) (set : DaySet) (b a : List ℤ) (cuts : List ℕ) (j : ℕ) (e : NoDate)
     → (e ≡ NoResult → LacksResult s.pay set (day_at a (date_place s cuts j)))
     → (e ≡ OutOfRange → LeavesRange s.pay set (day_at a (date_place s cuts j))) → IsOutcome s set b a cuts j (Err e)

@@ -39,6 +39,7 @@ payment_dated s set b a pay range days moved j p h =
           (moves_day s.pay.offset set h.start date.moved start range date.moves) range date.adjusts,
     )
 
+-- the dates of payments are days in range
 pub payments_dated : (s : Stream) (set : DaySet) (b a : List ℤ) (ps : List Payment) → InRange set → AreDays b
     → AreDays a → ArePayments s set b a ps → Every (λ p. IsDay p.unadjusted × IsDay p.adjusted) ps
 payments_dated s set b a ps range days moved h =
@@ -61,6 +62,7 @@ rounded_fits (suc (suc (suc zero))) p m low size h = let r =
 rounded_fits (suc (suc (suc (suc k)))) p m low size h = absurd (omega (arith, low))
 
 module _ (s : Stream) (set : DaySet) (xs : List Exchange) (lawful : IsLawfulStream s) (h : AreExchanges s set xs) where
+  -- the dates of exchanges are days in range
   pub exchanges_dated : InRange set → Every (λ x. IsDay x.unadjusted × IsDay x.adjusted) xs
   exchanges_dated range =
       every_partner (IsExchange s set) IsDated (λ (x : Exchange). IsDay x.unadjusted × IsDay x.adjusted)
@@ -69,6 +71,7 @@ module _ (s : Stream) (set : DaySet) (xs : List Exchange) (lawful : IsLawfulStre
         adjusts_day s.pay.adj.code set t.date x.adjusted day range is.adjusted,
       )) (transfers_of s) xs (dated_transfers s lawful) h
 
+  -- a stream has at most `most_exchanges` of them
   pub exchanges_few : length xs ≤ most_exchanges
   exchanges_few = let e = pairs_length (IsExchange s set) (transfers_of s) xs h in
       let few = few_transfers s lawful in omega (arith, e, few)

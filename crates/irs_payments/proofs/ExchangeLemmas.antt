@@ -48,6 +48,7 @@ one_exchange s set t x y h k =
           record { units = units i; places = places i };
     }
 
+-- a stream has one list of exchanges
 pub one_exchanges : (s : Stream) (set : DaySet) (xs ys : List Exchange) → AreExchanges s set xs → AreExchanges s set ys
     → xs ≡ ys
 one_exchanges s set xs ys h k = one_paired (IsExchange s set) (one_exchange s set) (transfers_of s) xs ys h k
@@ -94,12 +95,14 @@ small_part : (b : Bool) (ts : List Transfer) → All IsSmall ts → All IsSmall 
 small_part true ts h = h
 small_part false ts h = λ i d l. absurd (omega arith)
 
+-- a notional fits 128 bits
 pub fits_notional : (z : ℤ) → pos 0 ≤ℤ z → z ≤ℤ pos most_notional → to_z w128 (of_z w128 z) ≡ z
 fits_notional z low high = let f : FitsSigned w128 z = omega (arith, signed_arith, low, high) in to_z-of_z w128 z f
 
 small_one : (date amount : ℤ) → unsigned_abs amount ≤ most_notional → All IsSmall (transfer date amount ∷ [])
 small_one date amount h = All-cons IsSmall (transfer date amount) [] h (λ i d l. absurd (omega arith))
 
+-- the transfers of a stream are small
 pub small_transfers : (s : Stream) → IsLawfulStream s → All IsSmall (transfers_of s)
 small_transfers s lawful =
     let n = s.notional in
@@ -155,6 +158,7 @@ few_transfers s lawful =
       length-append (initial_of s) (intermediate_of s),
     )
 
+-- a small amount fits 128 bits
 pub fits_small : (z : ℤ) → unsigned_abs z ≤ most_notional → to_z w128 (of_z w128 z) ≡ z
 fits_small (pos n) h = let f : FitsSigned w128 (pos n) = omega (arith, signed_arith, h) in to_z-of_z w128 (pos n) f
 fits_small (negsuc n) h = let f : FitsSigned w128 (negsuc n) = omega (arith, signed_arith, h) in

@@ -33,6 +33,7 @@ use Rattle.irs_payments.proofs.NumberLemmas.{decides_in}
 
 -- the dates of the exchanges are days
 
+-- the date of a transfer is a day in range
 abbrev pub IsDated : Transfer → Type 0
 IsDated t = IsDay t.date
 
@@ -58,6 +59,7 @@ dated_changes before (step ∷ steps) days =
     let rest = dated_changes step.value steps (λ i d l. days (suc i) d (omega (arith, l))) in
     All-append IsDated (change before step) (changes step.value steps) first rest
 
+-- the dates of all transfers are days in range
 pub dated_transfers : (s : Stream) → IsLawfulStream s → All IsDated (transfers_of s)
 dated_transfers s lawful =
     let steps : All (λ s. IsDay s.day) s.notional.steps = λ i d l. (lawful.notional.2 i d l).0 in

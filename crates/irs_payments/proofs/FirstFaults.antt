@@ -12,14 +12,17 @@ use Rattle.irs_base.proofs.Firsts.{level_same, level_later, lt_false}
 abbrev pub FirstOrNone : (Fault → Type 0) → Type 0
 FirstOrNone P = ((f : Fault) × First comes_before P f) ⊎ ((f : Fault) → P f → ⊥)
 
+-- the first fault of one kind is the first of two kinds, where none of the other comes before it
 pub first_left : (P Q : Fault → Type 0) (f : Fault) → First comes_before P f
     → ((g : Fault) → Q g → comes_before g f ≡ false) → First comes_before (λ g. P g ⊎ Q g) f
 first_left P Q f h late = (inl h.0, λ g either. elim either [ inl p ↦ h.1 g p | inr q ↦ late g q ])
 
+-- where there is none of the one kind, the first of the other is the first of both
 pub first_right : (P Q : Fault → Type 0) (f : Fault) → ((g : Fault) → P g → ⊥) → First comes_before Q f
     → First comes_before (λ g. P g ⊎ Q g) f
 first_right P Q f none h = (inr h.0, λ g either. elim either [ inl p ↦ absurd (none g p) | inr q ↦ h.1 g q ])
 
+-- where there is none of either kind, there is none of both
 pub none_of_both : (P Q : Fault → Type 0) → ((g : Fault) → P g → ⊥) → ((g : Fault) → Q g → ⊥) → (g : Fault)
     → P g ⊎ Q g → ⊥
 none_of_both P Q p q g either = elim either [ inl h ↦ p g h | inr h ↦ q g h ]

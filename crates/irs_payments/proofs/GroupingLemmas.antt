@@ -22,9 +22,11 @@ use Rattle.irs_payments.proofs.FirstFaults.{FirstOrNone, told, first_left, first
 use Rattle.irs_payments.proofs.FirstFaults.{not_before_element}
 use Rattle.irs_payments.proofs.StepLemmas.{decides_member}
 
+-- K35 at firstPaymentDate
 abbrev at_first : Fault
 at_first = fault_at K35 first_payment_date 0
 
+-- K35 at lastRegularPaymentDate
 abbrev at_last : Fault
 at_last = fault_at K35 last_regular_payment_date 0
 
@@ -40,11 +42,13 @@ last_late s b f g h k =
     told f g at_first at_last h.1 k.1
     (not_before_element K35 first_payment_date last_regular_payment_date 0 0 (omega arith))
 
+-- a bad first payment date is the first to break K35
 pub first_is_first : (s : Stream) (b : List ℤ) → IsBadFirst s b → First comes_before (BreaksGrouping s b) at_first
 first_is_first s b bad =
     first_left (BreaksFirst s b) (BreaksLast s b) at_first (first_alone s b bad)
     (λ g h. last_late s b at_first g (bad, refl) h)
 
+-- a bad last regular payment date is the first where the first payment date isn't bad
 pub last_is_first : (s : Stream) (b : List ℤ) → (IsBadFirst s b → ⊥) → IsBadLast s b
     → First comes_before (BreaksGrouping s b) at_last
 last_is_first s b good bad =

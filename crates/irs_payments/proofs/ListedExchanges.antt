@@ -85,6 +85,7 @@ module _ (s : Stream) (set : DaySet) where
       → l.number ≤ most_exchanges
   few_listed lawful left l h = omega (arith, h.within, few_transfers s lawful)
 
+  -- the next transfer is small
   pub small_next : IsLawfulStream s → (o : Option Transfer) (left : List Transfer) (l : Listing)
       → ListsUpTo s set (listed o ++ left) l → IfSome o IsSmall
   small_next lawful None left l h = tt
@@ -130,6 +131,7 @@ module _ (s : Stream) (set : DaySet) where
       none_in K33 principal_exchanges (LacksDay s set) (transfers_of s) l.number
       (all_left (transfers_of s) l.number h.is_left) h.dated
 
+  -- where nothing is left, the list is that of the exchanges
   pub all_listed : (l : Listing) (xs : List Exchange) → ListsUpTo s set [] l → l.list ≡ Some xs → AreExchanges s set xs
   all_listed l xs h same =
       let paired = subst (λ (o : Option (List Exchange)). IfSome o

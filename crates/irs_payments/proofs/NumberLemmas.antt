@@ -18,11 +18,13 @@ member_of (x ∷ xs) zero h = (x, refl)
 member_of (x ∷ xs) (suc k) h = member_of xs k (omega arith)
 
 module _ {X : Type 0} (rule : Rule) (elem : ℕ) (P : X → Type 0) (xs : List X) where
+  -- past the end of the list no element breaks the rule
   pub none_in : (i : ℕ) → length xs ≤ i → NoneOf P xs i → (f : Fault) → BreaksIn rule elem P xs f → ⊥
   none_in i le below f h =
       let within = slice_get_within xs (h.number - 1) h.bad.member h.bad.at in
       below h.number (omega (arith, within)) h.bad
 
+  -- the first element that has P is the first to break the rule
   pub first_in : (i : ℕ) (x : X) → slice_get xs i ≡ Some x → P x → NoneOf P xs i
       → First comes_before (BreaksIn rule elem P xs) (fault_at rule elem (i + 1))
   first_in i x at bad below =

@@ -27,6 +27,7 @@ use Rattle.irs_payments.proofs.PaymentLemmas.{one_payments, payments_are, paymen
 use Rattle.irs_payments.proofs.PaymentsThere.{ArePayable, one_payments_rule, payments_decided, payments_there}
 use Rattle.irs_payments.proofs.StepLemmas.{one_steps_rule, steps_decided}
 
+-- the payments of a stream have one answer or one refusal
 pub payments_determined : (s : Stream) (set : DaySet) (b a : List ℤ) → ArePayable s set b a
     → Determined (payments_of s set b a)
 payments_determined s set b a over =
@@ -49,6 +50,7 @@ paid_meets s set b a cuts run are long none (Err (OfBroken f)) fault =
     (payments_first s set b a cuts run are fault.0 f fault.1)
 paid_meets s set b a cuts run are long none (Err OfMemory) fault = tt
 
+-- the principal exchanges of a stream have one answer or one refusal
 pub principals_determined : (s : Stream) (set : DaySet) → IsLawfulStream s → InRange set
     → Determined (principals_of s set)
 principals_determined s set lawful range =
@@ -56,6 +58,7 @@ principals_determined s set lawful range =
     (exchanges_decided s set lawful range) (exchanges_there s set lawful range) (one_exchanges s set)
     (one_exchanges_rule s set)
 
+-- the steps of a stream have one answer or one refusal
 pub steps_determined : (s : Stream) (boundaries : List ℤ) → Determined (steps_of s boundaries)
 steps_determined s boundaries =
     unbroken_determined comes_before (BreaksSteps s boundaries) (steps_decided s boundaries)

@@ -63,6 +63,7 @@ covers_between b c d r h l = record {
   );
 }
 
+-- the place of the unadjusted date of payment j is at most j
 pub place_low : (relative : Relative) (j : ℕ) → pay_place relative j ≤ j
 place_low Start j = omega arith
 place_low End j = omega arith
@@ -224,6 +225,7 @@ module _ (s : Stream) (set : DaySet) (b a : List ℤ) (run : RunsFromTo (first_d
 
 -- the same from what the walk gives
 
+-- dates that are worked out at the places of the payment boundaries are the payments
 pub payments_are : (s : Stream) (set : DaySet) (b a : List ℤ) (cuts : List ℕ)
     → RunsFromTo (first_day_of s) s.termination.day b → AreCuts s b (length b) cuts → length a ≡ length b
     → (ps : List Payment) → ArePaid s set b a cuts (length cuts) ps → ArePayments s set b a ps
@@ -231,6 +233,7 @@ payments_are s set b a cuts run h long ps paid =
     are_payments s set b a run h.later h.rising h.sound h.complete ps long
     (subst (λ (cs : List ℕ). ArePaid s set b a cs (length cs) ps) h.from_zero paid)
 
+-- the payments cover the periods from the first to the last
 pub payments_cover : (s : Stream) (set : DaySet) (b a : List ℤ) (cuts : List ℕ) → (first_day_of s) <ℤ s.termination.day
     → RunsFromTo (first_day_of s) s.termination.day b → AreCuts s b (length b) cuts → (ps : List Payment)
     → ArePaid s set b a cuts (length cuts) ps → Covers 1 ps (length b - 1)
@@ -240,6 +243,7 @@ payments_cover s set b a cuts term run h ps paid =
     let same : cut_at (0 ∷ h.later) (length (0 ∷ h.later) - 1) ≡ length b - 1 = omega (arith, last) in
     subst (λ (n : ℕ). Covers 1 ps n) same moved.covers
 
+-- where no date fails, no rule on payment dates is broken
 pub payments_unbroken : (s : Stream) (set : DaySet) (b a : List ℤ) (cuts : List ℕ)
     → RunsFromTo (first_day_of s) s.termination.day b → AreCuts s b (length b) cuts
     → NoneLacks s set a cuts (length cuts) → NoneLeaves s set a cuts (length cuts) → (x : Fault)
@@ -249,6 +253,7 @@ payments_unbroken s set b a cuts run h lacks leaves =
     (subst (λ (cs : List ℕ). NoneLacks s set a cs (length cs)) h.from_zero lacks)
     (subst (λ (cs : List ℕ). NoneLeaves s set a cs (length cs)) h.from_zero leaves)
 
+-- the first date that fails is the first rule broken
 pub payments_first : (s : Stream) (set : DaySet) (b a : List ℤ) (cuts : List ℕ)
     → RunsFromTo (first_day_of s) s.termination.day b → AreCuts s b (length b) cuts → (n : ℕ) (x : Fault)
     → IsDateFault s set a cuts n x → First comes_before (BreaksDates s set b a) x
@@ -256,11 +261,13 @@ payments_first s set b a cuts run h n x fault =
     first_date_fault s set b a run h.later h.rising h.sound h.complete n x
     (subst (λ (cs : List ℕ). IsDateFault s set a cs n x) h.from_zero fault)
 
+-- the places of payment boundaries rise from the first to the last
 pub cuts_places : (s : Stream) (b : List ℤ) (cuts : List ℕ) → RunsFromTo (first_day_of s) s.termination.day b
     → AreCuts s b (length b) cuts → ArePlaces b cuts
 cuts_places s b cuts run h =
     subst (ArePlaces b) (sym h.from_zero) (cut_places s b run h.later h.rising h.sound h.complete)
 
+-- there is a payment boundary
 pub some_cuts : (s : Stream) (b : List ℤ) (cuts : List ℕ) → AreCuts s b (length b) cuts → 0 < length cuts
 some_cuts s b cuts h = let e = ap length h.from_zero in omega (arith, e)
 
@@ -273,6 +280,7 @@ place_high b cuts h (suc k) l =
     subst (λ (m : ℕ). cut_at cuts k < cut_at cuts m) (sym one) (h.rise k (omega arith)) in
     omega (arith, rise, place_high b cuts h k (omega arith))
 
+-- there are at most as many payment boundaries as boundaries
 pub few_places : (b : List ℤ) (cuts : List ℕ) → ArePlaces b cuts → 0 < length cuts → length cuts ≤ length b
 few_places b cuts h some =
     omega (arith, place_high b cuts h (length cuts - 1) (omega arith), h.within (length cuts - 1) (omega arith))
@@ -287,6 +295,7 @@ late_date s set b a elem f g is d = elim d.breaks [
       (not_before_turn K35 K38 elem payment_dates d.number 0 (omega arith))
 ]
 
+-- K33 and K38 of payment dates don't come before K35
 pub dates_late : (s : Stream) (set : DaySet) (b a : List ℤ) (f g : Fault) → BreaksGrouping s b f
     → BreaksDates s set b a g → comes_before g f ≡ false
 dates_late s set b a f g (inl h) d = late_date s set b a first_payment_date f g h.1 d
@@ -322,6 +331,7 @@ one_payment s set b a pay rising j p q h k =
     (subst (λ (z : ℤ). IsPaymentDate s.pay set z p.adjusted) start h.date) k.date in
     λ i. record { unadjusted = unadjusted i; adjusted = adjusted i; first_period = first i; last_period = last i }
 
+-- a stream has one list of payments
 pub one_payments : (s : Stream) (set : DaySet) (b a : List ℤ) → IsRising b → (ps qs : List Payment)
     → ArePayments s set b a ps → ArePayments s set b a qs → ps ≡ qs
 one_payments s set b a rising ps qs h k =

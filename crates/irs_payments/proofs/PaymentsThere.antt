@@ -59,9 +59,11 @@ date_there pay set start (inr (inr fault)) lacks leaves = absurd (leaves fault)
 
 -- ---- the first number below a limit that has P
 
+-- no number from 1 below the limit has P
 abbrev NoNumber : (ℕ → Type 0) → ℕ → Type 0
 NoNumber P limit = (j : ℕ) → 1 ≤ j → j < limit → P j → ⊥
 
+-- the first number from 1 below the limit that has P
 record FirstNumber (P : ℕ → Type 0) (limit : ℕ) : Type 0 where
   number : ℕ
   from_one : 1 ≤ number
@@ -155,7 +157,7 @@ module _ (s : Stream) (set : DaySet) (b a : List ℤ) (cuts : List ℕ)
 
 -- ---- the payments of a stream
 
--- what they are worked out over: the terms, the boundaries and the adjusted ones, and good days
+-- what payments are worked out over: the terms, the boundaries, the adjusted boundaries and the business days
 pub record ArePayable (s : Stream) (set : DaySet) (b a : List ℤ) : Type 0 where
   pub lawful : IsLawfulStream s
   pub said : IsSaid s.pay.offset

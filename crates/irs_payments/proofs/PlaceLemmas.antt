@@ -9,16 +9,19 @@ use Rattle.irs_base.specs.Listed.{Member, AllAfter, IsRising}
 use Rattle.irs_base.proofs.Rising.{member_after}
 use Rattle.irs_base.specs.Members.{day_at}
 
+-- the element at a place of the list is a member
 pub member_at : (xs : List ℤ) (i : ℕ) → i < length xs → Member (day_at xs i) xs
 member_at [] i h = absurd (omega arith)
 member_at (x ∷ xs) zero h = inl refl
 member_at (x ∷ xs) (suc i) h = inr (member_at xs i (omega arith))
 
+-- a member has a place
 pub place_of : (d : ℤ) (xs : List ℤ) → Member d xs → (i : ℕ) × (i < length xs) × (day_at xs i ≡ d)
 place_of d [] m = absurd m
 place_of d (x ∷ xs) (inl here) = (zero, omega arith, sym here)
 place_of d (x ∷ xs) (inr there) = let p = place_of d xs there in (suc p.0, omega (arith, p.1), p.2)
 
+-- days at later places are later
 pub rises_at : (xs : List ℤ) (i k : ℕ) → IsRising xs → i < k → k < length xs → day_at xs i <ℤ day_at xs k
 rises_at [] i k r l h = absurd (omega arith)
 rises_at (x ∷ xs) i zero r l h = absurd (omega arith)
@@ -55,6 +58,7 @@ module _ where
   few_after x [] a r d h = omega (arith, signed_arith, h)
   few_after x (y ∷ ys) a r d h = omega (arith, signed_arith, a.0, few_after y ys r.0 r.1 d.1 d.0)
 
+-- days that rise are at most the days of the range
 pub few_days : (xs : List ℤ) → IsRising xs → AreDays xs → length xs ≤ all_days
 few_days [] r d = omega arith
 few_days (x ∷ xs) r d = omega (arith, signed_arith, few_after x xs r.0 r.1 d.1 d.0, d.0)

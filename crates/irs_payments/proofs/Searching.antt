@@ -38,6 +38,7 @@ up_to xs i j d r le lt = elim (cases_lt i j) [
       subst (λ (k : ℕ). get_or xs i d ≤ℤ get_or xs k d) same (omega (arith, signed_arith))
 ]
 
+-- a binary search in days that rise finds exactly the members
 pub searched : (xs : List ℤ) (x : ℤ) (r : Result ℕ ℕ) → IsRising xs
     → (λ (o : Result ℕ ℕ). IsBinarySearchResult (λ y. int_cmp y x) xs o) r → IsTrue (is_ok r) ↔ Member x xs
 searched xs x (Ok i) rising h = (λ _. found, λ _. search rules)

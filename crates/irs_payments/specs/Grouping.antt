@@ -23,8 +23,8 @@ anchor_by None each one first_day = if each then one else first_day
 abbrev pub pay_anchor : Stream → List ℤ → ℤ
 pay_anchor s boundaries = anchor_by s.pay.first (same_length s.pay.freq s.freq) (day_at boundaries 1) (first_day_of s)
 
--- the day is on the grid of the payment frequency and the stream's roll from the payment anchor, not
--- before firstPaymentDate and not after lastRegularPaymentDate; the term has no grid
+-- the day is on the grid of the payment frequency and the stream's roll from the payment anchor. It is not before
+-- firstPaymentDate and not after lastRegularPaymentDate. The term has no grid
 pub record IsRegularPay (s : Stream) (anchor d : ℤ) : Type 0 where
   pub on_grid : OnGrid s.pay.freq s.roll anchor d
   pub from_first : IfSome s.pay.first (λ first. first ≤ℤ d)

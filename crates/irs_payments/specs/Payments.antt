@@ -19,8 +19,8 @@ abbrev pub pay_place : Relative → ℕ → ℕ
 pay_place Start j = j - 1
 pay_place End j = j
 
--- the payment from the first to the last of these periods covers exactly the calculation periods
--- that end after the payment boundary before it and not after its own; these are one at least
+-- the payment covers exactly the calculation periods that end after the payment boundary before it and not after its
+-- own. They are numbered from first to last, and there is at least one
 pub record CoversPeriods (boundaries : List ℤ) (before own : ℤ) (first last : ℕ) : Type 0 where
   pub from_one : 1 ≤ first
   pub some : first ≤ last

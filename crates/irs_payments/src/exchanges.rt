@@ -1,9 +1,9 @@
 //! Principal exchanges: the notional changes hands at the start, where it changes, and at the end.
 //!
-//! At the start the payer receives the notional, at the end it pays it back (FpML
+//! At the start the payer receives the notional, and at the end pays it back (FpML
 //! `principalExchanges`). The start is the effective date, also where the first calculation period
-//! begins before it. The dates of exchanges, and the sign where the notional changes at a step, are our
-//! rules: the payer pays what the notional falls by, and receives what it rises by.
+//! begins before it. The dates of exchanges are our rule, and so is the sign where the notional
+//! changes at a step. The payer pays what the notional falls by, and receives what it rises by.
 ghost use Rattle.std.specs.Prelude.{◌≡◌, ◌-◌, ◌^◌, ◌≤◌, ◌++◌, [], ◌∷◌, ℤ, pos, ◌<ℤ◌, ◌≤ℤ◌, unsigned_abs, List};
 ghost use Rattle.std.specs.Prelude.{IfNone, IfSome, Some};
 ghost use Rattle.irs_base.specs.Limits.{most_exchanges, most_notional};
@@ -219,10 +219,11 @@ fn list_all<G: GoodDays>(alloc: Global, s: &Stream, days: &G) -> Result<Listing,
     add(s, days, listing, last(s))
 }
 
-/// The principal exchanges of a stream, in order: the initial one at the effective date, one at each
-/// step of the notional that changes it, and the final one at the termination date, each part where
-/// its flag is true. The adjusted date is the date adjusted by `paymentDatesAdjustments`, whose good
-/// days are `days`; the amount, with its sign, is rounded Nearest to the decimals of the currency.
+/// The principal exchanges of a stream, in order. The initial one is at the effective date, and the
+/// final one at the termination date. Between them one is at each step that changes the notional.
+/// Each part is there where its flag is true. The adjusted date is the date adjusted by
+/// `paymentDatesAdjustments`, whose business days are `days`. The amount, with its sign, is rounded
+/// Nearest to the decimals of the currency.
 ///
 /// `Broken` is K33 of the first exchange whose date has no adjusted day, with its number from 1. It is
 /// reported also where memory runs out.

@@ -1,10 +1,11 @@
 //! How payments group calculation periods (FpML `paymentFrequency`, `firstPaymentDate`,
-//! `lastRegularPaymentDate`): a payment is due at each boundary of calculation periods that is on
-//! the grid of the payment frequency, and at the termination date.
+//! `lastRegularPaymentDate`). A payment is due at the termination date, and at each boundary of
+//! calculation periods that is on the grid of the payment frequency.
 //!
-//! The anchor of that grid is our rule: the first payment date where it is given; else the end of the
-//! first calculation period where there is a payment for each period; else the first day of the first
-//! calculation period, which may be before the effective date. The anchor need not be a roll day.
+//! The anchor of that grid is our rule. It is the first payment date where that is given. Else it
+//! is the end of the first calculation period, where there is a payment for each period. Else it is
+//! the first day of the first calculation period, which may be before the effective date. The
+//! anchor need not be a roll day.
 ghost use Rattle.std.specs.Prelude.{◌≡◌, ◌↔◌, ◌<◌, ◌<ℤ◌, ◌≤ℤ◌, IsTrue, IfSome, length};
 ghost use Rattle.irs_base.specs.Listed.{Member, IsRising};
 ghost use Rattle.irs_base.specs.Order.{comes_before};
@@ -129,9 +130,9 @@ fn is_bad_last(s: &Stream, boundaries: &[Day]) -> bool
     }
 }
 
-/// The first of the given payment dates that breaks K35: `firstPaymentDate` where it is no boundary
-/// after the first day, then `lastRegularPaymentDate` where it isn't the termination date and
-/// no boundary on the payment grid.
+/// The first of the given payment dates that breaks K35. `firstPaymentDate` breaks it where it is
+/// no boundary after the first day. `lastRegularPaymentDate` does where it isn't the termination
+/// date and no boundary on the payment grid.
 pub fn check_grouping(s: &Stream, boundaries: &[Day]) -> Result<(), Fault>
     requires lawful { IsLawfulStream s.now }
     requires rising { IsRising boundaries.now }

@@ -120,20 +120,20 @@ fn payments_at<G: GoodDays>(
 
 /// The payments of a stream, over the boundaries of its calculation periods and the adjusted ones.
 ///
-/// A payment period ends at each payment boundary: at the termination date, and at each boundary on
-/// the grid of the payment frequency that isn't before `firstPaymentDate` nor after
-/// `lastRegularPaymentDate`. Its unadjusted date is its end, or its start under
-/// `CalculationPeriodStartDate`; the adjusted date is worked out from the adjusted boundary at that
-/// place, moved by `paymentDaysOffset` and then adjusted by `paymentDatesAdjustments`, whose good
-/// days are `days`.
+/// A payment period ends at the termination date. It also ends at each boundary on the grid of the
+/// payment frequency that isn't before `firstPaymentDate` nor after `lastRegularPaymentDate`. Its
+/// unadjusted date is its end, or its start under `CalculationPeriodStartDate`. The adjusted date
+/// starts from the adjusted boundary at that place. It is moved by `paymentDaysOffset` and then
+/// adjusted by `paymentDatesAdjustments`, whose business days are `days`.
 ///
-/// `Broken` is the first of K35 (`firstPaymentDate`, then `lastRegularPaymentDate`), then K33 and then
-/// K38 of the payment dates, whose index is the payment's number from 1. K35 is reported also where
-/// memory runs out, since it is decided before memory is taken.
+/// `Broken` is the first of K35 (`firstPaymentDate`, then `lastRegularPaymentDate`), then K33 and
+/// then K38 of the payment dates. The index of a payment date is the payment's number from 1. K35
+/// is reported also where memory runs out, since it is decided before memory is taken.
 ///
-/// The conditions are those of the terms that make a list possible: the termination date is after the
-/// first day (K13: it is after the effective date, and a `firstPeriodStartDate` is before that), and
-/// an offset other than 0 has a kind of days (K17). A payment may fall before the effective date.
+/// The conditions are those of the terms that make a list possible. The termination date is after
+/// the first day. K13 says so: it is after the effective date, and a `firstPeriodStartDate` is
+/// before that. An offset other than 0 has a kind of days (K17). A payment may fall before the
+/// effective date.
 pub fn payments<G: GoodDays>(
     alloc: Global,
     s: &Stream,
@@ -189,7 +189,7 @@ pub fn payments_are_determined<G: GoodDays>(
     requires adjusted { length adjusted.now ≡ length unadjusted.now }
     ensures { Determined (payments_of s.now (G.days days.now) unadjusted.now adjusted.now) }
 {
-    // hands the prover the range of the good days and of the boundaries
+    // hands the prover the range of the business days and of the boundaries
     let _cover = days.cover();
     let _boundaries = unadjusted.as_slice();
     let _adjusted = adjusted.as_slice();

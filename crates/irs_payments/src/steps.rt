@@ -63,8 +63,8 @@ fn check_rate_steps(leg: &Leg, boundaries: &[Day]) -> Result<(), Fault>
 }
 
 /// Whether the date of each step is an unadjusted boundary (K36). The error is the first step whose
-/// date is none, by the order of elements (notional, then the fixed rate, or the multiplier and the
-/// spread) and then of steps, whose number from 1 is the index. It takes no memory.
+/// date is none. Elements come in the order notional, then the fixed rate, or the multiplier and
+/// the spread. A step's number in its element, from 1, is the index. It takes no memory.
 pub fn check_steps(s: &Stream, unadjusted: &DayList) -> Result<(), Fault>
     requires lawful { IsLawfulStream s.now }
     requires rising { IsRising unadjusted.now }

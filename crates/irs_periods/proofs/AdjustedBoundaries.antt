@@ -16,6 +16,7 @@ day_of_days [] i days within = absurd (omega (arith, within))
 day_of_days (x ∷ xs) zero days within = days.0
 day_of_days (x ∷ xs) (suc i) days within = day_of_days xs i days.1 (omega (arith, within))
 
+-- a list is one of days in range where each of its days is
 pub days_of_each : (a : List ℤ) → ((i : ℕ) → i < length a → IsDay (day_at a i)) → AreDays a
 days_of_each [] each = tt
 days_of_each (x ∷ xs) each =
@@ -27,6 +28,7 @@ chosen_range false s t first second = second
 
 module _ (s : Stream) (sets : BoundaryDays) (b : List ℤ) (days : AreDays b) (start : InRange sets.start)
     (last : InRange sets.end) (middle : InRange sets.middle) where
+  -- the business days of each boundary lie in the range of dates
   pub days_range : (end i : ℕ) → InRange (days_at sets end i)
   days_range end i =
       let rest = chosen_range (i == end) sets.end sets.middle last middle in

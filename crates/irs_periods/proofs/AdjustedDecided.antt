@@ -108,6 +108,7 @@ module _ (s : Stream) (sets : BoundaryDays) (b : List ℤ) (days : AreDays b) (s
       (decides_adjusts (code_at s (last_of b) i) (days_at sets (last_of b) i) (day_at b i) (day_of_days b i days within)
       (days_range s sets b days start last middle (last_of b) i))
 
+  -- the fault of a boundary that has no adjusted day
   abbrev AmongResults : Fault → Type 0
   AmongResults = Among (no_result_at s (last_of b)) (NoResult s sets b) (length b)
 
@@ -174,6 +175,7 @@ step_up [] i rising within = absurd (omega (arith, within))
 step_up (x ∷ xs) zero rising within = rising_after x xs zero rising.0 (omega (arith, within))
 step_up (x ∷ xs) (suc i) rising within = step_up xs i rising.1 (omega (arith, within))
 
+-- days that rise have none that isn't after the one before it
 pub none_flat : (xs : List ℤ) → IsRising xs → (i : ℕ) → NotAfter xs i → ⊥
 none_flat xs rising zero h = let some = h.some in omega (arith, some)
 none_flat xs rising (suc i) h =

@@ -1,5 +1,5 @@
--- Adjusted boundaries: there is one list of them, there is none where a boundary has no adjusted day,
--- and they rise where none isn't after the one before it.
+-- There is one list of adjusted boundaries, or none where a boundary has no adjusted day. They rise where none isn't
+-- after the one before it.
 use Rattle.std.proofs.Common.{◌≡◌, inl, inr, ℕ, zero, suc, ◌-◌, ◌<◌, ◌≤◌, List, [], ◌∷◌, length, arith, refl, sym, ◌∙◌}
 use Rattle.std.proofs.Common.{ap₂, subst, ℤ, pos, ◌+ℤ◌, ◌≤ℤ◌, ◌<ℤ◌}
 use Rattle.jiff_core.proofs.SignedLemmas.{signed_arith}
@@ -82,7 +82,7 @@ room x (y ∷ ys) rising days =
     let more = room y ys rising.1 days.1 in
     omega (arith, signed_arith, more, rising.0.0)
 
--- so many days there are
+-- there are no more of them than the range of dates has days
 pub few_days : (xs : List ℤ) → IsRising xs → AreDays xs → length xs ≤ all_days
 few_days [] rising days = omega arith
 few_days (x ∷ xs) rising days = omega (arith, signed_arith, room x xs rising days, days.0)

@@ -53,6 +53,7 @@ own_grid_by M count roll a timed fits = own_month (IsRollDay roll) count a fits
 own_grid_by Y count roll a timed fits = own_month (IsRollDay roll) (12 * count) a fits
 own_grid_by T count roll a timed fits = absurd (timed refl)
 
+-- an anchor that the roll fits is on its own grid
 pub own_grid : (freq : Frequency) (roll : RollCode) (a : ℤ) → (IsTerm freq → ⊥) → Fits roll freq a
     → OnGrid freq roll a a
 own_grid freq roll a timed fits = own_grid_by freq.unit freq.count roll a timed fits
@@ -118,6 +119,7 @@ anchor_by_day false None None stub e t given first last = stub_anchor_day stub e
 anchor_by_day false None (Some l) stub e t given first last = first
 anchor_by_day false (Some f) l stub e t given first last = given
 
+-- the anchor of a stream is a day in range
 pub anchor_day : (s : Stream) → IsLawfulStream s → IsDay (anchor_of s)
 anchor_day s lawful =
     anchor_by_day (is_term s.freq.unit) s.first_regular s.last_regular s.stub (first_day_of s)

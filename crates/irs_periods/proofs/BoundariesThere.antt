@@ -24,6 +24,7 @@ use Rattle.irs_base.specs.Order.{IsDecided}
 use Rattle.irs_roll.proofs.GridsDecided.{decides_on_grid}
 use Rattle.irs_base.proofs.Decided.{decides_same}
 
+-- a list whose members are days in range is one of days in range
 pub days_of_members : (b : List ℤ) → ((d : ℤ) → Member d b → IsDay d) → AreDays b
 days_of_members [] h = tt
 days_of_members (x ∷ xs) h = (h x (inl refl), days_of_members xs (λ d m. h d (inr m)))

@@ -1,4 +1,4 @@
--- Of so many faults, each of which is decided, one is the first, or there is none.
+-- Of faults that are decided up to a limit, one is the first, or there is none.
 use Rattle.std.proofs.Common.{◌≡◌, ◌⊎◌, inl, inr, ℕ, zero, suc, ◌<◌, Option, Some, None, refl, subst, arith}
 use Rattle.std.proofs.lemmas.Bool.{cases_lt}
 use Rattle.irs_base.specs.Order.{First, IsDecided, IsFirst, comes_before, earlier}
@@ -14,6 +14,7 @@ pub record Among (fault : ℕ → Fault) (P : ℕ → Type 0) (n : ℕ) (f : Fau
   pub is : f ≡ fault number
 
 module _ (fault : ℕ → Fault) (P : ℕ → Type 0) where
+  -- the fault of the number n itself
   abbrev Here : ℕ → Fault → Type 0
   Here n f = P n × (f ≡ fault n)
 
@@ -32,6 +33,7 @@ module _ (fault : ℕ → Fault) (P : ℕ → Type 0) where
   join n f (inl h) = wider n f h
   join n f (inr h) = record { number = n; within = omega arith; holds = h.0; is = h.1 }
 
+  -- the first fault, or that there is none
   abbrev Answer : (Fault → Type 0) → Type 0
   Answer Q = (answer : Option Fault) × IsFirst comes_before Q answer
 

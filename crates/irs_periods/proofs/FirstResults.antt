@@ -15,12 +15,13 @@ use Rattle.irs_terms.specs.TermDates.{first_day_element, first_day_element_by}
 abbrev element : ℕ → ℕ → ℕ → ℕ
 element start last i = if i == 0 then start else (if i == last then termination_date else period_dates_adjustments)
 
+-- boundary j is named before boundary i: by the order of elements, and then of boundaries
 abbrev Named : ℕ → ℕ → ℕ → ℕ → Type 0
 Named start last j i =
     (element start last j < element start last i)
     ⊎ ((element start last j ≡ element start last i) × (boundary_index last j < boundary_index last i))
 
--- behind boundary 0 the last one is named first
+-- after boundary 0 the last one is named first
 none_before_last : (start last j : ℕ) → 0 < j → 0 < last → Named start last j last → ⊥
 none_before_last start last j later some (inl h) = grind (arith, nat_tests)
 none_before_last start last j later some (inr h) = let below = h.1 in grind (arith, nat_tests)
@@ -35,7 +36,7 @@ none_before_effective : (last j : ℕ) → Named effective_date last j 0 → ⊥
 none_before_effective last j (inl h) = grind (arith, nat_tests)
 none_before_effective last j (inr h) = let below = h.1 in grind (arith, nat_tests)
 
--- firstPeriodStartDate is named behind all
+-- firstPeriodStartDate is named after all
 start_behind : (last i : ℕ) → 0 < i → Named first_period_start_date last 0 i → ⊥
 start_behind last i later (inl h) = grind (arith, nat_tests)
 start_behind last i later (inr h) = let same = h.0 in grind (arith, nat_tests)
@@ -69,6 +70,7 @@ unnamed s last j i none =
     ]
 
 module _ (s : Stream) (sets : BoundaryDays) (b : List ℤ) where
+  -- boundary i has an adjusted day
   abbrev Has : ℕ → Type 0
   Has i = HasResult s sets b i
 
@@ -76,6 +78,7 @@ module _ (s : Stream) (sets : BoundaryDays) (b : List ℤ) where
   abbrev NotBefore : ℕ → ℕ → Type 0
   NotBefore i j = NoResult s sets b j → named_before s (last_of b) j i ≡ false
 
+  -- where the last boundary has no adjusted day, it is the first to be named after boundary 0
   pub first_last : 0 < last_of b → NoResult s sets b (last_of b) → FirstLaterNoResult s sets b (last_of b)
   first_last some misses = (
     (some, misses),
@@ -83,6 +86,7 @@ module _ (s : Stream) (sets : BoundaryDays) (b : List ℤ) where
         (λ named. none_before_last (first_day_element s) (last_of b) j h.0 some named),
   )
 
+  -- an inner boundary is the first to be named where the last one and those before it have an adjusted day
   pub first_inner : (i : ℕ) → 0 < i → i < last_of b → NoResult s sets b i → Has (last_of b)
       → ((j : ℕ) → 1 ≤ j → j < i → Has j) → FirstLaterNoResult s sets b i
   first_inner i some inner misses at_last before = (
@@ -93,13 +97,14 @@ module _ (s : Stream) (sets : BoundaryDays) (b : List ℤ) where
         (before_inner (first_day_element s) (last_of b) i j h.0 some inner named)),
   )
 
-  -- each boundary behind boundary 0 has an adjusted day where the last one and the inner ones have
+  -- each boundary after boundary 0 has an adjusted day where the last one and the inner ones have
   pub each_later : Has (last_of b) → ((j : ℕ) → 1 ≤ j → j < last_of b → Has j) → (i : ℕ) → 0 < i → i < length b → Has i
   each_later at_last inner i some within = elim (cases_lt i (last_of b)) [
     | inl low ↦ inner i (omega (arith, some)) low
     | inr high ↦ let e : last_of b ≡ i = omega (arith, high, within) in subst Has e at_last
   ]
 
+  -- where boundary 0 and each one after it has an adjusted day, each has one
   pub each_place : Has 0 → ((i : ℕ) → 0 < i → i < length b → Has i) → (i : ℕ) → i < length b → Has i
   each_place at_first later i within = at_place Has i at_first (λ some. later i some within)
 
@@ -111,7 +116,7 @@ module _ (s : Stream) (sets : BoundaryDays) (b : List ℤ) where
         (λ some misses. h.1 j (some, misses)),
   )
 
-  -- boundary 0 is named behind the others
+  -- boundary 0 is named after the others
   pub first_before_start : (i : ℕ) (start : AdjustableDate) → s.first_start ≡ Some start → FirstLaterNoResult s sets b i
       → FirstNoResult s sets b i
   first_before_start i start given h =

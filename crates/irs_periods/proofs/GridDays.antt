@@ -4,6 +4,7 @@ use Rattle.jiff_core.proofs.SignedLemmas.{signed_arith}
 use Rattle.jiff_core.specs.Calendar.{IsBetween}
 use Rattle.irs_base.specs.Days.{IsDay, all_days}
 
+-- of two numbers one is below the other, or not
 pub cases_ltz : (a b : ℤ) → (a <ℤ b) ⊎ (b ≤ℤ a)
 cases_ltz a b = grind (arith, signed_arith)
 
@@ -15,13 +16,14 @@ module _ (f : ℤ → ℤ) (rises : (j k : ℤ) → j <ℤ k → f j <ℤ f k) w
       let more = rises (j +ℤ pos n) (j +ℤ pos (suc n)) (omega (arith, signed_arith)) in
       omega (arith, signed_arith, more, grows n j)
 
+  -- a later number on the grid has no earlier day
   pub no_earlier : (j k : ℤ) → j ≤ℤ k → f j ≤ℤ f k
   no_earlier j k le = elim (cases_ltz j k) [
     | inl lt ↦ let h = rises j k lt in omega (arith, signed_arith, h)
     | inr ge ↦ let same : j ≡ k = omega (arith, signed_arith, le, ge) in rw same (omega (arith, signed_arith))
   ]
 
-  -- numbers stand in the order of their days
+  -- the order of numbers is that of their days
   pub number_order : (j k : ℤ) → f j ≤ℤ f k → j ≤ℤ k
   number_order j k le = elim (cases_ltz k j) [
     | inl lt ↦ let h = rises k j lt in absurd (omega (arith, signed_arith, h, le))

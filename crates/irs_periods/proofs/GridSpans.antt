@@ -10,6 +10,7 @@ use Rattle.irs_periods.specs.Boundaries.{OnSpan}
 use Rattle.irs_periods.specs.GridLists.{days_from, where_before, all_boundaries}
 use Rattle.irs_periods.proofs.GridDays.{no_earlier, number_order}
 
+-- a list of n grid days has n days
 pub length-days_from : (f : ℤ → ℤ) (start : ℤ) (n : ℕ) → length (days_from f start n) ≡ n
 length-days_from f start zero = refl
 length-days_from f start (suc n) =

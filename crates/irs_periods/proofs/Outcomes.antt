@@ -26,12 +26,14 @@ use Rattle.irs_periods.proofs.SpanThere.{span_there}
 use Rattle.irs_periods.proofs.TermList.{term_list}
 use Rattle.irs_periods.proofs.TermOrder.{begins_before_end}
 
+-- a stream comes to one regular span, or to one first fault
 pub span_determined : (s : Stream) → IsLawfulStream s → DatesInOrder s → Determined (regular_span_of s)
 span_determined s lawful dates =
     unless_broken_determined comes_before (BreaksSpan s) (IsRegularSpan s) (span_decided s lawful dates)
     (λ none. let span = span_there s lawful dates none in (span.0, record { regular = span.1; kept = span.2 }))
     (λ a b h k. one_span s a b h.regular k.regular) (one_span_rule s)
 
+-- a stream comes to one list of boundaries
 pub boundaries_determined : (s : Stream) (span : Span) → IsLawfulStream s → DatesInOrder s → Regular s span
     → SpanKept s span → Determined (boundaries_of s span)
 boundaries_determined s span lawful dates regular kept =
@@ -40,6 +42,7 @@ boundaries_determined s span lawful dates regular kept =
     (λ _. boundaries_there s span lawful dates regular kept)
     (one_boundaries s span) (one_boundaries_rule s span)
 
+-- boundaries come to one list of adjusted ones, or to one first fault
 pub adjusted_determined : (s : Stream) (sets : BoundaryDays) (b : List ℤ) → AreDays b → InRange sets.start
     → InRange sets.end → InRange sets.middle → Determined (adjusted_of s sets b)
 adjusted_determined s sets b days start last middle =

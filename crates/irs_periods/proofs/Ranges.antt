@@ -1,5 +1,4 @@
--- The days of a range that pass a test which is decided at each of them: their list, and the first
--- and the last of them.
+-- The days of a range that pass a test which can be decided at each of them. They have a list, a first and a last.
 use Rattle.std.proofs.Common.{◌≡◌, ◌⊎◌, inl, inr, ⊎_elim, ℕ, zero, suc, List, [], ◌∷◌, ◌++◌, ℤ, pos, negsuc, ◌+ℤ◌, ◌-ℤ◌}
 use Rattle.std.proofs.Common.{◌≤ℤ◌, ◌<ℤ◌, refl, sym, subst, arith}
 use Rattle.jiff_core.proofs.SignedLemmas.{signed_arith}

@@ -68,7 +68,7 @@ module _ (s : Stream) (span : Span) (dates : DatesInOrder s) (regular : Regular 
   to_span d (inr (inl is_t)) other = absurd (other is_t)
   to_span d (inr (inr on)) other = on.1
 
-  -- the last regular period ends at the boundary that the final stub tells
+  -- the last regular period ends at the boundary that the final stub gives
   pub regular_end : (b : List ℤ) → Boundaries s span b → RegularEnd s span b
   regular_end b l =
       let t : ℤ = termination_of s in

@@ -21,6 +21,7 @@ use Rattle.irs_periods.proofs.Assembled.{assembled, same_boundaries}
 use Rattle.irs_terms.specs.Suiting.{IsTerm}
 use Rattle.irs_terms.specs.TermDates.{DatesInOrder, termination_of}
 
+-- a unit that isn't the term is a unit of time
 pub timed_unit : (unit : FrequencyUnit) → (unit ≡ T → ⊥) → is_term unit ≡ false
 timed_unit D h = refl
 timed_unit W h = refl
@@ -46,13 +47,16 @@ module _ (f : ℤ → ℤ) (rises : (j k : ℤ) → j <ℤ k → f j <ℤ f k) (
       (begins_before_end s dates) s.first_regular s.last_regular s.stub span.first span.last dates.first dates.last
       (subst (λ (d : ℤ). OnGrid s.freq s.roll span.anchor d) anchored on_anchor) spans
 
+  -- the first day of the regular span is on the grid
   pub on_first : on span.first
   on_first = (same span.first).1 in_term.on_first
 
+  -- the last day of the regular span is on the grid
   pub on_last : on span.last
   on_last = (same span.last).1 (kept.on_last timed)
 
   module _ (start : ℤ) (n : ℕ) (begins : f start ≡ span.first) (ends : f (start +ℤ pos n) ≡ span.last) where
+    -- the days of the grid and the ends of the term are the boundaries
     pub listed : Boundaries s span (all_boundaries f start n (first_day_of s) (termination_of s) span.first span.last)
     listed =
         let at_first =
@@ -67,11 +71,13 @@ module _ (f : ℤ → ℤ) (rises : (j k : ℤ) → j <ℤ k → f j <ℤ f k) (
         (days_from f start (n + 1)) in_term.before in_term.order in_term.after
         (begins_before_end s dates) on_first on_last mid)
 
+    -- each grid day of the span is a day in range
     pub days : IsDay span.first → IsDay span.last → (j : ℕ) → j ≤ n → IsDay (f (start +ℤ pos j))
     days is_first is_last j h =
         let low = no_earlier f rises start (start +ℤ pos j) (omega (arith, signed_arith)) in
         let high = no_earlier f rises (start +ℤ pos j) (start +ℤ pos n) (omega (arith, signed_arith, h)) in
         (omega (arith, signed_arith, low, begins, is_first), omega (arith, signed_arith, high, ends, is_last))
 
+  -- the grid number of the span's first day is at most that of its last
   pub number_order_of : (start end : ℤ) → f start ≡ span.first → f end ≡ span.last → start ≤ℤ end
   number_order_of start end a b = number_order f rises start end (omega (arith, signed_arith, a, b, in_term.order))

@@ -1,4 +1,4 @@
--- The first regular period starts at boundary 0, or at boundary 1 behind an initial stub.
+-- The first regular period starts at boundary 0, or at boundary 1 after an initial stub.
 use Rattle.std.proofs.Common.{◌≡◌, inl, inr, List, [], ◌∷◌, ℤ, ◌≤ℤ◌, ◌<ℤ◌, refl, sym, ◌∙◌, arith}
 use Rattle.jiff_core.proofs.SignedLemmas.{signed_arith}
 use Rattle.irs_base.specs.Listed.{Member, AllAfter, IsRising}
@@ -13,6 +13,7 @@ use Rattle.irs_periods.specs.Spans.{Regular}
 use Rattle.irs_periods.proofs.BoundariesThere.{boundary_in_term}
 use Rattle.irs_periods.proofs.SpanThere.{LiesInTerm, lies_in_term, first_is_boundary}
 
+-- a member of a list that is all after a day is after it
 pub after_member : (x d : ℤ) (xs : List ℤ) → AllAfter x xs → Member d xs → x <ℤ d
 after_member x d [] after m = absurd m
 after_member x d (y ∷ ys) after (inl here) = omega (arith, signed_arith, after.0, here)
@@ -49,7 +50,7 @@ module _ (s : Stream) (span : Span) (dates : DatesInOrder s) (regular : Regular 
   from_span d (inr (inl is_t)) other = omega (arith, signed_arith, is_t, part.order, part.after)
   from_span d (inr (inr on)) other = on.0
 
-  -- the first regular period starts at the boundary that the initial stub tells
+  -- the first regular period starts at the boundary that the initial stub gives
   pub regular_start : (b : List ℤ) → Boundaries s span b → RegularStart s span b
   regular_start b l =
       let e : ℤ = first_day_of s in

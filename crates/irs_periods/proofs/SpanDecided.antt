@@ -49,6 +49,7 @@ span_unbroken s span regular kept f (inr h) =
     let same : span ≡ h.0.span = one_span s span h.0.span regular h.0.regular in
     h.0.off (subst (λ (z : Span). OnGrid s.freq s.roll z.anchor z.last) same (kept.on_last h.0.timed))
 
+-- a stream breaks a rule on its span first, or it breaks none
 abbrev SpanDecided : Stream → Type 0
 SpanDecided s = ((f : Fault) × First comes_before (BreaksSpan s) f) ⊎ ((f : Fault) → BreaksSpan s f → ⊥)
 

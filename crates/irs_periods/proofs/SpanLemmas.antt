@@ -79,6 +79,7 @@ module _ (p q : ℤ → Type 0) (same : (d : ℤ) → p d ↔ q d) where
   stub_span_same (Some ShortFinal) e t first last h = (h.0, last_up_to_same t last h.1)
   stub_span_same (Some LongFinal) e t first last h = (h.0, long_last_same e t last h.1)
 
+  -- tests that agree on the days of the term give the same span
   pub given_span_same : (f l : Option ℤ) (stub : Option StubKind) (e t first last : ℤ)
       → GivenSpan f l stub p e t first last → GivenSpan f l stub q e t first last
   given_span_same None None stub e t first last h = stub_span_same stub e t first last h

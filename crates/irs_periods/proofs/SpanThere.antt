@@ -1,5 +1,5 @@
--- A stream whose roll fits its anchor has a regular span, which lies in the term; where K31 isn't
--- broken either, the last day of the span is on the grid.
+-- A stream whose roll fits its anchor has a regular span, and it lies in the term. Where K31 isn't broken either, the
+-- last day of the span is on the grid.
 use Rattle.std.proofs.Common.{◌≡◌, inl, inr, Bool, Option, Some, None, ℤ, ◌≤ℤ◌, ◌<ℤ◌, refl, sym, subst, arith}
 use Rattle.jiff_core.proofs.SignedLemmas.{signed_arith}
 use Rattle.irs_base.specs.Days.{IsDay}
@@ -119,6 +119,7 @@ pub record LiesInTerm (s : Stream) (span : Span) : Type 0 where
   pub order : span.first ≤ℤ span.last
   pub after : span.last ≤ℤ termination_of s
 
+-- the last day of the span is a day in range
 pub last_is_day : (s : Stream) (span : Span) → IsLawfulStream s → LiesInTerm s span → IsDay span.last
 last_is_day s span lawful part =
     term_day s lawful span.last (omega (arith, signed_arith, part.before, part.order)) part.after
@@ -157,6 +158,7 @@ first_is_boundary s span dates regular fits = elim (decides_term s.freq.unit) [
       inr (inr (omega (arith, signed_arith), part.order, part.on_first))
 ]
 
+-- the regular span lies in the term
 pub lies_in_term : (s : Stream) (span : Span) → DatesInOrder s → Regular s span
     → ((IsTerm s.freq → ⊥) → Fits s.roll s.freq span.anchor) → LiesInTerm s span
 lies_in_term s span dates regular fits = elim (decides_term s.freq.unit) [
@@ -166,6 +168,7 @@ lies_in_term s span dates regular fits = elim (decides_term s.freq.unit) [
       record { before = part.before; order = part.order; after = part.after }
 ]
 
+-- the last day of the span is a boundary
 pub last_is_boundary : (s : Stream) (span : Span) → DatesInOrder s → Regular s span → SpanKept s span
     → IsBoundary s span span.last
 last_is_boundary s span dates regular kept = elim (decides_term s.freq.unit) [

@@ -17,6 +17,7 @@ stands : (s : Stream) (span : Span) (d : ℤ) → IsTerm s.freq → IsBoundary s
 stands s span d term b =
     ⊎_elim (λ e. inl e) (λ n. ⊎_elim (λ t. inr (inl t)) (λ on. absurd (no_grid s span.anchor d term on.2)) n) b
 
+-- with frequency T the first day and the termination date are the boundaries
 pub term_list : (s : Stream) (span : Span) → IsTerm s.freq → first_day_of s <ℤ termination_of s
     → Boundaries s span (first_day_of s ∷ termination_of s ∷ [])
 term_list s span term ends = record {

@@ -11,5 +11,6 @@ runs : (start : Option AdjustableDate) (v : AdjustableDate) (t : ℤ) → IfSome
 runs None v t before ends = ends
 runs (Some d) v t before ends = omega (arith, signed_arith, before, ends)
 
+-- where the dates are in order, the first day is before the termination date
 pub begins_before_end : (s : Stream) → DatesInOrder s → first_day_of s <ℤ termination_of s
 begins_before_end s dates = runs s.first_start s.effective (termination_of s) dates.starts dates.ends

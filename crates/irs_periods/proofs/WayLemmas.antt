@@ -1,4 +1,4 @@
--- Steps from the anchor on either side: how far they lead, and which day stands next to a stub.
+-- Steps from the anchor on either side: how far they lead, and which day is next to a stub.
 use Rattle.std.proofs.Common.{◌≡◌, inl, inr, ℕ, ◌+◌, ◌-◌, ◌<◌, ◌≤◌, arith, refl, subst, ℤ, pos, ◌+ℤ◌, ◌-ℤ◌, ◌≤ℤ◌, ◌<ℤ◌}
 use Rattle.jiff_core.proofs.SignedLemmas.{signed_arith}
 use Rattle.irs_base.specs.Days.{IsDay, all_days}
@@ -25,7 +25,7 @@ module _ (f : ℤ → ℤ) (rises : (j k : ℤ) → j <ℤ k → f j <ℤ f k) w
       let le = no_earlier f rises (pos 0) (pos n) (omega (arith, signed_arith)) in
       (omega (arith, signed_arith, le, zeroth), omega (arith, signed_arith, h, b))
 
-  -- so many steps lead past every bound
+  -- as many steps as the range of dates has days lead past every bound
   pub too_many_steps : (way : Way) (n : ℕ) (bound : ℤ) → all_days ≤ n → IsDay (f (pos 0)) → IsDay bound
       → Within way bound (f (steps way n)) → ⊥
   too_many_steps Back n bound many zeroth b h =

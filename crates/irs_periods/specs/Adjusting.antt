@@ -14,13 +14,13 @@ use Rattle.irs_adjust.specs.Codes.{Adjusts}
 use Rattle.irs_terms.specs.TermDates.{first_day_element}
 use Rattle.irs_base.specs.Members.{day_at}
 
--- the good days by which the first, the last and every other boundary are adjusted
+-- the business days by which the first, the last and every other boundary are adjusted
 pub record BoundaryDays : Type 0 where
   pub start : DaySet
   pub end : DaySet
   pub middle : DaySet
 
--- the same of three sets of good days, `days` being what each says
+-- the same of three sets of business days, `days` being what each says
 abbrev pub days_by : {G : Type 0} → (G → DaySet) → G → G → G → BoundaryDays
 days_by days start end middle = record { start = days start; end = days end; middle = days middle }
 
@@ -28,13 +28,13 @@ days_by days start end middle = record { start = days start; end = days end; mid
 abbrev pub last_of : List ℤ → ℕ
 last_of b = length b - 1
 
--- boundary 0 is adjusted by firstPeriodStartDate's adjustments where it is given, else as the effective
--- date; the last one as the termination date; the others by the period adjustments
+-- boundary 0 is adjusted as firstPeriodStartDate where that is given, else as the effective date. The last one is
+-- adjusted as the termination date, and the others by the period adjustments
 abbrev pub code_at : Stream → ℕ → ℕ → ConvCode
 code_at s last i =
     if i == 0 then (first_date_of s).adj.code else (if i == last then s.termination.adj.code else s.period_adj.code)
 
--- the good days of boundary i: those of the first, of the last, or of the others
+-- the business days of boundary i: those of the first, of the last, or of the others
 abbrev pub days_at : BoundaryDays → ℕ → ℕ → DaySet
 days_at sets last i = if i == 0 then sets.start else (if i == last then sets.end else sets.middle)
 
@@ -55,7 +55,7 @@ HasResult s sets b i = (r : ℤ) × AdjustsAt s sets (last_of b) i (day_at b i) 
 abbrev pub EachHasResult : Stream → BoundaryDays → List ℤ → Type 0
 EachHasResult s sets b = (i : ℕ) → i < length b → HasResult s sets b i
 
--- each boundary behind boundary 0 has one
+-- each boundary after boundary 0 has one
 abbrev pub EachLaterHasResult : Stream → BoundaryDays → List ℤ → Type 0
 EachLaterHasResult s sets b = (i : ℕ) → 0 < i → i < length b → HasResult s sets b i
 
@@ -113,7 +113,7 @@ named_before s last j i = comes_before (no_result_at s last j) (no_result_at s l
 abbrev pub FirstNoResult : Stream → BoundaryDays → List ℤ → ℕ → Type 0
 FirstNoResult s sets b = First (named_before s (last_of b)) (NoResult s sets b)
 
--- the same among the boundaries behind boundary 0
+-- the same among the boundaries after boundary 0
 abbrev pub LaterNoResult : Stream → BoundaryDays → List ℤ → ℕ → Type 0
 LaterNoResult s sets b i = (0 < i) × NoResult s sets b i
 

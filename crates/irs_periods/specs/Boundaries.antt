@@ -30,15 +30,15 @@ IsBoundary s span d =
 abbrev pub Boundaries : Stream → Span → List ℤ → Type 0
 Boundaries s span b = Lists (IsBoundary s span) b
 
--- where the regular periods begin: the span's first day is boundary 0 where it is the first day, with no
--- initial stub, and boundary 1 behind an initial stub
+-- where the regular periods begin. With no initial stub the span's first day is boundary 0, and after an initial stub
+-- it is boundary 1
 pub record RegularStart (s : Stream) (span : Span) (b : List ℤ) : Type 0 where
   pub not_before : first_day_of s ≤ℤ span.first
   pub no_stub : first_day_of s ≡ span.first → day_at b 0 ≡ span.first
   pub behind_stub : first_day_of s <ℤ span.first → day_at b 1 ≡ span.first
 
--- where the regular periods end: the span's last day is the last boundary where it is the termination date, with no
--- final stub, and the last but one before a final stub
+-- where the regular periods end. With no final stub the span's last day is the last boundary, and before a final stub
+-- it is the last but one
 pub record RegularEnd (s : Stream) (span : Span) (b : List ℤ) : Type 0 where
   pub not_after : span.last ≤ℤ termination_of s
   pub no_stub : span.last ≡ termination_of s → day_at b (length b - 1) ≡ span.last

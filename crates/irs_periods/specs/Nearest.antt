@@ -26,8 +26,8 @@ pub record LastBefore (on : ℤ → Type 0) (d r : ℤ) : Type 0 where
   pub before : r <ℤ d
   pub greatest : (x : ℤ) → on x → x <ℤ d → x ≤ℤ r
 
--- r is the first day of the regular span behind a long initial stub of the term from e to t: the
--- first grid day at or after e if that is e; else the next grid day if it isn't after t; else t
+-- r is the first day of the regular span after a long initial stub of the term from e to t. That is the first grid day
+-- at or after e if it is e. Else it is the next grid day if that isn't after t, or else t
 pub record LongFirst (on : ℤ → Type 0) (e t r : ℤ) : Type 0 where
   pub short : ℤ
   pub is_short : FirstFrom on e short
@@ -35,8 +35,8 @@ pub record LongFirst (on : ℤ → Type 0) (e t r : ℤ) : Type 0 where
       ⊎ ((short ≡ e → ⊥) × ((FirstAfter on short r × (r ≤ℤ t))
       ⊎ (((x : ℤ) → FirstAfter on short x → x ≤ℤ t → ⊥) × (r ≡ t))))
 
--- r is the last day of the regular span before a long final stub of the term from e to t: the last
--- grid day at or before t if that is t; else the grid day before it if it isn't before e; else e
+-- r is the last day of the regular span before a long final stub of the term from e to t. That is the last grid day at
+-- or before t if it is t. Else it is the grid day before if that isn't before e, or else e
 pub record LongLast (on : ℤ → Type 0) (e t r : ℤ) : Type 0 where
   pub short : ℤ
   pub is_short : LastUpTo on t short

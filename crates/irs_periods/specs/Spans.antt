@@ -1,5 +1,5 @@
--- The regular span of a stream: the part of the term that regular periods fill, from the end of an
--- initial stub to the begin of a final one, and the anchor of its grid.
+-- The regular span of a stream, and the anchor of its grid. The span is the part of the term that regular periods fill.
+-- It goes from the end of an initial stub to the begin of a final one.
 use Rattle.std.specs.Prelude.{◌≡◌, Bool, true, false, Option, Some, None, ℤ}
 use Rattle.irs_terms.specs.declared.codes.StubKind.{StubKind}
 use Rattle.irs_terms.specs.declared.codes.StubKind.TheVariants.{ShortInitial, LongInitial, ShortFinal, LongFinal}
@@ -55,8 +55,8 @@ StubSpan (Some LongInitial) on e t first last = LongFirst on e t first × (last 
 StubSpan (Some ShortFinal) on e t first last = (first ≡ e) × LastUpTo on t last
 StubSpan (Some LongFinal) on e t first last = (first ≡ e) × LongLast on e t last
 
--- where a regular date is given the span goes from the first one to the last one, or the end of the
--- term on that side; the stub type isn't used then
+-- where a regular date is given, the span goes from the first one to the last one. A missing one is the end of the term
+-- on that side. The stub type isn't used then
 abbrev pub GivenSpan : Option ℤ → Option ℤ → Option StubKind → (ℤ → Type 0) → ℤ → ℤ → ℤ → ℤ → Type 0
 GivenSpan None None stub on e t first last = StubSpan stub on e t first last
 GivenSpan None (Some l) stub on e t first last = (first ≡ e) × (last ≡ l)

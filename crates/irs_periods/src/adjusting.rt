@@ -1,7 +1,8 @@
-//! The adjusted boundaries of a stream: the begin of the first period by the adjustments of FpML
-//! `firstPeriodStartDate` where it is given, else of the effective date; the termination date by its
-//! own; and every other boundary by the period adjustments (FpML `calculationPeriodDatesAdjustments`;
-//! 2006 ISDA Definitions, 4.10 and 4.12). That they have to rise is this project's own rule.
+//! The adjusted boundaries of a stream. The begin of the first period is adjusted as FpML
+//! `firstPeriodStartDate` where that is given, else as the effective date. The termination date has
+//! its own adjustments. Every other boundary has the period adjustments (FpML
+//! `calculationPeriodDatesAdjustments`; 2006 ISDA Definitions, 4.10 and 4.12). That they have to
+//! rise is our rule.
 ghost use Rattle.std.specs.Prelude.{◌≡◌, ◌<◌, ◌≤◌, ◌^◌, ℕ, ℤ, List, length, IfSome, IfNone};
 ghost use Rattle.irs_base.specs.Faults.{fault_at};
 ghost use Rattle.irs_base.specs.declared.places.Rule.TheVariants.{K33};
@@ -23,14 +24,14 @@ use irs_terms::Stream;
 use std::alloc::Global;
 
 /// The adjusted boundaries of a stream. The condition is that `unadjusted` are the stream's
-/// boundaries; `start`, `end` and `middle` are the good days of the adjustments of the first day
-/// (`firstPeriodStartDate` where it is given, else the effective date), of the termination date and
-/// of the periods.
+/// boundaries. `start` are the business days by which the first day is adjusted
+/// (`firstPeriodStartDate` where it is given, else the effective date). `end` are those of the
+/// termination date, and `middle` those of the periods.
 ///
-/// `Broken` is the first rule broken: a boundary has no adjusted day (K33, in the order of the
-/// elements and then of the boundaries: effective date, termination date, the other boundaries,
-/// `firstPeriodStartDate`), or, where each has one, an adjusted day isn't after the one before it
-/// (K34). K33 is reported also where memory runs out.
+/// `Broken` is the first rule broken. A boundary has no adjusted day (K33), or each has one and an
+/// adjusted day isn't after the one before it (K34). K33 takes elements and then boundaries in order:
+/// effective date, termination date, the other boundaries, `firstPeriodStartDate`. K33 is reported
+/// also where memory runs out.
 pub fn adjusted<G: GoodDays>(
     alloc: Global,
     s: &Stream,
@@ -72,7 +73,7 @@ pub fn adjusted_is_determined<G: GoodDays>(
     ensures { let sets = days_by G.days start.now end.now middle.now in
         Determined (adjusted_of s.now sets unadjusted.now) }
 {
-    // hands the prover the range of the good days and of the boundaries
+    // hands the prover the range of the business days and of the boundaries
     let _covers = (start.cover(), end.cover(), middle.cover());
     let _days = unadjusted.as_slice();
 }
@@ -101,7 +102,7 @@ fn adjust_at<G: GoodDays>(
 }
 
 // The first boundary, in the order of the elements, that has no adjusted day. Boundary 0 comes last
-// where it is `firstPeriodStartDate`, as that element stands behind those of the other boundaries.
+// where it is `firstPeriodStartDate`, as that element is after those of the other boundaries.
 fn first_without<G: GoodDays>(
     s: &Stream,
     days: &[Day],
@@ -124,7 +125,7 @@ fn first_without<G: GoodDays>(
     }
 }
 
-// The first boundary behind boundary 0, in the order of the elements, that has no adjusted day.
+// The first boundary after boundary 0, in the order of the elements, that has no adjusted day.
 fn later_without<G: GoodDays>(
     s: &Stream,
     days: &[Day],

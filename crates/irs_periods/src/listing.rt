@@ -1,7 +1,7 @@
-//! The unadjusted boundaries of a stream's calculation periods: the begin of the first one (FpML
-//! `firstPeriodStartDate`, else the effective date), the termination date, and every grid day of the
-//! regular span (2006 ISDA Definitions, 4.13: a Calculation Period runs from one period end date,
-//! included, to the next, excluded). The most periods are this project's own.
+//! The unadjusted boundaries of a stream's calculation periods. They are the begin of the first one
+//! (FpML `firstPeriodStartDate`, else the effective date), every grid day of the regular span, and
+//! the termination date. By the 2006 ISDA Definitions, 4.13, a Calculation Period runs from one
+//! period end date, included, to the next, excluded. The limit on the number of periods is ours.
 ghost use Rattle.std.specs.Prelude.{◌≡◌, ◌↔◌, ◌<◌, ◌≤◌, ◌+◌, ◌++◌, [], ◌∷◌, ℕ, ℤ, List, length, pos, neg_ℤ, ◌+ℤ◌, ◌≤ℤ◌};
 ghost use Rattle.std.specs.Prelude.{IfOk};
 ghost use Rattle.jiff_core.specs.Calendar.{IsBetween};
@@ -27,9 +27,9 @@ use irs_terms::{Span, Stream};
 use std::alloc::Global;
 
 /// The unadjusted boundaries of a stream, in order: with n periods the n + 1 days at which they
-/// begin and end. The conditions are that the frequency isn't T, that the stream's dates are in
-/// order (K13), that the span is the stream's and breaks neither K30 nor K31, and that the grid is
-/// that of the stream's frequency and roll from the span's anchor.
+/// begin and end. The frequency isn't T, and the stream's dates are in order (K13). The span is the
+/// stream's and breaks neither K30 nor K31. The grid is that of the stream's frequency and roll
+/// from the span's anchor.
 ///
 /// `Broken` comes exactly where there are more than `MOST_PERIODS` periods (K32), also where memory
 /// runs out.
@@ -153,7 +153,7 @@ fn front(alloc: Global, begin: Day, first: Day) -> Result<DayList, Memory>
     Ok(list)
 }
 
-// So many days of the grid from a number on, behind the list.
+// `count` days of the grid, from a number on, are appended to the list.
 fn grid_days<G: Grid>(
     mut list: DayList,
     grid: &G,
@@ -173,7 +173,7 @@ fn grid_days<G: Grid>(
     Ok(list)
 }
 
-// The termination date behind the list where it comes after the regular span.
+// The termination date after the list where it comes after the regular span.
 fn close(mut list: DayList, last: Day, termination: Day) -> Result<DayList, Memory>
     ensures { IfOk result (λ b. b ≡ list ++ where_before last termination termination) }
 {
@@ -184,9 +184,9 @@ fn close(mut list: DayList, last: Day, termination: Day) -> Result<DayList, Memo
 }
 
 /// The unadjusted boundaries of every stream, on the grid that its terms give. For frequency T they
-/// are the first day and the termination date alone. The conditions are that the stream's dates are
-/// in order (K13), that its frequency and roll suit each other (K14), and that the span is the
-/// stream's and breaks neither K30 nor K31.
+/// are the first day and the termination date alone. The stream's dates have to be in order (K13),
+/// and its frequency and roll have to suit each other (K14). The span is the stream's and breaks
+/// neither K30 nor K31.
 ///
 /// `Broken` comes exactly where there are more than `MOST_PERIODS` periods (K32), also where memory
 /// runs out.
@@ -221,8 +221,8 @@ pub fn boundaries_are_determined(s: &Stream, span: &Span)
     ensures { Determined (boundaries_of s.now span.now) }
 {}
 
-/// A law: the regular periods run from boundary 0, or from boundary 1 after an initial stub, to the last
-/// boundary, or to the last but one before a final stub.
+/// A law on the regular periods. They run from boundary 0, or from boundary 1 after an initial
+/// stub. They end at the last boundary, or at the last but one before a final stub.
 pub fn regular_periods_lie_between_stubs(s: &Stream, span: &Span)
     requires lawful { IsLawfulStream s.now }
     requires dates { DatesInOrder s.now }

@@ -1,5 +1,5 @@
-//! The end of the regular span next to a stub: the grid day nearest to the end of the term, found
-//! by halving the number of steps from the anchor.
+//! The end of the regular span next to a stub is the grid day nearest to the end of the term. It is
+//! found by halving the number of steps from the anchor.
 ghost use Rattle.std.specs.Prelude.{◌≡◌, ◌↔◌, ◌+◌, ◌≤◌, pos, IsTrue, SomeIff};
 ghost use Rattle.irs_base.specs.Days.{IsDay, all_days};
 ghost use Rattle.irs_periods.specs.Ways.{steps, Within, ShortEnd, LongEnd};
@@ -7,7 +7,7 @@ ghost use Rattle.irs_periods.specs.Ways.{steps, Within, ShortEnd, LongEnd};
 use irs_base::{ALL_DAYS, Day};
 use irs_roll::Grid;
 
-/// The side of the anchor on which the stub stands.
+/// The side of the anchor on which the stub is.
 #[derive(Clone, Copy)]
 pub enum Way {
     /// Before it: the anchor is the termination date.
@@ -51,7 +51,7 @@ fn farthest<G: Grid>(grid: &G, way: Way, bound: Day) -> u32
     ensures range { result ≤ all_days }
 {
     let mut low = 0;
-    // So many steps of at least one day lead out of the range of dates.
+    // This number of steps of at least one day leads out of the range of dates.
     let mut high = ALL_DAYS;
     while high - low > 1 {
         let middle = low + (high - low) / 2;
@@ -88,8 +88,9 @@ pub fn short_end<G: Grid>(grid: &G, way: Way, bound: Day) -> Day
     day_within(grid, way, farthest(grid, way, bound), bound)
 }
 
-/// The end of the regular span before a long stub that reaches to the bound: the bound where it is
-/// on the grid, else one step nearer to the anchor than before a short stub, or the anchor itself.
+/// The end of the regular span before a long stub that reaches to the bound. It is the bound where
+/// that is on the grid. Else it is one step nearer to the anchor than before a short stub, or the
+/// anchor itself.
 pub fn long_end<G: Grid>(grid: &G, way: Way, anchor: Day, bound: Day) -> Day
     requires anchored { G.at grid.now (pos 0) ≡ anchor }
     requires anchor { IsDay anchor }

@@ -1,6 +1,6 @@
 //! The regular span of a stream and the anchor of its grid (FpML `firstRegularPeriodStartDate`,
-//! `lastRegularPeriodEndDate`, `stubPeriodType`). Where the stub stands if only its type is given is
-//! this project's own.
+//! `lastRegularPeriodEndDate`, `stubPeriodType`). Where the stub is if only its type is given is
+//! our rule.
 //!
 //! Here E is the day on which the first period begins (FpML `firstPeriodStartDate`, else the effective
 //! date), and T the termination date.
@@ -35,8 +35,8 @@ use irs_terms::{Frequency, Span, Stream, StubKind, Unit};
 /// The regular span of a stream. The conditions are that its dates are in order (K13) and that its
 /// frequency and roll suit each other (K14).
 ///
-/// An error is the first of K30 and K31 that is broken: the frequency isn't T, and the roll doesn't
-/// fit the anchor, or the last day of the span isn't on the grid. No memory is taken.
+/// An error is the first of K30 and K31 that is broken. The frequency isn't T, and the roll doesn't
+/// fit the anchor (K30) or the last day of the span isn't on the grid (K31). No memory is taken.
 pub fn regular_span(s: &Stream) -> Result<Span, Fault>
     requires lawful { IsLawfulStream s.now }
     requires dates { DatesInOrder s.now }

@@ -14,6 +14,7 @@ take_few r ys = elim (cases_le r (length ys)) [
       ap (λ n. take n ys) e ∙ take_all (length ys) ys (omega arith) ∙ sym (take_all r ys (omega (arith, more)))
 ]
 
+-- as much is kept as there is room for
 pub kept_more : (n m : ℕ) (xs ys zs : List ℕ) → length xs ≤ n → m ≡ min (n - length xs) (length ys)
     → zs ≡ xs ++ take m ys → zs ≡ take n (xs ++ ys)
 kept_more n m xs ys zs fits is same =

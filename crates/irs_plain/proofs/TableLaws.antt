@@ -3,14 +3,17 @@ use Rattle.irs_plain.specs.Rules.{codes_of, rows, texts_after, texts_before}
 use Rattle.irs_plain.specs.declared.table.TheConstants.{AFTER, BEFORE, RULES}
 use Rattle.std.proofs.Common.{◌≡◌, map, refl}
 
+-- the code's rules are those of the specification
 pub rules_are : map (λ n. n.now) RULES ≡ codes_of
 unfolding codes_of rows
 rules_are = refl
 
+-- so are the words before an element
 pub before_are : map (λ n. n.now) BEFORE ≡ texts_before
 unfolding texts_before rows
 before_are = refl
 
+-- and those after it
 pub after_are : map (λ n. n.now) AFTER ≡ texts_after
 unfolding texts_after rows
 after_are = refl

@@ -26,6 +26,7 @@ use Rattle.std.proofs.lemmas.Bool.Decides.{nat_tests}
 use Rattle.std.specs.List.{list_any}
 use Rattle.std.specs.Str.{bytes_eq}
 
+-- one number is at most the other, or above it
 pub le_or_lt : (a b : ℕ) → (a ≤ b) ⊎ (b < a)
 le_or_lt a b =
     elim (cases_order a b) [
@@ -60,10 +61,12 @@ is_below r (Some row) = (row.parent == r) && is_element row.kind
 abbrev pub is_child : List Row → ℕ → ℕ → Bool
 is_child rows r c = nat_lt r c && (object_at (slice_get rows r) && is_below r (slice_get rows c))
 
+-- how many items the count of a row allows
 abbrev pub most_at : Option Row → ℕ
 most_at None = 0
 most_at (Some row) = most row.count
 
+-- the count of a row asks for an item
 abbrev pub required_at : Option Row → Bool
 required_at None = false
 required_at (Some row) = is_required row.count
@@ -74,6 +77,7 @@ leaf_in (Leaf leaf) = Some leaf
 leaf_in Passed = None
 leaf_in Refused = None
 
+-- the kind of leaf of a row
 abbrev pub leaf_at : Option Row → Option LeafKind
 leaf_at None = None
 leaf_at (Some row) = leaf_in row.kind
@@ -133,6 +137,7 @@ pub record Said (leaf : LeafKind) (d : Data) : Type 0 where
   pub valued : has_value leaf (text_of says) ≡ true
 
 module _ (rows : List Row) (names : List (List ℕ)) where
+  -- no rule of the table is broken below a value
   abbrev pub Unbroken : ℕ → ℕ → Kind → ℕ → Data → Type 0
   Unbroken stream r kind i d = (f : Broken) → FaultAt rows names stream r kind i d f → ⊥
 
@@ -144,11 +149,13 @@ module _ (rows : List Row) (names : List (List ℕ)) where
     pub index : ℕ
     pub none : Unbroken stream c row.kind index d
 
+  -- a clean object has names
   pub names_by : (s r i : ℕ) (choice : Choice) (d : Data) (o : Option (List (List ℕ))) → names_of d ≡ o
       → Unbroken s r (Object choice) i d → (ns : List (List ℕ)) × (names_of d ≡ Some ns)
   names_by s r i choice d None e none = absurd (none (place rows s K3 r i) (own r i K3 (Object choice) d (rw e refl)))
   names_by s r i choice d (Some ns) e none = (ns, e)
 
+  -- a clean object has no more items of a member than its count allows
   pub few_by : (s r i c : ℕ) (choice : Choice) (row : Row) (d m : Data) (ns : List (List ℕ)) → names_of d ≡ Some ns
       → IsMember rows names r c row → is_element row.kind ≡ true
       → child_of (name_at names c) d ≡ Some m → Unbroken s r (Object choice) i d
@@ -159,6 +166,7 @@ module _ (rows : List Row) (names : List (List ℕ)) where
       absurd (none (place rows s K7 c 0)
       (under r i c choice d ns (place rows s K7 c 0) row n mem (too_many c i row d m el h lt)))
 
+  -- a clean object has each member that its count requires
   pub there_by : (s r i c : ℕ) (choice : Choice) (row : Row) (d : Data) (ns : List (List ℕ)) (o : Option Data)
       → names_of d ≡ Some ns → IsMember rows names r c row → is_element row.kind ≡ true
       → is_required row.count ≡ true → child_of (name_at names c) d ≡ o → Unbroken s r (Object choice) i d
@@ -249,6 +257,7 @@ module _ (rows : List Row) (names : List (List ℕ)) where
       → IfSome (once (name_at names c) d) (Clean c)
   clean_once r c d e clean = clean_found r c d (child_of (name_at names c) d) (joint r c d e clean) refl
 
+  -- the members of a clean value are clean
   pub clean_member : (r c : ℕ) (o : Option Data) → is_child rows r c ≡ true → IfSome o (Clean r)
       → IfSome (member (name_at names c) o) (Clean c)
   clean_member r c None e clean = tt
@@ -261,16 +270,19 @@ module _ (rows : List Row) (names : List (List ℕ)) where
       there_by k.stream r k.index c k.choice k.row d k.ns (child_of (name_at names c) d) k.named k.member_row k.element
       (subst (λ (o : Option Row). required_at o ≡ true) k.member_row.found rq) refl k.none
 
+  -- a required member of a clean value is there
   pub some_value : (r c : ℕ) (d : Data) → is_child rows r c ≡ true → required_at (slice_get rows c) ≡ true → Clean r d
       → 0 < length (values_in (name_at names c) (Some d))
   some_value r c d e rq clean =
       let (m, h) = required r c d rq (joint r c d e clean) in
       subst (λ (p : Option Data). 0 < length (values_of p)) (sym h) (filled (get (name_at names c) d) m h)
 
+  -- a list with members has a first one
   pub head_of : (ds : List Data) → 0 < length ds → (x : Data) × (slice_get ds 0 ≡ Some x)
   head_of [] h = absurd (omega arith)
   head_of (x ∷ xs) h = (x, refl)
 
+  -- a required member of a clean value is there once, and clean
   pub clean_there : (r c : ℕ) (d : Data) → is_child rows r c ≡ true → required_at (slice_get rows c) ≡ true → Clean r d
       → (x : Data) × ((once (name_at names c) d ≡ Some x) × Clean c x)
   clean_there r c d e rq clean =
@@ -279,6 +291,7 @@ module _ (rows : List Row) (names : List (List ℕ)) where
       let (x, at) = head_of (items_of m) (filled (get (name_at names c) d) m h) in
       (x, (rw h at, (fine_items r c d m k h).1 0 x at))
 
+  -- a leaf that breaks no rule has a value of its kind
   pub said_by : (s r i : ℕ) (leaf : LeafKind) (d : Data) (o : Option LeafSaid) (p : Option Rule) → leaf_of d ≡ o
       → leaf_rule leaf o ≡ p → Unbroken s r (Leaf leaf) i d → Said leaf d
   said_by s r i leaf d o (Some k) h e none = absurd (none (place rows s k r i) (own r i k (Leaf leaf) d (rw h e)))
@@ -286,6 +299,7 @@ module _ (rows : List Row) (names : List (List ℕ)) where
   said_by s r i leaf d (Some says) None h e none =
       record { says = says; found = h; valued = value_by leaf (text_of says) (has_value leaf (text_of says)) refl e }
 
+  -- a clean leaf has a value of its kind
   pub clean_leaf : (c : ℕ) (leaf : LeafKind) (d : Data) → leaf_at (slice_get rows c) ≡ Some leaf → Clean c d
       → Said leaf d
   clean_leaf c leaf d e clean =
@@ -293,6 +307,7 @@ module _ (rows : List Row) (names : List (List ℕ)) where
       said_by clean.stream c clean.index leaf d (leaf_of d) (leaf_rule leaf (leaf_of d)) refl refl
       (subst (λ (k : Kind). Unbroken clean.stream c k clean.index d) is clean.none)
 
+  -- a value that breaks no rule of its row is clean
   pub clean_from : (c stream index : ℕ) (d : Data) (row : Row) → slice_get rows c ≡ Some row
       → Unbroken stream c row.kind index d → Clean c d
   clean_from c stream index d row found none =

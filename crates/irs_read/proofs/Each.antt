@@ -21,21 +21,25 @@ use Rattle.std.specs.Prelude.{slice_get, is_some, codes}
 use Rattle.irs_base.specs.Order.{IsFirstBroken, earlier_broken}
 
 module _ (P : ℕ → Data → Broken → Type 0) where
+  -- the rules that the value at a place breaks
   abbrev pub Each : List Data → ℕ → Broken → Type 0
   Each ds j f = (x : Data) × ((slice_get ds j ≡ Some x) × P j x f)
 
+  -- the first of all values is the first of the list
   pub each_all : (ds : List Data) (a : Option Broken) → IsFirstBroken (Below (Each ds) (length ds)) a
       → IsFirstBroken (Among P ds) a
   each_all ds a p =
       first_same _ _ a (λ f (j, (h, (x, (e, q)))). (j, (x, (e, q))))
       (λ f (j, (x, (e, q))). (j, (slice_get_within ds j x e, (x, (e, q))))) p
 
+  -- the first of the value at a place
   pub each_one : (ds : List Data) (j : ℕ) (x : Data) (a : Option Broken) → slice_get ds j ≡ Some x
       → IsFirstBroken (P j x) a → IsFirstBroken (Each ds j) a
   each_one ds j x a e p =
       first_same _ _ a (λ f q. (x, (e, q))) (λ f (y, (e', q)). let same : y ≡ x = cc in
       subst (λ (z : Data). P j z f) same q) p
 
+  -- the first of one more value
   pub each_step : (vs : List Value) (j : ℕ) (v : Value) (a b s : Option Broken) → slice_get vs j ≡ Some v
       → s ≡ earlier_broken a b
       → IsFirstBroken (Below (Each (map view vs)) j) a → IsFirstBroken (P j (view v)) b
@@ -44,6 +48,7 @@ module _ (P : ℕ → Data → Broken → Type 0) where
       let seen : slice_get (map view vs) j ≡ Some (view v) = slice_get-map view vs j ∙ ap (option_map view) found in
       first_is _ _ s e (first_more (Each (map view vs)) j a b p (each_one (map view vs) j (view v) b seen q))
 
+-- no stream is the first broken rule (K2)
 pub none_first : (ds : List Data) → length ds ≡ 0 → IsFirstBroken (StreamsFault ds) (Some (outside K2 swap_stream))
 none_first ds h = first_one _ _ (no_stream h) (only ds h)
   where
@@ -52,6 +57,7 @@ none_first ds h = first_one _ _ (no_stream h) (only ds h)
     only ds h g (many_streams e) = absurd (omega arith)
     only ds h g (in_stream _ lo hi q) = absurd (omega arith)
 
+-- too many streams are the first broken rule (K7)
 pub many_first : (ds : List Data) → most_streams < length ds
     → IsFirstBroken (StreamsFault ds) (Some (outside K7 swap_stream))
 many_first ds h = first_one _ _ (many_streams h) (only ds h)
@@ -61,6 +67,7 @@ many_first ds h = first_one _ _ (many_streams h) (only ds h)
     only ds h g (many_streams e) = refl
     only ds h g (in_stream _ lo hi q) = absurd (omega arith)
 
+-- the first broken rule of the streams
 pub each_first : (ds : List Data) (a : Option Broken) → 0 < length ds → length ds ≤ most_streams
     → IsFirstBroken (Among StreamFault ds) a → IsFirstBroken (StreamsFault ds) a
 each_first ds a lo hi p = first_same _ _ a (λ f q. in_stream f lo hi q) (inner ds lo hi) p
@@ -77,6 +84,7 @@ Own d f = FaultAt swap_rows swap_names 0 0 SWAP 0 d f
 object_only : (o : Option (List (List ℕ))) (ns : List (List ℕ)) → o ≡ Some ns → is_some o ≡ true
 object_only o ns e = rw e refl
 
+-- the first broken rule of what is no object
 pub swap_none : (d : Data) (a : Option Broken) → names_of d ≡ None → IsFirstBroken (Own d) a
     → IsFirstBroken (SwapFault d) a
 swap_none d a h p = first_same _ _ a (λ f q. inl q) (only d h) p
@@ -85,6 +93,7 @@ swap_none d a h p = first_same _ _ a (λ f q. inl q) (only d h) p
     only d h f (inl q) = q
     only d h f (inr (t, q)) = let e : is_some (names_of d) ≡ false = rw h refl in absurd (true≢false (sym t ∙ e))
 
+-- the first broken rule of a swap, of its own and of its streams
 pub swap_some : (d : Data) (ns : List (List ℕ)) (a b : Option Broken) → names_of d ≡ Some ns → IsFirstBroken (Own d) a
     → IsFirstBroken (StreamsFault (values_in (codes "swapStream") (Some d))) b
     → IsFirstBroken (SwapFault d) (earlier_broken a b)

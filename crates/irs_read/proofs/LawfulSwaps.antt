@@ -69,6 +69,7 @@ swap_lawful d none =
       all,
     )
 
+-- the swap of a document without faults is lawful
 pub document_lawful : (d at : Data) (s : Swap) → ((f : Broken) → DocumentFault d f → ⊥) → the_swap d ≡ Ok at
     → s ≡ swap_in at → IsLawful s
 document_lawful d at s none found says = subst IsLawful (sym says) (swap_lawful at (λ f q. none f (below at f found q)))
@@ -84,5 +85,6 @@ swap_stated d none j x e =
     let hi = few_by ds (le_or_lt (length ds) most_streams) clear in
     stated stream_rows stream_names x (j + 1) 0 (λ f q. clear f (in_stream f lo hi (j, (x, (e, q)))))
 
+-- such a document states each element that is required
 pub document_stated : (d : Data) → ((f : Broken) → DocumentFault d f → ⊥) → EachStated d
 document_stated d none at found j x e = swap_stated at (λ f q. none f (below at f found q)) j x e

@@ -20,6 +20,7 @@ lists_more vs i v lt is =
     ∙ flat_map-append lists_in (map view (take i vs)) (view v ∷ [])
     ∙ ap (λ (l : List (Option Data)). lists_of (map view (take i vs)) ++ l) (append-nil (lists_in (view v)))
 
+-- a list with more members, as it is seen
 pub added : (new old more : List (Option (Bor Value))) (before all : List (Option Data)) → new ≡ old ++ more
     → map seen old ≡ before → map seen more ≡ all → map seen new ≡ before ++ all
 added new old more before all e p q = ap (map seen) e ∙ map-append seen old more ∙ rw (p, q) refl

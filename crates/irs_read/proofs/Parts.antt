@@ -16,6 +16,7 @@ use Rattle.irs_terms.specs.declared.step_list.StepValues.{StepValues}
 use Rattle.irs_terms.specs.declared.stream.Stream.{Stream}
 use Rattle.std.proofs.Common.{◌≡◌, ℤ, Option}
 
+-- two streams have the same fields
 pub record Same (s t : Stream) : Type 0 where
   pub effective : s.effective ≡ t.effective
   pub first_start : s.first_start ≡ t.first_start
@@ -71,6 +72,7 @@ made_same : (s t : Stream) → Same s t
     t.pay t.reset t.notional t.currency t.leg t.day_count t.compounding t.stubs t.exchanges
 made_same s t h = cc
 
+-- streams with the same fields are the same
 pub same_stream : (s t : Stream) → Same s t → s ≡ t
 unfolding made
 same_stream s t h = made_same s t h

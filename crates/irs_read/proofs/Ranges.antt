@@ -38,6 +38,7 @@ pub said_in : {A : Type 0} (P : A → Type 0) (at : List ℕ → Option A) → (
     → (o : Option Data) → IfSome (said at o) P
 said_in P at h o = then_in P at h (text_in o)
 
+-- a value or its default is in the range
 pub or_in : {A : Type 0} (P : A → Type 0) (o : Option A) (a : A) → IfSome o P → P a → P (unwrap_or o a)
 or_in P None a h p = p
 or_in P (Some x) a h p = h
@@ -54,10 +55,12 @@ day_by s d true e =
     let b = both_true (int_le d last_day) (bytes_eq s (day_text d)) a.1 in
     (int_le_is first_day d a.0, int_le_is d last_day b.0)
 
+-- a date that is read is a day
 pub day_range : (s : List ℕ) → IfSome (day_at s) IsDay
 unfolding day_at plain_day_at
 day_range s = day_by (without_z s) (named_day (without_z s)) (is_text_of (without_z s) (named_day (without_z s))) refl
 
+-- the first day of the range is a day
 pub first_is_day : IsDay first_day
 first_is_day = (omega (arith, ints), omega (arith, ints))
 
@@ -89,9 +92,11 @@ size : (m : ℕ) (z : ℤ) → Between (neg_ℤ (pos m)) (pos m) z → unsigned_
 size m (pos n) h = omega (arith, ints, h)
 size m (negsuc n) h = omega (arith, ints, h)
 
+-- a notional that is read is in its range
 pub notional_range : (s : List ℕ) → IfSome (notional_at s) IsNotional
 notional_range s = within_range (pos 0) (pos most_notional) (dec_at 4 s)
 
+-- a rate that is read is in its range
 pub rate_range : (s : List ℕ) → IfSome (rate_at s) IsRate
 rate_range s =
     if_some _ IsRate (λ z h. size most_rate z h) (rate_at s)
@@ -102,10 +107,12 @@ abbrev pub InScale : Scale → ℤ → Type 0
 InScale Notionals = IsNotional
 InScale Rates = IsRate
 
+-- a value that is read is in the range of its scale
 pub scale_range : (scale : Scale) (s : List ℕ) → IfSome (scale_at scale s) (InScale scale)
 scale_range Notionals s = notional_range s
 scale_range Rates s = rate_range s
 
+-- 0 is in the range of each scale
 pub zero_range : (scale : Scale) → InScale scale (pos 0)
 zero_range Notionals = (omega (arith, ints), omega (arith, ints))
 zero_range Rates = omega arith
@@ -114,11 +121,13 @@ one_up : (z : ℤ) → Between (pos 1) (pos most_multiplier) z → (1 ≤ unsign
 one_up (pos n) h = (omega (arith, ints, h), omega (arith, ints, h))
 one_up (negsuc n) h = absurd (omega (arith, ints, h))
 
+-- a multiplier that is read is in its range
 pub multiplier_range : (s : List ℕ) → IfSome (multiplier_at s) (λ n. (1 ≤ n) × (n ≤ most_multiplier))
 multiplier_range s =
     if_mapped _ _ unsigned_abs one_up (within (pos 1) (pos most_multiplier) (whole_at s))
     (within_range (pos 1) (pos most_multiplier) (whole_at s))
 
+-- an offset that is read is in its range
 pub offset_range : (s : List ℕ) → IfSome (offset_at s) (λ z. unsigned_abs z ≤ most_offset)
 offset_range s =
     if_some _ _ (λ z h. size most_offset z h) (offset_at s)
@@ -128,6 +137,7 @@ nine_up : (z : ℤ) → Between (pos 0) (pos 9) z → unsigned_abs z ≤ 9
 nine_up (pos n) h = omega (arith, ints, h)
 nine_up (negsuc n) h = absurd (omega (arith, ints, h))
 
+-- a precision that is read is in its range
 pub precision_range : (s : List ℕ) → IfSome (precision_at s) (λ n. n ≤ 9)
 precision_range s =
     if_mapped _ _ unsigned_abs nine_up (within (pos 0) (pos 9) (whole_at s)) (within_range (pos 0) (pos 9) (whole_at s))
@@ -148,6 +158,7 @@ among_range : {A : Type 0} (P : A → Type 0) (rows : List (List ℕ × A)) → 
 among_range P [] h s = tt
 among_range P (row ∷ rows) h s = among_by P row.1 (bytes_eq s row.0) (among rows s) h.0 (among_range P rows h.1 s)
 
+-- the unit of a tenor is not that of the whole term
 pub tenor_unit_range : (s : List ℕ) → IfSome (tenor_unit_at s) (λ u. u ≡ Term → ⊥)
 tenor_unit_range s =
     among_range (λ (u : PeriodUnit). u ≡ Term → ⊥)
@@ -193,6 +204,7 @@ either_range : {A : Type 0} (P : A → Type 0) (o p : Option A) → IfSome o P �
 either_range P None p g h = h
 either_range P (Some a) p g h = g
 
+-- a roll that is read is lawful
 pub roll_range : (s : List ℕ) → IfSome (roll_at s) IsLawfulRoll
 roll_range s = either_range IsLawfulRoll (named_roll_at s) (day_roll_at s) (named_range s) (day_roll_range s)
 
@@ -201,6 +213,7 @@ roll_range s = either_range IsLawfulRoll (named_roll_at s) (day_roll_at s) (name
 capital : (b : ℕ) → is_capital b ≡ true → (65 ≤ b) × (b ≤ 90)
 capital b e = grind (arith, nat_tests)
 
+-- letters that pass the test are capitals
 pub capitals : (s : List ℕ) → list_all is_capital s ≡ true → All (λ b. (65 ≤ b) × (b ≤ 90)) s
 capitals s e = λ k d lt. capital (slice_index_or s k d) (AllPass-from_list_all is_capital s e k d lt)
 
@@ -209,5 +222,6 @@ currency_by : (s : List ℕ) (b : Bool) → is_currency s ≡ b
 currency_by s false e = tt
 currency_by s true e = capitals s (both_true (length s == 3) (list_all is_capital s) e).1
 
+-- a currency that is read is lawful
 pub currency_range : (s : List ℕ) → IfSome (currency_at s) IsLawfulCurrency
 currency_range s = currency_by s (is_currency s) refl

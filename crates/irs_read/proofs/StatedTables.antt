@@ -99,6 +99,7 @@ named_by rows names r y w =
     text_by (child_of (codes "@href") y) there
     (or_false (is_odd (child_of (codes "@id") y)) (is_odd (child_of (codes "@href") y)) plain)
 
+-- a value that breaks no rule states each element of the table
 pub stated : (rows : List Row) (names : List (List ℕ)) (d : Data) (n i : ℕ) → Unbroken rows names n 0 (Object Free) i d
     → IsStated rows names d
 stated rows names d n i none = record {

@@ -113,6 +113,7 @@ currency_lawful o =
 abbrev GoodList : Option Data → Type 0
 GoodList o = IfSome o (λ d. IsLawfulNames (names_in d))
 
+-- each list of centres that is given is clean
 abbrev pub GoodLists : List (Option Data) → Type 0
 GoodLists [] = Unit {0}
 GoodLists (o ∷ os) = GoodList o × GoodLists os
@@ -432,6 +433,7 @@ float_lawful d clean = record {
       (once (codes "spreadSchedule") d) (clean_once ROWS row_names 86 96 d refl clean);
   initial_rate = said_in IsRate rate_at rate_range (once (codes "initialRate") d);
   rounding = places_lawful (member (codes "precision") (once (codes "finalRateRounding") d));
+  parameters = tt;
 }
 
 leg_lawful : (float fixed : Option Data) → AtMost 86 float → AtMost 81 fixed → IsLawfulLeg (leg_by float fixed)
@@ -493,6 +495,7 @@ parts_lawful lists d dates freq calc g clean dated rates =
           (clean_once ROWS row_names 0 108 d refl clean);
     }
 
+-- the stream of a clean value is lawful
 pub stream_lawful : (lists : List (Option Data)) (d : Data) → GoodLists lists → At 0 d
     → IsLawfulStream (stream_in lists d)
 unfolding stream_in

@@ -16,25 +16,31 @@ use Rattle.irs_base.specs.Order.{IsFirstBroken}
 abbrev pub code_names : List (List ℕ)
 code_names = map (λ n. n.now) NAMES
 
+-- the names of the code's table of a swap
 abbrev pub swap_code_names : List (List ℕ)
 swap_code_names = map (λ n. n.now) SWAP_NAMES
 
+-- the code's rows are those of the specification
 pub rows_are : ROWS ≡ stream_rows
 unfolding stream_rows stream_table printed paths
 rows_are = refl
 
+-- the lines of the specification have the paths of the table
 pub lines_are : map (λ (l : Line). l.path) stream_table.lines ≡ stream_elements
 unfolding stream_table stream_elements printed paths
 lines_are = refl
 
+-- the code's names are those of the specification
 pub names_are : code_names ≡ stream_names
 unfolding stream_names stream_table
 names_are = refl
 
+-- the rows of a swap are those of the specification
 pub swap_rows_are : SWAP_ROWS ≡ swap_rows
 unfolding swap_rows swap_table printed paths
 swap_rows_are = refl
 
+-- the names of a swap are those of the specification
 pub swap_names_are : swap_code_names ≡ swap_names
 unfolding swap_names swap_table
 swap_names_are = refl
@@ -45,18 +51,21 @@ pub by_tables : (P : List Row → List (List ℕ) → Type 0) (rows rows' : List
 by_tables P rows rows' names names' r n p =
     subst (λ (ns : List (List ℕ)). P rows' ns) n (subst (λ (rs : List Row). P rs names) r p)
 
+-- a fault by the code's table is one by the specification's
 pub stream_fault : {s r i : ℕ} {k : Kind} {d : Data} {f : Broken} → FaultAt ROWS code_names s r k i d f
     → FaultAt stream_rows stream_names s r k i d f
 stream_fault {s = s} {r = r} {i = i} {k = k} {d = d} {f = f} q =
     by_tables (λ rows names. FaultAt rows names s r k i d f) ROWS stream_rows code_names stream_names rows_are
     names_are q
 
+-- the first fault by the code's table is that of the specification's
 pub stream_first : (s r : ℕ) (k : Kind) (i : ℕ) (d : Data) (a : Option Broken)
     → IsFirstBroken (FaultAt ROWS code_names s r k i d) a → IsFirstBroken (FaultAt stream_rows stream_names s r k i d) a
 stream_first s r k i d a p =
     by_tables (λ rows names. IsFirstBroken (FaultAt rows names s r k i d) a) ROWS stream_rows code_names stream_names
     rows_are names_are p
 
+-- the same for the table of a swap
 pub swap_first : (s r : ℕ) (k : Kind) (i : ℕ) (d : Data) (a : Option Broken)
     → IsFirstBroken (FaultAt SWAP_ROWS swap_code_names s r k i d) a
     → IsFirstBroken (FaultAt swap_rows swap_names s r k i d) a

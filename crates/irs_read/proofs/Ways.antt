@@ -7,6 +7,7 @@ use Rattle.serde_json.specs.Data.{Data}
 use Rattle.std.proofs.Common.{◌≡◌, Option, Some, Ok, Err, subst}
 use Rattle.irs_base.specs.Order.{IsFirstBroken}
 
+-- what ends the way to the swap is the first broken rule
 pub ended_first : (d : Data) (f : Broken) → the_swap d ≡ Err f → IsFirstBroken (DocumentFault d) (Some f)
 ended_first d f e = first_one _ f (ended f e) (only d f e)
   where
@@ -14,6 +15,7 @@ ended_first d f e = first_one _ f (ended f e) (only d f e)
     only d f e g (ended _ h) = cc
     only d f e g (below s _ h q) = cc
 
+-- the first broken rule of the swap is that of the document
 pub below_first : (d s : Data) (a : Option Broken) → the_swap d ≡ Ok s → IsFirstBroken (SwapFault s) a
     → IsFirstBroken (DocumentFault d) a
 below_first d s a e p = first_same _ _ a (λ f q. below s f e q) (only d s e) p

@@ -24,6 +24,7 @@ use Rattle.std.specs.List.{list_all}
 
 -- ---- no blank at the ends
 
+-- the last byte is no space
 abbrev pub EndsWell : List ℕ → Type 0
 EndsWell s = (get_or s 0 0 ≢ 32) × (get_or s (length s - 1) 0 ≢ 32)
 
@@ -197,10 +198,12 @@ index_lawful s e ends =
 word_is : (d : Data) (l : Leaf) → leaf_of d ≡ Some l → word_in (Some d) ≡ text_of l
 word_is d l e = ap (λ (o : Option Leaf). unwrap_or (option_map text_of o) []) e
 
+-- a centre that is read has a lawful name
 pub center_lawful : (d : Data) → Said CenterName d → IsLawfulName (word_in (Some d))
 center_lawful d said =
     subst IsLawfulName (sym (word_is d said.says said.found)) (name_lawful (text_of said.says) said.valued)
 
+-- an index that is read has a lawful name
 pub index_word : (d : Data) → Said IndexName d → IsLawfulIndex (word_in (Some d))
 index_word d said =
     subst IsLawfulIndex (sym (word_is d said.says said.found))

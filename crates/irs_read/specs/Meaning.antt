@@ -186,7 +186,7 @@ rounding_in o =
           unwrap_or (said precision_at (member (codes "precision") o)) 9;
     }
 
--- the terms of a floating rate
+-- the terms of a floating rate; `calculationParameters` are not read yet
 abbrev pub float_in : Data → FloatTerms
 float_in d = record {
   index = word_in (once (codes "floatingRateIndex") d);
@@ -196,6 +196,7 @@ float_in d = record {
   initial_rate = said rate_at (once (codes "initialRate") d);
   rounding = rounding_in (once (codes "finalRateRounding") d);
   treatment = treatment_in (once (codes "negativeInterestRateTreatment") d);
+  parameters = None;
 }
 
 -- a floating leg where there is one, else a fixed one

@@ -1,7 +1,7 @@
 -- The elements of a swap's streams (FpML's InterestRateStream), line by line: the path below the
 -- stream, what stands there, and how often. Which elements are in the profile, their counts and their
 -- order are this project's own.
-use Rattle.irs_base.specs.Elements.{calculation_period_dates, cashflows}
+use Rattle.irs_base.specs.Elements.{calculation_parameters, calculation_period_dates, cashflows, day_count_fraction}
 use Rattle.irs_base.specs.Limits.{most_centers, most_steps}
 use Rattle.irs_base.specs.PathList.{printed}
 use Rattle.irs_elements.specs.Lines.{Line, Others, Table, at, at_most_one, exactly_one, leaf, line, names_of, object}
@@ -13,7 +13,7 @@ use Rattle.irs_elements.specs.declared.table.Leaf.TheVariants.{Notional, OffsetD
 use Rattle.irs_elements.specs.declared.table.Leaf.TheVariants.{PeriodUnit, Precision, Rate, ResetRelative, Roll}
 use Rattle.irs_elements.specs.declared.table.Leaf.TheVariants.{StubType, TenorUnit, Treatment, Truth}
 use Rattle.irs_elements.specs.declared.table.Row.{Row}
-use Rattle.std.specs.Prelude.{ℕ, ◌-◌, List, [], ◌∷◌, drop, take}
+use Rattle.std.specs.Prelude.{ℕ, ◌-◌, List, [], ◌∷◌, ◌++◌, drop, take}
 
 abbrev lines : List Line
 lines =
@@ -164,9 +164,12 @@ lines =
     ∷ []
 
 -- the elements of a stream in the table of paths: those up to the cash flows, but for
--- `payerPartyReference`, which is passed over
+-- `payerPartyReference`, which is passed over, and for `calculationParameters` and what it holds, which
+-- are not read yet
 unfoldable pub stream_elements : List (List ℕ)
-stream_elements = take (cashflows - calculation_period_dates) (drop calculation_period_dates printed)
+stream_elements =
+    take (calculation_parameters - calculation_period_dates) (drop calculation_period_dates printed)
+    ++ take (cashflows - day_count_fraction) (drop day_count_fraction printed)
 
 -- the members that are passed over unread
 abbrev passed : List Others

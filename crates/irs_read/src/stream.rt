@@ -45,6 +45,7 @@ fn rounding(v: Option<&Value>) -> Rounding
     Rounding { dir, places }
 }
 
+// The terms of a floating rate. No document states `calculationParameters` yet.
 fn float_terms(alloc: Global, v: &Value) -> Result<FloatTerms, Memory>
     ensures { IfOk result (λ terms. terms ≡ float_in (view v.now)) }
 {
@@ -64,6 +65,7 @@ fn float_terms(alloc: Global, v: &Value) -> Result<FloatTerms, Memory>
         initial_rate,
         rounding,
         treatment,
+        parameters: None,
     })
 }
 

@@ -17,6 +17,7 @@ use Rattle.irs_resets.specs.ResetDates.{FixingFails, HasFixingFault, Fails, HasD
 abbrev pub DatesOrFailure : ResetTerms → ResetDays → ℕ → Type 0
 DatesOrFailure t days i = HasDates t days i ⊎ ((why : DateFault) × Fails why t days i)
 
+-- a period has one reset date
 pub one_reset : (t : ResetTerms) (days : ResetDays) (i : ℕ) (r s : ℤ) → ResetsOn t days i r
     → ResetsOn t days i s → r ≡ s
 one_reset t days i r s p q = one_adjusts t.adj.code days.reset_set (base_day t.relative days.adjusted i) r s p q
@@ -24,11 +25,13 @@ one_reset t days i r s p q = one_adjusts t.adj.code days.reset_set (base_day t.r
 one_fix : (fix : FixTerms) (set : DaySet) (r f g : ℤ) → FixesBy fix set r f → FixesBy fix set r g → f ≡ g
 one_fix fix set r f g p q = one_date fix.offset fix.adj.code set r f g p q
 
+-- a reset date has one fixing date
 pub one_fixing : (fixing : Option FixTerms) (set : DaySet) (r f g : ℤ) → FixesOn fixing set r f
     → FixesOn fixing set r g → f ≡ g
 one_fixing None set r f g p q = p ∙ sym q
 one_fixing (Some fix) set r f g p q = one_fix fix set r f g p q
 
+-- a period has one pair of dates
 pub one_dates : (t : ResetTerms) (days : ResetDays) (i : ℕ) (r f x y : ℤ) → IsDates t days i r f → IsDates t days i x y
     → (r ≡ x) × (f ≡ y)
 one_dates t days i r f x y p q =
@@ -87,6 +90,7 @@ period_of t days NoReset i h = h.period
 period_of t days NoFixing i h = h.period
 period_of t days OutOfRange i h = h.period
 
+-- the dates of a period fail in one way
 pub one_way : (d e : DateFault) (t : ResetTerms) (days : ResetDays) (i : ℕ) → Fails d t days i
     → Fails e t days i → d ≡ e
 one_way NoReset NoReset t days i p q = refl

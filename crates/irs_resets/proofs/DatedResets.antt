@@ -59,5 +59,6 @@ module _ (source : ResetSource) (rates : RateTable) (range : InDays source.days)
   dated_by (Floating float) (Some t) rs h =
       every_numbered (IsReset source float t rates) IsDated 1 rs (reset_dated float t) h.each
 
+  -- the dates of resets are days of the range
   pub resets_dated : (rs : List Reset) → IsResets source rates rs → Every (λ r. IsDay r.reset × IsDay r.fixing) rs
   resets_dated rs h = dated_by source.stream.leg source.stream.reset rs h

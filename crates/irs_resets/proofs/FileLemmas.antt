@@ -119,6 +119,7 @@ pub some_rate : (o : Option ℤ) → IsSome o → (v : ℤ) × (o ≡ Some v)
 some_rate None h = absurd (cc)
 some_rate (Some v) h = (v, refl)
 
+-- a line that is ignored changes nothing
 pub passes : (lines : List (List ℕ)) (k : ℕ) (line : List ℕ) (more : List (List ℕ)) (table : RateTable)
     → ReadTo lines k (line ∷ more) table → is_passed line ≡ true → ReadTo lines (k + 1) more table
 passes lines k line more table r passed =
@@ -201,6 +202,7 @@ fresh_clean lines k line more old r t n low f =
       ]
     ]
 
+-- a line with a new rate adds it
 pub takes : (lines : List (List ℕ)) (k : ℕ) (line : List ℕ) (more : List (List ℕ)) (old new : RateTable)
     → ReadTo lines k (line ∷ more) old → TakesLine old line new → ReadTo lines (k + 1) more new
 takes lines k line more old new r taken =
@@ -275,6 +277,7 @@ first_faulty : (lines : List (List ℕ)) (n : ℕ) → IsFaulty lines n → ((k 
     → First nat_lt (IsFaulty lines) n
 first_faulty lines n here none = (here, λ k f. lt_false k n (λ less. none k less f))
 
+-- a line that spells no fixing is the first fault
 pub bad_first : (lines : List (List ℕ)) (k : ℕ) (line : List ℕ) (left more : List (List ℕ)) (table : RateTable)
     → ReadTo lines k left table → left ≡ line ∷ more → IsBadLine line → IsFirstFault (IsBad lines) lines k
 bad_first lines k line left more table r e bad =
@@ -282,6 +285,7 @@ bad_first lines k line left more table r e bad =
     let fault : IsBad lines k = record { is_line = next.is_line; bad = subst IsBadLine (sym next.is) bad } in
     (fault, first_faulty lines k (inl fault) r.clean)
 
+-- a line that repeats another is the first fault
 pub repeat_first : (lines : List (List ℕ)) (k : ℕ) (line : List ℕ) (left more : List (List ℕ)) (table : RateTable)
     → ReadTo lines k left table → left ≡ line ∷ more → HasOldRate table line → IsFirstFault (Repeats lines) lines k
 repeat_first lines k line left more table r e s =

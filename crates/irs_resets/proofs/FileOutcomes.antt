@@ -172,6 +172,7 @@ module _ (bytes : List ℕ) where
     ]
   ]
 
+  -- a file gives one set of rates, or one first fault
   pub file_determined : EachDecided (lines_of bytes) → DeterminedUpTo SameRates (fixings_of bytes)
   file_determined d = elim (read_on (lines_of bytes) 1 [] begins d) [
     | inl fault ↦
@@ -184,12 +185,14 @@ module _ (bytes : List ℕ) where
 
 -- ---- what the calls need
 
+-- a test decides whether a line spells a fixing
 pub decided_by : (line : List ℕ) (b : Bool) → IsTrue b ↔ IsSpelt line → IsDecided (IsSpelt line)
 decided_by line b h = elim (cases_Bool b) [
   | inl is ↦ inl (h.0 is)
   | inr not ↦ inr (λ s. true≢false (sym (h.1 s) ∙ not))
 ]
 
+-- no lines are decided
 pub none_left : (rest : List ℕ) → length rest ≤ 0 → EachDecided (lines_of rest)
 none_left [] h = tt
 none_left (b ∷ bs) h = absurd (omega (arith, h))

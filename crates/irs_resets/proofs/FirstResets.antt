@@ -39,6 +39,7 @@ dates_order OutOfRange NoReset j i = refl
 dates_order OutOfRange NoFixing j i = refl
 dates_order OutOfRange OutOfRange j i = refl
 
+-- ways to fail of one rank are one
 pub same_rank : (e d : DateFault) → rank e ≡ rank d → e ≡ d
 same_rank NoReset NoReset h = refl
 same_rank NoReset NoFixing h = absurd (omega (arith, h))
@@ -87,14 +88,17 @@ module _ (t : ResetTerms) (days : ResetDays) where
   before_range resets fixings NoFixing low = fixings
   before_range resets fixings OutOfRange low = absurd (omega (arith, low))
 
+  -- the first period without a reset date is the first fault
   pub first_reset : (i : ℕ) → First nat_lt (Fails NoReset t days) i
       → First comes_before (BreaksDates t days) (date_fault NoReset i)
   first_reset i = first_date NoReset i (λ e low. absurd (omega (arith, low)))
 
+  -- else the first without a fixing date is
   pub first_fixing : (i : ℕ) → NoneFails NoReset → First nat_lt (Fails NoFixing t days) i
       → First comes_before (BreaksDates t days) (date_fault NoFixing i)
   first_fixing i resets = first_date NoFixing i (before_fixing resets)
 
+  -- else the first whose fixing date leaves the range is
   pub first_range : (i : ℕ) → NoneFails NoReset → NoneFails NoFixing → First nat_lt (Fails OutOfRange t days) i
       → First comes_before (BreaksDates t days) (date_fault OutOfRange i)
   first_range i resets fixings = first_date OutOfRange i (before_range resets fixings)
@@ -116,6 +120,7 @@ module _ (t : ResetTerms) (days : ResetDays) where
 -- ---- stubs
 
 module _ (s : Stream) (span : Span) where
+  -- an initial stub that is not there is the first fault (K37)
   pub first_initial : InitialUnmet s span → First comes_before (BreaksStubs s span) (fault_at K37 initial_stub 0)
   first_initial unmet = (
     inl (unmet, refl),
@@ -125,6 +130,7 @@ module _ (s : Stream) (span : Span) where
     ],
   )
 
+  -- else a final stub that is not there is
   pub first_final : (InitialUnmet s span → ⊥) → FinalUnmet s span
       → First comes_before (BreaksStubs s span) (fault_at K37 final_stub 0)
   first_final met unmet = (
@@ -135,6 +141,7 @@ module _ (s : Stream) (span : Span) where
     ],
   )
 
+  -- else K37 is not broken
   pub stubs_unbroken : (InitialUnmet s span → ⊥) → (FinalUnmet s span → ⊥) → (f : Fault) → BreaksStubs s span f → ⊥
   stubs_unbroken initial last f (inl h) = initial h.0
   stubs_unbroken initial last f (inr h) = last h.0

@@ -12,6 +12,7 @@ use Rattle.irs_resets.specs.declared.observed.PeriodKind.TheVariants.{InitialStu
 use Rattle.irs_resets.specs.declared.observed.PeriodKind.TheVariants.{LaterRegular}
 use Rattle.irs_resets.specs.ObservedRates.{IsInitial, IsFinal, FollowsStub, IsFirstRegular, IsKind}
 
+-- whether a number is less is decided
 pub decides_less : (a b : ℤ) → IsDecided (a <ℤ b)
 decides_less a b = elim (order_of a b) [
   | inl below ↦ inl below

@@ -20,6 +20,7 @@ dates_kept source float t rates rows h f b =
     let row = numbered_has (IsReset source float t rates) 1 rows b.number h.each p.0 few in
     dates_stand b.why t source.days b.number row.0.reset row.0.fixing row.1.dates b.fails
 
+-- where each period has its reset no rule is broken
 pub listed_unbroken : (source : ResetSource) (float : FloatTerms) (t : ResetTerms) (rates : RateTable)
     (rows : List Reset) → source.stream.reset ≡ Some t
     → IsFirst comes_before (BreaksStubs source.stream source.span) None → HasResets source float t rates rows

@@ -110,6 +110,7 @@ module _ (float : FloatTerms) where
     pub is_observed : IsObserved kind float stubs rates d (observed_rate kind float stubs rates d)
     is_observed = record { source = source_by kind float stubs; comes_from = comes_by kind stubs; is = refl }
 
+    -- the observed rate is that of the function
     pub observed_is : (rate : Option ℤ) → IsObserved kind float stubs rates d rate
         → rate ≡ observed_rate kind float stubs rates d
     observed_is rate h =
@@ -126,6 +127,7 @@ module _ (t u : RateTable) (same : (index : List ℕ) (slot : Slot) → rate_at 
   from_same (Stated rate) d = refl
   from_same (Line index tenor) d = same index (record { date = d; tenor = tenor })
 
+  -- it depends on the rates alone
   pub observed_same : (kind : PeriodKind) (float : FloatTerms) (stubs : Option StubTerms) (d : ℤ) (rate : Option ℤ)
       → IsObserved kind float stubs t d rate → IsObserved kind float stubs u d rate
   observed_same kind float stubs d rate h =

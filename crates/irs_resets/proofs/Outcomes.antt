@@ -13,6 +13,7 @@ use Rattle.irs_resets.specs.Resets.{IsResets, ResetSource}
 use Rattle.irs_resets.proofs.ResetsThere.{InDays, resets_decided, resets_there}
 use Rattle.irs_resets.proofs.RowLemmas.{one_resets}
 
+-- a stream has one list of resets, or one first broken rule
 pub resets_determined : (source : ResetSource) (rates : RateTable) → FitsLeg source.stream → IsSaidReset source.stream
     → InDays source.days → Determined (resets_of source rates)
 resets_determined source rates fits said range =
@@ -44,6 +45,7 @@ module _ {A B R : Type 0} (Same : A → A → Type 0) (spec : Spec A R) (next : 
       })
       (λ y h. free y (answers a h.0 (same h.0 h.1) y h.2))
 
+  -- a chain is determined if its first part is up to sameness
   pub then_determined_up_to : DeterminedUpTo Same spec → ((a : A) → spec.Answers a → Determined (next a))
       → Determined (spec >>= next)
   then_determined_up_to (answered_up_to a is same none) over = over_same a is same none (over a is)

@@ -18,5 +18,6 @@ module _ (source : ResetSource) (rates : RateTable) (rows : List Reset) where
   many_in (Floating float) None has = absurd has
   many_in (Floating float) (Some t) has = has.many
 
+  -- a floating stream has a reset a period, a fixed one none
   pub resets_count : IsResets source rates rows → length rows ≡ many_by source.stream.leg
   resets_count has = many_in source.stream.leg source.stream.reset has

@@ -110,6 +110,7 @@ module _ (source : ResetSource) (u v : RateTable) (same : (index : List ℕ) (sl
   same_of (Floating f) None rows h = absurd h
   same_of (Floating f) (Some t) rows h = has_same f t rows h
 
+  -- resets depend on the rates alone
   pub resets_same : (rows : List Reset) → IsResets source u rows → IsResets source v rows
   resets_same rows h = same_of source.stream.leg source.stream.reset rows h
 
@@ -120,6 +121,7 @@ none_fails t days i p q r NoReset h = p h
 none_fails t days i p q r NoFixing h = q h
 none_fails t days i p q r OutOfRange h = r h
 
+-- a period that fails in no way has its dates
 pub has_dates : (t : ResetTerms) (days : ResetDays) (i : ℕ) → DatesOrFailure t days i
     → (Fails NoReset t days i → ⊥) → (Fails NoFixing t days i → ⊥) → (Fails OutOfRange t days i → ⊥) → HasDates t days i
 has_dates t days i (inl h) p q r = h
@@ -133,6 +135,7 @@ after_few x (y ∷ ys) after rising days low high =
     let rest = after_few y ys rising.0 rising.1 days.1 days.0.0 days.0.1 in
     omega (arith, signed_arith, rest, after.0, low)
 
+-- rising days are no more than there are
 pub few_days : (xs : List ℤ) → IsRising xs → AreDays xs → length xs ≤ all_days
 few_days [] rising days = omega arith
 few_days (x ∷ xs) rising days =

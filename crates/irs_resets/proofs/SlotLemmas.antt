@@ -18,6 +18,7 @@ use Rattle.irs_resets.specs.Rates.{is_unit, is_tenor, is_slot}
 use Rattle.irs_resets.specs.declared.store.Slot.{Slot}
 use Rattle.irs_resets.specs.contracts.store.SlotOrd.TheImpl.{cmp-value}
 
+-- the order of dates and tenors
 abbrev pub slot_cmp : Slot → Slot → Ordering
 slot_cmp = cmp-value.it
 
@@ -70,6 +71,7 @@ tenor_cmp-is None (Some b) = refl
 tenor_cmp-is (Some a) None = refl
 tenor_cmp-is (Some a) (Some b) = frequency_cmp-is a b
 
+-- slots of one place are the same slot
 pub slot_cmp-is : (a b : Slot) → is_eq (slot_cmp a b) ≡ is_slot a b
 slot_cmp-is a b =
     both_equal (int_cmp a.date b.date) (option_cmp of_frequency.it a.tenor b.tenor)
@@ -81,6 +83,7 @@ pub lookup_alike : {K X : Type 0} (f g : K → Bool) → ((k : K) → f k ≡ g 
 lookup_alike f g h [] = refl
 lookup_alike f g h (e ∷ es) = ap₂ (λ t r. cond t (Some e.1) r) (h e.0) (lookup_alike f g h es)
 
+-- a look-up by the order is one by sameness
 pub slot_lookup : (slot : Slot) (es : List (Slot × ℤ))
     → lookup (λ k. is_eq (slot_cmp slot k)) es ≡ lookup (is_slot slot) es
 slot_lookup slot es = lookup_alike (λ k. is_eq (slot_cmp slot k)) (is_slot slot) (slot_cmp-is slot) es
@@ -126,6 +129,7 @@ tenor_same (Some a) (Some b) h =
 date_same : (a b : ℤ) → int_eq a b ≡ true → a ≡ b
 date_same a b h = grind (arith, signed_arith)
 
+-- slots that pass the test are the same
 pub slot_same : (a b : Slot) → is_slot a b ≡ true → a ≡ b
 slot_same a b h =
     let p = both_true (int_eq a.date b.date) (is_tenor a.tenor b.tenor) h in
@@ -148,5 +152,6 @@ tenor_itself (Some a) =
 date_itself : (a : ℤ) → int_eq a a ≡ true
 date_itself a = grind (arith, signed_arith)
 
+-- a slot is the same as itself
 pub slot_itself : (a : Slot) → is_slot a a ≡ true
 slot_itself a = rw (date_itself a.date) (tenor_itself a.tenor)

@@ -8,6 +8,7 @@ use Rattle.irs_resets.specs.Words.{word, behind_word, trimmed, is_blank}
 abbrev pub NoneBefore : List ℕ → ℕ → Type 0
 NoneBefore bytes i = (k : ℕ) → k < i → is_space (get_or bytes k 0) ≡ false
 
+-- a word ends at the first space
 pub word_here : (bytes : List ℕ) (i : ℕ) → i < length bytes → is_space (get_or bytes i 0) ≡ true → NoneBefore bytes i
     → (take i bytes ≡ word bytes) × (drop i bytes ≡ behind_word bytes)
 word_here [] i within gap none = absurd (omega (arith, within))
@@ -17,6 +18,7 @@ word_here (b ∷ bs) (suc i) within gap none =
     let rest = word_here bs i (omega (arith, within)) gap (λ k h. none (suc k) (omega (arith, h))) in
     (rw first (ap (λ (l : List ℕ). b ∷ l) rest.0), rw first rest.1)
 
+-- a text without spaces is one word
 pub word_alone : (bytes : List ℕ) → NoneBefore bytes (length bytes) → (bytes ≡ word bytes) × ([] ≡ behind_word bytes)
 word_alone [] none = (refl, refl)
 word_alone (b ∷ bs) none =
@@ -43,6 +45,7 @@ not_blank (b ∷ bs) (suc i) within solid = rw (not_blank bs i (omega (arith, wi
     false_right true = refl
     false_right false = refl
 
+-- spaces alone leave nothing
 pub trimmed_blank : (bytes : List ℕ) → AllFrom bytes 0 → [] ≡ trimmed bytes
 trimmed_blank [] all = refl
 trimmed_blank (b ∷ bs) all = rw (blank (b ∷ bs) all) refl
@@ -68,6 +71,7 @@ trimmed_to bytes (suc i) some within solid all =
     let e : suc i - 1 ≡ i = omega arith in
     trimmed_here bytes i (omega (arith, within)) (rw e at solid) all
 
+-- nothing is left of nothing
 pub trimmed_none : (bytes : List ℕ) (n : ℕ) → n ≤ 0 → AllFrom bytes n → take n bytes ≡ trimmed bytes
 trimmed_none bytes zero none all = trimmed_blank bytes all
 trimmed_none bytes (suc i) none all = absurd (omega (arith, none))

@@ -20,6 +20,7 @@ day_place n place d m at is = omega (arith, signed_arith, at, is)
 
 -- the day with a number
 
+-- a day of that place in its month is the day with the number, or the last one of a shorter month
 pub numbered_on : (n place : ℕ) (d m : ℤ) → 0 < n → InMonth d m → d +ℤ pos 1 ≡ month_start m +ℤ pos place
     → place ≡ min n (dim m) → OnRollDay (IsNumbered n) d
 numbered_on n place d m h here at is = record {
@@ -28,6 +29,7 @@ numbered_on n place d m h here at is = record {
   rolls = subst (IsNumbered n m) (sym (place_day n place d m at is)) (numbered-is n m h);
 }
 
+-- the day with a number has that place in its month, or the last one of a shorter month
 pub numbered_at : (n place : ℕ) (d m : ℤ) → InMonth d m → d +ℤ pos 1 ≡ month_start m +ℤ pos place
     → OnRollDay (IsNumbered n) d → place ≡ min n (dim m)
 numbered_at n place d m here at on =
@@ -35,6 +37,7 @@ numbered_at n place d m here at on =
 
 -- the last day
 
+-- a day at the last place of its month is its last day
 pub last_on : (place : ℕ) (d m : ℤ) → InMonth d m → d +ℤ pos 1 ≡ month_start m +ℤ pos place
     → place ≡ min 31 (dim m) → OnRollDay IsLastDay d
 last_on place d m here at is = record {
@@ -43,12 +46,14 @@ last_on place d m here at is = record {
   rolls = subst (IsLastDay m) (sym (place_day 31 place d m at is)) (last_day-is m);
 }
 
+-- the last day of a month is at its last place
 pub last_at : (place : ℕ) (d m : ℤ) → InMonth d m → d +ℤ pos 1 ≡ month_start m +ℤ pos place
     → OnRollDay IsLastDay d → place ≡ min 31 (dim m)
 last_at place d m here at on = day_place 31 place d m at (last_day_only m d (rolls_in IsLastDay d m on here))
 
 -- the third Wednesday
 
+-- a Wednesday from the 15th to the 21st is the third of its month
 pub third_on : (place : ℕ) (d m : ℤ) → InMonth d m → d +ℤ pos 1 ≡ month_start m +ℤ pos place
     → ((15 ≤ place) × (place ≤ 21)) × (weekday_at d ≡ 2) → OnRollDay IsThirdWednesday d
 third_on place d m here at is = record {
@@ -74,6 +79,7 @@ below_22 place d m at h = elim (cases_lt 21 place) [
   | inr up_to ↦ omega (arith, up_to)
 ]
 
+-- the third Wednesday of a month lies from the 15th to the 21st
 pub third_at : (place : ℕ) (d m : ℤ) → InMonth d m → d +ℤ pos 1 ≡ month_start m +ℤ pos place
     → OnRollDay IsThirdWednesday d → ((15 ≤ place) × (place ≤ 21)) × (weekday_at d ≡ 2)
 third_at place d m here at on =
@@ -82,6 +88,7 @@ third_at place d m here at on =
 
 -- the roll day of a month that lies whole steps from the anchor's
 
+-- a roll day in a month that is a whole multiple of the step away is on the grid
 pub both_on : (rolls : ℤ → ℤ → Type 0) (step : ℕ) (anchor d month apart : ℤ) → InMonth d month
     → MonthsTo anchor month apart → IsMultiple step apart → OnRollDay rolls d → OnMonths rolls step anchor d
 both_on rolls step anchor d month apart here to whole on = record {
@@ -95,6 +102,7 @@ both_on rolls step anchor d month apart here to whole on = record {
   };
 }
 
+-- a day on the grid lies in a month that is a whole multiple of the step away
 pub whole_of : (rolls : ℤ → ℤ → Type 0) (step : ℕ) (anchor d month apart : ℤ) → InMonth d month
     → MonthsTo anchor month apart → OnMonths rolls step anchor d → IsMultiple step apart
 whole_of rolls step anchor d month apart here to h =
@@ -103,5 +111,6 @@ whole_of rolls step anchor d month apart here to h =
     subst (IsMultiple step) (ap (λ (m : ℤ). m -ℤ h.start) same ∙ ap (λ (s : ℤ). month -ℤ s) start ∙ sym to.is)
     h.on.apart
 
+-- a day on the grid is the roll day of its month
 pub rolls_of : (rolls : ℤ → ℤ → Type 0) (step : ℕ) (anchor d : ℤ) → OnMonths rolls step anchor d → OnRollDay rolls d
 rolls_of rolls step anchor d h = record { month = h.on.month; of_day = h.on.of_day; rolls = h.on.rolls }

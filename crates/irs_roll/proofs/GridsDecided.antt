@@ -68,6 +68,7 @@ module _ (rolls : ℤ → ℤ → Type 0) (day : ℤ → ℤ) (is : (m : ℤ) �
     ]
   ]
 
+  -- whether a day is on a grid of months can be decided
   pub decides_on_months : (step : ℕ) (anchor d : ℤ) → 0 < step → IsDay anchor → IsDay d
       → IsDecided (OnMonths rolls step anchor d)
   decides_on_months step anchor d some from day =

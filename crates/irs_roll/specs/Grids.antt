@@ -7,7 +7,7 @@ pub record IsMultiple (step : ℕ) (z : ℤ) : Type 0 where
   pub times : ℤ
   pub is : z ≡ times *ℤ pos step
 
--- so many months lie from the month of the anchor to this one
+-- the month is `apart` months after the month of the anchor
 pub record MonthsTo (anchor month apart : ℤ) : Type 0 where
   pub start : ℤ
   pub of_anchor : InMonth anchor start

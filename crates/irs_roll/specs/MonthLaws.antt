@@ -8,6 +8,7 @@ use Rattle.irs_base.proofs.MonthLemmas.{month_start-later, same_month, month_ran
 use Rattle.irs_roll.specs.Grids.{IsMultiple, OnMonthsFrom, OnMonths, OnRollDay, kth}
 
 module _ (day : ℤ → ℤ) (stays : (m : ℤ) → InMonth (day m) m) where
+  -- a later month has a later roll day
   pub roll_rises : (j k : ℤ) → j <ℤ k → day j <ℤ day k
   roll_rises j k below =
       let a = stays j in
@@ -17,10 +18,12 @@ module _ (day : ℤ → ℤ) (stays : (m : ℤ) → InMonth (day m) m) where
   roll_range : (m : ℤ) → IsDay (day m) → (pos first_month ≤ℤ m) × (m ≤ℤ pos last_month)
   roll_range m r = month_range m (day m) r (stays m)
 
+  -- steps that 64 bits don't hold lead to no day in the range of dates
   pub roll_far_steps : (s : ℕ) (a k : ℤ) → FitsSigned w32 a → (FitsSigned w64 (k *ℤ pos s) → ⊥)
       → IsDay (day (kth a s k)) → ⊥
   roll_far_steps s a k here wide r = wide (omega (arith, signed_arith, here, roll_range (kth a s k) r))
 
+  -- a month that 64 bits don't hold has no roll day in the range of dates
   pub roll_far : (m : ℤ) → (FitsSigned w64 m → ⊥) → IsDay (day m) → ⊥
   roll_far m wide r = wide (omega (arith, signed_arith, roll_range m r))
 
@@ -30,6 +33,7 @@ kth_month s start month k apart = omega (arith, signed_arith, apart)
 
 module _ (rolls : ℤ → ℤ → Type 0) (day : ℤ → ℤ) (is : (m : ℤ) → rolls m (day m)) (only : (m d : ℤ) → rolls m d
     → d ≡ day m) (stays : (m : ℤ) → InMonth (day m) m) where
+  -- the roll day of the month after k steps is on the grid of months from the start
   pub from_kth : (step : ℕ) (start k : ℤ) → OnMonthsFrom rolls step start (day (kth start step k))
   from_kth step start k = record {
     month = kth start step k;
@@ -38,6 +42,7 @@ module _ (rolls : ℤ → ℤ → Type 0) (day : ℤ → ℤ) (is : (m : ℤ) �
     apart = record { times = k; is = omega (arith, signed_arith) };
   }
 
+  -- the roll day of the month after k steps is on the grid from the anchor
   pub roll_is_on : (step : ℕ) (anchor start k : ℤ) → InMonth anchor start
       → OnMonths rolls step anchor (day (kth start step k))
   roll_is_on step anchor start k begins = record { start = start; of_anchor = begins; on = from_kth step start k }
@@ -49,14 +54,17 @@ module _ (rolls : ℤ → ℤ → Type 0) (day : ℤ → ℤ) (is : (m : ℤ) �
       let same = same_month anchor h.start start h.of_anchor begins in
       subst (λ (s : ℤ). OnMonthsFrom rolls step s d) same h.on
 
+  -- each day on the grid of months from the start is the roll day after a number of steps
   pub kth-from : (step : ℕ) (start d : ℤ) → OnMonthsFrom rolls step start d → (k : ℤ) × (day (kth start step k) ≡ d)
   kth-from step start d h =
       (h.apart.times, ap day (kth_month step start h.month h.apart.times h.apart.is) ∙ sym (only h.month d h.rolls))
 
+  -- each day on the grid from the anchor is the roll day after a number of steps
   pub roll_misses_none : (step : ℕ) (anchor start d : ℤ) → InMonth anchor start → OnMonths rolls step anchor d
       → (k : ℤ) × (day (kth start step k) ≡ d)
   roll_misses_none step anchor start d begins h = kth-from step start d (from_start step anchor start d begins h)
 
+  -- a roll day in a month that is k steps away is the k-th day of the grid
   pub roll_at : (s : ℕ) (start month d k : ℤ) → month -ℤ start ≡ k *ℤ pos s → day month ≡ d → day (kth start s k) ≡ d
   roll_at s start month d k apart rolled = ap day (kth_month s start month k apart) ∙ rolled
 
@@ -64,11 +72,13 @@ module _ (rolls : ℤ → ℤ → Type 0) (day : ℤ → ℤ) (is : (m : ℤ) �
   pub rolls_on : (s : ℕ) (start d month : ℤ) → InMonth d month → OnMonthsFrom rolls s start d → day month ≡ d
   rolls_on s start d month here h = ap day (same_month d month h.month here h.of_day) ∙ sym (only h.month d h.rolls)
 
+  -- a month whose roll day is out of range has no day on the grid
   pub roll_off_range : (s : ℕ) (start d month : ℤ) → InMonth d month → IsDay d → (IsDay (day month) → ⊥)
       → OnMonthsFrom rolls s start d → ⊥
   roll_off_range s start d month here in_range out h =
       out (subst IsDay (sym (rolls_on s start d month here h)) in_range)
 
+  -- a month that is no whole number of steps away has no day on the grid
   pub roll_off_steps : (s : ℕ) (start d month : ℤ) → InMonth d month → (IsMultiple s (month -ℤ start) → ⊥)
       → OnMonthsFrom rolls s start d → ⊥
   roll_off_steps s start d month here out h =

@@ -18,6 +18,7 @@ cases_ltz a b = grind (arith, signed_arith)
 last_day-stays : (m : ℤ) → InMonth (last_day_of m) m
 last_day-stays m = day_in_month-in_month 31 m (omega arith)
 
+-- each month has a last day
 pub last_day-is : (m : ℤ) → IsLastDay m (last_day_of m)
 last_day-is m = record {
   in_month = last_day-stays m;
@@ -34,9 +35,11 @@ last_day_ends m d h = elim (cases_ltz (d +ℤ pos 1) (month_start m +ℤ pos (di
   ]
 ]
 
+-- a month has one last day
 pub last_day_only : (m d : ℤ) → IsLastDay m d → d ≡ last_day_of m
 last_day_only m d h = omega (arith, signed_arith, last_day_ends m d h, dim_bounds m)
 
+-- the last day of a month lies in it
 pub last_day-in_month : (m : ℤ) → InMonth (last_day_of m) m
 last_day-in_month m = last_day-stays m
 
@@ -51,12 +54,14 @@ short_last n m h short = record {
   none_after = λ after. omega (arith, signed_arith, after.to, short);
 }
 
+-- each month has a day for each number from 1
 pub numbered-is : (n : ℕ) (m : ℤ) → 0 < n → IsNumbered n m (day_in_month n m)
 numbered-is n m h = elim (cases_lt (dim m) n) [
   | inl short ↦ inr (short, short_last n m h short)
   | inr long ↦ inl (omega (arith, long), omega (arith, signed_arith, long))
 ]
 
+-- a month has one day for a number
 pub numbered_only : (n : ℕ) (m d : ℤ) → IsNumbered n m d → d ≡ day_in_month n m
 numbered_only n m d h = elim h [
   | inl long ↦ omega (arith, signed_arith, long.0, long.1)
@@ -71,6 +76,7 @@ from_15th m = omega (arith, signed_arith, dim_bounds m)
 to_21st : (m : ℤ) → third_wednesday m ≤ℤ (month_start m +ℤ pos 20)
 to_21st m = omega (arith, signed_arith, dim_bounds m)
 
+-- the third Wednesday of a month lies in it
 pub third_wednesday-in_month : (m : ℤ) → InMonth (third_wednesday m) m
 third_wednesday-in_month m = record {
   from = omega (arith, signed_arith, from_15th m);
@@ -83,6 +89,7 @@ third_wednesday-weekday m =
     let add = weekday_number-add first (third_wednesday m) ((9 - weekday_at first) % 7) refl in
     omega (arith, add, weekday_number_bound first)
 
+-- each month has a third Wednesday
 pub third_wednesday-is : (m : ℤ) → IsThirdWednesday m (third_wednesday m)
 third_wednesday-is m = record {
   wednesday = third_wednesday-weekday m;
@@ -107,6 +114,7 @@ third_by_21st m d h = elim (cases_ltz (month_start m +ℤ pos 20) d) [
   | inr rest ↦ elim rest [ inl before ↦ omega (arith, signed_arith, before) | inr e ↦ omega (arith, signed_arith, e) ]
 ]
 
+-- a month has one third Wednesday
 pub third_wednesday_only : (m d : ℤ) → IsThirdWednesday m d → d ≡ third_wednesday m
 third_wednesday_only m d h =
     let first : ℤ = day_in_month 15 m in

@@ -17,13 +17,16 @@ mul_more s a b c d h k =
     let more : a + d + 1 ≤ c + b = omega arith in
     omega (arith, mul_at_most s (a + d + 1) (c + b) more)
 
+-- more steps lead further
 pub kth_rises : (start : ℤ) (s : ℕ) (j k : ℤ) → 0 < s → j <ℤ k → kth start s j <ℤ kth start s k
 kth_rises start s j k h below =
     omega (arith, signed_arith, mul_more s (up j) (down j) (up k) (down k) h (omega (arith, signed_arith)))
 
+-- a whole number of steps from the anchor leads to a day of its grid
 pub OnDays-kth : (step : ℕ) (anchor k : ℤ) → OnDays step anchor (kth anchor step k)
 OnDays-kth step anchor k = record { times = k; is = omega (arith, signed_arith) }
 
+-- each day of the grid is a whole number of steps from the anchor
 pub kth-OnDays : (step : ℕ) (anchor d : ℤ) → OnDays step anchor d → (k : ℤ) × (kth anchor step k ≡ d)
 kth-OnDays step anchor d h = (h.times, omega (arith, signed_arith, h.is))
 
@@ -57,10 +60,12 @@ steps_close a q s h e =
     let parts = int_div_euclid-parts a s h in
     (rw e (omega (arith, signed_arith, parts)), rw e (omega (arith, signed_arith, parts)))
 
+-- the last multiple of the step at or below a number of 40 bits fits 64 bits
 pub steps_fit : (a q : ℤ) (s : ℕ) → 0 < s → q ≡ int_div_euclid a (pos s)
     → IsBetween (neg_ℤ (pos 1_099_511_627_776)) (pos 1_099_511_627_776) a → s < 2 ^ 32 → FitsSigned w64 (q *ℤ pos s)
 steps_fit a q s h e near small = omega (arith, signed_arith, steps_close a q s h e, near)
 
+-- where the quotient leaves a remainder, the number is no whole multiple of the step
 pub no_whole_steps : (a q : ℤ) (s : ℕ) → 0 < s → q ≡ int_div_euclid a (pos s) → (q *ℤ pos s ≡ a → ⊥)
     → IsMultiple s a → ⊥
 no_whole_steps a q s h e apart multiple =
@@ -76,6 +81,7 @@ pub on_by_index : (o : Option ℤ) (P : ℤ → Type 0) (Q : Type 0) → IfSome 
 on_by_index None P Q some none on = (λ t. absurd (search rules), λ q. absurd (none q))
 on_by_index (Some k) P Q some none on = (λ t. on k some, λ q. search rules)
 
+-- what follows from the absence of a value holds where there is none
 pub none_then : {X : Type 0} (o : Option X) (P Q : Type 0) → IfNone o P → (P → Q) → IfNone o Q
 none_then None P Q p f = f p
 none_then (Some x) P Q p f = tt

@@ -1,4 +1,4 @@
-//! The day from which a grid counts, with its month worked out once for all days that are asked about.
+//! The day from which a grid counts, with its month worked out once for all questions.
 ghost use Rattle.std.specs.Prelude.{◌≡◌, ℤ, pos, neg_ℤ};
 ghost use Rattle.jiff_core.specs.Calendar.{IsBetween};
 ghost use Rattle.irs_base.specs.Days.{first_month, last_month, first_year, last_year, month_index_of};

@@ -1,4 +1,4 @@
-//! Grids of days and weeks: every so many days from an anchor.
+//! Grids of days and weeks: one day every given number of days from an anchor.
 ghost use Rattle.std.specs.Prelude.{◌≡◌, ◌↔◌, ◌<◌, ℤ, pos};
 ghost use Rattle.irs_base.specs.Days.{IsDay};
 ghost use Rattle.irs_roll.specs.Grids.{OnDays, kth};
@@ -8,7 +8,7 @@ use crate::Grid;
 use crate::steps::whole_steps;
 use irs_base::{Day, plus};
 
-/// Every so many days from an anchor: the frequencies in days and in weeks.
+/// One day every given number of days from an anchor: the frequencies in days and in weeks.
 #[derive(Clone, Copy)]
 pub struct EveryDays {
     anchor: Day,

@@ -1,5 +1,5 @@
-//! Whether a roll fits an anchor, and whether a day is on the grid of any anchor. That NONE fits every
-//! day is this project's own.
+//! Whether a roll fits an anchor, and whether a day is on the grid of any anchor. That NONE fits
+//! every day is our rule.
 ghost use Rattle.std.specs.Prelude.{◌↔◌, ◌<◌, IsTrue};
 ghost use Rattle.irs_terms.specs.Lawful.{IsLawfulRoll};
 ghost use Rattle.irs_roll.specs.Grids.{OnDays, OnMonths, OnRollDay};
@@ -12,9 +12,9 @@ use crate::steps::is_multiple;
 use irs_base::{Day, civil_of, weekday};
 use irs_terms::{Frequency, RollCode, Unit};
 
-/// Whether the roll fits the anchor: in months and years the anchor is the roll day of its month,
-/// in weeks it falls on the weekday of the roll, and with NONE every day fits. The conditions are
-/// that the frequency isn't the term and that the roll suits it.
+/// Whether the roll fits the anchor. In months and years the anchor has to be the roll day of its
+/// month, and in weeks the weekday of the roll. With NONE every day fits. The conditions are that
+/// the frequency isn't the term and that the roll suits it.
 pub fn fits(roll: RollCode, freq: Frequency, anchor: Day) -> bool
     requires term { ¬ (IsTerm freq) }
     requires suits { Suits freq roll }
@@ -56,9 +56,9 @@ fn is_roll_day<R: Roll>(roll: &R, d: Day) -> bool
     roll.rolls_on(d, civil_of(d))
 }
 
-/// Whether the day is on the grid of the frequency and the roll from the anchor, for every anchor
-/// and every lawful roll: the roll need neither fit the anchor nor suit the frequency. The
-/// conditions are that the frequency isn't the term and that its multiplier is at least 1.
+/// Whether the day is on the grid of the frequency and the roll from the anchor. It holds for every
+/// anchor and every lawful roll, whether or not the roll fits the anchor or suits the frequency.
+/// The conditions are that the frequency isn't the term and that its multiplier is at least 1.
 pub fn on_grid_of(freq: Frequency, roll: RollCode, anchor: Day, d: Day) -> bool
     requires term { ¬ (IsTerm freq) }
     requires step { 0 < freq.count }
@@ -68,7 +68,7 @@ pub fn on_grid_of(freq: Frequency, roll: RollCode, anchor: Day, d: Day) -> bool
     on_grid_from(freq, roll, &Anchor::new(anchor), d)
 }
 
-/// The same for many days that are asked about one anchor, under the same conditions.
+/// The same for many days and one anchor, under the same conditions.
 pub fn on_grid_from(freq: Frequency, roll: RollCode, anchor: &Anchor, d: Day) -> bool
     requires term { ¬ (IsTerm freq) }
     requires step { 0 < freq.count }
@@ -105,7 +105,7 @@ fn on_roll_days(roll: RollCode, months: u32, anchor: &Anchor, d: Day) -> bool
     }
 }
 
-// The months are looked at first: most days that are asked about lie in no month of the grid.
+// The months are looked at first: most days lie in no month of the grid.
 fn on_months<R: Roll>(roll: &R, months: u32, anchor: &Anchor, d: Day) -> bool
     requires { 0 < months }
     ensures { IsTrue result ↔ OnMonths (R.rolls roll.now) months anchor.now d }

@@ -1,4 +1,4 @@
-//! Grids of months and years: the roll day of every so many months from the anchor's month.
+//! Grids of months and years: a roll day every given number of months from the anchor's month.
 ghost use Rattle.std.specs.Prelude.{◌≡◌, ◌↔◌, ◌<◌, ◌≤◌, ℤ, pos, IfSome, IfNone};
 ghost use Rattle.irs_base.specs.Months.{InMonth};
 ghost use Rattle.irs_roll.specs.Grids.{OnMonths, OnMonthsFrom, kth};
@@ -11,8 +11,8 @@ use crate::rolls::{DayNumber, EndOfMonth, Imm, Roll};
 use crate::steps::whole_steps;
 use irs_base::{Day, month_index};
 
-/// The roll day of every so many months, counted from the anchor's month and never from the day
-/// before: after a short month the roll day is again the one that the rule gives.
+/// A roll day every given number of months. They count from the anchor's month and never from the
+/// day before. So after a short month the roll day is again the one that the rule gives.
 #[derive(Drop)]
 pub struct MonthGrid<R: Roll> {
     roll: R,
@@ -120,8 +120,8 @@ impl<R: Roll> Grid for MonthGrid<R> {
         (R.stays g.roll) g.months g.anchor g.start d g.begins h };
 }
 
-/// How many steps of months lie between the month `start`, counted from January of the year 0, and a
-/// roll day; `None` exactly off the grid.
+/// The number of steps of months from the month `start` to a roll day, or `None` exactly off the
+/// grid. Months count from January of the year 0.
 fn steps_to<R: Roll>(roll: &R, months: u32, start: i32, d: Day) -> Option<i64>
     requires step { 0 < months }
     ensures some { IfSome result (λ k. R.day roll.now (kth start months k) ≡ d) }

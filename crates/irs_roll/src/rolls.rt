@@ -1,5 +1,5 @@
-//! The roll day of a month: the last day, the day with a number, or the third Wednesday, on which
-//! the contracts of the money market's futures roll (IMM).
+//! The roll day of a month: the last day, the day with a number, or the third Wednesday. Futures of
+//! the money market roll on the third Wednesday (IMM).
 ghost use Rattle.std.specs.Prelude.{◌≡◌, ◌↔◌, ◌<◌, ◌≤◌, ◌-◌, ◌%◌, min, ℤ, pos, IsTrue, SomeIff};
 ghost use Rattle.jiff_core.specs.Calendar.{IsBetween, days_in_month as length_of_month};
 ghost use Rattle.irs_base.specs.Civils.{IsCivilOf};

@@ -92,9 +92,8 @@ impl Grid for StreamGrid {
 }
 
 impl StreamGrid {
-    /// The grid of a frequency and a roll from an anchor. The conditions are that the frequency
-    /// isn't the term, that its multiplier is at least 1, that the roll suits it, and that the roll
-    /// fits the anchor.
+    /// The grid of a frequency and a roll from an anchor. The conditions: the frequency isn't the
+    /// term, its multiplier is at least 1, the roll suits it, and the roll fits the anchor.
     pub fn new(freq: Frequency, roll: RollCode, anchor: Day) -> StreamGrid
         requires term { ¬ (IsTerm freq) }
         requires step { 0 < freq.count }
@@ -113,7 +112,7 @@ impl StreamGrid {
         }
     }
 
-    // The grid of so many months.
+    // The grid with a day every `months` months.
     fn of_months(roll: RollCode, anchor: Day, months: u32) -> StreamGrid
         requires step { 0 < months }
         requires suits { RollsMonths roll }

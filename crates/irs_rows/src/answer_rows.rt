@@ -6,7 +6,7 @@ use irs_cli::MemSink;
 use irs_main::answer;
 use irs_plain::Kept;
 
-// Prints behind `!` what is said, where anything is.
+// Prints after `!` what is said, where anything is.
 fn print_said(rt: &HostRuntime, said: &[u8]) -> Result<()> {
     if !said.is_empty() {
         print!(rt; "! ")?;
@@ -15,9 +15,9 @@ fn print_said(rt: &HostRuntime, said: &[u8]) -> Result<()> {
     Ok(())
 }
 
-/// `answer ROOM ROOM WORDS`: standard output and standard error have room for so many bytes. Prints the
-/// first 512 bytes that were put on standard output, also those without room, then what is said on
-/// standard error, then the status.
+/// `answer ROOM ROOM WORDS`: standard output has room for the first number of bytes, standard error
+/// for the second. Prints the first 512 bytes that were written to standard output, also those
+/// without room. Then come what is said on standard error, and the status.
 pub fn run_answer(rt: &HostRuntime, rest: &str) -> Result<()> {
     let (out_room, rest) = first_number(rest)?;
     let (error_room, command) = first_number(rest)?;

@@ -6,7 +6,7 @@ use std::alloc::Global;
 /// As many bytes as any command of a row prints, and more.
 pub const ROOM: usize = 10_000;
 
-/// The words of a command: what stands between its spaces.
+/// The words of a command: the texts between its spaces.
 pub fn words_of(alloc: Global, command: &str) -> Result<Vec<String>> {
     let mut words = Vec::new(alloc);
     for word in command.split_whitespace() {
@@ -15,19 +15,19 @@ pub fn words_of(alloc: Global, command: &str) -> Result<Vec<String>> {
     Ok(words)
 }
 
-/// The first word of a text, and what stands behind it.
+/// The first word of a text, and what follows it.
 pub fn first_word(text: &str) -> (&str, &str) {
     text.split_once(' ').unwrap_or((text, ""))
 }
 
-/// The number that a text begins with, and what stands behind it.
+/// The number that a text begins with, and what follows it.
 pub fn first_number(text: &str) -> Result<(u32, &str)> {
     let (number, rest) = first_word(text);
     let number = number.parse::<u32>().context("no number")?;
     Ok((number, rest))
 }
 
-/// Prints a text, and behind one that ends inside a line `\` and a line's end.
+/// Prints a text, and after one that ends inside a line `\` and a line's end.
 pub fn print_text(rt: &HostRuntime, text: &[u8]) -> Result<()> {
     let text = str::from_utf8(text)?;
     print!(rt; "{text}")?;
@@ -37,7 +37,7 @@ pub fn print_text(rt: &HostRuntime, text: &[u8]) -> Result<()> {
     Ok(())
 }
 
-/// Prints a status behind `=`.
+/// Prints a status after `=`.
 pub fn print_status(rt: &HostRuntime, status: u8) -> Result<()> {
     println!(rt; "= {status}")?;
     Ok(())

@@ -1,6 +1,7 @@
-//! The worked rows: runs each command of the file `rows` as the program `irs` would, over the real
-//! files and the real standard output, and prints its words, what it prints and its status. The rows of
-//! the file `memory_rows` are run over files and sinks in memory, which can be made to fail.
+//! The worked rows. Each command of the file `rows` is run as the program `irs` would run it, over
+//! the real files and the real standard output. Its words, what it prints and its status are
+//! printed. The rows of the file `memory_rows` are run over files and sinks in memory, which can be
+//! made to fail.
 #![tactic(auto)]
 
 use rows::{Outside, run_rows};

@@ -1,14 +1,14 @@
 //! The files that the words of a command name, in memory.
 //!
-//! A word is the name of a file of `data/`; or `spaces:COUNT`, a file of so many spaces; or
-//! `front:COUNT:NAME`, the first so many bytes of the file that is named. A word that names no file
+//! A word is the name of a file of `data/`. `spaces:COUNT` is a file of COUNT spaces, and
+//! `front:COUNT:NAME` is the first COUNT bytes of the file that is named. A word that names no file
 //! names one that is missing.
 use anyhow::{Context, Result};
 use irs_cli::{MemFiles, SureFiles};
 use std::alloc::Global;
 use std::fs;
 
-/// So many spaces.
+/// A file of `count` spaces.
 pub fn spaces(alloc: Global, count: u32) -> Result<Vec<u8>> {
     Ok(vec![in alloc; b' '; count as usize]?)
 }

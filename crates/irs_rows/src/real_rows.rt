@@ -14,7 +14,7 @@ pub fn run_real_row(rt: &HostRuntime, row: &str) -> Result<()> {
     print_status(rt, status)
 }
 
-/// `real NAME COUNT WORDS`: a real file of so many spaces stands under the name while the words are run.
+/// `real NAME COUNT WORDS`: the words are run while a real file of COUNT spaces has the name.
 pub fn run_beside_spaces(rt: &HostRuntime, rest: &str) -> Result<()> {
     let (name, rest) = first_word(rest);
     let (count, command) = first_number(rest)?;

@@ -13,7 +13,7 @@ pub enum Outside {
     Memory,
 }
 
-// Prints the words of a row behind `>`.
+// Prints the words of a row after `>`.
 fn print_row(rt: &HostRuntime, row: &str) -> Result<()> {
     print!(rt; ">")?;
     for word in row.split_whitespace() {
@@ -32,7 +32,7 @@ fn run_row(rt: &HostRuntime, outside: Outside, row: &str) -> Result<()> {
 }
 
 /// Prints each row of a file, and what comes of it. A line that begins with `#` is a remark, and is
-/// printed as it stands. The error of a row that isn't one names it.
+/// printed as it is. The error of a row that isn't one names it.
 pub fn run_rows(rt: &HostRuntime, outside: Outside, file: &str) -> Result<()> {
     let text = fs::read_to_string(rt, file)?;
     for row in text.lines() {

@@ -1,4 +1,5 @@
-//! Rows over files in memory and a sink in memory, which may have little room, or a put that fails.
+//! Rows over files in memory and a sink in memory, which may have little room, or a write that
+//! fails.
 use crate::commands::{ROOM, first_number, run_words, words_of};
 use crate::named_files::files_of;
 use anyhow::Result;
@@ -17,14 +18,14 @@ pub fn run_with_enough_room(rt: &HostRuntime, command: &str) -> Result<()> {
     run_into(rt, command, &mut out)
 }
 
-/// `room COUNT WORDS`: the sink has room for so many bytes.
+/// `room COUNT WORDS`: the sink has room for COUNT bytes.
 pub fn run_with_room(rt: &HostRuntime, rest: &str) -> Result<()> {
     let (room, command) = first_number(rest)?;
     let mut out = MemSink::with_room(rt.alloc(), room as usize)?;
     run_into(rt, command, &mut out)
 }
 
-/// `put N WORDS`: the N-th put fails.
+/// `put N WORDS`: the N-th write fails.
 pub fn run_with_put(rt: &HostRuntime, rest: &str) -> Result<()> {
     let (put, command) = first_number(rest)?;
     let mut out = MemSink::with_room(rt.alloc(), ROOM)?;

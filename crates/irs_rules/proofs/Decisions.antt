@@ -33,6 +33,7 @@ pub holds : {A : Type 0} → IsDecided A → ((A → ⊥) → ⊥) → A
 holds (inl a) never = a
 holds (inr fails) never = absurd (never fails)
 
+-- both are decided
 pub decides_both : {A B : Type 0} → IsDecided A → IsDecided B → IsDecided (A × B)
 decides_both (inl a) (inl b) = inl (a, b)
 decides_both (inl a) (inr fails) = inr (λ both. fails both.1)
@@ -43,6 +44,7 @@ pub decides_given : {A : Type 0} (P : A → Type 0) (o : Option A) → ((x : A) 
 decides_given P None decides = inl tt
 decides_given P (Some x) decides = decides x
 
+-- whether a number is less is decided
 pub decides_less : (a b : ℤ) → IsDecided (a <ℤ b)
 decides_less a b = elim (order_of a b) [
   | inl below ↦ inl below
@@ -50,6 +52,7 @@ decides_less a b = elim (order_of a b) [
   | inr (inr same) ↦ inr (λ h. omega (arith, signed_arith, same, h))
 ]
 
+-- whether a number is at most another is decided
 pub decides_upto : (a b : ℤ) → IsDecided (a ≤ℤ b)
 decides_upto a b = elim (order_of a b) [
   | inl below ↦ inl (omega (arith, signed_arith, below))
@@ -57,6 +60,7 @@ decides_upto a b = elim (order_of a b) [
   | inr (inr same) ↦ inl (omega (arith, signed_arith, same))
 ]
 
+-- whether there is nothing is decided
 pub decides_absent : {A : Type 0} (o : Option A) → IsDecided (o ≡ None)
 decides_absent None = inl refl
 decides_absent (Some x) = inr (λ e. cc)
@@ -96,6 +100,7 @@ decides_once zero = inr (λ e. cc)
 decides_once (suc zero) = inl refl
 decides_once (suc (suc n)) = inr (λ e. omega (arith, e))
 
+-- a frequency that is not unsuited suits
 pub frequency_holds : (s : Stream) → IsLawfulRoll s.roll → ((FrequencySuits s → ⊥) → ⊥) → FrequencySuits s
 frequency_holds s lawful never = record {
   suits = holds (decides_suits s.freq.unit s.roll lawful) (λ fails. never (λ h. fails h.suits));
@@ -111,6 +116,7 @@ decides_kind Business = inl (λ e. cc)
 decides_kind Calendar = inl (λ e. cc)
 decides_kind Unsaid = inr (λ h. h refl)
 
+-- whether an offset says its kind of days is decided
 pub decides_said : (offset : Offset) → IsDecided (IsSaid offset)
 decides_said offset = elim (decides_same offset.days (pos 0)) [
   | inl none ↦ inl (inl none)
@@ -120,17 +126,20 @@ decides_said offset = elim (decides_same offset.days (pos 0)) [
   ]
 ]
 
+-- the same for the offset of fixing dates
 pub decides_said_fixing : (fixing : Option FixTerms) → IsDecided (IsSaidFixing fixing)
 decides_said_fixing None = inl tt
 decides_said_fixing (Some fixing) = decides_said fixing.offset
 
 -- ---- legs
 
+-- whether resets fit the leg is decided
 pub decides_resets : (leg : Leg) (reset : Option ResetTerms) → IsDecided (FitsResets leg reset)
 decides_resets (Fixed rates) reset = decides_absent reset
 decides_resets (Floating float) None = inr (λ e. cc)
 decides_resets (Floating float) (Some terms) = inl refl
 
+-- whether stubs fit the leg is decided
 pub decides_stubs : (leg : Leg) (stubs : Option StubTerms) → IsDecided (FitsStubs leg stubs)
 decides_stubs (Fixed rates) stubs = decides_absent stubs
 decides_stubs (Floating float) stubs = inl tt
@@ -151,6 +160,7 @@ given_holds : {A : Type 0} (P : A → Type 0) (o : Option A) → ((x : A) → ((
 given_holds P None holds_at never = tt
 given_holds P (Some x) holds_at never = holds_at x never
 
+-- a step that is not out of place is in its place
 pub stands_holds : (from to : ℤ) (steps : List Step) (i : ℕ) → ((StepStands from to steps i → ⊥) → ⊥)
     → StepStands from to steps i
 stands_holds from to steps i never =
@@ -162,6 +172,7 @@ decides_true : (b : Bool) → IsDecided (IsTrue b)
 decides_true true = inl refl
 decides_true false = inr (λ e. cc)
 
+-- whether a centre is in the calendars is decided
 pub decides_found : (cal : List Section) (names : Option (List (List ℕ))) (i : ℕ) → IsDecided (IsFoundAt cal names i)
 decides_found cal None i = inl tt
 decides_found cal (Some names) i = decides_given _ (slice_get names i) (λ name. decides_true (is_named name cal))

@@ -10,6 +10,7 @@ use Rattle.irs_base.proofs.Firsts.{IsOrder, rank_order, level_order, level_same,
 use Rattle.irs_rules.specs.Order.{is_before_here, IsFirstHere}
 use Rattle.irs_rules.specs.Breaks.{Breaks, BreaksItem}
 
+-- the order of one stream's broken rules is an order
 pub order_here : IsOrder is_before_here
 order_here =
     level_order (λ (f : Fault). rule_number f.rule) _

@@ -13,6 +13,7 @@ use Rattle.irs_rules.specs.Breaks.{BreaksItem}
 use Rattle.irs_rules.specs.Centers.{IsFoundAt}
 use Rattle.irs_rules.specs.Order.{IsFirstHere}
 
+-- the centres that are needed have lawful names
 pub names_lawful : (needed : Bool) (centers : Centers) → IsLawfulCenters centers
     → IfSome (names_for needed centers) IsLawfulNames
 names_lawful false centers lawful = tt
@@ -25,6 +26,7 @@ fixing_of_lawful : (fixing : Option FixTerms) → IfSome fixing IsLawfulFix
 fixing_of_lawful None lawful = tt
 fixing_of_lawful (Some fixing) lawful = names_lawful _ fixing.adj.centers lawful.1
 
+-- the centres of fixing dates have lawful names
 pub fixing_lawful : (reset : Option ResetTerms) → IfSome reset IsLawfulReset → IfSome (fixing_names reset) IsLawfulNames
 fixing_lawful None lawful = tt
 fixing_lawful (Some terms) lawful = fixing_of_lawful terms.fixing lawful.fixing

@@ -16,6 +16,7 @@ decided_by : (swap : Swap) (cal : List Section) (outcome : Option Broken) → Ch
 decided_by swap cal None none = inr none
 decided_by swap cal (Some f) first = inl (f, first)
 
+-- the terms break no rule, or one is the first
 pub terms_determined : (swap : Swap) (cal : List Section) (outcome : Option Broken) → Checks (terms_of swap cal) outcome
     → Determined (terms_of swap cal)
 terms_determined swap cal outcome checks =

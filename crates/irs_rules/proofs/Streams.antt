@@ -40,6 +40,7 @@ module _ (swap : Swap) (cal : List Section) where
     | inr (inr more) ↦ level_later (k + 1) (i + 1) _ (omega (arith, more))
   ]
 
+  -- the first broken rule of the first stream that breaks one is that of the swap
   pub swap_first : (i : ℕ) (s : Stream) (f : Fault) → slice_get swap.streams i ≡ Some s
       → NoStreamBelow swap.streams cal i
       → First is_before_here (BreaksStream cal s) f
@@ -50,6 +51,7 @@ module _ (swap : Swap) (cal : List Section) where
         (not_before_stream i s f found before first x.position x.stream x.fault x.there x.breaks),
   )
 
+  -- a swap whose streams break no rule breaks none
   pub swap_none : (n : ℕ) → length swap.streams ≤ n → NoStreamBelow swap.streams cal n
       → IsFirst is_before (BreaksTerms swap cal) None
   swap_none n all before = λ g x.

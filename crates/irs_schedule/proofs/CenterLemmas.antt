@@ -30,16 +30,19 @@ days_in_range cal (Some names) d inside =
 
 -- the calendars have the centres of each element of a stream that keeps the terms, and they are few
 
+-- the centres of reset dates are found
 pub finds_reset : (cal : List Section) (s : Stream) → IsLawfulStream s → TermsKept cal s
     → CanFind cal (reset_names s.reset)
 finds_reset cal s lawful kept = (few_for_reset s.reset lawful.reset, kept.reset_found)
 
+-- the centres of fixing dates are found
 pub finds_fixing : (cal : List Section) (s : Stream) → IsLawfulStream s → TermsKept cal s
     → CanFind cal (fixing_names s.reset)
 finds_fixing cal s lawful kept = (few_for_fixing s.reset lawful.reset, kept.fixing_found)
 
 -- the table
 
+-- the lists of centres that are named
 abbrev pub lists_of : List NamedCenters → List (Option (List (List ℕ)))
 lists_of found = map {A = NamedCenters} {B = Option (List (List ℕ))} (λ days. days.names) found
 

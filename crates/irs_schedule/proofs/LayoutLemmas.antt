@@ -44,9 +44,11 @@ sets_in_range cal s = record {
 
 module _ (sets : StreamSets) (s : Stream) (lawful : IsLawfulStream s) (dates : DatesInOrder s) (l : Layout)
     (is : IsKeptLayout sets s l) where
+  -- the boundaries go from the first day to the termination date
   pub layout_runs : RunsFromTo (first_day_of s) s.termination.day l.unadjusted
   layout_runs = boundaries_run s l.span dates is.regular is.kept l.unadjusted is.unadjusted
 
+  -- the boundaries are days
   pub layout_days : AreDays l.unadjusted
   layout_days = boundaries_days s l.span lawful dates is.regular is.kept l.unadjusted is.unadjusted
 
@@ -54,6 +56,7 @@ module _ (sets : StreamSets) (s : Stream) (lawful : IsLawfulStream s) (dates : D
   pub layout_some : 2 ≤ length l.unadjusted
   layout_some = two_boundaries s l.span l.unadjusted (begins_before_end s dates) is.unadjusted
 
+  -- payments over a layout cover its periods
   pub layout_covers : (ps : List Payment) → ArePayments s sets.payment l.unadjusted l.adjusted ps
       → Covers 1 ps (length l.unadjusted - 1)
   layout_covers =

@@ -93,9 +93,11 @@ module _ (d : StreamDates) (ps : List Payment) where
   abbrev numbered : ℕ → Payment → Spec PaymentEntry Fault
   numbered n p = entry_of d p
 
+  -- no payments have no entries
   pub no_entries : EntriesSoFar d ps 0 []
   no_entries = record { answers = each_begins numbered 1; bounds = tt }
 
+  -- the entries of all payments are the answer
   pub all_entries : (i : ℕ) (es : List PaymentEntry) → length ps ≤ i → EntriesSoFar d ps i es
       → (entries_of d ps).Answers es
   all_entries i es all so_far =
@@ -103,6 +105,7 @@ module _ (d : StreamDates) (ps : List Payment) where
 
   module _ (i : ℕ) (es : List PaymentEntry) (p : Payment) (at : slice_get ps i ≡ Some p)
       (so_far : EntriesSoFar d ps i es) where
+    -- an entry of one more payment
     pub one_more_entry : (y : PaymentEntry) → (entry_of d p).Answers y → HasAmount d.stream.currency y
         → EntriesSoFar d ps (i + 1) (es ++ y ∷ [])
     one_more_entry y is bound = record {
@@ -110,5 +113,6 @@ module _ (d : StreamDates) (ps : List Payment) where
       bounds = every_both (HasAmount d.stream.currency) es (y ∷ []) so_far.bounds (bound, tt);
     }
 
+    -- a payment that is refused is the refusal
     pub stops_at_entry : (f : Fault) → (entry_of d p).Refuses f → (entries_of d ps).Refuses f
     stops_at_entry f first = each_ends numbered 1 ps i es p at so_far.answers f first

@@ -40,6 +40,7 @@ rises_after : (d : ℤ) (xs : List ℤ) → AllAfter d xs → IsRising xs → Ri
 rises_after d [] after rising = tt
 rises_after d (x ∷ xs) after rising = (after.0, rises_after x xs rising.0 rising.1)
 
+-- the two words for a rising list agree
 pub rises_of : (xs : List ℤ) → IsRising xs → Rises xs
 rises_of [] rising = tt
 rises_of (x ∷ xs) rising = rises_after x xs rising.0 rising.1
@@ -49,6 +50,7 @@ rises_at d [] i h low = absurd (omega arith)
 rises_at d (x ∷ xs) zero h low = h.0
 rises_at d (x ∷ xs) (suc i) h low = rises_at x xs i h.1 (omega arith)
 
+-- of a rising list each day comes after the one before it
 pub next_day : (xs : List ℤ) (i : ℕ) → Rises xs → 0 < i → i < length xs → day_at xs (i - 1) <ℤ day_at xs i
 next_day [] i h low high = absurd (omega arith)
 next_day (x ∷ xs) zero h low high = absurd (omega arith)

@@ -74,6 +74,7 @@ module _ (d : StreamDates) (rising : IsRising d.adjusted) where
       })
 
   module _ (days : AreDays d.adjusted) where
+    -- the fraction of a period is one of the amounts
     pub term_fits : (i : ℕ) (t : PeriodTerm) → 1 ≤ i → i < length d.adjusted → IsPeriodTerm d i t → IsFraction t.frac
     term_fits i t low high h =
         let a = d.adjusted in
@@ -88,6 +89,7 @@ module _ (d : StreamDates) (rising : IsRising d.adjusted) where
         (λ i t from to h. term_fits i t (omega (arith, low, from)) (omega (arith, high, to)) h)
 
     module _ (last : ℕ) (high : last < length d.adjusted) where
+      -- the periods of a payment have their terms
       pub terms_there : (p : Payment) → LieAmong 1 last p.first_period p.last_period → AreTerms d p (terms_by d p)
       terms_there p lies = record {
         count = omega (

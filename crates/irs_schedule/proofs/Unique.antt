@@ -52,6 +52,7 @@ module _ (d : StreamDates) (rises : AllStepsRise d.stream) where
       one_fraction s.day_count (day_at a (i - 1)) (day_at a i) (i == length a - 1) t.frac u.frac h.frac k.frac in
       λ j. record { notional = notional j; rates = rates j; frac = frac j }
 
+  -- a period has one entry
   pub one_entry : (i : ℕ) (e f : PeriodEntry) → IsPeriodEntry d i e → IsPeriodEntry d i f → e ≡ f
   one_entry i e f h k =
       let a = d.adjusted in
@@ -95,6 +96,7 @@ module _ (d : StreamDates) (rises : AllStepsRise d.stream) where
           amount = amount i;
         }
 
+    -- payments have one list of amounts
     pub all_one_paid : (xs ys : List PaymentEntry) → map payment_of xs ≡ map payment_of ys
         → Every (λ (p : Payment). LieAmong 1 last p.first_period p.last_period) (map payment_of xs)
         → Every (IsPaymentEntry d) xs → Every (IsPaymentEntry d) ys → xs ≡ ys

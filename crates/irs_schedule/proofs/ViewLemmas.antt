@@ -6,6 +6,7 @@ use Rattle.irs_schedule.specs.Parts.{Part}
 use Rattle.irs_schedule.specs.PeriodViews.{period_at, dated_period}
 use Rattle.irs_schedule.specs.RowsOf.{no_period}
 
+-- the period at a place is that of its number
 pub period_is : (p : Part) (j : ℕ) → j < length p.periods
     → period_at p j ≡ Some (dated_period p (j + 1) (slice_index_or p.periods (j + 1 - 1) no_period))
 period_is p j h =
@@ -13,6 +14,7 @@ period_is p j h =
     let there = slice_get-get_or p.periods j no_period h in
     rw there (ap (λ (i : ℕ). Some (dated_period p (j + 1) (slice_index_or p.periods i no_period))) (sym back))
 
+-- so are its days
 pub days_are : (p : Part) (j : ℕ) → j < length p.periods
     → option_map (λ e. e.days) (slice_get p.periods j) ≡ Some (slice_index_or p.periods (j + 1 - 1) no_period).days
 days_are p j h =

@@ -5,7 +5,9 @@ ghost use Rattle.irs_terms.specs.Lawful.{IsLawfulStream, IsLawfulValues, IsLawfu
 ghost use Rattle.irs_schedule.specs.KeptTerms.{is_floating};
 
 use irs_base::Memory;
-use irs_terms::{Currency, DayCountCode, FloatTerms, Leg, StepValues, Stream};
+use irs_terms::{
+    CalculationParameters, Currency, DayCountCode, FloatTerms, Leg, StepValues, Stream,
+};
 use std::alloc::Global;
 
 /// Currency and day count, the notional in units of 10^-4, and the fixed or the floating rate in
@@ -72,6 +74,32 @@ fn copy_of_floating(alloc: Global, terms: &FloatTerms) -> Result<FloatTerms, Mem
         initial_rate: terms.initial_rate,
         rounding: terms.rounding,
         treatment: terms.treatment,
+        parameters: copy_of_maybe_parameters(alloc, &terms.parameters)?,
+    })
+}
+
+fn copy_of_maybe_parameters(
+    alloc: Global,
+    parameters: &Option<CalculationParameters>,
+) -> Result<Option<CalculationParameters>, Memory>
+    ensures { IfOk result (λ p. p ≡ parameters.now) }
+{
+    match parameters {
+        None => Ok(None),
+        Some(parameters) => Ok(Some(copy_of_parameters(alloc, parameters)?)),
+    }
+}
+
+fn copy_of_parameters(
+    alloc: Global,
+    parameters: &CalculationParameters,
+) -> Result<CalculationParameters, Memory>
+    ensures { IfOk result (λ p. p ≡ parameters.now) }
+{
+    Ok(CalculationParameters {
+        method: parameters.method,
+        offset: parameters.offset,
+        centers: parameters.centers.copy(alloc)?,
     })
 }
 

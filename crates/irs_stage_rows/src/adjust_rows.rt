@@ -1,6 +1,6 @@
-//! What is told of a day that is adjusted: the day that it becomes, or `none`.
+//! What is reported of a day that is adjusted: the day that it becomes, or `none`.
 //!
-//! It is adjusted by a convention, as `FOLLOWING`, or by good days, as `-2 Business`.
+//! It is adjusted by a convention, as `FOLLOWING`, or by business days, as `-2 Business`.
 use crate::telling::Told;
 use irs_adjust::{adjust_by, move_by};
 use irs_base::Day;
@@ -8,7 +8,7 @@ use irs_calendar::RunSet;
 use irs_elements::codes::convention;
 use irs_terms::{DayKind, Offset};
 
-// The days of an offset by good days.
+// The days of an offset by business days.
 fn offset_of(text: &str) -> Option<i16> {
     text.strip_suffix(" Business")?.parse::<i16>().ok()
 }

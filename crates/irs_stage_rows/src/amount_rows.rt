@@ -1,9 +1,9 @@
-//! What is told of the amount of a payment: the amount, `unknown`, or the first period that is out of
-//! range.
+//! What is reported of the amount of a payment: the amount, `unknown`, or the first period that is
+//! out of range.
 //!
-//! A row gives the compounding method, then the periods with `;` between them, then how many decimals
-//! the amount has. A period is its notional, its base rate and its rate, or `unknown`, and its day
-//! count fraction; `8000 * ` before it stands for so many of it.
+//! A row gives the compounding method, the periods with `;` between them, and the number of
+//! decimals of the amount. A period is its notional, its base rate and its rate, or `unknown`, and
+//! its day count fraction. `8000 * ` before a period repeats it that number of times.
 ghost use Rattle.std.specs.Prelude.{IsTrue, All};
 ghost use Rattle.irs_compound.specs.Amounts.{IsFraction, IsPayment, IsTerm};
 ghost use Rattle.irs_terms.specs.Lawful.{IsNotional};

@@ -1,4 +1,4 @@
-//! The boundaries of a row: days with a space between them; behind a `/` stands the adjusted day,
+//! The boundaries of a row: days with a space between them; the adjusted day follows after a `/`,
 //! where it is another.
 ghost use Rattle.std.specs.Prelude.{ℤ, ◌≤ℤ◌, IsTrue};
 ghost use Rattle.irs_base.specs.Listed.{AllAfter, IsRising, Member, RunsFromTo};

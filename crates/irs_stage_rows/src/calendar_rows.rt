@@ -1,11 +1,13 @@
-//! What is told of calendars: the fault of a file; the first centre that is missing; else how many
-//! runs of good days the centres have together, and of a day whether it is good, and the next good
-//! day and the one before, or the day to which it is adjusted, or the one that a search finds whose
-//! steps are counted; and whether a centre has a calendar.
+//! What is reported of calendars: the fault of a file, or the first centre that is missing. Else it
+//! is how many runs of business days the centres have together. Of a day it is reported whether it
+//! is a business day, and the next business day and the one before. Or it is the day to which it is
+//! adjusted, or the one that a search finds whose steps are counted. Of a centre it is reported
+//! whether it has a calendar.
 //!
-//! A row gives the files with `//` between them, then the centres or `all` for a set in which every day
-//! is good, then the day or nothing. In front of the day may stand how it is adjusted, or the search;
-//! `has a calendar` stands in its place where that is asked of one centre.
+//! A row gives the files with `//` between them, then the centres, then the day or nothing. `all`
+//! in place of the centres is a set in which every day is a business day. The convention, or the
+//! search, may come before the day. `has a calendar` in place of the day is a question on one
+//! centre.
 ghost use Rattle.std.specs.Prelude.{◌≤◌, All, IsTrue, length};
 ghost use Rattle.irs_base.specs.Limits.{most_bytes};
 
@@ -47,7 +49,7 @@ fn fault_told(told: &mut Told, fault: CalErr) -> Option<()> {
     Some(())
 }
 
-// Whether the day is good, the next good day and the one before.
+// Whether the day is a business day, the next one and the one before.
 fn day_told(told: &mut Told, days: &RunSet, d: Day) {
     let word = if days.is_good(d) { "good" } else { "not good" };
     told.line(word);
@@ -155,7 +157,7 @@ fn files_told(
     }
 }
 
-/// What is told of calendars.
+/// What is reported of calendars.
 pub fn calendar_lines(told: &mut Told, rt: &HostRuntime, row: &str) -> Option<()> {
     let (texts, rest) = row.split_once(" | ")?;
     let (centers, asked) = rest.split_once(" | ")?;

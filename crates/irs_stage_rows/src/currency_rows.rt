@@ -1,4 +1,4 @@
-//! What is told of a currency: how many decimals its amounts have.
+//! What is reported of a currency: how many decimals its amounts have.
 use crate::telling::Told;
 use irs_elements::words::currency;
 

@@ -1,4 +1,5 @@
-//! What is told of a text that may spell a date: the number of its day from 1970-01-01 on, or `none`.
+//! What is reported of a text that may spell a date: the number of its day from 1970-01-01 on, or
+//! `none`.
 use crate::telling::Told;
 use irs_base::read_date;
 

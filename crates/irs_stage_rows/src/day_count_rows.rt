@@ -1,7 +1,7 @@
-//! What is told of a day count: the days of a period and its fraction, as the type of the code counts
-//! them, by the code, and both at once by the code.
+//! What is reported of a day count: the days of a period and its fraction. They are counted by the
+//! type of the code, by the code, and both at once by the code.
 //!
-//! A row gives the code, then the start and the end of the period, and `last` behind them where it is the
+//! A row gives the code, the start and the end of the period, and `last` where the period is the
 //! last one of its stream.
 ghost use Rattle.std.specs.Prelude.{◌<ℤ◌};
 
@@ -44,7 +44,7 @@ fn counted_by(told: &mut Told, code: DayCountCode, s: Day, e: Day, last: bool)
     }
 }
 
-// By the code, one behind the other and at once.
+// By the code, one after the other and at once.
 fn told_by(told: &mut Told, code: DayCountCode, s: Day, e: Day, last: bool)
     requires { s <ℤ e }
 {

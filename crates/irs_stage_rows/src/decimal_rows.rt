@@ -1,4 +1,5 @@
-//! What is told of a text that may spell a decimal: how many units of its last place it is, or `none`.
+//! What is reported of a text that may spell a decimal: how many units of its last place it is, or
+//! `none`.
 //!
 //! A row gives the text, then how many places it has.
 use crate::telling::Told;

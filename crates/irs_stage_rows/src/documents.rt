@@ -17,7 +17,7 @@ fn document_in(rt: &HostRuntime, file: &str) -> Option<Value> {
     parse(rt.alloc(), text.as_bytes()).ok()
 }
 
-// Puts a file's stream behind those of a swap, for each of its edits.
+// Adds a file's stream to those of a swap, for each of its edits.
 fn push_streams(
     rt: &HostRuntime,
     sources: &Sources,
@@ -42,7 +42,7 @@ fn document_of(rt: &HostRuntime, sources: &Sources, file: &str, edits: &str) -> 
     Some(document)
 }
 
-/// The swap whose streams are the file's behind edits, `//` between those of each stream.
+/// The swap whose streams are the file's after edits, `//` between those of each stream.
 pub fn swap_of(rt: &HostRuntime, sources: &Sources, file: &str, edits: &str) -> Option<Swap>
     ensures { IfSome result IsLawful }
 {

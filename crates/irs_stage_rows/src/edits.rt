@@ -1,22 +1,22 @@
 //! Edits of a stream's document.
 //!
-//! An edit is at a place of a stream, which is named by the names on its way from the stream, `/`
-//! between them: `put PLACE TEXT`, what the JSON text says in place of what stands there; `take PLACE`,
-//! nothing in place of it; `add PLACE TEXT`, what the JSON text says behind the items there.
+//! An edit is at a place of a stream: the names on its way from the stream, `/` between them. `put
+//! PLACE TEXT` replaces what is there by what the JSON text says, and `take PLACE` takes it away.
+//! `add PLACE TEXT` adds what the JSON text says after the items there.
 use crate::words::meaning_of;
 use irs_json::{Value, parse};
 use std::alloc::Global;
 
-/// What is put where nothing stands, before an item is added there.
+/// What an empty place is set to before an item is added there.
 const NO_ITEMS: &str = "[]";
 
-// What stands at a place.
+// What is at a place.
 fn at<'a>(alloc: Global, stream: &'a mut Value, place: &str) -> Option<&'a mut Value> {
     let pointer = format!(in alloc; "/{place}").ok()?;
     stream.pointer_mut(&pointer)
 }
 
-// What stands above a place, and the name of the place below it.
+// The value above a place, and the name of the place below it.
 fn above<'a>(
     alloc: Global,
     stream: &'a mut Value,
@@ -28,7 +28,7 @@ fn above<'a>(
     }
 }
 
-// Puts what a JSON text says at a place.
+// Sets a place to what a JSON text says.
 fn put(alloc: Global, stream: &mut Value, place: &str, text: &str) -> Option<()> {
     let (above, name) = above(alloc, stream, place)?;
     let members = above.as_object_mut()?;
@@ -38,14 +38,14 @@ fn put(alloc: Global, stream: &mut Value, place: &str, text: &str) -> Option<()>
     Some(())
 }
 
-// Takes away what stands at a place.
+// Takes away what is at a place.
 fn take(alloc: Global, stream: &mut Value, place: &str) -> Option<()> {
     let (above, name) = above(alloc, stream, place)?;
     above.as_object_mut()?.remove(name);
     Some(())
 }
 
-// Puts what a JSON text says behind the items at a place.
+// Adds what a JSON text says after the items at a place.
 fn add(alloc: Global, stream: &mut Value, place: &str, text: &str) -> Option<()> {
     if at(alloc, stream, place).is_none() {
         put(alloc, stream, place, NO_ITEMS)?;
@@ -67,7 +67,7 @@ fn make(alloc: Global, stream: &mut Value, edit: &str) -> Option<()> {
     }
 }
 
-// Makes edits, `;` between them, one behind the other.
+// Makes edits, `;` between them, one after the other.
 fn make_all(alloc: Global, stream: &mut Value, edits: &str) -> Option<()> {
     for edit in edits.split(" ; ") {
         make(alloc, stream, edit)?;
@@ -75,13 +75,13 @@ fn make_all(alloc: Global, stream: &mut Value, edits: &str) -> Option<()> {
     Some(())
 }
 
-// Makes the edits for which a word stands.
+// Makes the edits that a word means.
 fn make_word(alloc: Global, words: &str, stream: &mut Value, word: &str) -> Option<()> {
     let meaning = meaning_of(alloc, words, word)?;
     make_all(alloc, stream, &meaning)
 }
 
-/// Makes edits, `;` between them, one behind the other; each is an edit or a word for edits.
+/// Makes edits, `;` between them, one after the other; each is an edit or a word for edits.
 pub fn make_edits(alloc: Global, words: &str, stream: &mut Value, edits: &str) -> Option<()> {
     for word in edits.split(" ; ") {
         if !word.is_empty() {

@@ -1,5 +1,5 @@
-//! What is told of principal exchanges: of each its date, the adjusted one where it is another, and
-//! its amount with its sign; `none`; or the rule that is broken.
+//! What is reported of principal exchanges: `none`, or the rule that is broken. Else it is of each
+//! its date, the adjusted one where it is another, and its amount with its sign.
 ghost use Rattle.irs_terms.specs.Lawful.{IsLawfulStream};
 
 use crate::good_days::days_of;
@@ -9,7 +9,7 @@ use irs_payments::principals;
 use irs_terms::{Exchanges, Stream};
 use std::alloc::Global;
 
-/// What is told of a list of exchanges.
+/// What is reported of a list of exchanges.
 pub fn exchanges_told(told: &mut Told, list: &Exchanges) {
     let mut between = "";
     for exchange in list.as_slice() {

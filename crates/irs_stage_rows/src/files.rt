@@ -1,13 +1,13 @@
-//! Files that rows give: the name of a file of `data/` behind an `@`, or a text.
+//! Files that rows give: the name of a file of `data/` after an `@`, or a text.
 //!
-//! In a text stands `\n` for the end of a line, `\r` for a return, `\t` for a tab, `\#` for a `#`,
-//! `\xff` for that byte, `\A` for as many `A` as the number behind it says, and `\D` for a line each
-//! of as many days as the number behind it says, from 1901-01-01 on; `\.` ends such a number.
+//! In a text `\n` is the end of a line, `\r` a return, `\t` a tab, `\#` a `#`, and `\xff` that
+//! byte. `\A` is as many `A` as the number after it says. `\D` is a line each of as many days as
+//! the number after it says, from 1901-01-01 on. `\.` ends such a number.
 use irs_base::{Day, day_digits, plus};
 use std::alloc::Global;
 use std::fs;
 
-/// What has a name behind a `\`.
+/// What has a name after a `\`.
 const ESCAPES: [(&str, &[u8]); 6] = [
     ("n", b"\n"),
     ("r", b"\r"),
@@ -46,7 +46,7 @@ fn push_named(bytes: &mut Vec<u8>, text: &str) -> Option<()> {
     None
 }
 
-// The bytes for which a text behind a `\` stands.
+// The bytes that a text after a `\` means.
 fn push_escaped(bytes: &mut Vec<u8>, text: &str) -> Option<()> {
     if let Some(count) = text.strip_prefix("A") {
         return push_many(bytes, count);

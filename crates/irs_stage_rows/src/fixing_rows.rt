@@ -1,5 +1,5 @@
-//! What is told of a file of fixings: the rate of the index `A` on 2024-01-15 for a tenor, or the
-//! line that is at fault.
+//! What is reported of a file of fixings: the line that is at fault, or a rate. It is that of the
+//! index `A` on 2024-01-15 for a tenor.
 //!
 //! A row gives the file or `no file`, then the tenor or `-`.
 use crate::boundaries::day;

@@ -1,10 +1,10 @@
-//! The good days of the centres that adjustments list.
+//! The business days of the centres that adjustments list.
 use irs_base::{MOST_CENTERS, Names};
 use irs_calendar::{Calendars, RunSet};
 use irs_terms::Centers;
 use std::alloc::Global;
 
-/// The good days of centres; all days where none are listed.
+/// The business days of centres; all days where none are listed.
 pub fn days_of(alloc: Global, calendars: &Calendars, centers: &Centers) -> Option<RunSet> {
     match centers {
         Centers::Absent | Centers::Dangling => Some(RunSet::all()),

@@ -1,5 +1,5 @@
-//! What is told of a grid: the day with a number, the number of a day, whether a day is on it, or
-//! whether its roll fits its anchor.
+//! What is reported of a grid: the day with a number, the number of a day, or whether a day is on
+//! it. Or it is whether its roll fits its anchor.
 //!
 //! A row gives the frequency, the roll and the anchor, then one of `day N`, `number of DATE`,
 //! `on grid DATE`, `on grid of an anchor that may not fit DATE`, `on grid from an anchor that may not fit
@@ -54,8 +54,8 @@ fn is_lawful(roll: RollCode) -> bool
     }
 }
 
-// Whether a day is on the grid of an anchor that may not fit the roll, or on that from an anchor that is
-// made for many days.
+// Whether a day is on the grid of an anchor that may not fit the roll. The anchor is made for this
+// day, or for many days.
 fn is_on(t: GridTerms, question: &str, d: Day) -> Option<bool> {
     if t.freq.count == 0 || t.freq.unit == Unit::T || !is_lawful(t.roll) {
         return None;
@@ -86,7 +86,7 @@ fn asked(told: &mut Told, grid: &StreamGrid, question: &str) -> Option<()> {
     day_told(told, grid, question, day(given)?)
 }
 
-/// What is told of a grid.
+/// What is reported of a grid.
 pub fn grid_lines(told: &mut Told, row: &str) -> Option<()> {
     let (terms, question) = row.split_once(" | ")?;
     let terms = terms_of(terms)?;

@@ -1,12 +1,12 @@
-//! What is told of a line: of those that `accrue`, `net` and `overnight` print, whose feed is told as
-//! `\n`; and of one that is put together from its parts.
+//! What is reported of a line. It is one of those that `accrue`, `net` and `overnight` print, with
+//! its feed as `\n`, or one that is made from its parts.
 //!
-//! A row gives whose line it is: `accrued`, then the stream's number, then `none` or the period, its
-//! days, their fraction and the amount or `-`; `net`, then the date, the currency, the amount and how
-//! many amounts aren't known; `derived`, then the period and its fixing date, the rate or `missing` and
-//! a day, the tenor or `-`, and the index; `parts`, then a day, a decimal, and behind a `/` a whole
-//! number; `numbers`, then two numbers, which stand in a line that held a text and was cleared. Behind
-//! `path` stands the name of an element, whose path is told.
+//! A row says whose line it is. `accrued` has the stream's number, then `none` or the period, its
+//! days, their fraction and the amount or `-`. `net` has the date, the currency, the amount and how
+//! many amounts aren't known. `derived` has the period and its fixing date, the rate or `missing`
+//! and a day, the tenor or `-`, and the index. `parts` has a day, a decimal, and after a `/` a
+//! whole number. `numbers` has two numbers, in a line that held a text and was cleared. `path` has
+//! the name of an element, whose path is reported.
 ghost use Rattle.std.specs.Prelude.{◌≤◌, IfSome};
 ghost use Rattle.irs_accrue.specs.Accruals.{HasPlaces};
 
@@ -21,7 +21,7 @@ use irs_overnight::{DerivedRow, Found, derived_text};
 use irs_terms::Frequency;
 use std::alloc::Global;
 
-// A line that holds a text already; what is told is put in its place.
+// A line that holds a text already; what is reported replaces it.
 fn held() -> Line {
     let mut line = Line::new();
     line.push(b"held before");
@@ -106,7 +106,7 @@ fn found_of(text: &str) -> Option<Found> {
     }
 }
 
-// A row of derived rates, put on a line.
+// A row of derived rates, on a line.
 fn derived_line(place: &str, found: &str, tenor: Option<Frequency>, index: &Text) -> Option<Line> {
     let (period, fixing) = place.split_once(' ')?;
     if index.len() > MOST_INDEX {
@@ -148,7 +148,7 @@ fn parts_told(told: &mut Told, row: &str) -> Option<()> {
     Some(())
 }
 
-// The line of two numbers, in which a text stood before.
+// The line of two numbers, which held a text before.
 fn numbers_told(told: &mut Told, row: &str) -> Option<()> {
     let (first, second) = row.split_once(' ')?;
     let (first, second) = (first.parse::<u32>().ok()?, second.parse::<u32>().ok()?);

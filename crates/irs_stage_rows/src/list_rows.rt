@@ -1,11 +1,12 @@
-//! What is told of lists: what a copy holds of what was pushed.
+//! What is reported of lists: what a copy holds of what was pushed.
 //!
-//! A row gives of what the list is, then its items with `,` between them: `days`; `steps`, each a day
-//! and a value in units of its last place; `payments`, each its date and its first and last period;
-//! `exchanges`, each its date and its amount; `resets`, each its date and its observed rate or `none`.
-//! A date is written as a boundary is. Of `text` it gives a text and a byte that is pushed behind its
-//! copy; of `names` the names as centres are given, and it is told how many there are too. Of
-//! `streams` there are `none`, and it is told how many.
+//! A row says what is in the list, then gives its items with `,` between them. The items of `days`
+//! are dates. Those of `steps` are a day and a value in units of its last place. Those of
+//! `payments` are a date and a first and last period. Those of `exchanges` are a date and an
+//! amount, those of `resets` a date and an observed rate or `none`. A date is written as a boundary
+//! is. For `text` it gives a text and a byte that is pushed after its copy. For `names` it gives
+//! names as centres are given, and their number is reported too. For `streams` it gives `none`, and
+//! the number is reported.
 use crate::boundaries::{dates, day};
 use crate::calendar_rows::push_names;
 use crate::exchange_rows::exchanges_told;
@@ -66,7 +67,7 @@ fn reset_of(text: &str) -> Option<Reset> {
     })
 }
 
-// What a copy of a text holds with a byte behind it.
+// What a copy of a text holds with a byte after it.
 fn text_told(told: &mut Told, alloc: Global, text: &Text, byte: u8) -> Option<()> {
     let mut copy = text.copy(alloc).ok()?;
     copy.push(byte).ok()?;
@@ -206,7 +207,7 @@ fn no_streams(told: &mut Told, alloc: Global, items: &str) -> Option<()> {
     Some(())
 }
 
-/// What is told of a list.
+/// What is reported of a list.
 pub fn list_lines(told: &mut Told, alloc: Global, row: &str) -> Option<()> {
     let (kind, items) = row.split_once(" | ")?;
     match kind {

@@ -1,8 +1,8 @@
-//! The stage rows: worked examples of each stage of a schedule, and of what is worked out of one, a row
-//! each, and what is told of them.
+//! The stage rows: worked examples of each stage of a schedule and of what is worked out of one.
+//! Each has a row, and what is reported of it.
 //!
-//! The rows, the streams that they change and what is expected of them stand in `data/`; their form
-//! is this project's own.
+//! The rows, the streams that they change and the expected answers are in `data/`; their form is
+//! ours.
 #![tactic(auto)]
 
 use rows::run_rows;
@@ -42,7 +42,7 @@ mod texts;
 mod values;
 mod words;
 
-/// Each file of rows, and the stage of which it tells.
+/// Each file of rows, and the stage of which it reports.
 const FILES: [(&str, Stage); 24] = [
     ("calendars", Stage::Calendars),
     ("grids", Stage::Grids),

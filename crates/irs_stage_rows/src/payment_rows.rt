@@ -1,5 +1,5 @@
-//! What is told of payments: of each its date, the adjusted one where it is another, and its first
-//! and last calculation period; or the rule that is broken.
+//! What is reported of payments: the rule that is broken, or of each payment its date and its first
+//! and last calculation period. The adjusted date follows where it is another.
 ghost use Rattle.std.specs.Prelude.{IsTrue};
 ghost use Rattle.irs_terms.specs.Lawful.{IsLawfulStream};
 ghost use Rattle.irs_terms.specs.DayTypes.{IsSaid};
@@ -31,8 +31,8 @@ fn span_of(first: Day, last: Day, anchor: Day) -> Span {
     }
 }
 
-// The regular span: behind the first period where the stub is an initial one, before the last
-// period where it is a final one, else the whole term.
+// The regular span. It begins after the first period where the stub is an initial one, and ends
+// before the last period where it is a final one. Else it is the whole term.
 fn regular_part(stub: Option<StubKind>, days: &[Day]) -> Option<Span> {
     let first = *days.first()?;
     let last = *days.last()?;
@@ -47,7 +47,7 @@ fn regular_part(stub: Option<StubKind>, days: &[Day]) -> Option<Span> {
     }
 }
 
-/// What is told of a list of payments.
+/// What is reported of a list of payments.
 pub fn payments_told(told: &mut Told, list: &Payments) {
     let mut between = "";
     for payment in list.as_slice() {

@@ -1,5 +1,5 @@
-//! What is told of calculation periods: the regular span with its anchor, and their boundaries, or the
-//! number of periods where there are many; or the rule that is broken.
+//! What is reported of calculation periods: the rule that is broken, or the regular span with its
+//! anchor, and their boundaries. Where there are many, it is the number of periods.
 ghost use Rattle.std.specs.Prelude.{◌≡◌, ◌≤ℤ◌, ◌<ℤ◌, IfSome, IsTrue};
 ghost use Rattle.irs_terms.specs.Lawful.{IsLawfulStream};
 ghost use Rattle.irs_terms.specs.TermDates.{DatesInOrder, given_or};
@@ -17,7 +17,7 @@ use irs_roll::{EveryDays, suits};
 use irs_terms::{Span, Stream, Unit};
 use std::alloc::Global;
 
-/// The most boundaries that are told a day each.
+/// The most boundaries that are reported a day each.
 const FEW: usize = 100;
 
 fn given(d: Option<Day>, other: Day) -> Day
@@ -105,7 +105,7 @@ fn span_told(told: &mut Told, span: &Span) {
     told.end();
 }
 
-// The regular span, and behind it the boundaries or the rule that they break.
+// The regular span, and after it the boundaries or the rule that they break.
 fn span_and_days(told: &mut Told, alloc: Global, s: &Stream, span: &Span) -> Option<()>
     requires lawful { IsLawfulStream s.now }
     requires dates { DatesInOrder s.now }

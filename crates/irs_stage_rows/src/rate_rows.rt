@@ -1,6 +1,6 @@
-//! What is told of a floating rate: the base rate and the rate of a period, from its observed rate;
-//! of a fixed rate: the one in force on the start of a period, and the same; and of a notional: the one
-//! in force on a day.
+//! What is reported of a rate. Of a floating rate it is the base rate and the rate of a period,
+//! from its observed rate. Of a fixed rate it is the one in force on the start of a period, twice.
+//! Of a notional it is the one in force on a day.
 ghost use Rattle.irs_terms.specs.Lawful.{IsLawfulFloat, IsLawfulStream, IsLawfulValues, IsRate};
 
 use crate::boundaries::day;
@@ -26,7 +26,7 @@ fn fixed_told(told: &mut Told, values: &StepValues, start: Day)
     rates_told(told, fixed_rates(values, start));
 }
 
-// The rates of a period that starts on a day, with an observed rate behind it.
+// The rates of a period that starts on a day, with an observed rate after it.
 fn floating_told(told: &mut Told, terms: &FloatTerms, text: &str) -> Option<()>
     requires { IsLawfulFloat terms.now }
 {
@@ -40,7 +40,7 @@ fn floating_told(told: &mut Told, terms: &FloatTerms, text: &str) -> Option<()>
     Some(())
 }
 
-/// The rates of a period that starts on a day, with an observed rate behind it on a floating stream.
+/// The rates of a period that starts on a day, with an observed rate after it on a floating stream.
 pub fn rate_lines(told: &mut Told, s: &Stream, text: &str) -> Option<()>
     requires { IsLawfulStream s.now }
 {

@@ -1,8 +1,9 @@
-//! What is told of resets: a line of the reset date and the fixing date of each period, and a line of
-//! its observed rate; `none` where there are no resets; or the rule that is broken.
+//! What is reported of resets: `none` where there are none, or the rule that is broken. Else there
+//! is a line of the reset date and the fixing date of each period, and a line of its observed rate.
 //!
-//! The regular span of a row is from its first regular date to its last, where it gives them, else the
-//! whole term. A row gives the boundaries, and behind them a file of fixings where it has its own.
+//! The regular span of a row is from its first regular date to its last, where it gives them, else
+//! the whole term. A row gives the boundaries, and after them a file of fixings where it has its
+//! own.
 ghost use Rattle.std.specs.Prelude.{IsTrue};
 ghost use Rattle.irs_terms.specs.Lawful.{IsLawfulStream};
 ghost use Rattle.irs_terms.specs.DayTypes.{IsSaid, IsSaidFixing, IsSaidReset};
@@ -67,7 +68,7 @@ fn regular_part(s: &Stream) -> Span {
     }
 }
 
-// The good days of the reset dates; all days where there are none.
+// The business days of the reset dates; all days where there are none.
 fn reset_days(alloc: Global, calendars: &Calendars, s: &Stream) -> Option<RunSet> {
     match &s.reset {
         Some(reset) => days_of(alloc, calendars, &reset.adj.centers),
@@ -75,7 +76,7 @@ fn reset_days(alloc: Global, calendars: &Calendars, s: &Stream) -> Option<RunSet
     }
 }
 
-// The good days of the fixing dates; all days where there are none.
+// The business days of the fixing dates; all days where there are none.
 fn fixing_days(alloc: Global, calendars: &Calendars, s: &Stream) -> Option<RunSet> {
     let Some(reset) = &s.reset else {
         return Some(RunSet::all());
@@ -105,7 +106,7 @@ fn rates_told(told: &mut Told, list: &Resets) {
     told.end();
 }
 
-/// What is told of a list of resets.
+/// What is reported of a list of resets.
 pub fn resets_told(told: &mut Told, list: &Resets) {
     if list.as_slice().is_empty() {
         told.line("none");
@@ -156,7 +157,7 @@ fn resets_by(
     resets_over(told, rt.alloc(), &sources.calendars, &fixings, s, list)
 }
 
-/// The resets of a stream over boundaries, by the fixings behind them, or else by those of all rows.
+/// The resets of a stream over boundaries, by the fixings after them, or else by those of all rows.
 pub fn reset_lines(
     told: &mut Told,
     rt: &HostRuntime,

@@ -1,4 +1,4 @@
-//! What is told of a fraction that is rounded: the whole number that it becomes.
+//! What is reported of a fraction that is rounded: the whole number that it becomes.
 //!
 //! A row gives the direction, then the fraction.
 use crate::telling::Told;

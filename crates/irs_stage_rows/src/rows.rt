@@ -1,11 +1,11 @@
-//! The rows: each gives what a stage works on, and a line that has to be told of it.
+//! The rows: each gives what a stage works on, and a line that has to be reported of it.
 use crate::sources::Sources;
 use crate::stages::{Stage, tell};
 use crate::telling::Told;
 use anyhow::{Context, Result, bail};
 use std::fs;
 
-/// How many rows there were, and of how many the line was told.
+/// How many rows there were, and of how many the line was reported.
 #[derive(Clone, Copy)]
 struct Tally {
     rows: u32,
@@ -24,7 +24,7 @@ impl Tally {
     }
 }
 
-/// A row: what it gives to its stage, and the line that has to be told.
+/// A row: what it gives to its stage, and the line that has to be reported.
 #[derive(Clone, Copy)]
 struct Row<'a> {
     text: &'a str,
@@ -37,8 +37,8 @@ fn row_of(text: &str) -> Option<Row> {
     Some(Row { text, given, line })
 }
 
-// Tells a row, and prints what is told where there is an echo. Whether its line is told; prints a row
-// that isn't one, before its error.
+// Reports a row, and prints what is reported where there is an echo. Whether its line is reported;
+// prints a row that isn't one, before its error.
 fn is_told(
     rt: &HostRuntime,
     sources: &Sources,
@@ -57,7 +57,8 @@ fn is_told(
     Ok(told.is_told)
 }
 
-// Runs a row; where its line isn't told, prints it and what is told. Whether it is told.
+// Runs a row; where its line isn't reported, prints it and what is reported. Whether it is
+// reported.
 fn run_row(rt: &HostRuntime, sources: &Sources, stage: Stage, text: &str) -> Result<bool> {
     let row = row_of(text).context("a row ends with its line")?;
     if is_told(rt, sources, stage, row, None)? {
@@ -68,8 +69,8 @@ fn run_row(rt: &HostRuntime, sources: &Sources, stage: Stage, text: &str) -> Res
 }
 
 /// Runs the rows of a file, a line each; a line that begins with `#` is a remark. Prints each row
-/// whose line isn't told, with what is told there, and at the end how many rows there were and of
-/// how many the line was told.
+/// whose line isn't reported, with what is reported there. At the end it prints how many rows there
+/// were and of how many the line was reported.
 pub fn run_rows(rt: &HostRuntime, sources: &Sources, stage: Stage, file: &str) -> Result<()> {
     let text = fs::read_to_string(rt, file)?;
     let mut tally = Tally::NONE;

@@ -1,5 +1,5 @@
-//! What is told of the rules of the terms: the first that a swap breaks, behind the number of its
-//! stream, or `kept`.
+//! What is reported of the rules of the terms: the first that a swap breaks, after the number of
+//! its stream, or `kept`.
 ghost use Rattle.irs_terms.specs.Lawful.{IsLawful};
 
 use crate::telling::Told;

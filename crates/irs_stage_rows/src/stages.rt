@@ -1,4 +1,4 @@
-//! What each stage tells of what a row gives it.
+//! What each stage reports of what a row gives it.
 ghost use Rattle.irs_terms.specs.Lawful.{IsLawful, IsLawfulStream};
 
 use crate::amount_rows::amount_lines;
@@ -28,7 +28,7 @@ use irs_terms::{Stream, Swap};
 /// What is worked out of a row.
 #[derive(Clone, Copy)]
 pub enum Stage {
-    /// Good days of calendar files.
+    /// Business days of calendar files.
     Calendars,
     /// Days of a grid.
     Grids,
@@ -79,8 +79,8 @@ pub enum StreamStage {
     Notionals,
 }
 
-/// What a row gives of streams: their file, edits of it, and behind them what the stage works on
-/// beside them, as boundaries, where it gives that.
+/// What a row gives of streams: their file, and edits of it. Where the stage works on more, such as
+/// boundaries, the row gives that too.
 #[derive(Clone, Copy)]
 struct Given<'a> {
     file: &'a str,
@@ -102,7 +102,7 @@ fn given_of(text: &str) -> Option<Given> {
     })
 }
 
-// Tells a stage of a stream and of what stands beside it.
+// Reports a stage of a stream and of what is beside it.
 fn tell_stream(
     told: &mut Told,
     rt: &HostRuntime,
@@ -127,7 +127,7 @@ fn tell_stream(
     }
 }
 
-// Tells a stage of the one stream that a row gives.
+// Reports a stage of the one stream that a row gives.
 fn tell_one(
     told: &mut Told,
     rt: &HostRuntime,
@@ -141,7 +141,7 @@ fn tell_one(
     tell_stream(told, rt, sources, stage, stream, given.beside.unwrap_or(""))
 }
 
-// Tells the rules of the terms, by the calendars of a file.
+// Reports the rules of the terms, by the calendars of a file.
 fn tell_rules_by(told: &mut Told, rt: &HostRuntime, swap: &Swap, file: &str) -> Option<()>
     requires { IsLawful swap.now }
 {
@@ -151,7 +151,7 @@ fn tell_rules_by(told: &mut Told, rt: &HostRuntime, swap: &Swap, file: &str) -> 
     Some(())
 }
 
-// Tells the rules of the terms, by the calendars that a row gives, or else by those of all.
+// Reports the rules of the terms, by the calendars that a row gives, or else by those of all.
 fn tell_rules(told: &mut Told, rt: &HostRuntime, sources: &Sources, row: &str) -> Option<()> {
     let given = given_of(row)?;
     let swap = swap_of(rt, sources, given.file, given.edits)?;
@@ -164,7 +164,7 @@ fn tell_rules(told: &mut Told, rt: &HostRuntime, sources: &Sources, row: &str) -
     }
 }
 
-/// Tells the lines of a stage; none where a row isn't one, or its stage can't be called.
+/// Reports the lines of a stage; none where a row isn't one, or its stage can't be called.
 pub fn tell(
     told: &mut Told,
     rt: &HostRuntime,

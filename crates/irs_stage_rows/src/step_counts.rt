@@ -1,5 +1,5 @@
-//! What is told of the searches of good days that count their steps: the day that they find. That a
-//! search among 53 runs reads at most 7 of them is proved.
+//! What is reported of the searches of business days that count their steps: the day that they
+//! find. That a search among 53 runs reads at most 7 of them is proved.
 ghost use Rattle.std.specs.Prelude.{◌≡◌, ◌<◌, ◌-◌, ◌≤◌, length};
 
 use crate::telling::Told;
@@ -33,7 +33,7 @@ fn prev_of<L: Ledger>(days: &RunSet, d: Day, blank: Blank) -> Option<Day>
     days.prev_good_counted::<L>(d, &mut Steps::new(blank))
 }
 
-/// The first good day from a day on, found in at most 7 steps; none where there aren't 53 runs.
+/// The first business day from a day on, found in at most 7 steps; none where there aren't 53 runs.
 pub fn next_told(told: &mut Told, days: &RunSet, d: Day) -> Option<()> {
     if days.count() != 53 {
         return None;
@@ -42,7 +42,7 @@ pub fn next_told(told: &mut Told, days: &RunSet, d: Day) -> Option<()> {
     Some(())
 }
 
-/// The last good day up to a day.
+/// The last business day up to a day.
 pub fn previous_told(told: &mut Told, days: &RunSet, d: Day) {
     told.given_day("", prev_of::<Brand>(days, d, Blank::new(1)));
 }

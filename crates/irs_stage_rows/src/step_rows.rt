@@ -1,4 +1,4 @@
-//! What is told of steps: `on the boundaries`, or the first that is off them.
+//! What is reported of steps: `on the boundaries`, or the first that is off them.
 ghost use Rattle.irs_terms.specs.Lawful.{IsLawfulStream};
 
 use crate::boundaries::{boundaries_of, is_rising};

@@ -1,17 +1,17 @@
-//! Telling: what is told of a row is compared with the line that it wants, as it comes.
+//! Reporting: what is reported of a row is compared with the line that it wants, as it comes.
 use itoa::{Buffer, Integer};
 
-/// What is told of a row, line by line: it is compared with the wanted line as it comes, and printed
-/// where a runtime is given. Nothing of it is kept, so nothing of it can fail.
+/// What is reported of a row, line by line. It is compared with the wanted line as it comes, and
+/// printed where a runtime is given. Nothing of it is kept, so nothing of it can fail.
 #[derive(Drop)]
 pub struct Told<'a> {
-    /// The line that has to be told.
+    /// The line that has to be reported.
     line: &'a str,
-    /// What of it is still to come; none once what is told has departed from it.
+    /// What of it is still to come; none once what is reported has departed from it.
     rest: Option<&'a str>,
-    /// Whether the line was told.
+    /// Whether the line was reported.
     pub is_told: bool,
-    /// Where to print what is told, if anywhere.
+    /// Where to print what is reported, if anywhere.
     echo: Option<&'a HostRuntime>,
     /// Whether all was printed that had to be.
     pub is_printed: bool,
@@ -37,7 +37,7 @@ impl<'a> Told<'a> {
         }
     }
 
-    /// Tells a text.
+    /// Reports a text.
     pub fn text(&mut self, text: &str) {
         self.rest = match self.rest {
             Some(rest) => rest.strip_prefix(text),
@@ -55,20 +55,20 @@ impl<'a> Told<'a> {
         self.print("\n");
     }
 
-    /// Tells a text and ends its line.
+    /// Reports a text and ends its line.
     pub fn line(&mut self, text: &str) {
         self.text(text);
         self.end();
     }
 
-    /// Tells a text and a number behind it.
+    /// Reports a text and a number after it.
     pub fn number<I: Integer>(&mut self, before: &str, number: I) {
         let mut buffer = Buffer::new();
         self.text(before);
         self.text(buffer.format(number));
     }
 
-    /// Tells a text and what bytes spell behind it; bytes that spell nothing are in no line.
+    /// Reports a text and what bytes spell after it; bytes that spell nothing are in no line.
     pub fn bytes(&mut self, before: &str, bytes: &[u8]) {
         self.text(before);
         match str::from_utf8(bytes) {

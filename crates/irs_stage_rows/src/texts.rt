@@ -1,4 +1,4 @@
-//! The texts that are told: days, rates, broken rules. Each is told behind a text.
+//! The texts that are reported: days, rates, broken rules. Each is reported after a text.
 use crate::telling::Told;
 use irs_base::{Day, Dec, Fault, Line, Stopped, day_digits};
 use itoa::Integer;

@@ -1,9 +1,8 @@
-//! Words for edits of a stream: each stands for edits at the elements of FpML.
+//! Words for edits of a stream: each means edits at the elements of FpML.
 //!
-//! A line of the file `words` is a word with its arguments, ` = `, and the edits for which it
-//! stands, as `paid $1 $2 = put paymentDates/paymentFrequency {"periodMultiplier":"$1", ..`. A word
-//! may stand in several lines with other numbers of arguments. A `$` stands only in front of the
-//! number of an argument.
+//! A line of the file `words` is a word with its arguments, ` = `, and the edits that it means. So
+//! `paid $1 $2 = put paymentDates/paymentFrequency {"periodMultiplier":"$1", ..`. A word may be in
+//! several lines with other numbers of arguments. A `$` is only before the number of an argument.
 use std::alloc::Global;
 
 // The numbers of the arguments of a line of `words`, in order.
@@ -15,7 +14,7 @@ fn is_head(head: &str, text: &str) -> bool {
     names.next() == words.next() && names.count() == words.count()
 }
 
-// The edits for which the word of a text stands with so many arguments.
+// The edits that the word of a text means with this number of arguments.
 fn meaning<'a>(words: &'a str, text: &str) -> Option<&'a str> {
     for line in words.lines() {
         if let Some((head, meaning)) = line.split_once(" = ") {
@@ -27,7 +26,7 @@ fn meaning<'a>(words: &'a str, text: &str) -> Option<&'a str> {
     None
 }
 
-// The argument whose number a part begins with, and what stands behind the number.
+// The argument whose number a part begins with, and what follows the number.
 fn argument<'a>(part: &'a str, arguments: &'a str) -> Option<(&'a str, &'a str)> {
     for (number, argument) in NUMBERS.iter().zip(arguments.split(' ')) {
         if let Some(rest) = part.strip_prefix(*number) {
@@ -49,7 +48,7 @@ fn push_filled(edits: &mut String, meaning: &str, arguments: &str) -> Option<()>
     Some(())
 }
 
-/// The edits for which a word with its arguments stands; the text itself where it is no word.
+/// The edits that a word with its arguments means; the text itself where it is no word.
 pub fn meaning_of(alloc: Global, words: &str, text: &str) -> Option<String> {
     let Some(meaning) = meaning(words, text) else {
         return String::from_str(alloc, text).ok();

@@ -9,6 +9,7 @@ few_by true three = omega arith
 few_by false true = omega arith
 few_by false false = omega arith
 
+-- a currency has at most three decimals
 pub decimals_few : (letters : List ℕ) → decimals_of letters ≤ 3
 decimals_few letters =
     few_by (list_any (bytes_eq letters) without_decimals) (list_any (bytes_eq letters) with_three_decimals)

@@ -11,8 +11,10 @@ given_lawful : (given : Option AdjustableDate) (effective : AdjustableDate) → 
 given_lawful None effective none lawful = lawful
 given_lawful (Some d) effective lawful also = lawful
 
+-- the first date of a lawful stream is lawful
 pub first_date_lawful : (s : Stream) → IsLawfulStream s → IsLawfulAdjustableDate (first_date_of s)
 first_date_lawful s lawful = given_lawful s.first_start s.effective lawful.first_start lawful.effective
 
+-- its first day is a day of the range
 pub first_day_is_day : (s : Stream) → IsLawfulStream s → IsDay (first_day_of s)
 first_day_is_day s lawful = (first_date_lawful s lawful).0

@@ -23,10 +23,12 @@ few_of_fixing None lawful = tt
 few_of_fixing (Some fix) lawful =
     few_names (adjusts_days fix.adj.code || counts_days fix.offset) fix.adj.centers lawful.1
 
+-- fixing dates name few lists of centres
 pub few_for_fixing : (reset : Option ResetTerms) → IfSome reset IsLawfulReset → AreFew (fixing_names reset)
 few_for_fixing None lawful = tt
 few_for_fixing (Some terms) lawful = few_of_fixing terms.fixing lawful.fixing
 
+-- reset dates name few lists of centres
 pub few_for_reset : (reset : Option ResetTerms) → IfSome reset IsLawfulReset → AreFew (reset_names reset)
 few_for_reset None lawful = tt
 few_for_reset (Some terms) lawful = few_names (adjusts_days terms.adj.code) terms.adj.centers lawful.centers

@@ -2,7 +2,7 @@
 use Rattle.std.specs.Prelude.{◌≡◌, ◌≢◌, ℕ, ◌-◌, ◌≤◌, List, length, get_or, All, IfSome, ℤ, pos, ◌≤ℤ◌, unsigned_abs}
 use Rattle.irs_base.specs.Days.{IsDay}
 use Rattle.irs_base.specs.Limits.{most_centers, most_index, most_multiplier, most_name, most_notional, most_offset}
-use Rattle.irs_base.specs.Limits.{most_rate, most_steps, most_streams}
+use Rattle.irs_base.specs.Limits.{most_observation_offset, most_rate, most_steps, most_streams}
 use Rattle.irs_terms.specs.declared.frequency.Unit.TheVariants.{T}
 use Rattle.irs_terms.specs.declared.frequency.Frequency.{Frequency}
 use Rattle.irs_terms.specs.declared.codes.RollCode.{RollCode}
@@ -22,6 +22,9 @@ use Rattle.irs_terms.specs.declared.amounts.StubRate.{StubRate}
 use Rattle.irs_terms.specs.declared.amounts.StubRate.TheVariants.{Index, Fixed as FixedStub}
 use Rattle.irs_terms.specs.declared.amounts.StubTerms.{StubTerms}
 use Rattle.irs_terms.specs.declared.currency.Currency.{Currency}
+use Rattle.irs_terms.specs.declared.parameters.CalculationParameters.{CalculationParameters}
+use Rattle.irs_terms.specs.declared.parameters.ObservationOffset.{ObservationOffset}
+use Rattle.irs_terms.specs.declared.parameters.ObservationOffset.TheVariants.{Absent as NoOffset, Shift, Lookback, Lockout}
 use Rattle.irs_terms.specs.declared.stream.Stream.{Stream}
 use Rattle.irs_terms.specs.declared.stream_list.Swap.{Swap}
 
@@ -100,6 +103,22 @@ pub record IsLawfulReset (r : ResetTerms) : Type 0 where
   pub freq : IsLawfulFrequency r.freq
   pub centers : IsLawfulCenters r.adj.centers
 
+-- 1 to 30 applicable business days
+abbrev pub IsObservationDays : ℕ → Type 0
+IsObservationDays n = (1 ≤ n) × (n ≤ most_observation_offset)
+
+-- the days of an observation shift, a lookback or a lockout
+abbrev pub IsLawfulObservationOffset : ObservationOffset → Type 0
+IsLawfulObservationOffset NoOffset = Unit {0}
+IsLawfulObservationOffset (Shift n) = IsObservationDays n
+IsLawfulObservationOffset (Lookback n) = IsObservationDays n
+IsLawfulObservationOffset (Lockout n) = IsObservationDays n
+
+-- parameters of daily rates whose values lie in their ranges
+pub record IsLawfulParameters (p : CalculationParameters) : Type 0 where
+  pub offset : IsLawfulObservationOffset p.offset
+  pub centers : IsLawfulNames p.centers
+
 -- floating terms whose values lie in their ranges; a rate is rounded to at most 9 decimals
 pub record IsLawfulFloat (f : FloatTerms) : Type 0 where
   pub index : IsLawfulIndex f.index
@@ -108,6 +127,7 @@ pub record IsLawfulFloat (f : FloatTerms) : Type 0 where
   pub spread : IsLawfulValues IsRate f.spread
   pub initial_rate : IfSome f.initial_rate IsRate
   pub rounding : f.rounding.places ≤ 9
+  pub parameters : IfSome f.parameters IsLawfulParameters
 
 -- a leg whose rates lie in their range
 abbrev pub IsLawfulLeg : Leg → Type 0

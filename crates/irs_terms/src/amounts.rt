@@ -1,6 +1,6 @@
 //! The terms of rates, stubs and principal exchanges. Rates, multipliers and spreads are in units
 //! of 10^-9.
-use crate::{Frequency, RefState, StepValues, Treatment};
+use crate::{CalculationParameters, Frequency, RefState, StepValues, Treatment};
 use irs_base::{Direction, Text};
 
 /// How a rate is rounded: to so many decimals, in which direction (FpML `finalRateRounding`).
@@ -29,6 +29,8 @@ pub struct FloatTerms {
     pub rounding: Rounding,
     /// `negativeInterestRateTreatment`; NegativeInterestRateMethod where it is absent.
     pub treatment: Treatment,
+    /// `calculationParameters`, with which the rate is that of daily rates.
+    pub parameters: Option<CalculationParameters>,
 }
 
 /// What a stream pays.
