@@ -4,6 +4,7 @@ mod ReferenceLaws
 mod ValueSteps
 mod SettingSteps
 mod MapTests
+mod Resolving
 mod MemberLemmas
 mod LeafLemmas
 mod ContentSteps

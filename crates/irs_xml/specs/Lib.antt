@@ -4,6 +4,7 @@ pub mod References
 pub mod Comments
 pub mod Tags
 pub mod Namespaces
+pub mod Resolved
 pub mod Content
 pub mod Values
 pub mod Document

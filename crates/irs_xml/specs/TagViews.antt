@@ -1,9 +1,11 @@
 -- What the types of tags stand for.
-use Rattle.std.specs.Prelude.{List, map, Bool, string_bytes}
+use Rattle.std.specs.Prelude.{List, map, option_map, Bool, string_bytes}
 use Rattle.irs_xml.specs.Namespaces.{Setting, Opening, Scope}
+use Rattle.irs_xml.specs.Resolved.{Resolved}
 use Rattle.irs_xml.specs.declared.settings.Setting.{Setting as GivenSetting}
 use Rattle.irs_xml.specs.declared.settings.Tag.{Tag as GivenTag}
 use Rattle.irs_xml.specs.declared.settings.Declaration.{Declaration as GivenDeclaration}
+use Rattle.irs_xml.specs.declared.settings.Resolved.{Resolved as GivenResolved}
 
 abbrev pub setting_view : GivenSetting → Setting
 setting_view s = record { prefix = s.prefix.now; local = s.local.now; value = string_bytes s.value }
@@ -16,3 +18,6 @@ tag_view t = (opening_view t, t.is_empty)
 
 abbrev pub scope_view : List GivenDeclaration → Scope
 scope_view ds = map (λ d. (d.prefix.now, string_bytes d.namespace)) ds
+
+abbrev pub resolved_view : GivenResolved → Resolved
+resolved_view r = (r.local.now, option_map (λ n. n.now) r.namespace)

@@ -269,7 +269,8 @@ fn child<'a>(
     let around = scope.as_slice();
     let outer = around.len();
     declare_all(scope, alloc, tag.settings.as_slice())?;
-    if !is_opened(scope.as_slice(), &tag) {
+    let opened = is_opened(alloc, scope.as_slice(), &tag)?;
+    if !opened {
         return Err(Failure::NotXml);
     }
     let member = element(reader, alloc, scope, root, levels - 1, kept, &tag)?;

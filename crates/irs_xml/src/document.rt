@@ -186,7 +186,8 @@ fn root(reader: &mut Reader<'_>, alloc: Global) -> Result<Value, Failure>
     let tag = tag(reader, alloc)?;
     let mut scope = first_declarations(alloc)?;
     declare_all(&mut scope, alloc, tag.settings.as_slice())?;
-    if !is_opened(scope.as_slice(), &tag) {
+    let opened = is_opened(alloc, scope.as_slice(), &tag)?;
+    if !opened {
         return Err(Failure::NotXml);
     }
     rooted(reader, alloc, &mut scope, &tag)

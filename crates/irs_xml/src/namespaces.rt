@@ -1,12 +1,13 @@
 //! Which namespace a prefix stands for, and what a tag may declare: Namespaces in XML 1.0 (third
 //! edition).
-ghost use Rattle.irs_xml.specs.Namespaces.{attribute_namespace as attribute_namespace_of, are_unlike as are_unlike_of, declarations, declared_prefix as declared_prefix_of, first_scope, is_declaration as is_declaration_of, is_like as is_like_of, is_lawful as is_lawful_of, is_opened_in, is_same as is_same_of, latest, may_declare as may_declare_of, namespace_of};
-ghost use Rattle.irs_xml.specs.TagViews.{opening_view, scope_view, setting_view};
+ghost use Rattle.irs_xml.specs.Namespaces.{attribute_namespace as attribute_namespace_of, are_unlike as are_unlike_of, declarations, declared_prefix as declared_prefix_of, first_scope, is_declaration as is_declaration_of, is_lawful as is_lawful_of, is_opened_in, is_same as is_same_of, latest, may_declare as may_declare_of, namespace_of};
+ghost use Rattle.irs_xml.specs.Resolved.{are_distinct, is_alike, resolve as resolve_of};
+ghost use Rattle.irs_xml.specs.TagViews.{opening_view, resolved_view, scope_view, setting_view};
 ghost use Rattle.std.specs.List.{list_all, list_any};
 ghost use Rattle.std.specs.Option.{option_map};
-ghost use Rattle.std.specs.Prelude.{◌≡◌, [], ◌∷◌, ◌++◌, IfOk, OnOk, is_some, map};
+ghost use Rattle.std.specs.Prelude.{◌≡◌, ◌&&◌, [], ◌∷◌, ◌++◌, IfOk, OnOk, is_some, map};
 
-use crate::settings::{Declaration, Setting, Tag};
+use crate::settings::{Declaration, Resolved, Setting, Tag};
 use std::alloc::{AllocError, Global};
 
 const XML_NAMESPACE: &str = "http://www.w3.org/XML/1998/namespace";
@@ -143,19 +144,45 @@ pub(crate) fn is_same(a: Option<&str>, b: Option<&str>) -> bool
     }
 }
 
-// The attributes have one local part, and one namespace or none both.
-fn is_like(scope: &[Declaration<'_>], a: &Setting<'_>, b: &Setting<'_>) -> bool
-    ensures { result ≡ is_like_of (scope_view scope.now) (setting_view a.now) (setting_view b.now) }
+// An attribute by its local part and its namespace.
+fn resolve<'s>(scope: &'s [Declaration<'_>], setting: &Setting<'s>) -> Resolved<'s>
+    ensures { resolved_view result ≡ resolve_of (scope_view scope.now) (setting_view setting.now) }
 {
-    a.local == b.local && is_same(attribute_namespace(scope, a), attribute_namespace(scope, b))
+    Resolved {
+        local: setting.local,
+        namespace: attribute_namespace(scope, setting),
+    }
+}
+
+// Each attribute by its local part and its namespace, which is looked up once.
+fn resolve_all<'s>(
+    alloc: Global,
+    scope: &'s [Declaration<'_>],
+    settings: &[Setting<'s>],
+) -> Result<Vec<Resolved<'s>>, AllocError>
+    ensures { IfOk result (λ v. map resolved_view v.items
+        ≡ map (resolve_of (scope_view scope.now)) (map setting_view settings.now)) }
+{
+    let mut names = Vec::new(alloc);
+    for setting in settings {
+        names.push(resolve(scope, setting))?;
+    }
+    Ok(names)
+}
+
+// The attributes have one local part, and one namespace or none both.
+fn is_like(a: &Resolved<'_>, b: &Resolved<'_>) -> bool
+    ensures { result ≡ is_alike (resolved_view a.now) (resolved_view b.now) }
+{
+    a.local == b.local && is_same(a.namespace, b.namespace)
 }
 
 // One of the others is like the attribute.
-fn is_like_any(scope: &[Declaration<'_>], setting: &Setting<'_>, others: &[Setting<'_>]) -> bool
-    ensures { result ≡ list_any (is_like_of (scope_view scope.now) (setting_view setting.now)) (map setting_view others.now) }
+fn is_like_any(name: &Resolved<'_>, others: &[Resolved<'_>]) -> bool
+    ensures { result ≡ list_any (is_alike (resolved_view name.now)) (map resolved_view others.now) }
 {
     for other in others {
-        if is_like(scope, setting, other) {
+        if is_like(name, other) {
             return true;
         }
     }
@@ -163,11 +190,11 @@ fn is_like_any(scope: &[Declaration<'_>], setting: &Setting<'_>, others: &[Setti
 }
 
 // No two attributes are alike.
-fn are_unlike(scope: &[Declaration<'_>], settings: &[Setting<'_>]) -> bool
-    ensures { result ≡ are_unlike_of (scope_view scope.now) (map setting_view settings.now) }
+fn are_unlike(names: &[Resolved<'_>]) -> bool
+    ensures { result ≡ are_distinct (map resolved_view names.now) }
 {
-    for (index, setting) in settings.iter().enumerate() {
-        if is_like_any(scope, setting, &settings[index + 1..]) {
+    for (index, name) in names.iter().enumerate() {
+        if is_like_any(name, &names[index + 1..]) {
             return false;
         }
     }
@@ -186,33 +213,53 @@ fn are_lawful(settings: &[Setting<'_>]) -> bool
     true
 }
 
-// The prefix of the attribute is declared.
-fn has_namespace(scope: &[Declaration<'_>], setting: &Setting<'_>) -> bool
-    ensures { result ≡ is_some (attribute_namespace_of (scope_view scope.now) (setting_view setting.now)) }
-{
-    attribute_namespace(scope, setting).is_some()
-}
-
 // The prefix of each attribute is declared.
-fn have_namespaces(scope: &[Declaration<'_>], settings: &[Setting<'_>]) -> bool
-    ensures { result ≡ list_all (λ s. is_some (attribute_namespace_of (scope_view scope.now) s)) (map setting_view settings.now) }
+fn have_namespaces(names: &[Resolved<'_>]) -> bool
+    ensures { result ≡ list_all (λ r. is_some r.1) (map resolved_view names.now) }
 {
-    for setting in settings {
-        if !has_namespace(scope, setting) {
+    for name in names {
+        if name.namespace.is_none() {
             return false;
         }
     }
     true
 }
 
+// The prefix of each attribute is declared, and no two attributes are alike.
+fn are_apart(names: &[Resolved<'_>]) -> bool
+    ensures { result ≡ (list_all (λ r. is_some r.1) (map resolved_view names.now) && are_distinct (map resolved_view names.now)) }
+{
+    have_namespaces(names) && are_unlike(names)
+}
+
+// The attributes of a tag follow the rules for their names in this scope.
+fn are_named(
+    alloc: Global,
+    scope: &[Declaration<'_>],
+    settings: &[Setting<'_>],
+) -> Result<bool, AllocError>
+    ensures { IfOk result (λ b. b
+        ≡ (list_all (λ s. is_some (attribute_namespace_of (scope_view scope.now) s)) (map setting_view settings.now)
+        && are_unlike_of (scope_view scope.now) (map setting_view settings.now))) }
+{
+    let names = resolve_all(alloc, scope, settings)?;
+    Ok(are_apart(names.as_slice()))
+}
+
 /// The tag follows the rules in this scope, its own declarations included.
-pub(crate) fn is_opened(scope: &[Declaration<'_>], tag: &Tag<'_>) -> bool
-    ensures { result ≡ is_opened_in (scope_view scope.now) (opening_view tag.now) }
+pub(crate) fn is_opened(
+    alloc: Global,
+    scope: &[Declaration<'_>],
+    tag: &Tag<'_>,
+) -> Result<bool, AllocError>
+    ensures { IfOk result (λ b. b ≡ is_opened_in (scope_view scope.now) (opening_view tag.now)) }
 {
     let settings = tag.settings.as_slice();
-    are_lawful(settings)
-        && tag.prefix != "xmlns"
-        && namespace(scope, tag.prefix).is_some()
-        && have_namespaces(scope, settings)
-        && are_unlike(scope, settings)
+    let named = are_named(alloc, scope, settings)?;
+    Ok(
+        are_lawful(settings)
+            && tag.prefix != "xmlns"
+            && namespace(scope, tag.prefix).is_some()
+            && named,
+    )
 }

@@ -28,3 +28,11 @@ pub(crate) struct Declaration<'a> {
     /// The name of the namespace, empty for none.
     pub(crate) namespace: String,
 }
+
+/// An attribute by its name's local part and namespace, as two attributes of a tag are compared.
+#[derive(Clone, Copy)]
+pub(crate) struct Resolved<'a> {
+    pub(crate) local: &'a str,
+    /// The name of the namespace, empty without a prefix. None where the prefix isn't declared.
+    pub(crate) namespace: Option<&'a str>,
+}

@@ -19,15 +19,15 @@ child-returns-in_err-tag-clause-gives t c =
     let p = err_from_is_err_and c.from_residual.result c.from_residual.ensures.1 in
     rw (p.1, p.2) (fails_then c.in_err-tag.field-0.0 _ _ c.in_err-tag.ensures (child_no_tag _ _ _ _ _))
 
-pub child-returns-then-not-is_opened-clause-gives : goal.child-returns-then-not-is_opened-clause-gives
-child-returns-then-not-is_opened-clause-gives t c =
+pub child-returns-then-not-opened-clause-gives : goal.child-returns-then-not-opened-clause-gives
+child-returns-then-not-opened-clause-gives t c =
     let tag = c.in_ok-tag.tag in
     let scope : scope_view c.declare_all.new.scope.items ≡ scope_in (scope_view c.args.scope.now.items) (opening_view tag).settings =
     c.in_ok-declare_all.ensures ∙ ap (λ ss. scope_view c.args.scope.now.items ++ declarations (map setting_view ss)) c.as_slice.ensures.value in
     let closed : is_opened (scope_view c.args.scope.now.items) (opening_view tag) ≡ false =
     ap (λ s. is_opened_in s (opening_view tag)) (sym scope)
     ∙ ap (λ ds. is_opened_in (scope_view ds) (opening_view tag)) (sym c.as_slice-2.ensures.value)
-    ∙ sym c.is_opened.ensures ∙ c.if-not-is_opened.true in
+    ∙ sym c.in_ok-opened.ensures ∙ c.if-not-opened.true in
     child_closed _ _ _ _ _ (tag_view tag) c.tag.new.reader c.in_ok-tag.ensures closed
 
 pub child-returns-in_err-member-clause-gives : goal.child-returns-in_err-member-clause-gives
@@ -38,7 +38,7 @@ child-returns-in_err-member-clause-gives t c =
     let opened : is_opened (scope_view c.args.scope.now.items) (opening_view tag) ≡ true =
     ap (λ s. is_opened_in s (opening_view tag)) (sym scope)
     ∙ ap (λ ds. is_opened_in (scope_view ds) (opening_view tag)) (sym c.as_slice-2.ensures.value)
-    ∙ sym c.is_opened.ensures ∙ c.if-not-is_opened.false in
+    ∙ sym c.in_ok-opened.ensures ∙ c.if-not-opened.false in
     let p = err_from_is_err_and c.from_residual-in_err-member.result c.from_residual-in_err-member.ensures.1 in
     let goes = child_goes c.args.root.now c.args.levels c.args.kept (scope_view c.args.scope.now.items) c.args.reader.now (tag_view tag) c.tag.new.reader
     c.if-levels-eq0.false c.in_ok-tag.ensures opened in
@@ -53,7 +53,7 @@ child-returns-clause-gives t c =
     let opened : is_opened (scope_view c.args.scope.now.items) (opening_view tag) ≡ true =
     ap (λ s. is_opened_in s (opening_view tag)) (sym scope)
     ∙ ap (λ ds. is_opened_in (scope_view ds) (opening_view tag)) (sym c.as_slice-2.ensures.value)
-    ∙ sym c.is_opened.ensures ∙ c.if-not-is_opened.false in
+    ∙ sym c.in_ok-opened.ensures ∙ c.if-not-opened.false in
     child_goes c.args.root.now c.args.levels c.args.kept (scope_view c.args.scope.now.items) c.args.reader.now (tag_view tag) c.tag.new.reader
     c.if-levels-eq0.false c.in_ok-tag.ensures opened
     ∙ ap (λ s. element_at (child_at c.args.root.now (c.args.levels - 1)) c.args.root.now c.args.kept s (tag_view tag) c.tag.new.reader) (sym scope)
