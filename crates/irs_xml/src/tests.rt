@@ -115,6 +115,62 @@ fn what_is_no_document(rt: HostRuntime) {
     assert!(rt; is_refused(rt.alloc(), b""));
 }
 
+// The examples of Namespaces in XML 1.0 (third edition), 6.3: the same tags, each in an element of
+// another namespace than the root's, whose value is the empty string.
+#[test]
+fn uniqueness_of_attributes(rt: HostRuntime) {
+    assert!(rt;
+        means(
+            rt.alloc(),
+            b"<swap><x:x xmlns:x='urn:x' xmlns:n1='http://www.w3.org' xmlns='http://www.w3.org'>\
+              <good a='1' b='2'/><good a='1' n1:a='2'/></x:x></swap>",
+            "{\"swap\":{\":x\":\"\"}}"
+        )
+    );
+    assert!(rt;
+        is_refused(
+            rt.alloc(),
+            b"<swap><x xmlns:n1='http://www.w3.org' xmlns:n2='http://www.w3.org'><bad a='1' a='2'/></x></swap>"
+        )
+    );
+    assert!(rt;
+        is_refused(
+            rt.alloc(),
+            b"<swap><x xmlns:n1='http://www.w3.org' xmlns:n2='http://www.w3.org'><bad n1:a='1' n2:a='2'/></x></swap>"
+        )
+    );
+}
+
+// A tag with this many attributes of one local part, each in a namespace of its own but the last,
+// whose namespace is named `last`.
+fn crowded(alloc: Global, count: usize, last: &str) -> Result<String, std::alloc::AllocError> {
+    let mut text = String::new(alloc);
+    text.push_str("<swap")?;
+    for n in 0..count {
+        text.push_str(format!(in alloc; " xmlns:p{n}='u{n}'")?.as_str())?;
+    }
+    text.push_str(format!(in alloc; " xmlns:q='{last}'><a b='c'")?.as_str())?;
+    for n in 0..count {
+        text.push_str(format!(in alloc; " p{n}:b=''")?.as_str())?;
+    }
+    text.push_str(" q:b=''/></swap>")?;
+    Ok(text)
+}
+
+#[test]
+fn many_attributes_of_one_local_part(rt: HostRuntime) {
+    let json = "{\"swap\":{\"a\":{\"@b\":\"c\"}}}";
+    assert!(rt;
+        crowded(rt.alloc(), 62, "v").is_ok_and(|text| means(rt.alloc(), text.as_bytes(), json))
+    );
+    assert!(rt;
+        crowded(rt.alloc(), 62, "u0").is_ok_and(|text| is_refused(rt.alloc(), text.as_bytes()))
+    );
+    assert!(rt;
+        crowded(rt.alloc(), 62, "u61").is_ok_and(|text| is_refused(rt.alloc(), text.as_bytes()))
+    );
+}
+
 #[test]
 fn where_reading_stopped(rt: HostRuntime) {
     assert_eq!(rt; stop(rt.alloc(), b"<swap"), Some(XmlErr::NotXml(1, 6)));
