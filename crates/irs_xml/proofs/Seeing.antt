@@ -1,8 +1,9 @@
 -- The characters of a text, one after another.
-use Rattle.std.proofs.Common.{◌≡◌, ◌≢◌, ℕ, Bool, true, false, List, [], ◌∷◌, ◌++◌, length, refl, sym, ap, ◌∙◌, arith}
+use Rattle.std.proofs.Common.{◌≡◌, ◌≢◌, ◌<◌, ℕ, Bool, true, false, List, [], ◌∷◌, ◌++◌, length, drop, Some, None, refl, sym, ap, subst, ◌∙◌, arith}
 use Rattle.std.proofs.lemmas.Bool.Decides.{nat_tests}
-use Rattle.std.proofs.lemmas.Str.{chars_past_char, chars-nil, encodes-chars}
-use Rattle.std.specs.Str.{chars, encode_utf8_all, IsUtf8}
+use Rattle.std.proofs.lemmas.Str.{chars_past_char, chars-nil, encode_ascii, encodes-chars, IsCharBoundary-after_ascii}
+use Rattle.std.specs.List.{slice_get}
+use Rattle.std.specs.Str.{chars, encode_utf8_all, IsUtf8, IsCharBoundary}
 use Rattle.std.specs.Char.{encode_utf8}
 use Rattle.irs_xml.specs.Characters.{ends_after}
 use Rattle.irs_xml.specs.Seen.{seen}
@@ -19,6 +20,25 @@ seen_nothing (b ∷ bs) e = absurd (omega arith)
 pub seen_other : (bs rest : List ℕ) (c : ℕ) → IsUtf8 bs → bs ≡ encode_utf8 c ++ rest → c ≢ 13 → seen bs ≡ c ∷ seen rest
 unfolding seen
 seen_other bs rest c u e h = ap (ends_after false) (chars_past_char bs rest c u e) ∙ other false c (chars rest) h (λ t. cc)
+
+-- the first byte of a text: there is none
+pub seen_none : (bs : List ℕ) → None ≡ slice_get bs 0 → seen bs ≡ []
+seen_none [] e = seen_nothing [] refl
+seen_none (b ∷ bs) e = absurd (cc e)
+
+-- it is ASCII, so a text may be cut after it
+pub cut_ascii : (bs : List ℕ) (b : ℕ) → IsUtf8 bs → Some b ≡ slice_get bs 0 → b < 128 → IsCharBoundary bs 1
+cut_ascii [] b u e l = absurd (cc e)
+cut_ascii (x ∷ bs) b u e l =
+    let same : b ≡ x = cc e in
+    IsCharBoundary-after_ascii (x ∷ bs) 0 u (omega arith) (subst (λ y. y < 128) same l)
+
+-- it is ASCII, so it is the first character
+pub seen_ascii : (bs : List ℕ) (b : ℕ) → IsUtf8 bs → Some b ≡ slice_get bs 0 → b < 128 → b ≢ 13 → seen bs ≡ b ∷ seen (drop 1 bs)
+seen_ascii [] b u e l n = absurd (cc e)
+seen_ascii (x ∷ bs) b u e l n =
+    let same : x ≡ b = cc e in
+    seen_other (x ∷ bs) bs b u (ap (λ y. y ∷ bs) same ∙ ap (λ t. t ++ bs) (sym (encode_ascii b l))) n
 
 returned : (cs : List ℕ) → ends_after false (13 ∷ cs) ≡ 10 ∷ ends_after true cs
 unfolding ends_after

@@ -181,8 +181,19 @@ fn name_rest(text: &str) -> &str
     }
 }
 
-// The first character and what is after it, CR LF and CR being one LF.
+// The first character and what is after it, CR LF and CR being one LF. Most are one byte.
 fn first_of(text: &str) -> Option<(char, &str)>
+    ensures { FirstOf text.now result }
+{
+    let byte = *text.as_bytes().first()?;
+    if byte < 128 && byte != b'\r' {
+        return Some((char::from(byte), &text[1..]));
+    }
+    first_decoded(text)
+}
+
+// The same for every character.
+fn first_decoded(text: &str) -> Option<(char, &str)>
     ensures { FirstOf text.now result }
 {
     let mut rest = text.chars();
