@@ -5,6 +5,7 @@ ghost use Rattle.irs_xml.specs.Resolved.{are_distinct, is_alike, resolve as reso
 ghost use Rattle.irs_xml.specs.TagViews.{opening_view, resolved_view, scope_view, setting_view};
 ghost use Rattle.std.specs.List.{list_all, list_any};
 ghost use Rattle.std.specs.Option.{option_map};
+ghost use Rattle.std.specs.Str.{bytes_eq};
 ghost use Rattle.std.specs.Prelude.{◌≡◌, ◌&&◌, [], ◌∷◌, ◌++◌, IfOk, OnOk, is_some, map};
 
 use crate::settings::{Declaration, Resolved, Setting, Tag};
@@ -84,13 +85,23 @@ pub(crate) fn is_declaration(setting: &Setting<'_>) -> bool
     setting.prefix == "xmlns" || (setting.prefix == "" && setting.local == "xmlns")
 }
 
+// The declaration is of that prefix. The lengths of most prefixes differ, which is seen at once.
+fn declares(declaration: &Declaration<'_>, prefix: &str) -> bool
+    ensures { result ≡ bytes_eq declaration.now.prefix.now prefix.now }
+{
+    if declaration.prefix.len() != prefix.len() {
+        return false;
+    }
+    declaration.prefix == prefix
+}
+
 /// The namespace of a prefix, and of an element without one. The last declaration holds.
 pub(crate) fn namespace<'s>(scope: &'s [Declaration<'_>], prefix: &str) -> Option<&'s str>
     ensures { option_map (λ n. n.now) result ≡ namespace_of (scope_view scope.now) prefix.now }
 {
     let mut found = None;
     for declaration in scope {
-        if declaration.prefix == prefix {
+        if declares(declaration, prefix) {
             found = Some(declaration.namespace.as_str());
         }
     }
