@@ -95,7 +95,8 @@ decides_suits M roll lawful = decides_months roll lawful
 decides_suits Y roll lawful = decides_months roll lawful
 decides_suits T roll lawful = inl tt
 
-decides_once : (count : ℕ) → IsDecided (count ≡ 1)
+-- whether a count is 1 is decided
+pub decides_once : (count : ℕ) → IsDecided (count ≡ 1)
 decides_once zero = inr (λ e. cc)
 decides_once (suc zero) = inl refl
 decides_once (suc (suc n)) = inr (λ e. omega (arith, e))

@@ -3,7 +3,7 @@ use Rattle.std.proofs.Common.{◌≡◌, inl, inr, ℕ, zero, suc, ◌+◌, ◌�
 use Rattle.std.proofs.Common.{slice_get, unwrap_or, ℤ, refl, subst}
 use Rattle.std.proofs.lemmas.Option.{slice_get_within, get_or_from_slice_get}
 use Rattle.irs_base.specs.declared.places.Rule.{Rule}
-use Rattle.irs_base.specs.declared.places.Rule.TheVariants.{K12, K13, K14, K17, K18, K19}
+use Rattle.irs_base.specs.declared.places.Rule.TheVariants.{K12, K13, K14, K17, K18, K19, K47}
 use Rattle.irs_base.specs.declared.places.Fault.{Fault}
 use Rattle.irs_base.specs.Elements as elements
 use Rattle.irs_base.specs.Faults.{fault_at, in_stream}
@@ -29,12 +29,16 @@ use Rattle.irs_rules.specs.Breaks.{Breaks, BreaksItem}
 use Rattle.irs_rules.specs.Centers.{AreFound, IsFoundAt, start_names}
 use Rattle.irs_rules.specs.Names.{BreaksK12}
 use Rattle.irs_rules.specs.Dates.{BreaksK13, BreaksK14}
-use Rattle.irs_rules.specs.Amounts.{BreaksK17, BreaksK18, BreaksK18InLeg, BreaksK19}
+use Rattle.irs_rules.specs.Amounts.{BreaksK17, BreaksK18, BreaksK18InLeg, BreaksK19, BreaksK47}
+use Rattle.irs_rules.specs.Parameters.{DayCountFits, FinalStubFits, FitsParameters, InitialRateFits, InitialStubFits}
+use Rattle.irs_rules.specs.Parameters.{TenorFits, applicable_names}
 use Rattle.irs_rules.specs.TermsKept.{AllKept, TermsKept}
 use Rattle.irs_rules.specs.TermsRules.{BreaksNone, BreaksStream}
 use Rattle.irs_rules.proofs.Decisions.{holds, decides_both, decides_given, decides_less, decides_upto, decides_said}
 use Rattle.irs_rules.proofs.Decisions.{decides_said_fixing, decides_resets, decides_stubs, decides_found}
 use Rattle.irs_rules.proofs.Decisions.{frequency_holds, stands_holds}
+use Rattle.irs_rules.proofs.ParameterDecisions.{decides_day_count, decides_final_stub, decides_initial_rate}
+use Rattle.irs_rules.proofs.ParameterDecisions.{decides_initial_stub, decides_tenor}
 
 -- what an element keeps can't fail, where the rule isn't broken there
 not_broken : (rule : Rule) (elem : ℕ) (Kept : Type 0) → ((f : Fault) → Breaks rule elem Kept f → ⊥) → (Kept → ⊥) → ⊥
@@ -85,6 +89,21 @@ fits_leg s never = record {
       (λ f h. never f (inl h));
   stubs = kept_at K19 elements.stub_amount (FitsStubs s.leg s.stubs) (decides_stubs s.leg s.stubs)
       (λ f h. never f (inr h));
+}
+
+-- ---- K47
+
+fits_parameters : (s : Stream) → ((f : Fault) → BreaksK47 s f → ⊥) → FitsParameters s
+fits_parameters s never = record {
+  tenor = kept_at K47 elements.index_tenor (TenorFits s.leg) (decides_tenor s.leg) (λ f h. never f (inl h));
+  initial_rate = kept_at K47 elements.initial_rate (InitialRateFits s.leg) (decides_initial_rate s.leg)
+      (λ f h. never f (inr (inl h)));
+  day_count = kept_at K47 elements.day_count_fraction (DayCountFits s) (decides_day_count s)
+      (λ f h. never f (inr (inr (inl h))));
+  initial_stub = kept_at K47 elements.initial_stub_floating_rate (InitialStubFits s) (decides_initial_stub s)
+      (λ f h. never f (inr (inr (inr (inl h)))));
+  final_stub = kept_at K47 elements.final_stub_floating_rate (FinalStubFits s) (decides_final_stub s)
+      (λ f h. never f (inr (inr (inr (inr h)))));
 }
 
 -- ---- K18
@@ -153,9 +172,10 @@ stream_keeps cal s lawful never =
     let no12 : (f : Fault) → BreaksK12 cal s f → ⊥ = λ f h. never f (inl (inr (inr h))) in
     let no13 : (f : Fault) → BreaksK13 s f → ⊥ = λ f h. never f (inr (inl (inl h))) in
     let no14 : (f : Fault) → BreaksK14 s f → ⊥ = λ f h. never f (inr (inl (inr (inl h)))) in
-    let no17 : (f : Fault) → BreaksK17 s f → ⊥ = λ f h. never f (inr (inr (inl h))) in
-    let no18 : (f : Fault) → BreaksK18 s f → ⊥ = λ f h. never f (inr (inr (inr (inl h)))) in
-    let no19 : (f : Fault) → BreaksK19 s f → ⊥ = λ f h. never f (inr (inr (inr (inr (inl h))))) in
+    let no17 : (f : Fault) → BreaksK17 s f → ⊥ = λ f h. never f (inr (inr (inl (inl h)))) in
+    let no18 : (f : Fault) → BreaksK18 s f → ⊥ = λ f h. never f (inr (inr (inl (inr (inl h))))) in
+    let no19 : (f : Fault) → BreaksK19 s f → ⊥ = λ f h. never f (inr (inr (inl (inr (inr (inl h)))))) in
+    let no47 : (f : Fault) → BreaksK47 s f → ⊥ = λ f h. never f (inr (inr (inr h))) in
     record {
       dates = dates_in_order s no13;
       frequency = frequency_holds s lawful.roll
@@ -163,6 +183,7 @@ stream_keeps cal s lawful never =
       said = is_said s no17;
       said_reset = is_said_reset s no17;
       legs = fits_leg s no19;
+      parameters = fits_parameters s no47;
       notional_rises =
           rise_at elements.notional_step_date s.effective.day (termination_of s) s.notional.steps
           (λ f h. no18 f (inl h));
@@ -180,10 +201,13 @@ stream_keeps cal s lawful never =
           (λ f h. no12 f (inr (inr (inr (inr (inl h))))));
       reset_found =
           found_at elements.reset_dates_adjustments cal (reset_names s.reset)
-          (λ f h. no12 f (inr (inr (inr (inr (inr (inr h)))))));
+          (λ f h. no12 f (inr (inr (inr (inr (inr (inr (inl h))))))));
       fixing_found =
           found_at elements.fixing_dates cal (fixing_names s.reset)
           (λ f h. no12 f (inr (inr (inr (inr (inr (inl h)))))));
+      applicable_found =
+          found_at elements.applicable_business_days cal (applicable_names s.leg)
+          (λ f h. no12 f (inr (inr (inr (inr (inr (inr (inr h))))))));
     }
 
 -- each stream of a lawful swap is lawful

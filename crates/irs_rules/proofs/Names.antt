@@ -4,14 +4,18 @@ use Rattle.irs_base.specs.declared.places.Rule.TheVariants.{K12}
 use Rattle.irs_calendar.specs.declared.sections.Section.{Section}
 use Rattle.irs_terms.specs.declared.adjustments.Centers.{Centers}
 use Rattle.irs_terms.specs.declared.adjustments.Centers.TheVariants.{Absent, Listed, Dangling}
+use Rattle.irs_terms.specs.declared.amounts.Leg.{Leg}
+use Rattle.irs_terms.specs.declared.amounts.Leg.TheVariants.{Fixed, Floating}
 use Rattle.irs_terms.specs.declared.dates.FixTerms.{FixTerms}
 use Rattle.irs_base.specs.declared.places.Fault.{Fault}
+use Rattle.irs_terms.specs.declared.parameters.CalculationParameters.{CalculationParameters}
 use Rattle.irs_terms.specs.declared.dates.ResetTerms.{ResetTerms}
-use Rattle.irs_terms.specs.Lawful.{IsLawfulCenters, IsLawfulFix, IsLawfulNames, IsLawfulReset}
+use Rattle.irs_terms.specs.Lawful.{IsLawfulCenters, IsLawfulFix, IsLawfulLeg, IsLawfulNames, IsLawfulParameters, IsLawfulReset}
 use Rattle.irs_terms.specs.Needs.{fixing_names, fixing_names_of, names_for}
 use Rattle.irs_rules.specs.Breaks.{BreaksItem}
 use Rattle.irs_rules.specs.Centers.{IsFoundAt}
 use Rattle.irs_rules.specs.Order.{IsFirstHere}
+use Rattle.irs_rules.specs.Parameters.{applicable_names, centers_of}
 
 -- the centres that are needed have lawful names
 pub names_lawful : (needed : Bool) (centers : Centers) → IsLawfulCenters centers
@@ -30,6 +34,16 @@ fixing_of_lawful (Some fixing) lawful = names_lawful _ fixing.adj.centers lawful
 pub fixing_lawful : (reset : Option ResetTerms) → IfSome reset IsLawfulReset → IfSome (fixing_names reset) IsLawfulNames
 fixing_lawful None lawful = tt
 fixing_lawful (Some terms) lawful = fixing_of_lawful terms.fixing lawful.fixing
+
+applicable_of_lawful : (parameters : Option CalculationParameters) → IfSome parameters IsLawfulParameters
+    → IfSome (centers_of parameters) IsLawfulNames
+applicable_of_lawful None lawful = tt
+applicable_of_lawful (Some parameters) lawful = lawful.centers
+
+-- the centres of applicable business days have lawful names
+pub applicable_lawful : (leg : Leg) → IsLawfulLeg leg → IfSome (applicable_names leg) IsLawfulNames
+applicable_lawful (Fixed rates) lawful = tt
+applicable_lawful (Floating float) lawful = applicable_of_lawful float.parameters lawful.parameters
 
 -- the first that isn't found, of names that are equal
 pub same_names : (elem : ℕ) (cal : List Section) (names others : Option (List (List ℕ))) (a : Option Fault)

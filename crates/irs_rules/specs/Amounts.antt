@@ -1,9 +1,9 @@
--- K17 to K21: offsets say which days they count, steps lie in order inside the term, and what goes with
+-- K17 to K21 and K47: offsets say which days they count, steps lie in order inside the term, and what goes with
 -- the rate of a stream.
 use Rattle.std.specs.Prelude.{◌⊎◌, ℤ}
 use Rattle.irs_base.specs.Elements as elements
 use Rattle.irs_base.specs.declared.places.Fault.{Fault}
-use Rattle.irs_base.specs.declared.places.Rule.TheVariants.{K17, K18, K19, K20, K21}
+use Rattle.irs_base.specs.declared.places.Rule.TheVariants.{K17, K18, K19, K20, K21, K47}
 use Rattle.irs_terms.specs.declared.amounts.Leg.{Leg}
 use Rattle.irs_terms.specs.declared.amounts.Leg.TheVariants.{Fixed, Floating}
 use Rattle.irs_terms.specs.declared.stream.Stream.{Stream}
@@ -11,8 +11,8 @@ use Rattle.irs_terms.specs.DayTypes.{IsSaid, IsSaidReset}
 use Rattle.irs_terms.specs.StepDates.{StepStands}
 use Rattle.irs_terms.specs.TermDates.{termination_of}
 use Rattle.irs_terms.specs.Legs.{FitsResets, FitsStubs, FitsCompounding}
-use Rattle.irs_terms.specs.Frequencies.{ResetSuits}
 use Rattle.irs_rules.specs.Breaks.{Breaks, BreaksItem}
+use Rattle.irs_rules.specs.Parameters.{DayCountFits, FinalStubFits, InitialRateFits, InitialStubFits, ResetFits, TenorFits}
 
 -- K17: an offset other than 0 has no dayType; place: the offset
 abbrev pub BreaksK17 : Stream → Fault → Type 0
@@ -41,10 +41,20 @@ BreaksK19 s f =
     Breaks K19 elements.reset_dates (FitsResets s.leg s.reset) f
     ⊎ Breaks K19 elements.stub_amount (FitsStubs s.leg s.stubs) f
 
--- K20: the reset frequency isn't as long as the calculation frequency; place: resetFrequency
+-- K20: the reset frequency isn't as long as the calculation frequency, nor 1D beside calculationParameters; place:
+-- resetFrequency
 abbrev pub BreaksK20 : Stream → Fault → Type 0
-BreaksK20 s f = Breaks K20 elements.reset_frequency (ResetSuits s) f
+BreaksK20 s f = Breaks K20 elements.reset_frequency (ResetFits s) f
 
 -- K21: amounts compound at a rate that may not; place: compoundingMethod
 abbrev pub BreaksK21 : Stream → Fault → Type 0
 BreaksK21 s f = Breaks K21 elements.compounding_method (FitsCompounding s) f
+
+-- K47: an element doesn't go with calculationParameters, which work the rate out of daily rates; place: that element
+abbrev pub BreaksK47 : Stream → Fault → Type 0
+BreaksK47 s f =
+    Breaks K47 elements.index_tenor (TenorFits s.leg) f
+    ⊎ (Breaks K47 elements.initial_rate (InitialRateFits s.leg) f
+    ⊎ (Breaks K47 elements.day_count_fraction (DayCountFits s) f
+    ⊎ (Breaks K47 elements.initial_stub_floating_rate (InitialStubFits s) f
+    ⊎ Breaks K47 elements.final_stub_floating_rate (FinalStubFits s) f)))

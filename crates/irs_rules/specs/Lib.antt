@@ -1,6 +1,7 @@
 pub mod Order
 pub mod Breaks
 pub mod Centers
+pub mod Parameters
 pub mod Names
 pub mod Dates
 pub mod Amounts

@@ -12,6 +12,7 @@ use Rattle.irs_terms.specs.Centers.{HasCentersBy, HasCentersWith, StartHasCenter
 use Rattle.irs_terms.specs.Needs.{names_by, names_with, reset_names, fixing_names}
 use Rattle.irs_rules.specs.Breaks.{Breaks, BreaksItem}
 use Rattle.irs_rules.specs.Centers.{IsFoundAt, start_names}
+use Rattle.irs_rules.specs.Parameters.{applicable_names}
 
 -- K10 below calculationPeriodDates: a businessCentersReference names one list, also where no days are needed; the
 -- effective date's also where a firstPeriodStartDate is given
@@ -62,7 +63,8 @@ BreaksK11 s f =
     ⊎ IsSomeAnd s.reset (λ r. BreaksK11InResets r f)))))
 
 -- K12: an element needs days and a centre of it is in no calendar; place: its adjustments, with the centre's position.
--- The rule applies to the effective date also where a firstPeriodStartDate is given
+-- The rule applies to the effective date also where a firstPeriodStartDate is given. Applicable business days are
+-- always needed, and their place is applicableBusinessDays
 abbrev pub BreaksK12 : List Section → Stream → Fault → Type 0
 BreaksK12 cal s f =
     BreaksItem K12 elements.effective_date_adjustments (IsFoundAt cal (names_by s.effective.adj)) f
@@ -71,4 +73,5 @@ BreaksK12 cal s f =
     ⊎ (BreaksItem K12 elements.first_period_start_adjustments (IsFoundAt cal (start_names s.first_start)) f
     ⊎ (BreaksItem K12 elements.payment_dates_adjustments (IsFoundAt cal (names_with s.pay.offset s.pay.adj)) f
     ⊎ (BreaksItem K12 elements.fixing_dates (IsFoundAt cal (fixing_names s.reset)) f
-    ⊎ BreaksItem K12 elements.reset_dates_adjustments (IsFoundAt cal (reset_names s.reset)) f)))))
+    ⊎ (BreaksItem K12 elements.reset_dates_adjustments (IsFoundAt cal (reset_names s.reset)) f
+    ⊎ BreaksItem K12 elements.applicable_business_days (IsFoundAt cal (applicable_names s.leg)) f))))))

@@ -7,6 +7,6 @@ use Rattle.irs_calendar.specs.declared.sections.Section.{Section}
 use Rattle.irs_terms.specs.declared.stream_list.Swap.{Swap}
 use Rattle.irs_rules.specs.TermsRules.{BreaksTerms}
 
--- the terms of the swap break no rule, or the first of K10 to K21 that they break
+-- the terms of the swap break no rule, or the first of K10 to K21 and K47 that they break
 abbrev pub terms_of : Swap → List Section → Spec (Unit {0}) Broken
 terms_of swap cal = unbroken is_before (BreaksTerms swap cal)

@@ -1,4 +1,4 @@
--- What a stream keeps that breaks no rule of the terms (K10 to K21).
+-- What a stream keeps that breaks no rule of the terms (K10 to K21, K47).
 use Rattle.std.specs.Prelude.{◌≡◌, ℕ, List, Some, slice_get}
 use Rattle.irs_calendar.specs.declared.sections.Section.{Section}
 use Rattle.irs_terms.specs.declared.stream.Stream.{Stream}
@@ -11,15 +11,17 @@ use Rattle.irs_terms.specs.Suiting.{FrequencySuits}
 use Rattle.irs_terms.specs.Legs.{FitsLeg}
 use Rattle.irs_terms.specs.Needs.{names_by, names_with, reset_names, fixing_names}
 use Rattle.irs_rules.specs.Centers.{AreFound}
+use Rattle.irs_rules.specs.Parameters.{FitsParameters, applicable_names}
 
 -- dates in order, a frequency that suits the roll, offsets that say their days, resets on a floating
--- stream alone, steps that rise, and centres that the calendars have
+-- stream alone, what goes with calculationParameters, steps that rise, and centres that the calendars have
 pub record TermsKept (cal : List Section) (s : Stream) : Type 0 where
   pub dates : DatesInOrder s
   pub frequency : FrequencySuits s
   pub said : IsSaid s.pay.offset
   pub said_reset : IsSaidReset s
   pub legs : FitsLeg s
+  pub parameters : FitsParameters s
   pub notional_rises : StepsRise s.notional.steps
   pub leg_rises : LegStepsRise s.leg
   pub start_found : AreFound cal (names_by (first_date_of s).adj)
@@ -28,6 +30,7 @@ pub record TermsKept (cal : List Section) (s : Stream) : Type 0 where
   pub payment_found : AreFound cal (names_with s.pay.offset s.pay.adj)
   pub reset_found : AreFound cal (reset_names s.reset)
   pub fixing_found : AreFound cal (fixing_names s.reset)
+  pub applicable_found : AreFound cal (applicable_names s.leg)
 
 -- each stream of the swap keeps what its terms keep
 abbrev pub AllKept : Swap → List Section → Type 0

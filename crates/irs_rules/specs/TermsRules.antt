@@ -1,4 +1,4 @@
--- The rules of a swap's terms, K10 to K21, together.
+-- The rules of a swap's terms, K10 to K21 and K47, together.
 use Rattle.std.specs.Prelude.{◌≡◌, ◌⊎◌, ℕ, ◌+◌, List, Some, slice_get}
 use Rattle.irs_base.specs.declared.places.Broken.{Broken}
 use Rattle.irs_base.specs.declared.places.Fault.{Fault}
@@ -9,7 +9,7 @@ use Rattle.irs_terms.specs.declared.stream.Stream.{Stream}
 use Rattle.irs_terms.specs.declared.stream_list.Swap.{Swap}
 use Rattle.irs_rules.specs.Names.{BreaksK10, BreaksK11, BreaksK12}
 use Rattle.irs_rules.specs.Dates.{BreaksK13, BreaksK14, BreaksK15, BreaksK16}
-use Rattle.irs_rules.specs.Amounts.{BreaksK17, BreaksK18, BreaksK19, BreaksK20, BreaksK21}
+use Rattle.irs_rules.specs.Amounts.{BreaksK17, BreaksK18, BreaksK19, BreaksK20, BreaksK21, BreaksK47}
 
 -- of references and centres; K12 alone depends on the calendars
 abbrev pub BreaksNames : List Section → Stream → Fault → Type 0
@@ -25,7 +25,7 @@ BreaksAmounts s f = BreaksK17 s f ⊎ (BreaksK18 s f ⊎ (BreaksK19 s f ⊎ (Bre
 
 -- a stream breaks a rule of the terms
 abbrev pub BreaksStream : List Section → Stream → Fault → Type 0
-BreaksStream cal s f = BreaksNames cal s f ⊎ (BreaksDates s f ⊎ BreaksAmounts s f)
+BreaksStream cal s f = BreaksNames cal s f ⊎ (BreaksDates s f ⊎ (BreaksAmounts s f ⊎ BreaksK47 s f))
 
 -- a stream of the swap, numbered from 1, breaks a rule of the terms
 pub record BreaksTerms (swap : Swap) (cal : List Section) (f : Broken) : Type 0 where

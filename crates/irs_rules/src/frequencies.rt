@@ -1,6 +1,7 @@
 //! K14, K15 and K20: the roll suits the calculation frequency, a payment has whole calculation
-//! periods, and the reset frequency is as long as the calculation frequency.
-ghost use Rattle.std.specs.Prelude.{◌↔◌, IsTrue};
+//! periods, and the reset frequency is as long as the calculation frequency, or 1D where the rate is
+//! that of daily rates.
+ghost use Rattle.std.specs.Prelude.{◌↔◌, IsTrue, IfSome};
 ghost use Rattle.irs_terms.specs.Frequencies.{HasWholePeriods, PaymentSuits, ResetSuits};
 ghost use Rattle.irs_terms.specs.Lawful.{IsLawfulStream};
 ghost use Rattle.irs_terms.specs.Lengths.{IsPositive};
@@ -8,11 +9,13 @@ ghost use Rattle.irs_terms.specs.Suiting.{FrequencySuits, IsTerm};
 ghost use Rattle.irs_rules.specs.Order.{IsFirstHere};
 ghost use Rattle.irs_rules.specs.Dates.{BreaksK14, BreaksK15, IsTermAlone};
 ghost use Rattle.irs_rules.specs.Amounts.{BreaksK20};
+ghost use Rattle.irs_rules.specs.Parameters.{IsOneDay, ResetFits};
 
 use crate::faults::fault_unless;
 use crate::multiples::is_multiple;
+use crate::parameters::{has_parameters, is_one_day};
 use irs_base::{Elem, Fault, Rule};
-use irs_terms::{Length, Stream, Unit, suits};
+use irs_terms::{Length, ResetTerms, Stream, Unit, suits};
 
 /// K14: the calculation frequency, where the roll doesn't suit it.
 pub(crate) fn roll_misfit(s: &Stream) -> Option<Fault>
@@ -74,11 +77,27 @@ fn has_whole_periods(pay: Length, calc: Length) -> bool
     }
 }
 
-/// K20: the reset frequency, where it isn't as long as the calculation frequency.
+/// K20: the reset frequency, where it is neither as long as the calculation frequency nor 1D beside
+/// `calculationParameters`.
 pub(crate) fn reset_misfit(s: &Stream) -> Option<Fault>
     ensures { IsFirstHere (BreaksK20 s.now) result }
 {
-    fault_unless(reset_suits(s), Rule::K20, Elem::RESET_FREQUENCY)
+    fault_unless(reset_fits(s), Rule::K20, Elem::RESET_FREQUENCY)
+}
+
+fn reset_fits(s: &Stream) -> bool
+    ensures { IsTrue result ↔ ResetFits s.now }
+{
+    reset_suits(s) || (has_parameters(&s.leg) && resets_daily(&s.reset))
+}
+
+fn resets_daily(reset: &Option<ResetTerms>) -> bool
+    ensures { IsTrue result ↔ IfSome reset.now (λ r. IsOneDay r.freq) }
+{
+    match reset {
+        None => true,
+        Some(reset) => is_one_day(reset.freq),
+    }
 }
 
 fn reset_suits(s: &Stream) -> bool

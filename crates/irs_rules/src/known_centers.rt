@@ -1,5 +1,5 @@
 //! K12: each centre whose business days an element needs is in a calendar. It does not apply to an
-//! element that needs none.
+//! element that needs none; applicable business days are always needed.
 ghost use Rattle.std.specs.Prelude.{◌≡◌, ◌≤◌, IfSome, Some, length, option_copied};
 ghost use Rattle.irs_base.specs.Limits.{most_centers};
 ghost use Rattle.irs_base.specs.declared.places.Rule.TheVariants.{K12};
@@ -10,6 +10,7 @@ ghost use Rattle.irs_rules.specs.Centers.{IsFoundAt, start_names};
 ghost use Rattle.irs_rules.specs.Names.{BreaksK12};
 
 use crate::faults::{earlier, fault_of_item};
+use crate::parameters::applicable_names;
 use irs_base::{Elem, Fault, Names, Rule};
 use irs_calendar::Calendars;
 use irs_terms::{AdjustableDate, Stream, fixing_names, names_by, names_with, reset_names};
@@ -26,6 +27,7 @@ pub(crate) fn center_in_no_calendar(s: &Stream, cal: &Calendars) -> Option<Fault
     let payments = names_with(s.pay.offset, &s.pay.adj);
     let fixing = fixing_names(&s.reset);
     let resets = reset_names(&s.reset);
+    let applicable = applicable_names(&s.leg);
     let of_effective = unknown(cal, effective, Elem::EFFECTIVE_DATE_ADJUSTMENTS);
     let of_termination = unknown(cal, termination, Elem::TERMINATION_DATE_ADJUSTMENTS);
     let of_periods = unknown(cal, periods, Elem::PERIOD_DATES_ADJUSTMENTS);
@@ -33,7 +35,9 @@ pub(crate) fn center_in_no_calendar(s: &Stream, cal: &Calendars) -> Option<Fault
     let of_payments = unknown(cal, payments, Elem::PAYMENT_DATES_ADJUSTMENTS);
     let of_fixing = unknown(cal, fixing, Elem::FIXING_DATES);
     let of_resets = unknown(cal, resets, Elem::RESET_DATES_ADJUSTMENTS);
-    let later = earlier(of_payments, earlier(of_fixing, of_resets));
+    let of_applicable = unknown(cal, applicable, Elem::APPLICABLE_BUSINESS_DAYS);
+    let of_rates = earlier(of_fixing, earlier(of_resets, of_applicable));
+    let later = earlier(of_payments, of_rates);
     earlier(
         of_effective,
         earlier(

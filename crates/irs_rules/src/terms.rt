@@ -1,4 +1,4 @@
-//! The first of K10 to K21 that the terms of a swap break: the lower stream first, then the lower
+//! The first of K10 to K21 and K47 that the terms of a swap break: the lower stream first, then the lower
 //! rule, then the earlier element in the order of the table of elements, then the lower index.
 ghost use Rattle.irs_base.specs.Outcomes.{Checks, Determined};
 ghost use Rattle.irs_terms.specs.Lawful.{IsLawful, IsLawfulStream};
@@ -13,6 +13,7 @@ use crate::faults::earlier;
 use crate::frequencies::{payment_misfit, reset_misfit, roll_misfit};
 use crate::known_centers::center_in_no_calendar;
 use crate::legs::{compounding_misfit, element_of_other_leg};
+use crate::parameters::parameters_misfit;
 use crate::payment_dates::payment_date_misfit;
 use crate::references::dangling_reference;
 use crate::step_dates::step_out_of_order;
@@ -20,12 +21,13 @@ use irs_base::{Broken, Fault};
 use irs_calendar::Calendars;
 use irs_terms::{Stream, Swap};
 
-/// The first of K10 to K21 that a lawful swap breaks: of the lower stream, then the lower rule, then
+/// The first of K10 to K21 and K47 that a lawful swap breaks: of the lower stream, then the lower rule, then
 /// the earlier element, then the lower index. `None` comes exactly where it breaks none.
 ///
 /// The rules are our own, on the elements of FpML's InterestRateStream: references and centres (K10
-/// to K12), dates and frequencies (K13 to K16), offsets, steps and rates (K17 to K21). K12 looks up in
-/// the calendars the centres of elements that need business days. No memory is taken.
+/// to K12), dates and frequencies (K13 to K16), offsets, steps and rates (K17 to K21), and what goes with
+/// `calculationParameters` (K47). K12 looks up in the calendars the centres of elements that need
+/// business days. No memory is taken.
 pub fn check_terms(swap: &Swap, cal: &Calendars) -> Option<Broken>
     requires { IsLawful swap.now }
     ensures meets { Checks (terms_of swap.now cal.now) result }
@@ -52,10 +54,8 @@ fn first_in_stream(s: &Stream, cal: &Calendars) -> Option<Fault>
     requires { IsLawfulStream s.now }
     ensures { IsFirstHere (BreaksStream cal.now s.now) result }
 {
-    earlier(
-        first_of_names(s, cal),
-        earlier(first_of_dates(s), first_of_amounts(s)),
-    )
+    let amounts = earlier(first_of_amounts(s), parameters_misfit(s));
+    earlier(first_of_names(s, cal), earlier(first_of_dates(s), amounts))
 }
 
 /// The first of K10 to K12.
