@@ -1,18 +1,18 @@
-//! The sentences of the rules K1 to K46 and of the faults of cash flows, as three lists side by side: the
+//! The sentences of the rules K1 to K49 and of the faults of cash flows, as three lists side by side: the
 //! word that the program prints, and what stands before and behind the element.
 ghost use Rattle.irs_plain.specs.Rules.{codes_of, texts_after, texts_before};
 ghost use Rattle.std.specs.Prelude.{◌≡◌, map};
 
 /// The rules, then the kinds of fault of cash flows.
-pub const RULES: [&str; 44] = [
+pub const RULES: [&str; 47] = [
     "K1", "K2", "K3", "K4", "K5", "K6", "K7", "K8", "K10", "K11", "K12", "K13", "K14", "K15",
     "K16", "K17", "K18", "K19", "K20", "K21", "K30", "K31", "K32", "K33", "K34", "K35", "K36",
-    "K37", "K38", "K39", "K40", "K41", "K42", "K43", "K44", "K45", "K46", "notjson", "missing",
-    "kind", "unknown", "profile", "value", "count",
+    "K37", "K38", "K39", "K40", "K41", "K42", "K43", "K44", "K45", "K46", "K47", "K48", "K49",
+    "notjson", "missing", "kind", "unknown", "profile", "value", "count",
 ];
 
 /// What stands before the element.
-pub const BEFORE: [&str; 44] = [
+pub const BEFORE: [&str; 47] = [
     "",
     "",
     "",
@@ -51,6 +51,9 @@ pub const BEFORE: [&str; 44] = [
     "",
     "the stub of ",
     "",
+    "a period has too few applicable business days for ",
+    "",
+    "",
     "",
     "",
     "",
@@ -60,7 +63,7 @@ pub const BEFORE: [&str; 44] = [
 ];
 
 /// What stands behind the element.
-pub const AFTER: [&str; 44] = [
+pub const AFTER: [&str; 47] = [
     " isn't JSON",
     " is missing, or lacks a member that it has to have",
     " isn't the text or the object that it has to be",
@@ -98,6 +101,9 @@ pub const AFTER: [&str; 44] = [
     " passes its limit",
     " has no floating rate for a stub on that side",
     " doesn't end between the two tenors",
+    " doesn't go with calculationParameters",
+    "",
+    " isn't there, or has no calculationParameters",
     " isn't JSON",
     " is missing, or lacks a member that it has to have",
     " isn't the text or the object that it has to be",
