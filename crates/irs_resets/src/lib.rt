@@ -12,5 +12,6 @@ mod tenors;
 mod words;
 
 pub use fixings::{FixErr, Fixings, fixings_are_determined};
+pub use observed::{PeriodKind, period_kind};
 pub use rows::{ResErr, resets, resets_are_determined};
 pub use tenors::{IndexTenor, tenor};
