@@ -9,3 +9,9 @@ pub mod FactorLemmas
 pub mod OutcomeLemmas
 pub mod SizeLemmas
 pub mod RateLemmas
+pub mod PeriodRateLaws
+pub mod OriginLemmas
+pub mod OvernightLemmas
+pub mod FirstOvernight
+pub mod OvernightThere
+pub mod OvernightOutcomes

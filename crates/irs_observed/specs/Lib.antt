@@ -7,4 +7,8 @@ pub mod DailyRates
 pub mod Factors
 pub mod ObservedRates
 pub mod RateLaws
+pub mod RateOrigins
+pub mod OvernightRates
+pub mod OvernightResets
+pub mod OvernightWalk
 pub mod Outcomes

@@ -2,7 +2,7 @@
 use Rattle.std.specs.Prelude.{◌≡◌, ℕ, ◌+◌, ◌*◌, ◌-◌, ◌^◌, ◌≤◌, List, Option, Some, None, ℤ, pos, ◌<ℤ◌, ◌+ℤ◌, ◌-ℤ◌}
 use Rattle.std.specs.Prelude.{◌*ℤ◌, unsigned_abs}
 use Rattle.irs_base.specs.Days.{all_days}
-use Rattle.irs_base.specs.Rounding.{Rounded}
+use Rattle.irs_base.specs.Rounding.{Rounded, rounded}
 use Rattle.irs_base.specs.declared.rounding.Direction.TheVariants.{Nearest}
 use Rattle.irs_terms.specs.declared.amounts.Rounding.{Rounding}
 use Rattle.irs_observed.specs.DailyRates.{AreKnown, DailyRates, Through}
@@ -92,3 +92,9 @@ pub record IsPeriodRate (x : Fraction) (multiplier spread : ℤ) (rounding : Rou
   pub rounded : Rounded rounding.dir (multiplier *ℤ x.numerator +ℤ spread *ℤ x.denominator)
       (pos (10 ^ (9 - rounding.places)) *ℤ x.denominator) whole
   pub scaled : r ≡ whole *ℤ pos (10 ^ (9 - rounding.places))
+
+-- the same as a function
+abbrev pub period_rate_at : Fraction → ℤ → ℤ → Rounding → ℤ
+period_rate_at x multiplier spread rounding =
+    rounded rounding.dir (multiplier *ℤ x.numerator +ℤ spread *ℤ x.denominator)
+    (pos (10 ^ (9 - rounding.places)) *ℤ x.denominator) *ℤ pos (10 ^ (9 - rounding.places))

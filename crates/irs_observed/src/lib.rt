@@ -4,10 +4,15 @@
 
 mod averages;
 mod daily;
+mod daily_resets;
 mod factors;
 mod members;
 mod method;
 mod observation;
+mod order;
+mod origin;
+mod overnight_rate;
+mod overnight_rates;
 mod period;
 mod period_rates;
 mod products;
@@ -18,8 +23,12 @@ mod tests;
 mod walk;
 
 pub use daily::daily_rate;
+pub use daily_resets::{OvernightResets, overnight_resets, overnight_resets_are_determined};
 pub use method::{DailyRateMethod, YearDays};
 pub use observation::{NoObservations, Observation, ObservationList};
+pub use origin::{RateOrigin, own_rate, rate_origin};
+pub use overnight_rate::{OvernightRate, OvernightRates};
+pub use overnight_rates::method_by;
 pub use period_rates::{period_rate, printed_rate};
 pub use rate_laws::rates_keep_their_range;
 pub use rates::{FactorOutOfRange, ObservedRate, observed_rate};

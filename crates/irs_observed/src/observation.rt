@@ -26,6 +26,10 @@ pub struct ObservationList {
 }
 
 impl Model for ObservationList {
+    ghost use Rattle.std.specs.Prelude.{List};
+    ghost use Rattle.irs_observed.specs.Observations.{HasWeights};
+    ghost use Rattle.irs_observed.specs.declared.observation.Observation.{Observation as AnObservation};
+
     ghost Value = { List AnObservation };
 
     ghost view = { λ o. o.all.items };

@@ -5,6 +5,8 @@ ghost use Rattle.irs_base.specs.Rounding.{Rounded};
 ghost use Rattle.irs_base.specs.declared.rounding.Direction.TheVariants.{Nearest};
 ghost use Rattle.irs_terms.specs.Lawful.{IsRate};
 ghost use Rattle.irs_observed.specs.ObservedRates.{IsBounded, IsPeriodRate, IsPrinted, most_observed, most_period_rate};
+ghost use Rattle.irs_observed.specs.ObservedRates.{period_rate_at};
+ghost use Rattle.irs_observed.specs.OvernightRates.{printed as printed_value};
 
 use crate::products::{product, ten_to};
 use crate::rates::ObservedRate;
@@ -14,6 +16,7 @@ use irs_terms::Rounding;
 /// The observed rate in units of 10^-9, to the nearest, a half up: what is printed of it.
 pub fn printed_rate(x: ObservedRate) -> i64
     ensures printed { IsPrinted x result }
+    ensures value { result ≡ printed_value x }
     ensures size { unsigned_abs result ≤ most_observed * 10 ^ 9 }
 {
     let (numerator, denominator) = x.parts();
@@ -144,6 +147,7 @@ pub fn period_rate(x: ObservedRate, multiplier: i64, spread: i64, rounding: Roun
     requires spread { IsRate spread }
     requires places { rounding.places ≤ 9 }
     ensures rate { IsPeriodRate x multiplier spread rounding result }
+    ensures value { result ≡ period_rate_at x multiplier spread rounding }
     ensures size { unsigned_abs result ≤ most_period_rate }
 {
     let (numerator, denominator) = x.parts();

@@ -33,6 +33,8 @@ pub struct ObservedRate {
 }
 
 impl Model for ObservedRate {
+    ghost use Rattle.irs_observed.specs.ObservedRates.{Fraction, IsBounded};
+
     ghost Value = { Fraction };
 
     ghost view = { λ x. record { numerator = x.numerator; denominator = x.denominator } };

@@ -2,6 +2,7 @@ use Rattle.std.proofs.Common.{rules, arith, ℤ, FitsSigned}
 use Rattle.std.specs.Int.{w64, w128}
 use Rattle.std.proofs.lemmas.Int.{to_z-of_z, ints}
 use Rattle.irs_observed.specs.ObservedRates.{IsPeriodRate}
+use Rattle.irs_observed.proofs.PeriodRateLaws.{period_rate_value}
 use Rattle.irs_observed.proofs.SizeLemmas.{period_rate_of}
 use Rattle.irs_observed.proofs.period_rates.period_rate.Goals as goal
 
@@ -21,3 +22,11 @@ returns-clause-rate c =
     let all = period_rate_of c.args.x n d c.args.multiplier c.args.spread c.rate_by.result c.args.rounding
     c.parts-numerator.ensures.numerator c.parts-numerator.ensures.denominator is in
     simp to_z-of_z all
+
+pub returns-clause-value : goal.returns-clause-value
+returns-clause-value c =
+    let above = c.parts-numerator.ensures.bounds.above in
+    let fm : FitsSigned w64 c.args.multiplier = c.ranges.multiplier in
+    let fs : FitsSigned w64 c.args.spread = c.ranges.spread in
+    let is = returns-clause-rate c in
+    period_rate_value c.args.x above c.args.multiplier c.args.spread c.args.rounding _ is

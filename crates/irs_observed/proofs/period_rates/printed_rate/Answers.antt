@@ -1,4 +1,6 @@
-use Rattle.std.proofs.Common.{rules, arith, ℤ, FitsSigned}
+use Rattle.std.proofs.Common.{rules, arith, ◌^◌, ℤ, pos, ◌*ℤ◌, FitsSigned}
+use Rattle.irs_base.proofs.RoundingLaws.{rounded_value}
+use Rattle.irs_base.specs.declared.rounding.Direction.TheVariants.{Nearest}
 use Rattle.std.specs.Int.{w64, w128}
 use Rattle.std.proofs.lemmas.Int.{to_z-of_z, ints}
 use Rattle.irs_observed.specs.ObservedRates.{IsPrinted}
@@ -19,3 +21,8 @@ returns-clause-printed c =
     let all = printed_of c.args.x n d c.printed.result c.parts-numerator.ensures.numerator
     c.parts-numerator.ensures.denominator is in
     simp to_z-of_z all
+
+pub returns-clause-value : goal.returns-clause-value
+returns-clause-value c =
+    let above = c.parts-numerator.ensures.bounds.above in
+    rounded_value Nearest (pos (10 ^ 9) *ℤ c.args.x.numerator) c.args.x.denominator _ above (returns-clause-printed c)

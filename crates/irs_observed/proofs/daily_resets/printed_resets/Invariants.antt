@@ -1,0 +1,11 @@
+use Rattle.std.proofs.Common.{◌≡◌, length, All}
+use Rattle.irs_base.specs.Members.{EachNumbered}
+use Rattle.irs_observed.specs.OvernightResets.{HasPrintedRate, IsPrintedRow}
+use Rattle.irs_observed.proofs.daily_resets.printed_resets.Given as goal
+
+abbrev pub invariant-loop-place : goal.invariant-loop-place
+invariant-loop-place l = record {
+  many : length l.printed ≡ l.place;
+  each : EachNumbered (IsPrintedRow l.rows l.rates) 1 l.printed;
+  size : All HasPrintedRate l.printed;
+}
