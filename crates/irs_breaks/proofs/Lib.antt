@@ -12,3 +12,15 @@ pub mod Listing
 pub mod OnePairing
 pub mod FieldTies
 pub mod CountSteps
+pub mod Joining
+pub mod RowsTold
+pub mod OneList
+pub mod PlacedRows
+pub mod PaymentPlaces
+pub mod Agreed
+pub mod Stated
+pub mod PaymentsTold
+pub mod TablesTold
+pub mod StreamsTold
+pub mod TextLines
+pub mod TextSums

@@ -1,5 +1,5 @@
 -- The breaks among the fields of a pair, and how its fields are counted.
-use Rattle.std.specs.Prelude.{◌≡◌, ◌⊎◌, ℕ, Bool, true, false, List, [], ◌∷◌}
+use Rattle.std.specs.Prelude.{◌≡◌, ◌⊎◌, ℕ, ◌+◌, Bool, true, false, List, [], ◌∷◌}
 use Rattle.std.specs.List.{count_by}
 use Rattle.irs_audit.specs.declared.departures.Field.{Field}
 use Rattle.irs_breaks.specs.Values.{CanBeCompared, Differ, standing_of}
@@ -25,6 +25,14 @@ counts_in fields = record {
   compared = number_of Compared fields;
   unstated = number_of Unstated fields;
   unknown = number_of Unknown fields;
+}
+
+-- the counts of fields and of others
+abbrev pub together : Counts → Counts → Counts
+together a b = record {
+  compared = a.compared + b.compared;
+  unstated = a.unstated + b.unstated;
+  unknown = a.unknown + b.unknown;
 }
 
 -- the two values of a field can be compared

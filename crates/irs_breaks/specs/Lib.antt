@@ -8,3 +8,7 @@ pub mod Laws
 pub mod Values
 pub mod Fields
 pub mod Counting
+pub mod Findings
+pub mod RowFindings
+pub mod BreakLists
+pub mod BreakTexts

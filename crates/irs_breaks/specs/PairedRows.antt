@@ -1,5 +1,5 @@
 -- The rows of two lists, paired or alone, in the order in which they are listed.
-use Rattle.std.specs.Prelude.{◌≡◌, ◌⊎◌, ℕ, ◌<◌, ℤ, ◌<ℤ◌, List, Option, Some, None}
+use Rattle.std.specs.Prelude.{◌≡◌, ◌⊎◌, ℕ, ◌<◌, ℤ, ◌<ℤ◌, List, Option, Some, None, IfSome}
 use Rattle.std.specs.List.{Contains}
 use Rattle.irs_breaks.specs.Blocks.{At}
 use Rattle.irs_breaks.specs.Dated.{rows_from}
@@ -57,3 +57,8 @@ pub record IsPairing (from : ℤ) (ours theirs : List (Option ℤ)) (rows : List
   pub sound : (m : PairedRow) → Contains rows m → IsListed from ours theirs m
   pub complete : (m : PairedRow) → IsListed from ours theirs m → Contains rows m
   pub in_order : AreInOrder rows
+
+-- the places of a row, where it has any, are places of lists of these lengths
+pub record IsPlaced (ours theirs : ℕ) (m : PairedRow) : Type 0 where
+  pub of_ours : IfSome m.ours (λ n. n < ours)
+  pub of_theirs : IfSome m.theirs (λ n. n < theirs)

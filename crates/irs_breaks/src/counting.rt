@@ -1,11 +1,8 @@
-//! The fields of a pair that differ, and how its fields are counted.
-ghost use Rattle.std.specs.Prelude.{◌≡◌, ◌<◌, ◌^◌, IfOk, length};
-ghost use Rattle.irs_base.specs.Members.{Every};
-ghost use Rattle.irs_breaks.specs.Counting.{AreBreaks, IsComparable, counts_in};
+//! How the fields of a pair are counted.
+ghost use Rattle.std.specs.Prelude.{◌≡◌, ◌+◌, ◌<◌, ◌^◌, length};
+ghost use Rattle.irs_breaks.specs.Counting.{counts_in, together};
 
-use crate::values::{FieldValues, Standing, differ, standing_of};
-use irs_base::Memory;
-use std::alloc::Global;
+use crate::values::{FieldValues, Standing, standing_of};
 
 /// How the fields of a pair are counted: each of them once.
 #[derive(Clone, Copy)]
@@ -40,17 +37,16 @@ pub fn counts_of(fields: &[FieldValues]) -> Counts
     }
 }
 
-/// The breaks of a pair: those of its fields that the schedule knows and that are stated otherwise, in order.
-/// `Memory` comes only where memory ran out.
-pub fn breaks_of(alloc: Global, fields: &[FieldValues]) -> Result<Vec<FieldValues>, Memory>
-    requires { Every IsComparable fields.now }
-    ensures { IfOk result (λ list. AreBreaks fields.now list.items) }
+/// How fields are counted together with others.
+pub(crate) fn both(a: Counts, b: Counts) -> Counts
+    requires compared { a.compared + b.compared < 2 ^ 32 }
+    requires unstated { a.unstated + b.unstated < 2 ^ 32 }
+    requires unknown { a.unknown + b.unknown < 2 ^ 32 }
+    ensures { result ≡ together a b }
 {
-    let mut list = Vec::new(alloc);
-    for field in fields {
-        if differ(&field.values) {
-            list.push(*field)?;
-        }
+    Counts {
+        compared: a.compared + b.compared,
+        unstated: a.unstated + b.unstated,
+        unknown: a.unknown + b.unknown,
     }
-    Ok(list)
 }

@@ -1,5 +1,5 @@
 //! The rows of a list that have a date, in the order of their dates.
-ghost use Rattle.std.specs.Prelude.{◌≡◌, ◌<◌, ◌^◌, IfOk, length};
+ghost use Rattle.std.specs.Prelude.{◌≡◌, IfOk};
 ghost use Rattle.std.specs.List.Sorted.{IsPermutation};
 ghost use Rattle.irs_breaks.specs.Blocks.{AreRising};
 ghost use Rattle.irs_breaks.specs.Dated.{dated_row, rows_from};
@@ -13,7 +13,7 @@ pub struct DatedRow {
     /// Its date.
     pub day: Day,
     /// Its place in its list, counted from 0.
-    pub place: u32,
+    pub place: usize,
 }
 
 /// A row of two lists that were paired: one of ours with one of theirs, or one alone.
@@ -22,13 +22,13 @@ pub struct PairedRow {
     /// The date of ours, else of theirs, where it has one.
     pub day: Option<Day>,
     /// The place of the row of ours, counted from 0.
-    pub ours: Option<u32>,
+    pub ours: Option<usize>,
     /// The place of the row of theirs, counted from 0.
-    pub theirs: Option<u32>,
+    pub theirs: Option<usize>,
 }
 
 // The row with a date, where it has one that isn't before the first day that is asked for.
-fn dated_row(from: Day, date: Option<Day>, place: u32) -> Option<DatedRow>
+fn dated_row(from: Day, date: Option<Day>, place: usize) -> Option<DatedRow>
     ensures { result ≡ dated_row from date place }
 {
     match date {
@@ -39,12 +39,11 @@ fn dated_row(from: Day, date: Option<Day>, place: u32) -> Option<DatedRow>
 
 // The rows that have a date and are due, in the order of their places.
 fn rows_of(alloc: Global, from: Day, dates: &[Option<Day>]) -> Result<Vec<DatedRow>, Memory>
-    requires { length dates.now < 2 ^ 32 }
     ensures { IfOk result (λ rows. rows.items ≡ rows_from from 0 dates.now) }
 {
     let mut rows = Vec::new(alloc);
     for place in 0..dates.len() {
-        if let Some(row) = dated_row(from, dates[place], place as u32) {
+        if let Some(row) = dated_row(from, dates[place], place) {
             rows.push(row)?;
         }
     }
@@ -57,7 +56,6 @@ pub(crate) fn rows_in_order(
     from: Day,
     dates: &[Option<Day>],
 ) -> Result<Vec<DatedRow>, Memory>
-    requires { length dates.now < 2 ^ 32 }
     ensures rising { IfOk result (λ rows. AreRising rows.items) }
     ensures same { IfOk result (λ rows. IsPermutation (rows_from from 0 dates.now) rows.items) }
 {

@@ -29,8 +29,8 @@ fn numbers(field: Field, number: Option<Dec>, stated: Option<i128>) -> FieldValu
     FieldValues { field, values }
 }
 
-// A notional, in units of 10^-4.
-fn notional(units: i128) -> Dec
+/// A notional, in units of 10^-4.
+pub(crate) fn notional(units: i128) -> Dec
     ensures { result ≡ notional_of units }
 {
     Dec { units, places: 4 }

@@ -1,7 +1,14 @@
-//! Laws of the pairing, each the contract of a function that does nothing.
-ghost use Rattle.std.specs.Prelude.{List, Option, ℤ};
+//! Laws of the pairing and of the list of breaks, each the contract of a function that does nothing.
+ghost use Rattle.std.specs.Prelude.{◌≡◌, List, Option, sum_by, ℤ};
+ghost use Rattle.irs_audit.specs.Agreement.{Agrees};
+ghost use Rattle.irs_audit.specs.FlowParts.{FlowPart};
+ghost use Rattle.irs_audit.specs.StatedFlows.{stated_flows};
+ghost use Rattle.irs_breaks.specs.BreakLists.{HasBreak, IsBreakList};
+ghost use Rattle.irs_breaks.specs.Findings.{Findings};
+ghost use Rattle.irs_schedule.specs.Parts.{IsWithin, Part};
 ghost use Rattle.irs_breaks.specs.Laws.{DontCross, HasOnePartner, IsOnlyPairing, IsSymmetric};
 ghost use Rattle.irs_breaks.specs.PairedRows.{IsPairing};
+ghost use Rattle.irs_breaks.specs.declared.counting.Counts.{Counts};
 ghost use Rattle.irs_breaks.specs.declared.dated.DatedRow.{DatedRow};
 ghost use Rattle.irs_breaks.specs.declared.dated.PairedRow.{PairedRow};
 
@@ -24,4 +31,24 @@ pub fn same_either_way()
 pub fn only_pairing()
     ensures { (from : ℤ) (ours theirs : List (Option ℤ)) (rows : List PairedRow)
         → IsPairing from ours theirs rows → IsOnlyPairing from ours theirs rows }
+{}
+
+/// The list of breaks is the only one.
+pub fn one_list()
+    ensures { (from : Option ℤ) (s : List Part) (f : List FlowPart) (l m : Findings) → IsBreakList from s f l
+        → IsBreakList from s f m → l ≡ m }
+{}
+
+/// Where the cash flows agree with a schedule, so that `audit` says yes, nothing breaks, from whatever day on.
+pub fn agreed_is_unbroken()
+    ensures { (from : Option ℤ) (s : List Part) (f : List FlowPart) (l : Findings) → IsWithin s → Agrees f s
+        → IsBreakList from s f l → ¬ (HasBreak l) }
+{}
+
+/// For the cash flows that state a schedule nothing breaks and nothing is unstated, from whatever day on.
+pub fn stated_is_unbroken()
+    ensures unbroken { (from : Option ℤ) (s : List Part) (l : Findings) → IsWithin s → IsBreakList from s (stated_flows s) l
+        → ¬ (HasBreak l) }
+    ensures whole { (from : Option ℤ) (s : List Part) (l : Findings) → IsWithin s → IsBreakList from s (stated_flows s) l
+        → sum_by (λ (c : Counts). c.unstated) l.pairs ≡ 0 }
 {}

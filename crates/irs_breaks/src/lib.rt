@@ -1,20 +1,33 @@
 //! Every difference between the cash flows of two parties: the rows of a schedule and of another party's cash
-//! flows, paired by their dates, and the fields of a pair.
+//! flows, paired by their dates, the list of what differs, and its text.
 #![tactic(auto)]
 
 mod blocks;
 mod counting;
 mod dated;
+mod exchange_breaks;
 mod fields;
+mod findings;
 mod laws;
 mod pairing;
+mod payment_breaks;
+mod period_breaks;
+mod row_breaks;
+mod streams;
 #[cfg(test)]
 mod tests;
+mod texts;
 mod values;
 
-pub use counting::{Counts, breaks_of, counts_of};
+pub use counting::{Counts, counts_of};
 pub use dated::{DatedRow, PairedRow};
 pub use fields::{exchange_fields, payment_fields, period_fields, reset_fields};
-pub use laws::{no_crossing, one_partner, only_pairing, same_either_way};
+pub use findings::{Break, BreakList, BreakPlace, What};
+pub use laws::{
+    agreed_is_unbroken, no_crossing, one_list, one_partner, only_pairing, same_either_way,
+    stated_is_unbroken,
+};
 pub use pairing::pair_rows;
+pub use streams::breaks;
+pub use texts::breaks_text;
 pub use values::{FieldValues, Standing, Values, differ, standing_of};

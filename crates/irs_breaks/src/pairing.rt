@@ -3,11 +3,11 @@
 //! Of a date that both lists have, the k-th row of ours is paired with the k-th of theirs. These common dates
 //! cut the other dates into gaps; where a gap holds as many rows of ours as of theirs, they are paired in
 //! order. It is this project's own rule.
-ghost use Rattle.std.specs.Prelude.{◌≡◌, ◌<◌, ◌≤◌, ◌^◌, ℕ, ℤ, IfOk, IsFalse, IsTrue, OnOk, Option, is_none, length, take};
-ghost use Rattle.irs_base.specs.Members.{Pairs};
+ghost use Rattle.std.specs.Prelude.{◌≡◌, ◌<◌, ◌≤◌, ℕ, ℤ, IfOk, IsFalse, IsTrue, OnOk, Option, is_none, length, take};
+ghost use Rattle.irs_base.specs.Members.{Every, Pairs};
 ghost use Rattle.irs_breaks.specs.Blocks.{AreRising, At, IsBlock, IsEdge, IsPartner};
 ghost use Rattle.irs_breaks.specs.Merging.{IsBeforeAll, IsMergedBefore, IsMergedTo, IsNotBefore};
-ghost use Rattle.irs_breaks.specs.PairedRows.{IsPairing, row_of_ours};
+ghost use Rattle.irs_breaks.specs.PairedRows.{IsPairing, IsPlaced, row_of_ours};
 ghost use Rattle.irs_breaks.specs.Undated.{ListsUndated, ListsUndatedExtras};
 ghost use Rattle.irs_breaks.specs.declared.dated.DatedRow.{DatedRow};
 
@@ -25,7 +25,7 @@ fn partner(
     j: usize,
     block: Block,
     k: usize,
-) -> Option<u32>
+) -> Option<usize>
     requires ours { AreRising ours.now }
     requires theirs { AreRising theirs.now }
     requires edge { IsEdge ours.now theirs.now i j }
@@ -43,7 +43,7 @@ fn partner(
 
 // The partners of the rows of ours in a block.
 fn push_partners(
-    partners: &mut Vec<Option<u32>>,
+    partners: &mut Vec<Option<usize>>,
     ours: &[DatedRow],
     theirs: &[DatedRow],
     i: usize,
@@ -68,7 +68,7 @@ fn partners(
     alloc: Global,
     ours: &[DatedRow],
     theirs: &[DatedRow],
-) -> Result<Vec<Option<u32>>, Memory>
+) -> Result<Vec<Option<usize>>, Memory>
     requires ours { AreRising ours.now }
     requires theirs { AreRising theirs.now }
     ensures { IfOk result (λ list. Pairs (IsPartner ours.now theirs.now) ours.now list.items) }
@@ -85,7 +85,7 @@ fn partners(
 }
 
 // Whether the row at a place has no partner.
-fn is_alone(partners: &[Option<u32>], place: usize) -> bool
+fn is_alone(partners: &[Option<usize>], place: usize) -> bool
     requires { place < length partners.now }
     ensures { (o : Option ℕ) → At partners.now place o → result ≡ is_none o }
 {
@@ -113,7 +113,7 @@ fn push_before(
     ours: &[DatedRow],
     p: usize,
     theirs: &[DatedRow],
-    partners: &[Option<u32>],
+    partners: &[Option<usize>],
     q: usize,
 ) -> Result<usize, Memory>
     requires ours { AreRising ours.now }
@@ -139,7 +139,7 @@ fn push_before(
 }
 
 // The row of ours at a place, with its partner.
-fn paired_row(ours: &[DatedRow], partners: &[Option<u32>], place: usize) -> PairedRow
+fn paired_row(ours: &[DatedRow], partners: &[Option<usize>], place: usize) -> PairedRow
     requires ours { place < length ours.now }
     requires partners { place < length partners.now }
     ensures { (x : DatedRow) (o : Option ℕ) → At ours.now place x → At partners.now place o → result ≡ row_of_ours x o }
@@ -157,8 +157,8 @@ fn merged(
     alloc: Global,
     ours: &[DatedRow],
     theirs: &[DatedRow],
-    of_ours: &[Option<u32>],
-    of_theirs: &[Option<u32>],
+    of_ours: &[Option<usize>],
+    of_theirs: &[Option<usize>],
 ) -> Result<Vec<PairedRow>, Memory>
     requires ours { AreRising ours.now }
     requires theirs { AreRising theirs.now }
@@ -189,14 +189,13 @@ fn is_undated(dates: &[Option<Day>], place: usize) -> bool
 
 // The rows of ours without a date.
 fn push_undated(rows: &mut Vec<PairedRow>, ours: &[Option<Day>]) -> Result<(), Memory>
-    requires { length ours.now < 2 ^ 32 }
     ensures { OnOk result (ListsUndated ours.now rows.old.items rows.new.items (length ours.now)) }
 {
     for place in 0..ours.len() {
         if is_undated(ours, place) {
             rows.push(PairedRow {
                 day: None,
-                ours: Some(place as u32),
+                ours: Some(place),
                 theirs: None,
             })?;
         }
@@ -206,7 +205,6 @@ fn push_undated(rows: &mut Vec<PairedRow>, ours: &[Option<Day>]) -> Result<(), M
 
 // The rows of theirs without a date, after those of ours.
 fn push_undated_extras(rows: &mut Vec<PairedRow>, theirs: &[Option<Day>]) -> Result<(), Memory>
-    requires { length theirs.now < 2 ^ 32 }
     ensures { OnOk result (ListsUndatedExtras theirs.now rows.old.items rows.new.items (length theirs.now)) }
 {
     for place in 0..theirs.len() {
@@ -214,7 +212,7 @@ fn push_undated_extras(rows: &mut Vec<PairedRow>, theirs: &[Option<Day>]) -> Res
             rows.push(PairedRow {
                 day: None,
                 ours: None,
-                theirs: Some(place as u32),
+                theirs: Some(place),
             })?;
         }
     }
@@ -231,9 +229,8 @@ pub fn pair_rows(
     ours: &[Option<Day>],
     theirs: &[Option<Day>],
 ) -> Result<Vec<PairedRow>, Memory>
-    requires ours { length ours.now < 2 ^ 32 }
-    requires theirs { length theirs.now < 2 ^ 32 }
-    ensures { IfOk result (λ rows. IsPairing from ours.now theirs.now rows.items) }
+    ensures pairing { IfOk result (λ rows. IsPairing from ours.now theirs.now rows.items) }
+    ensures placed { IfOk result (λ rows. Every (IsPlaced (length ours.now) (length theirs.now)) rows.items) }
 {
     let our_rows = rows_in_order(alloc, from, ours)?;
     let their_rows = rows_in_order(alloc, from, theirs)?;

@@ -5,7 +5,7 @@ use std::alloc::Global;
 use std::test::*;
 
 // The number of a row, from 1, and 0 where there is none.
-fn number(place: Option<u32>) -> u32 {
+fn number(place: Option<usize>) -> usize {
     match place {
         Some(n) => n.saturating_add(1),
         None => 0,
@@ -33,9 +33,6 @@ fn days(alloc: Global, numbers: &[u8]) -> Result<Vec<Option<Day>>, Memory> {
 
 fn rows(alloc: Global, from: u8, ours: &[u8], theirs: &[u8]) -> Result<Vec<PairedRow>, Memory> {
     let (x, y) = (days(alloc, ours)?, days(alloc, theirs)?);
-    if x.len() > 1000 || y.len() > 1000 {
-        return Err(Memory);
-    }
     let first = match day(from) {
         Some(d) => d,
         None => Day::earliest(),
@@ -44,7 +41,7 @@ fn rows(alloc: Global, from: u8, ours: &[u8], theirs: &[u8]) -> Result<Vec<Paire
 }
 
 // Whether the rows are listed so: each is the number of ours and that of theirs, 0 where there is none.
-fn listed(alloc: Global, from: u8, ours: &[u8], theirs: &[u8], wanted: &[(u32, u32)]) -> bool {
+fn listed(alloc: Global, from: u8, ours: &[u8], theirs: &[u8], wanted: &[(usize, usize)]) -> bool {
     match rows(alloc, from, ours, theirs) {
         Ok(rows) => {
             let mut same = rows.len() == wanted.len();

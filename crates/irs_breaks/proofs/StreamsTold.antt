@@ -1,0 +1,61 @@
+-- A stream is told of: of both sides, of one, or of none.
+use Rattle.std.proofs.Common.{◌≡◌, ℕ, max, List, length, Bor, Option, Some, None, ℤ, refl, sym, subst}
+use Rattle.std.specs.Prelude.{option_copied, slice_get}
+use Rattle.core.specs.Slice.{IsItemAt}
+use Rattle.core.proofs.slice.Searches.{copied_from_item}
+use Rattle.irs_schedule.specs.Parts.{Part}
+use Rattle.irs_audit.specs.FlowParts.{FlowPart}
+use Rattle.irs_breaks.specs.BreakLists.{AreExchangesOf, ArePaymentsOf, IsStream, StreamAt, whole_stream}
+use Rattle.irs_breaks.specs.Findings.{Adds, Findings, UpTo, joined, nothing}
+use Rattle.irs_breaks.specs.declared.findings.What.TheVariants as what
+use Rattle.irs_breaks.proofs.Joining.{adds_then, joined_nothing}
+use Rattle.irs_breaks.proofs.PaymentsTold.{added_to_nothing}
+
+-- a stream of both sides
+pub both_told : (from : ℤ) (stream : ℕ) (o : Option Part) (q : Option FlowPart) (p : Part) (g : FlowPart) (a b c : Findings)
+    → Some p ≡ o → Some g ≡ q → Adds (AreExchangesOf from stream p g) a b → Adds (ArePaymentsOf from stream p g) b c
+    → Adds (IsStream from stream o q) a c
+both_told from stream o q p g a b c e f h k =
+    subst (λ (o : Option Part). Adds (IsStream from stream o q) a c) e
+    (subst (λ (q : Option FlowPart). Adds (IsStream from stream (Some p) q) a c) f
+    (adds_then (AreExchangesOf from stream p g) (ArePaymentsOf from stream p g) a b c h k))
+
+-- one of ours alone
+pub ours_told : (from : ℤ) (stream : ℕ) (o : Option Part) (q : Option FlowPart) (p : Part) (a b : Findings)
+    → Some p ≡ o → None ≡ q → b ≡ joined a (whole_stream stream (what.Missing None)) → Adds (IsStream from stream o q) a b
+ours_told from stream o q p a b e f h =
+    subst (λ (o : Option Part). Adds (IsStream from stream o q) a b) e
+    (subst (λ (q : Option FlowPart). Adds (IsStream from stream (Some p) q) a b) f
+    (whole_stream stream (what.Missing None), refl, h))
+
+-- one of theirs alone
+pub theirs_told : (from : ℤ) (stream : ℕ) (o : Option Part) (q : Option FlowPart) (g : FlowPart) (a b : Findings)
+    → None ≡ o → Some g ≡ q → b ≡ joined a (whole_stream stream (what.Extra 0 None)) → Adds (IsStream from stream o q) a b
+theirs_told from stream o q g a b e f h =
+    subst (λ (o : Option Part). Adds (IsStream from stream o q) a b) e
+    (subst (λ (q : Option FlowPart). Adds (IsStream from stream None q) a b) f
+    (whole_stream stream (what.Extra 0 None), refl, h))
+
+-- none
+pub neither_told : (from : ℤ) (stream : ℕ) (o : Option Part) (q : Option FlowPart) (a : Findings) → None ≡ o → None ≡ q
+    → Adds (IsStream from stream o q) a a
+neither_told from stream o q a e f =
+    subst (λ (o : Option Part). Adds (IsStream from stream o q) a a) e
+    (subst (λ (q : Option FlowPart). Adds (IsStream from stream None q) a a) f (nothing, refl, sym (joined_nothing a)))
+
+-- ---- the list
+
+-- what is lent at a place is the member there
+pub there : {X : Type 0} (xs : List X) (i : ℕ) (o : Option (Bor X)) → IsItemAt xs i o → option_copied o ≡ slice_get xs i
+there xs i o h = copied_from_item xs i i o (λ k. k) (λ k. k) h
+
+-- the list of all streams
+pub list_of : (from first : ℤ) (s t : List Part) (f g : List FlowPart) (a b : Findings) → from ≡ first → s ≡ t → f ≡ g
+    → a ≡ nothing → Adds (UpTo (StreamAt from s f) (max (length s) (length f))) a b
+    → UpTo (StreamAt first t g) (max (length t) (length g)) b
+list_of from first s t f g a b d e k n h =
+    added_to_nothing (UpTo (StreamAt first t g) (max (length t) (length g))) b
+    (subst (λ (z : ℤ). Adds (UpTo (StreamAt z t g) (max (length t) (length g))) nothing b) d
+    (subst (λ (z : List Part). Adds (UpTo (StreamAt from z g) (max (length z) (length g))) nothing b) e
+    (subst (λ (z : List FlowPart). Adds (UpTo (StreamAt from s z) (max (length s) (length z))) nothing b) k
+    (subst (λ (z : Findings). Adds (UpTo (StreamAt from s f) (max (length s) (length f))) z b) n h))))

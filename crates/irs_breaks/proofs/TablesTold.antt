@@ -1,0 +1,38 @@
+-- The rows of two lists that are paired are told of.
+use Rattle.std.proofs.Common.{◌≡◌, ℕ, ◌-◌, List, length, length-drop, map, take, drop, Option, ℤ, arith, sym, subst, ap, ◌∙◌}
+use Rattle.std.proofs.lemmas.List.{take_all}
+use Rattle.irs_base.specs.Members.{Every}
+use Rattle.irs_audit.specs.FlowParts.{FlowPart}
+use Rattle.irs_audit.specs.declared.flows.FlowPeriod.{FlowPeriod}
+use Rattle.irs_breaks.specs.Findings.{Adds, EachRow, Findings}
+use Rattle.irs_breaks.specs.PairedRows.{IsPairing, IsPlaced}
+use Rattle.irs_breaks.specs.RowFindings.{AreTold}
+use Rattle.irs_breaks.specs.declared.dated.PairedRow.{PairedRow}
+use Rattle.irs_breaks.proofs.RowsTold.{adds_told}
+
+-- the places of rows are places of lists that are as long
+pub same_placed : (a b n m : ℕ) (rows all : List PairedRow) → a ≡ n → b ≡ m → all ≡ rows → Every (IsPlaced a b) rows
+    → Every (IsPlaced n m) all
+same_placed a b n m rows all e f g h =
+    subst (λ (k : ℕ). Every (IsPlaced k m) all) e
+    (subst (λ (k : ℕ). Every (IsPlaced a k) all) f (subst (λ (z : List PairedRow). Every (IsPlaced a b) z) (sym g) h))
+
+-- the rows of the pairing of lists that are the same
+pub told_of : (from first : ℤ) (ours theirs dates others : List (Option ℤ)) (Told : PairedRow → Findings → Type 0)
+    (rows all : List PairedRow) (a b : Findings) → from ≡ first → ours ≡ dates → theirs ≡ others → all ≡ rows
+    → IsPairing from ours theirs rows → Adds (EachRow Told all) a b → Adds (AreTold first dates others Told) a b
+told_of from first ours theirs dates others Told rows all a b d e f g paired h =
+    adds_told first dates others Told rows a b
+    (subst (λ (z : ℤ). IsPairing z dates others rows) d
+    (subst (λ (z : List (Option ℤ)). IsPairing from z others rows) e
+    (subst (λ (z : List (Option ℤ)). IsPairing from ours z rows) f paired)))
+    (subst (λ (z : List PairedRow). Adds (EachRow Told z) a b) g h)
+
+-- the starts of the first periods of theirs from a place on
+pub their_rows : (g : FlowPart) (start n : ℕ) (rows : List FlowPeriod) → rows ≡ g.periods
+    → map (λ (z : FlowPeriod). z.adjusted_start) (take n (take (length rows - start) (drop start rows)))
+    ≡ map (λ (z : FlowPeriod). z.adjusted_start) (take n (drop start g.periods))
+their_rows g start n rows e =
+    let long = length-drop start rows in
+    ap (λ (z : List FlowPeriod). map (λ (y : FlowPeriod). y.adjusted_start) (take n z))
+    (take_all (length rows - start) (drop start rows) (omega (arith, long)) ∙ ap (drop start) e)

@@ -1,0 +1,5 @@
+use Rattle.irs_breaks.proofs.PaymentsTold.{StartsUpTo}
+use Rattle.irs_breaks.proofs.payment_breaks.first_places.Given as goal
+
+abbrev pub invariant-loop-payment : goal.invariant-loop-payment
+invariant-loop-payment l = StartsUpTo l.flow l.payment-index l.next l.starts.items

@@ -1,0 +1,7 @@
+use Rattle.std.proofs.Common.{take}
+use Rattle.irs_breaks.specs.Findings.{Adds}
+use Rattle.irs_breaks.specs.RowFindings.{AreFieldBreaks}
+use Rattle.irs_breaks.proofs.row_breaks.push_fields.Given as goal
+
+abbrev pub invariant-loop-field : goal.invariant-loop-field
+invariant-loop-field l = Adds (AreFieldBreaks l.place (take l.field-index l.fields)) l.initial.list l.list

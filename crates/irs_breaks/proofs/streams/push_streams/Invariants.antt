@@ -1,0 +1,6 @@
+use Rattle.irs_breaks.specs.BreakLists.{StreamAt}
+use Rattle.irs_breaks.specs.Findings.{Adds, UpTo}
+use Rattle.irs_breaks.proofs.streams.push_streams.Given as goal
+
+abbrev pub invariant-loop-place : goal.invariant-loop-place
+invariant-loop-place l = Adds (UpTo (StreamAt l.from l.ours l.theirs) l.place) l.initial.list l.list

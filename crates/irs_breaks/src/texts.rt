@@ -1,0 +1,393 @@
+//! The text of the breaks: a line each, and a last line with the counts. The format is this project's own.
+//!
+//! `b STREAM KIND DATE N M WHAT OURS THEIRS`: what is absent is `-`. A value of ours is written as in the text of a
+//! schedule. One of theirs is written likewise: an amount, a notional or a rate with as many decimals as ours, and more
+//! only as far as its value needs them, and a day count fraction with its own decimals.
+ghost use Rattle.std.specs.Prelude.{◌≡◌, ◌+◌, ◌<◌, ◌≤◌, ◌^◌, [], ◌∷◌, ◌++◌, length, sum_by, codes, decimal, min, pos, IfOk, OnOk};
+ghost use Rattle.std.specs.Fmt.{signed_decimal};
+ghost use Rattle.std.specs.Int.{int_div_euclid, int_rem_euclid};
+ghost use Rattle.std.specs.Ordering.{int_eq};
+ghost use Rattle.std.specs.List.{flat_map};
+ghost use Rattle.irs_base.specs.Members.{Every};
+ghost use Rattle.irs_base.specs.Texts.{day_text};
+ghost use Rattle.irs_breaks.specs.BreakTexts.{break_text, breaks_text, field_name, first_line, kind_name, last_line, or_dash};
+ghost use Rattle.irs_breaks.specs.BreakTexts.{fraction_text, our_value, ours_text, place_fields, places_of, shortest, stated_text};
+ghost use Rattle.irs_breaks.specs.BreakTexts.{their_value, theirs_text, what_name};
+ghost use Rattle.irs_breaks.specs.Findings.{IsPrintable, IsPrintableWhat};
+ghost use Rattle.irs_breaks.specs.Values.{CanBeCompared};
+ghost use Rattle.irs_breaks.specs.declared.counting.Counts.{Counts};
+ghost use Rattle.irs_terms.specs.declared.currency.Currency.{Currency};
+
+use crate::counting::Counts;
+use crate::findings::{Break, BreakList, BreakPlace, What};
+use crate::values::Values;
+use irs_audit::{Field, RowKind, StatedFraction};
+use irs_base::{Day, Dec, Line, Memory};
+use irs_schedule::{put_frac, put_optional};
+use irs_terms::Currency;
+use std::alloc::Global;
+
+// ---- names
+
+fn kind_name(kind: RowKind) -> &'static str
+    ensures text { result.now ≡ kind_name kind }
+    ensures short { length result.now ≤ 8 }
+{
+    match kind {
+        RowKind::Stream => "stream",
+        RowKind::Exchange => "exchange",
+        RowKind::Payment => "payment",
+        RowKind::Period => "period",
+        RowKind::Reset => "reset",
+    }
+}
+
+fn field_name(field: Field) -> &'static str
+    ensures text { result.now ≡ field_name field }
+    ensures short { length result.now ≤ 31 }
+{
+    match field {
+        Field::Missing => "missing",
+        Field::Extra => "extra",
+        Field::UnadjustedPrincipalExchangeDate => "unadjustedPrincipalExchangeDate",
+        Field::AdjustedPrincipalExchangeDate => "adjustedPrincipalExchangeDate",
+        Field::PrincipalExchangeAmount => "principalExchangeAmount",
+        Field::UnadjustedPaymentDate => "unadjustedPaymentDate",
+        Field::AdjustedPaymentDate => "adjustedPaymentDate",
+        Field::CalculationPeriod => "calculationPeriod",
+        Field::Currency => "currency",
+        Field::Amount => "amount",
+        Field::UnadjustedStartDate => "unadjustedStartDate",
+        Field::UnadjustedEndDate => "unadjustedEndDate",
+        Field::AdjustedStartDate => "adjustedStartDate",
+        Field::AdjustedEndDate => "adjustedEndDate",
+        Field::CalculationPeriodNumberOfDays => "calculationPeriodNumberOfDays",
+        Field::NotionalAmount => "notionalAmount",
+        Field::Rate => "rate",
+        Field::DayCountYearFraction => "dayCountYearFraction",
+        Field::ResetDate => "resetDate",
+        Field::AdjustedFixingDate => "adjustedFixingDate",
+        Field::ObservedRate => "observedRate",
+    }
+}
+
+fn what_name(what: &What) -> &'static str
+    ensures text { result.now ≡ what_name what.now }
+    ensures short { length result.now ≤ 31 }
+{
+    match what {
+        What::Missing(_) => "missing",
+        What::Extra(_, _) => "extra",
+        What::Undated(_, _) => "undated",
+        What::Field(field) => field_name(field.field),
+    }
+}
+
+// ---- values
+
+// Puts a space and a day, or a space and `-` where there is none.
+fn put_day(line: &mut Line, day: &Option<Day>)
+    requires { length line.old + 82 < 512 }
+    ensures text { line.new ≡ line.old ++ 32 ∷ or_dash day_text day.now }
+    ensures grows { length line.new ≤ length line.old + 11 }
+{
+    match day {
+        Some(d) => line.put_day(*d),
+        None => line.put_field(b"-"),
+    }
+}
+
+// Puts a space and a number of days, or a space and `-` where there is none.
+fn put_count(line: &mut Line, count: Option<i64>)
+    requires { length line.old + 82 < 512 }
+    ensures text { line.new ≡ line.old ++ 32 ∷ or_dash signed_decimal count }
+    ensures grows { length line.new ≤ length line.old + 41 }
+{
+    match count {
+        Some(n) => line.put_signed(b' ', n),
+        None => line.put_field(b"-"),
+    }
+}
+
+// Puts a space and a currency, or a space and `-` where there is none.
+fn put_currency(line: &mut Line, currency: Option<Currency>)
+    requires { length line.old + 82 < 512 }
+    ensures text { line.new ≡ line.old ++ 32 ∷ or_dash (λ (c : Currency). c.letters) currency }
+    ensures grows { length line.new ≤ length line.old + 4 }
+{
+    match currency {
+        Some(c) => line.put_field(&c.letters),
+        None => line.put_field(b"-"),
+    }
+}
+
+fn is_round(units: i128) -> bool
+    ensures { result ≡ int_eq (int_rem_euclid units (pos 10)) (pos 0) }
+{
+    units.rem_euclid(10) == 0
+}
+
+fn tenth(units: i128) -> i128
+    ensures { result ≡ int_div_euclid units (pos 10) }
+{
+    units.div_euclid(10)
+}
+
+// A number of units of 10^-(places + more), without the last of the `more` decimals while they are 0.
+fn shortest(more: u8, places: u8, units: i128) -> Dec
+    requires { places + more ≤ 12 }
+    ensures value { result ≡ shortest more places units }
+    ensures few { result.places ≤ 12 }
+{
+    if more == 0 {
+        Dec { units, places }
+    } else if is_round(units) {
+        shortest(more - 1, places, tenth(units))
+    } else {
+        Dec {
+            units,
+            places: places + more,
+        }
+    }
+}
+
+// Puts a space and a stated number in units of 10^-12, or a space and `-` where there is none.
+fn put_stated(line: &mut Line, places: u8, stated: Option<i128>)
+    requires places { places ≤ 12 }
+    requires room { length line.old + 82 < 512 }
+    ensures text { line.new ≡ line.old ++ 32 ∷ or_dash (stated_text places) stated }
+    ensures grows { length line.new ≤ length line.old + 54 }
+{
+    match stated {
+        Some(units) => line.put_dec(shortest(12 - places, places, units)),
+        None => line.put_field(b"-"),
+    }
+}
+
+// Puts a space and a stated fraction, or a space and `-` where there is none.
+fn put_fraction(line: &mut Line, stated: Option<StatedFraction>)
+    requires { length line.old + 82 < 512 }
+    ensures text { line.new ≡ line.old ++ 32 ∷ or_dash fraction_text stated }
+    ensures grows { length line.new ≤ length line.old + 54 }
+{
+    match stated {
+        Some(f) => line.put_dec(Dec {
+            units: f.units,
+            places: f.places.min(12),
+        }),
+        None => line.put_field(b"-"),
+    }
+}
+
+// The decimals of a number of ours.
+fn places_of(number: Option<Dec>) -> u8
+    ensures { result ≡ places_of number }
+{
+    match number {
+        Some(v) => v.places,
+        None => 0,
+    }
+}
+
+// Puts a space and the value of ours.
+fn put_our_value(line: &mut Line, values: &Values)
+    requires values { CanBeCompared values.now }
+    requires room { length line.old + 82 < 512 }
+    ensures text { line.new ≡ line.old ++ 32 ∷ our_value values.now }
+    ensures grows { length line.new ≤ length line.old + 82 }
+{
+    match values {
+        Values::Dates(day, _) => line.put_day(*day),
+        Values::Counts(count, _) => line.put_signed(b' ', *count),
+        Values::Currencies(currency, _) => line.put_field(&currency.letters),
+        Values::Numbers(number, _) => put_optional(line, *number),
+        Values::Fractions(frac, _) => put_frac(line, *frac),
+    }
+}
+
+// Puts a space and the value of theirs.
+fn put_their_value(line: &mut Line, values: &Values)
+    requires values { CanBeCompared values.now }
+    requires room { length line.old + 82 < 512 }
+    ensures text { line.new ≡ line.old ++ 32 ∷ their_value values.now }
+    ensures grows { length line.new ≤ length line.old + 82 }
+{
+    match values {
+        Values::Dates(_, stated) => put_day(line, stated),
+        Values::Counts(_, stated) => put_count(line, *stated),
+        Values::Currencies(_, stated) => put_currency(line, *stated),
+        Values::Numbers(number, stated) => put_stated(line, places_of(*number), *stated),
+        Values::Fractions(_, stated) => put_fraction(line, *stated),
+    }
+}
+
+// Puts a space and what stands on the side of ours.
+fn put_ours(line: &mut Line, what: &What)
+    requires what { IsPrintableWhat what.now }
+    requires room { length line.old + 82 < 512 }
+    ensures text { line.new ≡ line.old ++ 32 ∷ ours_text what.now }
+    ensures grows { length line.new ≤ length line.old + 82 }
+{
+    match what {
+        What::Missing(value) => put_optional(line, *value),
+        What::Extra(_, _) => line.put_field(b"-"),
+        What::Undated(_, _) => line.put_field(b"-"),
+        What::Field(field) => put_our_value(line, &field.values),
+    }
+}
+
+// Puts a space and what stands on the side of theirs.
+fn put_theirs(line: &mut Line, what: &What)
+    requires what { IsPrintableWhat what.now }
+    requires room { length line.old + 82 < 512 }
+    ensures text { line.new ≡ line.old ++ 32 ∷ theirs_text what.now }
+    ensures grows { length line.new ≤ length line.old + 82 }
+{
+    match what {
+        What::Missing(_) => line.put_field(b"-"),
+        What::Extra(places, value) => put_stated(line, *places, *value),
+        What::Undated(places, value) => put_stated(line, *places, *value),
+        What::Field(field) => put_their_value(line, &field.values),
+    }
+}
+
+// ---- lines
+
+// Puts a space and the number of a row, or a space and `-` where there is none.
+fn put_number(line: &mut Line, number: Option<usize>)
+    requires { length line.old + 82 < 512 }
+    ensures text { line.new ≡ line.old ++ 32 ∷ or_dash decimal number }
+    ensures grows { length line.new ≤ length line.old + 41 }
+{
+    match number {
+        Some(n) => line.put_whole(b' ', n as i128),
+        None => line.put_field(b"-"),
+    }
+}
+
+// Puts what a line begins with into an empty line.
+fn put_place(line: &mut Line, place: &BreakPlace)
+    requires { line.old ≡ [] }
+    ensures text { line.new ≡ place_fields place.now }
+    ensures grows { length line.new ≤ 150 }
+{
+    line.push(b"b");
+    line.put_whole(b' ', place.stream as i128);
+    line.put_field(kind_name(place.kind).as_bytes());
+    put_day(line, &place.day);
+    put_number(line, place.ours);
+    put_number(line, place.theirs);
+}
+
+// Replaces what the line holds by the line of a break.
+#[tactic(auto, unfolding(crate::specs::BreakTexts::break_text))]
+fn break_text(found: &Break, line: &mut Line)
+    requires { IsPrintable found.now }
+    ensures text { line.new ≡ break_text found.now }
+    ensures short { length line.new < 512 }
+{
+    line.clear();
+    put_place(line, &found.place);
+    line.put_field(what_name(&found.what).as_bytes());
+    put_ours(line, &found.what);
+    put_theirs(line, &found.what);
+    line.push(b"\n");
+}
+
+// The lines of the breaks.
+fn push_lines(text: &mut Vec<u8>, breaks: &[Break]) -> Result<(), Memory>
+    requires { Every IsPrintable breaks.now }
+    ensures { OnOk result (text.new.items ≡ text.old.items ++ flat_map break_text breaks.now) }
+{
+    let mut line = Line::new();
+    for found in breaks {
+        break_text(found, &mut line);
+        text.extend_from_slice(line.bytes())?;
+    }
+    Ok(())
+}
+
+// The first line.
+fn first_line(from: &Option<Day>) -> Line
+    ensures { result ≡ first_line from.now }
+{
+    let mut line = Line::new();
+    line.push(b"irs-breaks 1");
+    put_day(&mut line, from);
+    line.push(b"\n");
+    line
+}
+
+// How many fields of all pairs are compared.
+fn compared(pairs: &[Counts]) -> u128
+    ensures value { result ≡ sum_by (λ (c : Counts). c.compared) pairs.now }
+    ensures small { result < 2 ^ 127 }
+{
+    let mut sum = 0;
+    for counts in pairs {
+        sum += u128::from(counts.compared);
+    }
+    sum
+}
+
+// How many are unstated.
+fn unstated(pairs: &[Counts]) -> u128
+    ensures value { result ≡ sum_by (λ (c : Counts). c.unstated) pairs.now }
+    ensures small { result < 2 ^ 127 }
+{
+    let mut sum = 0;
+    for counts in pairs {
+        sum += u128::from(counts.unstated);
+    }
+    sum
+}
+
+// How many are unknown.
+fn unknown(pairs: &[Counts]) -> u128
+    ensures value { result ≡ sum_by (λ (c : Counts). c.unknown) pairs.now }
+    ensures small { result < 2 ^ 127 }
+{
+    let mut sum = 0;
+    for counts in pairs {
+        sum += u128::from(counts.unknown);
+    }
+    sum
+}
+
+// Puts a space and a count.
+fn put_total(line: &mut Line, n: u128)
+    requires small { n < 2 ^ 127 }
+    requires room { length line.old + 41 ≤ 512 }
+    ensures text { line.new ≡ line.old ++ 32 ∷ decimal n }
+    ensures grows { length line.new ≤ length line.old + 41 }
+{
+    line.put_whole(b' ', n as i128);
+}
+
+// The last line.
+fn last_line(list: &BreakList) -> Line
+    ensures { result ≡ last_line list.now }
+{
+    let pairs = list.pairs();
+    let mut line = Line::new();
+    line.push(b"end");
+    put_total(&mut line, list.breaks().len() as u128);
+    put_total(&mut line, pairs.len() as u128);
+    put_total(&mut line, compared(pairs));
+    put_total(&mut line, unstated(pairs));
+    put_total(&mut line, unknown(pairs));
+    line.push(b"\n");
+    line
+}
+
+/// The text of a list of breaks: the first line `irs-breaks 1 FROM`, a line for each break, and the last line
+/// `end BREAKS PAIRS COMPARED UNSTATED UNKNOWN`. Each line has fewer than 512 bytes. `Memory` comes only where memory
+/// ran out.
+pub fn breaks_text(alloc: Global, from: &Option<Day>, list: &BreakList) -> Result<Vec<u8>, Memory>
+    ensures { IfOk result (λ t. t.items ≡ breaks_text from.now list.now) }
+{
+    let mut text = Vec::from_slice(alloc, first_line(from).bytes())?;
+    push_lines(&mut text, list.breaks())?;
+    text.extend_from_slice(last_line(list).bytes())?;
+    Ok(text)
+}
