@@ -41,7 +41,7 @@ use Rattle.irs_net.specs.declared.sides.Sides.{Sides}
 use Rattle.irs_net.proofs.SideLemmas.{one_sides_of}
 use Rattle.irs_answers.specs.declared.tasks.Task.{Task}
 use Rattle.irs_answers.specs.declared.tasks.Task.TheVariants.{Check, Schedule, Audit, Emit, Accrue, Net, Overnight}
-use Rattle.irs_answers.specs.declared.tasks.Task.TheVariants.{Average, Interpolate}
+use Rattle.irs_answers.specs.declared.tasks.Task.TheVariants.{Average, Breaks, Interpolate}
 use Rattle.irs_answers.specs.declared.refusals.Refusal.{Refusal}
 use Rattle.irs_answers.specs.declared.refusals.Refusal.TheVariants.{Rule, Calendars, Fixings}
 use Rattle.irs_answers.specs.declared.replies.Reply.{Reply}
@@ -159,6 +159,7 @@ answered_same : (t : Task) (g : Given) (swap : Swap) (sides : Option Sides) (cal
 answered_same Check g swap sides cal r q s status text e h = h
 answered_same Schedule g swap sides cal r q s status text e h = h
 answered_same Audit g swap sides cal r q s status text e h = h
+answered_same (Breaks from) g swap sides cal r q s status text e h = h
 answered_same Emit g swap sides cal r q s status text e h = h
 answered_same (Accrue date) g swap sides cal r q s status text e h = h
 answered_same Net g swap sides cal r q s status text e h = h

@@ -1,6 +1,7 @@
--- What is due for flows against a schedule.
-use Rattle.std.proofs.Common.{◌≡◌, inl, inr, ℕ, ◌<◌, List, Result, Ok, Err, refl, sym, ◌∙◌, ap, subst, arith}
-use Rattle.std.specs.Prelude.{IfErr, IsErr}
+-- What is due for cash flows.
+use Rattle.std.proofs.Common.{◌≡◌, inl, inr, Bool, true, false, ℕ, ℤ, ◌<◌, List, Option, Result, Ok, Err, refl, sym}
+use Rattle.std.proofs.Common.{◌∙◌, ap, subst, arith}
+use Rattle.std.specs.Prelude.{IfErr, IsErr, IsTrue}
 use Rattle.std.specs.Result.{IsErrAnd}
 use Rattle.serde_json.specs.Data.{Data}
 use Rattle.irs_base.specs.declared.places.Broken.{Broken}
@@ -19,7 +20,10 @@ use Rattle.irs_audit.specs.declared.error.FlowErr.TheVariants as flowing
 use Rattle.irs_audit.specs.declared.error.ShapeKind.{ShapeKind}
 use Rattle.irs_audit.specs.declared.error.ShapeKind.TheVariants.{NotJson}
 use Rattle.irs_answers.specs.declared.refusals.Refusal.TheVariants.{Flows}
-use Rattle.irs_answers.specs.Due.{DueFlows, DueStated, DueVerdict}
+use Rattle.irs_breaks.specs.BreakLists.{IsBreakList}
+use Rattle.irs_breaks.specs.BreakTexts.{breaks_text}
+use Rattle.irs_breaks.specs.Findings.{Findings}
+use Rattle.irs_answers.specs.CashFlows.{BadFlows, DueBreaks, DueFlows, DueStated, DueVerdict, IsStatusOf, OfFlows}
 use Rattle.irs_answers.specs.Steps.{Is}
 use Rattle.irs_answers.specs.FlowMessages.{bad_flows, whole_document, verdict_status, verdict_text}
 use Rattle.irs_answers.specs.Outcomes.{Ends, FlowsFail, IfRefused, SpellsFlows}
@@ -28,45 +32,42 @@ use Rattle.irs_answers.proofs.FirstLemmas.{one_first}
 use Rattle.irs_answers.proofs.StepLemmas.{read, unread}
 use Rattle.irs_base.specs.Order.{First, Only, is_before}
 
-at_text : (file : SourceText) (s : List Part) → (IsReadable file → ⊥) → DueFlows file s 3 (bad_flows NotJson whole_document)
-at_text file s never =
-    let text = bad_flows NotJson whole_document in
-    unread (TextReads file) (Is 3 text 3 text) (λ v. DueStated v s 3 text) (λ v reads. never (v, reads)) (refl, refl)
+module _ (Due : OfFlows) (file : SourceText) where
+  at_text : (IsReadable file → ⊥) → DueFlows Due file 3 (bad_flows NotJson whole_document)
+  at_text never =
+      let text = bad_flows NotJson whole_document in
+      unread (TextReads file) (Is 3 text 3 text) (λ v. DueStated Due v 3 text) (λ v reads. never (v, reads))
+      (refl, refl)
 
-in_text : (file : SourceText) (s : List Part) (v : Data) (status : ℕ) (text : List ℕ) → TextReads file v
-    → DueStated v s status text → DueFlows file s status text
-in_text file s v status text reads h =
-    read (TextReads file) (Is 3 (bad_flows NotJson whole_document) status text) (λ w. DueStated w s status text) v reads
-    (λ w other. subst (λ (x : Data). DueStated x s status text) (sym (one_reading file v w reads other)) h)
+  in_text : (v : Data) (status : ℕ) (text : List ℕ) → TextReads file v → DueStated Due v status text
+      → DueFlows Due file status text
+  in_text v status text reads h =
+      read (TextReads file) (Is 3 (bad_flows NotJson whole_document) status text) (λ w. DueStated Due w status text) v
+      reads (λ w other. subst (λ (x : Data). DueStated Due x status text) (sym (one_reading file v w reads other)) h)
 
-abbrev Faulty : Data → ℕ → List ℕ → Type 0
-Faulty v status text =
-    (b : Broken) × Only (First is_before (FlowFault v)) b × Is 3 (bad_flows (kind_of b.rule) b.place) status text
+  at_fault : (v : Data) (b : Broken) → First is_before (FlowFault v) b
+      → DueStated Due v 3 (bad_flows (kind_of b.rule) b.place)
+  at_fault v b first =
+      let text = bad_flows (kind_of b.rule) b.place in
+      unread (FlowsOf v) (BadFlows v 3 text) (λ flows. Due flows 3 text) (λ flows of. of.clean b first.0) (
+        b,
+        record { is = first; only = λ c h. one_first (FlowFault v) b c first h },
+        (refl, refl),
+      )
 
-at_fault : (s : List Part) (v : Data) (b : Broken) → First is_before (FlowFault v) b
-    → DueStated v s 3 (bad_flows (kind_of b.rule) b.place)
-at_fault s v b first =
-    let text = bad_flows (kind_of b.rule) b.place in
-    unread (FlowsOf v) (Faulty v 3 text) (λ flows. DueVerdict flows s 3 text) (λ flows of. of.clean b first.0) (
-      b,
-      record { is = first; only = λ c h. one_first (FlowFault v) b c first h },
-      (refl, refl),
-    )
+  due_shape : (v : Data) (how : ShapeKind) (place : Place) → TextReads file v → IsFirstShape v how place
+      → DueFlows Due file 3 (bad_flows how place)
+  due_shape v how place reads h =
+      rw (h.kind_is, h.place_is)
+      (in_text v 3 (bad_flows (kind_of h.fault.rule) h.fault.place) reads (at_fault v h.fault h.first))
 
-due_shape : (file : SourceText) (s : List Part) (v : Data) (how : ShapeKind) (place : Place) → TextReads file v
-    → IsFirstShape v how place → DueFlows file s 3 (bad_flows how place)
-due_shape file s v how place reads h =
-    rw (h.kind_is, h.place_is)
-    (in_text file s v 3 (bad_flows (kind_of h.fault.rule) h.fault.place) reads (at_fault s v h.fault h.first))
-
--- faulty cash flows are refused
-pub refuse_flows : (file : SourceText) (s : List Part) (e : FlowErr) → FlowsFail file e
-    → IfRefused (Flows e) (Ends (DueFlows file s))
-refuse_flows file s (flowing.Shape how place) (inl h) =
-    rw (h.1, h.2) (record { due = at_text file s h.0; verdict = omega arith })
-refuse_flows file s (flowing.Shape how place) (inr h) =
-    record { due = due_shape file s h.0 how place h.1 h.2; verdict = omega arith }
-refuse_flows file s flowing.Memory h = tt
+  -- faulty cash flows are refused
+  pub refuse_flows : (e : FlowErr) → FlowsFail file e → IfRefused (Flows e) (Ends (DueFlows Due file))
+  refuse_flows (flowing.Shape how place) (inl h) =
+      rw (h.1, h.2) (record { due = at_text h.0; verdict = omega arith })
+  refuse_flows (flowing.Shape how place) (inr h) =
+      record { due = due_shape h.0 how place h.1 h.2; verdict = omega arith }
+  refuse_flows flowing.Memory h = tt
 
 -- the flows that a file states are one list
 same_ok : {E : Type 0} (x y : Data) → (let r : Result Data E = Ok x in r ≡ Ok y) → x ≡ y
@@ -77,6 +78,15 @@ one_flows v f g h k =
     let swaps : k.swap ≡ h.swap = same_ok k.swap h.swap (sym k.found ∙ h.found) in
     k.says ∙ ap (λ (d : Data). streams_in d) swaps ∙ sym h.says
 
+-- what is due for flows that are stated is due for their text
+due_stated : (Due : OfFlows) (file : SourceText) (flows : List FlowPart) (status : ℕ) (text : List ℕ)
+    → SpellsFlows file flows → Due flows status text → DueFlows Due file status text
+due_stated Due file flows status text spells due =
+    let v = spells.0 in
+    in_text Due file v status text spells.1
+    (read (FlowsOf v) (BadFlows v status text) (λ f. Due f status text) flows spells.2
+    (λ f of. subst (λ (x : List FlowPart). Due x status text) (sym (one_flows v flows f spells.2 of)) due))
+
 verdict_low : (w : Verdict) → verdict_status w < 4
 verdict_low (Yes rows unfixed) = omega arith
 verdict_low (No d) = omega arith
@@ -84,20 +94,36 @@ verdict_low (No d) = omega arith
 -- the verdict on stated flows is due
 pub due_verdict : (file : SourceText) (s : List Part) (flows : List FlowPart) (w : Verdict) → SpellsFlows file flows
     → IsVerdict flows s w → ((o : Verdict) → IsVerdict flows s o → o ≡ w)
-    → Ends (DueFlows file s) (verdict_status w) (verdict_text w)
+    → Ends (DueFlows (DueVerdict s) file) (verdict_status w) (verdict_text w)
 due_verdict file s flows w spells is only =
-    let v = spells.0 in
-    let status = verdict_status w in
-    let text = verdict_text w in
-    let due : DueVerdict flows s status text = (w, record { is = is; only = only }, (refl, refl)) in
-    let stated : DueStated v s status text =
-    read (FlowsOf v) (Faulty v status text) (λ f. DueVerdict f s status text) flows spells.2
-    (λ f of. subst (λ (x : List FlowPart). DueVerdict x s status text)
-    (sym (one_flows v flows f spells.2 of)) due) in
-    record { due = in_text file s v status text spells.1 stated; verdict = verdict_low w }
+    let due : DueVerdict s flows (verdict_status w) (verdict_text w) =
+    (w, record { is = is; only = only }, (refl, refl)) in
+    record {
+      due = due_stated (DueVerdict s) file flows (verdict_status w) (verdict_text w) spells due;
+      verdict = verdict_low w;
+    }
+
+breaks_low : (list : Findings) (status : ℕ) → IsStatusOf list status → status < 4
+breaks_low list status (inl h) = omega (arith, h.1)
+breaks_low list status (inr h) = omega (arith, h.1)
+
+-- the list of breaks of stated flows is due
+pub due_breaks : (file : SourceText) (from : Option ℤ) (s : List Part) (flows : List FlowPart) (list : Findings)
+    (status : ℕ) (text : List ℕ) → SpellsFlows file flows → Only (IsBreakList from s flows) list
+    → IsStatusOf list status → text ≡ breaks_text from list → Ends (DueFlows (DueBreaks from s) file) status text
+due_breaks file from s flows list status text spells one is spelt =
+    record {
+      due = due_stated (DueBreaks from s) file flows status text spells (list, one, is, spelt);
+      verdict = breaks_low list status is;
+    }
 
 -- an error that is handed on
 pub failed_by : {A : Type 0} (r : Result A FlowErr) (e : FlowErr) (P : FlowErr → Type 0) → IsErr r
     → IsErrAnd r (λ x. x ≡ e) → P e → IfErr r P
 failed_by (Ok x) e P h k p = tt
 failed_by (Err x) e P h k p = subst P (sym k) p
+
+-- a test that failed doesn't hold
+pub not_true : (b : Bool) → b ≡ false → IsTrue b → ⊥
+not_true true e h = cc
+not_true false e h = cc

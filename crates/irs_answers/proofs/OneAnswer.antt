@@ -1,5 +1,5 @@
 -- One status and one text are due for a task and its files.
-use Rattle.std.proofs.Common.{◌≡◌, ℕ, List, [], ◌∷◌, Option, sym, ◌∙◌, ap, subst}
+use Rattle.std.proofs.Common.{◌≡◌, inl, inr, ℕ, ℤ, List, [], ◌∷◌, Option, sym, ◌∙◌, ap, subst}
 use Rattle.std.proofs.lemmas.Option.{same_Some}
 use Rattle.serde_json.specs.Data.{Data}
 use Rattle.irs_base.specs.Order.{First, Only, is_before}
@@ -23,6 +23,9 @@ use Rattle.irs_schedule.specs.Parts.{Part}
 use Rattle.irs_schedule.specs.RowTexts.{text_of}
 use Rattle.irs_terms.specs.declared.stream_list.Swap.{Swap}
 use Rattle.irs_emit.specs.Emitted.{emit_text}
+use Rattle.irs_breaks.specs.BreakLists.{IsBreakList}
+use Rattle.irs_breaks.specs.BreakTexts.{breaks_text}
+use Rattle.irs_breaks.specs.Findings.{Findings}
 use Rattle.irs_answers.specs.FlowMessages.{bad_flows, verdict_status, verdict_text, whole_document}
 use Rattle.irs_net.specs.declared.sides.Sides.{Sides}
 use Rattle.irs_net.specs.declared.table.NetRow.{NetRow}
@@ -40,7 +43,7 @@ use Rattle.irs_terms.specs.declared.amounts.FloatTerms.{FloatTerms}
 use Rattle.irs_terms.specs.declared.frequency.Frequency.{Frequency}
 use Rattle.irs_answers.specs.declared.tasks.Task.{Task}
 use Rattle.irs_answers.specs.declared.tasks.Task.TheVariants.{Check, Schedule, Audit, Emit, Accrue, Net as OfNet}
-use Rattle.irs_answers.specs.declared.tasks.Task.TheVariants.{Overnight, Average, Interpolate}
+use Rattle.irs_answers.specs.declared.tasks.Task.TheVariants.{Overnight, Average, Breaks, Interpolate}
 use Rattle.irs_answers.specs.Carried.{DueCarrier, carrier_text}
 use Rattle.irs_answers.specs.Given.{Given}
 use Rattle.irs_answers.specs.Messages.{all_kept, refused, unreadable, bad_calendar, bad_fixings}
@@ -49,7 +52,8 @@ use Rattle.irs_answers.specs.Derived.{DueAverage, DueAveraged, DueCompounded, Du
 use Rattle.irs_answers.specs.Derived.{IsFloatingAt, NotFloating, PrintsOne, PrintsStub}
 use Rattle.irs_answers.specs.Netted.{TellsNet, TellsNetOf, net_page}
 use Rattle.irs_answers.specs.Due.{DueFor, DueDocument, DueSides, DueCalendars, DueFixings, DueTerms, DueDated, DueKept}
-use Rattle.irs_answers.specs.Due.{DueFlows, DueStated, DueVerdict, Answered, AreFixings, BadCalendars, BadFixings}
+use Rattle.irs_answers.specs.CashFlows.{BadFlows, DueBreaks, DueFlows, DueStated, DueVerdict, IsStatusOf, OfFlows}
+use Rattle.irs_answers.specs.Due.{Answered, AreFixings, BadCalendars, BadFixings}
 use Rattle.irs_answers.specs.Due.{BreaksSides, Facts, facts, HasSides, IsFixingsFault, IsOneDue, KeepsTerms, rates_for}
 use Rattle.irs_answers.proofs.StubLemmas.{one_index}
 use Rattle.irs_answers.proofs.AccrueLemmas.{one_page}
@@ -74,28 +78,37 @@ module _ (s u : ℕ) (t v : List ℕ) where
 
   -- ---- the last step of each task
 
-  one_verdict : (p : List Part) (flows : List FlowPart) → DueVerdict flows p s t → DueVerdict flows p u v → Same
+  one_verdict : (p : List Part) (flows : List FlowPart) → DueVerdict p flows s t → DueVerdict p flows u v → Same
   one_verdict p flows h k = by_one (IsVerdict flows p) verdict_status verdict_text h.0 k.0 h.1 k.1 h.2 k.2
 
-  abbrev Faulty : Data → ℕ → List ℕ → Type 0
-  Faulty w status text =
-      (b : Broken) × Only (First is_before (FlowFault w)) b × Is 3 (bad_flows (kind_of b.rule) b.place) status text
+  one_status : (list : Findings) → IsStatusOf list s → IsStatusOf list u → s ≡ u
+  one_status list (inl h) (inl k) = h.1 ∙ sym k.1
+  one_status list (inl h) (inr k) = absurd (k.0 h.0)
+  one_status list (inr h) (inl k) = absurd (h.0 k.0)
+  one_status list (inr h) (inr k) = h.1 ∙ sym k.1
 
-  one_fault : (w : Data) → Faulty w s t → Faulty w u v → Same
+  one_list : (from : Option ℤ) (p : List Part) (flows : List FlowPart) → DueBreaks from p flows s t
+      → DueBreaks from p flows u v → Same
+  one_list from p flows h k =
+      let same : k.0 ≡ h.0 = h.1.only k.0 k.1.is in
+      let status : IsStatusOf h.0 u = subst (λ (l : Findings). IsStatusOf l u) same k.2 in
+      (one_status h.0 h.2 status, h.3 ∙ sym (ap (λ (l : Findings). breaks_text from l) same) ∙ sym k.3)
+
+  one_fault : (w : Data) → BadFlows w s t → BadFlows w u v → Same
   one_fault w h k =
       by_one (First is_before (FlowFault w)) (λ _. 3)
       (λ (x : Broken). bad_flows (kind_of x.rule) x.place) h.0 k.0 h.1 k.1 h.2 k.2
 
-  one_stated : (p : List Part) (w : Data) → DueStated w p s t → DueStated w p u v → Same
-  one_stated p w h k =
-      step_both (FlowsOf w) (Faulty w s t) (Faulty w u v) (λ f. DueVerdict f p s t) (λ f. DueVerdict f p u v)
-      (one_fault w) (one_verdict p) h k
+  module _ (Due : OfFlows) (one : (f : List FlowPart) → Due f s t → Due f u v → Same) where
+    one_stated : (w : Data) → DueStated Due w s t → DueStated Due w u v → Same
+    one_stated w h k =
+        step_both (FlowsOf w) (BadFlows w s t) (BadFlows w u v) (λ f. Due f s t) (λ f. Due f u v) (one_fault w) one h k
 
-  one_flows : (x : SourceText) (p : List Part) → DueFlows x p s t → DueFlows x p u v → Same
-  one_flows x p h k =
-      let text = bad_flows NotJson whole_document in
-      step_both (TextReads x) (Is 3 text s t) (Is 3 text u v) (λ w. DueStated w p s t) (λ w. DueStated w p u v)
-      (both 3 text) (one_stated p) h k
+    one_flows : (x : SourceText) → DueFlows Due x s t → DueFlows Due x u v → Same
+    one_flows x h k =
+        let text = bad_flows NotJson whole_document in
+        step_both (TextReads x) (Is 3 text s t) (Is 3 text u v) (λ w. DueStated Due w s t) (λ w. DueStated Due w u v)
+        (both 3 text) one_stated h k
 
   one_netted : (sides : Option Sides) (p : List Part) → TellsNet sides p t → TellsNet sides p v → t ≡ v
   one_netted sides p h k =
@@ -161,7 +174,8 @@ module _ (s u : ℕ) (t v : List ℕ) where
   one_answered : (task : Task) (g : Given) (f : Facts) → Answered task g f s t → Answered task g f u v → Same
   one_answered Check g f h k = both 0 all_kept h k
   one_answered Schedule g f h k = both 0 (text_of f.parts) h k
-  one_answered Audit g f h k = one_flows g.flows f.parts h k
+  one_answered Audit g f h k = one_flows (DueVerdict f.parts) (one_verdict f.parts) g.flows h k
+  one_answered (Breaks from) g f h k = one_flows (DueBreaks from f.parts) (one_list from f.parts) g.flows h k
   one_answered Emit g f h k = both 0 (emit_text f.parts) h k
   one_answered (Accrue date) g f h k = (h.0 ∙ sym k.0, one_page date f.parts t v h.1 k.1)
   one_answered OfNet g f h k = (h.0 ∙ sym k.0, one_netted f.sides f.parts h.1 k.1)

@@ -17,19 +17,13 @@ use Rattle.irs_schedule.specs.DatedRules.{DatedKept, DatedBroken}
 use Rattle.irs_schedule.specs.Parts.{Part}
 use Rattle.irs_schedule.specs.RowTexts.{text_of}
 use Rattle.irs_schedule.specs.Schedules.{IsSchedule}
-use Rattle.irs_audit.specs.FlowFaults.{FlowFault}
-use Rattle.irs_audit.specs.FlowParts.{FlowPart}
-use Rattle.irs_audit.specs.FlowReading.{FlowsOf, kind_of}
-use Rattle.irs_audit.specs.Verdicts.{IsVerdict}
-use Rattle.irs_audit.specs.declared.departures.Verdict.{Verdict}
-use Rattle.irs_audit.specs.declared.error.ShapeKind.TheVariants.{NotJson}
-use Rattle.irs_answers.specs.FlowMessages.{bad_flows, whole_document, verdict_status, verdict_text}
 use Rattle.irs_emit.specs.Emitted.{emit_text}
 use Rattle.irs_answers.specs.Accrued.{TellsAccrued}
+use Rattle.irs_answers.specs.CashFlows.{DueBreaks, DueFlows, DueVerdict}
 use Rattle.irs_base.specs.Order.{First, Only, is_before}
 use Rattle.irs_answers.specs.declared.tasks.Task.{Task}
 use Rattle.irs_answers.specs.declared.tasks.Task.TheVariants.{Check, Schedule, Audit, Emit, Accrue, Net, Overnight}
-use Rattle.irs_answers.specs.declared.tasks.Task.TheVariants.{Average, Interpolate}
+use Rattle.irs_answers.specs.declared.tasks.Task.TheVariants.{Average, Breaks, Interpolate}
 use Rattle.irs_answers.specs.Tasks.{nets, uses_rates}
 use Rattle.irs_answers.specs.Forms.{TextReads, SourceText}
 use Rattle.irs_answers.specs.Given.{Given}
@@ -91,27 +85,12 @@ facts swap sides cal table parts = record { swap = swap; sides = sides; cal = ca
 
 -- ---- the last step of each task
 
--- the flows are stated: the verdict on them
-abbrev pub DueVerdict : List FlowPart → List Part → ℕ → List ℕ → Type 0
-DueVerdict flows s status text =
-    (w : Verdict) × Only (IsVerdict flows s) w × Is (verdict_status w) (verdict_text w) status text
-
--- the flows have a reading: its first fault, or the flows that it states
-abbrev pub DueStated : Data → List Part → ℕ → List ℕ → Type 0
-DueStated v s status text =
-    Step (FlowsOf v) ((b : Broken) × Only (First is_before (FlowFault v)) b
-    × Is 3 (bad_flows (kind_of b.rule) b.place) status text) (λ flows. DueVerdict flows s status text)
-
--- what is due for the text of flows against a schedule
-abbrev pub DueFlows : SourceText → List Part → ℕ → List ℕ → Type 0
-DueFlows w s status text =
-    Step (TextReads w) (Is 3 (bad_flows NotJson whole_document) status text) (λ v. DueStated v s status text)
-
 -- what is due for a task where no rule is broken and the schedule is the only one
 abbrev pub Answered : Task → Given → Facts → ℕ → List ℕ → Type 0
 Answered Check g f status text = Is 0 all_kept status text
 Answered Schedule g f status text = Is 0 (text_of f.parts) status text
-Answered Audit g f status text = DueFlows g.flows f.parts status text
+Answered Audit g f status text = DueFlows (DueVerdict f.parts) g.flows status text
+Answered (Breaks from) g f status text = DueFlows (DueBreaks from f.parts) g.flows status text
 Answered Emit g f status text = Is 0 (emit_text f.parts) status text
 Answered (Accrue date) g f status text = (status ≡ 0) × TellsAccrued date f.parts text
 Answered Net g f status text = (status ≡ 0) × TellsNet f.sides f.parts text

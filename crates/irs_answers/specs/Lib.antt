@@ -8,6 +8,7 @@ pub mod Carried
 pub mod Accrued
 pub mod Netted
 pub mod Derived
+pub mod CashFlows
 pub mod Due
 pub mod Replying
 pub mod Outcomes

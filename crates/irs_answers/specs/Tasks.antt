@@ -5,13 +5,14 @@ use Rattle.irs_terms.specs.Lawful.{IsLawfulTenor}
 use Rattle.irs_average.specs.Averages.{most_step}
 use Rattle.irs_answers.specs.declared.tasks.Task.{Task}
 use Rattle.irs_answers.specs.declared.tasks.Task.TheVariants.{Check, Schedule, Audit, Emit, Accrue, Net, Overnight}
-use Rattle.irs_answers.specs.declared.tasks.Task.TheVariants.{Average, Interpolate}
+use Rattle.irs_answers.specs.declared.tasks.Task.TheVariants.{Average, Breaks, Interpolate}
 
 -- whether a task's schedule is made with the rates of the file of fixings; where there is no file, there are no rates
 abbrev pub uses_rates : Task → Bool
 uses_rates Check = true
 uses_rates Schedule = true
 uses_rates Audit = true
+uses_rates (Breaks from) = true
 uses_rates Emit = true
 uses_rates (Accrue date) = true
 uses_rates Net = true
@@ -24,6 +25,7 @@ abbrev pub nets : Task → Bool
 nets Check = false
 nets Schedule = false
 nets Audit = false
+nets (Breaks from) = false
 nets Emit = false
 nets (Accrue date) = false
 nets Net = true
@@ -36,6 +38,7 @@ abbrev pub IsLawfulTask : Task → Type 0
 IsLawfulTask Check = Unit {0}
 IsLawfulTask Schedule = Unit {0}
 IsLawfulTask Audit = Unit {0}
+IsLawfulTask (Breaks from) = Unit {0}
 IsLawfulTask Emit = Unit {0}
 IsLawfulTask (Accrue date) = Unit {0}
 IsLawfulTask Net = Unit {0}

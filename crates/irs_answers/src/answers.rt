@@ -2,7 +2,8 @@
 ghost use Rattle.std.specs.Prelude.{◌≡◌};
 ghost use Rattle.irs_emit.specs.Emitted.{emit_text};
 ghost use Rattle.irs_answers.specs.Accrued.{TellsAccrued};
-ghost use Rattle.irs_answers.specs.Due.{Answered, DueFlows, Passes};
+ghost use Rattle.irs_answers.specs.CashFlows.{DueFlows, DueVerdict};
+ghost use Rattle.irs_answers.specs.Due.{Answered, Passes};
 ghost use Rattle.irs_answers.specs.Forms.{source_by};
 ghost use Rattle.irs_answers.specs.Found.{facts_by};
 ghost use Rattle.irs_answers.specs.Given.{given_by};
@@ -13,6 +14,7 @@ ghost use Rattle.irs_answers.specs.Tasks.{IsLawfulTask};
 ghost use Rattle.irs_terms.specs.Lawful.{IsLawful};
 
 use crate::accruing::accrued_page;
+use crate::breaking::breaks_answer;
 use crate::derived::{average_answer, interpolate_answer, overnight_answer};
 use crate::due::Found;
 use crate::files::TaskFiles;
@@ -43,6 +45,7 @@ pub(crate) fn answer_by(
         Task::Check => check_answer(alloc),
         Task::Schedule => Ok(Reply::Rows(found.schedule)),
         Task::Audit => audit_answer(alloc, &files.flows, &found.schedule),
+        Task::Breaks(from) => breaks_answer(alloc, &from, &files.flows, &found.schedule),
         Task::Emit => emit_answer(alloc, &found.schedule),
         Task::Accrue(date) => accrue_answer(alloc, &found.schedule, date),
         Task::Net => net_answer(alloc, &found),
@@ -64,7 +67,7 @@ fn check_answer(alloc: Global) -> Result<Reply, Refusal>
 }
 
 fn audit_answer(alloc: Global, flows: &Source, schedule: &Schedule) -> Result<Reply, Refusal>
-    ensures { IfAnswered result (Ends (DueFlows (source_by flows.now) schedule.now)) }
+    ensures { IfAnswered result (Ends (DueFlows (DueVerdict schedule.now) (source_by flows.now))) }
 {
     let verdict = verdict_on(alloc, schedule, flows)?;
     Ok(verdict_reply(alloc, verdict)?)

@@ -1,6 +1,6 @@
-//! The cash flows of an audit, and the verdict on them.
+//! The cash flows of a task, and the verdict on them.
 ghost use Rattle.std.specs.Prelude.{◌≡◌, IfOk, IfErr};
-ghost use Rattle.irs_answers.specs.Due.{DueFlows};
+ghost use Rattle.irs_answers.specs.CashFlows.{DueFlows, DueVerdict};
 ghost use Rattle.irs_answers.specs.Forms.{source_by};
 ghost use Rattle.irs_answers.specs.FlowMessages.{verdict_status, verdict_text, whole_document};
 ghost use Rattle.irs_answers.specs.Outcomes.{Ends, FlowsFail, IfRefused, SpellsFlows};
@@ -19,15 +19,16 @@ pub(crate) fn verdict_on(
     source: &Source,
 ) -> Result<Verdict, FlowErr>
     ensures verdict { IfOk result
-        (λ w. Ends (DueFlows (source_by source.now) schedule.now) (verdict_status w) (verdict_text w)) }
-    ensures fault { IfErr result (λ e. IfRefused (OfFlows e) (Ends (DueFlows (source_by source.now) schedule.now))) }
+        (λ w. Ends (DueFlows (DueVerdict schedule.now) (source_by source.now)) (verdict_status w) (verdict_text w)) }
+    ensures fault { IfErr result
+        (λ e. IfRefused (OfFlows e) (Ends (DueFlows (DueVerdict schedule.now) (source_by source.now)))) }
 {
-    let flows = spelt_flows(alloc, source)?;
+    let flows = stated_flows(alloc, source)?;
     Ok(audit(schedule, &flows))
 }
 
-// The flows that a text states, or its first fault.
-fn spelt_flows(alloc: Global, source: &Source) -> Result<Flows, FlowErr>
+/// The flows that a text states, or its first fault.
+pub(crate) fn stated_flows(alloc: Global, source: &Source) -> Result<Flows, FlowErr>
     ensures spells { IfOk result (λ flows. SpellsFlows (source_by source.now) flows) }
     ensures fault { IfErr result (λ e. FlowsFail (source_by source.now) e) }
 {

@@ -4,6 +4,7 @@
 
 mod accruing;
 mod answers;
+mod breaking;
 mod carrying;
 mod derived;
 mod due;

@@ -15,6 +15,8 @@ pub enum Task {
     Schedule,
     /// Whether cash flows agree with the schedule of a document.
     Audit,
+    /// Each break between cash flows and the schedule of a document, for what is due from a day on, or for all.
+    Breaks(Option<Day>),
     /// The schedule of a document as cash flows.
     Emit,
     /// What has accrued on a day in each stream of the schedule.
@@ -47,6 +49,7 @@ impl Task {
             Task::Check => true,
             Task::Schedule => true,
             Task::Audit => true,
+            Task::Breaks(_) => true,
             Task::Emit => true,
             Task::Accrue(_) => true,
             Task::Net => true,
@@ -64,6 +67,7 @@ impl Task {
             Task::Check => false,
             Task::Schedule => false,
             Task::Audit => false,
+            Task::Breaks(_) => false,
             Task::Emit => false,
             Task::Accrue(_) => false,
             Task::Net => true,

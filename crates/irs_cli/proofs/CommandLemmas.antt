@@ -21,14 +21,15 @@ use Rattle.irs_cli.specs.declared.commands.Request.{Request}
 use Rattle.irs_cli.specs.declared.commands.Request.TheVariants.{OverFiles, Bulk, Carrier}
 use Rattle.irs_cli.specs.declared.commands.Command.{Command}
 use Rattle.irs_cli.specs.declared.commands.Named.{Named}
-use Rattle.irs_cli.specs.Commands.{Words, texts, Wanted, Asked, Asks, AsksAs, AsksAccrue, AsksAverage, AsksBulk}
-use Rattle.irs_cli.specs.Commands.{AsksInterpolate, AsksOvernight, IsRequest, IsListed, IsCommand, IsCommandAs}
+use Rattle.irs_cli.specs.Commands.{Words, texts, Wanted, Asked, Asks, AsksAs, AsksAccrue, AsksAverage, AsksBreaks}
+use Rattle.irs_cli.specs.Commands.{AsksBulk, AsksInterpolate, AsksOvernight, IsRequest, IsListed, IsCommand}
 use Rattle.irs_cli.specs.Commands.{asked_by, wanted_by, kind_of, params_of, roles_of, calendars_of, role_at, is_file}
-use Rattle.irs_cli.specs.Commands.{kept, files_from}
+use Rattle.irs_cli.specs.Commands.{IsCommandAs, kept, files_from}
 use Rattle.irs_cli.specs.Due.{IsLawfulRequest}
-use Rattle.irs_cli.specs.Params.{IsCountWord, IsDateWord, IsMeanWord, IsSideWord, IsStepWord, IsStreamWord, IsTenorWord}
-use Rattle.irs_cli.proofs.ParamLemmas.{one_at, one_count, one_date, one_mean, one_side, one_step, one_stream, one_tenor}
-use Rattle.irs_cli.proofs.ParamLemmas.{step_lawful, tenor_lawful}
+use Rattle.irs_cli.specs.Params.{IsCountWord, IsDateWord, IsFromWord, IsMeanWord, IsSideWord, IsStepWord, IsStreamWord}
+use Rattle.irs_cli.specs.Params.{IsTenorWord}
+use Rattle.irs_cli.proofs.ParamLemmas.{one_at, one_count, one_date, one_from, one_mean, one_side, one_step, one_stream}
+use Rattle.irs_cli.proofs.ParamLemmas.{one_tenor, step_lawful, tenor_lawful}
 
 -- equal texts are equal where they are there
 pub ap_some : {x y : List ℕ} → x ≡ y → (let o : Option (List ℕ) = Some x in o ≡ Some y)
@@ -103,6 +104,11 @@ one_accrue ws a b h k =
     k.is ∙ ap (λ (d : ℤ). OverFiles (task.Accrue d)) (one_at IsDateWord one_date ws 0 h.date k.date h.is_date k.is_date)
     ∙ sym h.is
 
+one_breaks : (ws : Words) (a b : Request) → AsksBreaks ws a → AsksBreaks ws b → b ≡ a
+one_breaks ws a b h k =
+    k.is ∙ ap (λ (f : Option ℤ). OverFiles (task.Breaks f))
+    (one_at IsFromWord one_from ws 0 h.from k.from h.is_from k.is_from) ∙ sym h.is
+
 one_bulk : (ws : Words) (a b : Request) → AsksBulk ws a → AsksBulk ws b → b ≡ a
 one_bulk ws a b h k =
     k.is ∙ ap (λ (n : ℕ). Bulk n) (one_at IsCountWord one_count ws 0 h.count k.count h.is_count k.is_count) ∙ sym h.is
@@ -136,6 +142,7 @@ one_request : (k : Kind) (ws : Words) (r q : Request) → IsRequest k ws r → I
 one_request kind.Check ws r q h i = i ∙ sym h
 one_request kind.Schedule ws r q h i = i ∙ sym h
 one_request kind.Audit ws r q h i = i ∙ sym h
+one_request kind.Breaks ws r q h i = one_breaks ws r q h i
 one_request kind.Bulk ws r q h i = one_bulk ws r q h i
 one_request kind.Emit ws r q h i = i ∙ sym h
 one_request kind.Accrue ws r q h i = one_accrue ws r q h i
@@ -150,6 +157,7 @@ lawful_by : (k : Kind) (ws : Words) (r : Request) → IsRequest k ws r → IsLaw
 lawful_by kind.Check ws r h = subst IsLawfulRequest (sym h) tt
 lawful_by kind.Schedule ws r h = subst IsLawfulRequest (sym h) tt
 lawful_by kind.Audit ws r h = subst IsLawfulRequest (sym h) tt
+lawful_by kind.Breaks ws r h = subst IsLawfulRequest (sym h.is) tt
 lawful_by kind.Bulk ws r h = subst IsLawfulRequest (sym h.is) h.is_count.is.to_most
 lawful_by kind.Emit ws r h = subst IsLawfulRequest (sym h) tt
 lawful_by kind.Accrue ws r h = subst IsLawfulRequest (sym h.is) tt
@@ -235,6 +243,7 @@ row_fits : (k : Kind) → (all_cals (roles_of k) ≡ 0) × (calendars_of k ≤ m
 row_fits kind.Check = (refl, omega arith)
 row_fits kind.Schedule = (refl, omega arith)
 row_fits kind.Audit = (refl, omega arith)
+row_fits kind.Breaks = (refl, omega arith)
 row_fits kind.Bulk = (refl, omega arith)
 row_fits kind.Emit = (refl, omega arith)
 row_fits kind.Accrue = (refl, omega arith)

@@ -1,6 +1,6 @@
 -- A word is one parameter at most, and parameters lie in their ranges.
 use Rattle.std.proofs.Common.{◌≡◌, inl, inr, ℕ, ◌+◌, ◌*◌, ◌-◌, ◌≤◌, List, [], ◌∷◌, Option, Some, None, Bool, true}
-use Rattle.std.proofs.Common.{false, refl, sym, ◌∙◌, ap, subst, arith, ℤ}
+use Rattle.std.proofs.Common.{codes, false, length, length-append, refl, sym, ◌∙◌, ap, subst, arith, ℤ}
 use Rattle.std.specs.Prelude.{nat_le, ◌&&◌, ◌==◌, if◌then◌else◌}
 use Rattle.std.proofs.lemmas.Bool.{cases_lt}
 use Rattle.std.proofs.lemmas.Bool.Decides.{nat_tests}
@@ -11,14 +11,15 @@ use Rattle.irs_average.specs.declared.means.Mean.TheVariants.{Plain, Weighted}
 use Rattle.irs_average.specs.declared.stubs.Side.{Side}
 use Rattle.irs_average.specs.declared.stubs.Side.TheVariants.{Initial, Last}
 use Rattle.irs_average.specs.Averages.{most_step}
+use Rattle.irs_base.specs.Texts.{IsDateText}
 use Rattle.irs_elements.proofs.DatesAt.{day_is}
 use Rattle.irs_resets.specs.Tenors.{digit_at, first_digit, tens, two_digits, hundreds, three_digits, unit_at, with_unit}
 use Rattle.irs_terms.specs.Lawful.{IsLawfulTenor}
 use Rattle.irs_terms.specs.declared.frequency.Frequency.{Frequency}
 use Rattle.irs_terms.specs.declared.frequency.Unit.{Unit as FrequencyUnit}
 use Rattle.irs_terms.specs.declared.frequency.Unit.TheVariants.{D, W, M, Y, T}
-use Rattle.irs_cli.specs.Params.{At, IsCountWord, IsDateWord, IsMeanWord, IsSideWord, IsStepWord, IsStreamWord}
-use Rattle.irs_cli.specs.Params.{IsTenorWord, days_of, mean_name, side_name}
+use Rattle.irs_cli.specs.Params.{At, IsCountWord, IsDateWord, IsFromWord, IsMeanWord, IsSideWord, IsStepWord}
+use Rattle.irs_cli.specs.Params.{IsStreamWord, IsTenorWord, days_of, mean_name, side_name}
 
 -- the word at a place is one for one x at most, where a word is
 pub one_at : {X : Type 0} (Is : List ℕ → X → Type 0) → ((w : List ℕ) (x y : X) → Is w x → Is w y → y ≡ x)
@@ -31,6 +32,25 @@ one_at Is one ps i x y h k =
 pub one_date : (w : List ℕ) (d e : ℤ) → IsDateWord w d → IsDateWord w e → e ≡ d
 one_date w d e h k =
     same_Some e d (day_is w (Some e) (k.in_range, k.is) tt ∙ sym (day_is w (Some d) (h.in_range, h.is) tt))
+
+-- a date has ten bytes, or eleven with a Z
+long_date : (text : List ℕ) (d : ℤ) → IsDateText text d → 10 ≤ length text
+long_date text d (inl p) = let n : length text ≡ 10 = ap length p.is in omega (arith, n)
+long_date text d (inr h) =
+    let n : length h.0 ≡ 10 = ap length h.2.is in
+    let m : length text ≡ length h.0 + 1 = ap length h.1 ∙ length-append h.0 (90 ∷ []) in
+    omega (arith, n, m)
+
+-- `-` is none
+no_date : (d : ℤ) → IsDateWord (codes "-") d → ⊥
+no_date d h = let n : 10 ≤ 1 = long_date (codes "-") d h.is in omega (arith, n)
+
+-- a word spells one first day, or asks for all
+pub one_from : (w : List ℕ) (f g : Option ℤ) → IsFromWord w f → IsFromWord w g → g ≡ f
+one_from w None None h k = refl
+one_from w None (Some e) h k = absurd (no_date e (subst (λ (v : List ℕ). IsDateWord v e) h k))
+one_from w (Some d) None h k = absurd (no_date d (subst (λ (v : List ℕ). IsDateWord v d) k h))
+one_from w (Some d) (Some e) h k = ap Some (one_date w d e h k)
 
 -- a word spells one count
 pub one_count : (w : List ℕ) (n m : ℕ) → IsCountWord w n → IsCountWord w m → m ≡ n

@@ -16,8 +16,8 @@ use Rattle.irs_cli.specs.declared.commands.Role.{Role}
 use Rattle.irs_cli.specs.declared.commands.Role.TheVariants.{Document, Fixings, Flows, Calendar}
 use Rattle.irs_cli.specs.declared.commands.Named.{Named}
 use Rattle.irs_cli.specs.declared.commands.Command.{Command}
-use Rattle.irs_cli.specs.Params.{At, IsCountWord, IsDateWord, IsMeanWord, IsSideWord, IsStepWord, IsStreamWord}
-use Rattle.irs_cli.specs.Params.{IsTenorWord, form_of}
+use Rattle.irs_cli.specs.Params.{At, IsCountWord, IsDateWord, IsFromWord, IsMeanWord, IsSideWord, IsStepWord}
+use Rattle.irs_cli.specs.Params.{IsStreamWord, IsTenorWord, form_of}
 use Rattle.irs_answers.specs.declared.forms.Form.TheVariants.{Xml}
 
 -- the words behind the program's name, by their bytes
@@ -59,6 +59,7 @@ kind_of w =
     if bytes_eq w (codes "check") then Some kind.Check else
     if bytes_eq w (codes "schedule") then Some kind.Schedule else
     if bytes_eq w (codes "audit") then Some kind.Audit else
+    if bytes_eq w (codes "breaks") then Some kind.Breaks else
     if bytes_eq w (codes "bulk") then Some kind.Bulk else
     if bytes_eq w (codes "emit") then Some kind.Emit else
     if bytes_eq w (codes "accrue") then Some kind.Accrue else
@@ -73,6 +74,7 @@ abbrev pub params_of : Kind → ℕ
 params_of kind.Check = 0
 params_of kind.Schedule = 0
 params_of kind.Audit = 0
+params_of kind.Breaks = 1
 params_of kind.Bulk = 1
 params_of kind.Emit = 0
 params_of kind.Accrue = 1
@@ -87,6 +89,7 @@ abbrev pub roles_of : Kind → List Role
 roles_of kind.Check = Document ∷ []
 roles_of kind.Schedule = Document ∷ Fixings ∷ []
 roles_of kind.Audit = Document ∷ Fixings ∷ Flows ∷ []
+roles_of kind.Breaks = Document ∷ Fixings ∷ Flows ∷ []
 roles_of kind.Bulk = []
 roles_of kind.Emit = Document ∷ Fixings ∷ []
 roles_of kind.Accrue = Document ∷ Fixings ∷ []
@@ -101,6 +104,7 @@ abbrev pub calendars_of : Kind → ℕ
 calendars_of kind.Check = most_calendars
 calendars_of kind.Schedule = most_calendars
 calendars_of kind.Audit = most_calendars
+calendars_of kind.Breaks = most_calendars
 calendars_of kind.Bulk = 0
 calendars_of kind.Emit = most_calendars
 calendars_of kind.Accrue = most_calendars
@@ -142,6 +146,12 @@ pub record AsksAccrue (ws : Words) (r : Request) : Type 0 where
   pub date : ℤ
   pub is_date : At IsDateWord ws 0 date
   pub is : r ≡ OverFiles (task.Accrue date)
+
+-- `breaks` with its first date, or with none
+pub record AsksBreaks (ws : Words) (r : Request) : Type 0 where
+  pub from : Option ℤ
+  pub is_from : At IsFromWord ws 0 from
+  pub is : r ≡ OverFiles (task.Breaks from)
 
 -- `bulk` with its number of documents
 pub record AsksBulk (ws : Words) (r : Request) : Type 0 where
@@ -189,6 +199,7 @@ abbrev pub IsRequest : Kind → Words → Request → Type 0
 IsRequest kind.Check ws r = r ≡ OverFiles task.Check
 IsRequest kind.Schedule ws r = r ≡ OverFiles task.Schedule
 IsRequest kind.Audit ws r = r ≡ OverFiles task.Audit
+IsRequest kind.Breaks ws r = AsksBreaks ws r
 IsRequest kind.Bulk ws r = AsksBulk ws r
 IsRequest kind.Emit ws r = r ≡ OverFiles task.Emit
 IsRequest kind.Accrue ws r = AsksAccrue ws r

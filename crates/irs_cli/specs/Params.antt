@@ -28,6 +28,11 @@ pub record IsDateWord (w : List ℕ) (d : ℤ) : Type 0 where
   pub in_range : IsDay d
   pub is : IsDateText w d
 
+-- the first day that is asked for: a date, or `-` for none, which asks for all
+abbrev pub IsFromWord : List ℕ → Option ℤ → Type 0
+IsFromWord w None = w ≡ codes "-"
+IsFromWord w (Some d) = IsDateWord w d
+
 -- a number of documents, from 1 to 500, in digits with no zero in front
 pub record IsCountWord (w : List ℕ) (n : ℕ) : Type 0 where
   pub from_one : 1 ≤ n

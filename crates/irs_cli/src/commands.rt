@@ -2,7 +2,8 @@
 //!
 //! `check DOC CAL..` asks whether a document keeps every rule, without fixings,
 //! `schedule DOC FIX CAL..` for its schedule, and `audit DOC FIX FLOWS CAL..` whether the cash flows of
-//! FLOWS agree with that schedule. `emit DOC FIX CAL..` asks for the schedule as cash flows,
+//! FLOWS agree with that schedule. `breaks FROM DOC FIX FLOWS CAL..` asks for each break between them,
+//! for what is due from a day on, or with `-` for all. `emit DOC FIX CAL..` asks for the schedule as cash flows,
 //! `accrue DATE DOC FIX CAL..` what has accrued on a day in each stream of that schedule, and
 //! `net DOC FIX CAL..` what falls due between the two parties. `overnight STREAM DOC DAILY CAL..` asks
 //! for the rates that the daily rates of DAILY give for the periods of a stream,
@@ -22,7 +23,9 @@ ghost use Rattle.irs_cli.specs.Commands.{texts, kind_of, params_of, roles_of, ca
 ghost use Rattle.irs_cli.specs.Commands.{IsRequest, IsCommand, IsCommandAs, asked_by, wanted_by, files_from};
 ghost use Rattle.irs_cli.specs.Commands.{most_words};
 
-use crate::params::{accrue_of, average_of, bulk_of, carrier_of, interpolate_of, overnight_of};
+use crate::params::{
+    accrue_of, average_of, breaks_of, bulk_of, carrier_of, interpolate_of, overnight_of,
+};
 use irs_answers::Task;
 use irs_base::{MOST_FILES, Memory};
 use std::alloc::Global;
@@ -36,6 +39,8 @@ pub(crate) enum Kind {
     Schedule,
     /// `audit`: whether cash flows agree with a schedule.
     Audit,
+    /// `breaks`: each break between cash flows and a schedule.
+    Breaks,
     /// `bulk`: the sums over many schedules.
     Bulk,
     /// `emit`: a schedule as cash flows (FpML `cashflows`).
@@ -72,7 +77,7 @@ pub(crate) enum Role {
     Document,
     /// The observed rates; `-` stands for none.
     Fixings,
-    /// The cash flows to audit.
+    /// The cash flows.
     Flows,
     /// A calendar.
     Calendar,
@@ -108,6 +113,8 @@ fn kind_of(word: &str) -> Option<Kind>
         Some(Kind::Schedule)
     } else if word == "audit" {
         Some(Kind::Audit)
+    } else if word == "breaks" {
+        Some(Kind::Breaks)
     } else if word == "bulk" {
         Some(Kind::Bulk)
     } else if word == "emit" {
@@ -138,6 +145,7 @@ impl Kind {
             Kind::Check => 0,
             Kind::Schedule => 0,
             Kind::Audit => 0,
+            Kind::Breaks => 1,
             Kind::Bulk => 1,
             Kind::Emit => 0,
             Kind::Accrue => 1,
@@ -157,6 +165,7 @@ impl Kind {
             Kind::Check => &[Role::Document],
             Kind::Schedule => &[Role::Document, Role::Fixings],
             Kind::Audit => &[Role::Document, Role::Fixings, Role::Flows],
+            Kind::Breaks => &[Role::Document, Role::Fixings, Role::Flows],
             Kind::Bulk => &[],
             Kind::Emit => &[Role::Document, Role::Fixings],
             Kind::Accrue => &[Role::Document, Role::Fixings],
@@ -176,6 +185,7 @@ impl Kind {
             Kind::Check => MOST_FILES,
             Kind::Schedule => MOST_FILES,
             Kind::Audit => MOST_FILES,
+            Kind::Breaks => MOST_FILES,
             Kind::Bulk => 0,
             Kind::Emit => MOST_FILES,
             Kind::Accrue => MOST_FILES,
@@ -236,6 +246,7 @@ fn request_of(kind: Kind, words: &[String]) -> Option<Request>
         Kind::Check => Some(Request::OverFiles(Task::Check)),
         Kind::Schedule => Some(Request::OverFiles(Task::Schedule)),
         Kind::Audit => Some(Request::OverFiles(Task::Audit)),
+        Kind::Breaks => breaks_of(words),
         Kind::Bulk => bulk_of(words),
         Kind::Emit => Some(Request::OverFiles(Task::Emit)),
         Kind::Accrue => accrue_of(words),

@@ -1,9 +1,9 @@
 //! What the words of a command ask for: its parameters, and the name that `carrier` takes.
-ghost use Rattle.std.specs.Prelude.{◌≡◌, ◌↔◌, ℕ, ℤ, Some, IfSome, IfNone, IsTrue};
+ghost use Rattle.std.specs.Prelude.{◌≡◌, ◌↔◌, ℕ, ℤ, Option, Some, IfSome, IfNone, IsTrue};
 ghost use Rattle.irs_resets.specs.Tenors.{tenor_at};
 ghost use Rattle.irs_cli.specs.Commands.{texts, IsRequest};
-ghost use Rattle.irs_cli.specs.Params.{At, IsCountWord, IsDateWord, IsMeanWord, IsSideWord, IsStepWord, IsStreamWord};
-ghost use Rattle.irs_cli.specs.Params.{IsTenorWord, days_of, form_of};
+ghost use Rattle.irs_cli.specs.Params.{At, IsCountWord, IsDateWord, IsFromWord, IsMeanWord, IsSideWord, IsStepWord};
+ghost use Rattle.irs_cli.specs.Params.{IsStreamWord, IsTenorWord, days_of, form_of};
 ghost use Rattle.irs_cli.specs.declared.commands.Kind.TheVariants as kind;
 ghost use Rattle.irs_cli.specs.declared.commands.Request.{Request as RequestSpec};
 ghost use Rattle.irs_average.specs.declared.means.Mean.{Mean as MeanSpec};
@@ -25,6 +25,17 @@ pub(crate) fn accrue_of(words: &[String]) -> Option<Request>
 {
     match date_at(words, 0) {
         Some(date) => Some(Request::OverFiles(Task::Accrue(date))),
+        None => None,
+    }
+}
+
+/// `breaks FROM` by its parameter.
+pub(crate) fn breaks_of(words: &[String]) -> Option<Request>
+    ensures some { IfSome result (λ r. IsRequest kind.Breaks (texts words.now) r) }
+    ensures none { IfNone result ((r : RequestSpec) → IsRequest kind.Breaks (texts words.now) r → ⊥) }
+{
+    match from_at(words, 0) {
+        Some(from) => Some(Request::OverFiles(Task::Breaks(from))),
         None => None,
     }
 }
@@ -110,6 +121,30 @@ fn date_at(words: &[String], index: usize) -> Option<Day>
 {
     let word = words.get(index)?;
     date_of(word.as_str())
+}
+
+// The first day that the word with this index asks for.
+fn from_at(words: &[String], index: usize) -> Option<Option<Day>>
+    ensures some { IfSome result (λ f. At IsFromWord (texts words.now) index f) }
+    ensures none { IfNone result ((f : Option ℤ) → At IsFromWord (texts words.now) index f → ⊥) }
+{
+    let word = words.get(index)?;
+    from_of(word.as_str())
+}
+
+// The first day that a word asks for: that of a date, or none where `-` asks for all.
+fn from_of(word: &str) -> Option<Option<Day>>
+    ensures some { IfSome result (λ f. IsFromWord word.now f) }
+    ensures none { IfNone result ((f : Option ℤ) → IsFromWord word.now f → ⊥) }
+{
+    if word == "-" {
+        Some(None)
+    } else {
+        match date_of(word) {
+            Some(date) => Some(Some(date)),
+            None => None,
+        }
+    }
 }
 
 // The day that a word is a date of.

@@ -2,7 +2,7 @@
 use Rattle.irs_plain.specs.Cuts.{fifth, fourth, front, second, sixth, third}
 use Rattle.irs_plain.specs.Elements.{holder, name_words, possessive}
 use Rattle.irs_plain.specs.Lookup.{after, before}
-use Rattle.irs_plain.specs.Words.{calendar_name, document_name, fixings_name, flows_name, named}
+use Rattle.irs_plain.specs.Words.{calendar_name, command, document_name, fixings_name, flows_name, named}
 use Rattle.irs_plain.specs.declared.lines.Sentence.{Sentence}
 use Rattle.std.specs.Prelude.{ℕ, ◌==◌, ◌||◌, ◌&&◌, nat_eq, Bool, not, List, [], ◌∷◌, ◌++◌, map, codes, if◌then◌else◌}
 use Rattle.std.specs.List.{ends_with}
@@ -128,12 +128,22 @@ departure words line =
     ∷ unless_stream (third line) (fourth line)
     ∷ stream_words (third line) ∷ second line ∷ ending (fifth line) ∷ []
 
+-- the list of `breaks`
+abbrev pub broken : List (List ℕ) → List (List ℕ)
+broken words =
+    codes "the cash flows (" ∷ flows_name words ∷ codes ") depart from the schedule: each line of the list is one break"
+    ∷ []
+
+-- what `audit` or `breaks` found
+abbrev pub not_agreed : List (List ℕ) → List ℕ → List (List ℕ)
+not_agreed words line = if bytes_eq (command words) (codes "breaks") then broken words else departure words line
+
 -- ---- every status
 
 -- the sentence for a line without its end
 abbrev pub told : List (List ℕ) → ℕ → List ℕ → List (List ℕ)
 told words status line =
-    if status == 1 then departure words line
+    if status == 1 then not_agreed words line
     else (if status == 2 then refused words line
     else (if status == 3 then bad_file words line
     else (if status == 4 then codes "these words are no listed command: " ∷ codes "irs --help lists them" ∷ []

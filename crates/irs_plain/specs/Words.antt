@@ -34,22 +34,29 @@ before_calendars command =
     if bytes_eq command (codes "check") then 1
     else (if bytes_eq command (codes "audit") || bytes_eq command (codes "accrue")
     || bytes_eq command (codes "overnight") then 3
+    else (if bytes_eq command (codes "breaks") then 4
     else (if bytes_eq command (codes "average") then 5
-    else (if bytes_eq command (codes "interpolate") then 6 else 2)))
+    else (if bytes_eq command (codes "interpolate") then 6 else 2))))
 
 -- the place of the file of fixings
 abbrev pub fixings_place : List ℕ → ℕ
 fixings_place command =
-    if bytes_eq command (codes "accrue") || bytes_eq command (codes "overnight") then 3
+    if bytes_eq command (codes "accrue") || bytes_eq command (codes "overnight")
+    || bytes_eq command (codes "breaks") then 3
     else (if bytes_eq command (codes "average") then 5
     else (if bytes_eq command (codes "interpolate") then 6 else 2))
 
 -- the place of the document
 abbrev pub document_place : List ℕ → ℕ
 document_place command =
-    if bytes_eq command (codes "accrue") || bytes_eq command (codes "overnight") then 2
+    if bytes_eq command (codes "accrue") || bytes_eq command (codes "overnight")
+    || bytes_eq command (codes "breaks") then 2
     else (if bytes_eq command (codes "average") then 4
     else (if bytes_eq command (codes "interpolate") then 5 else 1))
+
+-- the place of the document of cash flows
+abbrev pub flows_place : List ℕ → ℕ
+flows_place command = if bytes_eq command (codes "breaks") then 4 else 3
 
 -- the command
 abbrev pub command : List (List ℕ) → List ℕ
@@ -69,4 +76,4 @@ document_name words = word_at words (document_place (command words))
 
 -- the name of the document of cash flows
 abbrev pub flows_name : List (List ℕ) → List ℕ
-flows_name words = word_at words 3
+flows_name words = word_at words (flows_place (command words))

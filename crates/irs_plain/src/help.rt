@@ -1,12 +1,13 @@
 //! The texts of `--help` and `--version`, and the listed commands.
 
 /// The listed commands. DOC is a document of terms, FLOWS one of cash flows, FIX and DAILY are files of
-/// fixings or `-` for none, CAL is a calendar file, DATE a date; the other words are those of the
-/// command.
-pub const COMMANDS: [&str; 11] = [
+/// fixings or `-` for none, CAL is a calendar file, DATE a date, FROM a date or `-` for all; the other
+/// words are those of the command.
+pub const COMMANDS: [&str; 12] = [
     "check DOC CAL..",
     "schedule DOC FIX CAL..",
     "audit DOC FIX FLOWS CAL..",
+    "breaks FROM DOC FIX FLOWS CAL..",
     "emit DOC FIX CAL..",
     "net DOC FIX CAL..",
     "accrue DATE DOC FIX CAL..",
@@ -24,6 +25,8 @@ irs: proved schedules of interest rate swaps
   irs check DOC CAL..             whether the document keeps every rule
   irs schedule DOC FIX CAL..      its dates, periods, fixings and payments
   irs audit DOC FIX FLOWS CAL..   whether cash flows agree with that schedule
+  irs breaks FROM DOC FIX FLOWS CAL..
+                                  each difference of cash flows, for what is due from FROM on
   irs emit DOC FIX CAL..          the schedule as cash flows in FpML's words
   irs net DOC FIX CAL..           what the two parties pay each other, by day and currency
   irs accrue DATE DOC FIX CAL..   what has accrued in each stream on a day
@@ -38,7 +41,8 @@ irs: proved schedules of interest rate swaps
 
 DOC is a document of terms and FLOWS one of cash flows: FpML XML where the name ends in .xml, else FpML
 carried as JSON. FIX and DAILY are files of fixings, or - for none. CAL.. are 0 to 16 calendar files.
-DATE is YYYY-MM-DD, STREAM a number from 1; STEP, LOW and HIGH are periods such as 1D or 3M.
+DATE is YYYY-MM-DD, FROM too, or - for all dates; STREAM is a number from 1; STEP, LOW and HIGH are
+periods such as 1D or 3M.
 
 Status  0 done                                 5 a file couldn't be read
         1 the cash flows depart                6 standard output couldn't be written

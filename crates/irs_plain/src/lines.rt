@@ -3,7 +3,8 @@
 ghost use Rattle.irs_plain.specs.Sentences.{about as about_of, after_in as after_in_of, is_unread as is_unread_of};
 ghost use Rattle.irs_plain.specs.Sentences.{bad_calendar as bad_calendar_of};
 ghost use Rattle.irs_plain.specs.Sentences.{bad_file as bad_file_of, bad_fixings as bad_fixings_of};
-ghost use Rattle.irs_plain.specs.Sentences.{bad_flows as bad_flows_of, calendar_fault as calendar_fault_of};
+ghost use Rattle.irs_plain.specs.Sentences.{bad_flows as bad_flows_of, broken as broken_of};
+ghost use Rattle.irs_plain.specs.Sentences.{calendar_fault as calendar_fault_of, not_agreed as not_agreed_of};
 ghost use Rattle.irs_plain.specs.Sentences.{departure as departure_of, ending as ending_of};
 ghost use Rattle.irs_plain.specs.Sentences.{fixing_fault as fixing_fault_of, is_of_field as is_of_field_of, joined};
 ghost use Rattle.irs_plain.specs.Sentences.{number_told as number_told_of, of_field as of_field_of};
@@ -16,7 +17,7 @@ ghost use Rattle.std.specs.Prelude.{◌≡◌, [], ◌∷◌};
 use crate::cuts::{fifth, fourth, front, is, second, sixth, third};
 use crate::elements::{holder, name_words, possessive};
 use crate::lookup::{after, before};
-use crate::words::{calendar_name, document_name, fixings_name, flows_name, named};
+use crate::words::{calendar_name, command, document_name, fixings_name, flows_name, named};
 use irs_base::Status;
 
 /// The most parts of a sentence.
@@ -309,6 +310,28 @@ fn departure<'a>(words: &'a [String], line: &'a [u8]) -> Sentence<'a>
     }
 }
 
+// The list of `breaks`.
+fn broken(words: &[String]) -> Sentence<'_>
+    ensures { said result ≡ joined (broken_of (texts words.now)) }
+{
+    short(
+        b"the cash flows (",
+        flows_name(words),
+        b") depart from the schedule: each line of the list is one break",
+    )
+}
+
+// What `audit` or `breaks` found.
+fn not_agreed<'a>(words: &'a [String], line: &'a [u8]) -> Sentence<'a>
+    ensures { said result ≡ joined (not_agreed_of (texts words.now) line.now) }
+{
+    if is(command(words), "breaks") {
+        broken(words)
+    } else {
+        departure(words, line)
+    }
+}
+
 // ---- every status
 
 // The sentence for a line without its end; an empty one for a number that is no status.
@@ -317,7 +340,7 @@ fn told<'a>(words: &'a [String], status: u8, line: &'a [u8]) -> Sentence<'a>
     ensures { said result ≡ joined (told_of (texts words.now) status line.now) }
 {
     match Status::of(status) {
-        Some(Status::NotAgreed) => departure(words, line),
+        Some(Status::NotAgreed) => not_agreed(words, line),
         Some(Status::RuleBroken) => refused(words, line),
         Some(Status::BadFile) => bad_file(words, line),
         Some(Status::BadWords) => short(

@@ -1,13 +1,15 @@
 //! The files that the words of a command line name. The first word is the command.
 //!
-//! `check DOC CAL..`, `schedule DOC FIX CAL..`, `audit DOC FIX FLOWS CAL..`, `emit DOC FIX CAL..`,
-//! `net DOC FIX CAL..`, `accrue DATE DOC FIX CAL..`, `overnight STREAM DOC DAILY CAL..`,
+//! `check DOC CAL..`, `schedule DOC FIX CAL..`, `audit DOC FIX FLOWS CAL..`,
+//! `breaks FROM DOC FIX FLOWS CAL..`, `emit DOC FIX CAL..`, `net DOC FIX CAL..`,
+//! `accrue DATE DOC FIX CAL..`, `overnight STREAM DOC DAILY CAL..`,
 //! `average STREAM KIND STEP DOC FIX CAL..`, `interpolate STREAM SIDE LOW HIGH DOC FIX CAL..` and
 //! `carrier DOC`.
 ghost use Rattle.irs_plain.specs.Words.{calendar_name as calendar_name_of, command as command_of};
 ghost use Rattle.irs_plain.specs.Words.{document_name as document_name_of, document_place as document_place_of};
 ghost use Rattle.irs_plain.specs.Words.{fixings_name as fixings_name_of, fixings_place as fixings_place_of};
-ghost use Rattle.irs_plain.specs.Words.{flows_name as flows_name_of, named as named_of, number as number_of, texts};
+ghost use Rattle.irs_plain.specs.Words.{flows_name as flows_name_of, flows_place as flows_place_of};
+ghost use Rattle.irs_plain.specs.Words.{named as named_of, number as number_of, texts};
 ghost use Rattle.irs_plain.specs.Words.{word_at as word_at_of, before_calendars as before_calendars_of};
 ghost use Rattle.std.specs.Prelude.{◌≡◌, ◌≤◌};
 
@@ -52,6 +54,8 @@ fn before_calendars(command: &[u8]) -> usize
         1
     } else if is(command, "audit") || is(command, "accrue") || is(command, "overnight") {
         3
+    } else if is(command, "breaks") {
+        4
     } else if is(command, "average") {
         5
     } else if is(command, "interpolate") {
@@ -65,7 +69,7 @@ fn before_calendars(command: &[u8]) -> usize
 fn fixings_place(command: &[u8]) -> usize
     ensures { result ≡ fixings_place_of command.now }
 {
-    if is(command, "accrue") || is(command, "overnight") {
+    if is(command, "accrue") || is(command, "overnight") || is(command, "breaks") {
         3
     } else if is(command, "average") {
         5
@@ -80,7 +84,7 @@ fn fixings_place(command: &[u8]) -> usize
 fn document_place(command: &[u8]) -> usize
     ensures { result ≡ document_place_of command.now }
 {
-    if is(command, "accrue") || is(command, "overnight") {
+    if is(command, "accrue") || is(command, "overnight") || is(command, "breaks") {
         2
     } else if is(command, "average") {
         4
@@ -91,8 +95,15 @@ fn document_place(command: &[u8]) -> usize
     }
 }
 
-// The command.
-fn command(words: &[String]) -> &[u8]
+// The place of the document of cash flows.
+fn flows_place(command: &[u8]) -> usize
+    ensures { result ≡ flows_place_of command.now }
+{
+    if is(command, "breaks") { 4 } else { 3 }
+}
+
+/// The command.
+pub(crate) fn command(words: &[String]) -> &[u8]
     ensures { result.now ≡ command_of (texts words.now) }
 {
     word_at(words, 0)
@@ -122,9 +133,9 @@ pub(crate) fn document_name(words: &[String]) -> &[u8]
     word_at(words, document_place(command(words)))
 }
 
-/// The name of the document of cash flows, which `audit` alone has.
+/// The name of the document of cash flows, which `audit` and `breaks` have.
 pub(crate) fn flows_name(words: &[String]) -> &[u8]
     ensures { result.now ≡ flows_name_of (texts words.now) }
 {
-    word_at(words, 3)
+    word_at(words, flows_place(command(words)))
 }

@@ -1,4 +1,4 @@
-use Rattle.irs_answers.specs.Due.{DueFlows}
+use Rattle.irs_answers.specs.CashFlows.{DueFlows, DueVerdict}
 use Rattle.irs_answers.specs.Forms.{source_by}
 use Rattle.irs_answers.specs.Outcomes.{Ends, IfRefused}
 use Rattle.irs_answers.specs.declared.refusals.Refusal.TheVariants.{Flows}
@@ -9,9 +9,9 @@ pub returns-in_err-flows-clause-fault : goal.returns-in_err-flows-clause-fault
 returns-in_err-flows-clause-fault c =
     let e = c.in_err-flows.field-0.0 in
     let file = source_by c.args.source.now in
-    let s = c.args.schedule.now in
-    failed_by c.from_residual.result e (λ x. IfRefused (Flows x) (Ends (DueFlows file s))) c.from_residual.ensures.0
-    c.from_residual.ensures.1 (refuse_flows file s e c.in_err-flows.ensures.fault)
+    let Due = DueVerdict c.args.schedule.now in
+    failed_by c.from_residual.result e (λ x. IfRefused (Flows x) (Ends (DueFlows Due file))) c.from_residual.ensures.0
+    c.from_residual.ensures.1 (refuse_flows Due file e c.in_err-flows.ensures.fault)
 
 pub returns-clause-verdict : goal.returns-clause-verdict
 returns-clause-verdict c =

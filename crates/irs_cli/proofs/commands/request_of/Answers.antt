@@ -10,6 +10,11 @@ returns-in-Accrue-clause-none c =
     subst (λ (k : Kind). IfNone c.accrue_of.result ((r : Request) → IsRequest k (texts c.args.words.now) r → ⊥))
     (sym c.in-Accrue.is) c.accrue_of.ensures.none
 
+pub returns-in-Breaks-clause-none : goal.returns-in-Breaks-clause-none
+returns-in-Breaks-clause-none c =
+    subst (λ (k : Kind). IfNone c.breaks_of.result ((r : Request) → IsRequest k (texts c.args.words.now) r → ⊥))
+    (sym c.in-Breaks.is) c.breaks_of.ensures.none
+
 pub returns-in-Bulk-clause-none : goal.returns-in-Bulk-clause-none
 returns-in-Bulk-clause-none c =
     subst (λ (k : Kind). IfNone c.bulk_of.result ((r : Request) → IsRequest k (texts c.args.words.now) r → ⊥))

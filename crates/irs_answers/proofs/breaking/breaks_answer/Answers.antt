@@ -1,0 +1,30 @@
+use Rattle.irs_base.specs.Order.{Only}
+use Rattle.irs_base.specs.Statuses.{status_number}
+use Rattle.irs_breaks.specs.BreakLists.{IsBreakList}
+use Rattle.irs_answers.specs.CashFlows.{DueBreaks, DueFlows}
+use Rattle.irs_answers.specs.Forms.{source_by}
+use Rattle.irs_answers.specs.Outcomes.{Ends}
+use Rattle.irs_answers.specs.declared.refusals.Refusal.TheVariants.{Flows}
+use Rattle.irs_answers.proofs.FlowLemmas.{due_breaks, refuse_flows}
+use Rattle.irs_answers.proofs.StepLemmas.{answered_by}
+use Rattle.irs_answers.proofs.breaking.breaks_answer.Goals as goal
+
+pub returns-in_err-stated : goal.returns-in_err-stated
+returns-in_err-stated c =
+    let e = c.in_err-stated.field-0.0 in
+    let made = c.from_residual in
+    let file = source_by c.args.flows.now in
+    let Due = DueBreaks c.args.from.now c.args.schedule.now in
+    answered_by made.result (Flows e) (Ends (DueFlows Due file)) made.ensures.0 made.ensures.1
+    (refuse_flows Due file e c.in_err-stated.ensures.fault)
+
+pub returns : goal.returns
+returns c =
+    let from = c.args.from.now in
+    let s = c.args.schedule.now in
+    let flows = c.in_ok-stated.stated in
+    let list = c.in_ok-list.list in
+    let one : Only (IsBreakList from s flows) list =
+    record { is = c.in_ok-list.ensures.list; only = λ l k. c.breaks.ensures.only l list k c.in_ok-list.ensures.list } in
+    due_breaks (source_by c.args.flows.now) from s flows list (status_number c.status_of.result) c.in_ok-text.text.items
+    c.in_ok-stated.ensures.spells one c.status_of.ensures c.in_ok-text.ensures

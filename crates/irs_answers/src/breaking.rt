@@ -1,0 +1,41 @@
+//! The text of `breaks`: each break between cash flows and a schedule. Its format is our rule.
+ghost use Rattle.std.specs.Prelude.{◌≡◌};
+ghost use Rattle.irs_answers.specs.CashFlows.{DueBreaks, DueFlows, IsStatusOf};
+ghost use Rattle.irs_answers.specs.Forms.{source_by};
+ghost use Rattle.irs_answers.specs.Outcomes.{Ends, IfAnswered};
+ghost use Rattle.irs_base.specs.Statuses.{status_number};
+
+use crate::flows::stated_flows;
+use crate::forms::Source;
+use crate::refusals::Refusal;
+use crate::replies::Reply;
+use irs_base::{Day, Status};
+use irs_breaks::{BreakList, breaks, breaks_text};
+use irs_schedule::Schedule;
+use std::alloc::Global;
+
+/// The breaks between the cash flows of a text and a schedule, for what is due from a day on, or for all.
+pub(crate) fn breaks_answer(
+    alloc: Global,
+    from: &Option<Day>,
+    flows: &Source,
+    schedule: &Schedule,
+) -> Result<Reply, Refusal>
+    ensures { IfAnswered result (Ends (DueFlows (DueBreaks from.now schedule.now) (source_by flows.now))) }
+{
+    let stated = stated_flows(alloc, flows)?;
+    let list = breaks(alloc, from, schedule, &stated)?;
+    let text = breaks_text(alloc, from, &list)?;
+    Ok(Reply::Text(status_of(&list), text))
+}
+
+// 1 where there is a break, 0 where there is none.
+fn status_of(list: &BreakList) -> Status
+    ensures { IsStatusOf list.now (status_number result) }
+{
+    if list.any() {
+        Status::NotAgreed
+    } else {
+        Status::Done
+    }
+}
