@@ -58,7 +58,7 @@ public:
     std::string text() && noexcept { return std::move(text_); }
     // Empty at status 0.
     const std::string &sentence() const noexcept { return sentence_; }
-    // Whether the command was done: status 0, or 1, which an audit has where the cash flows depart.
+    // Whether the command was done: status 0, or 1, which `audit` and `breaks` have where the cash flows depart.
     explicit operator bool() const noexcept { return status_ <= 1; }
     // The text where the command was done; else throws irs::error.
     const std::string &value() const & {

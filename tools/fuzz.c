@@ -132,6 +132,7 @@ static const struct { const char *command, *front, *back; } DONE[] = {
     {"check", "ok\n", "ok\n"},
     {"schedule", "irs-schedule 2\nstream 1 ", "\nend\n"},
     {"audit", "yes ", "\n"},
+    {"breaks", "irs-breaks 1 ", "\n"},
     {"emit", "{\"swap\":{\"swapStream\":", "}\n"},
     {"net", "irs-net 1\n", "\nend\n"},
     {"accrue", "irs-accrued 1 ", "\nend\n"},
@@ -183,9 +184,9 @@ static void look_at(const struct answer *is, const struct input *in) {
         look_at_done(is, in->words[0]);
         break;
     case 1:
-        if (!is_known(in->words[0])) look_at_done(is, in->words[0]);
+        if (!is_known(in->words[0]) || is_word(in->words[0], "breaks")) look_at_done(is, in->words[0]);
         else if (!is_word(in->words[0], "audit") || !has_form(is->text, is->length, "no %d %w %d %w\n"))
-            broken("status 1 for another command than audit, or its line has another form");
+            broken("status 1 for another command than audit or breaks, or its line has another form");
         break;
     case 9:
         if (is->length || all_ascii(in)) broken("status 9 for words that are text, or with a text");

@@ -118,6 +118,7 @@ class Manual(InRoom):
         )
         self.assertEqual(self.completed("interpolate", "1", "i"), ["initial"])
         self.assertEqual(self.completed("average", "1", ""), ["plain", "weighted"])
+        self.assertEqual(self.completed("breaks", ""), ["-"])
         self.assertEqual(self.completed("check", "d", "a", "b", "my"), ["my terms.json"])
         self.assertEqual(self.completed("nothing", ""), [""])
 
@@ -167,6 +168,7 @@ class Try(InRoom):
 
     def test_other_commands(self) -> None:
         self.assertEqual(self.words("COMMAND=audit", "DOC=d", "FLOWS=f g"), ["audit", "d", "-", "f g"])
+        self.assertEqual(self.words("COMMAND=breaks", "DOC=d", "FLOWS=f"), ["breaks", "-", "d", "-", "f"])
         self.assertEqual(self.words("COMMAND=accrue", "DATE=2024-04-15", "DOC=d"), ["accrue", "2024-04-15", "d", "-"])
         self.assertEqual(self.words("ARGS=bulk 5"), ["bulk", "5"])
         self.assertEqual(self.words("ARGS=check 'a b'"), ["check", "a b"])

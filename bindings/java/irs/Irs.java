@@ -126,7 +126,7 @@ public final class Irs {
         }).string();
     }
 
-    /** As {@link #run}, but throws {@link Refused} for every status but 0 and 1; 1 is a departure that an audit found. */
+    /** As {@link #run}, but throws {@link Refused} for every status but 0 and 1; with 1 cash flows depart. */
     public static String ask(List<String> words, Map<String, byte[]> files) throws Refused {
         Answer answer = run(words, files);
         if (answer.status() > 1) {

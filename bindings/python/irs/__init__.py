@@ -11,11 +11,40 @@ only tested of what this package makes of its text.
 """
 from .book import Outcome, Summary
 from .builder import Overnight, swap
-from .calls import Schedule, accrue, audit, average, carrier, check, emit, interpolate, net, overnight, schedule
+from .calls import (
+    Schedule,
+    accrue,
+    audit,
+    average,
+    breaks,
+    carrier,
+    check,
+    emit,
+    interpolate,
+    net,
+    overnight,
+    schedule,
+)
 from .errors import BadFile, BadWords, Error, NoFile, NotText, OutOfMemory, Refused, TooLong
 from .ladder import CashFlow
 from .library import Answer, engine, run
-from .rows import Accrued, Derived, Exchange, Missing, Net, No, Payment, Period, Reset, Row, Stream, Verdict, Yes
+from .rows import (
+    Accrued,
+    Break,
+    Breaks,
+    Derived,
+    Exchange,
+    Missing,
+    Net,
+    No,
+    Payment,
+    Period,
+    Reset,
+    Row,
+    Stream,
+    Verdict,
+    Yes,
+)
 
 #: The version of the package; VERSION at the top of the repository is where it is stated.
 __version__ = "1.0.0"
@@ -25,6 +54,8 @@ __all__ = [
     "Answer",
     "BadFile",
     "BadWords",
+    "Break",
+    "Breaks",
     "CashFlow",
     "Derived",
     "Error",
@@ -51,6 +82,7 @@ __all__ = [
     "accrue",
     "audit",
     "average",
+    "breaks",
     "carrier",
     "check",
     "emit",

@@ -24,6 +24,7 @@ from .library import Answer, Text, meaning, run
 from .looks import Looks
 from .rows import (
     Accrued,
+    Breaks,
     Derived,
     Exchange,
     Missing,
@@ -35,6 +36,7 @@ from .rows import (
     Stream,
     Verdict,
     accrued_of,
+    breaks_of,
     derived_of,
     inner_lines,
     row_of,
@@ -290,6 +292,22 @@ def audit(
 ) -> Verdict:
     """Compares cash flows with the schedule: `Yes`, or `No` with the first departure."""
     return verdict_of(_with_rates("audit", [], _document(document), fixings, calendars, flows=_document(flows)))
+
+
+def breaks(
+    document: Document,
+    flows: Document,
+    fixings: Optional[File] = None,
+    calendars: Iterable[File] = (),
+    since: Optional[Day] = None,
+) -> Breaks:
+    """Every difference between cash flows and the schedule, with both values, in order.
+
+    With `since` the exchanges and payments before that day are left aside, on both sides. `BadWords` where it is no day
+    of the range.
+    """
+    start = "-" if since is None else _day(since)
+    return breaks_of(_with_rates("breaks", [start], _document(document), fixings, calendars, flows=_document(flows)))
 
 
 def carrier(document: File) -> bytes:

@@ -1,13 +1,13 @@
 """Two sets of cash flows side by side: ours, as the engine emits them, and another party's, as
 they state them.
 
-Which cell departs is the audit's answer and never this module's: it marks the cell that the audit
-names. Texts are shown as they are stated.
+Which rows belong together and which cell departs is the engine's answer and never this module's: it marks the
+cells that `breaks` names. Texts are shown as they are stated.
 """
 from __future__ import annotations
 
 import re
-from typing import Any, Dict, FrozenSet, List, NamedTuple, Optional, Sequence
+from typing import Any, Dict, FrozenSet, List, NamedTuple, Optional, Sequence, Tuple
 
 from .documents import child_of, items_of, streams_of, text_at
 from .plain import brief
@@ -69,35 +69,56 @@ _SEPARATED = frozenset({"principalExchangeAmount", "amount", "notionalAmount"})
 
 Fields = Dict[str, str]
 
+#: Breaks of a whole row: of one side alone, or without its date.
+WHOLE = frozenset({"missing", "extra", "undated"})
 
-class Mark(NamedTuple):
-    """What departs, as the audit names it: a field of a row; `missing` and `extra` are of the
-    whole row."""
+#: The number that `breaks` prints where a side has no row.
+NO_ROW = "-"
+
+
+class Line(NamedTuple):
+    """A break as the engine prints it: its stream, kind and date, the numbers of the row on both sides, what differs,
+    and both values."""
 
     stream: int
     kind: str
-    row: int
-    field: str
+    date: str
+    our_number: str
+    their_number: str
+    what: str
+    ours: str
+    theirs: str
+
+
+class Counts(NamedTuple):
+    """The counts at the end of the engine's breaks."""
+
+    breaks: int
+    pairs: int
+    compared: int
+    unstated: int
+    unknown: int
 
 
 class Pair(NamedTuple):
-    """The row of a number on both sides, `None` where a side has none, and the fields that are
-    marked."""
+    """A row with breaks: its date, its number and its cells on both sides, `None` where a side has none, and the fields
+    that are marked."""
 
-    number: int
+    date: str
+    our_number: str
+    their_number: str
     ours: Optional[List[str]]
     theirs: Optional[List[str]]
     marked: FrozenSet[str]
 
 
 class Comparison(NamedTuple):
-    """The rows of one kind in one stream, on both sides."""
+    """The rows with breaks of one kind in one stream, on both sides."""
 
     stream: int
     kind: str
     fields: Sequence[str]
     pairs: List[Pair]
-    departs: bool
 
 
 def _text(row: Any, *names: str) -> str:
@@ -156,54 +177,68 @@ def _cells(kind: str, row: Optional[Fields]) -> Optional[List[str]]:
     return None if row is None else [_laid_out(field, row[field]) for field in FIELDS[kind]]
 
 
-def _marked(mark: Optional[Mark], stream: int, kind: str, number: int) -> FrozenSet[str]:
-    if mark is None or mark.stream != stream:
-        return frozenset()
-    if mark.kind == "stream":
-        return frozenset(FIELDS[kind])
-    if (mark.kind, mark.row) != (kind, number):
-        return frozenset()
-    return frozenset(FIELDS[kind]) if mark.field in ("missing", "extra") else frozenset({mark.field})
+def _marked(kind: str, lines: Sequence[Line]) -> FrozenSet[str]:
+    what = frozenset(line.what for line in lines)
+    return frozenset(FIELDS[kind]) if what & WHOLE else what
 
 
-def _comparison(
-    stream: int,
-    kind: str,
-    ours: Dict[int, Fields],
-    theirs: Dict[int, Fields],
-    mark: Optional[Mark],
-) -> Comparison:
-    pairs = [
-        Pair(
-            number,
-            _cells(kind, ours.get(number)),
-            _cells(kind, theirs.get(number)),
-            _marked(mark, stream, kind, number),
-        )
-        for number in sorted({*ours, *theirs})
-    ]
-    return Comparison(stream, kind, FIELDS[kind], pairs, any(pair.marked for pair in pairs))
+def _pair(kind: str, lines: Sequence[Line], ours: Dict[int, Fields], theirs: Dict[int, Fields]) -> Pair:
+    first = lines[0]
+
+    def cells(rows: Dict[int, Fields], number: str) -> Optional[List[str]]:
+        return None if number == NO_ROW else _cells(kind, rows.get(int(number)))
+
+    return Pair(
+        first.date,
+        first.our_number,
+        first.their_number,
+        cells(ours, first.our_number),
+        cells(theirs, first.their_number),
+        _marked(kind, lines),
+    )
 
 
-def side_by_side(ours: Any, theirs: Any, mark: Optional[Mark]) -> List[Comparison]:
-    """The rows of both sides by stream, kind and number, with the mark of the audit's answer.
+def _grouped(lines: Sequence[Line]) -> Dict[Tuple[int, str], Dict[Tuple[str, str], List[Line]]]:
+    found: Dict[Tuple[int, str], Dict[Tuple[str, str], List[Line]]] = {}
+    for line in lines:
+        rows = found.setdefault((line.stream, line.kind), {})
+        rows.setdefault((line.our_number, line.their_number), []).append(line)
+    return found
 
-    `ours` and `theirs` are the values of documents of cash flows (docs/FORMATS.md, 'Cash flows'),
-    `ours` as `emit` prints it; `mark` is `None` where the audit finds no departure.
+
+def _side(document: Any) -> List[Dict[str, Dict[int, Fields]]]:
+    return [_rows(stream) for stream in streams_of(document)]
+
+
+def _rows_at(side: Sequence[Dict[str, Dict[int, Fields]]], stream: int, kind: str) -> Dict[int, Fields]:
+    return side[stream - 1][kind] if stream <= len(side) else {}
+
+
+def side_by_side(ours: Any, theirs: Any, lines: Sequence[Line]) -> List[Comparison]:
+    """The rows with breaks by stream and kind, those of both sides in one line, as the engine pairs them.
+
+    `ours` and `theirs` are the values of documents of cash flows (docs/FORMATS.md, 'Cash flows'), `ours` as `emit`
+    prints it; `lines` are the engine's breaks. A stream of one side alone has no rows here.
     """
-    left, right = [_rows(stream) for stream in streams_of(ours)], [_rows(stream) for stream in streams_of(theirs)]
-    nothing: Dict[str, Dict[int, Fields]] = {kind: {} for kind in FIELDS}
-    comparisons = []
-    for number in range(1, max(len(left), len(right)) + 1):
-        one = left[number - 1] if number <= len(left) else nothing
-        other = right[number - 1] if number <= len(right) else nothing
-        comparisons += [
-            _comparison(number, kind, one[kind], other[kind], mark) for kind in FIELDS if one[kind] or other[kind]
-        ]
-    return comparisons
+    left, right = _side(ours), _side(theirs)
+    return [
+        Comparison(
+            stream,
+            kind,
+            FIELDS[kind],
+            [_pair(kind, of_row, _rows_at(left, stream, kind), _rows_at(right, stream, kind)) for of_row in rows.values()],
+        )
+        for (stream, kind), rows in _grouped(lines).items()
+        if kind in FIELDS
+    ]
 
 
-def mark_of(line: str) -> Optional[Mark]:
-    """The mark of an audit's line: `None` for `yes`."""
-    words = line.split()
-    return Mark(int(words[1]), words[2], int(words[3]), words[4]) if words[:1] == ["no"] else None
+def lines_of(text: bytes) -> List[Line]:
+    """The breaks of the text of `breaks`, as they are printed."""
+    rows = [line.split(" ")[1:] for line in text.decode().splitlines()[1:-1]]
+    return [Line(int(stream), *rest) for stream, *rest in rows]
+
+
+def counts_of(text: bytes) -> Counts:
+    """The counts of the text of `breaks`."""
+    return Counts(*map(int, text.decode().splitlines()[-1].split(" ")[1:]))

@@ -12,7 +12,7 @@ from datetime import date
 from typing import Any, List, NamedTuple, Optional, Sequence
 
 from .calls import Schedule
-from .compare import Comparison, mark_of, side_by_side
+from .compare import Comparison, Counts, Line, counts_of, lines_of, side_by_side
 from .documents import streams_of, value_of
 from .due import counted, net_rows, net_table
 from .inputs import Inputs, Named
@@ -96,6 +96,8 @@ class Look(NamedTuple):
     verdict: Optional[Said] = None
     verdict_line: str = ""
     comparisons: Sequence[Comparison] = ()
+    breaks: Sequence[Line] = ()
+    break_counts: str = ""
     flows_refusal: Optional[Refusal] = None
 
 
@@ -158,6 +160,12 @@ def _verdict(reply: Reply) -> Said:
     )
 
 
+def _counts(counts: Counts) -> str:
+    made = f"{counted(counts.breaks, 'break')} in {counted(counts.pairs, 'pair')} of rows"
+    fields = f"{counted(counts.compared, 'field')} compared, {counts.unstated} not stated by them"
+    return f"{made}; {fields}, {counts.unknown} not known, as a fixing is missing."
+
+
 def _with_flows(look: Look, inputs: Inputs) -> Look:
     if inputs.flows is None:
         return look
@@ -165,8 +173,15 @@ def _with_flows(look: Look, inputs: Inputs) -> Look:
     if reply.status > 1:
         return look._replace(flows_refusal=refusal_of(reply))
     ours, theirs = value_of(ask("emit", inputs).text), value_of(reply.files[reply.words[3]].content)
-    comparisons = side_by_side(ours, theirs, mark_of(reply.line))
-    return look._replace(verdict=_verdict(reply), verdict_line=reply.line, comparisons=comparisons)
+    text = ask("breaks", inputs).text
+    breaks = lines_of(text)
+    return look._replace(
+        verdict=_verdict(reply),
+        verdict_line=reply.line,
+        comparisons=side_by_side(ours, theirs, breaks),
+        breaks=breaks,
+        break_counts=_counts(counts_of(text)),
+    )
 
 
 def _with_net(look: Look, inputs: Inputs, parties: Parties) -> Look:

@@ -16,7 +16,11 @@ _TAKES = {
     "emit": ("fixings",),
     "net": ("fixings",),
     "audit": ("fixings", "flows"),
+    "breaks": ("fixings", "flows"),
 }
+
+#: The words before the document: `breaks` asks for all rows, whatever their dates.
+_BEFORE = {"breaks": ("-",)}
 
 
 class Reply(NamedTuple):
@@ -47,9 +51,9 @@ def _word(file: Named, taken: Dict[str, Named]) -> str:
 
 
 def ask(command: str, inputs: Inputs) -> Reply:
-    """Asks the engine `check`, `schedule`, `emit`, `net` or `audit` over the files of a look."""
+    """Asks the engine `check`, `schedule`, `emit`, `net`, `audit` or `breaks` over the files of a look."""
     files: Dict[str, Named] = {}
-    words: List[str] = [command]
+    words: List[str] = [command, *_BEFORE.get(command, ())]
 
     def add(file: Optional[Named]) -> None:
         word = "-" if file is None else _word(file, files)

@@ -120,6 +120,41 @@ class No(NamedTuple):
     field: str
 
 
+#: A value of a field on one side of a break: a day, a number, a fraction, or a currency.
+BreakValue = Union[date, Decimal, Fraction, int, str]
+
+
+class Break(NamedTuple):
+    """One difference between the schedule and the cash flows of another party.
+
+    `kind` is ``stream``, ``exchange``, ``payment``, ``period`` or ``reset``. `what` is the field that differs, or
+    ``missing`` (a row of the schedule that the flows lack), ``extra`` (a row that only the flows have) or ``undated`` (a
+    row of the flows without its date). `date` is the schedule's date of the row, else the flows'. `ours` and `theirs`
+    are the values of the field; of a whole row they are its amount, notional or observed rate. `None` is what isn't
+    there, isn't known, or isn't stated.
+    """
+
+    stream: int
+    kind: str
+    date: Optional[date]
+    our_number: Optional[int]
+    their_number: Optional[int]
+    what: str
+    ours: Optional[BreakValue]
+    theirs: Optional[BreakValue]
+
+
+class Breaks(NamedTuple):
+    """The breaks in order; how many rows are paired, and how many fields of pairs are compared, not stated by the flows,
+    and not known to the schedule as a fixing is missing."""
+
+    rows: List[Break]
+    pairs: int
+    compared: int
+    unstated: int
+    unknown: int
+
+
 Row = Union[Stream, Exchange, Payment, Period, Reset]
 Verdict = Union[Yes, No]
 
@@ -178,6 +213,50 @@ def derived_of(line: str) -> Union[Derived, Missing]:
         return Missing(int(period), _day(day))
     day, rate, tenor, index = line.split(" ", 3)
     return Derived(_day(day), Decimal(rate), None if tenor == "-" else tenor, index)
+
+
+def _given(text: str, read: Callable[[str], Any]) -> Any:
+    return None if text == "-" else read(text)
+
+
+def _fraction_or_decimal(text: str) -> Union[Fraction, Decimal]:
+    return _fraction(text) if "/" in text else Decimal(text)
+
+
+def _value_reader(what: str) -> Callable[[str], BreakValue]:
+    if what.endswith("Date"):
+        return _day
+    if what == "currency":
+        return str
+    if what == "calculationPeriodNumberOfDays":
+        return int
+    if what == "dayCountYearFraction":
+        return _fraction_or_decimal
+    return Decimal
+
+
+def break_of(line: str) -> Break:
+    """A break, of its line."""
+    _, stream, kind, day, our_number, their_number, what, ours, theirs = line.split(" ")
+    read = _value_reader(what)
+    return Break(
+        int(stream),
+        kind,
+        _given(day, _day),
+        _given(our_number, int),
+        _given(their_number, int),
+        what,
+        _given(ours, read),
+        _given(theirs, read),
+    )
+
+
+def breaks_of(text: bytes) -> Breaks:
+    """The breaks and the counts of the text of `breaks`."""
+    *lines, end = text.decode().splitlines()[1:]
+    _, _, *counts = end.split(" ")
+    pairs, compared, unstated, unknown = map(int, counts)
+    return Breaks([break_of(line) for line in lines], pairs, compared, unstated, unknown)
 
 
 def verdict_of(text: bytes) -> Verdict:

@@ -14,6 +14,7 @@ sys.path.insert(0, str(HERE.parent))
 
 import irs
 import irs.errors
+from irs import rows
 
 
 def example(name):
@@ -98,6 +99,34 @@ class Rows(unittest.TestCase):
             irs.audit(example("fixed_leg/terms.json"), example("audit_departs/flows.json")),
             irs.No(1, "payment", 2, "adjustedPaymentDate"),
         )
+
+    def test_breaks(self):
+        """The answers are those that the command's text was specified with, for changes of the emitted flows."""
+        terms = example("fixed_leg/terms.json")
+        flows = json.loads(irs.emit(terms))
+        payments = flows["swap"]["swapStream"][0]["cashflows"]["paymentCalculationPeriod"]
+        self.assertEqual(irs.breaks(terms, flows), irs.Breaks([], 4, 24, 0, 0))
+        payments[1]["adjustedPaymentDate"] = "2025-01-16"
+        day = datetime.date(2025, 1, 15)
+        self.assertEqual(
+            irs.breaks(terms, flows).rows,
+            [irs.Break(1, "payment", day, 2, 2, "adjustedPaymentDate", day, datetime.date(2025, 1, 16))],
+        )
+        payments[1]["adjustedPaymentDate"] = "2025-01-15"
+        del payments[0]
+        day = datetime.date(2024, 7, 15)
+        lacks = irs.Break(1, "payment", day, 1, None, "missing", Decimal("25277.78"), None)
+        self.assertEqual(irs.breaks(terms, flows).rows, [lacks])
+        self.assertEqual(irs.breaks(terms, flows, since="2024-12-01").rows, [])
+        with self.assertRaises(irs.BadWords):
+            irs.breaks(terms, flows, since="2024-13-01")
+
+    def test_values_of_breaks(self):
+        line = "b 1 period 2024-01-15 1 1 dayCountYearFraction 182/360 0.505555555556"
+        self.assertEqual(rows.break_of(line)[-2:], (Fraction(182, 360), Decimal("0.505555555556")))
+        line = "b 1 period 2024-01-15 1 1 calculationPeriodNumberOfDays 182 181"
+        self.assertEqual(rows.break_of(line)[-2:], (182, 181))
+        self.assertEqual(rows.break_of("b 2 stream - - - extra - -"), (2, "stream", None, None, None, "extra", None, None))
 
     def test_what_is_emitted_is_audited(self):
         emitted = irs.emit(example("compounded/terms.json"), example("compounded/fixings"))

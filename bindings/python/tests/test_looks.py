@@ -858,17 +858,17 @@ class Reports(unittest.TestCase):
 
 
 class Sides(unittest.TestCase):
-    def test_the_cell_that_the_audit_names_is_marked_and_no_other(self):
+    def test_the_cells_that_break_are_marked_and_no_other(self):
         files = Inputs(named("fixed_leg/terms.json"), None, named("audit_departs/flows.json"))
         look = look_at(files, TODAY)
         marks = [
-            (part.stream, part.kind, pair.number, sorted(pair.marked))
+            (part.stream, part.kind, pair.our_number, pair.their_number, sorted(pair.marked))
             for part in look.comparisons
             for pair in part.pairs
-            if pair.marked
         ]
-        self.assertEqual(marks, [(1, "payment", 2, ["adjustedPaymentDate"])])
+        self.assertEqual(marks, [(1, "payment", "2", "2", ["adjustedPaymentDate"])])
         self.assertEqual((look.verdict_line, look.verdict.tone), ("no 1 payment 2 adjustedPaymentDate", "bad"))
+        self.assertTrue(look.break_counts.startswith("1 break in 4 pairs of rows; "), look.break_counts)
 
     def test_the_tone_says_what_was_not_compared(self):
         terms = named("compounded/terms.json")
@@ -882,12 +882,21 @@ class Sides(unittest.TestCase):
         )
 
     def test_rows_that_one_side_lacks(self):
-        mark = compare.mark_of("no 1 payment 2 missing")
+        """The line is the first of the specification's own rows without its first payment."""
+        text = (
+            b"irs-breaks 1 -\n"
+            b"b 1 payment 2024-07-15 1 - missing 25277.78 -\n"
+            b"b 1 payment - - 4 undated - -0.50\n"
+            b"end 2 2 9 3 0\n"
+        )
         ours = json.loads(irs.emit(example("fixed_leg/terms.json")))
         theirs = json.loads(json.dumps(ours))
-        theirs["swap"]["swapStream"][0]["cashflows"]["paymentCalculationPeriod"].pop()
-        payments = compare.side_by_side(ours, theirs, mark)[0]
-        self.assertEqual((payments.pairs[1].theirs, len(payments.pairs[1].marked)), (None, 5))
+        theirs["swap"]["swapStream"][0]["cashflows"]["paymentCalculationPeriod"].pop(0)
+        (payments,) = compare.side_by_side(ours, theirs, compare.lines_of(text))
+        missing, undated = payments.pairs
+        self.assertEqual((missing.theirs, len(missing.marked), missing.ours[1]), (None, 5, "2024-07-15"))
+        self.assertEqual((undated.ours, undated.theirs, undated.their_number), (None, None, "4"))
+        self.assertEqual(compare.counts_of(text), compare.Counts(2, 2, 9, 3, 0))
 
     def test_a_net_that_is_not_known_shows_no_amount(self):
         look = look_at(Inputs(named("net/terms.json")), TODAY)
