@@ -1,8 +1,8 @@
 -- A stream is told of: of both sides, of one, or of none.
 use Rattle.std.proofs.Common.{◌≡◌, ℕ, max, List, length, Bor, Option, Some, None, ℤ, refl, sym, subst}
 use Rattle.std.specs.Prelude.{option_copied, slice_get}
-use Rattle.core.specs.Slice.{IsItemAt}
-use Rattle.core.proofs.slice.Searches.{copied_from_item}
+use Rattle.std.specs.Slice.{IsItemAt}
+use Rattle.std.proofs.lemmas.Option.{slice_get_past, slice_get_read}
 use Rattle.irs_schedule.specs.Parts.{Part}
 use Rattle.irs_audit.specs.FlowParts.{FlowPart}
 use Rattle.irs_breaks.specs.BreakLists.{AreExchangesOf, ArePaymentsOf, IsStream, StreamAt, whole_stream}
@@ -47,7 +47,8 @@ neither_told from stream o q a e f =
 
 -- what is lent at a place is the member there
 pub there : {X : Type 0} (xs : List X) (i : ℕ) (o : Option (Bor X)) → IsItemAt xs i o → option_copied o ≡ slice_get xs i
-there xs i o h = copied_from_item xs i i o (λ k. k) (λ k. k) h
+there xs i None h = sym (slice_get_past xs i h.3)
+there xs i (Some x) h = sym (slice_get_read xs (length xs) i x.now refl h.3.0 h.1)
 
 -- the list of all streams
 pub list_of : (from first : ℤ) (s t : List Part) (f g : List FlowPart) (a b : Findings) → from ≡ first → s ≡ t → f ≡ g
