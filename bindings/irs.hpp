@@ -56,7 +56,7 @@ public:
     int status() const noexcept { return status_; }
     const std::string &text() const & noexcept { return text_; }
     std::string text() && noexcept { return std::move(text_); }
-    // Empty at status 0.
+    // Empty at status 0, but for an audit whose amounts lack fixings.
     const std::string &sentence() const noexcept { return sentence_; }
     // Whether the command was done: status 0, or 1, which `audit` and `breaks` have where the cash flows depart.
     explicit operator bool() const noexcept { return status_ <= 1; }
@@ -111,7 +111,8 @@ template <typename Call> std::pair<int, std::string> filled(std::size_t room, Ca
 
 } // namespace detail
 
-// What the line of an answer means, in one plain sentence; empty at status 0.
+// What the line of an answer means, in one plain sentence; empty at status 0, but for an audit whose amounts lack
+// fixings.
 inline std::string meaning(const words &asked, int status, std::string_view line) {
     const std::vector<irs_bytes> lent_words = detail::lent(asked);
     const irs_bytes lent_line = detail::lent(line);

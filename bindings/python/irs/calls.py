@@ -233,7 +233,8 @@ class Item(NamedTuple):
 
 
 class Told(NamedTuple):
-    """What a trade comes to: status, text, and what the first line means in one sentence (empty at status 0)."""
+    """What a trade comes to: status, text, and what the first line means in one sentence (empty at status 0, but for an
+    audit whose amounts lack fixings)."""
 
     status: int
     text: bytes

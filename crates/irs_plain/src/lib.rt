@@ -14,6 +14,6 @@ mod words;
 
 pub use help::{COMMANDS, HELP, VERSION};
 pub use kept::Kept;
-pub use lines::{Sentence, meaning};
+pub use lines::{Sentence, is_silent, meaning};
 pub use shown::shown_words;
 pub use table::rules_listed;
