@@ -4,7 +4,8 @@ ghost use Rattle.irs_plain.specs.Sentences.{about as about_of, after_in as after
 ghost use Rattle.irs_plain.specs.Sentences.{bad_calendar as bad_calendar_of};
 ghost use Rattle.irs_plain.specs.Sentences.{bad_file as bad_file_of, bad_fixings as bad_fixings_of};
 ghost use Rattle.irs_plain.specs.Sentences.{bad_flows as bad_flows_of, broken as broken_of};
-ghost use Rattle.irs_plain.specs.Sentences.{calendar_fault as calendar_fault_of, not_agreed as not_agreed_of};
+ghost use Rattle.irs_plain.specs.Sentences.{calendar_fault as calendar_fault_of, called as called_of};
+ghost use Rattle.irs_plain.specs.Sentences.{not_agreed as not_agreed_of, unlisted as unlisted_of};
 ghost use Rattle.irs_plain.specs.Sentences.{departure as departure_of, done as done_of, ending as ending_of};
 ghost use Rattle.irs_plain.specs.Sentences.{fixing_fault as fixing_fault_of, is_of_field as is_of_field_of};
 ghost use Rattle.irs_plain.specs.Sentences.{is_silent as is_silent_of, joined, lacks_fixings as lacks_fixings_of};
@@ -19,6 +20,7 @@ ghost use Rattle.std.specs.Prelude.{◌≡◌, [], ◌∷◌};
 use crate::cuts::{fifth, fourth, front, is, second, sixth, third};
 use crate::elements::{holder, name_words, possessive};
 use crate::lookup::{after, before};
+use crate::usage::usage;
 use crate::words::{calendar_name, command, document_name, fixings_name, flows_name, named};
 use irs_base::Status;
 
@@ -377,6 +379,30 @@ fn done<'a>(words: &'a [String], line: &'a [u8]) -> Sentence<'a>
     }
 }
 
+// ---- words that are no listed command
+
+// How the command is called, where it is listed.
+fn called(usage: &[u8]) -> Sentence<'_>
+    ensures { said result ≡ joined (called_of usage.now) }
+{
+    if usage.is_empty() {
+        short(
+            b"these words are no listed command: ",
+            b"irs --help lists them",
+            b"",
+        )
+    } else {
+        short(b"these words don't fit the command: ", usage, b"")
+    }
+}
+
+// What is said of words that are no listed command.
+fn unlisted(words: &[String]) -> Sentence<'static>
+    ensures { said result ≡ joined (unlisted_of (texts words.now)) }
+{
+    called(usage(command(words)))
+}
+
 // ---- every status
 
 // The sentence for a line without its end; an empty one for a number that is no status.
@@ -388,11 +414,7 @@ fn told<'a>(words: &'a [String], status: u8, line: &'a [u8]) -> Sentence<'a>
         Some(Status::NotAgreed) => not_agreed(words, line),
         Some(Status::RuleBroken) => refused(words, line),
         Some(Status::BadFile) => bad_file(words, line),
-        Some(Status::BadWords) => short(
-            b"these words are no listed command: ",
-            b"irs --help lists them",
-            b"",
-        ),
+        Some(Status::BadWords) => unlisted(words),
         Some(Status::NoFile) => short(b"couldn't be read: ", named(words, third(line)), b""),
         Some(Status::PutFailed) => short(
             b"the text couldn't be written to standard output",
