@@ -75,6 +75,13 @@ pub silent_of_none : (words : List (List ℕ)) (status : ℕ) (line : List ℕ) 
     → is_silent [] status line ≡ true
 silent_of_none words status line h = first_of_both (status == 0) _ h
 
+-- where there is nothing to say of some words and a line, there is nothing to say of equal ones
+pub silent_of_same : (words others : List (List ℕ)) (status : ℕ) (line another : List ℕ) → words ≡ others → line ≡ another
+    → is_silent others status another ≡ true → is_silent words status line ≡ true
+silent_of_same words others status line another same here silent =
+    ap (λ (ws : List (List ℕ)). is_silent ws status line) same
+    ∙ (ap (λ (l : List ℕ). is_silent others status l) here ∙ silent)
+
 -- of status 7 there is something to say
 pub memory_is_said : (words : List (List ℕ)) (status : ℕ) (line : List ℕ) → status ≡ 7
     → is_silent words status line ≡ true → ⊥

@@ -1,16 +1,19 @@
-use Rattle.std.proofs.Common.{ℕ, ap, inr, subst, sym, ◌∙◌}
+use Rattle.std.proofs.Common.{ℕ, [], absurd, ap, inr, option_map, refl, subst, sym, ◌∙◌}
 use Rattle.irs_plain.specs.Kept.{sink_of}
 use Rattle.irs_plain.specs.Words.{texts}
 use Rattle.irs_cli.specs.Run.{Ran, source, written}
 use Rattle.irs_cli.proofs.RunLemmas.{memory_ran}
 use Rattle.irs_main.proofs.TellLemmas.{explained_as, itself_silent, memory_is_said, printed_status, said_of_memory}
-use Rattle.irs_main.proofs.TellLemmas.{said_of_same, said_of_status, silent_of_none}
+use Rattle.irs_main.proofs.TellLemmas.{said_of_same, said_of_status, silent_of_none, silent_of_same}
 use Rattle.irs_main.proofs.answering.answer.Goals as goal
 
 pub returns-in-Some-clause-explained : goal.returns-in-Some-clause-explained
 returns-in-Some-clause-explained g c =
     explained_as _ _ _ _ _ _ c.explain.ensures.said
-    (said_of_status _ _ _ _ _ _ refl (?) (printed_status _ _ _ _ _ _ c.print-status.ensures))
+    (said_of_status _ _ _ _ _ _ refl
+    (itself_silent _ _ (texts c.args.words.now) _ _
+    (sym c.about_itself.ensures ∙ ap (λ o. option_map (λ t. t.now) o) c.in-Some.is))
+    (printed_status _ _ _ _ _ _ c.print-status.ensures))
 
 pub returns-in-Ok-clause-explained : goal.returns-in-Ok-clause-explained
 returns-in-Ok-clause-explained g c =
@@ -37,10 +40,13 @@ pub returns-in-Ok-clause-ran : goal.returns-in-Ok-clause-ran
 returns-in-Ok-clause-ran g c none = c.run-status.ensures.ran
 
 pub returns-in-Some-clause-silent : goal.returns-in-Some-clause-silent
-returns-in-Some-clause-silent g c silent = c.explain.ensures.silent (silent_of_none _ _ _ silent)
+returns-in-Some-clause-silent g c silent =
+    c.explain.ensures.silent (silent_of_same [] [] _ _ _ refl c.front.ensures (silent_of_none _ _ _ silent))
 
 pub returns-in-Ok-clause-silent : goal.returns-in-Ok-clause-silent
-returns-in-Ok-clause-silent g c silent = ?
+returns-in-Ok-clause-silent g c silent =
+    c.explain-in-Ok.ensures.silent
+    (silent_of_same _ _ _ _ _ (ap texts c.deref.ensures.value ∙ c.in-Ok.ensures) c.front-in-Ok.ensures silent)
 
 pub returns-in-Err-clause-silent : goal.returns-in-Err-clause-silent
 returns-in-Err-clause-silent g c silent = absurd (memory_is_said _ _ _ c.number-status.ensures silent)
