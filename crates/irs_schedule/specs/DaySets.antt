@@ -1,6 +1,8 @@
 -- The good days by which each date of a stream is adjusted or moved.
-use Rattle.std.specs.Prelude.{ℕ, true, List, Option, Some, None}
+use Rattle.std.specs.Prelude.{ℕ, true, List, Option, Some, None, option_map}
 use Rattle.irs_base.specs.Days.{first_day, last_day}
+use Rattle.irs_terms.specs.declared.amounts.Leg.{Leg}
+use Rattle.irs_terms.specs.declared.amounts.Leg.TheVariants.{Fixed, Floating}
 use Rattle.irs_terms.specs.declared.stream.Stream.{Stream}
 use Rattle.irs_calendar.specs.declared.sections.Section.{Section}
 use Rattle.irs_calendar.specs.GoodDays.{DaySet}
@@ -39,12 +41,22 @@ reset_days cal s = days_of_names cal (reset_names s.reset)
 abbrev pub fixing_days : List Section → Stream → DaySet
 fixing_days cal s = days_of_names cal (fixing_names s.reset)
 
+-- the centres of the applicable business days of a stream with calculation parameters
+abbrev pub applicable_names : Leg → Option (List (List ℕ))
+applicable_names (Fixed values) = None
+applicable_names (Floating float) = option_map (λ p. p.centers) float.parameters
+
+-- its applicable business days, by which daily rates are observed
+abbrev pub applicable_days : List Section → Stream → DaySet
+applicable_days cal s = days_of_names cal (applicable_names s.leg)
+
 -- the good days of each kind of date of a stream
 pub record StreamSets : Type 0 where
   pub boundaries : BoundaryDays
   pub payment : DaySet
   pub reset : DaySet
   pub fixing : DaySet
+  pub applicable : DaySet
 
 -- those of the centres that its elements name
 abbrev pub stream_sets : List Section → Stream → StreamSets
@@ -53,6 +65,6 @@ stream_sets cal s =
       boundaries = boundary_days cal s;
       payment = payment_days cal s;
       reset = reset_days cal s;
-      fixing =
-          fixing_days cal s;
+      fixing = fixing_days cal s;
+      applicable = applicable_days cal s;
     }

@@ -10,7 +10,7 @@ use Rattle.irs_terms.specs.declared.results.Payment.{Payment}
 use Rattle.irs_terms.specs.declared.stream.Stream.{Stream}
 use Rattle.irs_daycount.specs.Fractions.{Days, Fraction}
 use Rattle.irs_compound.specs.InForce.{InForce}
-use Rattle.irs_compound.specs.PeriodRates.{AreRates}
+use Rattle.irs_compound.specs.OvernightRates.{AreRatesIn}
 use Rattle.irs_compound.specs.Amounts.{AmountOf}
 use Rattle.irs_compound.specs.declared.periods.PeriodTerm.{PeriodTerm}
 use Rattle.irs_base.specs.Limits.{most_periods}
@@ -19,12 +19,13 @@ use Rattle.irs_schedule.specs.declared.amounts.PeriodTable.{PeriodTable}
 use Rattle.irs_schedule.specs.declared.entries.PeriodEntry.{PeriodEntry}
 use Rattle.irs_schedule.specs.Periods.{observed_of}
 use Rattle.irs_schedule.specs.StreamDates.{StreamDates}
+use Rattle.irs_schedule.specs.StreamResets.{rate_in}
 use Rattle.irs_base.specs.Members.{EachNumbered, day_at}
 
 -- notional, rates and fraction of period i; the last period is the last of the stream
 pub record IsPeriodTerm (d : StreamDates) (i : ℕ) (t : PeriodTerm) : Type 0 where
   pub notional : InForce d.stream.notional (day_at d.unadjusted (i - 1)) t.notional
-  pub rates : AreRates d.stream.leg (day_at d.unadjusted (i - 1)) (observed_of d.resets i) t.rates
+  pub rates : AreRatesIn d.stream.leg (day_at d.unadjusted (i - 1)) (observed_of d.resets i) (rate_in d.rates i) t.rates
   pub frac : Fraction d.stream.day_count (day_at d.adjusted (i - 1)) (day_at d.adjusted i)
       (i == length d.adjusted - 1) t.frac
 

@@ -14,6 +14,6 @@ part_of s = record {
   adjusted = s.adjusted;
   exchanges = s.exchanges;
   payments = s.payments;
-  periods = periods_by s.terms s.unadjusted s.adjusted s.resets;
+  periods = periods_by s.terms s.unadjusted s.adjusted s.resets s.rates;
   resets = s.resets;
 }

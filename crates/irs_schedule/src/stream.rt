@@ -35,6 +35,8 @@ pub(crate) struct StreamEvents {
     pub(crate) exchanges: Exchanges,
     /// The reset of each period; none where the rate is fixed.
     pub(crate) resets: Resets,
+    /// The observed rate of each period, not rounded; none without calculation parameters.
+    pub(crate) rates: OvernightRates,
 }
 
 /// The part of a stream. `Broken` is the first broken rule of the stream, and `Memory` comes where
