@@ -15,3 +15,5 @@ pub mod OvernightLemmas
 pub mod FirstOvernight
 pub mod OvernightThere
 pub mod OvernightOutcomes
+pub mod RunningLemmas
+pub mod EarlierDays

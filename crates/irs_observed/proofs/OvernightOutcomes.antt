@@ -1,14 +1,17 @@
 -- A stream with calculation parameters has one list of resets and observed rates, or one first broken rule.
 use Rattle.std.proofs.Common.{◌≡◌, ◌⊎◌, inl, inr, ℕ, zero, suc, ◌+◌, ◌-◌, ◌<◌, ◌≤◌, List, length, Option, Some, None, Result, Ok, Err, Bool, true, false, ℤ}
 use Rattle.std.proofs.Common.{refl, sym, subst, ◌∙◌, ap, ap₂, arith}
-use Rattle.std.specs.Prelude.{if◌then◌else◌, nat_lt}
+use Rattle.std.specs.Prelude.{if◌then◌else◌, nat_lt, pos, ◌<ℤ◌, slice_get}
 use Rattle.std.proofs.lemmas.Bool.{cases_lt}
+use Rattle.irs_base.specs.Days.{IsDay}
+use Rattle.irs_base.specs.Members.{Every}
 use Rattle.irs_base.specs.Order.{First, IsDecided, IsFirst, comes_before, earlier}
 use Rattle.irs_base.specs.Faults.{IfStopped}
 use Rattle.irs_base.specs.Outcomes.{Determined, Meets}
 use Rattle.irs_base.specs.declared.stopped.Stopped.{Stopped}
 use Rattle.irs_base.specs.declared.stopped.Stopped.TheVariants.{Broken as OfBroken, Memory as OfMemory}
 use Rattle.irs_base.specs.declared.places.Fault.{Fault}
+use Rattle.irs_base.proofs.EveryLemmas.{every_numbered}
 use Rattle.irs_base.proofs.FaultOrder.{fault_order, one_fault}
 use Rattle.irs_base.proofs.Firsts.{first_or, lt_false}
 use Rattle.irs_base.proofs.MemberLemmas.{numbered_get, numbered_has, numbered_map, numbered_there, one_numbered}
@@ -24,6 +27,7 @@ use Rattle.irs_resets.specs.Rates.{RateTable}
 use Rattle.irs_resets.specs.ResetRules.{BreaksResets}
 use Rattle.irs_resets.specs.Resets.{HasResets, IsReset, IsResetsOf, ResetSource, count_of}
 use Rattle.irs_resets.proofs.DateLemmas.{one_dates}
+use Rattle.irs_resets.proofs.DatedResets.{dates_dated}
 use Rattle.irs_resets.proofs.ResetsThere.{BrokenOrNone, InDays, resets_decided, resets_there}
 use Rattle.irs_observed.specs.Outcomes.{overnight_resets_of}
 use Rattle.irs_observed.specs.OvernightRates.{AreOvernightRates, BreaksObservations, IsOvernightRate, LacksAt}
@@ -35,9 +39,11 @@ use Rattle.irs_resets.specs.Outcomes.{resets_of}
 use Rattle.irs_observed.specs.OvernightWalk.{NoneLacks}
 use Rattle.irs_observed.specs.declared.daily_resets.OvernightResets.{OvernightResets}
 use Rattle.irs_observed.specs.declared.observation.NoObservations.TheVariants.{FewMembers, NoDay}
+use Rattle.irs_observed.specs.ObservedRates.{Fraction}
 use Rattle.irs_observed.specs.declared.overnight_rate.OvernightRate.{OvernightRate}
+use Rattle.irs_observed.specs.declared.overnight_rate.OvernightRate.TheVariants.{Known}
 use Rattle.irs_observed.proofs.FirstOvernight.{first_day_at, first_few_at, none_breaks, none_lacks_at}
-use Rattle.irs_observed.proofs.OvernightThere.{RateOrReason, few, no_day, one_rate_at, rate, rate_or_reason}
+use Rattle.irs_observed.proofs.OvernightThere.{RateOrReason, few, known_rate_above, no_day, one_rate_at, rate, rate_or_reason}
 
 -- ---- the first period that lacks observations
 
@@ -219,8 +225,24 @@ printed_in reset (Fixed values) float source rs fix rows printed e h are = absur
 printed_in None (Floating f) float source rs fix rows printed e h are = absurd h
 printed_in (Some t) (Floating f) float source rs fix rows printed e h are = printed_has t source rs f fix rows printed h are
 
+module _ (source : ResetSource) (fix : RateTable) (range : InDays source.days) (rs : List OvernightRate) where
+  -- the dates of the resets are days of the range
+  pub overnight_dated : (reset : Option ResetTerms) (rows : List Reset) → HasOvernightResetsBy reset source rs rows
+      → Every (λ (r : Reset). IsDay r.reset × IsDay r.fixing) rows
+  overnight_dated None rows h = absurd h
+  overnight_dated (Some t) rows h =
+      every_numbered (IsOvernightReset t source.days rs) (λ (r : Reset). IsDay r.reset × IsDay r.fixing) 1 rows
+      (λ i r row. dates_dated source fix range t i r row.dates) h.each
+
+-- the rates that are known have a denominator above 0
+pub rates_above : (source : OvernightSource) (fix : RateTable) (rs : List OvernightRate) (i : ℕ) (x : Fraction)
+    → AreOvernightRates source fix rs → slice_get rs i ≡ Some (Known x) → pos 0 <ℤ x.denominator
+rates_above source fix rs i x h at =
+    known_rate_above source fix (1 + i) x (numbered_get (IsOvernightRate source fix) 1 i rs (Known x) h.each at)
+
 module _ (source : DailySource) (fix : RateTable) where
-  one_overnight : (x y : OvernightResets) → AreOvernightResets source fix x → AreOvernightResets source fix y → x ≡ y
+  -- a stream with calculation parameters has one list of resets with its observed rates
+  pub one_overnight : (x y : OvernightResets) → AreOvernightResets source fix x → AreOvernightResets source fix y → x ≡ y
   one_overnight x y h k =
       let rates = one_rates source.rates fix x.rates y.rates h.rates k.rates in
       let moved = subst (λ (rs : List OvernightRate). HasOvernightResetsBy source.dates.stream.reset source.dates rs x.resets)

@@ -371,3 +371,11 @@ known_above Averaging daily p x h =
     let some = h.some in
     let denominator = h.is_rate.1.denominator in
     omega (arith, signed_arith, some, denominator)
+
+-- and so has that of a period
+pub known_rate_above : (source : OvernightSource) (rates : RateTable) (i : ℕ) (x : Fraction)
+    → IsOvernightRate source rates i (Known x) → pos 0 <ℤ x.denominator
+known_rate_above source rates i x h = elim h.is_rate [
+  | inl stated ↦ let e : Known x ≡ Stated stated.0 = stated.2 in absurd (cc)
+  | inr over ↦ known_above source.method (daily_rates rates source.index) (period_of source i) x over.1
+]

@@ -11,4 +11,5 @@ pub mod RateOrigins
 pub mod OvernightRates
 pub mod OvernightResets
 pub mod OvernightWalk
+pub mod RunningRates
 pub mod Outcomes

@@ -37,8 +37,9 @@ fn comes_before(f: &Fault, g: &Fault) -> bool
     )
 }
 
-/// The one that is reported: by its turn, the rule's number, the element and the index.
-pub(crate) fn earlier_fault(f: Fault, g: Fault) -> Fault
+/// Of two broken rules of a stream the one that is reported: by its turn, the rule's number, the element and the
+/// index.
+pub fn earlier_fault(f: Fault, g: Fault) -> Fault
     ensures { result ≡ (if comes_before g f then g else f) }
 {
     if comes_before(&g, &f) { g } else { f }

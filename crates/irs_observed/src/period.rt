@@ -1,5 +1,5 @@
 //! The observation period of a calculation period.
-ghost use Rattle.std.specs.Prelude.{◌≡◌, ℤ, IfSome, IfNone};
+ghost use Rattle.std.specs.Prelude.{◌≡◌, ◌<ℤ◌, ℤ, IfSome, IfNone};
 ghost use Rattle.irs_observed.specs.ObservationPeriods.{IsObservationPeriod, MovesBack, Shifts, observed_period};
 
 use irs_adjust::move_by;
@@ -34,7 +34,7 @@ pub(crate) fn shifted<G: GoodDays>(offset: ObservationOffset, days: &G, d: Day) 
 
 /// The ends of an observation period.
 #[derive(Clone, Copy)]
-pub(crate) struct Ends {
+pub struct Ends {
     /// The first day.
     pub from: Day,
     /// The day after the last.
@@ -42,7 +42,7 @@ pub(crate) struct Ends {
 }
 
 /// The observation period of a calculation period.
-pub(crate) fn observation_period<G: GoodDays>(
+pub fn observation_period<G: GoodDays>(
     offset: ObservationOffset,
     days: &G,
     start: Day,
@@ -57,3 +57,19 @@ pub(crate) fn observation_period<G: GoodDays>(
     let to = shifted(offset, days, end)?;
     Some(Ends { from, to })
 }
+
+/// A law: where a calculation period has an observation period, so has what of it has run before each
+/// of its days after the first, from the same day on.
+pub fn observations_reach_each_day<G: GoodDays>(
+    offset: ObservationOffset,
+    applicable: &G,
+    start: Day,
+    end: Day,
+    d: Day,
+)
+    requires after { start <ℤ d }
+    requires before { d <ℤ end }
+    ensures { let set = G.days applicable.now in
+        (a b : ℤ) → IsObservationPeriod (observed_period offset set start end) a b
+        → (to : ℤ) × IsObservationPeriod (observed_period offset set start d) a to }
+{}

@@ -1,8 +1,9 @@
 //! Calculation periods around Good Friday 2024, their observations and observed rates. The rates were
 //! worked out by exact fractions in a program of its own.
 use crate::{
-    DailyRateMethod, NoObservations, Observation, ObservationList, ObservedRate, YearDays,
-    observations, observed_rate, period_rate, printed_rate,
+    DailyRateMethod, NoObservations, Observation, ObservationList, ObservedRate, OvernightRate,
+    YearDays, observation_period, observations, observed_rate, period_rate, printed_rate,
+    rate_before,
 };
 use irs_base::{
     Civil, Day, Direction, MOST_BYTES, MOST_CENTERS, MOST_RATE, Names, Stopped, Text, day_of,
@@ -408,4 +409,128 @@ fn observed_rates_as_printed(rt: HostRuntime) {
     assert_eq!(rt; x.map(printed_rate), Some(53_300_000));
     let x = rate_of(alloc, SOFR_WITHOUT, COMPOUNDING, absent, START, END);
     assert!(rt; x.is_none());
+}
+
+// The rate in units of 10^-9 by the members before a day of the period; `None` where it isn't known, or
+// the day isn't after the first.
+fn paid_before(
+    alloc: Global,
+    method: DailyRateMethod,
+    offset: ObservationOffset,
+    d: MonthDay,
+    spread: i64,
+) -> Option<i64> {
+    let days = good_days(alloc, USGS)?;
+    let (start, end, d) = (day(START)?, day(END)?, day(d)?);
+    if end <= start {
+        return None;
+    }
+    let run = observation_period(offset, &days, start, d)?;
+    if run.to <= run.from {
+        return None;
+    }
+    let daily = fixings_of(alloc, SOFR_WITHOUT)?;
+    let index = Text::from_bytes(alloc, b"USD-SOFR").ok()?;
+    let rate = rate_before(
+        alloc, method, offset, &days, start, end, run.to, &daily, &index,
+    );
+    match rate.ok()? {
+        OvernightRate::Known(x) => rate_with(x, ONE, spread),
+        OvernightRate::Stated(_) | OvernightRate::Absent | OvernightRate::OutOfRange => None,
+    }
+}
+
+// The line of 2024-04-05 isn't there: only what needs it is absent. Under a lockout of 2 the days from
+// 2024-04-03 on take the rate of that day, whichever day the interest accrues to.
+#[test]
+fn rates_up_to_a_day(rt: HostRuntime) {
+    let alloc = rt.alloc();
+    let rows = [
+        (COMPOUNDING, ObservationOffset::Absent, (3, 25), 0, None),
+        (
+            COMPOUNDING,
+            ObservationOffset::Absent,
+            (3, 26),
+            0,
+            Some(53_100_000),
+        ),
+        (
+            COMPOUNDING,
+            ObservationOffset::Absent,
+            (3, 30),
+            0,
+            Some(53_294_200),
+        ),
+        (
+            COMPOUNDING,
+            ObservationOffset::Absent,
+            (4, 5),
+            0,
+            Some(53_426_200),
+        ),
+        (COMPOUNDING, ObservationOffset::Absent, (4, 6), 0, None),
+        (
+            COMPOUNDING,
+            ObservationOffset::Shift(2),
+            (3, 30),
+            0,
+            Some(52_615_400),
+        ),
+        (
+            COMPOUNDING,
+            ObservationOffset::Shift(2),
+            (4, 5),
+            0,
+            Some(53_072_300),
+        ),
+        (
+            COMPOUNDING,
+            ObservationOffset::Lookback(2),
+            (4, 5),
+            0,
+            Some(53_180_400),
+        ),
+        (
+            COMPOUNDING,
+            ObservationOffset::Lookback(2),
+            (4, 7),
+            0,
+            Some(53_320_000),
+        ),
+        (
+            COMPOUNDING,
+            ObservationOffset::Lockout(2),
+            (4, 5),
+            0,
+            Some(53_499_000),
+        ),
+        (
+            COMPOUNDING,
+            ObservationOffset::Lockout(2),
+            (4, 7),
+            0,
+            Some(53_589_700),
+        ),
+        (
+            DailyRateMethod::Averaging,
+            ObservationOffset::Absent,
+            (4, 5),
+            0,
+            Some(53_390_900),
+        ),
+        (
+            COMPOUNDING,
+            ObservationOffset::Absent,
+            (4, 5),
+            2_500_000,
+            Some(55_926_200),
+        ),
+    ];
+    for (method, offset, d, spread, rate) in rows {
+        assert_eq!(rt;
+            paid_before(alloc, method, offset, d, spread),
+            rate,
+            "{offset:?}"
+        );
+    }
 }

@@ -19,7 +19,7 @@ use Rattle.irs_calendar.specs.GoodDays.{DaySet}
 use Rattle.irs_adjust.proofs.FoundDays.{InRange, adjusts_day}
 use Rattle.irs_adjust.proofs.MovedDays.{moves_day}
 use Rattle.irs_resets.specs.Rates.{RateTable}
-use Rattle.irs_resets.specs.ResetDates.{FixesOn, base_day}
+use Rattle.irs_resets.specs.ResetDates.{FixesOn, IsDates, base_day}
 use Rattle.irs_resets.specs.Resets.{IsReset, IsResets, IsResetsOf, ResetSource}
 use Rattle.irs_resets.proofs.ResetsThere.{InDays}
 
@@ -45,13 +45,18 @@ fixing_dated (Some fix) set r f range day h =
     adjusts_day fix.adj.code set h.moved f (moves_day fix.offset set r h.moved day range h.moves) range h.adjusts
 
 module _ (source : ResetSource) (rates : RateTable) (range : InDays source.days) where
-  reset_dated : (float : FloatTerms) (t : ResetTerms) (i : ℕ) (r : Reset) → IsReset source float t rates i r → IsDated r
-  reset_dated float t i r h =
+  -- the dates of a reset are days of the range
+  pub dates_dated : (t : ResetTerms) (i : ℕ) (r : Reset) → IsDates t source.days i r.reset r.fixing
+      → IsDay r.reset × IsDay r.fixing
+  dates_dated t i r h =
       let days = source.days in
       let reset : IsDay r.reset =
       adjusts_day t.adj.code days.reset_set (base_day t.relative days.adjusted i) r.reset
-      (base_day_is t.relative days.adjusted i range.adjusted) range.reset_set h.dates.resets in
-      (reset, fixing_dated t.fixing days.fixing_set r.reset r.fixing range.fixing_set reset h.dates.fixes)
+      (base_day_is t.relative days.adjusted i range.adjusted) range.reset_set h.resets in
+      (reset, fixing_dated t.fixing days.fixing_set r.reset r.fixing range.fixing_set reset h.fixes)
+
+  reset_dated : (float : FloatTerms) (t : ResetTerms) (i : ℕ) (r : Reset) → IsReset source float t rates i r → IsDated r
+  reset_dated float t i r h = dates_dated t i r h.dates
 
   dated_by : (leg : Leg) (t : Option ResetTerms) (rs : List Reset) → IsResetsOf leg t source rates rs → Every IsDated rs
   dated_by (Fixed values) t rs h = subst (Every IsDated) (sym h) tt
