@@ -5,6 +5,7 @@ pub mod FractionFits
 pub mod AmountTheorems
 pub mod AmountBounds
 pub mod RateSizes
+pub mod OvernightSizes
 pub mod CountedSteps
 pub mod FoundSteps
 pub mod PeriodSizes

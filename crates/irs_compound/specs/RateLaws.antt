@@ -20,7 +20,8 @@ use Rattle.irs_compound.specs.PeriodRates.{RateAt, Treats, RatesOf, FixedRatesOf
 use Rattle.irs_compound.specs.PeriodRates.{exact_base, rates_of, fixed_rates_of, rates_by}
 use Rattle.irs_terms.specs.StepDates.{StepsRise, LegStepsRise}
 
-same_rates : (a b : Rates) → a.base ≡ b.base → a.all_in ≡ b.all_in → a ≡ b
+-- rates with the same parts are the same
+pub same_rates : (a b : Rates) → a.base ≡ b.base → a.all_in ≡ b.all_in → a ≡ b
 same_rates a b h k =
     let mk : ℤ → ℤ → Rates = λ m n. record { base = m; all_in = n } in
     ap (λ m. mk m a.all_in) h ∙ ap (λ n. mk b.base n) k
@@ -55,7 +56,8 @@ one_floored : (y r : ℤ) (b : Bool) → int_lt y (pos 0) ≡ b → Treats ZeroF
 one_floored y r true e h = h.1 (omega (arith, signed_arith, e))
 one_floored y r false e h = h.0 (omega (arith, signed_arith, e))
 
-treated_value : (treatment : Treatment) (y r : ℤ) → Treats treatment y r → r ≡ treated treatment y
+-- a rate by its treatment is the function's
+pub treated_value : (treatment : Treatment) (y r : ℤ) → Treats treatment y r → r ≡ treated treatment y
 treated_value AsIs y r h = h
 treated_value ZeroFloor y r h = one_floored y r (int_lt y (pos 0)) refl h
 

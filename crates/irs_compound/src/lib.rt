@@ -6,6 +6,7 @@ mod amounts;
 mod balances;
 mod compounding;
 mod interest;
+mod overnight;
 mod payments;
 mod periods;
 mod products;
@@ -16,6 +17,7 @@ mod step_counts;
 mod step_values;
 
 pub use compounding::{Compounding, Flat, OutOfRange, Simple, SpreadExclusive, Straight};
+pub use overnight::{overnight_rates_are_determined, rates_of_period};
 pub use payments::{payment_amount, payment_amount_is_bounded, payment_amount_is_determined};
 pub use periods::{Parts, PeriodTerm, Rates};
 pub use rates::{fixed_rates, period_rates};

@@ -92,8 +92,8 @@ pub(crate) fn rates_from(f: &FloatTerms, multiplier: i128, spread: i128, observe
     }
 }
 
-// A rounded rate by the treatment of one below 0.
-fn treated(treatment: Treatment, rate: i64) -> i64
+/// A rounded rate by the treatment of one below 0.
+pub(crate) fn treated(treatment: Treatment, rate: i64) -> i64
     ensures value { result ≡ treated treatment rate }
     ensures size { unsigned_abs result ≤ unsigned_abs rate }
 {

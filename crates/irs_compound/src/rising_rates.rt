@@ -47,7 +47,8 @@ fn rates_by_leg(leg: &Leg, start: Day, observed: Option<i64>) -> Option<Rates>
     }
 }
 
-fn fixed_of_rising(values: &StepValues, start: Day) -> Rates
+/// The rates of a period of a fixed stream.
+pub(crate) fn fixed_of_rising(values: &StepValues, start: Day) -> Rates
     requires lawful { IsLawfulValues IsRate values.now }
     requires rises { StepsRise values.now.steps }
     ensures { result ≡ fixed_rates_of values.now start }
@@ -55,7 +56,8 @@ fn fixed_of_rising(values: &StepValues, start: Day) -> Rates
     fixed_from(rate_of_rising(values, start))
 }
 
-fn floating_of_rising(f: &FloatTerms, start: Day, observed: i64) -> Rates
+/// The rates of a period by its observed rate.
+pub(crate) fn floating_of_rising(f: &FloatTerms, start: Day, observed: i64) -> Rates
     requires terms { IsLawfulFloat f.now }
     requires multiplier_rises { StepsRise f.now.multiplier.steps }
     requires spread_rises { StepsRise f.now.spread.steps }
@@ -67,8 +69,8 @@ fn floating_of_rising(f: &FloatTerms, start: Day, observed: i64) -> Rates
     rates_from(f, multiplier, spread, observed)
 }
 
-// A rate, spread or multiplier in force; it is at most 10 in size.
-fn rate_of_rising(values: &StepValues, d: Day) -> i128
+/// A rate, spread or multiplier in force; it is at most 10 in size.
+pub(crate) fn rate_of_rising(values: &StepValues, d: Day) -> i128
     requires lawful { IsLawfulValues IsRate values.now }
     requires rises { StepsRise values.now.steps }
     ensures value { result ≡ value_in_force values.now d }
