@@ -8,6 +8,7 @@ from __future__ import annotations
 import json
 import re
 from dataclasses import dataclass, field
+from itertools import combinations
 from typing import Any, Dict, List, Sequence, Tuple
 
 Schema = Dict[str, Any]
@@ -45,6 +46,7 @@ TEXTS: Dict[str, str] = {
     "B": _one_of("true", "false", "1", "0"),
     "I multiplier": rf"\+?{NINE}0*[1-9][0-9]{{0,2}}",
     "I offset": rf"[+-]?{NINE}0*([0-5]?[0-9]|60)",
+    "I observation days": rf"\+?{NINE}0*([1-9]|[12][0-9]|30)",
     "I precision": rf"(\+?{NINE}0*[0-9]|-{NINE}0+)",
     "T centre": "[!-~]{1,32}",
     "T currency": "[A-Z]{3}",
@@ -60,6 +62,7 @@ TEXTS: Dict[str, str] = {
     "C reset relative": _one_of("CalculationPeriodStartDate", "CalculationPeriodEndDate"),
     "C day count": _one_of("1/1", "ACT/ACT.ISDA", "ACT/365.FIXED", "ACT/360", "30/360", "30E/360", "30E/360.ISDA"),
     "C compounding": _one_of("None", "Straight", "Flat", "SpreadExclusive"),
+    "C calculation method": _one_of("Compounding", "Averaging"),
     "C treatment": _one_of("NegativeInterestRateMethod", "ZeroInterestRateMethod"),
     "C direction": _one_of("Up", "Down", "Nearest"),
 }
@@ -71,6 +74,7 @@ WHOLE: Dict[str, Tuple[int, int]] = {
     "B": (0, 1),
     "I multiplier": (1, 999),
     "I offset": (-60, 60),
+    "I observation days": (1, 30),
     "I precision": (0, 9),
     "C roll": (1, 30),
     "T centre": (-(2**63), 2**64 - 1),
@@ -215,7 +219,8 @@ class Writer:
         if element.exactly_one:
             schema["oneOf"] = [self.there(part) for part in element.exactly_one]
         if element.at_most_one:
-            schema["not"] = {"allOf": [self.there(part) for part in element.at_most_one]}
+            pairs = [{"allOf": [self.there(part) for part in pair]} for pair in combinations(element.at_most_one, 2)]
+            schema["not"] = pairs[0] if len(pairs) == 1 else {"anyOf": pairs}
         return self.named(name, schema)
 
     def counted(self, name: str, element: Element) -> Schema:

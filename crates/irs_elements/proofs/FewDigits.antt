@@ -6,7 +6,7 @@ use Rattle.irs_elements.proofs.DecimalsAt.{dec_is}
 use Rattle.irs_elements.proofs.FractionsAt.{below_power}
 use Rattle.irs_elements.specs.Decimals.{dec_at, digits_at, few_digits_at}
 use Rattle.irs_elements.specs.Numbers.{notional_at, within}
-use Rattle.std.proofs.Common.{◌≡◌, inl, ℕ, ◌+◌, ◌-◌, ◌*◌, ◌^◌, ◌<◌, ◌≤◌, nat_le, nat_lt, Bool, true, false, List, [], ◌∷◌}
+use Rattle.std.proofs.Common.{◌≡◌, inl, ℕ, ◌+◌, ◌*◌, ◌^◌, ◌<◌, ◌≤◌, nat_le, nat_lt, Bool, true, false, List, []}
 use Rattle.std.proofs.Common.{length, pos, Some, None, if◌then◌else◌, refl, sym, arith}
 use Rattle.std.proofs.Common.{zero, suc, ◌&&◌}
 use Rattle.std.proofs.Math.Nat.{mul-le-mul_left, one-le-pow, pow-succ'}

@@ -22,6 +22,8 @@ use Rattle.irs_terms.specs.declared.codes.Treatment.{Treatment}
 use Rattle.irs_terms.specs.declared.codes.Treatment.TheVariants.{AsIs, ZeroFloor}
 use Rattle.irs_terms.specs.declared.frequency.Unit.{Unit as PeriodUnit}
 use Rattle.irs_terms.specs.declared.frequency.Unit.TheVariants.{D, W, M, Y, T}
+use Rattle.irs_terms.specs.declared.parameters.CalculationMethod.{CalculationMethod}
+use Rattle.irs_terms.specs.declared.parameters.CalculationMethod.TheVariants.{Compounding, Averaging}
 use Rattle.std.specs.Prelude.{ℕ, ◌+◌, ◌-◌, ◌*◌, nat_le, Bool, true, false, ◌&&◌, List, [], ◌∷◌, Option, Some, None}
 use Rattle.std.specs.Prelude.{codes, if◌then◌else◌}
 use Rattle.std.specs.Str.{bytes_eq}
@@ -79,6 +81,10 @@ abbrev pub compounding_at : List ℕ → Option CompCode
 compounding_at =
     among ((codes "None", Simple) ∷ (codes "Straight", Straight) ∷ (codes "Flat", Flat)
     ∷ (codes "SpreadExclusive", SpreadExclusive) ∷ [])
+
+-- `calculationMethod`
+abbrev pub calculation_method_at : List ℕ → Option CalculationMethod
+calculation_method_at = among ((codes "Compounding", Compounding) ∷ (codes "Averaging", Averaging) ∷ [])
 
 -- `negativeInterestRateTreatment`
 abbrev pub treatment_at : List ℕ → Option Treatment

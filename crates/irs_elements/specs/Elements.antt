@@ -5,7 +5,8 @@ use Rattle.irs_base.specs.declared.places.Rule.{Rule}
 use Rattle.irs_base.specs.declared.places.Rule.TheVariants.{K2, K3, K4, K5, K6, K7}
 use Rattle.irs_elements.specs.Leaves.{leaf_rule}
 use Rattle.irs_elements.specs.declared.table.Choice.{Choice}
-use Rattle.irs_elements.specs.declared.table.Choice.TheVariants.{Free, AtMostOne, ExactlyOne, Reference}
+use Rattle.irs_elements.specs.declared.table.Choice.TheVariants.{Free, AtMostOne, AtMostOneOfThree, ExactlyOne}
+use Rattle.irs_elements.specs.declared.table.Choice.TheVariants.{Reference}
 use Rattle.irs_elements.specs.declared.table.Count.{Count}
 use Rattle.irs_elements.specs.declared.table.Count.TheVariants.{One, Maybe, OneTo, UpTo}
 use Rattle.irs_elements.specs.declared.table.Kind.{Kind}
@@ -94,6 +95,7 @@ has_odd d = is_odd (child_of (codes "@id") d) || is_odd (child_of (codes "@href"
 abbrev pub lacks_href : Choice → Data → Bool
 lacks_href Free d = false
 lacks_href (AtMostOne a b) d = false
+lacks_href (AtMostOneOfThree a b c) d = false
 lacks_href (ExactlyOne a b) d = false
 lacks_href Reference d = is_none (child_of (codes "@href") d)
 
@@ -121,7 +123,7 @@ place rows stream rule r index =
 abbrev pub fault_if : Bool → Broken → Option Broken
 fault_if b f = if b then Some f else None
 
--- two of a choice occur together, which has no index; none is an absence
+-- two members of a choice occur together, which has no index; none is an absence
 abbrev pub unmet_place : List Row → ℕ → ℕ → ℕ → Unmet → Broken
 unmet_place rows stream r i Both = place rows stream K7 r 0
 unmet_place rows stream r i Neither = place rows stream K2 r i
@@ -142,6 +144,10 @@ abbrev pub name_in : Option (List ℕ) → List ℕ
 name_in None = []
 name_in (Some name) = name
 
+-- whether two of three hold, or all of them
+abbrev pub are_two : Bool → Bool → Bool → Bool
+are_two a b c = (a && b) || ((a && c) || (b && c))
+
 module _ (names : List (List ℕ)) where
   -- the name of the row c
   abbrev pub name_at : ℕ → List ℕ
@@ -156,6 +162,7 @@ module _ (names : List (List ℕ)) where
   choice_unmet Free d = None
   choice_unmet Reference d = None
   choice_unmet (AtMostOne a b) d = if stands a d && stands b d then Some Both else None
+  choice_unmet (AtMostOneOfThree a b c) d = if are_two (stands a d) (stands b d) (stands c d) then Some Both else None
   choice_unmet (ExactlyOne a b) d =
       if stands a d && stands b d then Some Both else (if stands a d || stands b d then None else Some Neither)
 
@@ -234,7 +241,7 @@ module _ (rows : List Row) (names : List (List ℕ)) (stream : ℕ) where
     -- it is a reference without `@href`
     no_href : (r i : ℕ) (choice : Choice) (d : Data) → lacks_href choice d ≡ true
         → ShapeFault r choice i d (place rows stream K2 r i)
-    -- both or neither of two members occur
+    -- two members of a choice occur together, or neither of two does
     unmet : (r i : ℕ) (u : Unmet) (choice : Choice) (d : Data) → choice_unmet names choice d ≡ Some u
         → ShapeFault r choice i d (unmet_place rows stream r i u)
 

@@ -1,12 +1,14 @@
 -- What the text of a leaf says, and the rule that it breaks where it says nothing.
 use Rattle.irs_base.specs.declared.places.Rule.{Rule}
 use Rattle.irs_base.specs.declared.places.Rule.TheVariants.{K3, K5, K6}
-use Rattle.irs_elements.specs.Codes.{compounding_at, convention_at, day_count_at, day_kind_at, direction_at}
+use Rattle.irs_elements.specs.Codes.{calculation_method_at, compounding_at, convention_at, day_count_at, day_kind_at}
+use Rattle.irs_elements.specs.Codes.{direction_at}
 use Rattle.irs_elements.specs.Codes.{offset_unit_at, relative_at, roll_at, stub_kind_at, tenor_unit_at, treatment_at}
 use Rattle.irs_elements.specs.Codes.{truth_at, unit_at}
 use Rattle.irs_elements.specs.Dates.{day_at}
 use Rattle.irs_elements.specs.Fractions.{fraction_at}
-use Rattle.irs_elements.specs.Numbers.{amount_at, multiplier_at, notional_at, offset_at, precision_at, rate_at}
+use Rattle.irs_elements.specs.Numbers.{amount_at, multiplier_at, notional_at, observation_days_at, offset_at}
+use Rattle.irs_elements.specs.Numbers.{precision_at, rate_at}
 use Rattle.irs_elements.specs.Numbers.{whole_at}
 use Rattle.irs_elements.specs.Words.{currency_at, is_center_name, is_index_name}
 use Rattle.irs_elements.specs.declared.table.Leaf.{Leaf as LeafKind}
@@ -15,7 +17,7 @@ use Rattle.irs_elements.specs.declared.table.Leaf.TheVariants.{Rate, Amount, Fra
 use Rattle.irs_elements.specs.declared.table.Leaf.TheVariants.{CurrencyName, Convention, PeriodUnit, TenorUnit}
 use Rattle.irs_elements.specs.declared.table.Leaf.TheVariants.{OffsetUnit, DayType, StubType, Roll, PayRelative}
 use Rattle.irs_elements.specs.declared.table.Leaf.TheVariants.{ResetRelative, DayCount, Compounding, Treatment}
-use Rattle.irs_elements.specs.declared.table.Leaf.TheVariants.{Direction}
+use Rattle.irs_elements.specs.declared.table.Leaf.TheVariants.{Direction, ObservationDays, CalculationMethod}
 use Rattle.irs_json.specs.Leaves.{Leaf, word, whole, truth}
 use Rattle.std.specs.Fmt.{signed_decimal}
 use Rattle.std.specs.List.{list_any}
@@ -33,6 +35,7 @@ abbrev pub has_value : LeafKind → List ℕ → Bool
 has_value Date s = is_some (day_at s)
 has_value Multiplier s = is_some (multiplier_at s)
 has_value OffsetDays s = is_some (offset_at s)
+has_value ObservationDays s = is_some (observation_days_at s)
 has_value Precision s = is_some (precision_at s)
 has_value Whole s = is_some (whole_at s)
 has_value Notional s = is_some (notional_at s)
@@ -54,6 +57,7 @@ has_value PayRelative s = is_some (relative_at s)
 has_value ResetRelative s = is_some (relative_at s)
 has_value DayCount s = is_some (day_count_at s)
 has_value Compounding s = is_some (compounding_at s)
+has_value CalculationMethod s = is_some (calculation_method_at s)
 has_value Treatment s = is_some (treatment_at s)
 has_value Direction s = is_some (direction_at s)
 
@@ -62,6 +66,7 @@ abbrev pub out_of_profile : LeafKind → List (List ℕ)
 out_of_profile Date = []
 out_of_profile Multiplier = []
 out_of_profile OffsetDays = []
+out_of_profile ObservationDays = []
 out_of_profile Precision = []
 out_of_profile Whole = []
 out_of_profile Notional = []
@@ -84,6 +89,7 @@ out_of_profile ResetRelative = []
 out_of_profile DayCount =
     codes "ACT/ACT.ICMA" ∷ codes "ACT/ACT.ISMA" ∷ codes "ACT/ACT.AFB" ∷ codes "ACT/365L" ∷ codes "BUS/252" ∷ []
 out_of_profile Compounding = []
+out_of_profile CalculationMethod = codes "CompoundedIndex" ∷ []
 out_of_profile Treatment = []
 out_of_profile Direction = []
 

@@ -1,6 +1,7 @@
 -- A table of elements as lines, each with the path of an element, and the rows that the lines give.
 use Prim.Native.String.{String}
-use Rattle.irs_elements.specs.declared.table.Choice.TheVariants.{Free, AtMostOne, ExactlyOne, Reference}
+use Rattle.irs_elements.specs.declared.table.Choice.TheVariants.{Free, AtMostOne, AtMostOneOfThree, ExactlyOne}
+use Rattle.irs_elements.specs.declared.table.Choice.TheVariants.{Reference}
 use Rattle.irs_elements.specs.declared.table.Count.{Count}
 use Rattle.irs_elements.specs.declared.table.Count.TheVariants.{One, Maybe}
 use Rattle.irs_elements.specs.declared.table.Kind.{Kind}
@@ -20,6 +21,8 @@ pub data Form : Type 0 where
   -- an object of which at most one, or exactly one, of the two members of these names occurs
   at_most_one : String → String → Form
   exactly_one : String → String → Form
+  -- an object of which at most one of the three members of these names occurs
+  at_most_one_of_three : String → String → String → Form
   -- an object that names another by its `@href`
   reference : Form
   -- a leaf of that kind
@@ -101,6 +104,8 @@ module _ (places rows : List (List ℕ)) where
   kind_of path object = Object Free
   kind_of path (at_most_one a b) = Object (AtMostOne (row_of_member path a) (row_of_member path b))
   kind_of path (exactly_one a b) = Object (ExactlyOne (row_of_member path a) (row_of_member path b))
+  kind_of path (at_most_one_of_three a b c) =
+      Object (AtMostOneOfThree (row_of_member path a) (row_of_member path b) (row_of_member path c))
   kind_of path reference = Object Reference
   kind_of path (leaf k) = Leaf k
 

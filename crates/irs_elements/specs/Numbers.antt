@@ -1,6 +1,6 @@
 -- The numbers of leaves, with their ranges.
 use Rattle.irs_elements.specs.Decimals.{dec_at}
-use Rattle.irs_base.specs.Limits.{most_multiplier, most_notional, most_offset, most_rate}
+use Rattle.irs_base.specs.Limits.{most_multiplier, most_notional, most_observation_offset, most_offset, most_rate}
 use Rattle.std.specs.List.{list_all}
 use Rattle.std.specs.Prelude.{ℕ, nat_le, Bool, not, ◌&&◌, ◌||◌, ◌==◌, List, [], ◌∷◌, length, ℤ, pos, neg_ℤ}
 use Rattle.std.specs.Prelude.{unsigned_abs, int_le, Option, Some, None, option_map, if◌then◌else◌}
@@ -46,6 +46,10 @@ multiplier_at s = option_map unsigned_abs (within (pos 1) (pos most_multiplier) 
 -- the days of an offset: -60 to 60
 abbrev pub offset_at : List ℕ → Option ℤ
 offset_at s = within (neg_ℤ (pos most_offset)) (pos most_offset) (whole_at s)
+
+-- the days of an observation shift, a lookback or a lockout: 1 to 30
+abbrev pub observation_days_at : List ℕ → Option ℕ
+observation_days_at s = option_map unsigned_abs (within (pos 1) (pos most_observation_offset) (whole_at s))
 
 -- the decimals to which a rate is rounded: 0 to 9
 abbrev pub precision_at : List ℕ → Option ℕ

@@ -1,13 +1,15 @@
 //! The codes of FpML: the value that a text has, `None` exactly where it is none of the profile's.
 //! Texts are compared exactly.
-ghost use Rattle.irs_elements.specs.Codes.{compounding_at, convention_at, day_count_at, day_kind_at, day_number_at};
+ghost use Rattle.irs_elements.specs.Codes.{calculation_method_at, compounding_at, convention_at, day_count_at};
+ghost use Rattle.irs_elements.specs.Codes.{day_kind_at, day_number_at};
 ghost use Rattle.irs_elements.specs.Codes.{day_roll_at, direction_at, named_roll_at, offset_unit_at, relative_at};
 ghost use Rattle.irs_elements.specs.Codes.{roll_at, stub_kind_at, tenor_unit_at, treatment_at, truth_at, unit_at};
 ghost use Rattle.std.specs.Prelude.{◌≡◌};
 
 use irs_base::{DayName, Direction};
 use irs_terms::{
-    CompCode, ConvCode, DayCountCode, DayKind, Relative, RollCode, StubKind, Treatment, Unit,
+    CalculationMethod, CompCode, ConvCode, DayCountCode, DayKind, Relative, RollCode, StubKind,
+    Treatment, Unit,
 };
 
 /// A truth value: `true` or `1`, `false` or `0`.
@@ -165,6 +167,19 @@ pub fn compounding(text: &str) -> Option<CompCode>
         Some(CompCode::Flat)
     } else if text == "SpreadExclusive" {
         Some(CompCode::SpreadExclusive)
+    } else {
+        None
+    }
+}
+
+/// `calculationMethod`.
+pub fn calculation_method(text: &str) -> Option<CalculationMethod>
+    ensures { result ≡ calculation_method_at text.now }
+{
+    if text == "Compounding" {
+        Some(CalculationMethod::Compounding)
+    } else if text == "Averaging" {
+        Some(CalculationMethod::Averaging)
     } else {
         None
     }

@@ -21,6 +21,7 @@ fn has_value(kind: Leaf, text: &str) -> bool
         Leaf::Date => numbers::day(text.as_bytes()).is_some(),
         Leaf::Multiplier => numbers::multiplier(text.as_bytes()).is_some(),
         Leaf::OffsetDays => numbers::offset(text.as_bytes()).is_some(),
+        Leaf::ObservationDays => numbers::observation_days(text.as_bytes()).is_some(),
         Leaf::Precision => numbers::precision(text.as_bytes()).is_some(),
         Leaf::Whole => numbers::whole(text.as_bytes()).is_some(),
         Leaf::Notional => numbers::notional(text.as_bytes()).is_some(),
@@ -42,6 +43,7 @@ fn has_value(kind: Leaf, text: &str) -> bool
         Leaf::ResetRelative => codes::relative(text).is_some(),
         Leaf::DayCount => codes::day_count(text).is_some(),
         Leaf::Compounding => codes::compounding(text).is_some(),
+        Leaf::CalculationMethod => codes::calculation_method(text).is_some(),
         Leaf::Treatment => codes::treatment(text).is_some(),
         Leaf::Direction => codes::direction(text).is_some(),
     }
@@ -55,6 +57,7 @@ fn is_out_of_profile(kind: Leaf, text: &str) -> bool
         Leaf::Date => false,
         Leaf::Multiplier => false,
         Leaf::OffsetDays => false,
+        Leaf::ObservationDays => false,
         Leaf::Precision => false,
         Leaf::Whole => false,
         Leaf::Notional => false,
@@ -87,6 +90,7 @@ fn is_out_of_profile(kind: Leaf, text: &str) -> bool
             || text == "ACT/365L"
             || text == "BUS/252",
         Leaf::Compounding => false,
+        Leaf::CalculationMethod => text == "CompoundedIndex",
         Leaf::Treatment => false,
         Leaf::Direction => false,
     }

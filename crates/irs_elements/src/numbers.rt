@@ -3,7 +3,8 @@
 ghost use Rattle.irs_elements.specs.Dates.{day_at};
 ghost use Rattle.irs_elements.specs.Decimals.{dec_at, digits_at, few_digits_at};
 ghost use Rattle.irs_elements.specs.Numbers.{amount_at, digits_of, has_no_point as no_point_of};
-ghost use Rattle.irs_elements.specs.Numbers.{is_whole as is_whole_of, multiplier_at, notional_at, offset_at};
+ghost use Rattle.irs_elements.specs.Numbers.{is_whole as is_whole_of, multiplier_at, notional_at};
+ghost use Rattle.irs_elements.specs.Numbers.{observation_days_at, offset_at};
 ghost use Rattle.irs_elements.specs.Numbers.{precision_at, rate_at, whole_at, within as within_of};
 ghost use Rattle.std.specs.Prelude.{◌≡◌, ◌+◌, ◌*◌, ◌^◌, ◌<◌, ◌≤◌, length, unsigned_abs};
 
@@ -17,6 +18,9 @@ const MOST_MULTIPLIER: i128 = 999;
 
 // The most days of an offset.
 const MOST_OFFSET: i128 = 60;
+
+// The most days of an observation shift, a lookback or a lockout.
+const MOST_OBSERVATION_OFFSET: i128 = 30;
 
 /// A date: `YYYY-MM-DD` of a day in range, with or without a last `Z`.
 pub fn day(text: &[u8]) -> Option<Day>
@@ -187,6 +191,16 @@ pub fn offset(text: &[u8]) -> Option<i16>
     match within(-MOST_OFFSET, MOST_OFFSET, whole(text)) {
         None => None,
         Some(n) => Some(n as i16),
+    }
+}
+
+/// `offsetDays` of an observation shift, a lookback or a lockout: 1 to 30.
+pub fn observation_days(text: &[u8]) -> Option<u8>
+    ensures { result ≡ observation_days_at text.now }
+{
+    match within(1, MOST_OBSERVATION_OFFSET, whole(text)) {
+        None => None,
+        Some(n) => Some(n.unsigned_abs() as u8),
     }
 }
 

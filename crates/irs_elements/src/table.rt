@@ -20,6 +20,8 @@ pub enum Choice {
     Free,
     /// The members of these two rows don't occur together.
     AtMostOne(usize, usize),
+    /// No two of the members of these three rows occur together.
+    AtMostOneOfThree(usize, usize, usize),
     /// Exactly one of the members of these two rows occurs.
     ExactlyOne(usize, usize),
     /// The object names another by its attribute `@href`.
@@ -91,6 +93,8 @@ pub enum Leaf {
     Multiplier,
     /// `periodMultiplier` of an offset.
     OffsetDays,
+    /// `offsetDays` of an observation shift, a lookback or a lockout.
+    ObservationDays,
     /// `precision`.
     Precision,
     /// A whole number without a range (`calculationPeriodNumberOfDays`).
@@ -133,6 +137,8 @@ pub enum Leaf {
     DayCount,
     /// `compoundingMethod`.
     Compounding,
+    /// `calculationMethod`.
+    CalculationMethod,
     /// `negativeInterestRateTreatment`.
     Treatment,
     /// `roundingDirection`.

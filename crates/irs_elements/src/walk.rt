@@ -3,7 +3,8 @@
 //! The walk goes down the table and not down the value: each row's members come after it. It keeps
 //! nothing on the way; each step returns the first broken rule of its part.
 ghost use Rattle.irs_elements.specs.Elements.{EndsHold, FaultAmong, FaultAt, FaultUnder, MemberFault, ShapeFault};
-ghost use Rattle.irs_elements.specs.Elements.{absent_index as absent_index_of, choice_unmet as choice_unmet_of};
+ghost use Rattle.irs_elements.specs.Elements.{absent_index as absent_index_of, are_two as are_two_of};
+ghost use Rattle.irs_elements.specs.Elements.{choice_unmet as choice_unmet_of};
 ghost use Rattle.irs_elements.specs.Elements.{elem_at, elem_of, end_at, fault_if, has_odd as has_odd_of};
 ghost use Rattle.irs_elements.specs.Elements.{index_in as index_in_of, is_apart, is_element as is_element_of};
 ghost use Rattle.irs_elements.specs.Elements.{is_known as is_known_in, is_one_right, is_right_leaf as is_right_leaf_of};
@@ -166,6 +167,13 @@ fn stands(names: &[&'static str], c: usize, v: &Value) -> bool
     child(v, name_of(names, c)).is_some()
 }
 
+// Whether two of three hold, or all of them.
+fn are_two(a: bool, b: bool, c: bool) -> bool
+    ensures { result ≡ are_two_of a b c }
+{
+    (a && b) || ((a && c) || (b && c))
+}
+
 // How an object fails its choice.
 fn choice_unmet(names: &[&'static str], choice: Choice, v: &Value) -> Option<Unmet>
     ensures { result ≡ choice_unmet_of (texts names.now) choice (view v.now) }
@@ -177,6 +185,17 @@ fn choice_unmet(names: &[&'static str], choice: Choice, v: &Value) -> Option<Unm
             Some(Unmet::Both)
         } else {
             None
+        },
+        Choice::AtMostOneOfThree(a, b, c) => {
+            if are_two(
+                stands(names, a, v),
+                stands(names, b, v),
+                stands(names, c, v),
+            ) {
+                Some(Unmet::Both)
+            } else {
+                None
+            }
         },
         Choice::ExactlyOne(a, b) => if stands(names, a, v) && stands(names, b, v) {
             Some(Unmet::Both)
@@ -282,6 +301,7 @@ fn lacks_href(choice: Choice, v: &Value) -> bool
     match choice {
         Choice::Free => false,
         Choice::AtMostOne(_, _) => false,
+        Choice::AtMostOneOfThree(_, _, _) => false,
         Choice::ExactlyOne(_, _) => false,
         Choice::Reference => child(v, "@href").is_none(),
     }
@@ -338,6 +358,7 @@ fn asked_fault(table: &Table<'_>, r: usize, choice: Choice, index: u32, v: &Valu
     match choice {
         Choice::Free => None,
         Choice::AtMostOne(_, _) => choice_fault(table, r, choice, index, v),
+        Choice::AtMostOneOfThree(_, _, _) => choice_fault(table, r, choice, index, v),
         Choice::ExactlyOne(_, _) => choice_fault(table, r, choice, index, v),
         Choice::Reference => href_fault(table, r, choice, index, v),
     }

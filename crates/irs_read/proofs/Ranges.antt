@@ -6,14 +6,15 @@ use Rattle.irs_elements.specs.Codes.{tenor_unit_at}
 use Rattle.irs_elements.specs.Dates.{day_at, is_text_of, named_day, plain_day_at, without_z}
 use Rattle.irs_elements.specs.Decimals.{dec_at}
 use Rattle.irs_elements.specs.Find.{text_in}
-use Rattle.irs_elements.specs.Numbers.{multiplier_at, notional_at, offset_at, precision_at, rate_at, whole_at, within}
+use Rattle.irs_elements.specs.Numbers.{multiplier_at, notional_at, observation_days_at, offset_at, precision_at}
+use Rattle.irs_elements.specs.Numbers.{rate_at, whole_at, within}
 use Rattle.irs_elements.specs.Words.{currency_at, is_capital, is_currency}
 use Rattle.irs_read.specs.Meaning.{said, scale_at}
 use Rattle.irs_read.specs.declared.leaf_values.Scale.{Scale}
 use Rattle.irs_read.specs.declared.leaf_values.Scale.TheVariants.{Notionals, Rates}
 use Rattle.irs_base.specs.Texts.{day_text}
-use Rattle.irs_terms.specs.Lawful.{IsLawfulCurrency, IsLawfulRoll, IsNotional, IsRate}
-use Rattle.irs_base.specs.Limits.{most_multiplier, most_notional, most_offset, most_rate}
+use Rattle.irs_terms.specs.Lawful.{IsLawfulCurrency, IsLawfulRoll, IsNotional, IsObservationDays, IsRate}
+use Rattle.irs_base.specs.Limits.{most_multiplier, most_notional, most_observation_offset, most_offset, most_rate}
 use Rattle.irs_terms.specs.declared.codes.RollCode.TheVariants.{Dom, Eom, Imm, NoRoll, OnWeekday}
 use Rattle.irs_base.specs.declared.day.DayName.TheVariants.{Mon, Tue, Wed, Thu, Fri, Sat, Sun}
 use Rattle.irs_terms.specs.declared.frequency.Unit.{Unit as PeriodUnit}
@@ -117,15 +118,22 @@ pub zero_range : (scale : Scale) → InScale scale (pos 0)
 zero_range Notionals = (omega (arith, ints), omega (arith, ints))
 zero_range Rates = omega arith
 
-one_up : (z : ℤ) → Between (pos 1) (pos most_multiplier) z → (1 ≤ unsigned_abs z) × (unsigned_abs z ≤ most_multiplier)
-one_up (pos n) h = (omega (arith, ints, h), omega (arith, ints, h))
-one_up (negsuc n) h = absurd (omega (arith, ints, h))
+one_up : (m : ℕ) (z : ℤ) → Between (pos 1) (pos m) z → (1 ≤ unsigned_abs z) × (unsigned_abs z ≤ m)
+one_up m (pos n) h = (omega (arith, ints, h), omega (arith, ints, h))
+one_up m (negsuc n) h = absurd (omega (arith, ints, h))
 
 -- a multiplier that is read is in its range
 pub multiplier_range : (s : List ℕ) → IfSome (multiplier_at s) (λ n. (1 ≤ n) × (n ≤ most_multiplier))
 multiplier_range s =
-    if_mapped _ _ unsigned_abs one_up (within (pos 1) (pos most_multiplier) (whole_at s))
+    if_mapped _ _ unsigned_abs (one_up most_multiplier) (within (pos 1) (pos most_multiplier) (whole_at s))
     (within_range (pos 1) (pos most_multiplier) (whole_at s))
+
+-- the days of an observation shift, a lookback or a lockout that are read are in their range
+pub observation_days_range : (s : List ℕ) → IfSome (observation_days_at s) IsObservationDays
+observation_days_range s =
+    if_mapped _ IsObservationDays unsigned_abs (one_up most_observation_offset)
+    (within (pos 1) (pos most_observation_offset) (whole_at s))
+    (within_range (pos 1) (pos most_observation_offset) (whole_at s))
 
 -- an offset that is read is in its range
 pub offset_range : (s : List ℕ) → IfSome (offset_at s) (λ z. unsigned_abs z ≤ most_offset)

@@ -4,17 +4,18 @@ use Rattle.irs_elements.specs.Codes.{roll_at, tenor_unit_at}
 use Rattle.irs_elements.specs.Dates.{day_at}
 use Rattle.irs_elements.specs.Elements.{name_at}
 use Rattle.irs_elements.specs.Find.{member, once, values_in}
-use Rattle.irs_elements.specs.Numbers.{multiplier_at, offset_at, precision_at, rate_at}
+use Rattle.irs_elements.specs.Numbers.{multiplier_at, observation_days_at, offset_at, precision_at, rate_at}
 use Rattle.irs_elements.specs.Words.{currency_at}
 use Rattle.irs_elements.specs.declared.table.Leaf.TheVariants.{CenterName, IndexName}
 use Rattle.irs_read.proofs.Clean.{Clean, clean_leaf, clean_member, clean_once, clean_there, fine_values, is_child}
 use Rattle.irs_read.proofs.Clean.{leaf_at, most_at, required_at, some_value}
 use Rattle.irs_read.proofs.Ranges.{InScale, capitals, currency_range, day_range, first_is_day, multiplier_range}
-use Rattle.irs_read.proofs.Ranges.{offset_range, or_in, precision_range, rate_range, roll_range, said_in, scale_range}
+use Rattle.irs_read.proofs.Ranges.{observation_days_range, offset_range, or_in, precision_range, rate_range, roll_range, said_in, scale_range}
 use Rattle.irs_read.proofs.Ranges.{tenor_unit_range, zero_range}
 use Rattle.irs_read.proofs.Words.{center_lawful, index_word}
 use Rattle.irs_read.specs.Meaning.{adjustments_in, centers_by, dated_in, day_in, fix_in, float_in, frequency_in, leg_by}
 use Rattle.irs_read.specs.Meaning.{maybe_dated_in, named_centers, names_in, no_currency, number_in, offset_in}
+use Rattle.irs_read.specs.Meaning.{applicable_in, observation_days_in, observation_offset_by, parameters_in, places_by}
 use Rattle.irs_read.specs.Meaning.{own_centers, pay_in, reset_in, said, scale_at, schedule_in, schedule_or, step_in}
 use Rattle.irs_read.specs.Meaning.{stream_in, stream_parts, stub_by, stub_in, stubs_in, tenor_in, word_in}
 use Rattle.irs_read.specs.References.{first_of, has_id, href_of, lists_in, lists_of, the_one}
@@ -24,6 +25,7 @@ use Rattle.irs_read.specs.declared.leaf_values.Scale.TheVariants.{Notionals, Rat
 use Rattle.irs_read.specs.declared.table.TheConstants.{ROWS}
 use Rattle.irs_terms.specs.Lawful.{IsLawfulCenters, IsLawfulCurrency, IsLawfulAdjustableDate, IsLawfulFix, IsLawfulFloat}
 use Rattle.irs_terms.specs.Lawful.{IsLawfulFrequency, IsLawfulIndex, IsLawfulLeg, IsLawfulName, IsLawfulNames}
+use Rattle.irs_terms.specs.Lawful.{IsLawfulObservationOffset, IsLawfulParameters, IsObservationDays}
 use Rattle.irs_terms.specs.Lawful.{IsLawfulOffset, IsLawfulPay, IsLawfulReset, IsLawfulRoll, IsLawfulStream}
 use Rattle.irs_terms.specs.Lawful.{IsLawfulStubRate, IsLawfulStubs, IsLawfulTenor, IsLawfulValues, IsRate}
 use Rattle.irs_base.specs.Limits.{most_centers, most_multiplier, most_offset, most_steps}
@@ -95,9 +97,26 @@ number_lawful scale o =
     or_in (InScale scale) (said (scale_at scale) o) (pos 0)
     (said_in (InScale scale) (scale_at scale) (scale_range scale) o) (zero_range scale)
 
-places_lawful : (o : Option Data) → unwrap_or (said precision_at o) 9 ≤ 9
-places_lawful o =
-    or_in (λ n. n ≤ 9) (said precision_at o) 9 (said_in (λ n. n ≤ 9) precision_at precision_range o) (omega arith)
+places_lawful : (places : ℕ) → places ≤ 9 → (o : Option Data) → unwrap_or (said precision_at o) places ≤ 9
+places_lawful places few o =
+    or_in (λ n. n ≤ 9) (said precision_at o) places (said_in (λ n. n ≤ 9) precision_at precision_range o) few
+
+few_places : (parameters : Option Data) → places_by parameters ≤ 9
+few_places None = omega arith
+few_places (Some parameters) = omega arith
+
+observation_days_lawful : (d : Data) → IsObservationDays (observation_days_in d)
+observation_days_lawful d =
+    let days = once (codes "offsetDays") d in
+    or_in IsObservationDays (said observation_days_at days) 1
+    (said_in IsObservationDays observation_days_at observation_days_range days) (omega arith, omega arith)
+
+observation_offset_lawful : (shift lookback lockout : Option Data)
+    → IsLawfulObservationOffset (observation_offset_by shift lookback lockout)
+observation_offset_lawful (Some shift) lookback lockout = observation_days_lawful shift
+observation_offset_lawful None (Some lookback) lockout = observation_days_lawful lookback
+observation_offset_lawful None None (Some lockout) = observation_days_lawful lockout
+observation_offset_lawful None None None = tt
 
 roll_lawful : (o : Option Data) → IsLawfulRoll (unwrap_or (said roll_at o) NoRoll)
 roll_lawful o = or_in IsLawfulRoll (said roll_at o) NoRoll (said_in IsLawfulRoll roll_at roll_range o) tt
@@ -422,6 +441,20 @@ index_at r c at d clean =
     (subst (λ (o : Option Data). IsLawfulIndex (word_in o)) (sym e)
     (index_word x (clean_leaf ROWS row_names c IndexName x at.leaf inner)))
 
+applicable_lawful : (d : Data) → At 106 d → IsLawfulNames (applicable_in (once (codes "applicableBusinessDays") d))
+applicable_lawful d clean =
+    let (list, (e, inner)) = clean_there ROWS row_names 106 114 d refl refl clean in
+    let rows : CenterRows 114 115 = record { child = refl; required = refl; most = refl; leaf = refl; named = refl } in
+    subst (λ (o : Option Data). IsLawfulNames (applicable_in o)) (sym e) (list_lawful 114 115 rows list inner)
+
+maybe_parameters : (o : Option Data) → AtMost 106 o → IfSome (option_map parameters_in o) IsLawfulParameters
+maybe_parameters None clean = tt
+maybe_parameters (Some d) clean = record {
+  offset = observation_offset_lawful (once (codes "observationShift") d) (once (codes "lookback") d)
+      (once (codes "lockout") d);
+  centers = applicable_lawful d clean;
+}
+
 float_lawful : (d : Data) → At 86 d → IsLawfulFloat (float_in d)
 float_lawful d clean = record {
   index = index_at 86 87 (record { child = refl; required = refl; leaf = refl; named = refl }) d clean;
@@ -432,8 +465,11 @@ float_lawful d clean = record {
   spread = or_lawful (pos 0) (omega arith) 96 98 (record { child = refl; most = refl; named = refl })
       (once (codes "spreadSchedule") d) (clean_once ROWS row_names 86 96 d refl clean);
   initial_rate = said_in IsRate rate_at rate_range (once (codes "initialRate") d);
-  rounding = places_lawful (member (codes "precision") (once (codes "finalRateRounding") d));
-  parameters = tt;
+  rounding = places_lawful (places_by (once (codes "calculationParameters") d))
+      (few_places (once (codes "calculationParameters") d))
+      (member (codes "precision") (once (codes "finalRateRounding") d));
+  parameters = maybe_parameters (once (codes "calculationParameters") d)
+      (clean_once ROWS row_names 86 106 d refl clean);
 }
 
 leg_lawful : (float fixed : Option Data) → AtMost 86 float → AtMost 81 fixed → IsLawfulLeg (leg_by float fixed)
@@ -446,23 +482,23 @@ stub_by_lawful : (f c : ℕ) → IndexRows f c → (float rate : Option Data) �
 stub_by_lawful f c at None rate clean = number_lawful Rates rate
 stub_by_lawful f c at (Some d) rate clean = (index_at f c at d clean, maybe_tenor (once (codes "indexTenor") d))
 
-maybe_initial : (o : Option Data) → AtMost 110 o → IfSome (option_map stub_in o) IsLawfulStubRate
+maybe_initial : (o : Option Data) → AtMost 120 o → IfSome (option_map stub_in o) IsLawfulStubRate
 maybe_initial None clean = tt
 maybe_initial (Some d) clean =
-    stub_by_lawful 111 112 (record { child = refl; required = refl; leaf = refl; named = refl })
-    (once (codes "floatingRate") d) (once (codes "stubRate") d) (clean_once ROWS row_names 110 111 d refl clean)
+    stub_by_lawful 121 122 (record { child = refl; required = refl; leaf = refl; named = refl })
+    (once (codes "floatingRate") d) (once (codes "stubRate") d) (clean_once ROWS row_names 120 121 d refl clean)
 
-maybe_last : (o : Option Data) → AtMost 117 o → IfSome (option_map stub_in o) IsLawfulStubRate
+maybe_last : (o : Option Data) → AtMost 127 o → IfSome (option_map stub_in o) IsLawfulStubRate
 maybe_last None clean = tt
 maybe_last (Some d) clean =
-    stub_by_lawful 118 119 (record { child = refl; required = refl; leaf = refl; named = refl })
-    (once (codes "floatingRate") d) (once (codes "stubRate") d) (clean_once ROWS row_names 117 118 d refl clean)
+    stub_by_lawful 128 129 (record { child = refl; required = refl; leaf = refl; named = refl })
+    (once (codes "floatingRate") d) (once (codes "stubRate") d) (clean_once ROWS row_names 127 128 d refl clean)
 
-maybe_stubs : (dates o : Option Data) → AtMost 108 o → IfSome (option_map (stubs_in dates) o) IsLawfulStubs
+maybe_stubs : (dates o : Option Data) → AtMost 118 o → IfSome (option_map (stubs_in dates) o) IsLawfulStubs
 maybe_stubs dates None clean = tt
 maybe_stubs dates (Some d) clean = (
-  maybe_initial (once (codes "initialStub") d) (clean_once ROWS row_names 108 110 d refl clean),
-  maybe_last (once (codes "finalStub") d) (clean_once ROWS row_names 108 117 d refl clean),
+  maybe_initial (once (codes "initialStub") d) (clean_once ROWS row_names 118 120 d refl clean),
+  maybe_last (once (codes "finalStub") d) (clean_once ROWS row_names 118 127 d refl clean),
 )
 
 -- ---- streams
@@ -492,7 +528,7 @@ parts_lawful lists d dates freq calc g clean dated rates =
       leg = leg_lawful (member (codes "floatingRateCalculation") calc) (member (codes "fixedRateSchedule") calc)
           (clean_member ROWS row_names 73 86 calc refl rates) (clean_member ROWS row_names 73 81 calc refl rates);
       stubs = maybe_stubs dates (once (codes "stubCalculationPeriodAmount") d)
-          (clean_once ROWS row_names 0 108 d refl clean);
+          (clean_once ROWS row_names 0 118 d refl clean);
     }
 
 -- the stream of a clean value is lawful

@@ -2,11 +2,13 @@
 -- where the leaf is absent.
 use Rattle.irs_base.specs.Days.{first_day}
 use Rattle.irs_base.specs.declared.rounding.Direction.TheVariants.{Nearest}
-use Rattle.irs_elements.specs.Codes.{compounding_at, convention_at, day_count_at, day_kind_at, direction_at}
+use Rattle.irs_elements.specs.Codes.{calculation_method_at, compounding_at, convention_at, day_count_at, day_kind_at}
+use Rattle.irs_elements.specs.Codes.{direction_at}
 use Rattle.irs_elements.specs.Codes.{relative_at, roll_at, stub_kind_at, tenor_unit_at, treatment_at, truth_at, unit_at}
 use Rattle.irs_elements.specs.Dates.{day_at}
 use Rattle.irs_elements.specs.Find.{member, once, text_in, values_in}
-use Rattle.irs_elements.specs.Numbers.{multiplier_at, notional_at, offset_at, precision_at, rate_at}
+use Rattle.irs_elements.specs.Numbers.{multiplier_at, notional_at, observation_days_at, offset_at, precision_at}
+use Rattle.irs_elements.specs.Numbers.{rate_at}
 use Rattle.irs_elements.specs.Words.{currency_at}
 use Rattle.irs_read.specs.References.{href_of, lists_of, reference_in, the_one}
 use Rattle.irs_read.specs.declared.leaf_values.Scale.{Scale}
@@ -39,6 +41,10 @@ use Rattle.irs_terms.specs.declared.dates.PayTerms.{PayTerms}
 use Rattle.irs_terms.specs.declared.dates.ResetTerms.{ResetTerms}
 use Rattle.irs_terms.specs.declared.frequency.Frequency.{Frequency}
 use Rattle.irs_terms.specs.declared.frequency.Unit.TheVariants.{D}
+use Rattle.irs_terms.specs.declared.parameters.CalculationMethod.TheVariants.{Compounding}
+use Rattle.irs_terms.specs.declared.parameters.CalculationParameters.{CalculationParameters}
+use Rattle.irs_terms.specs.declared.parameters.ObservationOffset.{ObservationOffset}
+use Rattle.irs_terms.specs.declared.parameters.ObservationOffset.TheVariants.{Absent as NoOffset, Shift, Lookback, Lockout}
 use Rattle.irs_terms.specs.declared.step_list.Step.{Step}
 use Rattle.irs_terms.specs.declared.step_list.StepValues.{StepValues}
 use Rattle.irs_terms.specs.declared.stream.Stream.{Stream}
@@ -177,16 +183,47 @@ schedule_or v (Some d) = schedule_in Rates (Some d)
 
 -- ---- parts of a stream
 
--- the rounding of a rate; absent is to 9 decimals, to the nearest
-abbrev pub rounding_in : Option Data → Rounding
-rounding_in o =
+-- the decimals that a rate keeps where nothing is said: 7 where it is worked out of daily rates by
+-- `calculationParameters` (2006 ISDA Definitions, 8.1(a)), else 9
+abbrev pub places_by : Option Data → ℕ
+places_by None = 9
+places_by (Some parameters) = 7
+
+-- the rounding of a rate; absent is to these decimals, to the nearest
+abbrev pub rounding_in : ℕ → Option Data → Rounding
+rounding_in places o =
     record {
       dir = unwrap_or (said direction_at (member (codes "roundingDirection") o)) Nearest;
       places =
-          unwrap_or (said precision_at (member (codes "precision") o)) 9;
+          unwrap_or (said precision_at (member (codes "precision") o)) places;
     }
 
--- the terms of a floating rate; `calculationParameters` are not read yet
+-- the days of an observation shift, a lookback or a lockout
+abbrev pub observation_days_in : Data → ℕ
+observation_days_in d = unwrap_or (said observation_days_at (once (codes "offsetDays") d)) 1
+
+-- an observation shift, a lookback or a lockout, whichever is there
+abbrev pub observation_offset_by : Option Data → Option Data → Option Data → ObservationOffset
+observation_offset_by (Some shift) lookback lockout = Shift (observation_days_in shift)
+observation_offset_by None (Some lookback) lockout = Lookback (observation_days_in lookback)
+observation_offset_by None None (Some lockout) = Lockout (observation_days_in lockout)
+observation_offset_by None None None = NoOffset
+
+-- the centres of the list; none without one
+abbrev pub applicable_in : Option Data → List (List ℕ)
+applicable_in None = []
+applicable_in (Some list) = names_in list
+
+-- how daily rates become the rate of a period
+abbrev pub parameters_in : Data → CalculationParameters
+parameters_in d = record {
+  method = unwrap_or (said calculation_method_at (once (codes "calculationMethod") d)) Compounding;
+  offset = observation_offset_by (once (codes "observationShift") d) (once (codes "lookback") d)
+      (once (codes "lockout") d);
+  centers = applicable_in (once (codes "applicableBusinessDays") d);
+}
+
+-- the terms of a floating rate
 abbrev pub float_in : Data → FloatTerms
 float_in d = record {
   index = word_in (once (codes "floatingRateIndex") d);
@@ -194,9 +231,9 @@ float_in d = record {
   multiplier = schedule_or (pos 1_000_000_000) (once (codes "floatingRateMultiplierSchedule") d);
   spread = schedule_or (pos 0) (once (codes "spreadSchedule") d);
   initial_rate = said rate_at (once (codes "initialRate") d);
-  rounding = rounding_in (once (codes "finalRateRounding") d);
+  rounding = rounding_in (places_by (once (codes "calculationParameters") d)) (once (codes "finalRateRounding") d);
   treatment = treatment_in (once (codes "negativeInterestRateTreatment") d);
-  parameters = None;
+  parameters = option_map parameters_in (once (codes "calculationParameters") d);
 }
 
 -- a floating leg where there is one, else a fixed one

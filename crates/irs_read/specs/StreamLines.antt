@@ -1,19 +1,20 @@
 -- The elements of a swap's streams (FpML's InterestRateStream), line by line: the path below the
 -- stream, what stands there, and how often. Which elements are in the profile, their counts and their
 -- order are this project's own.
-use Rattle.irs_base.specs.Elements.{calculation_parameters, calculation_period_dates, cashflows, day_count_fraction}
+use Rattle.irs_base.specs.Elements.{calculation_period_dates, cashflows}
 use Rattle.irs_base.specs.Limits.{most_centers, most_steps}
 use Rattle.irs_base.specs.PathList.{printed}
-use Rattle.irs_elements.specs.Lines.{Line, Others, Table, at, at_most_one, exactly_one, leaf, line, names_of, object}
-use Rattle.irs_elements.specs.Lines.{reference, rows_of}
+use Rattle.irs_elements.specs.Lines.{Line, Others, Table, at, at_most_one, at_most_one_of_three, exactly_one, leaf}
+use Rattle.irs_elements.specs.Lines.{line, names_of, object, reference, rows_of}
 use Rattle.irs_elements.specs.declared.table.Count.TheVariants.{One, Maybe, OneTo, UpTo}
-use Rattle.irs_elements.specs.declared.table.Leaf.TheVariants.{CenterName, Compounding, Convention, CurrencyName, Date}
+use Rattle.irs_elements.specs.declared.table.Leaf.TheVariants.{CalculationMethod, CenterName, Compounding}
+use Rattle.irs_elements.specs.declared.table.Leaf.TheVariants.{Convention, CurrencyName, Date, ObservationDays}
 use Rattle.irs_elements.specs.declared.table.Leaf.TheVariants.{DayCount, DayType, Direction, IndexName, Multiplier}
 use Rattle.irs_elements.specs.declared.table.Leaf.TheVariants.{Notional, OffsetDays, OffsetUnit, PayRelative}
 use Rattle.irs_elements.specs.declared.table.Leaf.TheVariants.{PeriodUnit, Precision, Rate, ResetRelative, Roll}
 use Rattle.irs_elements.specs.declared.table.Leaf.TheVariants.{StubType, TenorUnit, Treatment, Truth}
 use Rattle.irs_elements.specs.declared.table.Row.{Row}
-use Rattle.std.specs.Prelude.{ℕ, ◌-◌, List, [], ◌∷◌, ◌++◌, drop, take}
+use Rattle.std.specs.Prelude.{ℕ, ◌-◌, List, [], ◌∷◌, drop, take}
 
 abbrev lines : List Line
 lines =
@@ -139,6 +140,22 @@ lines =
     (leaf Precision) One
     ∷ line "calculationPeriodAmount/calculation/floatingRateCalculation/negativeInterestRateTreatment"
     (leaf Treatment) Maybe
+    ∷ line "calculationPeriodAmount/calculation/floatingRateCalculation/calculationParameters"
+    (at_most_one_of_three "observationShift" "lookback" "lockout") Maybe
+    ∷ line "calculationPeriodAmount/calculation/floatingRateCalculation/calculationParameters/calculationMethod"
+    (leaf CalculationMethod) One
+    ∷ line "calculationPeriodAmount/calculation/floatingRateCalculation/calculationParameters/observationShift" object Maybe
+    ∷ line "calculationPeriodAmount/calculation/floatingRateCalculation/calculationParameters/observationShift/offsetDays"
+    (leaf ObservationDays) One
+    ∷ line "calculationPeriodAmount/calculation/floatingRateCalculation/calculationParameters/lookback" object Maybe
+    ∷ line "calculationPeriodAmount/calculation/floatingRateCalculation/calculationParameters/lookback/offsetDays"
+    (leaf ObservationDays) One
+    ∷ line "calculationPeriodAmount/calculation/floatingRateCalculation/calculationParameters/lockout" object Maybe
+    ∷ line "calculationPeriodAmount/calculation/floatingRateCalculation/calculationParameters/lockout/offsetDays"
+    (leaf ObservationDays) One
+    ∷ line "calculationPeriodAmount/calculation/floatingRateCalculation/calculationParameters/applicableBusinessDays" object One
+    ∷ line "calculationPeriodAmount/calculation/floatingRateCalculation/calculationParameters/applicableBusinessDays/businessCenter"
+    (leaf CenterName) (OneTo most_centers)
     ∷ line "calculationPeriodAmount/calculation/dayCountFraction" (leaf DayCount) One
     ∷ line "calculationPeriodAmount/calculation/compoundingMethod" (leaf Compounding) Maybe
     ∷ line "stubCalculationPeriodAmount" object Maybe
@@ -164,12 +181,9 @@ lines =
     ∷ []
 
 -- the elements of a stream in the table of paths: those up to the cash flows, but for
--- `payerPartyReference`, which is passed over, and for `calculationParameters` and what it holds, which
--- are not read yet
+-- `payerPartyReference`, which is passed over
 unfoldable pub stream_elements : List (List ℕ)
-stream_elements =
-    take (calculation_parameters - calculation_period_dates) (drop calculation_period_dates printed)
-    ++ take (cashflows - day_count_fraction) (drop day_count_fraction printed)
+stream_elements = take (cashflows - calculation_period_dates) (drop calculation_period_dates printed)
 
 -- the members that are passed over unread
 abbrev passed : List Others
@@ -195,12 +209,14 @@ refused =
     ∷ at "calculationPeriodAmount/calculation/notionalSchedule" ("notionalStepParameters" ∷ [])
     ∷ at "calculationPeriodAmount/calculation/floatingRateCalculation"
     ("rateTreatment" ∷ "capRateSchedule" ∷ "floorRateSchedule" ∷ "averagingMethod" ∷ [])
+    ∷ at "calculationPeriodAmount/calculation/floatingRateCalculation/calculationParameters"
+    ("observationParameters" ∷ [])
     ∷ at "stubCalculationPeriodAmount/initialStub/floatingRate"
     ("floatingRateMultiplierSchedule" ∷ "spreadSchedule" ∷ "rateTreatment" ∷ "capRateSchedule"
-    ∷ "floorRateSchedule" ∷ [])
+    ∷ "floorRateSchedule" ∷ "calculationParameters" ∷ [])
     ∷ at "stubCalculationPeriodAmount/finalStub/floatingRate"
     ("floatingRateMultiplierSchedule" ∷ "spreadSchedule" ∷ "rateTreatment" ∷ "capRateSchedule"
-    ∷ "floorRateSchedule" ∷ [])
+    ∷ "floorRateSchedule" ∷ "calculationParameters" ∷ [])
     ∷ at "stubCalculationPeriodAmount/initialStub" ("stubAmount" ∷ [])
     ∷ at "stubCalculationPeriodAmount/finalStub" ("stubAmount" ∷ [])
     ∷ []

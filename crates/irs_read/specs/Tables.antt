@@ -1,7 +1,8 @@
 -- What makes a table of rows whole.
 use Rattle.irs_base.specs.Elements.{no_twin}
 use Rattle.irs_elements.specs.declared.table.Choice.{Choice}
-use Rattle.irs_elements.specs.declared.table.Choice.TheVariants.{Free, AtMostOne, ExactlyOne, Reference}
+use Rattle.irs_elements.specs.declared.table.Choice.TheVariants.{Free, AtMostOne, AtMostOneOfThree, ExactlyOne}
+use Rattle.irs_elements.specs.declared.table.Choice.TheVariants.{Reference}
 use Rattle.irs_elements.specs.declared.table.Kind.{Kind}
 use Rattle.irs_elements.specs.declared.table.Kind.TheVariants.{Object, Leaf, Passed, Refused}
 use Rattle.irs_elements.specs.declared.table.Row.{Row}
@@ -17,6 +18,8 @@ abbrev chooses : List Row → ℕ → Choice → Bool
 chooses rows r Free = true
 chooses rows r Reference = true
 chooses rows r (AtMostOne a b) = stands_below r (slice_get rows a) && stands_below r (slice_get rows b)
+chooses rows r (AtMostOneOfThree a b c) =
+    stands_below r (slice_get rows a) && stands_below r (slice_get rows b) && stands_below r (slice_get rows c)
 chooses rows r (ExactlyOne a b) = stands_below r (slice_get rows a) && stands_below r (slice_get rows b)
 
 abbrev kind_fits : List Row → ℕ → Kind → Bool

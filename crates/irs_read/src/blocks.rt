@@ -47,8 +47,8 @@ pub fn offset(v: Option<&Value>) -> Offset
     Offset { days, kind }
 }
 
-// The names of a list of centres.
-fn names(alloc: Global, list: &Value) -> Result<Names, Memory>
+/// The names of a list of centres.
+pub fn names(alloc: Global, list: &Value) -> Result<Names, Memory>
     ensures { IfOk result (λ names. names ≡ names_in (view list.now)) }
 {
     let mut names = Names::new(alloc);

@@ -1,10 +1,11 @@
 //! The values of leaves, and their defaults.
-ghost use Rattle.irs_elements.specs.Codes.{compounding_at, convention_at, day_count_at, day_kind_at, direction_at};
+ghost use Rattle.irs_elements.specs.Codes.{calculation_method_at, compounding_at, convention_at, day_count_at};
+ghost use Rattle.irs_elements.specs.Codes.{day_kind_at, direction_at};
 ghost use Rattle.irs_elements.specs.Codes.{relative_at, roll_at, stub_kind_at, tenor_unit_at, treatment_at, truth_at};
 ghost use Rattle.irs_elements.specs.Codes.{unit_at};
 ghost use Rattle.irs_elements.specs.Dates.{day_at};
 ghost use Rattle.irs_elements.specs.Find.{seen};
-ghost use Rattle.irs_elements.specs.Numbers.{multiplier_at, offset_at, precision_at, rate_at};
+ghost use Rattle.irs_elements.specs.Numbers.{multiplier_at, observation_days_at, offset_at, precision_at, rate_at};
 ghost use Rattle.irs_elements.specs.Words.{currency_at};
 ghost use Rattle.irs_read.specs.Meaning.{day_in, number_in, relative_in, said, scale_at, treatment_in, truth_in};
 ghost use Rattle.irs_read.specs.Meaning.{word_in};
@@ -14,8 +15,8 @@ use irs_base::{Day, Direction, Memory, Text};
 use irs_elements::{codes, leaf_text, numbers, words};
 use irs_json::Value;
 use irs_terms::{
-    CompCode, ConvCode, Currency, DayCountCode, DayKind, Relative, RollCode, StubKind, Treatment,
-    Unit,
+    CalculationMethod, CompCode, ConvCode, Currency, DayCountCode, DayKind, Relative, RollCode,
+    StubKind, Treatment, Unit,
 };
 use itoa::Buffer;
 use std::alloc::Global;
@@ -59,6 +60,17 @@ pub fn offset_days(v: Option<&Value>) -> Option<i16>
     match leaf_text(v, &mut digits) {
         None => None,
         Some(text) => numbers::offset(text.as_bytes()),
+    }
+}
+
+/// `offsetDays` of an observation shift, a lookback or a lockout.
+pub fn observation_days(v: Option<&Value>) -> Option<u8>
+    ensures { result ≡ said observation_days_at (seen v.entry) }
+{
+    let mut digits = Buffer::new();
+    match leaf_text(v, &mut digits) {
+        None => None,
+        Some(text) => numbers::observation_days(text.as_bytes()),
     }
 }
 
@@ -191,6 +203,17 @@ pub fn compounding(v: Option<&Value>) -> Option<CompCode>
     match leaf_text(v, &mut digits) {
         None => None,
         Some(text) => codes::compounding(text),
+    }
+}
+
+/// `calculationMethod`.
+pub fn calculation_method(v: Option<&Value>) -> Option<CalculationMethod>
+    ensures { result ≡ said calculation_method_at (seen v.entry) }
+{
+    let mut digits = Buffer::new();
+    match leaf_text(v, &mut digits) {
+        None => None,
+        Some(text) => codes::calculation_method(text),
     }
 }
 

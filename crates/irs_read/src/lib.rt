@@ -5,6 +5,7 @@
 mod blocks;
 mod document;
 mod leaf_values;
+mod parameters;
 mod reader;
 mod references;
 mod stream;

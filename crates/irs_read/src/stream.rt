@@ -1,7 +1,7 @@
 //! The stream that a value says, where it breaks no rule.
 ghost use Rattle.irs_elements.specs.Find.{member as member_of, seen};
 ghost use Rattle.irs_read.specs.Meaning.{adjustments_in, dated_in, exchanges_in, fix_in, float_in, leg_by};
-ghost use Rattle.irs_read.specs.Meaning.{maybe_dated_in, number_in, pay_in, reset_in, rounding_in};
+ghost use Rattle.irs_read.specs.Meaning.{maybe_dated_in, number_in, pay_in, places_by, reset_in, rounding_in};
 ghost use Rattle.irs_read.specs.Meaning.{schedule_in};
 ghost use Rattle.irs_read.specs.Meaning.{stream_in, stream_parts, stub_by, stub_in, stubs_in, swap_in, tenor_in};
 ghost use Rattle.irs_read.specs.References.{lists_of};
@@ -16,6 +16,7 @@ use crate::leaf_values::{
     Scale, compounding, currency, day_count, direction, maybe_day, precision, relative, roll,
     small_rate, stub_kind, treatment, truth, word,
 };
+use crate::parameters::maybe_parameters;
 use crate::references::{lists, reference};
 use irs_base::{Direction, Memory};
 use irs_elements::{member, once, values_at};
@@ -36,16 +37,26 @@ fn maybe_tenor(v: Option<&Value>) -> Option<Frequency>
     }
 }
 
-// How a rate is rounded, Nearest at 9 decimals where nothing is said.
-fn rounding(v: Option<&Value>) -> Rounding
-    ensures { result ≡ rounding_in (seen v.entry) }
+// How many decimals a rate keeps where nothing is said: 7 where it is worked out of daily rates, else 9.
+fn default_places(parameters: Option<&Value>) -> u8
+    ensures { result ≡ places_by (seen parameters.entry) }
+{
+    match parameters {
+        None => 9,
+        Some(_) => 7,
+    }
+}
+
+// How a rate is rounded, Nearest at these decimals where nothing is said.
+fn rounding(default: u8, v: Option<&Value>) -> Rounding
+    ensures { result ≡ rounding_in default (seen v.entry) }
 {
     let dir = direction(member(v, "roundingDirection")).unwrap_or(Direction::Nearest);
-    let places = precision(member(v, "precision")).unwrap_or(9);
+    let places = precision(member(v, "precision")).unwrap_or(default);
     Rounding { dir, places }
 }
 
-// The terms of a floating rate. No document states `calculationParameters` yet.
+// The terms of a floating rate.
 fn float_terms(alloc: Global, v: &Value) -> Result<FloatTerms, Memory>
     ensures { IfOk result (λ terms. terms ≡ float_in (view v.now)) }
 {
@@ -55,8 +66,10 @@ fn float_terms(alloc: Global, v: &Value) -> Result<FloatTerms, Memory>
     let multiplier = schedule_or(alloc, 1_000_000_000, multipliers)?;
     let spread = schedule_or(alloc, 0, once(v, "spreadSchedule"))?;
     let initial_rate = small_rate(once(v, "initialRate"));
-    let rounding = rounding(once(v, "finalRateRounding"));
+    let stated = once(v, "calculationParameters");
+    let rounding = rounding(default_places(stated), once(v, "finalRateRounding"));
     let treatment = treatment(once(v, "negativeInterestRateTreatment"));
+    let parameters = maybe_parameters(alloc, stated)?;
     Ok(FloatTerms {
         index,
         tenor,
@@ -65,7 +78,7 @@ fn float_terms(alloc: Global, v: &Value) -> Result<FloatTerms, Memory>
         initial_rate,
         rounding,
         treatment,
-        parameters: None,
+        parameters,
     })
 }
 
