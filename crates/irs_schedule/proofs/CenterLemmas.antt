@@ -1,11 +1,11 @@
 -- The good days of the centres that elements name: their range, and the table that has them.
 use Rattle.std.proofs.Common.{◌≡◌, slice_get, ℕ, ◌+◌, ◌<◌, List, [], ◌∷◌, ◌++◌, Option, Some, None, Contains, map}
-use Rattle.std.proofs.Common.{get_or, ℤ, length, refl, sym, ◌∙◌, subst}
+use Rattle.std.proofs.Common.{get_or, ℤ, IfSome, length, refl, sym, ◌∙◌, subst}
 use Rattle.std.proofs.lemmas.List.{get_or-map, length-map, map_push}
 use Rattle.std.proofs.lemmas.Option.{slice_get_read}
 use Rattle.std.proofs.lemmas.List.Elements.{Contains-append_left, Contains-push}
 use Rattle.irs_base.specs.Days.{IsDay}
-use Rattle.irs_terms.specs.Lawful.{IsLawfulStream}
+use Rattle.irs_terms.specs.Lawful.{IsLawfulNames, IsLawfulStream}
 use Rattle.irs_terms.specs.declared.stream.Stream.{Stream}
 use Rattle.irs_calendar.specs.declared.sections.Section.{Section}
 use Rattle.irs_calendar.specs.GoodDays.{InCover}
@@ -13,11 +13,13 @@ use Rattle.irs_calendar.specs.Selected.{sections_named, set_of_sections}
 use Rattle.irs_schedule.specs.DaySets.{days_of_names}
 use Rattle.irs_schedule.specs.CenterDays.{NamedCenters, centers_named, FoundCenters, CanFind, HasStream, Grows, HasMore}
 use Rattle.irs_schedule.specs.CenterDays.{HasMoreOf}
+use Rattle.irs_rules.specs.Parameters.{applicable_names}
 use Rattle.irs_rules.specs.TermsKept.{TermsKept}
+use Rattle.irs_rules.proofs.Names.{applicable_lawful}
 use Rattle.irs_terms.specs.FirstDay.{first_date_of}
 use Rattle.irs_terms.specs.Needs.{fixing_names, names_by, names_with, reset_names}
 use Rattle.irs_base.proofs.EveryLemmas.{below_more}
-use Rattle.irs_terms.proofs.NeedLemmas.{few_for_fixing, few_for_reset}
+use Rattle.irs_terms.proofs.NeedLemmas.{AreFew, few_for_fixing, few_for_reset}
 use Rattle.irs_calendar.proofs.CoverLemmas.{covers_common}
 
 -- the days of a cover are in the range of dates
@@ -39,6 +41,17 @@ finds_reset cal s lawful kept = (few_for_reset s.reset lawful.reset, kept.reset_
 pub finds_fixing : (cal : List Section) (s : Stream) → IsLawfulStream s → TermsKept cal s
     → CanFind cal (fixing_names s.reset)
 finds_fixing cal s lawful kept = (few_for_fixing s.reset lawful.reset, kept.fixing_found)
+
+-- lawful names are few
+few_lawful : (names : Option (List (List ℕ))) → IfSome names IsLawfulNames → AreFew names
+few_lawful None lawful = tt
+few_lawful (Some names) lawful = lawful.1
+
+-- the centres of applicable business days are found
+pub finds_applicable : (cal : List Section) (s : Stream) → IsLawfulStream s → TermsKept cal s
+    → CanFind cal (applicable_names s.leg)
+finds_applicable cal s lawful kept =
+    (few_lawful (applicable_names s.leg) (applicable_lawful s.leg lawful.leg), kept.applicable_found)
 
 -- the table
 
@@ -86,28 +99,31 @@ stream_kept s old now grows has = record {
   payment = grows.kept (names_with s.pay.offset s.pay.adj) has.payment;
   reset = grows.kept (reset_names s.reset) has.reset;
   fixing = grows.kept (fixing_names s.reset) has.fixing;
+  applicable = grows.kept (applicable_names s.leg) has.applicable;
 }
 
--- a stream whose six lists were added one after another
-pub all_added : (s : Stream) (t0 t1 t2 t3 t4 t5 t6 : FoundCenters) → HasMore (names_by (first_date_of s).adj) t0 t1
+-- a stream whose seven lists were added one after another
+pub all_added : (s : Stream) (t0 t1 t2 t3 t4 t5 t6 t7 : FoundCenters) → HasMore (names_by (first_date_of s).adj) t0 t1
     → HasMore (names_by s.termination.adj) t1 t2 → HasMore (names_by s.period_adj) t2 t3
     → HasMore (names_with s.pay.offset s.pay.adj) t3 t4 → HasMore (reset_names s.reset) t4 t5
-    → HasMore (fixing_names s.reset) t5 t6 → HasMoreOf s t0 t6
-all_added s t0 t1 t2 t3 t4 t5 t6 start end middle payment reset fixing =
-    let from5 = fixing.grows in
-    let from4 = grows_on t4 t5 t6 reset.grows from5 in
-    let from3 = grows_on t3 t4 t6 payment.grows from4 in
-    let from2 = grows_on t2 t3 t6 middle.grows from3 in
-    let from1 = grows_on t1 t2 t6 end.grows from2 in
+    → HasMore (fixing_names s.reset) t5 t6 → HasMore (applicable_names s.leg) t6 t7 → HasMoreOf s t0 t7
+all_added s t0 t1 t2 t3 t4 t5 t6 t7 start end middle payment reset fixing applicable =
+    let from6 = applicable.grows in
+    let from5 = grows_on t5 t6 t7 fixing.grows from6 in
+    let from4 = grows_on t4 t5 t7 reset.grows from5 in
+    let from3 = grows_on t3 t4 t7 payment.grows from4 in
+    let from2 = grows_on t2 t3 t7 middle.grows from3 in
+    let from1 = grows_on t1 t2 t7 end.grows from2 in
     record {
-      grows = grows_on t0 t1 t6 start.grows from1;
+      grows = grows_on t0 t1 t7 start.grows from1;
       added = record {
         start = from1.kept (names_by (first_date_of s).adj) start.added;
         end = from2.kept (names_by s.termination.adj) end.added;
         middle = from3.kept (names_by s.period_adj) middle.added;
         payment = from4.kept (names_with s.pay.offset s.pay.adj) payment.added;
         reset = from5.kept (reset_names s.reset) reset.added;
-        fixing = fixing.added;
+        fixing = from6.kept (fixing_names s.reset) fixing.added;
+        applicable = applicable.added;
       };
     }
 

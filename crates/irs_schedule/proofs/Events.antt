@@ -1,5 +1,6 @@
--- The payments, exchanges and resets of a stream over its layout: they are in their relations, and there is one outcome.
-use Rattle.std.proofs.Common.{◌-◌, List, length, sym, subst}
+-- The payments, exchanges, resets and observed rates of a stream over its layout: they are in their relations, and
+-- there is one outcome.
+use Rattle.std.proofs.Common.{◌-◌, List, length, refl, sym, subst}
 use Rattle.irs_base.specs.Outcomes.{Determined}
 use Rattle.irs_base.proofs.Outcomes.{answer_determined, then_determined}
 use Rattle.irs_terms.specs.Lawful.{IsLawfulStream}
@@ -9,23 +10,23 @@ use Rattle.irs_payments.specs.Exchanges.{AreExchanges}
 use Rattle.irs_payments.specs.Outcomes.{payments_of, principals_of, steps_of}
 use Rattle.irs_payments.specs.Payments.{ArePayments, Covers}
 use Rattle.irs_payments.proofs.Outcomes.{payments_determined, principals_determined, steps_determined}
-use Rattle.irs_resets.specs.Outcomes.{resets_of}
 use Rattle.irs_resets.specs.Rates.{RateTable}
-use Rattle.irs_resets.specs.Resets.{IsResets}
-use Rattle.irs_resets.proofs.Outcomes.{resets_determined}
+use Rattle.irs_observed.specs.declared.daily_resets.OvernightResets.{OvernightResets}
 use Rattle.irs_rules.specs.TermsKept.{TermsKept}
 use Rattle.irs_schedule.specs.DaySets.{StreamSets}
 use Rattle.irs_schedule.specs.Layouts.{IsKeptLayout}
 use Rattle.irs_schedule.specs.Outcomes.{events_of, payment_dates_of, resets_over}
+use Rattle.irs_schedule.specs.StreamResets.{AreResetsIn, resets_in}
 use Rattle.irs_schedule.specs.declared.layouts.Layout.{Layout}
 use Rattle.irs_schedule.specs.declared.stream.StreamEvents.{StreamEvents}
+use Rattle.irs_schedule.proofs.RateLemmas.{resets_are, resets_in_determined, with_rates}
 use Rattle.irs_schedule.proofs.LayoutLemmas.{AreInRange, layout_adjusted_days, layout_covers, layout_days, layout_runs}
 
 -- each list is in its relation
 pub record AreEvents (sets : StreamSets) (fix : RateTable) (s : Stream) (l : Layout) (d : StreamEvents) : Type 0 where
   pub payments : ArePayments s sets.payment l.unadjusted l.adjusted d.payments
   pub exchanges : AreExchanges s sets.payment d.exchanges
-  pub resets : IsResets (resets_over sets s l) fix d.resets
+  pub resets : AreResetsIn s.leg (resets_over sets s l) sets.applicable fix (with_rates d.resets d.rates)
 
 module _ (sets : StreamSets) (fix : RateTable) (s : Stream) (l : Layout) where
   -- events that are answered are
@@ -33,12 +34,12 @@ module _ (sets : StreamSets) (fix : RateTable) (s : Stream) (l : Layout) where
   events_are d h =
       let paid = h.1 in
       let xs = h.2.0 in
-      let rs = h.2.2.0 in
-      let made : StreamEvents = record { payments = h.0; exchanges = xs; resets = rs } in
+      let x : OvernightResets = h.2.2.0 in
+      let made : StreamEvents = record { payments = h.0; exchanges = xs; resets = x.resets; rates = x.rates } in
       let are : AreEvents sets fix s l made = record {
         payments = subst (ArePayments s sets.payment l.unadjusted l.adjusted) (sym paid.2.2) paid.1.1;
         exchanges = h.2.1.1;
-        resets = h.2.2.1.1;
+        resets = resets_are (resets_over sets s l) sets.applicable fix s.leg x h.2.2.1;
       } in
       subst (AreEvents sets fix s l) (sym h.2.2.2) are
 
@@ -62,10 +63,11 @@ module _ (sets : StreamSets) (fix : RateTable) (s : Stream) (l : Layout) where
       then_determined (steps_of s l.unadjusted) _ (steps_determined s l.unadjusted) (λ _ _. answer_determined payments)))
       (λ payments _.
       then_determined (principals_of s sets.payment) _ (principals_determined s sets.payment lawful range.payment) (λ exchanges _.
-      then_determined (resets_of (resets_over sets s l) fix) _
-      (resets_determined (resets_over sets s l) fix terms.legs terms.said_reset
-      (record { adjusted = moved; reset_set = range.reset; fixing_set = range.fixing })) (λ resets _.
-      answer_determined (record { payments = payments; exchanges = exchanges; resets = resets }))))
+      then_determined (resets_in s.leg (resets_over sets s l) sets.applicable fix) _
+      (resets_in_determined (resets_over sets s l) sets.applicable fix terms.legs terms.said_reset
+      (record { adjusted = moved; reset_set = range.reset; fixing_set = range.fixing }) s.leg refl) (λ x _.
+      answer_determined
+      (record { payments = payments; exchanges = exchanges; resets = x.resets; rates = x.rates }))))
 
   -- payments that are answered cover the periods
   pub events_cover : (cal : List Section) → IsLawfulStream s → TermsKept cal s → IsKeptLayout sets s l → (d : StreamEvents)

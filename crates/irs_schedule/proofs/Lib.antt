@@ -1,8 +1,11 @@
+pub mod EntryRates
 pub mod PeriodLemmas
 pub mod PartLemmas
 pub mod WalkLemmas
 pub mod PlaceLemmas
 pub mod CountLemmas
+pub mod RateLemmas
+pub mod FactorLemmas
 pub mod TermsThere
 pub mod CenterLemmas
 pub mod Unique

@@ -65,10 +65,11 @@ module _ (swap : Swap) (cal : List Section) (fix : RateTable) where
 -- the sets of a stream by its elements
 pub sets_same : (a b : StreamSets) → a.boundaries.start ≡ b.boundaries.start → a.boundaries.end ≡ b.boundaries.end
     → a.boundaries.middle ≡ b.boundaries.middle → a.payment ≡ b.payment → a.reset ≡ b.reset
-    → a.fixing ≡ b.fixing → a ≡ b
-sets_same a b start end middle payment reset fixing = λ i. record {
+    → a.fixing ≡ b.fixing → a.applicable ≡ b.applicable → a ≡ b
+sets_same a b start end middle payment reset fixing applicable = λ i. record {
   boundaries = record { start = start i; end = end i; middle = middle i };
   payment = payment i;
   reset = reset i;
   fixing = fixing i;
+  applicable = applicable i;
 }

@@ -1,5 +1,5 @@
 -- A lawful stream that keeps its terms and breaks no rule has its part, and only one, and such a swap its schedule.
-use Rattle.std.proofs.Common.{◌≡◌, ℕ, zero, suc, ◌+◌, ◌-◌, ◌∙◌, List, [], ◌∷◌, length, map, Some, refl, sym, subst, arith}
+use Rattle.std.proofs.Common.{◌≡◌, ℕ, zero, suc, ◌+◌, ◌-◌, ◌∙◌, List, [], ◌∷◌, length, map, Some, refl, sym, ap, subst, arith}
 use Rattle.std.specs.Prelude.{Result, Ok, Err, IfOk, slice_get}
 use Rattle.std.proofs.lemmas.Option.{same_Some, slice_get_within}
 use Rattle.irs_base.specs.Faults.{in_stream}
@@ -15,7 +15,7 @@ use Rattle.irs_base.proofs.Outcomes.{then_determined}
 use Rattle.irs_terms.specs.Lawful.{IsLawful, IsLawfulStream}
 use Rattle.irs_terms.specs.StepDates.{AllStepsRise}
 use Rattle.irs_terms.specs.declared.results.Payment.{Payment}
-use Rattle.irs_terms.specs.declared.results.Reset.{Reset}
+use Rattle.irs_observed.specs.declared.daily_resets.OvernightResets.{OvernightResets}
 use Rattle.irs_terms.specs.declared.stream.Stream.{Stream}
 use Rattle.irs_terms.specs.declared.stream_list.Swap.{Swap}
 use Rattle.irs_calendar.specs.declared.sections.Section.{Section}
@@ -23,36 +23,38 @@ use Rattle.irs_payments.specs.Payments.{ArePayments}
 use Rattle.irs_payments.proofs.ExchangeLemmas.{one_exchanges}
 use Rattle.irs_payments.proofs.PaymentLemmas.{one_payments}
 use Rattle.irs_resets.specs.Rates.{RateTable}
-use Rattle.irs_resets.specs.Resets.{IsResets}
-use Rattle.irs_resets.proofs.RowLemmas.{one_resets}
 use Rattle.irs_rules.specs.TermsKept.{TermsKept}
 use Rattle.irs_rules.specs.TermsRules.{BreaksTerms}
 use Rattle.irs_rules.proofs.Kept.{lawful_stream, terms_kept}
 use Rattle.irs_schedule.specs.DatedRules.{DatedBroken, DatedKept}
 use Rattle.irs_schedule.specs.DaySets.{StreamSets, stream_sets}
 use Rattle.irs_schedule.specs.Layouts.{IsKeptLayout, IsLayout}
-use Rattle.irs_schedule.specs.Outcomes.{entries_of, events_of, layout_of, part_over, resets_over, schedule_of, stream_of}
+use Rattle.irs_schedule.specs.Outcomes.{entries_of, events_of, layout_of, part_over, passed_at, resets_over, schedule_of}
+use Rattle.irs_schedule.specs.Outcomes.{stream_of}
 use Rattle.irs_schedule.specs.Parts.{Part}
 use Rattle.irs_schedule.specs.PeriodTerms.{IsPeriodEntry}
 use Rattle.irs_schedule.specs.Schedules.{IsPart, IsPaymentEntry, IsSchedule, payment_of}
 use Rattle.irs_schedule.specs.StreamDates.{layout_dates}
+use Rattle.irs_schedule.specs.StreamResets.{AreResetsIn, with_factors}
 use Rattle.irs_schedule.specs.declared.entries.PaymentEntry.{PaymentEntry}
 use Rattle.irs_schedule.specs.declared.entries.PeriodEntry.{PeriodEntry}
 use Rattle.irs_schedule.specs.declared.layouts.Layout.{Layout}
 use Rattle.irs_schedule.proofs.PaidEntries.{entries_are, entries_determined}
-use Rattle.irs_schedule.proofs.Events.{events_are, events_cover, events_determined}
+use Rattle.irs_schedule.proofs.Events.{AreEvents, events_are, events_cover, events_determined}
+use Rattle.irs_schedule.proofs.FactorLemmas.{factors_determined}
 use Rattle.irs_schedule.proofs.LayoutLemmas.{AreInRange, layout_adjusted_days, layout_covers, layout_some, sets_in_range}
 use Rattle.irs_schedule.proofs.LayoutRules.{layout_determined, layout_is, layout_kept, one_layout}
 use Rattle.irs_schedule.proofs.PartMade.{part_is}
+use Rattle.irs_schedule.proofs.RateLemmas.{AreAbove, one_resets_in, resets_above, with_rates}
 use Rattle.irs_schedule.proofs.Unique.{all_one_paid, one_entry}
 
--- payments and periods are in their relations over the layout, by these resets
-record ListsOver (sets : StreamSets) (s : Stream) (l : Layout) (rs : List Reset) (es : List PaymentEntry)
+-- payments and periods are in their relations over the layout, by these resets and rates
+record ListsOver (sets : StreamSets) (s : Stream) (l : Layout) (x : OvernightResets) (es : List PaymentEntry)
     (ps : List PeriodEntry) : Type 0 where
   payments : ArePayments s sets.payment l.unadjusted l.adjusted (map payment_of es)
-  amounts : Every (IsPaymentEntry (layout_dates s l rs)) es
+  amounts : Every (IsPaymentEntry (layout_dates s l x.resets x.rates)) es
   count : length ps + 1 ≡ length l.unadjusted
-  periods : EachNumbered (IsPeriodEntry (layout_dates s l rs)) 1 ps
+  periods : EachNumbered (IsPeriodEntry (layout_dates s l x.resets x.rates)) 1 ps
 
 -- those of a part stand in them over its boundaries, which are a layout
 abbrev own_layout : (sets : StreamSets) (fix : RateTable) (s : Stream) (p : Part) → IsPart sets fix s p → Layout
@@ -76,10 +78,14 @@ module _ (cal : List Section) (sets : StreamSets) (fix : RateTable) (s : Stream)
       let some = layout_some sets s lawful terms.dates l is in
       let moved = layout_adjusted_days sets s lawful terms.dates l is range in
       then_determined (events_of sets fix s l) _ (events_determined sets fix s l cal lawful terms range is) (λ d are.
-      let dates = layout_dates s l d.resets in
-      then_determined (entries_of dates d.payments) _
-      (entries_determined dates (terms.notional_rises, terms.leg_rises) is.rises moved (length l.unadjusted - 1)
-      (omega (arith, some, is.adjusted.same_length)) d.payments (events_cover sets fix s l cal lawful terms is d are))
+      let dates = layout_dates s l d.resets d.rates in
+      let above =
+      resets_above (resets_over sets s l) sets.applicable fix s.leg (with_rates d.resets d.rates)
+      (AreEvents.resets (events_are sets fix s l d are)) in
+      then_determined (with_factors passed_at d.rates (entries_of dates d.payments)) _
+      (factors_determined d.rates (entries_of dates d.payments)
+      (entries_determined dates (terms.notional_rises, terms.leg_rises) above is.rises moved (length l.unadjusted - 1)
+      (omega (arith, some, is.adjusted.same_length)) d.payments (events_cover sets fix s l cal lawful terms is d are)))
       (λ es _. answer_determined (part_over s l d es))))
 
   -- a part that is answered is the part of the stream, over a layout that breaks no rule
@@ -92,14 +98,14 @@ module _ (cal : List Section) (sets : StreamSets) (fix : RateTable) (s : Stream)
       let es = h.2.2.0 in
       subst (IsPart sets fix s) (sym h.2.2.2)
       (part_is sets fix s l (layout_some sets s lawful terms.dates l is) is d es (events_are sets fix s l d h.2.1)
-      (entries_are (layout_dates s l d.resets) d.payments es h.2.2.1))
+      (entries_are (layout_dates s l d.resets d.rates) d.payments es h.2.2.1.1))
 
   module _ (l : Layout) (is : IsKeptLayout sets s l) where
     -- over one layout and by the same resets the lists are the same
-    one_lists : (rs : List Reset) (es fs : List PaymentEntry) (ps qs : List PeriodEntry) → ListsOver sets s l rs es ps
-        → ListsOver sets s l rs fs qs → (es ≡ fs) × (ps ≡ qs)
-    one_lists rs es fs ps qs h k =
-        let d = layout_dates s l rs in
+    one_lists : (x : OvernightResets) → AreAbove x.rates → (es fs : List PaymentEntry) (ps qs : List PeriodEntry)
+        → ListsOver sets s l x es ps → ListsOver sets s l x fs qs → (es ≡ fs) × (ps ≡ qs)
+    one_lists x above es fs ps qs h k =
+        let d = layout_dates s l x.resets x.rates in
         let rises : AllStepsRise s = (terms.notional_rises, terms.leg_rises) in
         let some = layout_some sets s lawful terms.dates l is in
         let last = length l.unadjusted - 1 in
@@ -109,9 +115,9 @@ module _ (cal : List Section) (sets : StreamSets) (fix : RateTable) (s : Stream)
         let lie =
         covers_each (λ (p : Payment). p.first_period) (λ (p : Payment). p.last_period) 1 1 last (map payment_of es)
         (omega arith) (layout_covers sets s lawful terms.dates l is (map payment_of es) h.payments) in (
-          all_one_paid d rises (layout_adjusted_days sets s lawful terms.dates l is range) is.rises last
+          all_one_paid d rises above (layout_adjusted_days sets s lawful terms.dates l is range) is.rises last
               (omega (arith, some, is.adjusted.same_length)) es fs same lie h.amounts k.amounts,
-          one_numbered (IsPeriodEntry d) (one_entry d rises) 1 ps qs (omega (arith, h.count, k.count)) h.periods
+          one_numbered (IsPeriodEntry d) (one_entry d rises above) 1 ps qs (omega (arith, h.count, k.count)) h.periods
               k.periods,
         )
 
@@ -127,25 +133,31 @@ module _ (cal : List Section) (sets : StreamSets) (fix : RateTable) (s : Stream)
       let here : answered.0 ≡ l =
       one_layout sets s answered.0 l (layout_is sets s answered.0 kept) (own_is sets fix s p h) in
       let is : IsKeptLayout sets s l = subst (IsKeptLayout sets s) here kept in
-      let resets : p.resets ≡ q.resets =
-      one_resets (resets_over sets s l) fix p.resets q.resets h.resets
-      (subst (λ (n : Layout). IsResets (resets_over sets s n) fix q.resets) e k.resets) in
-      let over_p : ListsOver sets s l p.resets p.payments p.periods =
+      let x = with_rates p.resets h.rates in
+      let y = with_rates q.resets k.rates in
+      let same_rates : x ≡ y =
+      one_resets_in (resets_over sets s l) sets.applicable fix s.leg x y h.resets
+      (subst (λ (n : Layout). AreResetsIn s.leg (resets_over sets s n) sets.applicable fix y) e k.resets) in
+      let resets : p.resets ≡ q.resets = ap (λ (z : OvernightResets). z.resets) same_rates in
+      let above = resets_above (resets_over sets s l) sets.applicable fix s.leg x h.resets in
+      let over_p : ListsOver sets s l x p.payments p.periods =
       record { payments = h.payments; amounts = h.amounts; count = h.count; periods = h.periods } in
-      let over_q : ListsOver sets s m q.resets q.payments q.periods =
+      let over_q : ListsOver sets s m y q.payments q.periods =
       record { payments = k.payments; amounts = k.amounts; count = k.count; periods = k.periods } in
-      let lists = one_lists l is p.resets p.payments q.payments p.periods q.periods over_p
-      (subst (λ (rs : List Reset). ListsOver sets s l rs q.payments q.periods) (sym resets)
-      (subst (λ (n : Layout). ListsOver sets s n q.resets q.payments q.periods) e over_q)) in
+      let lists = one_lists l is x above p.payments q.payments p.periods q.periods over_p
+      (subst (λ (z : OvernightResets). ListsOver sets s l z q.payments q.periods) (sym same_rates)
+      (subst (λ (n : Layout). ListsOver sets s n y q.payments q.periods) e over_q)) in
       let currency = h.currency ∙ sym k.currency in
       let day_count = h.day_count ∙ sym k.day_count in
       let floating = h.floating ∙ sym k.floating in
+      let daily = h.daily ∙ sym k.daily in
       let boundaries : l ≡ m = sym e in
       let exchanges = one_exchanges s sets.payment p.exchanges q.exchanges h.exchanges k.exchanges in
       λ i. record {
         currency = currency i;
         day_count = day_count i;
         floating = floating i;
+        daily = daily i;
         unadjusted = (boundaries i).unadjusted;
         adjusted = (boundaries i).adjusted;
         exchanges = exchanges i;

@@ -25,6 +25,7 @@ use Rattle.irs_schedule.specs.PeriodTerms.{AreTerms, IsAmountFor, dec_of}
 use Rattle.irs_schedule.specs.Schedules.{IsPaymentEntry, payment_of}
 use Rattle.irs_schedule.specs.StreamDates.{StreamDates}
 use Rattle.irs_schedule.specs.declared.entries.PaymentEntry.{PaymentEntry}
+use Rattle.irs_schedule.proofs.RateLemmas.{AreAbove}
 use Rattle.irs_schedule.proofs.TermsThere.{amount_by, terms_by, terms_fit, terms_there}
 use Rattle.irs_schedule.proofs.Unique.{one_terms}
 
@@ -61,14 +62,14 @@ module _ (d : StreamDates) where
       → (map payment_of es ≡ ps) × Every (IsPaymentEntry d) es
   entries_are ps es h = numbered_are 1 ps es h
 
-  module _ (rises : AllStepsRise d.stream) (rising : IsRising d.adjusted) (days : AreDays d.adjusted) (last : ℕ)
-      (high : last < length d.adjusted) where
+  module _ (rises : AllStepsRise d.stream) (above : AreAbove d.rates) (rising : IsRising d.adjusted)
+      (days : AreDays d.adjusted) (last : ℕ) (high : last < length d.adjusted) where
     entry_determined : (p : Payment) → LieAmong 1 last p.first_period p.last_period → Determined (entry_of d p)
     entry_determined p lies =
         let places = decimals_of d.stream.currency.letters in
-        let are = terms_there d rising days last high p lies in
+        let are = terms_there d rising days above last high p lies in
         then_determined (given_by (AreTerms d p)) _
-        (given_by_determined (AreTerms d p) (terms_by d p, are) (one_terms d rises p)) (λ terms is.
+        (given_by_determined (AreTerms d p) (terms_by d p, are) (one_terms d rises above p)) (λ terms is.
         let fits = terms_fit d rising days p.first_period terms lies.from (omega (arith, is.count, lies.to, high)) is.each in
         then_determined (refused_as (λ n. passed_at (p.first_period + n - 1)) (payment_amount_of d.stream.compounding terms places)) _
         (refused_as_determined (λ n. passed_at (p.first_period + n - 1)) (payment_amount_of d.stream.compounding terms places)

@@ -7,16 +7,17 @@ use Rattle.irs_schedule.specs.Views.{part_of}
 use Rattle.irs_schedule.proofs.PeriodLemmas.{length_periods, entries_within}
 
 -- what a part keeps, from what it is made of
-pub kept : (s : Inside) → MakePart s.terms s.unadjusted s.adjusted s.exchanges s.payments s.resets
+pub kept : (s : Inside) → MakePart s.terms s.unadjusted s.adjusted s.exchanges s.payments s.resets s.rates
     → AreDays s.unadjusted → AreDays s.adjusted → length s.terms.currency.letters ≡ 3 → IsKept s
 kept s h days moved three =
     let count : length (part_of s).periods ≡ length s.unadjusted - 1 =
-    rw (← h.same_count) (length_periods s.terms s.unadjusted s.adjusted s.resets) in
+    rw (← h.same_count) (length_periods s.terms s.unadjusted s.adjusted s.resets s.rates) in
     record {
       notional = h.notional;
       leg = h.leg;
       notional_rises = h.notional_rises;
       leg_rises = h.leg_rises;
+      rates = h.rates;
       bounds = record {
         currency = record { three = three; capitals = h.currency };
         dates = record {
@@ -37,9 +38,9 @@ kept s h days moved three =
         exchanges = h.exchanges_few;
         exchanged = h.exchanged;
         paid = h.paid;
-        entries = entries_within s.terms s.unadjusted s.adjusted s.resets h.notional h.leg h.observed moved
+        entries = entries_within s.terms s.unadjusted s.adjusted s.resets s.rates h.notional h.leg h.rates moved
             h.adjusted_rises;
         resets = rw count h.resets_count;
-        observed = h.observed;
+        observed = h.rates.observed;
       };
     }

@@ -1,23 +1,17 @@
 -- The part that is made of what was worked out for a stream.
-use Rattle.std.proofs.Common.{◌≡◌, ◌-◌, ◌≤◌, ◌∙◌, All, List, length, map, refl, sym, subst, arith, ℕ, if◌then◌else◌}
+use Rattle.std.proofs.Common.{◌≡◌, ◌-◌, ◌≤◌, List, length, map, refl, sym, subst, arith, ℕ, if◌then◌else◌}
 use Rattle.irs_base.specs.DayLists.{AreDays}
 use Rattle.irs_base.specs.Days.{IsDay}
 use Rattle.irs_base.specs.Members.{Every}
 use Rattle.irs_base.proofs.CoverLemmas.{covers_made}
-use Rattle.irs_base.proofs.EveryLemmas.{every_all, every_made}
+use Rattle.irs_base.proofs.EveryLemmas.{every_made}
 use Rattle.irs_terms.specs.Lawful.{IsLawfulStream}
 use Rattle.irs_terms.specs.StepDates.{AllStepsRise}
-use Rattle.irs_terms.specs.declared.amounts.Leg.{Leg}
-use Rattle.irs_terms.specs.declared.amounts.Leg.TheVariants.{Fixed, Floating}
 use Rattle.irs_terms.specs.declared.results.Payment.{Payment}
-use Rattle.irs_terms.specs.declared.results.Reset.{Reset}
 use Rattle.irs_terms.specs.declared.stream.Stream.{Stream}
 use Rattle.irs_payments.specs.Payments.{ArePayments, Covers}
 use Rattle.irs_payments.proofs.DatedPayments.{exchanges_bounded, exchanges_dated, exchanges_few, payments_dated}
 use Rattle.irs_resets.specs.Rates.{RateTable}
-use Rattle.irs_resets.specs.Resets.{HasSmallRate}
-use Rattle.irs_resets.proofs.DatedResets.{resets_dated}
-use Rattle.irs_resets.proofs.ResetLemmas.{many_by, resets_count}
 use Rattle.irs_schedule.specs.DaySets.{StreamSets}
 use Rattle.irs_schedule.specs.Keeping.{MakePart}
 use Rattle.irs_schedule.specs.KeptTerms.{is_floating, kept_of}
@@ -26,6 +20,7 @@ use Rattle.irs_schedule.specs.Outcomes.{part_over, resets_over}
 use Rattle.irs_schedule.specs.Parts.{HasAmount, IsAmount}
 use Rattle.irs_schedule.specs.Schedules.{IsPart, IsPaymentEntry, payment_of}
 use Rattle.irs_schedule.specs.StreamDates.{layout_dates}
+use Rattle.irs_schedule.specs.StreamResets.{HasRates}
 use Rattle.irs_schedule.specs.declared.entries.PaymentEntry.{PaymentEntry}
 use Rattle.irs_schedule.specs.declared.layouts.Layout.{Layout}
 use Rattle.irs_schedule.specs.declared.stream.StreamEvents.{StreamEvents}
@@ -33,43 +28,43 @@ use Rattle.irs_schedule.proofs.LayoutLemmas.{AreInRange}
 use Rattle.irs_schedule.proofs.Events.{AreEvents}
 use Rattle.irs_schedule.proofs.LayoutRules.{layout_is}
 use Rattle.irs_schedule.proofs.PeriodLemmas.{length_periods, rises_of}
+use Rattle.irs_schedule.proofs.RateLemmas.{resets_above, resets_in_dated, resets_many, with_rates}
 use Rattle.irs_schedule.proofs.TermsThere.{entries_stand}
-
--- one for each period where it floats, none where its rate is fixed
-resets_by_leg : (sets : StreamSets) (s : Stream) (l : Layout) (fix : RateTable) (rs : List Reset) (leg : Leg)
-    → many_by (resets_over sets s l) fix rs leg ≡ (if is_floating leg then length l.adjusted - 1 else 0)
-resets_by_leg sets s l fix rs (Fixed values) = refl
-resets_by_leg sets s l fix rs (Floating float) = refl
 
 module _ (sets : StreamSets) (fix : RateTable) (s : Stream) (l : Layout) (some : 2 ≤ length l.unadjusted)
     (laid : IsKeptLayout sets s l) where
   -- lists that stand in their relations over a layout make a part of the stream
   pub part_is : (d : StreamEvents) (es : List PaymentEntry) → AreEvents sets fix s l d
-      → (map payment_of es ≡ d.payments) × Every (IsPaymentEntry (layout_dates s l d.resets)) es
+      → (map payment_of es ≡ d.payments) × Every (IsPaymentEntry (layout_dates s l d.resets d.rates)) es
       → IsPart sets fix s (part_over s l d es)
   part_is d es are paid = record {
     currency = refl;
     day_count = refl;
     floating = refl;
+    daily = refl;
     layout = l;
     is_layout = layout_is sets s l laid;
     unadjusted = refl;
     adjusted = refl;
     exchanges = are.exchanges;
     payments = subst (λ (ps : List Payment). ArePayments s sets.payment l.unadjusted l.adjusted ps) (sym paid.0) are.payments;
+    rates = d.rates;
     amounts = paid.1;
-    count = let n = length_periods (kept_of s) l.unadjusted l.adjusted d.resets in
+    count = let n = length_periods (kept_of s) l.unadjusted l.adjusted d.resets d.rates in
         omega (arith, n, laid.adjusted.same_length, some);
-    periods = entries_stand (layout_dates s l d.resets) laid.rises (omega (arith, laid.adjusted.same_length, some));
+    periods = entries_stand (layout_dates s l d.resets d.rates) laid.rises
+        (resets_above (resets_over sets s l) sets.applicable fix s.leg (with_rates d.resets d.rates) are.resets)
+        (omega (arith, laid.adjusted.same_length, some));
     resets = are.resets;
   }
 
   -- and they keep its bounds
   pub makes_part : (d : StreamEvents) (es : List PaymentEntry) → IsLawfulStream s → AllStepsRise s → AreInRange sets
       → AreDays l.unadjusted → AreDays l.adjusted → AreEvents sets fix s l d
-      → Covers 1 d.payments (length l.unadjusted - 1) → All HasSmallRate d.resets → map payment_of es ≡ d.payments
-      → Every (HasAmount s.currency) es → MakePart (kept_of s) l.unadjusted l.adjusted d.exchanges es d.resets
-  makes_part d es lawful rises range days moved dated covers small paid bounds = record {
+      → Covers 1 d.payments (length l.unadjusted - 1) → HasRates s.leg (length l.adjusted - 1) d.resets d.rates
+      → map payment_of es ≡ d.payments
+      → Every (HasAmount s.currency) es → MakePart (kept_of s) l.unadjusted l.adjusted d.exchanges es d.resets d.rates
+  makes_part d es lawful rises range days moved dated covers rates paid bounds = record {
     currency = lawful.currency;
     notional = lawful.notional;
     leg = lawful.leg;
@@ -93,8 +88,9 @@ module _ (sets : StreamSets) (fix : RateTable) (s : Stream) (l : Layout) (some :
         (subst (ArePayments s sets.payment l.unadjusted l.adjusted) (sym paid) dated.payments));
     resets_count =
         subst (λ (n : ℕ). length d.resets ≡ (if is_floating s.leg then n - 1 else 0)) laid.adjusted.same_length
-        (resets_count (resets_over sets s l) fix d.resets dated.resets ∙ resets_by_leg sets s l fix d.resets s.leg);
-    observed = every_all HasSmallRate d.resets small;
-    reset_days = resets_dated (resets_over sets s l) fix
-        (record { adjusted = moved; reset_set = range.reset; fixing_set = range.fixing }) d.resets dated.resets;
+        (resets_many (resets_over sets s l) sets.applicable fix s.leg (with_rates d.resets d.rates) refl dated.resets);
+    rates = rates;
+    reset_days = resets_in_dated (resets_over sets s l) sets.applicable fix
+        (record { adjusted = moved; reset_set = range.reset; fixing_set = range.fixing }) s.leg
+        (with_rates d.resets d.rates) dated.resets;
   }

@@ -1,39 +1,42 @@
 -- Periods that are worked out.
 use Rattle.std.proofs.Common.{◌≡◌, ℕ, ◌-◌, ◌<◌, ◌≤◌, ◌==◌, length, slice_index_or, arith, List, [], ◌∷◌, ℤ, ◌<ℤ◌}
-use Rattle.std.proofs.Common.{IfSome, zero, suc}
+use Rattle.std.proofs.Common.{zero, suc}
 use Rattle.std.proofs.lemmas.List.FromFn.{get_or-map-range_with_len, length-map-range_with_len}
 use Rattle.irs_base.proofs.DayListLemmas.{day_at_day}
 use Rattle.irs_base.specs.DayLists.{AreDays}
 use Rattle.irs_base.specs.Listed.{AllAfter, IsRising}
 use Rattle.irs_terms.specs.declared.results.Reset.{Reset}
-use Rattle.irs_terms.specs.Lawful.{IsLawfulValues, IsLawfulLeg, IsNotional, IsRate}
+use Rattle.irs_terms.specs.Lawful.{IsLawfulValues, IsLawfulLeg, IsNotional}
 use Rattle.irs_daycount.specs.Fractions.{fraction_of}
 use Rattle.irs_daycount.specs.FractionLaws.{fraction_is, one_denominator}
+use Rattle.irs_observed.specs.declared.overnight_rate.OvernightRate.{OvernightRate}
 use Rattle.irs_schedule.specs.declared.entries.PeriodEntry.{PeriodEntry}
 use Rattle.irs_schedule.specs.declared.kept_terms.KeptTerms.{KeptTerms}
+use Rattle.irs_schedule.specs.KeptTerms.{is_daily}
 use Rattle.irs_schedule.specs.Parts.{Rises, RisesFrom, IsEntry}
-use Rattle.irs_schedule.specs.Periods.{count_of, start_of, observed_of, period_by, periods_by}
+use Rattle.irs_schedule.specs.Periods.{count_of, start_of, period_by, periods_by}
 use Rattle.irs_schedule.specs.RowsOf.{no_period}
+use Rattle.irs_schedule.specs.StreamResets.{HasRates}
 use Rattle.irs_compound.proofs.RateSizes.{value_within}
 use Rattle.irs_base.specs.Members.{Every, day_at}
 use Rattle.irs_base.proofs.EveryLemmas.{every_numbered, numbered_computed}
-use Rattle.irs_compound.proofs.PeriodSizes.{all_in_small, days_small, numerator_small}
-pub use Rattle.irs_resets.proofs.DatedResets.{observed_small}
+use Rattle.irs_compound.proofs.PeriodSizes.{days_small, numerator_small}
+use Rattle.irs_schedule.proofs.EntryRates.{entry_rate_small}
 
 -- periods are one fewer than boundaries
 pub length_periods : (terms : KeptTerms) (unadjusted adjusted : List ℤ) (resets : List Reset)
-    → length (periods_by terms unadjusted adjusted resets) ≡ count_of adjusted
-length_periods terms unadjusted adjusted resets =
-    length-map-range_with_len (period_by terms unadjusted adjusted resets) 1 (count_of adjusted)
+    (rates : List OvernightRate) → length (periods_by terms unadjusted adjusted resets rates) ≡ count_of adjusted
+length_periods terms unadjusted adjusted resets rates =
+    length-map-range_with_len (period_by terms unadjusted adjusted resets rates) 1 (count_of adjusted)
 
 -- at place i - 1 stands period i
-pub entry_at : (terms : KeptTerms) (unadjusted adjusted : List ℤ) (resets : List Reset) (i : ℕ) → 0 < i
-    → i ≤ count_of adjusted
-    → slice_index_or (periods_by terms unadjusted adjusted resets) (i - 1) no_period
-    ≡ period_by terms unadjusted adjusted resets i
-entry_at terms unadjusted adjusted resets i low high =
-    get_or-map-range_with_len (period_by terms unadjusted adjusted resets) 1 (count_of adjusted) (i - 1) i no_period
-    (omega (arith, low, high)) (omega (arith, low))
+pub entry_at : (terms : KeptTerms) (unadjusted adjusted : List ℤ) (resets : List Reset) (rates : List OvernightRate)
+    (i : ℕ) → 0 < i → i ≤ count_of adjusted
+    → slice_index_or (periods_by terms unadjusted adjusted resets rates) (i - 1) no_period
+    ≡ period_by terms unadjusted adjusted resets rates i
+entry_at terms unadjusted adjusted resets rates i low high =
+    get_or-map-range_with_len (period_by terms unadjusted adjusted resets rates) 1 (count_of adjusted) (i - 1) i
+    no_period (omega (arith, low, high)) (omega (arith, low))
 
 -- days that rise, each against the one before it
 rises_after : (d : ℤ) (xs : List ℤ) → AllAfter d xs → IsRising xs → RisesFrom d xs
@@ -63,13 +66,15 @@ in_order adjusted i rises low high = next_day adjusted i rises low (omega (arith
 
 -- periods that are worked out lie within their limits
 pub entries_within : (terms : KeptTerms) (unadjusted adjusted : List ℤ) (resets : List Reset)
-    → IsLawfulValues IsNotional terms.notional → IsLawfulLeg terms.leg
-    → Every (λ (r : Reset). IfSome r.observed IsRate) resets → AreDays adjusted → Rises adjusted
-    → Every (IsEntry terms.day_count) (periods_by terms unadjusted adjusted resets)
-entries_within terms unadjusted adjusted resets notional leg observed days rises =
-    let Q : ℕ → PeriodEntry → Type 0 = λ _. IsEntry terms.day_count in
-    every_numbered Q (IsEntry terms.day_count) 1 (periods_by terms unadjusted adjusted resets) (λ i e h. h)
-    (numbered_computed Q (period_by terms unadjusted adjusted resets) 1 (count_of adjusted) (λ i low high.
+    (rates : List OvernightRate) → IsLawfulValues IsNotional terms.notional → IsLawfulLeg terms.leg
+    → HasRates terms.leg (count_of adjusted) resets rates → AreDays adjusted → Rises adjusted
+    → Every (IsEntry (is_daily terms.leg) terms.day_count) (periods_by terms unadjusted adjusted resets rates)
+entries_within terms unadjusted adjusted resets rates notional leg has days rises =
+    let daily = is_daily terms.leg in
+    let Q : ℕ → PeriodEntry → Type 0 = λ _. IsEntry daily terms.day_count in
+    every_numbered Q (IsEntry daily terms.day_count) 1 (periods_by terms unadjusted adjusted resets rates)
+    (λ i e h. h)
+    (numbered_computed Q (period_by terms unadjusted adjusted resets rates) 1 (count_of adjusted) (λ i low high.
     let code = terms.day_count in
     let a = start_of adjusted i in
     let b = day_at adjusted i in
@@ -82,6 +87,6 @@ entries_within terms unadjusted adjusted resets notional leg observed days rises
       notional = value_within IsNotional terms.notional (start_of unadjusted i) notional;
       numerator = numerator_small a b last from to order code;
       denominator = one_denominator code a b last (fraction_of code a b last) (fraction_is code a b last order);
-      rate = all_in_small terms.leg (start_of unadjusted i) (observed_of resets i) leg
-          (observed_small resets (i - 1) observed);
+      rate = entry_rate_small terms.leg (count_of adjusted) resets rates has (i - 1) (start_of unadjusted i) leg
+          (omega (arith, low, high));
     }))

@@ -18,8 +18,8 @@ use Rattle.irs_compound.specs.Amounts.{IsFraction, AmountOf}
 use Rattle.irs_compound.specs.InForce.{value_in_force}
 use Rattle.irs_compound.specs.InForceLaws.{in_force_is}
 use Rattle.irs_compound.specs.PartsLaws.{AllFractions}
-use Rattle.irs_compound.specs.PeriodRates.{rates_by}
-use Rattle.irs_compound.specs.RateLaws.{rates_by_are}
+use Rattle.irs_compound.specs.OvernightLaws.{rates_in_are}
+use Rattle.irs_compound.specs.OvernightRates.{rates_in}
 use Rattle.irs_compound.specs.declared.periods.PeriodTerm.{PeriodTerm}
 use Rattle.irs_compound.proofs.FractionFits.{fraction_is_fit}
 use Rattle.irs_payments.proofs.PlaceLemmas.{rises_at}
@@ -27,12 +27,14 @@ use Rattle.irs_schedule.specs.KeptTerms.{kept_of}
 use Rattle.irs_schedule.specs.Periods.{count_of, observed_of, period_by, periods_by}
 use Rattle.irs_schedule.specs.PeriodTerms.{IsPeriodTerm, IsPeriodEntry, AreTerms, IsAmountBy, dec_of}
 use Rattle.irs_schedule.specs.StreamDates.{StreamDates}
+use Rattle.irs_schedule.specs.StreamResets.{rate_in}
+use Rattle.irs_schedule.proofs.RateLemmas.{AreAbove}
 
 -- the terms of period i as a function
 abbrev pub term_by : StreamDates → ℕ → PeriodTerm
 term_by d i = record {
   notional = value_in_force d.stream.notional (day_at d.unadjusted (i - 1));
-  rates = rates_by d.stream.leg (day_at d.unadjusted (i - 1)) (observed_of d.resets i);
+  rates = rates_in d.stream.leg (day_at d.unadjusted (i - 1)) (observed_of d.resets i) (rate_in d.rates i);
   frac = fraction_of d.stream.day_count (day_at d.adjusted (i - 1)) (day_at d.adjusted i) (i == count_of d.adjusted);
 }
 
@@ -48,25 +50,26 @@ amount_by s ts places None e h = subst (λ (k : ℕ). AmountOf s.compounding ts 
 amount_by s ts places (Some m) e h = (e, subst (λ (k : ℕ). AmountOf s.compounding ts k (Some m)) e h)
 
 module _ (d : StreamDates) (rising : IsRising d.adjusted) where
-  term_stands : (i : ℕ) → 1 ≤ i → i < length d.adjusted → IsPeriodTerm d i (term_by d i)
-  term_stands i low high =
+  term_stands : AreAbove d.rates → (i : ℕ) → 1 ≤ i → i < length d.adjusted → IsPeriodTerm d i (term_by d i)
+  term_stands above i low high =
       let a = d.adjusted in
       record {
         notional = in_force_is d.stream.notional (day_at d.unadjusted (i - 1));
-        rates = rates_by_are d.stream.leg (day_at d.unadjusted (i - 1)) (observed_of d.resets i);
+        rates =
+            rates_in_are d.stream.leg (day_at d.unadjusted (i - 1)) (observed_of d.resets i) (rate_in d.rates i) (above i);
         frac = fraction_is d.stream.day_count (day_at a (i - 1)) (day_at a i) (i == length a - 1)
             (rises_at a (i - 1) i rising (omega (arith, low)) high);
       }
 
   -- what a part works out for its periods stands in the relations
-  pub entries_stand : 1 ≤ length d.adjusted
-      → EachNumbered (IsPeriodEntry d) 1 (periods_by (kept_of d.stream) d.unadjusted d.adjusted d.resets)
-  entries_stand some =
+  pub entries_stand : AreAbove d.rates → 1 ≤ length d.adjusted
+      → EachNumbered (IsPeriodEntry d) 1 (periods_by (kept_of d.stream) d.unadjusted d.adjusted d.resets d.rates)
+  entries_stand above some =
       let a = d.adjusted in
-      numbered_computed (IsPeriodEntry d) (period_by (kept_of d.stream) d.unadjusted a d.resets) 1 (count_of a)
+      numbered_computed (IsPeriodEntry d) (period_by (kept_of d.stream) d.unadjusted a d.resets d.rates) 1 (count_of a)
       (λ i low high. record {
         term = term_by d i;
-        is_term = term_stands i low (omega (arith, high, some));
+        is_term = term_stands above i low (omega (arith, high, some));
         days = days_is d.stream.day_count (day_at a (i - 1)) (day_at a i) (i == length a - 1);
         frac = refl;
         notional = refl;
@@ -88,7 +91,7 @@ module _ (d : StreamDates) (rising : IsRising d.adjusted) where
         all_numbered (IsPeriodTerm d) (λ (t : PeriodTerm). IsFraction t.frac) n ts
         (λ i t from to h. term_fits i t (omega (arith, low, from)) (omega (arith, high, to)) h)
 
-    module _ (last : ℕ) (high : last < length d.adjusted) where
+    module _ (above : AreAbove d.rates) (last : ℕ) (high : last < length d.adjusted) where
       -- the periods of a payment have their terms
       pub terms_there : (p : Payment) → LieAmong 1 last p.first_period p.last_period → AreTerms d p (terms_by d p)
       terms_there p lies = record {
@@ -99,5 +102,5 @@ module _ (d : StreamDates) (rising : IsRising d.adjusted) where
         );
         each = numbered_computed (IsPeriodTerm d) (term_by d) p.first_period (p.last_period + 1 - p.first_period)
             (λ i from to.
-            term_stands i (omega (arith, lies.from, from)) (omega (arith, lies.order, lies.to, high, to)));
+            term_stands above i (omega (arith, lies.from, from)) (omega (arith, lies.order, lies.to, high, to)));
       }

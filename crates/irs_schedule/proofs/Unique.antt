@@ -16,7 +16,7 @@ use Rattle.irs_daycount.specs.FractionLaws.{one_fraction, one_days}
 use Rattle.irs_compound.specs.AmountLaws.{one_amount as one_units}
 use Rattle.irs_compound.specs.InForceLaws.{one_in_force}
 use Rattle.irs_compound.specs.PartsLaws.{AllFractions}
-use Rattle.irs_compound.specs.RateLaws.{one_leg_rates}
+use Rattle.irs_compound.specs.OvernightLaws.{one_rates_in}
 use Rattle.irs_compound.specs.declared.periods.PeriodTerm.{PeriodTerm}
 use Rattle.irs_schedule.specs.declared.entries.PaymentEntry.{PaymentEntry}
 use Rattle.irs_schedule.specs.declared.entries.PeriodEntry.{PeriodEntry}
@@ -24,6 +24,8 @@ use Rattle.irs_schedule.specs.Periods.{observed_of}
 use Rattle.irs_schedule.specs.PeriodTerms.{IsPeriodTerm, IsPeriodEntry, AreTerms, IsAmountBy, IsAmountFor, dec_of}
 use Rattle.irs_schedule.specs.Schedules.{IsPaymentEntry, payment_of}
 use Rattle.irs_schedule.specs.StreamDates.{StreamDates}
+use Rattle.irs_schedule.specs.StreamResets.{rate_in}
+use Rattle.irs_schedule.proofs.RateLemmas.{AreAbove}
 use Rattle.irs_schedule.proofs.TermsThere.{terms_fit}
 
 -- the same periods pay one amount
@@ -40,14 +42,15 @@ one_by_terms s ts (Some v) (Some w) fits h k =
     let units : v.units ≡ w.units = cc in
     ap₂ (λ (p : ℕ) (u : ℤ). Some (dec_of p u)) (h.0 ∙ sym k.0) units
 
-module _ (d : StreamDates) (rises : AllStepsRise d.stream) where
+module _ (d : StreamDates) (rises : AllStepsRise d.stream) (above : AreAbove d.rates) where
   one_term : (i : ℕ) (t u : PeriodTerm) → IsPeriodTerm d i t → IsPeriodTerm d i u → t ≡ u
   one_term i t u h k =
       let s = d.stream in
       let start = day_at d.unadjusted (i - 1) in
       let a = d.adjusted in
       let notional = one_in_force s.notional start t.notional u.notional rises.0 h.notional k.notional in
-      let rates = one_leg_rates s.leg start (observed_of d.resets i) t.rates u.rates rises.1 h.rates k.rates in
+      let rates =
+      one_rates_in s.leg start (observed_of d.resets i) (rate_in d.rates i) t.rates u.rates rises.1 (above i) h.rates k.rates in
       let frac =
       one_fraction s.day_count (day_at a (i - 1)) (day_at a i) (i == length a - 1) t.frac u.frac h.frac k.frac in
       λ j. record { notional = notional j; rates = rates j; frac = frac j }

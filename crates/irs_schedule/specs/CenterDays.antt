@@ -9,6 +9,7 @@ use Rattle.irs_schedule.specs.DaySets.{days_of_names}
 use Rattle.irs_terms.specs.FirstDay.{first_date_of}
 use Rattle.irs_terms.specs.Needs.{names_by, names_with, reset_names, fixing_names}
 use Rattle.irs_rules.specs.Centers.{AreFound}
+use Rattle.irs_rules.specs.Parameters.{applicable_names}
 
 -- the names of the centres of an element, or none where it needs no days, and the calendars
 pub record NamedCenters : Type 0 where
@@ -36,6 +37,7 @@ pub record HasStream (table : FoundCenters) (s : Stream) : Type 0 where
   pub payment : Contains table.lists (names_with s.pay.offset s.pay.adj)
   pub reset : Contains table.lists (reset_names s.reset)
   pub fixing : Contains table.lists (fixing_names s.reset)
+  pub applicable : Contains table.lists (applicable_names s.leg)
 
 -- the table has the names of each element of the swap, over these calendars
 pub record HasSwap (cal : List Section) (swap : Swap) (table : FoundCenters) : Type 0 where

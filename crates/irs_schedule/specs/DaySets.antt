@@ -8,6 +8,7 @@ use Rattle.irs_calendar.specs.Selected.{day_set_of}
 use Rattle.irs_periods.specs.Adjusting.{BoundaryDays}
 use Rattle.irs_terms.specs.FirstDay.{first_date_of}
 use Rattle.irs_terms.specs.Needs.{names_by, names_with, reset_names, fixing_names}
+use Rattle.irs_rules.specs.Parameters.{applicable_names}
 
 -- the whole range of dates, and every day of it good
 abbrev pub whole_range : DaySet
@@ -39,12 +40,17 @@ reset_days cal s = days_of_names cal (reset_names s.reset)
 abbrev pub fixing_days : List Section → Stream → DaySet
 fixing_days cal s = days_of_names cal (fixing_names s.reset)
 
+-- its applicable business days, on which daily rates are observed; the whole range without calculation parameters
+abbrev pub applicable_days : List Section → Stream → DaySet
+applicable_days cal s = days_of_names cal (applicable_names s.leg)
+
 -- the good days of each kind of date of a stream
 pub record StreamSets : Type 0 where
   pub boundaries : BoundaryDays
   pub payment : DaySet
   pub reset : DaySet
   pub fixing : DaySet
+  pub applicable : DaySet
 
 -- those of the centres that its elements name
 abbrev pub stream_sets : List Section → Stream → StreamSets
@@ -53,6 +59,6 @@ stream_sets cal s =
       boundaries = boundary_days cal s;
       payment = payment_days cal s;
       reset = reset_days cal s;
-      fixing =
-          fixing_days cal s;
+      fixing = fixing_days cal s;
+      applicable = applicable_days cal s;
     }

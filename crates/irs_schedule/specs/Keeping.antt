@@ -1,23 +1,26 @@
 -- What a part is made of, and what it keeps: the bounds of what is seen, and those of the values that its periods
 -- are worked out of.
-use Rattle.std.specs.Prelude.{◌≡◌, ◌+◌, ◌-◌, ◌≤◌, List, length, IfSome, ℤ, if◌then◌else◌}
+use Rattle.std.specs.Prelude.{◌≡◌, ◌+◌, ◌-◌, ◌≤◌, List, length, ℤ, if◌then◌else◌}
 use Rattle.irs_base.specs.Limits.{most_exchanges, most_periods}
 use Rattle.irs_base.specs.Members.{Every}
-use Rattle.irs_terms.specs.Lawful.{IsLawfulCurrency, IsLawfulValues, IsLawfulLeg, IsNotional, IsRate}
+use Rattle.irs_terms.specs.Lawful.{IsLawfulCurrency, IsLawfulValues, IsLawfulLeg, IsNotional}
 use Rattle.irs_terms.specs.StepDates.{StepsRise, LegStepsRise}
 use Rattle.irs_terms.specs.declared.results.Exchange.{Exchange}
 use Rattle.irs_terms.specs.declared.results.Reset.{Reset}
+use Rattle.irs_observed.specs.declared.overnight_rate.OvernightRate.{OvernightRate}
 use Rattle.irs_schedule.specs.declared.entries.PaymentEntry.{PaymentEntry}
 use Rattle.irs_schedule.specs.declared.kept_terms.KeptTerms.{KeptTerms}
 use Rattle.irs_schedule.specs.declared.streams.StreamPart.TheInside.{Inside}
 use Rattle.irs_schedule.specs.KeptTerms.{is_floating}
 use Rattle.irs_schedule.specs.Parts.{Covers, HasAmount, IsAmount, IsDatedExchange, IsDatedPayment, IsDatedReset}
 use Rattle.irs_schedule.specs.Parts.{KeepsBounds, Rises}
+use Rattle.irs_schedule.specs.StreamResets.{HasRates}
 use Rattle.irs_schedule.specs.Views.{part_of}
 
--- boundaries, exchanges, payments and resets that make a part by lawful terms, whose schedules of steps rise
+-- boundaries, exchanges, payments, resets and observed rates that make a part by lawful terms, whose schedules of
+-- steps rise
 pub record MakePart (terms : KeptTerms) (unadjusted adjusted : List ℤ) (exchanges : List Exchange)
-    (payments : List PaymentEntry) (resets : List Reset) : Type 0 where
+    (payments : List PaymentEntry) (resets : List Reset) (overnight : List OvernightRate) : Type 0 where
   pub currency : IsLawfulCurrency terms.currency
   pub notional : IsLawfulValues IsNotional terms.notional
   pub leg : IsLawfulLeg terms.leg
@@ -35,7 +38,7 @@ pub record MakePart (terms : KeptTerms) (unadjusted adjusted : List ℤ) (exchan
   pub paid : Every (HasAmount terms.currency) payments
   pub payment_days : Every IsDatedPayment payments
   pub resets_count : length resets ≡ (if is_floating terms.leg then length unadjusted - 1 else 0)
-  pub observed : Every (λ r. IfSome r.observed IsRate) resets
+  pub rates : HasRates terms.leg (length adjusted - 1) resets overnight
   pub reset_days : Every IsDatedReset resets
 
 -- within the bounds, of lawful terms, and the days of each schedule of steps rise
@@ -45,3 +48,4 @@ pub record IsKept (s : Inside) : Type 0 where
   pub leg : IsLawfulLeg s.terms.leg
   pub notional_rises : StepsRise s.terms.notional.steps
   pub leg_rises : LegStepsRise s.terms.leg
+  pub rates : HasRates s.terms.leg (length s.adjusted - 1) s.resets s.rates

@@ -11,6 +11,7 @@ pub mod Walks
 pub mod AllWalks
 pub mod DaySets
 pub mod Layouts
+pub mod StreamResets
 pub mod StreamDates
 pub mod PeriodTerms
 pub mod Schedules

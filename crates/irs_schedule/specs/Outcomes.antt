@@ -15,16 +15,16 @@ use Rattle.irs_terms.specs.declared.stream_list.Swap.{Swap}
 use Rattle.irs_calendar.specs.declared.sections.Section.{Section}
 use Rattle.irs_periods.specs.Outcomes.{adjusted_of, boundaries_of, regular_span_of}
 use Rattle.irs_payments.specs.Outcomes.{payments_of, principals_of, steps_of}
-use Rattle.irs_resets.specs.Outcomes.{resets_of}
 use Rattle.irs_resets.specs.Rates.{RateTable}
 use Rattle.irs_resets.specs.Resets.{ResetSource, source_of}
 use Rattle.irs_compound.specs.Outcomes.{payment_amount_of}
 use Rattle.irs_schedule.specs.DaySets.{StreamSets, stream_sets}
-use Rattle.irs_schedule.specs.KeptTerms.{is_floating, kept_of}
+use Rattle.irs_schedule.specs.KeptTerms.{is_daily, is_floating, kept_of}
 use Rattle.irs_schedule.specs.Parts.{Part}
 use Rattle.irs_schedule.specs.PeriodTerms.{AreTerms, dec_of}
 use Rattle.irs_schedule.specs.Periods.{periods_by}
 use Rattle.irs_schedule.specs.StreamDates.{StreamDates, layout_dates}
+use Rattle.irs_schedule.specs.StreamResets.{resets_in, with_factors}
 use Rattle.irs_schedule.specs.declared.entries.PaymentEntry.{PaymentEntry}
 use Rattle.irs_schedule.specs.declared.layouts.Layout.{Layout}
 use Rattle.irs_schedule.specs.declared.stream.StreamEvents.{StreamEvents}
@@ -48,14 +48,14 @@ payment_dates_of sets s l = do
 abbrev pub resets_over : StreamSets → Stream → Layout → ResetSource
 resets_over sets s l = source_of s l.span l.adjusted sets.reset sets.fixing
 
--- its payments, principal exchanges and resets; or the first broken rule, of payments, steps, exchanges (K33) and
--- resets (K37, K33, K38) in this order
+-- its payments, principal exchanges, resets and observed rates; or the first broken rule, of payments, steps,
+-- exchanges (K33) and resets (K37, K48, K33, K38) in this order
 abbrev pub events_of : StreamSets → RateTable → Stream → Layout → Spec StreamEvents Fault
 events_of sets fix s l = do
   payments ← payment_dates_of sets s l
   exchanges ← principals_of s sets.payment
-  resets ← resets_of (resets_over sets s l) fix
-  answer (record { payments = payments; exchanges = exchanges; resets = resets })
+  observed ← resets_in s.leg (resets_over sets s l) sets.applicable fix
+  answer (record { payments = payments; exchanges = exchanges; resets = observed.resets; rates = observed.rates })
 
 -- K39 at a period
 abbrev pub passed_at : ℕ → Fault
@@ -89,11 +89,12 @@ part_over s l events entries = record {
   currency = s.currency;
   day_count = s.day_count;
   floating = is_floating s.leg;
+  daily = is_daily s.leg;
   unadjusted = l.unadjusted;
   adjusted = l.adjusted;
   exchanges = events.exchanges;
   payments = entries;
-  periods = periods_by (kept_of s) l.unadjusted l.adjusted events.resets;
+  periods = periods_by (kept_of s) l.unadjusted l.adjusted events.resets events.rates;
   resets = events.resets;
 }
 
@@ -103,7 +104,8 @@ unfoldable pub stream_of : StreamSets → RateTable → Stream → Spec Part Fau
 stream_of sets fix s = do
   layout ← layout_of sets s
   events ← events_of sets fix s layout
-  entries ← entries_of (layout_dates s layout events.resets) events.payments
+  entries ← with_factors passed_at events.rates
+      (entries_of (layout_dates s layout events.resets events.rates) events.payments)
   answer (part_over s layout events entries)
 
 -- the schedule of a swap; or the first rule that its streams break, one after another, with the stream's number

@@ -5,23 +5,27 @@ use Rattle.irs_base.specs.DayLists.{AreDays}
 use Rattle.irs_base.specs.Days.{IsDay}
 use Rattle.irs_base.specs.declared.line.Dec.{Dec}
 use Rattle.irs_terms.specs.Currencies.{decimals_of}
-use Rattle.irs_terms.specs.Lawful.{IsLawfulCurrency, IsNotional, IsRate}
+use Rattle.irs_terms.specs.Lawful.{IsLawfulCurrency, IsNotional}
 use Rattle.irs_terms.specs.declared.currency.Currency.{Currency}
 use Rattle.irs_terms.specs.declared.codes.DayCountCode.{DayCountCode}
 use Rattle.irs_terms.specs.declared.results.Exchange.{Exchange}
 use Rattle.irs_terms.specs.declared.results.Reset.{Reset}
 use Rattle.irs_daycount.specs.Fractions.{denominator_of}
 use Rattle.irs_compound.specs.PeriodRates.{most_rounded_rate}
+use Rattle.irs_observed.specs.ObservedRates.{most_period_rate}
 use Rattle.irs_schedule.specs.declared.entries.PaymentEntry.{PaymentEntry}
 use Rattle.irs_schedule.specs.declared.entries.PeriodEntry.{PeriodEntry}
 use Rattle.irs_base.specs.Limits.{most_exchanges, most_numerator, most_periods, most_streams}
 use Rattle.irs_base.specs.Members.{CoverNumbers, Every}
+use Rattle.irs_schedule.specs.StreamResets.{HasObserved}
 
--- one stream: period i goes from boundary i - 1 to boundary i, reset i is that of period i
+-- one stream: period i goes from boundary i - 1 to boundary i, reset i is that of period i. Its rates are worked out of
+-- daily rates where it has calculation parameters
 pub record Part : Type 0 where
   pub currency : Currency
   pub day_count : DayCountCode
   pub floating : Bool
+  pub daily : Bool
   pub unadjusted : List ℤ
   pub adjusted : List ℤ
   pub exchanges : List Exchange
@@ -78,13 +82,17 @@ pub record HasDays (p : Part) : Type 0 where
   pub payments : Every IsDatedPayment p.payments
   pub resets : Every IsDatedReset p.resets
 
+-- the greatest rate of a period in size, in units of 10^-9: 110, and of daily rates 36,503,660
+abbrev pub most_entry_rate : Bool → ℕ
+most_entry_rate daily = if daily then most_period_rate else most_rounded_rate
+
 -- a period within the limits of days and amounts
-pub record IsEntry (code : DayCountCode) (e : PeriodEntry) : Type 0 where
+pub record IsEntry (daily : Bool) (code : DayCountCode) (e : PeriodEntry) : Type 0 where
   pub days : (pos 0 ≤ℤ e.days) × (e.days ≤ℤ pos most_numerator)
   pub notional : IsNotional e.notional
   pub numerator : (pos 0 ≤ℤ e.frac.num) × (e.frac.num ≤ℤ pos most_numerator)
   pub denominator : e.frac.den ≡ denominator_of code
-  pub rate : IfSome e.rate (λ r. unsigned_abs r ≤ most_rounded_rate)
+  pub rate : IfSome e.rate (λ r. unsigned_abs r ≤ most_entry_rate daily)
 
 -- what every part keeps
 pub record KeepsBounds (p : Part) : Type 0 where
@@ -100,9 +108,9 @@ pub record KeepsBounds (p : Part) : Type 0 where
   pub exchanges : length p.exchanges ≤ most_exchanges
   pub exchanged : Every (λ x. IsAmount p.currency x.amount) p.exchanges
   pub paid : Every (HasAmount p.currency) p.payments
-  pub entries : Every (IsEntry p.day_count) p.periods
+  pub entries : Every (IsEntry p.daily p.day_count) p.periods
   pub resets : length p.resets ≡ (if p.floating then length p.periods else 0)
-  pub observed : Every (λ r. IfSome r.observed IsRate) p.resets
+  pub observed : Every (HasObserved p.daily) p.resets
 
 -- what every schedule keeps
 pub record IsWithin (parts : List Part) : Type 0 where

@@ -1,6 +1,6 @@
 -- What is worked out for the calculation periods of a stream, and the amounts of its payments.
 -- Periods are counted from 1. d is what they are worked out of.
-use Rattle.std.specs.Prelude.{◌≡◌, ℕ, ◌+◌, ◌-◌, ◌==◌, ◌<◌, ◌≤◌, All, List, length, Option, Some, None, option_map}
+use Rattle.std.specs.Prelude.{◌≡◌, ℕ, ◌+◌, ◌-◌, ◌==◌, ◌<◌, ◌≤◌, List, length, Option, Some, None, option_map}
 use Rattle.std.specs.Prelude.{ℤ}
 use Rattle.irs_base.specs.DayLists.{AreDays}
 use Rattle.irs_base.specs.Listed.{IsRising}
@@ -10,21 +10,21 @@ use Rattle.irs_terms.specs.declared.results.Payment.{Payment}
 use Rattle.irs_terms.specs.declared.stream.Stream.{Stream}
 use Rattle.irs_daycount.specs.Fractions.{Days, Fraction}
 use Rattle.irs_compound.specs.InForce.{InForce}
-use Rattle.irs_compound.specs.PeriodRates.{AreRates}
+use Rattle.irs_compound.specs.OvernightRates.{AreRatesIn}
 use Rattle.irs_compound.specs.Amounts.{AmountOf}
 use Rattle.irs_compound.specs.declared.periods.PeriodTerm.{PeriodTerm}
 use Rattle.irs_base.specs.Limits.{most_periods}
-use Rattle.irs_resets.specs.Resets.{HasSmallRate}
 use Rattle.irs_schedule.specs.declared.amounts.PeriodTable.{PeriodTable}
 use Rattle.irs_schedule.specs.declared.entries.PeriodEntry.{PeriodEntry}
 use Rattle.irs_schedule.specs.Periods.{observed_of}
 use Rattle.irs_schedule.specs.StreamDates.{StreamDates}
+use Rattle.irs_schedule.specs.StreamResets.{HasRates, rate_in}
 use Rattle.irs_base.specs.Members.{EachNumbered, day_at}
 
 -- notional, rates and fraction of period i; the last period is the last of the stream
 pub record IsPeriodTerm (d : StreamDates) (i : ℕ) (t : PeriodTerm) : Type 0 where
   pub notional : InForce d.stream.notional (day_at d.unadjusted (i - 1)) t.notional
-  pub rates : AreRates d.stream.leg (day_at d.unadjusted (i - 1)) (observed_of d.resets i) t.rates
+  pub rates : AreRatesIn d.stream.leg (day_at d.unadjusted (i - 1)) (observed_of d.resets i) (rate_in d.rates i) t.rates
   pub frac : Fraction d.stream.day_count (day_at d.adjusted (i - 1)) (day_at d.adjusted i)
       (i == length d.adjusted - 1) t.frac
 
@@ -61,13 +61,14 @@ pub record IsAmountFor (d : StreamDates) (p : Payment) (amount : Option Dec) : T
   pub are_terms : AreTerms d p terms
   pub is_amount : IsAmountBy d.stream terms amount
 
--- the adjusted boundaries are days that rise, one for each unadjusted boundary, and observed rates are small
+-- the adjusted boundaries are days that rise, one for each unadjusted boundary, and rates keep their bounds
 pub record IsTable (d : StreamDates) : Type 0 where
+  pub some : 1 ≤ length d.adjusted
   pub few : length d.unadjusted ≤ most_periods + 1
   pub same_length : length d.adjusted ≡ length d.unadjusted
   pub rises : IsRising d.adjusted
   pub days : AreDays d.adjusted
-  pub small : All HasSmallRate d.resets
+  pub rates : HasRates d.stream.leg (length d.adjusted - 1) d.resets d.rates
 
 -- the payment's periods are periods of the table, one at least
 pub record HasPeriods (table : PeriodTable) (p : Payment) : Type 0 where

@@ -4,7 +4,8 @@ use Rattle.std.specs.List.{range_with_len}
 use Rattle.irs_terms.specs.declared.results.Reset.{Reset}
 use Rattle.irs_daycount.specs.Fractions.{days_of, fraction_of}
 use Rattle.irs_compound.specs.InForce.{value_in_force}
-use Rattle.irs_compound.specs.PeriodRates.{rates_by}
+use Rattle.irs_compound.specs.OvernightRates.{rates_in}
+use Rattle.irs_observed.specs.declared.overnight_rate.OvernightRate.{OvernightRate}
 use Rattle.irs_schedule.specs.declared.entries.PeriodEntry.{PeriodEntry}
 use Rattle.irs_schedule.specs.declared.kept_terms.KeptTerms.{KeptTerms}
 use Rattle.irs_base.specs.Members.{day_at}
@@ -23,22 +24,22 @@ observed_of resets i = option_and_then (λ r. r.observed) (slice_get resets (i -
 
 -- a period from its adjusted start to its adjusted end, by whether it is the last one, its unadjusted start and its
 -- observed rate
-abbrev pub entry_by : KeptTerms → ℤ → ℤ → Bool → ℤ → Option ℤ → PeriodEntry
-entry_by terms from to last start observed = record {
+abbrev pub entry_by : KeptTerms → ℤ → ℤ → Bool → ℤ → Option ℤ → Option OvernightRate → PeriodEntry
+entry_by terms from to last start observed overnight = record {
   days = days_of terms.day_count from to last;
   frac = fraction_of terms.day_count from to last;
   notional = value_in_force terms.notional start;
-  rate = option_map (λ r. r.all_in) (rates_by terms.leg start observed);
+  rate = option_map (λ r. r.all_in) (rates_in terms.leg start observed overnight);
 }
 
 -- period i runs from adjusted boundary i - 1 to adjusted boundary i; notional and rate are those on its unadjusted
 -- start
-abbrev pub period_by : KeptTerms → List ℤ → List ℤ → List Reset → ℕ → PeriodEntry
-period_by terms unadjusted adjusted resets i =
+abbrev pub period_by : KeptTerms → List ℤ → List ℤ → List Reset → List OvernightRate → ℕ → PeriodEntry
+period_by terms unadjusted adjusted resets rates i =
     entry_by terms (start_of adjusted i) (day_at adjusted i) (i == count_of adjusted) (start_of unadjusted i)
-    (observed_of resets i)
+    (observed_of resets i) (slice_get rates (i - 1))
 
 -- the periods between adjusted boundaries
-abbrev pub periods_by : KeptTerms → List ℤ → List ℤ → List Reset → List PeriodEntry
-periods_by terms unadjusted adjusted resets =
-    map (period_by terms unadjusted adjusted resets) (range_with_len 1 (count_of adjusted))
+abbrev pub periods_by : KeptTerms → List ℤ → List ℤ → List Reset → List OvernightRate → List PeriodEntry
+periods_by terms unadjusted adjusted resets rates =
+    map (period_by terms unadjusted adjusted resets rates) (range_with_len 1 (count_of adjusted))

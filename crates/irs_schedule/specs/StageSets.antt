@@ -16,4 +16,5 @@ sets_of days = record {
   payment = days_of_centers days.payment.now;
   reset = days_of_centers days.reset.now;
   fixing = days_of_centers days.fixing.now;
+  applicable = days_of_centers days.applicable.now;
 }

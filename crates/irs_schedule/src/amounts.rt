@@ -1,28 +1,31 @@
 //! The amounts of a stream's payments: what their calculation periods pay by the stream's compounding,
 //! rounded to the decimals of its currency (2006 ISDA Definitions, articles 5, 6 and 8).
-ghost use Rattle.std.specs.Prelude.{◌≡◌, ◌-◌, ◌<◌, ◌≤◌, length, IfOk, option_map};
+ghost use Rattle.std.specs.Prelude.{◌≡◌, ◌↔◌, ◌-◌, ◌<◌, ◌≤◌, ℕ, length, IfNone, IfOk, IfSome, IsTrue, option_map};
 ghost use Rattle.irs_base.specs.Members.{Every};
 ghost use Rattle.irs_base.specs.Outcomes.{Meets, MeetsExactly};
 ghost use Rattle.irs_terms.specs.Lawful.{IsLawfulStream};
 ghost use Rattle.irs_terms.specs.StepDates.{AllStepsRise};
+ghost use Rattle.irs_observed.specs.declared.overnight_rate.OvernightRate.TheVariants.{OutOfRange as PassesLimit};
 ghost use Rattle.irs_payments.specs.Payments.{Covers};
 ghost use Rattle.irs_schedule.specs.Outcomes.{entries_of, entry_of, passed_at, paying};
 ghost use Rattle.irs_schedule.specs.Parts.{HasAmount};
 ghost use Rattle.irs_schedule.specs.PeriodTerms.{AreTerms, HasPeriods, IsPeriodTerm, IsTable, dec_of};
 ghost use Rattle.irs_schedule.specs.StreamDates.{table_dates};
+ghost use Rattle.irs_schedule.specs.StreamResets.{FactorPassesAt, IsFirstPassing, first_refusal, with_factors};
 
 use crate::PaymentEntry;
 use crate::entries::PaymentEntries;
-use crate::periods::{day_at, observed_at};
+use crate::periods::{day_at, observed_at, overnight_at};
 use irs_base::{Day, Dec, Elem, Fault, Memory, Rule, Stopped};
-use irs_compound::{PeriodTerm, in_force_of_rising, payment_amount, rates_of_rising};
+use irs_compound::{PeriodTerm, in_force_of_rising, payment_amount, rates_of_period};
 use irs_daycount::fraction_by;
+use irs_observed::{OvernightRate, earlier_fault};
 use irs_terms::{Payment, Reset, Stream};
 use std::alloc::Global;
 use std::slice;
 
-/// What the periods of a stream are worked out of: its unadjusted and adjusted boundaries, and its
-/// resets.
+/// What the periods of a stream are worked out of: its unadjusted and adjusted boundaries, its resets,
+/// and with calculation parameters its observed rates.
 #[derive(Clone, Copy)]
 pub(crate) struct PeriodTable<'a> {
     /// The boundaries before adjustment, one more than there are periods.
@@ -31,13 +34,69 @@ pub(crate) struct PeriodTable<'a> {
     pub(crate) adjusted: &'a [Day],
     /// The reset of each period; none where the rate is fixed.
     pub(crate) resets: &'a [Reset],
+    /// The observed rate of each period, not rounded; none without calculation parameters.
+    pub(crate) rates: &'a [OvernightRate],
 }
 
 /// The payments with their amounts. An amount is absent where the observed rate of a period is.
 ///
-/// `Broken` is K39 at the first period at which a rate or an amount leaves its range, in a payment
-/// whose rates are all there; the index is the period's number. `Memory` comes where memory ran out.
-pub(crate) fn paid(
+/// `Broken` is K39 at the first period at which a compounded factor passes its limit, or a rate or an
+/// amount leaves its range in a payment whose rates are all there; the index is the period's number.
+/// `Memory` comes where memory ran out.
+pub(crate) fn paid_within(
+    alloc: Global,
+    s: &Stream,
+    table: &PeriodTable<'_>,
+    payments: &[Payment],
+) -> Result<PaymentEntries, Stopped<Fault>>
+    requires lawful { IsLawfulStream s.now }
+    requires rises { AllStepsRise s.now }
+    requires table { IsTable (table_dates s.now table.now) }
+    requires covers { Covers 1 payments.now (length table.now.unadjusted.now - 1) }
+    ensures meets { let amounts = entries_of (table_dates s.now table.now) payments.now in
+        Meets (with_factors passed_at table.now.rates.now amounts) result }
+    ensures bounds { IfOk result (Every (HasAmount s.now.currency)) }
+{
+    match first_passing(table.rates) {
+        None => paid(alloc, s, table, payments),
+        Some(place) => {
+            let entries = paid(alloc, s, table, payments);
+            Err(first_refusal(&entries, passed_at(place as u32 + 1)))
+        }
+    }
+}
+
+// The place, from 0, of the first period in which a compounded factor passes its limit.
+fn first_passing(rates: &[OvernightRate]) -> Option<usize>
+    ensures some { IfSome result (IsFirstPassing rates.now) }
+    ensures none { IfNone result ((k : ℕ) → FactorPassesAt rates.now k → ⊥) }
+{
+    rates.iter().position(is_out_of_range)
+}
+
+// Whether each daily rate is there, and a compounded factor passes its limit.
+fn is_out_of_range(rate: &OvernightRate) -> bool
+    ensures { IsTrue result ↔ rate.now ≡ PassesLimit }
+{
+    match rate {
+        OvernightRate::OutOfRange => true,
+        OvernightRate::Stated(_) | OvernightRate::Known(_) | OvernightRate::Absent => false,
+    }
+}
+
+// K39 of a factor, or that of the amounts where it is reported before.
+fn first_refusal(entries: &Result<PaymentEntries, Stopped<Fault>>, factor: Fault) -> Stopped<Fault>
+    ensures { result ≡ first_refusal entries.now factor }
+{
+    match entries {
+        Ok(_) => Stopped::Broken(factor),
+        Err(Stopped::Broken(other)) => Stopped::Broken(earlier_fault(*other, factor)),
+        Err(Stopped::Memory) => Stopped::Memory,
+    }
+}
+
+// The payments with their amounts, whether or not a compounded factor passes its limit.
+fn paid(
     alloc: Global,
     s: &Stream,
     table: &PeriodTable<'_>,
@@ -167,7 +226,12 @@ fn period_term(s: &Stream, table: &PeriodTable<'_>, number: usize) -> PeriodTerm
     let start = day_at(table.unadjusted, number - 1);
     PeriodTerm {
         notional: in_force_of_rising(&s.notional, start),
-        rates: rates_of_rising(&s.leg, start, observed_at(table.resets, number - 1)),
+        rates: rates_of_period(
+            &s.leg,
+            start,
+            observed_at(table.resets, number - 1),
+            &overnight_at(table.rates, number - 1),
+        ),
         frac: fraction_by(
             s.day_count,
             day_at(table.adjusted, number - 1),

@@ -6,13 +6,14 @@ ghost use Rattle.irs_base.specs.Limits.{most_centers};
 ghost use Rattle.irs_calendar.specs.GoodDays.{SameDays};
 ghost use Rattle.irs_calendar.specs.Runs.{set_of_runs};
 ghost use Rattle.irs_calendar.specs.Selected.{day_set_of, first_missing};
-ghost use Rattle.irs_schedule.specs.DaySets.{days_of_names, reset_days};
+ghost use Rattle.irs_schedule.specs.DaySets.{applicable_days, days_of_names, reset_days};
 ghost use Rattle.irs_rules.specs.TermsKept.{TermsKept};
 ghost use Rattle.irs_terms.specs.Lawful.{IsLawfulStream};
 ghost use Rattle.irs_schedule.specs.CenterDays.{CanFind, centers_named, days_of_centers};
 
 use irs_base::{Day, Memory, Names, Text};
 use irs_calendar::{Calendars, GoodDays, RunSet, SelErr};
+use irs_rules::applicable_names;
 use irs_terms::{Stream, reset_names};
 use std::alloc::Global;
 use std::marker::Model;
@@ -104,6 +105,23 @@ pub fn reset_days<'cal, 'swap>(
     ensures { IfOk result (λ days. days_of_centers days ≡ reset_days cal.now s.now) }
 {
     CenterDays::find(alloc, cal, reset_names(&s.reset))
+}
+
+/// The applicable business days of a stream, on which its daily rates are observed: the good days of
+/// the centres of its `applicableBusinessDays`, whose names all stand in the calendars, or every day of
+/// the range where it has no calculation parameters. It answers `Memory` where memory ran out, and else
+/// these days.
+#[tactic(auto, using(crate::proofs::CenterLemmas::finds_applicable))]
+pub fn applicable_days<'cal, 'swap>(
+    alloc: Global,
+    cal: &'cal Calendars,
+    s: &'swap Stream,
+) -> Result<CenterDays<'cal, 'swap>, Memory>
+    requires lawful { IsLawfulStream s.now }
+    requires kept { TermsKept cal.now s.now }
+    ensures { IfOk result (λ days. days_of_centers days ≡ applicable_days cal.now s.now) }
+{
+    CenterDays::find(alloc, cal, applicable_names(&s.leg))
 }
 
 // The runs of good days of the centres with these names; without names the whole range.

@@ -3,7 +3,7 @@
 ghost use Rattle.std.specs.Prelude.{◌≡◌, ◌↔◌, ℕ, Contains, Some, option_copied, IfOk, IsSome, IfSome, OnOk, slice_get};
 ghost use Rattle.irs_terms.specs.Lawful.{IsLawful, IsLawfulStream};
 ghost use Rattle.irs_terms.specs.declared.stream.Stream.{Stream as StreamTerms};
-ghost use Rattle.irs_schedule.specs.DaySets.{boundary_days, payment_days, reset_days, fixing_days};
+ghost use Rattle.irs_schedule.specs.DaySets.{applicable_days, boundary_days, payment_days, reset_days, fixing_days};
 ghost use Rattle.irs_schedule.specs.CenterDays.{CanFind, HasMore, HasMoreOf, HasStream, HasSwap, centers_named};
 ghost use Rattle.irs_schedule.specs.CenterDays.{days_of_centers};
 ghost use Rattle.irs_rules.specs.TermsKept.{TermsKept};
@@ -11,6 +11,7 @@ ghost use Rattle.irs_rules.specs.TermsKept.{TermsKept};
 use crate::center_days::CenterDays;
 use irs_base::{Memory, Names};
 use irs_calendar::Calendars;
+use irs_rules::applicable_names;
 use irs_terms::{Stream, Swap, fixing_names, names_by, names_with, reset_names};
 use std::alloc::Global;
 use std::marker::Model;
@@ -49,6 +50,8 @@ pub(crate) struct StreamDays<'a> {
     pub reset: &'a CenterDays<'a, 'a>,
     /// Of fixing dates.
     pub fixing: &'a CenterDays<'a, 'a>,
+    /// The applicable business days of daily rates.
+    pub applicable: &'a CenterDays<'a, 'a>,
 }
 
 impl<'cal, 'swap> CenterTable<'cal, 'swap> {
@@ -81,6 +84,7 @@ impl<'cal, 'swap> CenterTable<'cal, 'swap> {
         ensures payment { days_of_centers result.payment.now ≡ payment_days self.now.sections s.now }
         ensures reset { days_of_centers result.reset.now ≡ reset_days self.now.sections s.now }
         ensures fixing { days_of_centers result.fixing.now ≡ fixing_days self.now.sections s.now }
+        ensures applicable { days_of_centers result.applicable.now ≡ applicable_days self.now.sections s.now }
     {
         StreamDays {
             start: self.days_of(names_by(&s.first_date().adj)),
@@ -89,6 +93,7 @@ impl<'cal, 'swap> CenterTable<'cal, 'swap> {
             payment: self.days_of(names_with(s.pay.offset, &s.pay.adj)),
             reset: self.days_of(reset_names(&s.reset)),
             fixing: self.days_of(fixing_names(&s.reset)),
+            applicable: self.days_of(applicable_names(&s.leg)),
         }
     }
 
@@ -104,6 +109,7 @@ impl<'cal, 'swap> CenterTable<'cal, 'swap> {
         self.add(alloc, names_with(s.pay.offset, &s.pay.adj))?;
         self.add(alloc, reset_names(&s.reset))?;
         self.add(alloc, fixing_names(&s.reset))?;
+        self.add(alloc, applicable_names(&s.leg))?;
         Ok(())
     }
 

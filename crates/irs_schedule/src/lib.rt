@@ -18,7 +18,7 @@ mod texts;
 mod views;
 mod walking;
 
-pub use center_days::{CenterDays, reset_days};
+pub use center_days::{CenterDays, applicable_days, reset_days};
 pub use entries::{PaymentEntry, PeriodEntry};
 pub use making::{SchedErr, make_schedule, schedule_is_determined};
 pub use row::Row;

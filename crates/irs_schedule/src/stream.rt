@@ -1,29 +1,33 @@
 //! The part of one stream in a schedule, or the first rule of its dates and amounts that is broken.
-ghost use Rattle.std.specs.Prelude.{◌-◌, All, IfOk, List, length};
+ghost use Rattle.std.specs.Prelude.{◌≡◌, ◌-◌, false, IfOk, List, length};
 ghost use Rattle.irs_base.specs.Members.{Every};
 ghost use Rattle.irs_base.specs.Outcomes.{Meets};
 ghost use Rattle.irs_terms.specs.Lawful.{IsLawfulStream};
+ghost use Rattle.irs_terms.specs.declared.amounts.Leg.TheVariants.{Floating as OfFloating};
 ghost use Rattle.irs_calendar.specs.declared.sections.Section.{Section};
 ghost use Rattle.irs_payments.specs.Payments.{Covers};
-ghost use Rattle.irs_resets.specs.Resets.{HasSmallRate};
 ghost use Rattle.irs_rules.specs.TermsKept.{TermsKept};
 ghost use Rattle.irs_schedule.specs.DaySets.{StreamSets};
-ghost use Rattle.irs_schedule.specs.Outcomes.{entries_of, events_of, layout_of, payment_dates_of, stream_of};
+ghost use Rattle.irs_schedule.specs.KeptTerms.{is_daily};
+ghost use Rattle.irs_schedule.specs.Outcomes.{entries_of, events_of, layout_of, passed_at, payment_dates_of, resets_over};
+ghost use Rattle.irs_schedule.specs.Outcomes.{stream_of};
 ghost use Rattle.irs_schedule.specs.Parts.{HasAmount, KeepsBounds};
 ghost use Rattle.irs_schedule.specs.StageSets.{sets_of};
 ghost use Rattle.irs_schedule.specs.StreamDates.{layout_dates};
+ghost use Rattle.irs_schedule.specs.StreamResets.{HasRates, resets_alone, resets_by, resets_in, with_factors};
 
-use crate::amounts::{PeriodTable, paid};
+use crate::amounts::{PeriodTable, paid_within};
 use crate::center_table::StreamDays;
 use crate::entries::PaymentEntries;
 use crate::kept_terms::kept_terms;
 use crate::layouts::Layout;
 use crate::streams::StreamPart;
 use irs_base::{Fault, Stopped};
+use irs_observed::{OvernightRates, OvernightResets, overnight_resets};
 use irs_payments::{check_steps, payments, principals};
 use irs_periods::{adjusted, boundaries_by, regular_span};
 use irs_resets::{Fixings, resets};
-use irs_terms::{Exchanges, Payments, Resets, Stream};
+use irs_terms::{Exchanges, FloatTerms, Leg, Payments, Resets, Stream};
 use std::alloc::Global;
 
 /// The payments, the principal exchanges and the resets of a stream.
@@ -35,6 +39,8 @@ pub(crate) struct StreamEvents {
     pub(crate) exchanges: Exchanges,
     /// The reset of each period; none where the rate is fixed.
     pub(crate) resets: Resets,
+    /// The observed rate of each period, not rounded; none without calculation parameters.
+    pub(crate) rates: OvernightRates,
 }
 
 /// The part of a stream. `Broken` is the first broken rule of the stream, and `Memory` comes where
@@ -64,6 +70,7 @@ pub(crate) fn stream_part(
         events.exchanges,
         entries,
         events.resets,
+        events.rates,
     ))
 }
 
@@ -114,16 +121,96 @@ fn events_over(
     requires kept { (cal : List Section) × TermsKept cal s.now }
     requires layout { (layout_of (sets_of days.now) s.now).Answers layout.now }
     ensures meets { Meets (events_of (sets_of days.now) fix.now s.now layout.now) result }
-    ensures small { IfOk result (λ events. All HasSmallRate events.resets) }
+    ensures rates { IfOk result (λ e. HasRates s.now.leg (length layout.now.adjusted - 1) e.resets e.rates) }
 {
     let payments = payment_dates(alloc, s, layout, days)?;
     let exchanges = principals(alloc, s, days.payment)?;
-    let moved = &layout.adjusted;
-    let resets = resets(alloc, s, &layout.span, moved, days.reset, days.fixing, fix)?;
+    let observed = observed_resets(alloc, s, layout, days, fix)?;
     Ok(StreamEvents {
         payments,
         exchanges,
+        resets: observed.resets,
+        rates: observed.rates,
+    })
+}
+
+// The resets, and with calculation parameters the observed rates. `Broken` is the first of K37, K48, K33 and K38.
+fn observed_resets(
+    alloc: Global,
+    s: &Stream,
+    layout: &Layout,
+    days: &StreamDays<'_>,
+    fix: &Fixings,
+) -> Result<OvernightResets, Stopped<Fault>>
+    requires lawful { IsLawfulStream s.now }
+    requires kept { (cal : List Section) × TermsKept cal s.now }
+    requires layout { (layout_of (sets_of days.now) s.now).Answers layout.now }
+    ensures meets { let sets = sets_of days.now in
+        Meets (resets_in s.now.leg (resets_over sets s.now layout.now) sets.applicable fix.now) result }
+    ensures rates { IfOk result (λ x. HasRates s.now.leg (length layout.now.adjusted - 1) x.resets x.rates) }
+{
+    match &s.leg {
+        Leg::Fixed(_) => resets_alone(alloc, s, layout, days, fix),
+        Leg::Floating(float) => floating_resets(alloc, s, float, layout, days, fix),
+    }
+}
+
+// Those of a floating stream.
+fn floating_resets(
+    alloc: Global,
+    s: &Stream,
+    float: &FloatTerms,
+    layout: &Layout,
+    days: &StreamDays<'_>,
+    fix: &Fixings,
+) -> Result<OvernightResets, Stopped<Fault>>
+    requires lawful { IsLawfulStream s.now }
+    requires kept { (cal : List Section) × TermsKept cal s.now }
+    requires layout { (layout_of (sets_of days.now) s.now).Answers layout.now }
+    requires leg { s.now.leg ≡ OfFloating float.now }
+    ensures meets { let sets = sets_of days.now in
+        Meets (resets_by float.now float.now.parameters (resets_over sets s.now layout.now) sets.applicable fix.now)
+        result }
+    ensures rates { IfOk result (λ x. HasRates s.now.leg (length layout.now.adjusted - 1) x.resets x.rates) }
+{
+    let (span, moved) = (&layout.span, &layout.adjusted);
+    match &float.parameters {
+        None => resets_alone(alloc, s, layout, days, fix),
+        Some(parameters) => overnight_resets(
+            alloc,
+            s,
+            float,
+            parameters,
+            span,
+            moved,
+            days.reset,
+            days.fixing,
+            days.applicable,
+            fix,
+        ),
+    }
+}
+
+// The resets of a stream without calculation parameters.
+fn resets_alone(
+    alloc: Global,
+    s: &Stream,
+    layout: &Layout,
+    days: &StreamDays<'_>,
+    fix: &Fixings,
+) -> Result<OvernightResets, Stopped<Fault>>
+    requires lawful { IsLawfulStream s.now }
+    requires kept { (cal : List Section) × TermsKept cal s.now }
+    requires layout { (layout_of (sets_of days.now) s.now).Answers layout.now }
+    requires daily { is_daily s.now.leg ≡ false }
+    ensures meets { Meets (resets_alone (resets_over (sets_of days.now) s.now layout.now) fix.now) result }
+    ensures rates { IfOk result (λ x. HasRates s.now.leg (length layout.now.adjusted - 1) x.resets x.rates) }
+{
+    let moved = &layout.adjusted;
+    let resets = resets(alloc, s, &layout.span, moved, days.reset, days.fixing, fix)?;
+    Ok(OvernightResets {
         resets,
+        rates: OvernightRates::new(alloc),
     })
 }
 
@@ -138,14 +225,16 @@ fn entries_over(
     requires kept { (cal : List Section) × TermsKept cal s.now }
     requires laid { (sets : StreamSets) × (layout_of sets s.now).Answers layout.now }
     requires covers { Covers 1 events.now.payments (length layout.now.unadjusted - 1) }
-    requires small { All HasSmallRate events.now.resets }
-    ensures meets { Meets (entries_of (layout_dates s.now layout.now events.now.resets) events.now.payments) result }
+    requires rates { HasRates s.now.leg (length layout.now.adjusted - 1) events.now.resets events.now.rates }
+    ensures meets { let dates = layout_dates s.now layout.now events.now.resets events.now.rates in
+        Meets (with_factors passed_at events.now.rates (entries_of dates events.now.payments)) result }
     ensures bounds { IfOk result (Every (HasAmount s.now.currency)) }
 {
     let table = PeriodTable {
         unadjusted: layout.unadjusted.as_slice(),
         adjusted: layout.adjusted.as_slice(),
         resets: events.resets.as_slice(),
+        rates: events.rates.as_slice(),
     };
-    paid(alloc, s, &table, events.payments.as_slice())
+    paid_within(alloc, s, &table, events.payments.as_slice())
 }

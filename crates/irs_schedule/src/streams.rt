@@ -4,11 +4,12 @@ ghost use Rattle.std.specs.Prelude.{◌≡◌, ◌-◌, ◌<◌, ◌≤◌, leng
 
 use crate::entries::PaymentEntries;
 use crate::kept_terms::KeptTerms;
-use crate::periods::{day_at, entry_by, observed_at};
+use crate::periods::{day_at, entry_by, observed_at, overnight_at};
 use crate::views::dated_period;
 use crate::{PaymentEntry, PeriodEntry, Row};
 use irs_base::{Day, DayList};
 use irs_daycount::days_by;
+use irs_observed::OvernightRates;
 use irs_terms::{Currency, DayCountCode, Exchange, Exchanges, Reset, Resets};
 use std::marker::Model;
 
@@ -22,6 +23,8 @@ pub struct StreamPart {
     exchanges: Exchanges,
     payments: PaymentEntries,
     resets: Resets,
+    // The observed rate of each period, not rounded; none without calculation parameters.
+    rates: OvernightRates,
 }
 
 // Clauses see the list of its periods, as if they were kept.
@@ -40,7 +43,7 @@ impl Model for StreamPart {
 
 ghost use Rattle.std.specs.Prelude.{IsTrue, slice_index_or};
 ghost use Rattle.irs_schedule.specs.Keeping.{MakePart};
-ghost use Rattle.irs_schedule.specs.KeptTerms.{is_floating};
+ghost use Rattle.irs_schedule.specs.KeptTerms.{is_daily, is_floating};
 ghost use Rattle.irs_schedule.specs.Parts.{KeepsBounds};
 ghost use Rattle.irs_schedule.specs.Periods.{periods_by};
 ghost use Rattle.irs_schedule.specs.RowsOf.{no_period, period_row, reset_row, stream_row};
@@ -54,16 +57,18 @@ impl StreamPart {
         exchanges: Exchanges,
         payments: PaymentEntries,
         resets: Resets,
+        rates: OvernightRates,
     ) -> StreamPart
-        requires { MakePart terms unadjusted adjusted exchanges payments resets }
+        requires { MakePart terms unadjusted adjusted exchanges payments resets rates }
         ensures currency { result.currency ≡ terms.currency }
         ensures day_count { result.day_count ≡ terms.day_count }
         ensures floating { result.floating ≡ is_floating terms.leg }
+        ensures daily { result.daily ≡ is_daily terms.leg }
         ensures unadjusted { result.unadjusted ≡ unadjusted }
         ensures adjusted { result.adjusted ≡ adjusted }
         ensures exchanges { result.exchanges ≡ exchanges }
         ensures payments { result.payments ≡ payments }
-        ensures periods { result.periods ≡ periods_by terms unadjusted adjusted resets }
+        ensures periods { result.periods ≡ periods_by terms unadjusted adjusted resets rates }
         ensures resets { result.resets ≡ resets }
         ensures bounds { KeepsBounds result }
     {
@@ -77,6 +82,7 @@ impl StreamPart {
             exchanges,
             payments,
             resets,
+            rates,
         }
     }
 
@@ -163,6 +169,7 @@ impl StreamPart {
             end == self.adjusted.len() - 1,
             day_at(self.unadjusted.as_slice(), end - 1),
             observed_at(self.resets.as_slice(), end - 1),
+            &overnight_at(self.rates.as_slice(), end - 1),
         )
     }
 

@@ -35,7 +35,7 @@ loop-i-preserved c =
     let s = c.stream-item.result in
     let days = c.stream_days-days.ensures in
     let same = sets_same (sets_of c.stream_days-days.result) (stream_sets cal s) days.start days.end days.middle
-    days.payment days.reset days.fixing in
+    days.payment days.reset days.fixing days.applicable in
     rw c.in_ok-push.ensures.items (made_more c.args.swap.now cal c.args.fix.now c.loop-i.i c.loop-i.parts.items s
     (rw c.as_slice-stream-items.ensures at read) c.loop-i.invariant (sets_of c.stream_days-days.result) same
     c.in_ok-part.part c.in_ok-part.ensures.meets c.in_ok-part.ensures.bounds)
@@ -48,7 +48,7 @@ returns-in_err-part c =
     let s = c.stream-item.result in
     let days = c.stream_days-days.ensures in
     let same = sets_same (sets_of c.stream_days-days.result) (stream_sets cal s) days.start days.end days.middle
-    days.payment days.reset days.fixing in
+    days.payment days.reset days.fixing days.applicable in
     let spec = schedule_of c.args.swap.now cal c.args.fix.now in
     let e = c.in_err-part.field-0.0 in
     stopped_meets spec c.from_residual.result e c.from_residual.ensures.1

@@ -3,7 +3,7 @@ use Rattle.irs_base.proofs.HandedAnswers.{handed_on}
 use Rattle.irs_base.proofs.Outcomes.{stopped_meets}
 use Rattle.irs_terms.specs.declared.stream.Stream.{Stream}
 use Rattle.irs_schedule.specs.Keeping.{MakePart}
-use Rattle.irs_schedule.specs.KeptTerms.{is_floating, kept_of}
+use Rattle.irs_schedule.specs.KeptTerms.{is_daily, is_floating, kept_of}
 use Rattle.irs_schedule.specs.Outcomes.{part_over, stream_of}
 use Rattle.irs_schedule.specs.Periods.{periods_by}
 use Rattle.irs_schedule.specs.StageSets.{sets_of}
@@ -86,11 +86,12 @@ new-requires c =
     let t = c.in_ok-terms.ensures in
     let same = kept_is c.in_ok-terms.terms s t.currency t.day_count t.notional t.leg in
     let covers = events_cover sets fix s l c.requires.kept.0 c.requires.lawful terms kept d c.in_ok-events.ensures.meets in
-    subst (λ (k : KeptTerms). MakePart k l.unadjusted l.adjusted d.exchanges es d.resets) (sym same)
+    subst (λ (k : KeptTerms). MakePart k l.unadjusted l.adjusted d.exchanges es d.resets d.rates) (sym same)
     (makes_part sets fix s l (layout_some sets s c.requires.lawful terms.dates l kept) kept d es c.requires.lawful
     (terms.notional_rises, terms.leg_rises) (in_range c.args.days.now) c.as_slice-days.ensures.days
     c.as_slice-moved.ensures.days (events_are sets fix s l d c.in_ok-events.ensures.meets) covers
-    c.in_ok-events.ensures.small (entries_are (layout_dates s l d.resets) d.payments es c.in_ok-entries.ensures.meets).0
+    c.in_ok-events.ensures.rates
+    (entries_are (layout_dates s l d.resets d.rates) d.payments es c.in_ok-entries.ensures.meets.1).0
     c.in_ok-entries.ensures.bounds)
 
 pub returns-clause-meets : goal.returns-clause-meets
@@ -106,11 +107,13 @@ returns-clause-meets c =
     let currency = is.currency ∙ t.currency in
     let day_count = is.day_count ∙ t.day_count in
     let floating = is.floating ∙ ap is_floating t.leg in
-    let periods = is.periods ∙ ap (λ (k : KeptTerms). periods_by k l.unadjusted l.adjusted d.resets) same in
+    let daily = is.daily ∙ ap is_daily t.leg in
+    let periods = is.periods ∙ ap (λ (k : KeptTerms). periods_by k l.unadjusted l.adjusted d.resets d.rates) same in
     let made : c.new.result ≡ part_over s l d es = λ i. record {
       currency = currency i;
       day_count = day_count i;
       floating = floating i;
+      daily = daily i;
       unadjusted = is.unadjusted i;
       adjusted = is.adjusted i;
       exchanges = is.exchanges i;

@@ -1,6 +1,6 @@
 use Rattle.std.proofs.Common.{◌-◌, ◌≤◌, ◌<ℤ◌, length, subst, sym, ◌∙◌, arith, refl}
 use Rattle.irs_schedule.specs.Parts.{Part}
-use Rattle.irs_schedule.specs.Periods.{count_of}
+use Rattle.irs_schedule.specs.Periods.{count_of, period_by}
 use Rattle.irs_schedule.proofs.PeriodLemmas.{entry_at, length_periods, next_day}
 use Rattle.irs_base.specs.Members.{day_at}
 use Rattle.irs_schedule.proofs.streams.StreamPart.entry.Goals as goal
@@ -21,18 +21,20 @@ returns c =
     let P : Part → Type 0 = λ p. c.args.number ≤ length p.periods in
     let high = subst P (sym c.self.view_is) c.requires.high in
     let within : c.args.number ≤ count_of s.adjusted =
-    omega (arith, high, length_periods s.terms s.unadjusted s.adjusted s.resets) in
-    let h = entry_at s.terms s.unadjusted s.adjusted s.resets c.args.number c.requires.low within in
+    omega (arith, high, length_periods s.terms s.unadjusted s.adjusted s.resets s.rates) in
+    let h = entry_at s.terms s.unadjusted s.adjusted s.resets s.rates c.args.number c.requires.low within in
     rw (← c.self.view_is) (c.entry_by.ensures
     ∙ rw (
       c.day_at.ensures,
       c.day_at-2.ensures,
       c.day_at-3.ensures,
-      c.observed_at.ensures.value,
+      c.observed_at.ensures,
+      c.overnight_at.ensures,
       c.len.ensures,
       c.as_slice.ensures.value,
       c.as_slice-2.ensures.value,
       c.as_slice-3.ensures.value,
       c.as_slice-4.ensures,
-    ) refl
+      c.as_slice-5.ensures,
+    ) (refl {a = period_by s.terms s.unadjusted s.adjusted s.resets s.rates c.args.number})
     ∙ sym h)

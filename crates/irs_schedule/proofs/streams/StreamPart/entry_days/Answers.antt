@@ -24,8 +24,8 @@ returns c =
     let P : Part → Type 0 = λ p. c.args.number ≤ length p.periods in
     let high = subst P (sym c.self.view_is) c.requires.high in
     let within : c.args.number ≤ count_of s.adjusted =
-    omega (arith, high, length_periods s.terms s.unadjusted s.adjusted s.resets) in
-    let h = entry_at s.terms s.unadjusted s.adjusted s.resets c.args.number c.requires.low within in
+    omega (arith, high, length_periods s.terms s.unadjusted s.adjusted s.resets s.rates) in
+    let h = entry_at s.terms s.unadjusted s.adjusted s.resets s.rates c.args.number c.requires.low within in
     let f : FitsSigned w64 c.days_by.result = search rules in
     rw (← c.self.view_is) (ap (λ (e : PeriodEntry). e.days) h
     ∙ sym (simp to_z-of_z (c.days_by.ensures.value

@@ -15,6 +15,7 @@ invariant_of-result c =
           c.args.exchanges;
       payments = c.args.payments;
       resets = c.args.resets;
+      rates = c.args.rates;
     } in
     kept s c.requires c.as_slice-days.ensures.days c.as_slice-moved.ensures.days (search rules)
 
@@ -29,6 +30,7 @@ returns-clause-bounds c =
           c.args.exchanges;
       payments = c.args.payments;
       resets = c.args.resets;
+      rates = c.args.rates;
     } in
     let k : IsKept s = kept s c.requires c.as_slice-days.ensures.days c.as_slice-moved.ensures.days (search rules) in
     k.bounds
