@@ -35,7 +35,7 @@ pub notional_fits : (p : Part) (j : ℕ) (x : CalculationPeriod) → KeepsBounds
     → IsNotional x.notional
 notional_fits p j x kept e =
     let h = has_entry p j x e in
-    let entry = every_get (IsEntry p.day_count) p.periods j h.entry kept.entries h.there in
+    let entry = every_get (IsEntry p.daily p.day_count) p.periods j h.entry kept.entries h.there in
     subst (λ (y : CalculationPeriod). IsNotional y.notional) h.dated entry.notional
 
 -- the dates of a period that runs

@@ -1,4 +1,5 @@
 pub mod Shares
 pub mod Accruals
+pub mod DailyAccruals
 pub mod AccrualTexts
 pub mod Sizes

@@ -51,7 +51,8 @@ fn inside(part: &StreamPart, running: &RunningPeriod, d: Day) -> Accrual
     }
 }
 
-fn accrued_in(part: &StreamPart, d: Day) -> Accrual
+/// The same in a stream.
+pub(crate) fn accrued_in(part: &StreamPart, d: Day) -> Accrual
     ensures accrual { IsAccrual part.now d result }
     ensures places { HasPlaces result }
 {

@@ -2,10 +2,15 @@
 #![tactic(auto)]
 
 mod accruals;
+mod daily;
 mod interest;
 mod running;
 mod shares;
+mod streams;
+#[cfg(test)]
+mod tests;
 mod texts;
 
 pub use accruals::{Accrual, accrued};
+pub use streams::{accrued_of, accrued_of_is_determined};
 pub use texts::accrued_text;
