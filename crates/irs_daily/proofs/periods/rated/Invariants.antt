@@ -1,0 +1,13 @@
+use Rattle.std.proofs.Common.{◌≡◌, take}
+use Rattle.irs_observed.specs.DailyRates.{daily_rates}
+use Rattle.irs_daily.specs.FactorSteps.{IsSmall}
+use Rattle.irs_daily.specs.ObservedRows.{day_rows}
+use Rattle.irs_daily.proofs.Growths.{IsGrown}
+use Rattle.irs_daily.proofs.periods.rated.Given as goal
+
+abbrev pub invariant-loop-o : goal.invariant-loop-o
+invariant-loop-o l = record {
+  days : l.days ≡ day_rows (daily_rates l.fixings l.index) l.number (take l.o-index l.observations);
+  growth : IsGrown l.method (daily_rates l.fixings l.index) l.observations l.o-index l.growth;
+  small : IsSmall l.growth;
+}

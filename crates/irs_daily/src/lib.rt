@@ -1,0 +1,18 @@
+//! The days behind each rate of a stream with calculation parameters: the rows of its calculation periods and of
+//! their observations, and the text of these rows.
+#![tactic(auto)]
+
+mod factors;
+mod growth;
+mod laws;
+mod listing;
+mod periods;
+mod rows;
+#[cfg(test)]
+mod tests;
+mod texts;
+
+pub use laws::{one_list, rates_have_rows, rows_show_rates};
+pub use listing::observed_rows;
+pub use rows::{DayRow, NoRows, NoRowsWhy, ObservedRow, ObservedRows, PeriodRow};
+pub use texts::observations_text;
