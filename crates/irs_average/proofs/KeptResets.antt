@@ -21,6 +21,7 @@ use Rattle.irs_schedule.specs.Parts.{Part}
 use Rattle.irs_schedule.specs.Schedules.{IsPart}
 use Rattle.irs_schedule.proofs.LayoutRules.{layout_is, layout_kept, one_layout}
 use Rattle.irs_schedule.proofs.OnePart.{schedule_determined}
+use Rattle.irs_schedule.proofs.RateLemmas.{resets_free}
 
 -- each item that is answered has its answer
 answered_at : {X A R : Type 0} (spec : ℕ → X → Spec A R) (n : ℕ) (xs : List X) (given : List A)
@@ -43,7 +44,8 @@ unfolding stream_of
 stream_resets sets fix s p h q is f breaks =
     let kept = layout_kept sets s h.0 h.1 in
     let same : is.layout ≡ h.0 = one_layout sets s is.layout h.0 is.is_layout (layout_is sets s h.0 kept) in
-    h.2.1.2.2.1.0 f (subst (λ m. BreaksResets (resets_over sets s m) f) same breaks)
+    resets_free (resets_over sets s h.0) sets.applicable fix s.leg h.2.1.2.2.0 h.2.1.2.2.1 f
+    (subst (λ m. BreaksResets (resets_over sets s m) f) same breaks)
 
 -- a schedule of dates that break no rule breaks none on resets
 pub no_resets_broken : (swap : Swap) (cal : List Section) (fix : RateTable) → IsLawful swap → BreaksNone swap cal

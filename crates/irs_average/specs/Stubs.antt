@@ -67,7 +67,7 @@ abbrev pub stub_asked : Swap → ℕ → Side → Frequency → Frequency → Li
 stub_asked swap number side low high parts rates =
     record { swap = swap; number = number; side = side; low = low; high = high; parts = parts; rates = rates }
 
--- the stream floats, and both tenors count 1 to 999 of a unit other than the term. The parts are the schedule of the
+-- the stream floats without calculationParameters, and both tenors count 1 to 999 of a unit other than the term. The parts are the schedule of the
 -- swap without fixings, by calendars with which no rule is broken
 pub record IsStubAsked (a : StubAsked) : Type 0 where
   pub lawful : IsLawful a.swap

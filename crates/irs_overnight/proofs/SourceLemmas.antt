@@ -12,6 +12,7 @@ use Rattle.irs_base.proofs.Firsts.{one_first}
 use Rattle.irs_terms.specs.declared.amounts.FloatTerms.{FloatTerms}
 use Rattle.irs_terms.specs.declared.amounts.Leg.{Leg}
 use Rattle.irs_terms.specs.declared.amounts.Leg.TheVariants.{Fixed, Floating}
+use Rattle.irs_terms.specs.declared.parameters.CalculationParameters.{CalculationParameters}
 use Rattle.irs_terms.specs.declared.stream.Stream.{Stream}
 use Rattle.irs_terms.specs.declared.stream_list.Swap.{Swap}
 use Rattle.irs_schedule.specs.DaySets.{stream_sets}
@@ -37,7 +38,8 @@ same_stream x y e = cc
 pub some_part : (x y : Part) → Some x ≡ Some y → x ≡ y
 some_part x y e = cc
 
-some_float : (x y : FloatTerms) → Floating x ≡ Floating y → x ≡ y
+-- floating legs that are equal have equal terms
+pub some_float : (x y : FloatTerms) → Floating x ≡ Floating y → x ≡ y
 some_float x y e = cc
 
 -- a stream pays one floating rate
@@ -145,10 +147,26 @@ part_read ps qs place p same low is =
     let here : p ≡ get_or ps place p = rw same at is in
     slice_get-get_or ps place p low ∙ ap (λ (x : Part). Some x) (sym here)
 
+stated : (o : Option CalculationParameters) (p : CalculationParameters) → o ≡ None → o ≡ Some p → ⊥
+stated o p a b = cc
+
+plain_by : (swap : Swap) (number : ℕ) (s : Stream) (float : FloatTerms) (parameters : Option CalculationParameters)
+    → 1 ≤ number → slice_get swap.streams (number - 1) ≡ Some s → s.leg ≡ Floating float → float.parameters ≡ parameters
+    → ((Floats swap number → ⊥) → ⊥) → Floats swap number
+plain_by swap number s float None low at is plain not_none =
+    (float, record { from_one = low; stream = s; at = at; pays = is; plain = plain })
+plain_by swap number s float (Some p) low at is given not_none =
+    absurd (not_none (λ h.
+    let same = same_stream h.1.stream s (sym h.1.at ∙ at) in
+    let leg : Floating h.0 ≡ Floating float = sym h.1.pays ∙ ap (λ (z : Stream). z.leg) same ∙ is in
+    let none : float.parameters ≡ None =
+    ap (λ (f : FloatTerms). f.parameters) (sym (some_float h.0 float leg)) ∙ h.1.plain in
+    stated float.parameters p none given))
+
 floats_by : (swap : Swap) (number : ℕ) (s : Stream) (leg : Leg) → 1 ≤ number
     → slice_get swap.streams (number - 1) ≡ Some s → s.leg ≡ leg → ((Floats swap number → ⊥) → ⊥) → Floats swap number
 floats_by swap number s (Floating float) low at is not_none =
-    (float, record { from_one = low; stream = s; at = at; pays = is })
+    plain_by swap number s float float.parameters low at is refl not_none
 floats_by swap number s (Fixed values) low at is not_none =
     absurd (not_none (λ h. is_fixed s h.1.stream h.0 values (same_stream h.1.stream s (sym h.1.at ∙ at)) h.1.pays is))
   where

@@ -17,7 +17,7 @@ use Rattle.irs_overnight.specs.Sources.{basis_of}
 use Rattle.irs_overnight.specs.declared.periods.PeriodFault.{PeriodFault}
 use Rattle.irs_overnight.specs.declared.periods.PeriodFault.TheVariants.{NoDays, OutOfRange}
 
--- K40: there is no such stream, or it is fixed
+-- K40: there is no such stream, or it is fixed, or it has calculationParameters
 abbrev pub no_floating_stream : ℕ → Broken
 no_floating_stream number = in_stream number (fault_at K40 swap_stream 0)
 

@@ -34,7 +34,7 @@ pub record Asked : Type 0 where
 abbrev pub asked : Swap → ℕ → List Part → DaySet → RateTable → Asked
 asked swap number parts days rates = record { swap = swap; number = number; parts = parts; days = days; rates = rates }
 
--- The stream floats, and the parts are the schedule of the swap without fixings, by calendars with which no rule is
+-- The stream floats without calculationParameters, and the parts are the schedule of the swap without fixings, by calendars with which no rule is
 -- broken. The days are the business days of the stream's reset dates in these calendars.
 pub record IsAsked (a : Asked) : Type 0 where
   pub lawful : IsLawful a.swap

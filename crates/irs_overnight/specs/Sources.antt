@@ -11,14 +11,15 @@ use Rattle.irs_terms.specs.declared.stream.Stream.{Stream}
 use Rattle.irs_terms.specs.declared.stream_list.Swap.{Swap}
 use Rattle.irs_resets.specs.Rates.{RateTable, rate_at}
 
--- the swap has a stream with that number, from 1, and it pays this floating rate
+-- the swap has a stream with that number, from 1, and it pays this floating rate, without calculationParameters
 pub record PaysFloating (swap : Swap) (number : ℕ) (float : FloatTerms) : Type 0 where
   pub from_one : 1 ≤ number
   pub stream : Stream
   pub at : slice_get swap.streams (number - 1) ≡ Some stream
   pub pays : stream.leg ≡ Floating float
+  pub plain : float.parameters ≡ None
 
--- the swap has a stream with that number, and it floats
+-- the swap has a stream with that number, and it floats without calculationParameters
 abbrev pub Floats : Swap → ℕ → Type 0
 Floats swap number = (float : FloatTerms) × PaysFloating swap number float
 

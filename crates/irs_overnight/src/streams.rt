@@ -19,15 +19,26 @@ pub fn stream_at(swap: &Swap, number: u8) -> Option<&Stream>
 }
 
 /// What the stream with that number, from 1, pays floating; `None` exactly where the swap has no
-/// such stream, or it is fixed.
+/// such stream, or it is fixed, or it has `calculationParameters`.
 pub fn floating_at(swap: &Swap, number: u8) -> Option<&FloatTerms>
     ensures some { IfSome result (λ f. PaysFloating swap.now number f.now) }
     ensures none { IfNone result ((f : Float) → PaysFloating swap.now number f → ⊥) }
 {
     let stream = stream_at(swap, number)?;
     match &stream.leg {
-        Leg::Floating(float) => Some(float),
+        Leg::Floating(float) => without_parameters(float),
         Leg::Fixed(_) => None,
+    }
+}
+
+// The terms, where they have no `calculationParameters`.
+fn without_parameters(float: &FloatTerms) -> Option<&FloatTerms>
+    ensures some { IfSome result (λ f. (f.now ≡ float.now) × (float.now.parameters ≡ None)) }
+    ensures none { IfNone result (float.now.parameters ≡ None → ⊥) }
+{
+    match float.parameters {
+        None => Some(float),
+        Some(_) => None,
     }
 }
 
@@ -41,8 +52,9 @@ fn floats(swap: &Swap, number: u8) -> bool
 }
 
 /// Whether rates can be derived for the stream with that number, from 1 (FpML `swapStream`). K40,
-/// with that number as its stream, comes exactly where the swap has no such stream or the stream is
-/// fixed. The rule is ours. No memory is taken.
+/// with that number as its stream, comes exactly where the swap has no such stream, or the stream is
+/// fixed, or it has `calculationParameters`, by which `schedule` works out the rates itself. The rule
+/// is ours. No memory is taken.
 pub fn check_stream(swap: &Swap, stream: u8) -> Option<Broken>
     ensures { SomeIff result (Floats swap.now stream → ⊥) (no_floating_stream stream) }
 {
