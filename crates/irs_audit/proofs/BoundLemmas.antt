@@ -1,6 +1,6 @@
 -- What each row of a schedule keeps.
 use Rattle.std.proofs.Common.{◌≡◌, ℕ, ◌+◌, ◌≤◌, List, [], ◌∷◌, length, Option, Some, ℤ, pos, ◌<ℤ◌, ◌≤ℤ◌, inl, inr, sym}
-use Rattle.std.proofs.Common.{ap, subst, arith}
+use Rattle.std.proofs.Common.{ap, subst, arith, Bool}
 use Rattle.std.specs.Prelude.{slice_get, unwrap_or}
 use Rattle.std.proofs.lemmas.Option.{slice_get_cases, IfSome_then}
 use Rattle.jiff_core.proofs.SignedLemmas.{signed_arith}
@@ -71,8 +71,8 @@ small_denominator Thirty360 = (omega (arith, signed_arith), omega (arith, signed
 small_denominator ThirtyE360 = (omega (arith, signed_arith), omega (arith, signed_arith))
 small_denominator ThirtyE360Isda = (omega (arith, signed_arith), omega (arith, signed_arith))
 
-small_entry : (code : DayCountCode) (e : PeriodEntry) → IsEntry code e → IsSmall e.frac
-small_entry code e h =
+small_entry : (daily : Bool) (code : DayCountCode) (e : PeriodEntry) → IsEntry daily code e → IsSmall e.frac
+small_entry daily code e h =
     let D : ℤ → Type 0 = λ d. (pos 0 <ℤ d) × (d ≤ℤ pos act_act_denominator) in
     record { numerator = h.numerator; denominator = subst D (sym h.denominator) (small_denominator code) }
 
@@ -84,6 +84,6 @@ period_small p j x h e = elim (slice_get_cases p.periods j).1 [
       let same : Some (dated_period p (j + 1) w.0) ≡ Some x = rw there at e in
       let P : Frac → Type 0 = λ f. IsSmall f in
       subst P (ap (λ (o : Option CalculationPeriod). (unwrap_or o x).frac) same)
-      (small_entry p.day_count w.0 (every_get (IsEntry p.day_count) p.periods j w.0 h.entries there))
+      (small_entry p.daily p.day_count w.0 (every_get (IsEntry p.daily p.day_count) p.periods j w.0 h.entries there))
   | inr w ↦ absurd (let none = w.1 in let bad = rw none at e in cc)
 ]

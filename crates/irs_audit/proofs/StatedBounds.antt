@@ -1,13 +1,12 @@
 -- What every schedule keeps lets each of its numbers be stated.
-use Rattle.std.proofs.Common.{◌≡◌, ℕ, ◌+◌, ◌-◌, ◌*◌, ◌^◌, ◌<◌, ◌≤◌, Option, Some, ℤ, pos, negsuc, unsigned_abs, arith}
+use Rattle.std.proofs.Common.{◌≡◌, ℕ, ◌+◌, ◌-◌, ◌*◌, ◌^◌, ◌<◌, ◌≤◌, Option, Some, ℤ, pos, negsuc, unsigned_abs, arith, Bool, true, false}
 use Rattle.std.proofs.Common.{ap, subst, inl, inr}
 use Rattle.std.specs.Prelude.{slice_get, unwrap_or, IfSome}
 use Rattle.std.proofs.lemmas.Option.{slice_get_cases, IfSome_then}
 use Rattle.std.proofs.Math.Nat.{mul-le-mul}
 use Rattle.jiff_core.proofs.SignedLemmas.{signed_arith}
 use Rattle.irs_base.specs.declared.line.Dec.{Dec}
-use Rattle.irs_base.specs.Limits.{most_rate}
-use Rattle.irs_terms.specs.Lawful.{IsNotional, IsRate}
+use Rattle.irs_terms.specs.Lawful.{IsNotional}
 use Rattle.irs_terms.specs.declared.currency.Currency.{Currency}
 use Rattle.irs_terms.specs.declared.results.Exchange.{Exchange}
 use Rattle.irs_terms.specs.declared.results.Reset.{Reset}
@@ -15,7 +14,8 @@ use Rattle.irs_schedule.proofs.PlaceLemmas.{decimals_few}
 use Rattle.irs_schedule.specs.declared.entries.PaymentEntry.{PaymentEntry}
 use Rattle.irs_schedule.specs.declared.entries.PeriodEntry.{PeriodEntry}
 use Rattle.irs_schedule.specs.declared.views.CalculationPeriod.{CalculationPeriod}
-use Rattle.irs_schedule.specs.Parts.{Part, KeepsBounds, IsAmount, HasAmount, IsEntry}
+use Rattle.irs_schedule.specs.Parts.{Part, KeepsBounds, IsAmount, HasAmount, IsEntry, most_entry_rate}
+use Rattle.irs_schedule.specs.StreamResets.{HasObserved, most_observed_rate}
 use Rattle.irs_schedule.specs.PeriodViews.{period_at, dated_period}
 use Rattle.irs_audit.specs.Comparisons.{IsStatable, IsStatableDec, IsStatablePeriod, IsStatableRate}
 use Rattle.irs_base.proofs.MemberLemmas.{every_get}
@@ -38,11 +38,13 @@ notional_statable (pos n) h = record { decimals = omega arith; size = omega (ari
 notional_statable (negsuc n) h = absurd (omega (arith, signed_arith, h))
 
 -- a rate that isn't too great
-pub rate_statable : (r : ℤ) → unsigned_abs r ≤ 10 * most_rate + most_rate → IsStatableRate r
-rate_statable r h = record { decimals = omega arith; size = omega (arith, h) }
+pub rate_statable : (daily : Bool) (r : ℤ) → unsigned_abs r ≤ most_entry_rate daily → IsStatableRate r
+rate_statable true r h = record { decimals = omega arith; size = omega (arith, h) }
+rate_statable false r h = record { decimals = omega arith; size = omega (arith, h) }
 
-observed_statable : (r : ℤ) → IsRate r → IsStatableRate r
-observed_statable r h = record { decimals = omega arith; size = omega (arith, h) }
+observed_statable : (daily : Bool) (r : ℤ) → unsigned_abs r ≤ most_observed_rate daily → IsStatableRate r
+observed_statable true r h = record { decimals = omega arith; size = omega (arith, h) }
+observed_statable false r h = record { decimals = omega arith; size = omega (arith, h) }
 
 -- the amount of an exchange can be stated
 pub exchange_statable : (p : Part) (j : ℕ) (x : Exchange) → KeepsBounds p → slice_get p.exchanges j ≡ Some x
@@ -61,13 +63,12 @@ payment_statable p j y h e =
 pub reset_statable : (p : Part) (j : ℕ) (r : Reset) → KeepsBounds p → slice_get p.resets j ≡ Some r
     → IfSome r.observed IsStatableRate
 reset_statable p j r h e =
-    IfSome_then r.observed (every_get (λ (y : Reset). IfSome y.observed IsRate) p.resets j r h.observed e)
-    observed_statable
+    IfSome_then r.observed (every_get (HasObserved p.daily) p.resets j r h.observed e) (observed_statable p.daily)
 
-entry_statable : (p : Part) (j : ℕ) (e : PeriodEntry) → IsEntry p.day_count e
+entry_statable : (p : Part) (j : ℕ) (e : PeriodEntry) → IsEntry p.daily p.day_count e
     → IsStatablePeriod (dated_period p (j + 1) e)
 entry_statable p j e h =
-    record { notional = notional_statable e.notional h.notional; rate = IfSome_then e.rate h.rate rate_statable }
+    record { notional = notional_statable e.notional h.notional; rate = IfSome_then e.rate h.rate (rate_statable p.daily) }
 
 -- the numbers of a calculation period can be stated
 pub period_statable : (p : Part) (j : ℕ) (x : CalculationPeriod) → KeepsBounds p → period_at p j ≡ Some x
@@ -78,6 +79,6 @@ period_statable p j x h e = elim (slice_get_cases p.periods j).1 [
       let same : Some (dated_period p (j + 1) w.0) ≡ Some x = rw there at e in
       let P : CalculationPeriod → Type 0 = λ y. IsStatablePeriod y in
       subst P (ap (λ (o : Option CalculationPeriod). unwrap_or o x) same)
-      (entry_statable p j w.0 (every_get (IsEntry p.day_count) p.periods j w.0 h.entries there))
+      (entry_statable p j w.0 (every_get (IsEntry p.daily p.day_count) p.periods j w.0 h.entries there))
   | inr w ↦ absurd (let none = w.1 in let bad = rw none at e in cc)
 ]

@@ -17,7 +17,7 @@ use Rattle.irs_terms.specs.declared.currency.Currency.{Currency}
 use Rattle.irs_terms.specs.declared.results.Exchange.{Exchange}
 use Rattle.jiff_core.proofs.SignedLemmas.{signed_arith}
 use Rattle.std.proofs.Common.{◌≡◌, ℕ, ◌+◌, ◌<◌, ◌≤◌, List, [], ◌∷◌, length, get_or, Option, Some, ℤ, pos, ◌<ℤ◌, inl}
-use Rattle.std.proofs.Common.{inr, sym, ap, ◌∙◌, subst, arith}
+use Rattle.std.proofs.Common.{inr, sym, ap, ◌∙◌, subst, arith, Bool}
 use Rattle.std.proofs.lemmas.Option.{slice_get_cases, slice_get-get_or, IfSome_then}
 use Rattle.std.specs.Prelude.{slice_get, unwrap_or}
 
@@ -59,8 +59,8 @@ above_zero Thirty360 = omega (arith, signed_arith)
 above_zero ThirtyE360 = omega (arith, signed_arith)
 above_zero ThirtyE360Isda = omega (arith, signed_arith)
 
-entry_above : (code : DayCountCode) (e : PeriodEntry) → IsEntry code e → pos 0 <ℤ e.frac.den
-entry_above code e h = subst (λ (d : ℤ). pos 0 <ℤ d) (sym h.denominator) (above_zero code)
+entry_above : (daily : Bool) (code : DayCountCode) (e : PeriodEntry) → IsEntry daily code e → pos 0 <ℤ e.frac.den
+entry_above daily code e h = subst (λ (d : ℤ). pos 0 <ℤ d) (sym h.denominator) (above_zero code)
 
 -- the denominator of a period's fraction is above 0
 pub period_above : (p : Part) (j : ℕ) (x : CalculationPeriod) → KeepsBounds p → period_at p j ≡ Some x
@@ -70,7 +70,7 @@ period_above p j x h e = elim (slice_get_cases p.periods j).1 [
       let there = w.2 in
       let same : Some (dated_period p (j + 1) w.0) ≡ Some x = rw there at e in
       subst (λ (d : ℤ). pos 0 <ℤ d) (ap (λ (o : Option CalculationPeriod). (unwrap_or o x).frac.den) same)
-      (entry_above p.day_count w.0 (every_get (IsEntry p.day_count) p.periods j w.0 h.entries there))
+      (entry_above p.daily p.day_count w.0 (every_get (IsEntry p.daily p.day_count) p.periods j w.0 h.entries there))
   | inr w ↦ absurd (let none = w.1 in let bad = rw none at e in cc)
 ]
 

@@ -2,7 +2,7 @@
 -- numbers have at most 18 digits before the point.
 use Rattle.std.proofs.Common.{◌≡◌, ℕ, zero, suc, ◌+◌, ◌-◌, ◌*◌, ◌/◌, ◌^◌, ◌<◌, ◌≤◌, ◌==◌, true, List, [], ◌∷◌, length}
 use Rattle.std.proofs.Common.{All, Option, Some, None, IfSome, option_map, ℤ, pos, negsuc, ◌*ℤ◌, ◌≤ℤ◌, unsigned_abs}
-use Rattle.std.proofs.Common.{refl, sym, subst, arith}
+use Rattle.std.proofs.Common.{refl, sym, subst, arith, Bool, false}
 use Rattle.std.specs.Prelude.{slice_get}
 use Rattle.std.specs.List.{list_all}
 use Rattle.std.proofs.Math.Nat.{div-le_of_le-mul}
@@ -17,7 +17,7 @@ use Rattle.irs_base.specs.Members.{Every}
 use Rattle.irs_base.specs.Rounding.{Rounded, rounded}
 use Rattle.irs_base.specs.declared.line.Dec.{Dec}
 use Rattle.irs_base.specs.declared.rounding.Direction.TheVariants.{Nearest}
-use Rattle.irs_terms.specs.Lawful.{IsNotional, IsRate}
+use Rattle.irs_terms.specs.Lawful.{IsNotional}
 use Rattle.irs_terms.specs.declared.codes.DayCountCode.{DayCountCode}
 use Rattle.irs_terms.specs.declared.codes.DayCountCode.TheVariants.{OneOne, ActActIsda, Act365Fixed, Act360, Thirty360}
 use Rattle.irs_terms.specs.declared.codes.DayCountCode.TheVariants.{ThirtyE360, ThirtyE360Isda}
@@ -34,7 +34,8 @@ use Rattle.irs_emit.specs.RowLaws.{IsExchangeShort, IsPaymentShort, IsPeriodShor
 use Rattle.irs_emit.specs.RowLaws.{IsShortRate}
 use Rattle.irs_schedule.proofs.WalkLemmas.{covers_within}
 use Rattle.irs_schedule.specs.Parts.{Covers, HasAmount, HasDays, IsAmount, IsCode, IsDatedExchange, IsDatedPayment}
-use Rattle.irs_schedule.specs.Parts.{IsDatedReset, IsEntry, KeepsBounds, Part}
+use Rattle.irs_schedule.specs.Parts.{IsDatedReset, IsEntry, KeepsBounds, Part, most_entry_rate}
+use Rattle.irs_schedule.specs.StreamResets.{HasObserved, most_observed_rate}
 use Rattle.irs_schedule.specs.PeriodViews.{dated_period, period_at}
 use Rattle.irs_schedule.specs.declared.entries.PaymentEntry.{PaymentEntry}
 use Rattle.irs_schedule.specs.declared.entries.PeriodEntry.{PeriodEntry}
@@ -68,11 +69,13 @@ notional_short : (n : ℤ) → IsNotional n → IsShort n 4
 notional_short (pos n) h = omega (arith, signed_arith, h)
 notional_short (negsuc n) h = absurd (omega (arith, signed_arith, h))
 
-rate_short : (r : ℤ) → unsigned_abs r ≤ 110_000_000_000 → IsShortRate r
-rate_short r h = omega (arith, h)
+rate_short : (daily : Bool) (r : ℤ) → unsigned_abs r ≤ most_entry_rate daily → IsShortRate r
+rate_short true r h = omega (arith, h)
+rate_short false r h = omega (arith, h)
 
-observed_short : (r : ℤ) → IsRate r → IsShortRate r
-observed_short r h = omega (arith, h)
+observed_short : (daily : Bool) (r : ℤ) → unsigned_abs r ≤ most_observed_rate daily → IsShortRate r
+observed_short true r h = omega (arith, h)
+observed_short false r h = omega (arith, h)
 
 days_short : (n : ℤ) → (pos 0 ≤ℤ n) × (n ≤ℤ pos most_numerator) → unsigned_abs n < 10 ^ 9
 days_short (pos n) h = omega (arith, signed_arith, h)
@@ -96,8 +99,9 @@ over_code Thirty360 num m h r = (omega (arith, signed_arith, h, r), omega (arith
 over_code ThirtyE360 num m h r = (omega (arith, signed_arith, h, r), omega (arith, signed_arith, h, r))
 over_code ThirtyE360Isda num m h r = (omega (arith, signed_arith, h, r), omega (arith, signed_arith, h, r))
 
-fraction_few : (code : DayCountCode) (e : PeriodEntry) → IsEntry code e → IsFew (stated_fraction e.frac).units
-fraction_few code e h =
+fraction_few : (daily : Bool) (code : DayCountCode) (e : PeriodEntry) → IsEntry daily code e
+    → IsFew (stated_fraction e.frac).units
+fraction_few daily code e h =
     let num = e.frac.num *ℤ pos (10 ^ 10) in
     let P : ℤ → Type 0 = λ den. IsFew (rounded Nearest num den) in
     subst P (sym h.denominator)
@@ -171,18 +175,18 @@ payments_short p h =
 
 resets_short : (p : Part) → KeepsBounds p → Every IsResetShort p.resets
 resets_short p h =
-    both IsDatedReset (λ (r : Reset). IfSome r.observed IsRate) IsResetShort p.resets
+    both IsDatedReset (HasObserved p.daily) IsResetShort p.resets
     (λ r days observed. record {
       reset = days.0;
       fixing = days.1;
       observed =
-          IfSome_then r.observed observed observed_short;
+          IfSome_then r.observed observed (observed_short p.daily);
     }) h.dates.resets h.observed
 
-period_short : (p : Part) (j : ℕ) (e : PeriodEntry) → HasDays p → IsEntry p.day_count e
+period_short : (p : Part) (j : ℕ) (e : PeriodEntry) → HasDays p → IsEntry p.daily p.day_count e
     → IsPeriodShort (dated_period p (j + 1) e)
 period_short p j e days h =
-    let fraction = fraction_few p.day_count e h in
+    let fraction = fraction_few p.daily p.day_count e h in
     record {
       start = day_at_day p.unadjusted (j + 1 - 1) days.unadjusted;
       «end» = day_at_day p.unadjusted (j + 1) days.unadjusted;
@@ -190,7 +194,7 @@ period_short p j e days h =
       adjusted_end = day_at_day p.adjusted (j + 1) days.adjusted;
       days = days_short e.days h.days;
       notional = notional_short e.notional h.notional;
-      rate = IfSome_then e.rate h.rate rate_short;
+      rate = IfSome_then e.rate h.rate (rate_short p.daily);
       fraction = fraction.0;
       short = few_short (stated_fraction e.frac).units fraction;
     }
@@ -198,7 +202,7 @@ period_short p j e days h =
 periods_short : (p : Part) (j : ℕ) → KeepsBounds p → IfSome (period_at p j) IsPeriodShort
 periods_short p j h =
     of_map (dated_period p (j + 1)) IsPeriodShort (slice_get p.periods j)
-    (IfSome_then (slice_get p.periods j) (at_place (IsEntry p.day_count) p.periods j h.entries)
+    (IfSome_then (slice_get p.periods j) (at_place (IsEntry p.daily p.day_count) p.periods j h.entries)
     (λ e entry. period_short p j e h.dates entry))
 
 part_short : (p : Part) → KeepsBounds p → IsPartShort p
