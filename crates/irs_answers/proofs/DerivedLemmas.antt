@@ -46,8 +46,8 @@ use Rattle.irs_answers.proofs.StepLemmas.{broken, kept, read, unread}
 
 -- ---- the stream
 
--- the stream with that number is one
-same_leg : (f g : FloatTerms) → (let l : Leg = Floating f in l ≡ Floating g) → f ≡ g
+-- floating legs that are equal have equal terms
+pub same_leg : (f g : FloatTerms) → (let l : Leg = Floating f in l ≡ Floating g) → f ≡ g
 same_leg f g e = cc
 
 -- a number names one floating stream
@@ -56,6 +56,11 @@ one_floating swap n x y h k =
     let s : y.stream ≡ x.stream = same_Some y.stream x.stream (sym k.at ∙ h.at) in
     let f : y.float ≡ x.float = same_leg y.float x.float (sym k.pays ∙ ap (λ (z : Stream). z.leg) s ∙ h.pays) in
     ap₂ (λ (z : Stream) (w : FloatTerms). record { stream = z; float = w }) s f
+
+-- a swap has a floating stream with that number exactly where it floats there
+pub floats_by : (swap : Swap) (n : ℕ) (x : FloatingStream) → IsFloatingAt swap n x → Floats swap n
+floats_by swap n x k =
+    (x.float, record { from_one = k.from_one; stream = x.stream; at = k.at; pays = k.pays; plain = k.plain })
 
 module _ (swap : Swap) (cal : List Section) (parts : List Part) (h : IsUnfixed swap cal parts) (n : ℕ)
     (x : FloatingStream) (k : IsFloatingAt swap n x) where
@@ -76,7 +81,8 @@ module _ (swap : Swap) (cal : List Section) (parts : List Part) (h : IsUnfixed s
       → IsAsked (asked swap n parts days rates)
   overnight_asked days rates e = record {
     lawful = h.lawful;
-    floats = (x.float, record { from_one = k.from_one; stream = x.stream; at = k.at; pays = k.pays });
+    floats =
+        (x.float, record { from_one = k.from_one; stream = x.stream; at = k.at; pays = k.pays; plain = k.plain });
     calendars = cal;
     terms = h.terms;
     dates = h.dated;
@@ -89,7 +95,8 @@ module _ (swap : Swap) (cal : List Section) (parts : List Part) (h : IsUnfixed s
       → IsStubAsked (stub_asked swap n side low high parts rates)
   stub_is_asked side low high rates l m = record {
     lawful = h.lawful;
-    floats = (x.float, record { from_one = k.from_one; stream = x.stream; at = k.at; pays = k.pays });
+    floats =
+        (x.float, record { from_one = k.from_one; stream = x.stream; at = k.at; pays = k.pays; plain = k.plain });
     calendars = cal;
     terms = h.terms;
     dates = h.dated;
@@ -224,11 +231,9 @@ stub_short swap n side index tenor lawful gives =
 
 -- ---- a stream that floats, as K40 says it
 
--- a swap has a floating stream with that number exactly where it floats there
-pub floats_by : (swap : Swap) (n : ℕ) (x : FloatingStream) → IsFloatingAt swap n x → Floats swap n
-floats_by swap n x k = (x.float, record { from_one = k.from_one; stream = x.stream; at = k.at; pays = k.pays })
-
 -- a number of a floating stream names one
 pub stream_by : (swap : Swap) (n : ℕ) → Floats swap n → (x : FloatingStream) × IsFloatingAt swap n x
-stream_by swap n f =
-    (record { stream = f.1.stream; float = f.0 }, record { from_one = f.1.from_one; at = f.1.at; pays = f.1.pays })
+stream_by swap n f = (
+  record { stream = f.1.stream; float = f.0 },
+  record { from_one = f.1.from_one; at = f.1.at; pays = f.1.pays; plain = f.1.plain },
+)

@@ -41,7 +41,7 @@ use Rattle.irs_net.specs.declared.sides.Sides.{Sides}
 use Rattle.irs_net.proofs.SideLemmas.{one_sides_of}
 use Rattle.irs_answers.specs.declared.tasks.Task.{Task}
 use Rattle.irs_answers.specs.declared.tasks.Task.TheVariants.{Check, Schedule, Audit, Emit, Accrue, Net, Overnight}
-use Rattle.irs_answers.specs.declared.tasks.Task.TheVariants.{Average, Breaks, Interpolate}
+use Rattle.irs_answers.specs.declared.tasks.Task.TheVariants.{Average, Breaks, Interpolate, Observations}
 use Rattle.irs_answers.specs.declared.refusals.Refusal.{Refusal}
 use Rattle.irs_answers.specs.declared.refusals.Refusal.TheVariants.{Rule, Calendars, Fixings}
 use Rattle.irs_answers.specs.declared.replies.Reply.{Reply}
@@ -56,9 +56,11 @@ use Rattle.irs_answers.specs.Due.{DueKept, DueDated, DueTerms, DueFixings, DueCa
 use Rattle.irs_answers.specs.Due.{Passes}
 use Rattle.irs_answers.specs.Outcomes.{Answer, answer_of, of_read, of_stopped, Ends, FixingsFail, IfRefused, IfAnswered}
 use Rattle.irs_answers.specs.Outcomes.{IsRuleFirst, IsUnscheduled, IsScheduled}
+use Rattle.irs_answers.proofs.AccrueSame.{accrued_same}
 use Rattle.irs_answers.proofs.FirstLemmas.{one_first, one_fixings_fault, no_fixings}
 use Rattle.irs_answers.proofs.SameRates.{SameRates, same_back, same_file, schedule_same, kept_same, first_same_table}
 use Rattle.irs_answers.proofs.DerivedSame.{average_due, interpolate_due, overnight_due}
+use Rattle.irs_answers.proofs.ObservedLemmas.{observations_same}
 use Rattle.irs_answers.proofs.StepLemmas.{answered_more, refused_more, ends_more, read, unread, kept, broken}
 use Rattle.irs_answers.proofs.StepLemmas.{rules_more}
 
@@ -161,8 +163,11 @@ answered_same Schedule g swap sides cal r q s status text e h = h
 answered_same Audit g swap sides cal r q s status text e h = h
 answered_same (Breaks from) g swap sides cal r q s status text e h = h
 answered_same Emit g swap sides cal r q s status text e h = h
-answered_same (Accrue date) g swap sides cal r q s status text e h = h
+answered_same (Accrue date) g swap sides cal r q s status text e h =
+    (h.0, accrued_same r q e swap cal date s text h.1)
 answered_same Net g swap sides cal r q s status text e h = h
+answered_same (Observations stream) g swap sides cal r q s status text e h =
+    observations_same r q e swap cal s stream status text h
 answered_same (Overnight stream) g swap sides cal r q s status text e h =
     overnight_due r q e swap cal s status text stream h
 answered_same (Average stream mean step) g swap sides cal r q s status text e h =

@@ -5,12 +5,14 @@ pub mod SameRates
 pub mod StepLemmas
 pub mod SameDerived
 pub mod DerivedSame
+pub mod ObservedLemmas
 pub mod DueLemmas
 pub mod XmlValues
 pub mod CarrierLemmas
 pub mod PassLemmas
 pub mod FileLimits
 pub mod AccrueLemmas
+pub mod AccrueSame
 pub mod FlowLemmas
 pub mod NetLemmas
 pub mod DerivedLemmas

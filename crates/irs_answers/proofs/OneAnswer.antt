@@ -43,7 +43,7 @@ use Rattle.irs_terms.specs.declared.amounts.FloatTerms.{FloatTerms}
 use Rattle.irs_terms.specs.declared.frequency.Frequency.{Frequency}
 use Rattle.irs_answers.specs.declared.tasks.Task.{Task}
 use Rattle.irs_answers.specs.declared.tasks.Task.TheVariants.{Check, Schedule, Audit, Emit, Accrue, Net as OfNet}
-use Rattle.irs_answers.specs.declared.tasks.Task.TheVariants.{Overnight, Average, Breaks, Interpolate}
+use Rattle.irs_answers.specs.declared.tasks.Task.TheVariants.{Overnight, Average, Breaks, Interpolate, Observations}
 use Rattle.irs_answers.specs.Carried.{DueCarrier, carrier_text}
 use Rattle.irs_answers.specs.Given.{Given}
 use Rattle.irs_answers.specs.Messages.{all_kept, refused, unreadable, bad_calendar, bad_fixings}
@@ -52,6 +52,10 @@ use Rattle.irs_answers.specs.Derived.{DueAverage, DueAveraged, DueCompounded, Du
 use Rattle.irs_answers.specs.Derived.{IsFloatingAt, NotFloating, PrintsOne, PrintsStub}
 use Rattle.irs_answers.specs.Netted.{TellsNet, TellsNetOf, net_page}
 use Rattle.irs_answers.specs.Due.{DueFor, DueDocument, DueSides, DueCalendars, DueFixings, DueTerms, DueDated, DueKept}
+use Rattle.irs_daily.specs.RowTexts.{observations_text}
+use Rattle.irs_daily.specs.declared.rows.ObservedRow.{ObservedRow}
+use Rattle.irs_answers.specs.Accrued.{Accruing, accruing}
+use Rattle.irs_answers.specs.Observed.{AreRowsIn, DueObservations, IsDailyAt, NotDaily, ShowsRows, no_daily_stream}
 use Rattle.irs_answers.specs.CashFlows.{BadFlows, DueBreaks, DueFlows, DueStated, DueVerdict, IsStatusOf, OfFlows}
 use Rattle.irs_answers.specs.Due.{Answered, AreFixings, BadCalendars, BadFixings}
 use Rattle.irs_answers.specs.Due.{BreaksSides, Facts, facts, HasSides, IsFixingsFault, IsOneDue, KeepsTerms, rates_for}
@@ -128,6 +132,15 @@ module _ (s u : ℕ) (t v : List ℕ) where
       rules_both K (Refuses P s t) (Refuses P u v) (PrintsOne Q float s t) (PrintsOne Q float u v) (one_refusal P)
       (one_printed Q float) h k
 
+  -- the days behind each rate of a stream
+  one_observations : (n : ℕ) (x : Accruing) (parts : List Part) → DueObservations n x parts s t
+      → DueObservations n x parts u v → Same
+  one_observations n x parts h k =
+      step_both (IsDailyAt x.swap n) (NotDaily n s t) (NotDaily n u v) (λ y. ShowsRows n x parts y s t)
+      (λ y. ShowsRows n x parts y u v) (both 2 (refused (no_daily_stream n)))
+      (λ y a b. by_one (AreRowsIn n x parts y) (λ _. 0) (λ (rows : List ObservedRow). observations_text n rows)
+      a.0 b.0 a.1 b.1 a.2 b.2) h k
+
   module _ (n : ℕ) (swap : Swap) where
     one_overnight : (cal : List Section) (rates : RateTable) (parts : List Part)
         → DueOvernight n swap cal rates parts s t → DueOvernight n swap cal rates parts u v → Same
@@ -177,8 +190,9 @@ module _ (s u : ℕ) (t v : List ℕ) where
   one_answered Audit g f h k = one_flows (DueVerdict f.parts) (one_verdict f.parts) g.flows h k
   one_answered (Breaks from) g f h k = one_flows (DueBreaks from f.parts) (one_list from f.parts) g.flows h k
   one_answered Emit g f h k = both 0 (emit_text f.parts) h k
-  one_answered (Accrue date) g f h k = (h.0 ∙ sym k.0, one_page date f.parts t v h.1 k.1)
+  one_answered (Accrue date) g f h k = (h.0 ∙ sym k.0, one_page (accruing f.swap f.cal f.table) date f.parts t v h.1 k.1)
   one_answered OfNet g f h k = (h.0 ∙ sym k.0, one_netted f.sides f.parts h.1 k.1)
+  one_answered (Observations stream) g f h k = one_observations stream (accruing f.swap f.cal f.table) f.parts h k
   one_answered (Overnight stream) g f h k = one_overnight stream f.swap f.cal f.table f.parts h k
   one_answered (Average stream mean step) g f h k = one_average stream f.swap mean step f.cal f.table f.parts h k
   one_answered (Interpolate stream side low high) g f h k =

@@ -1,30 +1,96 @@
 -- A schedule and the rules of dates and amounts depend on a table of rates by its rates alone.
-use Rattle.std.proofs.Common.{inl, inr, ℕ, List, [], ◌∷◌, sym}
+use Rattle.std.proofs.Common.{◌≡◌, inl, inr, ℕ, List, [], ◌∷◌, Option, Some, None, sym, subst}
 use Rattle.irs_base.specs.Faults.{in_stream}
 use Rattle.irs_base.specs.Members.{Pairs}
 use Rattle.irs_base.specs.Outcomes.{refused_as}
 use Rattle.irs_base.specs.declared.places.Broken.{Broken}
 use Rattle.irs_base.specs.declared.places.Fault.{Fault}
+use Rattle.irs_base.proofs.MemberLemmas.{numbered_map}
 use Rattle.irs_base.proofs.Outcomes.{each_refuses}
+use Rattle.irs_terms.specs.declared.amounts.FloatTerms.{FloatTerms}
+use Rattle.irs_terms.specs.declared.amounts.Leg.{Leg}
+use Rattle.irs_terms.specs.declared.amounts.Leg.TheVariants.{Fixed, Floating}
+use Rattle.irs_terms.specs.declared.parameters.CalculationParameters.{CalculationParameters}
 use Rattle.irs_terms.specs.declared.stream.Stream.{Stream}
 use Rattle.irs_terms.specs.declared.stream_list.Swap.{Swap}
+use Rattle.irs_calendar.specs.GoodDays.{DaySet}
 use Rattle.irs_calendar.specs.declared.sections.Section.{Section}
 use Rattle.irs_resets.specs.Rates.{RateTable}
 pub use Rattle.irs_resets.specs.Rates.{SameRates}
 pub use Rattle.irs_resets.proofs.FileOutcomes.{same_file}
-use Rattle.irs_resets.specs.Resets.{source_of}
+use Rattle.irs_resets.specs.Resets.{ResetSource, source_of}
 use Rattle.irs_resets.proofs.RowLemmas.{resets_same}
+use Rattle.irs_observed.specs.DailyRates.{DailyRates, daily_rates, one_day}
+use Rattle.irs_observed.specs.OvernightRates.{IsOvernightRate, IsRateOf}
+use Rattle.irs_observed.specs.OvernightResets.{AreOvernightResets, DailySource, daily_source}
+use Rattle.irs_observed.specs.declared.daily_resets.OvernightResets.{OvernightResets}
 use Rattle.irs_schedule.specs.DatedRules.{DatedBroken, DatedKept}
 use Rattle.irs_schedule.specs.DaySets.{StreamSets, stream_sets}
 use Rattle.irs_schedule.specs.Outcomes.{resets_over, schedule_of, stream_of}
 use Rattle.irs_schedule.specs.Parts.{Part}
 use Rattle.irs_schedule.specs.Schedules.{IsPart, IsSchedule}
+use Rattle.irs_schedule.specs.StreamResets.{AreResetsBy, AreResetsIn, resets_by, resets_in}
+use Rattle.irs_schedule.proofs.RateLemmas.{with_rates}
 
 -- sameness of rates goes both ways
 pub same_back : (t u : RateTable) → SameRates t u → SameRates u t
 same_back t u e index slot = sym (e index slot)
 
 module _ (t u : RateTable) (e : SameRates t u) where
+  -- ---- resets and observed rates
+
+  overnight_same : (source : DailySource) (x : OvernightResets) → AreOvernightResets source t x
+      → AreOvernightResets source u x
+  overnight_same source x h =
+      let daily : daily_rates t source.rates.index ≡ daily_rates u source.rates.index =
+      λ i d. e source.rates.index (record { date = d; tenor = Some one_day }) i in
+      record {
+        rates = record {
+          many = h.rates.many;
+          each = numbered_map (IsOvernightRate source.rates t) (IsOvernightRate source.rates u) 1 x.rates
+              (λ m r low high is. record {
+                kind = is.kind;
+                is_kind = is.is_kind;
+                is_rate = subst (λ (rates : DailyRates). IsRateOf source.rates rates m is.kind r) daily is.is_rate;
+              }) h.rates.each;
+        };
+        resets = h.resets;
+      }
+
+  module _ (source : ResetSource) (applicable : DaySet) where
+    by_same : (float : FloatTerms) (parameters : Option CalculationParameters) (x : OvernightResets)
+        → AreResetsBy float parameters source applicable t x → AreResetsBy float parameters source applicable u x
+    by_same float None x h = (resets_same source t u e x.resets h.0, h.1)
+    by_same float (Some parameters) x h = overnight_same (daily_source source applicable float parameters) x h
+
+    resets_in_same : (leg : Leg) (x : OvernightResets) → AreResetsIn leg source applicable t x
+        → AreResetsIn leg source applicable u x
+    resets_in_same (Fixed values) x h = (resets_same source t u e x.resets h.0, h.1)
+    resets_in_same (Floating float) x h = by_same float float.parameters x h
+
+    answers_by : (float : FloatTerms) (parameters : Option CalculationParameters) (x : OvernightResets)
+        → (resets_by float parameters source applicable t).Answers x
+        → (resets_by float parameters source applicable u).Answers x
+    answers_by float None x h = ((h.0.0, resets_same source t u e x.resets h.0.1), h.1)
+    answers_by float (Some parameters) x h =
+        (h.0, overnight_same (daily_source source applicable float parameters) x h.1)
+
+    answers_same : (leg : Leg) (x : OvernightResets) → (resets_in leg source applicable t).Answers x
+        → (resets_in leg source applicable u).Answers x
+    answers_same (Fixed values) x h = ((h.0.0, resets_same source t u e x.resets h.0.1), h.1)
+    answers_same (Floating float) x h = answers_by float float.parameters x h
+
+    refuses_by : (float : FloatTerms) (parameters : Option CalculationParameters) (f : Fault)
+        → (resets_by float parameters source applicable t).Refuses f
+        → (resets_by float parameters source applicable u).Refuses f
+    refuses_by float None f h = h
+    refuses_by float (Some parameters) f h = h
+
+    refuses_same : (leg : Leg) (f : Fault) → (resets_in leg source applicable t).Refuses f
+        → (resets_in leg source applicable u).Refuses f
+    refuses_same (Fixed values) f h = h
+    refuses_same (Floating float) f h = refuses_by float float.parameters f h
+
   -- ---- schedules
 
   part_same : (sets : StreamSets) (s : Stream) (p : Part) → IsPart sets t s p → IsPart sets u s p
@@ -32,16 +98,19 @@ module _ (t u : RateTable) (e : SameRates t u) where
     currency = h.currency;
     day_count = h.day_count;
     floating = h.floating;
+    daily = h.daily;
     layout = h.layout;
     is_layout = h.is_layout;
     unadjusted = h.unadjusted;
     adjusted = h.adjusted;
     exchanges = h.exchanges;
     payments = h.payments;
+    rates = h.rates;
     amounts = h.amounts;
     count = h.count;
     periods = h.periods;
-    resets = resets_same (source_of s h.layout.span p.adjusted sets.reset sets.fixing) t u e p.resets h.resets;
+    resets = resets_in_same (source_of s h.layout.span p.adjusted sets.reset sets.fixing) sets.applicable s.leg
+        (with_rates p.resets h.rates) h.resets;
   }
 
   parts_same : (cal : List Section) (ss : List Stream) (ps : List Part)
@@ -61,9 +130,9 @@ module _ (t u : RateTable) (e : SameRates t u) where
   stream_answers : (sets : StreamSets) (s : Stream) (p : Part) → (stream_of sets t s).Answers p
       → (stream_of sets u s).Answers p
   unfolding stream_of
-  stream_answers sets s p (l, laid, (d, (ps, dated, (xs, exchanged, (rs, reset, made))), rest)) =
-      let moved = resets_same (resets_over sets s l) t u e rs reset.1 in
-      (l, laid, (d, (ps, dated, (xs, exchanged, (rs, (reset.0, moved), made))), rest))
+  stream_answers sets s p (l, laid, (d, (ps, dated, (xs, exchanged, (x, reset, made))), rest)) =
+      let moved = answers_same (resets_over sets s l) sets.applicable s.leg x reset in
+      (l, laid, (d, (ps, dated, (xs, exchanged, (x, moved, made))), rest))
 
   stream_refuses : (sets : StreamSets) (s : Stream) (f : Fault) → (stream_of sets t s).Refuses f
       → (stream_of sets u s).Refuses f
@@ -73,11 +142,24 @@ module _ (t u : RateTable) (e : SameRates t u) where
   stream_refuses sets s f (inr (l, laid, inl (inr (ps, dated, inl first)))) =
       inr (l, laid, inl (inr (ps, dated, inl first)))
   stream_refuses sets s f (inr (l, laid, inl (inr (ps, dated, inr (xs, exchanged, inl first))))) =
-      inr (l, laid, inl (inr (ps, dated, inr (xs, exchanged, inl first))))
+      inr (
+        l,
+        laid,
+        inl (inr (
+          ps,
+          dated,
+          inr (
+            xs,
+            exchanged,
+            inl
+                (refuses_same (resets_over sets s l) sets.applicable s.leg f first),
+          ),
+        )),
+      )
   stream_refuses sets s f (inr (l, laid, inl (inr (ps, dated, inr (xs, exchanged, inr last))))) = absurd last.2
-  stream_refuses sets s f (inr (l, laid, inr (d, (ps, dated, (xs, exchanged, (rs, reset, made))), rest))) =
-      let moved = resets_same (resets_over sets s l) t u e rs reset.1 in
-      inr (l, laid, inr (d, (ps, dated, (xs, exchanged, (rs, (reset.0, moved), made))), rest))
+  stream_refuses sets s f (inr (l, laid, inr (d, (ps, dated, (xs, exchanged, (x, reset, made))), rest))) =
+      let moved = answers_same (resets_over sets s l) sets.applicable s.leg x reset in
+      inr (l, laid, inr (d, (ps, dated, (xs, exchanged, (x, moved, made))), rest))
 
   -- the same first broken rule
   pub first_same_table : (swap : Swap) (cal : List Section) (x : Broken) → DatedBroken swap cal t x

@@ -1,5 +1,5 @@
 -- What is due for the tasks that derive rates for a floating stream: their own rules, then a fixing file.
-use Rattle.std.specs.Prelude.{◌≡◌, ℕ, ◌-◌, ◌≤◌, List, [], ◌∷◌, Option, Some, slice_get}
+use Rattle.std.specs.Prelude.{◌≡◌, ℕ, ◌-◌, ◌≤◌, List, [], ◌∷◌, Option, Some, None, slice_get}
 use Rattle.irs_base.specs.Order.{Only}
 use Rattle.irs_terms.specs.Lawful.{IsLawful}
 use Rattle.irs_terms.specs.declared.amounts.FloatTerms.{FloatTerms}
@@ -31,11 +31,12 @@ pub record FloatingStream : Type 0 where
   pub stream : Stream
   pub float : FloatTerms
 
--- the swap has it as the stream with that number, from 1
+-- the swap has it as the stream with that number, from 1, and it has no calculationParameters
 pub record IsFloatingAt (swap : Swap) (number : ℕ) (x : FloatingStream) : Type 0 where
   pub from_one : 1 ≤ number
   pub at : slice_get swap.streams (number - 1) ≡ Some x.stream
   pub pays : x.stream.leg ≡ Floating x.float
+  pub plain : x.float.parameters ≡ None
 
 -- a lawful swap breaks no rule without fixings, by these calendars, and this is its schedule then
 pub record IsUnfixed (swap : Swap) (cal : List Section) (parts : List Part) : Type 0 where
@@ -44,7 +45,7 @@ pub record IsUnfixed (swap : Swap) (cal : List Section) (parts : List Part) : Ty
   pub dated : DatedKept swap cal []
   pub schedule : IsSchedule swap cal [] parts
 
--- K40: the swap has no such stream, or it is fixed
+-- K40: the swap has no such stream, or it is fixed, or it has calculationParameters
 abbrev pub NotFloating : ℕ → ℕ → List ℕ → Type 0
 NotFloating number status text = Is 2 (refused (no_floating_stream number)) status text
 

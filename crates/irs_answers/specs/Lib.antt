@@ -6,6 +6,7 @@ pub mod FlowMessages
 pub mod Steps
 pub mod Carried
 pub mod Accrued
+pub mod Observed
 pub mod Netted
 pub mod Derived
 pub mod CashFlows

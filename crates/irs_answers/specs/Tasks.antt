@@ -5,7 +5,7 @@ use Rattle.irs_terms.specs.Lawful.{IsLawfulTenor}
 use Rattle.irs_average.specs.Averages.{most_step}
 use Rattle.irs_answers.specs.declared.tasks.Task.{Task}
 use Rattle.irs_answers.specs.declared.tasks.Task.TheVariants.{Check, Schedule, Audit, Emit, Accrue, Net, Overnight}
-use Rattle.irs_answers.specs.declared.tasks.Task.TheVariants.{Average, Breaks, Interpolate}
+use Rattle.irs_answers.specs.declared.tasks.Task.TheVariants.{Average, Breaks, Interpolate, Observations}
 
 -- whether a task's schedule is made with the rates of the file of fixings; where there is no file, there are no rates
 abbrev pub uses_rates : Task → Bool
@@ -16,6 +16,7 @@ uses_rates (Breaks from) = true
 uses_rates Emit = true
 uses_rates (Accrue date) = true
 uses_rates Net = true
+uses_rates (Observations stream) = true
 uses_rates (Overnight stream) = false
 uses_rates (Average stream mean step) = false
 uses_rates (Interpolate stream side low high) = false
@@ -29,6 +30,7 @@ nets (Breaks from) = false
 nets Emit = false
 nets (Accrue date) = false
 nets Net = true
+nets (Observations stream) = false
 nets (Overnight stream) = false
 nets (Average stream mean step) = false
 nets (Interpolate stream side low high) = false
@@ -42,6 +44,7 @@ IsLawfulTask (Breaks from) = Unit {0}
 IsLawfulTask Emit = Unit {0}
 IsLawfulTask (Accrue date) = Unit {0}
 IsLawfulTask Net = Unit {0}
+IsLawfulTask (Observations stream) = Unit {0}
 IsLawfulTask (Overnight stream) = Unit {0}
 IsLawfulTask (Average stream mean step) = (1 ≤ step) × (step ≤ most_step)
 IsLawfulTask (Interpolate stream side low high) = IsLawfulTenor low × IsLawfulTenor high

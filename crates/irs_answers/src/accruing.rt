@@ -1,25 +1,47 @@
 //! The text of `accrue`: what has accrued on a day, a line a stream. Its format is this project's own.
-ghost use Rattle.std.specs.Prelude.{◌≡◌, IfOk};
-ghost use Rattle.irs_answers.specs.Accrued.{TellsAccrued, accrued_header};
+ghost use Rattle.std.specs.Prelude.{◌≡◌, ◌+◌, ◌<◌, Some, length, slice_get, IfOk};
+ghost use Rattle.irs_base.specs.Order.{Only};
+ghost use Rattle.irs_schedule.specs.Parts.{Part};
+ghost use Rattle.irs_accrue.specs.Accruals.{HasPlaces};
+ghost use Rattle.irs_answers.specs.Accrued.{AccruesAt, IsAccruing, TellsAccrued, accrued_header, accruing};
 
-use irs_accrue::{accrued, accrued_text};
+use crate::due::Found;
+use irs_accrue::{Accrual, accrued_of, accrued_text};
 use irs_base::{Day, Line, Memory};
-use irs_schedule::Schedule;
+use irs_schedule::applicable_days;
 use std::alloc::Global;
 
 /// What has accrued on a day in each stream.
-pub(crate) fn accrued_page(alloc: Global, schedule: &Schedule, date: Day) -> Result<Vec<u8>, Memory>
-    ensures { IfOk result (λ t. TellsAccrued date schedule.now t.items) }
+pub(crate) fn accrued_page(alloc: Global, found: &Found, date: Day) -> Result<Vec<u8>, Memory>
+    requires { IsAccruing (accruing found.now.swap found.now.calendars found.now.fixings) found.now.schedule }
+    ensures { let x = accruing found.now.swap found.now.calendars found.now.fixings in
+        IfOk result (λ t. TellsAccrued date x found.now.schedule t.items) }
 {
     let mut text = header(alloc, date)?;
     let mut line = Line::new();
-    for index in 0..schedule.stream_count() {
-        let stream = index + 1;
-        accrued_text(stream, &accrued(schedule, stream, date), &mut line);
+    for index in 0..found.schedule.stream_count() {
+        let accrual = accrual_in(alloc, found, index, date)?;
+        accrued_text(index + 1, &accrual, &mut line);
         text.extend_from_slice(line.bytes())?;
     }
     text.extend_from_slice(b"end\n")?;
     Ok(text)
+}
+
+// What has accrued on a day in the stream at a place.
+fn accrual_in(alloc: Global, found: &Found, index: u8, date: Day) -> Result<Accrual, Memory>
+    requires files { IsAccruing (accruing found.now.swap found.now.calendars found.now.fixings) found.now.schedule }
+    requires place { index < length found.now.schedule }
+    ensures accrues { let x = accruing found.now.swap found.now.calendars found.now.fixings in
+        (p : Part) → slice_get found.now.schedule index ≡ Some p
+        → IfOk result (Only (AccruesAt x date (index + 1) p)) }
+    ensures places { IfOk result HasPlaces }
+{
+    let place = index as usize;
+    let stream = &found.swap.streams.as_slice()[place];
+    let part = &found.schedule.streams()[place];
+    let days = applicable_days(alloc, &found.calendars, stream)?;
+    accrued_of(alloc, stream, &days, &found.fixings, part, date)
 }
 
 fn header(alloc: Global, date: Day) -> Result<Vec<u8>, Memory>

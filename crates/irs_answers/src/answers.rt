@@ -1,7 +1,7 @@
 //! The last step of each task, where no rule is broken.
 ghost use Rattle.std.specs.Prelude.{◌≡◌};
 ghost use Rattle.irs_emit.specs.Emitted.{emit_text};
-ghost use Rattle.irs_answers.specs.Accrued.{TellsAccrued};
+ghost use Rattle.irs_answers.specs.Accrued.{IsAccruing, TellsAccrued, accruing};
 ghost use Rattle.irs_answers.specs.CashFlows.{DueFlows, DueVerdict};
 ghost use Rattle.irs_answers.specs.Due.{Answered, Passes};
 ghost use Rattle.irs_answers.specs.Forms.{source_by};
@@ -21,6 +21,7 @@ use crate::files::TaskFiles;
 use crate::flows::verdict_on;
 use crate::forms::Source;
 use crate::netting::net_answer;
+use crate::observing::observations_answer;
 use crate::refusals::Refusal;
 use crate::replies::{Reply, verdict_reply};
 use crate::tasks::Task;
@@ -47,8 +48,9 @@ pub(crate) fn answer_by(
         Task::Audit => audit_answer(alloc, &files.flows, &found.schedule),
         Task::Breaks(from) => breaks_answer(alloc, &from, &files.flows, &found.schedule),
         Task::Emit => emit_answer(alloc, &found.schedule),
-        Task::Accrue(date) => accrue_answer(alloc, &found.schedule, date),
+        Task::Accrue(date) => accrue_answer(alloc, &found, date),
         Task::Net => net_answer(alloc, &found),
+        Task::Observations(stream) => observations_answer(alloc, stream, &found),
         Task::Overnight(stream) => overnight_answer(alloc, stream, &found),
         Task::Average { stream, mean, step } => average_answer(alloc, stream, mean, step, &found),
         Task::Interpolate {
@@ -79,8 +81,10 @@ fn emit_answer(alloc: Global, schedule: &Schedule) -> Result<Reply, Refusal>
     Ok(Reply::Text(Status::Done, emit_flows(alloc, schedule)?))
 }
 
-fn accrue_answer(alloc: Global, schedule: &Schedule, date: Day) -> Result<Reply, Refusal>
-    ensures { IfAnswered result (Ends (λ status text. (status ≡ 0) × TellsAccrued date schedule.now text)) }
+fn accrue_answer(alloc: Global, found: &Found, date: Day) -> Result<Reply, Refusal>
+    requires { IsAccruing (accruing found.now.swap found.now.calendars found.now.fixings) found.now.schedule }
+    ensures { let x = accruing found.now.swap found.now.calendars found.now.fixings in
+        IfAnswered result (Ends (λ status text. (status ≡ 0) × TellsAccrued date x found.now.schedule text)) }
 {
-    Ok(Reply::Text(Status::Done, accrued_page(alloc, schedule, date)?))
+    Ok(Reply::Text(Status::Done, accrued_page(alloc, found, date)?))
 }

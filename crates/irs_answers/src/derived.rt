@@ -1,6 +1,6 @@
 //! The tasks that derive rates for a floating stream from the file of fixings: their own rules, and the
 //! fixing file that is printed.
-ghost use Rattle.std.specs.Prelude.{◌≡◌, ◌≤◌, length, IfOk, IfErr, IfSome, IfNone};
+ghost use Rattle.std.specs.Prelude.{◌≡◌, ◌≤◌, None, length, IfOk, IfErr, IfSome, IfNone};
 ghost use Rattle.irs_base.specs.Limits.{most_index};
 ghost use Rattle.irs_terms.specs.Lawful.{IsLawfulTenor};
 ghost use Rattle.irs_average.specs.Averages.{most_step};
@@ -97,7 +97,8 @@ pub(crate) fn interpolate_answer(
     Ok(Reply::Text(Status::Done, fixings_page(alloc, &[row], tenor, index)?))
 }
 
-// The floating stream with that number, from 1, and what it pays; K40 where there is none.
+// The floating stream with that number, from 1, and what it pays; K40 where there is none, or where it has
+// `calculationParameters`.
 fn floating(swap: &Swap, number: u8) -> Result<(&Stream, &FloatTerms), Broken>
     ensures floats { IfOk result (λ p. IsFloatingAt swap.now number (record { stream = p.0.now; float = p.1.now })) }
     ensures none { IfErr result (λ _. (x : FloatingStream) → IsFloatingAt swap.now number x → ⊥) }
@@ -112,15 +113,27 @@ fn floating(swap: &Swap, number: u8) -> Result<(&Stream, &FloatTerms), Broken>
     }
 }
 
-// The floating stream with that number, from 1, and what it pays.
+// The floating stream with that number, from 1, and what it pays; none where it has
+// `calculationParameters`.
 fn floating_at(swap: &Swap, number: u8) -> Option<(&Stream, &FloatTerms)>
     ensures some { IfSome result (λ p. IsFloatingAt swap.now number (record { stream = p.0.now; float = p.1.now })) }
     ensures none { IfNone result ((x : FloatingStream) → IsFloatingAt swap.now number x → ⊥) }
 {
     let stream = stream_at(swap, number)?;
     match &stream.leg {
-        Leg::Floating(float) => Some((stream, float)),
+        Leg::Floating(float) => plain(stream, float),
         Leg::Fixed(_) => None,
+    }
+}
+
+// Both, where the stream has no `calculationParameters`.
+fn plain<'a>(stream: &'a Stream, float: &'a FloatTerms) -> Option<(&'a Stream, &'a FloatTerms)>
+    ensures some { IfSome result (λ p. (p.0.now ≡ stream.now) × (p.1.now ≡ float.now) × (float.now.parameters ≡ None)) }
+    ensures none { IfNone result (float.now.parameters ≡ None → ⊥) }
+{
+    match float.parameters {
+        None => Some((stream, float)),
+        Some(_) => None,
     }
 }
 

@@ -14,6 +14,7 @@ mod flows;
 mod forms;
 mod messages;
 mod netting;
+mod observing;
 mod refusals;
 mod replies;
 mod tasks;

@@ -23,6 +23,8 @@ pub enum Task {
     Accrue(Day),
     /// What falls due between the two parties on each date and in each currency.
     Net,
+    /// The days and the daily rates behind each rate of the stream with this number, from 1.
+    Observations(u8),
     /// The rates that daily rates give for the calculation periods of the stream with this number, from 1.
     Overnight(u8),
     /// The averages of a stream's rates, observed every `step` days, over its calculation periods.
@@ -53,6 +55,7 @@ impl Task {
             Task::Emit => true,
             Task::Accrue(_) => true,
             Task::Net => true,
+            Task::Observations(_) => true,
             Task::Overnight(_) => false,
             Task::Average { .. } => false,
             Task::Interpolate { .. } => false,
@@ -71,6 +74,7 @@ impl Task {
             Task::Emit => false,
             Task::Accrue(_) => false,
             Task::Net => true,
+            Task::Observations(_) => false,
             Task::Overnight(_) => false,
             Task::Average { .. } => false,
             Task::Interpolate { .. } => false,

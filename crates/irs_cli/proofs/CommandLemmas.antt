@@ -22,9 +22,9 @@ use Rattle.irs_cli.specs.declared.commands.Request.TheVariants.{OverFiles, Bulk,
 use Rattle.irs_cli.specs.declared.commands.Command.{Command}
 use Rattle.irs_cli.specs.declared.commands.Named.{Named}
 use Rattle.irs_cli.specs.Commands.{Words, texts, Wanted, Asked, Asks, AsksAs, AsksAccrue, AsksAverage, AsksBreaks}
-use Rattle.irs_cli.specs.Commands.{AsksBulk, AsksInterpolate, AsksOvernight, IsRequest, IsListed, IsCommand}
+use Rattle.irs_cli.specs.Commands.{AsksBulk, AsksInterpolate, AsksObservations, AsksOvernight, IsRequest, IsListed}
 use Rattle.irs_cli.specs.Commands.{asked_by, wanted_by, kind_of, params_of, roles_of, calendars_of, role_at, is_file}
-use Rattle.irs_cli.specs.Commands.{IsCommandAs, kept, files_from}
+use Rattle.irs_cli.specs.Commands.{IsCommand, IsCommandAs, kept, files_from}
 use Rattle.irs_cli.specs.Due.{IsLawfulRequest}
 use Rattle.irs_cli.specs.Params.{IsCountWord, IsDateWord, IsFromWord, IsMeanWord, IsSideWord, IsStepWord, IsStreamWord}
 use Rattle.irs_cli.specs.Params.{IsTenorWord}
@@ -113,6 +113,11 @@ one_bulk : (ws : Words) (a b : Request) → AsksBulk ws a → AsksBulk ws b → 
 one_bulk ws a b h k =
     k.is ∙ ap (λ (n : ℕ). Bulk n) (one_at IsCountWord one_count ws 0 h.count k.count h.is_count k.is_count) ∙ sym h.is
 
+one_observations : (ws : Words) (a b : Request) → AsksObservations ws a → AsksObservations ws b → b ≡ a
+one_observations ws a b h k =
+    k.is ∙ ap (λ (n : ℕ). OverFiles (task.Observations n))
+    (one_at IsStreamWord one_stream ws 0 h.stream k.stream h.is_stream k.is_stream) ∙ sym h.is
+
 one_overnight : (ws : Words) (a b : Request) → AsksOvernight ws a → AsksOvernight ws b → b ≡ a
 one_overnight ws a b h k =
     k.is ∙ ap (λ (n : ℕ). OverFiles (task.Overnight n))
@@ -147,6 +152,7 @@ one_request kind.Bulk ws r q h i = one_bulk ws r q h i
 one_request kind.Emit ws r q h i = i ∙ sym h
 one_request kind.Accrue ws r q h i = one_accrue ws r q h i
 one_request kind.Net ws r q h i = i ∙ sym h
+one_request kind.Observations ws r q h i = one_observations ws r q h i
 one_request kind.Overnight ws r q h i = one_overnight ws r q h i
 one_request kind.Average ws r q h i = one_average ws r q h i
 one_request kind.Interpolate ws r q h i = one_interpolate ws r q h i
@@ -162,6 +168,7 @@ lawful_by kind.Bulk ws r h = subst IsLawfulRequest (sym h.is) h.is_count.is.to_m
 lawful_by kind.Emit ws r h = subst IsLawfulRequest (sym h) tt
 lawful_by kind.Accrue ws r h = subst IsLawfulRequest (sym h.is) tt
 lawful_by kind.Net ws r h = subst IsLawfulRequest (sym h) tt
+lawful_by kind.Observations ws r h = subst IsLawfulRequest (sym h.is) tt
 lawful_by kind.Overnight ws r h = subst IsLawfulRequest (sym h.is) tt
 lawful_by kind.Average ws r h = subst IsLawfulRequest (sym h.is) (step_lawful h.is_step.word h.step h.is_step.is)
 lawful_by kind.Interpolate ws r h =
@@ -248,6 +255,7 @@ row_fits kind.Bulk = (refl, omega arith)
 row_fits kind.Emit = (refl, omega arith)
 row_fits kind.Accrue = (refl, omega arith)
 row_fits kind.Net = (refl, omega arith)
+row_fits kind.Observations = (refl, omega arith)
 row_fits kind.Overnight = (refl, omega arith)
 row_fits kind.Average = (refl, omega arith)
 row_fits kind.Interpolate = (refl, omega arith)

@@ -64,6 +64,7 @@ kind_of w =
     if bytes_eq w (codes "emit") then Some kind.Emit else
     if bytes_eq w (codes "accrue") then Some kind.Accrue else
     if bytes_eq w (codes "net") then Some kind.Net else
+    if bytes_eq w (codes "observations") then Some kind.Observations else
     if bytes_eq w (codes "overnight") then Some kind.Overnight else
     if bytes_eq w (codes "average") then Some kind.Average else
     if bytes_eq w (codes "interpolate") then Some kind.Interpolate else
@@ -79,6 +80,7 @@ params_of kind.Bulk = 1
 params_of kind.Emit = 0
 params_of kind.Accrue = 1
 params_of kind.Net = 0
+params_of kind.Observations = 1
 params_of kind.Overnight = 1
 params_of kind.Average = 3
 params_of kind.Interpolate = 4
@@ -94,6 +96,7 @@ roles_of kind.Bulk = []
 roles_of kind.Emit = Document ∷ Fixings ∷ []
 roles_of kind.Accrue = Document ∷ Fixings ∷ []
 roles_of kind.Net = Document ∷ Fixings ∷ []
+roles_of kind.Observations = Document ∷ Fixings ∷ []
 roles_of kind.Overnight = Document ∷ Fixings ∷ []
 roles_of kind.Average = Document ∷ Fixings ∷ []
 roles_of kind.Interpolate = Document ∷ Fixings ∷ []
@@ -109,6 +112,7 @@ calendars_of kind.Bulk = 0
 calendars_of kind.Emit = most_calendars
 calendars_of kind.Accrue = most_calendars
 calendars_of kind.Net = most_calendars
+calendars_of kind.Observations = most_calendars
 calendars_of kind.Overnight = most_calendars
 calendars_of kind.Average = most_calendars
 calendars_of kind.Interpolate = most_calendars
@@ -159,6 +163,12 @@ pub record AsksBulk (ws : Words) (r : Request) : Type 0 where
   pub is_count : At IsCountWord ws 0 count
   pub is : r ≡ Bulk count
 
+-- `observations` with its stream
+pub record AsksObservations (ws : Words) (r : Request) : Type 0 where
+  pub stream : ℕ
+  pub is_stream : At IsStreamWord ws 0 stream
+  pub is : r ≡ OverFiles (task.Observations stream)
+
 -- `overnight` with its stream
 pub record AsksOvernight (ws : Words) (r : Request) : Type 0 where
   pub stream : ℕ
@@ -204,6 +214,7 @@ IsRequest kind.Bulk ws r = AsksBulk ws r
 IsRequest kind.Emit ws r = r ≡ OverFiles task.Emit
 IsRequest kind.Accrue ws r = AsksAccrue ws r
 IsRequest kind.Net ws r = r ≡ OverFiles task.Net
+IsRequest kind.Observations ws r = AsksObservations ws r
 IsRequest kind.Overnight ws r = AsksOvernight ws r
 IsRequest kind.Average ws r = AsksAverage ws r
 IsRequest kind.Interpolate ws r = AsksInterpolate ws r

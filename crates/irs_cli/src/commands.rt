@@ -5,7 +5,8 @@
 //! FLOWS agree with that schedule. `breaks FROM DOC FIX FLOWS CAL..` asks for each break between them,
 //! for what is due from a day on, or with `-` for all. `emit DOC FIX CAL..` asks for the schedule as cash flows,
 //! `accrue DATE DOC FIX CAL..` what has accrued on a day in each stream of that schedule, and
-//! `net DOC FIX CAL..` what falls due between the two parties. `overnight STREAM DOC DAILY CAL..` asks
+//! `net DOC FIX CAL..` what falls due between the two parties. `observations STREAM DOC FIX CAL..` asks
+//! for the days and the daily rates behind each rate of a stream, `overnight STREAM DOC DAILY CAL..`
 //! for the rates that the daily rates of DAILY give for the periods of a stream,
 //! `average STREAM KIND STEP DOC FIX CAL..` for the averages of its rates over them, and
 //! `interpolate STREAM SIDE LOW HIGH DOC FIX CAL..` for the rate of its stub on a side between those of
@@ -24,7 +25,8 @@ ghost use Rattle.irs_cli.specs.Commands.{IsRequest, IsCommand, IsCommandAs, aske
 ghost use Rattle.irs_cli.specs.Commands.{most_words};
 
 use crate::params::{
-    accrue_of, average_of, breaks_of, bulk_of, carrier_of, interpolate_of, overnight_of,
+    accrue_of, average_of, breaks_of, bulk_of, carrier_of, interpolate_of, observations_of,
+    overnight_of,
 };
 use irs_answers::Task;
 use irs_base::{MOST_FILES, Memory};
@@ -49,6 +51,8 @@ pub(crate) enum Kind {
     Accrue,
     /// `net`: what falls due between the two parties.
     Net,
+    /// `observations`: the days behind each rate.
+    Observations,
     /// `overnight`: rates of daily rates, compounded.
     Overnight,
     /// `average`: averages of observed rates.
@@ -123,6 +127,8 @@ fn kind_of(word: &str) -> Option<Kind>
         Some(Kind::Accrue)
     } else if word == "net" {
         Some(Kind::Net)
+    } else if word == "observations" {
+        Some(Kind::Observations)
     } else if word == "overnight" {
         Some(Kind::Overnight)
     } else if word == "average" {
@@ -150,6 +156,7 @@ impl Kind {
             Kind::Emit => 0,
             Kind::Accrue => 1,
             Kind::Net => 0,
+            Kind::Observations => 1,
             Kind::Overnight => 1,
             Kind::Average => 3,
             Kind::Interpolate => 4,
@@ -170,6 +177,7 @@ impl Kind {
             Kind::Emit => &[Role::Document, Role::Fixings],
             Kind::Accrue => &[Role::Document, Role::Fixings],
             Kind::Net => &[Role::Document, Role::Fixings],
+            Kind::Observations => &[Role::Document, Role::Fixings],
             Kind::Overnight => &[Role::Document, Role::Fixings],
             Kind::Average => &[Role::Document, Role::Fixings],
             Kind::Interpolate => &[Role::Document, Role::Fixings],
@@ -190,6 +198,7 @@ impl Kind {
             Kind::Emit => MOST_FILES,
             Kind::Accrue => MOST_FILES,
             Kind::Net => MOST_FILES,
+            Kind::Observations => MOST_FILES,
             Kind::Overnight => MOST_FILES,
             Kind::Average => MOST_FILES,
             Kind::Interpolate => MOST_FILES,
@@ -251,6 +260,7 @@ fn request_of(kind: Kind, words: &[String]) -> Option<Request>
         Kind::Emit => Some(Request::OverFiles(Task::Emit)),
         Kind::Accrue => accrue_of(words),
         Kind::Net => Some(Request::OverFiles(Task::Net)),
+        Kind::Observations => observations_of(words),
         Kind::Overnight => overnight_of(words),
         Kind::Average => average_of(words),
         Kind::Interpolate => interpolate_of(words),

@@ -51,6 +51,17 @@ pub(crate) fn bulk_of(words: &[String]) -> Option<Request>
     }
 }
 
+/// `observations STREAM` by its parameter.
+pub(crate) fn observations_of(words: &[String]) -> Option<Request>
+    ensures some { IfSome result (λ r. IsRequest kind.Observations (texts words.now) r) }
+    ensures none { IfNone result ((r : RequestSpec) → IsRequest kind.Observations (texts words.now) r → ⊥) }
+{
+    match stream_at(words, 0) {
+        Some(stream) => Some(Request::OverFiles(Task::Observations(stream))),
+        None => None,
+    }
+}
+
 /// `overnight STREAM` by its parameter.
 pub(crate) fn overnight_of(words: &[String]) -> Option<Request>
     ensures some { IfSome result (λ r. IsRequest kind.Overnight (texts words.now) r) }

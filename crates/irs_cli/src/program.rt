@@ -26,9 +26,9 @@ use std::alloc::Global;
 ///
 /// The commands are `check DOC CAL..`, `schedule DOC FIX CAL..`, `audit DOC FIX FLOWS CAL..`,
 /// `emit DOC FIX CAL..`, `accrue DATE DOC FIX CAL..`, `net DOC FIX CAL..`,
-/// `overnight STREAM DOC DAILY CAL..`, `average STREAM KIND STEP DOC FIX CAL..` and
-/// `interpolate STREAM SIDE LOW HIGH DOC FIX CAL..`, with 0 to 16 calendars, and `-` as FIX or DAILY for
-/// no fixings.
+/// `observations STREAM DOC FIX CAL..`, `overnight STREAM DOC DAILY CAL..`,
+/// `average STREAM KIND STEP DOC FIX CAL..` and `interpolate STREAM SIDE LOW HIGH DOC FIX CAL..`, with 0
+/// to 16 calendars, and `-` as FIX or DAILY for no fixings.
 /// All files are fetched first, in the order of the words; the flows are read when no rule is broken.
 /// `bulk N`, with N from 1 to 500, names no file. `carrier DOC` prints the value of a document in XML as
 /// JSON; its name ends in `.xml`. Every DOC and FLOWS with such a name is read as XML, and else as JSON.

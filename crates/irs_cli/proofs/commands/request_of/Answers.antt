@@ -20,6 +20,11 @@ returns-in-Bulk-clause-none c =
     subst (λ (k : Kind). IfNone c.bulk_of.result ((r : Request) → IsRequest k (texts c.args.words.now) r → ⊥))
     (sym c.in-Bulk.is) c.bulk_of.ensures.none
 
+pub returns-in-Observations-clause-none : goal.returns-in-Observations-clause-none
+returns-in-Observations-clause-none c =
+    subst (λ (k : Kind). IfNone c.observations_of.result ((r : Request) → IsRequest k (texts c.args.words.now) r → ⊥))
+    (sym c.in-Observations.is) c.observations_of.ensures.none
+
 pub returns-in-Overnight-clause-none : goal.returns-in-Overnight-clause-none
 returns-in-Overnight-clause-none c =
     subst (λ (k : Kind). IfNone c.overnight_of.result ((r : Request) → IsRequest k (texts c.args.words.now) r → ⊥))

@@ -1,0 +1,16 @@
+use Rattle.std.proofs.Common.{ℕ, List, subst, sym}
+use Rattle.irs_answers.specs.Accrued.{Accruing, accruing}
+use Rattle.irs_answers.specs.Observed.{DailyStream, DueObservations, daily_stream}
+use Rattle.irs_answers.specs.Outcomes.{Ends}
+use Rattle.irs_answers.proofs.ObservedLemmas.{shows}
+use Rattle.irs_answers.proofs.observing.observations_answer.Goals as goal
+
+pub returns : goal.returns
+returns c =
+    let f = c.args.found.now in
+    let n = c.args.number in
+    let x : Accruing = accruing f.swap f.calendars f.fixings in
+    let y : DailyStream =
+    daily_stream c.in_ok-stream.stream.now c.in_ok-stream.float.now c.in_ok-stream.parameters.now in
+    subst (λ (t : List ℕ). Ends (DueObservations n x f.schedule) 0 t) (sym c.in_ok-text.ensures)
+    (shows n x f.schedule y c.in_ok-rows.rows c.in_ok-stream.ensures.some c.in_ok-rows.ensures)
