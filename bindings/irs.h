@@ -5,7 +5,7 @@
    of the program (docs/FORMATS.md). Nothing is kept between calls.
 
    What a caller has to keep to:
-   - no pointer is NULL, also where there is nothing behind it (irs_lend helps);
+   - no pointer is NULL, even if it points to nothing (irs_lend helps);
    - `out` and `needed` overlap neither each other nor what is lent, and nobody writes to what is lent
      while the call runs; otherwise several threads may call at once;
    - it isn't called from a signal handler;
@@ -39,7 +39,8 @@ uint8_t irs_run(const struct irs_bytes *words, size_t n_words,
 
 /* What the line of an answer means, in one plain sentence: the words of the command, and the status and
    the text that irs_run answered. Answers 0, or 7 where memory ran out, or 9 where a word isn't UTF-8. The
-   sentence goes to `out` and its length to `*needed` as the text of irs_run does; at status 0 it is empty. */
+   sentence goes to `out` and its length to `*needed` as the text of irs_run does; at status 0 it is empty,
+   but for an audit whose line says that amounts lack a fixing. */
 uint8_t irs_meaning(const struct irs_bytes *words, size_t n_words, uint8_t status,
                     const uint8_t *line, size_t line_len,
                     uint8_t *out, size_t out_len, size_t *needed);

@@ -1,8 +1,8 @@
 // irs.hpp: libirs for C++17, over irs.h. Words, files, texts and statuses are those of the program (docs/FORMATS.md).
 //
-//     irs::answer told = irs::run({"schedule", "terms.json", "-"}, {{"terms.json", document}});
-//     if (told) std::cout << told.text();
-//     else std::cerr << told.sentence() << '\n';
+//     irs::answer reply = irs::run({"schedule", "terms.json", "-"}, {{"terms.json", document}});
+//     if (reply) std::cout << reply.text();
+//     else std::cerr << reply.sentence() << '\n';
 //
 // or, by exceptions, `std::string text = irs::run(..).value();`, and in C++23 `.expected()`.
 // A result owns its text. Every call may throw std::bad_alloc, and nothing else but what is said at value().
@@ -56,7 +56,7 @@ public:
     int status() const noexcept { return status_; }
     const std::string &text() const & noexcept { return text_; }
     std::string text() && noexcept { return std::move(text_); }
-    // Empty at status 0.
+    // Empty at status 0, but for an audit whose amounts lack fixings.
     const std::string &sentence() const noexcept { return sentence_; }
     // Whether the command was done: status 0, or 1, which `audit` and `breaks` have where the cash flows depart.
     explicit operator bool() const noexcept { return status_ <= 1; }
@@ -111,7 +111,8 @@ template <typename Call> std::pair<int, std::string> filled(std::size_t room, Ca
 
 } // namespace detail
 
-// What the line of an answer means, in one plain sentence; empty at status 0.
+// What the line of an answer means, in one plain sentence; empty at status 0, but for an audit whose amounts lack
+// fixings.
 inline std::string meaning(const words &asked, int status, std::string_view line) {
     const std::vector<irs_bytes> lent_words = detail::lent(asked);
     const irs_bytes lent_line = detail::lent(line);

@@ -104,7 +104,8 @@ public final class Irs {
         }
     }
 
-    /** What the line of an answer means, in one plain sentence; empty at status 0. */
+    /** What the line of an answer means, in one plain sentence; empty at status 0, but for an audit whose amounts
+     * lack fixings. */
     public static String meaning(List<String> words, Answer answer) {
         Pairs lentWords = wordsOf(words);
         byte[] line = utf8(answer.line());

@@ -3,7 +3,7 @@ use Rattle.std.specs.Prelude.{◌≡◌, ◌⊎◌, ℕ, ◌==◌, List, [], ◌
 use Rattle.std.specs.Prelude.{if◌then◌else◌}
 use Rattle.std.specs.Str.{bytes_eq}
 use Rattle.irs_outside.specs.Outside.{Grew, GrewByFront, Rose}
-use Rattle.irs_plain.specs.Sentences.{sentence_of}
+use Rattle.irs_plain.specs.Sentences.{is_silent, sentence_of}
 
 -- ---- the program itself
 
@@ -32,10 +32,10 @@ lines_of (line ∷ lines) = (line ++ codes "\n") ++ lines_of lines
 abbrev pub listing_of : (commands : List (List ℕ)) → (status : ℕ) → List ℕ
 listing_of commands status = if status == 4 then lines_of commands else []
 
--- what is said of a status and of the line that was printed with it; of 0 nothing is
+-- what is said of a status and of the line that was printed with it; nothing where all is done and compared
 unfoldable pub explanation_of : (commands words : List (List ℕ)) → (status : ℕ) → (line : List ℕ) → List ℕ
 explanation_of commands words status line =
-    if status == 0 then []
+    if is_silent words status line then []
     else (sentence_of words status line ++ codes "\n") ++ listing_of commands status
 
 -- the text was written and no write failed, or one failed and a front of the text was written

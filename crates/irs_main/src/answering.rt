@@ -2,9 +2,10 @@
 //! but 0 means.
 //!
 //! Words, texts and statuses are our rule.
-ghost use Rattle.std.specs.Prelude.{◌≡◌, ℕ, ◌<◌, List, Some, None, map, option_map, OnOk, OnErr};
+ghost use Rattle.std.specs.Prelude.{◌≡◌, ℕ, ◌<◌, List, Some, None, true, false, map, option_map, OnOk, OnErr};
 ghost use Rattle.irs_outside.specs.Outside.{Grew, GrewByFront, Rose};
 ghost use Rattle.irs_plain.specs.Kept.{front_of, sink_of};
+ghost use Rattle.irs_plain.specs.Sentences.{is_silent as is_silent_of};
 ghost use Rattle.irs_plain.specs.Shown.{shown};
 ghost use Rattle.irs_plain.specs.Words.{texts};
 ghost use Rattle.irs_cli.specs.Run.{Ran, source, written};
@@ -12,7 +13,7 @@ ghost use Rattle.irs_main.specs.Answering.{Explained, Printed, explanation_of, i
 
 use crate::pieces::{put_lines, put_parts};
 use irs_cli::{Files, PutFailed, Sink, Status, run};
-use irs_plain::{COMMANDS, HELP, Kept, VERSION, meaning, shown_words};
+use irs_plain::{COMMANDS, HELP, Kept, VERSION, is_silent, meaning, shown_words};
 use std::alloc::Global;
 
 /// Answers the words: prints what they ask for, and says on `errors` what a status other than 0 means.
@@ -53,8 +54,9 @@ pub fn answer<F: Files, S: Sink, E: Sink>(
         (explanation_of (map (λ c. c.now) COMMANDS) (map shown (texts words.now)) result (front_of out.new))
         (E.written errors.old) (E.written errors.new) (E.faults errors.old) (E.faults errors.new) }
 
-    // Where all is done nothing is written there.
-    ensures silent { result ≡ 0 → errors.new ≡ errors.old }
+    // Where all is done, and compared, nothing is written there.
+    ensures silent { is_silent_of (map shown (texts words.now)) result (front_of out.new) ≡ true
+        → errors.new ≡ errors.old }
 {
     match about_itself(words) {
         Some(text) => {
@@ -108,18 +110,17 @@ pub(crate) fn explain<E: Sink>(errors: &mut E, words: &[String], status: u8, lin
     ensures said { Explained
         (explanation_of (map (λ c. c.now) COMMANDS) (texts words.now) status line.now)
         (E.written errors.old) (E.written errors.new) (E.faults errors.old) (E.faults errors.new) }
-    ensures silent { status ≡ 0 → errors.new ≡ errors.old }
+    ensures silent { is_silent_of (texts words.now) status line.now ≡ true → errors.new ≡ errors.old }
 {
-    if status != 0 {
+    if !is_silent(words, status, line) {
         // A standard error that can't be written changes no answer.
         let _ = tell(errors, words, status, line);
     }
 }
 
-// Writes the sentence for a status other than 0 and, where the words are no listed command, the
-// listed ones.
+// Writes the sentence for a status and, where the words are no listed command, the listed ones.
 fn tell<E: Sink>(errors: &mut E, words: &[String], status: u8, line: &[u8]) -> Result<(), PutFailed>
-    requires { 0 < status }
+    requires { is_silent_of (texts words.now) status line.now ≡ false }
     ensures ok { OnOk result (Grew (E.written errors.old) (E.written errors.new)
         (explanation_of (map (λ c. c.now) COMMANDS) (texts words.now) status line.now)) }
     ensures quiet { OnOk result (E.faults errors.new ≡ E.faults errors.old) }

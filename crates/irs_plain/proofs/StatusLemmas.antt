@@ -2,7 +2,7 @@
 use Rattle.std.proofs.Common.{◌≡◌, ℕ, List, [], arith}
 use Rattle.std.proofs.lemmas.Bool.Decides.{nat_tests}
 use Rattle.irs_base.specs.declared.statuses.Status.{Status}
-use Rattle.irs_base.specs.declared.statuses.Status.TheVariants.{NotAgreed, RuleBroken, BadFile, BadWords}
+use Rattle.irs_base.specs.declared.statuses.Status.TheVariants.{Done, NotAgreed, RuleBroken, BadFile, BadWords}
 use Rattle.irs_base.specs.declared.statuses.Status.TheVariants.{NoFile, PutFailed, NoMemory, TooLong, NotText}
 use Rattle.irs_base.specs.Statuses.{status_number}
 use Rattle.irs_plain.specs.Sentences.{told}
@@ -14,6 +14,7 @@ silent words status line h =
     grind (
       arith,
       nat_tests,
+      h Done,
       h NotAgreed,
       h RuleBroken,
       h BadFile,

@@ -1,5 +1,7 @@
 -- The code's lists are those of the specification.
 use Rattle.irs_plain.specs.Rules.{codes_of, rows, texts_after, texts_before}
+use Rattle.irs_plain.specs.Usage.{commands}
+use Rattle.irs_plain.specs.declared.help.TheConstants.{COMMANDS}
 use Rattle.irs_plain.specs.declared.table.TheConstants.{AFTER, BEFORE, RULES}
 use Rattle.std.proofs.Common.{◌≡◌, map, refl}
 
@@ -17,3 +19,8 @@ before_are = refl
 pub after_are : map (λ n. n.now) AFTER ≡ texts_after
 unfolding texts_after rows
 after_are = refl
+
+-- the code's commands are those of the specification
+pub commands_are : map (λ n. n.now) COMMANDS ≡ commands
+unfolding commands
+commands_are = refl

@@ -6,3 +6,4 @@ pub mod Words
 pub mod Sentences
 pub mod Kept
 pub mod Shown
+pub mod Usage

@@ -46,7 +46,7 @@ rows =
     ∷ row "K37" "" " is given, and the stream has no such stub"
     ∷ row "K38" "an offset in calendar days of " " leaves the range of dates"
     ∷ row "K39" "a rate or an amount of " " passes its limit"
-    ∷ row "K40" "" " isn't there, or has a fixed rate"
+    ∷ row "K40" "" " isn't there, has a fixed rate, or has calculationParameters"
     ∷ row "K41" "a fixing date of " " isn't behind the one before it"
     ∷ row "K42" "" " has to be ACT/360 or ACT/365.FIXED for this command"
     ∷ row "K43" "an observation of " " lies outside the calendars, or before every good day"

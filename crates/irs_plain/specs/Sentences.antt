@@ -2,6 +2,7 @@
 use Rattle.irs_plain.specs.Cuts.{fifth, fourth, front, second, sixth, third}
 use Rattle.irs_plain.specs.Elements.{holder, name_words, possessive}
 use Rattle.irs_plain.specs.Lookup.{after, before}
+use Rattle.irs_plain.specs.Usage.{usage_of}
 use Rattle.irs_plain.specs.Words.{calendar_name, command, document_name, fixings_name, flows_name, named}
 use Rattle.irs_plain.specs.declared.lines.Sentence.{Sentence}
 use Rattle.std.specs.Prelude.{ℕ, ◌==◌, ◌||◌, ◌&&◌, nat_eq, Bool, not, List, [], ◌∷◌, ◌++◌, map, codes, if◌then◌else◌}
@@ -138,7 +139,38 @@ broken words =
 abbrev pub not_agreed : List (List ℕ) → List ℕ → List (List ℕ)
 not_agreed words line = if bytes_eq (command words) (codes "breaks") then broken words else departure words line
 
+-- ---- cash flows that agree as far as they were compared
+
+-- the line of an audit says that amounts lack a fixing, so they were compared with nothing: `yes ROWS UNFIXED`
+abbrev pub lacks_fixings : List (List ℕ) → List ℕ → Bool
+lacks_fixings words line = bytes_eq (command words) (codes "audit") && not (bytes_eq (third line) (codes "0"))
+
+-- how many amounts of an audit weren't compared
+abbrev pub uncompared : List (List ℕ) → List ℕ → List (List ℕ)
+uncompared words line =
+    codes "the cash flows (" ∷ flows_name words
+    ∷ codes ") agree, but amounts that lack a fixing weren't compared: " ∷ third line ∷ []
+
+-- what is said of a command that is done: nothing, unless amounts of an audit weren't compared
+abbrev pub done : List (List ℕ) → List ℕ → List (List ℕ)
+done words line = if lacks_fixings words line then uncompared words line else []
+
+-- ---- words that are no listed command
+
+-- how the command is called, where it is listed
+abbrev pub called : List ℕ → List (List ℕ)
+called [] = codes "these words are no listed command: " ∷ codes "irs --help lists them" ∷ []
+called (b ∷ bs) = codes "these words don't fit the command: " ∷ (b ∷ bs) ∷ []
+
+-- what is said of words that are no listed command
+abbrev pub unlisted : List (List ℕ) → List (List ℕ)
+unlisted words = called (usage_of (command words))
+
 -- ---- every status
+
+-- there is nothing to say of what the program wrote with a status
+abbrev pub is_silent : List (List ℕ) → ℕ → List ℕ → Bool
+is_silent words status written = (status == 0) && not (lacks_fixings words (front 10 written))
 
 -- the sentence for a line without its end
 abbrev pub told : List (List ℕ) → ℕ → List ℕ → List (List ℕ)
@@ -146,12 +178,13 @@ told words status line =
     if status == 1 then not_agreed words line
     else (if status == 2 then refused words line
     else (if status == 3 then bad_file words line
-    else (if status == 4 then codes "these words are no listed command: " ∷ codes "irs --help lists them" ∷ []
+    else (if status == 4 then unlisted words
     else (if status == 5 then codes "couldn't be read: " ∷ named words (third line) ∷ []
     else (if status == 6 then codes "the text couldn't be written to standard output" ∷ []
     else (if status == 7 then codes "there wasn't enough memory" ∷ []
     else (if status == 8 then named words (third line) ∷ codes " has more than 4,194,304 bytes" ∷ []
-    else (if status == 9 then codes "a word of the command line isn't text" ∷ [] else []))))))))
+    else (if status == 9 then codes "a word of the command line isn't text" ∷ []
+    else (if status == 0 then done words line else [])))))))))
 
 -- the sentence for what the program wrote with a status
 abbrev pub sentence_of : List (List ℕ) → ℕ → List ℕ → List ℕ

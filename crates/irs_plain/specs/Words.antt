@@ -1,6 +1,6 @@
 -- The files that the words of a command line name; the first word is the command.
 use Rattle.std.specs.Prelude.{ℕ, ◌+◌, ◌-◌, ◌*◌, ◌||◌, List, [], ◌∷◌, Option, Some, None, map, slice_get, String}
-use Rattle.std.specs.Prelude.{string_bytes, codes, if◌then◌else◌}
+use Rattle.std.specs.Prelude.{string_bytes, codes, Bool, if◌then◌else◌}
 use Rattle.std.specs.Str.{bytes_eq}
 use Rattle.std.specs.declared.alloc.Global.{Global}
 
@@ -28,12 +28,16 @@ number (a ∷ b ∷ c ∷ rest) = 0
 abbrev pub named : List (List ℕ) → List ℕ → List ℕ
 named words place = word_at words (number place)
 
+-- whether the command takes the number of a stream, and nothing else, before its files
+abbrev pub takes_stream : List ℕ → Bool
+takes_stream command = bytes_eq command (codes "observations") || bytes_eq command (codes "overnight")
+
 -- the place of the last word before the calendars
 abbrev pub before_calendars : List ℕ → ℕ
 before_calendars command =
     if bytes_eq command (codes "check") then 1
     else (if bytes_eq command (codes "audit") || bytes_eq command (codes "accrue")
-    || bytes_eq command (codes "overnight") then 3
+    || takes_stream command then 3
     else (if bytes_eq command (codes "breaks") then 4
     else (if bytes_eq command (codes "average") then 5
     else (if bytes_eq command (codes "interpolate") then 6 else 2))))
@@ -41,16 +45,14 @@ before_calendars command =
 -- the place of the file of fixings
 abbrev pub fixings_place : List ℕ → ℕ
 fixings_place command =
-    if bytes_eq command (codes "accrue") || bytes_eq command (codes "overnight")
-    || bytes_eq command (codes "breaks") then 3
+    if bytes_eq command (codes "accrue") || takes_stream command || bytes_eq command (codes "breaks") then 3
     else (if bytes_eq command (codes "average") then 5
     else (if bytes_eq command (codes "interpolate") then 6 else 2))
 
 -- the place of the document
 abbrev pub document_place : List ℕ → ℕ
 document_place command =
-    if bytes_eq command (codes "accrue") || bytes_eq command (codes "overnight")
-    || bytes_eq command (codes "breaks") then 2
+    if bytes_eq command (codes "accrue") || takes_stream command || bytes_eq command (codes "breaks") then 2
     else (if bytes_eq command (codes "average") then 4
     else (if bytes_eq command (codes "interpolate") then 5 else 1))
 

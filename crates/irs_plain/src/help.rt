@@ -3,7 +3,7 @@
 /// The listed commands. DOC is a document of terms, FLOWS one of cash flows, FIX and DAILY are files of
 /// fixings or `-` for none, CAL is a calendar file, DATE a date, FROM a date or `-` for all; the other
 /// words are those of the command.
-pub const COMMANDS: [&str; 12] = [
+pub const COMMANDS: [&str; 13] = [
     "check DOC CAL..",
     "schedule DOC FIX CAL..",
     "audit DOC FIX FLOWS CAL..",
@@ -11,6 +11,7 @@ pub const COMMANDS: [&str; 12] = [
     "emit DOC FIX CAL..",
     "net DOC FIX CAL..",
     "accrue DATE DOC FIX CAL..",
+    "observations STREAM DOC FIX CAL..",
     "overnight STREAM DOC DAILY CAL..",
     "average STREAM KIND STEP DOC FIX CAL..",
     "interpolate STREAM SIDE LOW HIGH DOC FIX CAL..",
@@ -30,6 +31,8 @@ irs: proved schedules of interest rate swaps
   irs emit DOC FIX CAL..          the schedule as cash flows in FpML's words
   irs net DOC FIX CAL..           what the two parties pay each other, by day and currency
   irs accrue DATE DOC FIX CAL..   what has accrued in each stream on a day
+  irs observations STREAM DOC FIX CAL..
+                                  the days and daily rates behind each rate of a stream
   irs overnight STREAM DOC DAILY CAL..
                                   fixings of a stream, compounded from daily rates
   irs average STREAM KIND STEP DOC FIX CAL..

@@ -10,10 +10,12 @@ mod lines;
 mod lookup;
 mod shown;
 mod table;
+mod usage;
 mod words;
 
 pub use help::{COMMANDS, HELP, VERSION};
 pub use kept::Kept;
-pub use lines::{Sentence, meaning};
+pub use lines::{Sentence, is_silent, meaning};
 pub use shown::shown_words;
 pub use table::rules_listed;
+pub use usage::commands_listed;

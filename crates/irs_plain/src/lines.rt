@@ -4,19 +4,23 @@ ghost use Rattle.irs_plain.specs.Sentences.{about as about_of, after_in as after
 ghost use Rattle.irs_plain.specs.Sentences.{bad_calendar as bad_calendar_of};
 ghost use Rattle.irs_plain.specs.Sentences.{bad_file as bad_file_of, bad_fixings as bad_fixings_of};
 ghost use Rattle.irs_plain.specs.Sentences.{bad_flows as bad_flows_of, broken as broken_of};
-ghost use Rattle.irs_plain.specs.Sentences.{calendar_fault as calendar_fault_of, not_agreed as not_agreed_of};
-ghost use Rattle.irs_plain.specs.Sentences.{departure as departure_of, ending as ending_of};
-ghost use Rattle.irs_plain.specs.Sentences.{fixing_fault as fixing_fault_of, is_of_field as is_of_field_of, joined};
+ghost use Rattle.irs_plain.specs.Sentences.{calendar_fault as calendar_fault_of, called as called_of};
+ghost use Rattle.irs_plain.specs.Sentences.{not_agreed as not_agreed_of, unlisted as unlisted_of};
+ghost use Rattle.irs_plain.specs.Sentences.{departure as departure_of, done as done_of, ending as ending_of};
+ghost use Rattle.irs_plain.specs.Sentences.{fixing_fault as fixing_fault_of, is_of_field as is_of_field_of};
+ghost use Rattle.irs_plain.specs.Sentences.{is_silent as is_silent_of, joined, lacks_fixings as lacks_fixings_of};
 ghost use Rattle.irs_plain.specs.Sentences.{number_told as number_told_of, of_field as of_field_of};
 ghost use Rattle.irs_plain.specs.Sentences.{refused as refused_of, said, sentence_of, stream_words as stream_words_of};
 ghost use Rattle.irs_plain.specs.Sentences.{told as told_of, unless_stream as unless_stream_of};
-ghost use Rattle.irs_plain.specs.Sentences.{unless_zero as unless_zero_of, verb as verb_of};
+ghost use Rattle.irs_plain.specs.Sentences.{uncompared as uncompared_of, unless_zero as unless_zero_of};
+ghost use Rattle.irs_plain.specs.Sentences.{verb as verb_of};
 ghost use Rattle.irs_plain.specs.Words.{texts};
 ghost use Rattle.std.specs.Prelude.{◌≡◌, [], ◌∷◌};
 
 use crate::cuts::{fifth, fourth, front, is, second, sixth, third};
 use crate::elements::{holder, name_words, possessive};
 use crate::lookup::{after, before};
+use crate::usage::usage;
 use crate::words::{calendar_name, command, document_name, fixings_name, flows_name, named};
 use irs_base::Status;
 
@@ -332,6 +336,73 @@ fn not_agreed<'a>(words: &'a [String], line: &'a [u8]) -> Sentence<'a>
     }
 }
 
+// ---- cash flows that agree as far as they were compared
+
+// Whether the line of an audit says that amounts lack a fixing, so they were compared with nothing.
+fn lacks_fixings(words: &[String], line: &[u8]) -> bool
+    ensures { result ≡ lacks_fixings_of (texts words.now) line.now }
+{
+    is(command(words), "audit") && !is(third(line), "0")
+}
+
+// `yes ROWS UNFIXED`: how many amounts weren't compared.
+fn uncompared<'a>(words: &'a [String], line: &'a [u8]) -> Sentence<'a>
+    ensures { said result ≡ joined (uncompared_of (texts words.now) line.now) }
+{
+    Sentence {
+        parts: [
+            b"the cash flows (",
+            flows_name(words),
+            b") agree, but amounts that lack a fixing weren't compared: ",
+            third(line),
+            b"",
+            b"",
+            b"",
+            b"",
+            b"",
+            b"",
+            b"",
+            b"",
+            b"",
+        ],
+    }
+}
+
+// What is said of a command that is done.
+fn done<'a>(words: &'a [String], line: &'a [u8]) -> Sentence<'a>
+    ensures { said result ≡ joined (done_of (texts words.now) line.now) }
+{
+    if lacks_fixings(words, line) {
+        uncompared(words, line)
+    } else {
+        short(b"", b"", b"")
+    }
+}
+
+// ---- words that are no listed command
+
+// How the command is called, where it is listed.
+fn called(usage: &[u8]) -> Sentence<'_>
+    ensures { said result ≡ joined (called_of usage.now) }
+{
+    if usage.is_empty() {
+        short(
+            b"these words are no listed command: ",
+            b"irs --help lists them",
+            b"",
+        )
+    } else {
+        short(b"these words don't fit the command: ", usage, b"")
+    }
+}
+
+// What is said of words that are no listed command.
+fn unlisted(words: &[String]) -> Sentence<'static>
+    ensures { said result ≡ joined (unlisted_of (texts words.now)) }
+{
+    called(usage(command(words)))
+}
+
 // ---- every status
 
 // The sentence for a line without its end; an empty one for a number that is no status.
@@ -343,11 +414,7 @@ fn told<'a>(words: &'a [String], status: u8, line: &'a [u8]) -> Sentence<'a>
         Some(Status::NotAgreed) => not_agreed(words, line),
         Some(Status::RuleBroken) => refused(words, line),
         Some(Status::BadFile) => bad_file(words, line),
-        Some(Status::BadWords) => short(
-            b"these words are no listed command: ",
-            b"irs --help lists them",
-            b"",
-        ),
+        Some(Status::BadWords) => unlisted(words),
         Some(Status::NoFile) => short(b"couldn't be read: ", named(words, third(line)), b""),
         Some(Status::PutFailed) => short(
             b"the text couldn't be written to standard output",
@@ -361,21 +428,25 @@ fn told<'a>(words: &'a [String], status: u8, line: &'a [u8]) -> Sentence<'a>
             b"",
         ),
         Some(Status::NotText) => short(b"a word of the command line isn't text", b"", b""),
-        Some(Status::Done) => short(b"", b"", b""),
+        Some(Status::Done) => done(words, line),
         None => short(b"", b"", b""),
     }
 }
 
+/// Whether there is nothing to say of a status and a line: the command is done and, where it is an audit,
+/// no amount lacks a fixing. `words` and `line` are those of `meaning`.
+pub fn is_silent(words: &[String], status: u8, line: &[u8]) -> bool
+    ensures { result ≡ is_silent_of (texts words.now) status line.now }
+{
+    status == 0 && !lacks_fixings(words, front(b'\n', line))
+}
+
 /// What a line means that the program wrote with this status, in one sentence. `words` are the words of
 /// the command line, of which the first is the command, and `line` is what the program wrote, or its first
-/// 512 bytes. For status 0 there is nothing to say, and the sentence is empty. It reads the line once, to its
-/// first LF, and takes no memory and no deeper stack for a longer one.
+/// 512 bytes. The sentence is empty where `is_silent` says so. It reads the line once, to its first LF, and
+/// takes no memory and no deeper stack for a longer one.
 pub fn meaning<'a>(words: &'a [String], status: u8, line: &'a [u8]) -> Sentence<'a>
     ensures { said result ≡ sentence_of (texts words.now) status line.now }
 {
-    // Status 0 has nothing to say, however long the line is.
-    if status == 0 {
-        return short(b"", b"", b"");
-    }
     told(words, status, front(b'\n', line))
 }

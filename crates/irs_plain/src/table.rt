@@ -94,7 +94,7 @@ pub const AFTER: [&str; 47] = [
     " is given, and the stream has no such stub",
     " leaves the range of dates",
     " passes its limit",
-    " isn't there, or has a fixed rate",
+    " isn't there, has a fixed rate, or has calculationParameters",
     " isn't behind the one before it",
     " has to be ACT/360 or ACT/365.FIXED for this command",
     " lies outside the calendars, or before every good day",

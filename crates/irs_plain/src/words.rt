@@ -2,14 +2,14 @@
 //!
 //! `check DOC CAL..`, `schedule DOC FIX CAL..`, `audit DOC FIX FLOWS CAL..`,
 //! `breaks FROM DOC FIX FLOWS CAL..`, `emit DOC FIX CAL..`, `net DOC FIX CAL..`,
-//! `accrue DATE DOC FIX CAL..`, `overnight STREAM DOC DAILY CAL..`,
+//! `accrue DATE DOC FIX CAL..`, `observations STREAM DOC FIX CAL..`, `overnight STREAM DOC DAILY CAL..`,
 //! `average STREAM KIND STEP DOC FIX CAL..`, `interpolate STREAM SIDE LOW HIGH DOC FIX CAL..` and
 //! `carrier DOC`.
 ghost use Rattle.irs_plain.specs.Words.{calendar_name as calendar_name_of, command as command_of};
 ghost use Rattle.irs_plain.specs.Words.{document_name as document_name_of, document_place as document_place_of};
 ghost use Rattle.irs_plain.specs.Words.{fixings_name as fixings_name_of, fixings_place as fixings_place_of};
 ghost use Rattle.irs_plain.specs.Words.{flows_name as flows_name_of, flows_place as flows_place_of};
-ghost use Rattle.irs_plain.specs.Words.{named as named_of, number as number_of, texts};
+ghost use Rattle.irs_plain.specs.Words.{named as named_of, number as number_of, takes_stream as takes_stream_of, texts};
 ghost use Rattle.irs_plain.specs.Words.{word_at as word_at_of, before_calendars as before_calendars_of};
 ghost use Rattle.std.specs.Prelude.{◌≡◌, ◌≤◌};
 
@@ -45,6 +45,13 @@ pub(crate) fn named<'a>(words: &'a [String], place: &[u8]) -> &'a [u8]
     word_at(words, number(place))
 }
 
+// Whether the command takes the number of a stream, and nothing else, before its files.
+fn takes_stream(command: &[u8]) -> bool
+    ensures { result ≡ takes_stream_of command.now }
+{
+    is(command, "observations") || is(command, "overnight")
+}
+
 // The place of the last word before the calendars.
 fn before_calendars(command: &[u8]) -> usize
     ensures value { result ≡ before_calendars_of command.now }
@@ -52,7 +59,7 @@ fn before_calendars(command: &[u8]) -> usize
 {
     if is(command, "check") {
         1
-    } else if is(command, "audit") || is(command, "accrue") || is(command, "overnight") {
+    } else if is(command, "audit") || is(command, "accrue") || takes_stream(command) {
         3
     } else if is(command, "breaks") {
         4
@@ -69,7 +76,7 @@ fn before_calendars(command: &[u8]) -> usize
 fn fixings_place(command: &[u8]) -> usize
     ensures { result ≡ fixings_place_of command.now }
 {
-    if is(command, "accrue") || is(command, "overnight") || is(command, "breaks") {
+    if is(command, "accrue") || takes_stream(command) || is(command, "breaks") {
         3
     } else if is(command, "average") {
         5
@@ -84,7 +91,7 @@ fn fixings_place(command: &[u8]) -> usize
 fn document_place(command: &[u8]) -> usize
     ensures { result ≡ document_place_of command.now }
 {
-    if is(command, "accrue") || is(command, "overnight") || is(command, "breaks") {
+    if is(command, "accrue") || takes_stream(command) || is(command, "breaks") {
         2
     } else if is(command, "average") {
         4
