@@ -87,6 +87,7 @@ impl Lines<'_, '_> {
         self.push_given("initialRate", &float.initial_rate);
         self.push_rounding(float);
         self.push_given("negativeInterestRateTreatment", &Some(float.treatment));
+        self.push_value("calculationParameters", &float.parameters);
     }
 
     fn push_amounts(&mut self, stream: &Stream) {

@@ -20,6 +20,7 @@ fn leaf_text(leaf: Leaf) -> &'static str {
         Leaf::Date => "D",
         Leaf::Multiplier => "I multiplier",
         Leaf::OffsetDays => "I offset",
+        Leaf::ObservationDays => "I observation days",
         Leaf::Precision => "I precision",
         Leaf::Whole => "I",
         Leaf::Notional => "N",
@@ -41,6 +42,7 @@ fn leaf_text(leaf: Leaf) -> &'static str {
         Leaf::ResetRelative => "C reset relative",
         Leaf::DayCount => "C day count",
         Leaf::Compounding => "C compounding",
+        Leaf::CalculationMethod => "C calculation method",
         Leaf::Treatment => "C treatment",
         Leaf::Direction => "C direction",
     }
@@ -92,6 +94,11 @@ impl Table<'_> {
             Choice::Reference => told.text("R"),
             Choice::AtMostOne(one, other) => {
                 self.tell_choice(told, "O, at most one of ", one, other);
+            }
+            Choice::AtMostOneOfThree(one, other, third) => {
+                self.tell_choice(told, "O, at most one of ", one, other);
+                told.text(" ");
+                self.tell_name(told, third);
             }
             Choice::ExactlyOne(one, other) => {
                 self.tell_choice(told, "O, exactly one of ", one, other);

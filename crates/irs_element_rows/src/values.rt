@@ -3,7 +3,8 @@ use crate::told::Told;
 use irs_audit::StatedFraction;
 use irs_base::{Broken, Day, Dec, Place};
 use irs_terms::{
-    AdjustableDate, Adjustments, Centers, Currency, Frequency, Offset, StepValues, StubRate,
+    AdjustableDate, Adjustments, CalculationParameters, Centers, Currency, Frequency, Offset,
+    StepValues, StubRate,
 };
 
 /// A value that can be reported.
@@ -124,6 +125,19 @@ impl Tell for StubRate {
                 told.text(", tenor ");
                 tenor.tell(told);
             }
+        }
+    }
+}
+
+/// The method and the offset, then the names of the centres.
+impl Tell for CalculationParameters {
+    fn tell(&self, told: &mut Told) {
+        told.debug(&self.method);
+        told.text(" ");
+        told.debug(&self.offset);
+        for name in self.centers.as_slice() {
+            told.text(" ");
+            told.bytes(name.as_slice());
         }
     }
 }
