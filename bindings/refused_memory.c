@@ -1,5 +1,5 @@
 /* Each allocation of a call fails in turn: the status is 7, nothing is written and nothing is lost.
-   Linked with --wrap=malloc,--wrap=realloc,--wrap=calloc. Words behind the first are the command. */
+   Linked with --wrap=malloc,--wrap=realloc,--wrap=calloc. The words after the first are the command. */
 #include "irs.h"
 #include <stdio.h>
 #include <stdlib.h>

@@ -1,4 +1,4 @@
-// Shows what QuantLib answers where docs/COMPARISON.md says what irs answers. Stands outside the gate.
+// Shows what QuantLib answers where docs/COMPARISON.md says what irs answers. Not part of the gate.
 //   apt-get install g++ libquantlib0-dev
 //   g++ -O2 -std=c++17 tools/compare.cpp -lQuantLib -o compare && ./compare
 // With the word `time` it only makes its 1,000 schedules.

@@ -63,8 +63,34 @@ def derived(years, center):
     ) % (none, 2000 + years, none, none, none, moved)
 
 
+def observed(periods, days, center, first=date(1901, 1, 7)):
+    """A floating stream of periods of that many days, whose rates are compounded from daily ones in the terms."""
+    none = adjustments("NONE", [])
+    last = first + timedelta(days=periods * days)
+    return (
+        '{"calculationPeriodDates":{"effectiveDate":{"unadjustedDate":"%s","dateAdjustments":%s},'
+        '"terminationDate":{"unadjustedDate":"%s","dateAdjustments":%s},'
+        '"calculationPeriodDatesAdjustments":%s,'
+        '"calculationPeriodFrequency":{"periodMultiplier":"%d","period":"D","rollConvention":"NONE"}},'
+        '"paymentDates":{"paymentFrequency":{"periodMultiplier":"%d","period":"D"},'
+        '"payRelativeTo":"CalculationPeriodEndDate","paymentDatesAdjustments":%s},'
+        '"resetDates":{"resetFrequency":{"periodMultiplier":"1","period":"D"}},'
+        '"calculationPeriodAmount":{"calculation":{"notionalSchedule":{"notionalStepSchedule":'
+        '{"initialValue":"1000","currency":"USD"}},"floatingRateCalculation":{"floatingRateIndex":"USD-TEST-INDEX",'
+        '"calculationParameters":{"calculationMethod":"Compounding",'
+        '"applicableBusinessDays":{"businessCenter":"C%d"}}},'
+        '"dayCountFraction":"ACT/360"}}}'
+    ) % (first, none, last, none, none, days, days, none, center)
+
+
+def weekday_fixings(days, first=date(1901, 1, 7)):
+    """A daily rate for each weekday of that many days."""
+    all_days = (first + timedelta(days=n) for n in range(days))
+    return "".join("%s 0.03 1D USD-TEST-INDEX\n" % day for day in all_days if day.weekday() < 5)
+
+
 def calendar(name, holidays, first=1901, last=2299, apart=5):
-    """A calendar that covers these years, with so many holidays, so many days from one to the next."""
+    """A calendar that covers these years: `holidays` of them, each `apart` days after the one before."""
     start = date(first, 1, 1)
     days = "".join("%s\n" % (start + timedelta(days=apart * n)) for n in range(holidays))
     return "center %s\ncover %d-01-01 %d-12-31\nweekend SAT SUN\n%s" % (name, first, last, days)

@@ -84,7 +84,7 @@ int open(const char *name, int flags, ...) {
     return openat(AT_FDCWD, name, flags, mode);
 }
 
-/* How many bytes are asked for where that many were. */
+/* The number of bytes to read or write in place of that number. */
 static size_t cut(enum how fated, size_t asked) { return fated == SHORT && asked > 1 ? 1 : asked; }
 
 ssize_t read(int file, void *to, size_t asked) {

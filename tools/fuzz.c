@@ -136,6 +136,7 @@ static const struct { const char *command, *front, *back; } DONE[] = {
     {"emit", "{\"swap\":{\"swapStream\":", "}\n"},
     {"net", "irs-net 1\n", "\nend\n"},
     {"accrue", "irs-accrued 1 ", "\nend\n"},
+    {"observations", "irs-observations 1 ", "\nend\n"},
     {"overnight", "# irs-fixings 1\n", "\n"},
     {"average", "# irs-fixings 1\n", "\n"},
     {"interpolate", "# irs-fixings 1\n", "\n"},

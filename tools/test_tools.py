@@ -1,5 +1,5 @@
 #!/usr/bin/env python3
-"""Tests of the tools that stand round the program: `python3 tools/test_tools.py`. None of them builds or proves.
+"""Tests of the tools around the program: `python3 tools/test_tools.py`. None of them builds or proves.
 
 They work in copies, in folders whose names have a space, with CDPATH set.
 """
@@ -137,7 +137,7 @@ class Manual(InRoom):
 
 
 class Try(InRoom):
-    """The words of `make try`: a program that prints them stands in for the unproved one."""
+    """The words of `make try`: a program that prints them replaces the unproved one."""
 
     def setUp(self) -> None:
         super().setUp()
@@ -342,7 +342,7 @@ class Shown(InRoom):
             program = self.program("irs", f"#!/bin/sh\n{body}\n")
             status, out, _ = self.run_tool([str(TOOLS / "shown"), str(program)], self.room)
             self.assertEqual(status, 1)
-            self.assertIn("NOT as in README.md: irs schedule examples/fixed_leg/terms.json -", out)
+            self.assertIn("NOT as in README.md: irs schedule examples/xml_fixed_leg/terms.xml -", out)
 
 
 class Gate(InRoom):

@@ -73,7 +73,7 @@ BAD_DECLARATIONS = _of(
     "<?xml version='1.0' encoding='us-ascii'?>|<?xml version='1.0' version='1.0'?>|<?xml version='1.0'??>"
 )
 
-#: What a change puts in, besides.
+#: What a change inserts, besides.
 TOKENS = _of(
     "/|=|<a>|</a>|<a/>|</swap>|<swap>|<a></a >|<a></ a>|</a|/>|/ >| a='1'| a='1'a='2'| xmlns=''|:|"
     f"xmlns:|<q:a/>|!|?|-|--| xmlns:q='urn:q'| xmlns='{FPML}x'| xmlns:q=''| xml:lang='de'| xmlns:xml='urn:x'|"
@@ -213,7 +213,7 @@ class Maker:
 
 
 def changed(document: bytes, chance: random.Random) -> bytes:
-    """A document with some bytes left out, put in, doubled or in another place."""
+    """A document with some bytes left out, added, doubled or in another place."""
     for _ in range(chance.choice([1, 1, 1, 2, 3])):
         at = chance.randrange(len(document) + 1)
         length = chance.choice([0, 0, 1, 1, 2, 5, 20])

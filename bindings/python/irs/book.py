@@ -22,7 +22,7 @@ from .library import Text, as_bytes, engine
 from .plain import shown
 from .pool import TRIES, Processes
 
-#: The commands that a book can be asked.
+#: The commands that a book can run.
 COMMANDS = ("check", "schedule", "audit", "emit", "net")
 
 #: How a trade may end, the best first. `agrees` is an audit's alone, where every amount was compared; another command

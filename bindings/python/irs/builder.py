@@ -30,10 +30,10 @@ Day = Union[datetime.date, str]
 Number = Union[Decimal, int, str]
 Elements = Dict[str, Any]
 
-#: Whether an overnight rate is stated in the terms (`calculationParameters`, with resets of 1D). Where it isn't,
-#: the stream is a plain floating one, and `overnight` makes its file of fixings from the daily rates. This is
-#: the one place to change when the engine reads `calculationParameters`.
-DAILY_RATES_IN_TERMS = False
+#: Whether an overnight rate is stated in the terms (`calculationParameters`, with resets of 1D): then `schedule`
+#: works out the rates of periods from a file of daily rates. Where it isn't, the stream is a plain floating one,
+#: and `overnight` makes its file of fixings from the daily rates.
+DAILY_RATES_IN_TERMS = True
 
 
 @dataclass(frozen=True)
@@ -273,6 +273,7 @@ def swap(
     or whole number. `pay` is ``fixed`` or ``floating``: what the first of `parties` pays. Frequencies are a number and
     D, W, M, Y or ``1T``; a frequency longer than the term becomes one period. `stub` is FpML's `stubPeriodType`, and
     `first_regular` and `last_regular` its regular dates. `roll`, `convention` and `compounding` are FpML's own words.
+    `overnight` says how daily rates are observed; with `daily_rates_in_terms` false the terms don't state it.
 
     `ValueError` where a word is none of these, or a rate is above 1 in size; `TypeError` for a float.
     """

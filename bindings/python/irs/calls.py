@@ -29,8 +29,10 @@ from .rows import (
     Exchange,
     Missing,
     Net,
+    Observation,
     Payment,
     Period,
+    PeriodFactor,
     Reset,
     Row,
     Stream,
@@ -39,6 +41,7 @@ from .rows import (
     breaks_of,
     derived_of,
     inner_lines,
+    observed_of,
     row_of,
     verdict_of,
 )
@@ -233,7 +236,8 @@ class Item(NamedTuple):
 
 
 class Told(NamedTuple):
-    """What a trade comes to: status, text, and what the first line means in one sentence (empty at status 0)."""
+    """What a trade comes to: status, text, and what the first line means in one sentence (empty at status 0, but for an
+    audit whose amounts lack fixings)."""
 
     status: int
     text: bytes
@@ -344,6 +348,15 @@ def overnight(
 ) -> List[Union[Derived, Missing]]:
     """A rate a calculation period of a floating stream, compounded from the daily rates of its index."""
     return _derived(_with_rates("overnight", [str(stream)], _document(document), daily, calendars))
+
+
+def observations(
+    stream: int, document: Document, fixings: Optional[File] = None, calendars: Iterable[File] = ()
+) -> List[Union[PeriodFactor, Observation]]:
+    """The days behind each rate of a stream whose terms state an overnight rate (`calculationParameters`): for each
+    period a `PeriodFactor`, then its days. `Refused` (K49) for another stream."""
+    text = _with_rates("observations", [str(stream)], _document(document), fixings, calendars)
+    return [observed_of(line) for line in inner_lines(text)]
 
 
 def average(

@@ -2,7 +2,7 @@
 
 Nothing here is proved. Where QuantLib has a list of years (lunar and decreed holidays), the years were read
 in the source of QuantLib 1.29: outside them only the fixed days remain, without a warning. A calendar
-that goes by rules has no such end; it is taken from 2000, since which the sources were compared, to the last
+that is defined by rules has no such end; it is taken from 2000, since which the sources were compared, to the last
 year of QuantLib's dates. The doubts are what is known to be wrong or missing. They go into each file.
 """
 from __future__ import annotations

@@ -55,7 +55,7 @@ FLOWS, FIXINGS, DOCUMENT = ".flows.json", ".fixings", ".json"
 class Folder:
     """The trades of a folder: a document each, in the order of their names.
 
-    It holds the names alone, and makes a trade as it is asked for. `BadInput` where the folder can't be read.
+    It holds the names alone, and makes a trade when it is needed. `BadInput` where the folder can't be read.
     """
 
     def __init__(self, folder: Path) -> None:
@@ -95,7 +95,7 @@ def _as_utf8(name: str) -> str:
     return os.fsencode(name).decode("utf-8", "surrogateescape")
 
 
-#: The trades of a run: how many, and each in turn, as often as they are asked for.
+#: The trades of a run: their number, and each in turn, as often as they are needed.
 Trades = Union[Folder, List[Trade]]
 
 

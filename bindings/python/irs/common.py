@@ -26,7 +26,7 @@ LOG = logging.getLogger("irs.book")
 class Common(NamedTuple):
     """The calendar files and the fixings that all trades have, as bytes or as paths that each worker reads once.
 
-    `calendars` are pairs of a name and the file. `stamp` tells apart what the paths hold at different times.
+    `calendars` are pairs of a name and the file. `stamp` differs if what the paths hold changes.
     """
 
     calendars: Tuple[Tuple[str, Union[bytes, Path]], ...] = ()

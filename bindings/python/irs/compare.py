@@ -1,4 +1,4 @@
-"""Two sets of cash flows side by side: ours, as the engine emits them, and another party's, as
+"""Two sets of cash flows, a row of ours above the row of theirs: ours as the engine emits them, and another party's as
 they state them.
 
 Which rows belong together and which cell departs is the engine's answer and never this module's: it marks the
@@ -63,6 +63,20 @@ HEADS = {
     "observedRate": "Observed",
 }
 
+#: The fields that are numbers.
+NUMBERS = frozenset(
+    {
+        "principalExchangeAmount",
+        "calculationPeriod",
+        "amount",
+        "calculationPeriodNumberOfDays",
+        "notionalAmount",
+        "rate",
+        "dayCountYearFraction",
+        "observedRate",
+    }
+)
+
 _DECIMAL = re.compile(r"-?\d+(\.\d+)?")
 
 _SEPARATED = frozenset({"principalExchangeAmount", "amount", "notionalAmount"})
@@ -88,6 +102,13 @@ class Line(NamedTuple):
     what: str
     ours: str
     theirs: str
+
+    def cells(self) -> List[str]:
+        """Its texts as the page shows them: both numbers of the row before both values, which have separators where
+        they are amounts."""
+        field = "amount" if self.what in WHOLE else self.what
+        values = [_laid_out(field, text) for text in (self.ours, self.theirs)]
+        return [str(self.stream), self.kind, self.date, self.what, self.our_number, self.their_number, *values]
 
 
 class Counts(NamedTuple):
@@ -226,7 +247,7 @@ def side_by_side(ours: Any, theirs: Any, lines: Sequence[Line]) -> List[Comparis
             stream,
             kind,
             FIELDS[kind],
-            [_pair(kind, of_row, _rows_at(left, stream, kind), _rows_at(right, stream, kind)) for of_row in rows.values()],
+            [_pair(kind, row, _rows_at(left, stream, kind), _rows_at(right, stream, kind)) for row in rows.values()],
         )
         for (stream, kind), rows in _grouped(lines).items()
         if kind in FIELDS

@@ -14,9 +14,9 @@ from typing import Dict, Mapping, Optional, Tuple
 class Convention:
     """A kind of swap: a fixed stream against a floating one.
 
-    Lengths are a number and D, W, M or Y. `index_tenor` is `None` for an overnight rate, which is compounded
-    over the period and known at its end. `payment_days` are business days from the end of a period to its
-    payment, `fixing_days` business days from the start of a period to its fixing. `centres` adjust periods and
+    Lengths are a number and D, W, M or Y. `index_tenor` is `None` for an overnight rate, which is compounded from
+    daily rates over the period and known at its end. `payment_days` are business days from the end of a period to
+    its payment, `fixing_days` business days from the start of a period to its fixing. `centres` adjust periods and
     payments, `fixing_centres` fixings; those of an overnight rate are the days on which it is published.
     """
 

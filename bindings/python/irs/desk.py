@@ -22,7 +22,7 @@ from typing import Any, List, NamedTuple, NoReturn, Optional, Sequence, Tuple
 
 from .arguments import port
 from .calendar_files import centres_in
-from .documents import json_of
+from .documents import XML, is_xml
 from .inputs import Inputs, Named, at_most_sixteen, chosen, read_named
 from .insert import with_cashflows
 from .library import MOST_BYTES, MOST_CALENDARS
@@ -144,11 +144,15 @@ def download(kept: Kept, name: str) -> Optional[Tuple[bytes, str]]:
             schedule.workbook(kept.party),
             "application/vnd.openxmlformats-officedocument.spreadsheetml.sheet",
         )
-    if name == "document.json":
-        document = kept.inputs.document
-        emitted = ask("emit", kept.inputs)
-        return with_cashflows(json_of(document.content), emitted.text), "application/json"
+    if name == document_name(kept):
+        inserted = with_cashflows(kept.inputs.document.content, ask("emit", kept.inputs).text)
+        return inserted, "application/xml" if name.endswith(XML) else "application/json"
     return None
+
+
+def document_name(kept: Kept) -> str:
+    """The name of the download that is the document with its cash flows."""
+    return "document" + (XML if is_xml(kept.inputs.document.content) else ".json")
 
 
 class Desk:
@@ -195,7 +199,8 @@ class Desk:
 
     def looked(self, name: str) -> Any:
         """The page of a look."""
-        return self.page("desk_look.html", name=name, look=self._kept(name).look)
+        kept = self._kept(name)
+        return self.page("desk_look.html", name=name, look=kept.look, document=document_name(kept))
 
     def given(self, name: str, what: str) -> Any:
         """A download of a look."""

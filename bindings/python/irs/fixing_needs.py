@@ -2,7 +2,8 @@
 
 A reset without a rate is one that needs a fixing. Which index and tenor it takes is found by a run with
 another small rate for each index and tenor that the stream names: the rate that the engine prints says which.
-The days of an overnight rate are those that `overnight` reports as missing, until none is.
+Where the terms state an overnight rate, its days are those on which `observations` observes one. Of another stream
+they are those that `overnight` reports as missing, until none is.
 """
 from __future__ import annotations
 
@@ -11,11 +12,11 @@ from dataclasses import dataclass
 from decimal import Decimal
 from typing import Any, Collection, Iterator, List, Optional, Sequence, Set, Tuple
 
-from .calls import overnight, schedule
+from .calls import observations, overnight, schedule
 from .checked import Checked
 from .documents import child_of, streams_of, text_at
 from .errors import Error, Refused
-from .rows import Missing, Reset
+from .rows import Missing, Observation, Reset
 from .tools import BadInput
 
 #: The smallest rate of a file of fixings.
@@ -84,6 +85,19 @@ def reset_needs(document: Checked, calendars: Sequence[bytes], without: Collecti
     return needs
 
 
+def observed_streams(document: Checked) -> List[int]:
+    """The numbers of the streams whose terms state an overnight rate."""
+    way = (*_FLOAT, "calculationParameters")
+    return [n for n, stream in enumerate(streams_of(document.value), 1) if child_of(stream, *way) is not None]
+
+
+def observed_needs(document: Checked, stream: int, calendars: Sequence[bytes]) -> Set[Key]:
+    """The daily rates of a stream whose terms state an overnight rate: the days on which one is observed."""
+    index = _rate(child_of(streams_of(document.value)[stream - 1], *_FLOAT))[1]
+    rows = observations(stream, document.content, None, calendars)
+    return {Key(row.observed, "1D", index) for row in rows if isinstance(row, Observation)}
+
+
 def overnight_needs(
     document: Checked, stream: int, calendars: Sequence[bytes], until: Optional[datetime.date]
 ) -> Set[Key]:
@@ -122,10 +136,14 @@ def needs_of(
     streams: Collection[int] = (),
     until: Optional[datetime.date] = None,
 ) -> Set[Key]:
-    """The fixings that a document needs: daily rates for these streams, and what `schedule` asks for the others."""
+    """The fixings that a document needs: daily rates for these streams and for those whose terms state them, and
+    what `schedule` asks for the others."""
+    observed = observed_streams(document)
     try:
-        needs = reset_needs(document, calendars, streams)
-        for stream in streams:
+        needs = reset_needs(document, calendars, {*streams, *observed})
+        for stream in observed:
+            needs |= observed_needs(document, stream, calendars)
+        for stream in set(streams) - set(observed):
             needs |= overnight_needs(document, stream, calendars, until)
     except Error as why:
         raise BadInput(f"{document.path}: {why.sentence}") from why

@@ -2,12 +2,13 @@
 
     irs-fixings sofr.csv --percent --index USD-SOFR --tenor 1D --date-column "Effective Date" \\
         --rate-column "Rate (%)" --date-form MM/DD/YYYY --where "Rate Type=SOFR" -o daily
-    irs-fixings --missing terms.json --fixings daily --overnight 2 --until 2025-12-31 --calendars desk.cal
+    irs-fixings --missing terms.json --fixings daily --until 2025-12-31 --calendars desk.cal
     irs-fixings --unused daily --documents terms.json other.json --calendars desk.cal
 
 The rates of a CSV are in percent or decimals, and one of --percent and --decimal says which. What a document
-needs is what the engine asks for: the resets of `schedule` without a rate, and with --overnight STREAM the
-days that `overnight` misses. Nothing else of this is proved.
+needs is what the engine asks for: the resets of `schedule` without a rate, the days of `observations` where the terms
+state an overnight rate, and with --overnight STREAM the days that `overnight` misses. Nothing else of this is
+proved.
 """
 from __future__ import annotations
 
@@ -34,7 +35,7 @@ def missing(
     streams: Sequence[int],
     until: Optional[datetime.date],
 ) -> List[Key]:
-    """The fixings that a document needs and the file lacks, up to a day, by date. Of the streams the daily
+    """The fixings that a document needs and the file lacks, up to a day, by date. Of these streams the daily
     rates are meant that `overnight` compounds. `BadInput` where the engine gives no answer."""
     needs = needs_of(read_checked(document), [read_for_engine(path) for path in calendars], streams, until)
     return sorted(needs - (set(keys_of(fixings)) if fixings is not None else set()))
@@ -107,7 +108,7 @@ def parser() -> Parser:
         choices=range(1, 9),
         default=[],
         metavar="STREAM",
-        help="the daily rates of this stream are meant, for --missing",
+        help="the daily rates of this stream are meant, which `irs overnight` compounds, for --missing",
     )
     words.add_argument("--until", type=_until, metavar="DATE", help="only fixings up to this day, or `today`")
     words.add_argument(

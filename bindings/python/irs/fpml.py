@@ -2,9 +2,9 @@
 
     >>> from irs import fpml
     >>> for trade in fpml.trades(message):                   # a document for each trade of a message
-    ...     told = fpml.without(trade, ["additionalPayment"])
-    ...     told.left_out                                    # [LeftOut(name='additionalPayment', line=164)]
-    ...     answered = fpml.insert(told.document, flows)     # with the cash flows that were worked out
+    ...     cut = fpml.without(trade, ["additionalPayment"])
+    ...     cut.left_out                                     # [LeftOut(name='additionalPayment', line=164)]
+    ...     answered = fpml.insert(cut.document, flows)      # with the cash flows that were worked out
 
 Each call works on the bytes where an element begins and ends, and reads no date and no number. A document is FpML 5,
 in the namespace of one of its views or in none; an element counts where it has the root's namespace. `Fault` is raised
@@ -255,7 +255,7 @@ def _flows_of(given: bytes) -> List[_Element]:
 
 
 def _change(data: bytes, stream: _Element, flows: bytes) -> Tuple[int, int, bytes]:
-    """What puts cash flows into a stream."""
+    """The change that inserts cash flows into a stream."""
     own = stream.all("cashflows")
     before = [it for it in stream.children if it.space == stream.space and it.name not in AFTER_CASHFLOWS]
     if len(own) > 1 or not before:

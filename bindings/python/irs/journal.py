@@ -1,7 +1,7 @@
 """The journal of a run: each outcome as it comes, in a file of SQLite that can be read meanwhile.
 
 The table `outcomes` has a row a trade: name, verdict, status, line, sentence, and the stamp of its files (sizes
-and times), by which a resumed run sees what changed. The table `run` says what was asked.
+and times), by which a resumed run sees what changed. The table `run` says which run it was.
 """
 from __future__ import annotations
 
@@ -19,7 +19,7 @@ create table if not exists outcomes (name text primary key, verdict text not nul
     sentence text not null, stamp text not null);
 """
 
-#: Outcomes are written together once so many seconds have passed.
+#: Outcomes are written together after this number of seconds.
 SECONDS = 0.5
 
 

@@ -126,7 +126,8 @@ def run(words: Sequence[Text], files: Optional[Mapping[str, Text]] = None) -> An
 
 
 def meaning(words: Sequence[Text], status: int, line: Text) -> str:
-    """What the line of an answer means, in one plain sentence; empty at status 0.
+    """What the line of an answer means, in one plain sentence; empty at status 0, but for an audit whose
+    amounts lack fixings.
 
     Of a text with several lines it is the first that counts.
 

@@ -78,7 +78,20 @@ def parser() -> Parser:
     for name, meaning in LISTS.items():
         words.add_argument(_flag(name), nargs=2 if name == "parties" else "+", help=meaning)
     daily = words.add_argument_group("overnight rates in the terms (calculationParameters)")
-    daily.add_argument("--daily-rates-in-terms", action="store_true", help="state the daily rates' rules in the terms")
+    stated = daily.add_mutually_exclusive_group()
+    stated.add_argument(
+        "--daily-rates-in-terms",
+        action="store_const",
+        const=True,
+        help="state the daily rates' rules in the terms (so it is where nothing is said)",
+    )
+    stated.add_argument(
+        "--no-daily-rates-in-terms",
+        action="store_const",
+        const=False,
+        dest="daily_rates_in_terms",
+        help="a plain floating stream, whose fixings `irs overnight` makes",
+    )
     daily.add_argument("--method", choices=("Compounding", "Averaging"), default="Compounding")
     for name in ("observation_shift", "lookback", "lockout"):
         daily.add_argument(_flag(name), type=int, metavar="DAYS")
@@ -104,8 +117,8 @@ def document_of(asked: argparse.Namespace) -> Dict[str, Any]:
     names = (*OPTIONS, *NUMBERS, *LISTS)
     given = {name: getattr(asked, name) for name in names if getattr(asked, name) is not None}
     overnight = Overnight(asked.method, asked.observation_shift, asked.lookback, asked.lockout)
-    if asked.daily_rates_in_terms:
-        given["daily_rates_in_terms"] = True
+    if asked.daily_rates_in_terms is not None:
+        given["daily_rates_in_terms"] = asked.daily_rates_in_terms
     try:
         return swap(kind, tenor=tenor, overnight=overnight, **given)
     except (TypeError, ValueError) as why:

@@ -8,7 +8,7 @@ from pathlib import Path
 from typing import TYPE_CHECKING, Any, Sequence
 
 from . import palette
-from .compare import HEADS
+from .compare import HEADS, NUMBERS
 from .packages import package
 from .tables import RIGHT, exchange_table, folded, ledger_table, period_table
 
@@ -30,7 +30,7 @@ def environment() -> Any:
         trim_blocks=True,
         lstrip_blocks=True,
     )
-    made.globals.update(right=RIGHT, heads=HEADS)
+    made.globals.update(right=RIGHT, heads=HEADS, numbers=NUMBERS)
     return made
 
 

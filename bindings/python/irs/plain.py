@@ -1,6 +1,6 @@
 """Names and texts from outside, safe to show on a terminal, in a log, on a page and in a cell of a spreadsheet.
 
-The rule is this project's own. The templates escape HTML, and not this.
+The rule is ours: no standard covers all four places. HTML is escaped by the templates, and not here.
 """
 from __future__ import annotations
 
@@ -27,7 +27,7 @@ def shown(name: str) -> str:
 
 
 def brief(name: str, most: int = 80) -> str:
-    """A name as it is shown, but at most so many characters of it; `…` says that there are more."""
+    """A name as it is shown, cut to `most` characters; `…` says that there are more."""
     return shown(name if len(name) <= most else f"{name[:most - 1]}…")
 
 

@@ -120,7 +120,7 @@ def within(
     """The streams with the rows alone that fall due from `since` to `until`, both included, and
     their periods.
 
-    `next_of_each` keeps the first so many payments and exchanges of each stream.
+    `next_of_each` is the number of payments and exchanges that are kept of each stream, from the first on.
     """
     if since is None and until is None and next_of_each is None:
         return streams

@@ -50,6 +50,14 @@ def _word(file: Named, taken: Dict[str, Named]) -> str:
     return word
 
 
+def _by_names(sentence: str, files: Dict[str, Named]) -> str:
+    """The sentence with the files' own names, where a word has an ending that its name hasn't."""
+    for word, file in files.items():
+        if word.endswith(XML) and not brief(file.name).endswith(XML):
+            sentence = sentence.replace(word, word[: -len(XML)])
+    return sentence
+
+
 def ask(command: str, inputs: Inputs) -> Reply:
     """Asks the engine `check`, `schedule`, `emit`, `net`, `audit` or `breaks` over the files of a look."""
     files: Dict[str, Named] = {}
@@ -70,4 +78,4 @@ def ask(command: str, inputs: Inputs) -> Reply:
     answer = run(words, contents)
     line = answer.text.decode(errors="replace").partition("\n")[0]
     sentence = "memory ran out" if answer.status == 7 else meaning(words, answer.status, line) if answer.status else ""
-    return Reply(answer.status, answer.text, sentence, files, words)
+    return Reply(answer.status, answer.text, _by_names(sentence, files), files, words)

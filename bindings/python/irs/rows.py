@@ -104,6 +104,27 @@ class Missing(NamedTuple):
     date: date
 
 
+class PeriodFactor(NamedTuple):
+    """What the daily rates of a period make: `method` is ``Compounding``, with the last factor, or ``Averaging``, with
+    the sum of rates times days. `factor` is `None` where a rate isn't there. A stub with a rate of its own has the
+    method ``stub`` and no factor."""
+
+    period: int
+    method: str
+    factor: Optional[Decimal]
+
+
+class Observation(NamedTuple):
+    """A day of a period that takes a daily rate: its days, the day on which the rate is observed, and the rate, or
+    `None` where the fixings lack it."""
+
+    period: int
+    date: date
+    days: int
+    observed: date
+    rate: Optional[Decimal]
+
+
 class Yes(NamedTuple):
     """The cash flows agree: how many rows the schedule has, and how many payments wait for a fixing."""
 
@@ -128,10 +149,10 @@ class Break(NamedTuple):
     """One difference between the schedule and the cash flows of another party.
 
     `kind` is ``stream``, ``exchange``, ``payment``, ``period`` or ``reset``. `what` is the field that differs, or
-    ``missing`` (a row of the schedule that the flows lack), ``extra`` (a row that only the flows have) or ``undated`` (a
-    row of the flows without its date). `date` is the schedule's date of the row, else the flows'. `ours` and `theirs`
-    are the values of the field; of a whole row they are its amount, notional or observed rate. `None` is what isn't
-    there, isn't known, or isn't stated.
+    ``missing`` (a row of the schedule that the flows lack), ``extra`` (a row that only the flows have) or
+    ``undated`` (a row of the flows without its date). `date` is the schedule's date of the row, else the flows'.
+    `ours` and `theirs` are the values of the field; of a whole row they are its amount, notional or observed rate.
+    `None` is what isn't there, isn't known, or isn't stated.
     """
 
     stream: int
@@ -145,8 +166,8 @@ class Break(NamedTuple):
 
 
 class Breaks(NamedTuple):
-    """The breaks in order; how many rows are paired, and how many fields of pairs are compared, not stated by the flows,
-    and not known to the schedule as a fixing is missing."""
+    """The breaks in order; the number of pairs of rows, and of fields of pairs that are compared, not stated by the
+    flows, and not known to the schedule as a fixing is missing."""
 
     rows: List[Break]
     pairs: int
@@ -217,6 +238,16 @@ def derived_of(line: str) -> Union[Derived, Missing]:
 
 def _given(text: str, read: Callable[[str], Any]) -> Any:
     return None if text == "-" else read(text)
+
+
+def observed_of(line: str) -> Union[PeriodFactor, Observation]:
+    """A row of `observations`, of its line."""
+    mark, *fields = line.split(" ")
+    if mark == "c":
+        period, method, factor = fields
+        return PeriodFactor(int(period), method, _given(factor, Decimal))
+    period, day, days, observed, rate = fields
+    return Observation(int(period), _day(day), int(days), _day(observed), _given(rate, Decimal))
 
 
 def _fraction_or_decimal(text: str) -> Union[Fraction, Decimal]:

@@ -41,7 +41,7 @@ from .tables import (
 )
 from .tools import BadInput, Parser, ended
 
-#: Columns of the periods that the terminal leaves out, unless they are asked for.
+#: Columns of the periods that the terminal shows with `--unadjusted` alone.
 UNADJUSTED = (*ADJUSTED_FROM.values(), *RESET_OF.values())
 
 #: Columns that only a floating stream fills.

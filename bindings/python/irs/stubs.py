@@ -31,10 +31,13 @@ def stubs_of(stream: Any, periods: int) -> Set[int]:
 def index_of_period(stream: Any, number: int, periods: int) -> str:
     """The index and tenor that a period of a floating stream observes, as the document names them.
 
-    A period with an `initialStub` or a `finalStub` of a `floatingRate` observes that one.
+    A period with an `initialStub` or a `finalStub` of a `floatingRate` observes that one. Where the terms state an
+    overnight rate it is its daily rates.
     """
     for element, place in (("initialStub", 1), ("finalStub", periods)):
         floating = child_of(stream, "stubCalculationPeriodAmount", element, "floatingRate")
         if number == place and floating is not None:
             return index_of(floating)
-    return index_of(child_of(stream, "calculationPeriodAmount", "calculation", "floatingRateCalculation"))
+    floating = child_of(stream, "calculationPeriodAmount", "calculation", "floatingRateCalculation")
+    daily = child_of(floating, "calculationParameters") is not None
+    return f"daily rates of {index_of(floating)}" if daily else index_of(floating)

@@ -1,6 +1,6 @@
 """A timeline of a schedule as an SVG picture: periods, stubs, resets, payments, exchanges, today.
 
-The picture is cut into bands, one under the other, so that 480 periods can be told apart like 60.
+The picture is cut into bands, one under the other, so that 480 periods are as easy to read as 60.
 The place of a mark follows from the printed dates; no date is worked out. The templates write the
 picture's text.
 """
@@ -137,7 +137,8 @@ def _ticks(scale: _Scale) -> List[Tick]:
     a_month = scale.width / max(1.0, (scale.last - scale.first) / 30.4)
     if a_month >= 4:
         ticks += _months(scale, first, last, a_month >= MONTH)
-    if not any(tick.label and tick.x < scale.left + START for tick in ticks):
+    if not any(tick.label and tick.is_year and tick.x < scale.left + START for tick in ticks):
+        ticks = [tick if tick.x >= scale.left + START else tick._replace(label="") for tick in ticks]
         ticks.append(Tick(scale.left, f"{_MONTHS[first.month - 1]} {first.year}", False))
     return sorted(ticks)
 
@@ -206,7 +207,7 @@ def timeline(
 ) -> Optional[Timeline]:
     """A picture `width` units wide with at most about `most` periods of a stream in a band.
 
-    `stubs` has the numbers of the periods of each stream that are asked to be stubs. `None` where
+    `stubs` has the numbers of the periods of each stream that are stubs by its terms. `None` where
     the streams have no rows.
     """
     dated = [_dates(stream, asked) for stream, asked in zip(streams, stubs)]

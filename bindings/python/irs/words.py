@@ -26,6 +26,16 @@ _CONVENTIONS = {
     "NEAREST": "nearest",
 }
 
+#: What each `calculationMethod` does with daily rates.
+_METHODS = {"Compounding": "compounded", "Averaging": "averaged"}
+
+#: An element of `calculationParameters`, what it is called, and what its business days do.
+_DAILY_OFFSETS = (
+    ("observationShift", "Observation shift", "rates and days are those of {} earlier"),
+    ("lookback", "Lookback", "each day takes the rate of {} earlier"),
+    ("lockout", "Lockout", "the last {} take the rate of the day before them"),
+)
+
 Read = Callable[[Optional[str]], str]
 
 _DECIMAL = re.compile(r"[+-]?(\d+\.?\d*|\.\d+)")
@@ -123,25 +133,24 @@ def _factor(text: Optional[str]) -> str:
     return brief(text or "")
 
 
+def _business_days(count: str) -> str:
+    days = count.lstrip("+0")
+    return f"{brief(days)} business day{'' if days == '1' else 's'}"
+
+
 def _overnight_terms(parameters: Any) -> List[Term]:
     """The terms of FpML's `calculationParameters`: how daily rates make the rate of a period."""
     method = text_at(parameters, "calculationMethod")
     if method is None:
         return []
-    names = (
-        ("lookback", "lookback"),
-        ("observationShift", "observation shift"),
-        ("lockout", "lockout"),
-    )
     days = [
-        f"{what} of {brief(text_at(parameters, element, 'offsetDays') or '')} days"
-        for element, what in names
+        Term(about, says.format(_business_days(text_at(parameters, element, "offsetDays") or "")))
+        for element, about, says in _DAILY_OFFSETS
         if child_of(parameters, element) is not None
     ]
     named = items_of(child_of(parameters, "applicableBusinessDays"), "businessCenter")
     centres = ", ".join(brief(leaf_text(centre) or "") for centre in named)
-    said = ", ".join([f"daily rates by {brief(method)}", *days])
-    return [Term("Overnight", f"{said}; business days of {centres}")]
+    return [Term("Daily rates", f"{_METHODS.get(method, brief(method))} over the business days of {centres}"), *days]
 
 
 def _floating_terms(floating: Any) -> List[Term]:

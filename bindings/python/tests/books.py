@@ -15,7 +15,7 @@ def example(name: str) -> bytes:
     return (EXAMPLES / name).read_bytes()
 
 
-#: A document that kills the process that works it, where `poisoned` stands in for the library's call.
+#: A document that kills the process that works it, where `poisoned` replaces the library's call.
 POISON = example("fixed_leg/terms.json") + b"\n\n"
 
 #: One that takes for ever there.
@@ -23,7 +23,7 @@ ENDLESS = example("fixed_leg/terms.json") + b"\n\n\n"
 
 
 def monthly(years: int = 20) -> bytes:
-    """The fixed leg over so many years of months."""
+    """The fixed leg with monthly periods over this number of years."""
     document = example("fixed_leg/terms.json").replace(b'"2025-01-15"', b'"%d-01-15"' % (2024 + years))
     return document.replace(b'"periodMultiplier":"6"', b'"periodMultiplier":"1"')
 

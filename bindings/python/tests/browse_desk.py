@@ -31,7 +31,7 @@ import trades
 
 PICTURES = os.environ.get("IRS_PICTURES") or None
 
-#: Puts a file into a drop zone as a person does who drops it there.
+#: Drops a file on a drop zone as a person does.
 DROP = """
 const [zone, name, text] = arguments, given = new DataTransfer();
 given.items.add(new File([text], name));
@@ -273,6 +273,20 @@ class Desk(Browser):
         self.drop("document", "terms.xml", (EXAMPLES / "carrier" / "terms.xml").read_bytes())
         self.look()
         self.assertIn("K2", self.text())
+        self.driver.get(self.address)
+        document = (EXAMPLES / "xml_fixed_leg" / "terms.xml").read_bytes()
+        self.drop("document", "terms.xml", document)
+        self.look()
+        self.assertIn("25,277.78", self.text())
+        made = self.download("Document with its cash flows")
+        self.assertEqual(made.name, "document.xml")
+        self.driver.get(self.address)
+        self.drop("document", "terms", document)
+        self.drop("flows", "their.txt", made.read_bytes().replace(b"25555.56", b"25555.57"))
+        self.look()
+        self.assertIn("(their.txt) depart from the schedule in amount of payment 2", self.text())
+        marked = self.driver.find_elements(By.CSS_SELECTOR, "td.departs")
+        self.assertEqual([cell.text for cell in marked], ["25,555.56", "25,555.57"])
 
     def test_a_script_in_an_index(self):
         made = trades.stream(
@@ -377,7 +391,9 @@ class Desk(Browser):
             self.address[:-2] + "x/",
             self.address + "look/none",
         ):
+            self.driver.get("about:blank")
             self.driver.get(address)
+            WebDriverWait(self.driver, 30).until(lambda driver: "There is nothing" in driver.page_source)
             self.assertIn("There is nothing at this address", self.driver.page_source)
         self.driver.get_log("browser")
 
@@ -433,10 +449,14 @@ class Looks(Browser):
             self.each_size(f"report-{make.__name__}", 1500)
 
     def test_departure_and_refusal(self):
-        self.drop("document", "terms.json", (EXAMPLES / "fixed_leg" / "terms.json").read_bytes())
-        self.drop("flows", "flows.json", (EXAMPLES / "audit_departs" / "flows.json").read_bytes())
+        trade = trades.departing()
+        self.drop_trade(trade)
+        self.drop("flows", trade.flows.name, trade.flows.content)
         self.look()
-        self.each_size("desk-departs")
+        self.each_size("desk-departs", 1500)
+        report = self.download("Report")
+        self.driver.get(report.as_uri())
+        self.each_size("report-departs", 1500)
         self.sized(1280, False)
         self.driver.get(self.address)
         self.drop(

@@ -25,6 +25,12 @@ WEEKENDS = "".join(
 )
 
 
+def sample_rates():
+    """A year of daily rates, of the sample."""
+    rows = [line.split(",") for line in (TOP / "sample" / "usd-overnight.csv").read_text().splitlines()[1:]]
+    return {datetime.datetime.strptime(day, "%m/%d/%Y").date(): Decimal(rate) / 100 for day, _, rate in rows}
+
+
 def iso(date):
     return datetime.date.fromisoformat(date.ISO())
 
@@ -109,9 +115,8 @@ class AgainstQuantLib(InAFolder):
 
     def test_an_overnight_swap_pays_what_quantlib_compounds(self):
         # a year of the sample's daily rates, on the sample's calendars
-        daily = [line.split(",") for line in (TOP / "sample" / "usd-overnight.csv").read_text().splitlines()[1:]]
         index = ql.Sofr(ql.YieldTermStructureHandle(ql.FlatForward(0, ql.TARGET(), 0.04, ql.Actual360())))
-        rates = {datetime.datetime.strptime(day, "%m/%d/%Y").date(): Decimal(rate) / 100 for day, _, rate in daily}
+        rates = sample_rates()
         ql.Settings.instance().evaluationDate = ql.Date(20, 1, 2026)
         index.addFixings(
             [ql.Date(day.day, day.month, day.year) for day in rates], [float(rate) for rate in rates.values()], True
@@ -119,14 +124,14 @@ class AgainstQuantLib(InAFolder):
         begin, finish = ql.Date(15, 1, 2025), ql.Date(15, 1, 2026)
         coupon = ql.OvernightIndexedCoupon(finish, 10_000_000, begin, finish, index)
         document = swap("usd-sofr", start="2025-01-15", tenor="1Y")
+        plain = swap("usd-sofr", start="2025-01-15", tenor="1Y", daily_rates_in_terms=False)
         cals = [(TOP / "sample" / name).read_bytes() for name in ("USNY.cal", "USGS.cal")]
         lines = "\n".join(f"{day} {rate:f} 1D USD-SOFR" for day, rate in rates.items())
-        compounded = irs.overnight(2, document, lines, cals)[0]
+        compounded = irs.overnight(2, plain, lines, cals)[0]
         self.assertLess(abs(float(compounded.rate) - coupon.rate()), 1e-9)
-        text = irs.run(
-            ["overnight", "2", "d", "f", "c", "e"], {"d": json.dumps(document), "f": lines, "c": cals[0], "e": cals[1]}
-        ).text
-        payment = irs.schedule(document, text, cals).payments(2)[0]
+        schedule = irs.schedule(document, lines, cals)
+        self.assertLess(abs(float(schedule.resets(2)[0].observed) - coupon.rate()), 1e-9)
+        payment = schedule.payments(2)[0]
         self.assertLess(abs(float(payment.amount) - 10_000_000 * round(coupon.rate(), 7) * 365 / 360), 0.006)
 
 
@@ -163,15 +168,15 @@ class Documents(InAFolder):
             self.assertEqual(child_of(rate, "finalRateRounding"), {"roundingDirection": "Nearest", "precision": "7"})
             self.assertEqual(child_of(rate, "spreadSchedule", "initialValue"), "0")
 
-    def test_an_overnight_rate_is_a_plain_stream_known_at_the_end(self):
-        floating = streams_of(swap("usd-sofr", tenor="2Y"))[1]
+    def test_an_overnight_rate_outside_the_terms_is_a_plain_stream_known_at_the_end(self):
+        floating = streams_of(swap("usd-sofr", tenor="2Y", daily_rates_in_terms=False))[1]
         resets = child_of(floating, "resetDates")
         self.assertEqual(resets["resetFrequency"], {"periodMultiplier": "1", "period": "Y"})
         self.assertEqual(resets["resetRelativeTo"], "CalculationPeriodEndDate")
         self.assertNotIn("calculationParameters", json.dumps(floating))
 
     def test_an_overnight_rate_in_the_terms(self):
-        document = swap("gbp-sonia", tenor="2Y", daily_rates_in_terms=True, overnight=Overnight(lookback=5))
+        document = swap("gbp-sonia", tenor="2Y", overnight=Overnight(lookback=5))
         floating = streams_of(document)[1]
         self.assertEqual(child_of(floating, "resetDates", "resetFrequency"), {"periodMultiplier": "1", "period": "D"})
         self.assertEqual(
@@ -187,10 +192,42 @@ class Documents(InAFolder):
         with self.assertRaisesRegex(ValueError, "stated in the terms"):
             swap("gbp-sonia", tenor="2Y", overnight=Overnight(lookback=5), daily_rates_in_terms=False)
 
-    def test_the_engine_does_not_read_overnight_rates_in_the_terms_yet(self):
-        # where this fails the engine reads them: set DAILY_RATES_IN_TERMS in builder.py, and change the two pages
-        ended = ran(new.main, "--like", "usd-sofr-2y", "--daily-rates-in-terms", "-o", "made.json")
-        self.assert_refused(ended, "floatingRateCalculation has a member that isn't known", [])
+    def test_the_engine_takes_every_way_to_observe_daily_rates(self):
+        ways = (
+            (),
+            ("--method", "Averaging"),
+            ("--lookback", "5"),
+            ("--lockout", "2"),
+            ("--observation-shift", "2"),
+            ("--daily-rates-in-terms",),
+        )
+        for kind in ("usd-sofr", "eur-estr", "gbp-sonia", "jpy-tona", "chf-saron"):
+            for way in ways:
+                ended = ran(new.main, "--like", f"{kind}-2y", *way)
+                self.assertEqual(ended.status, 0, ended.err)
+                self.assertIn("calculationParameters", ended.out)
+        ended = ran(new.main, "--like", "usd-sofr-2y", "--no-daily-rates-in-terms")
+        self.assertEqual((ended.status, "calculationParameters" in ended.out), (0, False))
+
+    def test_what_does_not_go_with_daily_rates_is_refused(self):
+        for words, said in (
+            (("--lookback", "5", "--lockout", "2"), "two members that don't go together"),
+            (("--lookback", "31"), "none of its values"),
+            (("--floating-day-count", "30/360"), "doesn't go with calculationParameters"),
+            (("--lookback", "5", "--no-daily-rates-in-terms"), "has to be stated in the terms"),
+        ):
+            self.assert_refused(ran(new.main, "--like", "usd-sofr-2y", *words, "-o", "made.json"), said, [])
+
+    def test_a_year_of_daily_rates_by_either_form_of_the_terms(self):
+        # the sample's year: `schedule` on the daily rates, and `overnight` first, give one rate
+        lines = "".join(f"{day} {rate:f} 1D USD-SOFR\n" for day, rate in sample_rates().items())
+        cals = [(TOP / "sample" / name).read_bytes() for name in ("USNY.cal", "USGS.cal")]
+        direct = irs.schedule(swap("usd-sofr", start="2025-01-15", tenor="1Y"), lines, cals)
+        plain = swap("usd-sofr", start="2025-01-15", tenor="1Y", daily_rates_in_terms=False)
+        files = {"d": json.dumps(plain), "f": lines, "c": cals[0], "e": cals[1]}
+        chained = irs.schedule(plain, irs.run(["overnight", "2", "d", "f", "c", "e"], files).text, cals)
+        self.assertEqual(direct.periods(2)[0].rate, Decimal("0.040848300"))
+        self.assertEqual(direct, chained)
 
     def test_words_of_the_market(self):
         document = swap(
@@ -389,7 +426,6 @@ class Command(InAFolder):
             ((*like, "--fixed-frequency", "7M"), "isn't on the grid"),
             ((*like, "--payment-days", "two"), "invalid int"),
             ((*like, "--compounding", "Simple"), "none of its values"),
-            ((*like, "--lookback", "5"), "stated in the terms"),
             ((*like, "--start", "2299-01-15"), "no day 5Y after"),
             ((*like, "--centres", "TWO WORDS"), "out of range"),
         ):

@@ -22,7 +22,7 @@ try:
 except ImportError:
     holidays = None
 
-#: A calendar that goes by rules is asked for these years; a list for every year that it has.
+#: A calendar defined by rules is tried over these years, and a list over every year that it has.
 RULES = ((2000, 2060),)
 
 #: The spans of QuantLib's lists, as its source has them.

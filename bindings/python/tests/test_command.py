@@ -158,7 +158,7 @@ class Statuses(Command):
 
 
 class Odd(Command):
-    """One odd entry beside five good trades: the five agree, and the odd one is told."""
+    """One odd entry beside five good trades: the five agree, and the odd one is reported."""
 
     def setUp(self):
         super().setUp()

@@ -1,4 +1,4 @@
-"""The page 'A first trade': its ten commands, word for word, from an empty folder."""
+"""The page 'A first trade': its nine commands, word for word, from an empty folder."""
 import os
 import re
 import shlex
@@ -80,18 +80,18 @@ class FirstTrade(InAFolder):
 
     def check(self, commands):
         ended = self.run_all(commands)
-        outs = [done.stdout for done in ended] + [(self.folder / "first" / "usd.fixings").read_text()]
+        outs = [done.stdout for done in ended] + [(self.folder / "first" / "usd.daily").read_text()]
         for block in printed_of(self.page):
             lines = "\n".join(line for line in block if line != "..")
             self.assertTrue(any(lines in out for out in outs), lines)
-        self.assertEqual([done.returncode for done in ended], [0] * 9 + [1])
-        self.assertEqual(ended[8].stdout, "yes 40 7\n")
+        self.assertEqual([done.returncode for done in ended], [0] * 8 + [1])
+        self.assertEqual(ended[7].stdout, "yes 40 7\n")
         self.assertIn("`yes 40 7`", self.page)
-        self.assertEqual(ended[9].stdout, "no 1 payment 1 adjustedPaymentDate\n")
+        self.assertEqual(ended[8].stdout, "no 1 payment 1 adjustedPaymentDate\n")
 
-    def test_the_page_has_ten_commands_and_edits_nothing(self):
+    def test_the_page_has_nine_commands_and_edits_nothing(self):
         commands = commands_of(self.page)
-        self.assertEqual(len(commands), 10)
+        self.assertEqual(len(commands), 9)
         self.assertEqual(
             {shlex.split(command)[0] for command in commands}, {"irs", "irs-new", "irs-calendar", "irs-fixings"}
         )

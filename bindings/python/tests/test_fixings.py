@@ -251,6 +251,27 @@ class AgainstDocuments(InAFolder):
         self.assertEqual(ran(fixings.main, *words, "--fixings", "daily").out.splitlines(), days[1:])
         self.assertEqual(ran(fixings.main, *words, "--fixings", str(EXAMPLES / "overnight" / "daily")), (0, "", ""))
 
+    def test_daily_rates_of_the_terms(self):
+        calendar = str(EXAMPLES / "sofr_shift" / "usgs.cal")
+        words = ("--missing", self.terms("sofr_shift"), "--calendars", calendar, "--until", "2025-01-22")
+        days = [f"2025-01-{day} 1D USD-SOFR" for day in (13, 14, 15, 16, 17, 21, 22)]
+        ended = ran(fixings.main, *words)
+        self.assertEqual((ended.status, ended.out.splitlines()), (1, days))
+        self.assertEqual(ran(fixings.main, *words, "--overnight", "1"), ended)
+        daily = str(EXAMPLES / "sofr" / "daily")
+        self.assertEqual(ran(fixings.main, *words, "--fixings", daily).out.splitlines(), days[:2])
+        ended = ran(
+            fixings.main,
+            "--unused",
+            str(EXAMPLES / "sofr_shift" / "daily"),
+            "--documents",
+            self.terms("sofr_shift"),
+            "--calendars",
+            calendar,
+        )
+        # the last two days of the year are observed by no period, as each is shifted by two
+        self.assertEqual(ended.out.splitlines(), ["2026-01-13 1D USD-SOFR", "2026-01-14 1D USD-SOFR"])
+
     def test_lines_that_no_document_needs(self):
         self.write(
             "fixings",
@@ -317,7 +338,7 @@ class AgainstDocuments(InAFolder):
             )
 
     def test_every_line_that_is_missing_is_one_that_the_engine_then_takes(self):
-        # for each example: with the missing lines put in, no reset is without a rate; with any one left out, one is
+        # for each example: with the missing lines added, no reset is without a rate; with any one left out, one is
         for folder in ("compounded", "interpolate", "two_currencies", "spread_exclusive"):
             terms = (EXAMPLES / folder / "terms.json").read_bytes()
             lines = ran(fixings.main, "--missing", self.terms(folder)).out.splitlines()

@@ -1,4 +1,4 @@
-"""FpML in XML: one trade each, cash flows put in, elements taken out; every other byte stays.
+"""FpML in XML: one trade each, cash flows inserted, elements taken out; every other byte stays.
 
 Hostile input ends in a `Fault`. The documents are written for these tests.
 """

@@ -33,7 +33,7 @@ class Xml(unittest.TestCase):
         irs.check(self.TERMS, self.CALENDARS)
 
     def test_white_space_in_front(self):
-        # An XML declaration stands at the very front, and white space before another tag is XML.
+        # An XML declaration is at the very front, and white space before another tag is XML.
         body = self.TERMS.split(b"?>\n", 1)[1]
         irs.check(b" \r\n\t" + body, self.CALENDARS)
         with self.assertRaises(irs.Refused) as caught:
@@ -126,7 +126,8 @@ class Rows(unittest.TestCase):
         self.assertEqual(rows.break_of(line)[-2:], (Fraction(182, 360), Decimal("0.505555555556")))
         line = "b 1 period 2024-01-15 1 1 calculationPeriodNumberOfDays 182 181"
         self.assertEqual(rows.break_of(line)[-2:], (182, 181))
-        self.assertEqual(rows.break_of("b 2 stream - - - extra - -"), (2, "stream", None, None, None, "extra", None, None))
+        of_a_stream = (2, "stream", None, None, None, "extra", None, None)
+        self.assertEqual(rows.break_of("b 2 stream - - - extra - -"), of_a_stream)
 
     def test_what_is_emitted_is_audited(self):
         emitted = irs.emit(example("compounded/terms.json"), example("compounded/fixings"))
@@ -144,6 +145,40 @@ class Rows(unittest.TestCase):
         self.assertEqual(
             irs.accrue("2025-01-15", example("fixed_leg/terms.json")), [irs.Accrued(1, None, None, None, None)]
         )
+
+    def test_overnight_rates_in_the_terms(self):
+        calendars = [example("sofr/usgs.cal")]
+        schedule = irs.schedule(example("sofr/terms.json"), example("sofr/daily"), calendars)
+        self.assertEqual(schedule.text, example("sofr/output"))
+        self.assertEqual([reset.observed for reset in schedule.resets()][0], Decimal("0.043249224"))
+        files = (example("sofr_accrued/terms.json"), example("sofr_accrued/daily"), calendars)
+        self.assertEqual(
+            irs.accrue("2025-11-28", *files), [irs.Accrued(1, 4, 44, Fraction(44, 360), Decimal("469722.00"))]
+        )
+        self.assertIsNone(irs.accrue("2025-12-01", *files)[0].amount)
+        with self.assertRaises(irs.Refused) as caught:
+            irs.overnight(1, example("sofr/terms.json"), example("sofr/daily"), calendars)
+        self.assertEqual(caught.exception.rule, "K40")
+
+    def test_the_days_behind_a_rate(self):
+        files = (example("observations/fixings"), [example("observations/usgs.cal")])
+        found = irs.observations(1, example("observations/terms.json"), *files)
+        self.assertEqual(found[0], irs.PeriodFactor(1, "Compounding", Decimal("1.002075689365601355")))
+        # the rate of the Thursday before Easter is that of four days
+        self.assertEqual([row.days for row in found[1:]], [1, 1, 1, 4, 1, 1, 1, 1, 3])
+        with self.assertRaises(irs.Refused) as caught:
+            irs.observations(1, example("fixed_leg/terms.json"))
+        self.assertEqual(caught.exception.rule, "K49")
+
+    def test_rows_of_observations(self):
+        factor = irs.PeriodFactor(1, "Compounding", Decimal("1.002075689365601355"))
+        self.assertEqual(rows.observed_of("c 1 Compounding 1.002075689365601355"), factor)
+        self.assertEqual(rows.observed_of("c 2 stub -"), irs.PeriodFactor(2, "stub", None))
+        self.assertEqual(
+            rows.observed_of("o 1 2024-03-28 4 2024-03-27 0.053400000"),
+            irs.Observation(1, datetime.date(2024, 3, 28), 4, datetime.date(2024, 3, 27), Decimal("0.053400000")),
+        )
+        self.assertIsNone(rows.observed_of("o 1 2024-04-05 3 2024-04-05 -").rate)
 
     def test_the_further_commands(self):
         day = datetime.date(2024, 7, 15)

@@ -441,7 +441,7 @@ class Show(unittest.TestCase):
         return done.stdout.decode().splitlines()
 
     def test_the_flows_of_two_currencies(self):
-        """The amounts are those of examples/two_currencies; the totals were added by hand."""
+        """The amounts are those of examples/two_currencies; the totals were added on paper."""
         folder = EXAMPLES / "two_currencies"
         lines = self.lines(folder / "terms.json", "--fixings", folder / "fixings")
         head = next(line for line in lines if "Receives" in line)
@@ -752,6 +752,11 @@ class Refusals(unittest.TestCase):
         self.assertIn("ACT/361", line)
         self.assertLess(len(line), 130)
 
+    def test_a_file_keeps_its_own_name(self):
+        xml = example("xml_fixed_leg/terms.xml")
+        reply = ask("audit", Inputs(Named("terms", xml), None, Named("their.txt", xml)))
+        self.assertIn("(their.txt)", reply.sentence)
+
     def test_too_long_and_too_deep(self):
         refusal = refusal_of(ask("check", Inputs(Named("big.json", b" " * (library.MOST_BYTES + 1)))))
         self.assertEqual(refusal.sentence, "big.json has more than 4,194,304 bytes")
@@ -782,6 +787,25 @@ class Reports(unittest.TestCase):
             done,
             Page(Path(room, "report.html").read_text()) if Path(room, "report.html").exists() else None,
         )
+
+    def test_an_overnight_rate_in_the_terms(self):
+        with tempfile.TemporaryDirectory() as room:
+            Path(room, "A.json").write_bytes(example("sofr_shift/terms.json"))
+            Path(room, "A.fixings").write_bytes(example("sofr_accrued/daily"))
+            Path(room, "calendars").mkdir()
+            Path(room, "calendars", "usgs.cal").write_bytes(example("sofr_shift/usgs.cal"))
+            done, page = self.report(room, f"{room}/A.json")
+            self.assertEqual((done.returncode, done.stderr), (0, b""))
+            text = Path(room, "report.html").read_text()
+        self.assertEqual([len(table) for table in page.captioned("Periods")], [4])
+        for said in (
+            "<dt>Daily rates</dt><dd>compounded over the business days of USGS</dd>",
+            "<dt>Observation shift</dt><dd>rates and days are those of 2 business days earlier</dd>",
+            # the daily rates begin on 15 January and end on 26 November: the first and the last quarter lack some
+            "2 amounts not known, as a fixing is missing.",
+            "daily rates of USD-SOFR",
+        ):
+            self.assertIn(said, text)
 
     def test_what_lies_beside_a_trade_is_used(self):
         with tempfile.TemporaryDirectory() as room:
@@ -870,6 +894,32 @@ class Sides(unittest.TestCase):
         self.assertEqual((look.verdict_line, look.verdict.tone), ("no 1 payment 2 adjustedPaymentDate", "bad"))
         self.assertTrue(look.break_counts.startswith("1 break in 4 pairs of rows; "), look.break_counts)
 
+    def test_every_kind_of_break_is_shown_with_both_values(self):
+        look = look_at(trades.departing(), TODAY)
+        marks = [
+            (part.stream, part.kind, pair.our_number, pair.their_number, sorted(pair.marked))
+            for part in look.comparisons
+            for pair in part.pairs
+        ]
+        payment = sorted(compare.FIELDS["payment"])
+        self.assertEqual(
+            marks,
+            [
+                (1, "exchange", "2", "2", ["principalExchangeAmount"]),
+                (1, "payment", "3", "3", ["adjustedPaymentDate"]),
+                (1, "payment", "5", "5", ["amount"]),
+                (1, "period", "10", "10", ["notionalAmount"]),
+                (2, "reset", "5", "5", ["observedRate"]),
+                (2, "payment", "7", "-", payment),
+                (2, "payment", "-", "20", payment),
+                (2, "period", "9", "8", ["calculationPeriodNumberOfDays", "dayCountYearFraction"]),
+            ],
+        )
+        rows = [line.cells()[3:] for line in look.breaks]
+        self.assertEqual(rows[0], ["principalExchangeAmount", "2", "2", "3,500,000,000", "3,499,999,999"])
+        self.assertIn(["adjustedPaymentDate", "3", "3", "2024-12-16", "2024-12-17"], rows)
+        self.assertIn(["missing", "7", "-", "246,838.13", "-"], rows)
+
     def test_the_tone_says_what_was_not_compared(self):
         terms = named("compounded/terms.json")
         flows = Named("flows.json", irs.emit(terms.content, example("compounded/fixings")))
@@ -946,6 +996,22 @@ class Insert(unittest.TestCase):
             for stream in json.loads(emitted)["swap"]["swapStream"]:
                 left = left.replace(f'"cashflows":{json.dumps(stream["cashflows"], separators=(",", ":"))},', "", 1)
             self.assertEqual(left.encode(), document)
+
+    def test_a_document_in_xml_too(self):
+        target = [named("xml_vanilla/target.cal")]
+        for files in (
+            Inputs(named("xml_fixed_leg/terms.xml")),
+            Inputs(named("xml_vanilla/terms.xml"), named("xml_vanilla/fixings"), None, target),
+            Inputs(named("xml_message/message.xml"), None, None, target),
+        ):
+            with self.subTest(files.document.name):
+                document = files.document.content
+                emitted = ask("emit", files).text
+                once = with_cashflows(document, emitted)
+                self.assertEqual(ask("audit", files._replace(flows=Named("their.xml", once))).status, 0)
+                self.assertEqual(with_cashflows(once, emitted), once)
+                bare = re.sub(rb"\s*<((?:\w+:)?cashflows)>.*?</\1>", b"", once, flags=re.S)
+                self.assertEqual(bare, document)
 
 
 class Picture(unittest.TestCase):
@@ -1026,21 +1092,48 @@ class Words(unittest.TestCase):
         self.assertEqual(said[7], ("and then", "9 more steps, which the periods show"))
 
     def test_overnight(self):
-        parameters = {
-            "calculationMethod": "Compounding",
-            "lookback": {"offsetDays": "5"},
-            "applicableBusinessDays": {"businessCenter": ["USGS", {"#text": " GBLO "}]},
-        }
-        floating = {"floatingRateIndex": "USD-SOFR", "calculationParameters": parameters}
-        calculation = {"floatingRateCalculation": floating}
-        terms = words.stream_terms({"calculationPeriodAmount": {"calculation": calculation}})
-        self.assertIn(
+        for method, element, days, said in (
+            ("Compounding", None, "", [("Daily rates", "compounded over the business days of USGS, GBLO")]),
             (
-                "Overnight",
-                "daily rates by Compounding, lookback of 5 days; business days of USGS, GBLO",
+                "Compounding",
+                "lookback",
+                "5",
+                [
+                    ("Daily rates", "compounded over the business days of USGS, GBLO"),
+                    ("Lookback", "each day takes the rate of 5 business days earlier"),
+                ],
             ),
-            terms,
-        )
+            (
+                "Averaging",
+                "observationShift",
+                "1",
+                [
+                    ("Daily rates", "averaged over the business days of USGS, GBLO"),
+                    ("Observation shift", "rates and days are those of 1 business day earlier"),
+                ],
+            ),
+            (
+                "Compounding",
+                "lockout",
+                "+02",
+                [
+                    ("Daily rates", "compounded over the business days of USGS, GBLO"),
+                    ("Lockout", "the last 2 business days take the rate of the day before them"),
+                ],
+            ),
+        ):
+            parameters = {
+                "calculationMethod": method,
+                **({element: {"offsetDays": days}} if element else {}),
+                "applicableBusinessDays": {"businessCenter": ["USGS", {"#text": " GBLO "}]},
+            }
+            floating = {"floatingRateIndex": "USD-SOFR", "calculationParameters": parameters}
+            calculation = {"floatingRateCalculation": floating}
+            terms = words.stream_terms({"calculationPeriodAmount": {"calculation": calculation}})
+            place = terms.index(said[0])
+            self.assertEqual(terms[place : place + len(said)], said)
+            names = {term.about for term in terms} & {"Lookback", "Observation shift", "Lockout"}
+            self.assertEqual(len(names), 1 if element else 0)
 
     def test_rates_keep_their_digits(self):
         for text, shown in (

@@ -132,8 +132,7 @@ def document(*streams: Json, parties: Any = PARTIES) -> bytes:
 
 
 def fixings_of(terms: bytes, until: str, rates: random.Random) -> bytes:
-    """Invented fixings for every reset of a document up to a day: the engine says which are asked
-    for."""
+    """Invented fixings for every reset of a document up to a day: the engine says which are needed."""
     lines = set()
     streams = json.loads(terms)["dataDocument"]["trade"]["swap"]["swapStream"]
     for reset in irs.schedule(terms, calendars=[CALENDAR]).resets():
@@ -350,6 +349,28 @@ def forty_years() -> Inputs:
 
 
 FIVE = (vanilla, stub, amortising, two_currencies, overnight)
+
+
+def departing() -> Inputs:
+    """The trade in two currencies beside cash flows that depart in each kind of row, with a payment missing and one
+    more than there is."""
+    made = two_currencies()
+    assert made.fixings is not None
+    theirs = json.loads(irs.emit(made.document.content, made.fixings.content, [CALENDAR]))
+    yen, dollars = (flows["cashflows"] for flows in theirs["swap"]["swapStream"])
+    yen["principalExchange"][1]["principalExchangeAmount"] = "3499999999"
+    paid = yen["paymentCalculationPeriod"]
+    paid[2]["adjustedPaymentDate"] = "2024-12-17"
+    paid[4]["forecastPaymentAmount"]["amount"] = "13160958"
+    paid[9]["calculationPeriod"][0]["notionalAmount"] = "3000000000"
+    floating = dollars["paymentCalculationPeriod"]
+    floating[4]["calculationPeriod"][0]["floatingRateDefinition"]["rateObservation"]["observedRate"] = "0.051"
+    floating[8]["calculationPeriod"][0]["calculationPeriodNumberOfDays"] = "92"
+    floating[8]["calculationPeriod"][0]["dayCountYearFraction"] = "0.2555555556"
+    later = json.loads(json.dumps(floating[-1]).replace("2028", "2029"))
+    del floating[6]
+    floating.append(later)
+    return made._replace(flows=Named("birch.flows.json", json.dumps(theirs).encode()))
 
 
 def eight_thousand() -> bytes:
