@@ -12,6 +12,7 @@ use Rattle.irs_base.proofs.RuleNumbers.{same_rule}
 
 -- ---- in a swap
 
+-- a broken rule of a swap, from its rule, stream, element and index
 abbrev whole : Rule → ℕ → ℕ → ℕ → Broken
 whole r n e i = record { rule = r; place = record { stream = n; elem = e; index = i } }
 

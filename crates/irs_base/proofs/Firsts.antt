@@ -1,5 +1,5 @@
--- What comes first in an order by levels: there is at most one, the earlier of two firsts is the first of
--- both sets, and where nothing comes first there is nothing.
+-- What comes first in an order by levels: there is at most one first. The earlier of two firsts is the first of
+-- both sets. Where nothing comes first there is nothing.
 use Rattle.std.proofs.Common.{◌≡◌, ℕ, zero, suc, ◌<◌, Bool, true, false, true≢false, ◌⊎◌, inl, inr, Option, Some, None}
 use Rattle.std.proofs.Common.{refl, sym, ◌∙◌, ap, arith}
 use Rattle.std.specs.Prelude.{if◌then◌else◌, nat_lt}

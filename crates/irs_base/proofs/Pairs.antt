@@ -10,6 +10,7 @@ are_pairs zero = true
 are_pairs (suc k) =
     (eqb (get_or PAIRS.now (2 * k) 0) (48 + k / 10) && eqb (get_or PAIRS.now (2 * k + 1) 0) (48 + k % 10)) && are_pairs k
 
+-- the table's two digits at k are those of the number k
 abbrev IsPair : ℕ → Type 0
 IsPair k = (get_or PAIRS.now (2 * k) 0 ≡ 48 + k / 10) × (get_or PAIRS.now (2 * k + 1) 0 ≡ 48 + k % 10)
 

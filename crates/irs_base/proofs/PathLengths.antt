@@ -10,6 +10,7 @@ use Rattle.irs_base.specs.Paths.{path_of, longest_path}
 use Rattle.irs_base.specs.declared.elements.TheConstants.{PATHS}
 use Rattle.irs_base.proofs.Orders.{both_true}
 
+-- whether a path is no longer than the longest one stated
 abbrev is_short : List ℕ → Bool
 is_short p = nat_le (length p) longest_path
 

@@ -4,6 +4,7 @@ use Rattle.std.proofs.Common.{eq-zero-or-pos, eqb→eq}
 use lib.Ieee.Fits.{and_l, and_r}
 use Rattle.irs_base.specs.declared.digits.TheConstants.{POWERS}
 
+-- whether the table's first entries are the powers of 10
 abbrev are_powers : ℕ → Bool
 are_powers zero = true
 are_powers (suc k) = eqb (get_or POWERS k 0) (10 ^ k) && are_powers k

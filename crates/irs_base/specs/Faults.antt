@@ -6,8 +6,8 @@ use Rattle.irs_base.specs.declared.places.Broken.{Broken}
 use Rattle.irs_base.specs.declared.stopped.Stopped.{Stopped}
 use Rattle.irs_base.specs.declared.stopped.Stopped.TheVariants.{Broken as OfBroken, Memory as OfMemory}
 
--- the rule, broken at an element of the stream; the index is that of a period, a payment, an exchange
--- or a repeated element, else 0
+-- the rule, broken at an element of the stream
+-- the index is the number of a period, payment, exchange or repeated element, else 0
 abbrev pub fault_at : Rule → ℕ → ℕ → Fault
 fault_at rule elem index = record { rule = rule; elem = elem; index = index }
 

@@ -1,4 +1,4 @@
--- The limits of terms, of files and of what is worked out of them. They are this project's own.
+-- The limits of terms, of files and of what is worked out of them. They are our rule.
 use Rattle.std.specs.Prelude.{ℕ, ◌+◌, ◌*◌, ◌^◌}
 
 -- the most streams of a swap

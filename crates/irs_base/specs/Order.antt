@@ -52,9 +52,9 @@ IsFirstBroken P answer = IsFirst is_before P answer
 abbrev pub earlier_broken : Option Broken → Option Broken → Option Broken
 earlier_broken a b = earlier is_before a b
 
--- of the rules of one part of a stream's dates and amounts, those on where dates may be (K30 to K32,
--- K35 to K37) and on too few daily rates (K48) come before those on what is worked out of them (K33, K34,
--- K38, K39)
+-- The order of the rules of one part of a stream's dates and amounts. First come those on where dates may
+-- be (K30 to K32, K35 to K37) and on too few daily rates (K48). Then come those on what is worked out of
+-- them (K33, K34, K38, K39).
 abbrev pub turn : Rule → ℕ
 turn K33 = 1
 turn K34 = 1

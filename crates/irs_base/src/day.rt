@@ -1,7 +1,7 @@
 //! Days: the dates of the proleptic Gregorian calendar from 1901-01-01 to 2299-12-31, counted from
 //! 1970-01-01.
 //!
-//! The range is this project's own; the calendar is that of ISO 8601, by `jiff`'s core.
+//! The range is our rule; the calendar is that of ISO 8601, by `jiff`'s core.
 ghost use Rattle.std.specs.Prelude.{◌≡◌, ℤ, pos, ◌+ℤ◌, ◌≤ℤ◌, IfSome, IfNone, SomeIff};
 ghost use Rattle.irs_base.specs.Days.{IsDay, first_day, first_year, last_day, last_year, weekday_at};
 

@@ -59,7 +59,7 @@ fn cut_at_point(text: &[u8]) -> (&[u8], &[u8])
 
 /// The digits before and after the point of a decimal without sign. `None` comes exactly where the text
 /// isn't one: digits with at most one point, at least one digit, at most 18 before the point. The limit is
-/// this project's own.
+/// our rule.
 pub fn decimal_parts(text: &[u8]) -> Option<(&[u8], &[u8])>
     ensures cut { IfSome result (λ p. IsCut text.now p.0.now p.1.now) }
     ensures parts { IfSome result (λ p. AreParts p.0.now p.1.now) }
@@ -131,8 +131,8 @@ fn with_parts(units: u64, parts: u64, places: u8) -> u128
     u128::from(units) * u128::from(power_of_ten(places)) + u128::from(parts)
 }
 
-/// The number that the digits before a point and the first `places` after it spell, with zeros for
-/// digits that are absent, in units of 10^-places. It is below 10^30.
+/// The number that the digits before a point and the first `places` after it spell, in units of
+/// 10^-places. Absent digits count as zeros. It is below 10^30.
 pub fn number_of_parts(whole: &[u8], fraction: &[u8], places: u8) -> u128
     requires whole { AreDigits whole.now }
     requires fraction { AreDigits fraction.now }
@@ -186,8 +186,8 @@ fn negative(n: u128) -> i128
     -(n as i128)
 }
 
-/// The value of a decimal in units of 10^-places; `None` exactly where the text is no decimal, has
-/// more than 18 digits before its point, or a digit other than 0 past its places.
+/// The value of a decimal in units of 10^-places. `None`: the text is no decimal, has more than 18
+/// digits before its point, or has a digit other than 0 past its places.
 pub fn read_dec(text: &[u8], places: u8) -> Option<i128>
     requires { places ≤ most_places }
     ensures some { IfSome result (DecText text.now places) }

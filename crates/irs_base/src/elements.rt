@@ -1,8 +1,8 @@
 //! Elements: the paths of FpML elements by which places are named, as one constant table.
 //!
-//! The order of the table is the order in which the first broken rule is sought: what lies outside
-//! the streams, the elements of a stream of a trade (FpML's InterestRateStream), and the elements
-//! of another party's cash flows. The table and its order are this project's own.
+//! The first broken rule is sought in the order of the table. First comes what lies outside the
+//! streams, then the elements of a stream of a trade (FpML's InterestRateStream), then those of
+//! another party's cash flows. The table and its order are our rule.
 ghost use Rattle.std.specs.Prelude.{◌≡◌, ◌<◌, ◌≤◌, ℕ, Some, SomeIff, map, slice_get, length, true, drop};
 ghost use Rattle.irs_base.specs.Elements.{fits_from, count};
 ghost use Rattle.irs_base.specs.PathList.{printed};
@@ -248,9 +248,9 @@ pub fn paths_listed()
     ensures { map (λ p. p.now) PATHS ≡ printed }
 {}
 
-/// The table is whole: each element comes after its parent, its path is its parent's path, a `/` and
-/// its own name (the name alone right below the stream), and no two elements of one parent have one
-/// name, so that no path is there twice.
+/// The table is whole: each element comes after its parent. Its path is its parent's path, a `/` and
+/// its own name, or the name alone directly below the stream. No two elements of one parent have the
+/// same name, so no path is there twice.
 pub fn table_fits()
     ensures { fits_from (map (λ p. p.now) PATHS) 3 (drop 3 PARENTS) (drop 3 (map (λ n. n.now) NAMES))
         (drop 3 (map (λ p. p.now) PATHS)) ≡ true }

@@ -1,8 +1,8 @@
-//! The fields of a line of a file, parted by spaces and tabs (this project's own).
+//! The fields of a line of a file, separated by spaces and tabs (our rule).
 ghost use Rattle.std.specs.Prelude.{◌≡◌, ◌<◌, ◌∷◌, [], false, length, MatchOption};
 ghost use Rattle.irs_base.specs.Fields.{is_space, begins_space, without_gap, fields};
 
-/// Whether a byte parts fields: a space or a tab.
+/// Whether a byte separates fields: a space or a tab.
 pub fn is_gap(b: u8) -> bool
     ensures { result ≡ is_space b }
 {

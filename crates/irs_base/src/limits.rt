@@ -1,5 +1,5 @@
-//! The limits of terms, of files and of what is worked out of them, each at its one place. They are
-//! this project's own.
+//! The limits of terms, of files and of what is worked out of them, each in its one place. They are
+//! our rule.
 ghost use Rattle.std.specs.Prelude.{◌≡◌};
 ghost use Rattle.irs_base.specs.Days.{all_days};
 ghost use Rattle.irs_base.specs.Limits.{most_bytes, most_centers, most_exchanges, most_files, most_holidays};

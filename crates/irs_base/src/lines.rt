@@ -1,4 +1,4 @@
-//! The lines of a file, which end in LF or CRLF (this project's own).
+//! The lines of a file, which end in LF or CRLF (our rule).
 ghost use Rattle.std.specs.Prelude.{◌≡◌, ◌<◌, ◌∷◌, length};
 ghost use Rattle.irs_base.specs.Lines.{lines_of, without_cr};
 

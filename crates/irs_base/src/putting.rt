@@ -1,6 +1,6 @@
 //! A field of a line: its mark, which is mostly one space, and its text.
 //!
-//! The lines are this project's own.
+//! The lines are our rule.
 ghost use Rattle.std.specs.Prelude.{◌≡◌, ◌+◌, ◌<◌, ◌≤◌, ◌∷◌, ◌++◌, length};
 ghost use Rattle.std.specs.Fmt.{decimal, signed_decimal};
 ghost use Rattle.irs_base.specs.Texts.{day_text, dec_text, most_places};

@@ -1,7 +1,7 @@
 //! Rounding to a whole number: 2006 ISDA Definitions, article 8.
 //!
 //! A half goes towards plus infinity, and directed rounding is towards plus or minus infinity, for
-//! negative numbers too. That is this project's own.
+//! negative numbers too. That is our rule.
 ghost use Rattle.std.specs.Prelude.{◌≡◌, ◌+◌, ◌*◌, ◌<◌, ◌≤◌, ◌^◌, pos, ◌<ℤ◌, ◌≤ℤ◌, ◌+ℤ◌, ◌*ℤ◌};
 ghost use Rattle.std.specs.Prelude.{unsigned_abs};
 ghost use Rattle.irs_base.specs.Rounding.{Rounded, rounded};

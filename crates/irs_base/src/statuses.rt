@@ -1,4 +1,4 @@
-//! The exit statuses, which are this project's own.
+//! The exit statuses, which are our rule.
 ghost use Rattle.std.specs.Prelude.{◌≡◌, IfSome, IfNone};
 ghost use Rattle.irs_base.specs.Statuses.{status_number};
 

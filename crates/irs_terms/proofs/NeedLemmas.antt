@@ -1,4 +1,4 @@
--- A lawful element asks the good days of at most 16 centres.
+-- A lawful element needs the business days of at most 16 centres.
 use Rattle.std.specs.Prelude.{ℕ, ◌≤◌, Bool, true, false, ◌||◌, List, Option, Some, None, IfSome, length}
 use Rattle.irs_base.specs.Limits.{most_centers}
 use Rattle.irs_terms.specs.Lawful.{IsLawfulCenters, IsLawfulFix, IsLawfulReset}

@@ -14,8 +14,8 @@ IsMultiple whole part = (times : ℕ) × IsTimes whole part times
 abbrev pub IsLargerMultiple : ℕ → ℕ → Type 0
 IsLargerMultiple whole part = (times : ℕ) × (1 < times) × IsTimes whole part times
 
--- a payment has whole calculation periods: days are a whole multiple of days, and months of months; the
--- term, once, has them all, and where the one period is the term so is the payment
+-- A payment has whole calculation periods: days are a whole multiple of days, and months of months.
+-- A single payment for the whole term has them all. Where the one period is the term, so is the payment.
 abbrev pub HasWholePeriods : Length → Length → Type 0
 HasWholePeriods (Days pay) (Days calc) = IsMultiple pay calc
 HasWholePeriods (Days pay) (Months calc) = ⊥

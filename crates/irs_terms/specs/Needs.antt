@@ -1,5 +1,5 @@
--- Whose good days an element of a stream asks: the centres that it lists or has by its reference, and
--- none where it needs no days.
+-- The centres an element of a stream takes its business days from. It lists them or has them by reference.
+-- There are none where it needs no days.
 use Rattle.std.specs.Prelude.{ℕ, Bool, true, false, not, ◌&&◌, ◌||◌, List, Option, Some, None, pos, if◌then◌else◌}
 use Rattle.std.specs.Ordering.{int_eq}
 use Rattle.irs_terms.specs.declared.codes.ConvCode.{ConvCode}
@@ -39,11 +39,11 @@ is_business Unsaid = false
 abbrev pub counts_days : Offset → Bool
 counts_days offset = is_business offset.kind && not (int_eq offset.days (pos 0))
 
--- the names by which an element has its good days; none where it needs none
+-- the names of the centres that an element needs; none where it needs no days
 abbrev pub names_for : Bool → Centers → Option (List (List ℕ))
 names_for needed centers = if needed then listed_names centers else None
 
--- the centres that adjustments ask: none where they need no days
+-- the centres that adjustments need: none where they need no days
 abbrev pub names_by : Adjustments → Option (List (List ℕ))
 names_by adj = names_for (adjusts_days adj.code) adj.centers
 

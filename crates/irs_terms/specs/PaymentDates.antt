@@ -1,4 +1,4 @@
--- Where the first and the last regular payment date stand (FpML firstPaymentDate, lastRegularPaymentDate).
+-- Where the first and the last regular payment date may be (FpML firstPaymentDate, lastRegularPaymentDate).
 use Rattle.std.specs.Prelude.{◌≡◌, ◌≢◌, ◌⊎◌, Option, Some, None, IsSome, IsNone, IfSome, IsSomeAnd, ℤ, ◌≤ℤ◌, ◌<ℤ◌}
 use Rattle.irs_terms.specs.declared.codes.Relative.TheVariants.{End}
 use Rattle.irs_terms.specs.declared.codes.StubKind.{StubKind}
@@ -27,12 +27,12 @@ IsInitial (Some LongFinal) = ⊥
 abbrev pub HasInitialKind : Stream → Type 0
 HasInitialKind s = IsNone s.first_regular × IsNone s.last_regular × IsInitial s.stub
 
--- an initial stub is asked for, by a later start or by the stub type; for frequency T it never is
+-- the terms call for an initial stub, by a later start or by the stub type; for frequency T they never do
 abbrev pub AsksInitialStub : Stream → Type 0
 AsksInitialStub s = (IsTerm s.freq → ⊥) × (StartsLater s ⊎ HasInitialKind s)
 
--- payments have more than one period and an initial stub is asked for, so that the first payment date
--- alone says how many periods the first payment has
+-- Payments have more than one period and the terms call for an initial stub. Then the first payment date
+-- alone says how many periods the first payment has.
 abbrev pub NeedsFirstPayment : Stream → Type 0
 NeedsFirstPayment s = GroupsPeriods (length_of s.pay.freq) (length_of s.freq) × AsksInitialStub s
 
@@ -49,7 +49,7 @@ pub record IsFirstPayment (s : Stream) (first : ℤ) : Type 0 where
   pub regular : HasRegularPayments s.pay
   pub inside : IsPaymentInside s first
 
--- firstPaymentDate is given where it is needed, and where it is given it can stand there
+-- firstPaymentDate is given where it is needed, and where it is given it is a lawful one
 pub record FirstPaymentStands (s : Stream) : Type 0 where
   pub needed : NeedsFirstPayment s → IsSome s.pay.first
   pub given : IfSome s.pay.first (IsFirstPayment s)
@@ -60,11 +60,11 @@ pub record IsLastPayment (s : Stream) (last : ℤ) : Type 0 where
   pub inside : IsPaymentInside s last
   pub behind_first : IfSome s.pay.first (λ first. first ≤ℤ last)
 
--- lastRegularPaymentDate, where it is given, can stand there
+-- lastRegularPaymentDate, where it is given, is a lawful one
 abbrev pub LastPaymentStands : Stream → Type 0
 LastPaymentStands s = IfSome s.pay.last (IsLastPayment s)
 
--- K16 isn't broken: both regular payment dates stand where they can
+-- K16 isn't broken: both regular payment dates are where they may be
 pub record PaymentDatesStand (s : Stream) : Type 0 where
   pub first : FirstPaymentStands s
   pub last : LastPaymentStands s

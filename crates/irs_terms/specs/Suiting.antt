@@ -1,4 +1,4 @@
--- Which roll conventions go with a frequency, and what is asked of a stream's own (FpML
+-- Which roll conventions suit a frequency, and which rules apply to a stream's own (FpML
 -- calculationPeriodFrequency, rollConvention).
 use Rattle.std.specs.Prelude.{◌≡◌, ◌≤◌, None}
 use Rattle.irs_terms.specs.declared.codes.RollCode.{RollCode}

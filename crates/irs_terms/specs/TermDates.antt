@@ -36,8 +36,8 @@ StartsBefore s = IfSome s.first_start (λ start. start.day <ℤ s.effective.day)
 abbrev pub FirstRegularInside : Stream → Type 0
 FirstRegularInside s = IfSome s.first_regular (λ f. (first_day_of s ≤ℤ f) × (f ≤ℤ termination_of s))
 
--- the last regular date, where it is given, isn't after the termination date, nor before the first
--- regular date, or the first day where none is given
+-- The last regular date, where it is given, isn't after the termination date. It isn't before the first
+-- regular date, or before the first day where none is given.
 abbrev pub LastRegularInside : Stream → Type 0
 LastRegularInside s =
     IfSome s.last_regular (λ l. (given_or s.first_regular (first_day_of s) ≤ℤ l) × (l ≤ℤ termination_of s))

@@ -16,7 +16,7 @@ pub struct Offset {
 pub enum Centers {
     /// There are none.
     Absent,
-    /// The list that stands there, or the one list that is named.
+    /// The list in the element itself, or the one list that it names.
     Listed(Names),
     /// The reference names no list, or more than one.
     Dangling,
@@ -27,7 +27,7 @@ pub enum Centers {
 pub struct Adjustments {
     /// How a day that isn't good is moved (FpML `businessDayConvention`).
     pub code: ConvCode,
-    /// The centres whose calendars say which days are good (FpML `businessCenters`).
+    /// The centres whose calendars give the business days (FpML `businessCenters`).
     pub centers: Centers,
 }
 

@@ -3,7 +3,7 @@
 use crate::{CalculationParameters, Frequency, RefState, StepValues, Treatment};
 use irs_base::{Direction, Text};
 
-/// How a rate is rounded: to so many decimals, in which direction (FpML `finalRateRounding`).
+/// How a rate is rounded: its number of decimals, and the direction (FpML `finalRateRounding`).
 #[derive(Clone, Copy)]
 pub struct Rounding {
     /// The direction (FpML `roundingDirection`).
@@ -25,11 +25,12 @@ pub struct FloatTerms {
     pub spread: StepValues,
     /// `initialRate`.
     pub initial_rate: Option<i64>,
-    /// `finalRateRounding`; Nearest at 9 decimals where it is absent.
+    /// `finalRateRounding`; where it is absent Nearest, to 7 decimals with `calculationParameters` and
+    /// to 9 without.
     pub rounding: Rounding,
     /// `negativeInterestRateTreatment`; NegativeInterestRateMethod where it is absent.
     pub treatment: Treatment,
-    /// `calculationParameters`, with which the rate is that of daily rates.
+    /// `calculationParameters`, by which the rate is compounded or averaged from daily rates.
     pub parameters: Option<CalculationParameters>,
 }
 

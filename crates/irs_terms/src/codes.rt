@@ -25,9 +25,9 @@ pub enum ConvCode {
     ModFollowing,
     /// `PRECEDING`.
     Preceding,
-    /// `MODPRECEDING`; its rule is this project's own.
+    /// `MODPRECEDING`, by our rule.
     ModPreceding,
-    /// `NEAREST`; its rule is this project's own.
+    /// `NEAREST`, by our rule.
     Nearest,
     /// `NONE`.
     Unadjusted,
@@ -62,7 +62,7 @@ pub enum CompCode {
     /// `Flat`: at the base rate of the period, without the spread.
     Flat,
     /// `SpreadExclusive`: at the base rate of the period; the spread is paid on the notional alone.
-    /// Its rule is this project's own.
+    /// That is our rule.
     SpreadExclusive,
 }
 
@@ -75,7 +75,7 @@ pub enum Treatment {
     ZeroFloor,
 }
 
-/// Where an irregular period stands and whether it is shorter or longer than a regular one (FpML
+/// Where an irregular period is, and whether it is shorter or longer than a regular one (FpML
 /// `stubPeriodType`).
 #[derive(Clone, Copy, Debug, PartialEq, Eq)]
 pub enum StubKind {
@@ -89,7 +89,7 @@ pub enum StubKind {
     LongFinal,
 }
 
-/// The end of a calculation period that a date goes by (FpML `payRelativeTo`, `resetRelativeTo`).
+/// The end of a calculation period that a date is reckoned from (FpML `payRelativeTo`, `resetRelativeTo`).
 #[derive(Clone, Copy, Debug, PartialEq, Eq)]
 pub enum Relative {
     /// `CalculationPeriodStartDate`.

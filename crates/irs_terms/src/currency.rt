@@ -1,7 +1,7 @@
 //! Currencies: three capital letters, and how many decimals an amount has.
 //!
-//! The table of decimals is this project's own; it holds the currencies of ISO 4217 that have 0 or
-//! 3 decimals in swaps.
+//! The table of decimals is our rule; it holds the currencies of ISO 4217 that have 0 or 3 decimals
+//! in swaps.
 ghost use Rattle.std.specs.Prelude.{◌≡◌};
 ghost use Rattle.irs_terms.specs.Currencies.{decimals_of};
 
@@ -13,8 +13,8 @@ pub struct Currency {
 }
 
 impl Currency {
-    /// The decimals of an amount: 0 for JPY, KRW, CLP, VND and ISK; 3 for BHD, KWD, OMR, JOD and
-    /// TND; 2 for every other currency.
+    /// The decimals of an amount: 0 for JPY, KRW, CLP, VND and ISK, and 3 for BHD, KWD, OMR, JOD and
+    /// TND. Every other currency has 2.
     pub fn places(self) -> u8
         ensures { result ≡ decimals_of self.letters }
     {

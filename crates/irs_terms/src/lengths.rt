@@ -1,5 +1,5 @@
-//! How long a frequency is: a week is 7 days and a year 12 months, so that 7D and 1W are the same
-//! and 12M and 1Y are.
+//! How long a frequency is: a week is 7 days and a year 12 months. So 7D and 1W are the same, and
+//! 12M and 1Y are.
 ghost use Rattle.std.specs.Prelude.{◌≡◌};
 ghost use Rattle.irs_terms.specs.Lengths.{is_same_length, length_of, same_length};
 
@@ -8,9 +8,9 @@ use crate::{Frequency, Unit};
 /// The length of a frequency.
 #[derive(Clone, Copy)]
 pub enum Length {
-    /// So many days; a week counts 7.
+    /// A number of days; a week counts 7.
     Days(u32),
-    /// So many months; a year counts 12.
+    /// A number of months; a year counts 12.
     Months(u32),
     /// The whole term, with the multiplier that is given.
     Term(u32),

@@ -36,7 +36,7 @@ impl<T: Drop> Listed<T> {
         })
     }
 
-    /// Puts one at the end; where memory runs out the list stays as it was and the item is dropped.
+    /// Appends an item; where memory runs out the list stays as it was and the item is dropped.
     pub fn push(&mut self, x: T) -> Result<(), Memory>
         ensures ok { OnOk result (self.new ≡ self.old ++ x ∷ []) }
         ensures err { OnErr result (self.new ≡ self.old) }
@@ -61,7 +61,7 @@ impl<T: Drop> Listed<T> {
 }
 
 impl<T: Copy + Drop> Listed<T> {
-    /// An equal list, or want of memory.
+    /// An equal list, or out of memory.
     pub fn copy(&self, alloc: Global) -> Result<Listed<T>, Memory>
         ensures { IfOk result (λ l. l ≡ self.now) }
     {

@@ -1,8 +1,8 @@
-//! Whose calendars an element of a stream asks: the business centres that it lists or has by its
-//! reference (FpML `businessCenters`, `businessCentersReference`), or none where it needs no days.
+//! The business centres whose calendars an element of a stream needs. It lists them or has them by
+//! its reference (FpML `businessCenters`, `businessCentersReference`); none where it needs no days.
 //!
-//! An element needs days where its convention isn't NONE; payment dates and fixing dates also where
-//! their offset is a Business offset other than 0.
+//! An element needs days where its convention isn't NONE. Payment dates and fixing dates also need
+//! them where their offset is a Business offset other than 0.
 ghost use Rattle.std.specs.Prelude.{◌≡◌, option_copied};
 ghost use Rattle.irs_terms.specs.Needs.{adjusts_days, counts_days, fixing_names, fixing_names_of, is_business};
 ghost use Rattle.irs_terms.specs.Needs.{listed_names, names_by, names_for, names_with, reset_names};
@@ -10,21 +10,22 @@ ghost use Rattle.irs_terms.specs.Needs.{listed_names, names_by, names_for, names
 use crate::{Adjustments, Centers, ConvCode, DayKind, FixTerms, Offset, ResetTerms};
 use irs_base::Names;
 
-/// Whose good days adjust a date; `None` where the convention is NONE.
+/// The centres whose business days adjust a date; `None` where the convention is NONE.
 pub fn names_by(adj: &Adjustments) -> Option<&Names>
     ensures { option_copied result ≡ names_by adj.now }
 {
     names_for(adjusts_days(adj.code), &adj.centers)
 }
 
-/// Whose good days move a date by an offset and adjust it; `None` where neither needs days.
+/// The centres whose business days move a date by an offset and adjust it; `None` where neither
+/// needs days.
 pub fn names_with(offset: Offset, adj: &Adjustments) -> Option<&Names>
     ensures { option_copied result ≡ names_with offset adj.now }
 {
     names_for(adjusts_days(adj.code) || counts_days(offset), &adj.centers)
 }
 
-/// Whose good days adjust reset dates; `None` where there are no reset dates.
+/// The centres whose business days adjust reset dates; `None` where there are no reset dates.
 pub fn reset_names(reset: &Option<ResetTerms>) -> Option<&Names>
     ensures { option_copied result ≡ reset_names reset.now }
 {
@@ -34,7 +35,8 @@ pub fn reset_names(reset: &Option<ResetTerms>) -> Option<&Names>
     }
 }
 
-/// Whose good days move and adjust fixing dates; `None` where there are no fixing dates.
+/// The centres whose business days move and adjust fixing dates; `None` where there are no fixing
+/// dates.
 pub fn fixing_names(reset: &Option<ResetTerms>) -> Option<&Names>
     ensures { option_copied result ≡ fixing_names reset.now }
 {

@@ -2,15 +2,15 @@
 use crate::Listed;
 use irs_base::{Day, Dec};
 
-/// The regular part of the term: its first and last day, and the anchor of its grid (the first day
-/// of the term for frequency T).
+/// The regular part of the term: its first and last day, and the anchor of its grid. For frequency T
+/// the anchor is the first day of the term.
 #[derive(Clone, Copy)]
 pub struct Span {
     /// Where the first regular period begins, before adjustment.
     pub first: Day,
     /// Where the last regular period ends, before adjustment.
     pub last: Day,
-    /// The date that the grid of regular dates goes by.
+    /// The date that the grid of regular dates is reckoned from.
     pub anchor: Day,
 }
 

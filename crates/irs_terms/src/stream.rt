@@ -68,7 +68,7 @@ impl Stream {
         ensures day { IsDay result }
     {
         let day = self.first_date().day;
-        // The call tells that the day is in range.
+        // By its contract this call shows that the day is in range.
         let _number = day.number();
         day
     }

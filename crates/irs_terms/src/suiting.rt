@@ -4,8 +4,8 @@ ghost use Rattle.irs_terms.specs.Suiting.{RollsMonths, RollsWeeks, Suits};
 
 use crate::{Frequency, RollCode, Unit};
 
-/// Whether the roll suits the frequency: months and years roll on EOM, IMM or a day number from 1
-/// to 30, weeks on a weekday or NONE, days on NONE; nothing is asked of the roll of the term.
+/// Whether the roll suits the frequency. Months and years roll on EOM, IMM or a day number from 1
+/// to 30, weeks on a weekday or NONE, days on NONE. Every roll suits the term.
 pub fn suits(freq: Frequency, roll: RollCode) -> bool
     ensures { IsTrue result ↔ Suits freq roll }
 {
