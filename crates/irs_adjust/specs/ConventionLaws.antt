@@ -6,6 +6,7 @@ use Rattle.irs_base.proofs.MonthLemmas.{has_month}
 use Rattle.irs_calendar.specs.GoodDays.{DaySet, IsGood, Next, Prev}
 use Rattle.irs_adjust.specs.Conventions.{SameMonth, ModFollows, ModPrecedes, GoesNearest}
 
+-- of two days one is earlier, or they are the same
 cases_order : (a b : ℤ) → (a <ℤ b) ⊎ ((b <ℤ a) ⊎ (a ≡ b))
 cases_order a b = grind (arith, signed_arith)
 
@@ -51,6 +52,7 @@ prev_stays s d good = record {
   none_after = λ x low high g. absurd (omega (arith, signed_arith, low, high));
 }
 
+-- a day lies in its own month
 own_month : (d : ℤ) → IsDay d → SameMonth d d
 own_month d day = let m = has_month d day in record { month = m.0; of_first = m.1; of_second = m.1 }
 

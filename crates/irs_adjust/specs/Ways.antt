@@ -14,7 +14,7 @@ abbrev pub IsNextOn : Way → DaySet → ℤ → ℤ → Type 0
 IsNextOn Ahead s d r = Next s (d +ℤ pos 1) r
 IsNextOn Back s d r = Prev s (d -ℤ pos 1) r
 
--- how many of the n days next to d on that side are good, d left out
+-- how many of the n days next to d on that side are business days, d left out
 abbrev pub good_days : Way → DaySet → ℤ → ℕ → ℕ
 good_days way s d zero = 0
 good_days way s d (suc n) = good_days way s d n + (if s.test (away way d (suc n)) then 1 else 0)

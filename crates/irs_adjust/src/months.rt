@@ -9,7 +9,7 @@ use jiff_core::civil::days_in_month;
 pub fn in_same_month(a: Day, b: Day) -> bool
     ensures { IsTrue result ↔ SameMonth a b }
 {
-    // Most days that are adjusted are good and stay.
+    // Most days to be adjusted are business days and stay.
     a.number() == b.number() || is_in_month_of(a, b)
 }
 

@@ -11,7 +11,7 @@ use irs_base::Day;
 use irs_calendar::GoodDays;
 use irs_terms::{ConvCode, DayKind, Offset};
 
-/// Why a day that is moved and then adjusted comes to no date.
+/// Why a day that is moved and then adjusted gives no date.
 #[derive(Clone, Copy, PartialEq, Eq)]
 pub enum NoDate {
     /// The Business offset or the adjustment has no result.

@@ -1,7 +1,7 @@
 //! One business day after another, ahead or back.
 //!
-//! A Business offset goes from a day to the n-th business day on one side of it. Both sides are
-//! walked in the same way, so there is one loop.
+//! A Business offset leads from a day to the n-th business day on one side of it. Both sides are
+//! searched in the same way, so there is one loop.
 ghost use Rattle.std.specs.Prelude.{◌<◌, ℤ, IfSome, IfNone};
 ghost use Rattle.irs_base.specs.Days.{IsDay};
 ghost use Rattle.irs_calendar.specs.GoodDays.{InCover};

@@ -10,11 +10,11 @@ use Rattle.irs_calendar.specs.Rising.{is_listed}
 abbrev pub any_listed : List Section → ℤ → Bool
 any_listed ss d = list_any (λ s. is_listed d s.holidays) ss
 
--- a bit for each day
+-- the bit of day k is set
 abbrev pub is_marked : List ℕ → ℕ → Bool
 is_marked marks k = bit_at (slice_index_or marks (k / 64) 0) (k % 64) == 1
 
--- the days that are closed are marked besides, as far as a limit; days are counted from first
+-- below a limit the closed days are marked too, besides the earlier marks; days are counted from first
 abbrev pub IsClosed : ℤ → ℕ → (ℤ → Bool) → List ℕ → List ℕ → Type 0
 IsClosed first limit closed old new =
     (k : ℕ) → k < limit → is_marked new k ≡ (is_marked old k || closed (first +ℤ pos k))

@@ -32,7 +32,7 @@ pub record Prev (s : DaySet) (d r : ℤ) : Type 0 where
   pub good : IsGood s r
   pub none_after : (x : ℤ) → r <ℤ x → x ≤ℤ d → IsGood s x → ⊥
 
--- the whole range of dates, and every day of it good
+-- the whole range of dates, and every day of it a business day
 pub record IsWhole (s : DaySet) : Type 0 where
   pub first : s.first ≡ first_day
   pub last : s.last ≡ last_day

@@ -29,7 +29,7 @@ earliest_last d (s ∷ ss) = earliest_last (earlier d s.last) ss
 abbrev pub all_cover : List Section → ℤ → Bool
 all_cover ss d = list_all (λ s. is_le (int_cmp s.first d) && is_le (int_cmp d s.last)) ss
 
--- the cover is what the covers have in common, and of its days those are good that all sections leave open
+-- the cover is what the covers have in common; its business days are those that all sections leave open
 abbrev pub set_of_sections : List Section → DaySet
 set_of_sections ss = record { first = latest_first first_day ss; last = earliest_last last_day ss; test = all_open ss }
 

@@ -12,16 +12,16 @@ use crate::words::said;
 use irs_base::split_line;
 use std::alloc::Global;
 
-/// The first line at fault, or no memory.
+/// The first faulty line, or out of memory.
 #[derive(Drop)]
 pub enum FileErr {
     /// What is wrong, and the number of the line, from 1.
     Fault(Fault, u32),
-    /// There was no memory.
+    /// Memory ran out.
     Memory,
 }
 
-/// One line more.
+/// Reads one more line.
 fn read_line(alloc: Global, state: State, line: &[u8], number: u32) -> Result<State, FileErr>
     ensures { GivesFile result (numbered number (after_line state (kind_of line.now))) }
 {

@@ -24,7 +24,7 @@ pub trait GoodDays {
         ensures ends { result ≡ ((days self.now).first, (days self.now).last) }
         ensures range { (d : ℤ) → InCover (days self.now) d → IsDay d };
 
-    /// The day lies in the cover and is good.
+    /// The day is in the cover and is a business day.
     fn is_good(&self, d: Day) -> bool
         ensures { IsTrue result ↔ IsGood (days self.now) d };
 

@@ -30,7 +30,7 @@ impl Holidays {
         }
     }
 
-    /// One day more, which is after the others.
+    /// Appends a day, which is after the others.
     pub fn push(&mut self, d: Day) -> Result<(), Memory>
         requires { IsAfter d self.old }
         ensures ok { OnOk result (self.new ≡ self.old ++ d ∷ []) }

@@ -1,8 +1,8 @@
 //! What each line of a calendar file does after the lines before it. It continues the section at
 //! hand, begins a new one, or is at fault.
 //!
-//! On one line a fault of the grammar comes before a centre that occurs twice and before a holiday
-//! too many.
+//! On one line a fault of the grammar takes precedence over a repeated centre and over too many
+//! holidays.
 ghost use Rattle.std.specs.Prelude.{◌≡◌, Ok};
 ghost use Rattle.irs_calendar.specs.Machine.{fits_section, begun, after_center, after_cover, after_weekend};
 ghost use Rattle.irs_calendar.specs.Machine.{after_holiday, after_line, said_of};
@@ -23,7 +23,7 @@ pub enum Fault {
     Syntax,
     /// Its centre is in an earlier section.
     Repeat,
-    /// It is one holiday more than a centre may have.
+    /// It is a holiday beyond the number that a centre may have.
     TooMany,
 }
 
@@ -32,7 +32,7 @@ pub enum Fault {
 pub enum StepErr {
     /// What is wrong with the line.
     Fault(Fault),
-    /// There was no memory.
+    /// Memory ran out.
     Memory,
 }
 

@@ -1,5 +1,5 @@
-//! The days of a stretch with a bit for each that is a holiday, so that the next one is found in few
-//! steps.
+//! The days of a stretch, a bit a day that is set on holidays, so that the next holiday is found in
+//! few steps.
 ghost use Rattle.std.specs.Prelude.{◌≡◌, ℕ, ◌+◌, ◌*◌, ◌<◌, ◌≤◌, ◌^◌, ◌==◌, ◌||◌, true, IfOk, map, length};
 ghost use Rattle.std.specs.Int.{bit_at};
 ghost use Rattle.irs_calendar.specs.Rising.{is_listed};

@@ -32,7 +32,7 @@ impl Model for RunSet {
 }
 
 impl RunSet {
-    /// The whole range of dates, every day of it good, as one run. No memory is taken.
+    /// The whole range of dates as one run: every day is a business day. No memory is taken.
     pub fn all() -> RunSet
         ensures whole { IsWhole (set_of_runs result) }
         ensures one { length result.runs ≡ 1 }
@@ -111,7 +111,7 @@ impl RunSet {
         }
     }
 
-    // `next_good`; its count goes nowhere.
+    // `next_good`, its steps not counted.
     fn next_from<L: Ledger>(&self, d: Day, blank: Blank) -> Option<Day>
         requires name { blank.name ≡ L.name }
         requires parts { blank.parts ≡ L.parts }
@@ -122,7 +122,7 @@ impl RunSet {
         self.next_good_counted::<L>(d, &mut Steps::new(blank))
     }
 
-    // `prev_good`; its count goes nowhere.
+    // `prev_good`, its steps not counted.
     fn prev_from<L: Ledger>(&self, d: Day, blank: Blank) -> Option<Day>
         requires name { blank.name ≡ L.name }
         requires parts { blank.parts ≡ L.parts }

@@ -6,7 +6,7 @@ use irs_base::Day;
 use std::marker::Model;
 use std::sync::ledger::Ledger;
 
-/// A first and a last day, every day between them being good.
+/// A first and a last day; each day from the first to the last is a business day.
 #[derive(Clone, Copy)]
 pub struct Run {
     /// The first business day of the run.

@@ -1,4 +1,4 @@
-//! Searching runs by halves.
+//! Binary search in runs.
 ghost use Rattle.std.specs.Prelude.{◌≡◌, ◌+◌, ◌-◌, ◌*◌, ◌^◌, ◌≤◌, length};
 ghost use Rattle.irs_calendar.specs.Splits.{comes_before, IsDownward, Splits};
 

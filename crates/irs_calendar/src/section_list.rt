@@ -61,7 +61,7 @@ impl SectionList {
         }
     }
 
-    /// The sections and one more at their end.
+    /// Appends a section.
     pub fn with(self, alloc: Global, section: Section) -> Result<SectionList, Memory>
         ensures { IfOk result (λ l. l ≡ self ++ section ∷ []) }
     {

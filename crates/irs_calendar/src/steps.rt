@@ -4,8 +4,8 @@ ghost use Rattle.std.specs.Prelude.{◌≡◌, ℕ, ◌+◌, ◌<◌};
 use std::marker::Model;
 use std::sync::ledger::{Blank, Book, Ledger, Share};
 
-/// How many steps were taken, as a number that only contracts see: it takes no bytes. L is the ledger
-/// in which the steps are booked.
+/// The number of steps taken, which only contracts see: it takes no bytes. L is the ledger in which
+/// the steps are booked.
 #[derive(Drop)]
 pub struct Steps<L: Ledger> {
     book: Book<L>,
@@ -32,7 +32,7 @@ impl<L: Ledger> Steps<L> {
         Steps { book, share }
     }
 
-    /// One step more.
+    /// Counts one more step.
     pub(crate) fn tick(&mut self)
         ensures { self.new ≡ self.old + 1 }
     {

@@ -6,10 +6,10 @@ ghost use Rattle.irs_calendar.specs.Weekends.{day_after, weekend_after};
 use crate::sections::{Section, weekday_place};
 use irs_base::Day;
 
-/// A closed weekday: how many days it lies after a first one, and its place in the week.
+/// A closed weekday: its distance in days from a first day, and its place in the week.
 #[derive(Clone, Copy)]
 pub struct Weekend {
-    /// How many days after the first one it lies.
+    /// Its distance from the first day, in days.
     pub day: u32,
     /// Its weekday: 0 for Monday to 6 for Sunday.
     pub place: usize,
@@ -37,7 +37,7 @@ fn is_off(sections: &[&Section], place: usize) -> bool
     false
 }
 
-/// How many days from the weekday on are all closed, or all open: at most a week.
+/// The number of days from the weekday on that are all closed, or all open: at most a week.
 fn stretch(sections: &[&Section], place: usize, closed: bool) -> u8
     requires { place < 7 }
     ensures { IsStretch (off_on (map (λ s. s.now) sections.now)) closed place result }
@@ -63,7 +63,7 @@ fn shut_from(sections: &[&Section]) -> [u8; 7]
     shut
 }
 
-/// How far away the next closed weekday then is.
+/// The distance from each weekday to the next closed one after these, in days.
 fn next_behind(sections: &[&Section], shut: &[u8; 7]) -> [u8; 7]
     requires { AreShut (off_on (map (λ s. s.now) sections.now)) shut.now }
     ensures { AreNext (off_on (map (λ s. s.now) sections.now)) shut.now result }
@@ -75,7 +75,7 @@ fn next_behind(sections: &[&Section], shut: &[u8; 7]) -> [u8; 7]
     next
 }
 
-/// Which weekday that is.
+/// The place of that weekday in the week.
 fn places_of(next: &[u8; 7]) -> [u8; 7]
     ensures { ArePlaces next.now result }
 {

@@ -14,7 +14,7 @@ pub data Leaf : Type 0 where
   whole : ℤ → Leaf
   truth : Bool → Leaf
 
--- a number says something where it is held as a whole number
+-- a number is a leaf only if it is held as a whole number
 abbrev pub whole_of : Num → Option Leaf
 whole_of (unsigned n) = Some (whole (pos n))
 whole_of (negative z) = Some (whole z)

@@ -12,6 +12,6 @@ leaf_seen (Word s) = word s.now
 leaf_seen (Whole z) = whole z
 leaf_seen (Truth b) = truth b
 
--- the values that an `ItemIter` has still to give
+-- the remaining values of an `ItemIter`
 abbrev pub items_left : ItemIter → List Value
 items_left s = s.left.now

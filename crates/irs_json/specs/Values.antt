@@ -7,7 +7,7 @@ abbrev pub list_of : Items → List Data
 list_of no_items = []
 list_of (item d ds) = d ∷ list_of ds
 
--- the values of a repeated element: an array's items, or the value itself where it is no array
+-- the values of a repeated element: an array's items, or the value itself if it is not an array
 abbrev pub items_of : Data → List Data
 items_of null = null ∷ []
 items_of (boolean b) = boolean b ∷ []

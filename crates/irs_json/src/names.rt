@@ -14,7 +14,7 @@ use serde_json::Value;
 use std::collections::btree_map;
 use std::marker::Model;
 
-/// The names of an object's elements that are still to come.
+/// Iterates over the names of an object's elements.
 #[derive(Drop)]
 pub struct MemberIter<'a> {
     left: btree_map::Iter<'a, String, Value>,

@@ -8,19 +8,19 @@ use serde_json::Value;
 use std::alloc::Global;
 use thiserror::Error;
 
-/// Why bytes gave no value.
+/// Why the bytes could not be read as a value.
 #[derive(Clone, Copy, Debug, PartialEq, Eq, Error)]
 pub enum JsonErr {
     /// The bytes have no JSON reading. They aren't UTF-8 or aren't JSON, they nest past 127 levels,
     /// or they hold a number that is too large for a binary float.
     #[error("not JSON")]
     NotJson,
-    /// There was no memory for the value.
+    /// Memory ran out.
     #[error("out of memory")]
     Memory,
 }
 
-/// The value that the bytes spell. `NotJson` comes exactly where they spell none.
+/// The value that the bytes spell. `NotJson` is returned exactly if they spell none.
 pub fn parse(alloc: Global, bytes: &[u8]) -> Result<Value, JsonErr>
     ensures reads { IfOk result (λ v. Reads bytes.now (view v)) }
     ensures not_json { IsErrOf result JsonErr.NotJson → (d : Data) → ¬ (Reads bytes.now d) }

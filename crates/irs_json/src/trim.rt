@@ -63,7 +63,7 @@ fn trimmed_back(text: &str) -> &str
     left
 }
 
-// Whether a byte is greater than each that is white space.
+// Whether there is a byte, and it is above every white-space byte.
 fn is_past_space(byte: Option<&u8>) -> bool
     ensures { result ≡ is_past_space_of (option_map (λ b. b.now) byte.entry) }
 {

@@ -1,4 +1,4 @@
-//! A repeated element is an array, or one value where there is one.
+//! A repeated element is an array of values, or a single value.
 ghost use Rattle.irs_json.specs.Seen.{items_left};
 ghost use Rattle.irs_json.specs.Values.{items_of};
 ghost use Rattle.serde_json.specs.View.{view};
@@ -8,14 +8,14 @@ ghost use Rattle.std.specs.Prelude.{◌≡◌, map};
 use serde_json::Value;
 use std::slice;
 
-/// The values of a repeated element, one at a time.
+/// Iterates over the values of a repeated element.
 #[derive(Drop)]
 pub struct ItemIter<'a> {
     left: &'a [Value],
 }
 
 impl<'a> ItemIter<'a> {
-    /// The values that are still to come, as a slice.
+    /// The remaining values, as a slice.
     pub fn as_slice(&self) -> &'a [Value]
         ensures { result.now ≡ items_left self.now }
     {

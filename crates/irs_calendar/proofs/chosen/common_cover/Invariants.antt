@@ -4,6 +4,7 @@ use Rattle.irs_calendar.specs.Selected.{latest_first, earliest_last}
 use Rattle.irs_calendar.proofs.CoverLemmas.{sections_at}
 use Rattle.irs_calendar.proofs.chosen.common_cover.Given as goal
 
+-- the cover so far, narrowed by the remaining sections, is the common cover of all sections
 abbrev pub invariant-loop-s : goal.invariant-loop-s
 invariant-loop-s l = record {
   first : latest_first l.first (sections_at (drop l.s-index l.sections))

@@ -3,6 +3,7 @@ use Rattle.irs_calendar.specs.declared.sections.Section.{Section}
 use Rattle.irs_calendar.specs.Weekends.{off_on, IsStretch}
 use Rattle.irs_calendar.proofs.weekends.next_behind.Given as goal
 
+-- for each weekday before p, the distance to the next closed weekday is known
 abbrev pub invariant-loop-p : goal.invariant-loop-p
 invariant-loop-p l = record {
   each : length l.next ≡ 7;

@@ -3,6 +3,7 @@ use Rattle.irs_calendar.specs.declared.sections.Section.{Section}
 use Rattle.irs_calendar.specs.Weekends.{off_on, IsStretch}
 use Rattle.irs_calendar.proofs.weekends.shut_from.Given as goal
 
+-- the number of closed days in a row from each weekday before p is known
 abbrev pub invariant-loop-p : goal.invariant-loop-p
 invariant-loop-p l = record {
   each : length l.shut ≡ 7;

@@ -3,6 +3,7 @@ use Rattle.irs_calendar.specs.declared.sections.Section.{Section}
 use Rattle.irs_calendar.specs.Weekends.{off_on}
 use Rattle.irs_calendar.proofs.weekends.stretch.Given as goal
 
+-- the first n weekdays from here are alike closed, or alike open
 abbrev pub invariant-loop-n : goal.invariant-loop-n
 invariant-loop-n l = record {
   few : l.n ≤ 7;
@@ -10,5 +11,6 @@ invariant-loop-n l = record {
       ≡ l.closed;
 }
 
+-- a stretch has at most seven days
 abbrev pub decreases-loop-n : goal.decreases-loop-n
 decreases-loop-n l = 7 - l.n
