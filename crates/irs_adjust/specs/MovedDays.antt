@@ -1,5 +1,5 @@
--- A day that an offset moves and a convention then adjusts, and how that may fail: K33 and K38 of payment dates
--- and fixing dates.
+-- A day that an offset moves and a convention then adjusts, and how that may fail: K33 and K38 of payment
+-- dates and fixing dates.
 use Rattle.std.specs.Prelude.{◌≡◌, ◌⊎◌, ℤ}
 use Rattle.irs_terms.specs.declared.adjustments.Offset.{Offset}
 use Rattle.irs_terms.specs.declared.codes.ConvCode.{ConvCode}

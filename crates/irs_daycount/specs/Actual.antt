@@ -12,7 +12,7 @@ in_leap_year d = is_leap_year (pos (year_of d))
 abbrev pub in_common_year : ℤ → Bool
 in_common_year d = not (in_leap_year d)
 
--- how many of the n days from s on pass the test
+-- the number of days that pass the test, among the n days from s on
 abbrev pub days_counted : (ℤ → Bool) → ℤ → ℕ → ℕ
 days_counted test s zero = 0
 days_counted test s (suc n) = days_counted test s n + (if test (s +ℤ pos n) then 1 else 0)

@@ -8,11 +8,13 @@ use Rattle.irs_terms.specs.declared.codes.DayCountCode.TheVariants.{ThirtyE360, 
 use Rattle.irs_daycount.specs.Actual.{ActAct, act_act_parts}
 use Rattle.irs_daycount.specs.Fractions.{Days, Fraction, days_of, fraction_of, denominator_of}
 
+-- fractions with one numerator and one denominator are equal
 same_frac : (f g : Frac) → f.num ≡ g.num → f.den ≡ g.den → f ≡ g
 same_frac f g h k =
     let mk : ℤ → ℤ → Frac = λ m n. record { num = m; den = n } in
     ap (λ m. mk m f.den) h ∙ ap (λ n. mk g.num n) k
 
+-- a period has one fraction by ACT/ACT.ISDA
 act_act_once : (s e : ℤ) (f g : Frac) → ActAct s e f → ActAct s e g → f ≡ g
 act_act_once s e f g a b =
     let n : a.days ≡ b.days = omega (arith, signed_arith, a.ends, b.ends) in
@@ -30,6 +32,7 @@ one_fraction Thirty360 s e last f g a b = same_frac f g (a.0 ∙ sym b.0) (a.1 �
 one_fraction ThirtyE360 s e last f g a b = same_frac f g (a.0 ∙ sym b.0) (a.1 ∙ sym b.1)
 one_fraction ThirtyE360Isda s e last f g a b = same_frac f g (a.0 ∙ sym b.0) (a.1 ∙ sym b.1)
 
+-- a number above 0 is its own size
 later : (z : ℤ) → pos 0 <ℤ z → z ≡ pos (unsigned_abs z)
 later (pos n) h = refl
 later (negsuc n) h = absurd (omega (arith, signed_arith, h))

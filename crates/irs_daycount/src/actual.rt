@@ -2,8 +2,8 @@
 //!
 //! ACT/ACT.ISDA is the days in leap years over 366 plus the other days over 365. Over the one
 //! denominator 365 * 366, a day of a leap year has 365 parts and any other day 366. So each whole
-//! year has 133590 parts, and the numerator is the difference of two places. No year and no day in
-//! between is looked at.
+//! year has 133590 parts, and the numerator is the difference of two places. The years and days in
+//! between are not visited.
 ghost use Rattle.std.specs.Prelude.{◌≡◌, ◌≤◌, ◌+◌, ◌-◌, ◌<ℤ◌, ◌-ℤ◌};
 ghost use Rattle.std.specs.Int.{IsInRange};
 ghost use Rattle.jiff_core.specs.Calendar.{IsCivilDate, day_of_year, days_of_months};

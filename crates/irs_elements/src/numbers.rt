@@ -118,7 +118,7 @@ pub fn amount(text: &[u8]) -> Option<i128>
     decimal(text, 12)
 }
 
-// How many bytes there are after a sign.
+// The number of bytes after a sign.
 fn digits(text: &[u8]) -> usize
     ensures { result ≡ length (digits_of text.now) }
 {

@@ -13,7 +13,7 @@ pub enum Kind {
     Refused,
 }
 
-/// What an object asks of its members together, beside their counts.
+/// What an object requires of its members together, beside their counts.
 #[derive(Clone, Copy)]
 pub enum Choice {
     /// Nothing.
@@ -35,10 +35,10 @@ pub enum Count {
     One,
     /// Once or not at all.
     Maybe,
-    /// At least once and at most so often; its places count from 1, and give the index of what lies
+    /// From once to this number of times. Its positions count from 1 and give the index of what lies
     /// below.
     OneTo(u32),
-    /// At most so often; its places count from 1, and give the index of what lies below.
+    /// At most this number of times. Its positions count from 1 and give the index of what lies below.
     UpTo(u32),
 }
 

@@ -1,5 +1,5 @@
--- Which rule of resets is the first that is broken: those of stubs come before those of dates, and dates
--- break rules by the way in which they fail, then by the period.
+-- The first broken rule of resets. The rules of stubs come before those of dates. Broken rules of dates come
+-- in the order of what fails, then of the period.
 use Rattle.std.proofs.Common.{◌≡◌, inl, inr, ℕ, ◌<◌, false, Option, Some, None, refl, sym, subst, ◌∙◌, arith}
 use Rattle.std.specs.Prelude.{nat_lt}
 use Rattle.std.proofs.lemmas.Bool.{cases_order}

@@ -46,7 +46,7 @@ lookup_by_bytes index [] = refl
 lookup_by_bytes index (e ∷ es) =
     ap₂ (λ t r. cond t (Some e.1) r) (is_eq-slice_cmp index e.0.items) (lookup_by_bytes index es)
 
--- a rate more, where the rates of its index were taken out, grew by it, and were put back
+-- a rate is added: the rates of its index are taken out, extended by it, and stored again
 pub put_back : (index i : List ℕ) (slot q : Slot) (rate : ℤ) (g0 g1 g2 : List ℕ
     → Option SlotRates) (rates grown : SlotRates) → ((cs : List ℕ) → g1 cs ≡ cond (bytes_eq index cs) None (g0 cs))
     → ((cs : List ℕ) → g2 cs ≡ cond (bytes_eq index cs) (Some grown) (g1 cs))

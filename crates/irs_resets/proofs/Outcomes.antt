@@ -21,7 +21,7 @@ resets_determined source rates fits said range =
     (resets_decided source said range) (resets_there source rates range fits said) (one_resets source rates)
     (one_fault (BreaksResets source))
 
--- a chain over answers that are the same in some sense, where what comes next can't tell them apart
+-- a chain over answers that are the same in some sense, where the next step gives the same for each of them
 module _ {A B R : Type 0} (Same : A → A → Type 0) (spec : Spec A R) (next : A → Spec B R)
     (answers : (a b : A) → Same a b → (x : B) → (next b).Answers x → (next a).Answers x)
     (refuses : (a b : A) → Same a b → (r : R) → (next b).Refuses r → (next a).Refuses r) where

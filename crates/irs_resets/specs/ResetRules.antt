@@ -1,5 +1,5 @@
--- The rules of resets: that a stub is there for which a rate is given (K37), that each date has a result
--- (K33), and that an offset stays in the range of dates (K38).
+-- The rules of resets. A stub for which a rate is given exists (K37). Each date has a result (K33), and each
+-- offset stays in the range of dates (K38).
 use Rattle.std.specs.Prelude.{◌≡◌, ◌⊎◌, ℕ, Option, Some, None, IsSome, ◌<ℤ◌}
 use Rattle.irs_base.specs.declared.places.Rule.TheVariants.{K33, K37, K38}
 use Rattle.irs_base.specs.declared.places.Fault.{Fault}
@@ -55,7 +55,7 @@ pub record BreaksDates (t : ResetTerms) (days : ResetDays) (f : Fault) : Type 0 
   pub fails : Fails why t days number
   pub is : f ≡ date_fault why number
 
--- where there are no terms of resets no date is asked for
+-- without reset terms no date is required, so no rule of dates is broken
 abbrev pub BreaksDatesIn : Option ResetTerms → ResetDays → Fault → Type 0
 BreaksDatesIn None days f = ⊥
 BreaksDatesIn (Some t) days f = BreaksDates t days f

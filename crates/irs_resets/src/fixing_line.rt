@@ -1,6 +1,6 @@
 //! A line of a fixing file: DATE RATE TENOR INDEX.
 //!
-//! DATE is `YYYY-MM-DD` in range, RATE a decimal of 9 places and at most 10 in size, and TENOR `-`
+//! DATE is `YYYY-MM-DD` in range. RATE is a decimal of 9 places and at most 10 in size. TENOR is `-`
 //! or a frequency other than the term. INDEX is the rest of the line, at least one byte and at most
 //! [`MOST_INDEX`], none of them a control byte. The format is our rule.
 ghost use Rattle.std.specs.Prelude.{◌≢◌, ◌↔◌, ◌≤◌, ℕ, ℤ, List, All, IsTrue, IfSome, IfNone};

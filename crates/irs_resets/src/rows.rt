@@ -62,7 +62,7 @@ fn lacks_final(s: &Stream, span: &Span) -> bool
     s.termination.day <= span.last
 }
 
-// K37: a rate is given for a stub that isn't there.
+// K37: a rate is given for a stub that doesn't exist.
 fn stub_fault(s: &Stream, span: &Span) -> Option<Fault>
     ensures { IsFirst comes_before (BreaksStubs s.now span.now) result }
 {
@@ -252,14 +252,14 @@ fn floating_resets<G: GoodDays>(
     }
 }
 
-/// The resets of a stream over its adjusted boundaries: for each calculation period of a floating
-/// stream its reset date, its fixing date and its observed rate. A fixed stream has none.
+/// The resets of a stream over its adjusted boundaries. Each calculation period of a floating stream
+/// has a reset date, a fixing date and an observed rate. A fixed stream has no resets.
 /// `reset_days` are the good business days of `resetDates`, and `fixing_days` those of `fixingDates`.
 ///
-/// `Broken` is the first rule broken: a rate is given for a stub that the stream doesn't have (K37),
-/// a reset date has no result, or else a fixing date has none (K33), or the offset of a fixing date
-/// leaves the range of dates (K38). K33 and K38 are reported for the first such period. `Memory`
-/// comes only where no rule is broken.
+/// `Broken` is the first broken rule. First comes K37: a rate is given for a stub that the stream
+/// doesn't have. Then come K33 of a reset date without a result and K33 of a fixing date without one.
+/// Last comes K38: the offset of a fixing date leaves the range of dates. K33 and K38 are reported for
+/// the first such period. `Memory` is returned only where no rule is broken.
 pub fn resets<G: GoodDays>(
     alloc: Global,
     s: &Stream,
@@ -312,7 +312,7 @@ pub fn resets_are_determined<G: GoodDays>(
     ensures { let source = source_of s.now span.now adjusted.now (G.days reset_days.now) (G.days fixing_days.now) in
         Determined (resets_of source fixings.now) }
 {
-    // hands the prover the range of the boundaries and of the good days
+    // hands the prover the range of the boundaries and of the business days
     let _days = adjusted.as_slice();
     let _covers = (reset_days.cover(), fixing_days.cover());
 }

@@ -1,13 +1,13 @@
-//! The tenor of a line of a fixing file: `-`, or a number from 1 to 999 without leading zeros
-//! followed by D, W, M or Y.
+//! The tenor of a line of a fixing file: `-`, or a number from 1 to 999 followed by D, W, M or Y. The
+//! number has no leading zeros.
 ghost use Rattle.std.specs.Prelude.{◌≡◌, ◌≤◌, IfSome};
 ghost use Rattle.irs_resets.specs.Tenors.{digit_at, first_digit, unit_at, two_digits, three_digits, with_unit};
 ghost use Rattle.irs_resets.specs.Tenors.{tenor_at};
 
 use irs_terms::{Frequency, Unit};
 
-/// The tenor of a floating rate index (FpML `indexTenor`): none, written `-`, where the index has
-/// none, as an overnight rate.
+/// The tenor of a floating rate index (FpML `indexTenor`). An index without a tenor, such as an
+/// overnight rate, has `None`, which is written `-`.
 pub type IndexTenor = Option<Frequency>;
 
 fn digit(b: u8) -> Option<u16>

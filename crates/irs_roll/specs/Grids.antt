@@ -1,4 +1,4 @@
--- Grids of days: which days lie on one. A day is tested by itself; nothing steps.
+-- Grids of days: which days are on a grid. Each day is tested by itself, without stepping.
 use Rattle.std.specs.Prelude.{◌≡◌, ℕ, ℤ, pos, ◌+ℤ◌, ◌-ℤ◌, ◌*ℤ◌}
 use Rattle.irs_base.specs.Months.{InMonth}
 

@@ -10,11 +10,13 @@ use Rattle.irs_base.specs.Months.{InMonth, dim, month_start, day_in_month}
 use Rattle.irs_base.proofs.MonthLemmas.{dim_bounds, month_range, day_in_month-is_day, day_in_month-in_month}
 use Rattle.irs_roll.specs.RollDays.{IsLastDay, IsNumbered, IsThirdWednesday, last_day_of, third_wednesday}
 
+-- of two numbers one is less, or they are equal
 cases_ltz : (a b : ℤ) → (a <ℤ b) ⊎ ((b <ℤ a) ⊎ (a ≡ b))
 cases_ltz a b = grind (arith, signed_arith)
 
 -- the last day
 
+-- the last day of a month lies in that month
 last_day-stays : (m : ℤ) → InMonth (last_day_of m) m
 last_day-stays m = day_in_month-in_month 31 m (omega arith)
 
@@ -45,9 +47,11 @@ last_day-in_month m = last_day-stays m
 
 -- the day with a number
 
+-- in a month shorter than the number, the last day is the numbered day
 numbered_short : (n : ℕ) (m d : ℤ) → dim m < n → IsLastDay m d → d ≡ day_in_month n m
 numbered_short n m d short h = omega (arith, signed_arith, last_day_ends m d h, short)
 
+-- in a month shorter than the number, the numbered day is the last day
 short_last : (n : ℕ) (m : ℤ) → 0 < n → dim m < n → IsLastDay m (day_in_month n m)
 short_last n m h short = record {
   in_month = day_in_month-in_month n m h;
@@ -70,9 +74,11 @@ numbered_only n m d h = elim h [
 
 -- the third Wednesday
 
+-- the third Wednesday is on the 15th or later
 from_15th : (m : ℤ) → (month_start m +ℤ pos 14) ≤ℤ third_wednesday m
 from_15th m = omega (arith, signed_arith, dim_bounds m)
 
+-- the third Wednesday is on the 21st or earlier
 to_21st : (m : ℤ) → third_wednesday m ≤ℤ (month_start m +ℤ pos 20)
 to_21st m = omega (arith, signed_arith, dim_bounds m)
 
@@ -83,6 +89,7 @@ third_wednesday-in_month m = record {
   to = omega (arith, signed_arith, to_21st m, dim_bounds m);
 }
 
+-- the third Wednesday is a Wednesday
 third_wednesday-weekday : (m : ℤ) → weekday_at (third_wednesday m) ≡ 2
 third_wednesday-weekday m =
     let first : ℤ = day_in_month 15 m in
@@ -103,6 +110,7 @@ third_wednesday-is m = record {
   no_third = λ h. omega (arith, signed_arith, to_21st m, h.from);
 }
 
+-- any third Wednesday of a month is on the 21st or earlier
 third_by_21st : (m d : ℤ) → IsThirdWednesday m d → d ≤ℤ (month_start m +ℤ pos 20)
 third_by_21st m d h = elim (cases_ltz (month_start m +ℤ pos 20) d) [
   | inl past ↦

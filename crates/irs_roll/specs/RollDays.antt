@@ -13,7 +13,7 @@ pub record IsLastDay (m d : ℤ) : Type 0 where
 abbrev pub IsNumbered : ℕ → ℤ → ℤ → Type 0
 IsNumbered n m d = ((n ≤ dim m) × (d +ℤ pos 1 ≡ month_start m +ℤ pos n)) ⊎ ((dim m < n) × IsLastDay m d)
 
--- a Wednesday of the month, before which there are two Wednesdays in the month, and no third
+-- the Wednesday with exactly two earlier Wednesdays in its month
 pub record IsThirdWednesday (m d : ℤ) : Type 0 where
   pub wednesday : weekday_at d ≡ 2
   pub in_month : InMonth d m

@@ -11,8 +11,8 @@ use Rattle.irs_terms.specs.declared.frequency.Unit.TheVariants.{D, W, M, Y, T}
 use Rattle.irs_roll.specs.RollDays.{IsLastDay, IsNumbered, IsThirdWednesday}
 use Rattle.irs_roll.specs.Grids.{OnDays, OnMonths, OnRollDay}
 
--- the day is the roll day of the month: the last day, the third Wednesday, or the day with the number. A shorter month
--- has its last day in the place of the number. No other roll gives a month a roll day
+-- the day is the roll day of the month: the last day, the third Wednesday, or the day with the number. A
+-- month shorter than the number rolls on its last day. No other roll gives a month a roll day
 abbrev pub IsRollDay : RollCode → ℤ → ℤ → Type 0
 IsRollDay Eom month d = IsLastDay month d
 IsRollDay (Dom number) month d = IsNumbered number month d
@@ -40,8 +40,8 @@ FitsWeek Imm anchor = ⊥
 FitsWeek (OnWeekday name) anchor = place_in_week name ≡ weekday_at anchor
 FitsWeek NoRoll anchor = Unit {0}
 
--- in days every anchor fits, and in weeks one on the weekday of the roll. In months and years it is the roll day of its
--- month. The term requires nothing
+-- in days every anchor fits, in weeks one on the weekday of the roll, in months and years the roll day of
+-- its month; the term requires nothing
 abbrev pub FitsBy : FrequencyUnit → RollCode → ℤ → Type 0
 FitsBy D roll anchor = Unit {0}
 FitsBy W roll anchor = FitsWeek roll anchor

@@ -9,9 +9,11 @@ use borrow.Author.Differences.{up, down}
 use Rattle.irs_base.specs.Days.{IsDay}
 use Rattle.irs_roll.specs.Grids.{IsMultiple, OnDays, kth}
 
+-- more steps reach at least as far
 mul_at_most : (s m n : ℕ) → m ≤ n → m * s ≤ n * s
 mul_at_most s m n h = let same : s ≤ s = omega arith in mul-le-mul h same
 
+-- multiplying by a positive step keeps a difference
 mul_more : (s a b c d : ℕ) → 0 < s → a + d < c + b → a * s + d * s < c * s + b * s
 mul_more s a b c d h k =
     let more : a + d + 1 ≤ c + b = omega arith in
@@ -36,6 +38,7 @@ too_far s a k here wide r = wide (omega (arith, signed_arith, here, r))
 
 -- dividing by the step
 
+-- of two numbers one is less, or they are equal
 cases_ltz : (a b : ℤ) → (a <ℤ b) ⊎ ((b <ℤ a) ⊎ (a ≡ b))
 cases_ltz a b = grind (arith, signed_arith)
 
@@ -54,6 +57,7 @@ no_multiple_between s q t a h low high e = elim (cases_ltz t (q +ℤ pos 1)) [
       )
 ]
 
+-- the last multiple at or below a number is less than a step away from it
 steps_close : (a q : ℤ) (s : ℕ) → 0 < s → q ≡ int_div_euclid a (pos s)
     → ((q *ℤ pos s) ≤ℤ a) × (a <ℤ (q *ℤ pos s +ℤ pos s))
 steps_close a q s h e =

@@ -68,7 +68,8 @@ pub fn on_grid_of(freq: Frequency, roll: RollCode, anchor: Day, d: Day) -> bool
     on_grid_from(freq, roll, &Anchor::new(anchor), d)
 }
 
-/// The same for many days and one anchor, under the same conditions.
+/// Whether the day is on the grid, with the anchor's month worked out beforehand. The same conditions
+/// apply.
 pub fn on_grid_from(freq: Frequency, roll: RollCode, anchor: &Anchor, d: Day) -> bool
     requires term { ¬ (IsTerm freq) }
     requires step { 0 < freq.count }
@@ -105,7 +106,7 @@ fn on_roll_days(roll: RollCode, months: u32, anchor: &Anchor, d: Day) -> bool
     }
 }
 
-// The months are looked at first: most days lie in no month of the grid.
+// The months are compared first: most days are in no month of the grid.
 fn on_months<R: Roll>(roll: &R, months: u32, anchor: &Anchor, d: Day) -> bool
     requires { 0 < months }
     ensures { IsTrue result ↔ OnMonths (R.rolls roll.now) months anchor.now d }

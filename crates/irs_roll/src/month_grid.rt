@@ -11,8 +11,8 @@ use crate::rolls::{DayNumber, EndOfMonth, Imm, Roll};
 use crate::steps::whole_steps;
 use irs_base::{Day, month_index};
 
-/// A roll day every given number of months. They count from the anchor's month and never from the
-/// day before. So after a short month the roll day is again the one that the rule gives.
+/// A roll day every given number of months. Months count from the anchor's month, never from the
+/// previous roll day. So after a short month the roll day is again the one that the rule gives.
 #[derive(Drop)]
 pub struct MonthGrid<R: Roll> {
     roll: R,

@@ -35,7 +35,7 @@ pub trait Roll {
     /// That day is the roll day.
     ghost is: { (r : Self) (m : ℤ) → rolls r m (day r m) };
 
-    /// A month has no other.
+    /// A month has no other roll day.
     ghost only: { (r : Self) (m d : ℤ) → rolls r m d → d ≡ day r m };
 
     /// The roll day of a month lies in the month.
@@ -115,7 +115,7 @@ impl Roll for EndOfMonth {
 #[derive(Clone, Copy)]
 pub struct Imm;
 
-// How many days the next Wednesday is ahead, 0 on a Wednesday.
+// The number of days to the next Wednesday, 0 on a Wednesday.
 fn to_wednesday(d: Day) -> i64
     ensures { result ≡ pos ((9 - weekday_at d) % 7) }
 {

@@ -1,9 +1,9 @@
-//! Whole steps: how often a step goes into a distance, days before the anchor included.
+//! Whole steps: the number of steps in a distance, also before the anchor.
 ghost use Rattle.std.specs.Prelude.{◌≡◌, ◌<◌, pos, neg_ℤ, ◌*ℤ◌, ◌↔◌, IfSome, IfNone, IsTrue};
 ghost use Rattle.jiff_core.specs.Calendar.{IsBetween};
 ghost use Rattle.irs_roll.specs.Grids.{IsMultiple};
 
-/// How many steps lie in `apart`; `None` exactly where it is no whole multiple of the step.
+/// The number of steps in `apart`; `None` exactly where it is no whole multiple of the step.
 pub fn whole_steps(apart: i64, step: u32) -> Option<i64>
     requires step { 0 < step }
     requires near { IsBetween (neg_ℤ (pos 1_099_511_627_776)) (pos 1_099_511_627_776) apart }

@@ -18,7 +18,7 @@ use Rattle.irs_rules.specs.Parameters.{DayCountFits, FinalStubFits, FitsMethod, 
 use Rattle.irs_rules.specs.Parameters.{InitialStubFits, IsNumber, IsOneDay, TenorFits, parameters_of}
 use Rattle.irs_rules.proofs.Decisions.{decides_absent, decides_both, decides_given, decides_once}
 
--- what is asked where there is a value is decided, if it is
+-- a condition that applies only where there is a value is decided, if the condition is
 decides_where : {A B : Type 0} (o : Option A) → IsDecided B → IsDecided (IsSome o → B)
 decides_where None decides = inl (λ e. cc)
 decides_where (Some x) (inl b) = inl (λ e. b)

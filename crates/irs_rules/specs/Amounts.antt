@@ -1,5 +1,5 @@
--- K17 to K21 and K47: offsets say which days they count, steps lie in order inside the term, and what goes with
--- the rate of a stream.
+-- K17 to K21 and K47. Offsets say which days they count, steps are in order inside the term, and the other
+-- elements suit the rate of the stream.
 use Rattle.std.specs.Prelude.{◌⊎◌, ℤ}
 use Rattle.irs_base.specs.Elements as elements
 use Rattle.irs_base.specs.declared.places.Fault.{Fault}
@@ -27,8 +27,8 @@ BreaksK18InLeg from to (Floating float) f =
     BreaksItem K18 elements.multiplier_step_date (StepStands from to float.multiplier.steps) f
     ⊎ BreaksItem K18 elements.spread_step_date (StepStands from to float.spread.steps) f
 
--- K18: a step's date isn't strictly after the one before it and strictly between the effective and the termination
--- date, also where the first period starts before the effective date; place: stepDate, with the step's position
+-- K18: a step's date isn't strictly after the previous one, or isn't strictly between the effective and the
+-- termination date. An earlier start of the first period changes nothing. Place: stepDate, with the position
 abbrev pub BreaksK18 : Stream → Fault → Type 0
 BreaksK18 s f =
     BreaksItem K18 elements.notional_step_date (StepStands s.effective.day (termination_of s) s.notional.steps) f
@@ -46,7 +46,7 @@ BreaksK19 s f =
 abbrev pub BreaksK20 : Stream → Fault → Type 0
 BreaksK20 s f = Breaks K20 elements.reset_frequency (ResetFits s) f
 
--- K21: amounts compound at a rate that may not; place: compoundingMethod
+-- K21: the stream compounds, but its rate may not be compounded; place: compoundingMethod
 abbrev pub BreaksK21 : Stream → Fault → Type 0
 BreaksK21 s f = Breaks K21 elements.compounding_method (FitsCompounding s) f
 

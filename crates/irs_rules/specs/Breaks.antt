@@ -9,8 +9,7 @@ pub record Breaks (rule : Rule) (elem : ℕ) (Kept : Type 0) (f : Fault) : Type 
   pub place : f ≡ fault_at rule elem 0
   pub broken : Kept → ⊥
 
--- the rule is broken at an item of the repeated element, as that doesn't keep it; items count from 0,
--- the positions that a fault names from 1
+-- an item of the repeated element breaks the rule. Items count from 0, positions in a fault from 1
 pub record BreaksItem (rule : Rule) (elem : ℕ) (Kept : ℕ → Type 0) (f : Fault) : Type 0 where
   pub item : ℕ
   pub place : f ≡ fault_at rule elem (item + 1)

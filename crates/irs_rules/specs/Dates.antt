@@ -1,4 +1,4 @@
--- K13 to K16: the dates of the term are in order, frequencies suit each other and the roll, and regular
+-- K13 to K16. The dates of the term are in order, and frequencies suit each other and the roll. Regular
 -- payment dates are where they may be.
 use Rattle.std.specs.Prelude.{◌≡◌, ◌⊎◌, None}
 use Rattle.irs_base.specs.Elements as elements

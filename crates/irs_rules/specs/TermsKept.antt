@@ -13,8 +13,8 @@ use Rattle.irs_terms.specs.Needs.{names_by, names_with, reset_names, fixing_name
 use Rattle.irs_rules.specs.Centers.{AreFound}
 use Rattle.irs_rules.specs.Parameters.{FitsParameters, applicable_names}
 
--- dates in order, a frequency that suits the roll, offsets that say their days, resets on a floating
--- stream alone, what goes with calculationParameters, steps that rise, and centres that the calendars have
+-- what the stages rely on: the dates, the frequency, the offsets, the leg, the parameters, the steps and the
+-- centres keep the rules
 pub record TermsKept (cal : List Section) (s : Stream) : Type 0 where
   pub dates : DatesInOrder s
   pub frequency : FrequencySuits s

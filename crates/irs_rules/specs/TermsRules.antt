@@ -36,8 +36,7 @@ pub record BreaksTerms (swap : Swap) (cal : List Section) (f : Broken) : Type 0 
   pub numbered : f ≡ in_stream (position + 1) fault
   pub breaks : BreaksStream cal stream fault
 
--- the first rule of the terms that the swap breaks: of the lower stream, then the lower rule, then the earlier
--- element, then the lower index
+-- the first rule of the terms that the swap breaks, in the order of stream, rule, element and index
 abbrev pub IsFirstBroken : Swap → List Section → Broken → Type 0
 IsFirstBroken swap cal f = First is_before (BreaksTerms swap cal) f
 

@@ -1,6 +1,6 @@
-//! K13: the termination date is after the effective date, a given first period start date before it,
-//! the given regular dates lie from the first day of the first period to the termination date, and
-//! the last regular date isn't before the first.
+//! K13: the termination date is after the effective date, and a given first period start date is
+//! before the effective date. Given regular dates are from the first day of the first period to the
+//! termination date. The last regular date isn't before the first.
 ghost use Rattle.std.specs.Prelude.{◌≡◌, ◌↔◌, ◌≤ℤ◌, IsTrue, IfSome};
 ghost use Rattle.irs_terms.specs.TermDates.{EndsAfterStart, FirstRegularInside, LastRegularInside, StartsBefore};
 ghost use Rattle.irs_terms.specs.TermDates.{given_or};

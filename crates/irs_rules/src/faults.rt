@@ -1,5 +1,5 @@
-//! Rules that a stream breaks, and the first of several: the lower rule, then the earlier element in
-//! the order of the table of elements, then the lower index. The order is our rule.
+//! Rules that a stream breaks, and the first of several. They are ordered by rule, then by element in
+//! the order of the table of elements, then by index. The order is our rule.
 ghost use Rattle.std.specs.Prelude.{◌≡◌, ◌+◌, ◌<◌, ◌^◌, ◌||◌, ◌&&◌, ◌==◌, nat_lt, IsTrue};
 ghost use Rattle.irs_base.specs.Faults.{fault_at};
 ghost use Rattle.irs_base.specs.Order.{earlier};
@@ -8,7 +8,7 @@ ghost use Rattle.irs_rules.specs.Breaks.{Breaks};
 
 use irs_base::{Elem, Fault, Rule};
 
-/// The rule, broken at an element that isn't repeated, where it isn't kept.
+/// The fault of the rule at an element that isn't repeated, if the rule isn't kept.
 pub(crate) fn fault_unless(kept: bool, rule: Rule, elem: Elem) -> Option<Fault>
     ensures { IsFirstHere (Breaks rule elem (IsTrue kept)) result }
 {
@@ -23,7 +23,7 @@ pub(crate) fn fault_unless(kept: bool, rule: Rule, elem: Elem) -> Option<Fault>
     }
 }
 
-/// The rule, broken at an item of a repeated element, by its position from 0.
+/// The fault of the rule at an item of a repeated element; items count from 0.
 pub(crate) fn fault_of_item(rule: Rule, elem: Elem, item: usize) -> Fault
     requires { item + 1 < 2 ^ 32 }
     ensures { result ≡ fault_at rule elem (item + 1) }

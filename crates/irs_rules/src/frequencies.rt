@@ -1,6 +1,6 @@
-//! K14, K15 and K20: the roll suits the calculation frequency, a payment has whole calculation
-//! periods, and the reset frequency is as long as the calculation frequency, or 1D where the rate is
-//! that of daily rates.
+//! K14, K15 and K20. The roll suits the calculation frequency, and a payment has whole calculation
+//! periods. The reset frequency is as long as the calculation frequency, or 1D for a rate by daily
+//! rates.
 ghost use Rattle.std.specs.Prelude.{◌↔◌, IsTrue, IfSome};
 ghost use Rattle.irs_terms.specs.Frequencies.{HasWholePeriods, PaymentSuits, ResetSuits};
 ghost use Rattle.irs_terms.specs.Lawful.{IsLawfulStream};

@@ -1,5 +1,5 @@
-//! K19 and K21: reset dates and stub rates go with a floating rate, which needs reset dates, and
-//! compounding doesn't go with a fixed one, nor with ZeroInterestRateMethod.
+//! K19 and K21. Only a floating rate has reset dates and stub rates, and it needs reset dates.
+//! Compounding doesn't go with a fixed rate, nor with ZeroInterestRateMethod.
 ghost use Rattle.std.specs.Prelude.{◌↔◌, IsTrue};
 ghost use Rattle.irs_terms.specs.Legs.{FitsCompounding, FitsResets, FitsStubs, MayCompound};
 ghost use Rattle.irs_rules.specs.Order.{IsFirstHere};
@@ -36,7 +36,7 @@ fn fits_stubs(leg: &Leg, stubs: &Option<StubTerms>) -> bool
     }
 }
 
-/// K21: the compounding of a stream whose rate may not compound.
+/// K21: the compounding method of a stream whose rate may not be compounded.
 pub(crate) fn compounding_misfit(s: &Stream) -> Option<Fault>
     ensures { IsFirstHere (BreaksK21 s.now) result }
 {

@@ -1,5 +1,5 @@
-//! K47: what goes with `calculationParameters`. The rate of a period is then that of daily rates, so
-//! the index has the tenor 1D, no rate is given for the first period, and no stub has an index of its
+//! K47: what goes with `calculationParameters`. Daily rates then give the rate of a period. So the
+//! index has the tenor 1D, no rate is given for the first period, and no stub has an index of its
 //! own. Compounding counts by years of 360 or of 365 days.
 ghost use Rattle.std.specs.Prelude.{◌≡◌, ◌↔◌, IsTrue, IfSome, option_copied};
 ghost use Rattle.irs_rules.specs.Amounts.{BreaksK47};
@@ -14,8 +14,8 @@ use irs_terms::{
     StubTerms, Unit,
 };
 
-/// Whose calendars say which days are applicable business days (FpML `applicableBusinessDays`); `None`
-/// exactly where the leg has no `calculationParameters`.
+/// The centres that give the applicable business days (FpML `applicableBusinessDays`); `None` exactly
+/// if the leg has no `calculationParameters`.
 pub fn applicable_names(leg: &Leg) -> Option<&Names>
     ensures { option_copied result ≡ applicable_names leg.now }
 {

@@ -1,5 +1,5 @@
 //! K10: a reference names its target, and a `businessCentersReference` exactly one list of centres
-//! of the swap. It is considered where no days are needed too.
+//! of the swap. The rule applies even if no business days are needed.
 ghost use Rattle.std.specs.Prelude.{◌↔◌, IsTrue, IfSome, IsSomeAnd};
 ghost use Rattle.irs_base.specs.Elements.{first_period_start_centers_reference, fixing_dates_centers_reference};
 ghost use Rattle.irs_base.specs.Elements.{stub_amount_reference};

@@ -1,4 +1,4 @@
-//! K18: the steps of notionals, fixed rates, multipliers and spreads lie strictly in order and
+//! K18: the steps of notionals, fixed rates, multipliers and spreads rise strictly by date. They lie
 //! strictly between the effective and the termination date, wherever the first period starts.
 ghost use Rattle.std.specs.Prelude.{◌<◌, ◌≤◌, ◌<ℤ◌, ◌↔◌, IsTrue, IfSome, length};
 ghost use Rattle.irs_base.specs.Limits.{most_steps};

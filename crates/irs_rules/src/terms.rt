@@ -1,5 +1,5 @@
-//! The first of K10 to K21 and K47 that the terms of a swap break: the lower stream first, then the lower
-//! rule, then the earlier element in the order of the table of elements, then the lower index.
+//! The first of K10 to K21 and K47 that the terms of a swap break. Broken rules are ordered by stream,
+//! then by rule, then by element in the order of the table of elements, then by index.
 ghost use Rattle.irs_base.specs.Outcomes.{Checks, Determined};
 ghost use Rattle.irs_terms.specs.Lawful.{IsLawful, IsLawfulStream};
 ghost use Rattle.irs_rules.specs.Order.{IsFirstHere};
@@ -21,13 +21,13 @@ use irs_base::{Broken, Fault};
 use irs_calendar::Calendars;
 use irs_terms::{Stream, Swap};
 
-/// The first of K10 to K21 and K47 that a lawful swap breaks: of the lower stream, then the lower rule, then
-/// the earlier element, then the lower index. `None` comes exactly where it breaks none.
+/// The first of K10 to K21 and K47 that a lawful swap breaks, in the order of stream, rule, element and
+/// index. `None` is returned exactly if it breaks none.
 ///
-/// The rules are our own, on the elements of FpML's InterestRateStream: references and centres (K10
-/// to K12), dates and frequencies (K13 to K16), offsets, steps and rates (K17 to K21), and what goes with
-/// `calculationParameters` (K47). K12 looks up in the calendars the centres of elements that need
-/// business days. No memory is taken.
+/// The rules are our own, on the elements of FpML's InterestRateStream. They are on references and
+/// centres (K10 to K12), on dates and frequencies (K13 to K16), and on offsets, steps and rates (K17
+/// to K21). K47 is on what goes with `calculationParameters`. K12 looks up in the calendars the centres
+/// of elements that need business days. No memory is taken.
 pub fn check_terms(swap: &Swap, cal: &Calendars) -> Option<Broken>
     requires { IsLawful swap.now }
     ensures meets { Checks (terms_of swap.now cal.now) result }
@@ -40,7 +40,7 @@ pub fn check_terms(swap: &Swap, cal: &Calendars) -> Option<Broken>
     None
 }
 
-/// A law: a rule is the first of the terms that a lawful swap breaks, or it breaks none.
+/// A law: a lawful swap breaks a first rule of the terms, or breaks none.
 pub fn terms_are_determined(swap: &Swap, cal: &Calendars)
     requires { IsLawful swap.now }
     ensures { Determined (terms_of swap.now cal.now) }

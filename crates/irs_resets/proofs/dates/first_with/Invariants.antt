@@ -2,6 +2,7 @@ use Rattle.std.proofs.Common.{ℕ, ◌<◌, ◌≤◌}
 use Rattle.irs_resets.specs.ResetDates.{days_by, Fails}
 use Rattle.irs_resets.proofs.dates.first_with.Given as goal
 
+-- no period before this one has the fault
 abbrev pub invariant-loop-number : goal.invariant-loop-number
 invariant-loop-number g l =
     let days = days_by l.adjusted (g.G.GoodDays.days l.reset_days) (g.G.GoodDays.days l.fixing_days) in

@@ -1,7 +1,7 @@
 use Rattle.std.proofs.Common.{sym, ◌∙◌, true≢false}
 use Rattle.irs_rules.proofs.payment_dates.first_stands.Goals as goal
 
--- a first date that is needed and absent doesn't stand
+-- a first date that is needed and absent breaks K16
 pub returns-else-has_needed_first : goal.returns-else-has_needed_first
 returns-else-has_needed_first c = (
   λ e. absurd (true≢false (sym e ∙ c.if-has_needed_first.false)),

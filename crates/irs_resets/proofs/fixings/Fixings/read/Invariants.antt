@@ -4,6 +4,7 @@ use Rattle.irs_base.specs.Lines.{lines_of}
 use Rattle.irs_resets.proofs.FileLemmas.{ReadTo}
 use Rattle.irs_resets.proofs.fixings.Fixings.read.Given as goal
 
+-- the lines so far are not at fault, and the table has exactly their rates
 abbrev pub invariant-loop-rest : goal.invariant-loop-rest
 invariant-loop-rest l =
     record {
@@ -11,5 +12,6 @@ invariant-loop-rest l =
       room : l.number + length l.rest ≤ most_bytes + 1;
     }
 
+-- each round takes a line
 abbrev pub decreases-loop-rest : goal.decreases-loop-rest
 decreases-loop-rest l = length l.rest
