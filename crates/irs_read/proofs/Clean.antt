@@ -43,16 +43,19 @@ is_less m n e = grind (arith, nat_tests)
 
 -- ---- what the table says of a row
 
+-- the kind is an object
 abbrev is_object : Kind → Bool
 is_object (Object choice) = true
 is_object (Leaf leaf) = false
 is_object Passed = false
 is_object Refused = false
 
+-- the row exists and is an object
 abbrev object_at : Option Row → Bool
 object_at None = false
 object_at (Some row) = is_object row.kind
 
+-- the row exists and is an element of row r
 abbrev is_below : ℕ → Option Row → Bool
 is_below r None = false
 is_below r (Some row) = (row.parent == r) && is_element row.kind
@@ -61,16 +64,17 @@ is_below r (Some row) = (row.parent == r) && is_element row.kind
 abbrev pub is_child : List Row → ℕ → ℕ → Bool
 is_child rows r c = nat_lt r c && (object_at (slice_get rows r) && is_below r (slice_get rows c))
 
--- how many items the count of a row allows
+-- the number of items that the count of a row allows
 abbrev pub most_at : Option Row → ℕ
 most_at None = 0
 most_at (Some row) = most row.count
 
--- the count of a row asks for an item
+-- the count of a row requires an item
 abbrev pub required_at : Option Row → Bool
 required_at None = false
 required_at (Some row) = is_required row.count
 
+-- the leaf that a kind is, if it is one
 abbrev leaf_in : Kind → Option LeafKind
 leaf_in (Object choice) = None
 leaf_in (Leaf leaf) = Some leaf
@@ -94,6 +98,7 @@ leaf_kind (Leaf other) leaf e = cc
 leaf_kind Passed leaf e = cc
 leaf_kind Refused leaf e = cc
 
+-- an element whose parent is row r
 record Below (r : ℕ) (o : Option Row) : Type 0 where
   row : Row
   found : o ≡ Some row
@@ -105,7 +110,7 @@ below_is r None e = absurd (true≢false (sym e))
 below_is r (Some row) e = let b = both_true (row.parent == r) (is_element row.kind) e in
     record { row = row; found = refl; parent = is_number row.parent r b.0; element = b.1 }
 
--- what stands is no empty array
+-- an element that is present has at least one value
 pub filled : (o : Option Data) (m : Data) → option_and_then present o ≡ Some m → 0 < length (items_of m)
 filled None m e = cc
 filled (Some null) m e = cc
@@ -212,7 +217,7 @@ module _ (rows : List Row) (names : List (List ℕ)) where
             b.element;
       }
 
-  -- few values stand there, and each breaks no rule
+  -- there are no more values than the count allows, and none breaks a rule
   abbrev Fine : ℕ → List Data → Type 0
   Fine c ds = (length ds ≤ most_at (slice_get rows c)) × ((j : ℕ) (x : Data) → slice_get ds j ≡ Some x → Clean c x)
 
@@ -252,7 +257,7 @@ module _ (rows : List Row) (names : List (List ℕ)) where
   clean_found r c d None k h = tt
   clean_found r c d (Some m) k h = clean_first c (items_of m) (slice_get (items_of m) 0) refl (fine_items r c d m k h)
 
-  -- an element that stands once
+  -- the one value of an element of a clean value is clean
   pub clean_once : (r c : ℕ) (d : Data) → is_child rows r c ≡ true → Clean r d
       → IfSome (once (name_at names c) d) (Clean c)
   clean_once r c d e clean = clean_found r c d (child_of (name_at names c) d) (joint r c d e clean) refl
@@ -263,7 +268,7 @@ module _ (rows : List Row) (names : List (List ℕ)) where
   clean_member r c None e clean = tt
   clean_member r c (Some d) e clean = clean_once r c d e clean
 
-  -- a required element stands, and with at least one value
+  -- a required element is present, with at least one value
   required : (r c : ℕ) (d : Data) → required_at (slice_get rows c) ≡ true → Joint r c d
       → (m : Data) × (child_of (name_at names c) d ≡ Some m)
   required r c d rq k =

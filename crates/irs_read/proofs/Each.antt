@@ -78,6 +78,7 @@ each_first ds a lo hi p = first_same _ _ a (λ f q. in_stream f lo hi q) (inner 
     inner ds lo hi g (many_streams e) = absurd (omega arith)
     inner ds lo hi g (in_stream _ lo' hi' q) = q
 
+-- the swap breaks a rule outside its streams
 abbrev Own : Data → Broken → Type 0
 Own d f = FaultAt swap_rows swap_names 0 0 SWAP 0 d f
 

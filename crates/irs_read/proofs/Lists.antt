@@ -10,7 +10,7 @@ use Rattle.std.proofs.lemmas.Grind.{flat_map-append}
 use Rattle.std.proofs.lemmas.List.{append-nil, map-append, take_more}
 use Rattle.std.specs.Borrow.{Bor}
 
--- with the lists of the stream v behind those of the first i
+-- the lists of the first i + 1 streams are those of the first i, then those of the next stream
 pub lists_more : (vs : List Value) (i : ℕ) (v : Value) → i < length vs → v ≡ get_or vs i v
     → lists_of (map view (take (i + 1) vs)) ≡ lists_of (map view (take i vs)) ++ lists_in (view v)
 lists_more vs i v lt is =

@@ -67,6 +67,7 @@ first_is_day = (omega (arith, ints), omega (arith, ints))
 
 -- ---- numbers
 
+-- the number is from low to high
 abbrev Between : ℤ → ℤ → ℤ → Type 0
 Between low high z = (low ≤ℤ z) × (z ≤ℤ high)
 
@@ -152,6 +153,7 @@ precision_range s =
 
 -- ---- codes
 
+-- every value of a list of codes has the property
 abbrev EachValue : {A : Type 0} → (A → Type 0) → List (List ℕ × A) → Type 0
 EachValue P [] = Unit {0}
 EachValue P (row ∷ rows) = P row.1 × EachValue P rows

@@ -21,7 +21,7 @@ use Rattle.serde_json.specs.Find.{as_str, get}
 use Rattle.std.proofs.Common.{◌≡◌, ℕ, Bool, true, false, ◌||◌, true≢false, List, length, Option, Some, None, is_some}
 use Rattle.std.proofs.Common.{is_none, option_and_then, slice_get, codes, refl}
 
--- what stands there breaks no rule
+-- the value at row r breaks no rule
 record KeptAt (rows : List Row) (names : List (List ℕ)) (r : ℕ) (k : Kind) (d : Data) : Type 0 where
   number : ℕ
   index : ℕ

@@ -46,7 +46,7 @@ use Rattle.std.proofs.lemmas.Option.{slice_get-get_or}
 abbrev pub At : ℕ → Data → Type 0
 At c d = Clean ROWS row_names c d
 
--- nor does what stands there, if anything does
+-- d, if present, breaks no rule at row c of the table of a stream
 abbrev pub AtMost : ℕ → Option Data → Type 0
 AtMost c o = IfSome o (At c)
 
@@ -58,6 +58,7 @@ day_lawful o = or_in IsDay (said day_at o) first_day (said_in IsDay day_at day_r
 maybe_day : (o : Option Data) → IfSome (said day_at o) IsDay
 maybe_day o = said_in IsDay day_at day_range o
 
+-- a multiplier of a frequency in its range
 abbrev IsMultiplier : ℕ → Type 0
 IsMultiplier n = (1 ≤ n) × (n ≤ most_multiplier)
 
@@ -71,6 +72,7 @@ multiplier_lawful o =
 frequency_lawful : (o : Option Data) → IsLawfulFrequency (frequency_in o)
 frequency_lawful o = multiplier_lawful (member (codes "periodMultiplier") o)
 
+-- the unit is not that of the whole term
 abbrev NoTerm : PeriodUnit → Type 0
 NoTerm u = u ≡ Term → ⊥
 
@@ -84,6 +86,7 @@ maybe_tenor : (o : Option Data) → IfSome (option_map tenor_in o) IsLawfulTenor
 maybe_tenor None = tt
 maybe_tenor (Some d) = tenor_lawful d
 
+-- a number of days that an offset may have
 abbrev IsOffset : ℤ → Type 0
 IsOffset z = unsigned_abs z ≤ most_offset
 
@@ -247,9 +250,11 @@ reset_rows =
 
 -- ---- the parts of a stream
 
+-- the dates of a stream
 abbrev Dates : Data → Option Data
 Dates d = once (codes "calculationPeriodDates") d
 
+-- the list of business centres in adjustments
 abbrev Centers : Option Data → Option Data
 Centers o = member (codes "businessCenters") o
 
@@ -404,6 +409,7 @@ few_steps r c at o clean =
     (subst (λ (m : ℕ). length (values_in (name_at row_names c) o) ≤ m) at.most
     (fine_values ROWS row_names r c o at.child clean).0)
 
+-- a step with a day in range and a value in the range of its scale
 abbrev StepIn : Scale → Step → Type 0
 StepIn scale s = IsDay s.day × InScale scale s.value
 

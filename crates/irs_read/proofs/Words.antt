@@ -28,6 +28,7 @@ use Rattle.std.specs.List.{list_all}
 abbrev pub EndsWell : List ℕ → Type 0
 EndsWell s = (get_or s 0 0 ≢ 32) × (get_or s (length s - 1) 0 ≢ 32)
 
+-- no byte of the text is a space
 abbrev NoBlank : List ℕ → Type 0
 NoBlank [] = Unit {0}
 NoBlank (x ∷ xs) = (x ≢ 32) × NoBlank xs

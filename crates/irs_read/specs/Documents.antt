@@ -17,7 +17,7 @@ use Rattle.std.specs.Prelude.{if◌then◌else◌}
 abbrev pub Way : Type 0
 Way = Result Data Broken
 
--- the way of the code
+-- the result of the code as a way
 abbrev pub way_seen : Result (Bor Value) Broken → Way
 way_seen (Ok v) = Ok (view v.now)
 way_seen (Err f) = Err f
@@ -27,13 +27,13 @@ abbrev pub onward : Way → (Data → Way) → Way
 onward (Ok d) go = go d
 onward (Err f) go = Err f
 
--- an element on the way stands once and is an object
+-- an element on the way to the swap occurs once and is an object
 abbrev pub one_object : List Data → Way
 one_object [] = Err (outside K2 swap)
 one_object (x ∷ []) = if is_some (names_of x) then Ok x else Err (outside K3 document)
 one_object (x ∷ y ∷ rest) = Err (outside K7 document)
 
--- the swap stands once; what it is, its own table says
+-- the swap occurs once; its own table says what it must be
 abbrev pub one_swap : List Data → Way
 one_swap [] = Err (outside K2 swap)
 one_swap (x ∷ []) = Ok x
@@ -51,7 +51,7 @@ trade_below d = onward (one_object (values_in (codes "trade") (Some d))) swap_be
 abbrev pub document_below : Data → Way
 document_below d = onward (one_object (values_in (codes "dataDocument") (Some d))) trade_below
 
--- exactly one of `swap`, `trade` and `dataDocument` stands in the root
+-- the root has exactly one of `swap`, `trade` and `dataDocument`
 abbrev pub by_root : Bool → Bool → Bool → Data → Way
 by_root false false false d = Err (outside K2 swap)
 by_root true false false d = swap_below d
@@ -61,7 +61,7 @@ by_root true true a d = Err (outside K7 document)
 by_root true false true d = Err (outside K7 document)
 by_root false true true d = Err (outside K7 document)
 
--- whether an element of that name stands in d
+-- whether d has an element of that name
 abbrev pub has : List ℕ → Data → Bool
 has name d = is_some (child_of name d)
 

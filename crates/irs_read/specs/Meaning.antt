@@ -88,7 +88,7 @@ relative_in o = unwrap_or (said relative_at o) Start
 abbrev pub treatment_in : Option Data → Treatment
 treatment_in o = unwrap_or (said treatment_at o) AsIs
 
--- what stands where there is no currency
+-- the currency that a missing leaf is read as
 abbrev pub no_currency : Currency
 no_currency = record { letters = 88 ∷ 88 ∷ 88 ∷ [] }
 
@@ -135,7 +135,7 @@ abbrev pub own_centers : Option Data → Centers
 own_centers None = Absent
 own_centers (Some d) = Listed (names_in d)
 
--- the centres are those of the one list that is named, or those that stand there
+-- the centres are those of the list that is referenced, else those that are given here
 abbrev pub centers_by : List (Option Data) → Option Data → Option Data → Centers
 centers_by lists (Some reference) own = named_centers (the_one (href_of reference) lists)
 centers_by lists None own = own_centers own
@@ -183,8 +183,8 @@ schedule_or v (Some d) = schedule_in Rates (Some d)
 
 -- ---- parts of a stream
 
--- the decimals that a rate keeps where nothing is said: 7 where it is worked out of daily rates by
--- `calculationParameters` (2006 ISDA Definitions, 8.1(a)), else 9
+-- the default number of decimals of a rate: 7 if daily rates give it by `calculationParameters` (2006 ISDA
+-- Definitions, 8.1(a)), else 9
 abbrev pub places_by : Option Data → ℕ
 places_by None = 9
 places_by (Some parameters) = 7

@@ -10,7 +10,7 @@ use Rattle.std.specs.Prelude.{ℕ, Bool, false, ◌==◌, List, [], ◌∷◌, O
 use Rattle.std.specs.Prelude.{count_by, find, codes, if◌then◌else◌}
 use Rattle.std.specs.Str.{bytes_eq}
 
--- the text of an attribute, as it stands
+-- the text of an attribute, unchanged
 abbrev pub attribute : List ℕ → Option Data → Option (List ℕ)
 attribute name o = option_and_then as_str (option_and_then (child_of name) o)
 
@@ -32,7 +32,7 @@ abbrev pub reference_in : Option Data → Option Data → RefState
 reference_in target None = Absent
 reference_in target (Some reference) = if has_id (href_of reference) target then Good else Dangling
 
--- what stands where a search ended
+-- the value that a search found, if any
 abbrev pub first_of : Option (Option Data) → Option Data
 first_of None = None
 first_of (Some o) = o

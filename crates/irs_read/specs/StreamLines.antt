@@ -1,6 +1,6 @@
 -- The elements of a swap's streams (FpML's InterestRateStream), line by line: the path below the
--- stream, what stands there, and how often. Which elements are in the profile, their counts and their
--- order are this project's own.
+-- stream, what is there, and how often. Which elements are in the profile, their counts and their
+-- order are our rule.
 use Rattle.irs_base.specs.Elements.{calculation_period_dates, cashflows}
 use Rattle.irs_base.specs.Limits.{most_centers, most_steps}
 use Rattle.irs_base.specs.PathList.{printed}
@@ -16,6 +16,7 @@ use Rattle.irs_elements.specs.declared.table.Leaf.TheVariants.{StubType, TenorUn
 use Rattle.irs_elements.specs.declared.table.Row.{Row}
 use Rattle.std.specs.Prelude.{ℕ, ◌-◌, List, [], ◌∷◌, drop, take}
 
+-- each element of a stream, with what it is and how often it occurs
 abbrev lines : List Line
 lines =
     line "calculationPeriodDates" object One
@@ -225,7 +226,7 @@ refused =
 unfoldable pub stream_table : Table
 stream_table = record { whole = "swapStream"; top = ""; lines = lines; passed = passed; refused = refused }
 
--- the table of a swap; its streams are passed over here, each is looked into with its own number
+-- the table of a swap; its streams are skipped here, and each is checked with its own number
 unfoldable pub swap_table : Table
 swap_table = record {
   whole = "swap";

@@ -1,4 +1,4 @@
--- What makes a table of rows whole.
+-- When the rows of a table fit together.
 use Rattle.irs_base.specs.Elements.{no_twin}
 use Rattle.irs_elements.specs.declared.table.Choice.{Choice}
 use Rattle.irs_elements.specs.declared.table.Choice.TheVariants.{Free, AtMostOne, AtMostOneOfThree, ExactlyOne}
@@ -9,6 +9,7 @@ use Rattle.irs_elements.specs.declared.table.Row.{Row}
 use Rattle.std.specs.Prelude.{ℕ, ◌+◌, nat_lt, Bool, true, false, ◌&&◌, ◌==◌, List, [], ◌∷◌, map, Option, Some, None}
 use Rattle.std.specs.Prelude.{slice_get}
 
+-- the row exists and its parent is row r
 abbrev stands_below : ℕ → Option Row → Bool
 stands_below r None = false
 stands_below r (Some row) = row.parent == r
@@ -22,14 +23,15 @@ chooses rows r (AtMostOneOfThree a b c) =
     stands_below r (slice_get rows a) && stands_below r (slice_get rows b) && stands_below r (slice_get rows c)
 chooses rows r (ExactlyOne a b) = stands_below r (slice_get rows a) && stands_below r (slice_get rows b)
 
+-- an object chooses only among its own members
 abbrev kind_fits : List Row → ℕ → Kind → Bool
 kind_fits rows r (Object choice) = chooses rows r choice
 kind_fits rows r (Leaf leaf) = true
 kind_fits rows r Passed = true
 kind_fits rows r Refused = true
 
--- from row r on, each row stands behind its parent, its choice is among its members, and no later
--- row of the same parent has its name
+-- from row r on, each row comes after its parent, and its choice is among its members. No later row of the
+-- same parent has its name
 abbrev pub is_whole : List Row → ℕ → List Row → List (List ℕ) → Bool
 is_whole all r [] [] = true
 is_whole all r (row ∷ rows) (name ∷ names) =

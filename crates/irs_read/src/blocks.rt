@@ -76,7 +76,7 @@ fn own_centers(alloc: Global, list: Option<&Value>) -> Result<Centers, Memory>
     }
 }
 
-// The centres of the one list that is named, or of the list that stands there.
+// The centres of the list that is referenced, else of the list that is given here.
 fn centers(
     alloc: Global,
     lists: &[Option<&Value>],
@@ -119,7 +119,7 @@ pub fn dated(
     Ok(AdjustableDate { day, adj })
 }
 
-/// A date with its adjustments, where it stands.
+/// A date with its adjustments, if it is present.
 pub fn maybe_dated(
     alloc: Global,
     lists: &[Option<&Value>],

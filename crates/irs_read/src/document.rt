@@ -1,6 +1,6 @@
-//! The way from the root of a document to its swap: the root is an object with exactly one of
-//! `swap`, `trade` (which holds `swap`) and `dataDocument` (which holds `trade`). The carrier's roots
-//! are this project's own.
+//! The way from the root of a document to its swap. The root is an object with exactly one of
+//! `swap`, `trade` (which holds `swap`) and `dataDocument` (which holds `trade`). The choice of the
+//! carrier's roots is our rule.
 ghost use Rattle.irs_read.specs.Documents.{DocumentFault, by_root as by_root_of, document_below as document_below_of};
 ghost use Rattle.irs_read.specs.Documents.{has as has_of, one_object as one_object_of, one_swap as one_swap_of};
 ghost use Rattle.irs_read.specs.Documents.{swap_below as swap_below_of, the_swap as the_swap_of};
@@ -15,7 +15,7 @@ use irs_base::{Broken, Elem, Rule};
 use irs_elements::values_at;
 use irs_json::{Value, child, members};
 
-// An element on the way stands once and is an object.
+// An element on the way to the swap occurs once and is an object.
 fn one_object(list: &[Value]) -> Result<&Value, Broken>
     ensures { way_seen result ≡ one_object_of (map view list.now) }
 {
@@ -30,7 +30,7 @@ fn one_object(list: &[Value]) -> Result<&Value, Broken>
     }
 }
 
-// The swap stands once.
+// The swap occurs once.
 fn one_swap(list: &[Value]) -> Result<&Value, Broken>
     ensures { way_seen result ≡ one_swap_of (map view list.now) }
 {
@@ -68,14 +68,14 @@ fn document_below(v: &Value) -> Result<&Value, Broken>
     }
 }
 
-// Whether an element of that name stands in the object.
+// Whether the object has an element of that name.
 fn has(v: &Value, name: &str) -> bool
     ensures { result ≡ has_of name.now (view v.now) }
 {
     child(v, name).is_some()
 }
 
-// Exactly one of the three roots stands.
+// Exactly one of the three roots is present.
 fn by_root(swap: bool, trade: bool, document: bool, v: &Value) -> Result<&Value, Broken>
     ensures { way_seen result ≡ by_root_of swap trade document (view v.now) }
 {

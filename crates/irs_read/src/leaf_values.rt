@@ -250,7 +250,7 @@ pub fn currency(v: Option<&Value>) -> Option<Currency>
     }
 }
 
-/// A date that must stand.
+/// A required date.
 pub fn day(v: Option<&Value>) -> Day
     ensures { result ≡ day_in (seen v.entry) }
 {
@@ -270,7 +270,7 @@ pub fn truth(v: Option<&Value>) -> bool
     }
 }
 
-/// The end of a period that a date goes by, its start where it is absent.
+/// Whether a date is relative to the start or the end of its period; absent is the start.
 pub fn relative(v: Option<&Value>) -> Relative
     ensures { result ≡ relative_in (seen v.entry) }
 {
@@ -280,7 +280,7 @@ pub fn relative(v: Option<&Value>) -> Relative
     }
 }
 
-/// What becomes of a rate below 0; it stays as it is where nothing is said.
+/// The treatment of a rate below 0; absent leaves the rate as it is.
 pub fn treatment(v: Option<&Value>) -> Treatment
     ensures { result ≡ treatment_in (seen v.entry) }
 {
@@ -310,7 +310,7 @@ fn maybe_number(scale: Scale, v: Option<&Value>) -> Option<i128>
     }
 }
 
-/// A number of a schedule that must stand.
+/// A required number of a schedule.
 pub fn number(scale: Scale, v: Option<&Value>) -> i128
     ensures { result ≡ number_in scale (seen v.entry) }
 {

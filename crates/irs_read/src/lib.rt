@@ -1,5 +1,5 @@
-//! The reader of a trade's document: the table of its elements, the first rule that it breaks, and
-//! the swap that it spells (FpML 5, InterestRateStream).
+//! The reader of a trade's document (FpML 5, InterestRateStream): the table of its elements, its first
+//! broken rule, and the swap that it spells.
 #![tactic(auto)]
 
 mod blocks;

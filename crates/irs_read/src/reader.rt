@@ -18,14 +18,14 @@ use irs_json::Value;
 use irs_terms::Swap;
 use std::alloc::Global;
 
-/// Why a document gave no swap: it breaks a rule, K2 to K7, and this is the first in the order of broken
-/// rules; or there was no memory for the swap.
+/// Why a document gave no swap. It breaks a rule of K2 to K7, and this is the first in the order of
+/// broken rules; or memory ran out.
 pub type ReadErr = Stopped<Broken>;
 
-/// The swap that a document spells. Its terms are lawful; what must stand in the document stands
-/// there, and each leaf has a value of its kind, so no default stands in for what must be said.
-/// `Broken` reports the first broken rule of K2 to K7; no swap is returned where one is broken. `Memory`
-/// comes only for a document that breaks none.
+/// The swap that a document spells. Its terms are lawful. Required elements are present, and each leaf
+/// has a value of its kind, so no default replaces a required value. `Broken` reports the first broken
+/// rule of K2 to K7; no swap is returned where one is broken. `Memory` is returned only for a document
+/// that breaks none.
 pub fn read_swap(alloc: Global, v: &Value) -> Result<Swap, ReadErr>
     ensures means { IfOk result (λ swap. Means (view v.now) swap) }
     ensures lawful { IfOk result (λ swap. IsLawful swap) }

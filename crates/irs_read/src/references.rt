@@ -12,7 +12,7 @@ use irs_json::{Value, child};
 use irs_terms::RefState;
 use std::alloc::Global;
 
-// The text of an attribute, as it stands.
+// The text of an attribute, unchanged.
 fn attribute<'a>(v: Option<&'a Value>, name: &str) -> Option<&'a str>
     ensures { option_map (λ s. s.now) result ≡ attribute_of name.now (seen v.entry) }
 {
@@ -59,7 +59,7 @@ pub fn reference(target: Option<&Value>, reference: Option<&Value>) -> RefState
     }
 }
 
-// How many lists have the id.
+// The number of lists with the id.
 fn named_count(lists: &[Option<&Value>], id: &str) -> usize
     ensures { result ≡ count_by (has_id_of id.now) (map seen lists.now) }
 {
@@ -114,7 +114,7 @@ fn slots(stream: &Value) -> [Option<&Value>; 7]
     ]
 }
 
-// The lists with more behind them.
+// The lists, with more appended.
 fn add<'a>(
     mut lists: Vec<Option<&'a Value>>,
     more: &[Option<&'a Value>],

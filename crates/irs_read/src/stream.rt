@@ -37,7 +37,7 @@ fn maybe_tenor(v: Option<&Value>) -> Option<Frequency>
     }
 }
 
-// How many decimals a rate keeps where nothing is said: 7 where it is worked out of daily rates, else 9.
+// The default number of decimals of a rate: 7 if daily rates give it, else 9.
 fn default_places(parameters: Option<&Value>) -> u8
     ensures { result ≡ places_by (seen parameters.entry) }
 {
@@ -47,7 +47,7 @@ fn default_places(parameters: Option<&Value>) -> u8
     }
 }
 
-// How a rate is rounded, Nearest at these decimals where nothing is said.
+// How a rate is rounded; absent is Nearest at these decimals.
 fn rounding(default: u8, v: Option<&Value>) -> Rounding
     ensures { result ≡ rounding_in default (seen v.entry) }
 {
@@ -82,7 +82,7 @@ fn float_terms(alloc: Global, v: &Value) -> Result<FloatTerms, Memory>
     })
 }
 
-// The floating rate where it stands, else the fixed rate.
+// The floating rate if it is present, else the fixed rate.
 fn leg(alloc: Global, float: Option<&Value>, fixed: Option<&Value>) -> Result<Leg, Memory>
     ensures { IfOk result (λ leg. leg ≡ leg_by (seen float.entry) (seen fixed.entry)) }
 {
@@ -179,7 +179,7 @@ fn maybe_reset_terms(
     }
 }
 
-// The index of a stub where it stands, else its rate.
+// The index of a stub if it is present, else its rate.
 fn stub_by_index(
     alloc: Global,
     float: Option<&Value>,

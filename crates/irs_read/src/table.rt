@@ -1,9 +1,8 @@
 //! The table of the elements of a trade's streams (FpML's InterestRateStream and what it holds).
 //!
-//! The order of the rows, the counts, and which elements are in the profile, are this project's own.
-//! The first rows are the elements of a stream in the order of the table of paths; behind them stand
-//! the members that are passed over, `payerPartyReference` among them, and those that are out of the
-//! profile.
+//! The order of the rows, the counts, and which elements are in the profile, are our rule. The first
+//! rows are the elements of a stream in the order of the table of paths. After them come the members
+//! that are passed over, `payerPartyReference` among them, and those that are out of the profile.
 ghost use Rattle.irs_elements.specs.Lines.{Line};
 ghost use Rattle.irs_read.specs.StreamLines.{stream_elements, stream_names, stream_rows, stream_table, swap_names};
 ghost use Rattle.irs_read.specs.StreamLines.{swap_rows};
@@ -456,7 +455,7 @@ pub const NAMES: [&str; 179] = [
     "stubAmount",
 ];
 
-/// For each row of a stream the number of the row behind its last member; 0 where it has none.
+/// For each row of a stream, the number of the row after its last member; 0 if it has none.
 pub const ENDS: [usize; 179] = [
     146, 149, 150, 0, 8, 0, 0, 9, 0, 151, 0, 15, 0, 0, 16, 0, 20, 0, 0, 21, 0, 152, 0, 27, 0, 0,
     28, 0, 0, 0, 0, 35, 0, 0, 0, 154, 0, 40, 0, 0, 0, 0, 0, 47, 0, 0, 0, 51, 0, 0, 52, 0, 156, 0,
@@ -470,7 +469,7 @@ pub const ENDS: [usize; 179] = [
 /// What a swap is: an object.
 pub const SWAP: Kind = Kind::Object(Choice::Free);
 
-/// The rows of a swap. Its streams are passed over here: each is looked into with its own number.
+/// The rows of a swap. Its streams are skipped here: each is checked with its own number.
 pub const SWAP_ROWS: [Row; 12] = [
     row!(0, 1, SWAP, Count::One),
     row!(0, 1, Kind::Passed, Count::Maybe),
@@ -520,8 +519,8 @@ pub fn lines_follow()
     ensures { map (λ (l : Line). l.path) stream_table.lines ≡ stream_elements }
 {}
 
-/// The rows of a stream are whole: each stands behind its parent, a choice is among the members of
-/// its row, and no two rows of one parent have one name.
+/// The rows of a stream fit together. Each comes after its parent, a choice is among the members of its
+/// row, and no two rows of one parent have the same name.
 pub fn rows_whole()
     ensures { is_whole ROWS 1 (drop 1 ROWS) (drop 1 (map (λ n. n.now) NAMES)) ≡ true }
 {}

@@ -40,8 +40,8 @@ FitsWeek Imm anchor = ⊥
 FitsWeek (OnWeekday name) anchor = place_in_week name ≡ weekday_at anchor
 FitsWeek NoRoll anchor = Unit {0}
 
--- in days every anchor fits, in weeks one on the weekday of the roll, in months and years the roll day of
--- its month; the term requires nothing
+-- in days every anchor fits, in weeks one on the weekday of the roll, and in months and years the roll day of
+-- its month. The term requires nothing
 abbrev pub FitsBy : FrequencyUnit → RollCode → ℤ → Type 0
 FitsBy D roll anchor = Unit {0}
 FitsBy W roll anchor = FitsWeek roll anchor

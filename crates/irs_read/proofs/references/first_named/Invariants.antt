@@ -4,6 +4,7 @@ use Rattle.irs_read.specs.References.{has_id}
 use Rattle.std.proofs.Common.{◌≡◌, drop, map}
 use Rattle.std.specs.Prelude.{find}
 
+-- no list so far has the id, so a search of the rest finds the same list
 abbrev pub invariant-loop-list : goal.invariant-loop-list
 invariant-loop-list l =
     find (has_id l.id) (map seen (drop l.list-index l.lists)) ≡ find (has_id l.id) (map seen l.lists)

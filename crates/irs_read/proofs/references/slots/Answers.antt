@@ -4,6 +4,7 @@ use Rattle.irs_read.proofs.references.slots.Goals as goal
 use Rattle.serde_json.specs.Data.{Data}
 use Rattle.std.proofs.Common.{List, Option, ℕ, ap, codes, ◌∙◌}
 
+-- the list of business centres in the adjustments of that name
 abbrev below : List ℕ → Option Data → Option Data
 below name o = member (codes "businessCenters") (member name o)
 

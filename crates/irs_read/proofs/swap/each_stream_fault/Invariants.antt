@@ -6,5 +6,6 @@ use Rattle.serde_json.specs.View.{view}
 use Rattle.std.proofs.Common.{map}
 use Rattle.irs_base.specs.Order.{IsFirstBroken}
 
+-- the fault kept is the first of those of the first j streams
 abbrev pub invariant-loop-j : goal.invariant-loop-j
 invariant-loop-j l = IsFirstBroken (Below (Each StreamFault (map view l.list)) l.j) l.first
