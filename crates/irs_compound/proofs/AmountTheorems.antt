@@ -1,5 +1,5 @@
--- The theorems of the amount of a payment: a period is the first that leaves the range or none leaves
--- it, the payment has an amount, and only one period is the first.
+-- The theorems of the amount of a payment. A period is the first to leave the range, or none leaves it. Only
+-- one period is the first. The payment has an amount.
 use Rattle.std.proofs.Common.{◌≡◌, ◌⊎◌, inl, inr, ℕ, zero, suc, ◌*◌, ◌-◌, ◌<◌, ◌≤◌, ℤ, pos, ◌+ℤ◌, unsigned_abs, List}
 use Rattle.std.proofs.Common.{[], ◌∷◌, length, take, get_or, Option, Some, None, IsSome, IsSomeAnd, refl, arith, rules}
 use Rattle.std.specs.Prelude.{nat_lt}

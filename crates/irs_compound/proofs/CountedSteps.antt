@@ -27,7 +27,7 @@ not_above : (a d : ℤ) (b : Bool) → int_le a d ≡ b → a ≤ℤ d → b ≡
 not_above a d true e l = refl
 not_above a d false e l = absurd (omega (arith, signed_arith, e, l))
 
--- those that aren't after the day stand before those that are
+-- the steps up to the day come before the steps after it
 pub parted : (steps : List Step) (d : ℤ) → StepsRise steps → IsPartitionedBy (λ s. int_le s.day d) steps
 parted steps d r = λ i k e l h up.
     let a = rises_to steps i k e r l h in

@@ -12,6 +12,7 @@ use Rattle.irs_daycount.specs.FractionLaws.{one_denominator}
 use Rattle.irs_daycount.proofs.FractionBounds.{fraction_bounded}
 use Rattle.irs_compound.specs.Amounts.{IsFraction}
 
+-- the denominator of a day count fraction is from 1 to that of ACT/ACT.ISDA
 abbrev IsDenominator : ℤ → Type 0
 IsDenominator d = (pos 1 ≤ℤ d) × (d ≤ℤ pos act_act_denominator)
 

@@ -21,6 +21,7 @@ pub small_rates : (o : Option Rates) → IfSome o (λ r. unsigned_abs r.all_in �
 small_rates None h = tt
 small_rates (Some r) h = omega (arith, h)
 
+-- a fixed rate keeps within the limit of a period's rate
 pub fixed_small : (values : StepValues) (start : ℤ) (r : Rates) → IsLawfulValues IsRate values
     → r ≡ fixed_rates_of values start → unsigned_abs r.all_in ≤ most_period_rate
 fixed_small values start r lawful e =
@@ -28,6 +29,7 @@ fixed_small values start r lawful e =
     rate_size (Fixed values) start None lawful tt in
     subst (λ (x : Rates). unsigned_abs x.all_in ≤ most_period_rate) (sym e) (omega (arith, size))
 
+-- a rate by a stated observed rate keeps within the limit of a period's rate
 pub stated_small : (f : FloatTerms) (start observed : ℤ) (r : Rates) → IsLawfulFloat f → unsigned_abs observed ≤ most_rate
     → r ≡ rates_of f start observed → unsigned_abs r.all_in ≤ most_period_rate
 stated_small f start observed r lawful fits e =
@@ -42,6 +44,7 @@ above_of (Known x) h = h.above
 above_of Absent h = tt
 above_of OutOfRange h = tt
 
+-- so has a rate that may be absent
 pub above_in : (o : Option OvernightRate) → IfSome o HasBounds → IfSome o IsAbove
 above_in None h = tt
 above_in (Some r) h = above_of r h

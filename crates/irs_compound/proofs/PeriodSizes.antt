@@ -19,6 +19,7 @@ use Rattle.irs_compound.proofs.RateSizes.{rate_size}
 use Rattle.irs_compound.specs.PeriodRates.{most_rounded_rate, rates_by}
 use Rattle.irs_compound.specs.declared.periods.Rates.{Rates}
 
+-- a numerator of a day count fraction in its range
 abbrev IsSmall : ℤ → Type 0
 IsSmall n = (pos 0 ≤ℤ n) × (n ≤ℤ pos most_numerator)
 

@@ -16,10 +16,12 @@ use Rattle.irs_terms.specs.declared.codes.CompCode.{CompCode}
 use Rattle.irs_terms.specs.declared.codes.CompCode.TheVariants.{Simple, Straight, Flat, SpreadExclusive}
 use Rattle.jiff_core.proofs.SignedLemmas.{signed_arith}
 
+-- the common denominator of a payment is at least 1
 denominator_above : (ps : List PeriodTerm) → AllFractions ps → pos 1 ≤ℤ denominator ps
 denominator_above [] f = omega (arith, signed_arith)
 denominator_above (p ∷ ps) f = (All-head (λ q. IsFraction q.frac) p ps f).2
 
+-- a sum has one rounded amount
 rounded_sum_once : (code : CompCode) (ps : List PeriodTerm) (sum : ℤ) (k : ℕ) (m n : ℤ) → AllFractions ps
     → RoundedAt code (denominator ps) sum k m → RoundedAt code (denominator ps) sum k n → m ≡ n
 rounded_sum_once Simple ps sum k m n f a b =
@@ -32,6 +34,7 @@ rounded_sum_once Flat ps sum k m n f a b =
 rounded_sum_once SpreadExclusive ps sum k m n f a b =
     nearest_once sum (pos (10 ^ (6 - k))) m n (above (10 ^ (6 - k)) (ten_above (6 - k))) a b
 
+-- every sum has a rounded amount
 rounded_sum_exists : (code : CompCode) (ps : List PeriodTerm) (sum : ℤ) (k : ℕ) → AllFractions ps
     → (m : ℤ) × RoundedAt code (denominator ps) sum k m
 rounded_sum_exists Simple ps sum k f =

@@ -78,8 +78,8 @@ abbrev pub total : List Parts → ℤ
 total [] = pos 0
 total (c ∷ cs) = amount c +ℤ total cs
 
--- the part of a period's amount that bears interest in later periods: none without compounding, all of it with straight
--- and flat compounding, and the compounded part with the spread exclusive
+-- the part of a period's amount that bears interest in later periods. Without compounding none does. With
+-- straight and flat compounding all of it does, and with the spread exclusive the compounded part
 abbrev pub kept_of : CompCode → Parts → ℤ
 kept_of Simple c = pos 0
 kept_of Straight c = amount c

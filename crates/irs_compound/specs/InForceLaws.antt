@@ -32,6 +32,7 @@ counts : (xs : List Step) (s : Step) (d : ℤ) → s.day ≤ℤ d → All (λ t.
     → LastOf (xs ++ s ∷ []) d (Some s)
 counts xs s d l h = (Contains-push xs s, l, All-push (λ t. t.day ≤ℤ d → t.day ≤ℤ s.day) xs s h (λ _. same_day s.day))
 
+-- of two steps up to the day the later one is in force
 later_of : (xs : List Step) (t s : Step) (d : ℤ) (b : Bool) → int_lt t.day s.day ≡ b → s.day ≤ℤ d → LastOf xs d (Some t)
     → LastOf (xs ++ s ∷ []) d (Some (if b then s else t))
 later_of xs t s d true e l h =
@@ -42,6 +43,7 @@ later_of xs t s d false e l h =
     let k : s.day ≤ℤ t.day = omega (arith, signed_arith, e) in
     (Contains-append_left xs (s ∷ []) t h.0, h.1, All-push (λ u. u.day ≤ℤ d → u.day ≤ℤ t.day) xs s h.2 (λ _. k))
 
+-- a step up to the day is in force, unless a later one is
 within : (xs : List Step) (last : Option Step) (s : Step) (d : ℤ) → s.day ≤ℤ d → LastOf xs d last
     → LastOf (xs ++ s ∷ []) d (Some (later_step last s))
 within xs None s d l h =
@@ -49,11 +51,13 @@ within xs None s d l h =
     → t.day ≤ℤ s.day) (λ t a k. absurd (omega (arith, signed_arith, a, k))) xs h)
 within xs (Some t) s d l h = later_of xs t s d (int_lt t.day s.day) refl l h
 
+-- the step in force after one more step
 one_more : (xs : List Step) (last : Option Step) (s : Step) (d : ℤ) (b : Bool) → int_lt d s.day ≡ b → LastOf xs d last
     → LastOf (xs ++ s ∷ []) d (if b then last else Some (later_step last s))
 one_more xs last s d true e h = after xs last s d (omega (arith, signed_arith, e)) h
 one_more xs last s d false e h = within xs last s d (omega (arith, signed_arith, e)) h
 
+-- the step in force after more steps
 more : (xs ys : List Step) (last : Option Step) (d : ℤ) → LastOf xs d last → LastOf (xs ++ ys) d (last_from d last ys)
 more xs [] last d h = subst (λ (zs : List Step). LastOf zs d last) (sym (append-nil xs)) h
 more xs (y ∷ ys) last d h =
@@ -94,6 +98,7 @@ rest s (t ∷ ss) h = h.1
 abbrev IsAlone : List Step → Step → Type 0
 IsAlone ss s = All (λ t. s.day ≡ t.day → s ≡ t) ss
 
+-- of steps that rise, no two have the same date
 alone : (ss : List Step) → StepsRise ss → All (IsAlone ss) ss
 alone [] h = All-nil (IsAlone [])
 alone (x ∷ xs) h =
@@ -110,6 +115,7 @@ alone (x ∷ xs) h =
     (All-contains (IsAlone xs) xs u (alone xs (rest x xs h)) c))
     xs (All-contains_itself xs))
 
+-- of steps that rise, one at most is in force
 one_last : (steps : List Step) (d : ℤ) (a b : Option Step) → StepsRise steps → LastOf steps d a
     → LastOf steps d b → a ≡ b
 one_last steps d None None r h k = refl
@@ -139,6 +145,7 @@ one_in_force values d v w r a b =
     let e : a.last ≡ b.last = one_last values.steps d a.last b.last r a.last_is b.last_is in
     a.value_is ∙ ap (λ (o : Option Step). value_of o values.initial) e ∙ sym b.value_is
 
+-- the value in force keeps the range of the initial value and the steps
 last_within : (Within : ℤ → Type 0) (values : StepValues) (d : ℤ) (last : Option Step) → Within values.initial
     → All (λ (s : Step). Within s.value) values.steps → LastOf values.steps d last
     → Within (value_of last values.initial)

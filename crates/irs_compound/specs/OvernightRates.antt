@@ -11,9 +11,9 @@ use Rattle.irs_compound.specs.declared.periods.Rates.{Rates}
 use Rattle.irs_compound.specs.InForce.{InForce, value_in_force}
 use Rattle.irs_compound.specs.PeriodRates.{AreRates, Treats, fixed_rates_of, rates_by, rates_of, treated}
 
--- multiplier and spread in force on the period's unadjusted start, and the fraction x, give the rates: the base rate
--- is multiplier times x, the rate is that plus the spread, each rounded once from its exact value; the treatment of a
--- rate below 0 is that of the rounded rate, and the base rate stays
+-- the rates of a period by the multiplier and spread in force on its unadjusted start and the fraction x. The
+-- base rate is the multiplier times x, and the rate is that plus the spread. Each is rounded once from its
+-- exact value. The treatment of a rate below 0 applies to the rounded rate, and the base rate stays
 pub record RatesOver (f : FloatTerms) (start : ℤ) (x : Fraction) (rates : Rates) : Type 0 where
   pub multiplier : ℤ
   pub spread : ℤ

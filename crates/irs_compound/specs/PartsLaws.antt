@@ -48,16 +48,19 @@ follows_more code earlier (q ∷ ps) [] p c h k = absurd h
 follows_more code earlier (q ∷ ps) (d ∷ cs) p c h k =
     (h.0, follows_more code (earlier ++ d ∷ []) ps cs p c h.1 (rw append_assoc k))
 
+-- parts with the same two amounts are equal
 same_parts : (c d : Parts) → c.main ≡ d.main → c.extra ≡ d.extra → c ≡ d
 same_parts c d h k =
     let mk : ℤ → ℤ → Parts = λ m e. record { main = m; extra = e } in
     ap (λ m. mk m c.extra) h ∙ ap (λ e. mk d.main e) k
 
+-- a balance earns one amount of interest in a period
 interest_once : (b r : ℤ) (p : PeriodTerm) (x y : ℤ) → IsFraction p.frac → Interest b r p.frac x
     → Interest b r p.frac y → x ≡ y
 interest_once b r p x y f h k =
     nearest_once (b *ℤ r *ℤ p.frac.num) (p.frac.den *ℤ pos (10 ^ 9)) x y (divisor_above p.frac.den f.2) h k
 
+-- a period adds one pair of parts at given rates
 at_once : (code : CompCode) (p : PeriodTerm) (r : Rates) (before : ℤ) (c d : Parts) → IsFraction p.frac
     → StandsAt code p r before c → StandsAt code p r before d → c ≡ d
 at_once Simple p r before c d f h k = same_parts c d (h.0 ∙ sym k.0) (h.1 ∙ sym k.1)
@@ -70,6 +73,7 @@ at_once SpreadExclusive p r before c d f h k =
     same_parts c d (interest_once (pos 100 *ℤ p.notional +ℤ before) r.base p c.main d.main f h.0 k.0)
     (interest_once (pos 100 *ℤ p.notional) (r.all_in -ℤ r.base) p c.extra d.extra f h.1 k.1)
 
+-- a period with rates adds one pair of parts
 priced_once : (o : Option Rates) (code : CompCode) (p : PeriodTerm) (before : ℤ) (c d : Parts) → IsFraction p.frac
     → IsSomeAnd o (λ r. StandsAt code p r before c) → IsSomeAnd o (λ r. StandsAt code p r before d) → c ≡ d
 priced_once None code p before c d f h k = absurd h
@@ -117,6 +121,7 @@ at_exists SpreadExclusive p r before f =
     (divisor_above p.frac.den f.2) in
     (record { main = m.0; extra = n.0 }, (m.1, n.1))
 
+-- a period with rates adds a pair of parts
 priced_exists : (o : Option Rates) (code : CompCode) (p : PeriodTerm) (before : ℤ) → IsFraction p.frac → IsSome o
     → (c : Parts) × IsSomeAnd o (λ r. StandsAt code p r before c)
 priced_exists None code p before f h = cc

@@ -34,6 +34,7 @@ rate_at_is rounding exact = record {
   scales = refl;
 }
 
+-- an exact rate has one rounded rate
 one_rate_at : (rounding : Rounding) (exact x y : ℤ) → RateAt rounding exact x → RateAt rounding exact y → x ≡ y
 one_rate_at rounding exact x y a b =
     let e : a.whole ≡ b.whole =
@@ -41,6 +42,7 @@ one_rate_at rounding exact x y a b =
     (ten_positive (18 - rounding.places)) a.rounds b.rounds in
     a.scales ∙ ap (λ (w : ℤ). w *ℤ pos (10 ^ (9 - rounding.places))) e ∙ sym b.scales
 
+-- the zero rate method gives 0 for a rate below 0, and otherwise the rate
 floored : (y : ℤ) (b : Bool) → int_lt y (pos 0) ≡ b → Treats ZeroFloor y (if b then pos 0 else y)
 floored y true e = let l : y <ℤ pos 0 = omega (arith, signed_arith, e) in
     (λ h. absurd (omega (arith, signed_arith, h, l)), λ _. refl)
@@ -52,6 +54,7 @@ pub treated_is : (treatment : Treatment) (y : ℤ) → Treats treatment y (treat
 treated_is AsIs y = refl
 treated_is ZeroFloor y = floored y (int_lt y (pos 0)) refl
 
+-- the zero rate method gives one rate
 one_floored : (y r : ℤ) (b : Bool) → int_lt y (pos 0) ≡ b → Treats ZeroFloor y r → r ≡ (if b then pos 0 else y)
 one_floored y r true e h = h.1 (omega (arith, signed_arith, e))
 one_floored y r false e h = h.0 (omega (arith, signed_arith, e))

@@ -1,8 +1,8 @@
-//! The balance that is carried from period to period of a payment: the sum of the amounts so far,
-//! and the part of it that bears interest in later periods.
+//! The balance that is carried from period to period of a payment. It is the sum of the amounts so
+//! far, and the part of it that bears interest in later periods.
 //!
-//! Each part of an amount and each of the two sums is at most 10^14 units of currency in size, and
-//! rates are at most 10; the first period outside these limits ends the calculation. Rates are tested
+//! Each part of an amount and each of the two sums is at most 10^14 units of currency in size. Rates
+//! are at most 10. The first period outside these limits ends the calculation. Rates are tested
 //! before they are multiplied, and parts before they are added, so that no product passes 128 bits.
 ghost use Rattle.std.specs.Prelude.{◌≡◌, ◌+◌, ◌*◌, ◌-◌, ◌≤◌, pos, ◌≤ℤ◌, ◌+ℤ◌, ◌-ℤ◌, ◌*ℤ◌};
 ghost use Rattle.std.specs.Prelude.{unsigned_abs, IfSome, IfNone, SomeIff, MatchBool, IsSome};

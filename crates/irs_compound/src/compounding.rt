@@ -12,9 +12,8 @@ use crate::periods::PeriodTerm;
 use irs_terms::CompCode;
 use thiserror::Error;
 
-/// A rate or an amount of a payment leaves the range (K39): the position, from 1, of the first period
-/// where the base rate or the rate passes 10 in size, or an amount or a sum of amounts passes 10^14
-/// units of currency.
+/// A rate or an amount of a payment leaves the range (K39). In the first such period the base rate or
+/// the rate passes 10 in size, or an amount or a sum of amounts passes 10^14 units of currency.
 #[derive(Clone, Copy, Debug, Error)]
 #[error("period {period} of the payment is out of range")]
 pub struct OutOfRange {
@@ -31,9 +30,9 @@ pub trait Compounding {
     ghost passes: { Self → List PeriodTerm → ℕ → Type 0 };
 
     /// The amount of a payment, in units of 10^-places. The payment has at least one period and at
-    /// most `MOST_PERIODS`, with one denominator and all their rates, each with a lawful notional and
-    /// a fraction of one of the seven day counts; `places` is at most 3. `OutOfRange` is the first
-    /// period where a rate, an amount or a sum leaves the range.
+    /// most `MOST_PERIODS`, with one denominator and all their rates. Each period has a lawful
+    /// notional and a fraction of one of the seven day counts. `places` is at most 3. `OutOfRange` is
+    /// the first period where a rate, an amount or a sum leaves the range.
     fn amount(&self, periods: &[PeriodTerm], places: u8) -> Result<i128, OutOfRange>
         requires payment { IsPayment periods.now }
         requires priced { AllPriced periods.now }
@@ -106,9 +105,9 @@ impl Compounding for Flat {
     ghost some_amount = { λ s ps. some_amount_of (code_for CompCode.Flat ps) ps };
 }
 
-/// Compounding with the spread exclusive: the notional and all earlier compounded parts of the payment
-/// bear interest at the base rate, the notional alone at the rate less the base rate, each at 6
-/// decimals. The rule is our own choice.
+/// Compounding with the spread exclusive. The notional and all earlier compounded parts of the payment
+/// bear interest at the base rate, and the notional alone at the rate less the base rate. Each is
+/// rounded to 6 decimals. The rule is our own choice.
 #[derive(Clone, Copy)]
 pub struct SpreadExclusive;
 

@@ -2,7 +2,7 @@
 //! `calculationParameters`).
 //!
 //! The observed rate is a fraction that isn't rounded. The base rate is the multiplier times the
-//! fraction, the rate is that plus the spread, each rounded once from its exact value (2006 ISDA
+//! fraction, and the rate is that plus the spread. Each is rounded once from its exact value (2006 ISDA
 //! Definitions, section 8.1). The treatment of a rate below 0 is that of every other floating period.
 ghost use Rattle.std.specs.Prelude.{◌≡◌, ◌≤◌, ◌+◌, pos, Option, IfNone, IfSome, unsigned_abs};
 ghost use Rattle.irs_base.specs.Limits.{most_rate};
@@ -25,7 +25,7 @@ use irs_terms::{FloatTerms, Leg, StepValues};
 /// The rates of a period by the leg of its stream, whose steps rise by day, as the rules of the terms
 /// require. Without calculation parameters they are those of the observed rate, as for
 /// `rates_of_rising`. With them `overnight` is the period's observed rate, and the rates are those of
-/// the fraction, `None` where it isn't known, and above 10 where a compounded factor passes its limit.
+/// the fraction. They are `None` if it isn't known, and above 10 if a compounded factor passes its limit.
 /// `start` is the period's unadjusted start; rates are in units of 10^-9.
 pub fn rates_of_period(
     leg: &Leg,

@@ -35,8 +35,8 @@ pub fn payment_amount(
     }
 }
 
-/// A law: a payment has one amount, present or absent, or one first period that leaves the range; and
-/// there is one list of what each of its periods adds.
+/// A law: a payment has one amount, present or absent, or one first period that leaves the range. There
+/// is one list of what each of its periods adds.
 pub fn payment_amount_is_determined(code: CompCode, periods: &[PeriodTerm], places: u8)
     requires { IsPayment periods.now }
     ensures determined { Determined (payment_amount_of code periods.now places) }

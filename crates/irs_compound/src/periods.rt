@@ -23,10 +23,10 @@ pub struct PeriodTerm {
     pub frac: Frac,
 }
 
-/// What a period adds to its payment, in two parts that are rounded apart: without compounding one
-/// exact part, in units of 10^-13 over the fraction's denominator; with straight compounding one
-/// part; with flat compounding the basic and the additional amount; with the spread exclusive the
-/// compounded and the spread part. All but the first in units of 10^-6.
+/// What a period adds to its payment, in two parts that are rounded apart. Without compounding there is
+/// one exact part, in units of 10^-13 over the fraction's denominator. All other parts are in units of
+/// 10^-6. Straight compounding has one part, and flat compounding the basic and the additional amount.
+/// The spread exclusive has the compounded and the spread part.
 #[derive(Clone, Copy)]
 pub struct Parts {
     /// The exact amount; the amount; the basic amount; or the compounded part.

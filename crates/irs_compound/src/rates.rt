@@ -1,7 +1,7 @@
 //! The rates of a calculation period.
 //!
-//! The base rate is the multiplier times the observed rate, the rate is that plus the spread, with
-//! multiplier and spread in force on the period's unadjusted start. Each is rounded once from its
+//! The base rate is the multiplier times the observed rate, and the rate is that plus the spread.
+//! Multiplier and spread are those in force on the period's unadjusted start. Each is rounded once from its
 //! exact value (2006 ISDA Definitions, article 8). Under FpML's ZeroInterestRateMethod a rate below 0
 //! is then 0, and the base rate stays. That the base rate is rounded as the rate is, and that the
 //! treatment applies to the rounded rate with the spread, are our rules.
@@ -21,8 +21,8 @@ use crate::step_values::in_force;
 use irs_base::{Day, round};
 use irs_terms::{FloatTerms, Rounding, StepValues, Treatment};
 
-/// The rates of a period whose unadjusted start is `start` and whose observed rate is `observed`,
-/// which is at most 10 in size; rates are in units of 10^-9.
+/// The rates of a period with the unadjusted start `start` and the observed rate `observed`, which is
+/// at most 10 in size. Rates are in units of 10^-9.
 pub fn period_rates(f: &FloatTerms, start: Day, observed: i64) -> Rates
     requires terms { IsLawfulFloat f.now }
     requires observed_fits { unsigned_abs observed ≤ most_rate }

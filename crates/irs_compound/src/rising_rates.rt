@@ -13,11 +13,11 @@ use crate::rising_steps::in_force_of_rising;
 use irs_base::Day;
 use irs_terms::{FloatTerms, Leg, StepValues};
 
-/// The rates of a period by the leg of its stream, whose steps rise by day, as the rules of the terms
-/// require: on a fixed stream those of the rate in force, on a floating one those of the observed rate,
-/// which is at most 10 in size, and `None` where there is no observed rate. They equal those of
-/// `fixed_rates` and `period_rates`, which look at each step. `start` is the period's unadjusted start;
-/// rates are in units of 10^-9.
+/// The rates of a period by the leg of its stream. The steps rise by day, as the rules of the terms
+/// require. On a fixed stream they are those of the rate in force. On a floating one they are those of
+/// the observed rate, which is at most 10 in size, and `None` if there is no observed rate. They equal
+/// those of `fixed_rates` and `period_rates`, which visit each step. `start` is the period's unadjusted
+/// start; rates are in units of 10^-9.
 pub fn rates_of_rising(leg: &Leg, start: Day, observed: Option<i64>) -> Option<Rates>
     requires leg { IsLawfulLeg leg.now }
     requires rises { LegStepsRise leg.now }

@@ -7,9 +7,9 @@ use crate::step_counts::count_to;
 use irs_base::Day;
 use irs_terms::{Step, StepValues};
 
-/// The value in force on day `d` of steps whose days rise, as the rules of the terms ask: that of the
-/// step with the greatest date not after `d`, or the initial value where there is none (FpML
-/// `Schedule`). It is that of `in_force`, which looks at each step.
+/// The value in force on day `d` of steps that rise by day, as the rules of the terms require. It is
+/// that of the last step not after `d`, or the initial value if there is none (FpML `Schedule`). It is
+/// that of `in_force`, which visits each step.
 pub fn in_force_of_rising(values: &StepValues, d: Day) -> i128
     requires rises { StepsRise values.now.steps }
     ensures relation { InForce values.now d result }

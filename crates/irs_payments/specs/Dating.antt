@@ -67,7 +67,7 @@ abbrev pub earliest : Option ℕ → ℕ → Option ℕ
 earliest None n = Some n
 earliest (Some m) n = Some m
 
--- what payment n, or the lack of it, makes of the payments and of the first that leaves the range
+-- the payments, and the first that leaves the range, after payment n
 abbrev pub Settles : Result Payment NoDate → Option ℕ → ℕ → List Payment → List Payment → Option ℕ → Type 0
 Settles (Ok p) beyond n old new after = (new ≡ old ++ p ∷ []) × (after ≡ beyond)
 Settles (Err OutOfRange) beyond n old new after = (new ≡ old) × (after ≡ earliest beyond n)

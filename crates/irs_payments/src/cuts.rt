@@ -1,4 +1,4 @@
-//! The places at which payment periods end. The list of boundaries is walked once.
+//! The places at which payment periods end. One pass over the boundaries finds them.
 ghost use Rattle.std.specs.Prelude.{◌<◌, length, IfOk};
 ghost use Rattle.irs_base.specs.Listed.{IsRising};
 ghost use Rattle.irs_terms.specs.Lawful.{IsLawfulStream};

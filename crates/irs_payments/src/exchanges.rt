@@ -1,4 +1,4 @@
-//! Principal exchanges: the notional changes hands at the start, where it changes, and at the end.
+//! Principal exchanges: the notional is exchanged at the start, where it changes, and at the end.
 //!
 //! At the start the payer receives the notional, and at the end pays it back (FpML
 //! `principalExchanges`). The start is the effective date, also where the first calculation period
@@ -41,7 +41,7 @@ pub struct Transfer {
 /// still count, so that running out of memory hides no broken rule.
 #[derive(Drop)]
 pub struct Listing {
-    /// How many exchanges there are so far.
+    /// The number of exchanges so far.
     pub number: usize,
     /// The exchanges, unless memory ran out.
     pub list: Option<Exchanges>,
@@ -107,7 +107,7 @@ fn last(s: &Stream) -> Option<Transfer>
     }
 }
 
-// How many units of 10^-4 make one unit of the last decimal.
+// The number of units of 10^-4 in one unit of the last decimal.
 fn unit(places: u8) -> i128
     requires { places ≤ 4 }
     ensures value { result ≡ pos (10 ^ (4 - places)) }
@@ -123,7 +123,7 @@ fn unit(places: u8) -> i128
     }
 }
 
-// An amount in units of 10^-4, rounded to that many decimals.
+// An amount in units of 10^-4, rounded to this number of decimals.
 fn rounded_amount(amount: i128, places: u8) -> Dec
     requires places { places ≤ 4 }
     requires small { unsigned_abs amount ≤ most_notional }
@@ -150,7 +150,7 @@ fn exchange<G: GoodDays>(s: &Stream, days: &G, transfer: Transfer) -> Option<Exc
     })
 }
 
-// The list with one exchange more, unless memory ran out.
+// The list with an exchange appended, unless memory ran out.
 fn push(list: Option<Exchanges>, exchange: Exchange) -> Option<Exchanges>
     ensures { IfSome result (λ xs. (before : List Exchange) × (list ≡ Some before) × (xs ≡ before ++ exchange ∷ [])) }
 {
@@ -221,7 +221,7 @@ fn list_all<G: GoodDays>(alloc: Global, s: &Stream, days: &G) -> Result<Listing,
 
 /// The principal exchanges of a stream, in order. The initial one is at the effective date, and the
 /// final one at the termination date. Between them one is at each step that changes the notional.
-/// Each part is there where its flag is true. The adjusted date is the date adjusted by
+/// Each part is there if its flag is true. The adjusted date is the date adjusted by
 /// `paymentDatesAdjustments`, whose business days are `days`. The amount, with its sign, is rounded
 /// Nearest to the decimals of the currency.
 ///

@@ -17,7 +17,7 @@ use Rattle.irs_terms.specs.TermDates.{termination_of}
 abbrev pub OnSpan : (ℤ → Type 0) → ℤ → ℤ → ℤ → Type 0
 OnSpan on first last d = (first ≤ℤ d) × (d ≤ℤ last) × on d
 
--- the day is the begin of the first period, the termination date, or a grid day of the regular span
+-- the day is the start of the first period, the termination date, or a grid day of the regular span
 abbrev pub IsBoundaryBy : (ℤ → Type 0) → ℤ → ℤ → ℤ → ℤ → ℤ → Type 0
 IsBoundaryBy on begin termination first last d = (d ≡ begin) ⊎ ((d ≡ termination) ⊎ OnSpan on first last d)
 

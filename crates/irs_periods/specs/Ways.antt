@@ -1,4 +1,4 @@
--- The two ends of the term at which a stub may be: from the anchor back to the begin, or ahead to the end.
+-- The two ends of the term at which a stub may be: back from the anchor to the start, or ahead to the end.
 use Rattle.std.specs.Prelude.{ℕ, ℤ, pos, ◌-ℤ◌, ◌≤ℤ◌}
 use Rattle.irs_periods.specs.declared.nearest.Way.{Way}
 use Rattle.irs_periods.specs.declared.nearest.Way.TheVariants.{Back, Ahead}

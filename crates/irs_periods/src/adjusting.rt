@@ -78,7 +78,7 @@ pub fn adjusted_is_determined<G: GoodDays>(
     let _days = unadjusted.as_slice();
 }
 
-// Boundary i, adjusted as its place asks.
+// Boundary i, adjusted as its place requires.
 fn adjust_at<G: GoodDays>(
     s: &Stream,
     start: &G,

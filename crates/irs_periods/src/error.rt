@@ -1,5 +1,5 @@
-//! Why the periods of a stream aren't given.
+//! Why a stream has no periods.
 use irs_base::{Fault, Stopped};
 
-/// Why the periods of a stream aren't given: the first rule that is broken, or memory ran out.
+/// Why a stream has no periods: the first broken rule, or memory ran out.
 pub type PerErr = Stopped<Fault>;

@@ -77,7 +77,7 @@ fn list_days<G: Grid>(
     close(list, span.last, s.termination.day)
 }
 
-// The number of the span's first day, and how many steps lead from it to the last day.
+// The number of the span's first day, and the number of steps from it to the last day.
 fn regular_part<G: Grid>(s: &Stream, span: &Span, grid: &G) -> (i64, u32)
     requires lawful { IsLawfulStream s.now }
     requires dates { DatesInOrder s.now }
@@ -112,7 +112,7 @@ fn number_of<G: Grid>(grid: &G, d: Day) -> i64
     }
 }
 
-// How many steps lead from one number to another.
+// The number of steps from one number to another.
 fn steps_between(first: i64, last: i64) -> u32
     requires low { neg_ℤ (pos all_days) ≤ℤ first }
     requires order { first ≤ℤ last }
@@ -122,7 +122,7 @@ fn steps_between(first: i64, last: i64) -> u32
     (last - first) as u32
 }
 
-// How many periods a stub adds between two days: one where the first comes before the second.
+// The number of periods that a stub adds between two days: one if the first comes before the second.
 fn stub(from: Day, to: Day) -> u32
     ensures count { result ≡ length (where_before from to from) }
     ensures same { (d : ℤ) → result ≡ length (where_before from to d) }
@@ -142,7 +142,7 @@ fn too_many() -> Fault
     }
 }
 
-// The begin of the first period alone where it comes before the regular span.
+// The start of the first period alone, if it comes before the regular span.
 fn front(alloc: Global, begin: Day, first: Day) -> Result<DayList, Memory>
     ensures { IfOk result (λ b. b ≡ where_before begin first begin) }
 {
@@ -173,7 +173,7 @@ fn grid_days<G: Grid>(
     Ok(list)
 }
 
-// The termination date after the list where it comes after the regular span.
+// The list, with the termination date appended if it comes after the regular span.
 fn close(mut list: DayList, last: Day, termination: Day) -> Result<DayList, Memory>
     ensures { IfOk result (λ b. b ≡ list ++ where_before last termination termination) }
 {

@@ -4,6 +4,7 @@ use Rattle.irs_payments.specs.Exchanges.{changes, final_of}
 use Rattle.irs_payments.specs.Listing.{ListsUpTo}
 use Rattle.irs_payments.proofs.exchanges.add_steps.Given as goal
 
+-- the exchanges at the steps so far are listed, and the remaining ones still follow
 abbrev pub invariant-loop-step : goal.invariant-loop-step
 invariant-loop-step g l = record {
   before : IsNotional l.before;

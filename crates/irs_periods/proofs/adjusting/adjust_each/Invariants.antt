@@ -3,6 +3,7 @@ use Rattle.irs_periods.specs.Adjusting.{AdjustsAt, days_by, last_of}
 use Rattle.irs_base.specs.Members.{day_at}
 use Rattle.irs_periods.proofs.adjusting.adjust_each.Given as goal
 
+-- each boundary before i has its adjusted day in the list
 abbrev pub invariant-loop-i : goal.invariant-loop-i
 invariant-loop-i g l = record {
   so_far : length l.list ≡ l.i;
