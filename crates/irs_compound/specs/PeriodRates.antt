@@ -19,7 +19,7 @@ pub record RateAt (rounding : Rounding) (exact rate : ℤ) : Type 0 where
   pub rounds : Rounded rounding.dir exact (pos (10 ^ (18 - rounding.places))) whole
   pub scales : rate ≡ whole *ℤ pos (10 ^ (9 - rounding.places))
 
--- the treatment of a rounded rate: it stays as it is, but under ZeroInterestRateMethod a rate below 0 becomes 0
+-- the treatment of a rounded rate: it stays, but under ZeroInterestRateMethod a rate below 0 becomes 0
 abbrev pub Treats : Treatment → ℤ → ℤ → Type 0
 Treats AsIs rounded_rate rate = rate ≡ rounded_rate
 Treats ZeroFloor rounded_rate rate =
@@ -27,8 +27,8 @@ Treats ZeroFloor rounded_rate rate =
 
 -- the rates of a period by the multiplier and spread in force on its unadjusted start and the observed rate.
 -- The base rate is the multiplier times the observed rate, and the rate is that plus the spread. Each is
--- rounded once from its exact value. The treatment of a rate below 0 applies to the rounded rate, and the base
--- rate stays
+-- rounded once from its exact value. The treatment of a rate below 0 applies to the rounded rate, and the
+-- base rate stays
 pub record RatesOf (f : FloatTerms) (start observed : ℤ) (rates : Rates) : Type 0 where
   pub multiplier : ℤ
   pub spread : ℤ
@@ -43,8 +43,8 @@ pub record RatesOf (f : FloatTerms) (start observed : ℤ) (rates : Rates) : Typ
 abbrev pub FixedRatesOf : StepValues → ℤ → Rates → Type 0
 FixedRatesOf values start rates = InForce values start rates.base × (rates.all_in ≡ rates.base)
 
--- the rates of a period: on a fixed stream those of the rate in force, on a floating one those of the observed
--- rate; without an observed rate they are absent
+-- the rates of a period: on a fixed stream those of the rate in force, on a floating one those of the
+-- observed rate. Without an observed rate a floating one has none
 abbrev pub AreRates : Leg → ℤ → Option ℤ → Option Rates → Type 0
 AreRates (Fixed values) start observed None = ⊥
 AreRates (Fixed values) start observed (Some rates) = FixedRatesOf values start rates

@@ -12,8 +12,8 @@ use crate::periods::PeriodTerm;
 use irs_terms::CompCode;
 use thiserror::Error;
 
-/// A rate or an amount of a payment leaves the range (K39). In the first such period the base rate or
-/// the rate passes 10 in size, or an amount or a sum of amounts passes 10^14 units of currency.
+/// A rate or an amount of a payment leaves the range (K39). A base rate or a rate passes 10 in size, or
+/// an amount or a sum of amounts passes 10^14 units of currency.
 #[derive(Clone, Copy, Debug, Error)]
 #[error("period {period} of the payment is out of range")]
 pub struct OutOfRange {
@@ -106,8 +106,8 @@ impl Compounding for Flat {
 }
 
 /// Compounding with the spread exclusive. The notional and all earlier compounded parts of the payment
-/// bear interest at the base rate, and the notional alone at the rate less the base rate. Each is
-/// rounded to 6 decimals. The rule is our own choice.
+/// bear interest at the base rate. The notional alone bears interest at the rate less the base rate.
+/// Each is rounded to 6 decimals. The rule is our own choice.
 #[derive(Clone, Copy)]
 pub struct SpreadExclusive;
 

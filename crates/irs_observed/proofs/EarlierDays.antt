@@ -17,7 +17,7 @@ module _ (set : DaySet) where
   abbrev counts : ℤ → ℕ
   counts x = if set.test x then 1 else 0
 
-  -- before a later day lie no fewer good days
+  -- before a later day there are no fewer business days
   more_days : (s d : ℤ) (k m n : ℕ) → s +ℤ pos k ≡ d → n ≡ k + m → good_days Back set s m ≤ good_days Back set d n
   more_days s d k zero n is many = omega arith
   more_days s d k (suc m) zero is many = absurd (omega (arith, many))
@@ -27,7 +27,7 @@ module _ (set : DaySet) where
       let one : counts (s -ℤ pos (suc m)) ≡ counts (d -ℤ pos (suc n)) = ap counts day in
       omega (arith, rest, one)
 
-  -- the n-th good day before d, where so many days have n of them
+  -- the n-th business day before d is among the m days before d
   record IsNth (d : ℤ) (n m j : ℕ) : Type 0 where
     low : j < m
     count : good_days Back set d (suc j) ≡ n

@@ -11,6 +11,7 @@ use Rattle.irs_observed.specs.ObservedRates.{CompoundsPast, rate_precision}
 use Rattle.irs_observed.specs.declared.observation.Observation.{Observation}
 use Rattle.irs_observed.proofs.ThroughLemmas.{one_through, through_all, through_more}
 
+-- the rate 1 for a year is above 0
 pub year_above : (basis : ℕ) → 1 ≤ basis → pos 0 <ℤ year_of basis
 year_above basis some = let e : 0 < 10 ^ 9 * basis = omega (arith, some) in omega (arith, signed_arith, e)
 

@@ -34,7 +34,7 @@ covered_from set a b d covered low h =
           h.outside;
     })
 
--- where a later day is good there is a next good day
+-- if a later day is a business day, there is a next business day
 next_by : (set : DaySet) (n : ℕ) (d : ℤ) → InCover set d → IsGood set (d +ℤ pos n) → (r : ℤ) × Next set d r
 next_by set zero d inside good =
     let same : d +ℤ pos 0 ≡ d = omega (arith, signed_arith) in
@@ -64,10 +64,11 @@ next_by set (suc n) d inside good = elim (decides_good set d inside) [
       )
 ]
 
+-- the distance from a day to a later one is a whole number of days
 pub distance : (a b : ℤ) → a ≤ℤ b → (n : ℕ) × (b ≡ a +ℤ pos n)
 distance a b h = (up b + down a - (down b + up a), omega (arith, signed_arith, h))
 
--- where there is no next good day none is good
+-- if there is no next business day, no later day is one
 pub none_good : (set : DaySet) (a b d x : ℤ) → (LeavesCover set a b → ⊥) → a ≤ℤ d → d ≤ℤ x → x <ℤ b
     → ((r : ℤ) → Next set d r → ⊥) → IsGood set x → ⊥
 none_good set a b d x covered low order high none good =
@@ -82,6 +83,7 @@ pub record ListsTo (set : DaySet) (a b : ℤ) (u : List ℤ) (day : ℤ) : Type 
   pub here : day <ℤ b → (day ≡ a) ⊎ IsGood set day
   pub listed : Lists (λ d. IsMember set a b d × (d <ℤ day)) u
 
+-- before the first day there is no member to list
 pub lists_none : (set : DaySet) (a b : ℤ) → ListsTo set a b [] a
 lists_none set a b = record {
   low = omega (arith, signed_arith);
@@ -128,6 +130,7 @@ module _ (set : DaySet) (a b : ℤ) (u : List ℤ) (day next : ℤ) (to : ListsT
     };
   }
 
+-- once the end is reached, all members are listed
 pub lists_all : (set : DaySet) (a b : ℤ) (u : List ℤ) (day : ℤ) → ListsTo set a b u day → b ≤ℤ day → AreMembers set a b u
 lists_all set a b u day to past = record {
   rising = to.listed.rising;

@@ -29,11 +29,13 @@ states_own kind None rate h = absurd h
 states_own kind (Some stubs) rate (inl h) = rw (h.0, h.1) refl
 states_own kind (Some stubs) rate (inr h) = rw (h.0, h.1) refl
 
+-- an own rate that is found is stated for the stub
 pub own_some : (kind : PeriodKind) (stubs : Option StubTerms) (o : Option ℤ) → o ≡ own_rate_of kind stubs
     → IfSome o (StatesRate kind stubs)
 own_some kind stubs None e = tt
 own_some kind stubs (Some rate) e = own_states kind stubs rate (sym e)
 
+-- if no own rate is found, the stub has none
 pub own_none : (kind : PeriodKind) (stubs : Option StubTerms) (o : Option ℤ) → o ≡ own_rate_of kind stubs
     → IfNone o (HasOwnRate kind stubs → ⊥)
 own_none kind stubs None e = λ h. let there = states_own kind stubs h.0 h.1 in cc (e, there)

@@ -36,6 +36,7 @@ use Rattle.irs_observed.proofs.WalkLemmas.{first_member, member_at, walk_of}
 
 -- ---- one of each
 
+-- a member has one observation day
 pub one_day_observed : (offset : ObservationOffset) (set : DaySet) (d o p : ℤ) → ObservesOn offset set d o
     → ObservesOn offset set d p → o ≡ p
 one_day_observed Absent set d o p h k = one_prev set d o p h k
@@ -75,6 +76,7 @@ one_observed offset set u b os ps h k =
     one_numbered (IsObservation offset set u b) (one_observation offset set u b) 0 os ps (h.many ∙ sym k.many) h.each
     k.each
 
+-- a period has one list of observations
 pub one_observations : (p : ObservedPeriod) (os ps : List Observation) → AreObservations p os → AreObservations p ps
     → os ≡ ps
 one_observations p os ps h k =
@@ -264,6 +266,7 @@ module _ (offset : ObservationOffset) (set : DaySet) (u : List ℤ) where
         (λ k low high. let below : k < length u = omega (arith, high) in observation_there k below (all k below)) in
         (there.0, record { many = there.1; each = there.2 })
 
+-- a period has observations, or there is a first reason why it has none
 abbrev ThereOrReason : ObservedPeriod → Type 0
 ThereOrReason p =
     (((f : NoObservations) × First reported_before (Lacks p) f) ⊎ ((f : NoObservations) → Lacks p f → ⊥))
@@ -298,7 +301,7 @@ module _ (p : ObservedPeriod) (a b : ℤ) (period : IsObservationPeriod p a b) (
             (inr (none_lacks p a b period covered u are enough each), λ none. (there.0, os))
       ]
 
-  -- without a good day at or before it the first member has no observation day
+  -- without a business day at or before it, the first member has no observation day
   no_first : (offset : ObservationOffset) → ((q : ℤ) → Prev p.days a q → ⊥) → (o : ℤ) → ObservesOn offset p.days a o → ⊥
   no_first Absent none o h = none o h
   no_first (Shift n) none o h = none o h

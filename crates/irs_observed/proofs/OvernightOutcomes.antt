@@ -136,6 +136,7 @@ module _ (source : OvernightSource) (rates : RateTable) where
 
 -- ---- both
 
+-- there is a first broken rule, or none is broken
 abbrev FirstOf : (Fault → Type 0) → Type 0
 FirstOf P = (o : Option Fault) × IsFirst comes_before P o
 

@@ -274,6 +274,7 @@ some_weight p os h none = elim (cases_lt (lockout_days p.offset) (length h.membe
       (λ d m. (h.are_members.sound d m).1) (omega (arith, enough)) os h.observed.many h.observed.each
 ]
 
+-- a period has one rate by its daily rates
 pub one_rate_over : (method : DailyRateMethod) (daily : DailyRates) (p : ObservedPeriod) (r s : OvernightRate)
     → IsRateOver method daily p r → IsRateOver method daily p s → r ≡ s
 one_rate_over method daily p r s h k =

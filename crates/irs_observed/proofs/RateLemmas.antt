@@ -63,6 +63,7 @@ year_some : (year : YearDays) → 1 ≤ days_of_year year
 year_some Days360 = omega arith
 year_some Days365 = omega arith
 
+-- daily rates of 0 give an observed rate of 0
 pub zero_gives_zero : (method : DailyRateMethod) (daily : DailyRates) (os : List Observation)
     → ZeroGivesZero method daily os
 zero_gives_zero (Compounding year) daily os x is zeros =
@@ -108,12 +109,14 @@ sums_below daily high (o ∷ os) f g p each =
     let split = times_sum high o.weight (total_weight os) in
     omega (arith, signed_arith, here, sum, rest, split)
 
+-- an average is not below the least daily rate
 pub not_below : (daily : DailyRates) (os : List Observation) → NotBelow daily os
 not_below daily os low x is each =
     let sum = sums_above daily low os (pos 0) x.numerator is.sums each in
     let denominator = is.denominator in
     rw denominator (omega (arith, signed_arith, sum))
 
+-- an average is not above the greatest daily rate
 pub not_above : (daily : DailyRates) (os : List Observation) → NotAbove daily os
 not_above daily os high x is each =
     let sum = sums_below daily high os (pos 0) x.numerator is.sums each in
@@ -195,6 +198,7 @@ one_method : (method : DailyRateMethod) (daily : DailyRates) (o : Observation) (
 one_method (Compounding year) daily o r z x some known is printed = one_compounded daily o r z x known some year is printed
 one_method Averaging daily o r z x some known is printed = one_averaged daily o r z x known some is printed
 
+-- with one member the observed rate prints as its daily rate
 pub one_gives_itself : (method : DailyRateMethod) (daily : DailyRates) (os : List Observation)
     → Every (λ o. 0 < o.weight) os → OneGivesItself method daily os
 one_gives_itself method daily os each o r z x one known is printed =

@@ -132,6 +132,7 @@ observes (Lookback n) set q u b os walk are k h =
     (at.0.observed, subst (λ (j : ℕ). ObservesOn (Lookback n) set (day_at u j) at.0.observed) place at.1.observed)
 observes (Lockout n) set q u b os walk are k h = (good_at q u k, prev_at set q u b walk k h)
 
+-- a test that answers false does not hold
 pub is_not : (b : Bool) → b ≡ false → IsTrue b → ⊥
 is_not b p q = cc (p, q)
 

@@ -63,12 +63,14 @@ scaled_size n t w h e k =
 
 -- ---- the parts of a rate
 
+-- the rate of a period depends only on the numerator and the denominator
 pub period_rate_of : (x : Fraction) (n d m s z : ℤ) (rounding : Rounding) → n ≡ x.numerator → d ≡ x.denominator
     → IsPeriodRate (record { numerator = n; denominator = d }) m s rounding z → IsPeriodRate x m s rounding z
 period_rate_of x n d m s z rounding numerator denominator is =
     subst (λ (e : ℤ). IsPeriodRate (record { numerator = x.numerator; denominator = e }) m s rounding z) denominator
     (subst (λ (k : ℤ). IsPeriodRate (record { numerator = k; denominator = d }) m s rounding z) numerator is)
 
+-- the printed rate depends only on the numerator and the denominator
 pub printed_of : (x : Fraction) (n d z : ℤ) → n ≡ x.numerator → d ≡ x.denominator
     → IsPrinted (record { numerator = n; denominator = d }) z → IsPrinted x z
 printed_of x n d z numerator denominator is =

@@ -59,12 +59,14 @@ every_push : (P : Observation → Type 0) (os : List Observation) (o : Observati
 every_push P [] o each p = (p, tt)
 every_push P (x ∷ xs) o each p = (each.0, every_push P xs o each.1 p)
 
+-- what holds of the observations so far and of the next holds of them all
 pub every_more : (P : Observation → Type 0) (os : List Observation) (k : ℕ) (o : Observation) → k < length os
     → get_or os k o ≡ o → Every P (take k os) → P o → Every P (take (k + 1) os)
 every_more P os k o low is each p =
     let longer : take (k + 1) os ≡ take k os ++ o ∷ [] = take_more os k o low ∙ ap (λ z. take k os ++ z ∷ []) is in
     subst (λ (xs : List Observation). Every P xs) (sym longer) (every_push P (take k os) o each p)
 
+-- the observations so far are all of them once the end is reached
 pub every_all : (P : Observation → Type 0) (os : List Observation) (k : ℕ) → length os ≤ k → Every P (take k os)
     → Every P os
 every_all P os k all each = subst (λ (xs : List Observation). Every P xs) (take_all k os all) each
@@ -90,6 +92,7 @@ total_first [] (suc k) = omega arith
 total_first (x ∷ xs) zero = omega arith
 total_first (x ∷ xs) (suc k) = let rest = total_first xs k in omega (arith, rest)
 
+-- the total so far is the whole total once the end is reached
 pub total_all : (os : List Observation) (k : ℕ) → length os ≤ k → total_weight (take k os) ≡ total_weight os
 total_all os k all = ap total_weight (take_all k os all)
 

@@ -59,7 +59,7 @@ module _ (set : DaySet) (a b : ℤ) (u : List ℤ) (are : AreMembers set a b u) 
   good_member zero some h = absurd (omega (arith, some))
   good_member (suc k) some h = later_good k h
 
-  -- between two members there is no good day
+  -- between two members there is no business day
   none_good_between : (k : ℕ) (x : ℤ) → suc k < length u → day_at u k <ℤ x → x <ℤ day_at u (suc k) → IsGood set x → ⊥
   none_good_between k x h low high good =
       let before = (member_at k (omega (arith, h))).0 in
@@ -114,7 +114,7 @@ module _ (set : DaySet) (a b : ℤ) (u : List ℤ) (are : AreMembers set a b u) 
     before_next (suc k) h =
         subst (λ (x : ℤ). Prev set (day_at u (suc (suc k)) -ℤ pos 1) x) (sym (good_later q u k)) (before_later k h)
 
-    -- the members are a walk of good days
+    -- the members rise, each later one is a business day, and none lies between two of them
     pub walk_of : 0 < length u → IsWalk set q u b
     walk_of some =
         let first = first_member some in
@@ -126,7 +126,7 @@ module _ (set : DaySet) (a b : ℤ) (u : List ℤ) (are : AreMembers set a b u) 
         }
 
 module _ (set : DaySet) (q : ℤ) (u : List ℤ) (b : ℤ) (walk : IsWalk set q u b) where
-  -- the last good day at or before the member at a place
+  -- the last business day at or before the member at a place
   pub prev_at : (k : ℕ) → k < length u → Prev set (day_at u k) (good_at q u k)
   prev_at zero h = walk.first
   prev_at (suc k) h =
@@ -143,7 +143,7 @@ module _ (set : DaySet) (q : ℤ) (u : List ℤ) (b : ℤ) (walk : IsWalk set q 
       (walk.before k (omega (arith, h))) in
       subst (λ (x : ℤ). Prev set (x -ℤ pos 1) (good_at q u k)) (sym (good_later q u k)) later
 
-  -- n places back n good days are counted
+  -- n places back is n business days back
   reached : (n k : ℕ) → n + k < length u → Reached Back set (good_at q u (n + k)) n (good_at q u k)
   reached zero k h =
       let e : 0 + k ≡ k = omega arith in
@@ -169,21 +169,21 @@ module _ (set : DaySet) (q : ℤ) (u : List ℤ) (b : ℤ) (walk : IsWalk set q 
       apart : negsuc n ≡ pos 0 → ⊥
       apart e = cc
 
-  -- the good day that many places back is the member's good day moved back
+  -- the business day n places back is the member's, moved back by n
   pub looks_back : (n k : ℕ) → n ≤ k → k < length u → LooksBack n set (day_at u k) (good_at q u (k - n))
   looks_back n k low h =
       let e : n + (k - n) ≡ k = omega (arith, low) in
       let by = moves_by n (k - n) (omega (arith, low, h)) in
       (good_at q u k, prev_at k h, subst (λ (j : ℕ). MovesBack n set (good_at q u j) (good_at q u (k - n))) e by)
 
-  -- there is none where the member's good day isn't moved back to any
+  -- if the member's business day cannot be moved back, a lookback gives no day
   pub looks_nowhere : (n k : ℕ) → k < length u → ((r : ℤ) → MovesBack n set (good_at q u k) r → ⊥) → (r : ℤ)
       → LooksBack n set (day_at u k) r → ⊥
   looks_nowhere n k h none r looks =
       let same = one_prev set (day_at u k) looks.0 (good_at q u k) looks.1 (prev_at k h) in
       none r (subst (λ (x : ℤ). MovesBack n set x r) same looks.2)
 
-  -- what the member's good day is moved back to
+  -- the day to which the member's business day is moved back, if any
   pub looks_from : (n k : ℕ) → k < length u → (d : ℤ) → d ≡ good_at q u k → (found : Option ℤ)
       → IfSome found (MovesBack n set d) → IfSome found (LooksBack n set (day_at u k))
   looks_from n k h d is None moves = tt

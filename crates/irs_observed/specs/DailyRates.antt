@@ -1,4 +1,4 @@
--- Daily rates, and what becomes of a number through the observations that take them.
+-- Daily rates, and a number that each observation in turn changes by its daily rate.
 use Rattle.std.specs.Prelude.{◌≡◌, ℕ, List, [], ◌∷◌, Option, Some, IsSome, ℤ}
 use Rattle.irs_base.specs.Members.{Every}
 use Rattle.irs_terms.specs.declared.frequency.Frequency.{Frequency}

@@ -5,7 +5,7 @@ use Rattle.irs_base.specs.declared.rounding.Direction.TheVariants.{Nearest}
 use Rattle.irs_observed.specs.DailyRates.{DailyRates, Through}
 use Rattle.irs_observed.specs.declared.observation.Observation.{Observation}
 
--- how many decimals a factor has, and the greatest factor in size, in units of the last of them
+-- the number of decimals of a factor, and the greatest factor in size, in units of the last of them
 pub record Precision : Type 0 where
   pub decimals : ℕ
   pub most : ℕ

@@ -9,27 +9,27 @@ use Rattle.irs_observed.specs.declared.observation.Observation.{Observation}
 use Rattle.irs_terms.specs.declared.parameters.ObservationOffset.{ObservationOffset}
 use Rattle.irs_terms.specs.declared.parameters.ObservationOffset.TheVariants.{Absent, Shift, Lookback, Lockout}
 
--- o is the observation day of the member d: the last good day at or before d, and under a lookback that day moved back
+-- o is the observation day of the member d: the last business day at or before d. A lookback moves it back
 abbrev pub ObservesOn : ObservationOffset → DaySet → ℤ → ℤ → Type 0
 ObservesOn Absent set d o = Prev set d o
 ObservesOn (Shift n) set d o = Prev set d o
 ObservesOn (Lookback n) set d o = (q : ℤ) × Prev set d q × MovesBack n set q o
 ObservesOn (Lockout n) set d o = Prev set d o
 
--- how many of the last members have no observation day of their own
+-- the number of last members without an observation day of their own
 abbrev pub lockout_days : ObservationOffset → ℕ
 lockout_days Absent = 0
 lockout_days (Shift n) = 0
 lockout_days (Lookback n) = 0
 lockout_days (Lockout n) = n
 
--- the place of the member whose observation day the member at place k of `count` takes: its own, but of the members
--- of a lockout that of the member before them
+-- the place of the member whose observation day the member at place k of `count` takes. It is its own, but in a
+-- lockout that of the member before
 abbrev pub place_observed : ObservationOffset → ℕ → ℕ → ℕ
 place_observed offset count k = min k (count - 1 - lockout_days offset)
 
--- o is the observation of the member at place k of u: its weight is the number of days to the next member, or to the
--- end b after the last
+-- o is the observation of the member at place k of u. Its weight is the number of days to the next member,
+-- or to the end b after the last
 pub record IsObservation (offset : ObservationOffset) (set : DaySet) (u : List ℤ) (b : ℤ) (k : ℕ) (o : Observation)
     : Type 0 where
   pub day : o.day ≡ day_at u k

@@ -56,7 +56,7 @@ pub record CompoundsPast (basis : ℕ) (daily : DailyRates) (os : List Observati
   pub known : AreKnown daily os
   pub passes : FactorPasses rate_precision basis daily os
 
--- by averages none does
+-- with averaging there are no factors, so none passes it
 abbrev pub PassesLimit : DailyRateMethod → DailyRates → List Observation → Type 0
 PassesLimit (Compounding year) daily os = CompoundsPast (days_of_year year) daily os
 PassesLimit Averaging daily os = ⊥
@@ -85,8 +85,8 @@ most_period_rate = (most_observed + 1) * 10 ^ 10
 abbrev pub IsPrinted : Fraction → ℤ → Type 0
 IsPrinted x z = Rounded Nearest (pos (10 ^ 9) *ℤ x.numerator) x.denominator z
 
--- r, in units of 10^-9, is the multiplier times the rate, and the spread, rounded once to the decimals; multiplier
--- and spread are in units of 10^-9
+-- r is the multiplier times the rate, plus the spread, rounded once to the decimals. All three are in units
+-- of 10^-9
 pub record IsPeriodRate (x : Fraction) (multiplier spread : ℤ) (rounding : Rounding) (r : ℤ) : Type 0 where
   pub whole : ℤ
   pub rounded : Rounded rounding.dir (multiplier *ℤ x.numerator +ℤ spread *ℤ x.denominator)

@@ -91,8 +91,7 @@ abbrev pub method_by : CalculationMethod → DayCountCode → DailyRateMethod
 method_by Compounds code = Compounding (year_by code)
 method_by Averages code = Averaging
 
--- what the observed rates of a stream with calculation parameters are found from, besides the daily rates: the stream
--- with its regular span and its adjusted boundaries, the applicable business days, and its parameters
+-- the inputs of the observed rates of a stream with calculation parameters, besides the daily rates
 pub record OvernightSource : Type 0 where
   pub stream : Stream
   pub span : Span
@@ -114,7 +113,7 @@ overnight_source s span adjusted applicable float parameters = record {
   index = float.index;
 }
 
--- how many calculation periods there are
+-- the number of calculation periods
 abbrev pub periods_of : OvernightSource → ℕ
 periods_of source = length source.adjusted - 1
 
@@ -127,8 +126,8 @@ abbrev pub period_of : OvernightSource → ℕ → ObservedPeriod
 period_of source i =
     observed_period source.offset source.applicable (day_at source.adjusted (i - 1)) (day_at source.adjusted i)
 
--- r is the observed rate of period i, which is of that kind: the one that is stated for it as a stub, else that of its
--- daily rates
+-- r is the observed rate of period i, which is of that kind. It is the rate stated for the stub, else that of
+-- the daily rates
 abbrev pub IsRateOf : OvernightSource → DailyRates → ℕ → PeriodKind → OvernightRate → Type 0
 IsRateOf source daily i kind r =
     ((rate : ℤ) × StatesRate kind source.stream.stubs rate × (r ≡ Stated rate))

@@ -21,13 +21,13 @@ use Rattle.irs_observed.specs.OvernightRates.{printed_at}
 use Rattle.irs_observed.specs.declared.overnight_rate.OvernightRate.{OvernightRate}
 use Rattle.irs_observed.specs.declared.daily_resets.OvernightResets.{OvernightResets}
 
--- what the observed rates of the same stream are found from
+-- the inputs of the observed rates of the same stream
 abbrev pub rates_source : ResetSource → DaySet → FloatTerms → CalculationParameters → OvernightSource
 rates_source source applicable float parameters =
     overnight_source source.stream source.span source.days.adjusted applicable float parameters
 
--- what the resets of a stream with calculation parameters are found from: what its reset dates and fixing dates are
--- found from, and what its observed rates are
+-- the inputs of the resets of a stream with calculation parameters: those of the reset and fixing dates, and
+-- those of the observed rates
 pub record DailySource : Type 0 where
   pub dates : ResetSource
   pub rates : OvernightSource

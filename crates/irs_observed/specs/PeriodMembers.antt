@@ -3,7 +3,7 @@ use Rattle.std.specs.Prelude.{◌≡◌, ◌⊎◌, ℕ, ℤ, List, ◌<ℤ◌, 
 use Rattle.irs_base.specs.Listed.{Lists}
 use Rattle.irs_calendar.specs.GoodDays.{DaySet, InCover, IsGood}
 
--- from a, included, to b, excluded: the day a, good or not, and each good day after it
+-- the members from a, included, to b, excluded: the day a, business day or not, and each later business day
 abbrev pub IsMember : DaySet → ℤ → ℤ → ℤ → Type 0
 IsMember set a b d = (a ≤ℤ d) × (d <ℤ b) × ((d ≡ a) ⊎ IsGood set d)
 

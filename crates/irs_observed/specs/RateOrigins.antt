@@ -24,8 +24,8 @@ HasOwnRate kind stubs = (rate : ℤ) × StatesRate kind stubs rate
 abbrev pub HasInitialRate : PeriodKind → FloatTerms → Type 0
 HasInitialRate kind float = (kind ≡ FirstRegular) × IsSome float.initial_rate
 
--- where the observed rate of a period of that kind comes from: a stub's own rate goes before all else, and daily
--- rates are every other rate of a stream with calculation parameters
+-- where the observed rate of a period of that kind comes from. A stub's own rate takes precedence. Every
+-- other rate of a stream with calculation parameters is by daily rates
 abbrev pub IsOrigin : PeriodKind → FloatTerms → Option StubTerms → RateOrigin → Type 0
 IsOrigin kind float stubs StubRate = HasOwnRate kind stubs
 IsOrigin kind float stubs InitialRate =

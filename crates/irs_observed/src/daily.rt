@@ -14,7 +14,7 @@ const ONE_DAY: Frequency = Frequency {
     unit: Unit::D,
 };
 
-/// The rate of the index and the tenor 1D that is observed on a day, in units of 10^-9; `None` where
+/// The rate of the index and the tenor 1D that is observed on a day, in units of 10^-9. It is `None` if
 /// no line of the fixings has it.
 pub fn daily_rate(daily: &Fixings, index: &Text, d: Day) -> Option<i64>
     ensures value { result ≡ daily_rates daily.now index.now d }

@@ -1,6 +1,6 @@
-//! The resets of a stream with calculation parameters: its reset dates and fixing dates are those of
-//! every floating stream, and its observed rates are those of daily rates (FpML `resetDates` and
-//! `calculationParameters`).
+//! The resets of a stream with calculation parameters (FpML `resetDates` and `calculationParameters`).
+//! Its reset dates and fixing dates are those of every floating stream. Its observed rates are those of
+//! daily rates.
 ghost use Rattle.std.specs.Prelude.{◌≡◌, ◌+◌, ◌*◌, ◌^◌, ◌<◌, ◌≤◌, length, All, IfOk, IfSome, unsigned_abs};
 ghost use Rattle.irs_base.specs.Listed.{IsRising};
 ghost use Rattle.irs_base.specs.Outcomes.{Determined, Meets};
@@ -86,13 +86,14 @@ fn with_dates(dated: &Result<Resets, ResErr>, fault: Fault) -> ResErr
 }
 
 /// The resets of a stream with calculation parameters over its adjusted boundaries, and its observed
-/// rates, not rounded: for each calculation period its reset date, its fixing date and its observed
-/// rate. A stub with a rate of its own has that rate, and every other period has the rate of its daily
-/// rates. `applicable` are the good business days of `applicableBusinessDays`.
+/// rates, not rounded. Each calculation period has a reset date, a fixing date and an observed rate. A
+/// stub with a rate of its own has that rate, and every other period has the rate of its daily
+/// rates. `applicable` are the business days of `applicableBusinessDays`.
 ///
-/// `Broken` is the first rule broken: K37 as for `resets`; a period has too few members (K48); K33 of
-/// reset dates and of fixing dates as for `resets`, then that a period has no observations for another
-/// reason (K33 of `calculationParameters`); K38 as for `resets`. `Memory` is that memory ran out.
+/// `Broken` is the first broken rule. First comes K37 as for `resets`, then K48: a period has too few
+/// members. Then come K33 of reset dates and K33 of fixing dates as for `resets`. K33 of
+/// `calculationParameters` follows: a period has no observations for another reason. Last comes K38 as
+/// for `resets`. `Memory` says that memory ran out.
 pub fn overnight_resets<G: GoodDays>(
     alloc: Global,
     s: &Stream,
@@ -132,8 +133,8 @@ pub fn overnight_resets<G: GoodDays>(
     }
 }
 
-/// A law: a stream with calculation parameters has one list of observed rates with its resets, or one
-/// first rule of K37, K48, K33 and K38 that it breaks.
+/// A law: a stream with calculation parameters has one list of observed rates and resets. Or one rule
+/// of K37, K48, K33 and K38 is the first that it breaks.
 pub fn overnight_resets_are_determined<G: GoodDays>(
     s: &Stream,
     float: &FloatTerms,
@@ -152,7 +153,7 @@ pub fn overnight_resets_are_determined<G: GoodDays>(
         let source = daily_source dates (G.days applicable.now) float.now parameters.now in
         Determined (overnight_resets_of source fixings.now) }
 {
-    // hands the prover the range of the boundaries and of the good days
+    // hands the prover the range of the boundaries and of the business days
     let _days = adjusted.as_slice();
     let _covers = (reset_days.cover(), fixing_days.cover());
 }

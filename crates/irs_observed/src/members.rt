@@ -1,4 +1,4 @@
-//! The members of an observation period: its first day, and each good day after it.
+//! The members of an observation period: its first day, and each business day after it.
 ghost use Rattle.std.specs.Prelude.{◌≡◌, ◌↔◌, ℤ, IsTrue, IfOk, pos, ◌<ℤ◌, ◌≤ℤ◌, ◌+ℤ◌};
 ghost use Rattle.irs_calendar.specs.GoodDays.{InCover, IsGood};
 ghost use Rattle.irs_observed.specs.PeriodMembers.{AreMembers, LeavesCover};
@@ -45,7 +45,7 @@ pub(crate) fn leaves_cover<G: GoodDays>(days: &G, start: Day, end: Day) -> bool
     }
 }
 
-// The first good day after the day and before the end, else the end.
+// The first business day after the day and before the end, else the end.
 fn next_or_end<G: GoodDays>(days: &G, day: Day, end: Day) -> Day
     requires order { day <ℤ end }
     requires covered { LeavesCover (G.days days.now) day end → ⊥ }

@@ -10,15 +10,15 @@ use thiserror::Error;
 /// A member of an observation period: a day from which a daily rate applies.
 #[derive(Clone, Copy, PartialEq, Eq)]
 pub struct Observation {
-    /// The member: the first day of the observation period, or a good day after it.
+    /// The member: the first day of the observation period, or a business day after it.
     pub day: Day,
-    /// For how many calendar days the rate applies: up to the next member, or to the end.
+    /// The number of calendar days for which the rate applies: up to the next member, or to the end.
     pub weight: u32,
     /// The day on which the rate is observed.
     pub observed: Day,
 }
 
-/// ObservationList in order, at least one. Their weights are above 0, and together they are fewer than
+/// Observations in order, at least one. Their weights are above 0, and together they are fewer than
 /// `ALL_DAYS`.
 #[derive(Drop)]
 pub struct ObservationList {

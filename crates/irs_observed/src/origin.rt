@@ -50,8 +50,8 @@ fn own_by(kind: PeriodKind, stubs: &StubTerms) -> Option<i64>
     }
 }
 
-/// The rate that is stated for the stub that a period is, in units of 10^-9; `None` exactly where the
-/// period is no stub, or none is stated for it.
+/// The rate that is stated for the stub that a period is, in units of 10^-9. It is `None` exactly if
+/// the period is no stub, or no rate is stated for it.
 pub fn own_rate(kind: PeriodKind, stubs: &Option<StubTerms>) -> Option<i64>
     requires { IfSome stubs.now IsLawfulStubs }
     ensures some { IfSome result (StatesRate kind stubs.now) }

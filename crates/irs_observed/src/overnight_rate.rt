@@ -30,7 +30,7 @@ pub enum OvernightRate {
 pub type OvernightRates = Listed<OvernightRate>;
 
 impl OvernightRate {
-    /// What is printed of the rate: in units of 10^-9, to the nearest, a half up; `None` where it isn't
+    /// The printed rate: in units of 10^-9, to the nearest, a half up. It is `None` if the rate isn't
     /// known, or a factor passes its limit.
     pub fn printed(self) -> Option<i64>
         requires { HasBounds self }

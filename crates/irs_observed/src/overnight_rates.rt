@@ -1,4 +1,4 @@
-//! The observed rates of the calculation periods of a stream with calculation parameters: a stub with a
+//! The observed rates of the calculation periods of a stream with calculation parameters. A stub with a
 //! rate of its own has that rate, and every other period the rate of its daily rates.
 ghost use Rattle.std.specs.Prelude.{◌≡◌, ◌↔◌, ◌<◌, ◌^◌, ◌<ℤ◌, length, All, IfOk, IfSome, IsTrue, nat_lt};
 ghost use Rattle.irs_base.specs.Faults.{IfBroken};
@@ -212,7 +212,7 @@ fn is_few(why: NoObservations) -> bool
     why == NoObservations::FewMembers
 }
 
-// The first period behind a number that has too few members.
+// The first period after the one with this number that has too few members.
 fn first_few<G: GoodDays>(
     alloc: Global,
     s: &Stream,
@@ -241,7 +241,7 @@ fn first_few<G: GoodDays>(
     Ok(None)
 }
 
-// What a period without observations breaks.
+// The fault of a period without observations.
 fn observation_fault(why: NoObservations, index: u32) -> Fault
     ensures { result ≡ observation_fault why index }
 {

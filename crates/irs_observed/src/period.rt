@@ -7,7 +7,7 @@ use irs_base::Day;
 use irs_calendar::GoodDays;
 use irs_terms::{DayKind, ObservationOffset, Offset};
 
-/// The day moved back by so many good days.
+/// The day moved back by n business days.
 pub(crate) fn moved_back<G: GoodDays>(n: u8, days: &G, d: Day) -> Option<Day>
     ensures some { IfSome result (MovesBack n (G.days days.now) d) }
     ensures none { IfNone result ((r : ℤ) → MovesBack n (G.days days.now) d r → ⊥) }
@@ -58,8 +58,8 @@ pub fn observation_period<G: GoodDays>(
     Some(Ends { from, to })
 }
 
-/// A law: where a calculation period has an observation period, so has what of it has run before each
-/// of its days after the first, from the same day on.
+/// A law: if a calculation period has an observation period, so has its part up to each later day. Both
+/// observation periods begin on the same day.
 pub fn observations_reach_each_day<G: GoodDays>(
     offset: ObservationOffset,
     applicable: &G,

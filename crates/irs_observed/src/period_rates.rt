@@ -138,10 +138,10 @@ fn rate_by(
     scaled(whole, rounding.places)
 }
 
-/// The rate of a period, in units of 10^-9: the multiplier times the observed rate, and the spread,
-/// each of which is at most 10 in size, rounded once, to at most 9 decimals (FpML
-/// `finalRateRounding`; 2006 ISDA Definitions, section 8.1). With a spread of 0 it is the base rate.
-/// It is at most 3.7 * 10^16 in size.
+/// The rate of a period, in units of 10^-9: the multiplier times the observed rate, plus the spread. It
+/// is rounded once, to at most 9 decimals (FpML `finalRateRounding`; 2006 ISDA Definitions, section
+/// 8.1). Multiplier and spread are at most 10 in size each. With a spread of 0 it is the base rate. It
+/// is at most 3.7 * 10^16 in size.
 pub fn period_rate(x: ObservedRate, multiplier: i64, spread: i64, rounding: Rounding) -> i64
     requires multiplier { IsRate multiplier }
     requires spread { IsRate spread }

@@ -7,8 +7,8 @@ use crate::observation::ObservationList;
 use irs_base::Text;
 use irs_resets::Fixings;
 
-/// Laws of the observed rate: where each daily rate is 0 it is 0; with one member, as it is printed,
-/// it is that member's daily rate; and an average lies between the least and the greatest daily rate.
+/// Laws of the observed rate. If each daily rate is 0, it is 0. With one member it prints as that
+/// member's daily rate. An average lies between the least and the greatest daily rate.
 pub fn rates_keep_their_range(
     method: DailyRateMethod,
     observations: &ObservationList,

@@ -1,8 +1,8 @@
-//! The rate of a calculation period up to a day of it, as interest that accrues needs it: by the daily
+//! The rate of a calculation period up to one of its days, for accrued interest. It is by the daily
 //! rates of the members before that day.
 //!
-//! The members and their observation days are those of the whole period: what has accrued is what the
-//! period would pay if its later days earned nothing. That is our rule.
+//! The members and their observation days are those of the whole period. So the accrued interest is
+//! what the period would pay if its later days earned nothing. That is our rule.
 ghost use Rattle.std.specs.Prelude.{◌≡◌, ◌<◌, ◌<ℤ◌, ℤ, IfOk};
 ghost use Rattle.irs_base.specs.Outcomes.{Determined, Meets};
 ghost use Rattle.irs_observed.specs.DailyRates.{daily_rates};
@@ -68,7 +68,7 @@ fn rate_until(
     Ok(rate_by_days(method, &part, daily, index))
 }
 
-/// The observed rate of a calculation period by the daily rates of the members before a day, which is
+/// The observed rate of a calculation period by the daily rates of the members before a day. That day is
 /// after the first day of its observation period. The last of these rates applies up to that day. The
 /// members and their observation days are those of the whole period. Rates of later members aren't
 /// looked up.
@@ -98,7 +98,7 @@ pub fn rate_before<G: GoodDays>(
     }
 }
 
-/// Laws: a calculation period has at most one rate by the members before a day, and their weights are
+/// Laws: a calculation period has at most one rate by the members before a day. Their weights add up to
 /// the days from the first of its observation period to that day.
 pub fn rate_before_is_determined<G: GoodDays>(
     method: DailyRateMethod,

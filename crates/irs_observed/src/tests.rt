@@ -1,5 +1,5 @@
-//! Calculation periods around Good Friday 2024, their observations and observed rates. The rates were
-//! worked out by exact fractions in a program of its own.
+//! Calculation periods around Good Friday 2024, their observations and observed rates. A separate program
+//! worked out the rates by exact fractions.
 use crate::{
     DailyRateMethod, NoObservations, Observation, ObservationList, ObservedRate, OvernightRate,
     YearDays, observation_period, observations, observed_rate, period_rate, printed_rate,
@@ -411,8 +411,8 @@ fn observed_rates_as_printed(rt: HostRuntime) {
     assert!(rt; x.is_none());
 }
 
-// The rate in units of 10^-9 by the members before a day of the period; `None` where it isn't known, or
-// the day isn't after the first.
+// The rate in units of 10^-9 by the members before a day of the period. It is `None` if it isn't known,
+// or the day isn't after the first.
 fn paid_before(
     alloc: Global,
     method: DailyRateMethod,

@@ -1,4 +1,4 @@
-//! The observations of a calculation period: from each member of the observation period a daily rate
+//! The observations of a calculation period. From each member of the observation period a daily rate
 //! applies, up to the next member. It is the rate that is observed on the member's observation day.
 ghost use Rattle.std.specs.Prelude.{◌≡◌, ◌+◌, ◌≤◌, ◌<◌, ◌<ℤ◌, ℤ, length, IfOk, IfSome, IfNone};
 ghost use Rattle.irs_base.specs.Faults.{IfBroken};
@@ -20,7 +20,7 @@ use irs_calendar::GoodDays;
 use irs_terms::ObservationOffset;
 use std::alloc::Global;
 
-// The last good day at or before the member at a place; `first` is that of the first member.
+// The last business day at or before the member at a place; `first` is that of the first member.
 fn good_at(first: Day, members: &[Day], place: usize) -> Day
     requires { place < length members.now }
     ensures { result ≡ good_at first members.now place }
@@ -28,7 +28,7 @@ fn good_at(first: Day, members: &[Day], place: usize) -> Day
     if place == 0 { first } else { members[place] }
 }
 
-// The same for the member this many places before it: it lies this many good days before.
+// That day moved back by n business days. The member n places before gives it, if there is one.
 fn looked_back<G: GoodDays>(
     n: u8,
     days: &G,
@@ -146,7 +146,7 @@ fn observed<G: GoodDays>(
     Ok(all)
 }
 
-// How many of the last members have no observation day of their own.
+// The number of last members without an observation day of their own.
 fn lockout_days(offset: ObservationOffset) -> usize
     ensures { result ≡ lockout_days offset }
 {
@@ -158,13 +158,13 @@ fn lockout_days(offset: ObservationOffset) -> usize
 }
 
 /// The observations of a calculation period from its adjusted start to its adjusted end, over the
-/// good days of the applicable business centres (FpML `applicableBusinessDays`).
+/// business days of the applicable business centres (FpML `applicableBusinessDays`).
 ///
 /// The observation period is the calculation period; under an observation shift both its ends are
-/// moved back. Its members are its first day and each good day after it, and a member's weight is
-/// the number of days to the next member, or to the end. A member's observation day is the last good
-/// day at or before it, moved back under a lookback; under a lockout the last members take that of
-/// the member before them.
+/// moved back. Its members are its first day and each business day after it. A member's weight is the
+/// number of days to the next member, or to the end. A member's observation day is the last business
+/// day at or before it, moved back under a lookback. Under a lockout the last members take that of the
+/// member before them.
 ///
 /// `Broken` is why there are none, and `Memory` that memory ran out.
 pub fn observations<G: GoodDays>(

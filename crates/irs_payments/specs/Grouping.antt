@@ -13,7 +13,8 @@ use Rattle.irs_base.specs.Faults.{fault_at}
 use Rattle.irs_terms.specs.Lengths.{same_length}
 use Rattle.irs_base.specs.Members.{day_at}
 
--- the first payment date if it is given; else boundary 1 if a payment is due for each period; else the first day
+-- the first payment date if it is given; else boundary 1 if a payment is due for each period;
+-- else the first day
 abbrev pub anchor_by : Option ℤ → Bool → ℤ → ℤ → ℤ
 anchor_by (Some first) each one first_day = first
 anchor_by None each one first_day = if each then one else first_day

@@ -45,7 +45,7 @@ fn href(reference: &Value) -> &str
     }
 }
 
-/// What becomes of a reference that is to name the target.
+/// How a reference resolves that must name the target.
 pub fn reference(target: Option<&Value>, reference: Option<&Value>) -> RefState
     ensures { result ≡ reference_in (seen target.entry) (seen reference.entry) }
 {

@@ -5,6 +5,7 @@ use Rattle.irs_observed.specs.ObservedRates.{AddsBy}
 use Rattle.irs_observed.specs.Observations.{total_weight}
 use Rattle.irs_observed.proofs.averages.summed.Given as goal
 
+-- the sum is that of the daily rates so far, each by its weight
 abbrev pub invariant-loop-o : goal.invariant-loop-o
 invariant-loop-o l = record {
   sums : Through (AddsBy (daily_rates l.daily l.index)) (take l.o-index l.observations) (pos 0) l.sum;

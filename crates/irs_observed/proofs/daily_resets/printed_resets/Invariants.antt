@@ -3,6 +3,7 @@ use Rattle.irs_base.specs.Members.{EachNumbered}
 use Rattle.irs_observed.specs.OvernightResets.{HasPrintedRate, IsPrintedRow}
 use Rattle.irs_observed.proofs.daily_resets.printed_resets.Given as goal
 
+-- the rows so far are those of the resets, with the printed rates
 abbrev pub invariant-loop-place : goal.invariant-loop-place
 invariant-loop-place l = record {
   many : length l.printed ≡ l.place;

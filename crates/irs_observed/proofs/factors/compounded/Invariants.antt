@@ -5,6 +5,7 @@ use Rattle.irs_observed.specs.ObservedRates.{rate_precision}
 use Rattle.irs_observed.proofs.FactorLemmas.{Compounds}
 use Rattle.irs_observed.proofs.factors.compounded.Given as goal
 
+-- the factor is that of the observations so far, and within its limit
 abbrev pub invariant-loop-o : goal.invariant-loop-o
 invariant-loop-o l = record {
   compounds : Compounds rate_precision l.basis (daily_rates l.daily l.index) l.observations l.o-index l.factor;

@@ -4,6 +4,7 @@ use Rattle.irs_observed.specs.OvernightRates.{HasBounds, IsOvernightRate, overni
 use Rattle.irs_observed.specs.OvernightWalk.{NoneLacksBefore}
 use Rattle.irs_observed.proofs.overnight_rates.listed.Given as goal
 
+-- each period before this one has its observed rate in the list
 abbrev pub invariant-loop-number : goal.invariant-loop-number
 invariant-loop-number g l =
     let source = overnight_source l.s l.span l.adjusted (g.G.GoodDays.days l.applicable) l.float l.parameters in
