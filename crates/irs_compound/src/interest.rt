@@ -9,7 +9,7 @@ use irs_terms::Frac;
 
 /// What a balance earns in a period, exactly, over the denominator of the fraction.
 pub fn earned(balance: i128, rate: i64, frac: Frac) -> i128
-    // Times a numerator and doubled, as rounding asks, it is at most 1.32 * 10^38, and 2^127 is above
+    // Times a numerator and doubled, as rounding needs, it is at most 1.32 * 10^38, and 2^127 is above
     // 1.7 * 10^38.
     requires product_fits { unsigned_abs balance * unsigned_abs rate ≤ most_balance * most_rate }
     requires fraction_fits { IsFraction frac }

@@ -34,7 +34,7 @@ fn last_step(steps: &[Step], d: Day) -> Option<Step>
     last
 }
 
-// One more step is looked at; one after the day doesn't count.
+// Takes one more step into account; a step after the day doesn't count.
 fn counted_step(last: Option<Step>, step: Step, d: Day) -> Option<Step>
     ensures { result ≡ counted_step d last step }
 {

@@ -348,7 +348,7 @@ fn has_apart(table: &Table<'_>, r: usize, v: &Value) -> bool
     }
 }
 
-// The first rule that an object breaks by what it asks of its members together.
+// The first rule that an object breaks by what it requires of its members together.
 fn asked_fault(table: &Table<'_>, r: usize, choice: Choice, index: u32, v: &Value) -> Option<Broken>
     ensures { result ≡ earlier_broken
         (option_map (unmet_place table.now.rows.now table.now.stream r index)

@@ -23,8 +23,8 @@ lockout_days (Shift n) = 0
 lockout_days (Lookback n) = 0
 lockout_days (Lockout n) = n
 
--- the place of the member whose observation day the member at place k of `count` takes. It is its own, but in a
--- lockout that of the member before
+-- the place of the member whose observation day the member at place k of `count` takes. It is its own place,
+-- but for all members of a lockout that of the member before them
 abbrev pub place_observed : ObservationOffset → ℕ → ℕ → ℕ
 place_observed offset count k = min k (count - 1 - lockout_days offset)
 

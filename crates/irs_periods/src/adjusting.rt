@@ -1,4 +1,4 @@
-//! The adjusted boundaries of a stream. The begin of the first period is adjusted as FpML
+//! The adjusted boundaries of a stream. The start of the first period is adjusted as FpML
 //! `firstPeriodStartDate` where that is given, else as the effective date. The termination date has
 //! its own adjustments. Every other boundary has the period adjustments (FpML
 //! `calculationPeriodDatesAdjustments`; 2006 ISDA Definitions, 4.10 and 4.12). That they have to

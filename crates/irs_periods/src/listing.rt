@@ -1,4 +1,4 @@
-//! The unadjusted boundaries of a stream's calculation periods. They are the begin of the first one
+//! The unadjusted boundaries of a stream's calculation periods. They are the start of the first one
 //! (FpML `firstPeriodStartDate`, else the effective date), every grid day of the regular span, and
 //! the termination date. By the 2006 ISDA Definitions, 4.13, a Calculation Period runs from one
 //! period end date, included, to the next, excluded. The limit on the number of periods is ours.
