@@ -43,7 +43,7 @@ later_of xs t s d false e l h =
     let k : s.day ≤ℤ t.day = omega (arith, signed_arith, e) in
     (Contains-append_left xs (s ∷ []) t h.0, h.1, All-push (λ u. u.day ≤ℤ d → u.day ≤ℤ t.day) xs s h.2 (λ _. k))
 
--- a step up to the day is in force, unless a later one is
+-- a further step up to the day is in force instead if its date is later
 within : (xs : List Step) (last : Option Step) (s : Step) (d : ℤ) → s.day ≤ℤ d → LastOf xs d last
     → LastOf (xs ++ s ∷ []) d (Some (later_step last s))
 within xs None s d l h =

@@ -13,7 +13,7 @@ use irs_terms::CompCode;
 use thiserror::Error;
 
 /// A rate or an amount of a payment leaves the range (K39). A base rate or a rate passes 10 in size, or
-/// an amount or a sum of amounts passes 10^14 units of currency.
+/// an amount or a sum of amounts passes 10^14 units of currency. The first such period is named.
 #[derive(Clone, Copy, Debug, Error)]
 #[error("period {period} of the payment is out of range")]
 pub struct OutOfRange {

@@ -15,7 +15,7 @@ days_from f start (suc n) = days_from f start n ++ f (start +ℤ pos n) ∷ []
 abbrev pub where_before : ℤ → ℤ → ℤ → List ℤ
 where_before a b d = if is_lt (int_cmp a b) then d ∷ [] else []
 
--- the begin of the first period where it comes before the regular span, then the n + 1 grid days of the span. The
+-- the start of the first period where it comes before the regular span, then the n + 1 grid days of the span. The
 -- termination date follows where it comes after the span
 abbrev pub all_boundaries : (ℤ → ℤ) → ℤ → ℕ → ℤ → ℤ → ℤ → ℤ → List ℤ
 all_boundaries f start n begin termination first last =

@@ -1,5 +1,5 @@
 -- The regular span of a stream, and the anchor of its grid. The span is the part of the term that regular periods fill.
--- It goes from the end of an initial stub to the begin of a final one.
+-- It runs from the end of an initial stub to the start of a final one.
 use Rattle.std.specs.Prelude.{◌≡◌, Bool, true, false, Option, Some, None, ℤ}
 use Rattle.irs_terms.specs.declared.codes.StubKind.{StubKind}
 use Rattle.irs_terms.specs.declared.codes.StubKind.TheVariants.{ShortInitial, LongInitial, ShortFinal, LongFinal}

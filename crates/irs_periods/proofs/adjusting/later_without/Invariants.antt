@@ -3,7 +3,7 @@ use Rattle.irs_periods.specs.Adjusting.{AdjustsAt, days_by, last_of}
 use Rattle.irs_base.specs.Members.{day_at}
 use Rattle.irs_periods.proofs.adjusting.later_without.Given as goal
 
--- each boundary from 1 up to i has an adjusted day
+-- each boundary from 1 to the one before i has an adjusted day
 abbrev pub invariant-loop-i : goal.invariant-loop-i
 invariant-loop-i g l =
     (j : ℕ) → 1 ≤ j → j < l.i
