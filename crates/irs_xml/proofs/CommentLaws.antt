@@ -13,6 +13,7 @@ use Rattle.irs_xml.specs.Reading.{◌>>=◌, choose, name_at, gap_at, skip_space
 use Rattle.irs_xml.proofs.Steps.{same_some, bind_some, choose_some, chosen, both_true, true_both, after_sound, after_complete, past_found, begins, gap_sound}
 use Rattle.irs_xml.proofs.NameLaws.{name_sound, name_complete}
 
+-- no characters are left: nothing was read
 abbrev nothing : Option (List ℕ)
 nothing = None
 
@@ -94,6 +95,7 @@ first_comment (c ∷ d ∷ ds) rest n =
     (is_none_of (after (codes "--") (c ∷ d ∷ (ds ++ codes "-"))) (two 45 45 c d (ds ++ (codes "--" ++ rest)) (ds ++ codes "-") n.0))
     (first_comment (d ∷ ds) rest n.1)
 
+-- a comment that was read after its `<!--`
 pub record ReadComment (cs rest : List ℕ) : Type 0 where
   pub text : List ℕ
   pub is_comment : is_comment text ≡ true
@@ -163,6 +165,7 @@ first_data (c ∷ d ∷ e ∷ es) rest n =
     (is_none_of (after (codes "]]>") (c ∷ d ∷ e ∷ es)) (three 93 93 62 c d e (es ++ (codes "]]>" ++ rest)) es n.0))
     (first_data (d ∷ e ∷ es) rest n.1)
 
+-- the data up to the first `]]>`, appended to a text
 record ReadFirst (text cs out rest : List ℕ) : Type 0 where
   data_text : List ℕ
   spelt : cs ≡ data_text ++ (codes "]]>" ++ rest)
@@ -189,6 +192,7 @@ data_to text (c ∷ cs) out rest e =
           }
     ]
 
+-- the data of a CDATA section that was read after its `<![CDATA[`
 pub record ReadData (text cs out rest : List ℕ) : Type 0 where
   pub data_text : List ℕ
   pub is_cdata : is_cdata data_text ≡ true
@@ -261,6 +265,7 @@ gap_apart : (s text : List ℕ) → is_gap s ≡ true → is_apart (s ++ text) �
 gap_apart [] text h = absurd (cc h)
 gap_apart (c ∷ s) text h = (both_true (is_space c) (is_white s) h).0
 
+-- a processing instruction that was read after its `<?`
 pub record ReadInstruction (cs rest : List ℕ) : Type 0 where
   pub instruction : Instruction
   pub is_instruction : is_instruction instruction ≡ true

@@ -88,6 +88,7 @@ closing_name_is (c ∷ p) l cs h =
     ∙ ap (λ w. after (c ∷ p) cs >>= after (codes ":") >>= after w) (seen_name l b.1)
     ∙ bind_after (c ∷ p) (codes ":") l cs)
 
+-- the end tag of this start tag, read after its `</`
 pub record ReadClosing (t : Tag) (cs rest : List ℕ) : Type 0 where
   pub space : List ℕ
   pub white : is_white space ≡ true
@@ -119,6 +120,7 @@ closing_complete t space rest h w =
 
 -- marks
 
+-- how a mark is spelt
 abbrev mark_text : Mark → List ℕ
 mark_text ending = codes "</"
 mark_text commented = codes "<!--"
@@ -138,6 +140,7 @@ Keeps nested cs = Unit {0}
 Keeps referred cs = Unit {0}
 Keeps (standing c) cs = (is_char_data c ≡ true) × (after (codes "]]>") (c ∷ cs) ≡ None)
 
+-- a mark that was read
 record ReadMark (cs : List ℕ) (m : Mark) (mid : List ℕ) : Type 0 where
   spelt : cs ≡ mark_text m ++ mid
   keeps : Keeps m mid
@@ -207,12 +210,14 @@ mark_sound (c ∷ cs) m mid e =
       ]
     ]
 
--- what is in an element, put after what was read of it
+-- what is in an element, after what was read of it before
 
+-- there is a child
 abbrev some_child : List Child → Bool
 some_child [] = false
 some_child (c ∷ cs) = true
 
+-- what was read of an element, with more text and more children
 abbrev pub with_content : Inside → List ℕ → List Child → Inside
 with_content i text cs = record { text = i.text ++ text; members = with_children cs i.members; has_child = i.has_child || some_child cs }
 
@@ -242,12 +247,14 @@ child_more i c text cs =
 
 -- elements and content that were read
 
+-- an element that was read after its `<`, and its value
 pub record ReadElement (root : List ℕ) (levels : ℕ) (kept : Bool) (outer : Scope) (cs : List ℕ) (c : Child) (rest : List ℕ) : Type 0 where
   pub element : Element
   pub ok : IsElement levels outer element
   pub means : element_child root kept outer element ≡ Some c
   pub spelt : 60 ∷ cs ≡ element_text element ++ rest
 
+-- content that was read up to its `</`, and what the element holds with it
 pub record ReadContent (root : List ℕ) (levels : ℕ) (kept : Bool) (scope : Scope) (i : Inside) (cs : List ℕ) (j : Inside) (rest : List ℕ) : Type 0 where
   pub content : Content
   pub children : List Child
@@ -557,6 +564,7 @@ mark_standing c mid h e = elim (cases_Bool (nat_eq c 93)) [
   | inr b ↦ mark_other c mid h b
 ]
 
+-- the word isn't at the front
 abbrev no_word : Option (List ℕ)
 no_word = None
 
@@ -741,6 +749,7 @@ module _ (root : List ℕ) (levels : ℕ) (kept : Bool) (scope : Scope) (reads :
 
 -- elements on the way back
 
+-- an empty-element tag
 abbrev pub is_bare : Element → Bool
 is_bare (empty t) = true
 is_bare (full t c space) = false

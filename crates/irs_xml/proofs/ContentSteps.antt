@@ -12,6 +12,7 @@ pub record ContentGoes (child : List ℕ → Got Child) (i : Inside) (cs : List 
 pub content_starts : (child : List ℕ → Got Child) (i : Inside) (all : List ℕ) → ContentGoes child i all i all
 content_starts child i all = record { fuel = length all; enough = omega arith; same = refl }
 
+-- the same before a piece is read, with one more piece allowed
 record Step (child : List ℕ → Got Child) (i : Inside) (cs : List ℕ) (first : Inside) (all : List ℕ) : Type 0 where
   fuel : ℕ
   enough : length cs ≤ suc fuel

@@ -71,6 +71,7 @@ standalone_words = record {
 
 -- pairs
 
+-- `=` and a word in quotes that were read
 record ReadQuoted (test : List ℕ → Bool) (cs rest : List ℕ) : Type 0 where
   before : List ℕ
   behind_equals : List ℕ
@@ -119,6 +120,7 @@ regroup_pair : (g n b a w : List ℕ) (q : ℕ) (rest : List ℕ)
     → g ++ (n ++ (b ++ (61 ∷ (a ++ (q ∷ (w ++ q ∷ rest)))))) ≡ (g ++ (n ++ (b ++ (61 ∷ (a ++ (q ∷ (w ++ q ∷ []))))))) ++ rest
 regroup_pair g n b a w q rest = sym (simp append_assoc)
 
+-- a name and its word that were read, or neither where the name isn't there
 record ReadPair (name : List ℕ) (test : List ℕ → Bool) (cs rest : List ℕ) : Type 0 where
   pair : Option Pair
   is_pair : is_pair_if test pair ≡ true
@@ -148,6 +150,7 @@ pair_sound name test reads cs rest r e =
       | inr h ↦ record { pair = None; is_pair = refl; spelt = same_some h.1 }
     ]
 
+-- what a pair that follows the rules keeps, each rule by itself
 record LawfulPair (test : List ℕ → Bool) (p : Pair) : Type 0 where
   gap : is_gap p.gap ≡ true
   before : is_white p.before ≡ true
@@ -224,6 +227,7 @@ pair_if_complete name test reads (Some p) rest r h plain none = pair_complete na
 
 -- declarations
 
+-- an XML declaration that was read, or none
 pub record ReadDeclaration (cs rest : List ℕ) : Type 0 where
   pub declaration : Option Declaration
   pub is_declaration : is_xml_declaration declaration ≡ true

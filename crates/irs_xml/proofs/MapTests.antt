@@ -1,4 +1,4 @@
--- Tests of the values that items stand for.
+-- Testing items through a view is testing their views.
 use Rattle.std.proofs.Common.{◌≡◌, Bool, ◌&&◌, ◌||◌, List, [], ◌∷◌, map, refl, ap}
 use Rattle.std.specs.List.{list_all, list_any}
 

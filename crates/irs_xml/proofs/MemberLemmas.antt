@@ -1,4 +1,4 @@
--- Members that are taken out and put back.
+-- Members that are removed, and items that are appended, as the definitions see them.
 use Rattle.std.proofs.Common.{◌≡◌, ℕ, Bool, true, false, cond, List, [], ◌∷◌, ◌++◌, string_bytes, nat_cmp, is_eq, refl, ap}
 use Rattle.std.specs.BTreeMap.{is_at}
 use Rattle.std.specs.Cmp.Lexicographic.{slice_cmp}

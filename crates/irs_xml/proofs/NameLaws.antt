@@ -101,6 +101,7 @@ prefix_name : (p : List ℕ) → is_nc_name p ≡ true → is_prefix p ≡ true
 prefix_name [] h = refl
 prefix_name (c ∷ p) h = h
 
+-- a qualified name that was read
 pub record ReadQName (cs prefix local rest : List ℕ) : Type 0 where
   pub name : QName
   pub is_name : is_qname name ≡ true

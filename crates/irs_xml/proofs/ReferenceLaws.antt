@@ -75,6 +75,7 @@ digits_sound base n k (c ∷ cs) m rest h is e =
 small_digit : (c base : ℕ) → base ≤ 36 → is_digit c base ≡ true → capped (digit_value c) ≡ digit_value c
 small_digit c base h e = let l : digit_value c < base = grind (arith, nat_tests) in omega (arith, l)
 
+-- a number that was read: one digit or more, and a semicolon
 record ReadNumber (base : ℕ) (cs : List ℕ) (m : ℕ) (rest : List ℕ) : Type 0 where
   digits : List ℕ
   are : are_digits base digits ≡ true
@@ -99,6 +100,7 @@ number_sound base (c ∷ cs) m rest low high e =
       | inr t ↦ absurd (let x = t.1 in cc x)
     ]
 
+-- a character that was read by its number
 record ReadCharacter (base : ℕ) (cs : List ℕ) (m : ℕ) (rest : List ℕ) : Type 0 where
   digits : List ℕ
   are : are_digits base digits && is_char (number_after base 0 digits) ≡ true
@@ -233,6 +235,7 @@ decimal_no_hex d h = elim (cases_Bool (nat_eq d 120)) [
   | inr s ↦ s
 ]
 
+-- the characters after the first
 abbrev pub tail : List ℕ → List ℕ
 tail [] = []
 tail (c ∷ cs) = cs

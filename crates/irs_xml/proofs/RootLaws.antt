@@ -23,6 +23,7 @@ use Rattle.irs_xml.proofs.DocumentLaws.{declaration_sound, declared_complete}
 
 -- what is round the root
 
+-- white space in front of comments, instructions and white space
 abbrev blanks : List ℕ → List Misc → List Misc
 blanks [] ms = ms
 blanks (c ∷ s) ms = blank c ∷ blanks s ms
@@ -36,6 +37,7 @@ are_blanks [] ms w h = h
 are_blanks (c ∷ s) ms w h =
     let b = both_true (is_space c) (is_white s) w in true_both (is_space c) (is_misc (blanks s ms)) b.0 (are_blanks s ms b.1 h)
 
+-- comments, instructions and white space that were read
 record ReadMisc (cs rest : List ℕ) : Type 0 where
   misc : List Misc
   are : is_misc misc ≡ true
@@ -143,6 +145,7 @@ nothing_stops = record { no_space = refl; no_comment = refl; no_instruction = re
 
 -- no declaration where there is none
 
+-- no characters are left: nothing was read
 abbrev no_text : Option (List ℕ)
 no_text = None
 
@@ -261,6 +264,7 @@ declaration_complete (Some d) ms levels scope e tail h m ok = declared_complete 
 
 -- roots
 
+-- a root element that was read after its `<`, and the value of its document
 record ReadRoot (cs : List ℕ) (d : Data) (rest : List ℕ) : Type 0 where
   element : Element
   ok : IsElement most_levels first_scope element
@@ -334,6 +338,7 @@ root_complete e d rest ok fpml means =
 
 -- documents
 
+-- a document that was read, and its value
 pub record ReadDocument (cs : List ℕ) (d : Data) : Type 0 where
   pub document : Document
   pub is_document : IsDocument document

@@ -21,10 +21,12 @@ use Rattle.irs_xml.proofs.Steps.{same_some, chosen}
 
 -- values
 
+-- the text of a value, none where there is no value
 abbrev option_size : Option Data → ℕ
 option_size None = 0
 option_size (Some d) = text_size d
 
+-- the text of all children's values
 abbrev children_size : List Child → ℕ
 children_size [] = 0
 children_size (c ∷ cs) = text_size c.1 + children_size cs
@@ -79,6 +81,7 @@ all_children_size (c ∷ cs) ms =
 
 -- the bytes of characters
 
+-- the bytes of these characters in UTF-8
 abbrev width : List ℕ → ℕ
 width cs = length (encode_utf8_all cs)
 
@@ -176,6 +179,7 @@ attribute_most a =
     (up (behind (name_text a.name) (a.before ++ (61 ∷ (a.after ++ (a.quote ∷ end)))))
     (behind a.gap (name_text a.name ++ (a.before ++ (61 ∷ (a.after ++ (a.quote ∷ end))))))))))))
 
+-- the bytes of all values of attributes
 abbrev settings_size : List Setting → ℕ
 settings_size [] = 0
 settings_size (s ∷ ss) = length s.value + settings_size ss

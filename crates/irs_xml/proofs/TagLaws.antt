@@ -29,12 +29,14 @@ not_true false e = refl
 
 -- values
 
+-- the rest of an attribute's value, read up to its quote and appended to a text
 pub record ReadValue (quote : ℕ) (text cs out rest : List ℕ) : Type 0 where
   pub pieces : List Piece
   pub are : are_pieces quote pieces ≡ true
   pub says : out ≡ text ++ pieces_value pieces
   pub spelt : cs ≡ pieces_text pieces ++ quote ∷ rest
 
+-- a piece of an attribute's value that was read, whose first character isn't the quote
 record ReadPiece (c : ℕ) (cs : List ℕ) (d : ℕ) (rest : List ℕ) : Type 0 where
   piece : Piece
   is : (quote : ℕ) → nat_eq c quote ≡ false → is_piece quote piece ≡ true
@@ -191,6 +193,7 @@ quote_complete q rest h = elim (cases_Bool (nat_eq q 34)) [
       subst (λ x. quote_at (x ∷ rest) ≡ Some (x, rest)) (sym is) (single_quote rest)
 ]
 
+-- `=` with white space round it that was read
 pub record ReadEquals (cs rest : List ℕ) : Type 0 where
   pub before : List ℕ
   pub after : List ℕ
@@ -222,6 +225,7 @@ equals_complete before after rest w v s =
     let second = skip-white after rest v s in
     rw (first, second) refl
 
+-- an attribute that was read after its white space
 record ReadSetting (cs : List ℕ) (s : Setting) (rest : List ℕ) : Type 0 where
   name : QName
   before : List ℕ
@@ -290,6 +294,7 @@ unfolding tag_end_at
 end_complete false rest = refl
 end_complete true rest = refl
 
+-- the attributes of a tag and its end, read after the attributes before them
 record ReadSettings (n : ℕ) (ss : List Setting) (cs : List ℕ) (out : List Setting) (b : Bool) (rest : List ℕ) : Type 0 where
   attributes : List Attribute
   space : List ℕ
@@ -394,6 +399,7 @@ abbrev attribute_tail : Attribute → List ℕ → List ℕ
 attribute_tail a rest =
     name_text a.name ++ (a.before ++ (61 ∷ (a.after ++ (a.quote ∷ (pieces_text a.pieces ++ a.quote ∷ rest)))))
 
+-- what an attribute that follows the rules keeps, each rule by itself
 record Lawful (a : Attribute) : Type 0 where
   gap : is_gap a.gap ≡ true
   name : is_qname a.name ≡ true
@@ -494,6 +500,7 @@ settings_complete (suc n) ss (a ∷ xs) space b rest are few w =
     ∙ settings_next n ss a left (lawful a h.0) ∙ more
     ∙ ap (λ t. Some ((t, b), rest)) (append_assoc ss (setting_of a ∷ []) (settings_of xs))
 
+-- a tag that was read after its `<`
 pub record ReadTag (cs : List ℕ) (o : Opening) (b : Bool) (rest : List ℕ) : Type 0 where
   pub tag : Tag
   pub is_tag : is_tag tag ≡ true

@@ -117,7 +117,7 @@ none_read bytes d e r = let k = sym e ∙ reads_complete bytes d r in absurd (cc
 pub failed : {A : Type 0} (e : Failure) (read : Option A) → e ≡ NotRead → Fails e read → read ≡ None
 failed e read is f = subst (λ x. Fails x read) is f
 
--- the text is the bytes, and the reader stands at its front
+-- where the text is the bytes and the reader is at its front, the bytes mean what is read
 pub some_read : (bytes text reader : List ℕ) (d : Data) → text ≡ bytes → reader ≡ seen text → IsUtf8 bytes
     → list_all is_char (chars text) ≡ true → document_at (without_mark reader) ≡ Some d → XmlReads bytes d
 some_read bytes text reader d is at u h e =

@@ -20,6 +20,7 @@ lacks word (c ∷ cs) = is_none (after word (c ∷ cs)) && lacks word cs
 abbrev pub is_comment : List ℕ → Bool
 is_comment cs = lacks (codes "--") (cs ++ codes "-")
 
+-- how a comment is spelt
 abbrev pub comment_text : List ℕ → List ℕ
 comment_text cs = codes "<!--" ++ (cs ++ codes "-->")
 
@@ -49,5 +50,6 @@ is_xml name = str_eq_ignore_ascii_case name (codes "xml")
 abbrev pub is_instruction : Instruction → Bool
 is_instruction i = (is_nc_name i.target && not (is_xml (encode_utf8_all i.target))) && (is_apart i.body && lacks (codes "?>") i.body)
 
+-- how a processing instruction is spelt
 abbrev pub instruction_text : Instruction → List ℕ
 instruction_text i = codes "<?" ++ (i.target ++ (i.body ++ codes "?>"))

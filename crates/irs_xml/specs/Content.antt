@@ -45,10 +45,11 @@ abbrev mutual
 abbrev pub is_char_data : ℕ → Bool
 is_char_data x = not (x == 60) && not (x == 38)
 
--- the most attributes that a tag may have, declarations counted; the most elements that may nest
+-- the most attributes that a tag may have, declarations counted
 abbrev pub most_attributes : ℕ
 most_attributes = 64
 
+-- the most elements that may nest
 abbrev pub most_levels : ℕ
 most_levels = 63
 
@@ -58,7 +59,7 @@ pub record IsTagIn (scope : Scope) (t : Tag) : Type 0 where
   pub few : length t.attributes ≤ most_attributes
   pub opened : is_opened scope (opening_of t) ≡ true
 
--- elements and content that follow the rules in this scope, where so many more levels are allowed
+-- elements and content that follow the rules in this scope, and nest at most `levels` deep
 abbrev mutual
   pub IsElement : ℕ → Scope → Element → Type 0
   IsElement zero scope (empty t) = ⊥

@@ -20,9 +20,11 @@ pub record Pair : Type 0 where
   pub quote : ℕ
   pub word : List ℕ
 
+-- how a name and its word are spelt
 abbrev pub pair_text : List ℕ → Pair → List ℕ
 pair_text name p = p.gap ++ (name ++ (p.before ++ (61 ∷ (p.after ++ (p.quote ∷ (p.word ++ p.quote ∷ []))))))
 
+-- a pair that follows the rules for white space and quotes, with a word of its kind
 abbrev pub is_pair : (List ℕ → Bool) → Pair → Bool
 is_pair test p = is_gap p.gap && (is_white p.before && (is_white p.after && (is_quote p.quote && test p.word)))
 
@@ -45,20 +47,24 @@ pub record Declaration : Type 0 where
   pub standalone : Option Pair
   pub space : List ℕ
 
+-- how a pair is spelt, where there is one
 abbrev pub pair_text_if : List ℕ → Option Pair → List ℕ
 pair_text_if name None = []
 pair_text_if name (Some p) = pair_text name p
 
+-- a pair that isn't required follows its rules where there is one
 abbrev pub is_pair_if : (List ℕ → Bool) → Option Pair → Bool
 is_pair_if test None = true
 is_pair_if test (Some p) = is_pair test p
 
+-- how the XML declaration is spelt, where there is one
 abbrev pub declaration_text : Option Declaration → List ℕ
 declaration_text None = []
 declaration_text (Some d) =
     codes "<?xml" ++ (pair_text (codes "version") d.version ++ (pair_text_if (codes "encoding") d.encoding
     ++ (pair_text_if (codes "standalone") d.standalone ++ (d.space ++ codes "?>"))))
 
+-- the version, then the encoding and whether the document is standalone, where these are given
 abbrev pub is_xml_declaration : Option Declaration → Bool
 is_xml_declaration None = true
 is_xml_declaration (Some d) =
@@ -71,12 +77,14 @@ pub data Misc : Type 0 where
   comment : List ℕ → Misc
   instruction : Instruction → Misc
 
+-- how comments, instructions and white space are spelt
 abbrev pub misc_text : List Misc → List ℕ
 misc_text [] = []
 misc_text (blank c ∷ ms) = c ∷ misc_text ms
 misc_text (comment cs ∷ ms) = comment_text cs ++ misc_text ms
 misc_text (instruction i ∷ ms) = instruction_text i ++ misc_text ms
 
+-- comments, instructions and white space that follow the rules, in any order
 abbrev pub is_misc : List Misc → Bool
 is_misc [] = true
 is_misc (blank c ∷ ms) = is_space c && is_misc ms
@@ -90,10 +98,12 @@ pub record Document : Type 0 where
   pub root : Element
   pub behind : List Misc
 
+-- how a document is spelt
 abbrev pub document_text : Document → List ℕ
 document_text d =
     declaration_text d.declaration ++ (misc_text d.before ++ (element_text d.root ++ misc_text d.behind))
 
+-- an element's start tag or empty-element tag
 abbrev pub tag_of : Element → Tag
 tag_of (empty t) = t
 tag_of (full t c space) = t
@@ -108,6 +118,7 @@ is_fpml None = false
 is_fpml (Some []) = true
 is_fpml (Some (c ∷ cs)) = starts_with nat_eq (c ∷ cs) (codes "http://www.fpml.org/FpML-5/")
 
+-- a well-formed document: what is round the root follows the rules, and the root is of FpML 5 or has no namespace
 pub record IsDocument (d : Document) : Type 0 where
   pub declared : is_xml_declaration d.declaration ≡ true
   pub before : is_misc d.before ≡ true
@@ -121,6 +132,7 @@ root_key local =
     if bytes_eq local (codes "swap") then codes "swap"
     else (if bytes_eq local (codes "trade") then codes "trade" else codes "dataDocument")
 
+-- an object with one member: the root's value under the name of its kind
 abbrev pub rooted : List ℕ → Option Child → Option Data
 rooted local None = None
 rooted local (Some c) = Some (object (member (root_key local) c.1 no_members))
@@ -130,6 +142,7 @@ abbrev pub root_value : Option (List ℕ) → List ℕ → Element → Option Da
 root_value None local e = None
 root_value (Some namespace) local e = rooted local (element_child namespace true first_scope e)
 
+-- the value that a document means
 abbrev pub document_value : Document → Option Data
 document_value d =
     let o = opening_of (tag_of d.root) in root_value (root_namespace o) o.local d.root

@@ -3,6 +3,7 @@ use Rattle.irs_xml.specs.Reading.{Mark, ending, commented, sectioned, instructed
 use Rattle.irs_xml.specs.declared.content.Mark.{Mark as GivenMark}
 use Rattle.irs_xml.specs.declared.content.Mark.TheVariants as given
 
+-- each mark of the code as the mark of the definitions
 abbrev pub mark_view : GivenMark → Mark
 mark_view given.Ending = ending
 mark_view given.Comment = commented

@@ -33,6 +33,7 @@ abbrev pub prefixed : List ℕ → List ℕ → List ℕ
 prefixed [] local = local
 prefixed (c ∷ cs) local = (c ∷ cs) ++ 58 ∷ local
 
+-- how a qualified name is spelt
 abbrev pub name_text : QName → List ℕ
 name_text n = prefixed n.prefix n.local
 

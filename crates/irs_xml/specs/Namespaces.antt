@@ -1,4 +1,4 @@
--- Namespaces in XML 1.0 (third edition): which namespace a prefix stands for, and what a tag may declare.
+-- Namespaces in XML 1.0 (third edition): which namespace a prefix names, and what a tag may declare.
 use Rattle.std.specs.Prelude.{ℕ, Bool, true, false, not, ◌&&◌, ◌||◌, List, [], ◌∷◌, ◌++◌, Option, Some, None}
 use Rattle.std.specs.Prelude.{is_some, if◌then◌else◌, codes}
 use Rattle.std.specs.List.{list_all, list_any}
@@ -17,6 +17,7 @@ pub record Opening : Type 0 where
   pub local : List ℕ
   pub settings : List Setting
 
+-- what an attribute says, in UTF-8
 abbrev pub setting_of : Attribute → Setting
 setting_of a = record {
   prefix = encode_utf8_all a.name.prefix;
@@ -24,10 +25,12 @@ setting_of a = record {
   value = pieces_value a.pieces;
 }
 
+-- what each attribute says
 abbrev pub settings_of : List Attribute → List Setting
 settings_of [] = []
 settings_of (a ∷ rest) = setting_of a ∷ settings_of rest
 
+-- what a tag says, in UTF-8
 abbrev pub opening_of : Tag → Opening
 opening_of t = record {
   prefix = encode_utf8_all t.name.prefix;
@@ -40,9 +43,11 @@ opening_of t = record {
 abbrev pub Scope : Type 0
 Scope = List (List ℕ × List ℕ)
 
+-- the namespace that `xml` is bound to
 abbrev pub xml_namespace : List ℕ
 xml_namespace = codes "http://www.w3.org/XML/1998/namespace"
 
+-- the namespace that `xmlns` is bound to
 abbrev pub xmlns_namespace : List ℕ
 xmlns_namespace = codes "http://www.w3.org/2000/xmlns/"
 
@@ -76,6 +81,7 @@ declarations (s ∷ ss) = if is_declaration s then (declared_prefix s, s.value) 
 abbrev pub scope_in : Scope → List Setting → Scope
 scope_in outer settings = outer ++ declarations settings
 
+-- both hold, or neither does
 abbrev pub same_answer : Bool → Bool → Bool
 same_answer true b = b
 same_answer false b = not b

@@ -22,6 +22,7 @@ abbrev pub Got : Type 0 → Type 0
 Got A = Option (A × List ℕ)
 
 infixl 10 ◌>>=◌
+-- the next step of reading, where the step before it gave something
 abbrev pub ◌>>=◌ : {A B : Type 0} → Option A → (A → Option B) → Option B
 (Some x) >>= f = f x
 None >>= f = None
@@ -36,6 +37,7 @@ abbrev pub Reads : {X Y : Type 0} → (X → Y) → Option X → List ℕ → Go
 Reads view (Some x) new read = read ≡ Some (view x, new)
 Reads view None new read = read ≡ None
 
+-- what a function that only reads on left is what reading leaves
 abbrev pub Passes : {X : Type 0} → Option X → List ℕ → Option (List ℕ) → Type 0
 Passes (Some x) new read = read ≡ Some new
 Passes None new read = read ≡ None
@@ -50,39 +52,46 @@ abbrev pub Tries : {X Y : Type 0} → (X → Y) → Option X → List ℕ → Li
 Tries view (Some x) old new read = read ≡ Some (view x, new)
 Tries view None old new read = (read ≡ None) × (new ≡ old)
 
--- the same where memory may run out
+-- a failure: the bytes have no reading, or memory ran out, which says nothing of them
 abbrev pub Fails : {Y : Type 0} → Failure → Option Y → Type 0
 Fails NotXml read = read ≡ None
 Fails Memory read = Unit {0}
 
+-- what a call returned and what it left is what reading gives, where memory may run out
 abbrev pub Gives : {X Y : Type 0} → (X → Y) → Result X Failure → List ℕ → Got Y → Type 0
 Gives view (Ok x) new read = read ≡ Some (view x, new)
 Gives view (Err e) new read = Fails e read
 
+-- the value that a call returned is what reading gives, where memory may run out
 abbrev pub GivesValue : {X Y : Type 0} → (X → Y) → Result X Failure → Option Y → Type 0
 GivesValue view (Ok x) read = read ≡ Some (view x)
 GivesValue view (Err e) read = Fails e read
 
 -- white space
 
+-- what is left after the white space at the front, if any
 abbrev pub skip_space : List ℕ → List ℕ
 skip_space [] = []
 skip_space (c ∷ cs) = if is_space c then skip_space cs else c ∷ cs
 
+-- what is left after white space, which has to be there
 abbrev pub gap_at : List ℕ → Option (List ℕ)
 gap_at [] = None
 gap_at (c ∷ cs) = if is_space c then Some (skip_space cs) else None
 
 -- names, in UTF-8
 
+-- the characters at the front that a name may go on with
 abbrev pub name_run : List ℕ → List ℕ
 name_run [] = []
 name_run (c ∷ cs) = if is_name_char c then c ∷ name_run cs else []
 
+-- what is left after these characters
 abbrev pub name_rest : List ℕ → List ℕ
 name_rest [] = []
 name_rest (c ∷ cs) = if is_name_char c then name_rest cs else c ∷ cs
 
+-- a name without a colon
 abbrev pub name_at : List ℕ → Got (List ℕ)
 name_at [] = None
 name_at (c ∷ cs) = if is_name_start c then Some (encode_utf8 c ++ encode_utf8_all (name_run cs), name_rest cs) else None
@@ -117,19 +126,23 @@ qname_at cs = do
 abbrev pub capped : ℕ → ℕ
 capped n = min n 0x11_0000
 
+-- the digits up to a semicolon, after a number that was read before them
 abbrev pub digits_at : ℕ → ℕ → List ℕ → Got ℕ
 digits_at base n [] = None
 digits_at base n (c ∷ cs) =
     if c == 59 then Some (n, cs)
     else (if is_digit c base then digits_at base (capped (n * base + digit_value c)) cs else None)
 
+-- one digit or more and a semicolon: the number that they write
 abbrev pub number_at : ℕ → List ℕ → Got ℕ
 number_at base [] = None
 number_at base (c ∷ cs) = if is_digit c base then digits_at base (digit_value c) cs else None
 
+-- the character that a number names, which XML has to allow
 unfoldable pub character_at : ℕ → List ℕ → Got ℕ
 character_at base cs = number_at base cs >>= λ n. if is_char n.0 then Some n else None
 
+-- a predefined entity, or a character by its hexadecimal or decimal number
 unfoldable pub reference_at : List ℕ → Got ℕ
 reference_at cs =
     choose (after (codes "lt;") cs) (λ rest. Some (60, rest))
@@ -147,16 +160,18 @@ abbrev pub past : List ℕ → List ℕ → Option (List ℕ)
 past mark [] = after mark []
 past mark (c ∷ cs) = choose (after mark (c ∷ cs)) (λ rest. Some rest) (past mark cs)
 
+-- what is left after a comment, in which the first `--` has to be its end
 unfoldable pub comment_at : List ℕ → Option (List ℕ)
 comment_at cs = past (codes "--") cs >>= after (codes ">")
 
+-- what is left after a processing instruction, whose target isn't `xml`
 unfoldable pub instruction_at : List ℕ → Option (List ℕ)
 instruction_at cs = do
   target ← name_at cs
   if is_xml target.0 then None
       else choose (after (codes "?>") target.1) (λ rest. Some rest) (gap_at target.1 >>= past (codes "?>"))
 
--- the characters before the first `]]>`, put after a text
+-- the characters before the first `]]>`, appended to a text
 abbrev pub data_at : List ℕ → List ℕ → Got (List ℕ)
 data_at text [] = None
 data_at text (c ∷ cs) =
@@ -168,18 +183,19 @@ data_at text (c ∷ cs) =
 unfoldable pub equals_at : List ℕ → Option (List ℕ)
 equals_at cs = after (codes "=") (skip_space cs) >>= λ rest. Some (skip_space rest)
 
+-- `'` or `"`
 unfoldable pub quote_at : List ℕ → Got ℕ
 quote_at cs =
     choose (after (codes "'") cs) (λ rest. Some (39, rest))
     (choose (after (34 ∷ []) cs) (λ rest. Some (34, rest)) None)
 
--- a character of a value, and what follows it: one that stands for itself, or that a reference names
+-- a character of a value, and what follows it: a plain character, or one that a reference names
 unfoldable pub value_character_at : ℕ → List ℕ → Got ℕ
 value_character_at c cs =
     if c == 60 then None
     else (if c == 38 then reference_at cs else Some (if is_space c then 32 else c, cs))
 
--- the rest of a value, put after what was read of it; n is the most characters that are looked at
+-- the rest of a value, appended to what was read of it; n is the most characters that are looked at
 unfoldable pub value_at : ℕ → ℕ → List ℕ → List ℕ → Got (List ℕ)
 value_at zero quote text cs = None
 value_at (suc n) quote text [] = None
@@ -187,6 +203,7 @@ value_at (suc n) quote text (c ∷ cs) =
     if c == quote then Some (text, cs)
     else (value_character_at c cs >>= λ r. value_at n quote (text ++ encode_utf8 r.0) r.1)
 
+-- an attribute: its name, `=`, and its value in quotes
 unfoldable pub setting_at : List ℕ → Got Setting
 setting_at cs = do
   name ← qname_at cs
@@ -201,13 +218,14 @@ tag_end_at cs =
     choose (after (codes ">") cs) (λ rest. Some (false, rest))
     (choose (after (codes "/>") cs) (λ rest. Some (true, rest)) None)
 
--- the attributes of a tag after those that were read, so many more being allowed, and how the tag ends
+-- the attributes of a tag after those that were read, of which n more are allowed, and how the tag ends
 unfoldable pub settings_at : ℕ → List Setting → List ℕ → Got (List Setting × Bool)
 settings_at zero ss cs = choose (tag_end_at (skip_space cs)) (λ end. Some ((ss, end.0), end.1)) None
 settings_at (suc n) ss cs =
     choose (tag_end_at (skip_space cs)) (λ end. Some ((ss, end.0), end.1))
     (gap_at cs >>= λ rest. setting_at rest >>= λ s. settings_at n (ss ++ s.0 ∷ []) s.1)
 
+-- a tag up to its end, and whether it is of an empty element
 unfoldable pub tag_at : List ℕ → Got (Opening × Bool)
 tag_at cs = do
   name ← qname_at cs
@@ -244,6 +262,7 @@ markup_at cs =
     (choose (after (codes "![CDATA[") cs) (λ rest. Some (sectioned, rest))
     (choose (after (codes "?") cs) (λ rest. Some (instructed, rest)) (Some (nested, cs)))))
 
+-- the next mark of content: `<` and what it begins, `&`, or a character; not `]]>`
 unfoldable pub mark_at : List ℕ → Got Mark
 mark_at [] = None
 mark_at (c ∷ cs) =
@@ -258,15 +277,19 @@ pub record Inside : Type 0 where
   pub members : Members
   pub has_child : Bool
 
+-- an element of which only the tag was read
 abbrev pub begun : List Setting → Inside
 begun ss = record { text = []; members = with_settings ss no_members; has_child = false }
 
+-- what was read of an element, with another text
 abbrev pub with_text : Inside → List ℕ → Inside
 with_text i bytes = record { text = bytes; members = i.members; has_child = i.has_child }
 
+-- what was read of an element, and one more character of its text
 abbrev pub with_character : Inside → ℕ → Inside
 with_character i c = with_text i (i.text ++ encode_utf8 c)
 
+-- what was read of an element, and one more child
 abbrev pub with_one : Inside → Child → Inside
 with_one i c = record { text = i.text; members = with_child c i.members; has_child = true }
 
@@ -315,7 +338,7 @@ element_at child root kept inner tag cs =
     filled_at (child (kept && ours) inner) tag (begun tag.0.settings) cs
     >>= λ r. as_child ours tag.0 (finished (kept && ours) r.0) r.1
 
--- an element after its `<`, where elements may go so many levels deeper
+-- an element after its `<`, which nests at most `levels` deep
 unfoldable pub child_at : List ℕ → ℕ → Bool → Scope → List ℕ → Got Child
 child_at root zero kept outer cs = None
 child_at root (suc levels) kept outer cs =
@@ -338,12 +361,15 @@ quoted_at word cs = do
   rest ← word quote.1
   after (quote.0 ∷ []) rest
 
+-- the version, `1.0`
 abbrev pub version_at : List ℕ → Option (List ℕ)
 version_at cs = after (codes "1.0") cs
 
+-- the encoding, `UTF-8` in any case
 abbrev pub encoding_at : List ℕ → Option (List ℕ)
 encoding_at cs = after_any_case (codes "utf-8") cs
 
+-- whether the document is standalone: `yes` or `no`
 abbrev pub standalone_at : List ℕ → Option (List ℕ)
 standalone_at cs = choose (after (codes "yes") cs) (λ rest. Some rest) (after (codes "no") cs)
 
@@ -365,6 +391,7 @@ declared_at cs =
 abbrev pub opening_at : List ℕ → Option (List ℕ)
 opening_at cs = after (codes "<?xml") cs >>= gap_at
 
+-- what is left after the XML declaration, if there is one
 unfoldable pub declaration_at : List ℕ → Option (List ℕ)
 declaration_at cs = choose (opening_at cs) (λ rest. declared_at rest) (Some cs)
 
@@ -398,6 +425,7 @@ abbrev pub ended : Data → List ℕ → Option Data
 ended d [] = Some d
 ended d (c ∷ cs) = None
 
+-- the value of a whole document, with nothing left after it
 unfoldable pub document_at : List ℕ → Option Data
 document_at cs = do
   behind ← declaration_at cs

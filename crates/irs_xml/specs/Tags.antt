@@ -5,11 +5,12 @@ use Rattle.irs_xml.specs.Characters.{is_space, is_white, is_gap}
 use Rattle.irs_xml.specs.Names.{QName, name_text, is_qname}
 use Rattle.irs_xml.specs.References.{Reference, reference_text, character_of, is_reference}
 
--- a piece of an attribute's value: a character as it stands, or a reference
+-- a piece of an attribute's value: a plain character, or a reference
 pub data Piece : Type 0 where
   plain : ℕ → Piece
   refers : Reference → Piece
 
+-- how a piece is spelt
 abbrev pub piece_text : Piece → List ℕ
 piece_text (plain c) = c ∷ []
 piece_text (refers r) = reference_text r
@@ -19,15 +20,17 @@ abbrev pub piece_character : Piece → ℕ
 piece_character (plain c) = if is_space c then 32 else c
 piece_character (refers r) = character_of r
 
--- a character that stands for itself is neither `<` nor `&`, nor the quote that ends the value
+-- a plain character is neither `<` nor `&`, nor the quote that ends the value
 abbrev pub is_piece : ℕ → Piece → Bool
 is_piece quote (plain c) = not (c == 60) && (not (c == 38) && not (c == quote))
 is_piece quote (refers r) = is_reference r
 
+-- how the pieces of a value are spelt, one after another
 abbrev pub pieces_text : List Piece → List ℕ
 pieces_text [] = []
 pieces_text (p ∷ ps) = piece_text p ++ pieces_text ps
 
+-- every piece of a value follows the rules under this quote
 abbrev pub are_pieces : ℕ → List Piece → Bool
 are_pieces quote [] = true
 are_pieces quote (p ∷ ps) = is_piece quote p && are_pieces quote ps
@@ -46,6 +49,7 @@ pub record Attribute : Type 0 where
   pub quote : ℕ
   pub pieces : List Piece
 
+-- how an attribute is spelt, with the white space before it
 abbrev pub attribute_text : Attribute → List ℕ
 attribute_text a =
     a.gap ++ (name_text a.name ++ (a.before ++ (61 ∷ (a.after ++ (a.quote ∷ (pieces_text a.pieces ++ a.quote ∷ []))))))
@@ -60,10 +64,12 @@ is_attribute a =
     is_gap a.gap && (is_qname a.name && (is_white a.before && (is_white a.after
     && (is_quote a.quote && are_pieces a.quote a.pieces))))
 
+-- how the attributes of a tag are spelt, one after another
 abbrev pub attributes_text : List Attribute → List ℕ
 attributes_text [] = []
 attributes_text (a ∷ rest) = attribute_text a ++ attributes_text rest
 
+-- every attribute of a tag follows the rules
 abbrev pub are_attributes : List Attribute → Bool
 are_attributes [] = true
 are_attributes (a ∷ rest) = is_attribute a && are_attributes rest
@@ -78,5 +84,6 @@ pub record Tag : Type 0 where
 abbrev pub tag_text : Tag → List ℕ
 tag_text t = 60 ∷ (name_text t.name ++ (attributes_text t.attributes ++ t.space))
 
+-- the parts of a tag follow the rules
 abbrev pub is_tag : Tag → Bool
 is_tag t = is_qname t.name && (are_attributes t.attributes && is_white t.space)

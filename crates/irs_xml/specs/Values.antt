@@ -100,6 +100,7 @@ element_data false settings text children = Some (string [])
 element_data true settings text None = None
 element_data true settings text (Some cs) = value_from settings text cs
 
+-- a child's value under its name, where there is a value
 abbrev pub named : List ℕ → Option Data → Option Child
 named key None = None
 named key (Some d) = Some (key, d)

@@ -4,6 +4,7 @@ use Rattle.irs_xml.specs.Reading.{version_at, encoding_at, standalone_at}
 use Rattle.irs_xml.specs.declared.document.Word.{Word}
 use Rattle.irs_xml.specs.declared.document.Word.TheVariants as given
 
+-- each word of the declaration by what reads it
 abbrev pub word_at : Word → List ℕ → Option (List ℕ)
 word_at given.Version cs = version_at cs
 word_at given.Encoding cs = encoding_at cs

@@ -44,7 +44,7 @@ fn skip_past(reader: &mut Reader<'_>, mark: &[u8]) -> Option<()>
     Some(())
 }
 
-/// Puts the characters of a CDATA section at the end of a text.
+/// Appends the characters of a CDATA section to a text.
 pub(crate) fn data(reader: &mut Reader<'_>, text: &mut String) -> Result<(), Failure>
     ensures { Gives (λ _. string_bytes text.new) result reader.new (data_at (string_bytes text.old) reader.old) }
 {

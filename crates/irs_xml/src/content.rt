@@ -35,7 +35,7 @@ pub(crate) enum Mark {
     Child,
     /// `&`
     Reference,
-    /// A character that stands for itself.
+    /// A plain character.
     Character(char),
 }
 
@@ -248,7 +248,7 @@ fn is_ours(scope: &[Declaration<'_>], root: &str, tag: &Tag<'_>) -> bool
     is_same(namespace(scope, tag.prefix), Some(root))
 }
 
-// An element after its `<`, where elements may go so many levels deeper.
+// An element after its `<`, which nests at most `levels` deep.
 #[cycle(element)]
 fn child<'a>(
     reader: &mut Reader<'a>,

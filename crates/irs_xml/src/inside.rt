@@ -24,7 +24,7 @@ pub(crate) struct Inside {
     pub(crate) has_child: bool,
 }
 
-/// An element of which the tag was read alone.
+/// An element of which only the tag was read.
 pub(crate) fn begun(alloc: Global, settings: &[Setting<'_>]) -> Result<Inside, AllocError>
     ensures { IfOk result (λ i. inside_view i ≡ begun_of (map setting_view settings.now)) }
 {
@@ -35,7 +35,7 @@ pub(crate) fn begun(alloc: Global, settings: &[Setting<'_>]) -> Result<Inside, A
     })
 }
 
-/// Puts a character after the text.
+/// Appends a character to the text.
 pub(crate) fn push(inside: &mut Inside, c: char) -> Result<(), AllocError>
     ensures { OnOk result (inside_view inside.new ≡ with_character (inside_view inside.old) c) }
 {
@@ -43,7 +43,7 @@ pub(crate) fn push(inside: &mut Inside, c: char) -> Result<(), AllocError>
     Ok(())
 }
 
-/// Puts a child after those that were read.
+/// Adds a child to those that were read.
 pub(crate) fn put(
     inside: &mut Inside,
     alloc: Global,
@@ -57,7 +57,7 @@ pub(crate) fn put(
     Ok(())
 }
 
-/// The value of an element of which all was read. One that isn't kept is the empty string.
+/// The value of an element that was read to its end. One that isn't kept is the empty string.
 pub(crate) fn finish(alloc: Global, kept: bool, inside: Inside) -> Result<Value, Failure>
     ensures { GivesValue view result (finished kept (inside_view inside)) }
 {

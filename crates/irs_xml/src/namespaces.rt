@@ -1,4 +1,4 @@
-//! Which namespace a prefix stands for, and what a tag may declare: Namespaces in XML 1.0 (third
+//! Which namespace a prefix names, and what a tag may declare: Namespaces in XML 1.0 (third
 //! edition).
 ghost use Rattle.irs_xml.specs.Namespaces.{attribute_namespace as attribute_namespace_of, are_unlike as are_unlike_of, declarations, declared_prefix as declared_prefix_of, first_scope, is_declaration as is_declaration_of, is_lawful as is_lawful_of, is_opened_in, is_same as is_same_of, latest, may_declare as may_declare_of, namespace_of};
 ghost use Rattle.irs_xml.specs.Resolved.{are_distinct, is_alike, resolve as resolve_of};
@@ -27,7 +27,7 @@ pub(crate) fn first_declarations<'a>(alloc: Global) -> Result<Vec<Declaration<'a
     Ok(scope)
 }
 
-// Puts a declaration after those in scope.
+// Adds a declaration after those in scope.
 fn declare<'a>(
     scope: &mut Vec<Declaration<'a>>,
     alloc: Global,
@@ -43,7 +43,7 @@ fn declare<'a>(
     Ok(())
 }
 
-/// Puts the declarations of a tag after those in scope.
+/// Adds the declarations of a tag after those in scope.
 pub(crate) fn declare_all<'a>(
     scope: &mut Vec<Declaration<'a>>,
     alloc: Global,

@@ -2,7 +2,7 @@
 ghost use Rattle.irs_xml.specs.Places.{LiesIn, place_after};
 ghost use Rattle.std.specs.Prelude.{◌≡◌, ◌^◌, ◌-◌, ◌<◌, length};
 
-/// The line and the column of what comes after so many bytes of the text, or of its end.
+/// The line and the column of what comes after the first `at` bytes of the text, or of its end.
 pub(crate) fn place(bytes: &[u8], at: usize) -> (u32, u32)
     ensures { length bytes.now < 2 ^ 32 - 1 → LiesIn bytes.now result.0 result.1 }
 {

@@ -115,8 +115,8 @@ fn what_is_no_document(rt: HostRuntime) {
     assert!(rt; is_refused(rt.alloc(), b""));
 }
 
-// The examples of Namespaces in XML 1.0 (third edition), 6.3: the same tags, each in an element of
-// another namespace than the root's, whose value is the empty string.
+// The examples of Namespaces in XML 1.0 (third edition), 6.3, with the same tags. Each is in an
+// element of another namespace than the root's, and the value of that is the empty string.
 #[test]
 fn uniqueness_of_attributes(rt: HostRuntime) {
     assert!(rt;
@@ -141,7 +141,7 @@ fn uniqueness_of_attributes(rt: HostRuntime) {
     );
 }
 
-// A tag with this many attributes of one local part, each in a namespace of its own but the last,
+// A tag with `count` attributes of one local part. Each is in a namespace of its own but the last,
 // whose namespace is named `last`.
 fn crowded(alloc: Global, count: usize, last: &str) -> Result<String, std::alloc::AllocError> {
     let mut text = String::new(alloc);
@@ -184,7 +184,7 @@ fn where_reading_stopped(rt: HostRuntime) {
     );
 }
 
-// A document of so many elements, each in the last.
+// A document of this number of elements, each in the last.
 fn nested(alloc: Global, levels: usize) -> Result<String, std::alloc::AllocError> {
     let mut text = String::new(alloc);
     for _ in 0..levels {

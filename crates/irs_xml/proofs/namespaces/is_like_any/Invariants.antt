@@ -4,6 +4,7 @@ use Rattle.irs_xml.specs.Resolved.{is_alike}
 use Rattle.irs_xml.specs.TagViews.{resolved_view}
 use Rattle.irs_xml.proofs.namespaces.is_like_any.Given as goal
 
+-- some name is like this one just where some name that is left is
 abbrev pub invariant-loop-other : goal.invariant-loop-other
 invariant-loop-other l =
     list_any (is_alike (resolved_view l.name)) (map resolved_view (drop l.other-index l.others))

@@ -4,8 +4,10 @@ use denote.Shadow.{shadow}
 use Rattle.irs_xml.specs.Reading.{SplitsName}
 use Rattle.irs_xml.proofs.reader.name_rest.Given as goal
 
+-- what is left is UTF-8, and the text is characters of a name and then what is left
 abbrev pub invariant-loop-c : goal.invariant-loop-c
 invariant-loop-c l = shadow (Utf8 l.left) × SplitsName l.text l.left
 
+-- each character that is passed over shortens what is left
 abbrev pub decreases-loop-c : goal.decreases-loop-c
 decreases-loop-c l = length l.left

@@ -10,5 +10,6 @@ invariant-loop-c l = record {
   base : l.base ≤ 36;
 }
 
+-- each digit that is read shortens what is left
 abbrev pub decreases-loop-c : goal.decreases-loop-c
 decreases-loop-c l = length l.reader

@@ -7,5 +7,6 @@ use Rattle.irs_xml.proofs.reader.Reader.eat_name.Given as goal
 abbrev pub invariant-loop-c : goal.invariant-loop-c
 invariant-loop-c l = after l.word l.ahead ≡ after (seen l.name) (seen l.self-inside.rest.now)
 
+-- each character that is compared shortens the name
 abbrev pub decreases-loop-c : goal.decreases-loop-c
 decreases-loop-c l = length l.word
