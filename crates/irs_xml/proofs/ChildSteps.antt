@@ -8,23 +8,27 @@ use Rattle.irs_xml.specs.Reading.{child_at, element_at, tag_at}
 use Rattle.irs_xml.specs.TagViews.{scope_view}
 use Rattle.irs_xml.specs.declared.settings.Declaration.{Declaration}
 
+-- past the nesting limit no element is read
 pub child_none : (root : List ℕ) (levels : ℕ) (kept : Bool) (outer : Scope) (cs : List ℕ) → levels ≡ 0 → child_at root levels kept outer cs ≡ None
 unfolding child_at
 child_none root zero kept outer cs z = refl
 child_none root (suc n) kept outer cs z = absurd (omega (arith, z))
 
+-- without a tag no element is read
 pub child_no_tag : (root : List ℕ) (levels : ℕ) (kept : Bool) (outer : Scope) (cs : List ℕ) → tag_at cs ≡ None
     → child_at root levels kept outer cs ≡ None
 unfolding child_at
 child_no_tag root zero kept outer cs e = refl
 child_no_tag root (suc n) kept outer cs e = rw e refl
 
+-- no element is read where its tag breaks the rules for namespaces
 pub child_closed : (root : List ℕ) (levels : ℕ) (kept : Bool) (outer : Scope) (cs : List ℕ) (t : Opening × Bool) (mid : List ℕ)
     → tag_at cs ≡ Some (t, mid) → is_opened outer t.0 ≡ false → child_at root levels kept outer cs ≡ None
 unfolding child_at
 child_closed root zero kept outer cs t mid e h = refl
 child_closed root (suc n) kept outer cs t mid e h = rw (e, h) refl
 
+-- after a tag that follows the rules, the element is read in its own scope, one level deeper
 pub child_goes : (root : List ℕ) (levels : ℕ) (kept : Bool) (outer : Scope) (cs : List ℕ) (t : Opening × Bool) (mid : List ℕ) → levels ≢ 0
     → tag_at cs ≡ Some (t, mid) → is_opened outer t.0 ≡ true
     → child_at root levels kept outer cs ≡ element_at (child_at root (levels - 1)) root kept (scope_in outer t.0.settings) t mid

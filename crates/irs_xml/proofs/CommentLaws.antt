@@ -28,6 +28,7 @@ pub record First (mark cs rest : List ℕ) : Type 0 where
   pub spelt : cs ≡ text ++ (mark ++ rest)
   pub first : NoneBefore mark text (mark ++ rest)
 
+-- what reading up to a mark passes over ends with the first mark
 pub past_sound : (mark cs rest : List ℕ) → past mark cs ≡ Some rest → First mark cs rest
 past_sound mark [] rest e = record { text = []; spelt = after_sound mark [] rest e; first = tt }
 past_sound mark (c ∷ cs) rest e =
@@ -45,6 +46,7 @@ past_sound mark (c ∷ cs) rest e =
           }
     ]
 
+-- a mark that begins nowhere earlier is found
 pub past_complete : (mark text rest : List ℕ) → NoneBefore mark text (mark ++ rest) → past mark (text ++ (mark ++ rest)) ≡ Some rest
 past_complete mark [] rest n = past_found mark (mark ++ rest) rest (after_complete mark rest)
 past_complete mark (c ∷ text) rest n = let e = n.0 in rw e (past_complete mark text rest n.1)
@@ -101,6 +103,7 @@ pub record ReadComment (cs rest : List ℕ) : Type 0 where
   pub is_comment : is_comment text ≡ true
   pub spelt : codes "<!--" ++ cs ≡ comment_text text ++ rest
 
+-- what is read as a comment is spelt as one
 pub comment_sound : (cs rest : List ℕ) → comment_at cs ≡ Some rest → ReadComment cs rest
 unfolding comment_at
 comment_sound cs rest e =
@@ -112,6 +115,7 @@ comment_sound cs rest e =
           ∙ sym (append_assoc f.text (codes "-->") rest));
     }
 
+-- every comment is read
 pub comment_complete : (text rest : List ℕ) → is_comment text ≡ true → comment_at (text ++ (codes "-->" ++ rest)) ≡ Some rest
 unfolding comment_at
 comment_complete text rest h =
@@ -199,6 +203,7 @@ pub record ReadData (text cs out rest : List ℕ) : Type 0 where
   pub says : out ≡ text ++ encode_utf8_all data_text
   pub spelt : codes "<![CDATA[" ++ cs ≡ cdata_text data_text ++ rest
 
+-- what is read as a CDATA section is spelt as one
 pub data_sound : (text cs out rest : List ℕ) → data_at text cs ≡ Some (out, rest) → ReadData text cs out rest
 data_sound text cs out rest e =
     let f = data_to text cs out rest e in record {
@@ -215,6 +220,7 @@ data_goes text (d ∷ ds) rest n =
     let e = n.0 in rw e (data_goes (text ++ encode_utf8 d) ds rest n.1
     ∙ ap (λ t. Some (t, rest)) (append_assoc text (encode_utf8 d) (encode_utf8_all ds)))
 
+-- every CDATA section is read, and its text is appended
 pub data_complete : (text ds rest : List ℕ) → is_cdata ds ≡ true
     → data_at text (ds ++ (codes "]]>" ++ rest)) ≡ Some (text ++ encode_utf8_all ds, rest)
 data_complete text ds rest h = data_goes text ds rest (data_first ds rest h)
@@ -284,6 +290,7 @@ spelt_as target body cs mid rest a b =
     ap (λ t. codes "<?" ++ t) (a ∙ ap (λ t. target ++ t) (b ∙ sym (append_assoc body (codes "?>") rest))
     ∙ sym (append_assoc target (body ++ codes "?>") rest))
 
+-- what is read as a processing instruction is spelt as one
 pub instruction_sound : (cs rest : List ℕ) → instruction_at cs ≡ Some rest → ReadInstruction cs rest
 unfolding instruction_at
 instruction_sound cs rest e =
@@ -321,6 +328,7 @@ mark_no_name : (rest : List ℕ) → begins is_name_char (63 ∷ rest) ≡ false
 unfolding is_name_char is_name_start
 mark_no_name rest = refl
 
+-- white space isn't a character of a name
 pub space_no_name : (c : ℕ) → is_space c ≡ true → is_name_char c ≡ false
 unfolding is_space is_name_char is_name_start
 space_no_name c h = grind (arith, nat_tests)
@@ -349,6 +357,7 @@ body_no_name : (body rest : List ℕ) → is_apart body ≡ true → begins is_n
 body_no_name [] rest a = mark_no_name (62 ∷ rest)
 body_no_name (c ∷ body) rest a = space_no_name c a
 
+-- every processing instruction is read
 pub instruction_complete : (i : Instruction) (rest : List ℕ) → is_instruction i ≡ true
     → instruction_at (i.target ++ (i.body ++ (codes "?>" ++ rest))) ≡ Some rest
 unfolding instruction_at

@@ -440,6 +440,7 @@ pub record ReadTagged (root : List ℕ) (levels : ℕ) (kept : Bool) (outer : Sc
   pub read : ReadElement root levels kept outer cs c rest
   pub tag : tag_of read.element ≡ t
 
+-- an element that is read after its tag is spelt as one and has the value that was read
 pub element_sound : (root : List ℕ) (levels : ℕ) (kept : Bool) (outer : Scope) (cs : List ℕ) (t : Tag) (b : Bool) (mid : List ℕ) (c : Child) (rest : List ℕ)
     → IsTagIn outer t → 60 ∷ cs ≡ tag_text t ++ (end_text b ++ mid)
     → ((k : Bool) (scope : Scope) → ReadsChildren root levels k scope (child_at root levels k scope))
@@ -492,6 +493,7 @@ element_sound root levels kept outer cs t false mid c rest ok spelt r e =
         → a ++ (62 ∷ (b ++ (codes "</" ++ (c ++ (d ++ (codes ">" ++ e)))))) ≡ (a ++ (62 ∷ (b ++ (codes "</" ++ (c ++ (d ++ codes ">")))))) ++ e
     regroup_element a b c d e = sym (simp append_assoc)
 
+-- an element that is read after its `<` is spelt as one and has the value that was read
 pub child_sound : (root : List ℕ) (levels : ℕ) (kept : Bool) (outer : Scope) → ReadsChildren root levels kept outer (child_at root levels kept outer)
 unfolding child_at
 child_sound root zero kept outer = record { sound = λ cs c rest e. absurd (cc e) }
@@ -536,6 +538,7 @@ mark_reference : (mid : List ℕ) → mark_at (38 ∷ mid) ≡ Some (referred, m
 unfolding mark_at
 mark_reference mid = refl
 
+-- a name begins with none of `/`, `!` and `?`
 pub start_no_mark : (c : ℕ) → is_name_start c ≡ true → (nat_eq c 47 ≡ false) × (nat_eq c 33 ≡ false) × (nat_eq c 63 ≡ false)
 unfolding is_name_start
 start_no_mark c h = (grind (arith, nat_tests), grind (arith, nat_tests), grind (arith, nat_tests))
@@ -612,6 +615,7 @@ behind (full t c space) rest =
     name_text t.name ++ (attributes_text t.attributes ++ (t.space ++ (codes ">" ++ (content_text c
     ++ (codes "</" ++ (name_text t.name ++ (space ++ (codes ">" ++ rest))))))))
 
+-- an element begins with `<`
 pub element_begins : (e : Element) (rest : List ℕ) → element_text e ++ rest ≡ 60 ∷ behind e rest
 element_begins (empty t) rest =
     ap (λ x. 60 ∷ x) (regroup (name_text t.name) (attributes_text t.attributes) t.space (codes "/>") rest)
@@ -759,6 +763,7 @@ abbrev pub body : Element → List ℕ → List ℕ
 body (empty t) rest = rest
 body (full t c space) rest = content_text c ++ (codes "</" ++ (name_text t.name ++ (space ++ (codes ">" ++ rest))))
 
+-- the tag of an element that follows the rules is read
 pub tag_back : (levels : ℕ) (scope : Scope) (e : Element) (rest : List ℕ) → IsElement levels scope e
     → tag_at (behind e rest) ≡ Some ((opening_of (tag_of e), is_bare e), body e rest)
 tag_back zero scope (empty t) rest ok = absurd ok
@@ -767,6 +772,7 @@ tag_back (suc n) scope (empty t) rest ok = tag_complete t true rest ok.spelt ok.
 tag_back (suc n) scope (full t c space) rest ok =
     tag_complete t false (content_text c ++ (codes "</" ++ (name_text t.name ++ (space ++ (codes ">" ++ rest))))) ok.0.spelt ok.0.few
 
+-- the tag of an element that follows the rules keeps those for namespaces
 pub opened_back : (levels : ℕ) (scope : Scope) (e : Element) → IsElement levels scope e → is_opened scope (opening_of (tag_of e)) ≡ true
 opened_back zero scope (empty t) ok = absurd ok
 opened_back zero scope (full t c space) ok = absurd ok
@@ -810,6 +816,7 @@ named_data : (key : List ℕ) (d : Option Data) (c : Child) → named key d ≡ 
 named_data key None c e = absurd (cc e)
 named_data key (Some x) c e = (x, refl, e)
 
+-- an element that follows the rules and has a value is read after its tag
 pub element_back : (root : List ℕ) (levels : ℕ) (kept : Bool) (outer : Scope) (e : Element) (c : Child) (rest : List ℕ)
     → IsElement (suc levels) outer e → element_child root kept outer e ≡ Some c
     → ((k : Bool) (scope : Scope) → ReadsEach root levels k scope (child_at root levels k scope))
@@ -838,6 +845,7 @@ element_back root levels kept outer (full t content space) c rest ok means r =
     rw read (rw close (named_as_child ours o (finished k (with_content (begun o.settings) (text_in content) h.0)) rest c
     (ap (named (key_of ours o.local)) says ∙ d.2)))
 
+-- an element that follows the rules and has a value is read after its `<`
 pub child_complete : (root : List ℕ) (levels : ℕ) (kept : Bool) (outer : Scope) → ReadsEach root levels kept outer (child_at root levels kept outer)
 unfolding child_at
 child_complete root zero kept outer = record { complete = λ e c rest ok means. absurd (no_levels outer e ok) }

@@ -9,6 +9,7 @@ pub record ContentGoes (child : List ℕ → Got Child) (i : Inside) (cs : List 
   pub enough : length cs ≤ fuel
   pub same : content_at child fuel i cs ≡ content_at child (length all) first all
 
+-- before the first piece all content is left
 pub content_starts : (child : List ℕ → Got Child) (i : Inside) (all : List ℕ) → ContentGoes child i all i all
 content_starts child i all = record { fuel = length all; enough = omega arith; same = refl }
 
@@ -38,23 +39,27 @@ one_more : {child : List ℕ → Got Child} {i : Inside} {cs : List ℕ} {first 
     → Step child i cs first all
 one_more {child} {i} {cs} {first} {all} g = by_fuel child i cs first all g.fuel g.enough g.same
 
+-- content isn't read where what comes next is no mark
 pub content_wrong : {child : List ℕ → Got Child} {i : Inside} {cs : List ℕ} {first : Inside} {all : List ℕ} → ContentGoes child i cs first all
     → mark_at cs ≡ None → content_at child (length all) first all ≡ None
 unfolding content_at
 content_wrong {child} {i} {cs} {first} {all} g none = let s = one_more g in sym (rw none at s.same)
 
+-- content isn't read where one of its pieces isn't
 pub content_broken : {child : List ℕ → Got Child} {i : Inside} {cs : List ℕ} {first : Inside} {all : List ℕ} (m : Mark) (mid : List ℕ)
     → ContentGoes child i cs first all → mark_at cs ≡ Some (m, mid) → piece_at child i m mid ≡ None
     → content_at child (length all) first all ≡ None
 unfolding content_at
 content_broken {child} {i} {cs} {first} {all} m mid g is none = let s = one_more g in sym (rw (is, none) at s.same)
 
+-- content that ends here gives what was read of the element
 pub content_ends : {child : List ℕ → Got Child} {i : Inside} {cs : List ℕ} {first : Inside} {all : List ℕ} (m : Mark) (mid : List ℕ) (j : Inside)
     (rest : List ℕ) → ContentGoes child i cs first all → mark_at cs ≡ Some (m, mid) → piece_at child i m mid ≡ Some ((true, j), rest)
     → content_at child (length all) first all ≡ Some (j, rest)
 unfolding content_at
 content_ends {child} {i} {cs} {first} {all} m mid j rest g is piece = let s = one_more g in sym (rw (is, piece) at s.same)
 
+-- after one more piece the rest of the content gives what the whole gives
 pub content_more : {child : List ℕ → Got Child} {i : Inside} {cs : List ℕ} {first : Inside} {all : List ℕ} (m : Mark) (mid : List ℕ) (j : Inside)
     (rest : List ℕ) → ContentGoes child i cs first all → mark_at cs ≡ Some (m, mid) → piece_at child i m mid ≡ Some ((false, j), rest)
     → length rest < length cs → ContentGoes child j rest first all

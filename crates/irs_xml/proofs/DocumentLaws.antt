@@ -233,6 +233,7 @@ pub record ReadDeclaration (cs rest : List ℕ) : Type 0 where
   pub is_declaration : is_xml_declaration declaration ≡ true
   pub spelt : cs ≡ declaration_text declaration ++ rest
 
+-- what is passed over in front is spelt as an XML declaration, or is nothing
 pub declaration_sound : (cs rest : List ℕ) → declaration_at cs ≡ Some rest → ReadDeclaration cs rest
 unfolding declaration_at declared_at
 declaration_sound cs rest e =
@@ -271,6 +272,7 @@ declaration_sound cs rest e =
         → codes "<?xml" ++ (a ++ (b ++ (c ++ (d ++ (codes "?>" ++ e))))) ≡ (codes "<?xml" ++ (a ++ (b ++ (c ++ (d ++ codes "?>"))))) ++ e
     regroup a b c d e = ap (λ t. codes "<?xml" ++ t) (sym (simp append_assoc))
 
+-- every XML declaration that follows the rules is read
 pub declared_complete : (d : Declaration) (rest : List ℕ) → is_xml_declaration (Some d) ≡ true
     → declaration_at (declaration_text (Some d) ++ rest) ≡ Some rest
 unfolding declaration_at declared_at

@@ -14,12 +14,14 @@ apart : (b : Bool) (e : Entry) (es fs : List Entry) (ms : Members) → members_v
 apart true e es fs ms h = refl
 apart false e es fs ms h = ap (member (string_bytes e.0) (view e.1)) h
 
+-- removing an entry of the map removes the member of that name
 pub members_view-remove_entry : (name : List ℕ) (es : List Entry)
     → members_view (remove_entry (is_at (λ k. slice_cmp nat_cmp name (string_bytes k))) es) ≡ without name (members_view es)
 members_view-remove_entry name [] = refl
 members_view-remove_entry name (e ∷ es) =
     apart (is_eq (slice_cmp nat_cmp name (string_bytes e.0))) e es _ _ (members_view-remove_entry name es)
 
+-- appending a value appends one item
 pub items_view-push : (vs : List Value) (v : Value) → items_view (vs ++ v ∷ []) ≡ item_last (items_view vs) (view v)
 items_view-push [] v = refl
 items_view-push (w ∷ vs) v = ap (item (view w)) (items_view-push vs v)

@@ -31,6 +31,7 @@ pub record ReadName (cs bytes rest : List ℕ) : Type 0 where
   pub says : bytes ≡ encode_utf8_all name
   pub spelt : cs ≡ name ++ rest
 
+-- what is read as a name is spelt as one
 pub name_sound : (cs bytes rest : List ℕ) → name_at cs ≡ Some (bytes, rest) → ReadName cs bytes rest
 name_sound [] bytes rest e = absurd (cc e)
 name_sound (c ∷ cs) bytes rest e =
@@ -59,6 +60,7 @@ rest_stops (n ∷ ns) rest h s =
     let b = both_true (is_name_char n) (list_all is_name_char ns) h in
     let e = b.0 in rw e (rest_stops ns rest b.1 s)
 
+-- a name is read whole where no character of a name follows
 pub name_complete : (ns rest : List ℕ) → is_nc_name ns ≡ true → begins is_name_char rest ≡ false
     → name_at (ns ++ rest) ≡ Some (encode_utf8_all ns, rest)
 name_complete [] rest h s = absurd (cc h)
@@ -73,6 +75,7 @@ name_complete (n ∷ ns) rest h s =
 abbrev pub is_qname_char : ℕ → Bool
 is_qname_char c = is_name_char c || nat_eq c 58
 
+-- what isn't a character of a qualified name isn't one of a name
 pub no_name_begins : (cs : List ℕ) → begins is_qname_char cs ≡ false → begins is_name_char cs ≡ false
 no_name_begins [] h = refl
 no_name_begins (c ∷ cs) h = either (is_name_char c) (nat_eq c 58) h
@@ -93,6 +96,7 @@ colon_ends : begins is_name_char (58 ∷ []) ≡ false
 unfolding is_name_char is_name_start
 colon_ends = refl
 
+-- a prefix that is a name is written with its colon
 pub prefixed_name : (p l : List ℕ) → is_nc_name p ≡ true → prefixed p l ≡ p ++ 58 ∷ l
 prefixed_name [] l h = absurd (cc h)
 prefixed_name (c ∷ p) l h = refl
@@ -109,6 +113,7 @@ pub record ReadQName (cs prefix local rest : List ℕ) : Type 0 where
   pub says_local : local ≡ encode_utf8_all name.local
   pub spelt : cs ≡ name_text name ++ rest
 
+-- what is read as a qualified name is spelt as one
 pub qname_sound : (cs prefix local rest : List ℕ) → qname_at cs ≡ Some ((prefix, local), rest) → ReadQName cs prefix local rest
 unfolding qname_at
 qname_sound cs prefix local rest e =
@@ -162,6 +167,7 @@ by_prefix (c ∷ p) l rest s h =
     let b = both_true (is_nc_name (c ∷ p)) (is_nc_name l) h in
     ap qname_at (append_assoc (c ∷ p) (58 ∷ l) rest) ∙ with_prefix c p l rest b.0 b.1 s
 
+-- a qualified name is read whole where no such character follows
 pub qname_complete : (n : QName) (rest : List ℕ) → is_qname n ≡ true → begins is_qname_char rest ≡ false
     → qname_at (name_text n ++ rest) ≡ Some ((encode_utf8_all n.prefix, encode_utf8_all n.local), rest)
 qname_complete n rest h s = by_prefix n.prefix n.local rest s h

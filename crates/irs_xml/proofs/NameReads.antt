@@ -13,14 +13,17 @@ use Rattle.irs_xml.specs.Reading.{name_run, name_rest, name_at, SplitsName, Ends
 use Rattle.irs_xml.specs.Seen.{seen}
 use Rattle.irs_xml.proofs.Seeing.{seen_other, seen_return}
 
+-- a name doesn't begin with CR
 pub start_no_return : (c : ℕ) → is_name_start c ≡ true → c ≢ 13
 unfolding is_name_start
 start_no_return c h e = absurd (let k = subst (λ x. is_name_start x ≡ true) e h in cc k)
 
+-- CR isn't a character of a name
 pub char_no_return : (c : ℕ) → is_name_char c ≡ true → c ≢ 13
 unfolding is_name_char is_name_start
 char_no_return c h e = absurd (let k = subst (λ x. is_name_char x ≡ true) e h in cc k)
 
+-- before the first character the whole text is left
 pub splits_nothing : (text : List ℕ) → SplitsName text text
 splits_nothing text = record { run = []; whole = refl; is_run = refl; is_rest = refl }
 
@@ -33,6 +36,7 @@ run_more c cs h = rw h refl
 rest_more : (c : ℕ) (cs : List ℕ) → is_name_char c ≡ true → name_rest (c ∷ cs) ≡ name_rest cs
 rest_more c cs h = rw h refl
 
+-- a further character of a name is passed over
 pub splits_more : (text left rest : List ℕ) (c : ℕ) → SplitsName text left → IsUtf8 left → left ≡ encode_utf8 c ++ rest
     → is_name_char c ≡ true → SplitsName text rest
 splits_more text left rest c s u e h =
@@ -48,10 +52,12 @@ splits_more text left rest c s u e h =
 ends_nothing : (left : List ℕ) → chars left ≡ [] → EndsName left
 ends_nothing left e = record { no_run = ap name_run e; no_rest = ap name_rest e ∙ sym e }
 
+-- a name ends at the end of the text
 pub ends_empty : (left : List ℕ) → length left ≡ 0 → EndsName left
 ends_empty [] e = ends_nothing [] chars-nil
 ends_empty (b ∷ bs) e = absurd (omega arith)
 
+-- a name ends before a character that names can't have
 pub ends_other : (left rest : List ℕ) (c : ℕ) → IsUtf8 left → left ≡ encode_utf8 c ++ rest → is_name_char c ≡ false
     → EndsName left
 ends_other left rest c u e h =
@@ -91,6 +97,7 @@ none_run cs f = ap name_run f.is ∙ (let h = f.apart in rw h refl)
 none_rest : (cs : List ℕ) → OtherFront cs → name_rest cs ≡ cs
 none_rest cs f = ap name_rest f.is ∙ (let h = f.apart in rw h (sym f.is))
 
+-- reading line ends as LF doesn't change the name in front
 pub run-ends : (cs : List ℕ) → name_run (ends_after false cs) ≡ name_run cs
 unfolding ends_after
 run-ends [] = refl
@@ -100,6 +107,7 @@ run-ends (c ∷ cs) = elim (cases_Bool (is_name_char c)) [
   | inr h ↦ none_run (ends_after false (c ∷ cs)) (other_front c cs h) ∙ (rw h refl)
 ]
 
+-- line ends are read as LF before or after the name is passed over, with the same result
 pub rest-ends : (cs : List ℕ) → name_rest (ends_after false cs) ≡ ends_after false (name_rest cs)
 unfolding ends_after
 rest-ends [] = refl
@@ -112,6 +120,7 @@ rest-ends (c ∷ cs) = elim (cases_Bool (is_name_char c)) [
     other_rest : (c : ℕ) (cs : List ℕ) → is_name_char c ≡ false → name_rest (c ∷ cs) ≡ c ∷ cs
     other_rest c cs h = rw h refl
 
+-- there is no name at the end of a text
 pub no_name_at_end : (text : List ℕ) → seen text ≡ [] → name_at (seen text) ≡ None
 no_name_at_end text e = ap name_at e
 
@@ -154,6 +163,7 @@ whole_of {text} {behind} {left} {c} n =
 length_of : (text xs left : List ℕ) → text ≡ xs ++ left → length text - length left ≡ length xs
 length_of text xs left e = let l = ap length e ∙ length-append xs left in omega (arith, l)
 
+-- a name that is read ends between two characters of the text
 pub may_split : {text behind left : List ℕ} {c : ℕ} → Named text behind left c → IsUtf8 left
     → IsCharBoundary text (length text - length left)
 may_split {text} {behind} {left} {c} n u =
@@ -169,6 +179,7 @@ cut_back : (text xs left : List ℕ) → text ≡ xs ++ left → drop (length te
 cut_back text xs left e =
     ap (λ n. drop n text) (length_of text xs left e) ∙ ap (drop (length xs)) e ∙ drop-append_seam xs left
 
+-- the name that the definitions read is the text up to where the code stops
 pub name_read : {text behind left : List ℕ} {c : ℕ} → Named text behind left c
     → name_at (seen text) ≡ Some (take (length text - length left) text, seen (drop (length text - length left) text))
 unfolding seen

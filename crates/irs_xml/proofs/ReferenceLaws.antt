@@ -144,6 +144,7 @@ named_sound r c n w cs x rest ok says text found is =
       spelt = ap (λ t. 38 ∷ t) (after_sound w cs x found) ∙ ap (λ p. 38 ∷ (w ++ p.1)) same ∙ ap (λ t. t ++ rest) (sym text);
     }
 
+-- what is read as a reference is spelt as one
 pub reference_sound : (cs : List ℕ) (c : ℕ) (rest : List ℕ) → reference_at cs ≡ Some (c, rest) → ReadReference cs c rest
 unfolding reference_at
 reference_sound cs c rest e =

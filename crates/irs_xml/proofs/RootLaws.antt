@@ -349,6 +349,7 @@ ended_is : (x : Data) (cs : List ℕ) (d : Data) → ended x cs ≡ Some d → (
 ended_is x [] d e = (same_some e, refl)
 ended_is x (c ∷ cs) d e = absurd (cc e)
 
+-- what is read as a document is spelt as one and means the value that was read
 pub document_sound : (cs : List ℕ) (d : Data) → document_at cs ≡ Some d → ReadDocument cs d
 unfolding document_at
 document_sound cs d e =
@@ -371,6 +372,7 @@ document_sound cs d e =
       means = root.means ∙ ap (λ x. Some x) end.0;
     }
 
+-- a document that follows the rules and means a value is read as that value
 pub document_complete : (doc : Document) (d : Data) → IsDocument doc → document_value doc ≡ Some d → document_at (document_text doc) ≡ Some d
 unfolding document_at
 document_complete doc d is means =

@@ -12,11 +12,13 @@ other : (b : Bool) (c : ℕ) (cs : List ℕ) → c ≢ 13 → (b ≡ true → c 
 unfolding ends_after
 other b c cs h k = grind (arith, nat_tests)
 
+-- an empty text has no characters
 pub seen_nothing : (bs : List ℕ) → length bs ≡ 0 → seen bs ≡ []
 unfolding seen ends_after
 seen_nothing [] e = rw chars-nil refl
 seen_nothing (b ∷ bs) e = absurd (omega arith)
 
+-- a character other than CR is seen as it is
 pub seen_other : (bs rest : List ℕ) (c : ℕ) → IsUtf8 bs → bs ≡ encode_utf8 c ++ rest → c ≢ 13 → seen bs ≡ c ∷ seen rest
 unfolding seen
 seen_other bs rest c u e h = ap (ends_after false) (chars_past_char bs rest c u e) ∙ other false c (chars rest) h (λ t. cc)
@@ -48,10 +50,12 @@ fed : (cs : List ℕ) → ends_after true (10 ∷ cs) ≡ ends_after false cs
 unfolding ends_after
 fed cs = refl
 
+-- CR is seen as LF
 pub seen_return : (bs rest : List ℕ) → IsUtf8 bs → bs ≡ encode_utf8 13 ++ rest → seen bs ≡ 10 ∷ ends_after true (chars rest)
 unfolding seen
 seen_return bs rest u e = ap (ends_after false) (chars_past_char bs rest 13 u e) ∙ returned (chars rest)
 
+-- LF after CR isn't seen again
 pub behind_feed : (rest more : List ℕ) → IsUtf8 rest → rest ≡ encode_utf8 10 ++ more → ends_after true (chars rest) ≡ seen more
 unfolding seen
 behind_feed rest more u e = ap (ends_after true) (chars_past_char rest more 10 u e) ∙ fed (chars more)
@@ -67,6 +71,7 @@ encode_feed : (more : List ℕ) → encode_utf8 10 ++ more ≡ 10 ∷ more
 unfolding encode_utf8
 encode_feed more = refl
 
+-- after CR anything but LF is seen as it is
 pub behind_alone : (rest : List ℕ) → IsUtf8 rest → ((more : List ℕ) → rest ≡ 10 ∷ more → ⊥) → ends_after true (chars rest) ≡ seen rest
 unfolding seen
 behind_alone rest u h = alone (chars rest) (λ more e.

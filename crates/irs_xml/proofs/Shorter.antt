@@ -16,13 +16,16 @@ use Rattle.irs_xml.proofs.ValueSteps.{reference_short}
 after_short : (w cs rest : List ℕ) → after w cs ≡ Some rest → length rest ≤ length cs
 after_short w cs rest e = let l = length_after w cs rest e in omega (arith, l)
 
+-- skipping white space makes nothing longer
 pub skip_short : (cs : List ℕ) → length (skip_space cs) ≤ length cs
 skip_short cs = let l = ap length (skip_sound cs) ∙ length-append (white_run cs) (skip_space cs) in omega (arith, l)
 
+-- reading a comment makes nothing longer
 pub comment_short : (cs rest : List ℕ) → comment_at cs ≡ Some rest → length rest ≤ length cs
 comment_short cs rest e =
     let r = comment_sound cs rest e in let l = ap length r.spelt ∙ length-append (comment_text r.text) rest in omega (arith, l)
 
+-- reading an instruction makes nothing longer
 pub instruction_short : (cs rest : List ℕ) → instruction_at cs ≡ Some rest → length rest ≤ length cs
 instruction_short cs rest e =
     let r = instruction_sound cs rest e in
@@ -59,6 +62,7 @@ markup_short cs m rest e =
     by_word w k x found is =
         let s = after_short w cs x found in let l = ap (λ p. length p.1) (same_some is) in omega (arith, s, l)
 
+-- reading a mark leaves less
 pub mark_short : (cs : List ℕ) (m : Mark) (rest : List ℕ) → mark_at cs ≡ Some (m, rest) → length rest < length cs
 unfolding mark_at
 mark_short [] m rest e = absurd (cc e)
@@ -81,6 +85,7 @@ mark_short (c ∷ cs) m rest e =
 pub record Shortens (child : List ℕ → Got Child) : Type 0 where
   pub less : (cs : List ℕ) (c : Child) (rest : List ℕ) → child cs ≡ Some (c, rest) → length rest ≤ length cs
 
+-- reading a piece of content makes nothing longer
 pub piece_short : (child : List ℕ → Got Child) (i : Inside) (m : Mark) (cs : List ℕ) (x : Bool × Inside) (rest : List ℕ) → Shortens child
     → piece_at child i m cs ≡ Some (x, rest) → length rest ≤ length cs
 unfolding piece_at
@@ -166,6 +171,7 @@ element_short child root kept inner o b cs c rest s e =
     let y = as_child_same (is_ours root inner o) o _ a.0.1 c rest a.2 in
     omega (arith, x, y)
 
+-- reading an element makes nothing longer
 pub child_short : (root : List ℕ) (levels : ℕ) (kept : Bool) (outer : Scope) → Shortens (child_at root levels kept outer)
 unfolding child_at
 child_short root zero kept outer = record { less = λ cs c rest e. absurd (cc e) }

@@ -358,6 +358,7 @@ mark_most (c ∷ cs) = by_mark (nat_eq c 0xFEFF)
     by_mark true = later c cs
     by_mark false = omega arith
 
+-- a value has no more text than its document has bytes
 pub no_larger : (bytes : List ℕ) (d : Data) → XmlReads bytes d → text_size d ≤ length bytes
 no_larger bytes d r =
     let m = document_most r.document d r.means in

@@ -67,6 +67,7 @@ piece_sound c cs d rest e =
       ]
     ]
 
+-- what is read as an attribute's value is spelt as one
 pub value_sound : (n quote : ℕ) (text cs out rest : List ℕ) → value_at n quote text cs ≡ Some (out, rest) → ReadValue quote text cs out rest
 unfolding value_at
 value_sound zero quote text cs out rest e = absurd (cc e)
@@ -96,6 +97,7 @@ value_sound (suc n) quote text (c ∷ cs) out rest e =
 quote_no_mark : (q : ℕ) → is_quote q ≡ true → nat_eq 38 q ≡ false
 quote_no_mark q h = grind (arith, nat_tests)
 
+-- a reference begins with `&`
 pub reference_begins : (r : Reference) (rest : List ℕ) → reference_text r ++ rest ≡ 38 ∷ tail (reference_text r ++ rest)
 reference_begins less rest = refl
 reference_begins greater rest = refl
@@ -126,6 +128,7 @@ value_end : (n quote : ℕ) (text rest : List ℕ) → value_at (suc n) quote te
 unfolding value_at
 value_end n quote text rest = let e = true_eq quote in rw e (ap (λ t. Some (t, rest)) (sym (append-nil text)))
 
+-- a reference has at least one character
 pub reference_some : (r : Reference) → 1 ≤ length (reference_text r)
 reference_some less = omega arith
 reference_some greater = omega arith
@@ -135,6 +138,7 @@ reference_some quotation = omega arith
 reference_some (decimal ds) = omega arith
 reference_some (hexadecimal ds) = omega arith
 
+-- every value that follows the rules is read up to its quote
 pub value_complete : (n quote : ℕ) (text : List ℕ) (ps : List Piece) (rest : List ℕ) → is_quote quote ≡ true → are_pieces quote ps ≡ true
     → length (pieces_text ps ++ quote ∷ rest) ≤ n → value_at n quote text (pieces_text ps ++ quote ∷ rest) ≡ Some (text ++ pieces_value ps, rest)
 value_complete zero quote text [] rest q are l = absurd (omega (arith, l))
@@ -162,6 +166,7 @@ value_complete (suc n) quote text (refers r ∷ ps) rest q are l =
 
 -- attributes
 
+-- what is read as a quote is one
 pub quote_sound : (cs : List ℕ) (q : ℕ) (rest : List ℕ) → quote_at cs ≡ Some (q, rest) → (is_quote q ≡ true) × (cs ≡ q ∷ rest)
 unfolding quote_at
 quote_sound cs q rest e =
@@ -185,6 +190,7 @@ single_quote : (rest : List ℕ) → quote_at (39 ∷ rest) ≡ Some (39, rest)
 unfolding quote_at
 single_quote rest = refl
 
+-- every quote is read
 pub quote_complete : (q : ℕ) (rest : List ℕ) → is_quote q ≡ true → quote_at (q ∷ rest) ≡ Some (q, rest)
 quote_complete q rest h = elim (cases_Bool (nat_eq q 34)) [
   | inl e ↦ subst (λ x. quote_at (x ∷ rest) ≡ Some (x, rest)) (sym (eq_true q 34 e)) (double_quote rest)
@@ -201,6 +207,7 @@ pub record ReadEquals (cs rest : List ℕ) : Type 0 where
   pub white_after : is_white after ≡ true
   pub spelt : cs ≡ before ++ (61 ∷ (after ++ rest))
 
+-- what is read as `=` is `=` with white space round it
 pub equals_sound : (cs rest : List ℕ) → equals_at cs ≡ Some rest → ReadEquals cs rest
 unfolding equals_at
 equals_sound cs rest e =
@@ -217,6 +224,7 @@ equals_no_space : is_space 61 ≡ false
 unfolding is_space
 equals_no_space = refl
 
+-- `=` is read with the white space round it
 pub equals_complete : (before after rest : List ℕ) → is_white before ≡ true → is_white after ≡ true → begins is_space rest ≡ false
     → equals_at (before ++ (61 ∷ (after ++ rest))) ≡ Some rest
 unfolding equals_at
@@ -390,6 +398,7 @@ unfolding is_space
 end_no_space false rest = refl
 end_no_space true rest = refl
 
+-- a quote isn't white space
 pub quote_no_space : (q : ℕ) (rest : List ℕ) → is_quote q ≡ true → begins is_space (q ∷ rest) ≡ false
 unfolding is_space
 quote_no_space q rest h = grind (arith, nat_tests)
@@ -439,6 +448,7 @@ nc_begins : (ns : List ℕ) → is_nc_name ns ≡ true → (c : ℕ) × (cs : Li
 nc_begins [] h = absurd (cc h)
 nc_begins (c ∷ cs) h = (c, cs, refl, (both_true (is_name_start c) (list_all is_name_char cs) h).0)
 
+-- a qualified name begins as a name does
 pub prefixed_begins : (p l : List ℕ) → is_prefix p && is_nc_name l ≡ true → (c : ℕ) × (cs : List ℕ) × (prefixed p l ≡ c ∷ cs) × (is_name_start c ≡ true)
 prefixed_begins [] l h = nc_begins l h
 prefixed_begins (c ∷ p) l h =
@@ -487,6 +497,7 @@ settings_next n ss a rest l =
     let one = setting_complete a rest l in
     rw (skip, none, gap) (rw one refl)
 
+-- attributes that follow the rules are read to the tag's end, if no more than are allowed
 pub settings_complete : (n : ℕ) (ss : List Setting) (xs : List Attribute) (space : List ℕ) (b : Bool) (rest : List ℕ) → are_attributes xs ≡ true
     → length xs ≤ n → is_white space ≡ true
     → settings_at n ss (attributes_text xs ++ (space ++ (end_text b ++ rest))) ≡ Some ((ss ++ settings_of xs, b), rest)
@@ -512,6 +523,7 @@ opening_parts : (p l p' l' : List ℕ) (s s' : List Setting) → p ≡ p' → l 
     → ◌≡◌ {A = Opening} (record { prefix = p; local = l; settings = s }) (record { prefix = p'; local = l'; settings = s' })
 opening_parts p l p' l' s s' a b c = λ i. record { prefix = a i; local = b i; settings = c i }
 
+-- what is read as a tag is spelt as one
 pub tag_sound : (cs : List ℕ) (o : Opening) (b : Bool) (rest : List ℕ) → tag_at cs ≡ Some ((o, b), rest) → ReadTag cs o b rest
 unfolding tag_at
 tag_sound cs o b rest e =

@@ -30,6 +30,7 @@ pub record ValueGoes (quote : ℕ) (text cs all : List ℕ) : Type 0 where
   pub enough : length cs ≤ fuel
   pub same : value_at fuel quote text cs ≡ value_at (length all) quote [] all
 
+-- before the first character the whole value is left
 pub value_starts : (quote : ℕ) (all : List ℕ) → ValueGoes quote [] all all
 value_starts quote all = record { fuel = length all; enough = omega arith; same = refl }
 
@@ -57,6 +58,7 @@ character_short c cs d rest e =
       ]
     ]
 
+-- a character of the value is appended to the text so far
 pub value_more : (quote : ℕ) (text : List ℕ) (c : ℕ) (cs : List ℕ) (d : ℕ) (rest all : List ℕ) → c ≢ quote
     → value_character_at c cs ≡ Some (d, rest) → ValueGoes quote text (c ∷ cs) all → ValueGoes quote (text ++ encode_utf8 d) rest all
 unfolding value_at
@@ -73,6 +75,7 @@ pub value_shorter : (c : ℕ) (old cs : List ℕ) (d : ℕ) (rest : List ℕ) �
 value_shorter c old cs d rest e read =
     let short = character_short c cs d rest read in let l = ap length e in omega (arith, short, l)
 
+-- a value with a wrong character isn't read
 pub value_wrong : (quote : ℕ) (text : List ℕ) (c : ℕ) (cs all : List ℕ) → c ≢ quote → value_character_at c cs ≡ None
     → ValueGoes quote text (c ∷ cs) all → value_at (length all) quote [] all ≡ None
 unfolding value_at
@@ -81,6 +84,7 @@ value_wrong quote text c cs all q read g =
     let eq = false_eq c quote q in
     sym (rw (eq, read) at s.same)
 
+-- the quote ends the value with the text so far
 pub value_ends : (quote : ℕ) (text cs all : List ℕ) → ValueGoes quote text (quote ∷ cs) all → value_at (length all) quote [] all ≡ Some (text, cs)
 unfolding value_at
 value_ends quote text cs all g =
@@ -88,6 +92,7 @@ value_ends quote text cs all g =
     let eq = true_eq quote in
     sym (rw eq at s.same)
 
+-- a value without its end quote isn't read
 pub value_stops : (quote : ℕ) (text all : List ℕ) → ValueGoes quote text [] all → value_at (length all) quote [] all ≡ None
 unfolding value_at
 value_stops quote text all g = sym g.same ∙ nothing g.fuel

@@ -118,7 +118,8 @@ is_fpml None = false
 is_fpml (Some []) = true
 is_fpml (Some (c ∷ cs)) = starts_with nat_eq (c ∷ cs) (codes "http://www.fpml.org/FpML-5/")
 
--- a well-formed document: what is round the root follows the rules, and the root is of FpML 5 or has no namespace
+-- a well-formed document: what is round the root follows the rules, and so does the root.
+-- The root's namespace is one of FpML 5, or none.
 pub record IsDocument (d : Document) : Type 0 where
   pub declared : is_xml_declaration d.declaration ≡ true
   pub before : is_misc d.before ≡ true

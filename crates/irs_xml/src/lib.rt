@@ -1,5 +1,5 @@
-//! FpML XML as a value. The crate reads XML 1.0 and Namespaces in XML 1.0. A document means a value:
-//! the JSON in which we carry FpML.
+//! FpML XML as a value. The crate reads XML 1.0 with Namespaces in XML 1.0. A document means a
+//! value: the JSON in which we carry FpML.
 #![tactic(auto)]
 
 mod chars;
