@@ -39,11 +39,12 @@ IsGrown method daily os k (Known f) = AreKnown daily (take k os) × Follows meth
 IsGrown method daily os k Passed = AreKnown daily (take k os) × PassesBy method daily os
 IsGrown method daily os k Absent = AreKnown daily os → ⊥
 
+-- a year has a day or more
 pub some_days : (year : YearDays) → 1 ≤ days_of_year year
 some_days Days360 = omega arith
 some_days Days365 = omega arith
 
--- before the first observation
+-- what is known before the first observation
 pub grown_none : (method : DailyRateMethod) (daily : DailyRates) (os : List Observation) (g : Growth)
     → g ≡ Known (first_factor method) → IsGrown method daily os 0 g
 grown_none (Compounding year) daily os g e =
@@ -58,7 +59,7 @@ some_of r o e = subst IsSome (sym e) refl
 
 module _ (daily : DailyRates) (os : List Observation) (k : ℕ) (o : Observation) (low : k < length os)
     (is : get_or os k o ≡ o) where
-  -- a rate more is known
+  -- one more rate is known
   known_more : (r : ℤ) → daily o.observed ≡ Some r → AreKnown daily (take k os) → AreKnown daily (take (k + 1) os)
   known_more r rate known =
       every_more (λ (x : Observation). IsSome (daily x.observed)) os k o low is known (some_of r (daily o.observed) rate)
@@ -108,7 +109,7 @@ module _ (daily : DailyRates) (os : List Observation) (k : ℕ) (o : Observation
       (known_more r rate known, passes_next method weights r rate f step.0 step.1 step.2 h)
   stepped_more method weights r rate f Absent known h step = absurd step
 
-  -- with a rate more
+  -- what is known with one more rate
   with_rate : (method : DailyRateMethod) → HasWeights os → (r : ℤ) → daily o.observed ≡ Some r → (before after : Growth)
       → IsGrown method daily os k before → IsNext method (Some r) o.weight before after
       → IsGrown method daily os (k + 1) after
@@ -124,13 +125,13 @@ module _ (daily : DailyRates) (os : List Observation) (k : ℕ) (o : Observation
   by_rate method weights None rate before after h next =
       subst (IsGrown method daily os (k + 1)) (sym next) (absent_at daily os k o low is rate)
 
-  -- with one observation more
+  -- what is known with one more observation
   pub grown_more : (method : DailyRateMethod) → HasWeights os → (rate : Option ℤ) → rate ≡ daily o.observed
       → (before after : Growth) → IsGrown method daily os k before → IsNext method rate o.weight before after
       → IsGrown method daily os (k + 1) after
   grown_more method weights rate e before after h next = by_rate method weights rate (sym e) before after h next
 
--- after all of them
+-- what is known after all observations
 pub grown_all : (method : DailyRateMethod) (daily : DailyRates) (os : List Observation) (k : ℕ) (g : Growth)
     → length os ≤ k → IsGrown method daily os k g → IsGrowthOf method daily os g
 grown_all (Compounding year) daily os k (Known f) all h =

@@ -35,6 +35,7 @@ one_sum daily o f g h a b =
     let same : a.rate ≡ b.rate = some_is a.rate b.rate (sym a.is_rate ∙ b.is_rate) in
     a.sum ∙ ap (λ (r : ℤ). f +ℤ r *ℤ pos o.weight) same ∙ sym b.sum
 
+-- observations have at most one factor
 pub one_factor_by : (method : DailyRateMethod) (daily : DailyRates) (os : List Observation) (f g : ℤ)
     → IsFactor method daily os f → IsFactor method daily os g → f ≡ g
 one_factor_by (Compounding year) daily os f g a b =
@@ -49,6 +50,7 @@ known_through Step daily takes [] f g h = tt
 known_through Step daily takes (o ∷ os) f g h =
     (takes o f h.0 h.1, known_through Step daily takes os h.0 g h.2)
 
+-- where observations have a factor, each of their daily rates is known
 pub known_by : (method : DailyRateMethod) (daily : DailyRates) (os : List Observation) (f : ℤ) → IsFactor method daily os f
     → AreKnown daily os
 known_by (Compounding year) daily os f h =
@@ -57,6 +59,7 @@ known_by (Compounding year) daily os f h =
 known_by Averaging daily os f h =
     known_through (AddsBy daily) daily (λ o f g by. some_of by.rate (daily o.observed) by.is_rate) os (pos 0) f h
 
+-- observations have at most one factor, absent or not
 pub one_or_absent : (method : DailyRateMethod) (daily : DailyRates) (os : List Observation) (f g : Option ℤ)
     → IsFactorOrAbsent method daily os f → IsFactorOrAbsent method daily os g → f ≡ g
 one_or_absent method daily os None None a b = refl

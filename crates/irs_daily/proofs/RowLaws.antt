@@ -122,6 +122,7 @@ show_of source daily i kind rows r (inr over) (inr h) =
     show_by source daily i over.1.observations rows r over.1.is_rate
     (subst (λ (os : List Observation). AreRowsBy source.method daily i os rows) same h.1.are_rows)
 
+-- the rows of each period show its observed rate
 pub rows_show_rates : (source : OvernightSource) (rates : RateTable) → RowsShowRates source rates
 rows_show_rates source rates i r rows is h =
     let daily : DailyRates = daily_rates rates source.index in

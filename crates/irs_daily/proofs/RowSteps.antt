@@ -20,7 +20,7 @@ flat_suc f (y ∷ ys) (suc i) d less =
     ap (λ (l : List ℕ). f y ++ l) (flat_suc f ys i d (omega (arith, less)))
     ∙ sym (append_assoc (f y) (flat_map f (take i ys)) (f (get_or ys i d)))
 
--- the next line stands behind the others
+-- the next line is after the others
 pub lines_more : {X : Type 0} (f : X → List ℕ) (head old new line : List ℕ) (xs : List X) (i : ℕ) (d : X) → i < length xs
     → old ≡ head ++ flat_map f (take i xs) → new ≡ old ++ line → line ≡ f (get_or xs i d)
     → new ≡ head ++ flat_map f (take (i + 1) xs)
@@ -31,7 +31,7 @@ lines_more f head old new line xs i d less before grown is =
     ∙ ap (λ (l : List ℕ). head ++ (rows ++ l)) is ∙ ap (λ (l : List ℕ). head ++ l) (sym (flat_suc f xs i d less))
     ∙ ap (λ (k : ℕ). head ++ flat_map f (take k xs)) n
 
--- all lines stand there
+-- all lines are there
 pub lines_whole : {X : Type 0} (f : X → List ℕ) (head text : List ℕ) (xs : List X) (i : ℕ) → length xs ≤ i
     → text ≡ head ++ flat_map f (take i xs) → text ≡ head ++ flat_map f xs
 lines_whole f head text xs i more e = e ∙ ap (λ (l : List _). head ++ flat_map f l) (take_all i xs more)
@@ -46,6 +46,7 @@ rows_suc daily n (o ∷ os) zero d less = refl
 rows_suc daily n (o ∷ os) (suc k) d less =
     ap (λ (l : List ObservedRow). day_row daily n o ∷ l) (rows_suc daily n os k d (omega (arith, less)))
 
+-- the rows of one observation more are those before it and its own row
 pub rows_more : (daily : DailyRates) (n : ℕ) (os : List Observation) (k : ℕ) (o : Observation) → k < length os
     → get_or os k o ≡ o
     → day_rows daily n (take (k + 1) os) ≡ day_rows daily n (take k os) ++ day_row daily n o ∷ []
@@ -64,6 +65,7 @@ days_more daily n os k o rate rows less is known before =
     ap (λ (l : List ObservedRow). l ++ row rate ∷ []) before
     ∙ ap (λ (r : Option ℤ). day_rows daily n (take k os) ++ row r ∷ []) known ∙ sym (rows_more daily n os k o less is)
 
+-- from the last observation on, the rows are those of all observations
 pub rows_all : (daily : DailyRates) (n : ℕ) (os : List Observation) (k : ℕ) → length os ≤ k
     → day_rows daily n (take k os) ≡ day_rows daily n os
 rows_all daily n os k all = ap (λ (l : List Observation). day_rows daily n l) (take_all k os all)

@@ -17,7 +17,8 @@ abbrev pub first_factor : DailyRateMethod → ℤ
 first_factor (Compounding year) = one_factor rate_precision
 first_factor Averaging = pos 0
 
--- the factor f becomes g by a daily rate over a number of days; a sum grows by at most 10 times these days in size
+-- the factor f becomes g by a daily rate over a number of days.
+-- A sum grows in size by at most 10 times these days.
 abbrev pub StepsBy : DailyRateMethod → ℤ → ℕ → ℤ → ℤ → Type 0
 StepsBy (Compounding year) rate weight f g =
     Rounded Nearest (f *ℤ (year_of (days_of_year year) +ℤ rate *ℤ pos weight)) (year_of (days_of_year year)) g

@@ -50,8 +50,8 @@ abbrev pub rows_with : OvernightSource → DailyRates → ℕ → Option ℤ →
 rows_with source daily i factor os =
     Daily (record { number = i; method = source.method; factor = factor }) ∷ day_rows daily i os
 
--- the rows of period i show its observed rate: a stub's own rate has one row; the factor that is shown gives a rate of
--- daily rates, and is absent where the rate is
+-- the rows of period i show its observed rate. A stub's own rate has one row. The factor that is shown
+-- gives the rate, and is absent where the rate is.
 abbrev pub Show : OvernightSource → DailyRates → ℕ → List ObservedRow → OvernightRate → Type 0
 Show source daily i rows (Stated rate) = rows ≡ Stub i ∷ []
 Show source daily i rows (Known x) =

@@ -1,4 +1,4 @@
--- The days behind each rate of a stream with calculation parameters, as rows. Periods count from 1.
+-- The days that make up each rate of a stream with calculation parameters, as rows. Periods count from 1.
 use Rattle.std.specs.Prelude.{◌≡◌, ◌⊎◌, ℕ, List, [], ◌∷◌, length, Option, ℤ}
 use Rattle.std.specs.List.{flat_map}
 use Rattle.irs_base.specs.Members.{EachNumbered}
@@ -15,8 +15,8 @@ use Rattle.irs_daily.specs.PeriodFactors.{IsFactorOrAbsent}
 use Rattle.irs_daily.specs.declared.rows.ObservedRow.{ObservedRow}
 use Rattle.irs_daily.specs.declared.rows.ObservedRow.TheVariants.{Daily, Stub, Observed}
 
--- the row of an observation of period i: the member with its weight and its observation day, and the daily rate of
--- that day, absent where no line of the fixings has it
+-- the row of an observation of period i: the member, its weight, its observation day and that day's rate.
+-- The rate is absent where no line of the fixings has it.
 abbrev pub day_row : DailyRates → ℕ → Observation → ObservedRow
 day_row daily i o = Observed (record { number = i; observation = o; rate = daily o.observed })
 
@@ -39,8 +39,8 @@ pub record AreDailyRows (method : DailyRateMethod) (daily : DailyRates) (p : Obs
   pub are_observations : AreObservations p observations
   pub are_rows : AreRowsBy method daily i observations rows
 
--- the rows of period i, which is of that kind: a stub with a rate of its own has one row and no days, and every other
--- period takes daily rates
+-- the rows of period i, which is of that kind. A stub with a rate of its own has one row and no days.
+-- Every other period takes daily rates.
 abbrev pub AreRowsOfKind : OvernightSource → DailyRates → ℕ → PeriodKind → List ObservedRow → Type 0
 AreRowsOfKind source daily i kind rows =
     (HasOwnRate kind source.stream.stubs × (rows ≡ Stub i ∷ []))

@@ -7,8 +7,8 @@ use Rattle.irs_observed.specs.declared.method.DailyRateMethod.{DailyRateMethod}
 use Rattle.irs_observed.specs.declared.method.DailyRateMethod.TheVariants.{Compounding, Averaging}
 use Rattle.irs_observed.specs.declared.observation.Observation.{Observation}
 
--- f is the last compounded factor, in units of 10^-18; or by averages the sum of the daily rates, each times its
--- weight, in units of 10^-9
+-- f is the last compounded factor, in units of 10^-18. By averages it is the sum of the daily rates,
+-- each times its weight, in units of 10^-9.
 abbrev pub IsFactor : DailyRateMethod → DailyRates → List Observation → ℤ → Type 0
 IsFactor (Compounding year) daily os f = Grows (days_of_year year) daily os (one_factor rate_precision) f
 IsFactor Averaging daily os f = Through (AddsBy daily) os (pos 0) f

@@ -1,4 +1,4 @@
--- The text of the days behind each rate: a line for each row, between a first line and a last one.
+-- The text of the days that make up each rate: a line for each row, between a first line and a last one.
 use Rattle.std.specs.Prelude.{ℕ, ℤ, List, ◌∷◌, ◌++◌, codes, decimal, Option, Some, None}
 use Rattle.std.specs.List.{flat_map}
 use Rattle.irs_base.specs.Texts.{day_text, dec_text, factor_places}

@@ -75,7 +75,7 @@ fn grown_factor(factor: i128, grown: i128) -> i128
     product(factor, grown)
 }
 
-// The factor after another by a rate over a number of days.
+// The next factor by a rate over a number of days.
 fn next_factor(year: YearDays, factor: i128, rate: i64, weight: u32) -> i128
     requires factor { unsigned_abs factor ≤ most_factor }
     requires rate { IsRate rate }
@@ -87,7 +87,7 @@ fn next_factor(year: YearDays, factor: i128, rate: i64, weight: u32) -> i128
     round(Direction::Nearest, grown_factor(factor, grown), one)
 }
 
-// The sum after another.
+// The sum with one more rate.
 fn next_sum(sum: i128, rate: i64, weight: u32) -> i128
     requires sum { unsigned_abs sum ≤ most_factor }
     requires rate { IsRate rate }
@@ -97,7 +97,7 @@ fn next_sum(sum: i128, rate: i64, weight: u32) -> i128
     sum + interest(rate, weight)
 }
 
-// The factor or the sum after another.
+// The next factor or sum.
 fn next_by(method: DailyRateMethod, factor: i128, rate: i64, weight: u32) -> i128
     requires factor { unsigned_abs factor ≤ most_factor }
     requires rate { IsRate rate }
@@ -126,7 +126,7 @@ fn stepped(method: DailyRateMethod, factor: i128, rate: i64, weight: u32) -> Gro
     }
 }
 
-// What is known with a rate more.
+// What is known with one more rate.
 fn with_rate(method: DailyRateMethod, growth: Growth, rate: i64, weight: u32) -> Growth
     requires before { IsSmall growth }
     requires rate { IsRate rate }
@@ -141,7 +141,7 @@ fn with_rate(method: DailyRateMethod, growth: Growth, rate: i64, weight: u32) ->
     }
 }
 
-/// What is known after one observation more, of this rate and weight.
+/// What is known after one more observation, of this rate and weight.
 pub(crate) fn grown(
     method: DailyRateMethod,
     growth: Growth,

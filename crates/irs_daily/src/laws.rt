@@ -14,8 +14,8 @@ pub fn rates_have_rows()
     ensures { (source : OvernightSource) (rates : RateTable) → RatesHaveRows source rates }
 {}
 
-/// The rows of a period show its observed rate: the factor that is shown gives the rate over the days of the
-/// observation period, and is absent exactly where the rate is.
+/// The rows of a period show its observed rate. The factor that is shown gives the rate over the days of
+/// the observation period, and is absent exactly where the rate is.
 pub fn rows_show_rates()
     ensures { (source : OvernightSource) (rates : RateTable) → RowsShowRates source rates }
 {}

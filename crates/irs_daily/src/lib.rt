@@ -1,5 +1,5 @@
-//! The days behind each rate of a stream with calculation parameters: the rows of its calculation periods and of
-//! their observations, and the text of these rows.
+//! The days that make up each rate of a stream with calculation parameters. They are rows of its calculation
+//! periods and of their observations, and the text of these rows.
 #![tactic(auto)]
 
 mod factors;

@@ -1,4 +1,4 @@
-//! The days behind each rate of a stream with calculation parameters, in rows.
+//! The days that make up each rate of a stream with calculation parameters, in rows.
 ghost use Rattle.std.specs.Prelude.{◌≡◌, ◌++◌, ◌∷◌, ◌<◌, ◌^◌, length, IfSome, OnOk};
 ghost use Rattle.irs_base.specs.Listed.{IsRising};
 ghost use Rattle.irs_base.specs.Outcomes.{Meets};
@@ -32,10 +32,10 @@ fn push_period(rows: &mut ObservedRows, period: &PeriodRows) -> Result<(), Memor
     push_all(rows, period.days.as_slice())
 }
 
-/// The days behind each rate of a stream with calculation parameters: for each calculation period in order a row with
-/// its method and its factor, and after it a row for each observation with its daily rate. A stub with a rate of its
-/// own has one row. `applicable` are the good business days of `applicableBusinessDays`, and `adjusted` the adjusted
-/// boundaries of the periods.
+/// The days that make up each rate of a stream with calculation parameters. Each calculation period, in order, has a
+/// row with its method and its factor. After it is a row for each observation with its daily rate. A stub with a
+/// rate of its own has one row. `applicable` are the good business days of `applicableBusinessDays`, and `adjusted`
+/// the adjusted boundaries of the periods.
 ///
 /// `Broken` is the first calculation period without rows; where a schedule was made with these fixings, there is none.
 /// `Memory` is that memory ran out.

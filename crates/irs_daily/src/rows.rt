@@ -11,7 +11,7 @@ pub struct PeriodRow {
     pub number: u32,
     /// How its daily rates become one rate.
     pub method: DailyRateMethod,
-    /// The last compounded factor, in units of 10^-18; or by averages the sum of the daily rates, each times its
+    /// The last compounded factor, in units of 10^-18. By averages it is the sum of the daily rates, each times its
     /// weight, in units of 10^-9. `None` where a daily rate is absent.
     pub factor: Option<i128>,
 }

@@ -1,4 +1,4 @@
-//! The days behind the rates of periods around Good Friday 2024, in the form that is printed. The texts were worked
+//! The days that make up the rates of periods around Good Friday 2024, as printed. The texts were worked
 //! out by exact fractions in a program of its own.
 ghost use Rattle.std.specs.Prelude.{◌<◌, ◌^◌, length, IfSome};
 ghost use Rattle.irs_base.specs.Listed.{IsRising};

@@ -1,5 +1,5 @@
-//! The text of the days behind each rate: a line for each row, between a first line and a last one. The format is this
-//! project's own.
+//! The text of the days that make up each rate: a line for each row, between a first line and a last one. The format
+//! is ours.
 //!
 //! `c PERIOD METHOD FACTOR` and `o PERIOD DAY WEIGHT OBSERVED RATE`: a compounded factor has 18 decimals, and a sum of
 //! rates and a rate have 9. What is absent is `-`. A stub with a rate of its own is `c PERIOD stub -`.
@@ -24,7 +24,7 @@ fn method_name(method: DailyRateMethod) -> &'static str
     }
 }
 
-// Puts a space and a compounded factor, or a space and `-` where there is none.
+// Appends a space and a compounded factor, or a space and `-` where there is none.
 fn put_compounded(line: &mut Line, factor: Option<i128>)
     requires { length line.old + 60 ≤ 512 }
     ensures text { line.new ≡ line.old ++ 32 ∷ dec_or_dash factor_places factor }
@@ -36,7 +36,7 @@ fn put_compounded(line: &mut Line, factor: Option<i128>)
     }
 }
 
-// Puts a space and a compounded factor.
+// Appends a space and a compounded factor.
 fn put_factor(line: &mut Line, units: i128)
     requires { length line.old + 60 ≤ 512 }
     ensures text { line.new ≡ line.old ++ 32 ∷ dec_or_dash factor_places (Some units) }
@@ -46,7 +46,7 @@ fn put_factor(line: &mut Line, units: i128)
     line.push_factor(units);
 }
 
-// Puts a space and a number with the decimals of a rate, or a space and `-` where there is none.
+// Appends a space and a number with the decimals of a rate, or a space and `-` where there is none.
 fn put_sum(line: &mut Line, sum: Option<i128>)
     requires { length line.old + 60 ≤ 512 }
     ensures text { line.new ≡ line.old ++ 32 ∷ dec_or_dash rate_places sum }
@@ -58,7 +58,7 @@ fn put_sum(line: &mut Line, sum: Option<i128>)
     }
 }
 
-// Puts a space and a rate, or a space and `-` where there is none.
+// Appends a space and a rate, or a space and `-` where there is none.
 fn put_rate(line: &mut Line, rate: Option<i64>)
     requires { length line.old + 60 ≤ 512 }
     ensures text { line.new ≡ line.old ++ 32 ∷ dec_or_dash rate_places rate }
@@ -73,7 +73,7 @@ fn put_rate(line: &mut Line, rate: Option<i64>)
     }
 }
 
-// Puts a space and a factor with its decimals.
+// Appends a space and a factor with its decimals, or a space and `-` where there is none.
 fn put_by_method(line: &mut Line, method: DailyRateMethod, factor: Option<i128>)
     requires { length line.old + 60 ≤ 512 }
     ensures text { line.new ≡ line.old ++ 32 ∷ dec_or_dash (factor_decimals method) factor }
@@ -85,7 +85,7 @@ fn put_by_method(line: &mut Line, method: DailyRateMethod, factor: Option<i128>)
     }
 }
 
-// Puts the fields of a period into an empty line.
+// Writes the fields of a period to an empty line.
 fn put_period(line: &mut Line, row: &PeriodRow)
     requires { line.old ≡ [] }
     ensures text { line.new ≡ period_fields row.now }
@@ -97,7 +97,7 @@ fn put_period(line: &mut Line, row: &PeriodRow)
     put_by_method(line, row.method, row.factor);
 }
 
-// Puts the fields of a stub with a rate of its own into an empty line.
+// Writes the fields of a stub with a rate of its own to an empty line.
 fn put_stub(line: &mut Line, number: u32)
     requires { line.old ≡ [] }
     ensures text { line.new ≡ stub_fields number }
@@ -108,7 +108,7 @@ fn put_stub(line: &mut Line, number: u32)
     line.push(b" stub -");
 }
 
-// Puts the fields of an observation into an empty line.
+// Writes the fields of an observation to an empty line.
 fn put_observed(line: &mut Line, row: &DayRow)
     requires { line.old ≡ [] }
     ensures text { line.new ≡ day_fields row.now }
@@ -122,7 +122,7 @@ fn put_observed(line: &mut Line, row: &DayRow)
     put_rate(line, row.rate);
 }
 
-// Puts the fields of a row into an empty line.
+// Writes the fields of a row to an empty line.
 fn put_row(line: &mut Line, row: &ObservedRow)
     requires { line.old ≡ [] }
     ensures text { line.new ≡ row_fields row.now }
@@ -135,7 +135,7 @@ fn put_row(line: &mut Line, row: &ObservedRow)
     }
 }
 
-// Replaces what the line holds by the line of a row.
+// Replaces what the line holds with the line of a row.
 #[tactic(auto, unfolding(crate::specs::RowTexts::row_line))]
 fn row_line(row: &ObservedRow, line: &mut Line)
     ensures { line.new ≡ row_line row.now }
