@@ -1,4 +1,4 @@
--- The good days of the centres that elements name: their range, and the table that has them.
+-- The good business days of the centres that elements name: their range, and the table that has them.
 use Rattle.std.proofs.Common.{◌≡◌, slice_get, ℕ, ◌+◌, ◌<◌, List, [], ◌∷◌, ◌++◌, Option, Some, None, Contains, map}
 use Rattle.std.proofs.Common.{get_or, ℤ, IfSome, length, refl, sym, ◌∙◌, subst}
 use Rattle.std.proofs.lemmas.List.{get_or-map, length-map, map_push}

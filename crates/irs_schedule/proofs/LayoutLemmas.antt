@@ -1,5 +1,5 @@
 -- The boundaries of a lawful stream that keeps its terms: they run over the term, they are days, and
--- payments over them cover its periods. The good days of each kind of date lie in the range of days.
+-- payments over them cover its periods. The good business days of each kind of date lie in the range of days.
 use Rattle.std.specs.Prelude.{◌-◌, ◌≤◌, List, length}
 use Rattle.irs_base.specs.DayLists.{AreDays}
 use Rattle.irs_base.specs.Listed.{RunsFromTo}
@@ -22,7 +22,7 @@ use Rattle.irs_schedule.specs.Layouts.{IsKeptLayout}
 use Rattle.irs_schedule.specs.declared.layouts.Layout.{Layout}
 use Rattle.irs_schedule.proofs.CenterLemmas.{days_in_range}
 
--- every good day of each kind of date is a day in range
+-- every good business day of each kind of date is a day in range
 pub record AreInRange (sets : StreamSets) : Type 0 where
   pub start : InRange sets.boundaries.start
   pub end : InRange sets.boundaries.end
@@ -63,7 +63,7 @@ module _ (sets : StreamSets) (s : Stream) (lawful : IsLawfulStream s) (dates : D
       every_payments_cover s sets.payment l.unadjusted l.adjusted lawful (begins_before_end s dates) layout_runs
       layout_days
 
-  -- where the good days are days in range, so are the adjusted boundaries
+  -- where the good business days are days in range, so are the adjusted boundaries
   pub layout_adjusted_days : AreInRange sets → AreDays l.adjusted
   layout_adjusted_days range =
       adjusted_days s sets.boundaries l.unadjusted layout_days range.start range.end range.middle l.adjusted

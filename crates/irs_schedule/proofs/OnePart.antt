@@ -56,7 +56,7 @@ record ListsOver (sets : StreamSets) (s : Stream) (l : Layout) (x : OvernightRes
   count : length ps + 1 ≡ length l.unadjusted
   periods : EachNumbered (IsPeriodEntry (layout_dates s l x.resets x.rates)) 1 ps
 
--- those of a part stand in them over its boundaries, which are a layout
+-- those of a part are in them over its boundaries, which are a layout
 abbrev own_layout : (sets : StreamSets) (fix : RateTable) (s : Stream) (p : Part) → IsPart sets fix s p → Layout
 own_layout sets fix s p h = record { span = h.layout.span; unadjusted = p.unadjusted; adjusted = p.adjusted }
 

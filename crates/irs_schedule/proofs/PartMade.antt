@@ -33,7 +33,7 @@ use Rattle.irs_schedule.proofs.TermsThere.{entries_stand}
 
 module _ (sets : StreamSets) (fix : RateTable) (s : Stream) (l : Layout) (some : 2 ≤ length l.unadjusted)
     (laid : IsKeptLayout sets s l) where
-  -- lists that stand in their relations over a layout make a part of the stream
+  -- lists that are in their relations over a layout make a part of the stream
   pub part_is : (d : StreamEvents) (es : List PaymentEntry) → AreEvents sets fix s l d
       → (map payment_of es ≡ d.payments) × Every (IsPaymentEntry (layout_dates s l d.resets d.rates)) es
       → IsPart sets fix s (part_over s l d es)

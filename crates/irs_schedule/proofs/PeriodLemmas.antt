@@ -29,7 +29,7 @@ pub length_periods : (terms : KeptTerms) (unadjusted adjusted : List ℤ) (reset
 length_periods terms unadjusted adjusted resets rates =
     length-map-range_with_len (period_by terms unadjusted adjusted resets rates) 1 (count_of adjusted)
 
--- at place i - 1 stands period i
+-- period i is at place i - 1
 pub entry_at : (terms : KeptTerms) (unadjusted adjusted : List ℤ) (resets : List Reset) (rates : List OvernightRate)
     (i : ℕ) → 0 < i → i ≤ count_of adjusted
     → slice_index_or (periods_by terms unadjusted adjusted resets rates) (i - 1) no_period
@@ -43,7 +43,7 @@ rises_after : (d : ℤ) (xs : List ℤ) → AllAfter d xs → IsRising xs → Ri
 rises_after d [] after rising = tt
 rises_after d (x ∷ xs) after rising = (after.0, rises_after x xs rising.0 rising.1)
 
--- the two words for a rising list agree
+-- the two definitions of a rising list agree
 pub rises_of : (xs : List ℤ) → IsRising xs → Rises xs
 rises_of [] rising = tt
 rises_of (x ∷ xs) rising = rises_after x xs rising.0 rising.1

@@ -61,7 +61,7 @@ module _ (d : StreamDates) (rising : IsRising d.adjusted) where
             (rises_at a (i - 1) i rising (omega (arith, low)) high);
       }
 
-  -- what a part works out for its periods stands in the relations
+  -- what a part works out for its periods is in the relations
   pub entries_stand : AreAbove d.rates → 1 ≤ length d.adjusted
       → EachNumbered (IsPeriodEntry d) 1 (periods_by (kept_of d.stream) d.unadjusted d.adjusted d.resets d.rates)
   entries_stand above some =

@@ -1,4 +1,4 @@
--- The good days of the centres that elements name, and a table of them for the streams of a swap.
+-- The good business days of the centres that elements name, and a table of them for the streams of a swap.
 use Rattle.std.specs.Prelude.{◌≡◌, ℕ, ◌≤◌, List, Contains, Option, Some, IfSome, length, slice_get}
 use Rattle.irs_base.specs.Limits.{most_centers}
 use Rattle.irs_terms.specs.declared.stream.Stream.{Stream}
@@ -20,7 +20,7 @@ pub record NamedCenters : Type 0 where
 abbrev pub centers_named : List Section → Option (List (List ℕ)) → NamedCenters
 centers_named sections names = record { sections = sections; names = names }
 
--- the good days of the centres with these names; without names the whole range
+-- the good business days of the centres with these names; without names the whole range
 abbrev pub days_of_centers : NamedCenters → DaySet
 days_of_centers centers = days_of_names centers.sections centers.names
 

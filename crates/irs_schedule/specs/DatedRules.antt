@@ -1,4 +1,4 @@
--- The rules of a swap's dates and amounts, K30 to K39, and the first of them that is broken.
+-- The rules of a swap's dates and amounts, K30 to K39 and K48, and the first of them that is broken.
 use Rattle.std.specs.Prelude.{List}
 use Rattle.irs_base.specs.Outcomes.{RefusesNothing}
 use Rattle.irs_base.specs.declared.places.Broken.{Broken}

@@ -1,4 +1,4 @@
--- The good days by which each date of a stream is adjusted or moved.
+-- The good business days by which each date of a stream is adjusted or moved.
 use Rattle.std.specs.Prelude.{ℕ, true, List, Option, Some, None}
 use Rattle.irs_base.specs.Days.{first_day, last_day}
 use Rattle.irs_terms.specs.declared.stream.Stream.{Stream}
@@ -10,16 +10,16 @@ use Rattle.irs_terms.specs.FirstDay.{first_date_of}
 use Rattle.irs_terms.specs.Needs.{names_by, names_with, reset_names, fixing_names}
 use Rattle.irs_rules.specs.Parameters.{applicable_names}
 
--- the whole range of dates, and every day of it good
+-- the whole range of dates, where every day is a good business day
 abbrev pub whole_range : DaySet
 whole_range = record { first = first_day; last = last_day; test = λ _. true }
 
--- the good days of the centres with these names; without names the whole range
+-- the good business days of the centres with these names; without names the whole range
 abbrev pub days_of_names : List Section → Option (List (List ℕ)) → DaySet
 days_of_names cal None = whole_range
 days_of_names cal (Some names) = day_set_of cal names
 
--- the good days of the first boundary (firstPeriodStartDate, else the effective date), of the
+-- the good business days of the first boundary (firstPeriodStartDate, else the effective date), of the
 -- termination date, and of the other boundaries
 abbrev pub boundary_days : List Section → Stream → BoundaryDays
 boundary_days cal s = record {
@@ -28,15 +28,15 @@ boundary_days cal s = record {
   middle = days_of_names cal (names_by s.period_adj);
 }
 
--- the good days of payment dates and of principal exchanges
+-- the good business days of payment dates and of principal exchanges
 abbrev pub payment_days : List Section → Stream → DaySet
 payment_days cal s = days_of_names cal (names_with s.pay.offset s.pay.adj)
 
--- the good days of reset dates
+-- the good business days of reset dates
 abbrev pub reset_days : List Section → Stream → DaySet
 reset_days cal s = days_of_names cal (reset_names s.reset)
 
--- and of fixing dates
+-- the good business days of fixing dates
 abbrev pub fixing_days : List Section → Stream → DaySet
 fixing_days cal s = days_of_names cal (fixing_names s.reset)
 
@@ -44,7 +44,7 @@ fixing_days cal s = days_of_names cal (fixing_names s.reset)
 abbrev pub applicable_days : List Section → Stream → DaySet
 applicable_days cal s = days_of_names cal (applicable_names s.leg)
 
--- the good days of each kind of date of a stream
+-- the good business days of each kind of date of a stream
 pub record StreamSets : Type 0 where
   pub boundaries : BoundaryDays
   pub payment : DaySet

@@ -1,5 +1,5 @@
--- What a part is made of, and what it keeps: the bounds of what is seen, and those of the values that its periods
--- are worked out of.
+-- What a part is made of, and what it keeps. These are the bounds of what is seen, and those of the values that
+-- its periods are worked out of.
 use Rattle.std.specs.Prelude.{◌≡◌, ◌+◌, ◌-◌, ◌≤◌, List, length, ℤ, if◌then◌else◌}
 use Rattle.irs_base.specs.Limits.{most_exchanges, most_periods}
 use Rattle.irs_base.specs.Members.{Every}

@@ -16,8 +16,8 @@ pub record IsLayout (sets : StreamSets) (s : Stream) (l : Layout) : Type 0 where
   pub unadjusted : Boundaries s l.span l.unadjusted
   pub adjusted : AdjustedList s sets.boundaries l.unadjusted l.adjusted
 
--- the same where no rule of the span or of the boundaries is broken: the roll fits, there aren't too many
--- periods, and the adjusted boundaries rise
+-- a layout of a stream that breaks no rule of the span or of the boundaries.
+-- The roll fits, there aren't too many periods, and the adjusted boundaries rise.
 pub record IsKeptLayout (sets : StreamSets) (s : Stream) (l : Layout) : Type 0 where
   pub regular : Regular s l.span
   pub kept : SpanKept s l.span

@@ -48,8 +48,8 @@ payment_dates_of sets s l = do
 abbrev pub resets_over : StreamSets → Stream → Layout → ResetSource
 resets_over sets s l = source_of s l.span l.adjusted sets.reset sets.fixing
 
--- its payments, principal exchanges, resets and observed rates; or the first broken rule, of payments, steps,
--- exchanges (K33) and resets (K37, K48, K33, K38) in this order
+-- its payments, principal exchanges, resets and observed rates; or the first broken rule.
+-- The order is payments, steps, exchanges (K33), resets (K37, K48, K33, K38).
 abbrev pub events_of : StreamSets → RateTable → Stream → Layout → Spec StreamEvents Fault
 events_of sets fix s l = do
   payments ← payment_dates_of sets s l
@@ -98,8 +98,8 @@ part_over s l events entries = record {
   resets = events.resets;
 }
 
--- the part of a stream; or the first of K30 to K39 that it breaks, of its layout, its events and its amounts in this
--- order
+-- the part of a stream; or the first of K30 to K39 and K48 that it breaks. The layout comes first, then the events,
+-- then the amounts.
 unfoldable pub stream_of : StreamSets → RateTable → Stream → Spec Part Fault
 stream_of sets fix s = do
   layout ← layout_of sets s

@@ -43,7 +43,7 @@ abbrev pub Rises : List ℤ → Type 0
 Rises [] = Unit {0}
 Rises (x ∷ xs) = RisesFrom x xs
 
--- the payments cover the periods from this one to the last, in order: each begins behind the one before it
+-- the payments cover the periods from this one to the last, in order, without a gap
 abbrev pub Covers : ℕ → List PaymentEntry → ℕ → Type 0
 Covers next payments last =
     CoverNumbers (λ (p : PaymentEntry). p.first_period) (λ (p : PaymentEntry). p.last_period) next payments last
@@ -66,11 +66,11 @@ HasAmount currency y = IfSome y.amount (IsAmount currency)
 abbrev pub IsDatedExchange : Exchange → Type 0
 IsDatedExchange x = IsDay x.unadjusted × IsDay x.adjusted
 
--- both dates of a payment are
+-- both dates of a payment are days of the range
 abbrev pub IsDatedPayment : PaymentEntry → Type 0
 IsDatedPayment y = IsDay y.unadjusted × IsDay y.adjusted
 
--- the reset date and the fixing date of a reset are
+-- the reset date and the fixing date of a reset are days of the range
 abbrev pub IsDatedReset : Reset → Type 0
 IsDatedReset r = IsDay r.reset × IsDay r.fixing
 

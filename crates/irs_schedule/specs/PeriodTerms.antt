@@ -43,7 +43,7 @@ pub record AreTerms (d : StreamDates) (p : Payment) (terms : List PeriodTerm) : 
   pub count : p.first_period + length terms ≡ p.last_period + 1
   pub each : EachNumbered (IsPeriodTerm d) p.first_period terms
 
--- so many units of so many decimals
+-- a decimal of these units and this number of decimals
 abbrev pub dec_of : ℕ → ℤ → Dec
 dec_of places units = record { units = units; places = places }
 

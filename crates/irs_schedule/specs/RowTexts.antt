@@ -36,7 +36,7 @@ abbrev pub rate_or_dash : Option ℤ → List ℕ
 rate_or_dash None = codes "-"
 rate_or_dash (Some v) = dec_text v 9
 
--- the fields of a line, behind one space each
+-- the fields of a line, with one space between them
 abbrev pub fields_of : Row → List ℕ
 fields_of (Stream k currency day_count floating) =
     codes "stream" ++ 32 ∷ decimal k ++ 32 ∷ currency.letters ++ 32 ∷ code_text day_count ++ 32 ∷ kind_text floating
@@ -63,7 +63,7 @@ row_text_of row = fields_of row ++ codes "\n"
 abbrev pub IsFew : Dec → Type 0
 IsFew v = v.places ≤ 12
 
--- an amount in the row has at most 12 places
+-- an amount in the row has at most 12 decimals
 abbrev pub HasPlaces : Row → Type 0
 HasPlaces (Stream k currency day_count floating) = Unit {0}
 HasPlaces (Exchange k j unadjusted adjusted amount) = IsFew amount

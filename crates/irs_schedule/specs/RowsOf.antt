@@ -13,11 +13,11 @@ use Rattle.irs_schedule.specs.PeriodViews.{dated_period}
 use Rattle.irs_schedule.specs.declared.views.CalculationPeriod.{CalculationPeriod}
 use Rattle.irs_base.specs.Limits.{most_exchanges, most_periods, most_streams}
 
--- what stands at a place where there is nothing
+-- the period at a place where there is none
 abbrev pub no_period : PeriodEntry
 no_period = record { days = pos 0; frac = record { num = pos 0; den = pos 1 }; notional = pos 0; rate = None }
 
--- the same of a reset
+-- the reset at a place where there is none
 abbrev pub no_reset : Reset
 no_reset = record { reset = pos 0; fixing = pos 0; observed = None }
 
@@ -33,7 +33,7 @@ period_row k p i = row_of_period k i (dated_period p i (slice_index_or p.periods
 abbrev pub reset_row : ℕ → Part → ℕ → Row
 reset_row k p i = let r = slice_index_or p.resets (i - 1) no_reset in ResetRow k i r.reset r.fixing r.observed
 
--- a period, and behind that of a floating stream its reset
+-- a period, and on a floating stream its reset after it
 abbrev pub period_rows : ℕ → Part → ℕ → List Row
 period_rows k p i = period_row k p i ∷ (if p.floating then reset_row k p i ∷ [] else [])
 
@@ -41,7 +41,7 @@ period_rows k p i = period_row k p i ∷ (if p.floating then reset_row k p i ∷
 abbrev pub payment_row : ℕ → ℕ → PaymentEntry → Row
 payment_row k j y = Payment k j y.unadjusted y.adjusted y.first_period y.last_period y.amount
 
--- a payment, and behind it its periods
+-- a payment, and its periods after it
 abbrev pub payment_rows : ℕ → Part → ℕ × PaymentEntry → List Row
 payment_rows k p y =
     payment_row k y.0 y.1 ∷ flat_map (period_rows k p)
@@ -61,8 +61,8 @@ part_rows s =
     stream_row s.0 s.1 ∷ (map (exchange_row s.0) (enumerate_from 1 s.1.exchanges)
     ++ flat_map (payment_rows s.0 s.1) (enumerate_from 1 s.1.payments))
 
--- a stream has its own row, one for each exchange, and of each period at most those of a payment, of
--- the period itself and of its reset
+-- the most rows of a stream: its own, and one for each exchange. Each period adds at most three:
+-- of a payment, of the period itself and of its reset.
 abbrev pub most_stream_rows : ℕ
 most_stream_rows = 1 + most_exchanges + 3 * most_periods
 

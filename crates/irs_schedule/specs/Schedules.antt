@@ -35,7 +35,7 @@ payment_of y =
 abbrev pub IsPaymentEntry : StreamDates → PaymentEntry → Type 0
 IsPaymentEntry d y = IsAmountFor d (payment_of y) y.amount
 
--- p is the part of the stream: every list and every field stands in its relation
+-- p is the part of the stream: every list and every field is in its relation
 pub record IsPart (sets : StreamSets) (fix : RateTable) (s : Stream) (p : Part) : Type 0 where
   pub currency : p.currency ≡ s.currency
   pub day_count : p.day_count ≡ s.day_count

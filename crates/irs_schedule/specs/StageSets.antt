@@ -1,9 +1,9 @@
--- The good days by which a stream is worked out.
+-- The good business days by which a stream is worked out.
 use Rattle.irs_schedule.specs.CenterDays.{days_of_centers}
 use Rattle.irs_schedule.specs.DaySets.{StreamSets}
 use Rattle.irs_schedule.specs.declared.center_table.StreamDays.{StreamDays}
 
--- the good days that a table hands out for a stream
+-- the good business days that a table hands out for a stream
 abbrev pub sets_of : StreamDays → StreamSets
 sets_of days = record {
   boundaries =

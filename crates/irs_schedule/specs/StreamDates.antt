@@ -7,8 +7,8 @@ use Rattle.irs_schedule.specs.Parts.{Part}
 use Rattle.irs_schedule.specs.declared.amounts.PeriodTable.{PeriodTable}
 use Rattle.irs_schedule.specs.declared.layouts.Layout.{Layout}
 
--- what the periods of a stream are worked out of: its terms, its unadjusted and adjusted boundaries, its resets, and
--- with calculation parameters its observed rates, not rounded
+-- what the periods of a stream are worked out of: its terms, its unadjusted and adjusted boundaries, its resets.
+-- With calculation parameters its observed rates are there too, not rounded.
 pub record StreamDates : Type 0 where
   pub stream : Stream
   pub unadjusted : List ℤ

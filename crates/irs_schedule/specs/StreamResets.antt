@@ -26,8 +26,8 @@ use Rattle.irs_observed.specs.declared.overnight_rate.OvernightRate.{OvernightRa
 use Rattle.irs_observed.specs.declared.overnight_rate.OvernightRate.TheVariants.{OutOfRange}
 use Rattle.irs_schedule.specs.KeptTerms.{is_daily}
 
--- x are the resets of a floating stream and its observed rates by its calculation parameters; without them its rates
--- are those of the resets alone
+-- x are the resets of a floating stream and its observed rates by its calculation parameters.
+-- Without these its rates are those of the resets alone.
 abbrev pub AreResetsBy : FloatTerms → Option CalculationParameters → ResetSource → DaySet → RateTable → OvernightResets → Type 0
 AreResetsBy float None source applicable fix x = IsResets source fix x.resets × (x.rates ≡ [])
 AreResetsBy float (Some parameters) source applicable fix x =
@@ -66,11 +66,11 @@ rate_in rates i = slice_get rates (i - 1)
 abbrev pub most_observed_rate : Bool → ℕ
 most_observed_rate daily = if daily then most_observed * 10 ^ 9 else most_rate
 
--- an observed rate keeps it
+-- an observed rate keeps this limit
 abbrev pub HasObserved : Bool → Reset → Type 0
 HasObserved daily r = IfSome r.observed (λ x. unsigned_abs x ≤ most_observed_rate daily)
 
--- the rates of so many periods: with calculation parameters one for each period, within their bounds
+-- the rates of `count` periods: with calculation parameters one for each period, within their bounds
 pub record HasRates (leg : Leg) (count : ℕ) (resets : List Reset) (rates : List OvernightRate) : Type 0 where
   pub many : length rates ≡ (if is_daily leg then count else 0)
   pub bounds : Every HasBounds rates
@@ -93,7 +93,7 @@ with_factors passed rates amounts = record {
   Refuses = First comes_before (RefusesAmounts passed rates amounts);
 }
 
--- k is the first place at which one does
+-- k is the first place at which a compounded factor passes its limit
 pub record IsFirstPassing (rates : List OvernightRate) (k : ℕ) : Type 0 where
   pub passes : FactorPassesAt rates k
   pub first : (j : ℕ) → j < k → FactorPassesAt rates j → ⊥

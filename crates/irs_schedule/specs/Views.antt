@@ -1,4 +1,4 @@
--- How a part is seen: its periods stand in it, as if they were kept.
+-- How a part is seen: its periods are in it, as if they were kept.
 use Rattle.irs_schedule.specs.declared.streams.StreamPart.TheInside.{Inside}
 use Rattle.irs_schedule.specs.KeptTerms.{is_daily, is_floating}
 use Rattle.irs_schedule.specs.Parts.{Part}

@@ -1,5 +1,5 @@
-//! The amounts of a stream's payments: what their calculation periods pay by the stream's compounding,
-//! rounded to the decimals of its currency (2006 ISDA Definitions, articles 5, 6 and 8).
+//! The amounts of a stream's payments: what their calculation periods pay by the stream's compounding.
+//! They are rounded to the decimals of its currency (2006 ISDA Definitions, articles 5, 6 and 8).
 ghost use Rattle.std.specs.Prelude.{◌≡◌, ◌↔◌, ◌-◌, ◌<◌, ◌≤◌, ℕ, length, IfNone, IfOk, IfSome, IsTrue, option_map};
 ghost use Rattle.irs_base.specs.Members.{Every};
 ghost use Rattle.irs_base.specs.Outcomes.{Meets, MeetsExactly};
@@ -40,8 +40,9 @@ pub(crate) struct PeriodTable<'a> {
 
 /// The payments with their amounts. An amount is absent where the observed rate of a period is.
 ///
-/// `Broken` is K39 at the first period at which a compounded factor passes its limit, or a rate or an
-/// amount leaves its range in a payment whose rates are all there; the index is the period's number.
+/// `Broken` is K39 at the first period at which a compounded factor passes its limit. It is also K39
+/// at the first period at which a rate or an amount leaves its range. That counts only in a payment
+/// whose rates are all there. The earlier of the two is reported. The index is the period's number.
 /// `Memory` comes where memory ran out.
 pub(crate) fn paid_within(
     alloc: Global,
@@ -175,7 +176,7 @@ fn paying(payment: Payment, amount: Option<Dec>) -> PaymentEntry
     }
 }
 
-// Units of so many decimals, where they are known.
+// These units with this number of decimals, where they are known.
 fn decimal(units: Option<i128>, places: u8) -> Option<Dec>
     ensures { result ≡ option_map (dec_of places) units }
 {

@@ -1,6 +1,6 @@
-//! The good days by which a date is adjusted or moved: those of the business centres that an element
-//! names (2006 ISDA Definitions, article 1, 'Business Day'), or every day of the range where it needs
-//! none.
+//! The good business days by which a date is adjusted or moved (2006 ISDA Definitions, article 1, 'Business
+//! Day'). They are those of the business centres that an element names, or every day of the range where
+//! it needs none.
 ghost use Rattle.std.specs.Prelude.{◌≡◌, ◌≤◌, ◌↔◌, length, None, option_copied, IfOk, IsTrue};
 ghost use Rattle.irs_base.specs.Limits.{most_centers};
 ghost use Rattle.irs_calendar.specs.GoodDays.{SameDays};
@@ -18,7 +18,7 @@ use irs_terms::{Stream, reset_names};
 use std::alloc::Global;
 use std::marker::Model;
 
-/// The good days of an element: those of the centres that it names, or every day of the range.
+/// The good business days of an element: those of the centres that it names, or every day of the range.
 /// Contracts see the sections of the calendars and the names.
 #[derive(Drop)]
 pub struct CenterDays<'cal, 'swap> {
@@ -42,8 +42,8 @@ impl<'cal, 'swap> Model for CenterDays<'cal, 'swap> {
 }
 
 impl<'cal, 'swap> CenterDays<'cal, 'swap> {
-    /// The good days of the centres with these names, at most 16, of which each is in the calendars;
-    /// without names every day of the range.
+    /// The good business days of the centres with these names; without names every day of the range. There
+    /// are at most 16 names, and each is in the calendars.
     pub(crate) fn find(
         alloc: Global,
         cal: &'cal Calendars,
@@ -59,7 +59,7 @@ impl<'cal, 'swap> CenterDays<'cal, 'swap> {
         })
     }
 
-    /// These are the good days of the centres with these names.
+    /// These are the good business days of the centres with these names.
     pub(crate) fn has_names(&self, names: Option<&Names>) -> bool
         ensures { IsTrue result ↔ self.now.names ≡ option_copied names.entry }
     {
@@ -91,9 +91,9 @@ impl<'cal, 'swap> GoodDays for CenterDays<'cal, 'swap> {
     }
 }
 
-/// The good days by which the reset dates of a stream are adjusted: those of the centres of its
-/// `resetDatesAdjustments`, whose names all stand in the calendars, or every day of the range where
-/// these adjustments need no days. It answers `Memory` where memory ran out, and else these days.
+/// The good business days by which the reset dates of a stream are adjusted. They are those of the centres of
+/// its `resetDatesAdjustments`, or every day of the range where these adjustments need no days. The
+/// names of the centres are all in the calendars. The answer is `Memory` only where memory ran out.
 #[tactic(auto, using(crate::proofs::CenterLemmas::finds_reset))]
 pub fn reset_days<'cal, 'swap>(
     alloc: Global,
@@ -107,10 +107,10 @@ pub fn reset_days<'cal, 'swap>(
     CenterDays::find(alloc, cal, reset_names(&s.reset))
 }
 
-/// The applicable business days of a stream, on which its daily rates are observed: the good days of
-/// the centres of its `applicableBusinessDays`, whose names all stand in the calendars, or every day of
-/// the range where it has no calculation parameters. It answers `Memory` where memory ran out, and else
-/// these days.
+/// The applicable business days of a stream, on which its daily rates are observed. They are the good
+/// days of the centres of its `applicableBusinessDays`, or every day of the range where it has no
+/// calculation parameters. The names of the centres are all in the calendars. The answer is `Memory`
+/// only where memory ran out.
 #[tactic(auto, using(crate::proofs::CenterLemmas::finds_applicable))]
 pub fn applicable_days<'cal, 'swap>(
     alloc: Global,
@@ -124,7 +124,7 @@ pub fn applicable_days<'cal, 'swap>(
     CenterDays::find(alloc, cal, applicable_names(&s.leg))
 }
 
-// The runs of good days of the centres with these names; without names the whole range.
+// The runs of good business days of the centres with these names; without names the whole range.
 fn runs_of(alloc: Global, cal: &Calendars, names: Option<&Names>) -> Result<RunSet, Memory>
     requires { CanFind cal.now (option_copied names) }
     ensures { IfOk result (λ runs. SameDays (set_of_runs runs) (days_of_names cal.now (option_copied names.entry))) }
@@ -135,7 +135,7 @@ fn runs_of(alloc: Global, cal: &Calendars, names: Option<&Names>) -> Result<RunS
     }
 }
 
-// The runs of good days of the centres with these names.
+// The runs of good business days of the centres with these names.
 fn selected(alloc: Global, cal: &Calendars, names: &Names) -> Result<RunSet, Memory>
     requires few { length names.now ≤ most_centers }
     requires found { first_missing cal.now 1 names.now ≡ None }

@@ -1,4 +1,4 @@
-//! The good days of the streams of a swap: each list of centres is looked up in the calendars once,
+//! The good business days of the streams of a swap. Each list of centres is looked up in the calendars once,
 //! however many elements and streams have it.
 ghost use Rattle.std.specs.Prelude.{◌≡◌, ◌↔◌, ℕ, Contains, Some, option_copied, IfOk, IsSome, IfSome, OnOk, slice_get};
 ghost use Rattle.irs_terms.specs.Lawful.{IsLawful, IsLawfulStream};
@@ -16,7 +16,7 @@ use irs_terms::{Stream, Swap, fixing_names, names_by, names_with, reset_names};
 use std::alloc::Global;
 use std::marker::Model;
 
-/// The good days of the lists of centres that the elements of a swap name, each list once. Contracts
+/// The good business days of the lists of centres that the elements of a swap name, each list once. Contracts
 /// see the sections of the calendars and the lists.
 #[derive(Drop)]
 pub(crate) struct CenterTable<'cal, 'swap> {
@@ -35,7 +35,7 @@ impl<'cal, 'swap> Model for CenterTable<'cal, 'swap> {
     ghost invariant = { λ t. All (λ days. days.sections ≡ t.cal.now) t.found.items };
 }
 
-/// The good days of one stream's elements, out of a table.
+/// The good business days of one stream's elements, out of a table.
 #[derive(Drop)]
 pub(crate) struct StreamDays<'a> {
     /// Of the first boundary: of `firstPeriodStartDate`, else of the effective date.
@@ -55,7 +55,7 @@ pub(crate) struct StreamDays<'a> {
 }
 
 impl<'cal, 'swap> CenterTable<'cal, 'swap> {
-    /// The good days of every element of the swap, whose centres are all in the calendars.
+    /// The good business days of every element of the swap, whose centres are all in the calendars.
     pub(crate) fn new(
         alloc: Global,
         swap: &'swap Swap,
@@ -75,7 +75,7 @@ impl<'cal, 'swap> CenterTable<'cal, 'swap> {
         Ok(table)
     }
 
-    /// The good days of a stream of the swap.
+    /// The good business days of a stream of the swap.
     pub(crate) fn stream_days<'table>(&'table self, s: &Stream) -> StreamDays<'table>
         requires { HasStream self.now s.now }
         ensures start { days_of_centers result.start.now ≡ (boundary_days self.now.sections s.now).start }
@@ -97,7 +97,7 @@ impl<'cal, 'swap> CenterTable<'cal, 'swap> {
         }
     }
 
-    // The good days of each element of one more stream.
+    // The good business days of each element of one more stream.
     fn add_stream(&mut self, alloc: Global, s: &'swap Stream) -> Result<(), Memory>
         requires lawful { IsLawfulStream s.now }
         requires kept { TermsKept self.old.sections s.now }
@@ -113,7 +113,7 @@ impl<'cal, 'swap> CenterTable<'cal, 'swap> {
         Ok(())
     }
 
-    // The good days of the centres with these names, which may have been found already.
+    // The good business days of the centres with these names, which may have been found already.
     fn add(&mut self, alloc: Global, names: Option<&'swap Names>) -> Result<(), Memory>
         requires { CanFind self.old.sections (option_copied names) }
         ensures { OnOk result (HasMore (option_copied names.entry) self.old self.new) }
@@ -126,7 +126,7 @@ impl<'cal, 'swap> CenterTable<'cal, 'swap> {
         Ok(())
     }
 
-    // The good days of the centres with these names, where the table has them.
+    // The good business days of the centres with these names, where the table has them.
     fn get(&self, names: Option<&Names>) -> Option<&CenterDays<'cal, 'swap>>
         ensures there { IsSome result ↔ Contains self.now.lists (option_copied names.entry) }
         ensures value { IfSome result (λ days. days.now ≡ centers_named self.now.sections (option_copied names.entry)) }
@@ -139,7 +139,7 @@ impl<'cal, 'swap> CenterTable<'cal, 'swap> {
         None
     }
 
-    // The good days of the centres with these names, which the table has.
+    // The good business days of the centres with these names, which the table has.
     fn days_of(&self, names: Option<&Names>) -> &CenterDays<'cal, 'swap>
         requires { Contains self.now.lists (option_copied names) }
         ensures { result.now ≡ centers_named self.now.sections (option_copied names.entry) }

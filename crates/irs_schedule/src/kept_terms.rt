@@ -1,5 +1,5 @@
-//! What a schedule keeps of the terms of a stream, so that its periods are worked out when they are
-//! asked for.
+//! What a schedule keeps of the terms of a stream, so that its periods can be worked out when they are
+//! needed.
 ghost use Rattle.std.specs.Prelude.{◌≡◌, IfOk};
 ghost use Rattle.irs_terms.specs.Lawful.{IsLawfulStream, IsLawfulValues, IsLawfulLeg, IsNotional};
 ghost use Rattle.irs_schedule.specs.KeptTerms.{is_floating};

@@ -1,5 +1,6 @@
-//! The schedule of a swap: the boundaries, payments, exchanges, resets and amounts of each stream
-//! (2006 ISDA Definitions, articles 4, 5, 6 and 8), or the first broken rule of dates and amounts.
+//! The schedule of a swap, or the first broken rule of dates and amounts. The schedule has the
+//! boundaries, payments, exchanges, resets and amounts of each stream (2006 ISDA Definitions, articles
+//! 4, 5, 6 and 8).
 ghost use Rattle.std.specs.Prelude.{◌≡◌, IfOk, List, ℕ, Some, slice_get, ◌+◌};
 ghost use Rattle.irs_base.specs.Faults.{in_stream};
 ghost use Rattle.irs_base.specs.Order.{Only};
@@ -26,15 +27,15 @@ use irs_resets::Fixings;
 use irs_terms::{Stream, Swap};
 use std::alloc::Global;
 
-/// Why there is no schedule: the first broken rule of K30 to K39, that of the first stream that breaks
-/// one, and there of the span, the periods, the payments, the steps, the exchanges, the resets or the
-/// amounts, in order; or memory ran out.
+/// Why there is no schedule: the first broken rule of K30 to K39 and K48, or memory ran out. The rule
+/// is that of the first stream that breaks one. Within a stream the order is span, periods, payments,
+/// steps, exchanges, resets, amounts.
 pub type SchedErr = Stopped<Broken>;
 
-/// The schedule of a lawful swap that breaks no rule of its terms, with the good days of the calendars
-/// and the observed rates of the fixings.
+/// The schedule of a lawful swap that breaks no rule of its terms. Its dates use the good business days of the
+/// calendars, and its rates the observed rates of the fixings.
 ///
-/// `Broken` is the first of K30 to K39 that is broken, with the stream's number in the place.
+/// `Broken` is the first of K30 to K39 and K48 that is broken, with the stream's number in the place.
 pub fn make_schedule(
     alloc: Global,
     swap: &Swap,
@@ -61,7 +62,7 @@ pub fn schedule_is_determined(swap: &Swap, cal: &Calendars, fix: &Fixings)
         → (s : List Part) × Only (IsSchedule swap.now cal.now fix.now) s }
 {}
 
-// The schedule by a table of the good days.
+// The schedule by a table of the good business days.
 fn schedule_by(
     alloc: Global,
     swap: &Swap,
@@ -82,7 +83,7 @@ fn schedule_by(
     Ok(Schedule::of_parts(parts))
 }
 
-// The part of the stream with that number; a broken rule is named by it.
+// The part of the stream with that number, which a broken rule is reported with.
 fn numbered_part(
     alloc: Global,
     s: &Stream,

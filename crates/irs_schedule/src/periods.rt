@@ -18,7 +18,8 @@ use irs_observed::OvernightRate;
 use irs_terms::{Leg, Reset};
 
 /// A period by its adjusted start and end, by whether it is its stream's last, and by its unadjusted
-/// start and its observed rate: that of its reset, and with calculation parameters that of daily rates.
+/// start and its observed rate. The rate is that of its reset, or that of daily rates where the stream
+/// has calculation parameters.
 pub(crate) fn entry_by(
     terms: &KeptTerms,
     from: Day,

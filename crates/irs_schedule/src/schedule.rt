@@ -12,7 +12,7 @@ use crate::walking::StreamRows;
 use std::marker::Model;
 
 /// The schedule of a swap. Contracts see a list with one part for each stream, in which every
-/// calculation period stands with its days, fraction, notional and rate.
+/// calculation period has its days, fraction, notional and rate.
 #[derive(Drop)]
 pub struct Schedule {
     parts: Vec<StreamPart>,
@@ -38,7 +38,7 @@ impl Schedule {
         Schedule { parts }
     }
 
-    /// What every schedule keeps; it does nothing but to say so.
+    /// What every schedule keeps. The call does nothing: its contract is the fact.
     pub fn bounds(&self)
         ensures { IsWithin self.now }
     {
@@ -81,7 +81,7 @@ impl Schedule {
 #[derive(Drop)]
 pub struct Rows<'a> {
     current: Option<StreamRows<'a>>,
-    // The streams behind the current one.
+    // The streams after the current one.
     parts: &'a [StreamPart],
     // The number of the current one.
     stream: u8,

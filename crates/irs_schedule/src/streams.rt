@@ -1,5 +1,5 @@
-//! One stream of a schedule. Its boundaries, payments, exchanges and resets are kept; days, fraction,
-//! notional and rate of a period are worked out when they are asked for.
+//! One stream of a schedule. Its boundaries, payments, exchanges and resets are kept. Days, fraction,
+//! notional and rate of a period are worked out when they are needed.
 ghost use Rattle.std.specs.Prelude.{◌≡◌, ◌-◌, ◌<◌, ◌≤◌, length};
 
 use crate::entries::PaymentEntries;

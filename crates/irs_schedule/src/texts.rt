@@ -1,6 +1,6 @@
 //! The text of a row: its mark and its fields, one space before each field, and a line feed.
 //!
-//! The format is this project's own. Dates are YYYY-MM-DD, amounts have the decimals of their
+//! The format is ours. Dates are YYYY-MM-DD, amounts have the decimals of their
 //! currency, notionals 4 and rates 9; what isn't known is `-`.
 ghost use Rattle.std.specs.Prelude.{◌≡◌, ◌+◌, ◌<◌, ◌≤◌, [], ◌∷◌, ◌++◌, length, IfSome};
 ghost use Rattle.std.specs.Fmt.{decimal, signed_decimal};
@@ -12,7 +12,7 @@ use crate::Row;
 use irs_base::{Day, Dec, Line, day_digits};
 use irs_terms::{DayCountCode, Frac};
 
-/// Puts a space and a decimal, or a space and `-` where there is none.
+/// Appends a space and a decimal, or a space and `-` where there is none.
 pub fn put_optional(line: &mut Line, v: Option<Dec>)
     requires places { IfSome v IsFew }
     requires room { length line.old + 54 ≤ 512 }
@@ -63,7 +63,7 @@ fn put_span(line: &mut Line, start: Day, end: Day, adjusted_start: Day, adjusted
     line.put_field(&adjusted_digits(adjusted_end, end, to));
 }
 
-/// Puts a space and a fraction, not reduced, as `NUMERATOR/DENOMINATOR`.
+/// Appends a space and a fraction, not reduced, as `NUMERATOR/DENOMINATOR`.
 pub fn put_frac(line: &mut Line, frac: Frac)
     requires { length line.old + 82 ≤ 512 }
     ensures text { line.new ≡ line.old ++ 32 ∷ signed_decimal frac.num ++ 47 ∷ signed_decimal frac.den }
@@ -107,7 +107,7 @@ fn put_rate(line: &mut Line, v: Option<i64>)
     }
 }
 
-/// Puts the text of a row, with its line feed, in the place of what the line holds.
+/// Replaces what the line holds with the text of a row and its line feed.
 #[tactic(auto, unfolding(crate::specs::RowTexts::row_text_of))]
 pub fn row_text(row: &Row, line: &mut Line)
     requires { HasPlaces row.now }
@@ -118,7 +118,7 @@ pub fn row_text(row: &Row, line: &mut Line)
     line.push(b"\n");
 }
 
-// Puts the fields of a row into an empty line.
+// Writes the fields of a row to an empty line.
 fn put_fields(row: &Row, line: &mut Line)
     requires places { HasPlaces row.now }
     requires empty { line.old ≡ [] }

@@ -14,7 +14,7 @@ use irs_terms::Frac;
 pub struct CalculationPeriod {
     /// The unadjusted start: the boundary before the period.
     pub start: Day,
-    /// The unadjusted end: the boundary behind it.
+    /// The unadjusted end: the boundary after the period.
     pub end: Day,
     /// The start, adjusted.
     pub adjusted_start: Day,

@@ -1,4 +1,4 @@
-//! The rows of one stream behind its first, one after the other.
+//! The rows of one stream after its first, one after the other.
 ghost use Rattle.std.specs.Prelude.{◌≡◌, ◌++◌, map, ◌<◌};
 ghost use Rattle.std.specs.List.{flat_map, enumerate_from};
 ghost use Rattle.std.specs.Iterator.{YieldsFirst, item_count};
@@ -9,7 +9,7 @@ use crate::{PaymentEntry, Row};
 use irs_terms::Exchange;
 use std::marker::Model;
 
-// The rows of a stream behind its first, seen as the list of those that are still to come.
+// The rows of a stream after its first, seen as the list of those that are still to come.
 #[derive(Drop)]
 pub(crate) struct StreamRows<'a> {
     part: &'a StreamPart,
@@ -20,7 +20,7 @@ pub(crate) struct StreamRows<'a> {
     payments: &'a [PaymentEntry],
     // The number of the first of `payments`.
     payment: u32,
-    // The next period of the payment that is walked, and the first one behind it.
+    // The next period of the payment that is walked, and the first one after the payment.
     period: u32,
     end: u32,
     // Whether the reset of the period before comes next.

@@ -18,7 +18,7 @@ use Rattle.irs_schedule.proofs.PaidEntries.{entries_are}
 use Rattle.irs_schedule.proofs.PartMade.{makes_part}
 use Rattle.irs_schedule.proofs.stream.stream_part.Goals as goal
 
--- the good days of the centres that the stream's elements name lie in the range
+-- the good business days of the centres that the stream's elements name lie in the range
 in_range : (days : StreamDays) → AreInRange (sets_of days)
 in_range days = record {
   start = days_in_range days.start.now.sections days.start.now.names;
