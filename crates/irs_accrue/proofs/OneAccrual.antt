@@ -44,6 +44,7 @@ both_counted code s d m n f g started a b =
     let y = b.none e in
     (x.0 ∙ sym y.0, same_frac f g (x.1 ∙ sym y.1) (x.2 ∙ sym y.2)))
 
+-- the days that have run before a day of a period, and their fraction, are the only ones
 pub both_run : (code : DayCountCode) (s d e m n : ℤ) (f g : Frac) → s ≤ℤ d → HasRun code s d e m f → HasRun code s d e n g
     → (m ≡ n) × (f ≡ g)
 both_run OneOne s d e m n f g started a b =
@@ -78,6 +79,7 @@ IsAbove z = pos 0 <ℤ z
 counted_above : (code : DayCountCode) (s d m : ℤ) (f : Frac) → s ≤ℤ d → CountedTo code s d m f → IsAbove f.den
 counted_above code s d m f started a = subst IsAbove (sym (counted_den code s d m f started a)) (above code)
 
+-- the denominator of the fraction that has run is above 0
 pub den_above : (code : DayCountCode) (s d e m : ℤ) (f : Frac) → s ≤ℤ d → d <ℤ e → HasRun code s d e m f → IsAbove f.den
 den_above OneOne s d e m f started ends a = let g = a.den in
     subst IsAbove (sym g) (omega (arith, signed_arith, started, ends))
@@ -105,6 +107,7 @@ one_interest places notional rate f v w den a b =
     (scaled_above f.den den) a.rounded b.rounded in
     ap₂ make_dec units (a.decimals ∙ sym b.decimals)
 
+-- a notional, a rate and a fraction give at most one amount
 pub both_accrued : (places : ℕ) (notional : ℤ) (known : Option ℤ) (f : Frac) (a b : Option Dec) → IsAbove f.den
     → IsAccrued places notional known f a → IsAccrued places notional known f b → a ≡ b
 both_accrued places notional known f None None den h k = refl
@@ -117,6 +120,7 @@ both_accrued places notional known f (Some v) (Some w) den h k =
 
 -- ---- the accrual
 
+-- accruals in the same period with the same days, fraction and amount are equal
 pub inside_same : (m n : ℕ) (x y : ℤ) (f g : Frac) (a b : Option Dec) → m ≡ n → x ≡ y → f ≡ g → a ≡ b
     → Inside m x f a ≡ Inside n y g b
 inside_same m n x y f g a b h i j k =
@@ -141,6 +145,7 @@ in_period p d m x y f g a b kept h k =
     (subst (λ (z : Frac). IsAccrued places k.period.notional k.period.rate z a) share.1 own) k.accrued in
     inside_same m m x y f g a b refl share.0 share.1 amount
 
+-- a day in a period of the stream isn't outside the stream
 pub not_outside : (p : Part) (d : ℤ) (m : ℕ) → KeepsBounds p → RunsFromTo p d m → IsOutside p d → ⊥
 not_outside p d m kept r (inl before) =
     let long = kept.adjusted in
@@ -155,6 +160,7 @@ not_outside p d m kept r (inr after) =
     let ends = r.not_ended in
     omega (arith, signed_arith, after, up, ends)
 
+-- a stream has at most one accrual on a day
 pub one_in : (p : Part) (d : ℤ) (a b : Accrual) → KeepsBounds p → IsAccrual p d a → IsAccrual p d b → a ≡ b
 one_in p d Outside Outside kept h k = refl
 one_in p d Outside (Inside n y g b) kept h k = absurd (not_outside p d n kept (runs_from_to p d n k.period k.runs) h)

@@ -1,4 +1,4 @@
--- What has accrued on a day in a stream with calculation parameters: the running period earns at the rate that the
+-- What has accrued on a day in a stream with calculation parameters. The running period earns at the rate that the
 -- daily rates of its members before the day give. That the members are those of the whole period is our rule.
 use Rattle.std.specs.Prelude.{◌≡◌, ◌⊎◌, ℕ, List, length, Option, Some, None, option_map, ℤ, pos, ◌<ℤ◌, ◌≤ℤ◌}
 use Rattle.irs_base.specs.declared.line.Dec.{Dec}
@@ -43,7 +43,7 @@ pub record DailyTerms : Type 0 where
   pub applicable : DaySet
   pub fixings : RateTable
 
--- the same from its parts
+-- what a stream accrues by, from its leg, its day count, its terms and its fixings
 abbrev pub daily_terms : Leg → DayCountCode → FloatTerms → CalculationParameters → DaySet → RateTable → DailyTerms
 daily_terms leg day_count float parameters applicable fixings = record {
   leg = leg;
@@ -66,7 +66,7 @@ rates_of t = daily_rates t.fixings t.float.index
 abbrev pub whole_of : DailyTerms → CalculationPeriod → ObservedPeriod
 whole_of t x = observed_period t.parameters.offset t.applicable x.adjusted_start x.adjusted_end
 
--- the part of it that has run before d: its observation period ends on d, moved back by an observation shift
+-- the part of x that has run before d: its observation period ends on d, moved back by an observation shift
 abbrev pub run_of : DailyTerms → CalculationPeriod → ℤ → ObservedPeriod
 run_of t x d = observed_period t.parameters.offset t.applicable x.adjusted_start d
 
@@ -143,8 +143,8 @@ IsAccrualBy (Fixed values) s applicable fixings p d a = IsAccrual p d a
 IsAccrualBy (Floating float) s applicable fixings p d a =
     IsAccrualWith float.parameters float s applicable fixings p d a
 
--- what has accrued on d in the stream s, of which p is the part of the schedule: with calculation parameters by its
--- daily rates, else by the rates of its periods
+-- what has accrued on d in the stream s, of which p is the part of the schedule. With calculation parameters it is
+-- by its daily rates, else by the rates of its periods.
 abbrev pub IsAccrualOf : Stream → DaySet → RateTable → Part → ℤ → Accrual → Type 0
 IsAccrualOf s applicable fixings p d a = IsAccrualBy s.leg s applicable fixings p d a
 

@@ -51,7 +51,7 @@ fn inside(part: &StreamPart, running: &RunningPeriod, d: Day) -> Accrual
     }
 }
 
-/// The same in a stream.
+/// What has accrued on a day in a stream.
 pub(crate) fn accrued_in(part: &StreamPart, d: Day) -> Accrual
     ensures accrual { IsAccrual part.now d result }
     ensures places { HasPlaces result }

@@ -1,9 +1,9 @@
-//! What has accrued in a stream with calculation parameters (FpML `calculationParameters`): the running
-//! period's notional times the rate by daily rates times the fraction that has run.
+//! What has accrued in a stream with calculation parameters (FpML `calculationParameters`). It is the
+//! running period's notional times the rate by daily rates times the fraction that has run.
 //!
-//! The rate is that of the daily rates of the period's members before the day, compounded or averaged
-//! as for the whole period (the words are those of the 2021 ISDA Definitions). Under an observation shift what is
-//! observed ends on the day moved back, so on the first days nothing has accrued yet, not even the
+//! The rate is that of the daily rates of the period's members before the day. They are compounded or averaged
+//! as for the whole period (the words are those of the 2021 ISDA Definitions). Under an observation shift, what is
+//! observed ends on the day moved back. So on the first days nothing has accrued yet, not even the
 //! spread. These rules are ours.
 ghost use Rattle.std.specs.Prelude.{◌≡◌, ◌<ℤ◌, ◌≤ℤ◌, ℤ, IfOk};
 ghost use Rattle.irs_terms.specs.Currencies.{decimals_of};

@@ -1,5 +1,5 @@
-//! What has accrued on a day in a stream of either kind: with calculation parameters by its daily
-//! rates, else by the rates of its calculation periods.
+//! What has accrued on a day in a stream of either kind. With calculation parameters it is by the daily
+//! rates, else by the rates of the calculation periods.
 ghost use Rattle.std.specs.Prelude.{◌≡◌, IfOk};
 ghost use Rattle.irs_terms.specs.Lawful.{IsLawfulStream};
 ghost use Rattle.irs_terms.specs.StepDates.{LegStepsRise};
@@ -47,17 +47,17 @@ fn floating_accrued<G: GoodDays>(
 
 /// What has accrued on a day in the stream `s` of a swap, of which `part` is the part of its schedule.
 /// Without calculation parameters, and in a stub with a rate of its own, it is as for `accrued`. With
-/// them the running period earns at the rate by the daily rates of its members before the day:
+/// them the running period earns at the rate by the daily rates of its members before the day.
 ///
-/// - on its first day, and before its first day is observed, nothing has accrued, not even the spread;
-/// - the members and their observation days are those of the whole period, so a lockout is that of its
+/// - On its first day, and before its first day is observed, nothing has accrued, not even the spread.
+/// - The members and their observation days are those of the whole period. So a lockout is that of its
 ///   last days. The last rate applies up to the day, moved back under an observation shift;
-/// - the rate has the multiplier, the spread, the treatment and the rounding of the whole period's;
-/// - the amount is absent where one of these daily rates is, a factor passes 10^4, or the rate 10.
+/// - The rate has the multiplier, the spread, the treatment and the rounding of the whole period's.
+/// - The amount is absent where a daily rate is absent, a factor passes 10^4 or the rate passes 10.
 ///
-/// `applicable` are the good days of `applicableBusinessDays`; the fixings are those of the schedule.
-/// The conditions are that the stream keeps the rules of its terms and has a regular span (K30, K31),
-/// as every stream has of which a schedule is made.
+/// `applicable` are the good business days of `applicableBusinessDays`. The fixings are those of the schedule.
+/// The conditions are that the stream keeps the rules of its terms and has a regular span (K30, K31).
+/// Every stream of a schedule meets them.
 pub fn accrued_of<G: GoodDays>(
     alloc: Global,
     s: &Stream,

@@ -74,7 +74,7 @@ fn good_days(alloc: Global) -> Option<RunSet> {
     calendars.select(alloc, &names).ok()
 }
 
-// The rate with a spread by the members before a day; `None` where it isn't known, or the day isn't
+// The rate with a spread by the members before a day. `None` is where it isn't known, or the day isn't
 // after the first of the observation period.
 fn rate_on(
     alloc: Global,

@@ -33,7 +33,7 @@ fn put_fields(line: &mut Line, a: &Accrual)
     }
 }
 
-/// Replaces what the line holds by the line of what has accrued in the stream with this number. It
+/// Replaces what the line holds with the line of what has accrued in the stream with this number. It
 /// is `a STREAM none`, or `a STREAM PERIOD DAYS NUM/DEN AMOUNT` with `-` where there is no amount.
 /// It takes no memory.
 #[tactic(auto, unfolding(crate::specs::AccrualTexts::accrual_text))]

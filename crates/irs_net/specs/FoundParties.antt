@@ -12,7 +12,7 @@ use Rattle.irs_net.specs.declared.parties.Parties.{Parties}
 abbrev pub href_of : Data → Option (List ℕ)
 href_of d = option_and_then as_str (child_of (codes "@href") d)
 
--- that of the reference, where it is the only one
+-- the text of the reference's `@href`, where there is only one reference
 abbrev pub href_in : List Data → Option (List ℕ)
 href_in [] = None
 href_in (x ∷ []) = href_of x

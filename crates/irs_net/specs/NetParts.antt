@@ -1,5 +1,5 @@
 -- What falls due between the two parties of a swap: the exchanges and payments of its streams, each on its adjusted
--- date. An amount is positive where the party pays it that pays stream 1.
+-- date. An amount is positive where it is paid by the party that pays stream 1.
 use Rattle.std.specs.Prelude.{Bool, true, false, List, [], ◌∷◌, ◌++◌, map, Some, option_map, ℤ, neg_ℤ}
 use Rattle.irs_terms.specs.declared.currency.Currency.{Currency}
 use Rattle.irs_terms.specs.declared.results.Exchange.{Exchange}

@@ -1,4 +1,4 @@
--- The line of a row.
+-- The line of a row of the net.
 use Rattle.std.specs.Prelude.{ℕ, List, ◌∷◌, ◌++◌, codes}
 use Rattle.std.specs.Fmt.{decimal}
 use Rattle.irs_base.specs.Texts.{day_text, dec_text}

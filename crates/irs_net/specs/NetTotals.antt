@@ -27,7 +27,7 @@ IsSmall p = IfSome p.units (λ units. unsigned_abs units ≤ most_units)
 abbrev pub no_total : NetTotal
 no_total = record { known = pos 0; unknown = 0 }
 
--- one amount more
+-- a total with one more amount
 abbrev pub total_with : NetTotal → Option ℤ → NetTotal
 total_with t units =
     record { known = t.known +ℤ known_units units; unknown = t.unknown + (if is_none units then 1 else 0) }

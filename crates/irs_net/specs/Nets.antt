@@ -28,7 +28,7 @@ same_key = eq_by_cmp key_order
 abbrev pub part_key : NetPart → NetKey
 part_key p = record { date = p.date; letters = p.currency.letters }
 
--- those of a row
+-- the date and the currency of a row
 abbrev pub row_key : NetRow → NetKey
 row_key r = record { date = r.date; letters = r.currency.letters }
 

@@ -20,7 +20,7 @@ pub(crate) struct NetPart {
     pub(crate) date: Day,
     /// The currency in which it is paid.
     pub(crate) currency: Currency,
-    /// The amount in units of the currency's last decimal; `None` where a rate lacks.
+    /// The amount in units of the currency's last decimal; `None` where a rate isn't known.
     pub(crate) units: Option<i128>,
 }
 

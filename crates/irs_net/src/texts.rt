@@ -1,5 +1,4 @@
-//! The line of a row of the net: `n DATE CURRENCY AMOUNT UNKNOWN` and a line feed. The format is this
-//! project's own.
+//! The line of a row of the net: `n DATE CURRENCY AMOUNT UNKNOWN` and a line feed. The format is ours.
 ghost use Rattle.std.specs.Prelude.{◌≡◌};
 ghost use Rattle.irs_net.specs.Nets.{HasPlaces};
 ghost use Rattle.irs_net.specs.NetTexts.{net_text};
@@ -7,7 +6,7 @@ ghost use Rattle.irs_net.specs.NetTexts.{net_text};
 use crate::NetRow;
 use irs_base::Line;
 
-/// Replaces what the line holds by the line of a row: `n DATE CURRENCY AMOUNT UNKNOWN`. It takes no
+/// Replaces what the line holds with the line of a row: `n DATE CURRENCY AMOUNT UNKNOWN`. It takes no
 /// memory.
 #[tactic(auto, unfolding(crate::specs::NetTexts::net_text))]
 pub fn net_text(row: &NetRow, line: &mut Line)

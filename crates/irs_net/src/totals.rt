@@ -54,7 +54,7 @@ fn total_so_far(totals: &NetTotals, key: &NetKey) -> NetTotal
     }
 }
 
-// One amount more.
+// Adds one amount.
 fn total_with(total: NetTotal, units: Option<i128>) -> NetTotal
     requires known { unsigned_abs total.known ≤ most_total }
     requires unknown { total.unknown ≤ most_parts }
