@@ -49,15 +49,15 @@ fn floating_accrued<G: GoodDays>(
 /// Without calculation parameters, and in a stub with a rate of its own, it is as for `accrued`. With
 /// them the running period earns at the rate by the daily rates of its members before the day.
 ///
-/// - On its first day, and before its first day is observed, nothing has accrued, not even the spread.
-/// - The members and their observation days are those of the whole period. So a lockout is that of its
-///   last days. The last rate applies up to the day, moved back under an observation shift;
-/// - The rate has the multiplier, the spread, the treatment and the rounding of the whole period's.
-/// - The amount is absent where a daily rate is absent, a factor passes 10^4 or the rate passes 10.
+/// On its first day, and before its first day is observed, nothing has accrued, not even the spread.
+/// The members and their observation days are those of the whole period. So a lockout is that of its
+/// last days. The last rate applies up to the day, moved back under an observation shift.
+/// The rate has the multiplier, the spread, the treatment and the rounding of the whole period's.
+/// The amount is absent where a daily rate is absent, a factor passes 10^4 or the rate passes 10.
 ///
 /// `applicable` are the good business days of `applicableBusinessDays`. The fixings are those of the schedule.
 /// The conditions are that the stream keeps the rules of its terms and has a regular span (K30, K31).
-/// Every stream of a schedule meets them.
+/// Every stream of which a schedule is made meets them.
 pub fn accrued_of<G: GoodDays>(
     alloc: Global,
     s: &Stream,

@@ -61,7 +61,7 @@ pub record BreaksAverage (a : AverageAsked) (f : Fault) : Type 0 where
   pub has : HasMeanSource a source
   pub breaks : BreaksMeans source f
 
--- neither is
+-- neither K41 nor K43 is broken
 abbrev pub AverageKept : AverageAsked → Type 0
 AverageKept a = (f : Fault) → BreaksAverage a f → ⊥
 

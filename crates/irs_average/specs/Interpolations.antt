@@ -41,7 +41,7 @@ pub record BreaksTenors (a : StubAsked) (f : Fault) : Type 0 where
 abbrev pub BreaksStub : StubAsked → Fault → Type 0
 BreaksStub a f = (LacksStub a × (f ≡ no_stub)) ⊎ BreaksTenors a f
 
--- neither is broken
+-- neither K45 nor K46 is broken
 abbrev pub StubKept : StubAsked → Type 0
 StubKept a = (f : Fault) → BreaksStub a f → ⊥
 

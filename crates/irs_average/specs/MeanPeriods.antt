@@ -10,7 +10,7 @@ use Rattle.irs_average.specs.Means.{IsMean}
 use Rattle.irs_average.specs.Samples.{AreSamples}
 use Rattle.irs_average.specs.declared.means.Mean.{Mean}
 
--- of observations of a period of that many days
+-- what observations of a period of this number of days give
 abbrev pub IsMeanFound : Mean → ℤ → List Observation → Found → Type 0
 IsMeanFound kind days os (Rate x) = IsMean kind days os x
 IsMeanFound kind days os (Missing d) = first_absent os ≡ Some d

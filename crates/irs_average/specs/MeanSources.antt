@@ -21,7 +21,7 @@ pub record Averaging : Type 0 where
   pub days : DaySet
   pub lines : RateLines
 
--- these
+-- how rates are averaged, from these parts
 abbrev pub averaging_by : Mean → ℕ → DaySet → RateLines → Averaging
 averaging_by kind step days lines = record { kind = kind; step = step; days = days; lines = lines }
 
@@ -31,11 +31,11 @@ pub record MeanSource : Type 0 where
   pub resets : List Reset
   pub by : Averaging
 
--- of a stream of a schedule
+-- what the averages of a stream of a schedule are worked out from
 abbrev pub mean_source : Part → Averaging → MeanSource
 mean_source part by = record { adjusted = part.adjusted; resets = part.resets; by = by }
 
--- a period of these
+-- the period from one day to another, averaged this way
 abbrev pub mean_period : Averaging → ℤ → ℤ → MeanPeriod
 mean_period by start end =
     record { kind = by.kind; step = by.step; lines = by.lines; days = by.days; start = start; end = end }

@@ -32,7 +32,7 @@ pub record ShareOut (days : ℤ) (os : List Observation) : Type 0 where
   pub weights : All (λ o. pos 0 ≤ℤ o.weight) os
   pub whole : sum_over (λ o. o.weight) os ≡ days
 
--- x is the mean of the rates observed in a period of that many days, each of which is there
+-- x is the mean of the rates observed in a period of this number of days, each of which is there
 pub record IsMean (kind : Mean) (days : ℤ) (os : List Observation) (x : ℤ) : Type 0 where
   pub known : first_absent os ≡ None
   pub rounded : Rounded Nearest (sum_over (counted kind) os) (divisor kind days os) x

@@ -33,7 +33,7 @@ abbrev pub GivesOn : Side → Option StubTerms → List ℕ → Option Frequency
 GivesOn side None index tenor = ⊥
 GivesOn side (Some stubs) index tenor = given_on side stubs ≡ Some (Index index tenor)
 
--- in the stream of a swap with that number, from 1
+-- the stream of a swap with this number, from 1, gives the index and the tenor for its stub on that side
 pub record GivesIndex (swap : Swap) (number : ℕ) (side : Side) (index : List ℕ)
     (tenor : Option Frequency) : Type 0 where
   pub from_one : 1 ≤ number

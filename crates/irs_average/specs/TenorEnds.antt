@@ -21,6 +21,6 @@ EndsUnits M start count end = EndsMonths start count end
 EndsUnits Y start count end = EndsMonths start (12 * count) end
 EndsUnits T start count end = ⊥
 
--- a tenor from that start
+-- a tenor from this start ends on this day
 abbrev pub EndsTenor : ℤ → Frequency → ℤ → Type 0
 EndsTenor start tenor end = EndsUnits tenor.unit start tenor.count end

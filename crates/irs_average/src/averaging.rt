@@ -27,8 +27,8 @@ use std::alloc::Global;
 /// stream's reset dates.
 ///
 /// A rate is observed every `step` days from the start of the period. Its day is the last business
-/// day at or before that one. It is read in the line of the stream's index and tenor. Its weight in
-/// the weighted mean is the days to the next of these days, or from the last one to the end of the
+/// day at or before that one. It is read in the line of the stream's index and tenor. In the weighted
+/// mean it weighs the days to the next of these days, or from the last one to the end of the
 /// period. The average is rounded at 9 decimals, a half up.
 ///
 /// `Broken` is exactly the first of two. K41 is in the lowest period whose fixing date isn't after

@@ -1,6 +1,5 @@
 //! The rate of a stub on the line through the rates of two tenors (2006 ISDA Definitions, section
-//! 8.3, linear interpolation). The rounding, and that no rate is extrapolated, are this project's
-//! own.
+//! 8.3, linear interpolation). The rounding is our rule, and so is that no rate is extrapolated.
 ghost use Rattle.std.specs.Prelude.{◌≡◌, ◌↔◌, IsTrue, ◌+◌, ◌*◌, ◌^◌, ◌<◌, ◌≤◌, ℤ, Some, IfSome, IfNone, pos, ◌<ℤ◌};
 ghost use Rattle.std.specs.Prelude.{◌≤ℤ◌, ◌+ℤ◌, ◌-ℤ◌, ◌*ℤ◌, unsigned_abs};
 ghost use Rattle.irs_base.specs.Days.{all_days};
@@ -98,7 +97,7 @@ fn rounded_line(low: i64, high: i64, width: i64, days: i64) -> i128
     round(Direction::Nearest, value, whole_days(width))
 }
 
-// The same as a rate.
+// The rounded rate, as a rate.
 fn on_line(low: i64, high: i64, width: i64, days: i64) -> i64
     requires low { IsRate low }
     requires high { IsRate high }

@@ -17,7 +17,7 @@ pub record DailySource : Type 0 where
   pub days : DaySet
   pub lines : RateLines
 
--- those of a stream of a schedule
+-- what the daily rates of a stream of a schedule are compounded from
 abbrev pub daily_source : Part → List ℕ → DaySet → RateTable → DailySource
 daily_source part index days rates = record {
   adjusted = part.adjusted;

@@ -35,7 +35,7 @@ pub record NotAfter (resets : List Reset) (number : ℕ) : Type 0 where
   pub within : number ≤ length resets
   pub not_after : fixing_at resets number ≤ℤ fixing_at resets (number - 1)
 
--- K41
+-- K41 at the period with this number
 abbrev pub not_after_at : ℕ → Fault
 not_after_at number = fault_at K41 reset_dates number
 
@@ -61,7 +61,7 @@ pub record BreaksPeriod (source : DailySource) (f : Fault) : Type 0 where
   pub fails : PeriodFails why (period_at source basis number)
   pub is : f ≡ period_fault why number
 
--- the rules that are broken, K41 to K44
+-- one of the rules K41 to K44 is broken
 abbrev pub BreaksDerived : DailySource → Fault → Type 0
 BreaksDerived source f = BreaksBasis source f ⊎ (BreaksFixing source f ⊎ BreaksPeriod source f)
 

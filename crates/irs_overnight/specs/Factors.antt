@@ -16,7 +16,7 @@ one_factor = pos (10 ^ 15)
 abbrev pub most_factor : ℕ
 most_factor = 10 ^ 20
 
--- the rate 1 for a year of that many days
+-- the rate 1 for a year of this number of days
 abbrev pub year_of : ℕ → ℤ
 year_of basis = pos (10 ^ 9 * basis)
 

@@ -11,7 +11,7 @@ use Rattle.irs_overnight.specs.declared.observations.Observation.{Observation}
 use Rattle.irs_overnight.specs.declared.periods.PeriodFault.{PeriodFault}
 use Rattle.irs_overnight.specs.declared.periods.PeriodFault.TheVariants.{NoDays, OutOfRange}
 
--- of observations of a period of that many days, by a year of basis days
+-- what observations of a period of this number of days give, by a year of `basis` days
 abbrev pub IsFound : ℕ → ℤ → List Observation → Found → Type 0
 IsFound basis days os (Rate x) = IsCompounded basis days os x
 IsFound basis days os (Missing d) = first_absent os ≡ Some d
@@ -24,7 +24,7 @@ pub record DailyPeriod : Type 0 where
   pub start : ℤ
   pub end : ℤ
 
--- a period of these
+-- the period from one day to another, by these daily rates
 abbrev pub daily_period : ℕ → RateLines → DaySet → ℤ → ℤ → DailyPeriod
 daily_period basis lines days start end = record { basis = basis; lines = lines; days = days; start = start; end = end }
 

@@ -1,6 +1,6 @@
 //! Daily rates of a stream's index compounded into one rate for each calculation period (2006 ISDA
-//! Definitions, section 7.1, on compounded overnight rates). The product and its rounding are this
-//! project's own.
+//! Definitions, section 7.1, on compounded overnight rates). The product and its rounding are our
+//! rule.
 ghost use Rattle.std.specs.Prelude.{◌≡◌, All, List, IfOk};
 ghost use Rattle.irs_base.specs.Faults.{IfBroken};
 ghost use Rattle.irs_base.specs.declared.places.Broken.{Broken as BrokenRule};

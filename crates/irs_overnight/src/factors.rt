@@ -33,7 +33,7 @@ fn product(a: i128, b: i128) -> i128
     a * b
 }
 
-// The rate 1 for a year of that many days.
+// The rate 1 for a year of this number of days.
 fn year_of(basis: u16) -> i128
     requires range { (1 ≤ basis) × (basis ≤ 365) }
     ensures value { result ≡ year_of basis }
@@ -73,7 +73,7 @@ fn grown_factor(factor: i128, grown: i128) -> i128
     product(factor, grown)
 }
 
-// The factor after another by a rate over a number of days.
+// The next factor by a rate over a number of days.
 fn next_factor(basis: u16, factor: i128, rate: i64, weight: i64) -> i128
     requires range { (1 ≤ basis) × (basis ≤ 365) }
     requires factor { unsigned_abs factor ≤ most_factor }

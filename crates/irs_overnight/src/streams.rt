@@ -18,7 +18,7 @@ pub fn stream_at(swap: &Swap, number: u8) -> Option<&Stream>
     swap.streams.as_slice().get(number as usize - 1)
 }
 
-/// What the stream with that number, from 1, pays floating; `None` exactly where the swap has no
+/// The floating terms of the stream with that number, from 1. `None` comes exactly where the swap has no
 /// such stream, or it is fixed, or it has `calculationParameters`.
 pub fn floating_at(swap: &Swap, number: u8) -> Option<&FloatTerms>
     ensures some { IfSome result (λ f. PaysFloating swap.now number f.now) }
@@ -51,9 +51,9 @@ fn floats(swap: &Swap, number: u8) -> bool
     }
 }
 
-/// Whether rates can be derived for the stream with that number, from 1 (FpML `swapStream`). K40,
-/// with that number as its stream, comes exactly where the swap has no such stream, or the stream is
-/// fixed, or it has `calculationParameters`, by which `schedule` works out the rates itself. The rule
+/// Whether rates can be derived for the stream with that number, from 1 (FpML `swapStream`). K40 names
+/// that stream. It comes exactly where the swap has no such stream, or the stream is fixed or has
+/// `calculationParameters`. With these, `schedule` works out the rates itself. The rule
 /// is ours. No memory is taken.
 pub fn check_stream(swap: &Swap, stream: u8) -> Option<Broken>
     ensures { SomeIff result (Floats swap.now stream → ⊥) (no_floating_stream stream) }

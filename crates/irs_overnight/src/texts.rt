@@ -86,7 +86,7 @@ fn put_fields(row: &DerivedRow, tenor: Option<Frequency>, index: &Text, line: &m
     }
 }
 
-/// Replaces what the line holds by the line of a fixing file that a derived rate prints, with its
+/// Replaces what the line holds with the line of a fixing file that a derived rate prints, with its
 /// line feed. It is `DATE RATE TENOR INDEX` or `# missing PERIOD DATE`. The rate has 9 decimals,
 /// and the tenor is `-` where there is none. No memory is taken.
 #[tactic(auto, unfolding(crate::specs::Texts::derived_text_of))]
@@ -109,7 +109,7 @@ ghost use Rattle.std.specs.Prelude.{codes};
 /// A law, for an index and a tenor as terms have them. Rows with days and rates in range whose
 /// fixing dates rise print a fixing file, after the line `# irs-fixings 1`. Its lines give exactly
 /// the rates of the rows. `Fixings::read` takes them, and none for a row whose rate is missing. The
-/// call does nothing but to say so.
+/// call does nothing: its contract is the fact.
 pub fn rates_read_back(rows: &Derived, tenor: Option<Frequency>, index: &Text)
     requires lawful { IsLawfulLine index.now tenor }
     requires kept { AreKept rows.now }
