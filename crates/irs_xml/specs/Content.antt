@@ -27,11 +27,13 @@ mutual
 
 -- how elements and content are spelt; the end tag has the name of the start tag
 abbrev mutual
+  -- a tag alone, or a start tag, its content and its end tag
   pub element_text : Element → List ℕ
   element_text (empty t) = tag_text t ++ codes "/>"
   element_text (full t c space) =
       tag_text t ++ (62 ∷ (content_text c ++ (codes "</" ++ (name_text t.name ++ (space ++ codes ">")))))
 
+  -- the pieces of content, one after another
   pub content_text : Content → List ℕ
   content_text nothing = []
   content_text (character x c) = x ∷ content_text c
@@ -61,6 +63,7 @@ pub record IsTagIn (scope : Scope) (t : Tag) : Type 0 where
 
 -- elements and content that follow the rules in this scope, and nest at most `levels` deep
 abbrev mutual
+  -- an element follows the rules with at least one level left
   pub IsElement : ℕ → Scope → Element → Type 0
   IsElement zero scope (empty t) = ⊥
   IsElement zero scope (full t c space) = ⊥

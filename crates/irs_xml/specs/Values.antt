@@ -1,4 +1,4 @@
--- The value of an element, as `serde_json` holds values. This is the project's own way to carry FpML elements in JSON.
+-- The value of an element, as `serde_json` holds values. This way to carry FpML elements in JSON is ours.
 use Rattle.std.specs.Prelude.{ℕ, Bool, true, false, not, ◌&&◌, List, [], ◌∷◌, ◌++◌, Option, Some, None}
 use Rattle.std.specs.Prelude.{if◌then◌else◌, codes}
 use Rattle.std.specs.Char.{encode_utf8}
@@ -108,6 +108,7 @@ named key (Some d) = Some (key, d)
 -- the member that an element makes, and those of the elements in content; none where text is beside a child. What a
 -- foreign element holds is passed over
 abbrev mutual
+  -- an element by its name and its value
   pub element_child : List ℕ → Bool → Scope → Element → Option Child
   element_child root kept scope (empty t) =
       let o = opening_of t in
@@ -119,6 +120,7 @@ abbrev mutual
       named (key_of ours o.local) (element_data (kept && ours) o.settings (text_in c)
       (children_in root (kept && ours) (scope_in scope o.settings) c))
 
+  -- the elements in content, each by its name and its value
   pub children_in : List ℕ → Bool → Scope → Content → Option (List Child)
   children_in root kept scope nothing = Some []
   children_in root kept scope (character x c) = children_in root kept scope c
