@@ -126,7 +126,7 @@ pub inside_same : (m n : ℕ) (x y : ℤ) (f g : Frac) (a b : Option Dec) → m 
 inside_same m n x y f g a b h i j k =
     ap₂ (λ (z : ℕ) (w : ℤ). Inside z w f a) h i ∙ ap₂ (λ (z : Frac) (w : Option Dec). Inside n y z w) j k
 
--- of one period
+-- accruals of one period are equal
 in_period : (p : Part) (d : ℤ) (m : ℕ) (x y : ℤ) (f g : Frac) (a b : Option Dec) → KeepsBounds p → AccruesIn p d m x f a
     → AccruesIn p d m y g b → Inside m x f a ≡ Inside m y g b
 in_period p d m x y f g a b kept h k =

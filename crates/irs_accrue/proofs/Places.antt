@@ -56,7 +56,7 @@ daily_places t s p d (Inside number days frac amount) h =
     as_few t (decimals_of p.currency.letters) (few_decimals p.currency.letters) h.period d frac amount s.stubs h.kind
     h.accrues
 
--- of a floating stream
+-- the amount of a floating stream has at most 12 decimals
 pub floating_places : (parameters : Option CalculationParameters) (float : FloatTerms) (s : Stream) (applicable : DaySet)
     (fixings : RateTable) (p : Part) (d : ℤ) (a : Accrual)
     → IsAccrualWith parameters float s applicable fixings p d a → HasPlaces a

@@ -121,7 +121,7 @@ module _ (lines : RateLines) (set : DaySet) (s e : ℤ) (step n : ℕ) where
       → IsSample lines set s e step n k o → IsSmall o → pushed ≡ os ++ o ∷ [] → Samples (k + 1) pushed
   samples_pushed k os pushed o h is small e = subst (Samples (k + 1)) (sym e) (samples_more k os o h is small)
 
-  -- all of them
+  -- the observations of all steps are those of the period
   pub samples_all : (os : List Observation) → ((j : ℕ) → j < n ↔ step_day s step j <ℤ e) → length os ≡ n
       → EachNumbered (IsSample lines set s e step n) 0 os → AreSamples lines set step s e os
   samples_all os counted many each = record {

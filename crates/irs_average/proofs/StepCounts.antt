@@ -23,7 +23,7 @@ multiples_below days step k some wide =
       λ h. below k ((days - 1) / step) (both.1 (no_more (k * step) days h)),
     )
 
--- on days
+-- the days before the end are those of the steps below their number
 pub before_end : (s e : ℤ) (days m : ℕ) → s +ℤ pos days ≡ e → m < days ↔ (s +ℤ pos m) <ℤ e
 before_end s e days m is = (λ h. omega (arith, signed_arith, is, h), λ h. omega (arith, signed_arith, is, h))
 

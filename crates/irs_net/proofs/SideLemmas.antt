@@ -170,7 +170,7 @@ not_forward f s h w =
     (parties_are s w.payer w.receiver w.paid)) ∙ h in
     same_found (same_order a a) (other_order a a) (both_true w.payer w.receiver) e
 
--- nor backward
+-- a stream that has no side isn't backward
 pub not_backward : (f s : Data) → side_in f s ≡ None → IsBackward f s → ⊥
 not_backward f s h w =
     let a : Pair = (w.payer, w.receiver) in

@@ -27,7 +27,7 @@ over c [] parts = pos 0
 over c (r ∷ rs) parts =
     (if bytes_eq c.letters r.currency.letters then known_sum (row_key r) parts else pos 0) +ℤ over c rs parts
 
--- what one part gives them
+-- what one part adds to a row
 abbrev given : NetRow → NetPart → ℤ
 given r p = if same_key (row_key r) (part_key p) then known_units p.units else pos 0
 

@@ -74,7 +74,7 @@ module _ (basis : ℕ) (some : 1 ≤ basis) where
           ];
         }
 
-  -- after all of them
+  -- what the factor after all observations gives
   module _ (os : List Observation) (k : ℕ) (f : ℤ) (all : length os ≤ k) (c : Compounds basis os k f) where
     -- the factor after all observations is that of the period
     pub grows_all : Grows basis os one_factor f

@@ -50,7 +50,7 @@ pub record Observes (lines : RateLines) (q : ℤ) (u : List ℤ) (e : ℤ) (k : 
   pub each : EachNumbered (IsObservation lines q u e) 0 os
   pub small : All IsSmall os
 
--- one observation more
+-- one more observation
 pub observes_more : (lines : RateLines) (q : ℤ) (u : List ℤ) (e : ℤ) (k : ℕ) (os : List Observation) (o : Observation)
     → Observes lines q u e k os → IsObservation lines q u e k o → IsSmall o
     → Observes lines q u e (k + 1) (os ++ o ∷ [])

@@ -17,7 +17,7 @@ pub one_starts : (set : DaySet) (s e : ℤ) (u v : List ℤ) → AreStarts set s
 one_starts set s e u v p q =
     one_rising u v p.rising q.rising (λ d m. q.complete d (p.sound d m)) (λ d m. p.complete d (q.sound d m))
 
--- of a period of one day
+-- a period of one day has its first day as its only start
 pub starts_one : (set : DaySet) (s : ℤ) → AreStarts set s (s +ℤ pos 1) (s ∷ [])
 starts_one set s = record {
   rising = (tt, tt);
@@ -62,7 +62,7 @@ module _ (set : DaySet) (s : ℤ) (k : ℕ) (u : List ℤ) (some : 1 ≤ k) (are
         ];
       }
 
-  -- or which isn't
+  -- one more day that isn't a good business day adds no start
   pub starts_bad : (IsGood set (s +ℤ pos k) → ⊥) → AreStarts set s (s +ℤ pos (k + 1)) u
   starts_bad bad =
       let day : ℤ = s +ℤ pos k in

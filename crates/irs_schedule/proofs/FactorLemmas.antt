@@ -17,7 +17,7 @@ use Rattle.irs_observed.specs.declared.overnight_rate.OvernightRate.TheVariants.
 use Rattle.irs_schedule.specs.Outcomes.{passed_at}
 use Rattle.irs_schedule.specs.StreamResets.{FactorPassesAt, IsFirstPassing, RefusesAmounts, first_refusal, with_factors}
 
--- no factor passes
+-- no factor passes its limit
 abbrev NonePasses : List OvernightRate → Type 0
 NonePasses rates = (k : ℕ) → FactorPassesAt rates k → ⊥
 

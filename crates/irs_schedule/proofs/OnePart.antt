@@ -233,7 +233,7 @@ module _ (swap : Swap) (cal : List Section) (fix : RateTable) (lawful : IsLawful
       (λ k i s there p is. stream_is cal (stream_sets cal s) fix s (lawful_stream swap lawful i s there)
       (terms_kept swap cal lawful unbroken i s there) (sets_in_range cal s) p is) parts h
 
-  -- and the only one
+  -- a swap with an answer has only one schedule
   only_answer : (parts : List Part) → (schedule_of swap cal fix).Answers parts → (xs ys : List Part)
       → IsSchedule swap cal fix xs → IsSchedule swap cal fix ys → xs ≡ ys
   unfolding schedule_of
@@ -247,7 +247,7 @@ module _ (swap : Swap) (cal : List Section) (fix : RateTable) (lawful : IsLawful
   schedule_there kept =
       let made = answer_there schedule_determined kept in (made.0, schedule_is made.0 made.1)
 
-  -- and at most one
+  -- a swap that breaks no rule of its dates and amounts has at most one schedule
   pub one_schedule : DatedKept swap cal fix → (xs ys : List Part) → IsSchedule swap cal fix xs
       → IsSchedule swap cal fix ys → xs ≡ ys
   one_schedule kept xs ys h k =

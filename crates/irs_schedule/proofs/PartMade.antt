@@ -58,7 +58,7 @@ module _ (sets : StreamSets) (fix : RateTable) (s : Stream) (l : Layout) (some :
     resets = are.resets;
   }
 
-  -- and they keep its bounds
+  -- the lists keep the bounds of a part
   pub makes_part : (d : StreamEvents) (es : List PaymentEntry) → IsLawfulStream s → AllStepsRise s → AreInRange sets
       → AreDays l.unadjusted → AreDays l.adjusted → AreEvents sets fix s l d
       → Covers 1 d.payments (length l.unadjusted - 1) → HasRates s.leg (length l.adjusted - 1) d.resets d.rates

@@ -171,7 +171,7 @@ module _ (source : ResetSource) (applicable : DaySet) (fix : RateTable) where
       λ i. some_above (daily_source source applicable float parameters).rates fix x.rates h.rates (i - 1)
       (rate_in x.rates i) refl
 
-  -- those of a stream have
+  -- the observed rates of a stream have denominators above 0
   pub resets_above : (leg : Leg) (x : OvernightResets) → AreResetsIn leg source applicable fix x → AreAbove x.rates
   resets_above (Fixed values) x h = none_above x.rates h.1
   resets_above (Floating float) x h = above_by float float.parameters x h
@@ -187,7 +187,7 @@ every_above [] k h = tt
 every_above (r ∷ rates) zero h = above_one r h.0
 every_above (r ∷ rates) (suc k) h = every_above rates k h.1
 
--- rates within their bounds have
+-- rates within their bounds have denominators above 0
 pub bounds_above : (rates : List OvernightRate) → Every HasBounds rates → AreAbove rates
 bounds_above rates h = λ i. every_above rates (i - 1) h
 

@@ -14,7 +14,7 @@ period_is p j h =
     let there = slice_get-get_or p.periods j no_period h in
     rw there (ap (λ (i : ℕ). Some (dated_period p (j + 1) (slice_index_or p.periods i no_period))) (sym back))
 
--- so are its days
+-- the days of the period at a place are those of the list
 pub days_are : (p : Part) (j : ℕ) → j < length p.periods
     → option_map (λ e. e.days) (slice_get p.periods j) ≡ Some (slice_index_or p.periods (j + 1 - 1) no_period).days
 days_are p j h =

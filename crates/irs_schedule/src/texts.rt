@@ -25,7 +25,7 @@ pub fn put_optional(line: &mut Line, v: Option<Dec>)
     }
 }
 
-// The text of an adjusted day. Mostly it is the day that was to be adjusted, whose text is at hand.
+// The text of an adjusted day. Mostly it is the unadjusted day, whose text is known already.
 fn adjusted_digits(adjusted: Day, unadjusted: Day, digits: [u8; 10]) -> [u8; 10]
     requires { digits ≡ day_text unadjusted }
     ensures { result ≡ day_text adjusted }
