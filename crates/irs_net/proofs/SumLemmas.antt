@@ -31,6 +31,7 @@ over c (r ∷ rs) parts =
 abbrev given : NetRow → NetPart → ℤ
 given r p = if same_key (row_key r) (part_key p) then known_units p.units else pos 0
 
+-- what one part adds to the rows of a currency
 from_one : Currency → List NetRow → NetPart → ℤ
 from_one c [] p = pos 0
 from_one c (r ∷ rs) p = (if bytes_eq c.letters r.currency.letters then given r p else pos 0) +ℤ from_one c rs p
