@@ -27,7 +27,7 @@ use Rattle.irs_base.specs.Members.{Every}
 few : (currency : Currency) (v : Dec) → IsAmount currency v → v.places ≤ 12
 few currency v h = let e = h.places in let l = decimals_few currency.letters in omega (arith, e, l)
 
--- the amount of an exchange
+-- the amount of an exchange has at most 12 decimals
 pub exchange_decimals : (p : Part) (j : ℕ) (x : Exchange) → KeepsBounds p → slice_get p.exchanges j ≡ Some x
     → x.amount.places ≤ 12
 exchange_decimals p j x h e =
@@ -39,7 +39,7 @@ ordered a n [] h = tt
 ordered a n (y ∷ ys) h = let l = covers_within (y.last_period + 1) n ys h.2 in
     ((h.1, omega (arith, l)), ordered (y.last_period + 1) n ys h.2)
 
--- a payment
+-- a payment of a schedule has its periods in order and within the limit
 pub payment_kept : (p : Part) (j : ℕ) (y : PaymentEntry) → KeepsBounds p → slice_get p.payments j ≡ Some y → IsPayment y
 payment_kept p j y h e =
     let order = every_get (λ (y : PaymentEntry). (y.first_period ≤ y.last_period)
@@ -52,7 +52,7 @@ payment_kept p j y h e =
       decimals = IfSome_then y.amount (every_get (HasAmount p.currency) p.payments j y h.paid e) (few p.currency);
     }
 
--- payments that cover the periods are at most as many
+-- payments that cover the periods are at most as many as these
 covering_few : (a n : ℕ) (ys : List PaymentEntry) → Covers a ys n → length ys + a ≤ n + 1
 covering_few a n [] h = omega (arith, h)
 covering_few a n (y ∷ ys) h = omega (arith, h.0, h.1, covering_few (y.last_period + 1) n ys h.2)
@@ -76,7 +76,7 @@ small_entry daily code e h =
     let D : ℤ → Type 0 = λ d. (pos 0 <ℤ d) × (d ≤ℤ pos act_act_denominator) in
     record { numerator = h.numerator; denominator = subst D (sym h.denominator) (small_denominator code) }
 
--- the fraction of a period
+-- the day count fraction of a period is within the bounds
 pub period_small : (p : Part) (j : ℕ) (x : CalculationPeriod) → KeepsBounds p → period_at p j ≡ Some x → IsSmall x.frac
 period_small p j x h e = elim (slice_get_cases p.periods j).1 [
   | inl w ↦

@@ -44,11 +44,11 @@ once_is name d = first_value (child_of name d)
 
 -- ---- the cash flows of a stream
 
--- payments have at most the most calculation periods
+-- the payments have no more calculation periods than the limit
 abbrev IsFew : Option Data → Type 0
 IsFew o = length (periods_of (payments_in o)) ≤ most_rows
 
--- one `cashflows`, or none, has not too many periods
+-- a single `cashflows` without faults, or none, has no more periods than the limit
 once_few : (stream : ℕ) (ds : List Data) → ((f : Broken) → OnceFault stream ds f → ⊥) → IsFew (slice_get ds 0)
 once_few stream [] none = omega arith
 once_few stream (x ∷ []) none = elim (le_or_lt (length (periods_of (payments_in (Some x)))) most_rows) [
@@ -97,7 +97,7 @@ swap_few d none = λ j x e.
 pub flows_few : (d s : Data) → the_swap d ≡ Ok s → ((f : Broken) → FlowFault d f → ⊥) → AllHaveFewPeriods (Streams s)
 flows_few d s e none = swap_few s (λ f q. none f (below s f e q))
 
--- one stream of those that have not too many
+-- one of the streams that have no more calculation periods than the limit
 pub few_at : (vs : List Value) (j : ℕ) (v : Value) → slice_get vs j ≡ Some v → AllHaveFewPeriods (map view vs)
     → HasFewPeriods (view v)
 few_at vs j v found h = h j (view v) (slice_get-map view vs j ∙ ap (option_map view) found)

@@ -50,7 +50,7 @@ pub period_lines_are : map (λ (l : Line). l.path) period_table.lines ≡ period
 unfolding period_table period_elements printed paths
 period_lines_are = refl
 
--- what is first by the code's tables is first by the specification's
+-- the first fault by the code's table of cash flows is that by the definition's
 pub flow_first : (s r : ℕ) (k : Kind) (i : ℕ) (d : Data) (a : Option Broken)
     → IsFirstBroken (FaultAt FLOW_ROWS flow_code_names s r k i d) a
     → IsFirstBroken (FaultAt flow_rows flow_names s r k i d) a
@@ -58,7 +58,7 @@ flow_first s r k i d a p =
     by_tables (λ rows names. IsFirstBroken (FaultAt rows names s r k i d) a) FLOW_ROWS flow_rows flow_code_names
     flow_names flow_rows_are flow_names_are p
 
--- the first fault by the code's table is that by the definition's
+-- the first fault by the code's table of calculation periods is that by the definition's
 pub period_first : (s r : ℕ) (k : Kind) (i : ℕ) (d : Data) (a : Option Broken)
     → IsFirstBroken (FaultAt PERIOD_ROWS period_code_names s r k i d) a
     → IsFirstBroken (FaultAt period_rows period_names s r k i d) a

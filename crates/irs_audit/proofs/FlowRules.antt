@@ -30,7 +30,7 @@ three = tt
 seven : IsOfTables K7
 seven = tt
 
--- such a rule has a kind that is reported
+-- a rule of the tables has a kind that is reported
 pub told : (k : Rule) → IsOfTables k → kind_of k ≢ NotJson
 told K2 h e = cc
 told K3 h e = cc
@@ -40,7 +40,7 @@ told K6 h e = cc
 told K7 h e = cc
 told k h e = absurd h
 
--- and is the last one where the rule is none of the others
+-- a rule of the tables that is none of K2 to K6 is reported as a wrong count
 pub last_kind : (k : Rule) → IsOfTables k → k ≢ K2 → k ≢ K3 → k ≢ K4 → k ≢ K5 → k ≢ K6 → kind_of k ≡ Count
 last_kind K2 h second third fourth fifth sixth = absurd (second refl)
 last_kind K3 h second third fourth fifth sixth = absurd (third refl)
@@ -50,7 +50,7 @@ last_kind K6 h second third fourth fifth sixth = absurd (sixth refl)
 last_kind K7 h second third fourth fifth sixth = refl
 last_kind k h second third fourth fifth sixth = absurd h
 
--- ---- those that end the way to the swap
+-- ---- the rules that end the way to the swap
 
 -- a way that ends, ends at a rule of the tables
 abbrev Good : Way → Type 0
@@ -109,7 +109,7 @@ good_way d =
 of_way : (w : Way) (f : Broken) → w ≡ Err f → Good w → IsOfTables f.rule
 of_way w f e h = subst (λ (x : Way). Good x) e h
 
--- ---- those of a document
+-- ---- the rules that a document breaks
 
 of_one : (x f : Broken) → IsOfTables x.rule → f ≡ x → IsOfTables f.rule
 of_one x f h is = subst (λ (y : Broken). IsOfTables y.rule) (sym is) h
@@ -147,7 +147,7 @@ of_swap : (d : Data) (f : Broken) → SwapFault d f → IsOfTables f.rule
 of_swap d f (inl q) = of_own_fault 0 swap d f q
 of_swap d f (inr (t, q)) = of_streams (values_in (codes "swapStream") (Some d)) f q
 
--- the kind of a fault of cash flows is never that there is no JSON
+-- every fault of cash flows is a rule of the tables
 pub of_flows : (d : Data) (f : Broken) → FlowFault d f → IsOfTables f.rule
 of_flows d f (ended _ e) = of_way (the_swap d) f e (good_way d)
 of_flows d f (below s _ e q) = of_swap s f q

@@ -18,7 +18,7 @@ use Rattle.std.proofs.Common.{◌≡◌, inl, inr, ℕ, ◌+◌, ◌≤◌, Bool
 use Rattle.std.proofs.Common.{is_some, codes, refl, ◌∙◌, arith}
 use Rattle.std.proofs.lemmas.Option.{slice_get_within}
 
--- nothing is passed over in the calculation periods of a `cashflows` that has not too many
+-- nothing is passed over in the calculation periods of a `cashflows` that has no more than the limit
 in_periods : (stream : ℕ) (flows : Data) → length (periods_of (payments_in (Some flows))) ≤ most_rows
     → ((f : Broken) → OnceFault stream (flows ∷ []) f → ⊥)
     → (j : ℕ) (period : Data) → slice_get (periods_of (payments_in (Some flows))) j ≡ Some period

@@ -37,7 +37,7 @@ fault_if_first b x a e = first_is (FaultIf b x) (fault_if b x) a e (first_if x b
 pub alone : (x : Broken) (a : Option Broken) → a ≡ Some x → IsFirstBroken (λ f. f ≡ x) a
 alone x a e = first_is (λ f. f ≡ x) (Some x) a e (first_one (λ f. f ≡ x) x refl (λ g h. h))
 
--- ---- what an object's members break, beside what it breaks by itself
+-- ---- what an object's members break, besides what it breaks by itself
 
 module _ (P Q : Broken → Type 0) where
   -- what a value breaks: by itself, or by its members where it is an object
@@ -130,7 +130,7 @@ module _ (stream : ℕ) where
       → IsFirstBroken (PeriodsFrom stream 0 (xs ++ ys)) (earlier_broken a b)
   periods_more xs ys a b p q = first_same _ _ _ (to_both xs ys) (from_both xs ys) (first_or _ _ _ _ p q)
 
--- the periods of one payment more
+-- the periods of one more payment come after those so far
 pub periods_of_more : (vs : List Value) (i : ℕ) (v : Value) → i < length vs → v ≡ get_or vs i v
     → periods_of (map view (take (i + 1) vs)) ≡ periods_of (map view (take i vs)) ++ periods_in (view v)
 periods_of_more vs i v h is =
@@ -177,11 +177,11 @@ few_first stream ds a h p = first_same _ _ a (λ f q. in_period f h q) (inner ds
     inner ds h g (many_periods e) = absurd (omega arith)
     inner ds h g (in_period _ le q) = q
 
--- a test that is true shows that they are few
+-- a test that is true shows a number within the limit
 pub test_few : (n : ℕ) (b : Bool) → b ≡ nat_le n most_rows → b ≡ true → n ≤ most_rows
 test_few n b e h = let k : nat_le n most_rows ≡ true = sym e ∙ h in grind (arith, nat_tests)
 
--- a test that is false shows that they are many
+-- a test that is false shows a number above the limit
 pub test_many : (n : ℕ) (b : Bool) → b ≡ nat_le n most_rows → b ≡ false → most_rows < n
 test_many n b e h = let k : nat_le n most_rows ≡ false = sym e ∙ h in grind (arith, nat_tests)
 
@@ -256,7 +256,7 @@ pub own_some : (stream elem : ℕ) (d : Data) (a : Option Broken) → is_sound d
     → IsFirstBroken (OwnFault stream elem d) a
 own_some stream elem d a h e = fault_if_first (not (is_sound d)) (at stream K3 elem) a (rw h e)
 
--- the first fault of the periods of one payment more
+-- the first fault with the periods of one more payment
 pub payment_step : (stream : ℕ) (vs : List Value) (i : ℕ) (v : Value) (before : ℕ) (ds : List Data)
     (a b s : Option Broken) → i < length vs → v ≡ get_or vs i v → ds ≡ periods_in (view v)
     → before ≡ length (periods_of (map view (take i vs))) → s ≡ earlier_broken a b
@@ -282,7 +282,7 @@ count_step vs i v list lt is these =
     let same = sym (length-map list view) ∙ ap length these in
     omega (arith, long, same)
 
--- the periods of one payment more are at most those of all payments
+-- the periods with those of one more payment are at most those of all payments
 pub count_fits : (vs : List Value) (i : ℕ) (v : Value) (list : List Value) → i < length vs → v ≡ get_or vs i v
     → map view list ≡ periods_in (view v)
     → length (periods_of (map view (take i vs))) + length list ≤ length (periods_of (map view vs))
@@ -291,11 +291,11 @@ count_fits vs i v list lt is these =
     let same = sym (length-map list view) ∙ ap length these in
     omega (arith, fits, same)
 
--- more than the most fails the test
+-- a number above the limit fails the test
 pub many_test : (n : ℕ) → most_rows < n → false ≡ nat_le n most_rows
 many_test n h = let k : nat_le n most_rows ≡ false = grind (arith, nat_tests) in sym k
 
--- two or more values of `cashflows`
+-- two or more values of `cashflows` break K7
 pub once_many : (stream : ℕ) (list : List Value) (x : Broken) → 2 ≤ length list → x ≡ at stream K7 cashflows
     → IsFirstBroken (OnceFault stream (map view list)) (Some x)
 once_many stream [] x h e = absurd (omega arith)

@@ -81,7 +81,7 @@ field_once f g e = sym (field_is f) ∙ ap field_at e ∙ field_is g
 same_departure : (d e : Departure) → d.stream ≡ e.stream → d.kind ≡ e.kind → d.row ≡ e.row → d.field ≡ e.field → d ≡ e
 same_departure d e a b c f = λ i. record { stream = a i; kind = b i; row = c i; field = f i }
 
--- two departures of which neither comes before the other are one
+-- two departures are the same where neither comes before the other
 pub departure_ties : AreTied departs_before
 departure_ties d e p q =
     let streams = tied d.stream e.stream _ _ p q in
@@ -94,8 +94,8 @@ departure_ties d e p q =
 pub not_lower : (f g : Field) → field_place f ≤ field_place g → field_before g f ≡ false
 not_lower f g h = lt_false (field_place g) (field_place f) (λ less. omega (arith, h, less))
 
--- the first of two sets, none of the second before one of the first; the second need be searched only where the
--- first is empty
+-- the first of two sets, where nothing of the second comes before anything of the first: the second is
+-- searched only where the first is empty
 pub first_of_both : (P Q : Departure → Type 0) (a b : Option Departure)
     → ((d e : Departure) → P d → Q e → departs_before e d ≡ false) → IsFirst departs_before P a
     → (((d : Departure) → P d → ⊥) → IsFirst departs_before Q b)

@@ -26,7 +26,7 @@ module _ (kind : RowKind) (p : Part) (g : FlowPart) where
   abbrev pub NoneBelow : ℕ → Type 0
   NoneBelow i = (j : ℕ) (f : Field) → j < i → KindDeparts kind p g j f → ⊥
 
-  -- where row i doesn't depart either, no row up to it does
+  -- where the row at place i doesn't depart either, no row up to it does
   pub none_more : (i : ℕ) → NoneBelow i → IsFirst field_before (KindDeparts kind p g i) None → NoneBelow (i + 1)
   none_more i below here j f h d =
       elim (cases_order j i) [
@@ -84,7 +84,7 @@ pub record OfKind (k : ℕ) (kind : RowKind) (p : Part) (g : FlowPart) (d : Depa
   pub low : 0 < d.row
   pub departs : KindDeparts kind p g (d.row - 1) d.field
 
--- where rows past the one at place n depart only with it, those up to it are all
+-- a departure of the kind whose row is at most n is among the rows up to n
 up_to : (k : ℕ) (kind : RowKind) (p : Part) (g : FlowPart) (n : ℕ) (d : Departure) → OfKind k kind p g d → d.row ≤ n
     → AmongRows k kind p g n d
 up_to k kind p g n d m h = record { stream = m.stream; is_kind = m.is_kind; low = m.low; high = h; departs = m.departs }
@@ -106,7 +106,7 @@ later_row k kind d e a b c f h =
     level_same e.stream d.stream _ (c ∙ sym a)
     (level_same (kind_place e.kind) (kind_place d.kind) _ (ap kind_place (f ∙ sym b)) (level_later e.row d.row _ h))
 
--- rows past the one after the schedule's last depart with that one
+-- where a departure from place n on makes row n + 1 extra, the first up to that row is the first of all
 pub extended : (k : ℕ) (kind : RowKind) (p : Part) (g : FlowPart) (n : ℕ) (o : Option Departure)
     → ((j : ℕ) (f : Field) → n ≤ j → KindDeparts kind p g j f → KindDeparts kind p g n Extra)
     → IsFirst departs_before (AmongRows k kind p g (n + 1)) o → IsFirst departs_before (OfKind k kind p g) o
@@ -133,7 +133,7 @@ stands {X} {Y} Fields xn ys n j f h en d = elim (slice_get_cases ys j).1 [
   | inr w ↦ absurd (let D : Option Y → Type 0 = λ o. RowDeparts Fields None o f in subst D w.1 d)
 ]
 
--- a row of the flows that is past the one at place n, where the schedule has none from there on
+-- where the schedule ends before place n and a later row departs, the flows' row at place n is extra
 extra_before : {X Y : Type 0} (Fields : X → Y → Field
     → Type 0) (x : Option X) (xn : Option X) (ys : List Y) (n j : ℕ) (f : Field) → n ≤ j → x ≡ None → xn ≡ None
     → RowDeparts Fields x (slice_get ys j) f → RowDeparts Fields xn (slice_get ys n) Extra
@@ -165,7 +165,7 @@ periods_past p g j f h d =
     extra_before PeriodDeparts (period_at p j) (period_at p n) g.periods n j f h (no_period p j h)
     (no_period p n (omega arith)) d
 
--- a reset past the last period is that of a period that departs
+-- where a reset after the last period departs, its period is extra
 resets_past : (p : Part) (g : FlowPart) (j : ℕ) (f : Field) → length p.resets ≤ length p.periods → length p.periods ≤ j
     → KindDeparts Reset p g j f → KindDeparts Period p g j Extra
 resets_past p g j f few h d =
@@ -180,7 +180,7 @@ few_if : (b : Bool) (m n : ℕ) → m ≡ (if b then n else 0) → m ≤ n
 few_if true m n e = omega (arith, e)
 few_if false m n e = omega (arith, e)
 
--- at most one reset a period
+-- a stream has at most one reset a period
 pub resets_few : (p : Part) → KeepsBounds p → length p.resets ≤ length p.periods
 resets_few p h = few_if p.floating (length p.resets) (length p.periods) h.resets
 
@@ -210,11 +210,11 @@ module _ (k : ℕ) (p : Part) (g : FlowPart) where
   abbrev UpToPayments : Departure → Type 0
   UpToPayments d = OfKind k Exchange p g d ⊎ OfKind k Payment p g d
 
-  -- or among the calculation periods
+  -- a departure among the exchanges, the payments or the calculation periods
   abbrev UpToPeriods : Departure → Type 0
   UpToPeriods d = UpToPayments d ⊎ OfKind k Period p g d
 
-  -- or among the resets
+  -- a departure among the rows of any of the four kinds
   abbrev OfEach : Departure → Type 0
   OfEach d = UpToPeriods d ⊎ OfKind k Reset p g d
 

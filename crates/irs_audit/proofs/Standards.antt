@@ -17,6 +17,6 @@ thirty_second = record { decimals = omega arith; exact = λ h. absurd (omega (ar
 not_down : Rounded Nearest (pos 10_000) (pos 32) (pos 312) → ⊥
 not_down h = absurd (grind (arith, h))
 
--- and it isn't 0.0312
+-- 1/32 with four decimals is not 0.0312
 half_not_down : IsFraction (record { num = pos 1; den = pos 32 }) (record { units = pos 312; places = 4 }) → ⊥
 half_not_down h = not_down (h.nearest (omega arith))

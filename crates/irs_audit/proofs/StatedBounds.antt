@@ -21,7 +21,7 @@ use Rattle.irs_audit.specs.Comparisons.{IsStatable, IsStatableDec, IsStatablePer
 use Rattle.irs_base.proofs.MemberLemmas.{every_get}
 use Rattle.irs_audit.proofs.ValueLemmas.{both_powers}
 
--- such a number fits 128 bits in units of 10^-12
+-- a number that can be stated fits 128 bits in units of 10^-12
 pub statable_fits : (u : ℤ) (p : ℕ) → IsStatable u p → unsigned_abs u * unsigned_abs (pos (10 ^ (12 - p))) < 2 ^ 127
 statable_fits u p h =
     let product : unsigned_abs u * 10 ^ (12 - p) ≤ 10 ^ 14 * 10 ^ p * 10 ^ (12 - p) = mul-le-mul h.size (omega arith) in
@@ -37,7 +37,7 @@ pub notional_statable : (n : ℤ) → IsNotional n → IsStatable n 4
 notional_statable (pos n) h = record { decimals = omega arith; size = omega (arith, signed_arith, h) }
 notional_statable (negsuc n) h = absurd (omega (arith, signed_arith, h))
 
--- a rate that isn't too great
+-- a rate of a period can be stated
 pub rate_statable : (daily : Bool) (r : ℤ) → unsigned_abs r ≤ most_entry_rate daily → IsStatableRate r
 rate_statable true r h = record { decimals = omega arith; size = omega (arith, h) }
 rate_statable false r h = record { decimals = omega arith; size = omega (arith, h) }

@@ -204,7 +204,7 @@ flows_agree s h d m =
     stream_agrees (slice_get s k) d.kind d.row d.field (λ p e. every_get KeepsBounds s k p h.each e)
     (subst D (slice_get-map stated_part s k) m.1)
 
--- one period more is stated, and those after it are left
+-- after one more period is stated, those after it are left
 pub one_period_more : (p : Part) (j : ℕ) (x : CalculationPeriod) (before : List FlowPeriod) → period_at p j ≡ Some x
     → (before ++ period_with x (option_map stated_reset (slice_get p.resets j)) ∷ [])
     ++ stated_periods_from p (j + 1) (drop (j + 1) p.periods) ≡ before ++ stated_periods_from p j (drop j p.periods)
@@ -224,7 +224,7 @@ one_period_more p j x before h = elim (slice_get_cases p.periods j).1 [
   | inr w ↦ absurd (let none = w.1 in let bad = rw none at h in cc)
 ]
 
--- each place below the number of periods has one
+-- each place below the number of periods has a period
 pub period_there : (p : Part) (j : ℕ) → j < length p.periods → period_at p j ≡ None → ⊥
 period_there p j low h = elim (slice_get_cases p.periods j).1 [
   | inl w ↦ let there = w.2 in let bad = rw there at h in cc

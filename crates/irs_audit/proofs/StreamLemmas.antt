@@ -42,7 +42,7 @@ module _ (f : List FlowPart) (s : List Part) where
   pub none_before : NoneUpTo 0
   none_before d h m = let low = m.0 in omega (arith, h, low)
 
-  -- where stream i doesn't depart either, no stream up to it does
+  -- where the stream at place i doesn't depart either, no stream up to it does
   pub none_more : (i : ℕ) → NoneUpTo i → IsFirst departs_before (OfPlace i) None → NoneUpTo (i + 1)
   none_more i below here d h m = let low = m.0 in
       elim (cases_lt i d.stream) [ inl l ↦ here d (to_place i d (omega (arith, l, h)) m) | inr l ↦ below d l m ]
@@ -63,7 +63,7 @@ module _ (f : List FlowPart) (s : List Part) where
       → First departs_before (Departs f s) d
   place_found i d below here = (from_place i d here.0, λ e m. place_order i d e below here m)
 
-  -- a stream of the flows past the one after the schedule's last
+  -- where a stream after the schedule's last departs, the one right after that last one is extra
   extra_stream : (j : ℕ) (kind : RowKind) (row : ℕ) (field : Field) → length s ≤ j
       → StreamDeparts (slice_get s j) (slice_get f j) kind row field
       → StreamDeparts (slice_get s (length s)) (slice_get f (length s)) Stream 0 Extra

@@ -20,7 +20,7 @@ use Rattle.irs_audit.proofs.BoundLemmas.{payments_few}
 use Rattle.irs_audit.proofs.ValueLemmas.{both_powers}
 use Rattle.irs_audit.proofs.VerdictLemmas.{sum_few}
 
--- a stated amount
+-- a stated amount is at most the greatest size
 pub amount_size : (v : Dec) → IsStatableDec v → unsigned_abs (stated_amount v) ≤ most_amount
 amount_size v h =
     let product : unsigned_abs v.units * 10 ^ (12 - v.places) ≤ 10 ^ 14 * 10 ^ v.places * 10 ^ (12 - v.places) =
@@ -28,7 +28,7 @@ amount_size v h =
     let power = both_powers v.places h.decimals in
     rw (unsigned_abs-product v.units (pos (10 ^ (12 - v.places)))) (omega (arith, product, power))
 
--- a number of 64 bits
+-- a number of 64 bits is at most the greatest size
 pub days_size : (z : ℤ) → FitsSigned w64 z → unsigned_abs z ≤ most_amount
 days_size (pos n) f = omega (arith, f.sfits)
 days_size (negsuc n) f = omega (arith, f.sfits)
@@ -36,12 +36,12 @@ days_size (negsuc n) f = omega (arith, f.sfits)
 payment_rows_few : (p : Part) → KeepsBounds p → payment_rows p ≤ 2 * most_periods
 payment_rows_few p h = let payments = payments_few p h in omega (arith, h.few, payments)
 
--- the payments of a schedule fit 32 bits
+-- the count of payments and calculation periods of a schedule fits 32 bits
 pub payment_rows_fit : (s : List Part) → IsWithin s → fold (λ n p. n + payment_rows p) 0 s < 2 ^ 32
 payment_rows_fit s h = let few = sum_few payment_rows (2 * most_periods) 0 s payment_rows_few h.each in
     omega (arith, few, h.few)
 
--- one payment more
+-- the sum with one more payment, and the payments after it
 pub paid_more : (t : ℤ) (ys : List PaymentEntry) (i : ℕ) (y : PaymentEntry) → i < length ys → y ≡ get_or ys i y
     → paid_from (t +ℤ known_or_zero y.amount) (drop (i + 1) ys) ≡ paid_from t (drop i ys)
 paid_more t ys i y low is =
@@ -60,7 +60,7 @@ days_there es j d h = elim (slice_get_cases es j).1 [
   | inr w ↦ absurd (let none = w.1 in let bad = rw none at h in cc)
 ]
 
--- the days of one period more
+-- the sum with the days of one more period, and the periods after it
 pub days_more : (t k : ℤ) (es : List PeriodEntry) (i : ℕ) → i < length es → IfSome (slice_get es i) (λ e. k ≡ e.days)
     → days_from (t +ℤ k) (drop (i + 1) es) ≡ days_from t (drop i es)
 days_more t k es i low h = elim (slice_get_cases es i).1 [

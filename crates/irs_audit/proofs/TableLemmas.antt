@@ -13,17 +13,17 @@ abbrev pub Decides : (Field → Type 0) → List (Field × Bool) → Type 0
 Decides P [] = Unit {0}
 Decides P (t ∷ ts) = (IsTrue t.1 ↔ P t.0) × Decides P ts
 
--- its fields are in order, none before place n
+-- the fields of the table are in order, none before place n
 abbrev pub InOrder : ℕ → List (Field × Bool) → Type 0
 InOrder n [] = Unit {0}
 InOrder n (t ∷ ts) = (n ≤ field_place t.0) × InOrder (field_place t.0) ts
 
--- f is one of its fields
+-- f is a field of the table
 abbrev pub Stands : Field → List (Field × Bool) → Type 0
 Stands f [] = ⊥
 Stands f (t ∷ ts) = (f ≡ t.0) ⊎ Stands f ts
 
--- f is one of its fields and departs
+-- f is a field of the table and departs
 abbrev StandsWith : (Field → Type 0) → List (Field × Bool) → Field → Type 0
 StandsWith P ts f = Stands f ts × P f
 
@@ -35,7 +35,7 @@ above n [] g h s = absurd s
 above n (t ∷ ts) g h (inl e) = moved n t.0 g e h.0
 above n (t ∷ ts) g h (inr s) = let k = above (field_place t.0) ts g h.1 s in omega (arith, h.0, k)
 
--- a field that doesn't depart may come before them
+-- a field that doesn't depart may come before the table and changes nothing
 passed : (P : Field → Type 0) (f : Field) (ts : List (Field × Bool)) (o : Option Field) → (P f → ⊥)
     → IsFirst field_before (StandsWith P ts) o → IsFirst field_before (StandsWith P ((f, false) ∷ ts)) o
 passed P f ts o never h =
@@ -52,7 +52,7 @@ standing P n ((f, true) ∷ ts) d o = (
 standing P n ((f, false) ∷ ts) d o =
     passed P f ts (first_true ts) (λ p. true≢false (sym (d.0.1 p))) (standing P (field_place f) ts d.1 o.1)
 
--- in a table in order, of every field that can depart
+-- in an ordered table of every field that can depart, the first true field is the first that departs
 pub table_first : (P : Field → Type 0) (ts : List (Field × Bool)) → Decides P ts → InOrder 0 ts
     → ((f : Field) → P f → Stands f ts) → IsFirst field_before P (first_true ts)
 table_first P ts d o all =

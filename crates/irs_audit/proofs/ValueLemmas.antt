@@ -75,7 +75,7 @@ power_positive n = let l = some_power n in omega (arith, signed_arith, l)
 pub both_powers : (p : ℕ) → p ≤ 12 → 10 ^ (12 - p) * 10 ^ p ≡ 10 ^ 12
 both_powers p h = sym (pow-add 10 (12 - p) p) ∙ ap (λ (n : ℕ). 10 ^ n) (sub-add_cancel h)
 
--- as many units of 10^-12 as there are
+-- a number converted to units of 10^-12 is the same number
 pub scaled_up : (u s : ℤ) (p : ℕ) → p ≤ 12 → (u *ℤ pos (10 ^ (12 - p))) ≡ s → IsNumber u p s
 scaled_up u s p h e =
     ap (λ (z : ℤ). z *ℤ pos (10 ^ p)) (sym e) ∙ twice u (10 ^ (12 - p)) (10 ^ p)
@@ -91,7 +91,7 @@ pub number_decided : (u s : ℤ) (p : ℕ) (r : Bool) → p ≤ 12 → (IsTrue r
     → (IsTrue r ↔ IsNumber u p s)
 number_decided u s p r h d = (λ t. scaled_up u s p h (d.0 t), λ e. d.1 (scaled_down u s p h e))
 
--- p is m times q where the quotient is m and there is no rest
+-- p is m times q where the quotient is m and the remainder is 0
 multiple_up : (p q m k r : ℤ) → p ≡ q *ℤ k +ℤ r → r ≡ pos 0 → k ≡ m → (m *ℤ q) ≡ p
 multiple_up p q m k r e z h = rw (e, z, h) (omega (arith, signed_arith))
 
@@ -105,7 +105,7 @@ pieces a b n r e h = elim (cases_lt b a) [
       (none, cancel a b n (omega (arith, h)) (omega (arith, e, none)))
 ]
 
--- and else it is not
+-- where p is m times q, the remainder is 0 and the quotient is m
 multiple_down : (p q m k r : ℤ) → pos 0 <ℤ q → p ≡ q *ℤ k +ℤ r → pos 0 ≤ℤ r → r <ℤ q → (m *ℤ q) ≡ p
     → (r ≡ pos 0) × (k ≡ m)
 multiple_down p (negsuc n) m k r some e low high f = absurd (omega (arith, signed_arith, some))
@@ -117,7 +117,7 @@ multiple_down p (pos n) m k (pos r) some e low high f =
     let same = parts.1 in
     (ap (λ (i : ℕ). pos i) none, omega (arith, signed_arith, same))
 
--- p is m times q exactly where there is no rest and the quotient is m
+-- p is m times q exactly where the remainder is 0 and the quotient is m
 pub divides : (p q m : ℤ) → pos 0 <ℤ q → ((int_rem_euclid p q ≡ pos 0) × (int_div_euclid p q ≡ m)) ↔ ((m *ℤ q) ≡ p)
 divides p q m some =
     let k = int_div_euclid p q in
@@ -125,7 +125,7 @@ divides p q m some =
     let parts = quotient_and_rest p q some in
     (λ d. multiple_up p q m k r parts.0 d.0 d.1, λ f. multiple_down p q m k r some parts.0 parts.1 parts.2 f)
 
--- the numerator of a fraction in units of 10^-12 and greater
+-- a numerator times a power of 10 for at most 12 decimals is within the greatest numerator
 pub scaled_within : (num : ℤ) (n : ℕ) → n ≤ 12 → (pos 0 ≤ℤ num) × (num ≤ℤ pos most_numerator)
     → (pos 0 ≤ℤ (num *ℤ pos (10 ^ n))) × ((num *ℤ pos (10 ^ n)) ≤ℤ pos most_scaled)
 scaled_within (negsuc k) n h range = absurd (omega (arith, signed_arith, range))
@@ -141,7 +141,7 @@ pub scaled_fits : (num : ℤ) (n : ℕ) → n ≤ 12 → (pos 0 ≤ℤ num) × (
 scaled_fits num n h range = let within = scaled_within num n h range in
     fits_between w128 (num *ℤ pos (10 ^ n)) (omega (arith, signed_arith, within))
 
--- a fraction with fewer than four decimals is exact
+-- with fewer than four decimals, comparing exactly decides whether the fraction agrees
 pub exact_fraction : (f : Frac) (s : StatedFraction) (r : Bool) → s.places < 4
     → (IsTrue r ↔ ((s.units *ℤ f.den) ≡ (f.num *ℤ pos (10 ^ s.places)))) → (IsTrue r ↔ IsFraction f s)
 exact_fraction f s r h d = (
@@ -149,7 +149,7 @@ exact_fraction f s r h d = (
   λ q. d.1 (q.exact h),
 )
 
--- a fraction with four decimals or more is rounded to the nearest
+-- with four to twelve decimals, comparing the rounded fraction decides whether it agrees
 pub near_fraction : (f : Frac) (s : StatedFraction) (q : ℤ) (r : Bool) → 4 ≤ s.places → s.places ≤ 12 → pos 0 <ℤ f.den
     → Rounded Nearest (f.num *ℤ pos (10 ^ s.places)) f.den q → (IsTrue r ↔ (q ≡ s.units)) → (IsTrue r ↔ IsFraction f s)
 near_fraction f s q r low high den is d = (
@@ -158,6 +158,6 @@ near_fraction f s q r low high den is d = (
   λ k. d.1 (nearest_once (f.num *ℤ pos (10 ^ s.places)) f.den q s.units den is (k.nearest low)),
 )
 
--- a fraction with more than twelve decimals is none
+-- a fraction with more than twelve decimals agrees with none
 pub not_a_fraction : (f : Frac) (s : StatedFraction) → 12 < s.places → IsFraction f s → ⊥
 not_a_fraction f s h k = let l = k.decimals in omega (arith, h, l)

@@ -19,7 +19,7 @@ use Rattle.irs_base.specs.Limits.{most_periods}
 use Rattle.irs_schedule.specs.RowsOf.{most_stream_rows}
 use Rattle.irs_base.specs.Members.{Every}
 
--- one verdict at most
+-- the same flows and schedule have at most one verdict
 pub one_verdict : (f : List FlowPart) (s : List Part) (v w : Verdict) → IsVerdict f s v → IsVerdict f s w → v ≡ w
 one_verdict f s (Yes a b) (Yes c d) h k = λ i. Yes ((h.1 ∙ sym k.1) i) ((h.2 ∙ sym k.2) i)
 one_verdict f s (Yes a b) (No e) h k = absurd (h.0 e k.0)
@@ -27,7 +27,7 @@ one_verdict f s (No d) (Yes a b) h k = absurd (k.0 d h.0)
 one_verdict f s (No d) (No e) h k =
     ap (λ (x : Departure). No x) (one_first departs_before departure_ties (Departs f s) d e h k)
 
--- it is No exactly where something departs
+-- the verdict is No exactly where something departs
 pub no_exactly : (f : List FlowPart) (s : List Part) (v : Verdict) → IsVerdict f s v
     → (IsNo v ↔ ((d : Departure) × Departs f s d))
 no_exactly f s (Yes a b) h = (λ n. absurd n, λ x. h.0 x.0 x.1)
@@ -37,7 +37,7 @@ few_if : (b : Bool) (m n : ℕ) → m ≡ (if b then n else 0) → m ≤ n
 few_if true m n e = omega (arith, e)
 few_if false m n e = omega (arith, e)
 
--- a stream has at most the most rows
+-- a stream has no more rows than the limit
 pub rows_few : (p : Part) → KeepsBounds p → stream_rows p ≤ most_stream_rows
 rows_few p h =
     let payments = payments_few p h in
@@ -54,14 +54,14 @@ count_few test a [] = omega arith
 count_few test a (x ∷ xs) = let rest = count_few test (a + cond (test x) 1 0) xs in let one = one_few (test x) in
     omega (arith, rest, one)
 
--- a stream has at most the most payments without amount
+-- a stream has no more payments without amount than the limit on periods
 pub unfixed_few : (p : Part) → KeepsBounds p → stream_unfixed p ≤ most_periods
 unfixed_few p h =
     let payments = payments_few p h in
     let count = count_few (λ (y : PaymentEntry). is_none y.amount) 0 p.payments in
     omega (arith, h.few, payments, count)
 
--- a sum over streams is bounded by their number times the most of each
+-- a sum over streams is at most their number times the greatest share of each
 pub sum_few : (f : Part → ℕ) (c a : ℕ) (ps : List Part) → ((p : Part) → KeepsBounds p → f p ≤ c) → Every KeepsBounds ps
     → fold (λ n p. n + f p) a ps ≤ a + c * length ps
 sum_few f c a [] each h = omega arith

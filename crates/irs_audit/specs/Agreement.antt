@@ -23,7 +23,7 @@ RowDeparts Fields None None field = ⊥
 abbrev pub stated_reset : FlowPart → ℕ → Option FlowReset
 stated_reset g j = option_and_then (λ y. y.reset) (slice_get g.periods j)
 
--- the rows of a kind at place j, from 0, of a stream that both have
+-- what departs between the rows of a kind at place j, from 0, in a stream that both have
 abbrev pub KindDeparts : RowKind → Part → FlowPart → ℕ → Field → Type 0
 KindDeparts Stream p g j field = ⊥
 KindDeparts Exchange p g j field = RowDeparts ExchangeDeparts (slice_get p.exchanges j) (slice_get g.exchanges j) field

@@ -49,11 +49,11 @@ field_place ResetDate = 18
 field_place AdjustedFixingDate = 19
 field_place ObservedRate = 20
 
--- by the field
+-- fields come in the order of their places
 abbrev pub field_before : Field → Field → Bool
 field_before f g = nat_lt (field_place f) (field_place g)
 
--- by the stream, then the kind, then the row, then the field
+-- departures are ordered by the stream, then the kind of row, then the row, then the field
 abbrev pub departs_before : Departure → Departure → Bool
 departs_before d e =
     level d.stream e.stream

@@ -23,14 +23,14 @@ use Rattle.irs_audit.specs.declared.flows.FlowPeriod.{FlowPeriod}
 use Rattle.irs_audit.specs.declared.flows.FlowReset.{FlowReset}
 use Rattle.irs_audit.specs.StatedValues.{IsNumber, IsAmount, IsFraction, StatedWrongly, NotStatedRightly, WhereKnown}
 
--- a principal exchange
+-- the fields of a principal exchange that depart
 abbrev pub ExchangeDeparts : Exchange → FlowExchange → Field → Type 0
 ExchangeDeparts x y UnadjustedPrincipalExchangeDate = StatedWrongly (λ d. d ≡ x.unadjusted) y.unadjusted
 ExchangeDeparts x y AdjustedPrincipalExchangeDate = NotStatedRightly (λ d. d ≡ x.adjusted) y.adjusted
 ExchangeDeparts x y PrincipalExchangeAmount = NotStatedRightly (IsAmount x.amount) y.amount
 ExchangeDeparts x y _ = ⊥
 
--- a payment in the currency of its stream; it always states how many calculation periods it has
+-- the fields of a payment, in the currency of its stream; its number of periods is always stated
 abbrev pub PaymentDeparts : Currency → PaymentEntry → FlowPayment → Field → Type 0
 PaymentDeparts currency x y UnadjustedPaymentDate = StatedWrongly (λ d. d ≡ x.unadjusted) y.unadjusted
 PaymentDeparts currency x y AdjustedPaymentDate = NotStatedRightly (λ d. d ≡ x.adjusted) y.adjusted
@@ -39,7 +39,7 @@ PaymentDeparts currency x y CurrencyField = StatedWrongly (λ c. c ≡ currency)
 PaymentDeparts currency x y Amount = WhereKnown (λ v. NotStatedRightly (IsAmount v) y.amount) x.amount
 PaymentDeparts currency x y _ = ⊥
 
--- a calculation period: notionals are in units of 10^-4, rates in units of 10^-9
+-- the fields of a calculation period: notionals are in units of 10^-4, rates in units of 10^-9
 abbrev pub PeriodDeparts : CalculationPeriod → FlowPeriod → Field → Type 0
 PeriodDeparts x y UnadjustedStartDate = StatedWrongly (λ d. d ≡ x.start) y.start
 PeriodDeparts x y UnadjustedEndDate = StatedWrongly (λ d. d ≡ x.end) y.end
@@ -51,7 +51,7 @@ PeriodDeparts x y Rate = WhereKnown (λ r. StatedWrongly (IsNumber r 9) y.rate) 
 PeriodDeparts x y DayCountYearFraction = StatedWrongly (IsFraction x.frac) y.fraction
 PeriodDeparts x y _ = ⊥
 
--- a reset
+-- the fields of a reset that depart
 abbrev pub ResetDeparts : Reset → FlowReset → Field → Type 0
 ResetDeparts x y ResetDate = StatedWrongly (λ d. d ≡ x.reset) y.reset
 ResetDeparts x y AdjustedFixingDate = NotStatedRightly (λ d. d ≡ x.fixing) y.fixing

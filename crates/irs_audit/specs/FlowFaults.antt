@@ -32,7 +32,7 @@ FaultIf b x f = (b ≡ true) × (f ≡ x)
 abbrev pub is_sound : Data → Bool
 is_sound d = is_some (names_of d) && not (has_odd d)
 
--- it isn't
+-- a value that is not such an object breaks K3
 abbrev pub OwnFault : ℕ → ℕ → Data → Broken → Type 0
 OwnFault stream elem d = FaultIf (not (is_sound d)) (at stream K3 elem)
 
@@ -64,7 +64,7 @@ PeriodFault stream number d f =
 abbrev pub periods_in : Data → List Data
 periods_in d = values_in (codes "calculationPeriod") (Some d)
 
--- those of payments, in order
+-- the calculation periods of payments, in order
 abbrev pub periods_of : List Data → List Data
 periods_of payments = flat_map periods_in payments
 

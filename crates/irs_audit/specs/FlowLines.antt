@@ -75,18 +75,18 @@ flow_elements = take (flow_period - (cashflows + 1)) (drop (cashflows + 1) print
 unfoldable pub period_elements : List (List ℕ)
 period_elements = drop (flow_period + 1) printed
 
--- the rows and the names of the two tables
+-- the rows that the lines of `cashflows` give
 unfoldable pub flow_rows : List Row
 flow_rows = rows_of printed flow_table
 
--- the names and rows that the lines of the two tables give
+-- the names that the lines of `cashflows` give
 unfoldable pub flow_names : List (List ℕ)
 flow_names = names_of flow_table
 
--- those of the table of calculation periods
+-- the rows that the lines of a calculation period give
 unfoldable pub period_rows : List Row
 period_rows = rows_of printed period_table
 
--- and its names
+-- the names that the lines of a calculation period give
 unfoldable pub period_names : List (List ℕ)
 period_names = names_of period_table

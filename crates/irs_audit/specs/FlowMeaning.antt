@@ -85,11 +85,11 @@ flows_in o = record {
 abbrev pub stream_in : Data → FlowPart
 stream_in d = flows_in (once (codes "cashflows") d)
 
--- the calculation periods of a stream are not too many
+-- a stream has no more calculation periods than the limit
 abbrev pub HasFewPeriods : Data → Type 0
 HasFewPeriods d = length (periods_of (payments_in (once (codes "cashflows") d))) ≤ most_rows
 
--- in each of these streams
+-- each of these streams has no more calculation periods than the limit
 abbrev pub AllHaveFewPeriods : List Data → Type 0
 AllHaveFewPeriods ds = (j : ℕ) (d : Data) → slice_get ds j ≡ Some d → HasFewPeriods d
 

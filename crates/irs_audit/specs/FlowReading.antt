@@ -32,7 +32,7 @@ kind_of K6 = Value
 kind_of K7 = Count
 kind_of k = NotJson
 
--- a refusal has kind and place of the first fault, and is never that there is no JSON
+-- a refusal gives the kind and place of the first fault, and never says that the text is no JSON
 pub record IsFirstShape (d : Data) (kind : ShapeKind) (place : Place) : Type 0 where
   pub fault : Broken
   pub first : IsFirstBroken (FlowFault d) (Some fault)
@@ -40,7 +40,7 @@ pub record IsFirstShape (d : Data) (kind : ShapeKind) (place : Place) : Type 0 w
   pub place_is : place ≡ fault.place
   pub read : kind ≢ NotJson
 
--- or that memory was wanting
+-- the error gives the first fault, or says that memory ran out
 abbrev pub IsFirstFault : Data → FlowErr → Type 0
 IsFirstFault d (Shape kind place) = IsFirstShape d kind place
 IsFirstFault d Memory = Unit {0}

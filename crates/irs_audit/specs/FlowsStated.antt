@@ -8,7 +8,7 @@ use Rattle.irs_read.specs.Stated.{IsStated}
 use Rattle.serde_json.specs.Data.{Data}
 use Rattle.std.specs.Prelude.{◌≡◌, ℕ, Some, codes, slice_get, Ok}
 
--- in a `cashflows`, and in each calculation period of its payments
+-- nothing is passed over in a `cashflows`, nor in any calculation period of its payments
 pub record AreStated (flows : Data) : Type 0 where
   pub rows : IsStated flow_rows flow_names flows
   pub periods : (j : ℕ) (period : Data) → slice_get (periods_of (payments_in (Some flows))) j ≡ Some period

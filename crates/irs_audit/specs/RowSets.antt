@@ -6,7 +6,7 @@ use Rattle.irs_audit.specs.declared.departures.RowKind.{RowKind}
 use Rattle.irs_audit.specs.Agreement.{KindDeparts}
 use Rattle.irs_audit.specs.FlowParts.{FlowPart}
 
--- among those of a kind up to the row of a number
+-- the departures among the rows of a kind, up to the row numbered `last`
 pub record AmongRows (k : ℕ) (kind : RowKind) (p : Part) (g : FlowPart) (last : ℕ) (d : Departure) : Type 0 where
   pub stream : d.stream ≡ k
   pub is_kind : d.kind ≡ kind
@@ -14,7 +14,7 @@ pub record AmongRows (k : ℕ) (kind : RowKind) (p : Part) (g : FlowPart) (last 
   pub high : d.row ≤ last
   pub departs : KindDeparts kind p g (d.row - 1) d.field
 
--- among all of them
+-- the departures among all rows of the stream
 pub record AmongStream (k : ℕ) (p : Part) (g : FlowPart) (d : Departure) : Type 0 where
   pub stream : d.stream ≡ k
   pub low : 0 < d.row

@@ -23,7 +23,7 @@ use Rattle.irs_audit.specs.declared.flows.StatedFraction.{StatedFraction}
 abbrev pub stated_number : ℤ → ℕ → ℤ
 stated_number units places = units *ℤ pos (10 ^ (12 - places))
 
--- the same of an amount
+-- an amount in units of 10^-12
 abbrev pub stated_amount : Dec → ℤ
 stated_amount v = stated_number v.units v.places
 
@@ -75,7 +75,7 @@ period_with x reset = record {
 abbrev pub stated_period : CalculationPeriod → Option Reset → FlowPeriod
 stated_period x reset = period_with x (option_map stated_reset reset)
 
--- the periods of a part, the first of these at a place, from 0
+-- these periods of a stream, of which the first is at place j, from 0
 abbrev pub stated_periods_from : Part → ℕ → List PeriodEntry → List FlowPeriod
 stated_periods_from p j [] = []
 stated_periods_from p j (e ∷ es) =

@@ -6,7 +6,7 @@ use Rattle.irs_base.specs.declared.rounding.Direction.TheVariants.{Nearest}
 use Rattle.irs_terms.specs.declared.results.Frac.{Frac}
 use Rattle.irs_audit.specs.declared.flows.StatedFraction.{StatedFraction}
 
--- a number stated in units of 10^-12 is equal to one of `units` units of 10^-places
+-- a number stated in units of 10^-12 is equal to `units` units of 10^-places
 abbrev pub IsNumber : ℤ → ℕ → ℤ → Type 0
 IsNumber units places stated = (stated *ℤ pos (10 ^ places)) ≡ (units *ℤ pos (10 ^ 12))
 
@@ -14,14 +14,15 @@ IsNumber units places stated = (stated *ℤ pos (10 ^ places)) ≡ (units *ℤ p
 abbrev pub IsAmount : Dec → ℤ → Type 0
 IsAmount v stated = IsNumber v.units v.places stated
 
--- A stated fraction is that of a period. With fewer than four decimals it is equal to it. With four or more it is the
--- period's fraction rounded to the nearest of that many decimals. No flows are read with more than twelve.
+-- A stated fraction agrees with that of a period. With fewer than four decimals it is equal to it. With four
+-- or more it is the period's fraction rounded to the nearest with that many decimals. No flows are read with
+-- more than twelve.
 pub record IsFraction (f : Frac) (stated : StatedFraction) : Type 0 where
   pub decimals : stated.places ≤ 12
   pub exact : stated.places < 4 → (stated.units *ℤ f.den) ≡ (f.num *ℤ pos (10 ^ stated.places))
   pub nearest : 4 ≤ stated.places → Rounded Nearest (f.num *ℤ pos (10 ^ stated.places)) f.den stated.units
 
--- a field that may be left out departs where it is stated, and not as it is
+-- a field that may be left out departs where it is stated with another value
 abbrev pub StatedWrongly : {Y : Type 0} → (Y → Type 0) → Option Y → Type 0
 StatedWrongly Is None = ⊥
 StatedWrongly Is (Some y) = ¬ (Is y)

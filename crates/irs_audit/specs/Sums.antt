@@ -17,22 +17,22 @@ abbrev pub known_or_zero : Option Dec → ℤ
 known_or_zero None = pos 0
 known_or_zero (Some v) = stated_amount v
 
--- a sum and the amounts of these payments
+-- a sum plus the amounts of these payments
 abbrev pub paid_from : ℤ → List PaymentEntry → ℤ
 paid_from t [] = t
 paid_from t (y ∷ ys) = paid_from (t +ℤ known_or_zero y.amount) ys
 
--- a sum and what these streams pay
+-- a sum plus what these streams pay
 abbrev pub total_from : ℤ → List Part → ℤ
 total_from t [] = t
 total_from t (p ∷ ps) = total_from (paid_from t p.payments) ps
 
--- a sum and the days of these periods
+-- a sum plus the days of these periods
 abbrev pub days_from : ℤ → List PeriodEntry → ℤ
 days_from t [] = t
 days_from t (e ∷ es) = days_from (t +ℤ e.days) es
 
--- a sum and the days of these streams
+-- a sum plus the days of these streams
 abbrev pub all_days_from : ℤ → List Part → ℤ
 all_days_from t [] = t
 all_days_from t (p ∷ ps) = all_days_from (days_from t p.periods) ps
@@ -41,10 +41,10 @@ all_days_from t (p ∷ ps) = all_days_from (days_from t p.periods) ps
 abbrev pub sums_in : List Part → Sums
 sums_in s = record { rows = sum_by payment_rows s; total = total_from (pos 0) s; days = all_days_from (pos 0) s }
 
--- no amount is greater in size, in units of 10^-12
+-- the greatest size of an amount, in units of 10^-12
 abbrev pub most_amount : ℕ
 most_amount = 10 ^ 26
 
--- what one stream adds is no greater in size
+-- the greatest size of what one stream adds to a sum
 abbrev pub most_of_stream : ℕ
 most_of_stream = most_periods * most_amount

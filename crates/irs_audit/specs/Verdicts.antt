@@ -13,11 +13,11 @@ use Rattle.irs_base.specs.Order.{First}
 abbrev pub stream_rows : Part → ℕ
 stream_rows p = length p.exchanges + length p.payments + length p.periods + length p.resets
 
--- how many of its payments have no amount
+-- how many payments of a stream have no amount
 abbrev pub stream_unfixed : Part → ℕ
 stream_unfixed p = count_by (λ (y : PaymentEntry). is_none y.amount) p.payments
 
--- the same of a schedule
+-- how many exchanges, payments, calculation periods and resets a schedule has
 abbrev pub row_count : List Part → ℕ
 row_count s = sum_by stream_rows s
 

@@ -27,7 +27,7 @@ fn rest(p: i128, q: i128) -> i128
     p.rem_euclid(q)
 }
 
-// Whether p is m times q: by a division, since the product may not fit.
+// Whether p is m times q. It divides, since the product may not fit.
 fn is_multiple(p: i128, q: i128, m: i128) -> bool
     requires { pos 0 <ℤ q }
     ensures { IsTrue result ↔ ((m *ℤ q) ≡ p) }

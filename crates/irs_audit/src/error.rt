@@ -8,7 +8,7 @@ use thiserror::Error;
 /// How a document of cash flows is out of shape, in the order in which faults are reported.
 #[derive(Clone, Copy, Debug, PartialEq, Eq)]
 pub enum ShapeKind {
-    /// The text has no JSON reading. `read_flows` takes a value and never answers it.
+    /// The text has no JSON reading. `read_flows` takes a value and never returns this.
     NotJson,
     /// A required element is absent: `cashflows`, or what leads to it.
     Missing,

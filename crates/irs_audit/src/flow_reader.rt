@@ -17,7 +17,7 @@ use irs_json::Value;
 use irs_read::the_swap;
 use std::alloc::Global;
 
-// The kind of a fault by its rule, which is one of the tables of elements: K2 to K7.
+// The kind of a fault by its rule. The tables of elements have the rules K2 to K7.
 #[tactic(auto, using(crate::proofs::FlowRules::last_kind))]
 fn kind_of(rule: Rule) -> ShapeKind
     requires { IsOfTables rule }

@@ -29,7 +29,7 @@ fn first_of(tests: &[(Field, bool)]) -> Option<Field>
     None
 }
 
-// An amount that the schedule knows isn't stated as it is.
+// An amount that the schedule knows is left out, or stated as another one.
 fn known_amount_departs(amount: Option<Dec>, stated: Option<i128>) -> bool
     requires { IfSome amount (λ v. v.places ≤ 12) }
     ensures { IsTrue result ↔ WhereKnown (λ v. NotStatedRightly (IsAmount v) stated) amount }
@@ -71,7 +71,7 @@ pub(crate) fn exchange_field(x: &Exchange, y: &FlowExchange) -> Option<Field>
     ])
 }
 
-// Another number of calculation periods is stated than a payment has.
+// The stated number of calculation periods is not that of the payment.
 fn has_other_count(x: &PaymentEntry, stated: u32) -> bool
     requires { IsPayment x.now }
     ensures { IsTrue result ↔ ¬ (stated ≡ x.now.last_period + 1 - x.now.first_period) }

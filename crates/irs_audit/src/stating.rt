@@ -1,5 +1,5 @@
 //! The cash flows that state a schedule: a row for each of its rows, with each field that it knows.
-//! That they state every field, and fractions with ten decimals, is our rule.
+//! It is our rule that they state every field, and fractions with ten decimals.
 ghost use Rattle.std.specs.Prelude.{◌≡◌, ◌+◌, ◌-◌, ◌<◌, ◌*◌, ◌^◌, ◌*ℤ◌, unsigned_abs, map};
 ghost use Rattle.std.specs.Prelude.{option_map, slice_get, IfOk, IfSome};
 ghost use Rattle.irs_audit.specs.Agreement.{Agrees};

@@ -54,7 +54,7 @@ fn rows(parts: &[StreamPart]) -> u32
     parts.iter().map(|part| payment_rows(part)).sum()
 }
 
-// A sum and what a stream pays.
+// A sum plus what a stream pays.
 fn paid(before: i128, part: &StreamPart) -> i128
     requires { unsigned_abs before ≤ most_streams * most_of_stream }
     ensures value { result ≡ paid_from before part.now.payments }
@@ -91,7 +91,7 @@ fn days_at(part: &StreamPart, place: usize) -> i128
     }
 }
 
-// A sum and the days of a stream.
+// A sum plus the days of a stream.
 fn stream_days(before: i128, part: &StreamPart) -> i128
     requires { unsigned_abs before ≤ most_streams * most_of_stream }
     ensures value { result ≡ days_from before part.now.periods }

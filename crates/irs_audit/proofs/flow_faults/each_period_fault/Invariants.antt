@@ -4,6 +4,7 @@ use Rattle.serde_json.specs.View.{view}
 use Rattle.std.proofs.Common.{◌≡◌, length, map, take}
 use Rattle.irs_base.specs.Order.{IsFirstBroken}
 
+-- the first fault and the number of the calculation periods of the payments so far
 abbrev pub invariant-loop-p : goal.invariant-loop-p
 invariant-loop-p l =
     (IsFirstBroken (PeriodsFrom l.stream 0 (periods_of (map view (take l.p l.payments)))) l.first)

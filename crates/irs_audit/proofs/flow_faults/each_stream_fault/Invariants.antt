@@ -6,5 +6,6 @@ use Rattle.serde_json.specs.View.{view}
 use Rattle.std.proofs.Common.{◌+◌, map}
 use Rattle.irs_base.specs.Order.{IsFirstBroken}
 
+-- the first fault of the streams before place j
 abbrev pub invariant-loop-j : goal.invariant-loop-j
 invariant-loop-j l = IsFirstBroken (Below (Each (λ j. StreamFault (j + 1)) (map view l.list)) l.j) l.first

@@ -6,6 +6,7 @@ use Rattle.serde_json.specs.View.{view}
 use Rattle.std.proofs.Common.{◌+◌, map}
 use Rattle.irs_base.specs.Order.{IsFirstBroken}
 
+-- the first fault of the calculation periods before place j
 abbrev pub invariant-loop-j : goal.invariant-loop-j
 invariant-loop-j l =
     IsFirstBroken (Below (Each (λ j. PeriodFault l.stream (l.before + j + 1)) (map view l.list)) l.j) l.first

@@ -3,5 +3,6 @@ use Rattle.irs_audit.specs.FlowMeaning.{stream_in}
 use Rattle.serde_json.specs.View.{view}
 use Rattle.std.proofs.Common.{◌≡◌, map, take}
 
+-- the flows so far are those of the streams before place j
 abbrev pub invariant-loop-j : goal.invariant-loop-j
 invariant-loop-j l = l.list.items ≡ map stream_in (map view (take l.j l.found))

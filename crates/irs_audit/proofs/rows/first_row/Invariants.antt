@@ -1,5 +1,6 @@
 use Rattle.irs_audit.proofs.RowLemmas.{NoneBelow}
 use Rattle.irs_audit.proofs.rows.first_row.Given as goal
 
+-- no row of the kind before this place departs
 abbrev pub invariant-loop-place : goal.invariant-loop-place
 invariant-loop-place l = NoneBelow l.kind l.ours l.theirs l.place

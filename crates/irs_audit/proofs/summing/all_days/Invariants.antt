@@ -2,6 +2,7 @@ use Rattle.std.proofs.Common.{◌≡◌, ◌*◌, ◌≤◌, drop, pos, unsigned
 use Rattle.irs_audit.specs.Sums.{all_days_from, most_of_stream}
 use Rattle.irs_audit.proofs.summing.all_days.Given as goal
 
+-- the days with those of the streams still to be added are the schedule's, and are bounded
 abbrev pub invariant-loop-part : goal.invariant-loop-part
 invariant-loop-part l = record {
   rest : all_days_from l.days (drop l.part-index l.parts) ≡ all_days_from (pos 0) l.parts;

@@ -2,6 +2,7 @@ use Rattle.std.proofs.Common.{◌≡◌, ◌+◌, ◌*◌, ◌≤◌, drop, unsi
 use Rattle.irs_audit.specs.Sums.{most_amount, paid_from}
 use Rattle.irs_audit.proofs.summing.paid.Given as goal
 
+-- the sum with the payments still to be added is the stream's total, and is bounded
 abbrev pub invariant-loop-y : goal.invariant-loop-y
 invariant-loop-y l = record {
   rest : paid_from l.total (drop l.y-index l.y-items) ≡ paid_from l.fn.before l.y-items;

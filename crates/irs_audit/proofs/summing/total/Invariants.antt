@@ -2,6 +2,7 @@ use Rattle.std.proofs.Common.{◌≡◌, ◌*◌, ◌≤◌, drop, pos, unsigned
 use Rattle.irs_audit.specs.Sums.{most_of_stream, total_from}
 use Rattle.irs_audit.proofs.summing.total.Given as goal
 
+-- the sum with the streams still to be added is the schedule's total, and is bounded
 abbrev pub invariant-loop-part : goal.invariant-loop-part
 invariant-loop-part l = record {
   rest : total_from l.total (drop l.part-index l.parts) ≡ total_from (pos 0) l.parts;
