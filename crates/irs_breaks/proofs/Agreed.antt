@@ -44,8 +44,9 @@ use Rattle.irs_breaks.proofs.PaymentPlaces.{HasCount, covers_sum, payment_at}
 use Rattle.irs_breaks.proofs.PlacedRows.{IsSameRow, same_row, same_rows}
 use Rattle.irs_breaks.proofs.RowLemmas.{eq_true, true_eq}
 
--- ---- what holds of all findings that are put together
+-- ---- what holds of all findings that are joined
 
+-- a property that holds of no findings, and of two joined findings where it holds of each
 pub record IsClosed (Good : Findings → Type 0) : Type 0 where
   pub none : Good nothing
   pub both : (a b : Findings) → Good a → Good b → Good (joined a b)
@@ -79,7 +80,7 @@ good_told Good closed from days ours theirs Told l e f each h =
     (λ k a is. good_on_row Good closed Told (slice_get h.rows k) a
     (λ m at told. each m a (same_rows from days ours theirs h.rows e f h.paired k m at) told) is) h.each
 
--- rows of which none departs: both are there, or none
+-- rows that do not depart: both are there, or neither
 good_row : {X Y : Type 0} (Good : Findings → Type 0) → IsClosed Good → (Fields : X → Y → Field → Type 0)
     (Both : X → Y → Findings → Type 0) (ours : X → Findings) (theirs : Y → Findings) (o : Option X) (q : Option Y)
     (l : Findings) → ((f : Field) → RowDeparts Fields o q f → ⊥)
@@ -98,6 +99,7 @@ no_breaks Departs [] breaks ties agree h = h
 no_breaks Departs (f ∷ fs) breaks ties agree (inl h) = absurd (agree f.field (ties.0.departs h.0))
 no_breaks Departs (f ∷ fs) breaks ties agree (inr h) = no_breaks Departs fs breaks ties.1 agree h.1
 
+-- each of these fields breaks at the place
 abbrev broken : BreakPlace → List FieldValues → Findings
 broken place fields = record { breaks = field_breaks place fields; pairs = [] }
 
@@ -126,6 +128,7 @@ right_day : (d : ℤ) (s : Option ℤ) → (NotStatedRightly (λ (e : ℤ). e �
 right_day d None h = absurd (h tt)
 right_day d (Some e) h = ap (λ (z : ℤ). Some z) (int_same e d h)
 
+-- two lists with the same member at each place are the same
 pub list_same : {X : Type 0} (xs ys : List X) → ((k : ℕ) → slice_get xs k ≡ slice_get ys k) → xs ≡ ys
 list_same [] [] h = refl
 list_same [] (y ∷ ys) h = absurd (none-some y (h zero))
@@ -185,7 +188,7 @@ get_part i k j xs h = get_take k j (drop i xs) h ∙ get_drop i j xs
 get_past : {X : Type 0} (i k j : ℕ) (xs : List X) → k ≤ j → slice_get (take k (drop i xs)) j ≡ None
 get_past i k j xs h = let few = take_few k (drop i xs) in slice_get_past (take k (drop i xs)) j (omega (arith, few, h))
 
--- the members at each place are both there and R, or none is there
+-- the members at each place are both there and related by R, or neither is there
 abbrev Match : {X Y : Type 0} → (X → Y → Type 0) → Option X → Option Y → Type 0
 Match R (Some x) (Some y) = R x y
 Match R (Some x) None = ⊥
@@ -399,6 +402,7 @@ good_stream Good closed from stream None (Some g) l bounds counts agree h =
     absurd (agree row.Stream 0 field.Extra (refl, refl, refl))
 good_stream Good closed from stream None None l bounds counts agree h = subst Good (sym h) closed.none
 
+-- where the flows agree, every closed property of the counts holds of the list of breaks
 pub good_list : (Good : Findings → Type 0) → IsClosed Good → (from : Option ℤ) (s : List Part) (w : List FlowPart) (l : Findings)
     → IsWithin s → ((p : Part) (g : FlowPart) (k : ℕ) → slice_get s k ≡ Some p → slice_get w k ≡ Some g → HasGoodCounts Good p g)
     → Agrees w s → IsBreakList from s w l → Good l
@@ -413,6 +417,7 @@ good_list Good closed from s w l within counts agree h =
 
 -- ---- no break
 
+-- the findings have no break
 abbrev IsUnbroken : Findings → Type 0
 IsUnbroken l = l.breaks ≡ []
 
@@ -426,6 +431,7 @@ unbroken_counts p g = record {
   periods = λ n x y e f. refl;
 }
 
+-- where the flows agree with the schedule, the list has no break
 pub no_break : (from : Option ℤ) (s : List Part) (w : List FlowPart) (l : Findings) → IsWithin s → Agrees w s
     → IsBreakList from s w l → l.breaks ≡ []
 no_break from s w l within agree h =

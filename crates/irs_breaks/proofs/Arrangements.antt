@@ -13,6 +13,7 @@ use Rattle.irs_breaks.proofs.DateLemmas.{common_false, common_true, false_common
 use Rattle.irs_breaks.proofs.DateLemmas.{together_more, together_true, true_common, true_together}
 use Rattle.irs_breaks.proofs.RowLemmas.{counted}
 
+-- two tests with the same results count the same number of members
 pub count_same : {X : Type 0} (p q : X → Bool) (xs : List X) → ((x : X) → p x ≡ q x) → count_by p xs ≡ count_by q xs
 count_same p q [] h = refl
 count_same p q (x ∷ xs) h =
@@ -35,7 +36,7 @@ same_together s t u v a b same (inr h) = inr (record {
 same_back : (s t u v : List DatedRow) → HaveSameDates s t u v → HaveSameDates u v s t
 same_back s t u v same = record { to = same.back; back = same.to }
 
--- what stands together with a date in one pair of lists does so in the other, and with a date that stands together with it
+-- where two dates belong together, a third one belongs with either of them, in either of two pairs of lists
 tests_same : (s t u v : List DatedRow) (a b d : ℤ) → HaveSameDates s t u v → AreTogether s t a b
     → are_together s t a d ≡ are_together u v b d
 tests_same s t u v a b d same tog = elim (cases_Bool (are_together s t a d)) [
@@ -52,6 +53,7 @@ sizes_same s t u v rows a b same tog =
     count_same (λ (r : DatedRow). are_together s t a r.day) (λ (r : DatedRow). are_together u v b r.day) rows
     (λ r. tests_same s t u v a b r.day same tog)
 
+-- a row has the same rank for dates that belong together, in pairs of lists with the same common dates
 pub ranks_same : (s t u v rows : List DatedRow) (a b : ℤ) (x : DatedRow) → HaveSameDates s t u v → AreTogether s t a b
     → rank_at (are_together s t) rows a x ≡ rank_at (are_together u v) rows b x
 ranks_same s t u v rows a b x same tog =
@@ -59,6 +61,7 @@ ranks_same s t u v rows a b x same tog =
     (λ (r : DatedRow). are_together u v b r.day && row_before r x) rows
     (λ r. ap (λ (c : Bool). c && row_before r x) (tests_same s t u v a b r.day same tog))
 
+-- a pair of lists has the same common dates as itself
 pub same_dates : (s t : List DatedRow) → HaveSameDates s t s t
 same_dates s t = record { to = λ d c. c; back = λ d c. c }
 
@@ -67,6 +70,7 @@ same_dates s t = record { to = λ d c. c; back = λ d c. c }
 swapped : (s t : List DatedRow) → HaveSameDates s t t s
 swapped s t = record { to = λ d c. (c.1, c.0); back = λ d c. (c.1, c.0) }
 
+-- a pair is also a pair with ours and theirs exchanged
 pub swap_paired : (s t : List DatedRow) (x y : DatedRow) → ArePaired s t x y → ArePaired t s y x
 swap_paired s t x y h =
     let tog = together_true s t x.day y.day h.together in
@@ -99,6 +103,7 @@ arranged r s p t a b =
       back = λ d c. common_true r p d (same d ∙ true_common s t d c);
     }
 
+-- a pair stays a pair where the rows of either list are rearranged
 pub arranged_paired : (r s p t : List DatedRow) (x y : DatedRow) → IsPermutation r s → IsPermutation p t
     → ArePaired r p x y → ArePaired s t x y
 arranged_paired r s p t x y a b h =
@@ -123,6 +128,7 @@ arranged_paired r s p t x y a b h =
           ∙ ranks_same r p s t t x.day x.day y same itself;
     }
 
+-- a pair of the rearranged lists is a pair of the lists themselves
 pub paired_back : (r s p t : List DatedRow) (x y : DatedRow) → IsPermutation r s → IsPermutation p t
     → ArePaired s t x y → ArePaired r p x y
 paired_back r s p t x y a b h =

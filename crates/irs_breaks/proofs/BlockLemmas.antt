@@ -14,13 +14,16 @@ use Rattle.irs_breaks.proofs.DateLemmas.{and_both, common_false, false_common, t
 use Rattle.irs_breaks.proofs.DateLemmas.{together_true, true_together}
 use Rattle.irs_breaks.proofs.RowLemmas.{before_false, count_range, not_both_ways, not_itself_before, one_at, true_before}
 
+-- a list contains the row at each of its places
 pub contains_at : (xs : List DatedRow) (k : ℕ) (x : DatedRow) → At xs k x → Contains xs x
 contains_at xs k x at = (k, slice_get_within xs k x at, get_or_from_slice_get xs k x x at)
 
+-- a row that a list contains is at one of its places
 pub at_contains : (xs : List DatedRow) (x : DatedRow) → Contains xs x → (k : ℕ) × At xs k x
 at_contains xs x c = (c.0, slice_get-get_or xs c.0 x c.1 ∙ ap (λ (z : DatedRow). Some z) c.2)
 
--- the parts of a block that a list has, by its rows at its places alone: `lo` and `hi` are its ends in the list
+-- the part of a block in one list: the rows from `lo` up to `hi` belong together with the date, and no others
+-- do
 pub record IsPart (rows : List DatedRow) (lo hi : ℕ) (a : ℤ) (Together : ℤ → ℤ → Bool) : Type 0 where
   pub order : lo ≤ hi
   pub high : hi ≤ length rows
@@ -33,7 +36,7 @@ size_is : (W : ℤ → ℤ → Bool) (rows : List DatedRow) (lo hi : ℕ) (a : �
 size_is W rows lo hi a part =
     count_range (λ (r : DatedRow). W a r.day) rows lo hi part.order part.high part.within part.before part.behind
 
--- the rank of a row of the block is how many of the block are before it in its list
+-- the rank of a row of the block is the number of rows of the block before it in its list
 rank_is : (W : ℤ → ℤ → Bool) (rows : List DatedRow) (lo hi : ℕ) (a : ℤ) (k : ℕ) (x : DatedRow) → AreRising rows
     → IsPart rows lo hi a W → At rows k x → lo ≤ k → k < hi → rank_at W rows a x ≡ k - lo
 rank_is W rows lo hi a k x rising part at low high =
@@ -111,7 +114,7 @@ paired_inside s t i j b rs rt edge block k x y less atx aty =
       same_rank = rank ∙ (let e : i + k - i ≡ j + k - j = omega arith in e) ∙ sym rank';
     }
 
--- where two rows are paired and one of them is in a block, both are its k-th rows, for a k below its number of pairs
+-- two places of a block that hold its k-th rows of ours and of theirs, for a k below its number of pairs
 pub record AreKth (i j p q pairs m n : ℕ) : Type 0 where
   pub low : i ≤ m
   pub high : m < p
@@ -169,6 +172,7 @@ kth s t i j b rs rt edge block m n x y atx aty pair mx ny =
     ] in
     record { low = a; high = z; low_theirs = c; high_theirs = d; same = same; few = few }
 
+-- the partner of our k-th row of a block is their k-th row of that block
 pub kth_of_ours : (s t : List DatedRow) (i j : ℕ) (b : Block) → AreRising s → AreRising t → IsEdge s t i j
     → IsBlock s t i j b → (m : ℕ) (x y : DatedRow) → i ≤ m → m < b.ours → At s m x → ArePaired s t x y
     → (n : ℕ) × At t n y × AreKth i j b.ours b.theirs b.pairs m n
@@ -179,6 +183,7 @@ kth_of_ours s t i j b rs rt edge block m x y low high at pair =
     let ny = theirs_inside s t i j b there.0 x y edge block there.1 tog inx in
     (there.0, there.1, kth s t i j b rs rt edge block m there.0 x y at there.1 pair (low, high) ny)
 
+-- the partner of their k-th row of a block is our k-th row of that block
 pub kth_of_theirs : (s t : List DatedRow) (i j : ℕ) (b : Block) → AreRising s → AreRising t → IsEdge s t i j
     → IsBlock s t i j b → (n : ℕ) (x y : DatedRow) → j ≤ n → n < b.theirs → At t n y → ArePaired s t x y
     → (m : ℕ) × At s m x × AreKth i j b.ours b.theirs b.pairs m n

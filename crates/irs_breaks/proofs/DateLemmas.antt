@@ -1,4 +1,5 @@
--- Common dates and gaps: the tests of `specs/Pairing.antt` as facts, and that standing together is an equivalence.
+-- Common dates and gaps: the tests of `specs/Pairing.antt` as facts, and that belonging together is an
+-- equivalence.
 use Rattle.std.proofs.Common.{◌≡◌, ◌⊎◌, inl, inr, ⊎_elim, Bool, true, false, not, ◌&&◌, ◌||◌, List, ℤ, ◌<ℤ◌, ◌≤ℤ◌}
 use Rattle.std.proofs.Common.{arith, refl, sym, subst, ◌∙◌}
 use Rattle.std.specs.Ordering.{int_cmp, int_eq, is_lt}
@@ -10,6 +11,7 @@ use Rattle.irs_breaks.specs.Pairing.{are_cut, are_in_gap, are_together, has_date
 use Rattle.irs_breaks.specs.declared.dated.DatedRow.{DatedRow}
 use Rattle.irs_breaks.proofs.RowLemmas.{any_at, any_true, eq_true, true_eq}
 
+-- two true tests are true together
 pub and_both : (a b : Bool) → a ≡ true → b ≡ true → (a && b) ≡ true
 and_both a b h k = rw h k
 
@@ -26,16 +28,20 @@ dated_true rows d h =
 true_dated : (rows : List DatedRow) (d : ℤ) → HasDate rows d → has_date rows d ≡ true
 true_dated rows d h = any_at (λ (r : DatedRow). int_eq r.day d) rows h.0 h.1 h.2 (true_eq h.1.day d h.3)
 
+-- a date that passes the test is common
 pub common_true : (s t : List DatedRow) (d : ℤ) → is_common s t d ≡ true → IsCommon s t d
 common_true s t d h =
     let both = and_parts (has_date s d) (has_date t d) h in (dated_true s d both.0, dated_true t d both.1)
 
+-- a common date passes the test
 pub true_common : (s t : List DatedRow) (d : ℤ) → IsCommon s t d → is_common s t d ≡ true
 true_common s t d h = and_both _ _ (true_dated s d h.0) (true_dated t d h.1)
 
+-- a date that fails the test isn't common
 pub common_false : (s t : List DatedRow) (d : ℤ) → is_common s t d ≡ false → ¬ (IsCommon s t d)
 common_false s t d h c = both_ways (is_common s t d) h (true_common s t d c)
 
+-- a date that isn't common fails the test
 pub false_common : (s t : List DatedRow) (d : ℤ) → ¬ (IsCommon s t d) → is_common s t d ≡ false
 false_common s t d h = false_from_ne_true (is_common s t d) (λ e. h (common_true s t d e))
 
@@ -84,6 +90,7 @@ true_gap s t a b h =
     and_both _ _ (and_both _ _ (not_from_false _ (false_common s t a h.left)) (not_from_false _ (false_common s t b h.right)))
     (not_from_false _ uncut)
 
+-- two dates that pass the test belong together
 pub together_true : (s t : List DatedRow) (a b : ℤ) → are_together s t a b ≡ true → AreTogether s t a b
 together_true s t a b h = elim (cases_Bool (is_common s t a)) [
   | inl holds ↦ inl (
@@ -93,12 +100,14 @@ together_true s t a b h = elim (cases_Bool (is_common s t a)) [
   | inr fails ↦ inr (gap_true s t a b (sym (cond-false (is_common s t a) (int_eq a b) (are_in_gap s t a b) fails) ∙ h))
 ]
 
+-- two dates that belong together pass the test
 pub true_together : (s t : List DatedRow) (a b : ℤ) → AreTogether s t a b → are_together s t a b ≡ true
 true_together s t a b (inl h) =
     cond-true (is_common s t a) (int_eq a b) (are_in_gap s t a b) (true_common s t a h.0) ∙ true_eq a b h.1
 true_together s t a b (inr h) =
     cond-false (is_common s t a) (int_eq a b) (are_in_gap s t a b) (false_common s t a h.left) ∙ true_gap s t a b h
 
+-- two dates that don't belong together fail the test
 pub together_false : (s t : List DatedRow) (a b : ℤ) → ¬ (AreTogether s t a b) → are_together s t a b ≡ false
 together_false s t a b h = false_from_ne_true _ (λ e. h (together_true s t a b e))
 
@@ -108,6 +117,7 @@ between_back : (a b d : ℤ) → IsBetween a b d → IsBetween b a d
 between_back a b d (inl h) = inr h
 between_back a b d (inr h) = inl h
 
+-- two dates belong together in either order
 pub together_back : (s t : List DatedRow) (a b : ℤ) → AreTogether s t a b → AreTogether s t b a
 together_back s t a b (inl h) = inl (subst (IsCommon s t) h.1 h.0, sym h.1)
 together_back s t a b (inr h) = inr (record {
@@ -122,7 +132,7 @@ cases_ltz a b = grind (arith, signed_arith)
 same_dates : (a b : ℤ) → a ≤ℤ b → b ≤ℤ a → a ≡ b
 same_dates a b h k = omega (arith, signed_arith, h, k)
 
--- what lies between a and c, and isn't b, lies between a and b or between b and c
+-- a day other than b that lies between a and c lies between a and b or between b and c
 between_cases : (a b c d : ℤ) → ¬ (b ≡ d) → IsBetween a c d → IsBetween a b d ⊎ IsBetween b c d
 between_cases a b c d other (inl h) = elim (cases_ltz d b) [
   | inl low ↦ inl (inl (h.0, low))
@@ -139,6 +149,7 @@ between_cases a b c d other (inr h) = elim (cases_ltz d b) [
   ]
 ]
 
+-- two dates that belong together with a third belong together
 pub together_more : (s t : List DatedRow) (a b c : ℤ) → AreTogether s t a b → AreTogether s t b c → AreTogether s t a c
 together_more s t a b c (inl h) k = subst (λ z. AreTogether s t z c) (sym h.1) k
 together_more s t a b c (inr h) (inl k) = absurd (h.right k.0)
@@ -150,7 +161,7 @@ together_more s t a b c (inr h) (inr k) = inr (record {
       (between_cases a b c d (λ e. h.right (subst (IsCommon s t) (sym e) common)) between);
 })
 
--- both are common, or neither is
+-- where two dates belong together and one is common, so is the other
 pub together_alike : (s t : List DatedRow) (a b : ℤ) → AreTogether s t a b → IsCommon s t a → IsCommon s t b
 together_alike s t a b (inl h) c = subst (IsCommon s t) h.1 c
 together_alike s t a b (inr h) c = absurd (h.left c)

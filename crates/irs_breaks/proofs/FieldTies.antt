@@ -1,4 +1,4 @@
--- A field differs just where it is compared and the audit says that it departs.
+-- A field differs exactly where it is compared and the audit says that it departs.
 use Rattle.std.proofs.Common.{◌≡◌, ◌≤◌, Option, Some, None, ℤ, arith, refl}
 use Rattle.std.specs.Prelude.{IfSome}
 use Rattle.irs_audit.specs.Comparisons.{IsSmall}
@@ -26,7 +26,7 @@ stated : {Y : Type 0} (Is : Y → Type 0) (s : Option Y) → StatedWrongly Is s 
 stated Is None h = absurd h
 stated Is (Some y) h = refl
 
--- where the field must be stated, too
+-- a wrong value departs also where the field must be stated
 must : {Y : Type 0} (Is : Y → Type 0) (s : Option Y) → StatedWrongly Is s → NotStatedRightly Is s
 must Is None h = absurd h
 must Is (Some y) h = h
@@ -69,6 +69,7 @@ rate_back (Some r) s h = h
 
 -- ---- the fields of each kind of rows
 
+-- the fields of an exchange differ exactly where they are compared and depart
 pub exchange_ties : (x : Exchange) (y : FlowExchange) → Every (TiesTo (ExchangeDeparts x y)) (exchange_fields x y)
 exchange_ties x y = (
   record { compared = stated (λ d. d ≡ x.unadjusted) y.unadjusted; departs = λ h. h; back = λ e h. h },
@@ -81,6 +82,7 @@ exchange_ties x y = (
   ),
 )
 
+-- the fields of a payment differ exactly where they are compared and depart
 pub payment_ties : (currency : Currency) (x : PaymentEntry) (y : FlowPayment)
     → Every (TiesTo (PaymentDeparts currency x y)) (payment_fields currency x y)
 payment_ties currency x y = (
@@ -97,6 +99,7 @@ payment_ties currency x y = (
   ),
 )
 
+-- the fields of a calculation period differ exactly where they are compared and depart
 pub period_ties : (x : CalculationPeriod) (y : FlowPeriod) → Every (TiesTo (PeriodDeparts x y)) (period_fields x y)
 period_ties x y = (
   record { compared = stated (λ d. d ≡ x.start) y.start; departs = λ h. h; back = λ e h. h },
@@ -124,6 +127,7 @@ period_ties x y = (
   ),
 )
 
+-- the fields of a reset differ exactly where they are compared and depart
 pub reset_ties : (x : Reset) (y : FlowReset) → Every (TiesTo (ResetDeparts x y)) (reset_fields x y)
 reset_ties x y = (
   record { compared = stated (λ d. d ≡ x.reset) y.reset; departs = λ h. h; back = λ e h. h },
@@ -146,16 +150,20 @@ amount_comparable : (o : Option Dec) (s : Option ℤ) → IfSome o (λ v. v.plac
 amount_comparable None s h = tt
 amount_comparable (Some v) s h = h
 
+-- the fields of an exchange can be compared
 pub exchange_comparable : (x : Exchange) (y : FlowExchange) → x.amount.places ≤ 12 → Every IsComparable (exchange_fields x y)
 exchange_comparable x y h = (tt, (tt, (h, tt)))
 
+-- the fields of a payment can be compared
 pub payment_comparable : (currency : Currency) (x : PaymentEntry) (y : FlowPayment) → IfSome x.amount (λ v. v.places ≤ 12)
     → Every IsComparable (payment_fields currency x y)
 payment_comparable currency x y h = (tt, (tt, (tt, (amount_comparable x.amount y.amount h, tt))))
 
+-- the fields of a calculation period can be compared
 pub period_comparable : (x : CalculationPeriod) (y : FlowPeriod) → IsSmall x.frac → Every IsComparable (period_fields x y)
 period_comparable x y h =
     (tt, (tt, (tt, (tt, (tt, (omega arith, (rate_comparable x.rate y.rate, (h, tt))))))))
 
+-- the fields of a reset can be compared
 pub reset_comparable : (x : Reset) (y : FlowReset) → Every IsComparable (reset_fields x y)
 reset_comparable x y = (tt, (tt, (rate_comparable x.observed y.observed, tt)))

@@ -1,4 +1,4 @@
--- One row more of a gap, of ours or of theirs, and its end.
+-- One more row of a gap, ours or theirs, and the end of a gap.
 use Rattle.std.proofs.Common.{◌≡◌, ◌⊎◌, inl, inr, ℕ, ◌+◌, ◌<◌, ◌≤◌, List, length, ℤ, ◌<ℤ◌, ◌≤ℤ◌, arith, sym, subst, ap, ◌∙◌, true, false, not}
 use Rattle.std.specs.Ordering.{int_cmp, int_eq, is_lt}
 use Rattle.std.proofs.lemmas.Bool.{both_ways, cases_lt, not-false, not-true}
@@ -27,6 +27,7 @@ not_same_back a b h e = omega (arith, signed_arith, h, e)
 upto : (a b c : ℤ) → a <ℤ b → b ≤ℤ c → a <ℤ c
 upto a b c h k = omega (arith, signed_arith, h, k)
 
+-- our next row is in the gap where it is earlier than their next row
 pub gap_ours : (s t : List DatedRow) (i j p q : ℕ) (x z : DatedRow) → AreRising t → IsGapTo s t i j p q → At s p x → At t q z
     → x.day <ℤ z.day → IsGapTo s t i j (p + 1) q
 gap_ours s t i j p q x z rt gap atx atz less =
@@ -49,6 +50,7 @@ gap_ours s t i j p q x z rt gap atx atz less =
       theirs_before = λ k l a b low low' high' ata atb. gap.theirs_before k l a b (omega (arith, low)) low' high' ata atb;
     }
 
+-- their next row is in the gap where it is earlier than our next row
 pub gap_theirs : (s t : List DatedRow) (i j p q : ℕ) (x z : DatedRow) → AreRising s → IsGapTo s t i j p q → At s p x → At t q z
     → z.day <ℤ x.day → IsGapTo s t i j p (q + 1)
 gap_theirs s t i j p q x z rs gap atx atz less =
@@ -71,7 +73,7 @@ gap_theirs s t i j p q x z rs gap atx atz less =
       ];
     }
 
--- where one list ends no date of the other is common any more
+-- where one list ends, the gap goes on to the end of the other
 pub gap_ends : (s t : List DatedRow) (i j p q : ℕ) → IsGapTo s t i j p q → (length s ≤ p) ⊎ (length t ≤ q)
     → IsGapTo s t i j (length s) (length t)
 gap_ends s t i j p q gap ended =
@@ -100,8 +102,9 @@ gap_ends s t i j p q gap ended =
           let h = slice_get_within s k a ata in absurd (omega (arith, low, h));
     }
 
--- ---- by what the walk compares
+-- ---- as the walk compares the rows
 
+-- our next row is in the gap where the comparison says that it is earlier
 pub ours_first : (s t : List DatedRow) (i j p q : ℕ) (x z : DatedRow) → AreRising t → IsGapTo s t i j p q → At s p x
     → At t q z → is_lt (int_cmp x.day z.day) ≡ true → IsGapTo s t i j (p + 1) q
 ours_first s t i j p q x z rt gap atx atz h = gap_ours s t i j p q x z rt gap atx atz (lt_true x.day z.day h)
@@ -109,6 +112,7 @@ ours_first s t i j p q x z rt gap atx atz h = gap_ours s t i j p q x z rt gap at
 after : (a b : ℤ) → b ≤ℤ a → ¬ (a ≡ b) → b <ℤ a
 after a b h k = grind (arith, signed_arith)
 
+-- their next row is in the gap where ours is neither earlier nor of the same date
 pub theirs_first : (s t : List DatedRow) (i j p q : ℕ) (x z y w : DatedRow) → AreRising s → IsGapTo s t i j p q → At s p x
     → At t q z → At s p y → At t q w → is_lt (int_cmp x.day z.day) ≡ false → not (int_eq y.day w.day) ≡ true
     → IsGapTo s t i j p (q + 1)
@@ -119,6 +123,7 @@ theirs_first s t i j p q x z y w rs gap atx atz aty atw h k =
     (true_eq y.day w.day (ap (λ (r : DatedRow). r.day) (sym e) ∙ same ∙ ap (λ (r : DatedRow). r.day) f)) in
     gap_theirs s t i j p q x z rs gap atx atz (after x.day z.day (lt_false x.day z.day h) apart)
 
+-- the gap ends where both next rows have the same date
 pub meeting : (s t : List DatedRow) (p q : ℕ) (x z : DatedRow) → At s p x → At t q z → not (int_eq x.day z.day) ≡ false
     → MeetsAt s t p q
 meeting s t p q x z atx atz h = inr (x, z, atx, atz, eq_true x.day z.day (not-false _ h))

@@ -8,24 +8,27 @@ use Rattle.irs_breaks.specs.Findings.{Adds, EachRow, Exactly, Findings, OnRow, R
 use Rattle.irs_breaks.specs.declared.counting.Counts.{Counts}
 use Rattle.irs_breaks.specs.declared.findings.Break.{Break}
 
+-- findings with these breaks and these counts
 abbrev made : List Break → List Counts → Findings
 made b p = record { breaks = b; pairs = p }
 
+-- findings followed by none are the same findings
 pub joined_nothing : (a : Findings) → joined a nothing ≡ a
 joined_nothing a = ap₂ made (append-nil a.breaks) (append-nil a.pairs)
 
+-- findings can be joined in any grouping
 pub joined_assoc : (a b c : Findings) → joined (joined a b) c ≡ joined a (joined b c)
 joined_assoc a b c = ap₂ made (append_assoc a.breaks b.breaks c.breaks) (append_assoc a.pairs b.pairs c.pairs)
 
--- nothing was added yet
+-- before the first place nothing has been added
 pub adds_none : (Is : ℕ → Findings → Type 0) (a : Findings) → Adds (UpTo Is 0) a a
 adds_none Is a = (nothing, refl, sym (joined_nothing a))
 
--- what is nothing adds nothing
+-- no findings add nothing
 pub adds_nothing : (a : Findings) → Adds (Exactly nothing) a a
 adds_nothing a = (nothing, refl, sym (joined_nothing a))
 
--- one after the other
+-- findings that are added in two steps
 pub adds_then : (P Q : Findings → Type 0) (a b c : Findings) → Adds P a b → Adds Q b c → Adds (Then P Q) a c
 adds_then P Q a b c h k = (
   joined h.0 k.0,
@@ -33,14 +36,14 @@ adds_then P Q a b c h k = (
   k.2 ∙ (ap (λ (z : Findings). joined z k.0) h.2 ∙ joined_assoc a h.0 k.0),
 )
 
--- one place more
+-- the findings of one more place are added
 pub adds_more : (Is : ℕ → Findings → Type 0) (n : ℕ) (a b c : Findings) → Adds (UpTo Is n) a b → Adds (Is n) b c
     → Adds (UpTo Is (n + 1)) a c
 adds_more Is n a b c h k =
     let next : suc n ≡ n + 1 = omega arith in
     subst (λ (m : ℕ). Adds (UpTo Is m) a c) next (adds_then (UpTo Is n) (Is n) a b c h k)
 
--- one row more
+-- the findings of one more row are added
 pub adds_row : {X : Type 0} (Told : X → Findings → Type 0) (rows : List X) (n : ℕ) (x : X) (a b c : Findings)
     → n < length rows → x ≡ get_or rows n x → Adds (UpTo (RowAt Told rows) n) a b → Adds (Told x) b c
     → Adds (UpTo (RowAt Told rows) (n + 1)) a c
@@ -50,7 +53,7 @@ adds_row {X} Told rows n x a b c within is h k =
     subst (λ (o : Option X). Adds (λ l. OnRow Told o l) b c) (sym there) k in
     adds_more (RowAt Told rows) n a b c h more
 
--- all rows
+-- the findings of all rows have been added
 pub adds_all : {X : Type 0} (Told : X → Findings → Type 0) (rows : List X) (n : ℕ) (a b : Findings) → n ≡ length rows
     → Adds (UpTo (RowAt Told rows) n) a b → Adds (EachRow Told rows) a b
 adds_all Told rows n a b is h = subst (λ (m : ℕ). Adds (UpTo (RowAt Told rows) m) a b) is h

@@ -21,7 +21,7 @@ use Rattle.irs_breaks.proofs.BlockLemmas.{at_contains}
 use Rattle.irs_breaks.proofs.PairLaws.{one_partner}
 use Rattle.irs_breaks.proofs.Merging.{order_push, push_every}
 
--- the rows in order, s and t, are those of the dates
+-- a merged row is listed, where the merged lists are those of the dates in order
 listed_row : (from : ℤ) (ours theirs : List (Option ℤ)) (s t : List DatedRow) (m : PairedRow)
     → IsPermutation (rows_from from 0 ours) s → IsPermutation (rows_from from 0 theirs) t → IsDatedRow s t m
     → IsListed from ours theirs m
@@ -49,7 +49,7 @@ has_none : (s t : List DatedRow) (rows : List PairedRow) (x : DatedRow) (o : Opt
 has_none s t rows x None alone partner c = c
 has_none s t rows x (Some n) alone partner c = absurd (alone partner.0 partner.1)
 
--- each listed row with a date is among the merged ones
+-- each listed row with a date is among the merged rows
 dated_row : (from : ℤ) (ours theirs : List (Option ℤ)) (s t : List DatedRow) (rows : List PairedRow)
     → IsPermutation (rows_from from 0 ours) s → IsPermutation (rows_from from 0 theirs) t
     → IsMergedTo s t (length s) (length t) rows → (m : PairedRow) → IsListed from ours theirs m → m.day ≢ None
@@ -88,6 +88,7 @@ dated_first s t m n (inr (y, inside, alone, is)) none =
     (subst (λ (d : Option ℤ). Ahead ◌<ℤ◌ (Some y.day) d (Ahead ◌<◌ m.ours n.ours (Ahead ◌<◌ m.theirs n.theirs ⊥)))
     (sym none) first)
 
+-- the merged rows list all rows with a date, and none without
 pub listed_start : (from : ℤ) (ours theirs : List (Option ℤ)) (s t : List DatedRow) (rows : List PairedRow)
     → IsPermutation (rows_from from 0 ours) s → IsPermutation (rows_from from 0 theirs) t
     → IsMergedTo s t (length s) (length t) rows → AreListedTo from ours theirs 0 0 rows
@@ -101,7 +102,7 @@ listed_start from ours theirs s t rows a b h = record {
   before_theirs = λ m c n low. dated_first s t m (undated_theirs n) (h.sound m c) refl;
 }
 
--- ---- one row without a date more
+-- ---- one more row without a date
 
 other : (d : ℤ) → Some None ≡ Some (Some d) → ⊥
 other d e = cc
@@ -109,6 +110,7 @@ other d e = cc
 earlier_or : (i n : ℕ) → n < i + 1 → (n < i) ⊎ (n ≡ i)
 earlier_or i n l = ⊎_elim (λ (a : n < i). inl a) (λ (b : i ≤ n). inr (omega (arith, l, b))) (cases_lt n i)
 
+-- our next row without a date is listed
 pub listed_ours : (from : ℤ) (ours theirs : List (Option ℤ)) (i : ℕ) (rows : List PairedRow)
     → AreListedTo from ours theirs i 0 rows → At ours i None
     → AreListedTo from ours theirs (i + 1) 0 (rows ++ undated_ours i ∷ [])
@@ -130,6 +132,7 @@ listed_ours from ours theirs i rows h at = record {
       h.before_theirs (λ n low. tt);
 }
 
+-- our next row has a date and is already listed
 pub listed_skip : (from : ℤ) (ours theirs : List (Option ℤ)) (i : ℕ) (rows : List PairedRow) (d : ℤ)
     → AreListedTo from ours theirs i 0 rows → At ours i (Some d) → AreListedTo from ours theirs (i + 1) 0 rows
 listed_skip from ours theirs i rows d h at = record {
@@ -145,6 +148,7 @@ listed_skip from ours theirs i rows d h at = record {
   before_theirs = h.before_theirs;
 }
 
+-- their next row without a date is listed
 pub listed_theirs : (from : ℤ) (ours theirs : List (Option ℤ)) (j : ℕ) (rows : List PairedRow)
     → AreListedTo from ours theirs (length ours) j rows → At theirs j None
     → AreListedTo from ours theirs (length ours) (j + 1) (rows ++ undated_theirs j ∷ [])
@@ -163,6 +167,7 @@ listed_theirs from ours theirs j rows h at = record {
       (undated_theirs j) (λ m c n low. h.before_theirs m c n (omega (arith, low))) (λ n low. inl (omega (arith, low)));
 }
 
+-- their next row has a date and is already listed
 pub listed_theirs_skip : (from : ℤ) (ours theirs : List (Option ℤ)) (j : ℕ) (rows : List PairedRow) (d : ℤ)
     → AreListedTo from ours theirs (length ours) j rows → At theirs j (Some d)
     → AreListedTo from ours theirs (length ours) (j + 1) rows
@@ -193,7 +198,7 @@ whole from ours theirs rows h m (undated n at is) =
 whole from ours theirs rows h m (undated_extra n at is) =
     subst (Contains rows) (sym is) (h.of_theirs n (slice_get_within theirs n None at) at)
 
--- all is listed
+-- once all rows without a date are added, the rows are the pairing
 pub listed_all : (from : ℤ) (ours theirs : List (Option ℤ)) (rows : List PairedRow)
     → AreListedTo from ours theirs (length ours) (length theirs) rows → IsPairing from ours theirs rows
 listed_all from ours theirs rows h = record {
@@ -202,19 +207,22 @@ listed_all from ours theirs rows h = record {
   in_order = h.in_order;
 }
 
--- ---- by whether a date is there
+-- ---- rows with and without a date
 
+-- our next row is added where it has no date
 pub ours_push : (ours : List (Option ℤ)) (old rows : List PairedRow) (i : ℕ) (date : Option ℤ) → At ours i date
     → is_none date ≡ true → ListsUndated ours old rows i → ListsUndated ours old (rows ++ undated_ours i ∷ []) (i + 1)
 ours_push ours old rows i None at none h = λ from theirs start. listed_ours from ours theirs i rows (h from theirs start) at
 ours_push ours old rows i (Some d) at none h = absurd (cc)
 
+-- our next row is left out where it has a date
 pub ours_skip : (ours : List (Option ℤ)) (old rows : List PairedRow) (i : ℕ) (date : Option ℤ) → At ours i date
     → is_none date ≡ false → ListsUndated ours old rows i → ListsUndated ours old rows (i + 1)
 ours_skip ours old rows i None at some h = absurd (cc)
 ours_skip ours old rows i (Some d) at some h =
     λ from theirs start. listed_skip from ours theirs i rows d (h from theirs start) at
 
+-- their next row is added where it has no date
 pub theirs_push : (theirs : List (Option ℤ)) (old rows : List PairedRow) (j : ℕ) (date : Option ℤ) → At theirs j date
     → is_none date ≡ true → ListsUndatedExtras theirs old rows j
     → ListsUndatedExtras theirs old (rows ++ undated_theirs j ∷ []) (j + 1)
@@ -222,6 +230,7 @@ theirs_push theirs old rows j None at none h =
     λ from ours start. listed_theirs from ours theirs j rows (h from ours start) at
 theirs_push theirs old rows j (Some d) at none h = absurd (cc)
 
+-- their next row is left out where it has a date
 pub theirs_skip : (theirs : List (Option ℤ)) (old rows : List PairedRow) (j : ℕ) (date : Option ℤ) → At theirs j date
     → is_none date ≡ false → ListsUndatedExtras theirs old rows j → ListsUndatedExtras theirs old rows (j + 1)
 theirs_skip theirs old rows j None at some h = absurd (cc)
@@ -230,6 +239,7 @@ theirs_skip theirs old rows j (Some d) at some h =
 
 -- ---- the parts of the pairing, one after another
 
+-- the merged rows, followed by the rows without a date, are the pairing
 pub paired_all : (from : ℤ) (ours theirs : List (Option ℤ)) (s t : List DatedRow) (rows longer all : List PairedRow)
     → IsPermutation (rows_from from 0 ours) s → IsPermutation (rows_from from 0 theirs) t
     → IsMergedTo s t (length s) (length t) rows → ListsUndated ours rows longer (length ours)

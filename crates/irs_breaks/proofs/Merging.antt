@@ -1,4 +1,4 @@
--- One row more of a merged list.
+-- One more row of a merged list.
 use Rattle.std.proofs.Common.{◌≡◌, ◌⊎◌, inl, inr, ⊎_elim, ℕ, zero, suc, ◌+◌, ◌<◌, ◌≤◌, List, [], ◌∷◌, ◌++◌, length, Option, Some, None}
 use Rattle.std.proofs.Common.{ℤ, ◌<ℤ◌, ◌≤ℤ◌, arith, refl, sym, subst, true, false, ap, is_none, get_or, take}
 use Rattle.irs_base.proofs.MemberLemmas.{pairs_more}
@@ -20,6 +20,7 @@ use Rattle.irs_breaks.specs.declared.dated.DatedRow.{DatedRow}
 use Rattle.irs_breaks.specs.declared.dated.PairedRow.{PairedRow}
 use Rattle.irs_breaks.proofs.RowLemmas.{one_at}
 
+-- a list contains the member at each of its places
 pub contains_at : {X : Type 0} (xs : List X) (k : ℕ) (x : X) → At xs k x → Contains xs x
 contains_at xs k x at = (k, slice_get_within xs k x at, get_or_from_slice_get xs k x x at)
 
@@ -32,6 +33,7 @@ at_push_cases (z ∷ zs) y (suc k) x at =
     ⊎_elim (λ old. inl old) (λ (new : (k ≡ length zs) × (x ≡ y)). inr (let e = new.0 in omega (arith, e), new.1))
     (at_push_cases zs y k x at)
 
+-- a list stays in order where a row that comes after all others is appended
 pub order_push : (rows : List PairedRow) (n : PairedRow) → AreInOrder rows
     → ((m : PairedRow) → Contains rows m → ComesBefore m n) → AreInOrder (rows ++ n ∷ [])
 order_push rows n ordered before p q a b less ata atb =
@@ -50,7 +52,7 @@ order_push rows n ordered before p q a b less ata atb =
           ]
     ]
 
--- a row that was pushed meets P where the others and it do
+-- every row meets P after one more that meets it is appended
 pub push_every : {X : Type 0} (P : X → Type 0) (xs : List X) (y : X) → ((x : X) → Contains xs x → P x) → P y
     → (x : X) → Contains (xs ++ y ∷ []) x → P x
 push_every P xs y old new x c =
@@ -73,6 +75,7 @@ ours_theirs : (x y : DatedRow) (o : Option ℕ) → x.day ≤ℤ y.day → Comes
 ours_theirs x y o h =
     ⊎_elim (λ (e : x.day ≡ y.day). inr (e, tt)) (λ (l : x.day <ℤ y.day). inl l) (cases_at x.day y.day h)
 
+-- before the first row nothing is merged
 pub merged_none : (s t : List DatedRow) → IsMergedTo s t 0 0 []
 merged_none s t = record {
   sound = λ m c. let l = c.1 in absurd (omega (arith, l));
@@ -83,7 +86,7 @@ merged_none s t = record {
   before_theirs = λ m c. let l = c.1 in absurd (omega (arith, l));
 }
 
--- a place below the next is an earlier one or this one
+-- a place up to p is an earlier one or p itself
 below_next : {X : Type 0} (xs : List X) (p k : ℕ) (x y : X) → k < p + 1 → At xs p x → At xs k y → (k < p) ⊎ (x ≡ y)
 below_next xs p k x y less atx aty = elim (cases_lt k p) [
   | inl low ↦ inl low
@@ -92,6 +95,7 @@ below_next xs p k x y less atx aty = elim (cases_lt k p) [
       inr (one_at xs p x y atx (subst (λ (n : ℕ). At xs n y) e aty))
 ]
 
+-- our next row is appended where no row of theirs is earlier
 pub merged_ours : (s t : List DatedRow) (p q : ℕ) (rows : List PairedRow) (x : DatedRow) (o : Option ℕ) → AreRising s
     → IsMergedTo s t p q rows → At s p x → IsPartner s t x o
     → ((k : ℕ) (y : DatedRow) → q ≤ k → At t k y → x.day ≤ℤ y.day)
@@ -119,6 +123,7 @@ merged_ours s t p q rows x o rising h at partner low = record {
       rows (row_of_ours x o) h.before_theirs (λ k y less aty. ours_theirs x y o (low k y less aty));
 }
 
+-- their next row is appended where it has no partner and is earlier than our rows
 pub merged_theirs : (s t : List DatedRow) (p q : ℕ) (rows : List PairedRow) (y : DatedRow) → AreRising t
     → IsMergedTo s t p q rows → At t q y → IsAlone s t y
     → ((k : ℕ) (x : DatedRow) → p ≤ k → At s k x → y.day <ℤ x.day)
@@ -140,7 +145,7 @@ merged_theirs s t p q rows y rising h at alone low = record {
       (λ k z less atz. theirs_theirs y z (rising q k y z (omega (arith, less)) at atz));
 }
 
--- a row of theirs that has a partner isn't listed again
+-- a row of theirs that has a partner is passed over, since it is listed with it
 pub merged_skip : (s t : List DatedRow) (p q : ℕ) (rows : List PairedRow) (x y : DatedRow) → IsMergedTo s t p q rows
     → At t q y → ArePaired s t x y → IsMergedTo s t p (q + 1) rows
 merged_skip s t p q rows x y h at pair = record {
@@ -157,12 +162,14 @@ merged_skip s t p q rows x y h at pair = record {
 
 -- ---- by the partners of the rows
 
+-- lists of related members have the same length
 pub pairs_length : {X Y : Type 0} (R : X → Y → Type 0) (xs : List X) (ys : List Y) → Pairs R xs ys → length xs ≡ length ys
 pairs_length R [] [] h = refl
 pairs_length R [] (y ∷ ys) h = absurd h
 pairs_length R (x ∷ xs) [] h = absurd h
 pairs_length R (x ∷ xs) (y ∷ ys) h = let e = pairs_length R xs ys h.1 in omega (arith, e)
 
+-- the members at the same place of two lists of related members are related
 pub pairs_get : {X Y : Type 0} (R : X → Y → Type 0) (xs : List X) (ys : List Y) (k : ℕ) (x : X) (y : Y) → Pairs R xs ys
     → At xs k x → At ys k y → R x y
 pairs_get R [] ys k x y h a b = absurd (none-some x a)
@@ -175,19 +182,21 @@ lone : (s t : List DatedRow) (y : DatedRow) (o : Option ℕ) → IsPartner t s y
 lone s t y None partner h = λ x pair. partner x (swap_paired s t x y pair)
 lone s t y (Some n) partner h = absurd (cc)
 
+-- their next row is appended where it has no partner
 pub push_step : (s t : List DatedRow) (p q : ℕ) (rows : List PairedRow) (y : DatedRow) (o : Option ℕ) → AreRising t
     → IsMergedTo s t p q rows → At t q y → IsPartner t s y o → is_none o ≡ true → IsBeforeAll s p t q
     → IsMergedTo s t p (q + 1) (rows ++ row_of_theirs y ∷ [])
 push_step s t p q rows y o rising h at partner none low =
     merged_theirs s t p q rows y rising h at (lone s t y o partner none) (λ k x less atx. low k x y less atx at)
 
+-- their next row is passed over where it has a partner
 pub skip_step : (s t : List DatedRow) (p q : ℕ) (rows : List PairedRow) (y : DatedRow) (o : Option ℕ)
     → IsMergedTo s t p q rows → At t q y → IsPartner t s y o → is_none o ≡ false → IsMergedTo s t p (q + 1) rows
 skip_step s t p q rows y None h at partner some = absurd (cc)
 skip_step s t p q rows y (Some n) h at partner some =
     merged_skip s t p q rows partner.0 y h at (swap_paired t s y partner.0 partner.1)
 
--- the rows of theirs that come first are listed
+-- the walk stops at the first row of theirs that is not earlier than our next row
 pub stopped_before : (s t : List DatedRow) (p q : ℕ) (rows : List PairedRow) → AreRising t → IsMergedTo s t p q rows
     → q < length t → IsNotBefore s p t q → IsMergedBefore s t p q rows
 stopped_before s t p q rows rising h within next = record {
@@ -201,6 +210,7 @@ stopped_before s t p q rows rising h within next = record {
   all = λ e. let l = next.0 in absurd (omega (arith, l, e));
 }
 
+-- the walk stops where their rows end
 pub stopped_at_end : (s t : List DatedRow) (p q : ℕ) (rows : List PairedRow) → IsMergedTo s t p q rows → length t ≤ q
     → IsMergedBefore s t p q rows
 stopped_at_end s t p q rows h past = record {
@@ -209,6 +219,7 @@ stopped_at_end s t p q rows h past = record {
   all = λ e. past;
 }
 
+-- once our rows end, both lists are merged
 pub merged_end : (s t : List DatedRow) (q : ℕ) (rows : List PairedRow) → IsMergedBefore s t (length s) q rows
     → IsMergedTo s t (length s) (length t) rows
 merged_end s t q rows h =
@@ -222,7 +233,7 @@ merged_end s t q rows h =
       before_theirs = λ m c k y low at. let l = slice_get_within t k y at in absurd (omega (arith, low, l));
     }
 
--- the partner of one row of ours more
+-- the partner of one more row of ours
 pub row_more : (s t : List DatedRow) (k : ℕ) (partners : List (Option ℕ)) (o : Option ℕ) → k < length s
     → Pairs (IsPartner s t) (take k s) partners → ((x : DatedRow) → At s k x → IsPartner s t x o)
     → Pairs (IsPartner s t) (take (k + 1) s) (partners ++ o ∷ [])
@@ -234,6 +245,7 @@ row_more (z ∷ zs) t k partners o within h partner =
 
 -- ---- which row comes first
 
+-- where their row is earlier than our next row, it is earlier than all our rows from there on
 pub before_all : (s t : List DatedRow) (p q : ℕ) (x y : DatedRow) → AreRising s → At s p x → At t q y
     → is_lt (int_cmp y.day x.day) ≡ true → IsBeforeAll s p t q
 before_all s t p q x y rising atx aty h = λ k a b low ata atb.
@@ -242,6 +254,7 @@ before_all s t p q x y rising atx aty h = λ k a b low ata atb.
     let same = ap (λ (r : DatedRow). r.day) (one_at t q y b aty atb) in
     omega (arith, signed_arith, less, more, same)
 
+-- where their row isn't earlier than our next row, the walk stops there
 pub none_before : (s t : List DatedRow) (p q : ℕ) (x y : DatedRow) → p < length s → At s p x → At t q y
     → is_lt (int_cmp y.day x.day) ≡ false → IsNotBefore s p t q
 none_before s t p q x y within atx aty h = (
@@ -253,7 +266,7 @@ none_before s t p q x y within atx aty h = (
       omega (arith, signed_arith, more, e, f),
 )
 
--- a row of ours with its partner, after the rows of theirs that come first
+-- a row of ours is appended with its partner, after the rows of theirs that come first
 pub push_ours : (s t : List DatedRow) (p q : ℕ) (rows : List PairedRow) (partners : List (Option ℕ)) (m : PairedRow)
     → AreRising s → Pairs (IsPartner s t) s partners → IsMergedBefore s t p q rows → p < length s
     → ((x : DatedRow) (o : Option ℕ) → At s p x → At partners p o → m ≡ row_of_ours x o)
@@ -270,6 +283,7 @@ push_ours (z ∷ zs) t p q rows partners m rising paired h within is =
     (merged_ours (z ∷ zs) t p q rows x o rising h.merged atx partner
     (λ k y low aty. h.not_before k x y low atx aty))
 
+-- their next row is passed over where its entry in the list of partners is not empty
 pub skip_there : (s t : List DatedRow) (p q : ℕ) (rows : List PairedRow) (partners : List (Option ℕ)) (o : Option ℕ)
     → IsMergedTo s t p q rows → Pairs (IsPartner t s) t partners → At partners q o → is_none o ≡ false
     → IsMergedTo s t p (q + 1) rows

@@ -25,7 +25,7 @@ left_more : (s t : List DatedRow) (i j p q : ℕ) (x : DatedRow) → i ≤ p →
 left_more s t i j p q x f g (inl h) = let l = h.1 in inl (h.0, omega (arith, f, l), h.2)
 left_more s t i j p q x f g (inr h) = let l = h.1 in inr (h.0, omega (arith, g, l), h.2)
 
--- a row inside, by its list
+-- a row inside a block is at a place of ours or at one of theirs
 data Where (s t : List DatedRow) (i j p q : ℕ) (x : DatedRow) : Type 0 where
   at_ours : (k : ℕ) → i ≤ k → k < p → At s k x → Where s t i j p q x
   at_theirs : (k : ℕ) → j ≤ k → k < q → At t k x → Where s t i j p q x
@@ -46,6 +46,7 @@ where_inside s t i j p q x edge f g h = elim h.done [
   ]
 ]
 
+-- an earlier row has a date that is not later
 pub not_after : (x y : DatedRow) → IsEarlier x y → x.day ≤ℤ y.day
 not_after x y (inl h) = omega (arith, signed_arith, h)
 not_after x y (inr h) = let e = h.0 in omega (arith, signed_arith, e)
@@ -123,12 +124,13 @@ gap_uncut s t i j p q x z rs edge gap wx wz lx lz d common between =
       ]
     ]
 
--- the common date that comes next
+-- the next common date: no row that is left is earlier, and every row inside is
 record IsNext (s t : List DatedRow) (i j p q : ℕ) (d : ℤ) : Type 0 where
   common : IsCommon s t d
   above : (z : DatedRow) → IsLeft s t p q z → d ≤ℤ z.day
   below : (x : DatedRow) → Where s t i j p q x → x.day <ℤ d
 
+-- the first of the rows that are left has the earliest date of them
 pub least : (rows : List DatedRow) (p k : ℕ) (m z : DatedRow) → AreRising rows → At rows p m → p ≤ k → At rows k z
     → m.day ≤ℤ z.day
 least rows p k m z rising atm low at = elim (cases_lt p k) [
@@ -155,7 +157,7 @@ next_date s t i j p q m n rs rt gap atm atn same = record {
   ];
 }
 
--- nothing is left behind the ends of both lists
+-- no row is left after the ends of both lists
 ended : (s t : List DatedRow) (p q : ℕ) (z : DatedRow) → p ≡ length s → q ≡ length t → ¬ (IsLeft s t p q z)
 ended s t p q z e f (inl h) = let l = slice_get_within s h.0 z h.2 in let k = h.1 in omega (arith, e, l, k)
 ended s t p q z e f (inr h) = let l = slice_get_within t h.0 z h.2 in let k = h.1 in omega (arith, f, l, k)
@@ -223,6 +225,7 @@ few_theirs : (n m pairs : ℕ) → HasGapPairs n m pairs → pairs ≤ m
 few_theirs n m pairs (inl h) = let e = h.1 in let f = h.0 in omega (arith, e, f)
 few_theirs n m pairs (inr h) = let e = h.1 in omega (arith, e)
 
+-- the rows up to the next common date are a block
 pub gap_block : (s t : List DatedRow) (i j : ℕ) (b : Block) → AreRising s → AreRising t → IsEdge s t i j
     → IsGapTo s t i j b.ours b.theirs → MeetsAt s t b.ours b.theirs
     → ((x z : DatedRow) → At s i x → At t j z → ¬ (x.day ≡ z.day)) → i + j < length s + length t
@@ -257,7 +260,7 @@ date_later : (s t : List DatedRow) (i j p q : ℕ) (d : ℤ) (z : DatedRow) → 
 date_later s t i j p q d z a b (inl h) = a.later h.0 z h.1 h.2
 date_later s t i j p q d z a b (inr h) = b.later h.0 z h.1 h.2
 
--- where both lists go on with the date d
+-- where both lists have the date d next, its rows are a block
 pub date_block : (s t : List DatedRow) (i j : ℕ) (b : Block) (d : ℤ) → IsEdge s t i j → IsCommon s t d
     → IsDateEnd s i d b.ours → IsDateEnd t j d b.theirs → b.pairs ≤ b.ours - i → b.pairs ≤ b.theirs - j
     → (b.pairs ≡ b.ours - i) ⊎ (b.pairs ≡ b.theirs - j) → IsBlock s t i j b
@@ -296,6 +299,7 @@ date_block s t i j b d edge common a c few few' pairs =
       theirs_last = few';
     }
 
+-- a date that both lists have next is common
 pub meets_common : (s t : List DatedRow) (i j : ℕ) → (m : MeetsBoth s t i j) → IsCommon s t m.0.day
 meets_common s t i j m = ((i, m.0, m.2, refl), (j, m.1, m.3, sym m.4))
 
@@ -303,6 +307,7 @@ none_done : (s t : List DatedRow) (x : DatedRow) → ¬ (IsDone s t 0 0 x)
 none_done s t x (inl h) = let l = h.1 in omega (arith, l)
 none_done s t x (inr h) = let l = h.1 in omega (arith, l)
 
+-- a block can begin at the start of both lists
 pub first_edge : (s t : List DatedRow) → IsEdge s t 0 0
 first_edge s t = record {
   in_ours = omega arith;

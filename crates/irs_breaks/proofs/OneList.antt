@@ -25,7 +25,7 @@ use Rattle.irs_schedule.specs.declared.entries.PaymentEntry.{PaymentEntry}
 use Rattle.irs_audit.specs.declared.flows.FlowPayment.{FlowPayment}
 use Rattle.irs_breaks.proofs.OnePairing.{one_pairing}
 
--- all findings of which P holds are the same
+-- P holds of one list of findings at most
 abbrev Only : (Findings → Type 0) → Type 0
 Only P = (a b : Findings) → P a → P b → a ≡ b
 
@@ -59,6 +59,7 @@ one_breaks (f ∷ fs) a b (inl h) (inr k) = absurd (k.0 h.0)
 one_breaks (f ∷ fs) a b (inr h) (inl k) = absurd (h.0 k.0)
 one_breaks (f ∷ fs) a b (inr h) (inr k) = one_breaks fs a b h.1 k.1
 
+-- each of these fields breaks at the place
 abbrev broken : BreakPlace → List FieldValues → Findings
 broken place fields = record { breaks = field_breaks place fields; pairs = [] }
 
@@ -146,7 +147,7 @@ only_stream from stream (Some p) None a b h k = h ∙ sym k
 only_stream from stream None (Some g) a b h k = h ∙ sym k
 only_stream from stream None None a b h k = h ∙ sym k
 
--- two lists of the breaks between a schedule and cash flows are one
+-- a schedule and cash flows have one list of breaks only
 pub one_list : (from : Option ℤ) (s : List Part) (f : List FlowPart) (a b : Findings) → IsBreakList from s f a
     → IsBreakList from s f b → a ≡ b
 one_list from s f a b h k =

@@ -1,4 +1,4 @@
--- The pairing of two lists of dates is the only one: lists in order with the same members are one.
+-- The pairing of two lists of dates is the only one: ordered lists with the same members are the same.
 use Rattle.std.proofs.Common.{◌≡◌, ◌⊎◌, inl, inr, ℕ, zero, suc, ◌<◌, List, [], ◌∷◌, Option, Some, None}
 use Rattle.std.proofs.Common.{ℤ, ◌<ℤ◌, arith, refl, sym, subst, ap, ap₂, ◌∙◌}
 use Rattle.std.specs.List.{Contains}
@@ -82,6 +82,7 @@ in_rest m n x ms ns h same inside c = elim (contains_rest n x ns c) [
   | inr later ↦ later
 ]
 
+-- two ordered lists with the same members are the same
 pub one_in_order : (ms ns : List PairedRow) → AreInOrder ms → AreInOrder ns
     → ((x : PairedRow) → Contains ms x → Contains ns x) → ((x : PairedRow) → Contains ns x → Contains ms x) → ms ≡ ns
 one_in_order [] [] h k to back = refl
@@ -93,6 +94,7 @@ one_in_order (m ∷ ms) (n ∷ ns) h k to back =
     (λ x c. in_rest m n x ms ns h same c (to x (contains_more m x ms c)))
     (λ x c. in_rest n m x ns ms k (sym same) c (back x (contains_more n x ns c))))
 
+-- two lists of dates have one pairing only
 pub one_pairing : (from : ℤ) (ours theirs : List (Option ℤ)) (a b : List PairedRow) → IsPairing from ours theirs a
     → IsPairing from ours theirs b → a ≡ b
 one_pairing from ours theirs a b h k =

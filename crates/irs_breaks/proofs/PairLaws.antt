@@ -32,6 +32,7 @@ count_le p q (x ∷ xs) h =
     let f = counted q x xs in
     omega (arith, rest, head, e, f)
 
+-- a weaker test that also passes a further member counts more of them
 pub count_less : {X : Type 0} (p q : X → Bool) (xs : List X) (k : ℕ) (z : X) → ((x : X) → p x ≡ true → q x ≡ true)
     → At xs k z → p z ≡ false → q z ≡ true → count_by p xs < count_by q xs
 count_less p q [] k z h at fails holds = absurd (none-some z at)
@@ -81,7 +82,7 @@ cases_rows x y = elim (cases_days x.day y.day) [
   ]
 ]
 
--- a row that stands together with a date has a lower rank than each later one
+-- a row that belongs together with a date has a lower rank than each later one
 rank_less : (s t rows : List DatedRow) (a : ℤ) (y z : DatedRow) (k : ℕ) → At rows k y → are_together s t a y.day ≡ true
     → IsEarlier y z → rank_at (are_together s t) rows a y < rank_at (are_together s t) rows a z
 rank_less s t rows a y z k at tog less =
@@ -91,6 +92,7 @@ rank_less s t rows a y z k at tog less =
     and_both _ _ both.0 (true_before r z (earlier_more r y z (before_true r y both.1) less)))
     at (and_right _ _ (not_itself y)) (and_both _ _ tog (true_before y z less))
 
+-- a row of ours has one partner at most
 pub one_partner : (s t : List DatedRow) (x y z : DatedRow) → ArePaired s t x y → ArePaired s t x z → y ≡ z
 one_partner s t x y z h g = elim (cases_rows y z) [
   | inr same ↦ same
@@ -108,6 +110,7 @@ one_partner s t x y z h g = elim (cases_rows y z) [
       ]
 ]
 
+-- no row of either list is in two pairs
 pub one_partner_each : (s t : List DatedRow) → HasOnePartner s t
 one_partner_each s t = record {
   of_ours = λ x y z h g. one_partner s t x y z h g;
@@ -120,7 +123,7 @@ outside : (a c e : ℤ) → a <ℤ c → IsBetween a c e → (a <ℤ e) × (e <�
 outside a c e less (inl u) = u
 outside a c e less (inr u) = let v = u.0 in let w = u.1 in absurd (omega (arith, signed_arith, v, w, less))
 
--- dates a < c that stand together with b and d, d < b: then a stands together with c
+-- where a < c belong together with b and d, and d < b, a and c belong together
 crossing : (s t : List DatedRow) (a b c d : ℤ) → AreTogether s t a b → AreTogether s t c d → a <ℤ c → d <ℤ b
     → AreTogether s t a c
 crossing s t a b c d (inl h) (inl k) less more =
@@ -145,6 +148,7 @@ crossing s t a b c d (inr h) (inr k) less more = inr (record {
       ];
 })
 
+-- two pairs don't cross: the one with our earlier date doesn't have their later date
 pub pairs_dont_cross : (s t : List DatedRow) → DontCross s t
 pairs_dont_cross s t x y z w h g less more =
     let xy = together_true s t x.day y.day h.together in

@@ -16,6 +16,7 @@ pub record HasPeriods (from last : ℕ) (x : PaymentEntry) : Type 0 where
   pub order : x.first_period ≤ x.last_period
   pub within : x.last_period ≤ last
 
+-- a payment of a list that covers the periods has periods of the stream
 pub covers_at : (from last : ℕ) (xs : List PaymentEntry) (n : ℕ) (x : PaymentEntry) → Covers from xs last
     → slice_get xs n ≡ Some x → HasPeriods from last x
 covers_at from last [] n x h at = absurd (none-some x at)
@@ -31,6 +32,7 @@ covers_at from last (y ∷ ys) (suc n) x h at =
     let order = h.1 in
     record { first = omega (arith, first, low, order); order = rest.order; within = rest.within }
 
+-- a payment of the schedule has periods of its stream
 pub payment_at : (p : Part) (n : ℕ) (x : PaymentEntry) → KeepsBounds p → slice_get p.payments n ≡ Some x
     → HasPeriods 1 (length p.periods) x
 payment_at p n x h at = covers_at 1 (length p.periods) p.payments n x h.covers at
@@ -39,7 +41,7 @@ payment_at p n x h at = covers_at 1 (length p.periods) p.payments n x h.covers a
 abbrev pub HasCount : PaymentEntry → FlowPayment → Type 0
 HasCount x y = y.periods ≡ x.last_period + 1 - x.first_period
 
--- so the periods before those of a payment are as many
+-- where the counts agree, their payments before one of ours have as many periods as come before its first one
 pub covers_sum : (from last : ℕ) (xs : List PaymentEntry) (ys : List FlowPayment) (n : ℕ) (x : PaymentEntry)
     → Covers from xs last → Pairs HasCount xs ys → slice_get xs n ≡ Some x
     → from + sum_by (λ (y : FlowPayment). y.periods) (take n ys) ≡ x.first_period

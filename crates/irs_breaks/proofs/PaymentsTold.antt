@@ -1,4 +1,4 @@
--- A payment and its calculation periods are told of.
+-- The findings of a payment and its calculation periods.
 use Rattle.std.proofs.Common.{◌≡◌, inl, inr, ℕ, zero, suc, ◌+◌, ◌<◌, ◌≤◌, min, Bool, true, false, List, [], ◌∷◌, ◌++◌, length}
 use Rattle.std.proofs.Common.{get_or, Option, Some, None, refl, sym, subst, ap, ◌∙◌, arith}
 use Rattle.std.specs.Prelude.{slice_get, unwrap_or, ◌==◌, IfSome}
@@ -32,13 +32,13 @@ use Rattle.irs_breaks.proofs.RowsTold.{counted_then}
 
 -- ---- payments of the schedule
 
--- the periods of a payment of the schedule
+-- a payment of the schedule has periods of its stream
 pub payment_periods : (p : Part) (place : Option ℕ) (x : PaymentEntry) → KeepsBounds p → Some x ≡ member_at p.payments place
     → HasPeriods 1 (length p.periods) x
 payment_periods p None x h e = absurd (none-some x (sym e))
 payment_periods p (Some n) x h e = payment_at p n x h (sym e)
 
--- its amount has few decimals
+-- the amount of a payment of the schedule has at most twelve decimals
 pub payment_few : (p : Part) (place : Option ℕ) (x : PaymentEntry) → KeepsBounds p → Some x ≡ member_at p.payments place
     → IfSome x.amount (λ v. v.places ≤ 12)
 payment_few p None x h e = absurd (none-some x (sym e))
@@ -61,7 +61,7 @@ get_last : {X : Type 0} (xs : List X) (x : X) → slice_get (xs ++ x ∷ []) (le
 get_last [] x = refl
 get_last (y ∷ ys) x = get_last ys x
 
--- the places of the first payments
+-- the places at which the periods of the first n payments begin, and the next place
 pub record StartsUpTo (g : FlowPart) (n next : ℕ) (starts : List ℕ) : Type 0 where
   pub next_is : next ≡ periods_before g n
   pub count : length starts ≡ n
@@ -88,7 +88,7 @@ one_more g i next starts h k low = elim (cases_lt k i) [
       ∙ ap (λ (z : ℕ). Some z) (h.next_is ∙ ap (periods_before g) (sym is)))
 ]
 
--- one payment more
+-- the periods of one more payment begin at the next place
 pub starts_more : (g : FlowPart) (i next after : ℕ) (starts : List ℕ) (y : FlowPayment) → StartsUpTo g i next starts
     → i < length g.payments → y ≡ get_or g.payments i y → after ≡ min (length g.periods) (next + y.periods)
     → StartsUpTo g (i + 1) after (starts ++ next ∷ [])
@@ -98,14 +98,14 @@ starts_more g i next after starts y h within is e = record {
   each = one_more g i next starts h;
 }
 
--- all payments
+-- the places of all payments are found
 pub starts_all : (g : FlowPart) (n next : ℕ) (starts : List ℕ) → StartsUpTo g n next starts → length g.payments ≤ n
     → AreStarts g starts
 starts_all g n next starts h all = λ place y at.
     let within = slice_get_within g.payments place y at in
     h.each place (omega (arith, within, all))
 
--- the place of a payment
+-- the entry of a payment is the number of periods before its own
 pub start_there : (g : FlowPart) (starts : List ℕ) (place : Option ℕ) (y : FlowPayment) → AreStarts g starts
     → Some y ≡ member_at g.payments place → unwrap_or (member_at starts place) 0 ≡ periods_before g (unwrap_or place 0)
 start_there g starts None y h e = absurd (none-some y (sym e))
@@ -113,17 +113,17 @@ start_there g starts (Some n) y h e = ap (λ (o : Option ℕ). unwrap_or o 0) (h
 
 -- ---- pairs of payments
 
--- a payment of theirs without periods
+-- a payment of theirs without periods adds no findings of periods
 pub bare_told : (bare : Bool) (Told : Findings → Type 0) (a : Findings) → bare ≡ true → Adds (UnlessBare bare Told) a a
 bare_told bare Told a e =
     subst (λ (b : Bool). Adds (UnlessBare b Told) a a) (sym e) (nothing, refl, sym (joined_nothing a))
 
--- one with periods
+-- a payment of theirs with periods adds their findings
 pub periods_told : (bare : Bool) (Told : Findings → Type 0) (a b : Findings) → bare ≡ false → Adds Told a b
     → Adds (UnlessBare bare Told) a b
 periods_told bare Told a b e h = subst (λ (z : Bool). Adds (UnlessBare z Told) a b) (sym e) h
 
--- a pair of payments
+-- the findings of a pair of payments: its counts, its fields and its periods
 pub payments_told : (place : BreakPlace) (p : Part) (g : FlowPart) (before : ℕ) (x : PaymentEntry) (y : FlowPayment)
     (fields : List FieldValues) (counts : Counts) (a b c d : Findings) → fields ≡ payment_fields p.currency x y
     → counts ≡ payment_counts (y.periods == 0) (counts_in fields) → b ≡ joined a (counted counts)
@@ -143,7 +143,7 @@ payments_told place p g before x y fields counts a b c d e f first second third 
 
 -- ---- pairs of periods
 
--- a pair of calculation periods
+-- the findings of a pair of calculation periods: its counts, its fields and its reset
 pub pair_told : (place : BreakPlace) (reset : Option Reset) (x : CalculationPeriod) (y : FlowPeriod)
     (fields : List FieldValues) (counts : Counts) (a b c d : Findings) → fields ≡ period_fields x y
     → counts ≡ counts_in (fields ++ counted_reset reset y.reset) → b ≡ joined a (counted counts)
@@ -158,29 +158,31 @@ pair_told place reset x y fields counts a b c d e f first second third =
     (adds_then (AreFieldBreaks place wanted) (IsReset place reset y.reset) b c d
     (subst (λ (z : List FieldValues). Adds (AreFieldBreaks place z) b c) e second) third)
 
--- a reset of theirs alone
+-- a reset that only theirs has is a break
 pub reset_extra : (place : BreakPlace) (o : Option Reset) (q : Option FlowReset) (y : FlowReset) (a b : Findings)
     → None ≡ o → Some y ≡ q → b ≡ joined a (told (extra_reset place y)) → Adds (IsReset place o q) a b
 reset_extra place o q y a b e f h =
     subst (λ (o : Option Reset). Adds (IsReset place o q) a b) e
     (subst (λ (q : Option FlowReset). Adds (IsReset place None q) a b) f (told (extra_reset place y), refl, h))
 
--- no reset
+-- where neither has a reset there is nothing to add
 pub reset_none : (place : BreakPlace) (o : Option Reset) (q : Option FlowReset) (a : Findings) → None ≡ o → None ≡ q
     → Adds (IsReset place o q) a a
 reset_none place o q a e f =
     subst (λ (o : Option Reset). Adds (IsReset place o q) a a) e
     (subst (λ (q : Option FlowReset). Adds (IsReset place None q) a a) f (nothing, refl, sym (joined_nothing a)))
 
--- what was added to nothing
+-- findings that were added to none meet the property themselves
 pub added_to_nothing : (P : Findings → Type 0) (b : Findings) → Adds P nothing b → P b
 added_to_nothing P b h = subst P (sym h.2) h.1
 
 -- ---- whether a payment has periods
 
+-- a number that is zero passes the test for zero
 pub is_bare : (n : ℕ) → n ≡ 0 → (n == 0) ≡ true
 is_bare n e = rw e refl
 
+-- a number that isn't zero fails the test for zero
 pub not_bare : (n : ℕ) → ¬ (n ≡ 0) → (n == 0) ≡ false
 not_bare zero h = absurd (h refl)
 not_bare (suc n) h = elim (cases_Bool (suc n == 0)) [

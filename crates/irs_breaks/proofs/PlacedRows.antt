@@ -18,11 +18,12 @@ use Rattle.irs_breaks.proofs.Merging.{contains_at}
 use Rattle.irs_breaks.proofs.PairLaws.{one_partner}
 use Rattle.irs_breaks.proofs.RowLemmas.{any_at, true_eq}
 
--- what holds of each row that a list contains holds of every row
+-- what holds of the member at each place holds of every member
 pub every_at : {X : Type 0} (P : X → Type 0) (xs : List X) → ((k : ℕ) (x : X) → At xs k x → P x) → Every P xs
 every_at P [] h = tt
 every_at P (x ∷ xs) h = (h zero x refl, every_at P xs (λ k y at. h (suc k) y at))
 
+-- the place of a row is below a bound
 abbrev IsBelow : ℕ → DatedRow → Type 0
 IsBelow bound r = r.place < bound
 
@@ -63,6 +64,7 @@ listed_placed from ours theirs m (undated_extra n at is) =
     subst (IsPlaced (length ours) (length theirs)) (sym is)
     (record { of_ours = tt; of_theirs = slice_get_within theirs n None at })
 
+-- the places of the rows of a pairing are places of the two lists
 pub rows_placed : (from : ℤ) (ours theirs : List (Option ℤ)) (rows : List PairedRow) → IsPairing from ours theirs rows
     → Every (IsPlaced (length ours) (length theirs)) rows
 rows_placed from ours theirs rows h =
@@ -93,7 +95,7 @@ paired_with_itself rows x c = record {
 abbrev pub same_row : ℕ → ℤ → PairedRow
 same_row n d = record { day = Some d; ours = Some n; theirs = Some n }
 
--- such a row, at a place of a list
+-- a pair of rows at the same place, with a date, below this count
 pub record IsSameRow (count : ℕ) (m : PairedRow) : Type 0 where
   pub place : ℕ
   pub day : ℤ

@@ -1,4 +1,4 @@
--- The rows that have a date, one more or all.
+-- The rows that have a date and are due, one by one.
 use Rattle.std.proofs.Common.{◌≡◌, ℕ, ◌+◌, ◌<◌, ◌≤◌, List, [], ◌∷◌, ◌++◌, length, drop, get_or, Option, Some, None, ℤ, refl, sym, ap, ◌∙◌}
 use Rattle.std.proofs.lemmas.List.{append-nil, append_assoc, drop_all, drop_more}
 use Rattle.irs_breaks.specs.Dated.{dated_row, in_front, rows_from}
@@ -15,6 +15,7 @@ next : (from : ℤ) (n : ℕ) (dates : List (Option ℤ)) (e : Option ℤ) → n
 next from n dates e h =
     ap (rows_from from n) (drop_more dates n e h) ∙ front from n (get_or dates n e) (drop (n + 1) dates)
 
+-- the next row is appended where it has a date and is due
 pub push_row : (from : ℤ) (n : ℕ) (dates : List (Option ℤ)) (e : Option ℤ) (rows : List DatedRow) (r : DatedRow)
     → n < length dates → dated_row from (get_or dates n e) n ≡ Some r
     → (rows ++ r ∷ []) ++ rows_from from (n + 1) (drop (n + 1) dates) ≡ rows ++ rows_from from n (drop n dates)
@@ -23,6 +24,7 @@ push_row from n dates e rows r h is =
     ∙ ap (λ (o : Option DatedRow). rows ++ in_front o (rows_from from (n + 1) (drop (n + 1) dates))) (sym is)
     ∙ ap (λ (z : List DatedRow). rows ++ z) (sym (next from n dates e h))
 
+-- the next row is left out where it has no date or is not due
 pub skip_row : (from : ℤ) (n : ℕ) (dates : List (Option ℤ)) (e : Option ℤ) (rows : List DatedRow)
     → n < length dates → dated_row from (get_or dates n e) n ≡ None
     → rows ++ rows_from from (n + 1) (drop (n + 1) dates) ≡ rows ++ rows_from from n (drop n dates)
@@ -34,6 +36,7 @@ none_left : (from : ℤ) (n : ℕ) → rows_from from n [] ≡ []
 unfolding rows_from
 none_left from n = refl
 
+-- after the last date no row is left
 pub all_rows : (from : ℤ) (n : ℕ) (dates : List (Option ℤ)) (rows : List DatedRow) → length dates ≤ n
     → rows ++ rows_from from n (drop n dates) ≡ rows
 all_rows from n dates rows h =

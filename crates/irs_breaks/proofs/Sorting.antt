@@ -1,4 +1,4 @@
--- Rows that were put in order rise strictly, as no two have one place.
+-- Rows in order rise strictly, since no two have the same place.
 use Rattle.std.proofs.Common.{◌≡◌, ◌⊎◌, inl, inr, ℕ, zero, suc, ◌+◌, ◌<◌, ◌≤◌, Bool, true, cond, eqb, List, [], ◌∷◌}
 use Rattle.std.proofs.Common.{Option, Some, None, ℤ, ◌<ℤ◌, arith, refl, sym, subst, ap, ap₂, ◌∙◌, get_or, Ordering}
 use Rattle.std.specs.List.{count_by}
@@ -15,6 +15,7 @@ use Rattle.irs_breaks.specs.Dated.{dated_row, in_front, is_due, rows_from}
 use Rattle.irs_breaks.specs.declared.dated.DatedRow.{DatedRow}
 use Rattle.irs_breaks.proofs.RowLemmas.{counted, counted_none, counted_one}
 
+-- where a member passes a test, at least one is counted
 pub one_passes : {X : Type 0} (p : X → Bool) (xs : List X) (k : ℕ) (x : X) → At xs k x → p x ≡ true → 1 ≤ count_by p xs
 one_passes p [] k x at h = absurd (none-some x at)
 one_passes p (y ∷ ys) zero x at h =
@@ -23,6 +24,7 @@ one_passes p (y ∷ ys) (suc k) x at h =
     let rest = one_passes p ys k x at h in
     let e = counted p y ys in omega (arith, rest, e)
 
+-- where two members pass a test, at least two are counted
 pub two_pass : {X : Type 0} (p : X → Bool) (xs : List X) (k l : ℕ) (x y : X) → k < l → At xs k x → At xs l y → p x ≡ true
     → p y ≡ true → 2 ≤ count_by p xs
 two_pass p [] k l x y less a b h g = absurd (none-some x a)
@@ -35,10 +37,11 @@ two_pass p (z ∷ zs) (suc k) (suc l) x y less a b h g =
     let rest = two_pass p zs k l x y (omega (arith, less)) a b h g in
     let e = counted p z zs in omega (arith, rest, e)
 
+-- whether a row has this place in its list
 abbrev has_place : ℕ → DatedRow → Bool
 has_place k r = eqb r.place k
 
--- no row has a place before the first, and no two have one
+-- a row with a later place adds nothing to the count of the rows at place k
 front_none : (k n : ℕ) (from : ℤ) (date : Option ℤ) (rows : List DatedRow) → k < n
     → count_by (has_place k) (in_front (dated_row from date n) rows) ≡ count_by (has_place k) rows
 front_none k n from None rows h = refl
@@ -79,7 +82,7 @@ few_places from k n (date ∷ dates) =
 cases_days : (c d : ℤ) → (c <ℤ d) ⊎ ((d <ℤ c) ⊎ (c ≡ d))
 cases_days c d = grind (arith, signed_arith)
 
--- rows in order by date and place, of which none comes before an earlier one
+-- rows of the dates rise strictly where no row comes before an earlier one of the list
 pub rising_rows : (from : ℤ) (dates : List (Option ℤ)) (rows : List DatedRow)
     → IsPermutation (rows_from from 0 dates) rows
     → ((p q : ℕ) (x y : DatedRow) → p < q → At rows p x → At rows q y → ¬ (IsEarlier y x)) → AreRising rows
@@ -107,6 +110,7 @@ rising_rows from dates rows moved sorted p q x y less a b =
 
 -- ---- the order of the rows' own comparison
 
+-- rows are compared by date, then by place
 abbrev row_cmp : DatedRow → DatedRow → Ordering
 row_cmp = then_cmp (on (λ (r : DatedRow). r.day) int_cmp) (on (λ (r : DatedRow). r.place) nat_cmp)
 
@@ -132,6 +136,7 @@ earlier_less : (x y : DatedRow) → IsEarlier x y → is_lt (row_cmp x y) ≡ tr
 earlier_less x y (inl h) = day_less x.day y.day (nat_cmp x.place y.place) h
 earlier_less x y (inr h) = place_less x.day y.day x.place y.place h.0 h.1
 
+-- the sorted rows of the dates rise strictly
 pub sorted_rows : (from : ℤ) (dates : List (Option ℤ)) (old rows : List DatedRow) → old ≡ rows_from from 0 dates
     → IsPermutation old rows → IsSorted row_cmp rows → AreRising rows
 sorted_rows from dates old rows is moved sorted =

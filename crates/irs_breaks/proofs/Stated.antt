@@ -75,6 +75,7 @@ reset_told (Some r) = (refl, (refl, (rate_told r.observed, tt)))
 
 -- ---- pairs
 
+-- no field of any pair is unstated
 abbrev IsWhole : Findings → Type 0
 IsWhole l = sum_by (λ (c : Counts). c.unstated) l.pairs ≡ 0
 
@@ -153,6 +154,7 @@ whole_counts p bounds = record {
 
 -- ---- the list
 
+-- the flows that state a schedule leave no field unstated
 pub none_left_unstated : (from : Option ℤ) (s : List Part) (l : Findings) → IsWithin s
     → IsBreakList from s (stated_flows s) l → sum_by (λ (c : Counts). c.unstated) l.pairs ≡ 0
 none_left_unstated from s l within h =

@@ -1,4 +1,4 @@
--- A stream is told of: of both sides, of one, or of none.
+-- The findings of a stream that both sides have, one side, or neither.
 use Rattle.std.proofs.Common.{◌≡◌, ℕ, max, List, length, Bor, Option, Some, None, ℤ, refl, sym, subst}
 use Rattle.std.specs.Prelude.{option_copied, slice_get}
 use Rattle.std.specs.Slice.{IsItemAt}
@@ -11,7 +11,7 @@ use Rattle.irs_breaks.specs.declared.findings.What.TheVariants as what
 use Rattle.irs_breaks.proofs.Joining.{adds_then, joined_nothing}
 use Rattle.irs_breaks.proofs.PaymentsTold.{added_to_nothing}
 
--- a stream of both sides
+-- a stream that both sides have adds its exchanges and its payments
 pub both_told : (from : ℤ) (stream : ℕ) (o : Option Part) (q : Option FlowPart) (p : Part) (g : FlowPart) (a b c : Findings)
     → Some p ≡ o → Some g ≡ q → Adds (AreExchangesOf from stream p g) a b → Adds (ArePaymentsOf from stream p g) b c
     → Adds (IsStream from stream o q) a c
@@ -20,7 +20,7 @@ both_told from stream o q p g a b c e f h k =
     (subst (λ (q : Option FlowPart). Adds (IsStream from stream (Some p) q) a c) f
     (adds_then (AreExchangesOf from stream p g) (ArePaymentsOf from stream p g) a b c h k))
 
--- one of ours alone
+-- a stream that only ours has is missing
 pub ours_told : (from : ℤ) (stream : ℕ) (o : Option Part) (q : Option FlowPart) (p : Part) (a b : Findings)
     → Some p ≡ o → None ≡ q → b ≡ joined a (whole_stream stream (what.Missing None)) → Adds (IsStream from stream o q) a b
 ours_told from stream o q p a b e f h =
@@ -28,7 +28,7 @@ ours_told from stream o q p a b e f h =
     (subst (λ (q : Option FlowPart). Adds (IsStream from stream (Some p) q) a b) f
     (whole_stream stream (what.Missing None), refl, h))
 
--- one of theirs alone
+-- a stream that only theirs has is extra
 pub theirs_told : (from : ℤ) (stream : ℕ) (o : Option Part) (q : Option FlowPart) (g : FlowPart) (a b : Findings)
     → None ≡ o → Some g ≡ q → b ≡ joined a (whole_stream stream (what.Extra 0 None)) → Adds (IsStream from stream o q) a b
 theirs_told from stream o q g a b e f h =
@@ -36,7 +36,7 @@ theirs_told from stream o q g a b e f h =
     (subst (λ (q : Option FlowPart). Adds (IsStream from stream None q) a b) f
     (whole_stream stream (what.Extra 0 None), refl, h))
 
--- none
+-- a stream that neither side has adds nothing
 pub neither_told : (from : ℤ) (stream : ℕ) (o : Option Part) (q : Option FlowPart) (a : Findings) → None ≡ o → None ≡ q
     → Adds (IsStream from stream o q) a a
 neither_told from stream o q a e f =
@@ -45,7 +45,7 @@ neither_told from stream o q a e f =
 
 -- ---- the list
 
--- what is lent at a place is the member there
+-- a borrowed item at a place is the member there
 pub there : {X : Type 0} (xs : List X) (i : ℕ) (o : Option (Bor X)) → IsItemAt xs i o → option_copied o ≡ slice_get xs i
 there xs i None h = sym (slice_get_past xs i h.3)
 there xs i (Some x) h = sym (slice_get_read xs (length xs) i x.now refl h.3.0 h.1)

@@ -1,4 +1,4 @@
--- The rows of two lists that are paired are told of.
+-- The findings of the rows of two lists that are paired.
 use Rattle.std.proofs.Common.{◌≡◌, ℕ, ◌-◌, List, length, length-drop, map, take, drop, Option, ℤ, arith, sym, subst, ap, ◌∙◌}
 use Rattle.std.proofs.lemmas.List.{take_all}
 use Rattle.irs_base.specs.Members.{Every}
@@ -10,14 +10,14 @@ use Rattle.irs_breaks.specs.RowFindings.{AreTold}
 use Rattle.irs_breaks.specs.declared.dated.PairedRow.{PairedRow}
 use Rattle.irs_breaks.proofs.RowsTold.{adds_told}
 
--- the places of rows are places of lists that are as long
+-- the places of rows are places of any lists of the same lengths
 pub same_placed : (a b n m : ℕ) (rows all : List PairedRow) → a ≡ n → b ≡ m → all ≡ rows → Every (IsPlaced a b) rows
     → Every (IsPlaced n m) all
 same_placed a b n m rows all e f g h =
     subst (λ (k : ℕ). Every (IsPlaced k m) all) e
     (subst (λ (k : ℕ). Every (IsPlaced a k) all) f (subst (λ (z : List PairedRow). Every (IsPlaced a b) z) (sym g) h))
 
--- the rows of the pairing of lists that are the same
+-- the findings of a pairing are those of equal lists of dates
 pub told_of : (from first : ℤ) (ours theirs dates others : List (Option ℤ)) (Told : PairedRow → Findings → Type 0)
     (rows all : List PairedRow) (a b : Findings) → from ≡ first → ours ≡ dates → theirs ≡ others → all ≡ rows
     → IsPairing from ours theirs rows → Adds (EachRow Told all) a b → Adds (AreTold first dates others Told) a b
@@ -28,7 +28,7 @@ told_of from first ours theirs dates others Told rows all a b d e f g paired h =
     (subst (λ (z : List (Option ℤ)). IsPairing from ours z rows) f paired)))
     (subst (λ (z : List PairedRow). Adds (EachRow Told z) a b) g h)
 
--- the starts of the first periods of theirs from a place on
+-- the adjusted starts of the first n periods of theirs from a place on
 pub their_rows : (g : FlowPart) (start n : ℕ) (rows : List FlowPeriod) → rows ≡ g.periods
     → map (λ (z : FlowPeriod). z.adjusted_start) (take n (take (length rows - start) (drop start rows)))
     ≡ map (λ (z : FlowPeriod). z.adjusted_start) (take n (drop start g.periods))

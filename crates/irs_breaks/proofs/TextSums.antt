@@ -1,4 +1,4 @@
--- Sums of counts that a machine keeps.
+-- Sums of counts that fit a machine number.
 use Rattle.std.proofs.Common.{◌≡◌, ℕ, ◌+◌, ◌*◌, ◌<◌, ◌≤◌, ◌^◌, List, length, take, get_or, arith, refl, ap, ◌∙◌}
 use Rattle.std.specs.List.{sum_by}
 use Rattle.std.proofs.lemmas.List.{take_all}
@@ -10,7 +10,7 @@ pub record SumsTo {X : Type 0} (f : X → ℕ) (xs : List X) (i sum : ℕ) : Typ
   pub few : sum ≤ 4294967295 * i
   pub fits : sum < 2 ^ 127
 
--- none is summed yet
+-- the sum of no members
 pub sums_none : {X : Type 0} (f : X → ℕ) (xs : List X) → SumsTo f xs 0 0
 sums_none f xs = record { is = refl; few = omega arith; fits = omega arith }
 

@@ -1,4 +1,4 @@
--- Two lists of rows in the order of their dates, cut into blocks of rows that stand together.
+-- Two lists of rows in the order of their dates, cut into blocks of rows that belong together.
 use Rattle.std.specs.Prelude.{◌≡◌, ◌⊎◌, ℕ, ◌+◌, ◌-◌, ◌<◌, ◌≤◌, List, length, Option, Some, None, slice_get, ℤ, ◌<ℤ◌}
 use Rattle.irs_breaks.specs.Pairing.{ArePaired}
 use Rattle.irs_breaks.specs.declared.blocks.Block.{Block}
@@ -46,7 +46,7 @@ IsDone ours theirs i j r = ((k : ℕ) × (k < i) × At ours k r) ⊎ ((k : ℕ) 
 abbrev pub IsLeft : List DatedRow → List DatedRow → ℕ → ℕ → DatedRow → Type 0
 IsLeft ours theirs i j r = ((k : ℕ) × (i ≤ k) × At ours k r) ⊎ ((k : ℕ) × (j ≤ k) × At theirs k r)
 
--- the rows before these places are earlier than the others, and stand together with none of them
+-- the rows before these places are earlier than the others, and belong together with none of them
 pub record IsEdge (ours theirs : List DatedRow) (i j : ℕ) : Type 0 where
   pub in_ours : i ≤ length ours
   pub in_theirs : j ≤ length theirs
@@ -59,8 +59,9 @@ pub record IsInside (ours theirs : List DatedRow) (i j p q : ℕ) (r : DatedRow)
   pub left : IsLeft ours theirs i j r
   pub done : IsDone ours theirs p q r
 
--- how many pairs a block has whose rows have this date: of a common date as many as the shorter list has rows
--- of it; of a gap all, where it has as many rows of ours as of theirs, and else none
+-- The number of pairs of a block that has this date. A common date has as many pairs as one of the lists has
+-- rows of it. A gap is paired in full where it has as many rows of ours as of theirs, and otherwise not at
+-- all.
 abbrev pub HasPairs : List DatedRow → List DatedRow → ℕ → ℕ → ℕ → ℤ → Type 0
 HasPairs ours theirs n m pairs d =
     (IsCommon ours theirs d × ((pairs ≡ n) ⊎ (pairs ≡ m)))
@@ -86,7 +87,7 @@ pub record IsDateEnd (rows : List DatedRow) (start : ℕ) (d : ℤ) (stop : ℕ)
   pub same : (k : ℕ) (r : DatedRow) → start ≤ k → k < stop → At rows k r → r.day ≡ d
   pub later : (k : ℕ) (r : DatedRow) → stop ≤ k → At rows k r → d <ℤ r.day
 
--- up to the places p and q no row has a date of the other list, and each is before what is left of that
+-- the rows up to the places p and q share no date, and each is earlier than the rest of the other list
 pub record IsGapTo (ours theirs : List DatedRow) (i j p q : ℕ) : Type 0 where
   pub from_ours : i ≤ p
   pub from_theirs : j ≤ q
@@ -96,12 +97,12 @@ pub record IsGapTo (ours theirs : List DatedRow) (i j p q : ℕ) : Type 0 where
   pub ours_before : (k l : ℕ) (x z : DatedRow) → i ≤ k → k < p → q ≤ l → At ours k x → At theirs l z → x.day <ℤ z.day
   pub theirs_before : (k l : ℕ) (x z : DatedRow) → p ≤ k → j ≤ l → l < q → At ours k x → At theirs l z → z.day <ℤ x.day
 
--- both lists go on with one date
+-- the next rows of both lists have the same date
 abbrev pub MeetsBoth : List DatedRow → List DatedRow → ℕ → ℕ → Type 0
 MeetsBoth ours theirs p q =
     (x : DatedRow) × (z : DatedRow) × At ours p x × At theirs q z × (x.day ≡ z.day)
 
--- both lists end, or both go on with one date
+-- both lists end, or their next rows have the same date
 abbrev pub MeetsAt : List DatedRow → List DatedRow → ℕ → ℕ → Type 0
 MeetsAt ours theirs p q =
     ((p ≡ length ours) × (q ≡ length theirs))

@@ -17,7 +17,7 @@ use Rattle.irs_breaks.specs.declared.findings.What.TheVariants as what
 abbrev pub exchange_dates : List Exchange → List (Option ℤ)
 exchange_dates xs = map (λ (x : Exchange). Some x.adjusted) xs
 
--- and of theirs, where they are stated
+-- the dates of the exchanges of theirs, where they are stated
 abbrev pub stated_exchange_dates : List FlowExchange → List (Option ℤ)
 stated_exchange_dates ys = map (λ (y : FlowExchange). y.adjusted) ys
 
@@ -25,38 +25,38 @@ stated_exchange_dates ys = map (λ (y : FlowExchange). y.adjusted) ys
 abbrev pub payment_dates : List PaymentEntry → List (Option ℤ)
 payment_dates xs = map (λ (x : PaymentEntry). Some x.adjusted) xs
 
--- and of theirs, where they are stated
+-- the dates of the payments of theirs, where they are stated
 abbrev pub stated_payment_dates : List FlowPayment → List (Option ℤ)
 stated_payment_dates ys = map (λ (y : FlowPayment). y.adjusted) ys
 
--- the exchanges of a stream that both have, from a day on
+-- the findings of the exchanges of a stream that both have, from a day on
 abbrev pub AreExchangesOf : ℤ → ℕ → Part → FlowPart → Findings → Type 0
 AreExchangesOf from stream p g list =
     AreTold from (exchange_dates p.exchanges) (stated_exchange_dates g.exchanges) (IsExchangeRow stream p g) list
 
--- and its payments
+-- the findings of the payments of a stream that both have, from a day on
 abbrev pub ArePaymentsOf : ℤ → ℕ → Part → FlowPart → Findings → Type 0
 ArePaymentsOf from stream p g list =
     AreTold from (payment_dates p.payments) (stated_payment_dates g.payments) (IsPaymentRow stream p g) list
 
--- a stream of one side alone
+-- the finding of a stream that only one side has
 abbrev pub whole_stream : ℕ → What → Findings
 whole_stream stream w =
     told (break_at (record { stream = stream; kind = row.Stream; day = None; ours = None; theirs = None }) w)
 
--- A stream of ours and one of theirs, each where there is one: the exchanges, then the payments. Of a stream of one side
--- alone nothing below it is told.
+-- A stream of ours and one of theirs, each where there is one: the exchanges, then the payments. For a stream
+-- of one side alone, nothing below it is reported.
 abbrev pub IsStream : ℤ → ℕ → Option Part → Option FlowPart → Findings → Type 0
 IsStream from stream (Some p) (Some g) list = Then (AreExchangesOf from stream p g) (ArePaymentsOf from stream p g) list
 IsStream from stream (Some p) None list = list ≡ whole_stream stream (what.Missing None)
 IsStream from stream None (Some g) list = list ≡ whole_stream stream (what.Extra 0 None)
 IsStream from stream None None list = list ≡ nothing
 
--- the streams at a place; streams are numbered from 1
+-- the findings of the streams at a place; streams are numbered from 1
 abbrev pub StreamAt : ℤ → List Part → List FlowPart → ℕ → Findings → Type 0
 StreamAt from s f place list = IsStream from (place + 1) (slice_get s place) (slice_get f place) list
 
--- the first day that is asked for: the earliest there is, where none is named
+-- the first day to be compared: the earliest possible day where none is named
 abbrev pub first_due : Option ℤ → ℤ
 first_due None = first_day
 first_due (Some d) = d
@@ -65,6 +65,6 @@ first_due (Some d) = d
 abbrev pub IsBreakList : Option ℤ → List Part → List FlowPart → Findings → Type 0
 IsBreakList from s f list = UpTo (StreamAt (first_due from) s f) (max (length s) (length f)) list
 
--- something breaks
+-- there is at least one break
 abbrev pub HasBreak : Findings → Type 0
 HasBreak list = ¬ (list.breaks ≡ [])

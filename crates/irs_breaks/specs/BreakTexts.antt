@@ -25,7 +25,7 @@ use Rattle.irs_breaks.specs.declared.values.Values.TheVariants.{Counts as Days, 
 
 -- ---- names
 
--- a kind of rows
+-- the name of a kind of rows
 abbrev pub kind_name : RowKind → List ℕ
 kind_name row.Stream = codes "stream"
 kind_name row.Exchange = codes "exchange"
@@ -33,7 +33,7 @@ kind_name row.Payment = codes "payment"
 kind_name row.Period = codes "period"
 kind_name row.Reset = codes "reset"
 
--- a field, by its name in FpML
+-- the name of a field in FpML
 abbrev pub field_name : Field → List ℕ
 field_name field.Missing = codes "missing"
 field_name field.Extra = codes "extra"
@@ -57,7 +57,7 @@ field_name field.ResetDate = codes "resetDate"
 field_name field.AdjustedFixingDate = codes "adjustedFixingDate"
 field_name field.ObservedRate = codes "observedRate"
 
--- what breaks
+-- the name of what breaks
 abbrev pub what_name : What → List ℕ
 what_name (what.Missing v) = codes "missing"
 what_name (what.Extra places v) = codes "extra"
@@ -71,7 +71,8 @@ abbrev pub or_dash : {X : Type 0} → (X → List ℕ) → Option X → List ℕ
 or_dash text None = codes "-"
 or_dash text (Some x) = text x
 
--- a number of units of 10^-(places + more) as a decimal: with `places` decimals, and more only as far as its value needs them
+-- a number of units of 10^-(places + more) as a decimal: with `places` decimals, and more only as far as its
+-- value needs them
 abbrev pub shortest : ℕ → ℕ → ℤ → Dec
 shortest zero places units = record { units = units; places = places }
 shortest (suc more) places units =
@@ -95,7 +96,7 @@ abbrev pub places_of : Option Dec → ℕ
 places_of (Some v) = v.places
 places_of None = 0
 
--- the value of ours
+-- the text of our value
 abbrev pub our_value : Values → List ℕ
 our_value (Dates day stated) = day_text day
 our_value (Days count stated) = signed_decimal count
@@ -103,7 +104,7 @@ our_value (Currencies currency stated) = currency.letters
 our_value (Numbers number stated) = dec_or_dash number
 our_value (Fractions frac stated) = signed_decimal frac.num ++ 47 ∷ signed_decimal frac.den
 
--- the value of theirs
+-- the text of their value
 abbrev pub their_value : Values → List ℕ
 their_value (Dates day stated) = or_dash day_text stated
 their_value (Days count stated) = or_dash signed_decimal stated
@@ -111,13 +112,14 @@ their_value (Currencies currency stated) = or_dash (λ (c : Currency). c.letters
 their_value (Numbers number stated) = or_dash (stated_text (places_of number)) stated
 their_value (Fractions frac stated) = or_dash fraction_text stated
 
--- of a row alone its value on its own side, and `-` on the other
+-- the text of our side: `-` where only theirs has the row
 abbrev pub ours_text : What → List ℕ
 ours_text (what.Missing v) = dec_or_dash v
 ours_text (what.Extra places v) = codes "-"
 ours_text (what.Undated places v) = codes "-"
 ours_text (what.Field f) = our_value f.values
 
+-- the text of their side: `-` where only ours has the row
 abbrev pub theirs_text : What → List ℕ
 theirs_text (what.Missing v) = codes "-"
 theirs_text (what.Extra places v) = or_dash (stated_text places) v
@@ -137,7 +139,7 @@ unfoldable pub break_text : Break → List ℕ
 break_text b =
     place_fields b.place ++ 32 ∷ what_name b.what ++ 32 ∷ ours_text b.what ++ 32 ∷ theirs_text b.what ++ codes "\n"
 
--- the first line, with the first day that is asked for
+-- the first line, with the first day to be compared, or `-`
 abbrev pub first_line : Option ℤ → List ℕ
 first_line from = codes "irs-breaks 1" ++ 32 ∷ or_dash day_text from ++ codes "\n"
 

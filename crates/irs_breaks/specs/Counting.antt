@@ -8,18 +8,18 @@ use Rattle.irs_breaks.specs.declared.values.FieldValues.{FieldValues}
 use Rattle.irs_breaks.specs.declared.values.Standing.{Standing}
 use Rattle.irs_breaks.specs.declared.values.Standing.TheVariants.{Compared, Unknown, Unstated}
 
--- one way to be counted is another
+-- whether two ways to be counted are the same
 abbrev pub same_standing : Standing → Standing → Bool
 same_standing Compared Compared = true
 same_standing Unstated Unstated = true
 same_standing Unknown Unknown = true
 same_standing _ _ = false
 
--- how many fields are counted so
+-- how many fields are counted this way
 abbrev pub number_of : Standing → List FieldValues → ℕ
 number_of way fields = count_by (λ f. same_standing (standing_of f.values) way) fields
 
--- the three counts
+-- how many fields are compared, unstated and unknown
 abbrev pub counts_in : List FieldValues → Counts
 counts_in fields = record {
   compared = number_of Compared fields;
@@ -27,7 +27,7 @@ counts_in fields = record {
   unknown = number_of Unknown fields;
 }
 
--- the counts of fields and of others
+-- the sums of two counts
 abbrev pub together : Counts → Counts → Counts
 together a b = record {
   compared = a.compared + b.compared;
@@ -39,14 +39,14 @@ together a b = record {
 abbrev pub IsComparable : FieldValues → Type 0
 IsComparable f = CanBeCompared f.values
 
--- the breaks are just the fields that differ, in order
+-- the breaks are exactly the fields that differ, in order
 abbrev pub AreBreaks : List FieldValues → List FieldValues → Type 0
 AreBreaks [] breaks = breaks ≡ []
 AreBreaks (f ∷ fs) breaks =
     (Differ f.values × ((rest : List FieldValues) × (breaks ≡ f ∷ rest) × AreBreaks fs rest))
     ⊎ ((¬ (Differ f.values)) × AreBreaks fs breaks)
 
--- A field differs just where it is compared and departs, as the audit says it.
+-- a field differs exactly where it is compared and departs in the sense of the audit
 pub record TiesTo (Departs : Field → Type 0) (f : FieldValues) : Type 0 where
   pub compared : Differ f.values → standing_of f.values ≡ Compared
   pub departs : Differ f.values → Departs f.field

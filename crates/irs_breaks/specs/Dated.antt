@@ -3,7 +3,7 @@ use Rattle.std.specs.Prelude.{ℕ, ◌+◌, Bool, ◌&&◌, ◌||◌, nat_lt, �
 use Rattle.std.specs.Ordering.{int_cmp, int_eq, is_le, is_lt}
 use Rattle.irs_breaks.specs.declared.dated.DatedRow.{DatedRow}
 
--- a date isn't before the first day that is asked for
+-- a date isn't before the first day to be compared
 abbrev pub is_due : ℤ → ℤ → Bool
 is_due from d = is_le (int_cmp from d)
 

@@ -29,21 +29,22 @@ abbrev pub rate_of : Option ℤ → Option Dec
 rate_of None = None
 rate_of (Some r) = Some (record { units = r; places = 9 })
 
--- a principal exchange
+-- the fields of a principal exchange
 abbrev pub exchange_fields : Exchange → FlowExchange → List FieldValues
 exchange_fields x y =
     of field.UnadjustedPrincipalExchangeDate (Dates x.unadjusted y.unadjusted)
     ∷ of field.AdjustedPrincipalExchangeDate (Dates x.adjusted y.adjusted)
     ∷ of field.PrincipalExchangeAmount (Numbers (Some x.amount) y.amount) ∷ []
 
--- a payment in the currency of its stream; the number of its calculation periods is none of its fields
+-- the fields of a payment in the currency of its stream; the number of its calculation periods isn't one of
+-- them
 abbrev pub payment_fields : Currency → PaymentEntry → FlowPayment → List FieldValues
 payment_fields currency x y =
     of field.UnadjustedPaymentDate (Dates x.unadjusted y.unadjusted)
     ∷ of field.AdjustedPaymentDate (Dates x.adjusted y.adjusted)
     ∷ of field.Currency (Currencies currency y.currency) ∷ of field.Amount (Numbers x.amount y.amount) ∷ []
 
--- a calculation period
+-- the fields of a calculation period
 abbrev pub period_fields : CalculationPeriod → FlowPeriod → List FieldValues
 period_fields x y =
     of field.UnadjustedStartDate (Dates x.start y.start) ∷ of field.UnadjustedEndDate (Dates x.end y.end)
@@ -58,7 +59,7 @@ abbrev pub reset_or_nothing : Option FlowReset → FlowReset
 reset_or_nothing (Some y) = y
 reset_or_nothing None = record { reset = None; fixing = None; observed = None }
 
--- a reset
+-- the fields of a reset
 abbrev pub reset_fields : Reset → FlowReset → List FieldValues
 reset_fields x y =
     of field.ResetDate (Dates x.reset y.reset) ∷ of field.AdjustedFixingDate (Dates x.fixing y.fixing)

@@ -1,4 +1,4 @@
--- What is found where a schedule is compared with cash flows, and how findings are put in order.
+-- What is found where a schedule is compared with cash flows, and how findings are joined in order.
 use Rattle.std.specs.Prelude.{◌≡◌, ℕ, zero, suc, ◌≤◌, List, [], ◌∷◌, ◌++◌, Option, Some, None, slice_get, IfSome, length}
 use Rattle.irs_breaks.specs.Values.{CanBeCompared}
 use Rattle.irs_breaks.specs.declared.counting.Counts.{Counts}
@@ -15,23 +15,23 @@ pub record Findings : Type 0 where
 abbrev pub nothing : Findings
 nothing = record { breaks = []; pairs = [] }
 
--- some findings, and others behind them
+-- some findings, followed by others
 abbrev pub joined : Findings → Findings → Findings
 joined a b = record { breaks = a.breaks ++ b.breaks; pairs = a.pairs ++ b.pairs }
 
--- one break
+-- a single break
 abbrev pub told : Break → Findings
 told b = record { breaks = b ∷ []; pairs = [] }
 
--- one pair
+-- a single pair
 abbrev pub counted : Counts → Findings
 counted c = record { breaks = []; pairs = c ∷ [] }
 
--- the findings are just these
+-- the findings are exactly these
 abbrev pub Exactly : Findings → Findings → Type 0
 Exactly wanted list = list ≡ wanted
 
--- the findings of one kind, and those of another behind them
+-- the findings of one kind, followed by those of another
 pub record Then (P Q : Findings → Type 0) (list : Findings) : Type 0 where
   pub first : Findings
   pub second : Findings
@@ -39,25 +39,25 @@ pub record Then (P Q : Findings → Type 0) (list : Findings) : Type 0 where
   pub is_second : Q second
   pub is : list ≡ joined first second
 
--- the findings of the places below n, one after the other; Is says what those of a place are
+-- the findings of the places below n, one after the other; Is says which they are at a place
 abbrev pub UpTo : (ℕ → Findings → Type 0) → ℕ → Findings → Type 0
 UpTo Is zero list = list ≡ nothing
 UpTo Is (suc n) list = Then (UpTo Is n) (Is n) list
 
--- what is told of a row, where there is one
+-- the findings of a row, where there is one
 abbrev pub OnRow : {X : Type 0} → (X → Findings → Type 0) → Option X → Findings → Type 0
 OnRow Told None list = list ≡ nothing
 OnRow Told (Some x) list = Told x list
 
--- what is told of the row at a place of a list
+-- the findings of the row at a place of a list
 abbrev pub RowAt : {X : Type 0} → (X → Findings → Type 0) → List X → ℕ → Findings → Type 0
 RowAt Told rows place list = OnRow Told (slice_get rows place) list
 
--- what is told of the rows of a list, one after the other
+-- the findings of the rows of a list, one after the other
 abbrev pub EachRow : {X : Type 0} → (X → Findings → Type 0) → List X → Findings → Type 0
 EachRow Told rows list = UpTo (RowAt Told rows) (length rows) list
 
--- to findings others were added, of which P holds
+-- findings that meet P were added to others
 abbrev pub Adds : (Findings → Type 0) → Findings → Findings → Type 0
 Adds P old new = (more : Findings) × P more × (new ≡ joined old more)
 
@@ -68,5 +68,6 @@ IsPrintableWhat (what.Extra places v) = places ≤ 12
 IsPrintableWhat (what.Undated places v) = places ≤ 12
 IsPrintableWhat (what.Field f) = CanBeCompared f.values
 
+-- a break can be printed: its values have at most twelve decimals
 abbrev pub IsPrintable : Break → Type 0
 IsPrintable b = IsPrintableWhat b.what

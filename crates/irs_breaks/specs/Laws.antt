@@ -10,7 +10,7 @@ pub record HasOnePartner (ours theirs : List DatedRow) : Type 0 where
   pub of_ours : (x y z : DatedRow) → ArePaired ours theirs x y → ArePaired ours theirs x z → y ≡ z
   pub of_theirs : (x z y : DatedRow) → ArePaired ours theirs x y → ArePaired ours theirs z y → x ≡ z
 
--- of two pairs the one with the earlier date of ours hasn't the later date of theirs
+-- two pairs don't cross: the one with our earlier date doesn't have their later date
 abbrev pub DontCross : List DatedRow → List DatedRow → Type 0
 DontCross ours theirs = (x y z w : DatedRow) → ArePaired ours theirs x y → ArePaired ours theirs z w
     → x.day <ℤ z.day → ¬ (w.day <ℤ y.day)

@@ -38,7 +38,7 @@ abbrev pub IsNotBefore : List DatedRow → ℕ → List DatedRow → ℕ → Typ
 IsNotBefore ours p theirs q =
     (p < length ours) × ((x y : DatedRow) → At ours p x → At theirs q y → x.day ≤ℤ y.day)
 
--- and no row of theirs from the place q on comes before the row of ours at the place p
+-- merged so far, and no row of theirs from the place q on has an earlier date than the row of ours at p
 pub record IsMergedBefore (ours theirs : List DatedRow) (p q : ℕ) (rows : List PairedRow) : Type 0 where
   pub merged : IsMergedTo ours theirs p q rows
   pub not_before : (k : ℕ) (x y : DatedRow) → q ≤ k → At ours p x → At theirs k y → x.day ≤ℤ y.day

@@ -7,7 +7,7 @@ use Rattle.irs_breaks.specs.Pairing.{ArePaired}
 use Rattle.irs_breaks.specs.declared.dated.DatedRow.{DatedRow}
 use Rattle.irs_breaks.specs.declared.dated.PairedRow.{PairedRow}
 
--- a row of ours with its partner, by that one's place
+-- a row of ours with the place of its partner
 abbrev pub row_of_ours : DatedRow → Option ℕ → PairedRow
 row_of_ours x partner = record { day = Some x.day; ours = Some x.place; theirs = partner }
 
@@ -19,12 +19,12 @@ row_of_theirs y = record { day = Some y.day; ours = None; theirs = Some y.place 
 abbrev pub undated_ours : ℕ → PairedRow
 undated_ours n = record { day = None; ours = Some n; theirs = None }
 
--- and one of theirs
+-- a row of theirs without a date, at a place
 abbrev pub undated_theirs : ℕ → PairedRow
 undated_theirs n = record { day = None; ours = None; theirs = Some n }
 
--- What is listed of two lists of dates: each pair of rows that are due, each such row that isn't paired, and each
--- row without a date.
+-- What is listed of two lists of dates: each pair of due rows, each unpaired due row, and each row without a
+-- date.
 pub data IsListed (from : ℤ) (ours theirs : List (Option ℤ)) (m : PairedRow) : Type 0 where
   paired : (x y : DatedRow) → ArePaired (rows_from from 0 ours) (rows_from from 0 theirs) x y
       → m ≡ row_of_ours x (Some y.place) → IsListed from ours theirs m
@@ -37,14 +37,14 @@ pub data IsListed (from : ℤ) (ours theirs : List (Option ℤ)) (m : PairedRow)
   undated : (n : ℕ) → At ours n None → m ≡ undated_ours n → IsListed from ours theirs m
   undated_extra : (n : ℕ) → At theirs n None → m ≡ undated_theirs n → IsListed from ours theirs m
 
--- one level of an order of values of which some are absent: those come last
+-- one level of an order of values, some of which are absent: absent values come last
 abbrev pub Ahead : {X : Type 0} → (X → X → Type 0) → Option X → Option X → Type 0 → Type 0
 Ahead Less (Some a) (Some b) next = Less a b ⊎ ((a ≡ b) × next)
 Ahead Less (Some a) None next = Unit {0}
 Ahead Less None (Some b) next = ⊥
 Ahead Less None None next = next
 
--- by the date, then by the place of ours, then by the place of theirs
+-- paired rows are ordered by the date, then by the place of ours, then by the place of theirs
 abbrev pub ComesBefore : PairedRow → PairedRow → Type 0
 ComesBefore m n = Ahead ◌<ℤ◌ m.day n.day (Ahead ◌<◌ m.ours n.ours (Ahead ◌<◌ m.theirs n.theirs ⊥))
 

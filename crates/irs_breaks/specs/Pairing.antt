@@ -27,21 +27,21 @@ abbrev pub are_in_gap : List DatedRow → List DatedRow → ℤ → ℤ → Bool
 are_in_gap ours theirs a b =
     not (is_common ours theirs a) && not (is_common ours theirs b) && not (are_cut ours theirs a b)
 
--- two dates stand together: they are one common date, or they are in one gap
+-- two dates belong together: they are one common date, or they are in one gap
 abbrev pub are_together : List DatedRow → List DatedRow → ℤ → ℤ → Bool
 are_together ours theirs a b =
     if is_common ours theirs a then int_eq a b else are_in_gap ours theirs a b
 
--- how many rows of a list stand together with a date
+-- how many rows of a list belong together with a date
 abbrev pub size_at : (ℤ → ℤ → Bool) → List DatedRow → ℤ → ℕ
 size_at together rows a = count_by (λ r. together a r.day) rows
 
--- how many of them come before a row, by date and then by place
+-- how many of these rows come before a given row, by date and then by place
 abbrev pub rank_at : (ℤ → ℤ → Bool) → List DatedRow → ℤ → DatedRow → ℕ
 rank_at together rows a x = count_by (λ r. together a r.day && row_before r x) rows
 
--- A row of ours is paired with one of theirs. Of a common date the k-th of ours is paired with the k-th of
--- theirs; so are those of a gap, where it holds as many rows of ours as of theirs.
+-- A row of ours is paired with one of theirs. On a common date our k-th row is paired with their k-th row. In
+-- a gap it is too, where the gap holds as many rows of ours as of theirs.
 pub record ArePaired (ours theirs : List DatedRow) (x y : DatedRow) : Type 0 where
   pub one_of_ours : Contains ours x
   pub one_of_theirs : Contains theirs y

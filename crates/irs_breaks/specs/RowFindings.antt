@@ -1,4 +1,4 @@
--- What is told of the rows of a stream: of exchanges, payments, calculation periods and resets.
+-- The findings of the rows of a stream: exchanges, payments, calculation periods and resets.
 use Rattle.std.specs.Prelude.{◌≡◌, ℕ, ◌+◌, ◌-◌, min, Bool, true, false, ◌==◌, if◌then◌else◌, ℤ, List, [], ◌++◌}
 use Rattle.std.specs.Prelude.{length, map, take, drop, sum_by, Option, Some, None, option_map, option_and_then, unwrap_or}
 use Rattle.std.specs.Prelude.{slice_get}
@@ -37,7 +37,7 @@ use Rattle.irs_breaks.specs.declared.values.FieldValues.{FieldValues}
 abbrev pub numbered : Option ℕ → Option ℕ
 numbered place = option_map (λ n. n + 1) place
 
--- the rows of a break, of a stream and a kind
+-- where a break is: the stream, the kind of row, the date and the numbers of the rows
 abbrev pub place_of : ℕ → RowKind → PairedRow → BreakPlace
 place_of stream kind m =
     record { stream = stream; kind = kind; day = m.day; ours = numbered m.ours; theirs = numbered m.theirs }
@@ -51,11 +51,11 @@ abbrev pub alone : Option ℤ → ℕ → Option ℤ → What
 alone (Some day) places value = what.Extra places value
 alone None places value = what.Undated places value
 
--- what is told of a row of theirs alone
+-- the finding of a row that only theirs has
 abbrev pub theirs_alone : BreakPlace → ℕ → Option ℤ → Findings
 theirs_alone place places value = told (break_at place (alone place.day places value))
 
--- and of a row of ours alone
+-- the finding of a row that only ours has
 abbrev pub ours_alone : BreakPlace → Option Dec → Findings
 ours_alone place value = told (break_at place (what.Missing value))
 
@@ -70,7 +70,7 @@ AreFieldBreaks place fields list = (differing : List FieldValues) × AreBreaks f
 
 -- ---- rows
 
--- a row of ours and one of theirs, each where there is one: what is told of both, or of one alone
+-- the findings of a row of ours and one of theirs, or of one alone
 abbrev pub IsRow : {X Y : Type 0} → (X → Y → Findings → Type 0) → (X → Findings) → (Y → Findings)
     → Option X → Option Y → Findings → Type 0
 IsRow Both ours theirs (Some x) (Some y) list = Both x y list
@@ -82,7 +82,7 @@ IsRow Both ours theirs None None list = list ≡ nothing
 abbrev pub member_at : {X : Type 0} → List X → Option ℕ → Option X
 member_at xs place = option_and_then (λ n. slice_get xs n) place
 
--- what is told of two lists of rows with these dates: they are paired, and told of in the order of the pairing
+-- the findings of two lists of rows with these dates, in the order of their pairing
 pub record AreTold (from : ℤ) (ours theirs : List (Option ℤ)) (Told : PairedRow → Findings → Type 0) (list : Findings) : Type 0 where
   pub rows : List PairedRow
   pub paired : IsPairing from ours theirs rows
@@ -95,7 +95,7 @@ abbrev pub AreExchanges : BreakPlace → Exchange → FlowExchange → Findings 
 AreExchanges place x y list =
     Then (Exactly (counted (counts_in (exchange_fields x y)))) (AreFieldBreaks place (exchange_fields x y)) list
 
--- a row of the pairing of exchanges
+-- the findings of a row of the pairing of exchanges
 abbrev pub IsExchangeRow : ℕ → Part → FlowPart → PairedRow → Findings → Type 0
 IsExchangeRow stream p g m list =
     IsRow (AreExchanges (place_of stream row.Exchange m)) (λ x. ours_alone (place_of stream row.Exchange m) (Some x.amount))
@@ -104,17 +104,17 @@ IsExchangeRow stream p g m list =
 
 -- ---- resets
 
--- the reset of a pair of calculation periods: its fields, or a reset that is stated of a fixed stream
+-- the place of a reset: that of its calculation periods
 abbrev pub reset_place : BreakPlace → BreakPlace
 reset_place place = record { stream = place.stream; kind = row.Reset; day = place.day; ours = place.ours; theirs = place.theirs }
 
--- a reset of theirs alone has no number of ours
+-- the break of a reset that only theirs has: it has no number of ours
 abbrev pub extra_reset : BreakPlace → FlowReset → Break
 extra_reset place y =
     break_at (record { stream = place.stream; kind = row.Reset; day = place.day; ours = None; theirs = place.theirs })
     (what.Extra 9 y.observed)
 
--- what is told of a reset
+-- the findings of a reset: its fields, or an extra reset that is stated for a fixed stream
 abbrev pub IsReset : BreakPlace → Option Reset → Option FlowReset → Findings → Type 0
 IsReset place (Some r) stated list = AreFieldBreaks (reset_place place) (reset_fields r (reset_or_nothing stated)) list
 IsReset place None (Some y) list = list ≡ told (extra_reset place y)
@@ -127,14 +127,14 @@ counted_reset None stated = []
 
 -- ---- calculation periods
 
--- a pair of calculation periods, and its reset behind it
+-- the findings of a pair of calculation periods, followed by those of its reset
 abbrev pub ArePeriods : BreakPlace → Option Reset → CalculationPeriod → FlowPeriod → Findings → Type 0
 ArePeriods place reset x y list =
     Then (Exactly (counted (counts_in (period_fields x y ++ counted_reset reset y.reset))))
     (Then (AreFieldBreaks place (period_fields x y)) (IsReset place reset y.reset))
     list
 
--- a row of the pairing of calculation periods, with its places in the stream
+-- the findings of a row of the pairing of calculation periods, with its places in the stream
 abbrev pub IsPeriodRow : ℕ → Part → FlowPart → PairedRow → Findings → Type 0
 IsPeriodRow stream p g m list =
     IsRow (ArePeriods (place_of stream row.Period m) (member_at p.resets m.ours))
@@ -142,7 +142,7 @@ IsPeriodRow stream p g m list =
     (λ y. theirs_alone (place_of stream row.Period m) 4 y.notional)
     (option_and_then (period_at p) m.ours) (member_at g.periods m.theirs) list
 
--- how many periods stand before those of the payment at a place, as far as there are any
+-- how many periods come before those of the payment at a place, at most all of them
 abbrev pub periods_before : FlowPart → ℕ → ℕ
 periods_before g place = min (length g.periods) (sum_by (λ (y : FlowPayment). y.periods) (take place g.payments))
 
@@ -151,11 +151,11 @@ abbrev pub our_starts : Part → PaymentEntry → List (Option ℤ)
 our_starts p x =
     map (λ (d : ℤ). Some d) (take (x.last_period + 1 - x.first_period) (drop (x.first_period - 1) p.adjusted))
 
--- and those of a payment of theirs, behind so many periods
+-- the stated adjusted starts of the periods of a payment of theirs, after `before` periods
 abbrev pub their_starts : FlowPart → ℕ → FlowPayment → List (Option ℤ)
 their_starts g before y = map (λ (z : FlowPeriod). z.adjusted_start) (take y.periods (drop before g.periods))
 
--- a row with its places in longer lists, which begin so many rows earlier
+-- a row with its places in longer lists, which begin `ours` and `theirs` rows earlier
 abbrev pub moved : ℕ → ℕ → PairedRow → PairedRow
 moved ours theirs m = record {
   day = m.day;
@@ -163,7 +163,7 @@ moved ours theirs m = record {
   theirs = option_map (λ n. theirs + n) m.theirs;
 }
 
--- the periods of a pair of payments; so many periods stand before those of theirs
+-- the findings of the periods of a pair of payments; `before` periods come before those of theirs
 abbrev pub ArePeriodsOf : ℕ → Part → FlowPart → PaymentEntry → ℕ → FlowPayment → Findings → Type 0
 ArePeriodsOf stream p g x before y list =
     AreTold first_day (our_starts p x) (their_starts g before y)
@@ -175,12 +175,12 @@ ArePeriodsOf stream p g x before y list =
 abbrev pub payment_counts : Bool → Counts → Counts
 payment_counts bare c = record { compared = c.compared; unstated = c.unstated + (if bare then 1 else 0); unknown = c.unknown }
 
--- the periods of a pair of payments, where the payment of theirs has any
+-- the findings of the periods of a pair of payments: none where the payment of theirs has no periods
 abbrev pub UnlessBare : Bool → (Findings → Type 0) → Findings → Type 0
 UnlessBare true Told list = list ≡ nothing
 UnlessBare false Told list = Told list
 
--- a pair of payments, and its calculation periods behind it
+-- the findings of a pair of payments, followed by those of its calculation periods
 abbrev pub ArePayments : BreakPlace → Part → FlowPart → ℕ → PaymentEntry → FlowPayment → Findings → Type 0
 ArePayments place p g before x y list =
     Then (Exactly (counted (payment_counts (y.periods == 0) (counts_in (payment_fields p.currency x y)))))
@@ -188,7 +188,7 @@ ArePayments place p g before x y list =
     (UnlessBare (y.periods == 0) (ArePeriodsOf place.stream p g x before y)))
     list
 
--- a row of the pairing of payments
+-- the findings of a row of the pairing of payments
 abbrev pub IsPaymentRow : ℕ → Part → FlowPart → PairedRow → Findings → Type 0
 IsPaymentRow stream p g m list =
     IsRow (ArePayments (place_of stream row.Payment m) p g (periods_before g (unwrap_or m.theirs 0))) (λ x. ours_alone (place_of stream row.Payment m) x.amount)

@@ -7,12 +7,12 @@ use Rattle.irs_breaks.specs.declared.values.Standing.TheVariants.{Compared, Unkn
 use Rattle.irs_breaks.specs.declared.values.Values.{Values}
 use Rattle.irs_breaks.specs.declared.values.Values.TheVariants.{Counts, Currencies, Dates, Fractions, Numbers}
 
--- what the schedule knows is compared where it is stated
+-- a value that the schedule knows is compared where it is stated
 abbrev pub stands_by : {X : Type 0} → Option X → Standing
 stands_by (Some x) = Compared
 stands_by None = Unstated
 
--- what it doesn't know is unknown, whether or not it is stated
+-- a value that the schedule doesn't know is unknown, whether or not it is stated
 abbrev pub standing_of : Values → Standing
 standing_of (Dates day stated) = stands_by stated
 standing_of (Counts count stated) = stands_by stated

@@ -1,4 +1,4 @@
-//! Two lists of rows in the order of their dates, walked block by block: a block holds the rows of one common
+//! Two lists of rows in the order of their dates, walked block by block. A block holds the rows of one common
 //! date, or those of a gap between common dates.
 ghost use Rattle.std.specs.Prelude.{◌≡◌, ◌<◌, ◌≤◌, ◌+◌, IsFalse, IsTrue, length};
 ghost use Rattle.irs_breaks.specs.Blocks.{AreRising, At, IsBlock, IsDateEnd, IsEdge, IsGapTo, MeetsAt, MeetsBoth};
@@ -55,7 +55,7 @@ fn gap_end(ours: &[DatedRow], theirs: &[DatedRow], i: usize, j: usize) -> (usize
     }
 }
 
-// Whether both lists go on with one date.
+// Whether the next rows of both lists have the same date.
 fn meet(ours: &[DatedRow], theirs: &[DatedRow], i: usize, j: usize) -> bool
     ensures meet { IsTrue result → MeetsBoth ours.now theirs.now i j }
     ensures apart { IsFalse result → (x z : DatedRow) → At ours.now i x → At theirs.now j z → ¬ (x.day ≡ z.day) }

@@ -37,7 +37,7 @@ pub fn counts_of(fields: &[FieldValues]) -> Counts
     }
 }
 
-/// How fields are counted together with others.
+/// The sums of two counts.
 pub(crate) fn both(a: Counts, b: Counts) -> Counts
     requires compared { a.compared + b.compared < 2 ^ 32 }
     requires unstated { a.unstated + b.unstated < 2 ^ 32 }

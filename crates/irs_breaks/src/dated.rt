@@ -27,7 +27,7 @@ pub struct PairedRow {
     pub theirs: Option<usize>,
 }
 
-// The row with a date, where it has one that isn't before the first day that is asked for.
+// The row with its date, where it has one that isn't before `from`.
 fn dated_row(from: Day, date: Option<Day>, place: usize) -> Option<DatedRow>
     ensures { result ≡ dated_row from date place }
 {
@@ -50,7 +50,7 @@ fn rows_of(alloc: Global, from: Day, dates: &[Option<Day>]) -> Result<Vec<DatedR
     Ok(rows)
 }
 
-/// The rows that have a date and are due, in the order of their dates, and of one date in that of their places.
+/// The rows that have a date and are due, by date, and by place within one date.
 pub(crate) fn rows_in_order(
     alloc: Global,
     from: Day,

@@ -1,4 +1,4 @@
-//! What is told of the principal exchanges of a stream.
+//! The findings of the principal exchanges of a stream.
 ghost use Rattle.std.specs.Prelude.{◌≡◌, ◌≤◌, IfOk, OnOk, length};
 ghost use Rattle.irs_base.specs.Members.{Every};
 ghost use Rattle.irs_breaks.specs.BreakLists.{AreExchangesOf, exchange_dates, stated_exchange_dates};
@@ -18,7 +18,7 @@ use irs_schedule::StreamPart;
 use irs_terms::Exchange;
 use std::alloc::Global;
 
-// A pair of exchanges.
+// Appends the findings of a pair of exchanges.
 fn push_exchange_pair(
     list: &mut BreakList,
     place: &BreakPlace,
@@ -34,7 +34,7 @@ fn push_exchange_pair(
     Ok(())
 }
 
-// What is told of a row of the pairing of exchanges.
+// Appends the findings of a row of the pairing of exchanges.
 fn push_exchange(
     list: &mut BreakList,
     stream: usize,
@@ -57,7 +57,7 @@ fn push_exchange(
     }
 }
 
-// What is told of the rows of the pairing of exchanges.
+// Appends the findings of the rows of the pairing of exchanges.
 fn push_exchange_rows(
     list: &mut BreakList,
     stream: usize,
@@ -74,7 +74,7 @@ fn push_exchange_rows(
     Ok(())
 }
 
-/// The principal exchanges of a stream that both have.
+/// Appends the findings of the principal exchanges of a stream that both have.
 pub(crate) fn push_exchanges(
     alloc: Global,
     list: &mut BreakList,

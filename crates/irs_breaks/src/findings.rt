@@ -28,8 +28,9 @@ pub struct BreakPlace {
     pub theirs: Option<usize>,
 }
 
-/// What breaks. A value is the amount of an exchange or a payment, the notional of a calculation period or the
-/// observed rate of a reset; a stated one is in units of 10^-12, with the decimals that are written at least.
+/// What breaks. A value is the amount of an exchange or a payment, the notional of a calculation period or
+/// the observed rate of a reset. A stated value is in units of 10^-12, with the least number of decimals to
+/// write.
 #[derive(Clone, Copy)]
 pub enum What {
     /// The schedule has the row and the cash flows lack it; its value, where it is known.

@@ -17,7 +17,7 @@ pub fn one_partner()
     ensures { (ours theirs : List DatedRow) → HasOnePartner ours theirs }
 {}
 
-/// Of two pairs the one with the earlier date of ours hasn't the later date of theirs.
+/// Two pairs don't cross: the one with our earlier date doesn't have their later date.
 pub fn no_crossing()
     ensures { (ours theirs : List DatedRow) → DontCross ours theirs }
 {}
@@ -39,13 +39,14 @@ pub fn one_list()
         → IsBreakList from s f m → l ≡ m }
 {}
 
-/// Where the cash flows agree with a schedule, so that `audit` says yes, nothing breaks, from whatever day on.
+/// Where the cash flows agree with a schedule, so that `audit` says yes, nothing breaks, whichever the first
+/// day.
 pub fn agreed_is_unbroken()
     ensures { (from : Option ℤ) (s : List Part) (f : List FlowPart) (l : Findings) → IsWithin s → Agrees f s
         → IsBreakList from s f l → ¬ (HasBreak l) }
 {}
 
-/// For the cash flows that state a schedule nothing breaks and nothing is unstated, from whatever day on.
+/// For the cash flows that state a schedule nothing breaks and nothing is unstated, whichever the first day.
 pub fn stated_is_unbroken()
     ensures unbroken { (from : Option ℤ) (s : List Part) (l : Findings) → IsWithin s → IsBreakList from s (stated_flows s) l
         → ¬ (HasBreak l) }

@@ -1,5 +1,5 @@
-//! Every difference between the cash flows of two parties: the rows of a schedule and of another party's cash
-//! flows, paired by their dates, the list of what differs, and its text.
+//! Every difference between the cash flows of two parties. The rows of a schedule and of another party's cash
+//! flows are paired by their dates; what differs is listed and written as text.
 #![tactic(auto)]
 
 mod blocks;

@@ -1,8 +1,8 @@
 //! The pairing of two lists of rows by their dates.
 //!
-//! Of a date that both lists have, the k-th row of ours is paired with the k-th of theirs. These common dates
-//! cut the other dates into gaps; where a gap holds as many rows of ours as of theirs, they are paired in
-//! order. It is this project's own rule.
+//! On a date that both lists have, our k-th row is paired with their k-th row. These common dates cut the
+//! other dates into gaps. Where a gap holds as many rows of ours as of theirs, they are paired in order. The
+//! standard has no such pairing; it is our rule.
 ghost use Rattle.std.specs.Prelude.{◌≡◌, ◌<◌, ◌≤◌, ℕ, ℤ, IfOk, IsFalse, IsTrue, OnOk, Option, is_none, length, take};
 ghost use Rattle.irs_base.specs.Members.{Every, Pairs};
 ghost use Rattle.irs_breaks.specs.Blocks.{AreRising, At, IsBlock, IsEdge, IsPartner};
@@ -106,8 +106,8 @@ fn comes_first(ours: &[DatedRow], p: usize, theirs: &[DatedRow], q: usize) -> bo
     p == ours.len() || theirs[q].day < ours[p].day
 }
 
-// The rows of theirs from the place q on that come before the row of ours at the place p and have no partner; the
-// place of the first row of theirs after them.
+// Appends the rows of theirs from the place q on that come before the row of ours at the place p and have no
+// partner. The result is the place of the first row of theirs after them.
 fn push_before(
     rows: &mut Vec<PairedRow>,
     ours: &[DatedRow],
@@ -219,9 +219,9 @@ fn push_undated_extras(rows: &mut Vec<PairedRow>, theirs: &[Option<Day>]) -> Res
     Ok(())
 }
 
-/// The rows of two lists, by their dates: each pair, and each row that has no partner, in the order of the
-/// date of ours, else of theirs; then of the place of ours, and then of theirs. What is absent comes last.
-/// Only the rows whose date isn't before `from` take part, and those without a date; the earliest day asks for all.
+/// The rows of two lists, by their dates: each pair, and each row that has no partner. They are ordered by
+/// our date, or theirs where ours is absent, then by our place, then by theirs. What is absent comes last.
+/// Only rows whose date isn't before `from`, and rows without a date, take part; the earliest day takes all.
 /// `Memory` comes only where memory ran out.
 pub fn pair_rows(
     alloc: Global,

@@ -1,4 +1,4 @@
-//! What is told of the payments of a stream.
+//! The findings of the payments of a stream.
 ghost use Rattle.std.specs.Prelude.{◌≡◌, ◌+◌, ◌<◌, ◌≤◌, min, IfSome, IfOk, OnOk, length, unwrap_or};
 ghost use Rattle.irs_base.specs.Members.{Every};
 ghost use Rattle.irs_breaks.specs.BreakLists.{ArePaymentsOf, payment_dates, stated_payment_dates};
@@ -37,7 +37,7 @@ fn payment_counts(fields: &[FieldValues], bare: bool) -> Counts
     }
 }
 
-// A pair of payments; the calculation periods of the payment of theirs begin at a place.
+// Appends the findings of a pair of payments. The periods of their payment begin at place `start`.
 fn push_payment_pair(
     alloc: Global,
     list: &mut BreakList,
@@ -66,7 +66,8 @@ fn push_payment_pair(
     }
 }
 
-// How many periods stand before those of the payment at a place, by the places at which those of each payment begin.
+// How many periods come before those of the payment at a place, by the places at which those of each payment
+// begin.
 fn start_at(starts: &[usize], place: Option<usize>) -> usize
     ensures { result ≡ unwrap_or (member_at starts.now place) 0 }
 {
@@ -76,8 +77,8 @@ fn start_at(starts: &[usize], place: Option<usize>) -> usize
     }
 }
 
-// What is told of a row of the pairing of payments; `starts` are the places at which the calculation periods of each
-// payment of theirs begin.
+// Appends the findings of a row of the pairing of payments. `starts` are the places at which the calculation
+// periods of each payment of theirs begin.
 fn push_payment(
     alloc: Global,
     list: &mut BreakList,
@@ -128,7 +129,7 @@ fn first_places(alloc: Global, flow: &FlowStream) -> Result<Vec<usize>, Memory>
     Ok(starts)
 }
 
-// The place behind so many periods, as far as there are any.
+// The place after this number of periods, at most the last one.
 fn next_place(place: usize, periods: u32, count: usize) -> usize
     requires { place ≤ count }
     ensures { result ≡ min count (place + periods) }
@@ -141,7 +142,7 @@ fn next_place(place: usize, periods: u32, count: usize) -> usize
     }
 }
 
-// What is told of the rows of the pairing of payments.
+// Appends the findings of the rows of the pairing of payments.
 fn push_payment_rows(
     alloc: Global,
     list: &mut BreakList,
@@ -160,7 +161,7 @@ fn push_payment_rows(
     Ok(())
 }
 
-/// The payments of a stream that both have.
+/// Appends the findings of the payments of a stream that both have.
 pub(crate) fn push_payments(
     alloc: Global,
     list: &mut BreakList,

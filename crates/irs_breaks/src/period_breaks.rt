@@ -1,4 +1,4 @@
-//! What is told of the calculation periods of a pair of payments, and of their resets.
+//! The findings of the calculation periods of a pair of payments, and of their resets.
 ghost use Rattle.std.specs.Prelude.{◌≡◌, ◌+◌, ◌<◌, ◌≤◌, ◌++◌, IfSome, IfOk, OnOk, length, map, option_copied};
 ghost use Rattle.std.specs.Prelude.{option_and_then, option_map, take};
 ghost use Rattle.irs_audit.specs.Comparisons.{IsSmall};
@@ -25,7 +25,7 @@ use irs_schedule::{CalculationPeriod, PaymentEntry, StreamPart};
 use irs_terms::Reset;
 use std::alloc::Global;
 
-// A reset that is stated of a fixed stream.
+// Appends the break of a reset that is stated for a fixed stream.
 fn push_extra_reset(
     list: &mut BreakList,
     place: &BreakPlace,
@@ -56,7 +56,7 @@ fn reset_place(place: &BreakPlace) -> BreakPlace
     }
 }
 
-// The reset of a pair of calculation periods.
+// Appends the findings of the reset of a pair of calculation periods.
 fn push_reset(
     list: &mut BreakList,
     place: &BreakPlace,
@@ -83,7 +83,7 @@ fn period_counts(fields: &[FieldValues], reset: Option<&Reset>, stated: Option<F
     }
 }
 
-// A pair of calculation periods.
+// Appends the findings of a pair of calculation periods.
 fn push_period_pair(
     list: &mut BreakList,
     place: &BreakPlace,
@@ -119,7 +119,7 @@ fn notional_of(x: &CalculationPeriod) -> Dec
     notional(x.notional)
 }
 
-// What is told of a row of the pairing of calculation periods, with its places in the stream.
+// Appends the findings of a row of the pairing of calculation periods, with its places in the stream.
 fn push_period(
     list: &mut BreakList,
     stream: usize,
@@ -143,7 +143,7 @@ fn push_period(
     }
 }
 
-// A place in a longer list, which begins so many rows earlier and has so many rows.
+// A place in a longer list of `count` rows, which begins `before` rows earlier.
 fn moved_place(before: usize, count: usize, place: Option<usize>) -> Option<usize>
     requires { IfSome (option_map (λ n. before + n) place) (λ n. n < count) }
     ensures { result ≡ option_map (λ n. before + n) place }
@@ -154,7 +154,7 @@ fn moved_place(before: usize, count: usize, place: Option<usize>) -> Option<usiz
     }
 }
 
-// A row with its places in longer lists, which have so many rows.
+// A row with its places in longer lists of `counts` rows, which begin `before` rows earlier.
 fn moved(before: (usize, usize), counts: (usize, usize), row: &PairedRow) -> PairedRow
     requires { IsPlaced counts.0 counts.1 (moved before.0 before.1 row.now) }
     ensures { result ≡ moved before.0 before.1 row.now }
@@ -166,7 +166,7 @@ fn moved(before: (usize, usize), counts: (usize, usize), row: &PairedRow) -> Pai
     }
 }
 
-// What is told of the rows of the pairing of the periods of a payment.
+// Appends the findings of the rows of the pairing of the periods of a payment.
 fn push_period_rows(
     list: &mut BreakList,
     stream: usize,
@@ -204,7 +204,7 @@ fn our_starts(
     Ok(dates)
 }
 
-// Those of the first of these periods of theirs.
+// The stated adjusted starts of the first of these periods of theirs.
 fn their_starts(
     alloc: Global,
     periods: &[FlowPeriod],
@@ -220,7 +220,7 @@ fn their_starts(
     Ok(dates)
 }
 
-/// The calculation periods of a pair of payments; those of the payment of theirs begin at a place.
+/// Appends the findings of the calculation periods of a pair of payments. Theirs begin at a place.
 pub(crate) fn push_periods(
     alloc: Global,
     list: &mut BreakList,

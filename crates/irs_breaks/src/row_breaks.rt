@@ -1,4 +1,4 @@
-//! What is told of a row of the pairing, whatever its kind.
+//! The findings of a row of the pairing, whatever its kind.
 ghost use Rattle.std.specs.Prelude.{◌≡◌, ◌+◌, ◌<◌, ◌≤◌, IfSome, OnOk, option_copied};
 ghost use Rattle.irs_base.specs.Members.{Every};
 ghost use Rattle.irs_breaks.specs.Counting.{IsComparable};
@@ -12,7 +12,7 @@ use crate::values::{FieldValues, differ};
 use irs_audit::RowKind;
 use irs_base::{Day, Dec, Memory};
 
-// The number, from 1, of a row of a list of so many.
+// The number, from 1, of a row of a list of `count` rows.
 fn numbered(place: Option<usize>, count: usize) -> Option<usize>
     requires { IfSome place (λ n. n < count) }
     ensures { result ≡ numbered place }
@@ -23,7 +23,7 @@ fn numbered(place: Option<usize>, count: usize) -> Option<usize>
     }
 }
 
-/// The rows of a break, of lists of so many rows of ours and of theirs.
+/// The rows of a break. The lists have `ours` and `theirs` rows.
 pub(crate) fn place_of(
     stream: usize,
     kind: RowKind,
@@ -43,7 +43,7 @@ pub(crate) fn place_of(
     }
 }
 
-/// A row of ours alone.
+/// Appends the finding of a row that only ours has.
 pub(crate) fn push_ours(
     list: &mut BreakList,
     place: &BreakPlace,
@@ -65,7 +65,7 @@ fn alone(day: &Option<Day>, places: u8, value: Option<i128>) -> What
     }
 }
 
-/// A row of theirs alone.
+/// Appends the finding of a row that only theirs has.
 pub(crate) fn push_theirs(
     list: &mut BreakList,
     place: &BreakPlace,
@@ -78,7 +78,7 @@ pub(crate) fn push_theirs(
     list.push_break(place, &alone(&place.day, places, value))
 }
 
-/// The fields that differ.
+/// Appends the fields that differ.
 pub(crate) fn push_fields(
     list: &mut BreakList,
     place: &BreakPlace,

@@ -1,8 +1,8 @@
 //! The list of the breaks between a schedule and cash flows.
 //!
-//! Streams come in order. In each come its exchanges, then its payments; a pair of payments is followed by its
-//! calculation periods, and a pair of periods by its reset. Within a kind the rows come in the order of the pairing.
-//! It is this project's own rule.
+//! Streams come in order. In each stream the exchanges come first, then the payments. A pair of payments is
+//! followed by its calculation periods, and a pair of periods by its reset. Within a kind the rows come in
+//! the order of the pairing. The standard has no such list; its order is our rule.
 ghost use Rattle.std.specs.Prelude.{◌≡◌, max, IfOk, OnOk, length, option_copied};
 ghost use Rattle.irs_breaks.specs.BreakLists.{IsBreakList, IsStream, StreamAt, first_due, whole_stream};
 ghost use Rattle.irs_breaks.specs.Findings.{Adds, Findings, IsPrintableWhat, UpTo, joined};
@@ -15,7 +15,7 @@ use irs_base::{Day, Memory};
 use irs_schedule::{Schedule, StreamPart};
 use std::alloc::Global;
 
-// A stream of one side alone.
+// Appends the finding of a stream that only one side has.
 fn push_stream(list: &mut BreakList, stream: usize, what: What) -> Result<(), Memory>
     requires { IsPrintableWhat what }
     ensures { OnOk result (list.new ≡ joined list.old (whole_stream stream what)) }
@@ -30,7 +30,7 @@ fn push_stream(list: &mut BreakList, stream: usize, what: What) -> Result<(), Me
     list.push_break(&place, &what)
 }
 
-// A stream of ours and one of theirs, each where there is one.
+// Appends the findings of a stream of ours and one of theirs, each where there is one.
 fn push_both(
     alloc: Global,
     list: &mut BreakList,
@@ -52,7 +52,7 @@ fn push_both(
     }
 }
 
-// The first day that is asked for.
+// The first day to be compared: the earliest possible day where none is named.
 fn first_due(from: &Option<Day>) -> Day
     ensures { result ≡ first_due from.now }
 {
@@ -62,7 +62,7 @@ fn first_due(from: &Option<Day>) -> Day
     }
 }
 
-// The streams, in order.
+// Appends the findings of the streams, in order.
 fn push_streams(
     alloc: Global,
     list: &mut BreakList,

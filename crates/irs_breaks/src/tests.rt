@@ -40,7 +40,7 @@ fn rows(alloc: Global, from: u8, ours: &[u8], theirs: &[u8]) -> Result<Vec<Paire
     pair_rows(alloc, first, &x, &y)
 }
 
-// Whether the rows are listed so: each is the number of ours and that of theirs, 0 where there is none.
+// Whether the rows are listed like this: each is our number and theirs, 0 where there is none.
 fn listed(alloc: Global, from: u8, ours: &[u8], theirs: &[u8], wanted: &[(usize, usize)]) -> bool {
     match rows(alloc, from, ours, theirs) {
         Ok(rows) => {
@@ -60,7 +60,7 @@ fn equal_dates_are_paired(rt: HostRuntime) {
     assert!(rt; listed(alloc, 0, &[15, 31], &[15, 31], &[(1, 1), (2, 2)]));
     // The order of the rows is no difference.
     assert!(rt; listed(alloc, 0, &[15, 31], &[31, 15], &[(1, 2), (2, 1)]));
-    // Of one date each side is in the order of its numbers, and the last of the longer side is alone.
+    // On one date each side is in the order of its numbers, and the last row of the longer side is alone.
     assert!(rt;
         listed(
             alloc,
@@ -97,7 +97,7 @@ fn moved_dates_are_paired(rt: HostRuntime) {
             &[(0, 1), (1, 0), (0, 2), (2, 3), (3, 4)]
         )
     );
-    // Of no common date all rows are in one gap.
+    // Without a common date all rows are in one gap.
     assert!(rt; listed(alloc, 0, &[1, 2, 3], &[9, 8, 7], &[(1, 3), (2, 2), (3, 1)]));
     assert!(rt;
         listed(

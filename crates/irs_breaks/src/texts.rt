@@ -1,8 +1,10 @@
-//! The text of the breaks: a line each, and a last line with the counts. The format is this project's own.
+//! The text of the breaks: a line each, and a last line with the counts. The standard has no format for
+//! breaks, so this one is our rule.
 //!
-//! `b STREAM KIND DATE N M WHAT OURS THEIRS`: what is absent is `-`. A value of ours is written as in the text of a
-//! schedule. One of theirs is written likewise: an amount, a notional or a rate with as many decimals as ours, and more
-//! only as far as its value needs them, and a day count fraction with its own decimals.
+//! `b STREAM KIND DATE N M WHAT OURS THEIRS`: what is absent is `-`. A value of ours is written as in the
+//! text of a schedule, and a value of theirs likewise. An amount, a notional or a rate of theirs has as many
+//! decimals as ours, and more only as far as its value needs them. A day count fraction of theirs has its own
+//! decimals.
 ghost use Rattle.std.specs.Prelude.{◌≡◌, ◌+◌, ◌<◌, ◌≤◌, ◌^◌, [], ◌∷◌, ◌++◌, length, sum_by, codes, decimal, min, pos, IfOk, OnOk};
 ghost use Rattle.std.specs.Fmt.{signed_decimal};
 ghost use Rattle.std.specs.Int.{int_div_euclid, int_rem_euclid};
@@ -85,7 +87,7 @@ fn what_name(what: &What) -> &'static str
 
 // ---- values
 
-// Puts a space and a day, or a space and `-` where there is none.
+// Appends a space and a day, or a space and `-` where there is none.
 fn put_day(line: &mut Line, day: &Option<Day>)
     requires { length line.old + 82 < 512 }
     ensures text { line.new ≡ line.old ++ 32 ∷ or_dash day_text day.now }
@@ -97,7 +99,7 @@ fn put_day(line: &mut Line, day: &Option<Day>)
     }
 }
 
-// Puts a space and a number of days, or a space and `-` where there is none.
+// Appends a space and a number of days, or a space and `-` where there is none.
 fn put_count(line: &mut Line, count: Option<i64>)
     requires { length line.old + 82 < 512 }
     ensures text { line.new ≡ line.old ++ 32 ∷ or_dash signed_decimal count }
@@ -109,7 +111,7 @@ fn put_count(line: &mut Line, count: Option<i64>)
     }
 }
 
-// Puts a space and a currency, or a space and `-` where there is none.
+// Appends a space and a currency, or a space and `-` where there is none.
 fn put_currency(line: &mut Line, currency: Option<Currency>)
     requires { length line.old + 82 < 512 }
     ensures text { line.new ≡ line.old ++ 32 ∷ or_dash (λ (c : Currency). c.letters) currency }
@@ -151,7 +153,7 @@ fn shortest(more: u8, places: u8, units: i128) -> Dec
     }
 }
 
-// Puts a space and a stated number in units of 10^-12, or a space and `-` where there is none.
+// Appends a space and a stated number in units of 10^-12, or a space and `-` where there is none.
 fn put_stated(line: &mut Line, places: u8, stated: Option<i128>)
     requires places { places ≤ 12 }
     requires room { length line.old + 82 < 512 }
@@ -164,7 +166,7 @@ fn put_stated(line: &mut Line, places: u8, stated: Option<i128>)
     }
 }
 
-// Puts a space and a stated fraction, or a space and `-` where there is none.
+// Appends a space and a stated fraction, or a space and `-` where there is none.
 fn put_fraction(line: &mut Line, stated: Option<StatedFraction>)
     requires { length line.old + 82 < 512 }
     ensures text { line.new ≡ line.old ++ 32 ∷ or_dash fraction_text stated }
@@ -189,7 +191,7 @@ fn places_of(number: Option<Dec>) -> u8
     }
 }
 
-// Puts a space and the value of ours.
+// Appends a space and our value.
 fn put_our_value(line: &mut Line, values: &Values)
     requires values { CanBeCompared values.now }
     requires room { length line.old + 82 < 512 }
@@ -205,7 +207,7 @@ fn put_our_value(line: &mut Line, values: &Values)
     }
 }
 
-// Puts a space and the value of theirs.
+// Appends a space and their value.
 fn put_their_value(line: &mut Line, values: &Values)
     requires values { CanBeCompared values.now }
     requires room { length line.old + 82 < 512 }
@@ -221,7 +223,7 @@ fn put_their_value(line: &mut Line, values: &Values)
     }
 }
 
-// Puts a space and what stands on the side of ours.
+// Appends a space and the text of our side.
 fn put_ours(line: &mut Line, what: &What)
     requires what { IsPrintableWhat what.now }
     requires room { length line.old + 82 < 512 }
@@ -236,7 +238,7 @@ fn put_ours(line: &mut Line, what: &What)
     }
 }
 
-// Puts a space and what stands on the side of theirs.
+// Appends a space and the text of their side.
 fn put_theirs(line: &mut Line, what: &What)
     requires what { IsPrintableWhat what.now }
     requires room { length line.old + 82 < 512 }
@@ -253,7 +255,7 @@ fn put_theirs(line: &mut Line, what: &What)
 
 // ---- lines
 
-// Puts a space and the number of a row, or a space and `-` where there is none.
+// Appends a space and the number of a row, or a space and `-` where there is none.
 fn put_number(line: &mut Line, number: Option<usize>)
     requires { length line.old + 82 < 512 }
     ensures text { line.new ≡ line.old ++ 32 ∷ or_dash decimal number }
@@ -265,7 +267,7 @@ fn put_number(line: &mut Line, number: Option<usize>)
     }
 }
 
-// Puts what a line begins with into an empty line.
+// Writes the start of a line into an empty line: where the break is.
 fn put_place(line: &mut Line, place: &BreakPlace)
     requires { line.old ≡ [] }
     ensures text { line.new ≡ place_fields place.now }
@@ -294,7 +296,7 @@ fn break_text(found: &Break, line: &mut Line)
     line.push(b"\n");
 }
 
-// The lines of the breaks.
+// Appends the lines of the breaks.
 fn push_lines(text: &mut Vec<u8>, breaks: &[Break]) -> Result<(), Memory>
     requires { Every IsPrintable breaks.now }
     ensures { OnOk result (text.new.items ≡ text.old.items ++ flat_map break_text breaks.now) }
@@ -330,7 +332,7 @@ fn compared(pairs: &[Counts]) -> u128
     sum
 }
 
-// How many are unstated.
+// How many fields of all pairs are unstated.
 fn unstated(pairs: &[Counts]) -> u128
     ensures value { result ≡ sum_by (λ (c : Counts). c.unstated) pairs.now }
     ensures small { result < 2 ^ 127 }
@@ -342,7 +344,7 @@ fn unstated(pairs: &[Counts]) -> u128
     sum
 }
 
-// How many are unknown.
+// How many fields of all pairs are unknown.
 fn unknown(pairs: &[Counts]) -> u128
     ensures value { result ≡ sum_by (λ (c : Counts). c.unknown) pairs.now }
     ensures small { result < 2 ^ 127 }
@@ -354,7 +356,7 @@ fn unknown(pairs: &[Counts]) -> u128
     sum
 }
 
-// Puts a space and a count.
+// Appends a space and a count.
 fn put_total(line: &mut Line, n: u128)
     requires small { n < 2 ^ 127 }
     requires room { length line.old + 41 ≤ 512 }

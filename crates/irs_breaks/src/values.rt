@@ -70,7 +70,7 @@ pub fn standing_of(values: Values) -> Standing
     }
 }
 
-/// Whether a value that the schedule knows is stated otherwise.
+/// Whether a value that the schedule knows is stated as another one.
 pub fn differ(values: &Values) -> bool
     requires { CanBeCompared values.now }
     ensures { IsTrue result ↔ Differ values.now }

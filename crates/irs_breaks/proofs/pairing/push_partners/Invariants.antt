@@ -3,5 +3,6 @@ use Rattle.irs_base.specs.Members.{Pairs}
 use Rattle.irs_breaks.specs.Blocks.{IsPartner}
 use Rattle.irs_breaks.proofs.pairing.push_partners.Given as goal
 
+-- the partners of our rows before place k
 abbrev pub invariant-loop-k : goal.invariant-loop-k
 invariant-loop-k l = Pairs (IsPartner l.ours l.theirs) (take l.k l.ours) l.partners.items

@@ -2,6 +2,7 @@ use Rattle.irs_breaks.specs.Findings.{Adds, RowAt, UpTo}
 use Rattle.irs_breaks.specs.RowFindings.{IsPaymentRow}
 use Rattle.irs_breaks.proofs.payment_breaks.push_payment_rows.Given as goal
 
+-- the findings of the rows so far have been added
 abbrev pub invariant-loop-row : goal.invariant-loop-row
 invariant-loop-row l =
     Adds (UpTo (RowAt (IsPaymentRow l.stream l.part l.flow) l.rows) l.row-index) l.initial.list l.list
