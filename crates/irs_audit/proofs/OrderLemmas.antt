@@ -94,8 +94,8 @@ departure_ties d e p q =
 pub not_lower : (f g : Field) → field_place f ≤ field_place g → field_before g f ≡ false
 not_lower f g h = lt_false (field_place g) (field_place f) (λ less. omega (arith, h, less))
 
--- the first of two sets, where nothing of the second comes before anything of the first: the second is
--- searched only where the first is empty
+-- The first of two sets, where nothing of the second comes before anything of the first. The second is
+-- searched only where the first is empty.
 pub first_of_both : (P Q : Departure → Type 0) (a b : Option Departure)
     → ((d e : Departure) → P d → Q e → departs_before e d ≡ false) → IsFirst departs_before P a
     → (((d : Departure) → P d → ⊥) → IsFirst departs_before Q b)

@@ -74,7 +74,7 @@ period_above p j x h e = elim (slice_get_cases p.periods j).1 [
   | inr w ↦ absurd (let none = w.1 in let bad = rw none at e in cc)
 ]
 
--- a payment by its index
+-- the payment at an index pays periods of the schedule
 pub paid_at : (p : Part) (rows : List PaymentEntry) (j : ℕ) (y : PaymentEntry) → KeepsBounds p → rows ≡ p.payments
     → j < length rows → y ≡ get_or rows j y → IsPaid y
 paid_at p rows j y h same l e =

@@ -36,7 +36,7 @@ module _ (rows : List Row) (names : List (List ℕ)) (stream : ℕ) where
   abbrev pub NoFault : ℕ → Kind → ℕ → Data → Type 0
   NoFault r kind i d = (f : Broken) → FaultAt rows names stream r kind i d f → ⊥
 
-  -- the member at row c has none
+  -- the member at row c has no fault
   abbrev pub MemberFree : ℕ → Row → ℕ → Data → Type 0
   MemberFree c row i d = (f : Broken) → FaultUnder rows names stream c row i d f → ⊥
 
@@ -44,7 +44,7 @@ module _ (rows : List Row) (names : List (List ℕ)) (stream : ℕ) where
   pub leaf_free : (r i : ℕ) (k : LeafKind) (d : Data) → leaf_rule k (leaf_of d) ≡ None → NoFault r (Leaf k) i d
   leaf_free r i k d e f (own _ _ rule _ _ h) = none_some rule (leaf_rule k (leaf_of d)) e h
 
-  -- a member that may be absent, and is, has none
+  -- a member that may be absent, and is, has no fault
   pub absent_free : (c i : ℕ) (row : Row) (d : Data) → child_of (name_at names c) d ≡ None
       → is_required row.count ≡ false → MemberFree c row i d
   absent_free c i row d e q f (missing _ _ _ _ el rq h) = false_true (is_required row.count) q rq
@@ -52,7 +52,7 @@ module _ (rows : List Row) (names : List (List ℕ)) (stream : ℕ) where
   absent_free c i row d e q f (too_many _ _ _ _ m el h lt) = none_some m (child_of (name_at names c) d) e h
   absent_free c i row d e q f (inside _ _ j _ _ m x _ el h le at g) = none_some m (child_of (name_at names c) d) e h
 
-  -- a member that is passed over has none
+  -- a member that is passed over has no fault
   pub passed_free : (c i : ℕ) (row : Row) (d : Data) → is_element row.kind ≡ false → is_refused row.kind ≡ false
       → MemberFree c row i d
   passed_free c i row d e q f (missing _ _ _ _ el rq h) = false_true (is_element row.kind) e el
@@ -60,11 +60,11 @@ module _ (rows : List Row) (names : List (List ℕ)) (stream : ℕ) where
   passed_free c i row d e q f (too_many _ _ _ _ m el h lt) = false_true (is_element row.kind) e el
   passed_free c i row d e q f (inside _ _ j _ _ m x _ el h le at g) = false_true (is_element row.kind) e el
 
-  -- each value of the member has none
+  -- each value of the member is free of faults
   abbrev pub ValuesFree : ℕ → Row → ℕ → List Data → Type 0
   ValuesFree c row i ds = (j : ℕ) (x : Data) → slice_get ds j ≡ Some x → NoFault c row.kind (index_in row.count i j) x
 
-  -- a member that occurs as often as it may has none where none of its values has
+  -- a member that occurs as often as it may has no fault where its values have none
   pub present_free : (c i : ℕ) (row : Row) (d m : Data) → child_of (name_at names c) d ≡ Some m
       → is_refused row.kind ≡ false → length (items_of m) ≤ most row.count → ValuesFree c row i (items_of m)
       → MemberFree c row i d
@@ -77,7 +77,7 @@ module _ (rows : List Row) (names : List (List ℕ)) (stream : ℕ) where
       same_some n m (child_of (name_at names c) d) h e in
       free j x (ap (λ y. slice_get (items_of y) j) (sym same) ∙ at) f g
 
-  -- one value without a fault is all values without one
+  -- where the only value has no fault, no value has one
   pub one_value : (c i : ℕ) (row : Row) (d : Data) → ((k : ℕ) → NoFault c row.kind k d) → ValuesFree c row i (d ∷ [])
   one_value c i row d free zero x e =
       subst (λ y. NoFault c row.kind (index_in row.count i zero) y) (same_some d x (Some d) refl e)
@@ -86,12 +86,12 @@ module _ (rows : List Row) (names : List (List ℕ)) (stream : ℕ) where
 
   -- ---- objects
 
-  -- both where the test is true, else the second alone
+  -- both statements where the test is true, otherwise the second alone
   abbrev EachIf : Bool → Type 0 → Type 0 → Type 0
   EachIf true A B = A × B
   EachIf false A B = B
 
-  -- each member of the object d at row r has none; the rows are those from n on
+  -- each member of the object d at row r has no fault; the rows are those from n on
   abbrev pub Each : ℕ → ℕ → Data → ℕ → List Row → Type 0
   Each r i d n [] = Unit {0}
   Each r i d n (row ∷ rest) = EachIf ((row.parent == r) && nat_lt r n) (MemberFree n row i d) (Each r i d (n + 1) rest)
@@ -122,7 +122,7 @@ module _ (rows : List Row) (names : List (List ℕ)) (stream : ℕ) where
       let later = tail_of (MemberFree n first i d) (Each r i d (n + 1) rest) ((first.parent == r) && nat_lt r n) h in
       subst (λ c. MemberFree c row i d) up (each_at r i d (n + 1) rest k row later e p (omega (arith, l)))
 
-  -- an object with known names has none where no member has
+  -- an object with known names has no fault where its members have none
   pub object_free : (r i : ℕ) (d : Data) (ns : List (List ℕ)) → names_of d ≡ Some ns
       → list_any (is_unknown rows names r) ns ≡ false → has_odd d ≡ false → Each r i d 0 rows
       → NoFault r (Object Free) i d

@@ -57,7 +57,7 @@ use Rattle.std.specs.Prelude.{slice_get, unwrap_or}
 abbrev F : List Row
 F = FLOW_ROWS
 
--- their names
+-- the names of the table of cash flows
 abbrev M : List (List ℕ)
 M = flow_code_names
 
@@ -169,7 +169,7 @@ module _ {X : Type 0} (rows : List Row) (names : List (List ℕ)) (stream c : �
       subst (λ d. NoFault rows names stream c kind k d) (ap (λ o. unwrap_or o y) e) (law k x h.0)
   mapped_free kind (x ∷ xs) law h (suc j) y k e = mapped_free kind xs law h.1 j y k e
 
-  -- an array of values without faults has none
+  -- an array of values without faults has no fault
   pub array_free : (i : ℕ) (row : Row) (xs : List X)
       → ((k : ℕ) (x : X) → Q x → NoFault rows names stream c row.kind k (f x)) → Every Q xs
       → ValuesFree rows names stream c row i (list_of (items_from (map f xs)))

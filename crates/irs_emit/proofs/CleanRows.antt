@@ -64,7 +64,7 @@ currency_kept c h =
     ∙ leaf_kept CurrencyName c.letters (currency_visible c.letters h) (ap is_some (currency_back c.letters h))
 
 module _ (rows : List Row) (names : List (List ℕ)) (stream : ℕ) where
-  -- a leaf that occurs once
+  -- a leaf that occurs once has no fault
   pub leaf_member : (c i : ℕ) (row : Row) (d : Data) (k : LeafKind) (s : List ℕ)
       → child_of (name_at names c) d ≡ Some (string s) → row.kind ≡ Leaf k → 1 ≤ most row.count
       → leaf_rule k (leaf_of (string s)) ≡ None → MemberFree rows names stream c row i d
@@ -74,7 +74,7 @@ module _ (rows : List Row) (names : List (List ℕ)) (stream : ℕ) where
       (λ j. subst (λ kind. NoFault rows names stream c kind j (string s)) (sym is)
       (leaf_free rows names stream c j k (string s) none)))
 
-  -- one that may be absent
+  -- a leaf that may be absent has no fault
   pub known_member : {X : Type 0} (c i : ℕ) (row : Row) (d : Data) (k : LeafKind) (text : X → List ℕ) (o : Option X)
       → child_of (name_at names c) d ≡ option_map (λ x. string (text x)) o → is_required row.count ≡ false
       → row.kind ≡ Leaf k → 1 ≤ most row.count
@@ -116,7 +116,7 @@ no_row = record { parent = 0; place = 0; kind = Passed; count = Maybe }
 abbrev P : List Row
 P = PERIOD_ROWS
 
--- their names
+-- the names of the table of a calculation period
 abbrev N : List (List ℕ)
 N = period_code_names
 
@@ -225,7 +225,7 @@ fraction_kept_by (pos n) some h =
     leaf_kept Fraction (dec_text (pos n) 10) (number_visible (pos n) 10 h) (ap is_some (fraction_back n h))
 fraction_kept_by (negsuc n) some h = absurd (omega (arith, signed_arith, some))
 
--- what each calculation period has, beside its rate and its definition
+-- what each calculation period has besides its rate and its definition
 pub record HasPeriod (x : CalculationPeriod) (d : Data) : Type 0 where
   pub start : child_of (name_at N 1) d ≡ Some (day_leaf x.start)
   pub «end» : child_of (name_at N 2) d ≡ Some (day_leaf x.«end»)

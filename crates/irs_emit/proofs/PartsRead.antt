@@ -85,7 +85,7 @@ all_periods : (p : Part) → IsPartShort p → map period_in (period_values p 0 
     ≡ stated_periods_from p 0 p.periods
 all_periods p h = periods_read p 0 p.periods h (λ i. (let e : 0 + i ≡ i = omega arith in ap (slice_get p.periods) e))
 
--- ---- those of the payments are all of them
+-- ---- the periods of the payments are all periods
 
 periods_of_payment : (p : Part) (y : PaymentEntry)
     → periods_in (payment_value p y) ≡ period_values p (y.first_period - 1) (y.last_period + 1 - y.first_period)

@@ -44,7 +44,7 @@ put_by n Less a b c p q r = p
 put_by n Equal a b c p q r = q
 put_by n Greater a b c p q r = r
 
--- a member more is built to the same depth
+-- with one more member the object is built to the same depth
 pub put_built : (n : ℕ) (k : List ℕ) (d : Data) (ms : Members) → Built n d → MembersBuilt n ms
     → MembersBuilt n (put k d ms)
 put_built n k d no_members h t = (h, tt)
@@ -78,7 +78,7 @@ mutual
   members_within n (member k d ms) h =
       max_within (depth d) (members_depth ms) n (built_depth n d h.0) (members_within n ms h.1)
 
--- ---- they have no float
+-- ---- no number is a float
 
 neither : (a b : Bool) → a ≡ false → b ≡ false → (a || b) ≡ false
 neither a b p q = rw (p, q) refl
@@ -103,7 +103,7 @@ mutual
   members_floatless n (member k d ms) h =
       neither (has_float d) (members_have_float ms) (built_floatless n d h.0) (members_floatless n ms h.1)
 
--- ---- their lexemes don't depend on what follows
+-- ---- the lexemes don't depend on what follows
 
 -- the lexemes of a text don't depend on what follows it
 abbrev Lexes : List ℕ → Type 0

@@ -81,7 +81,7 @@ days_short : (n : ℤ) → (pos 0 ≤ℤ n) × (n ≤ℤ pos most_numerator) →
 days_short (pos n) h = omega (arith, signed_arith, h)
 days_short (negsuc n) h = absurd (omega (arith, signed_arith, h))
 
--- a numerator in units of 10^-10, over the denominator of a code, rounded
+-- a number from 0 to 10^18
 abbrev IsFew : ℤ → Type 0
 IsFew m = (pos 0 ≤ℤ m) × (m ≤ℤ pos (10 ^ 18))
 
@@ -143,7 +143,7 @@ exchanges_short p h =
           amount_short p.currency x.amount amount;
     }) h.dates.exchanges h.exchanged
 
--- its periods are in order and among the first n
+-- the periods of a payment are in order and among the first n
 abbrev IsSpan : ℕ → PaymentEntry → Type 0
 IsSpan n y = (1 ≤ y.first_period) × (y.first_period ≤ y.last_period) × (y.last_period ≤ n)
 
@@ -214,7 +214,7 @@ part_short p h = record {
   resets = λ j. at_place IsResetShort p.resets j (resets_short p h);
 }
 
--- so is each stream of a schedule
+-- the rows of each stream of a schedule are short
 pub parts_short : (s : List Part) → Every KeepsBounds s → Every IsPartShort s
 parts_short [] h = tt
 parts_short (p ∷ s) h = (part_short p h.0, parts_short s h.1)

@@ -18,7 +18,7 @@ use Rattle.std.specs.Prelude.{slice_get, MatchOption}
 pub listed : (v : Vec Value Global) (ds : List Data) → map view v.items ≡ ds → view (Array v) ≡ array_of ds
 listed v ds e = view-Array v ∙ ap (λ l. array (items_of l)) e
 
--- an array of a row for each member
+-- an array with a value for each member
 pub mapped : {X : Type 0} (f : X → Data) (xs : List X) (n : ℕ) (v : Vec Value Global)
     → map view v.items ≡ map f (take n xs) → length xs ≤ n → view (Array v) ≡ array_of (map f xs)
 mapped f xs n v e h = listed v (map f xs) (e ∙ ap (map f) (take_all n xs h))
@@ -26,7 +26,7 @@ mapped f xs n v e h = listed v (map f xs) (e ∙ ap (map f) (take_all n xs h))
 one_up : (n : ℕ) → n + 1 ≡ suc n
 one_up n = omega arith
 
--- one period more
+-- the values of one more period
 pub next_period : (p : Part) (first n : ℕ) → period_values p first (n + 1)
     ≡ period_values p first n ++ one_period p (first + n)
 next_period p first n = ap (period_values p first) (one_up n)
@@ -35,7 +35,7 @@ map_push : (vs : List Value) (v : Value) → map view (vs ++ v ∷ []) ≡ map v
 map_push [] v = refl
 map_push (w ∷ vs) v = ap (λ l. view w ∷ l) (map_push vs v)
 
--- a period that was appended last
+-- the list with the period that was appended last
 pub listed_here : (p : Part) (j : ℕ) (x : CalculationPeriod) (vs ws : List Value) (v : Value) → period_at p j ≡ Some x
     → view v ≡ period_value x (slice_get p.resets j) → ws ≡ vs ++ v ∷ [] → map view ws ≡ map view vs ++ one_period p j
 listed_here p j x vs ws v there is e =

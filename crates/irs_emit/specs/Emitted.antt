@@ -15,7 +15,7 @@ use Rattle.serde_json.specs.Data.{Data, string, array, object, Members, no_membe
 use Rattle.serde_json.specs.View.{items_of}
 use Rattle.serde_json.specs.Written.{compact_text}
 
--- the members, with d at that name where there is a d
+-- the members, with one more of that name where its value is known
 abbrev pub put_known : List ℕ → Option Data → Members → Members
 put_known name None ms = ms
 put_known name (Some d) ms = put name d ms
@@ -74,7 +74,7 @@ period_members x =
 unfoldable pub fixed_value : CalculationPeriod → Data
 fixed_value x = object (put_known (codes "fixedRate") (option_map rate_leaf x.rate) (period_members x))
 
--- one with a reset has `floatingRateDefinition`
+-- a calculation period with a reset has a `floatingRateDefinition`
 unfoldable pub floating_value : CalculationPeriod → Reset → Data
 floating_value x r = object (put (codes "floatingRateDefinition") (definition_value x r) (period_members x))
 
@@ -83,7 +83,7 @@ abbrev pub period_value : CalculationPeriod → Option Reset → Data
 period_value x None = fixed_value x
 period_value x (Some r) = floating_value x r
 
--- a period that may be absent
+-- a period as a list: empty where there is no such period
 abbrev pub listed_period : Option Reset → Option CalculationPeriod → List Data
 listed_period reset None = []
 listed_period reset (Some x) = period_value x reset ∷ []
@@ -92,7 +92,7 @@ listed_period reset (Some x) = period_value x reset ∷ []
 abbrev pub one_period : Part → ℕ → List Data
 one_period p j = listed_period (slice_get p.resets j) (period_at p j)
 
--- n periods from that place on
+-- n periods of a part from a place on
 abbrev pub period_values : Part → ℕ → ℕ → List Data
 period_values p j zero = []
 period_values p j (suc n) = period_values p j n ++ one_period p (j + n)
@@ -128,6 +128,6 @@ stream_value p = object_with (codes "cashflows") (cashflows_value p)
 unfoldable pub emit_value : List Part → Data
 emit_value s = object_with (codes "swap") (object_with (codes "swapStream") (array_of (map stream_value s)))
 
--- its text: the one that serde_json writes, and a line feed
+-- the text of a schedule: the one that serde_json writes for its value, and a line feed
 unfoldable pub emit_text : List Part → List ℕ
 emit_text s = compact_text (emit_value s) ++ 10 ∷ []

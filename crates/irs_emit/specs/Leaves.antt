@@ -22,15 +22,15 @@ number_leaf units places = string (dec_text units places)
 abbrev pub amount_leaf : Dec → Data
 amount_leaf v = number_leaf v.units v.places
 
--- a notional has 4 decimals, a rate 9
+-- a notional, with 4 decimals
 abbrev pub notional_leaf : ℤ → Data
 notional_leaf units = number_leaf units 4
 
--- a rate
+-- a rate, with 9 decimals
 abbrev pub rate_leaf : ℤ → Data
 rate_leaf units = number_leaf units 9
 
--- a fraction has 10 decimals, rounded to the nearest
+-- a fraction with 10 decimals, rounded to the nearest
 abbrev pub fraction_leaf : Frac → Data
 fraction_leaf f = number_leaf (rounded Nearest (f.num *ℤ pos (10 ^ 10)) f.den) 10
 
@@ -38,7 +38,7 @@ fraction_leaf f = number_leaf (rounded Nearest (f.num *ℤ pos (10 ^ 10)) f.den)
 abbrev pub count_leaf : ℤ → Data
 count_leaf n = string (signed_decimal n)
 
--- bytes as a text; bytes that are none, as no lawful currency's are, give the empty text
+-- bytes as a text; bytes that aren't UTF-8 give the empty text, which no lawful currency has
 abbrev pub text_of : List ℕ → List ℕ
 text_of bytes = if is_utf8 bytes then bytes else []
 

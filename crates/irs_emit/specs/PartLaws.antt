@@ -25,8 +25,8 @@ pub record IsPartShort (p : Part) : Type 0 where
 abbrev pub StreamReadsBack : Type 0
 StreamReadsBack = (p : Part) → IsPartShort p → stream_in (stream_value p) ≡ stated_part p
 
--- the bytes read as a value that has no fault of the tables of cash flows. It states just the flows that state the
--- schedule, and the audit of these flows is yes
+-- The bytes read as a value that has no fault of the tables of cash flows. It states exactly the flows that
+-- state the schedule, and the audit of these flows is yes.
 pub record StatesFlows (bytes : List ℕ) (s : List Part) : Type 0 where
   pub value : Data
   pub reads : Reads bytes value

@@ -12,7 +12,7 @@ use Rattle.irs_terms.specs.declared.results.Exchange.{Exchange}
 use Rattle.irs_terms.specs.declared.results.Reset.{Reset}
 use Rattle.std.specs.Prelude.{◌≡◌, ℕ, ◌/◌, ◌^◌, ◌<◌, ◌≤◌, length, ℤ, pos, ◌≤ℤ◌, unsigned_abs, Option, IfSome, true}
 
--- at most 18 digits are before the point
+-- a number has at most 18 digits before its point
 abbrev pub IsShort : ℤ → ℕ → Type 0
 IsShort units places = unsigned_abs units / 10 ^ places < 10 ^ 18
 
@@ -24,7 +24,7 @@ IsShortAmount v = (v.places ≤ 12) × IsShort v.units v.places
 abbrev pub IsShortRate : ℤ → Type 0
 IsShortRate units = IsShort units 9
 
--- rows whose dates are days and whose numbers are short
+-- an exchange with days of the range and a short amount
 pub record IsExchangeShort (x : Exchange) : Type 0 where
   pub unadjusted : IsDay x.unadjusted
   pub adjusted : IsDay x.adjusted
@@ -62,17 +62,17 @@ pub record IsPaymentShort (p : Part) (y : PaymentEntry) : Type 0 where
 abbrev pub ExchangeReadsBack : Type 0
 ExchangeReadsBack = (x : Exchange) → IsExchangeShort x → exchange_in (exchange_value x) ≡ stated_exchange x
 
--- that of an observation the reset
+-- the object of an observation states the reset
 abbrev pub ResetReadsBack : Type 0
 ResetReadsBack = (r : Reset) → IsResetShort r → reset_in (observation_value r) ≡ stated_reset r
 
--- that of a calculation period the period, with its reset
+-- the object of a calculation period states the period, with its reset
 abbrev pub PeriodReadsBack : Type 0
 PeriodReadsBack =
     (x : CalculationPeriod) (reset : Option Reset) → IsPeriodShort x → IfSome reset IsResetShort
     → period_in (period_value x reset) ≡ stated_period x reset
 
--- and that of a payment the payment, with the number of its periods
+-- the object of a payment states the payment, with the number of its periods
 abbrev pub PaymentReadsBack : Type 0
 PaymentReadsBack =
     (p : Part) (y : PaymentEntry) → IsPaymentShort p y → payment_in (payment_value p y) ≡ stated_payment p.currency y

@@ -21,7 +21,7 @@ const RATE_PLACES: u8 = 9;
 /// The decimals of a fraction.
 const FRACTION_PLACES: u8 = 10;
 
-// Bytes as a text; bytes that are none, as no lawful currency's are, give the empty text.
+// Bytes as a text; bytes that aren't UTF-8 give the empty text, which no lawful currency has.
 fn text(alloc: Global, bytes: &[u8]) -> Result<Value, Memory>
     ensures { IfOk result (λ v. view v ≡ string (text_of bytes.now)) }
 {
@@ -43,7 +43,7 @@ pub(crate) fn day(alloc: Global, d: Day) -> Result<Value, Memory>
     text(alloc, line.bytes())
 }
 
-// A number, as `amount` has it.
+// A number of units of 10^-places, with that many decimals.
 #[tactic(auto, using(irs_base::proofs::TextLengths::length_dec, irs_base::proofs::TextLengths::small_abs, crate::proofs::LeafTexts::number_kept))]
 fn number(alloc: Global, units: i128, places: u8) -> Result<Value, Memory>
     requires { places ≤ 12 }

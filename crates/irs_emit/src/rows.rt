@@ -211,7 +211,7 @@ fn fixed(alloc: Global, x: &CalculationPeriod) -> Result<Value, Memory>
     Ok(Value::Object(members))
 }
 
-// One of a floating stream, with its reset.
+// A calculation period of a floating stream, with its reset.
 #[tactic(auto, unfolding(crate::specs::Emitted::floating_value))]
 fn floating(alloc: Global, x: &CalculationPeriod, r: &Reset) -> Result<Value, Memory>
     requires { pos 0 <ℤ x.now.frac.den }
