@@ -64,7 +64,7 @@ module _ (x : Accruing) (d : ℤ) where
   take_at (q ∷ qs) zero p e = let same : q ≡ p = cc in ap (λ (z : Part). z ∷ []) same
   take_at (q ∷ qs) (suc i) p e = ap (λ (l : List Part). q ∷ l) (take_at qs i p e)
 
-  -- the lines of the first streams and that of the next
+  -- the lines of the first streams, followed by that of the next
   pub accrued_next : (ps : List Part) (i : ℕ) (p : Part) (a : Accrual) (lines : List ℕ) → slice_get ps i ≡ Some p
       → Only (AccruesAt x d (i + 1) p) a → AreAccrued x d 1 (take i ps) lines
       → AreAccrued x d 1 (take (i + 1) ps) (lines ++ accrual_text (i + 1) a)
@@ -82,13 +82,13 @@ part_at [] i low = absurd (omega (arith, low))
 part_at (p ∷ ps) zero low = (p, refl)
 part_at (p ∷ ps) (suc i) low = part_at ps i (omega (arith, low))
 
--- and so has the swap a stream
+-- a swap has a stream at each place
 pub stream_at : (xs : List Stream) (i : ℕ) → i < length xs → (s : Stream) × (slice_get xs i ≡ Some s)
 stream_at [] i low = absurd (omega (arith, low))
 stream_at (s ∷ xs) zero low = (s, refl)
 stream_at (s ∷ xs) (suc i) low = stream_at xs i (omega (arith, low))
 
--- ---- what a stream keeps whose swap breaks no rule
+-- ---- what a stream keeps where its swap breaks no rule
 
 -- each item that is answered has its answer
 answered_at : {X A R : Type 0} (spec : ℕ → X → Spec A R) (n : ℕ) (xs : List X) (given : List A)
@@ -102,7 +102,7 @@ answered_at spec n (y ∷ ys) given h (suc i) z at = answered_at spec (n + 1) ys
 
 module _ (x : Accruing) (parts : List Part) (h : IsAccruing x parts) (i : ℕ) (s : Stream)
     (at : slice_get x.swap.streams i ≡ Some s) where
-  -- it has a regular span
+  -- the stream has a regular span
   pub stream_span : HasSpan s
   unfolding schedule_of stream_of
   stream_span =

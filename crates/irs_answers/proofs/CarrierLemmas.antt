@@ -30,6 +30,7 @@ use Rattle.irs_answers.proofs.DueLemmas.{ends_by}
 use Rattle.irs_answers.proofs.StepLemmas.{read as read_one, unread}
 use Rattle.irs_answers.proofs.XmlValues.{xml_built}
 
+-- the line feed
 abbrev LF : List ℕ
 LF = 10 ∷ []
 
@@ -98,7 +99,7 @@ carries bytes text v is e back = (
   λ _. (v, is, back),
 )
 
--- the line of a refusal is no carrier
+-- a refusal replies with its line, as is due for the bytes
 pub refused_carries : (r : Refusal) (bytes : List ℕ) (o : Result Reply WantOfMemory) → IfRefused r (Carries bytes)
     → IfOk o (λ p. answer_of r ≡ Some (reply_status p, reply_text p))
     → IfOk o (λ p. reply_status p ≡ 0 → ReadsBack bytes (reply_text p))

@@ -68,15 +68,15 @@ module _ (swap : Swap) (cal : List Section) (parts : List Part) (h : IsUnfixed s
   pub stream_lawful : IsLawfulStream x.stream
   stream_lawful = lawful_stream swap h.lawful _ x.stream k.at
 
-  -- its terms keep the rules
+  -- the terms of the stream keep the rules
   pub stream_kept : TermsKept cal x.stream
   stream_kept = terms_kept swap cal h.lawful h.terms _ x.stream k.at
 
-  -- its floating leg is lawful
+  -- the floating leg of the stream is lawful
   pub float_lawful : IsLawfulFloat x.float
   float_lawful = subst IsLawfulLeg k.pays stream_lawful.leg
 
-  -- what is asked of daily rates is lawful
+  -- the request for compounded daily rates is lawful
   pub overnight_asked : (days : DaySet) (rates : RateTable) → days ≡ reset_days cal x.stream
       → IsAsked (asked swap n parts days rates)
   overnight_asked days rates e = record {
@@ -90,7 +90,7 @@ module _ (swap : Swap) (cal : List Section) (parts : List Part) (h : IsUnfixed s
     reset_set = e;
   }
 
-  -- what is asked of a stub is lawful
+  -- the request for the rate of a stub is lawful
   pub stub_is_asked : (side : Side) (low high : Frequency) (rates : RateTable) → IsLawfulTenor low → IsLawfulTenor high
       → IsStubAsked (stub_asked swap n side low high parts rates)
   stub_is_asked side low high rates l m = record {
@@ -105,13 +105,13 @@ module _ (swap : Swap) (cal : List Section) (parts : List Part) (h : IsUnfixed s
     high = m;
   }
 
--- ---- the stream, and what is due behind it
+-- ---- the stream, and what is due after it is found
 
 module _ (swap : Swap) (n : ℕ) (Next : FloatingStream → ℕ → List ℕ → Type 0) where
   abbrev Whole : ℕ → List ℕ → Type 0
   Whole status text = Step (IsFloatingAt swap n) (NotFloating n status text) (λ y. Next y status text)
 
-  -- K40
+  -- K40 is refused where there is no such floating stream
   pub refuse_unfloating : (b : Broken) → ((x : FloatingStream) → IsFloatingAt swap n x → ⊥) → b ≡ no_floating_stream n
       → IfRefused (Rule b) (Ends Whole)
   refuse_unfloating b never e =
@@ -144,7 +144,7 @@ module _ (swap : Swap) (n : ℕ) (Next : FloatingStream → ℕ → List ℕ →
 
 -- ---- the rules of the task, and its rows
 
--- the first broken rule
+-- the first broken rule is due
 due_first : (K : Type 0) (P : Broken → Type 0) (N : Type 0) (b : Broken) → (K → P b → ⊥) → P b
     → ((x y : Broken) → P x → P y → x ≡ y) → Rules K (Refuses P 2 (refused b)) N
 due_first K P N b never first one =
@@ -154,7 +154,7 @@ due_first K P N b never first one =
       (refl, refl),
     )
 
--- the one list of rows
+-- the only list of rows is due as a fixing file
 due_printed : (K : Type 0) (F : Type 0) (P : List DerivedRow → Type 0) (float : FloatTerms) (rows : List DerivedRow) → K
     → P rows → ((x y : List DerivedRow) → P x → P y → x ≡ y)
     → Rules K F (PrintsOne P float 0 (file_text rows float.tenor float.index))
@@ -222,16 +222,16 @@ stub_named (Some stubs) Initial index tenor h k = let r : IfSome (Some (Index in
 stub_named (Some stubs) Last index tenor h k = let r : IfSome (Some (Index index tenor)) IsLawfulStubRate =
     subst (λ (z : Option StubRate). IfSome z IsLawfulStubRate) k h.1 in r.0
 
--- it is no longer than an index may be
+-- the index of a stub is no longer than an index may be
 pub stub_short : (swap : Swap) (n : ℕ) (side : Side) (index : List ℕ) (tenor : Option Frequency) → IsLawful swap
     → GivesIndex swap n side index tenor → length index ≤ most_index
 stub_short swap n side index tenor lawful gives =
     let s = lawful_stream swap lawful _ gives.stream gives.at in
     (stub_named gives.stream.stubs side index tenor s.stubs gives.gives).1
 
--- ---- a stream that floats, as K40 says it
+-- ---- a floating stream in the sense of K40
 
--- a number of a floating stream names one
+-- the number of a floating stream names one stream
 pub stream_by : (swap : Swap) (n : ℕ) → Floats swap n → (x : FloatingStream) × IsFloatingAt swap n x
 stream_by swap n f = (
   record { stream = f.1.stream; float = f.0 },

@@ -28,7 +28,7 @@ refuses_more : (P Q : Broken → Type 0) → ((x : Broken) → P x → Q x) → 
     → (status : ℕ) (text : List ℕ) → Refuses P status text → Refuses Q status text
 refuses_more P Q there back status text h = (h.0, only_more P Q there back h.0 h.1, h.2)
 
--- rules and rows that are the same
+-- where rules and rows are the same, so is what is due for them
 due_rows : (K L : Type 0) (P Q : Broken → Type 0) (R S : List DerivedRow
     → Type 0) (float : FloatTerms) (status : ℕ) (text : List ℕ) → (K → L) → (L → K) → ((x : Broken) → P x → Q x)
     → ((x : Broken) → Q x → P x) → ((rows : List DerivedRow) → R rows → S rows)

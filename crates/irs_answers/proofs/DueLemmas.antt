@@ -127,7 +127,7 @@ pub one_fixings : (o : Option (List ℕ)) (t u : RateTable) → AreFixings o t �
 one_fixings None t u h k = λ index slot. rw (h, k) refl
 one_fixings (Some bytes) t u h k = same_file bytes t u h k
 
--- ---- rates that can't be told apart
+-- ---- tables with the same rates
 
 -- the rates that a task uses are the same if the rates are
 pub same_if : (b : Bool) (t u : RateTable) → SameRates t u → SameRates (if b then t else []) (if b then u else [])
@@ -234,7 +234,7 @@ module _ (t : Task) (g : Given) (status : ℕ) (text : List ℕ) where
   in_document swap sides s h =
       in_text s.value s.reads (in_swap s.value swap s.means (in_sides s.value swap sides s.has_sides h))
 
-  -- what is due after the calendars is due for them
+  -- what is due after the calendar files is due from them on
   pub in_calendars : (swap : Swap) (sides : Option Sides) (cal : List Section) → CalFiles g.calendars cal
       → DueFixings t g swap sides cal status text → DueCalendars t g swap sides status text
   in_calendars swap sides cal is h =
@@ -242,7 +242,7 @@ module _ (t : Task) (g : Given) (status : ℕ) (text : List ℕ) where
       (λ c other. subst (λ (x : List Section). DueFixings t g swap sides x status text)
       (sym (one_calendars g.calendars cal c is other)) h)
 
-  -- what is due after the rates is due for them
+  -- what is due after the file of fixings is due from it on
   pub in_fixings : (swap : Swap) (sides : Option Sides) (cal : List Section) (table : RateTable)
       → AreFixings g.fixings table → DueTerms t g swap sides cal table status text
       → DueFixings t g swap sides cal status text
@@ -250,14 +250,14 @@ module _ (t : Task) (g : Given) (status : ℕ) (text : List ℕ) where
       read (AreFixings g.fixings) (BadFixings g status text) (λ q. DueTerms t g swap sides cal q status text) table is
       (λ q other. terms_same t g swap sides cal table q (one_fixings g.fixings table q is other) status text h)
 
-  -- what is due after the rules of the terms is due if they are kept
+  -- what is due after the rules of the terms is due where they are kept
   pub in_terms : (swap : Swap) (sides : Option Sides) (cal : List Section) (table : RateTable) → KeepsTerms swap cal
       → DueDated t g swap sides cal table status text → DueTerms t g swap sides cal table status text
   in_terms swap sides cal table is h =
       kept (KeepsTerms swap cal) (Refuses (IsFirstOfTerms swap cal) status text)
       (DueDated t g swap sides cal table status text) is h
 
-  -- what is due after the rules of dates and amounts is due if they are kept
+  -- what is due after the rules of dates and amounts is due where they are kept
   pub in_dated : (swap : Swap) (sides : Option Sides) (cal : List Section) (table : RateTable)
       → DatedKept swap cal (rates_for t table) → DueKept t g swap sides cal table status text
       → DueDated t g swap sides cal table status text
@@ -430,7 +430,7 @@ module _ (t : Task) (g : Given) where
       refused_more r (IsUnscheduled swap cal (rates_for t table)) (Ends (DueFor t g))
       (rule_due swap sides cal table spells files rates) h
 
--- the making of a schedule
+-- a schedule that cannot be made is refused
 pub refuse_making : (swap : Swap) (cal : List Section) (table : RateTable) (e : Stopped Broken) → IsLawful swap
     → KeepsTerms swap cal → IfStopped e (DatedBroken swap cal table)
     → IfRefused (of_stopped e) (IsUnscheduled swap cal table)

@@ -6,7 +6,7 @@ use Rattle.std.proofs.lemmas.List.{length-map, get_or-map}
 use Rattle.irs_base.specs.Limits.{most_bytes}
 use Rattle.irs_answers.specs.Given.{too_many}
 
--- the calendar files as the code keeps them
+-- the calendar files as the code keeps them have fewer bytes than the limit
 pub all_small : (vs : List (Vec ℕ Global)) → All (λ bytes. length bytes < too_many) (map (λ v. v.items) vs)
     → All (λ v. length v.items ≤ most_bytes) vs
 all_small vs h = λ k d below.

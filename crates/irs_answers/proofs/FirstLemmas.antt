@@ -38,7 +38,7 @@ read_fails bytes (Err (Syntax n)) h = h
 read_fails bytes (Err (Repeat n)) h = h
 read_fails bytes (Err Memory) h = tt
 
--- what is read are its rates
+-- what is read of a file is its rates
 pub read_gives : (bytes : List ℕ) (r : Result RateTable FixErr) → MeetsFile (fixings_of bytes) r
     → IfOk r (λ t. AreFixings (Some bytes) t)
 read_gives bytes (Ok t) h = h

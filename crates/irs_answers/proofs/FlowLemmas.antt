@@ -69,7 +69,7 @@ module _ (Due : OfFlows) (file : SourceText) where
       record { due = due_shape h.0 how place h.1 h.2; verdict = omega arith }
   refuse_flows flowing.Memory h = tt
 
--- the flows that a file states are one list
+-- a reading has one value
 same_ok : {E : Type 0} (x y : Data) → (let r : Result Data E = Ok x in r ≡ Ok y) → x ≡ y
 same_ok x y e = cc
 
@@ -117,7 +117,7 @@ due_breaks file from s flows list status text spells one is spelt =
       verdict = breaks_low list status is;
     }
 
--- an error that is handed on
+-- an error that is passed on
 pub failed_by : {A : Type 0} (r : Result A FlowErr) (e : FlowErr) (P : FlowErr → Type 0) → IsErr r
     → IsErrAnd r (λ x. x ≡ e) → P e → IfErr r P
 failed_by (Ok x) e P h k p = tt

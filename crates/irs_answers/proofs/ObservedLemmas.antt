@@ -1,4 +1,4 @@
--- The days behind each rate: the stream that is asked for, its rows, and why a schedule that was made has them.
+-- The days that each rate is made of: the named stream, its rows, and why a schedule that was made has them.
 use Rattle.std.proofs.Common.{◌≡◌, inr, ℕ, zero, suc, ◌+◌, ◌^◌, ◌<◌, List, [], ◌∷◌, length, Option, Some, None}
 use Rattle.std.proofs.Common.{refl, sym, ◌∙◌, ap, subst, arith}
 use Rattle.std.specs.Prelude.{slice_get}
@@ -60,7 +60,7 @@ use Rattle.irs_answers.proofs.StepLemmas.{only_more, read, step_next, unread}
 pub same_leg : (f g : FloatTerms) → (let l : Leg = Floating f in l ≡ Floating g) → f ≡ g
 same_leg f g e = cc
 
--- what is there isn't absent
+-- a value that is present isn't absent
 pub some_none : {X : Type 0} (x : X) → (let o : Option X = Some x in o ≡ None) → ⊥
 some_none x e = cc
 
@@ -89,14 +89,14 @@ module _ (n : ℕ) (x : Accruing) (parts : List Part) (y : DailyStream) where
       (subst (λ (source : OvernightSource). AreObservedRows source x.table b)
       (source_same k.span h.span k.part h.part span part) k.are) h.are
 
-  -- and it is the only one
+  -- a list of rows of a stream is the only one
   pub only_rows : (rows : List ObservedRow) → AreRowsIn n x parts y rows → Only (AreRowsIn n x parts y) rows
   only_rows rows are = record { is = are; only = λ b k. one_rows rows b are k }
 
 -- ---- what is due, from what the calls answer
 
 module _ (n : ℕ) (x : Accruing) (parts : List Part) where
-  -- K49
+  -- K49 is refused where there is no such stream with calculation parameters
   pub refuse_plain : (b : Broken) → ((y : DailyStream) → IsDailyAt x.swap n y → ⊥) → b ≡ no_daily_stream n
       → IfRefused (Rule b) (Ends (DueObservations n x parts))
   refuse_plain b never e =
@@ -183,7 +183,7 @@ answer_at {A = A} spec n (y ∷ ys) given h (suc i) z a at there =
     let next : slice_get h.2.0 i ≡ Some a = sym (ap (λ (l : List A). slice_get l (suc i)) h.2.2) ∙ there in
     answer_at spec (n + 1) ys h.2.0 h.2.1 i z a at next
 
--- rates none of which passes its limit
+-- where no rate passes its limit, none is out of range
 none_passes : (rs : List OvernightRate) → ((k : ℕ) → FactorPassesAt rs k → ⊥) → NoneOutOfRange rs
 none_passes [] none = tt
 none_passes (r ∷ rs) none =
@@ -195,11 +195,11 @@ module _ (x : Accruing) (parts : List Part) (h : IsAccruing x parts) (i : ℕ) (
   pub lawful_at : IsLawfulStream s
   lawful_at = lawful_stream x.swap h.lawful i s at
 
-  -- its terms keep the rules
+  -- the terms of the stream keep the rules
   pub kept_at : TermsKept x.cal s
   kept_at = terms_kept x.swap x.cal h.lawful h.terms i s at
 
-  -- it has its part
+  -- the schedule has a part for the stream
   pub part_within : i < length parts
   part_within =
       let within = slice_get_within x.swap.streams i s at in
@@ -218,12 +218,12 @@ module _ (x : Accruing) (parts : List Part) (h : IsAccruing x parts) (i : ℕ) (
         (answer_at (λ n t. refused_as (in_stream n) (stream_of (stream_sets x.cal t) x.table t)) 1 x.swap.streams parts
         (subst (λ (ps : List Part). (schedule_of x.swap x.cal x.table).Answers ps) same given.1) i s p at there).1
 
-    -- it has a regular span
+    -- the stream has a regular span
     pub has_span : HasSpan s
     unfolding stream_of
     has_span = let m = made in (m.1.0, m.1.1)
 
-    -- its adjusted boundaries rise
+    -- the adjusted boundaries of the part rise
     pub rising : IsRising p.adjusted
     unfolding stream_of
     rising =
@@ -231,7 +231,7 @@ module _ (x : Accruing) (parts : List Part) (h : IsAccruing x parts) (i : ℕ) (
         let same : p.adjusted ≡ m.0.adjusted = ap (λ (q : Part). q.adjusted) m.2.2.2 in
         subst IsRising (sym same) (layout_kept (stream_sets x.cal s) s m.0 m.1).rises
 
-    -- and there are few of them
+    -- the number of adjusted boundaries fits 32 bits
     pub few : length p.adjusted < 2 ^ 32
     unfolding stream_of
     few =
@@ -244,7 +244,7 @@ module _ (x : Accruing) (parts : List Part) (h : IsAccruing x parts) (i : ℕ) (
 
     module _ (float : FloatTerms) (parameters : CalculationParameters) (pays : s.leg ≡ Floating float)
         (has : float.parameters ≡ Some parameters) where
-      -- no period of it is without rows
+      -- no period of the stream is without rows
       pub has_rows : (span : Span) → Regular s span → (j : ℕ) (why : NoRowsWhy)
           → HasNoRows (source_in x.cal (daily_stream s float parameters) span p) x.table j why → ⊥
       unfolding stream_of

@@ -67,11 +67,11 @@ module _ (s u : ℕ) (t v : List ℕ) where
   abbrev Same : Type 0
   Same = (s ≡ u) × (t ≡ v)
 
-  -- two that are this one
+  -- two answers that are the same third one are the same
   both : (n : ℕ) (text : List ℕ) → Is n text s t → Is n text u v → Same
   both n text h k = (h.0 ∙ sym k.0, h.1 ∙ sym k.1)
 
-  -- two that the one value gives
+  -- two answers that follow from the only value are the same
   by_one : {X : Type 0} (P : X → Type 0) (status : X → ℕ) (text : X → List ℕ) (x y : X) → Only P x → Only P y
       → Is (status x) (text x) s t → Is (status y) (text y) u v → Same
   by_one P status text x y h k p q =
@@ -120,7 +120,7 @@ module _ (s u : ℕ) (t v : List ℕ) where
       let n : TellsNetOf h.0 p v = subst (λ (x : Sides). TellsNetOf x p v) same k.2 in
       h.2.2 ∙ sym (ap (λ (rows : List NetRow). net_page rows) (h.2.1.only n.0 n.1.is)) ∙ sym n.2
 
-  -- rows of a fixing file
+  -- the rows of a fixing file give one answer
   one_printed : (P : List DerivedRow → Type 0) (float : FloatTerms) → PrintsOne P float s t
       → PrintsOne P float u v → Same
   one_printed P float h k =
@@ -132,7 +132,7 @@ module _ (s u : ℕ) (t v : List ℕ) where
       rules_both K (Refuses P s t) (Refuses P u v) (PrintsOne Q float s t) (PrintsOne Q float u v) (one_refusal P)
       (one_printed Q float) h k
 
-  -- the days behind each rate of a stream
+  -- the days that each rate of a stream is made of give one answer
   one_observations : (n : ℕ) (x : Accruing) (parts : List Part) → DueObservations n x parts s t
       → DueObservations n x parts u v → Same
   one_observations n x parts h k =

@@ -12,7 +12,7 @@ flat_suc f (y ∷ ys) (suc i) d less =
     ap (λ (l : List ℕ). f y ++ l) (flat_suc f ys i d (omega (arith, less)))
     ∙ sym (append_assoc (f y) (flat_map f (take i ys)) (f (get_or ys i d)))
 
--- the next row is behind the others
+-- the next row is appended to the others
 pub page_more : {X : Type 0} (f : X → List ℕ) (head old new line : List ℕ) (xs : List X) (i : ℕ) (d : X) → i < length xs
     → old ≡ head ++ flat_map f (take i xs) → new ≡ old ++ line → line ≡ f (get_or xs i d)
     → new ≡ head ++ flat_map f (take (i + 1) xs)
@@ -23,7 +23,7 @@ page_more f head old new line xs i d less before grown is =
     ∙ ap (λ (l : List ℕ). head ++ (rows ++ l)) is ∙ ap (λ (l : List ℕ). head ++ l) (sym (flat_suc f xs i d less))
     ∙ ap (λ (k : ℕ). head ++ flat_map f (take k xs)) n
 
--- all rows stand there
+-- all rows have been written
 pub page_whole : {X : Type 0} (f : X → List ℕ) (head text : List ℕ) (xs : List X) (i : ℕ) → length xs ≤ i
     → text ≡ head ++ flat_map f (take i xs) → text ≡ head ++ flat_map f xs
 page_whole f head text xs i more e = e ∙ ap (λ (l : List _). head ++ flat_map f l) (take_all i xs more)

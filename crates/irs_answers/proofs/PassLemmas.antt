@@ -14,7 +14,7 @@ use Rattle.irs_answers.specs.declared.tasks.Task.{Task}
 use Rattle.irs_answers.proofs.DueLemmas.{one_calendars, one_fixings, one_meaning, one_reading, same_if}
 use Rattle.irs_answers.proofs.SameRates.{SameRates, schedule_same}
 
--- a swap that is spelt is the only one
+-- a text spells one swap
 one_swap : (t : Task) (w : SourceText) (f h : Facts) → Spells t w f.swap f.sides → Spells t w h.swap h.sides
     → h.swap ≡ f.swap
 one_swap t w f h p q =

@@ -143,7 +143,7 @@ module _ (t u : RateTable) (e : SameRates t u) (part : Part) (i : ℕ) (index : 
 
 module _ (t u : RateTable) (e : SameRates t u) (swap : Swap) (n : ℕ) (side : Side) (low high : Frequency)
     (parts : List Part) where
-  -- the same stub with the other rates
+  -- the same stub, with the other table of rates
   abbrev stub_with : (stub : Stub) → HasStub (stub_asked swap n side low high parts t) stub → Stub
   stub_with stub h =
       record {

@@ -32,7 +32,7 @@ use Rattle.irs_schedule.specs.Schedules.{IsPart, IsSchedule}
 use Rattle.irs_schedule.specs.StreamResets.{AreResetsBy, AreResetsIn, resets_by, resets_in}
 use Rattle.irs_schedule.proofs.RateLemmas.{with_rates}
 
--- sameness of rates goes both ways
+-- where one table has the rates of another, the other has its rates
 pub same_back : (t u : RateTable) → SameRates t u → SameRates u t
 same_back t u e index slot = sym (e index slot)
 
@@ -161,7 +161,7 @@ module _ (t u : RateTable) (e : SameRates t u) where
       let moved = answers_same (resets_over sets s l) sets.applicable s.leg x reset in
       inr (l, laid, inr (d, (ps, dated, (xs, exchanged, (x, moved, made))), rest))
 
-  -- the same first broken rule
+  -- the first broken rule is the same for tables with the same rates
   pub first_same_table : (swap : Swap) (cal : List Section) (x : Broken) → DatedBroken swap cal t x
       → DatedBroken swap cal u x
   unfolding schedule_of

@@ -1,4 +1,4 @@
--- The index and the tenor that are given for a stub are one.
+-- A stub has one index and one tenor.
 use Rattle.std.proofs.Common.{◌≡◌, ℕ, List, Option, Some, None, sym, ◌∙◌, subst}
 use Rattle.std.proofs.lemmas.Option.{same_Some}
 use Rattle.irs_terms.specs.declared.amounts.StubRate.{StubRate}

@@ -18,7 +18,7 @@ use Rattle.irs_xml.specs.Namespaces.{Setting, Scope, first_scope}
 use Rattle.irs_xml.specs.Values.{Child, both, children_in, element_child, element_data, is_counted, item_last, joined}
 use Rattle.irs_xml.specs.Values.{leaf_value, named, value_from, with_child, with_children, with_settings, without}
 
--- ---- what nests less deep nests no deeper
+-- ---- what nests to a lesser depth
 
 mutual
   deeper : (n m : ℕ) (d : Data) → n ≤ m → Built n d → Built m d
@@ -46,8 +46,9 @@ object_built n ms h =
 array_built : (n : ℕ) (ds : Items) → ItemsBuilt n ds → Built (n + 1) (array ds)
 array_built n ds h = let e : n ≡ n + 1 - 1 = omega arith in (omega arith, subst (λ (k : ℕ). ItemsBuilt k ds) e h)
 
--- ---- members, each of which is the value of a child, or the array of the values of several
+-- ---- members: each is the value of a child, or the array of the values of several
 
+-- a member is a string, an object or an array built to this depth
 abbrev In : ℕ → Data → Type 0
 In n null = ⊥
 In n (boolean b) = ⊥
@@ -56,6 +57,7 @@ In n (string s) = Unit {0}
 In n (array ds) = ItemsBuilt n ds
 In n (object ms) = Built n (object ms)
 
+-- each member is built to this depth
 abbrev MembersIn : ℕ → Members → Type 0
 MembersIn n no_members = Unit {0}
 MembersIn n (member k d ms) = In n d × MembersIn n ms
@@ -127,6 +129,7 @@ joined_in n (Some (object ms)) d h k = (h, (k, tt))
 
 -- ---- children and attributes
 
+-- the value of each child is built to this depth
 abbrev AreBuilt : ℕ → List Child → Type 0
 AreBuilt n [] = Unit {0}
 AreBuilt n (c ∷ cs) = Built n c.1 × AreBuilt n cs
@@ -210,7 +213,7 @@ both_built n (Some c) (Some more) cs f g e =
 no_children : (n : ℕ) (cs : List Child) → ◌≡◌ {A = Option (List Child)} (Some []) (Some cs) → AreBuilt n cs
 no_children n cs e = subst (AreBuilt n) (same_Some [] cs e) tt
 
--- a level more is two levels of the value: an object, and an array of its children
+-- one more level of XML is two levels of the value: an object, and an array of its children
 level_more : (n : ℕ) (d : Data) → Built (n + n + 2) d → Built (suc n + suc n) d
 level_more n d h = let e : n + n + 2 ≡ suc n + suc n = omega arith in subst (λ (k : ℕ). Built k d) e h
 

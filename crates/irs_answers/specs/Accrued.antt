@@ -23,7 +23,7 @@ pub record Accruing : Type 0 where
   pub cal : List Section
   pub table : RateTable
 
--- the same from its parts
+-- a swap with these calendars and rates
 abbrev pub accruing : Swap → List Section → RateTable → Accruing
 accruing swap cal table = record { swap = swap; cal = cal; table = table }
 

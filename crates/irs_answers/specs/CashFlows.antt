@@ -26,16 +26,16 @@ abbrev pub BadFlows : Data → ℕ → List ℕ → Type 0
 BadFlows v status text =
     (b : Broken) × Only (First is_before (FlowFault v)) b × Is 3 (bad_flows (kind_of b.rule) b.place) status text
 
--- the flows have a reading: its first fault, or what is due for the flows that it states
+-- what is due for flows that have a reading: its first fault, or what is due for the flows that it states
 abbrev pub DueStated : OfFlows → Data → ℕ → List ℕ → Type 0
 DueStated Due v status text = Step (FlowsOf v) (BadFlows v status text) (λ flows. Due flows status text)
 
--- what is due for the text of flows; `notjson`: it has no reading
+-- what is due for the text of flows; `notjson` where it has no reading
 abbrev pub DueFlows : OfFlows → SourceText → ℕ → List ℕ → Type 0
 DueFlows Due w status text =
     Step (TextReads w) (Is 3 (bad_flows NotJson whole_document) status text) (λ v. DueStated Due v status text)
 
--- the one verdict on flows against a schedule
+-- the only verdict on flows against a schedule
 abbrev pub DueVerdict : List Part → OfFlows
 DueVerdict s flows status text =
     (w : Verdict) × Only (IsVerdict flows s) w × Is (verdict_status w) (verdict_text w) status text
@@ -44,7 +44,7 @@ DueVerdict s flows status text =
 abbrev pub IsStatusOf : Findings → ℕ → Type 0
 IsStatusOf list status = (HasBreak list × (status ≡ 1)) ⊎ (¬ (HasBreak list) × (status ≡ 0))
 
--- the one list of breaks between flows and a schedule, for what is due from a day on, or for all
+-- the only list of breaks between flows and a schedule, for what is due from a day on, or for all
 abbrev pub DueBreaks : Option ℤ → List Part → OfFlows
 DueBreaks from s flows status text =
     (list : Findings) × Only (IsBreakList from s flows) list × IsStatusOf list status × (text ≡ breaks_text from list)

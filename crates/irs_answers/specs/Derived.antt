@@ -38,7 +38,7 @@ pub record IsFloatingAt (swap : Swap) (number : ℕ) (x : FloatingStream) : Type
   pub pays : x.stream.leg ≡ Floating x.float
   pub plain : x.float.parameters ≡ None
 
--- a lawful swap breaks no rule without fixings, by these calendars, and this is its schedule then
+-- a lawful swap breaks no rule without fixings, by these calendars, and this is its schedule
 pub record IsUnfixed (swap : Swap) (cal : List Section) (parts : List Part) : Type 0 where
   pub lawful : IsLawful swap
   pub terms : BreaksNone swap cal
@@ -49,11 +49,11 @@ pub record IsUnfixed (swap : Swap) (cal : List Section) (parts : List Part) : Ty
 abbrev pub NotFloating : ℕ → ℕ → List ℕ → Type 0
 NotFloating number status text = Is 2 (refused (no_floating_stream number)) status text
 
--- done, with these rows as a fixing file
+-- status 0, with these rows as a fixing file
 abbrev pub Prints : List DerivedRow → Option Frequency → List ℕ → ℕ → List ℕ → Type 0
 Prints rows tenor index status text = Is 0 (file_text rows tenor index) status text
 
--- the one list of rows, as a fixing file of the stream's own index and tenor
+-- the only list of rows, as a fixing file of the stream's own index and tenor
 abbrev pub PrintsOne : (P : List DerivedRow → Type 0) → FloatTerms → ℕ → List ℕ → Type 0
 PrintsOne P float status text = (rows : List DerivedRow) × Only P rows × Prints rows float.tenor float.index status text
 
@@ -80,7 +80,7 @@ DueAverage number mean step swap cal rates parts status text =
     (λ x. DueAveraged (averaged (asked swap number parts (reset_days cal x.stream) rates) mean step) x.float
     status text)
 
--- the one row of a stub, as a fixing file of the index and the tenor of its `floatingRate`
+-- the only row of a stub, as a fixing file of the index and the tenor of its `floatingRate`
 abbrev pub PrintsStub : StubAsked → ℕ → List ℕ → Type 0
 PrintsStub a status text =
     (row : DerivedRow) × Only (IsInterpolated a) row

@@ -49,22 +49,22 @@ IsFixingsFault (Some bytes) f = IsFixingFault bytes f
 abbrev pub KeepsTerms : Swap → List Section → Type 0
 KeepsTerms swap cal = (b : Broken) → BreaksTerms swap cal b → ⊥
 
--- the sides of the streams, where they are asked for
+-- the sides of the streams, where the task needs them
 abbrev pub SidesIf : Bool → Data → Option Sides → Type 0
 SidesIf true v None = ⊥
 SidesIf true v (Some sides) = SidesOf v sides
 SidesIf false v sides = sides ≡ None
 
--- the first stream whose parties aren't those of the first, where they are asked for
+-- the first stream whose parties aren't those of the first stream, where the task needs the sides
 abbrev pub BreaksSidesIf : Bool → Data → Broken → Type 0
 BreaksSidesIf true v b = First is_before (BreaksK8Of v) b
 BreaksSidesIf false v b = ⊥
 
--- the sides that a task asks for
+-- the sides that a task needs
 abbrev pub HasSides : Task → Data → Option Sides → Type 0
 HasSides t v sides = SidesIf (nets t) v sides
 
--- the first K8, of a task that asks for them
+-- the first break of K8, for a task that needs the sides
 abbrev pub BreaksSides : Task → Data → Broken → Type 0
 BreaksSides t v b = BreaksSidesIf (nets t) v b
 
@@ -80,7 +80,7 @@ pub record Facts : Type 0 where
   pub table : RateTable
   pub parts : List Part
 
--- the facts of these
+-- the facts made of these
 abbrev pub facts : Swap → Option Sides → List Section → RateTable → List Part → Facts
 facts swap sides cal table parts = record { swap = swap; sides = sides; cal = cal; table = table; parts = parts }
 
@@ -106,48 +106,48 @@ Answered (Interpolate stream side low high) g f status text =
 
 -- ---- the steps that the tasks share, the last first
 
--- no rule is broken
+-- what is due where no rule is broken
 abbrev pub DueKept : Task → Given → Swap → Option Sides → List Section → RateTable → ℕ → List ℕ → Type 0
 DueKept t g swap sides cal table status text =
     (s : List Part) × Only (IsSchedule swap cal (rates_for t table)) s
     × Answered t g (facts swap sides cal table s) status text
 
--- K30 to K39
+-- what is due from the rules of dates and amounts on: K30 to K39
 abbrev pub DueDated : Task → Given → Swap → Option Sides → List Section → RateTable → ℕ → List ℕ → Type 0
 DueDated t g swap sides cal table status text =
     Rules (DatedKept swap cal (rates_for t table)) (Refuses (DatedBroken swap cal (rates_for t table)) status text)
     (DueKept t g swap sides cal table status text)
 
--- K10 to K21
+-- what is due from the rules of the terms on: K10 to K21
 abbrev pub DueTerms : Task → Given → Swap → Option Sides → List Section → RateTable → ℕ → List ℕ → Type 0
 DueTerms t g swap sides cal table status text =
     Rules (KeepsTerms swap cal) (Refuses (IsFirstOfTerms swap cal) status text)
     (DueDated t g swap sides cal table status text)
 
--- the file of fixings: its first line at fault
+-- what is due for a faulty file of fixings: its first line at fault
 abbrev pub BadFixings : Given → ℕ → List ℕ → Type 0
 BadFixings g status text = (f : FixErr) × Only (IsFixingsFault g.fixings) f × Is 3 (bad_fixings f) status text
 
--- the file of fixings
+-- what is due from the file of fixings on
 abbrev pub DueFixings : Task → Given → Swap → Option Sides → List Section → ℕ → List ℕ → Type 0
 DueFixings t g swap sides cal status text =
     Step (AreFixings g.fixings) (BadFixings g status text) (λ table. DueTerms t g swap sides cal table status text)
 
--- the calendar files: their first line at fault
+-- what is due for faulty calendar files: their first line at fault
 abbrev pub BadCalendars : Given → ℕ → List ℕ → Type 0
 BadCalendars g status text = (s : Spot) × Only (IsFirstCalendarFault g.calendars) s × Is 3 (bad_calendar s) status text
 
--- the calendar files
+-- what is due from the calendar files on
 abbrev pub DueCalendars : Task → Given → Swap → Option Sides → ℕ → List ℕ → Type 0
 DueCalendars t g swap sides status text =
     Step (CalFiles g.calendars) (BadCalendars g status text) (λ cal. DueFixings t g swap sides cal status text)
 
--- K8: the parties of the streams, where the task asks for them
+-- what is due from the parties of the streams on: K8, where the task needs them
 abbrev pub DueSides : Task → Given → Data → Swap → ℕ → List ℕ → Type 0
 DueSides t g v swap status text =
     Step (HasSides t v) (Refuses (BreaksSides t v) status text) (λ sides. DueCalendars t g swap sides status text)
 
--- K2 to K7: the document's reading means no swap
+-- what is due from the document's value on: K2 to K7 where it means no swap
 abbrev pub DueDocument : Task → Given → Data → ℕ → List ℕ → Type 0
 DueDocument t g v status text =
     Step (Means v) (Refuses (First is_before (DocumentFault v)) status text) (λ swap. DueSides t g v swap status text)
@@ -161,7 +161,7 @@ DueFor t g status text =
 abbrev pub IsOneDue : Task → Given → Type 0
 IsOneDue t g = (s u : ℕ) (x y : List ℕ) → DueFor t g s x → DueFor t g u y → (s ≡ u) × (x ≡ y)
 
--- the text has a reading, it means the swap, and these are the sides that the task asks for
+-- the text has a reading, it means the swap, and these are the sides that the task needs
 pub record Spells (t : Task) (document : SourceText) (swap : Swap) (sides : Option Sides) : Type 0 where
   pub value : Data
   pub reads : TextReads document value

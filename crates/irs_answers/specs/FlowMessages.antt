@@ -15,7 +15,7 @@ use Rattle.irs_base.specs.declared.places.Place.{Place}
 
 -- ---- the first fault of the flows
 
--- how the flows are out of shape
+-- the name of the way in which the flows are out of shape
 abbrev pub shape_name : ShapeKind → List ℕ
 shape_name shape.NotJson = codes "notjson"
 shape_name shape.Missing = codes "missing"
@@ -41,7 +41,7 @@ whole_document = record { stream = 0; elem = document; index = 0 }
 
 -- ---- the verdict
 
--- a kind of rows
+-- the name of a kind of rows
 abbrev pub row_name : RowKind → List ℕ
 row_name row.Stream = codes "stream"
 row_name row.Exchange = codes "exchange"
@@ -49,7 +49,7 @@ row_name row.Payment = codes "payment"
 row_name row.Period = codes "period"
 row_name row.Reset = codes "reset"
 
--- what departs: the row, or the field by its name in FpML
+-- the name of what departs: the row, or the field as FpML names it
 abbrev pub field_name : Field → List ℕ
 field_name field.Missing = codes "missing"
 field_name field.Extra = codes "extra"

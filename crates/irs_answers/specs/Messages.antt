@@ -21,27 +21,27 @@ refused_at b path =
 abbrev pub refused : Broken → List ℕ
 refused b = refused_at b (path_of b.place.elem)
 
--- the document has no reading
+-- the rule that a document without a reading breaks
 abbrev pub unreadable : Broken
 unreadable = record { rule = K1; place = record { stream = 0; elem = document; index = 0 } }
 
--- how a line of a calendar file is at fault
+-- the name of the way in which a line of a calendar file is at fault
 abbrev pub calendar_fault : Fault → List ℕ
 calendar_fault Syntax = codes "syntax"
 calendar_fault Repeat = codes "repeat"
 calendar_fault TooMany = codes "toomany"
 
--- a calendar file is outside its grammar or limits: the file, its line and how
+-- the line of a calendar file outside its grammar or limits: the file, its line and how
 abbrev pub bad_calendar : Spot → List ℕ
 bad_calendar s =
     codes "bad calendar " ++ decimal s.file ++ 32 ∷ decimal s.line ++ 32 ∷ calendar_fault s.fault ++ codes "\n"
 
--- the file of fixings is outside its grammar: the line and how
+-- the line of a file of fixings outside its grammar: the line and how
 abbrev pub bad_fixings : FixErr → List ℕ
 bad_fixings (fixings.Syntax line) = codes "bad fixings " ++ decimal line ++ codes " syntax\n"
 bad_fixings (fixings.Repeat line) = codes "bad fixings " ++ decimal line ++ codes " repeat\n"
 bad_fixings fixings.Memory = []
 
--- the document keeps every rule
+-- the line of a document that keeps every rule
 abbrev pub all_kept : List ℕ
 all_kept = codes "ok\n"

@@ -13,15 +13,15 @@ use Rattle.irs_net.specs.declared.table.NetRow.{NetRow}
 abbrev pub net_header : List ℕ
 net_header = codes "irs-net 1\n"
 
--- the whole text, of its rows
+-- the whole text of these rows
 abbrev pub net_page : List NetRow → List ℕ
 net_page rows = (net_header ++ flat_map net_text rows) ++ footer
 
--- the text has the rows of the one table of these sides
+-- the text has the rows of the only table of these sides
 abbrev pub TellsNetOf : Sides → List Part → List ℕ → Type 0
 TellsNetOf sides parts text = (rows : List NetRow) × Only (Net parts sides.forward) rows × (text ≡ net_page rows)
 
--- the same, of the sides that were read
+-- the sides were read, and the text has the rows of the only table of these sides
 abbrev pub TellsNet : Option Sides → List Part → List ℕ → Type 0
 TellsNet read parts text = (sides : Sides) × (read ≡ Some sides) × TellsNetOf sides parts text
 

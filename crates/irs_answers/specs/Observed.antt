@@ -1,4 +1,4 @@
--- What is due for `observations`: the days behind each rate of a stream with calculation parameters.
+-- What is due for `observations`: the days that each rate of a stream with calculation parameters is made of.
 use Rattle.std.specs.Prelude.{◌≡◌, ℕ, ◌-◌, ◌≤◌, List, Some, slice_get}
 use Rattle.irs_base.specs.Elements.{swap_stream}
 use Rattle.irs_base.specs.Faults.{fault_at, in_stream}
@@ -29,7 +29,7 @@ pub record DailyStream : Type 0 where
   pub float : FloatTerms
   pub parameters : CalculationParameters
 
--- the same from its parts
+-- a stream with these floating terms and calculation parameters
 abbrev pub daily_stream : Stream → FloatTerms → CalculationParameters → DailyStream
 daily_stream s float parameters = record { stream = s; float = float; parameters = parameters }
 
@@ -62,13 +62,13 @@ pub record AreRowsIn (number : ℕ) (x : Accruing) (parts : List Part) (y : Dail
   pub regular : Regular y.stream span
   pub are : AreObservedRows (source_in x.cal y span part) x.table rows
 
--- done, with the text of the one list of rows
+-- status 0, with the text of the only list of rows
 abbrev pub ShowsRows : ℕ → Accruing → List Part → DailyStream → ℕ → List ℕ → Type 0
 ShowsRows number x parts y status text =
     (rows : List ObservedRow) × Only (AreRowsIn number x parts y) rows
     × Is 0 (observations_text number rows) status text
 
--- what is due for the days behind each rate of the stream with that number
+-- what is due for the days that each rate of the stream with that number is made of
 abbrev pub DueObservations : ℕ → Accruing → List Part → ℕ → List ℕ → Type 0
 DueObservations number x parts status text =
     Step (IsDailyAt x.swap number) (NotDaily number status text) (λ y. ShowsRows number x parts y status text)

@@ -37,22 +37,22 @@ use Rattle.irs_answers.specs.Replying.{reply_status, reply_text}
 use Rattle.irs_answers.specs.Due.{KeepsTerms, IsFixingsFault}
 use Rattle.irs_answers.specs.Steps.{Is}
 
--- the errors of the two readers, where the place in XML is dropped
+-- the error of the JSON reader as an error of reading a document
 abbrev pub of_json : JsonErr → ReadErr
 of_json json.NotJson = reading.Unreadable
 of_json json.Memory = reading.Memory
 
--- the same of XML
+-- the error of the XML reader, without its line and column
 abbrev pub of_xml : XmlErr → ReadErr
 of_xml (xml.NotXml line column) = reading.Unreadable
 of_xml xml.Memory = reading.Memory
 
--- the refusals that errors of the calls below become: a document without a reading, and want of memory
+-- the refusal where a document has no reading, or memory ran out
 abbrev pub of_read : ReadErr → Refusal
 of_read reading.Unreadable = Rule unreadable
 of_read reading.Memory = Memory
 
--- a document or a swap that breaks a rule, and want of memory there
+-- the refusal where a document or a swap breaks a rule, or memory ran out
 abbrev pub of_stopped : Stopped Broken → Refusal
 of_stopped (stopped.Broken b) = Rule b
 of_stopped stopped.Memory = Memory
@@ -61,22 +61,22 @@ of_stopped stopped.Memory = Memory
 abbrev pub Answer : Type 0
 Answer = ℕ × List ℕ
 
--- the answer of a faulty calendar file, none for want of memory
+-- the answer of a faulty calendar file; none where memory ran out
 abbrev pub calendars_answer : CalErr → Option Answer
 calendars_answer e = option_map (λ s. (3, bad_calendar s)) (spot_of e)
 
--- of a faulty file of fixings
+-- the answer of a faulty file of fixings; none where memory ran out
 abbrev pub fixings_answer : FixErr → Option Answer
 fixings_answer (fixing.Syntax line) = Some (3, bad_fixings (fixing.Syntax line))
 fixings_answer (fixing.Repeat line) = Some (3, bad_fixings (fixing.Repeat line))
 fixings_answer fixing.Memory = None
 
--- of faulty cash flows
+-- the answer of faulty cash flows; none where memory ran out
 abbrev pub flows_answer : FlowErr → Option Answer
 flows_answer (flowing.Shape kind place) = Some (3, bad_flows kind place)
 flows_answer flowing.Memory = None
 
--- the answer of a refusal, none for want of memory
+-- the answer of a refusal; none where memory ran out
 abbrev pub answer_of : Refusal → Option Answer
 answer_of (Rule b) = Some (2, refused b)
 answer_of (Calendars e) = calendars_answer e
@@ -93,12 +93,12 @@ abbrev pub IfAnswered : Result Reply Refusal → (ℕ → List ℕ → Type 0) �
 IfAnswered (Ok o) P = P (reply_status o) (reply_text o)
 IfAnswered (Err r) P = IfRefused r P
 
--- P holds of them, and the status is one that no words, fetch or put has
+-- P holds of the status and the text, and the status is none of those of bad words, a fetch or a write
 pub record Ends (P : ℕ → List ℕ → Type 0) (status : ℕ) (text : List ℕ) : Type 0 where
   pub due : P status text
   pub verdict : status < 4
 
--- an error of a file of fixings tells of its first line that is at fault, or of want of memory
+-- an error of a file of fixings reports its first line at fault, or that memory ran out
 abbrev pub FixingsFail : Option (List ℕ) → FixErr → Type 0
 FixingsFail bytes (fixing.Syntax line) = IsFixingsFault bytes (fixing.Syntax line)
 FixingsFail bytes (fixing.Repeat line) = IsFixingsFault bytes (fixing.Repeat line)
@@ -108,7 +108,7 @@ FixingsFail bytes fixing.Memory = Unit {0}
 abbrev pub SpellsFlows : SourceText → List FlowPart → Type 0
 SpellsFlows w flows = (v : Data) × TextReads w v × FlowsOf v flows
 
--- an error of a file of flows tells that it has no reading, or the first fault of its reading, or of want of memory
+-- an error of a file of flows reports that it has no reading, its first fault, or that memory ran out
 abbrev pub FlowsFail : SourceText → FlowErr → Type 0
 FlowsFail w (flowing.Shape kind place) =
     (¬ (IsReadable w) × (kind ≡ NotJson) × (place ≡ whole_document))

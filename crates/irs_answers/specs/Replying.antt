@@ -10,7 +10,7 @@ abbrev pub reply_status : Reply → ℕ
 reply_status (Text status text) = status_number status
 reply_status (Rows schedule) = 0
 
--- and its text
+-- the text of a reply
 abbrev pub reply_text : Reply → List ℕ
 reply_text (Text status text) = text.items
 reply_text (Rows schedule) = text_of schedule

@@ -1,4 +1,4 @@
--- What the tasks ask for besides: rates in the schedule, and the sides of the streams; and the ranges of their
+-- What else the tasks need: rates in the schedule, and the sides of the streams; and the ranges of their
 -- parameters.
 use Rattle.std.specs.Prelude.{◌≤◌, Bool, true, false}
 use Rattle.irs_terms.specs.Lawful.{IsLawfulTenor}
@@ -21,7 +21,7 @@ uses_rates (Overnight stream) = false
 uses_rates (Average stream mean step) = false
 uses_rates (Interpolate stream side low high) = false
 
--- whether a task asks which party pays each stream
+-- whether a task needs to know which party pays each stream
 abbrev pub nets : Task → Bool
 nets Check = false
 nets Schedule = false

@@ -1,4 +1,5 @@
-//! The text of `accrue`: what has accrued on a day, a line a stream. Its format is this project's own.
+//! The text of `accrue`: what has accrued on a day, a line a stream. No standard has such a text, so its
+//! format is our rule.
 ghost use Rattle.std.specs.Prelude.{◌≡◌, ◌+◌, ◌<◌, Some, length, slice_get, IfOk};
 ghost use Rattle.irs_base.specs.Order.{Only};
 ghost use Rattle.irs_schedule.specs.Parts.{Part};

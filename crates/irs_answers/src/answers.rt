@@ -30,7 +30,7 @@ use irs_emit::emit_flows;
 use irs_schedule::Schedule;
 use std::alloc::Global;
 
-/// What a task comes to whose files say this.
+/// What a task comes to, by what its files say.
 pub(crate) fn answer_by(
     alloc: Global,
     task: &Task,

@@ -13,9 +13,9 @@ use irs_base::{Memory, Status};
 use irs_json::Value;
 use std::alloc::Global;
 
-/// What `carrier` comes to over the bytes of FpML XML: the value that they mean as `serde_json` writes it,
-/// without spaces and its members in byte order of their names, and LF; or K1 where they mean none. The
-/// text reads as that value. `Memory` comes where memory ran out.
+/// What `carrier` comes to over the bytes of FpML XML: the text of the value that they mean, or K1 where they
+/// mean none. The text is the one that `serde_json` writes, without spaces, with members in the byte order of
+/// their names and a line feed. It reads as that value. `Memory` comes where memory ran out.
 pub fn carrier(alloc: Global, bytes: &[u8]) -> Result<Reply, Memory>
     ensures due { IfOk result (λ r. Ends (DueCarrier bytes.now) (reply_status r) (reply_text r)) }
     ensures reads_back { IfOk result (λ r. reply_status r ≡ 0 → ReadsBack bytes.now (reply_text r)) }

@@ -126,7 +126,7 @@ fn floating_at(swap: &Swap, number: u8) -> Option<(&Stream, &FloatTerms)>
     }
 }
 
-// Both, where the stream has no `calculationParameters`.
+// The stream and its terms, where it has no `calculationParameters`.
 fn plain<'a>(stream: &'a Stream, float: &'a FloatTerms) -> Option<(&'a Stream, &'a FloatTerms)>
     ensures some { IfSome result (λ p. (p.0.now ≡ stream.now) × (p.1.now ≡ float.now) × (float.now.parameters ≡ None)) }
     ensures none { IfNone result (float.now.parameters ≡ None → ⊥) }

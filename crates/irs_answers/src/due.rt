@@ -34,7 +34,7 @@ use std::alloc::Global;
 pub struct Found {
     /// The swap that the document spells.
     pub swap: Swap,
-    /// Which party pays each stream, for a task that asks for it.
+    /// Which party pays each stream, for a task that needs it.
     pub sides: Option<Sides>,
     /// The calendar files.
     pub calendars: Calendars,
@@ -44,9 +44,9 @@ pub struct Found {
     pub schedule: Schedule,
 }
 
-/// The status and the text that a task over its files comes to, by the first step that applies: the
-/// document, the parties where the task asks for them, the calendars, the fixings, the rules of the
-/// swap, and the task's own. `Memory` comes where memory ran out.
+/// The status and the text that a task over its files comes to. The first step that applies decides: the
+/// document, the parties where the task needs them, the calendars, the fixings, the rules of the swap, and
+/// then the task's own step. `Memory` comes where memory ran out.
 pub fn reply_of(alloc: Global, task: Task, files: &TaskFiles) -> Result<Reply, Memory>
     requires lawful { IsLawfulTask task }
     requires within { IsWithin (given_by files.now) }
@@ -68,8 +68,9 @@ fn carry_out(alloc: Global, task: Task, files: &TaskFiles) -> Result<Reply, Refu
     answer_by(alloc, &task, files, found)
 }
 
-/// What the files of a task say, and the schedule, or the first step that fails: the document, the
-/// parties where the task asks for them (K8), the calendars, the fixings, the rules of the swap.
+/// What the files of a task say, and the schedule, or the first step that fails. The steps are the
+/// document, the parties where the task needs them (K8), the calendars, the fixings and the rules of the
+/// swap.
 pub fn find(alloc: Global, task: Task, files: &TaskFiles) -> Result<Found, Refusal>
     requires { IsWithin (given_by files.now) }
     ensures passes { IfOk result (λ f. Passes task (given_by files.now) (facts_by f)) }
@@ -91,7 +92,7 @@ pub fn find(alloc: Global, task: Task, files: &TaskFiles) -> Result<Found, Refus
     })
 }
 
-// Which party pays each stream, for a task that asks for it.
+// Which party pays each stream, for a task that needs it.
 fn sides_for(task: &Task, document: &Value) -> Result<Option<Sides>, Broken>
     requires { (f : BrokenRule) → DocumentFault (view document.now) f → ⊥ }
     ensures sides { IfOk result (λ o. HasSides task.now (view document.now) o) }
@@ -116,7 +117,7 @@ fn read_fixings(alloc: Global, bytes: &Option<Vec<u8>>) -> Result<Fixings, FixEr
     }
 }
 
-// The schedule that a task asks for, with the rates of the file of fixings where it uses them.
+// The schedule for a task, with the rates of the file of fixings where it uses them.
 fn schedule_for(
     alloc: Global,
     task: &Task,

@@ -12,7 +12,7 @@ pub struct TaskFiles {
     pub document: Source,
     /// The file of fixings, where there is one.
     pub fixings: Option<Vec<u8>>,
-    /// The cash flows, empty for a task that has none.
+    /// The cash flows; empty for a task without them.
     pub flows: Source,
     /// The calendar files, in order.
     pub calendars: Vec<Vec<u8>>,

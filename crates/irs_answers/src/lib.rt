@@ -1,5 +1,5 @@
-//! What a task comes to over the files that it is given: the steps that all tasks share, the last step
-//! of each, and the texts that are due.
+//! What a task comes to over its files. It has the steps that all tasks share, the last step of each, and
+//! the texts that are due.
 #![tactic(auto)]
 
 mod accruing;

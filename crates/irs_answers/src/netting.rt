@@ -1,5 +1,5 @@
-//! The text of `net`: what falls due between the two parties, a line for each date and currency. Its
-//! format is this project's own.
+//! The text of `net`: what falls due between the two parties, a line for each date and currency. No
+//! standard has such a text, so its format is our rule.
 ghost use Rattle.std.specs.Prelude.{◌≡◌, Some, length, IfOk};
 ghost use Rattle.irs_base.specs.Members.{Every};
 ghost use Rattle.irs_net.specs.Nets.{HasPlaces};
@@ -14,7 +14,7 @@ use irs_net::{NetRow, Sides, net, net_text};
 use irs_schedule::Schedule;
 use std::alloc::Global;
 
-/// The net of a schedule, whose sides were read.
+/// The net of a schedule, by the sides that were read.
 pub(crate) fn net_answer(alloc: Global, found: &Found) -> Result<Reply, Refusal>
     requires { IsSided found.now.sides found.now.schedule }
     ensures { IfAnswered result
@@ -27,7 +27,7 @@ pub(crate) fn net_answer(alloc: Global, found: &Found) -> Result<Reply, Refusal>
     Ok(Reply::Text(Status::Done, text))
 }
 
-// The whole text, of the one table of the schedule.
+// The whole text of the table of the schedule.
 fn netted_page(alloc: Global, schedule: &Schedule, sides: &Sides) -> Result<Vec<u8>, Memory>
     requires { sides.now.count ≡ length schedule.now }
     ensures { IfOk result (λ t. TellsNetOf sides.now schedule.now t.items) }
@@ -36,7 +36,7 @@ fn netted_page(alloc: Global, schedule: &Schedule, sides: &Sides) -> Result<Vec<
     rows_page(alloc, table.as_slice())
 }
 
-// The rows behind the header, and `end` behind them.
+// The header, the rows and `end`.
 fn rows_page(alloc: Global, rows: &[NetRow]) -> Result<Vec<u8>, Memory>
     requires { Every HasPlaces rows.now }
     ensures { IfOk result (λ t. t.items ≡ net_page rows.now) }

@@ -1,5 +1,5 @@
-//! The text of `observations`: the days behind each rate of a stream with `calculationParameters`. Its format is this
-//! project's own.
+//! The text of `observations`: the days that each rate of a stream with `calculationParameters` is made of.
+//! No standard has such a text, so its format is our rule.
 ghost use Rattle.std.specs.Prelude.{◌≡◌, ◌-◌, ◌<◌, ◌≤◌, Some, None, length, slice_get, IfOk, IfErr, IfSome, IfNone};
 ghost use Rattle.irs_accrue.specs.DailyAccruals.{HasSpan};
 ghost use Rattle.irs_periods.specs.Spans.{Regular};
@@ -22,7 +22,7 @@ use irs_schedule::{Schedule, StreamPart, applicable_days};
 use irs_terms::{CalculationParameters, FloatTerms, Leg, Span, Stream, Swap};
 use std::alloc::Global;
 
-/// The days behind each rate of the stream with that number.
+/// The days that each rate of the stream with that number is made of.
 pub(crate) fn observations_answer(
     alloc: Global,
     number: u8,
@@ -38,7 +38,7 @@ pub(crate) fn observations_answer(
     Ok(Reply::Text(Status::Done, text))
 }
 
-// The rows of a stream of which the schedule was made.
+// The rows of a stream that has its part of the schedule.
 fn rows_of(
     alloc: Global,
     number: u8,
@@ -130,7 +130,7 @@ fn daily_at(swap: &Swap, number: u8) -> Option<(&Stream, &FloatTerms, &Calculati
     }
 }
 
-// The three, where the stream has `calculationParameters`.
+// The stream, its terms and its `calculationParameters`, where it has them.
 fn with_parameters<'a>(
     stream: &'a Stream,
     float: &'a FloatTerms,

@@ -35,7 +35,7 @@ impl From<Memory> for Refusal {
     }
 }
 
-// What `read_document` answers.
+// The errors of `read_document`.
 impl From<ReadErr> for Refusal {
     ghost from_gives = { λ e r. r ≡ of_read e };
 
@@ -47,7 +47,7 @@ impl From<ReadErr> for Refusal {
     }
 }
 
-// What `read_swap` and `make_schedule` answer.
+// The errors of `read_swap` and `make_schedule`.
 impl From<Stopped<Broken>> for Refusal {
     ghost from_gives = { λ e r. r ≡ of_stopped e };
 
@@ -59,7 +59,7 @@ impl From<Stopped<Broken>> for Refusal {
     }
 }
 
-// What `read_sides` answers.
+// The errors of `read_sides`.
 impl From<Broken> for Refusal {
     ghost from_gives = { λ e r. r ≡ OfRule e };
 

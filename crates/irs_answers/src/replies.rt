@@ -25,7 +25,7 @@ pub enum Reply {
 }
 
 impl Reply {
-    /// The status that is answered.
+    /// The status of the reply.
     pub fn status(&self) -> u8
         ensures { result ≡ reply_status self.now }
     {
@@ -59,8 +59,8 @@ impl Reply {
 }
 
 impl Refusal {
-    /// The line that tells of a refusal, with its status; want of memory has none. `Memory` comes for
-    /// that, and where memory ran out.
+    /// The line that reports a refusal, with its status. `Memory` comes where the refusal is `Memory`, which
+    /// has no line, and where memory ran out.
     pub fn reply(self, alloc: Global) -> Result<Reply, Memory>
         ensures { IfOk result (λ r. answer_of self ≡ Some (reply_status r, reply_text r)) }
     {

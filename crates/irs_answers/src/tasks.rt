@@ -1,4 +1,4 @@
-//! What may be asked of a document and the files beside it.
+//! The tasks over a document and the files that go with it.
 ghost use Rattle.std.specs.Prelude.{◌≡◌};
 ghost use Rattle.irs_answers.specs.Tasks.{nets, uses_rates};
 
@@ -6,7 +6,7 @@ use irs_average::{Mean, Side};
 use irs_base::Day;
 use irs_terms::Frequency;
 
-/// What is asked of a document and the files beside it.
+/// A task over a document and the files that go with it.
 #[derive(Clone, Copy)]
 pub enum Task {
     /// Whether a document keeps every rule.
@@ -23,7 +23,7 @@ pub enum Task {
     Accrue(Day),
     /// What falls due between the two parties on each date and in each currency.
     Net,
-    /// The days and the daily rates behind each rate of the stream with this number, from 1.
+    /// The days and the daily rates that each rate of the stream with this number, from 1, is made of.
     Observations(u8),
     /// The rates that daily rates give for the calculation periods of the stream with this number, from 1.
     Overnight(u8),
@@ -62,7 +62,7 @@ impl Task {
         }
     }
 
-    /// Whether the task asks which party pays each stream.
+    /// Whether the task needs to know which party pays each stream.
     pub(crate) fn nets(&self) -> bool
         ensures { result ≡ nets self.now }
     {

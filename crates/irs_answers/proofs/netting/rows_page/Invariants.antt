@@ -4,6 +4,7 @@ use Rattle.irs_net.specs.NetTexts.{net_text}
 use Rattle.irs_answers.specs.Netted.{net_header}
 use Rattle.irs_answers.proofs.netting.rows_page.Given as goal
 
+-- the text has the rows so far
 abbrev pub invariant-loop-row : goal.invariant-loop-row
 invariant-loop-row l = record {
   text : l.text.items ≡ net_header ++ flat_map net_text (take l.row-index l.rows);
