@@ -44,9 +44,9 @@ pub struct Found {
     pub schedule: Schedule,
 }
 
-/// The status and the text that a task over its files comes to. The first step that applies decides: the
-/// document, the parties where the task needs them, the calendars, the fixings, the rules of the swap, and
-/// then the task's own step. `Memory` comes where memory ran out.
+/// The status and the text that a task over its files comes to. The first step that applies decides. The
+/// steps are the document, the parties where the task needs them, the calendars, the fixings and the rules of
+/// the swap. The task's own step comes last. `Memory` comes where memory ran out.
 pub fn reply_of(alloc: Global, task: Task, files: &TaskFiles) -> Result<Reply, Memory>
     requires lawful { IsLawfulTask task }
     requires within { IsWithin (given_by files.now) }

@@ -1,4 +1,4 @@
--- A run of `bulk`: the first document without a schedule, or the sums; and that one answer is due.
+-- A run of `bulk` gives the first document without a schedule, or the sums; one answer is due.
 use Rattle.std.proofs.Common.{◌≡◌, inl, inr, ℕ, zero, suc, ◌<◌, ◌≤◌, List, [], ◌∷◌, Bool, true, false, Option, Some}
 use Rattle.std.proofs.Common.{None, Result, Ok, Err, refl, sym, ◌∙◌, ap, subst, arith}
 use Rattle.std.specs.Prelude.{IfErr, IfOk, IfSome}
@@ -119,7 +119,7 @@ bulk_sums n t h = record {
   case = inr (t, h);
 }
 
--- ---- a refusal isn't what is due for a document with a schedule
+-- ---- no refusal is due for a document with a schedule
 
 calendars_zero : (e : CalErr) → IfSome (answer_of (Calendars e)) (λ a. a.0 ≡ 0 → ⊥)
 calendars_zero (calendar.Syntax file line) = λ z. omega (arith, z)
@@ -212,7 +212,7 @@ one_at s u t v k h i =
     (λ p. DueSchedule true k u v) (one_due Schedule (files_of false k) s u t v)
     (λ p. one_due Schedule (files_of true k) s u t v) h i
 
--- one status and one text are due
+-- one status and one text are due for a run
 pub one_bulk : (s u : ℕ) (t v : List ℕ) (n : ℕ) → DueBulk n s t → DueBulk n u v → (s ≡ u) × (t ≡ v)
 one_bulk s u t v n h i = elim h.case [
   | inl stop ↦ one_at s u t v stop.0 (h.stops stop.0 stop.1) (i.stops stop.0 stop.1)

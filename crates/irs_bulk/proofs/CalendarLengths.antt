@@ -1,4 +1,4 @@
--- How long the calendar file is.
+-- The length of the calendar file.
 use Rattle.std.proofs.Common.{◌≡◌, ℕ, zero, suc, ◌+◌, ◌*◌, ◌≤◌, length, length-append, refl, arith}
 use Rattle.std.specs.List.{flat_map}
 use Rattle.irs_base.specs.Limits.{most_bytes}
@@ -17,7 +17,7 @@ length_years y (suc n) =
       length_years (y + 1) n,
     )
 
--- it is no longer than a file may be
+-- the calendar file is no longer than a file may be
 pub calendar_short : length calendar_text ≤ most_bytes
 unfolding calendar_text
 calendar_short =

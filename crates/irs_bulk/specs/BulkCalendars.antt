@@ -3,7 +3,7 @@ use Rattle.std.specs.Prelude.{ℕ, zero, suc, ◌+◌, List, [], ◌∷◌, ◌+
 use Rattle.std.specs.List.{flat_map}
 use Rattle.irs_base.specs.Texts.{date_text}
 
--- years in a row: the first, and how many
+-- consecutive years: the first, and how many
 abbrev pub years_from : ℕ → ℕ → List ℕ
 years_from first zero = []
 years_from first (suc n) = first ∷ years_from (first + 1) n

@@ -7,11 +7,11 @@ use Rattle.irs_base.specs.declared.rounding.Direction.TheVariants.{Nearest}
 use Rattle.irs_bulk.specs.Documents.{most_bulk}
 use Rattle.irs_bulk.specs.declared.totals.Totals.{Totals}
 
--- no count of one document is greater
+-- the greatest count of one document
 abbrev pub most_count : ℕ
 most_count = 2 ^ 32
 
--- no sum of amounts or of days of one document is greater in size
+-- the greatest size of a sum of amounts or of days of one document
 abbrev pub most_sum : ℕ
 most_sum = 10 ^ 32
 
@@ -24,11 +24,11 @@ pub record IsRun (t : Totals) : Type 0 where
   pub agree : t.agree ≤ t.documents
   pub first : t.first ≤ t.documents * most_count
 
--- the sums of no document
+-- the sums of no documents
 abbrev pub no_totals : Totals
 no_totals = record { documents = 0; rows = 0; total = pos 0; days = pos 0; agree = 0; first = 0 }
 
--- the sums of both
+-- the sums of two runs, added up
 abbrev pub both_totals : Totals → Totals → Totals
 both_totals t u = record {
   documents = t.documents + u.documents;
@@ -39,12 +39,12 @@ both_totals t u = record {
   first = t.first + u.first;
 }
 
--- the sums of all, from these on
+-- the sums of a list of runs, added to these
 abbrev pub totals_from : Totals → List Totals → Totals
 totals_from t [] = t
 totals_from t (u ∷ us) = totals_from (both_totals t u) us
 
--- N, ROWS, TOTAL with two decimals, DAYS, AGREE and FIRST
+-- the line of a run: N, ROWS, TOTAL with two decimals, DAYS, AGREE and FIRST
 unfoldable pub line_text : Totals → List ℕ
 line_text t =
     codes "bulk " ++ decimal t.documents ++ 32 ∷ decimal t.rows

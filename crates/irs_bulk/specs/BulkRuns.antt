@@ -101,7 +101,8 @@ pub record IsStop (n k : ℕ) : Type 0 where
   pub before : (j : ℕ) → 0 < j → j < k → HasBoth j
   pub none : ¬ (HasBoth k)
 
--- what is due at document k: what `schedule` says of it where it has no schedule, else what that says of its plain form
+-- what is due at document k: what `schedule` prints for it where it has no schedule, otherwise for its plain
+-- form
 abbrev pub DueAt : ℕ → ℕ → List ℕ → Type 0
 DueAt k status text =
     Step (IsScheduleOf false k) (DueSchedule false k status text) (λ s. DueSchedule true k status text)
@@ -110,11 +111,11 @@ DueAt k status text =
 pub record DueBulk (n : ℕ) (status : ℕ) (text : List ℕ) : Type 0 where
   -- a document has no schedule, or its plain form has none: the first such document answers
   pub stops : (k : ℕ) → IsStop n k → DueAt k status text
-  -- else the sums are printed
+  -- otherwise the sums are printed
   pub sums : (t : Totals) → AreSums n t → Is 0 (line_text t) status text
   -- one of these applies
   pub case : ((k : ℕ) × IsStop n k) ⊎ ((t : Totals) × AreSums n t)
 
--- one status and one text are due
+-- one status and one text are due for a run
 abbrev pub IsOneBulk : ℕ → Type 0
 IsOneBulk n = (s u : ℕ) (t v : List ℕ) → DueBulk n s t → DueBulk n u v → (s ≡ u) × (t ≡ v)

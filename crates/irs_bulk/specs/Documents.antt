@@ -12,7 +12,7 @@ most_bulk = 500
 abbrev pub roll_of : ℕ → ℕ
 roll_of k = 1 + k % 28
 
--- the month of both dates
+-- the month of the effective and the termination date
 abbrev pub month_of : ℕ → ℕ
 month_of k = 1 + k % 12
 
@@ -28,7 +28,7 @@ effective_text k = date_text (year_of k) (month_of k) (roll_of k)
 abbrev pub termination_text : ℕ → List ℕ
 termination_text k = date_text (year_of k + 20) (month_of k) (roll_of k)
 
--- the conventions, which the documents have in turn
+-- the conventions, which the documents use in turn
 abbrev pub conventions : List (List ℕ)
 conventions =
     codes "NONE" ∷ codes "FOLLOWING" ∷ codes "MODFOLLOWING" ∷ codes "PRECEDING" ∷ codes "MODPRECEDING"
@@ -38,21 +38,21 @@ conventions =
 unfoldable pub convention_text : Bool → ℕ → List ℕ
 convention_text plain k = if plain then codes "NONE" else slice_index_or conventions ((k - 1) % 6) []
 
--- the notional
+-- the notional of document k
 unfoldable pub notional_text : ℕ → List ℕ
 notional_text k = decimal (1000000 + 1000 * k)
 
--- k in four digits after the point
+-- the rate of document k: k in four digits after the point
 unfoldable pub rate_text : ℕ → List ℕ
 rate_text k = codes "0." ++ two_digits (k / 100) ++ two_digits (k % 100)
 
--- the day counts, which the documents have in turn
+-- the day counts, which the documents use in turn
 abbrev pub day_counts : List (List ℕ)
 day_counts =
     codes "1/1" ∷ codes "ACT/ACT.ISDA" ∷ codes "ACT/365.FIXED" ∷ codes "ACT/360" ∷ codes "30/360" ∷ codes "30E/360"
     ∷ codes "30E/360.ISDA" ∷ []
 
--- the day count
+-- the day count of document k
 unfoldable pub day_count_text : ℕ → List ℕ
 day_count_text k = slice_index_or day_counts ((k - 1) % 7) []
 
@@ -76,19 +76,19 @@ dates_text adjustments k =
     ++ codes "},\n\"calculationPeriodFrequency\":{\"periodMultiplier\":\"1\",\"period\":\"M\",\"rollConvention\":\""
     ++ decimal (roll_of k) ++ codes "\"}},\n"
 
--- when it pays
+-- when a document pays
 unfoldable pub payments_text : List ℕ → List ℕ
 payments_text adjustments =
     codes "\"paymentDates\":{\"paymentFrequency\":{\"periodMultiplier\":\"1\",\"period\":\"M\"},\n\"payRelativeTo\":\"CalculationPeriodEndDate\",\n\"paymentDatesAdjustments\":{" ++ adjustments ++ codes "}},\n"
 
--- what it pays
+-- what document k pays
 unfoldable pub amounts_text : ℕ → List ℕ
 amounts_text k =
     codes "\"calculationPeriodAmount\":{\"calculation\":{\n\"notionalSchedule\":{\"notionalStepSchedule\":{\"initialValue\":\"" ++ notional_text k
     ++ codes "\",\"currency\":\"USD\"}},\n\"fixedRateSchedule\":{\"initialValue\":\"" ++ rate_text k
     ++ codes "\"},\"dayCountFraction\":\"" ++ day_count_text k ++ codes "\"}}}}}\n"
 
--- the document whose dates are adjusted as the element says
+-- document k with dates adjusted as this element says
 abbrev pub document_with : List ℕ → ℕ → List ℕ
 document_with adjustments k =
     codes "{\"swap\":{\"swapStream\":{\n" ++ dates_text adjustments k ++ payments_text adjustments ++ amounts_text k

@@ -7,7 +7,7 @@ use crate::digits::{put, put_date};
 use irs_base::Memory;
 use std::alloc::Global;
 
-// The two holidays of a year.
+// Appends the two holidays of a year.
 fn put_holidays(text: &mut Vec<u8>, year: u32) -> Result<(), Memory>
     requires { year < 10_000 }
     ensures { OnOk result (text.new.items ≡ text.old.items ++ holidays_text year) }

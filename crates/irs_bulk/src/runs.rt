@@ -1,7 +1,7 @@
 //! A run of `bulk`: the schedules of its documents, added up.
 //!
 //! The calendar is read once. A document's own faults are reported before those of the calendar, as
-//! `schedule` reports them. What one document needs is let go before the next.
+//! `schedule` reports them. The memory of one document is freed before the next.
 ghost use Rattle.std.specs.Prelude.{◌≡◌, ◌<◌, ◌≤◌, ◌^◌, [], ◌∷◌, map, IfErr, IfOk};
 ghost use Rattle.irs_terms.specs.Lawful.{IsLawful};
 ghost use Rattle.irs_answers.specs.Due.{Spells};
@@ -28,11 +28,12 @@ use std::alloc::Global;
 
 /// What `bulk N` comes to; the command is ours. For each k from 1 to N it makes the schedule of
 /// document k and that of its plain form. The calendar is that of their centre, and there are no
-/// fixings. Where one of them can't be made, the answer is what `schedule` says of the first such
-/// k, of the document where neither can be. Else it is 0 and the line of the sums. They are
-/// payments and calculation periods, amounts and days of the documents' schedules. AGREE counts the
-/// schedules that agree with the flows that state their plain schedule. FIRST adds up the numbers
-/// of the first rows that depart in the others. `Memory` comes only where memory ran out.
+/// fixings. Where one of them can't be made, the reply is what `schedule` prints for the first such
+/// k: for the document where it has no schedule, otherwise for its plain form. Else the status is 0
+/// and the text is the line of the sums. They are payments and calculation periods, amounts and days
+/// of the documents' schedules. AGREE counts the schedules that agree with the flows that state their
+/// plain schedule. FIRST adds up the numbers of the first rows that depart in the others. `Memory`
+/// comes only where memory ran out.
 pub fn bulk(alloc: Global, n: u32) -> Result<Reply, Memory>
     requires { n ≤ most_bulk }
     ensures due { IfOk result (λ r. Ends (DueBulk n) (reply_status r) (reply_text r)) }
@@ -91,7 +92,7 @@ fn calendars(alloc: Global) -> Result<Calendars, CalErr>
     }
 }
 
-// The files of its centre: one.
+// The calendar files: one, of the centre BULK.
 fn calendar_files(alloc: Global) -> Result<Vec<Vec<u8>>, Memory>
     ensures { IfOk result (λ files. map (λ f. f.items) files.items ≡ calendar_text ∷ []) }
 {

@@ -11,7 +11,7 @@ use irs_base::{Dec, Direction, Line, round};
 /// Sums over the schedules of a run.
 #[derive(Clone, Copy)]
 pub struct Totals {
-    /// How many documents they are of.
+    /// The number of documents.
     pub documents: u32,
     /// Payments and calculation periods.
     pub rows: u64,
@@ -21,7 +21,7 @@ pub struct Totals {
     pub days: i128,
     /// How many schedules agree with the flows that state their plain schedule.
     pub agree: u32,
-    /// Of the others, the numbers of the first rows that depart.
+    /// The sum of the numbers of the first rows that depart in the others.
     pub first: u64,
 }
 
@@ -33,7 +33,7 @@ fn sum(a: i128, b: i128) -> i128
 }
 
 impl Totals {
-    /// The sums of no document.
+    /// The sums of no documents.
     pub fn none() -> Totals
         ensures value { result ≡ no_totals }
         ensures run { IsRun result }
@@ -67,7 +67,7 @@ impl Totals {
     }
 }
 
-// A space and a number that counts.
+// Appends a space and a count.
 fn put_count(line: &mut Line, n: u64)
     requires { length line.old + 41 ≤ 512 }
     ensures text { line.new ≡ line.old ++ 32 ∷ decimal n }
@@ -76,7 +76,7 @@ fn put_count(line: &mut Line, n: u64)
     line.put_whole(b' ', i128::from(n));
 }
 
-// A space and an amount in units of 10^-12, rounded to two decimals.
+// Appends a space and an amount in units of 10^-12, rounded to two decimals.
 fn put_total(line: &mut Line, total: i128)
     requires size { unsigned_abs total ≤ most_bulk * most_sum }
     requires room { length line.old + 54 ≤ 512 }

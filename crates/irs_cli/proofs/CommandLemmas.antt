@@ -63,7 +63,7 @@ pub kept_yes : (role : Role) (place : ℕ) (w : List ℕ) → is_file role w ≡
     → kept role place w ≡ record { place = place; role = role; name = w } ∷ []
 kept_yes role place w e = ap (λ (b : Bool). if b then record { place = place; role = role; name = w } ∷ [] else []) e
 
--- a word that names none is not
+-- a word that names no file isn't kept
 pub kept_no : (role : Role) (place : ℕ) (w : List ℕ) → is_file role w ≡ false → kept role place w ≡ []
 kept_no role place w e = ap (λ (b : Bool). if b then record { place = place; role = role; name = w } ∷ [] else []) e
 
@@ -158,7 +158,7 @@ one_request kind.Average ws r q h i = one_average ws r q h i
 one_request kind.Interpolate ws r q h i = one_interpolate ws r q h i
 one_request kind.Carrier ws r q h i = i.is ∙ sym h.is
 
--- its parameters lie in their ranges
+-- the parameters of a request lie in their ranges
 lawful_by : (k : Kind) (ws : Words) (r : Request) → IsRequest k ws r → IsLawfulRequest r
 lawful_by kind.Check ws r h = subst IsLawfulRequest (sym h) tt
 lawful_by kind.Schedule ws r h = subst IsLawfulRequest (sym h) tt
@@ -178,6 +178,7 @@ lawful_by kind.Interpolate ws r h =
     )
 lawful_by kind.Carrier ws r h = subst IsLawfulRequest (sym h.is) tt
 
+-- a command with this request and these files
 abbrev asked : Request → List Wanted → Asked
 asked r fs = record { request = r; files = fs }
 
@@ -198,7 +199,7 @@ one_command (w ∷ ws) a b h k =
 
 -- ---- the command of words
 
--- where no command is found the words are none
+-- where no command is found the words are no listed command
 pub unlisted_by : (ws : Words) (o : Option Command) → IsCommand ws (option_map asked_by o) → o ≡ None → IsListed ws → ⊥
 unlisted_by ws o e n = subst (λ (x : Option Command). IsCommand ws (option_map asked_by x)) n e
 
@@ -241,11 +242,12 @@ abbrev pub cals : List Wanted → ℕ
 cals [] = 0
 cals (w ∷ ws) = is_cal w.role + cals ws
 
+-- the number of calendars among roles
 abbrev all_cals : List Role → ℕ
 all_cals [] = 0
 all_cals (r ∷ rs) = is_cal r + all_cals rs
 
--- a row of the table: its roles are no calendars, and it has no more calendars than a reader takes
+-- in a row of the table the roles are no calendars, and its most calendars are no more than a reader takes
 row_fits : (k : Kind) → (all_cals (roles_of k) ≡ 0) × (calendars_of k ≤ most_calendars)
 row_fits kind.Check = (refl, omega arith)
 row_fits kind.Schedule = (refl, omega arith)

@@ -1,4 +1,4 @@
--- What the fetch of files says of the files that are told.
+-- What the fetch of files says of the files that the source states.
 use Rattle.std.proofs.Common.{◌≡◌, inl, inr, ℕ, zero, suc, ◌+◌, ◌<◌, ◌≤◌, List, [], ◌∷◌, ◌++◌, length, map, take, drop}
 use Rattle.std.proofs.Common.{get_or, Option, Some, None, refl, sym, ◌∙◌, ap, subst, arith}
 use Rattle.std.specs.Prelude.{IfSome, IsErr, Result, Ok, Err}
@@ -19,8 +19,9 @@ use Rattle.irs_cli.specs.Given.{Told, Gathers, Reaches, text_as, with_file}
 use Rattle.irs_cli.specs.Fetching.{Holds, NotLong, FailedAt, OverAt, Stops, StopsOne, FetchesAll}
 use Rattle.irs_cli.proofs.FileLemmas.{gathers_reach, gathers_more}
 
--- ---- what a later call is told is what was told before it
+-- ---- the source states the same at a later call
 
+-- a source states the same later as before
 abbrev Same : Told → Told → Type 0
 Same told later = (n : List ℕ) → later n ≡ told n
 
@@ -136,7 +137,7 @@ all_by told failed before now ws (Err x) e h k s =
 
 -- ---- the first bytes of a file
 
--- bytes with fewer than asked are the whole file
+-- fewer bytes than requested are the whole file
 pub front_whole : (n : ℕ) (o : Option (List ℕ)) (b : List ℕ) → IfSome o (λ xs. b ≡ take n xs) → length b < n
     → IfSome o (λ xs. b ≡ xs)
 front_whole n None b h short = tt
@@ -146,7 +147,7 @@ front_whole n (Some xs) b h short = elim (cases_lt (length xs) n) [
       let k : length b ≡ length (take n xs) = ap (λ (x : List ℕ). length x) h in absurd (omega arith)
 ]
 
--- as many bytes as asked mean a long file
+-- as many bytes as requested mean a long file
 pub front_long : (n : ℕ) (o : Option (List ℕ)) (b : List ℕ) → IfSome o (λ xs. b ≡ take n xs) → n ≤ length b
     → IfSome o (λ xs. n ≤ length xs)
 front_long n None b h long = tt

@@ -11,7 +11,7 @@ use Rattle.irs_answers.specs.Forms.{SourceText}
 use Rattle.irs_cli.specs.Given.{with_file, text_as, Gathers, Each, Reaches}
 use Rattle.irs_cli.proofs.CommandLemmas.{is_cal, cals}
 
--- two firsts of one list are one, where passing one excludes being the other
+-- two first files of one list are the same, where passing one excludes being the other
 pub reaches_meet : {X : Type 0} (P Q R S : Wanted → Type 0) (ws : List Wanted) → ((w : Wanted) → Q w → S w → X)
     → ((w : Wanted) → P w → S w → ⊥) → ((w : Wanted) → Q w → R w → ⊥) → Reaches P Q ws → Reaches R S ws → X
 reaches_meet P Q R S [] both pass stop h k = absurd h
@@ -20,14 +20,14 @@ reaches_meet P Q R S (w ∷ ws) both pass stop (inl q) (inr k) = absurd (stop w 
 reaches_meet P Q R S (w ∷ ws) both pass stop (inr h) (inl s) = absurd (pass w h.0 s)
 reaches_meet P Q R S (w ∷ ws) both pass stop (inr h) (inr k) = reaches_meet P Q R S ws both pass stop h.1 k.1
 
--- with what holds of each file
+-- a file is reached by weaker conditions, given what holds of each file
 pub reaches_with : (P Q R S E : Wanted → Type 0) (ws : List Wanted) → ((w : Wanted) → E w → P w → R w)
     → ((w : Wanted) → E w → Q w → S w) → Each E ws → Reaches P Q ws → Reaches R S ws
 reaches_with P Q R S E [] p q e h = h
 reaches_with P Q R S E (w ∷ ws) p q e (inl h) = inl (q w e.0 h)
 reaches_with P Q R S E (w ∷ ws) p q e (inr h) = inr (p w e.0 h.0, reaches_with P Q R S E ws p q e.1 h.1)
 
--- what is gathered holds nothing that stops
+-- where all files are gathered, no file stops the fetching
 pub gathers_none : (R : List ℕ → List ℕ → Type 0) (P Q : Wanted → Type 0) (ws : List Wanted) (g h : Given)
     → ((w : Wanted) (bytes : List ℕ) → R w.name bytes → Q w → ⊥) → Gathers R ws g h → Reaches P Q ws → ⊥
 gathers_none R P Q [] g h never k r = r
@@ -43,7 +43,7 @@ gathers_one R S (w ∷ ws) g h k same a b =
     gathers_one R S ws (with_file g w.role (text_as w.name a.0)) h k same a.2
     (subst (λ (x : List ℕ). Gathers S ws (with_file g w.role (text_as w.name x)) k) e b.2)
 
--- files are gathered by another relation that their names keep
+-- files are gathered by another relation, where it follows for each file
 pub gathers_with : (R S : List ℕ → List ℕ → Type 0) (E : Wanted → Type 0) (ws : List Wanted) (g h : Given)
     → ((w : Wanted) (bytes : List ℕ) → E w → R w.name bytes → S w.name bytes) → Each E ws → Gathers R ws g h
     → Gathers S ws g h
@@ -57,7 +57,7 @@ pub gathers_more : (R : List ℕ → List ℕ → Type 0) (ws : List Wanted) (w 
 gathers_more R [] w bytes g h k r = (bytes, r, ap (λ (x : Given). with_file x w.role (text_as w.name bytes)) k)
 gathers_more R (v ∷ ws) w bytes g h k r = (k.0, k.1, gathers_more R ws w bytes (with_file g v.role (text_as v.name k.0)) h k.2 r)
 
--- what comes next behind files that are gathered is reached
+-- the next file after those that are gathered is reached
 pub gathers_reach : (R : List ℕ → List ℕ → Type 0) (P Q : Wanted
     → Type 0) (ws rest : List Wanted) (w : Wanted) (g h : Given)
     → ((v : Wanted) (bytes : List ℕ) → R v.name bytes → P v) → Gathers R ws g h → Q w → Reaches P Q (ws ++ w ∷ rest)

@@ -1,4 +1,4 @@
--- Answers that are handed on.
+-- Answers that are passed on.
 use Rattle.std.proofs.Common.{◌≡◌, ℕ, List, Option, Some, None, Bool, true, false, Result, Ok, Err, sym, subst}
 use Rattle.std.specs.Prelude.{IfNone, IsErr, IsTrue}
 use Rattle.std.specs.Result.{IsErrAnd}
@@ -12,12 +12,12 @@ pub answered_by : (r : Result Reply Refusal) (e : Refusal) (P : ℕ → List ℕ
 answered_by (Ok x) e P h k p = absurd k
 answered_by (Err x) e P h k p = subst (λ (y : Refusal). IfRefused y P) (sym k) p
 
--- what holds holds where there is no answer
+-- a fact also holds where there is no answer
 pub if_none : {X : Type 0} (o : Option X) (P : Type 0) → P → IfNone o P
 if_none None P p = p
 if_none (Some x) P p = tt
 
--- what follows where there is nothing
+-- a fact that holds where there is no value gives another that follows from it
 pub none_then : {X : Type 0} (o : Option X) (P Q : Type 0) → IfNone o P → (P → Q) → IfNone o Q
 none_then None P Q p f = f p
 none_then (Some x) P Q p f = tt
@@ -26,11 +26,11 @@ none_then (Some x) P Q p f = tt
 pub ok_same : {A E : Type 0} (r : Result A E) (x y : A) → r ≡ Ok x → r ≡ Ok y → x ≡ y
 ok_same r x y h k = cc
 
--- a result is no value and error at once
+-- a result is not a value and an error at once
 pub ok_not_err : {A E : Type 0} (r : Result A E) (x : A) (e : E) → r ≡ Ok x → r ≡ Err e → ⊥
 ok_not_err r x e h k = cc
 
--- what is false is not true
+-- a false test is not true
 pub not_true : (b : Bool) → b ≡ false → IsTrue b → ⊥
 not_true true e h = cc
 not_true false e h = cc

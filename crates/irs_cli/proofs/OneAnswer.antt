@@ -1,4 +1,4 @@
--- Where the source tells every file that the words name, one status and one text are due.
+-- Where the source states every file that the words name, one status and one text are due.
 use Rattle.std.proofs.Common.{◌≡◌, ℕ, List, sym, ◌∙◌}
 use Rattle.irs_answers.specs.Given.{Given}
 use Rattle.irs_answers.specs.Steps.{Is}

@@ -21,7 +21,7 @@ use Rattle.irs_terms.specs.declared.frequency.Unit.TheVariants.{D, W, M, Y, T}
 use Rattle.irs_cli.specs.Params.{At, IsCountWord, IsDateWord, IsFromWord, IsMeanWord, IsSideWord, IsStepWord}
 use Rattle.irs_cli.specs.Params.{IsStreamWord, IsTenorWord, days_of, mean_name, side_name}
 
--- the word at a place is one for one x at most, where a word is
+-- the word at a place spells one x at most, where every word does
 pub one_at : {X : Type 0} (Is : List ℕ → X → Type 0) → ((w : List ℕ) (x y : X) → Is w x → Is w y → y ≡ x)
     → (ps : List (List ℕ)) (i : ℕ) (x y : X) → At Is ps i x → At Is ps i y → y ≡ x
 one_at Is one ps i x y h k =
@@ -41,7 +41,7 @@ long_date text d (inr h) =
     let m : length text ≡ length h.0 + 1 = ap length h.1 ∙ length-append h.0 (90 ∷ []) in
     omega (arith, n, m)
 
--- `-` is none
+-- `-` is no date
 no_date : (d : ℤ) → IsDateWord (codes "-") d → ⊥
 no_date d h = let n : 10 ≤ 1 = long_date (codes "-") d h.is in omega (arith, n)
 
@@ -173,7 +173,7 @@ letter_if false false false false x e is = cc
 letter_is : (b : ℕ) (x : FrequencyUnit) → unit_at b ≡ Some x → x ≡ T → ⊥
 letter_is b x e = letter_if (b == 68) (b == 87) (b == 77) (b == 89) x e
 
--- a count and a unit that are a tenor
+-- a count from 1 to 999 and a unit are a lawful tenor
 unit_lawful : (o : Option ℕ) (p : Option FrequencyUnit) (f : Frequency) → ((n : ℕ) → o ≡ Some n → (1 ≤ n) × (n ≤ 999))
     → ((u : FrequencyUnit) → p ≡ Some u → u ≡ T → ⊥) → with_unit o p ≡ Some (Some f) → IsLawfulTenor f
 unit_lawful (Some n) (Some u) f count letter e =

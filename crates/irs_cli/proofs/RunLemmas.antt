@@ -77,6 +77,7 @@ over_told : (told : Told) (place : ℕ) (w : Wanted) (bytes : List ℕ) → IsTo
 over_told told place w bytes k h = let l : too_many ≤ length bytes =
     at_some (told w.name) bytes (λ xs. too_many ≤ length xs) k.0 h.long in omega (arith, l, k.1)
 
+-- the source states the file
 abbrev Tells : Told → Wanted → Type 0
 Tells told w = (bytes : List ℕ) × (told w.name ≡ Some bytes)
 
@@ -200,7 +201,7 @@ module _ (ws : Words) (files : Source) (status : ℕ) (text : List ℕ) (r : Rep
     ]
   ]
 
-  -- its text was put
+  -- the text of the reply was written
   pub put_ran : (old new : Option (List ℕ)) (before after : ℕ) → Grew old new text → after ≡ before
       → Ran ws files (written old new before after) status
   put_ran old new before after grew quiet = record {
@@ -221,7 +222,7 @@ module _ (ws : Words) (files : Source) (status : ℕ) (text : List ℕ) (r : Rep
     out_cause = λ less. absurd (omega (arith, less, quiet));
   }
 
-  -- a put failed
+  -- a write failed
   pub put_failed_ran : (old new : Option (List ℕ)) (before after : ℕ) → GrewByFront old new text → Rose before after
       → Ran ws files (written old new before after) 6
   put_failed_ran old new before after front rose = record {
@@ -238,7 +239,7 @@ module _ (ws : Words) (files : Source) (status : ℕ) (text : List ℕ) (r : Rep
     out_cause = λ _. refl;
   }
 
--- out of memory, before anything was put
+-- out of memory, before anything was written
 pub memory_ran : (ws : Words) (files : Source) (old : Option (List ℕ)) (faults : ℕ)
     → Ran ws files (written old old faults faults) 7
 memory_ran ws files old faults = record {

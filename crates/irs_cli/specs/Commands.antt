@@ -20,7 +20,7 @@ use Rattle.irs_cli.specs.Params.{At, IsCountWord, IsDateWord, IsFromWord, IsMean
 use Rattle.irs_cli.specs.Params.{IsStreamWord, IsTenorWord, form_of}
 use Rattle.irs_answers.specs.declared.forms.Form.TheVariants.{Xml}
 
--- the words behind the program's name, by their bytes
+-- the words after the program's name, by their bytes
 abbrev pub Words : Type 0
 Words = List (List ℕ)
 
@@ -28,30 +28,30 @@ Words = List (List ℕ)
 abbrev pub texts : List (String Global) → Words
 texts ws = map string_bytes ws
 
--- a file that is wanted: the place of its word behind the command, from 1, its role and its name
+-- a file that is wanted: the place of its word after the command, from 1, its role and its name
 pub record Wanted : Type 0 where
   pub place : ℕ
   pub role : Role
   pub name : List ℕ
 
--- a command: what is asked for, and its files in the order of the words
+-- a command: its request, and its files in the order of the words
 pub record Asked : Type 0 where
   pub request : Request
   pub files : List Wanted
 
--- a file and a command as the code keeps them
+-- a wanted file as the code keeps it
 abbrev pub wanted_by : Named → Wanted
 wanted_by n = record { place = n.place; role = n.role; name = n.name.now }
 
--- the same of a command
+-- a command as the code keeps it
 abbrev pub asked_by : Command → Asked
 asked_by c = record { request = c.request; files = map wanted_by c.files.items }
 
--- no command has more words behind its parameters
+-- the most words that a command has after its parameters
 abbrev pub most_words : ℕ
 most_words = most_calendars + 3
 
--- ---- the table: a command's name, how many parameters, the roles of its files, and how many calendars may follow
+-- ---- the table: a command's name, its number of parameters, the roles of its files, and its most calendars
 
 -- the command of a name
 abbrev pub kind_of : List ℕ → Option Kind
@@ -70,7 +70,7 @@ kind_of w =
     if bytes_eq w (codes "interpolate") then Some kind.Interpolate else
     if bytes_eq w (codes "carrier") then Some kind.Carrier else None
 
--- how many words come before its files
+-- how many words of a command come before its files
 abbrev pub params_of : Kind → ℕ
 params_of kind.Check = 0
 params_of kind.Schedule = 0
@@ -86,7 +86,7 @@ params_of kind.Average = 3
 params_of kind.Interpolate = 4
 params_of kind.Carrier = 0
 
--- the roles of its first files, in the order of the words
+-- the roles of the first files of a command, in the order of the words
 abbrev pub roles_of : Kind → List Role
 roles_of kind.Check = Document ∷ []
 roles_of kind.Schedule = Document ∷ Fixings ∷ []
@@ -120,11 +120,11 @@ calendars_of kind.Carrier = 0
 
 -- ---- what the table says of words
 
--- the role of the word with this index behind the parameters: the calendars come last
+-- the role of the word with this index after the parameters: the calendars come last
 abbrev pub role_at : List Role → ℕ → Role
 role_at roles i = unwrap_or (slice_get roles i) Calendar
 
--- `-` stands for no fixings, and is no file
+-- whether a word names a file: `-` means no fixings and is no file
 abbrev pub is_file : Role → List ℕ → Bool
 is_file Document w = true
 is_file Fixings w = not (bytes_eq w (codes "-"))
@@ -135,12 +135,12 @@ is_file Calendar w = true
 abbrev pub kept : Role → ℕ → List ℕ → List Wanted
 kept role place w = if is_file role w then record { place = place; role = role; name = w } ∷ [] else []
 
--- the files that words name: the first of them stands at this place, and has this index
+-- the files that these words name; the first of them has this place and this index
 abbrev pub files_from : List Role → ℕ → ℕ → Words → List Wanted
 files_from roles place i [] = []
 files_from roles place i (w ∷ ws) = kept (role_at roles i) place w ++ files_from roles (place + 1) (i + 1) ws
 
--- a command of this kind may have so many words behind its name
+-- a command of this kind may have n words after its name
 abbrev pub counts : Kind → ℕ → Bool
 counts k n =
     nat_le (params_of k + length (roles_of k)) n && nat_le n (params_of k + length (roles_of k) + calendars_of k)
@@ -204,7 +204,7 @@ pub record AsksCarrier (ws : Words) (r : Request) : Type 0 where
   pub is_xml : form_of name ≡ Xml
   pub is : r ≡ CarrierOf
 
--- what a command of a kind asks for by the words behind its name
+-- what a command of a kind asks for by the words after its name
 abbrev pub IsRequest : Kind → Words → Request → Type 0
 IsRequest kind.Check ws r = r ≡ OverFiles task.Check
 IsRequest kind.Schedule ws r = r ≡ OverFiles task.Schedule
@@ -220,7 +220,7 @@ IsRequest kind.Average ws r = AsksAverage ws r
 IsRequest kind.Interpolate ws r = AsksInterpolate ws r
 IsRequest kind.Carrier ws r = AsksCarrier ws r
 
--- the words behind the name of a command of this kind are those of a
+-- the words after the name of a command of this kind are those of a
 pub record AsksAs (k : Kind) (ws : Words) (a : Asked) : Type 0 where
   pub fits : counts k (length ws) ≡ true
   pub request : IsRequest k ws a.request
@@ -240,7 +240,7 @@ abbrev pub IsCommand : Words → Option Asked → Type 0
 IsCommand ws None = IsListed ws → ⊥
 IsCommand ws (Some a) = Asks ws a
 
--- the command of a kind that the words behind its name are
+-- the command of a kind that the words after its name are
 abbrev pub IsCommandAs : Kind → Words → Option Asked → Type 0
 IsCommandAs k ws None = (a : Asked) → AsksAs k ws a → ⊥
 IsCommandAs k ws (Some a) = AsksAs k ws a

@@ -25,23 +25,23 @@ IsLawfulRequest (OverFiles task) = IsLawfulTask task
 IsLawfulRequest (Bulk n) = n ≤ most_bulk
 IsLawfulRequest Carrier = Unit {0}
 
--- how words and files may be: the words are no listed command, a file is too long, or all files are told
+-- the three cases: the words are no listed command, a file is too long, or the source has all files
 pub data WordsCase (ws : Words) (told : Told) : Type 0 where
   no_command : ¬ (IsListed ws) → WordsCase ws told
   long_file : (a : Asked) (place : ℕ) → Asks ws a → IsFirstLong told a place → WordsCase ws told
   all_told : (a : Asked) (g : Given) → Asks ws a → AreTold told a g → WordsCase ws told
 
--- what is due, where the source tells the files that the words name
+-- what is due, where the source says what each named file holds
 pub record Due (ws : Words) (told : Told) (status : ℕ) (text : List ℕ) : Type 0 where
   -- the words are no listed command
   pub unlisted : ¬ (IsListed ws) → Is 4 bad_words status text
   -- a file is too long
   pub long : (a : Asked) (place : ℕ) → Asks ws a → IsFirstLong told a place → Is 8 (too_long place) status text
-  -- all files are told, and none is too long
+  -- the source has all files, and none is too long
   pub given : (a : Asked) (g : Given) → Asks ws a → AreTold told a g → DueOf a.request g status text
-  -- where every file is told, one of these applies
+  -- where the source has every file, one of these applies
   pub case : TellsAll ws told → WordsCase ws told
 
--- one status and one text are due
+-- one status and one text are due for the words
 abbrev pub IsOneAnswer : Words → Told → Type 0
 IsOneAnswer ws told = (s u : ℕ) (t v : List ℕ) → Due ws told s t → Due ws told u v → (s ≡ u) × (t ≡ v)

@@ -9,7 +9,7 @@ use Rattle.irs_outside.specs.Outside.{Rose}
 use Rattle.irs_cli.specs.Commands.{Wanted}
 use Rattle.irs_cli.specs.Given.{Told, Gathers, Reaches}
 
--- what fetches give: bytes under a name, at most so many
+-- what fetches give: bytes under a name, at most a given number
 abbrev pub Gives : Type 1
 Gives = List ℕ → ℕ → List ℕ → Type 0
 
@@ -22,11 +22,11 @@ abbrev pub AreGiven : Gives → List Wanted → Result TaskFiles Unfetched → T
 AreGiven gives ws (Ok f) = Gathers (IsGiven gives) ws no_files (given_by f)
 AreGiven gives ws (Err e) = Unit {0}
 
--- the bytes are those of the name, where it is told, and they aren't too many
+-- the bytes are those of the name, where the source has it, and they aren't too many
 abbrev pub Holds : Told → List ℕ → List ℕ → Type 0
 Holds told name bytes = IfSome (told name) (λ xs. bytes ≡ xs) × (length bytes < too_many)
 
--- the file isn't too long, where it is told
+-- the file isn't too long, where the source has it
 abbrev pub NotLong : Told → Wanted → Type 0
 NotLong told w = IfSome (told w.name) (λ xs. length xs < too_many)
 
@@ -35,7 +35,7 @@ pub record FailedAt (failed : Option (List ℕ)) (place : ℕ) (w : Wanted) : Ty
   pub at : w.place ≡ place
   pub is_failed : failed ≡ Some w.name
 
--- the file at this place is too long, where it is told
+-- the file at this place is too long, where the source has it
 pub record OverAt (told : Told) (place : ℕ) (w : Wanted) : Type 0 where
   pub at : w.place ≡ place
   pub long : IfSome (told w.name) (λ xs. too_many ≤ length xs)

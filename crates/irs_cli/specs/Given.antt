@@ -1,4 +1,4 @@
--- The files that a command names, as a source tells them.
+-- The files that a command names, as a source states them.
 use Rattle.std.specs.Prelude.{◌≡◌, ◌⊎◌, ℕ, ◌<◌, ◌≤◌, List, [], ◌∷◌, ◌++◌, length, Option, Some}
 use Rattle.irs_answers.specs.Given.{Given, no_files, too_many}
 use Rattle.irs_cli.specs.declared.commands.Role.{Role}
@@ -7,11 +7,11 @@ use Rattle.irs_answers.specs.Forms.{SourceText}
 use Rattle.irs_cli.specs.Commands.{Words, Wanted, Asked, Asks}
 use Rattle.irs_cli.specs.Params.{form_of}
 
--- what a source tells of each name
+-- what a source states of each name: the bytes of the file, or nothing
 abbrev pub Told : Type 0
 Told = List ℕ → Option (List ℕ)
 
--- the text of a file of this name, whose form its name says
+-- the text of a file of this name, in the form that the name says
 abbrev pub text_as : List ℕ → List ℕ → SourceText
 text_as name bytes = record { form = form_of name; bytes = bytes }
 
@@ -39,29 +39,29 @@ abbrev pub Reaches : (P Q : Wanted → Type 0) → List Wanted → Type 0
 Reaches P Q [] = ⊥
 Reaches P Q (w ∷ ws) = Q w ⊎ (P w × Reaches P Q ws)
 
--- the source tells these bytes of the name, and they aren't too many
+-- the source states these bytes of the name, and they aren't too many
 abbrev pub IsTold : Told → List ℕ → List ℕ → Type 0
 IsTold told name bytes = (told name ≡ Some bytes) × (length bytes < too_many)
 
--- the source tells the files of the command, none is too long, and these are they by role
+-- the source states the files of the command, none is too long, and here they are by role
 abbrev pub AreTold : Told → Asked → Given → Type 0
 AreTold told a g = Gathers (IsTold told) a.files no_files g
 
--- the source tells each file of the command
+-- the source states each file of the command
 abbrev pub TellsAll : Words → Told → Type 0
 TellsAll ws told = (a : Asked) → Asks ws a → Each (λ w. (bytes : List ℕ) × (told w.name ≡ Some bytes)) a.files
 
--- the file is told and isn't too long
+-- the source states the file, and it isn't too long
 abbrev pub IsShort : Told → Wanted → Type 0
 IsShort told w = (bytes : List ℕ) × IsTold told w.name bytes
 
--- the file stands at this place, is told, and is too long
+-- the file has this place, the source states it, and it is too long
 pub record IsLongAt (told : Told) (place : ℕ) (w : Wanted) : Type 0 where
   pub at : w.place ≡ place
   pub bytes : List ℕ
   pub is_told : told w.name ≡ Some bytes
   pub long : too_many ≤ length bytes
 
--- the file at this place is too long, and each before it is told and isn't
+-- the file at this place is too long, and no file before it is; the source states them all
 abbrev pub IsFirstLong : Told → Asked → ℕ → Type 0
 IsFirstLong told a place = Reaches (IsShort told) (IsLongAt told place) a.files

@@ -15,7 +15,7 @@ of_fetch (fetching.NoFile place) = NoFile place
 of_fetch (fetching.TooLong place) = TooLong place
 of_fetch fetching.Memory = Memory
 
--- the answer of a refusal, none for want of memory
+-- the answer of a refusal; none where memory ran out
 abbrev pub answer_of : Refusal → Option Answer
 answer_of BadWords = Some (4, bad_words)
 answer_of (NoFile place) = Some (5, no_file place)

@@ -17,18 +17,18 @@ use Rattle.irs_average.specs.declared.means.Mean.TheVariants.{Plain, Weighted}
 use Rattle.irs_average.specs.declared.stubs.Side.{Side}
 use Rattle.irs_average.specs.declared.stubs.Side.TheVariants.{Initial, Last}
 
--- the word with this index is one for x
+-- the word with this index spells x
 pub record At {X : Type 0} (Is : List ℕ → X → Type 0) (ps : List (List ℕ)) (i : ℕ) (x : X) : Type 0 where
   pub word : List ℕ
   pub there : slice_get ps i ≡ Some word
   pub is : Is word x
 
--- a date of the day: YYYY-MM-DD, with or without a Z behind it
+-- a date of the day: YYYY-MM-DD, with or without a Z after it
 pub record IsDateWord (w : List ℕ) (d : ℤ) : Type 0 where
   pub in_range : IsDay d
   pub is : IsDateText w d
 
--- the first day that is asked for: a date, or `-` for none, which asks for all
+-- the first day to be compared: a date, or `-` for all days
 abbrev pub IsFromWord : List ℕ → Option ℤ → Type 0
 IsFromWord w None = w ≡ codes "-"
 IsFromWord w (Some d) = IsDateWord w d
@@ -54,7 +54,7 @@ abbrev pub mean_name : Mean → List ℕ
 mean_name Plain = codes "plain"
 mean_name Weighted = codes "weighted"
 
--- the word names it
+-- the word names the mean
 pub record IsMeanWord (w : List ℕ) (m : Mean) : Type 0 where
   pub is : w ≡ mean_name m
 
@@ -63,7 +63,7 @@ abbrev pub side_name : Side → List ℕ
 side_name Initial = codes "initial"
 side_name Last = codes "final"
 
--- the word names it
+-- the word names the side
 pub record IsSideWord (w : List ℕ) (s : Side) : Type 0 where
   pub is : w ≡ side_name s
 
@@ -71,7 +71,7 @@ pub record IsSideWord (w : List ℕ) (s : Side) : Type 0 where
 pub record IsTenorWord (w : List ℕ) (f : Frequency) : Type 0 where
   pub is : tenor_at w ≡ Some (Some f)
 
--- so many days or weeks in days; the other units have no number of days
+-- a number of days or weeks, in days; the other units have no number of days
 abbrev pub days_of : FrequencyUnit → ℕ → Option ℕ
 days_of D count = Some count
 days_of W count = Some (7 * count)

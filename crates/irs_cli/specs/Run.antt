@@ -8,8 +8,8 @@ use Rattle.irs_cli.specs.Fetching.{FailedAt, Gives, IsGiven, NotLong}
 use Rattle.irs_cli.specs.Messages.{no_file}
 use Rattle.irs_cli.specs.Due.{Due, DueOf, IsOneAnswer}
 
--- the source of files: what it tells and gives before the run, the name of the last fetch that failed after it, and
--- how many fetches have failed before and after it
+-- The source of files: what it states and gives before the run. After the run it has the name of the last
+-- fetch that failed. The number of failed fetches is known before and after.
 pub record Source : Type 1 where
   pub told : Told
   pub gives : Gives
@@ -17,23 +17,23 @@ pub record Source : Type 1 where
   pub before : ℕ
   pub after : ℕ
 
--- the source with these
+-- the source with these values
 abbrev pub source : Told → Gives → Option (List ℕ) → ℕ → ℕ → Source
 source told gives failed before after =
     record { told = told; gives = gives; failed = failed; before = before; after = after }
 
--- the sink: what is written, and how many puts have failed, before and after the run
+-- the sink before and after the run: what is written, and how many writes have failed
 pub record Written : Type 0 where
   pub old : Option (List ℕ)
   pub new : Option (List ℕ)
   pub before : ℕ
   pub after : ℕ
 
--- the sink with these
+-- the sink with these values
 abbrev pub written : Option (List ℕ) → Option (List ℕ) → ℕ → ℕ → Written
 written old new before after = record { old = old; new = new; before = before; after = after }
 
--- the fetch of a file failed, and this text says so; no file before it that is told is too long
+-- the fetch of a file failed, and this text says so; no file before it that the source states is too long
 pub record NoFile (ws : Words) (files : Source) (text : List ℕ) : Type 0 where
   pub asked : Asked
   pub asks : Asks ws asked
@@ -75,17 +75,17 @@ pub record Ran (ws : Words) (files : Source) (out : Written) (status : ℕ) : Ty
   pub memory : status ≡ 7 → out.new ≡ out.old
   -- the fetch of a word that names a file failed, and the text says which
   pub failed : status ≡ 5 → (text : List ℕ) × NoFile ws files text × Grew out.old out.new text
-  -- a put failed, and a front of the text due was written
+  -- a write failed, and a front of the text due was written
   pub put : status ≡ 6 → Rose out.before out.after
       × ((text : List ℕ) × GrewByFront out.old out.new text × IsDueText ws files text)
-  -- any other status, and exactly its text, are what is due for the files that the source tells
+  -- any other status, and exactly its text, are what is due for the files that the source states
   pub due : status ≢ 5 → status ≢ 6 → status ≢ 7 → (text : List ℕ)
       × Due ws files.told status text × Grew out.old out.new text
-  -- from 0 to 3, status and text are what is due for bytes that the fetches gave, those of each file that the words
-  -- name; so they are for a source that tells nothing, as the files of the system
+  -- From 0 to 3, status and text are what is due for the bytes that the fetches gave for each named file.
+  -- That also holds for a source that states nothing, such as the files of the system.
   pub worked_out : status < 4 → (text : List ℕ)
       × IsWorkedOut ws files.gives status text × Grew out.old out.new text
-  -- where the source tells every file that the words name, one status and one text are due
+  -- where the source states every file that the words name, one status and one text are due
   pub one : TellsAll ws files.told → IsOneAnswer ws files.told
   -- 4 comes for words that are no listed command, and always for them
   pub only_unlisted : status ≡ 4 → IsListed ws → ⊥

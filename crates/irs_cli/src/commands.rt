@@ -1,24 +1,24 @@
-//! The listed commands, by their words; they are this project's own.
+//! The listed commands, by their words. No standard has such commands, so they are our rule.
 //!
-//! `check DOC CAL..` asks whether a document keeps every rule, without fixings,
-//! `schedule DOC FIX CAL..` for its schedule, and `audit DOC FIX FLOWS CAL..` whether the cash flows of
-//! FLOWS agree with that schedule. `breaks FROM DOC FIX FLOWS CAL..` asks for each break between them,
-//! for what is due from a day on, or with `-` for all. `emit DOC FIX CAL..` asks for the schedule as cash flows,
-//! `accrue DATE DOC FIX CAL..` what has accrued on a day in each stream of that schedule, and
-//! `net DOC FIX CAL..` what falls due between the two parties. `observations STREAM DOC FIX CAL..` asks
-//! for the days and the daily rates behind each rate of a stream, `overnight STREAM DOC DAILY CAL..`
-//! for the rates that the daily rates of DAILY give for the periods of a stream,
-//! `average STREAM KIND STEP DOC FIX CAL..` for the averages of its rates over them, and
-//! `interpolate STREAM SIDE LOW HIGH DOC FIX CAL..` for the rate of its stub on a side between those of
-//! two tenors. `-` as FIX or DAILY means no fixings. Each takes 0 to 16 calendars.
+//! `check DOC CAL..` asks whether a document keeps every rule, without fixings. `schedule DOC FIX CAL..` asks
+//! for its schedule. `audit DOC FIX FLOWS CAL..` asks whether the cash flows of FLOWS agree with that
+//! schedule. `breaks FROM DOC FIX FLOWS CAL..` asks for each break between them, for what is due from a day
+//! on, or with `-` for all. `emit DOC FIX CAL..` asks for the schedule as cash flows.
+//! `accrue DATE DOC FIX CAL..` asks what has accrued on a day in each stream of that schedule.
+//! `net DOC FIX CAL..` asks what falls due between the two parties. `observations STREAM DOC FIX CAL..` asks
+//! for the days and the daily rates of each rate of a stream. `overnight STREAM DOC DAILY CAL..` asks for the
+//! rates that the daily rates of DAILY give for the periods of a stream.
+//! `average STREAM KIND STEP DOC FIX CAL..` asks for the averages of its rates over its periods.
+//! `interpolate STREAM SIDE LOW HIGH DOC FIX CAL..` asks for the rate of its stub on a side between those of
+//! two tenors. `-` as FIX or DAILY means no fixings. Each command takes 0 to 16 calendars.
 //!
 //! `bulk N` adds up the schedules of N documents of its own, and names no file. `carrier DOC` asks for the
 //! value of a document in XML as JSON; the name of DOC ends in `.xml`.
 //!
-//! A document or cash flows whose file's name ends in `.xml` are FpML XML, and else JSON.
+//! A document or cash flows in a file with a name that ends in `.xml` are FpML XML, otherwise JSON.
 //!
-//! A command is data: how many of its words are parameters, the roles of its files in the order of the
-//! words, and how many calendars may follow.
+//! A command is data: the number of its parameters, the roles of its files in the order of the words, and
+//! the most calendars that may follow.
 ghost use Rattle.std.specs.Prelude.{◌≡◌, ◌≤◌, ◌+◌, map, length, option_map, IfOk, IfSome, IfNone};
 ghost use Rattle.irs_cli.specs.Commands.{texts, kind_of, params_of, roles_of, calendars_of, counts, role_at, is_file};
 ghost use Rattle.irs_cli.specs.Commands.{IsRequest, IsCommand, IsCommandAs, asked_by, wanted_by, files_from};
@@ -51,9 +51,9 @@ pub(crate) enum Kind {
     Accrue,
     /// `net`: what falls due between the two parties.
     Net,
-    /// `observations`: the days behind each rate.
+    /// `observations`: the days that each rate is made of.
     Observations,
-    /// `overnight`: rates of daily rates, compounded.
+    /// `overnight`: rates compounded from daily rates.
     Overnight,
     /// `average`: averages of observed rates.
     Average,
@@ -63,12 +63,12 @@ pub(crate) enum Kind {
     Carrier,
 }
 
-/// What is asked for, with its parameters.
+/// The request of a command, with its parameters.
 #[derive(Clone, Copy)]
 pub(crate) enum Request {
     /// A task over the files that the words name.
     OverFiles(Task),
-    /// The sums over so many documents, which no word names.
+    /// The sums over this number of documents, which no word names.
     Bulk(u32),
     /// The value of a document in XML, as JSON.
     Carrier,
@@ -79,7 +79,7 @@ pub(crate) enum Request {
 pub(crate) enum Role {
     /// The document of the swap.
     Document,
-    /// The observed rates; `-` stands for none.
+    /// The observed rates; `-` means none.
     Fixings,
     /// The cash flows.
     Flows,
@@ -87,10 +87,10 @@ pub(crate) enum Role {
     Calendar,
 }
 
-/// A file that is wanted: the place of its word behind the command, from 1, its role and its name.
+/// A file that is wanted: the place of its word after the command, from 1, its role and its name.
 #[derive(Clone, Copy)]
 pub(crate) struct Named<'w> {
-    /// The place of its word behind the command, from 1.
+    /// The place of its word after the command, from 1.
     pub(crate) place: u32,
     /// What the file is to the command.
     pub(crate) role: Role,
@@ -98,10 +98,10 @@ pub(crate) struct Named<'w> {
     pub(crate) name: &'w str,
 }
 
-/// A listed command: what is asked for, and the files in the order of the words.
+/// A listed command: its request, and the files in the order of the words.
 #[derive(Drop)]
 pub(crate) struct Command<'w> {
-    /// What is asked for.
+    /// The request.
     pub(crate) request: Request,
     /// The files that the words name, in the order of the words.
     pub(crate) files: Vec<Named<'w>>,
@@ -143,7 +143,7 @@ fn kind_of(word: &str) -> Option<Kind>
 }
 
 impl Kind {
-    /// How many words behind the command are parameters.
+    /// How many words after the command are parameters.
     fn params(self) -> usize
         ensures { result ≡ params_of self }
     {
@@ -220,7 +220,7 @@ pub(crate) fn command_of(alloc: Global, words: &[String]) -> Result<Option<Comma
     command_as(alloc, kind, others)
 }
 
-// The command of a kind that the words behind its name are.
+// The command of a kind that the words after its name are.
 fn command_as<'w>(
     alloc: Global,
     kind: Kind,
@@ -238,7 +238,7 @@ fn command_as<'w>(
     Ok(Some(Command { request, files }))
 }
 
-/// Whether a command may have so many words behind its name.
+/// Whether a command may have this number of words after its name.
 fn counts(kind: Kind, words: usize) -> bool
     ensures { result ≡ counts kind words }
 {
@@ -246,7 +246,7 @@ fn counts(kind: Kind, words: usize) -> bool
     least <= words && words <= least + kind.calendars()
 }
 
-/// What a command asks for by the words behind its name.
+/// What a command asks for by the words after its name.
 fn request_of(kind: Kind, words: &[String]) -> Option<Request>
     ensures some { IfSome result (λ r. IsRequest kind (texts words.now) r) }
     ensures none { IfNone result ((r : RequestSpec) → IsRequest kind (texts words.now) r → ⊥) }
@@ -268,7 +268,7 @@ fn request_of(kind: Kind, words: &[String]) -> Option<Request>
     }
 }
 
-/// The files that the words behind the parameters name.
+/// The files that the words after the parameters name.
 fn files_of<'w>(alloc: Global, kind: Kind, words: &'w [String]) -> Result<Vec<Named<'w>>, Memory>
     requires { length words.now ≤ most_words }
     ensures { IfOk result (λ v. map wanted_by v.items
@@ -288,7 +288,7 @@ fn files_of<'w>(alloc: Global, kind: Kind, words: &'w [String]) -> Result<Vec<Na
     Ok(files)
 }
 
-/// The role of the word with this index behind the parameters.
+/// The role of the word with this index after the parameters.
 fn role_at(roles: &[Role], index: usize) -> Role
     ensures { result ≡ role_at roles.now index }
 {
@@ -298,7 +298,7 @@ fn role_at(roles: &[Role], index: usize) -> Role
     }
 }
 
-/// Whether a word names a file: `-` stands for no fixings.
+/// Whether a word names a file: `-` means no fixings.
 fn is_file(role: Role, word: &str) -> bool
     ensures { result ≡ is_file role word.now }
 {

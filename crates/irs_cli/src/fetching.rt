@@ -14,15 +14,15 @@ use irs_answers::{Source, TaskFiles};
 use irs_base::{MOST_BYTES, Memory};
 use std::alloc::Global;
 
-/// How many bytes of a file are asked for: one more than it may have.
+/// How many bytes of a file are requested: one more than it may have.
 const MOST: usize = MOST_BYTES + 1;
 
 /// What ended the fetching.
 #[derive(Clone, Copy)]
 pub(crate) enum Unfetched {
-    /// The file of the word at this place behind the command can't be read.
+    /// The file of the word at this place after the command can't be read.
     NoFile(u32),
-    /// The file of the word at this place behind the command is too long.
+    /// The file of the word at this place after the command is too long.
     TooLong(u32),
     /// Memory ran out.
     Memory,
@@ -69,7 +69,7 @@ pub(crate) fn fetch_all<F: Files>(
     Ok(fetched)
 }
 
-/// The file of a name at a place.
+/// The bytes of a file, by its name and the place of its word.
 fn fetch<F: Files>(
     alloc: Global,
     files: &mut F,

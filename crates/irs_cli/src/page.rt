@@ -1,6 +1,6 @@
 //! A page: the pieces of a text wait on it, and go to a sink together, without memory.
 //!
-//! A text of many short lines takes one put a page, and not one a line.
+//! A text of many short lines takes one write a page, not one a line.
 ghost use Rattle.std.specs.Prelude.{◌≡◌, ℕ, ◌+◌, ◌<◌, ◌≤◌, List, [], ◌++◌, length, take, IsOk, OnOk, OnErr};
 ghost use Rattle.irs_cli.specs.Pages.{Through, page_size};
 ghost use Rattle.irs_outside.specs.Outside.{Rose, Grew, GrewByFront};
@@ -11,7 +11,7 @@ use std::marker::Model;
 // The most bytes that wait.
 const PAGE: usize = 4_096;
 
-/// Bytes that wait to be put, at most 4,096. Contracts see these bytes.
+/// Bytes that wait to be written, at most 4,096. Contracts see these bytes.
 #[derive(Drop)]
 pub(crate) struct Page {
     room: [u8; PAGE],
@@ -37,16 +37,16 @@ impl Page {
         }
     }
 
-    /// Takes bytes to wait behind what waits; where they don't fit there, what waits is put first.
+    /// Appends bytes to those that wait. Where they don't fit, what waits is written first.
     pub(crate) fn add<S: Sink>(&mut self, out: &mut S, bytes: &[u8]) -> Result<(), PutFailed>
         requires { length bytes.now ≤ page_size }
-        // Of what waited and the bytes behind it, all was put but what waits now.
+        // Of what waited and the new bytes, all was written except what waits now.
         ensures ok { OnOk result (Through (S.written out.old) (S.written out.new) self.new (self.old ++ bytes.now)) }
         ensures quiet { OnOk result (S.faults out.new ≡ S.faults out.old) }
-        // A put failed, and a front of what waited was put.
+        // A write failed, and a front of what waited was written.
         ensures err { OnErr result (GrewByFront (S.written out.old) (S.written out.new) self.old) }
         ensures rose { OnErr result (Rose (S.faults out.old) (S.faults out.new)) }
-        // Bytes that fit wait too, and nothing is put.
+        // Bytes that fit wait too, and nothing is written.
         ensures fits { length self.old + length bytes.now ≤ page_size
             → IsOk result × (out.new ≡ out.old) × (self.new ≡ self.old ++ bytes.now) }
         // Bytes that don't fit wait alone.
@@ -59,7 +59,7 @@ impl Page {
         Ok(())
     }
 
-    /// Puts what waits. Nothing waits then, also where the put failed.
+    /// Writes what waits. After that nothing waits, also where the write failed.
     pub(crate) fn put<S: Sink>(&mut self, out: &mut S) -> Result<(), PutFailed>
         ensures ok { OnOk result (Grew (S.written out.old) (S.written out.new) self.old) }
         ensures quiet { OnOk result (S.faults out.new ≡ S.faults out.old) }
@@ -72,7 +72,7 @@ impl Page {
         out.put(&self.room[..waiting])
     }
 
-    // Bytes that fit are to wait behind what waits.
+    // Appends bytes that fit to those that wait.
     fn push(&mut self, bytes: &[u8])
         requires { length self.old + length bytes.now ≤ page_size }
         ensures { self.new ≡ self.old ++ bytes.now }

@@ -113,7 +113,7 @@ pub(crate) fn carrier_of(words: &[String]) -> Option<Request>
     }
 }
 
-/// The form of a document or of cash flows, by the name of the file: XML where it ends in `.xml`, and else
+/// The form of a document or of cash flows, by the name of the file: XML where it ends in `.xml`, otherwise
 /// JSON.
 pub(crate) fn form_of(name: &str) -> Form
     ensures { result ≡ form_of name.now }
@@ -164,7 +164,7 @@ fn date_of(word: &str) -> Option<Day>
     ensures none { IfNone result ((d : ℤ) → IsDateWord word.now d → ⊥) }
 {
     let date = read_date(word.as_bytes())?;
-    // Hands the prover the range of the day.
+    // From here on the prover knows the range of the day.
     let _number = date.number();
     Some(date)
 }

@@ -1,6 +1,7 @@
-//! The top call: `run` prints what its words ask for, and answers the status.
+//! The top call: `run` prints what its words ask for, and returns the status.
 //!
-//! Words, texts and statuses are this project's own. All memory is taken before the first put.
+//! No standard has these words, texts and statuses, so they are our rule. All memory is taken before the
+//! first write.
 ghost use Rattle.std.specs.Prelude.{◌≡◌, ℕ, List, IfOk};
 ghost use Rattle.irs_cli.specs.Commands.{texts};
 ghost use Rattle.irs_answers.specs.Given.{IsWithin, given_by};
@@ -20,20 +21,20 @@ use irs_base::{Memory, Status};
 use irs_bulk::bulk;
 use std::alloc::Global;
 
-/// Prints what the words ask for, and answers the status: 0 done, 1 the flows don't agree, 2 a rule is
-/// broken, 3 a calendar, fixing or flow file is outside its grammar or limits, 4 the words are no
-/// listed command, 5 a file can't be read, 6 a put failed, 7 want of memory, 8 a file is too long.
+/// Prints what the words ask for, and returns the status. 0: done. 1: the flows don't agree. 2: a rule is
+/// broken. 3: a calendar, fixing or flow file is outside its grammar or limits. 4: the words are no listed
+/// command. 5: a file can't be read. 6: a write failed. 7: out of memory. 8: a file is too long.
 ///
-/// The commands are `check DOC CAL..`, `schedule DOC FIX CAL..`, `audit DOC FIX FLOWS CAL..`,
-/// `emit DOC FIX CAL..`, `accrue DATE DOC FIX CAL..`, `net DOC FIX CAL..`,
+/// The commands over files are `check DOC CAL..`, `schedule DOC FIX CAL..`, `audit DOC FIX FLOWS CAL..`,
+/// `breaks FROM DOC FIX FLOWS CAL..`, `emit DOC FIX CAL..`, `accrue DATE DOC FIX CAL..`, `net DOC FIX CAL..`,
 /// `observations STREAM DOC FIX CAL..`, `overnight STREAM DOC DAILY CAL..`,
-/// `average STREAM KIND STEP DOC FIX CAL..` and `interpolate STREAM SIDE LOW HIGH DOC FIX CAL..`, with 0
-/// to 16 calendars, and `-` as FIX or DAILY for no fixings.
-/// All files are fetched first, in the order of the words; the flows are read when no rule is broken.
-/// `bulk N`, with N from 1 to 500, names no file. `carrier DOC` prints the value of a document in XML as
-/// JSON; its name ends in `.xml`. Every DOC and FLOWS with such a name is read as XML, and else as JSON.
+/// `average STREAM KIND STEP DOC FIX CAL..` and `interpolate STREAM SIDE LOW HIGH DOC FIX CAL..`. Each takes
+/// 0 to 16 calendars, and `-` as FIX or DAILY means no fixings. All files are fetched first, in the order of
+/// the words; the flows are read when no rule is broken. `bulk N`, with N from 1 to 500, names no file.
+/// `carrier DOC` prints the value of a document in XML as JSON; its name ends in `.xml`. Every DOC and FLOWS
+/// with such a name is read as XML, any other as JSON.
 pub fn run<F: Files, S: Sink>(alloc: Global, words: &[String], files: &mut F, out: &mut S) -> u8
-    // What the files tell is the same afterwards.
+    // What the source states of its files is the same afterwards.
     ensures told { (n : List ℕ) → F.told files.new n ≡ F.told files.old n }
     ensures ran { let source = source (F.told files.old) (F.gives files.old) (F.failed files.new) (F.faults files.old)
         (F.faults files.new) in

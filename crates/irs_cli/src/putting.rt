@@ -1,4 +1,4 @@
-//! Putting a reply into a sink.
+//! Writing a reply to a sink.
 ghost use Rattle.std.specs.Prelude.{◌≡◌, OnOk, OnErr};
 ghost use Rattle.irs_outside.specs.Outside.{Rose, Grew, GrewByFront};
 ghost use Rattle.irs_answers.specs.Replying.{reply_text};
@@ -7,7 +7,7 @@ use crate::rows::put_schedule;
 use crate::{PutFailed, Sink};
 use irs_answers::Reply;
 
-/// Puts the text of a reply, and nothing behind a put that failed.
+/// Writes the text of a reply, and nothing after a write that failed.
 pub(crate) fn put_reply<S: Sink>(out: &mut S, reply: &Reply) -> Result<(), PutFailed>
     ensures ok { OnOk result (Grew (S.written out.old) (S.written out.new) (reply_text reply.now)) }
     ensures quiet { OnOk result (S.faults out.new ≡ S.faults out.old) }

@@ -14,9 +14,9 @@ use std::alloc::Global;
 pub(crate) enum Refusal {
     /// The words are no listed command.
     BadWords,
-    /// The file of the word at this place behind the command can't be read.
+    /// The file of the word at this place after the command can't be read.
     NoFile(u32),
-    /// The file of the word at this place behind the command is too long.
+    /// The file of the word at this place after the command is too long.
     TooLong(u32),
     /// Memory ran out.
     Memory,
@@ -43,7 +43,7 @@ impl From<Memory> for Refusal {
 }
 
 impl Refusal {
-    /// The line that tells of a refusal, with its status; want of memory has none.
+    /// The line that reports a refusal, with its status; `Memory` has no line.
     pub(crate) fn reply(self, alloc: Global) -> Result<Reply, Memory>
         ensures { IfOk result (λ r. answer_of self ≡ Some (reply_status r, reply_text r)) }
     {

@@ -1,4 +1,4 @@
-//! The text of a schedule: its lines are gathered on a page, and a full page is put.
+//! The text of a schedule: its lines are gathered on a page, and a full page is written.
 ghost use Rattle.std.specs.Prelude.{◌≡◌, OnOk, OnErr};
 ghost use Rattle.irs_outside.specs.Outside.{Rose, Grew, GrewByFront};
 ghost use Rattle.irs_schedule.specs.RowTexts.{text_of};
@@ -8,7 +8,7 @@ use crate::{PutFailed, Sink};
 use irs_base::Line;
 use irs_schedule::{Schedule, row_text};
 
-/// Puts the text of a schedule, and nothing behind a put that failed.
+/// Writes the text of a schedule, and nothing after a write that failed.
 pub(crate) fn put_schedule<S: Sink>(out: &mut S, schedule: &Schedule) -> Result<(), PutFailed>
     ensures ok { OnOk result (Grew (S.written out.old) (S.written out.new) (text_of schedule.now)) }
     ensures quiet { OnOk result (S.faults out.new ≡ S.faults out.old) }

@@ -3,7 +3,7 @@ use Rattle.std.specs.List.{flat_map}
 use Rattle.irs_bulk.specs.BulkCalendars.{holidays_text, years_from}
 use Rattle.irs_bulk.proofs.holidays.bulk_calendar.Goals as goal
 
--- the lines of one year more, and those of the years that are left
+-- the lines of one more year, and those of the years that are left
 one_more : (f : ℕ → List ℕ) (t : List ℕ) (y : ℕ) → y < 2013
     → (t ++ f y) ++ flat_map f (years_from (y + 1) (2013 - (y + 1))) ≡ t ++ flat_map f (years_from y (2013 - y))
 one_more f t y h =

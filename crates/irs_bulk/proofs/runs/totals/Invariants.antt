@@ -3,6 +3,7 @@ use Rattle.irs_bulk.specs.BulkLines.{IsRun}
 use Rattle.irs_bulk.specs.BulkRuns.{AreSums}
 use Rattle.irs_bulk.proofs.runs.totals.Given as goal
 
+-- the sums over the documents so far
 abbrev pub invariant-loop-before : goal.invariant-loop-before
 invariant-loop-before l = record {
   sums : AreSums l.before l.totals;

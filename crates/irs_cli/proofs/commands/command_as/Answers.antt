@@ -4,7 +4,7 @@ use Rattle.std.specs.declared.alloc.Global.{Global}
 use Rattle.irs_cli.specs.Commands.{counts, files_from, params_of, roles_of, texts}
 use Rattle.irs_cli.proofs.commands.command_as.Goals as goal
 
--- the words from the place p on, where p is q
+-- the words from two equal places on are the same
 words_from : (ws : List (String Global)) (p q : ℕ) → p ≡ q
     → texts (take (length ws - p) (drop p ws)) ≡ drop q (texts ws)
 words_from ws p q e =

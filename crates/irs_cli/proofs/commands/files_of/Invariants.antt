@@ -2,6 +2,7 @@ use Rattle.std.proofs.Common.{◌≡◌, ◌+◌, ◌++◌, map, drop}
 use Rattle.irs_cli.specs.Commands.{texts, params_of, roles_of, wanted_by, files_from}
 use Rattle.irs_cli.proofs.commands.files_of.Given as goal
 
+-- the files so far and those of the words that are left are the files of the command
 abbrev pub invariant-loop-index : goal.invariant-loop-index
 invariant-loop-index l = record {
   place : l.place ≡ params_of l.fn.kind + 1 + l.index;

@@ -5,6 +5,7 @@ use Rattle.irs_cli.specs.Given.{Gathers}
 use Rattle.irs_cli.specs.Fetching.{Holds, IsGiven}
 use Rattle.irs_cli.proofs.fetching.fetch_all.Given as goal
 
+-- the files so far are fetched, and the source states the same as before
 abbrev pub invariant-loop-named : goal.invariant-loop-named
 invariant-loop-named g l = record {
   told : (n : List ℕ) → g.F.Files.told l.files n ≡ g.F.Files.told l.fn.files n;
