@@ -9,7 +9,7 @@ is_same a b h = grind arith
 is_other : (a b : ℕ) → (a ≡ b → ⊥) → (a == b) ≡ false
 is_other a b h = grind arith
 
--- the first one is at place i
+-- where the first such byte is at place i, i bytes come before it
 pub length_at : (end : ℕ) (text : List ℕ) (i : ℕ) → i < length text → get_or text i 0 ≡ end
     → ((k : ℕ) → k < i → get_or text k 0 ≡ end → ⊥) → length_before end text ≡ i
 length_at end [] i within at none = absurd (omega (arith, within))
@@ -19,7 +19,7 @@ length_at end (b ∷ bs) (suc i) within at none =
     let more : i + 1 ≡ suc i = omega arith in
     rw (is_other b end (none 0 (omega arith))) (ap (λ (n : ℕ). n + 1) rest ∙ more)
 
--- there is none
+-- where there is no such byte, all bytes count
 pub length_whole : (end : ℕ) (text : List ℕ) → ((k : ℕ) → k < length text → get_or text k 0 ≡ end → ⊥)
     → length_before end text ≡ length text
 length_whole end [] none = refl

@@ -1,4 +1,4 @@
--- The first bytes of what was put.
+-- The first bytes of what was written.
 use Rattle.std.proofs.Common.{◌≡◌, ◌⊎◌, inl, inr, ℕ, ◌+◌, ◌-◌, ◌<◌, ◌≤◌, min, List, ◌++◌, length, take, sym, ◌∙◌, ap}
 use Rattle.std.proofs.Common.{arith}
 use Rattle.std.proofs.lemmas.List.{append-nil, take_all}
@@ -22,7 +22,7 @@ kept_more n m xs ys zs fits is same =
     same ∙ ap (λ k. xs ++ take k ys) is ∙ ap (λ t. xs ++ t) (take_few (n - length xs) ys)
     ∙ sym (take-append-add xs ys (n - length xs)) ∙ ap (λ k. take k (xs ++ ys)) e
 
--- where there is no room left, nothing is kept of what is put
+-- where there is no room left, nothing more is kept of what is written
 pub kept_full : (n : ℕ) (xs ys front : List ℕ) → front ≡ xs → length xs ≤ n → n - length front ≤ 0
     → xs ≡ take n (xs ++ ys)
 kept_full n xs ys front same fits full =

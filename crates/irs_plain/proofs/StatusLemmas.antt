@@ -7,7 +7,7 @@ use Rattle.irs_base.specs.declared.statuses.Status.TheVariants.{NoFile, PutFaile
 use Rattle.irs_base.specs.Statuses.{status_number}
 use Rattle.irs_plain.specs.Sentences.{told}
 
--- nothing is said for it
+-- nothing is said for a number that is no status
 pub silent : (words : List (List ℕ)) (status : ℕ) (line : List ℕ) → ((s : Status) → status_number s ≡ status → ⊥)
     → told words status line ≡ []
 silent words status line h =

@@ -10,12 +10,12 @@ pub rules_are : map (λ n. n.now) RULES ≡ codes_of
 unfolding codes_of rows
 rules_are = refl
 
--- so are the words before an element
+-- the code's words before an element are those of the specification
 pub before_are : map (λ n. n.now) BEFORE ≡ texts_before
 unfolding texts_before rows
 before_are = refl
 
--- and those after it
+-- the code's words after an element are those of the specification
 pub after_are : map (λ n. n.now) AFTER ≡ texts_after
 unfolding texts_after rows
 after_are = refl

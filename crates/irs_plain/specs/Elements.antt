@@ -7,7 +7,7 @@ use Rattle.std.specs.Str.{bytes_eq}
 abbrev pub is_adjustments : List ℕ → Bool
 is_adjustments path = bytes_eq (front 47 path) (codes "dateAdjustments")
 
--- the last name of a path, of which `last` begins with the last name so far
+-- the last name of a path; `last` begins with the last name so far
 abbrev pub last_name : List ℕ → List ℕ → List ℕ
 last_name last [] = last
 last_name last (b ∷ bs) = if b == 47 then last_name bs bs else last_name last bs
@@ -32,18 +32,18 @@ ends_in_s [] = false
 ends_in_s (b ∷ []) = b == 115
 ends_in_s (b ∷ c ∷ cs) = ends_in_s (c ∷ cs)
 
--- what makes a name possessive
+-- the ending that makes a name possessive
 abbrev pub possessive : List ℕ → List ℕ
 possessive [] = []
 possessive (b ∷ bs) = if ends_in_s (b ∷ bs) then codes "' " else codes "'s "
 
--- the words of a name
+-- a name in plain words: `document`, `swapStream` and `dateAdjustments` have their own
 abbrev pub words_of : List ℕ → List ℕ
 words_of name =
     if bytes_eq name (codes "document") then codes "the document"
     else (if bytes_eq name (codes "swapStream") then codes "the stream"
     else (if bytes_eq name (codes "dateAdjustments") then codes "adjustments" else name))
 
--- those of the last name of a path
+-- the words of the last name of a path
 abbrev pub name_words : List ℕ → List ℕ
 name_words path = words_of (last_name path path)

@@ -2,10 +2,10 @@
 use Rattle.irs_plain.specs.declared.kept.Kept.{Kept}
 use Rattle.std.specs.Prelude.{ℕ, List}
 
--- the sink behind it
+-- the underlying sink
 abbrev pub sink_of : {S : Type 0} → Kept S → S
 sink_of k = k.sink
 
--- the first bytes that it was handed
+-- the first bytes that were written to it
 abbrev pub front_of : {S : Type 0} → Kept S → List ℕ
 front_of k = k.front

@@ -4,7 +4,7 @@ use Rattle.std.specs.Borrow.{Bor}
 use Rattle.std.specs.Prelude.{ℕ, ◌+◌, ◌-◌, ◌==◌, List, [], ◌∷◌, map, codes, if◌then◌else◌}
 use Rattle.std.specs.Str.{bytes_eq}
 
--- the texts behind their references
+-- the texts of references
 abbrev pub texts : List (Bor (List ℕ)) → List (List ℕ)
 texts list = map (λ n. n.now) list
 
@@ -18,10 +18,10 @@ abbrev pub text_at : List (List ℕ) → ℕ → List ℕ → List ℕ
 text_at [] place other = other
 text_at (first ∷ rest) place other = if place == 0 then first else text_at rest (place - 1) other
 
--- what is said before the element
+-- what is said before the element at fault, by its rule
 abbrev pub before : List ℕ → List ℕ
 before rule = text_at texts_before (place_in codes_of rule) []
 
--- and behind it
+-- what is said after the element at fault, by its rule
 abbrev pub after : List ℕ → List ℕ
 after rule = text_at texts_after (place_in codes_of rule) (codes " breaks this rule")

@@ -1,5 +1,5 @@
--- The rules in plain words, a line each: the rule, what is said before the element at fault, and what
--- behind it. Behind them stand the kinds of fault of cash flows, which are K1 to K7 on their own table.
+-- The rules in plain words, a line each: the rule, what is said before the element at fault, and what is said
+-- after it. The kinds of fault of cash flows come last: they are K1 to K7 on the table of cash flows.
 use Prim.Native.String.{String}
 use Rattle.std.specs.Prelude.{ℕ, List, [], ◌∷◌, map, codes}
 
@@ -13,7 +13,7 @@ pub record Row : Type 0 where
 abbrev row : String → String → String → Row
 row rule before after = record { rule = rule; before = before; after = after }
 
--- the table
+-- the table of the rules, then of the kinds of fault of cash flows
 unfoldable pub rows : List Row
 rows =
     row "K1" "" " isn't JSON"
@@ -65,14 +65,14 @@ rows =
     ∷ row "count" "" " stands too often, or has two members that don't go together"
     ∷ []
 
--- the rules
+-- the rules and kinds of fault, as the program prints them
 unfoldable pub codes_of : List (List ℕ)
 codes_of = map (λ (r : Row). codes r.rule) rows
 
--- what is said before the elements
+-- what is said before the element, for each line of the table
 unfoldable pub texts_before : List (List ℕ)
 texts_before = map (λ (r : Row). codes r.before) rows
 
--- and behind them
+-- what is said after the element, for each line of the table
 unfoldable pub texts_after : List (List ℕ)
 texts_after = map (λ (r : Row). codes r.after) rows

@@ -9,7 +9,7 @@ use Rattle.std.specs.Prelude.{ℕ, ◌==◌, ◌||◌, ◌&&◌, nat_eq, Bool, n
 use Rattle.std.specs.List.{ends_with}
 use Rattle.std.specs.Str.{bytes_eq}
 
--- parts one behind the other
+-- parts one after the other
 abbrev pub joined : List (List ℕ) → List ℕ
 joined [] = []
 joined (part ∷ parts) = part ++ joined parts
@@ -24,7 +24,7 @@ said s = joined (map (λ p. p.now) s.parts)
 abbrev pub unless_zero : List ℕ → List ℕ → List ℕ
 unless_zero number text = if bytes_eq number (codes "0") then [] else text
 
--- the number of a place, where the sentence of its rule tells it: of a centre it doesn't
+-- the number of a place, or 0 for a centre (K12), whose sentence doesn't give it
 abbrev pub number_told : List ℕ → List ℕ → List ℕ
 number_told rule index = if bytes_eq rule (codes "K12") then codes "0" else index
 
@@ -32,13 +32,14 @@ number_told rule index = if bytes_eq rule (codes "K12") then codes "0" else inde
 abbrev pub is_unread : List ℕ → Bool
 is_unread rule = bytes_eq rule (codes "K1") || bytes_eq rule (codes "notjson")
 
--- what is said behind the element of a text in the file of this name; without a reading, by the form of the text
+-- what is said after the element of a text in the file of this name; an XML text without a reading has its
+-- own
 abbrev pub after_in : List ℕ → List ℕ → List ℕ
 after_in file rule =
     if ends_with nat_eq file (codes ".xml") && is_unread rule then codes " isn't XML that this program reads"
     else after rule
 
--- what a rule says of an element of a text in the file of this name, behind three parts
+-- what a rule says of an element of a text in the file of this name, after three opening parts
 abbrev pub about : List ℕ → List ℕ → List ℕ → List ℕ → List ℕ → List ℕ → List ℕ → List ℕ → List (List ℕ)
 about one two three file rule stream path index =
     one ∷ two ∷ three
@@ -98,7 +99,7 @@ bad_file words line =
 abbrev pub is_of_field : List ℕ → Bool
 is_of_field field = not (bytes_eq field (codes "missing") || bytes_eq field (codes "extra"))
 
--- what cash flows do
+-- what the cash flows do: the verb of a departure
 abbrev pub verb : List ℕ → List ℕ
 verb field =
     if bytes_eq field (codes "missing") then codes ") lack "
@@ -112,11 +113,11 @@ of_field field text = if is_of_field field then text else []
 abbrev pub unless_stream : List ℕ → List ℕ → List ℕ
 unless_stream kind text = if bytes_eq kind (codes "stream") then [] else text
 
--- what stands before the number of the stream
+-- what comes before the number of the stream
 abbrev pub stream_words : List ℕ → List ℕ
 stream_words kind = if bytes_eq kind (codes "stream") then codes "stream " else codes " of stream "
 
--- what stands at the end
+-- what ends the sentence on a departure
 abbrev pub ending : List ℕ → List ℕ
 ending field = if bytes_eq field (codes "extra") then codes ", and the schedule doesn't" else []
 

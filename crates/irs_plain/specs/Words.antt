@@ -13,7 +13,7 @@ abbrev pub word_or_none : Option (List ℕ) → List ℕ
 word_or_none None = []
 word_or_none (Some word) = word
 
--- the word at a place, the command's being 0; empty past the last one
+-- the word at a place, where the command has place 0; empty past the last one
 abbrev pub word_at : List (List ℕ) → ℕ → List ℕ
 word_at words place = word_or_none (slice_get words place)
 
@@ -24,7 +24,7 @@ number (a ∷ []) = a - 48
 number (a ∷ b ∷ []) = 10 * (a - 48) + (b - 48)
 number (a ∷ b ∷ c ∷ rest) = 0
 
--- the word whose place a number in a line tells
+-- the word with the place that a number in a line gives
 abbrev pub named : List (List ℕ) → List ℕ → List ℕ
 named words place = word_at words (number place)
 

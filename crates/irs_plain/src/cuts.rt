@@ -12,7 +12,7 @@ pub(crate) fn is(text: &[u8], word: &str) -> bool
     text == word.as_bytes()
 }
 
-// How many bytes stand before the first one that is `end`, or in all.
+// How many bytes come before the first one that is `end`; all of them where there is none.
 fn length_before(end: u8, text: &[u8]) -> usize
     ensures value { result ≡ length_before_of end text.now }
     ensures within { result ≤ length text.now }
@@ -25,14 +25,14 @@ fn length_before(end: u8, text: &[u8]) -> usize
     text.len()
 }
 
-/// What stands before the first byte that is `end`; all of the text where there is none.
+/// The text before the first byte that is `end`; all of it where there is none.
 pub(crate) fn front(end: u8, text: &[u8]) -> &[u8]
     ensures { result.now ≡ front_of end text.now }
 {
     &text[..length_before(end, text)]
 }
 
-/// What stands behind that byte; nothing where there is none.
+/// The text after the first byte that is `end`; nothing where there is none.
 pub(crate) fn behind(end: u8, text: &[u8]) -> &[u8]
     ensures { result.now ≡ behind_of end text.now }
 {
@@ -44,14 +44,14 @@ pub(crate) fn behind(end: u8, text: &[u8]) -> &[u8]
     }
 }
 
-// What stands behind the first field of a line.
+// The text after the first field of a line.
 fn rest(line: &[u8]) -> &[u8]
     ensures { result.now ≡ behind_of 32 line.now }
 {
     behind(b' ', line)
 }
 
-/// The second field of a line, whose fields stand behind one space each.
+/// The second field of a line. Fields are separated by one space.
 pub(crate) fn second(line: &[u8]) -> &[u8]
     ensures { result.now ≡ second_of line.now }
 {

@@ -1,8 +1,8 @@
-//! An element in plain words, by its path: its own name, behind that of the element that holds it.
+//! An element in plain words, by its path: its own name, after that of the element that holds it.
 //!
-//! `calculationPeriodDates/terminationDate/dateAdjustments` is terminationDate's adjustments; what lies
-//! in such `dateAdjustments` is named behind terminationDate too. Of a path of one name there is
-//! that name alone.
+//! `calculationPeriodDates/terminationDate/dateAdjustments` is terminationDate's adjustments. What lies
+//! in such `dateAdjustments` is named after terminationDate too. A path of one name gives that name
+//! alone.
 ghost use Rattle.irs_plain.specs.Elements.{ends_in_s as ends_in_s_of, holder as holder_of};
 ghost use Rattle.irs_plain.specs.Elements.{holder_from as holder_from_of, is_adjustments as is_adjustments_of};
 ghost use Rattle.irs_plain.specs.Elements.{last_name as last_name_of, name_words as name_words_of};
@@ -18,7 +18,7 @@ fn is_adjustments(path: &[u8]) -> bool
     is(front(b'/', path), "dateAdjustments")
 }
 
-// The last name of a path, of which `last` begins with the last name so far.
+// The last name of a path; `last` begins with the last name so far.
 fn last_name<'a>(last: &'a [u8], rest: &'a [u8]) -> &'a [u8]
     ensures { result.now ≡ last_name_of last.now rest.now }
 {
@@ -71,7 +71,7 @@ fn ends_in_s(name: &[u8]) -> bool
     }
 }
 
-/// What makes a name possessive, with a space; nothing behind no name.
+/// The ending that makes a name possessive, with a space; nothing for no name.
 pub(crate) fn possessive<'a>(name: &[u8]) -> &'a [u8]
     ensures { result.now ≡ possessive_of name.now }
 {
@@ -84,7 +84,7 @@ pub(crate) fn possessive<'a>(name: &[u8]) -> &'a [u8]
     }
 }
 
-/// The last name of a path, in words where it is one of the project's own.
+/// The last name of a path; `document`, `swapStream` and `dateAdjustments` are given in plain words.
 pub(crate) fn name_words(path: &[u8]) -> &[u8]
     ensures { result.now ≡ name_words_of path.now }
 {

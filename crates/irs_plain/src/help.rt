@@ -1,7 +1,7 @@
 //! The texts of `--help` and `--version`, and the listed commands.
 
-/// The listed commands. DOC is a document of terms, FLOWS one of cash flows, FIX and DAILY are files of
-/// fixings or `-` for none, CAL is a calendar file, DATE a date, FROM a date or `-` for all; the other
+/// The listed commands. DOC is a document of terms and FLOWS one of cash flows. FIX and DAILY are files of
+/// fixings, or `-` for none. CAL is a calendar file, DATE a date, and FROM a date or `-` for all. The other
 /// words are those of the command.
 pub const COMMANDS: [&str; 13] = [
     "check DOC CAL..",

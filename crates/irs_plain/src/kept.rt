@@ -1,5 +1,5 @@
-//! A sink over a sink: it hands every put on and keeps the first bytes that were put, so that a
-//! sentence can be said about the line that was written.
+//! A sink over a sink. It passes every write on and keeps the first bytes that were written, so that a
+//! sentence can be said about the line.
 ghost use Rattle.std.specs.Prelude.{◌≡◌, ◌++◌, [], take, OnOk, OnErr};
 ghost use Rattle.irs_base.specs.Texts.{longest_line};
 ghost use Rattle.irs_outside.specs.Outside.{Grew, GrewByFront, Rose};
@@ -8,14 +8,14 @@ ghost use Rattle.irs_plain.specs.Kept.{front_of, sink_of};
 use irs_base::{LONGEST_LINE, Line};
 use irs_outside::{PutFailed, Sink};
 
-/// A sink, and the first 512 bytes that it was handed.
+/// A sink, and the first 512 bytes that were written to it.
 #[derive(Drop)]
 pub struct Kept<S> {
     sink: S,
     front: Line,
 }
 
-// Appends what there is room for; mostly there is none left.
+// Appends what there is room for; after the first bytes there is none left.
 fn keep(front: &mut Line, bytes: &[u8])
     ensures { front.new ≡ take longest_line (front.old ++ bytes.now) }
 {
@@ -26,7 +26,7 @@ fn keep(front: &mut Line, bytes: &[u8])
 }
 
 impl<S: Sink> Kept<S> {
-    /// The sink, of which nothing is kept yet.
+    /// The sink, with nothing kept yet.
     pub fn new(sink: S) -> Kept<S>
         ensures sink { sink_of result ≡ sink }
         ensures front { front_of result ≡ [] }
@@ -37,7 +37,7 @@ impl<S: Sink> Kept<S> {
         }
     }
 
-    /// The first bytes that were put, at most 512; also those of a put that failed.
+    /// The first bytes that were written, at most 512, including those of a write that failed.
     pub fn front(&self) -> &[u8]
         ensures { result.now ≡ front_of self.now }
     {
@@ -50,7 +50,7 @@ impl<S: Sink> Sink for Kept<S> {
 
     ghost faults = { λ k. S.faults (sink_of k) };
 
-    /// It answers what the sink answers.
+    /// It returns what the sink returns.
     fn put(&mut self, bytes: &[u8]) -> Result<(), PutFailed>
         ensures ok { OnOk result (Grew (S.written (sink_of self.old)) (S.written (sink_of self.new)) bytes.now) }
         ensures quiet { OnOk result (S.faults (sink_of self.new) ≡ S.faults (sink_of self.old)) }

@@ -1,5 +1,5 @@
-//! What a person reads on standard error: one plain sentence for the line that the program wrote on
-//! standard output, and the texts of `--help` and `--version`.
+//! What a person reads. On standard error it is one plain sentence for the line that the program wrote on
+//! standard output. The texts of `--help` and `--version` are here too.
 #![tactic(auto)]
 
 mod cuts;

@@ -1,5 +1,4 @@
-//! The sentence for a line that the program wrote: what it means, with the names of the files that it
-//! speaks of.
+//! The sentence for a line that the program wrote: what it means, with the names of the files in question.
 ghost use Rattle.irs_plain.specs.Sentences.{about as about_of, after_in as after_in_of, is_unread as is_unread_of};
 ghost use Rattle.irs_plain.specs.Sentences.{bad_calendar as bad_calendar_of};
 ghost use Rattle.irs_plain.specs.Sentences.{bad_file as bad_file_of, bad_fixings as bad_fixings_of};
@@ -27,7 +26,7 @@ use irs_base::Status;
 /// The most parts of a sentence.
 const PARTS: usize = 13;
 
-/// A sentence, as parts to be written one behind the other. Parts that aren't needed are empty.
+/// A sentence, as parts to be written one after the other. Parts that aren't needed are empty.
 #[derive(Clone, Copy)]
 pub struct Sentence<'a> {
     /// The parts.
@@ -63,7 +62,7 @@ fn unless_zero<'a>(number: &[u8], text: &'a [u8]) -> &'a [u8]
     if is(number, "0") { b"" } else { text }
 }
 
-// The number of a place, where the sentence of its rule tells it: of a centre it doesn't.
+// The number of a place, or 0 for a centre (K12), whose sentence doesn't give it.
 fn number_told<'a>(rule: &[u8], index: &'a [u8]) -> &'a [u8]
     ensures { result.now ≡ number_told_of rule.now index.now }
 {
@@ -77,7 +76,8 @@ fn is_unread(rule: &[u8]) -> bool
     is(rule, "K1") || is(rule, "notjson")
 }
 
-// What is said behind the element of a text in the file of this name; without a reading, by the form of the text.
+// What is said after the element of a text in the file of this name; an XML text without a reading has its
+// own.
 fn after_in<'a>(file: &[u8], rule: &[u8]) -> &'a [u8]
     ensures { result.now ≡ after_in_of file.now rule.now }
 {
@@ -88,7 +88,7 @@ fn after_in<'a>(file: &[u8], rule: &[u8]) -> &'a [u8]
     }
 }
 
-// What a rule says of an element, behind an opening of three parts.
+// What a rule says of an element, after an opening of three parts.
 fn about<'a>(
     opening: Opening<'a>,
     rule: &[u8],
@@ -242,7 +242,7 @@ fn is_of_field(field: &[u8]) -> bool
     !(is(field, "missing") || is(field, "extra"))
 }
 
-// What cash flows do.
+// What the cash flows do: the verb of a departure.
 fn verb<'a>(field: &[u8]) -> &'a [u8]
     ensures { result.now ≡ verb_of field.now }
 {
@@ -269,7 +269,7 @@ fn unless_stream<'a>(kind: &[u8], text: &'a [u8]) -> &'a [u8]
     if is(kind, "stream") { b"" } else { text }
 }
 
-// What stands before the number of the stream.
+// What comes before the number of the stream.
 fn stream_words<'a>(kind: &[u8]) -> &'a [u8]
     ensures { result.now ≡ stream_words_of kind.now }
 {
@@ -280,7 +280,7 @@ fn stream_words<'a>(kind: &[u8]) -> &'a [u8]
     }
 }
 
-// What stands at the end.
+// What ends the sentence on a departure.
 fn ending<'a>(field: &[u8]) -> &'a [u8]
     ensures { result.now ≡ ending_of field.now }
 {
@@ -433,18 +433,18 @@ fn told<'a>(words: &'a [String], status: u8, line: &'a [u8]) -> Sentence<'a>
     }
 }
 
-/// Whether there is nothing to say of a status and a line: the command is done and, where it is an audit,
-/// no amount lacks a fixing. `words` and `line` are those of `meaning`.
+/// Whether there is nothing to say of a status and a line. That is so where the command is done and, for an
+/// audit, no amount lacks a fixing. `words` and `line` are those of `meaning`.
 pub fn is_silent(words: &[String], status: u8, line: &[u8]) -> bool
     ensures { result ≡ is_silent_of (texts words.now) status line.now }
 {
     status == 0 && !lacks_fixings(words, front(b'\n', line))
 }
 
-/// What a line means that the program wrote with this status, in one sentence. `words` are the words of
-/// the command line, of which the first is the command, and `line` is what the program wrote, or its first
-/// 512 bytes. The sentence is empty where `is_silent` says so. It reads the line once, to its first LF, and
-/// takes no memory and no deeper stack for a longer one.
+/// What a line that the program wrote with this status means, in one sentence. `words` are the words of the
+/// command line; the first is the command. `line` is what the program wrote, or its first 512 bytes. The
+/// sentence is empty where `is_silent` says so. The line is read once, to its first LF. A longer line takes
+/// no memory and no deeper stack.
 pub fn meaning<'a>(words: &'a [String], status: u8, line: &'a [u8]) -> Sentence<'a>
     ensures { said result ≡ sentence_of (texts words.now) status line.now }
 {

@@ -34,7 +34,7 @@ fn text_at(list: &[&'static str], place: usize, other: &'static str) -> &'static
     }
 }
 
-/// What stands before the element at fault.
+/// What is said before the element at fault.
 #[tactic(auto, using(crate::proofs::TableLaws::rules_are, crate::proofs::TableLaws::before_are))]
 pub(crate) fn before<'a>(rule: &[u8]) -> &'a [u8]
     ensures { result.now ≡ before_of rule.now }
@@ -42,7 +42,7 @@ pub(crate) fn before<'a>(rule: &[u8]) -> &'a [u8]
     &text_at(&BEFORE, place_in(&RULES, rule), "")[..]
 }
 
-/// What stands behind it.
+/// What is said after the element at fault.
 pub(crate) fn after<'a>(rule: &[u8]) -> &'a [u8]
     ensures { result.now ≡ after_of rule.now }
 {

@@ -1,6 +1,6 @@
-//! How a sentence shows the words of a command line. A name may hold characters that a terminal obeys:
-//! controls (C0, C1 and DEL), ends of lines, and characters that turn the direction of a text. Each is
-//! shown by its number in base 16, so a name can neither forge a line nor clear a screen.
+//! How a sentence shows the words of a command line. A name may hold characters that a terminal obeys. They
+//! are controls (C0, C1 and DEL), ends of lines, and characters that change the direction of a text. Each is
+//! shown by its number in base 16. So a name can neither forge a line nor clear a screen.
 ghost use Rattle.irs_base.specs.Members.{Every};
 ghost use Rattle.irs_plain.specs.Shown.{IsPrinted, hex_digit as hex_digit_of, is_control as is_control_of, shown as shown_of};
 ghost use Rattle.irs_plain.specs.Shown.{shown_char as shown_char_of, turns_text as turns_text_of, two_digits};

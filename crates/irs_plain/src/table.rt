@@ -1,5 +1,5 @@
-//! The sentences of the rules K1 to K49 and of the faults of cash flows, as three lists side by side: the
-//! word that the program prints, and what stands before and behind the element.
+//! The sentences of the rules K1 to K49 and of the faults of cash flows, as three parallel lists. They hold
+//! the word that the program prints, and what is said before and after the element.
 ghost use Rattle.irs_plain.specs.Rules.{codes_of, texts_after, texts_before};
 ghost use Rattle.std.specs.Prelude.{◌≡◌, map};
 
@@ -11,7 +11,7 @@ pub const RULES: [&str; 47] = [
     "notjson", "missing", "kind", "unknown", "profile", "value", "count",
 ];
 
-/// What stands before the element.
+/// What is said before the element.
 pub const BEFORE: [&str; 47] = [
     "",
     "",
@@ -62,7 +62,7 @@ pub const BEFORE: [&str; 47] = [
     "",
 ];
 
-/// What stands behind the element.
+/// What is said after the element.
 pub const AFTER: [&str; 47] = [
     " isn't JSON",
     " is missing, or lacks a member that it has to have",

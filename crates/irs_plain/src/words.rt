@@ -15,7 +15,7 @@ ghost use Rattle.std.specs.Prelude.{◌≡◌, ◌≤◌};
 
 use crate::cuts::is;
 
-// The word at a place, the command's being 0; empty past the last one.
+// The word at a place, where the command has place 0; empty past the last one.
 fn word_at(words: &[String], place: usize) -> &[u8]
     ensures { result.now ≡ word_at_of (texts words.now) place }
 {
@@ -38,7 +38,7 @@ fn number(text: &[u8]) -> usize
     }
 }
 
-/// The word that a number in a line names, the command's being 0.
+/// The word with the place that a number in a line gives, where the command has place 0.
 pub(crate) fn named<'a>(words: &'a [String], place: &[u8]) -> &'a [u8]
     ensures { result.now ≡ named_of (texts words.now) place.now }
 {
