@@ -5,7 +5,7 @@ use Rattle.std.proofs.lemmas.List.{append-nil, drop_more}
 use Rattle.irs_outside.specs.Outside.{Grew, GrewByFront}
 use Rattle.irs_cli.proofs.PutLemmas.{Through, through_more, through_part}
 
--- the texts that the references lead to
+-- the texts of references
 abbrev pub texts_in : List (Bor (List ℕ)) → List (List ℕ)
 texts_in ps = map (λ p. p.now) ps
 
@@ -14,7 +14,7 @@ pub grew_nothing : (a : Option (List ℕ)) → Grew a a []
 grew_nothing None = tt
 grew_nothing (Some t) = ap Some (sym (append-nil t))
 
--- where nothing is left all was written
+-- where nothing is left, all was written
 pub through_all : (a b : Option (List ℕ)) (left text : List ℕ) → left ≡ [] → Through a b left text → Grew a b text
 through_all a b left text none h =
     let G : List ℕ → Type 0 = λ t. Grew a b t in
@@ -30,14 +30,14 @@ module _ (whole : List (List ℕ) → List ℕ) (piece : List ℕ → List ℕ)
       ap (λ (l : List (Bor (List ℕ))). whole (texts_in l)) (drop_more ps i d less)
       ∙ more (get_or ps i d).now (texts_in (drop (i + 1) ps))
 
-  -- the next piece was written: the others are left
+  -- after the next piece is written, the others are left
   pub piece_put : (a b c : Option (List ℕ)) (text : List ℕ) → Through a b (whole (texts_in (drop i ps))) text
       → Grew b c (piece (get_or ps i d).now) → Through a c (whole (texts_in (drop (i + 1) ps))) text
   piece_put a b c text h k =
       let T : List ℕ → Type 0 = λ l. Through a b l text in
       through_more a b c (piece (get_or ps i d).now) (whole (texts_in (drop (i + 1) ps))) text (subst T next_piece h) k
 
-  -- its write failed: a front of the whole was written
+  -- where the write of the next piece fails, a front of the whole is written
   pub piece_failed : (a b c : Option (List ℕ)) (text : List ℕ) → Through a b (whole (texts_in (drop i ps))) text
       → GrewByFront b c (piece (get_or ps i d).now) → GrewByFront a c text
   piece_failed a b c text h k =

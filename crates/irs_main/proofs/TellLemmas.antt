@@ -25,7 +25,7 @@ nothing_said commands words status line a faults silent =
     let E : List ℕ → Type 0 = λ t. Explained t a a faults faults in
     subst E (sym (unsaid commands words status line silent)) (inl (grew_nothing a, refl))
 
--- what is said of 6 and 7 depends neither on the words nor on the line, and of 0 nothing is said of these
+-- what is said of 6 and 7 depends neither on the words nor on the line, nor of 0 where nothing is said
 pub said_of_status : (commands words others : List (List ℕ)) (status : ℕ) (line another : List ℕ)
     → is_silent words 0 line ≡ true → is_silent others 0 another ≡ true
     → (status ≡ 0) ⊎ ((status ≡ 6) ⊎ (status ≡ 7))
@@ -66,7 +66,7 @@ itself_silent help version [] text line asks = cc
 itself_silent help version (word ∷ []) text line asks = asks_silent help version word text line _ _ refl refl asks
 itself_silent help version (word ∷ another ∷ others) text line asks = cc
 
--- a conjunct of what holds
+-- where two tests are true, the first is
 first_of_both : (a b : Bool) → (a && b) ≡ true → (a && true) ≡ true
 first_of_both true b h = refl
 first_of_both false b h = h
@@ -110,7 +110,7 @@ pub explained_as : (text other : List ℕ) (old now : Option (List ℕ)) (before
     → Explained text old now before after → text ≡ other → Explained other old now before after
 explained_as text other old now before after h is = subst (λ (t : List ℕ). Explained t old now before after) is h
 
--- a text that was printed whole has status 0, and else it is 6
+-- the status is 0 where the text was printed whole, otherwise 6
 pub printed_status : (text : List ℕ) (old now : Option (List ℕ)) (before after status : ℕ)
     → Printed text old now before after status → (status ≡ 0) ⊎ ((status ≡ 6) ⊎ (status ≡ 7))
 printed_status text old now before after status (inl whole) = inl whole.0
@@ -163,11 +163,11 @@ module _ (commands words : List (List ℕ)) (status : ℕ) (line : List ℕ) whe
     sentence_put : (a b : Option (List ℕ)) → Grew a b parts → Through a b (codes "\n" ++ listing) text
     sentence_put a b h = record { front = parts; grew = h; is = said_by }
 
-    -- its end wasn't written
+    -- the end of the sentence wasn't written
     pub end_failed : (a b c : Option (List ℕ)) → Grew a b parts → GrewByFront b c (codes "\n") → GrewByFront a c text
     end_failed a b c h k = through_part a b c (codes "\n") listing text (sentence_put a b h) k
 
-    -- its end was written: what follows it is left
+    -- the end of the sentence was written: what follows it is left
     end_put : (a b c : Option (List ℕ)) → Grew a b parts → Grew b c (codes "\n") → Through a c listing text
     end_put a b c h k = through_more a b c (codes "\n") listing text (sentence_put a b h) k
 

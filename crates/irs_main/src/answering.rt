@@ -95,7 +95,7 @@ fn about_itself(words: &[String]) -> Option<&'static str>
     }
 }
 
-// Prints a text, and answers the status.
+// Prints a text, and returns the status.
 fn print<S: Sink>(out: &mut S, text: &str) -> u8
     ensures { Printed text.now (S.written out.old) (S.written out.new) (S.faults out.old) (S.faults out.new) result }
 {

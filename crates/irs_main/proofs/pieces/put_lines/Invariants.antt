@@ -4,6 +4,7 @@ use Rattle.irs_main.proofs.PieceLemmas.{texts_in}
 use Rattle.irs_main.proofs.pieces.put_lines.Given as goal
 use Rattle.irs_main.specs.Answering.{lines_of}
 
+-- the lines that are left are still to be written
 abbrev pub invariant-loop-line : goal.invariant-loop-line
 invariant-loop-line g l = record {
   put :

@@ -4,6 +4,7 @@ use Rattle.irs_cli.proofs.PutLemmas.{Through}
 use Rattle.irs_main.proofs.PieceLemmas.{texts_in}
 use Rattle.irs_main.proofs.pieces.put_parts.Given as goal
 
+-- the parts that are left are still to be written
 abbrev pub invariant-loop-part : goal.invariant-loop-part
 invariant-loop-part g l = record {
   put :
