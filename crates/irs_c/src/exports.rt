@@ -1,4 +1,4 @@
-//! What C calls. The form of the call is ours; `bindings/irs.h` has it in C's words.
+//! The functions that C calls. Their form is our rule; `bindings/irs.h` declares them in C.
 ghost use Rattle.std.specs.Prelude.{◌≡◌, ◌≢◌, ◌⊎◌, ℕ, ◌<◌, List, ◌++◌, length, take, drop, map, OnOk, IfOk, IfErr};
 ghost use Rattle.irs_cli.specs.Commands.{IsListed, texts};
 ghost use Rattle.irs_cli.specs.Due.{Due, IsOneAnswer};
@@ -139,7 +139,7 @@ fn joined(alloc: Global, parts: &[&[u8]]) -> Result<Vec<u8>, u8>
     Ok(text)
 }
 
-// Appends a part, or answers 7 where memory ran out.
+// Appends a part, or returns 7 where memory ran out.
 fn append(text: &mut Vec<u8>, part: &[u8]) -> Result<(), u8>
     ensures text { OnOk result (text.new.items ≡ text.old.items ++ part.now) }
     ensures err { IfErr result (λ s. s ≡ 7) }

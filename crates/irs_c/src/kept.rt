@@ -9,7 +9,7 @@ use std::alloc::Global;
 pub(crate) struct Kept {
     /// All bytes that were written, in order.
     pub(crate) text: Vec<u8>,
-    /// How many writes failed; it stays at its most, 2^64 - 1.
+    /// How many writes failed; the count stops at 2^64 - 1.
     pub(crate) faults: u64,
 }
 
