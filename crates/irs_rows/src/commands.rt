@@ -3,7 +3,7 @@ use anyhow::{Context, Result};
 use irs_cli::{Files, MemSink, run};
 use std::alloc::Global;
 
-/// As many bytes as any command of a row prints, and more.
+/// More bytes than any command of a row prints.
 pub const ROOM: usize = 10_000;
 
 /// The words of a command: the texts between its spaces.

@@ -12,7 +12,7 @@ struct Answer {
     text: Vec<u8>,
 }
 
-// What words answer over files, of which the one of that name has these bytes.
+// What words answer over files; the file of that name has these bytes.
 fn answer_of(
     alloc: Global,
     words: &[String],
@@ -27,7 +27,7 @@ fn answer_of(
     Ok(Answer { status, text })
 }
 
-// How many of the fronts of a text, from the empty one on, words answer as they do that one; and
+// How many of the fronts of a text, from the empty one on, give the same answer as the empty one; and
 // that answer.
 fn alike_fronts(
     rt: &HostRuntime,
@@ -47,7 +47,7 @@ fn alike_fronts(
 }
 
 /// `cuts NAME WORDS`: the file is cut at each place before its last byte that is no white space. Prints
-/// what is answered where nothing is left, and of how many cuts that is the answer.
+/// the answer where nothing is left, and how many cuts give that answer.
 pub fn run_cuts(rt: &HostRuntime, rest: &str) -> Result<()> {
     let (name, command) = first_word(rest);
     let words = words_of(rt.alloc(), command)?;

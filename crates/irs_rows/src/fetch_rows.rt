@@ -1,10 +1,10 @@
-//! Rows over files in memory of which fetches fail.
+//! Rows over files in memory where some fetches fail.
 use crate::commands::{ROOM, first_word, run_words, words_of};
 use crate::named_files::files_of;
 use anyhow::{Context, Result};
 use irs_cli::{MemFiles, MemSink};
 
-// The files that words name, of which some fetches fail: a text has their numbers, `,` between them.
+// The files that words name, where some fetches fail: a text has their numbers, `,` between them.
 fn faulty_files(rt: &HostRuntime, words: &[String], fetches: &str) -> Result<MemFiles> {
     let mut files = files_of(rt, words)?;
     for fetch in fetches.split(',') {

@@ -52,7 +52,7 @@ pub fn files_of(rt: &HostRuntime, words: &[String]) -> Result<MemFiles> {
     Ok(files)
 }
 
-/// The files that words name, of which a missing one is empty.
+/// The files that words name; a missing one is empty.
 pub fn sure_files_of(rt: &HostRuntime, words: &[String]) -> Result<SureFiles> {
     let mut files = SureFiles::new(rt.alloc());
     for word in words {

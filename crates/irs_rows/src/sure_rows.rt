@@ -4,9 +4,8 @@ use crate::named_files::sure_files_of;
 use anyhow::Result;
 use irs_cli::{MemSink, Sink, SureSink, run};
 
-/// `sure WORDS`: the words are run over files of which a missing one is empty, into a sink that has
-/// room. Then they are run into one that counts, and the row says whether that one counts as many
-/// bytes.
+/// `sure WORDS`: the words are run over files, where a missing one is empty, into a sink that has room.
+/// Then they are run into a sink that counts, and the row says whether it counts as many bytes.
 pub fn run_sure(rt: &HostRuntime, command: &str) -> Result<()> {
     let words = words_of(rt.alloc(), command)?;
     let mut files = sure_files_of(rt, &words)?;
