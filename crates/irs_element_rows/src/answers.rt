@@ -10,12 +10,12 @@ pub struct Answers<'t, 'a> {
 }
 
 impl<'t, 'a> Answers<'t, 'a> {
-    /// Nothing is answered.
+    /// No answers yet.
     pub fn new(told: &'t mut Told<'a>) -> Answers<'t, 'a> {
         Answers { told, between: "" }
     }
 
-    /// Begins one answer more, which is to be reported.
+    /// Begins one more answer, which is to be reported.
     pub fn next(&mut self) -> &mut Told<'a> {
         self.told.text(self.between);
         self.between = " ; ";

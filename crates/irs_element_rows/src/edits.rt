@@ -10,7 +10,7 @@ enum Edit<'a> {
     Put { place: &'a str, text: &'a str },
     /// `take PLACE`: nothing in place of what is there.
     Take { place: &'a str },
-    /// `repeat TIMES PLACE`: an array in place of what is there, which has it so often.
+    /// `repeat TIMES PLACE`: in place of what is there, an array that has it TIMES times.
     Repeat { times: u32, place: &'a str },
 }
 
@@ -58,7 +58,7 @@ fn put(alloc: Global, object: &mut Value, name: &str, text: &str) -> Option<()> 
     members.insert(name, value).is_ok().then_some(())
 }
 
-// What there is, so often.
+// A value, this number of times.
 fn copies(alloc: Global, value: &Value, times: u32) -> Option<Vec<Value>> {
     let mut items = Vec::new(alloc);
     for _ in 0..times {

@@ -6,7 +6,7 @@ use irs_json::{JsonErr, Value, child, items, leaf, members, parse};
 use irs_read::first_in_document;
 use std::alloc::Global;
 
-// `JSON`, or why the bytes are none.
+// `JSON`, or why the bytes aren't JSON.
 fn tell_parsed(told: &mut Told, alloc: Global, bytes: &[u8]) -> Option<()> {
     match parse(alloc, bytes) {
         Ok(_) => told.text("JSON"),

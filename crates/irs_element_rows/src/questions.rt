@@ -11,7 +11,7 @@ use crate::told::Told;
 use irs_json::{Value, parse};
 use std::fs;
 
-/// Of what the rows of a file ask.
+/// What the rows of a file ask about.
 #[derive(Clone, Copy)]
 pub enum Subject {
     /// Documents, by one of their readers.
@@ -33,7 +33,7 @@ pub enum Subject {
 /// What a row asks.
 #[derive(Clone, Copy)]
 pub struct Question<'a> {
-    /// Of what it asks.
+    /// What it asks about.
     subject: Subject,
     /// The kind of question, or the file of a document.
     kind: &'a str,

@@ -21,7 +21,7 @@ fn print_told(rt: &HostRuntime, question: Question) -> Option<()> {
     told.is_printed().then_some(())
 }
 
-// Runs a row; where its line isn't reported, prints it and what is reported. Whether it is
+// Runs a row; where its line isn't reported, prints it and what is reported. Returns whether it is
 // reported.
 fn run_row(rt: &HostRuntime, subject: Subject, text: &str) -> Option<bool> {
     let (question, line) = row_of(subject, text)?;
@@ -65,11 +65,11 @@ fn run_lines(rt: &HostRuntime, subject: Subject, text: &str) -> Result<()> {
     Ok(())
 }
 
-/// Runs the rows of a file, a line each. Prints how many there were and of how many the line was
+/// Runs the rows of a file, a line each. Prints how many there were and for how many the line was
 /// reported. Prints each of the others with what is reported there. A line that begins with `#` is
 /// a remark: it is printed, and the rows are counted anew. A line that begins with `=` names a
-/// document: all that is reported of it is printed. A line that is none of these is printed, and
-/// ends the program.
+/// document: all that is reported of it is printed. Any other line is printed, and ends the
+/// program.
 pub fn run_rows(rt: &HostRuntime, subject: Subject, file: &str) -> Result<()> {
     let text = fs::read_to_string(rt, file)?;
     run_lines(rt, subject, &text)

@@ -1,7 +1,7 @@
-//! How many rows were run, and how many of them were met.
+//! How many rows were run, and for how many of them the line was reported.
 use std::io;
 
-/// How many rows were run since the last remark, and of how many the line was reported.
+/// How many rows were run since the last remark, and for how many the line was reported.
 #[derive(Clone, Copy)]
 pub struct Tally {
     rows: u32,
@@ -12,7 +12,7 @@ impl Tally {
     /// No rows.
     pub const NONE: Tally = Tally { rows: 0, told: 0 };
 
-    /// One row more.
+    /// One more row.
     pub fn with(self, is_told: bool) -> Tally {
         Tally {
             rows: self.rows.saturating_add(1),
