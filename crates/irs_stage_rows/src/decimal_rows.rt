@@ -1,7 +1,7 @@
-//! What is reported of a text that may spell a decimal: how many units of its last place it is, or
+//! What is reported of a text that may spell a decimal: its number of units of the last decimal, or
 //! `none`.
 //!
-//! A row gives the text, then how many places it has.
+//! A row gives the text, then the number of decimals.
 use crate::telling::Told;
 use irs_base::read_dec;
 

@@ -1,8 +1,8 @@
 //! Files that rows give: the name of a file of `data/` after an `@`, or a text.
 //!
 //! In a text `\n` is the end of a line, `\r` a return, `\t` a tab, `\#` a `#`, and `\xff` that
-//! byte. `\A` is as many `A` as the number after it says. `\D` is a line each of as many days as
-//! the number after it says, from 1901-01-01 on. `\.` ends such a number.
+//! byte. `\A` is `A` repeated the number of times that follows. `\D` is a line for each day from
+//! 1901-01-01 on, the number of days that follows. `\.` ends such a number.
 use irs_base::{Day, day_digits, plus};
 use std::alloc::Global;
 use std::fs;
@@ -17,7 +17,7 @@ const ESCAPES: [(&str, &[u8]); 6] = [
     (".", b""),
 ];
 
-// As many `A` as a text says.
+// Appends the number of `A` that a text says.
 fn push_many(bytes: &mut Vec<u8>, count: &str) -> Option<()> {
     for _ in 0..count.parse::<u32>().ok()? {
         bytes.push(b'A').ok()?;
@@ -25,7 +25,7 @@ fn push_many(bytes: &mut Vec<u8>, count: &str) -> Option<()> {
     Some(())
 }
 
-// A line each of as many days as a text says.
+// Appends a line for each of the number of days that a text says.
 fn push_days(bytes: &mut Vec<u8>, count: &str) -> Option<()> {
     for k in 0..count.parse::<u32>().ok()? {
         let day = plus(Day::earliest(), i64::from(k))?;

@@ -12,7 +12,7 @@ pub fn days_of(alloc: Global, calendars: &Calendars, centers: &Centers) -> Optio
     }
 }
 
-/// The days that are good at all of the centres.
+/// The days that are business days at all of the centres.
 pub fn selected(alloc: Global, calendars: &Calendars, names: &Names) -> Option<RunSet> {
     if names.len() > MOST_CENTERS as usize {
         return None;

@@ -5,7 +5,7 @@ use crate::telling::Told;
 use anyhow::{Context, Result, bail};
 use std::fs;
 
-/// How many rows there were, and of how many the line was reported.
+/// How many rows there were, and for how many the line was reported.
 #[derive(Clone, Copy)]
 struct Tally {
     rows: u32,
@@ -15,7 +15,7 @@ struct Tally {
 impl Tally {
     const NONE: Tally = Tally { rows: 0, told: 0 };
 
-    // One row more.
+    // One more row.
     fn with(self, is_told: bool) -> Tally {
         Tally {
             rows: self.rows.saturating_add(1),
@@ -37,8 +37,8 @@ fn row_of(text: &str) -> Option<Row> {
     Some(Row { text, given, line })
 }
 
-// Reports a row, and prints what is reported where there is an echo. Whether its line is reported;
-// prints a row that isn't one, before its error.
+// Reports a row, and prints what is reported where there is an echo. Returns whether its line is
+// reported. Text that is no row is printed before its error.
 fn is_told(
     rt: &HostRuntime,
     sources: &Sources,
@@ -57,7 +57,7 @@ fn is_told(
     Ok(told.is_told)
 }
 
-// Runs a row; where its line isn't reported, prints it and what is reported. Whether it is
+// Runs a row; where its line isn't reported, prints it and what is reported. Returns whether it is
 // reported.
 fn run_row(rt: &HostRuntime, sources: &Sources, stage: Stage, text: &str) -> Result<bool> {
     let row = row_of(text).context("a row ends with its line")?;
@@ -70,7 +70,7 @@ fn run_row(rt: &HostRuntime, sources: &Sources, stage: Stage, text: &str) -> Res
 
 /// Runs the rows of a file, a line each; a line that begins with `#` is a remark. Prints each row
 /// whose line isn't reported, with what is reported there. At the end it prints how many rows there
-/// were and of how many the line was reported.
+/// were and for how many the line was reported.
 pub fn run_rows(rt: &HostRuntime, sources: &Sources, stage: Stage, file: &str) -> Result<()> {
     let text = fs::read_to_string(rt, file)?;
     let mut tally = Tally::NONE;

@@ -63,7 +63,7 @@ pub enum StreamStage {
     Periods,
     /// The unadjusted boundaries over a grid of days that is handed in.
     PeriodsOverDays,
-    /// The adjusted ones.
+    /// The adjusted boundaries.
     AdjustedPeriods,
     /// The payments over given boundaries.
     Payments,
