@@ -1,5 +1,5 @@
 -- There is one accrual on a day of a stream of either kind.
-use Rattle.std.proofs.Common.{◌≡◌, inl, inr, ℕ, length, Option, Some, None, option_map, IfSome, ℤ, pos, ◌<ℤ◌, ◌≤ℤ◌, refl, sym, ap}
+use Rattle.std.proofs.Common.{◌≡◌, inl, inr, ℕ, length, Option, Some, None, option_map, ℤ, refl, sym, ap}
 use Rattle.std.proofs.Common.{◌∙◌, subst, arith}
 use Rattle.jiff_core.proofs.SignedLemmas.{signed_arith}
 use Rattle.irs_base.proofs.MemberLemmas.{some_is}
@@ -26,11 +26,11 @@ use Rattle.irs_observed.specs.RunningRates.{IsRateBefore}
 use Rattle.irs_observed.specs.declared.overnight_rate.OvernightRate.{OvernightRate}
 use Rattle.irs_observed.specs.declared.overnight_rate.OvernightRate.TheVariants.{Stated, Known, Absent, OutOfRange}
 use Rattle.irs_compound.specs.OvernightLaws.{one_overnight}
-use Rattle.irs_compound.specs.OvernightRates.{AreRatesBy, IsAbove as HasDenominator}
+use Rattle.irs_compound.specs.OvernightRates.{IsAbove as HasDenominator}
 use Rattle.irs_compound.specs.declared.periods.Rates.{Rates}
 use Rattle.irs_schedule.specs.Parts.{KeepsBounds, Part}
 use Rattle.irs_schedule.specs.declared.views.CalculationPeriod.{CalculationPeriod}
-use Rattle.irs_accrue.specs.Accruals.{IsAccrual, IsAccrued}
+use Rattle.irs_accrue.specs.Accruals.{IsAccrued}
 use Rattle.irs_accrue.specs.DailyAccruals.{AccruesAs, AccruesBy, AccruesDaily, DailyTerms, EarnsBefore, GivesRate}
 use Rattle.irs_accrue.specs.DailyAccruals.{IsAccrualBy, IsAccrualOf, IsAccrualWith, IsDailyAccrual, before_first, daily_terms}
 use Rattle.irs_accrue.specs.DailyAccruals.{method_of, observing, on_first, rates_of, run_of, unobserved, whole_of}

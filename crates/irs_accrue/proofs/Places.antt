@@ -1,5 +1,5 @@
 -- An amount that has accrued has at most 12 decimals.
-use Rattle.std.proofs.Common.{◌≡◌, inl, inr, ℕ, ◌≤◌, List, Option, Some, None, IfSome, ℤ, sym, subst, arith}
+use Rattle.std.proofs.Common.{inl, inr, ℕ, ◌≤◌, List, Option, Some, None, IfSome, ℤ, sym, subst, arith}
 use Rattle.irs_base.specs.declared.line.Dec.{Dec}
 use Rattle.irs_terms.proofs.CurrencyLemmas.{decimals_few}
 use Rattle.irs_terms.specs.Currencies.{decimals_of}
@@ -15,7 +15,7 @@ use Rattle.irs_schedule.specs.Parts.{Part}
 use Rattle.irs_schedule.specs.declared.views.CalculationPeriod.{CalculationPeriod}
 use Rattle.irs_accrue.specs.Accruals.{HasPlaces, IsAccrual, IsAccrued}
 use Rattle.irs_accrue.specs.DailyAccruals.{AccruesAs, AccruesDaily, DailyTerms, IsAccrualWith, IsDailyAccrual}
-use Rattle.irs_accrue.specs.DailyAccruals.{before_first, daily_terms, nothing, observing, on_first, unobserved}
+use Rattle.irs_accrue.specs.DailyAccruals.{before_first, daily_terms, observing, on_first, unobserved}
 use Rattle.irs_accrue.specs.declared.accruals.Accrual.{Accrual}
 use Rattle.irs_accrue.specs.declared.accruals.Accrual.TheVariants.{Outside, Inside}
 

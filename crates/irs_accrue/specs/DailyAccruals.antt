@@ -1,6 +1,6 @@
 -- What has accrued on a day in a stream with calculation parameters. The running period earns at the rate that the
 -- daily rates of its members before the day give. That the members are those of the whole period is our rule.
-use Rattle.std.specs.Prelude.{◌≡◌, ◌⊎◌, ℕ, List, length, Option, Some, None, option_map, ℤ, pos, ◌<ℤ◌, ◌≤ℤ◌}
+use Rattle.std.specs.Prelude.{◌≡◌, ◌⊎◌, ℕ, length, Option, Some, None, option_map, ℤ, pos, ◌<ℤ◌, ◌≤ℤ◌}
 use Rattle.irs_base.specs.declared.line.Dec.{Dec}
 use Rattle.irs_terms.specs.Currencies.{decimals_of}
 use Rattle.irs_terms.specs.declared.amounts.FloatTerms.{FloatTerms}

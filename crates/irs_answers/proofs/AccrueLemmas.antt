@@ -8,11 +8,7 @@ use Rattle.irs_base.specs.Faults.{in_stream}
 use Rattle.irs_base.specs.Order.{Only}
 use Rattle.irs_base.specs.Outcomes.{Spec, each_in_turn, refused_as}
 use Rattle.irs_base.proofs.Outcomes.{answer_there}
-use Rattle.irs_terms.specs.StepDates.{LegStepsRise}
-use Rattle.irs_terms.specs.declared.results.Span.{Span}
 use Rattle.irs_terms.specs.declared.stream.Stream.{Stream}
-use Rattle.irs_periods.specs.Outcomes.{regular_span_of}
-use Rattle.irs_rules.proofs.Kept.{terms_kept}
 use Rattle.irs_schedule.specs.DaySets.{applicable_days, stream_sets}
 use Rattle.irs_schedule.specs.Outcomes.{schedule_of, stream_of}
 use Rattle.irs_schedule.specs.Parts.{Part}

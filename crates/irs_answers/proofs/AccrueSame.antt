@@ -20,7 +20,7 @@ use Rattle.irs_observed.specs.RunningRates.{IsRateBefore}
 use Rattle.irs_schedule.specs.DaySets.{applicable_days}
 use Rattle.irs_schedule.specs.Parts.{Part}
 use Rattle.irs_schedule.specs.declared.views.CalculationPeriod.{CalculationPeriod}
-use Rattle.irs_accrue.specs.DailyAccruals.{AccruesAs, AccruesDaily, DailyTerms, EarnsBefore, IsAccrualBy, IsAccrualOf}
+use Rattle.irs_accrue.specs.DailyAccruals.{AccruesAs, AccruesDaily, DailyTerms, EarnsBefore, IsAccrualBy}
 use Rattle.irs_accrue.specs.DailyAccruals.{IsAccrualWith, IsDailyAccrual, before_first, daily_terms, method_of, observing}
 use Rattle.irs_accrue.specs.DailyAccruals.{on_first, unobserved, whole_of}
 use Rattle.irs_accrue.specs.declared.accruals.Accrual.{Accrual}

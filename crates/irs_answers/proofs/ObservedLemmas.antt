@@ -29,7 +29,6 @@ use Rattle.irs_observed.specs.DailyRates.{DailyRates, daily_rates, one_day}
 use Rattle.irs_observed.specs.OvernightRates.{OvernightSource, overnight_source}
 use Rattle.irs_observed.specs.OvernightResets.{rates_source}
 use Rattle.irs_observed.specs.declared.overnight_rate.OvernightRate.{OvernightRate}
-use Rattle.irs_observed.specs.declared.overnight_rate.OvernightRate.TheVariants.{OutOfRange}
 use Rattle.irs_daily.specs.Laws.{NoneOutOfRange}
 use Rattle.irs_daily.specs.ObservedRows.{AreObservedRows, AreRowsOf, AreRowsOfKind}
 use Rattle.irs_daily.specs.Outcomes.{HasNoRows}

@@ -23,7 +23,6 @@ use Rattle.irs_schedule.specs.Parts.{Part}
 use Rattle.irs_schedule.specs.RowTexts.{text_of}
 use Rattle.irs_terms.specs.declared.stream_list.Swap.{Swap}
 use Rattle.irs_emit.specs.Emitted.{emit_text}
-use Rattle.irs_breaks.specs.BreakLists.{IsBreakList}
 use Rattle.irs_breaks.specs.BreakTexts.{breaks_text}
 use Rattle.irs_breaks.specs.Findings.{Findings}
 use Rattle.irs_answers.specs.FlowMessages.{bad_flows, verdict_status, verdict_text, whole_document}

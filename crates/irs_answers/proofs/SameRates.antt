@@ -1,5 +1,5 @@
 -- A schedule and the rules of dates and amounts depend on a table of rates by its rates alone.
-use Rattle.std.proofs.Common.{◌≡◌, inl, inr, ℕ, List, [], ◌∷◌, Option, Some, None, sym, subst}
+use Rattle.std.proofs.Common.{◌≡◌, inl, inr, List, [], ◌∷◌, Option, Some, None, sym, subst}
 use Rattle.irs_base.specs.Faults.{in_stream}
 use Rattle.irs_base.specs.Members.{Pairs}
 use Rattle.irs_base.specs.Outcomes.{refused_as}

@@ -1,5 +1,5 @@
 -- The value of FpML XML has strings for leaves, and nests no deeper than serde_json reads.
-use Rattle.std.proofs.Common.{◌≡◌, ℕ, zero, suc, ◌+◌, ◌-◌, ◌≤◌, Bool, true, false, cond, ◌&&◌, List, [], ◌∷◌}
+use Rattle.std.proofs.Common.{◌≡◌, ℕ, zero, suc, ◌+◌, ◌-◌, ◌≤◌, Bool, true, false, cond, List, [], ◌∷◌}
 use Rattle.std.proofs.Common.{Option, Some, None, Ordering, Less, Equal, Greater, nat_cmp, is_eq, refl, subst, arith}
 use Rattle.std.proofs.Common.{codes}
 use Rattle.std.proofs.lemmas.Option.{same_Some}

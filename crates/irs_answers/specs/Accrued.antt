@@ -1,5 +1,5 @@
 -- The text of `accrue`: what has accrued on a day, a line a stream.
-use Rattle.std.specs.Prelude.{◌≡◌, ℕ, ◌+◌, ◌-◌, ◌≤◌, List, [], ◌∷◌, ◌++◌, Some, codes, slice_get, ℤ}
+use Rattle.std.specs.Prelude.{◌≡◌, ℕ, ◌+◌, ◌-◌, List, [], ◌∷◌, ◌++◌, Some, codes, slice_get, ℤ}
 use Rattle.irs_base.specs.Order.{Only}
 use Rattle.irs_base.specs.Texts.{day_text}
 use Rattle.irs_terms.specs.Lawful.{IsLawful}

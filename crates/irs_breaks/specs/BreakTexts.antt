@@ -1,5 +1,5 @@
 -- The text of the breaks: a line each, and a last line with the counts.
-use Rattle.std.specs.Prelude.{ℕ, zero, suc, ◌+◌, ◌-◌, min, ◌==◌, if◌then◌else◌, ℤ, pos, List, ◌∷◌, ◌++◌, length, sum_by, codes, decimal}
+use Rattle.std.specs.Prelude.{ℕ, zero, suc, ◌+◌, ◌-◌, min, if◌then◌else◌, ℤ, pos, List, ◌∷◌, ◌++◌, length, sum_by, codes, decimal}
 use Rattle.std.specs.Prelude.{Option, Some, None}
 use Rattle.std.specs.Ordering.{int_eq}
 use Rattle.std.specs.Int.{int_rem_euclid, int_div_euclid}

@@ -28,9 +28,9 @@ use std::alloc::Global;
 
 /// What `bulk N` comes to; the command is ours. For each k from 1 to N it makes the schedule of
 /// document k and that of its plain form. The calendar is that of their centre, and there are no
-/// fixings. Where one of them can't be made, the reply is what `schedule` prints for the first such
-/// k: for the document where it has no schedule, otherwise for its plain form. Else the status is 0
-/// and the text is the line of the sums. They are payments and calculation periods, amounts and days
+/// fixings. Where one of them can't be made, the reply is what `schedule` prints for the first such k.
+/// It is that of the document where it has no schedule, otherwise that of its plain form. Else the
+/// status is 0 and the text is the line of the sums. They are payments and calculation periods, amounts and days
 /// of the documents' schedules. AGREE counts the schedules that agree with the flows that state their
 /// plain schedule. FIRST adds up the numbers of the first rows that depart in the others. `Memory`
 /// comes only where memory ran out.

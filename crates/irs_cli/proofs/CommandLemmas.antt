@@ -18,7 +18,7 @@ use Rattle.irs_terms.specs.declared.frequency.Frequency.{Frequency}
 use Rattle.irs_answers.specs.declared.tasks.Task.TheVariants as task
 use Rattle.irs_answers.specs.Given.{most_calendars}
 use Rattle.irs_cli.specs.declared.commands.Request.{Request}
-use Rattle.irs_cli.specs.declared.commands.Request.TheVariants.{OverFiles, Bulk, Carrier}
+use Rattle.irs_cli.specs.declared.commands.Request.TheVariants.{OverFiles, Bulk}
 use Rattle.irs_cli.specs.declared.commands.Command.{Command}
 use Rattle.irs_cli.specs.declared.commands.Named.{Named}
 use Rattle.irs_cli.specs.Commands.{Words, texts, Wanted, Asked, Asks, AsksAs, AsksAccrue, AsksAverage, AsksBreaks}

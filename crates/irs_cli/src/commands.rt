@@ -17,8 +17,8 @@
 //!
 //! A document or cash flows in a file with a name that ends in `.xml` are FpML XML, otherwise JSON.
 //!
-//! A command is data: the number of its parameters, the roles of its files in the order of the words, and
-//! the most calendars that may follow.
+//! A command is data: the number of its parameters, and the roles of its files in the order of the
+//! words. To these comes the most calendars that may follow.
 ghost use Rattle.std.specs.Prelude.{◌≡◌, ◌≤◌, ◌+◌, map, length, option_map, IfOk, IfSome, IfNone};
 ghost use Rattle.irs_cli.specs.Commands.{texts, kind_of, params_of, roles_of, calendars_of, counts, role_at, is_file};
 ghost use Rattle.irs_cli.specs.Commands.{IsRequest, IsCommand, IsCommandAs, asked_by, wanted_by, files_from};

@@ -1,9 +1,8 @@
 -- How large the rates of a period are, with calculation parameters and without.
-use Rattle.std.proofs.Common.{◌≡◌, ◌≤◌, ℤ, pos, ◌<ℤ◌, Option, Some, None, IfSome, subst, sym, arith, unsigned_abs}
+use Rattle.std.proofs.Common.{◌≡◌, ◌≤◌, ℤ, Option, Some, None, IfSome, subst, sym, arith, unsigned_abs}
 use Rattle.irs_base.specs.Limits.{most_rate}
-use Rattle.irs_terms.specs.Lawful.{IsLawfulFloat, IsLawfulLeg, IsLawfulValues, IsRate}
+use Rattle.irs_terms.specs.Lawful.{IsLawfulFloat, IsLawfulValues, IsRate}
 use Rattle.irs_terms.specs.declared.amounts.FloatTerms.{FloatTerms}
-use Rattle.irs_terms.specs.declared.amounts.Leg.{Leg}
 use Rattle.irs_terms.specs.declared.amounts.Leg.TheVariants.{Fixed, Floating}
 use Rattle.irs_terms.specs.declared.step_list.StepValues.{StepValues}
 use Rattle.irs_observed.specs.ObservedRates.{most_period_rate}

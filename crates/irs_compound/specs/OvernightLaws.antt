@@ -11,7 +11,7 @@ use Rattle.irs_observed.specs.declared.overnight_rate.OvernightRate.TheVariants.
 use Rattle.irs_compound.specs.declared.periods.Rates.{Rates}
 use Rattle.irs_compound.specs.InForce.{value_in_force}
 use Rattle.irs_compound.specs.InForceLaws.{in_force_is, one_in_force}
-use Rattle.irs_compound.specs.OvernightRates.{AreRatesBy, AreRatesIn, IsAbove, RatesOver, floating_rates_by}
+use Rattle.irs_compound.specs.OvernightRates.{AreRatesBy, AreRatesIn, IsAbove, RatesOver}
 use Rattle.irs_compound.specs.OvernightRates.{overnight_rates_by, rates_in, rates_over}
 use Rattle.irs_compound.specs.PeriodRates.{treated}
 use Rattle.irs_compound.specs.RateLaws.{one_leg_rates, rates_by_are, same_rates, treated_is, treated_value}

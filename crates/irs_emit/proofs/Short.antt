@@ -23,7 +23,6 @@ use Rattle.irs_terms.specs.declared.codes.DayCountCode.TheVariants.{OneOne, ActA
 use Rattle.irs_terms.specs.declared.codes.DayCountCode.TheVariants.{ThirtyE360, ThirtyE360Isda}
 use Rattle.irs_terms.specs.declared.currency.Currency.{Currency}
 use Rattle.irs_terms.specs.declared.results.Exchange.{Exchange}
-use Rattle.irs_terms.specs.declared.results.Reset.{Reset}
 use Rattle.irs_daycount.specs.Fractions.{denominator_of}
 use Rattle.irs_elements.proofs.Exact.{true_both}
 use Rattle.irs_elements.specs.Words.{is_capital, is_currency}

@@ -1,11 +1,11 @@
 -- What has run of a calculation period before each of its days has an observation period, where the whole has one.
-use Rattle.std.proofs.Common.{◌≡◌, inl, inr, ℕ, zero, suc, ◌+◌, ◌<◌, ◌≤◌, Bool, true, false, IsTrue, ℤ, pos, ◌+ℤ◌, ◌-ℤ◌, ◌<ℤ◌, ◌≤ℤ◌}
-use Rattle.std.proofs.Common.{refl, sym, ◌∙◌, ap, subst, arith}
+use Rattle.std.proofs.Common.{◌≡◌, inl, inr, ℕ, zero, suc, ◌+◌, ◌<◌, ◌≤◌, Bool, true, false, ℤ, pos, ◌+ℤ◌, ◌-ℤ◌, ◌<ℤ◌}
+use Rattle.std.proofs.Common.{refl, sym, ap, arith}
 use Rattle.std.specs.Prelude.{if◌then◌else◌}
 use Rattle.std.proofs.lemmas.Bool.{cases_lt}
 use Rattle.jiff_core.proofs.SignedLemmas.{signed_arith}
 use Rattle.irs_calendar.specs.GoodDays.{DaySet}
-use Rattle.irs_adjust.specs.Ways.{MovesOn, away, good_days}
+use Rattle.irs_adjust.specs.Ways.{MovesOn, good_days}
 use Rattle.irs_adjust.specs.declared.ways.Way.TheVariants.{Back}
 use Rattle.irs_observed.specs.ObservationPeriods.{IsObservationPeriod, MovesBack, ObservedPeriod, Shifts, observed_period}
 use Rattle.irs_terms.specs.declared.parameters.ObservationOffset.{ObservationOffset}

@@ -1,6 +1,6 @@
 -- The observations of the members before a day, and that they give one rate.
-use Rattle.std.proofs.Common.{◌≡◌, ◌⊎◌, inl, inr, ℕ, zero, suc, ◌+◌, ◌<◌, ◌≤◌, List, [], ◌∷◌, ◌++◌, length, take, Bool, true, false}
-use Rattle.std.proofs.Common.{ℤ, pos, ◌-ℤ◌, ◌+ℤ◌, ◌<ℤ◌, ◌≤ℤ◌, refl, sym, subst, ◌∙◌, ap, arith, min, unsigned_abs}
+use Rattle.std.proofs.Common.{◌≡◌, inl, inr, ℕ, suc, ◌+◌, ◌<◌, ◌≤◌, List, [], ◌∷◌, ◌++◌, length, take, Bool, true, false}
+use Rattle.std.proofs.Common.{ℤ, pos, ◌-ℤ◌, ◌+ℤ◌, ◌<ℤ◌, ◌≤ℤ◌, refl, sym, subst, ◌∙◌, ap, arith, unsigned_abs}
 use Rattle.std.specs.Prelude.{get_or, int_lt, if◌then◌else◌}
 use Rattle.std.proofs.lemmas.List.{take_more, take_all}
 use Rattle.jiff_core.proofs.SignedLemmas.{signed_arith}
@@ -8,15 +8,13 @@ use Rattle.irs_base.specs.Members.{Every, EachNumbered, day_at}
 use Rattle.irs_calendar.specs.GoodDays.{DaySet}
 use Rattle.irs_observed.specs.DailyRates.{DailyRates}
 use Rattle.irs_observed.specs.ObservationPeriods.{ObservedPeriod, Shifts}
-use Rattle.irs_observed.specs.ObservationRules.{Lacks}
-use Rattle.irs_observed.specs.Observations.{AreObservations, AreObserved, HasWeights, IsObservation, total_weight}
+use Rattle.irs_observed.specs.Observations.{AreObservations, HasWeights, IsObservation, total_weight}
 use Rattle.irs_observed.specs.OvernightRates.{IsRateBy}
-use Rattle.irs_observed.specs.RunningRates.{AddsUpUntil, BeginsBefore, HasObservations, IsRateBefore, IsRateUntil}
+use Rattle.irs_observed.specs.RunningRates.{AddsUpUntil, BeginsBefore, IsRateBefore, IsRateUntil}
 use Rattle.irs_observed.specs.RunningRates.{ends_by, observed_until}
 use Rattle.irs_observed.specs.ObservedRates.{Fraction}
 use Rattle.irs_observed.specs.declared.method.DailyRateMethod.{DailyRateMethod}
 use Rattle.irs_observed.specs.declared.method.DailyRateMethod.TheVariants.{Compounding, Averaging}
-use Rattle.irs_observed.specs.declared.observation.NoObservations.{NoObservations}
 use Rattle.irs_observed.specs.declared.observation.Observation.{Observation}
 use Rattle.irs_observed.specs.declared.overnight_rate.OvernightRate.{OvernightRate}
 use Rattle.irs_observed.specs.declared.overnight_rate.OvernightRate.TheVariants.{Known, Absent}

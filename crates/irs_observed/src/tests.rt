@@ -444,93 +444,31 @@ fn paid_before(
 // 2024-04-03 on take the rate of that day, whichever day the interest accrues to.
 #[test]
 fn rates_up_to_a_day(rt: HostRuntime) {
+    use ObservationOffset::{Absent, Lockout, Lookback, Shift};
+
     let alloc = rt.alloc();
-    let rows = [
-        (COMPOUNDING, ObservationOffset::Absent, (3, 25), 0, None),
-        (
-            COMPOUNDING,
-            ObservationOffset::Absent,
-            (3, 26),
-            0,
-            Some(53_100_000),
-        ),
-        (
-            COMPOUNDING,
-            ObservationOffset::Absent,
-            (3, 30),
-            0,
-            Some(53_294_200),
-        ),
-        (
-            COMPOUNDING,
-            ObservationOffset::Absent,
-            (4, 5),
-            0,
-            Some(53_426_200),
-        ),
-        (COMPOUNDING, ObservationOffset::Absent, (4, 6), 0, None),
-        (
-            COMPOUNDING,
-            ObservationOffset::Shift(2),
-            (3, 30),
-            0,
-            Some(52_615_400),
-        ),
-        (
-            COMPOUNDING,
-            ObservationOffset::Shift(2),
-            (4, 5),
-            0,
-            Some(53_072_300),
-        ),
-        (
-            COMPOUNDING,
-            ObservationOffset::Lookback(2),
-            (4, 5),
-            0,
-            Some(53_180_400),
-        ),
-        (
-            COMPOUNDING,
-            ObservationOffset::Lookback(2),
-            (4, 7),
-            0,
-            Some(53_320_000),
-        ),
-        (
-            COMPOUNDING,
-            ObservationOffset::Lockout(2),
-            (4, 5),
-            0,
-            Some(53_499_000),
-        ),
-        (
-            COMPOUNDING,
-            ObservationOffset::Lockout(2),
-            (4, 7),
-            0,
-            Some(53_589_700),
-        ),
-        (
-            DailyRateMethod::Averaging,
-            ObservationOffset::Absent,
-            (4, 5),
-            0,
-            Some(53_390_900),
-        ),
-        (
-            COMPOUNDING,
-            ObservationOffset::Absent,
-            (4, 5),
-            2_500_000,
-            Some(55_926_200),
-        ),
+    let compounded = [
+        (Absent, (3, 25), None),
+        (Absent, (3, 26), Some(53_100_000)),
+        (Absent, (3, 30), Some(53_294_200)),
+        (Absent, (4, 5), Some(53_426_200)),
+        (Absent, (4, 6), None),
+        (Shift(2), (3, 30), Some(52_615_400)),
+        (Shift(2), (4, 5), Some(53_072_300)),
+        (Lookback(2), (4, 5), Some(53_180_400)),
+        (Lookback(2), (4, 7), Some(53_320_000)),
+        (Lockout(2), (4, 5), Some(53_499_000)),
+        (Lockout(2), (4, 7), Some(53_589_700)),
     ];
-    for (method, offset, d, spread, rate) in rows {
+    for (offset, d, rate) in compounded {
         assert_eq!(rt;
-            paid_before(alloc, method, offset, d, spread),
+            paid_before(alloc, COMPOUNDING, offset, d, 0),
             rate,
             "{offset:?}"
         );
     }
+    let averaged = paid_before(alloc, DailyRateMethod::Averaging, Absent, (4, 5), 0);
+    assert_eq!(rt; averaged, Some(53_390_900));
+    let with_spread = paid_before(alloc, COMPOUNDING, Absent, (4, 5), 2_500_000);
+    assert_eq!(rt; with_spread, Some(55_926_200));
 }

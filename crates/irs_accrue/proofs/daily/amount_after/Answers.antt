@@ -1,4 +1,4 @@
-use Rattle.std.proofs.Common.{◌≡◌, Option, Some, ℤ, ◌<ℤ◌, ◌≤ℤ◌, sym, subst, ap}
+use Rattle.std.proofs.Common.{Some, ℤ, ◌<ℤ◌, ◌≤ℤ◌, sym, subst, ap}
 use Rattle.std.proofs.lemmas.Result.{IfOk-weaker}
 use Rattle.irs_base.proofs.Orders.{le_false, le_true}
 use Rattle.irs_base.specs.declared.line.Dec.{Dec}

@@ -1,4 +1,4 @@
-use Rattle.std.proofs.Common.{ℕ, List, map, ap, sym, subst, Err, Vec}
+use Rattle.std.proofs.Common.{ℕ, List, map, ap, subst, Err, Vec}
 use Rattle.std.specs.Prelude.{IfSome}
 use Rattle.std.specs.declared.alloc.Global.{Global}
 use Rattle.serde_json.specs.Data.{Data}
@@ -6,7 +6,6 @@ use Rattle.serde_json.specs.View.{view}
 use Rattle.irs_calendar.specs.Calendars.{spot_of}
 use Rattle.irs_calendar.specs.FirstFaults.{IsFirstFault}
 use Rattle.irs_calendar.specs.Grammar.{CalFiles}
-use Rattle.irs_answers.specs.Forms.{TextReads}
 use Rattle.irs_answers.specs.declared.refusals.Refusal.TheVariants.{Rule, Calendars, Fixings}
 use Rattle.irs_answers.specs.Due.{DueFor, Spells, facts}
 use Rattle.irs_answers.specs.Given.{given_by}

@@ -1,5 +1,3 @@
-use Rattle.std.proofs.Common.{subst, sym, ◌≡◌}
-use Rattle.irs_observed.specs.Observations.{HasWeights}
 use Rattle.irs_observed.proofs.RunningLemmas.{weights_until}
 use Rattle.irs_observed.proofs.running.rate_until.Goals as goal
 
