@@ -1,4 +1,5 @@
 pub mod FlowParts
+pub mod FlowBounds
 pub mod FlowLines
 pub mod FlowFaults
 pub mod FlowMeaning

@@ -118,7 +118,7 @@ int_same a b h = elim (cases_Bool (int_eq a b)) [
   | inr f ↦ absurd (h (λ e. let t = true_eq a b e in cc))
 ]
 
-nat_same : (a b : ℕ) → ((¬ (a ≡ b)) → ⊥) → a ≡ b
+pub nat_same : (a b : ℕ) → ((¬ (a ≡ b)) → ⊥) → a ≡ b
 nat_same a b h = elim (cases_lt a b) [
   | inl l ↦ absurd (h (λ e. omega (arith, l, e)))
   | inr g ↦ elim (cases_lt b a) [ inl l ↦ absurd (h (λ e. omega (arith, l, e))) | inr k ↦ omega (arith, g, k) ]
@@ -170,7 +170,7 @@ get_take (suc k) j [] h = refl
 get_take (suc k) zero (x ∷ xs) h = refl
 get_take (suc k) (suc j) (x ∷ xs) h = get_take k j xs (omega (arith, h))
 
-take_few : {X : Type 0} (k : ℕ) (xs : List X) → length (take k xs) ≤ k
+pub take_few : {X : Type 0} (k : ℕ) (xs : List X) → length (take k xs) ≤ k
 take_few zero xs = omega arith
 take_few (suc k) [] = omega arith
 take_few (suc k) (x ∷ xs) = let rest = take_few k xs in omega (arith, rest)
@@ -182,20 +182,20 @@ get_drop (suc i) j (x ∷ xs) =
     let e : suc (i + j) ≡ suc i + j = omega arith in
     get_drop i j xs ∙ ap (λ (n : ℕ). slice_get (x ∷ xs) n) e
 
-get_part : {X : Type 0} (i k j : ℕ) (xs : List X) → j < k → slice_get (take k (drop i xs)) j ≡ slice_get xs (i + j)
+pub get_part : {X : Type 0} (i k j : ℕ) (xs : List X) → j < k → slice_get (take k (drop i xs)) j ≡ slice_get xs (i + j)
 get_part i k j xs h = get_take k j (drop i xs) h ∙ get_drop i j xs
 
 get_past : {X : Type 0} (i k j : ℕ) (xs : List X) → k ≤ j → slice_get (take k (drop i xs)) j ≡ None
 get_past i k j xs h = let few = take_few k (drop i xs) in slice_get_past (take k (drop i xs)) j (omega (arith, few, h))
 
 -- the members at each place are both there and related by R, or neither is there
-abbrev Match : {X Y : Type 0} → (X → Y → Type 0) → Option X → Option Y → Type 0
+abbrev pub Match : {X Y : Type 0} → (X → Y → Type 0) → Option X → Option Y → Type 0
 Match R (Some x) (Some y) = R x y
 Match R (Some x) None = ⊥
 Match R None (Some y) = ⊥
 Match R None None = Unit {0}
 
-pairs_at : {X Y : Type 0} (R : X → Y → Type 0) (xs : List X) (ys : List Y)
+pub pairs_at : {X Y : Type 0} (R : X → Y → Type 0) (xs : List X) (ys : List Y)
     → ((k : ℕ) → Match R (slice_get xs k) (slice_get ys k)) → Pairs R xs ys
 pairs_at R [] [] h = tt
 pairs_at R [] (y ∷ ys) h = h zero

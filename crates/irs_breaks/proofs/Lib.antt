@@ -19,6 +19,9 @@ pub mod PlacedRows
 pub mod PaymentPlaces
 pub mod Agreed
 pub mod Stated
+pub mod Quiet
+pub mod Partners
+pub mod Converse
 pub mod PaymentsTold
 pub mod TablesTold
 pub mod StreamsTold

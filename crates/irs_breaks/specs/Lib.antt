@@ -11,4 +11,5 @@ pub mod Counting
 pub mod Findings
 pub mod RowFindings
 pub mod BreakLists
+pub mod OneNumber
 pub mod BreakTexts

@@ -1,12 +1,14 @@
 //! Laws of the pairing and of the list of breaks, each the contract of a function that does nothing.
-ghost use Rattle.std.specs.Prelude.{◌≡◌, List, Option, sum_by, ℤ};
+ghost use Rattle.std.specs.Prelude.{◌≡◌, List, None, Option, sum_by, ℤ};
 ghost use Rattle.irs_audit.specs.Agreement.{Agrees};
+ghost use Rattle.irs_audit.specs.FlowBounds.{FlowsAreWithin};
 ghost use Rattle.irs_audit.specs.FlowParts.{FlowPart};
 ghost use Rattle.irs_audit.specs.StatedFlows.{stated_flows};
 ghost use Rattle.irs_breaks.specs.BreakLists.{HasBreak, IsBreakList};
 ghost use Rattle.irs_breaks.specs.Findings.{Findings};
 ghost use Rattle.irs_schedule.specs.Parts.{IsWithin, Part};
 ghost use Rattle.irs_breaks.specs.Laws.{DontCross, HasOnePartner, IsOnlyPairing, IsSymmetric};
+ghost use Rattle.irs_breaks.specs.OneNumber.{HaveOneNumber};
 ghost use Rattle.irs_breaks.specs.PairedRows.{IsPairing};
 ghost use Rattle.irs_breaks.specs.declared.counting.Counts.{Counts};
 ghost use Rattle.irs_breaks.specs.declared.dated.DatedRow.{DatedRow};
@@ -52,4 +54,11 @@ pub fn stated_is_unbroken()
         → ¬ (HasBreak l) }
     ensures whole { (from : Option ℤ) (s : List Part) (l : Findings) → IsWithin s → IsBreakList from s (stated_flows s) l
         → sum_by (λ (c : Counts). c.unstated) l.pairs ≡ 0 }
+{}
+
+/// Where from no day on nothing breaks, nothing is unstated and each pair of rows has one number on both sides, the
+/// cash flows agree with the schedule, so that `audit` says yes.
+pub fn unbroken_is_agreed()
+    ensures { (s : List Part) (f : List FlowPart) (l : Findings) → IsWithin s → FlowsAreWithin f → HaveOneNumber None s f
+        → IsBreakList None s f l → ¬ (HasBreak l) → sum_by (λ (c : Counts). c.unstated) l.pairs ≡ 0 → Agrees f s }
 {}

@@ -25,7 +25,7 @@ pub use fields::{exchange_fields, payment_fields, period_fields, reset_fields};
 pub use findings::{Break, BreakList, BreakPlace, What};
 pub use laws::{
     agreed_is_unbroken, no_crossing, one_list, one_partner, only_pairing, same_either_way,
-    stated_is_unbroken,
+    stated_is_unbroken, unbroken_is_agreed,
 };
 pub use pairing::pair_rows;
 pub use streams::breaks;
