@@ -1,8 +1,8 @@
 -- Where nothing breaks, nothing is unstated and each pair has one number, the flows agree with the schedule.
-use Rattle.std.proofs.Common.{◌≡◌, inl, inr, ℕ, zero, suc, ◌+◌, ◌-◌, ◌<◌, ◌≤◌, Bool, true, false, List, [], ◌∷◌, ◌++◌, length, map, get_or}
+use Rattle.std.proofs.Common.{◌≡◌, inl, inr, ℕ, zero, suc, ◌+◌, ◌-◌, ◌<◌, ◌≤◌, Bool, true, false, List, [], ◌∷◌, ◌++◌, length, get_or}
 use Rattle.std.proofs.Common.{take, drop, Option, Some, None, ℤ, arith, refl, sym, subst, ap, ◌∙◌}
 use Rattle.std.specs.Prelude.{slice_get, option_map, option_and_then, max, ◌==◌, sum_by, IfSome, unwrap_or, if◌then◌else◌}
-use Rattle.std.proofs.lemmas.Bool.{cases_Bool, cases_lt, eq-eqb}
+use Rattle.std.proofs.lemmas.Bool.{cases_lt, eq-eqb}
 use Rattle.std.proofs.lemmas.List.Sums.{sum_by-cons, sum_by_more, sum_by-take-le}
 use Rattle.std.proofs.lemmas.Option.{get_or_from_slice_get, none-some, same_Some, slice_get_cases, slice_get_past, slice_get_within}
 use Rattle.irs_base.specs.Days.{IsDay, first_day}
@@ -20,12 +20,11 @@ use Rattle.irs_schedule.specs.PeriodViews.{dated_period, period_at}
 use Rattle.irs_schedule.specs.declared.entries.PaymentEntry.{PaymentEntry}
 use Rattle.irs_schedule.specs.declared.entries.PeriodEntry.{PeriodEntry}
 use Rattle.irs_schedule.specs.declared.views.CalculationPeriod.{CalculationPeriod}
-use Rattle.irs_audit.specs.Agreement.{Agrees, KindDeparts, RowDeparts, StreamDeparts, stated_reset}
+use Rattle.irs_audit.specs.Agreement.{Agrees, KindDeparts, RowDeparts, StreamDeparts}
 use Rattle.irs_audit.specs.FieldDepartures.{ExchangeDeparts, PaymentDeparts, PeriodDeparts, ResetDeparts}
 use Rattle.irs_audit.specs.FlowBounds.{FlowsAreWithin, KeepsFlowBounds}
 use Rattle.irs_audit.specs.FlowParts.{FlowPart}
 use Rattle.irs_audit.specs.StatedValues.{IsAmount, IsNumber, NotStatedRightly, StatedWrongly, WhereKnown}
-use Rattle.irs_audit.specs.declared.departures.Departure.{Departure}
 use Rattle.irs_audit.specs.declared.departures.Field.{Field}
 use Rattle.irs_audit.specs.declared.departures.Field.TheVariants as field
 use Rattle.irs_audit.specs.declared.departures.RowKind.{RowKind}
@@ -35,7 +34,7 @@ use Rattle.irs_audit.specs.declared.flows.FlowPayment.{FlowPayment}
 use Rattle.irs_audit.specs.declared.flows.FlowPeriod.{FlowPeriod}
 use Rattle.irs_audit.specs.declared.flows.FlowReset.{FlowReset}
 use Rattle.irs_breaks.specs.BreakLists.{AreExchangesOf, ArePaymentsOf, HasBreak, IsBreakList, IsStream, StreamAt}
-use Rattle.irs_breaks.specs.Dated.{is_due, rows_from}
+use Rattle.irs_breaks.specs.Dated.{is_due}
 use Rattle.irs_breaks.specs.Counting.{counts_in, number_of, same_standing}
 use Rattle.irs_breaks.specs.Fields.{exchange_fields, notional_of, payment_fields, period_fields, rate_of, reset_fields}
 use Rattle.irs_breaks.specs.Fields.{reset_or_nothing}
@@ -44,10 +43,9 @@ use Rattle.irs_breaks.specs.OneNumber.{HaveOneNumber, PairsHaveOneNumber, RowsHa
 use Rattle.irs_breaks.specs.RowFindings.{AreExchanges, AreFieldBreaks, ArePayments, ArePeriods, ArePeriodsOf}
 use Rattle.irs_breaks.specs.RowFindings.{IsExchangeRow, IsPaymentRow, IsPeriodRow, IsReset, IsRow, UnlessBare}
 use Rattle.irs_breaks.specs.RowFindings.{break_at, counted_reset, extra_reset, member_at, moved, our_starts, ours_alone, payment_counts}
-use Rattle.irs_breaks.specs.RowFindings.{periods_before, place_of, reset_place, their_starts}
+use Rattle.irs_breaks.specs.RowFindings.{periods_before, place_of, reset_place, their_starts, theirs_alone}
 use Rattle.irs_breaks.specs.Values.{Differ, standing_of, stands_by}
 use Rattle.irs_breaks.specs.declared.counting.Counts.{Counts}
-use Rattle.irs_breaks.specs.declared.dated.DatedRow.{DatedRow}
 use Rattle.irs_breaks.specs.declared.dated.PairedRow.{PairedRow}
 use Rattle.irs_breaks.specs.declared.findings.BreakPlace.{BreakPlace}
 use Rattle.irs_breaks.specs.declared.findings.What.TheVariants as what
@@ -212,8 +210,7 @@ period_pair place reset x y a h q =
     (Then (AreFieldBreaks place fields) (IsReset place reset y.reset)) a h q in
     let rest = quiet_then (AreFieldBreaks place fields) (IsReset place reset y.reset) h.second h.is_second first.1 in
     let zeros = unstated_append fields (counted_reset reset y.reset)
-    (quiet_counted (counts_in (fields ++ counted_reset reset y.reset)) h.first h.is_first first.0) in
-    (
+    (quiet_counted (counts_in (fields ++ counted_reset reset y.reset)) h.first h.is_first first.0) in (
       period_settled x y (settled place fields h.is_second.first h.is_second.is_first rest.0 zeros.0),
       reset_settled place reset y.reset h.is_second.second h.is_second.is_second rest.1 zeros.1,
     )
@@ -321,22 +318,27 @@ module _ (p : Part) (g : FlowPart) (bounds : KeepsBounds p) (flows : KeepsFlowBo
       (q : Option FlowExchange) → slice_get p.exchanges n ≡ o → slice_get g.exchanges n ≡ q → (f : Field)
       → RowDeparts ExchangeDeparts o q f → ⊥
   exchange_agrees l h quiet n (Some x) (Some y) e f name d =
-      has_partner first_day p.exchanges g.exchanges _ _ (IsExchangeRow stream p g) (quiet_exchanges l h quiet) n x e
+      has_partner first_day p.exchanges g.exchanges (λ (x : Exchange). x.adjusted)
+      (λ (y : FlowExchange). y.adjusted) (IsExchangeRow stream p g) (quiet_exchanges l h quiet) n x e
       (λ s z a pair at told calm.
       let same : s.place ≡ n = let number = numbers.exchanges _ s pair in omega (arith, number) in
       let there : z ≡ y = same_Some z y (sym at ∙ (ap (λ (k : ℕ). slice_get g.exchanges k) same ∙ f)) in
       let m : PairedRow = record { day = Some x.adjusted; ours = Some n; theirs = Some s.place } in
-      let both = both_rows (AreExchanges (place_of stream row.Exchange m)) _ _ (slice_get p.exchanges n) (slice_get g.exchanges s.place)
+      let both = both_rows (AreExchanges (place_of stream row.Exchange m))
+      (λ (w : Exchange). ours_alone (place_of stream row.Exchange m) (Some w.amount))
+      (λ (w : FlowExchange). theirs_alone (place_of stream row.Exchange m) (decimals_of p.currency.letters) w.amount) (slice_get p.exchanges n) (slice_get g.exchanges s.place)
       x z a e at told in
       exchange_settled x z (exchange_pair (place_of stream row.Exchange m) x z a both calm) name
       (subst (λ (w : FlowExchange). ExchangeDeparts x w name) (sym there) d))
   exchange_agrees l h quiet n (Some x) None e f name d =
-      has_partner first_day p.exchanges g.exchanges _ _ (IsExchangeRow stream p g) (quiet_exchanges l h quiet) n x e
+      has_partner first_day p.exchanges g.exchanges (λ (x : Exchange). x.adjusted)
+      (λ (y : FlowExchange). y.adjusted) (IsExchangeRow stream p g) (quiet_exchanges l h quiet) n x e
       (λ s z a pair at told calm.
       let same : s.place ≡ n = let number = numbers.exchanges _ s pair in omega (arith, number) in
       none-some z (sym f ∙ (sym (ap (λ (k : ℕ). slice_get g.exchanges k) same) ∙ at)))
   exchange_agrees l h quiet n None (Some y) e f name d =
-      is_partner first_day p.exchanges g.exchanges _ _ (IsExchangeRow stream p g) (quiet_exchanges l h quiet) n y f
+      is_partner first_day p.exchanges g.exchanges (λ (x : Exchange). x.adjusted)
+      (λ (y : FlowExchange). y.adjusted) (IsExchangeRow stream p g) (quiet_exchanges l h quiet) n y f
       (λ r x day pair at.
       let same : r.place ≡ n = let number = numbers.exchanges r _ pair in omega (arith, number) in
       none-some x (sym e ∙ (sym (ap (λ (k : ℕ). slice_get p.exchanges k) same) ∙ at)))
@@ -356,12 +358,23 @@ module _ (p : Part) (g : FlowPart) (bounds : KeepsBounds p) (flows : KeepsFlowBo
       let all = flows.periods in
       omega (arith, more, count, high, all)
 
+  -- the adjusted starts of the periods of a payment of ours
+  abbrev our_days : PaymentEntry → List ℤ
+  our_days x = take (x.last_period + 1 - x.first_period) (drop (x.first_period - 1) p.adjusted)
+
+  -- the periods of a payment of theirs, where this many come before them
+  abbrev their_periods : ℕ → FlowPayment → List FlowPeriod
+  their_periods b y = take y.periods (drop b g.periods)
+
+  -- a row of the periods of a pair of payments
+  abbrev PeriodRow : PaymentEntry → ℕ → PairedRow → Findings → Type 0
+  PeriodRow x b m list = IsPeriodRow stream p g (moved (x.first_period - 1) b m) list
+
   -- the rows of a pair of payments, where what is told of them is quiet
   quiet_periods : (x : PaymentEntry) (n : ℕ) (b : ℕ) (y : FlowPayment) → slice_get p.payments n ≡ Some x
       → (l : Findings) → ArePeriodsOf stream p g x b y l → IsQuiet l
-      → AreQuiet first_day (take (x.last_period + 1 - x.first_period) (drop (x.first_period - 1) p.adjusted))
-      (take y.periods (drop b g.periods)) (λ (d : ℤ). d) (λ (z : FlowPeriod). z.adjusted_start)
-      (λ m. IsPeriodRow stream p g (moved (x.first_period - 1) b m))
+      → AreQuiet first_day (our_days x) (their_periods b y) (λ (d : ℤ). d) (λ (z : FlowPeriod). z.adjusted_start)
+      (λ m a. PeriodRow x b m a)
   quiet_periods x n b y at l h q =
       let i = x.first_period - 1 in
       let k = x.last_period + 1 - x.first_period in
@@ -397,7 +410,7 @@ module _ (p : Part) (g : FlowPart) (bounds : KeepsBounds p) (flows : KeepsFlowBo
 
   -- a day of the boundaries at which a period of a payment starts
   our_start : (x : PaymentEntry) (n : ℕ) (j : ℕ) → slice_get p.payments n ≡ Some x → j < x.last_period + 1 - x.first_period
-      → (d : ℤ) × (slice_get (take (x.last_period + 1 - x.first_period) (drop (x.first_period - 1) p.adjusted)) j ≡ Some d)
+      → (d : ℤ) × (slice_get (our_days x) j ≡ Some d)
   our_start x n j at low =
       let has = payment_at p n x bounds at in
       let first = has.first in
@@ -409,7 +422,7 @@ module _ (p : Part) (g : FlowPart) (bounds : KeepsBounds p) (flows : KeepsFlowBo
 
   -- a period of theirs
   their_start : (y : FlowPayment) (n j : ℕ) → slice_get g.payments n ≡ Some y → j < y.periods
-      → (z : FlowPeriod) × (slice_get (take y.periods (drop (periods_before g n) g.periods)) j ≡ Some z)
+      → (z : FlowPeriod) × (slice_get (their_periods (periods_before g n) y) j ≡ Some z)
   their_start y n j at low =
       let within = periods_within n y at in
       let z = member_within g.periods (periods_before g n + j) (omega (arith, within, low)) in
@@ -432,8 +445,10 @@ module _ (p : Part) (g : FlowPart) (bounds : KeepsBounds p) (flows : KeepsFlowBo
       let first = our_start x n 0 at (omega (arith, order)) in
       let theirs = their_start y m 0 there pair.some in
       nat_same b (x.first_period - 1) (λ other.
-      has_partner first_day _ _ _ _ _ rows 0 first.0 first.1 (λ s z a paired here told calm.
-      is_partner first_day _ _ _ _ _ rows 0 theirs.0 theirs.1 (λ r d day paired2 here2.
+      has_partner first_day (our_days x) (their_periods b y) (λ (d : ℤ). d)
+      (λ (z : FlowPeriod). z.adjusted_start) (λ m a. PeriodRow x b m a) rows 0 first.0 first.1 (λ s z a paired here told calm.
+      is_partner first_day (our_days x) (their_periods b y) (λ (d : ℤ). d)
+      (λ (z : FlowPeriod). z.adjusted_start) (λ m a. PeriodRow x b m a) rows 0 theirs.0 theirs.1 (λ r d day paired2 here2.
       let up = one _ s paired in
       let down = one r _ paired2 in
       other (omega (arith, up, down)))))
@@ -452,8 +467,10 @@ module _ (p : Part) (g : FlowPart) (bounds : KeepsBounds p) (flows : KeepsFlowBo
       let last = our_start x n (k - 1) at (omega (arith, order)) in
       let theirs = their_start y m (y.periods - 1) there (omega (arith, some)) in
       nat_same y.periods k (λ other.
-      has_partner first_day _ _ _ _ _ rows (k - 1) last.0 last.1 (λ s z a paired here told calm.
-      is_partner first_day _ _ _ _ _ rows (y.periods - 1) theirs.0 theirs.1 (λ r d day paired2 here2.
+      has_partner first_day (our_days x) (their_periods b y) (λ (d : ℤ). d)
+      (λ (z : FlowPeriod). z.adjusted_start) (λ m a. PeriodRow x b m a) rows (k - 1) last.0 last.1 (λ s z a paired here told calm.
+      is_partner first_day (our_days x) (their_periods b y) (λ (d : ℤ). d)
+      (λ (z : FlowPeriod). z.adjusted_start) (λ m a. PeriodRow x b m a) rows (y.periods - 1) theirs.0 theirs.1 (λ r d day paired2 here2.
       let up = one _ s paired in
       let down = one r _ paired2 in
       let high = (part_member b y.periods s.place g.periods z here).0 in
@@ -490,11 +507,14 @@ module _ (p : Part) (g : FlowPart) (bounds : KeepsBounds p) (flows : KeepsFlowBo
       → ((y : FlowPayment) → slice_get g.payments n ≡ Some y → HaveOneStart x n y → IsPair stream p g (periods_before g n) x y → ⊥)
       → ⊥
   paired_payment l h quiet n x e next =
-      has_partner first_day p.payments g.payments _ _ (IsPaymentRow stream p g) (quiet_payments l h quiet) n x e
+      has_partner first_day p.payments g.payments (λ (x : PaymentEntry). x.adjusted)
+      (λ (y : FlowPayment). y.adjusted) (IsPaymentRow stream p g) (quiet_payments l h quiet) n x e
       (λ s y a paired at told calm.
       let same : s.place ≡ n = let number = numbers.payments _ s paired in omega (arith, number) in
       let m : PairedRow = record { day = Some x.adjusted; ours = Some n; theirs = Some s.place } in
-      let both = both_rows (ArePayments (place_of stream row.Payment m) p g (periods_before g s.place)) _ _ (slice_get p.payments n)
+      let both = both_rows (ArePayments (place_of stream row.Payment m) p g (periods_before g s.place))
+      (λ (w : PaymentEntry). ours_alone (place_of stream row.Payment m) w.amount)
+      (λ (w : FlowPayment). theirs_alone (place_of stream row.Payment m) (decimals_of p.currency.letters) w.amount) (slice_get p.payments n)
       (slice_get g.payments s.place) x y a e at told in
       let one = numbers.periods _ s paired x y e at in
       let pair = payment_pair (place_of stream row.Payment m) p g (periods_before g s.place) x y a both calm in
@@ -512,7 +532,8 @@ module _ (p : Part) (g : FlowPart) (bounds : KeepsBounds p) (flows : KeepsFlowBo
   payment_agrees l h quiet n (Some x) None e f name d = paired_payment l h quiet n x e (λ z at one pair.
       none-some z (sym f ∙ at))
   payment_agrees l h quiet n None (Some y) e f name d =
-      is_partner first_day p.payments g.payments _ _ (IsPaymentRow stream p g) (quiet_payments l h quiet) n y f
+      is_partner first_day p.payments g.payments (λ (x : PaymentEntry). x.adjusted)
+      (λ (y : FlowPayment). y.adjusted) (IsPaymentRow stream p g) (quiet_payments l h quiet) n y f
       (λ r x day pair at.
       let same : r.place ≡ n = let number = numbers.payments r _ pair in omega (arith, number) in
       none-some x (sym e ∙ (sym (ap (λ (k : ℕ). slice_get p.payments k) same) ∙ at)))
@@ -560,8 +581,9 @@ module _ (p : Part) (g : FlowPart) (bounds : KeepsBounds p) (flows : KeepsFlowBo
       let has = payment_at p n x bounds at in
       let first = has.first in
       let d = our_start x n q at (omega (arith, from, to, first)) in
-      has_partner first_day _ _ _ _ _ rows q d.0 d.1 (λ s z a paired here told calm.
-      let number = one _ s paired in
+      has_partner first_day (our_days x) (their_periods b y) (λ (d : ℤ). d)
+      (λ (z : FlowPeriod). z.adjusted_start) (λ m a. PeriodRow x b m a) rows q d.0 d.1 (λ s z a paired here told calm.
+      let number = one (record { day = d.0; place = q }) s paired in
       let ours : i + q ≡ j = omega (arith, from, first) in
       let theirs : b + s.place ≡ j = omega (arith, number, ours) in
       let part = part_member b y.periods s.place g.periods z here in
@@ -570,7 +592,9 @@ module _ (p : Part) (g : FlowPart) (bounds : KeepsBounds p) (flows : KeepsFlowBo
       ap (λ (o : Option PeriodEntry). option_map (dated_period p (j + 1)) o) e.1 in
       let m : PairedRow = moved i b (record { day = Some d.0; ours = Some q; theirs = Some s.place }) in
       let own2 : period_at p (i + q) ≡ Some (dated_period p (j + 1) e.0) = ap (λ (c : ℕ). period_at p c) ours ∙ own in
-      let both = both_rows (ArePeriods (place_of stream row.Period m) (slice_get p.resets (i + q))) _ _ (period_at p (i + q))
+      let both = both_rows (ArePeriods (place_of stream row.Period m) (slice_get p.resets (i + q)))
+      (λ (w : CalculationPeriod). ours_alone (place_of stream row.Period m) (Some (notional_of w.notional)))
+      (λ (w : FlowPeriod). theirs_alone (place_of stream row.Period m) 4 w.notional) (period_at p (i + q))
       (slice_get g.periods (b + s.place)) (dated_period p (j + 1) e.0) z a own2 part.1 told in
       let fields = period_pair (place_of stream row.Period m) (slice_get p.resets (i + q)) (dated_period p (j + 1) e.0) z a both calm in
       next (dated_period p (j + 1) e.0) z own (subst (λ (c : ℕ). slice_get g.periods c ≡ Some z) theirs part.1) fields.0
@@ -581,8 +605,7 @@ module _ (p : Part) (g : FlowPart) (bounds : KeepsBounds p) (flows : KeepsFlowBo
       → (period_at p j ≡ None) × (slice_get g.periods j ≡ None) × (slice_get p.resets j ≡ None)
   periods_past l h quiet j high =
       let count = same_length l h quiet in
-      let resets = few_resets p.floating (length p.periods) (length p.resets) bounds.resets in
-      (
+      let resets = few_resets p.floating (length p.periods) (length p.resets) bounds.resets in (
         ap (λ (o : Option PeriodEntry). option_map (dated_period p (j + 1)) o) (slice_get_past p.periods j high),
         slice_get_past g.periods j (omega (arith, count, high)),
         slice_get_past p.resets j (omega (arith, resets, high)),

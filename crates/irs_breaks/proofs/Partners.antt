@@ -1,12 +1,11 @@
 -- Where nothing breaks and nothing is unstated each row has a partner.
-use Rattle.std.proofs.Common.{◌≡◌, ◌⊎◌, inl, inr, ℕ, zero, suc, ◌+◌, ◌<◌, ◌≤◌, true, List, [], ◌∷◌, length, map}
+use Rattle.std.proofs.Common.{◌≡◌, ◌⊎◌, inl, inr, ℕ, zero, suc, ◌+◌, true, List, [], ◌∷◌, length, map}
 use Rattle.std.proofs.Common.{Option, Some, None, ℤ, arith, refl, sym, subst, ap, ◌∙◌}
 use Rattle.std.specs.Prelude.{slice_get, option_map, IfSome}
 use Rattle.std.specs.List.{Contains}
 use Rattle.std.proofs.lemmas.Option.{cond_some, none-some, same_Some, slice_get-get_or, slice_get-map}
 use Rattle.irs_breaks.specs.Dated.{dated_row, in_front, is_due, rows_from}
 use Rattle.irs_breaks.specs.Findings.{Findings, OnRow, RowAt}
-use Rattle.irs_breaks.specs.OneNumber.{PairsHaveOneNumber}
 use Rattle.irs_breaks.specs.PairedRows.{IsListed, row_of_ours, row_of_theirs, undated_theirs}
 use Rattle.irs_breaks.specs.PairedRows.{extra, missing, paired, undated_extra}
 use Rattle.irs_breaks.specs.Pairing.{ArePaired}

@@ -1,27 +1,19 @@
 -- What follows where nothing breaks and nothing is unstated.
-use Rattle.std.proofs.Common.{◌≡◌, ◌⊎◌, inl, inr, ℕ, zero, suc, ◌+◌, ◌<◌, ◌≤◌, true, false, List, [], ◌∷◌, ◌++◌, length, map}
+use Rattle.std.proofs.Common.{◌≡◌, inl, inr, ℕ, zero, suc, ◌+◌, ◌<◌, false, List, [], ◌∷◌, ◌++◌}
 use Rattle.std.proofs.Common.{Option, Some, None, ℤ, arith, refl, sym, subst, ap, ◌∙◌}
-use Rattle.std.specs.Prelude.{slice_get, sum_by}
-use Rattle.std.specs.List.{Contains}
+use Rattle.std.specs.Prelude.{sum_by}
 use Rattle.std.proofs.lemmas.Bool.{cases_Bool, cases_lt}
 use Rattle.std.proofs.lemmas.List.Sums.{sum_by-append}
-use Rattle.std.proofs.lemmas.Option.{cond_some, none-some, slice_get-get_or}
+use Rattle.std.proofs.lemmas.Option.{none-some}
 use Rattle.irs_base.specs.Members.{Every}
 use Rattle.irs_base.specs.declared.line.Dec.{Dec}
 use Rattle.irs_breaks.specs.Counting.{AreBreaks, number_of, same_standing}
-use Rattle.irs_breaks.specs.Dated.{dated_row, in_front, is_due, rows_from}
-use Rattle.irs_breaks.specs.Findings.{Findings, OnRow, RowAt, Then, UpTo, counted, joined, told}
-use Rattle.irs_breaks.specs.PairedRows.{IsListed, row_of_ours}
-use Rattle.irs_breaks.specs.PairedRows.{extra, missing, paired, undated, undated_extra}
-use Rattle.irs_breaks.specs.Pairing.{ArePaired}
-use Rattle.irs_breaks.specs.RowFindings.{AreFieldBreaks, AreTold, IsRow, alone, break_at, field_breaks, ours_alone, theirs_alone}
+use Rattle.irs_breaks.specs.Findings.{Findings, Then, UpTo, counted, joined, told}
+use Rattle.irs_breaks.specs.RowFindings.{AreFieldBreaks, IsRow, alone, break_at, field_breaks, ours_alone, theirs_alone}
 use Rattle.irs_breaks.specs.Values.{Differ, standing_of}
 use Rattle.irs_breaks.specs.declared.counting.Counts.{Counts}
-use Rattle.irs_breaks.specs.declared.dated.DatedRow.{DatedRow}
-use Rattle.irs_breaks.specs.declared.dated.PairedRow.{PairedRow}
 use Rattle.irs_breaks.specs.declared.findings.Break.{Break}
 use Rattle.irs_breaks.specs.declared.findings.BreakPlace.{BreakPlace}
-use Rattle.irs_breaks.specs.declared.findings.What.{What}
 use Rattle.irs_breaks.specs.declared.findings.What.TheVariants as what
 use Rattle.irs_breaks.specs.declared.values.FieldValues.{FieldValues}
 use Rattle.irs_breaks.specs.declared.values.Standing.TheVariants.{Unstated}

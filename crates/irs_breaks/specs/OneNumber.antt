@@ -28,7 +28,7 @@ pub record RowsHaveOneNumber (from : ℤ) (p : Part) (g : FlowPart) : Type 0 whe
       → (ours : PaymentEntry) (theirs : FlowPayment) → slice_get p.payments x.place ≡ Some ours
       → slice_get g.payments y.place ≡ Some theirs
       → PairsHaveOneNumber first_day (ours.first_period - 1) (periods_before g y.place) (our_starts p ours)
-          (their_starts g (periods_before g y.place) theirs)
+      (their_starts g (periods_before g y.place) theirs)
 
 -- each pair of rows between a schedule and cash flows from a day on
 abbrev pub HaveOneNumber : Option ℤ → List Part → List FlowPart → Type 0
