@@ -15,3 +15,4 @@ pub mod StatedLemmas
 pub mod StatedBounds
 pub mod SumLemmas
 pub mod Standards
+pub mod FlowsWithin

@@ -1,12 +1,15 @@
 //! Reading cash flows: the flows that a document states, or its first fault.
 ghost use Rattle.irs_elements.specs.Elements.{IsOfTables};
 ghost use Rattle.irs_elements.specs.Find.{values_in};
+ghost use Rattle.irs_audit.specs.FlowBounds.{FlowsAreWithin};
 ghost use Rattle.irs_audit.specs.FlowMeaning.{AllHaveFewPeriods, stream_in, streams_in};
+ghost use Rattle.irs_audit.specs.FlowParts.{FlowPart};
 ghost use Rattle.irs_audit.specs.FlowReading.{FlowsOf, IsFirstFault, kind_of as kind_by};
 ghost use Rattle.irs_audit.specs.FlowsStated.{EachFlowStated};
 ghost use Rattle.irs_audit.specs.declared.error.FlowErr.TheVariants.{Shape};
+ghost use Rattle.serde_json.specs.Data.{Data};
 ghost use Rattle.serde_json.specs.View.{view};
-ghost use Rattle.std.specs.Prelude.{◌≡◌, IfErr, IfOk, Some, codes, map};
+ghost use Rattle.std.specs.Prelude.{◌≡◌, IfErr, IfOk, List, Some, codes, map};
 
 use crate::flow_faults::first_in_flows;
 use crate::flow_rows::stream_flows;
@@ -84,3 +87,9 @@ pub fn read_flows(alloc: Global, v: &Value) -> Result<Flows, FlowErr>
         Ok(found) => Ok(flows_of(alloc, found)?),
     }
 }
+
+/// The cash flows of every document keep bounds: the calculation periods of a stream are those of its payments, and
+/// each adjusted date is a day of the range where it is stated.
+pub fn read_flows_are_within()
+    ensures { (d : Data) (flows : List FlowPart) → FlowsOf d flows → FlowsAreWithin flows }
+{}

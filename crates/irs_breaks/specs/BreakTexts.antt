@@ -14,12 +14,13 @@ use Rattle.irs_audit.specs.declared.departures.Field.TheVariants as field
 use Rattle.irs_audit.specs.declared.departures.RowKind.{RowKind}
 use Rattle.irs_audit.specs.declared.departures.RowKind.TheVariants as row
 use Rattle.irs_audit.specs.declared.flows.StatedFraction.{StatedFraction}
+use Rattle.irs_breaks.specs.Counting.{counted_as}
 use Rattle.irs_breaks.specs.Findings.{Findings}
-use Rattle.irs_breaks.specs.declared.counting.Counts.{Counts}
 use Rattle.irs_breaks.specs.declared.findings.Break.{Break}
 use Rattle.irs_breaks.specs.declared.findings.BreakPlace.{BreakPlace}
 use Rattle.irs_breaks.specs.declared.findings.What.{What}
 use Rattle.irs_breaks.specs.declared.findings.What.TheVariants as what
+use Rattle.irs_breaks.specs.declared.values.Standing.TheVariants.{Compared, Unknown, Unstated}
 use Rattle.irs_breaks.specs.declared.values.Values.{Values}
 use Rattle.irs_breaks.specs.declared.values.Values.TheVariants.{Counts as Days, Currencies, Dates, Fractions, Numbers}
 
@@ -147,9 +148,9 @@ first_line from = codes "irs-breaks 1" ++ 32 ∷ or_dash day_text from ++ codes 
 abbrev pub last_line : Findings → List ℕ
 last_line list =
     codes "end" ++ 32 ∷ decimal (length list.breaks) ++ 32 ∷ decimal (length list.pairs)
-    ++ 32 ∷ decimal (sum_by (λ (c : Counts). c.compared) list.pairs)
-    ++ 32 ∷ decimal (sum_by (λ (c : Counts). c.unstated) list.pairs)
-    ++ 32 ∷ decimal (sum_by (λ (c : Counts). c.unknown) list.pairs) ++ codes "\n"
+    ++ 32 ∷ decimal (sum_by (counted_as Compared) list.pairs)
+    ++ 32 ∷ decimal (sum_by (counted_as Unstated) list.pairs)
+    ++ 32 ∷ decimal (sum_by (counted_as Unknown) list.pairs) ++ codes "\n"
 
 -- the whole text
 abbrev pub breaks_text : Option ℤ → Findings → List ℕ

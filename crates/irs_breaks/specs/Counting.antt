@@ -27,6 +27,12 @@ counts_in fields = record {
   unknown = number_of Unknown fields;
 }
 
+-- one of the counts
+abbrev pub counted_as : Standing → Counts → ℕ
+counted_as Compared c = c.compared
+counted_as Unstated c = c.unstated
+counted_as Unknown c = c.unknown
+
 -- the sums of two counts
 abbrev pub together : Counts → Counts → Counts
 together a b = record {

@@ -15,14 +15,14 @@ ghost use Rattle.irs_base.specs.Texts.{day_text};
 ghost use Rattle.irs_breaks.specs.BreakTexts.{break_text, breaks_text, field_name, first_line, kind_name, last_line, or_dash};
 ghost use Rattle.irs_breaks.specs.BreakTexts.{fraction_text, our_value, ours_text, place_fields, places_of, shortest, stated_text};
 ghost use Rattle.irs_breaks.specs.BreakTexts.{their_value, theirs_text, what_name};
+ghost use Rattle.irs_breaks.specs.Counting.{counted_as};
 ghost use Rattle.irs_breaks.specs.Findings.{IsPrintable, IsPrintableWhat};
 ghost use Rattle.irs_breaks.specs.Values.{CanBeCompared};
-ghost use Rattle.irs_breaks.specs.declared.counting.Counts.{Counts};
 ghost use Rattle.irs_terms.specs.declared.currency.Currency.{Currency};
 
 use crate::counting::Counts;
 use crate::findings::{Break, BreakList, BreakPlace, What};
-use crate::values::Values;
+use crate::values::{Standing, Values};
 use irs_audit::{Field, RowKind, StatedFraction};
 use irs_base::{Day, Dec, Line, Memory};
 use irs_schedule::{put_frac, put_optional};
@@ -320,38 +320,25 @@ fn first_line(from: &Option<Day>) -> Line
     line
 }
 
-// How many fields of all pairs are compared.
-fn compared(pairs: &[Counts]) -> u128
-    ensures value { result ≡ sum_by (λ (c : Counts). c.compared) pairs.now }
-    ensures small { result < 2 ^ 127 }
+// How many fields of a pair are counted this way.
+fn counted_as(way: Standing, counts: &Counts) -> u32
+    ensures { result ≡ counted_as way counts.now }
 {
-    let mut sum = 0;
-    for counts in pairs {
-        sum += u128::from(counts.compared);
+    match way {
+        Standing::Compared => counts.compared,
+        Standing::Unstated => counts.unstated,
+        Standing::Unknown => counts.unknown,
     }
-    sum
 }
 
-// How many fields of all pairs are unstated.
-fn unstated(pairs: &[Counts]) -> u128
-    ensures value { result ≡ sum_by (λ (c : Counts). c.unstated) pairs.now }
+// How many fields of all pairs are counted this way.
+fn total(way: Standing, pairs: &[Counts]) -> u128
+    ensures value { result ≡ sum_by (counted_as way) pairs.now }
     ensures small { result < 2 ^ 127 }
 {
     let mut sum = 0;
     for counts in pairs {
-        sum += u128::from(counts.unstated);
-    }
-    sum
-}
-
-// How many fields of all pairs are unknown.
-fn unknown(pairs: &[Counts]) -> u128
-    ensures value { result ≡ sum_by (λ (c : Counts). c.unknown) pairs.now }
-    ensures small { result < 2 ^ 127 }
-{
-    let mut sum = 0;
-    for counts in pairs {
-        sum += u128::from(counts.unknown);
+        sum += u128::from(counted_as(way, counts));
     }
     sum
 }
@@ -375,9 +362,9 @@ fn last_line(list: &BreakList) -> Line
     line.push(b"end");
     put_total(&mut line, list.breaks().len() as u128);
     put_total(&mut line, pairs.len() as u128);
-    put_total(&mut line, compared(pairs));
-    put_total(&mut line, unstated(pairs));
-    put_total(&mut line, unknown(pairs));
+    put_total(&mut line, total(Standing::Compared, pairs));
+    put_total(&mut line, total(Standing::Unstated, pairs));
+    put_total(&mut line, total(Standing::Unknown, pairs));
     line.push(b"\n");
     line
 }

@@ -1,7 +1,9 @@
 use Rattle.std.proofs.Common.{ap, ◌∙◌, ◌++◌, List, ℕ, codes, length}
 use Rattle.std.specs.List.{sum_by}
+use Rattle.irs_breaks.specs.Counting.{counted_as}
 use Rattle.irs_breaks.specs.declared.counting.Counts.{Counts}
 use Rattle.irs_breaks.specs.declared.findings.Break.{Break}
+use Rattle.irs_breaks.specs.declared.values.Standing.TheVariants.{Compared, Unknown, Unstated}
 use Rattle.irs_breaks.proofs.TextLines.{number_put}
 use Rattle.irs_breaks.proofs.texts.last_line.Goals as goal
 
@@ -12,9 +14,9 @@ returns c =
     let breaks = number_put c.put_total.ensures.text head (ap (λ (l : List Break). length l) c.breaks.ensures.value) in
     let rows = number_put c.put_total-2.ensures.text breaks (ap (λ (l : List Counts). length l) pairs) in
     let compared = number_put c.put_total-3.ensures.text rows
-    (c.compared.ensures.value ∙ ap (λ (l : List Counts). sum_by (λ (k : Counts). k.compared) l) pairs) in
+    (c.total.ensures.value ∙ ap (λ (l : List Counts). sum_by (counted_as Compared) l) pairs) in
     let unstated = number_put c.put_total-4.ensures.text compared
-    (c.unstated.ensures.value ∙ ap (λ (l : List Counts). sum_by (λ (k : Counts). k.unstated) l) pairs) in
+    (c.total-2.ensures.value ∙ ap (λ (l : List Counts). sum_by (counted_as Unstated) l) pairs) in
     let unknown = number_put c.put_total-5.ensures.text unstated
-    (c.unknown.ensures.value ∙ ap (λ (l : List Counts). sum_by (λ (k : Counts). k.unknown) l) pairs) in
+    (c.total-3.ensures.value ∙ ap (λ (l : List Counts). sum_by (counted_as Unknown) l) pairs) in
     c.push-2.ensures ∙ ap (λ (l : List ℕ). l ++ codes "\n") unknown
