@@ -1,10 +1,7 @@
 -- The lines that an audit prints: the verdict, and the first fault of the flows.
 use Rattle.std.specs.Prelude.{ℕ, List, ◌∷◌, ◌++◌, codes, decimal}
+use Rattle.irs_audit.specs.RowNames.{field_name, row_name}
 use Rattle.irs_audit.specs.declared.departures.Departure.{Departure}
-use Rattle.irs_audit.specs.declared.departures.Field.{Field}
-use Rattle.irs_audit.specs.declared.departures.Field.TheVariants as field
-use Rattle.irs_audit.specs.declared.departures.RowKind.{RowKind}
-use Rattle.irs_audit.specs.declared.departures.RowKind.TheVariants as row
 use Rattle.irs_audit.specs.declared.departures.Verdict.{Verdict}
 use Rattle.irs_audit.specs.declared.departures.Verdict.TheVariants.{Yes, No}
 use Rattle.irs_audit.specs.declared.error.ShapeKind.{ShapeKind}
@@ -40,38 +37,6 @@ abbrev pub whole_document : Place
 whole_document = record { stream = 0; elem = document; index = 0 }
 
 -- ---- the verdict
-
--- the name of a kind of rows
-abbrev pub row_name : RowKind → List ℕ
-row_name row.Stream = codes "stream"
-row_name row.Exchange = codes "exchange"
-row_name row.Payment = codes "payment"
-row_name row.Period = codes "period"
-row_name row.Reset = codes "reset"
-
--- the name of what departs: the row, or the field as FpML names it
-abbrev pub field_name : Field → List ℕ
-field_name field.Missing = codes "missing"
-field_name field.Extra = codes "extra"
-field_name field.UnadjustedPrincipalExchangeDate = codes "unadjustedPrincipalExchangeDate"
-field_name field.AdjustedPrincipalExchangeDate = codes "adjustedPrincipalExchangeDate"
-field_name field.PrincipalExchangeAmount = codes "principalExchangeAmount"
-field_name field.UnadjustedPaymentDate = codes "unadjustedPaymentDate"
-field_name field.AdjustedPaymentDate = codes "adjustedPaymentDate"
-field_name field.CalculationPeriod = codes "calculationPeriod"
-field_name field.Currency = codes "currency"
-field_name field.Amount = codes "amount"
-field_name field.UnadjustedStartDate = codes "unadjustedStartDate"
-field_name field.UnadjustedEndDate = codes "unadjustedEndDate"
-field_name field.AdjustedStartDate = codes "adjustedStartDate"
-field_name field.AdjustedEndDate = codes "adjustedEndDate"
-field_name field.CalculationPeriodNumberOfDays = codes "calculationPeriodNumberOfDays"
-field_name field.NotionalAmount = codes "notionalAmount"
-field_name field.Rate = codes "rate"
-field_name field.DayCountYearFraction = codes "dayCountYearFraction"
-field_name field.ResetDate = codes "resetDate"
-field_name field.AdjustedFixingDate = codes "adjustedFixingDate"
-field_name field.ObservedRate = codes "observedRate"
 
 -- the line of a departure: stream, kind of row, row and field
 abbrev pub departure_text : Departure → List ℕ

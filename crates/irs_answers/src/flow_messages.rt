@@ -1,9 +1,9 @@
 //! The texts of an audit: the verdict, and the first fault of the flows. Names of fields are FpML's.
 ghost use Rattle.std.specs.Prelude.{◌≡◌, ◌++◌, ◌∷◌, codes, decimal, IfOk};
-ghost use Rattle.irs_answers.specs.FlowMessages.{bad_flows, departure_text, field_name, row_name, shape_name};
+ghost use Rattle.irs_answers.specs.FlowMessages.{bad_flows, departure_text, shape_name};
 
 use crate::messages::{push_number, push_spaced};
-use irs_audit::{Departure, Field, RowKind, ShapeKind};
+use irs_audit::{Departure, ShapeKind};
 use irs_base::{Memory, Place};
 use std::alloc::Global;
 
@@ -23,7 +23,7 @@ pub(crate) fn departure_text(alloc: Global, departure: Departure) -> Result<Vec<
     ensures { IfOk result (λ t. t.items ≡ departure_text departure) }
 {
     let stream = u32::from(departure.stream);
-    let (kind, field) = (row_name(departure.kind), field_name(departure.field));
+    let (kind, field) = (departure.kind.name(), departure.field.name());
     no_line(alloc, stream, kind, departure.row, field)
 }
 
@@ -82,45 +82,5 @@ fn shape_name(kind: ShapeKind) -> &'static str
         ShapeKind::Profile => "profile",
         ShapeKind::Value => "value",
         ShapeKind::Count => "count",
-    }
-}
-
-fn row_name(kind: RowKind) -> &'static str
-    ensures { result.now ≡ row_name kind }
-{
-    match kind {
-        RowKind::Stream => "stream",
-        RowKind::Exchange => "exchange",
-        RowKind::Payment => "payment",
-        RowKind::Period => "period",
-        RowKind::Reset => "reset",
-    }
-}
-
-fn field_name(field: Field) -> &'static str
-    ensures { result.now ≡ field_name field }
-{
-    match field {
-        Field::Missing => "missing",
-        Field::Extra => "extra",
-        Field::UnadjustedPrincipalExchangeDate => "unadjustedPrincipalExchangeDate",
-        Field::AdjustedPrincipalExchangeDate => "adjustedPrincipalExchangeDate",
-        Field::PrincipalExchangeAmount => "principalExchangeAmount",
-        Field::UnadjustedPaymentDate => "unadjustedPaymentDate",
-        Field::AdjustedPaymentDate => "adjustedPaymentDate",
-        Field::CalculationPeriod => "calculationPeriod",
-        Field::Currency => "currency",
-        Field::Amount => "amount",
-        Field::UnadjustedStartDate => "unadjustedStartDate",
-        Field::UnadjustedEndDate => "unadjustedEndDate",
-        Field::AdjustedStartDate => "adjustedStartDate",
-        Field::AdjustedEndDate => "adjustedEndDate",
-        Field::CalculationPeriodNumberOfDays => "calculationPeriodNumberOfDays",
-        Field::NotionalAmount => "notionalAmount",
-        Field::Rate => "rate",
-        Field::DayCountYearFraction => "dayCountYearFraction",
-        Field::ResetDate => "resetDate",
-        Field::AdjustedFixingDate => "adjustedFixingDate",
-        Field::ObservedRate => "observedRate",
     }
 }

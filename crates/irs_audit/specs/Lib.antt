@@ -15,4 +15,5 @@ pub mod Verdicts
 pub mod Comparisons
 pub mod FieldTables
 pub mod RowSets
+pub mod RowNames
 pub mod StreamSets

@@ -1,5 +1,7 @@
 //! Departures: where cash flows don't agree with a schedule. They are reported by streams, kinds of
 //! rows, rows and fields, in an order that is our rule.
+ghost use Rattle.std.specs.Prelude.{◌≡◌, ◌≤◌, length};
+ghost use Rattle.irs_audit.specs.RowNames.{field_name, row_name};
 
 /// A kind of rows, in the order in which they are compared.
 #[derive(Clone, Copy, PartialEq, Eq)]
@@ -14,6 +16,22 @@ pub enum RowKind {
     Period,
     /// The reset of a calculation period (FpML `rateObservation`), with the period's number.
     Reset,
+}
+
+impl RowKind {
+    /// Its name, as it is printed.
+    pub fn name(self) -> &'static str
+        ensures text { result.now ≡ row_name self }
+        ensures short { length result.now ≤ 8 }
+    {
+        match self {
+            RowKind::Stream => "stream",
+            RowKind::Exchange => "exchange",
+            RowKind::Payment => "payment",
+            RowKind::Period => "period",
+            RowKind::Reset => "reset",
+        }
+    }
 }
 
 /// What departs: the whole row, or the field of that name in FpML `cashflows`. The order is that in
@@ -62,6 +80,38 @@ pub enum Field {
     AdjustedFixingDate,
     /// `observedRate`.
     ObservedRate,
+}
+
+impl Field {
+    /// Its name: that of the field in FpML, or `missing` or `extra`.
+    pub fn name(self) -> &'static str
+        ensures text { result.now ≡ field_name self }
+        ensures short { length result.now ≤ 31 }
+    {
+        match self {
+            Field::Missing => "missing",
+            Field::Extra => "extra",
+            Field::UnadjustedPrincipalExchangeDate => "unadjustedPrincipalExchangeDate",
+            Field::AdjustedPrincipalExchangeDate => "adjustedPrincipalExchangeDate",
+            Field::PrincipalExchangeAmount => "principalExchangeAmount",
+            Field::UnadjustedPaymentDate => "unadjustedPaymentDate",
+            Field::AdjustedPaymentDate => "adjustedPaymentDate",
+            Field::CalculationPeriod => "calculationPeriod",
+            Field::Currency => "currency",
+            Field::Amount => "amount",
+            Field::UnadjustedStartDate => "unadjustedStartDate",
+            Field::UnadjustedEndDate => "unadjustedEndDate",
+            Field::AdjustedStartDate => "adjustedStartDate",
+            Field::AdjustedEndDate => "adjustedEndDate",
+            Field::CalculationPeriodNumberOfDays => "calculationPeriodNumberOfDays",
+            Field::NotionalAmount => "notionalAmount",
+            Field::Rate => "rate",
+            Field::DayCountYearFraction => "dayCountYearFraction",
+            Field::ResetDate => "resetDate",
+            Field::AdjustedFixingDate => "adjustedFixingDate",
+            Field::ObservedRate => "observedRate",
+        }
+    }
 }
 
 /// Where cash flows depart from a schedule.

@@ -9,10 +9,7 @@ use Rattle.irs_base.specs.Texts.{day_text, dec_text}
 use Rattle.irs_base.specs.declared.line.Dec.{Dec}
 use Rattle.irs_terms.specs.declared.currency.Currency.{Currency}
 use Rattle.irs_schedule.specs.RowTexts.{dec_or_dash}
-use Rattle.irs_audit.specs.declared.departures.Field.{Field}
-use Rattle.irs_audit.specs.declared.departures.Field.TheVariants as field
-use Rattle.irs_audit.specs.declared.departures.RowKind.{RowKind}
-use Rattle.irs_audit.specs.declared.departures.RowKind.TheVariants as row
+use Rattle.irs_audit.specs.RowNames.{field_name, row_name}
 use Rattle.irs_audit.specs.declared.flows.StatedFraction.{StatedFraction}
 use Rattle.irs_breaks.specs.Counting.{counted_as}
 use Rattle.irs_breaks.specs.Findings.{Findings}
@@ -25,38 +22,6 @@ use Rattle.irs_breaks.specs.declared.values.Values.{Values}
 use Rattle.irs_breaks.specs.declared.values.Values.TheVariants.{Counts as Days, Currencies, Dates, Fractions, Numbers}
 
 -- ---- names
-
--- the name of a kind of rows
-abbrev pub kind_name : RowKind → List ℕ
-kind_name row.Stream = codes "stream"
-kind_name row.Exchange = codes "exchange"
-kind_name row.Payment = codes "payment"
-kind_name row.Period = codes "period"
-kind_name row.Reset = codes "reset"
-
--- the name of a field in FpML
-abbrev pub field_name : Field → List ℕ
-field_name field.Missing = codes "missing"
-field_name field.Extra = codes "extra"
-field_name field.UnadjustedPrincipalExchangeDate = codes "unadjustedPrincipalExchangeDate"
-field_name field.AdjustedPrincipalExchangeDate = codes "adjustedPrincipalExchangeDate"
-field_name field.PrincipalExchangeAmount = codes "principalExchangeAmount"
-field_name field.UnadjustedPaymentDate = codes "unadjustedPaymentDate"
-field_name field.AdjustedPaymentDate = codes "adjustedPaymentDate"
-field_name field.CalculationPeriod = codes "calculationPeriod"
-field_name field.Currency = codes "currency"
-field_name field.Amount = codes "amount"
-field_name field.UnadjustedStartDate = codes "unadjustedStartDate"
-field_name field.UnadjustedEndDate = codes "unadjustedEndDate"
-field_name field.AdjustedStartDate = codes "adjustedStartDate"
-field_name field.AdjustedEndDate = codes "adjustedEndDate"
-field_name field.CalculationPeriodNumberOfDays = codes "calculationPeriodNumberOfDays"
-field_name field.NotionalAmount = codes "notionalAmount"
-field_name field.Rate = codes "rate"
-field_name field.DayCountYearFraction = codes "dayCountYearFraction"
-field_name field.ResetDate = codes "resetDate"
-field_name field.AdjustedFixingDate = codes "adjustedFixingDate"
-field_name field.ObservedRate = codes "observedRate"
 
 -- the name of what breaks
 abbrev pub what_name : What → List ℕ
@@ -132,7 +97,7 @@ theirs_text (what.Field f) = their_value f.values
 -- the rows of a break: stream, kind, date and numbers
 abbrev pub place_fields : BreakPlace → List ℕ
 place_fields place =
-    codes "b" ++ 32 ∷ decimal place.stream ++ 32 ∷ kind_name place.kind ++ 32 ∷ or_dash day_text place.day
+    codes "b" ++ 32 ∷ decimal place.stream ++ 32 ∷ row_name place.kind ++ 32 ∷ or_dash day_text place.day
     ++ 32 ∷ or_dash decimal place.ours ++ 32 ∷ or_dash decimal place.theirs
 
 -- `b STREAM KIND DATE N M WHAT OURS THEIRS`

@@ -12,7 +12,7 @@ ghost use Rattle.std.specs.Ordering.{int_eq};
 ghost use Rattle.std.specs.List.{flat_map};
 ghost use Rattle.irs_base.specs.Members.{Every};
 ghost use Rattle.irs_base.specs.Texts.{day_text};
-ghost use Rattle.irs_breaks.specs.BreakTexts.{break_text, breaks_text, field_name, first_line, kind_name, last_line, or_dash};
+ghost use Rattle.irs_breaks.specs.BreakTexts.{break_text, breaks_text, first_line, last_line, or_dash};
 ghost use Rattle.irs_breaks.specs.BreakTexts.{fraction_text, our_value, ours_text, place_fields, places_of, shortest, stated_text};
 ghost use Rattle.irs_breaks.specs.BreakTexts.{their_value, theirs_text, what_name};
 ghost use Rattle.irs_breaks.specs.Counting.{counted_as};
@@ -23,55 +23,13 @@ ghost use Rattle.irs_terms.specs.declared.currency.Currency.{Currency};
 use crate::counting::Counts;
 use crate::findings::{Break, BreakList, BreakPlace, What};
 use crate::values::{Standing, Values};
-use irs_audit::{Field, RowKind, StatedFraction};
+use irs_audit::StatedFraction;
 use irs_base::{Day, Dec, Line, Memory};
 use irs_schedule::{put_frac, put_optional};
 use irs_terms::Currency;
 use std::alloc::Global;
 
 // ---- names
-
-fn kind_name(kind: RowKind) -> &'static str
-    ensures text { result.now ≡ kind_name kind }
-    ensures short { length result.now ≤ 8 }
-{
-    match kind {
-        RowKind::Stream => "stream",
-        RowKind::Exchange => "exchange",
-        RowKind::Payment => "payment",
-        RowKind::Period => "period",
-        RowKind::Reset => "reset",
-    }
-}
-
-fn field_name(field: Field) -> &'static str
-    ensures text { result.now ≡ field_name field }
-    ensures short { length result.now ≤ 31 }
-{
-    match field {
-        Field::Missing => "missing",
-        Field::Extra => "extra",
-        Field::UnadjustedPrincipalExchangeDate => "unadjustedPrincipalExchangeDate",
-        Field::AdjustedPrincipalExchangeDate => "adjustedPrincipalExchangeDate",
-        Field::PrincipalExchangeAmount => "principalExchangeAmount",
-        Field::UnadjustedPaymentDate => "unadjustedPaymentDate",
-        Field::AdjustedPaymentDate => "adjustedPaymentDate",
-        Field::CalculationPeriod => "calculationPeriod",
-        Field::Currency => "currency",
-        Field::Amount => "amount",
-        Field::UnadjustedStartDate => "unadjustedStartDate",
-        Field::UnadjustedEndDate => "unadjustedEndDate",
-        Field::AdjustedStartDate => "adjustedStartDate",
-        Field::AdjustedEndDate => "adjustedEndDate",
-        Field::CalculationPeriodNumberOfDays => "calculationPeriodNumberOfDays",
-        Field::NotionalAmount => "notionalAmount",
-        Field::Rate => "rate",
-        Field::DayCountYearFraction => "dayCountYearFraction",
-        Field::ResetDate => "resetDate",
-        Field::AdjustedFixingDate => "adjustedFixingDate",
-        Field::ObservedRate => "observedRate",
-    }
-}
 
 fn what_name(what: &What) -> &'static str
     ensures text { result.now ≡ what_name what.now }
@@ -81,7 +39,7 @@ fn what_name(what: &What) -> &'static str
         What::Missing(_) => "missing",
         What::Extra(_, _) => "extra",
         What::Undated(_, _) => "undated",
-        What::Field(field) => field_name(field.field),
+        What::Field(field) => field.field.name(),
     }
 }
 
@@ -275,7 +233,7 @@ fn put_place(line: &mut Line, place: &BreakPlace)
 {
     line.push(b"b");
     line.put_whole(b' ', place.stream as i128);
-    line.put_field(kind_name(place.kind).as_bytes());
+    line.put_field(place.kind.name().as_bytes());
     put_day(line, &place.day);
     put_number(line, place.ours);
     put_number(line, place.theirs);
