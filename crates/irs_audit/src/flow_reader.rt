@@ -88,8 +88,8 @@ pub fn read_flows(alloc: Global, v: &Value) -> Result<Flows, FlowErr>
     }
 }
 
-/// The cash flows of every document keep bounds: the calculation periods of a stream are those of its payments, and
-/// each adjusted date is a day of the range where it is stated.
+/// The cash flows of every document keep bounds. The calculation periods of a stream are those of its payments. Each
+/// adjusted date that is stated is a day of the range.
 pub fn read_flows_are_within()
     ensures { (d : Data) (flows : List FlowPart) → FlowsOf d flows → FlowsAreWithin flows }
 {}

@@ -138,7 +138,7 @@ reset_settled place None None a h q zeros f d = d
 
 -- ---- pairs
 
--- what is told of a row that both have
+-- what a row reports that both sides have
 both_rows : {X Y : Type 0} (Both : X → Y → Findings → Type 0) (ours : X → Findings) (theirs : Y → Findings)
     (o : Option X) (q : Option Y) (x : X) (y : Y) (a : Findings) → o ≡ Some x → q ≡ Some y → IsRow Both ours theirs o q a
     → Both x y a
@@ -155,7 +155,7 @@ exchange_pair place x y a h q =
     settled place (exchange_fields x y) h.second h.is_second parts.1
     (quiet_counted (counts_in (exchange_fields x y)) h.first h.is_first parts.0)
 
--- a pair of payments: its fields are settled, it has periods, and what is told of these is quiet
+-- a pair of payments: its fields are settled, it has periods, and these report nothing
 record IsPair (stream : ℕ) (p : Part) (g : FlowPart) (before : ℕ) (x : PaymentEntry) (y : FlowPayment) : Type 0 where
   fields : Every IsSettled (payment_fields p.currency x y)
   some : 0 < y.periods
@@ -291,7 +291,7 @@ stream_place stream = record { stream = stream; kind = row.Stream; day = None; o
 
 module _ (p : Part) (g : FlowPart) (bounds : KeepsBounds p) (flows : KeepsFlowBounds g)
     (numbers : RowsHaveOneNumber first_day p g) (stream : ℕ) where
-  -- the exchanges, where what is told of them is quiet
+  -- the exchanges of a stream, where they report nothing
   quiet_exchanges : (l : Findings) → AreExchangesOf first_day stream p g l → IsQuiet l
       → AreQuiet first_day p.exchanges g.exchanges (λ (x : Exchange). x.adjusted) (λ (y : FlowExchange). y.adjusted)
       (IsExchangeRow stream p g)
@@ -370,7 +370,7 @@ module _ (p : Part) (g : FlowPart) (bounds : KeepsBounds p) (flows : KeepsFlowBo
   abbrev PeriodRow : PaymentEntry → ℕ → PairedRow → Findings → Type 0
   PeriodRow x b m list = IsPeriodRow stream p g (moved (x.first_period - 1) b m) list
 
-  -- the rows of a pair of payments, where what is told of them is quiet
+  -- the periods of a pair of payments, where they report nothing
   quiet_periods : (x : PaymentEntry) (n : ℕ) (b : ℕ) (y : FlowPayment) → slice_get p.payments n ≡ Some x
       → (l : Findings) → ArePeriodsOf stream p g x b y l → IsQuiet l
       → AreQuiet first_day (our_days x) (their_periods b y) (λ (d : ℤ). d) (λ (z : FlowPeriod). z.adjusted_start)
@@ -479,7 +479,7 @@ module _ (p : Part) (g : FlowPart) (bounds : KeepsBounds p) (flows : KeepsFlowBo
 
   -- ---- payments
 
-  -- the payments, where what is told of them is quiet
+  -- the payments of a stream, where they report nothing
   quiet_payments : (l : Findings) → ArePaymentsOf first_day stream p g l → IsQuiet l
       → AreQuiet first_day p.payments g.payments (λ (x : PaymentEntry). x.adjusted) (λ (y : FlowPayment). y.adjusted)
       (IsPaymentRow stream p g)
@@ -691,11 +691,12 @@ nothing_departs s f l within flows numbers h quiet d departs =
           (subst (λ (q : Option FlowPart). StreamDeparts (slice_get s k) q d.kind d.row d.field) none.1 departs.1)
     ]
 
--- a list is empty where it isn't otherwise
+-- a list that can't have a member is empty
 none_of : {X : Type 0} (xs : List X) → ¬ (¬ (xs ≡ [])) → xs ≡ []
 none_of [] h = refl
 none_of (x ∷ xs) h = absurd (h (λ some. cc))
 
+-- where no break is listed, no field is unstated and each pair has one number, the flows agree
 pub unbroken_agrees : (s : List Part) (f : List FlowPart) (l : Findings) → IsWithin s → FlowsAreWithin f
     → HaveOneNumber None s f → IsBreakList None s f l → ¬ (HasBreak l) → sum_by (λ (c : Counts). c.unstated) l.pairs ≡ 0
     → Agrees f s

@@ -84,7 +84,7 @@ date_at from dates r c =
 
 -- ---- all rows have partners
 
--- what is told of each listed row, where all of it is quiet
+-- each listed row reports nothing, where all of them together do
 quiet_row : (from : ℤ) (ours theirs : List (Option ℤ)) (Told : PairedRow → Findings → Type 0) (l : Findings)
     → AreTold from ours theirs Told l → IsQuiet l → (m : PairedRow) → IsListed from ours theirs m
     → (a : Findings) × Told m a × IsQuiet a
@@ -95,7 +95,7 @@ quiet_row from ours theirs Told l h q m listed =
     let row = quiet_up_to (RowAt Told h.rows) (length h.rows) l h.each q c.0 c.1 in
     (row.0, subst (λ (o : Option PairedRow). OnRow Told o row.0) at row.1, row.2)
 
--- rows of two lists with dates: what is told of them is quiet, and a row alone would not be
+-- Rows of two lists with dates: they report nothing, and a row alone would break.
 pub record AreQuiet {X Y : Type 0} (from : ℤ) (xs : List X) (ys : List Y) (day : X → ℤ) (stated : Y → Option ℤ)
     (Told : PairedRow → Findings → Type 0) : Type 0 where
   pub all : Findings
@@ -122,7 +122,7 @@ date_of f xs n x at = slice_get-map f xs n ∙ ap (λ (o : Option _). option_map
 
 module _ {X Y : Type 0} (from : ℤ) (xs : List X) (ys : List Y) (day : X → ℤ) (stated : Y → Option ℤ)
     (Told : PairedRow → Findings → Type 0) (h : AreQuiet from xs ys day stated Told) where
-  -- each row of ours has a partner, and what is told of the pair is quiet
+  -- each row of ours has a partner, and the pair reports nothing
   pub has_partner : (n : ℕ) (x : X) → slice_get xs n ≡ Some x
       → ((s : DatedRow) (y : Y) (a : Findings) → ArePaired (rows_from from 0 (map (λ (z : X). Some (day z)) xs)) (rows_from from 0 (map stated ys)) (record { day = day x; place = n }) s
       → slice_get ys s.place ≡ Some y → Told (record { day = Some (day x); ours = Some n; theirs = Some s.place }) a

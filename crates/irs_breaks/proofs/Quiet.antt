@@ -92,7 +92,7 @@ settled_each (f ∷ fs) breaks (inr h) none zeros =
           (record { same = h.0; told = fails }, settled_each fs breaks h.1 none (sym rest ∙ zeros))
     ]
 
--- where no field is told of, none breaks
+-- no field breaks where none is listed
 no_fields : (place : BreakPlace) (fields : List FieldValues) → field_breaks place fields ≡ [] → fields ≡ []
 no_fields place [] h = refl
 no_fields place (f ∷ fs) h = absurd (cc)

@@ -56,8 +56,8 @@ pub fn stated_is_unbroken()
         → sum_by (λ (c : Counts). c.unstated) l.pairs ≡ 0 }
 {}
 
-/// Where from no day on nothing breaks, nothing is unstated and each pair of rows has one number on both sides, the
-/// cash flows agree with the schedule, so that `audit` says yes.
+/// The converse, from no day on. Let nothing break, let nothing be unstated, and let each pair of rows have one number
+/// on both sides. Then the cash flows agree with the schedule, so that `audit` says yes.
 pub fn unbroken_is_agreed()
     ensures { (s : List Part) (f : List FlowPart) (l : Findings) → IsWithin s → FlowsAreWithin f → HaveOneNumber None s f
         → IsBreakList None s f l → ¬ (HasBreak l) → sum_by (λ (c : Counts). c.unstated) l.pairs ≡ 0 → Agrees f s }
