@@ -118,6 +118,7 @@ int_same a b h = elim (cases_Bool (int_eq a b)) [
   | inr f ↦ absurd (h (λ e. let t = true_eq a b e in cc))
 ]
 
+-- numbers that can't be unequal are equal
 pub nat_same : (a b : ℕ) → ((¬ (a ≡ b)) → ⊥) → a ≡ b
 nat_same a b h = elim (cases_lt a b) [
   | inl l ↦ absurd (h (λ e. omega (arith, l, e)))
@@ -170,6 +171,7 @@ get_take (suc k) j [] h = refl
 get_take (suc k) zero (x ∷ xs) h = refl
 get_take (suc k) (suc j) (x ∷ xs) h = get_take k j xs (omega (arith, h))
 
+-- a front of k members has at most k
 pub take_few : {X : Type 0} (k : ℕ) (xs : List X) → length (take k xs) ≤ k
 take_few zero xs = omega arith
 take_few (suc k) [] = omega arith
@@ -182,6 +184,7 @@ get_drop (suc i) j (x ∷ xs) =
     let e : suc (i + j) ≡ suc i + j = omega arith in
     get_drop i j xs ∙ ap (λ (n : ℕ). slice_get (x ∷ xs) n) e
 
+-- a member of a part of a list, by its place in the list
 pub get_part : {X : Type 0} (i k j : ℕ) (xs : List X) → j < k → slice_get (take k (drop i xs)) j ≡ slice_get xs (i + j)
 get_part i k j xs h = get_take k j (drop i xs) h ∙ get_drop i j xs
 
@@ -195,6 +198,7 @@ Match R (Some x) None = ⊥
 Match R None (Some y) = ⊥
 Match R None None = Unit {0}
 
+-- lists that match at each place are related member by member
 pub pairs_at : {X Y : Type 0} (R : X → Y → Type 0) (xs : List X) (ys : List Y)
     → ((k : ℕ) → Match R (slice_get xs k) (slice_get ys k)) → Pairs R xs ys
 pairs_at R [] [] h = tt
