@@ -11,3 +11,5 @@ pub mod LinesRead
 pub mod FileRead
 pub mod KeptRows
 pub mod RatesAlone
+pub mod TwoProducts
+pub mod PrecisionLemmas

@@ -12,4 +12,5 @@ pub mod DerivedRows
 pub mod Texts
 pub mod Reading
 pub mod FileLaw
+pub mod TwoPrecisions
 pub mod Overnight
