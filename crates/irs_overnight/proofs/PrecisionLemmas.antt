@@ -1,13 +1,13 @@
 -- The observed rate and the derived rate of one period: they have the same members, weights and rates, and are near.
-use Rattle.std.proofs.Common.{◌≡◌, inl, inr, ℕ, zero, suc, ◌+◌, ◌-◌, ◌*◌, ◌^◌, ◌<◌, ◌≤◌, min, List, [], ◌∷◌, length, take}
-use Rattle.std.proofs.Common.{Option, Some, None, IfSome, ℤ, pos, negsuc, ◌+ℤ◌, ◌-ℤ◌, ◌*ℤ◌, ◌≤ℤ◌, ◌<ℤ◌, ◌⊎◌, refl, sym, subst}
+use Rattle.std.proofs.Common.{◌≡◌, inl, inr, ℕ, zero, suc, ◌+◌, ◌-◌, ◌*◌, ◌^◌, ◌<◌, ◌≤◌, min, List, [], ◌∷◌, length}
+use Rattle.std.proofs.Common.{Option, Some, None, IfSome, ℤ, pos, ◌+ℤ◌, ◌-ℤ◌, ◌*ℤ◌, ◌≤ℤ◌, ◌<ℤ◌, ◌⊎◌, refl, sym, subst}
 use Rattle.std.proofs.Common.{◌∙◌, ap, arith}
 use Rattle.std.specs.Prelude.{unsigned_abs}
 use Rattle.std.proofs.lemmas.Bool.{cases_lt}
 use Rattle.std.proofs.lemmas.List.{take_all}
 use Rattle.jiff_core.proofs.SignedLemmas.{signed_arith}
-use Rattle.irs_base.specs.Days.{IsDay, all_days}
-use Rattle.irs_base.specs.Members.{EachNumbered, Every, Pairs, day_at}
+use Rattle.irs_base.specs.Days.{IsDay}
+use Rattle.irs_base.specs.Members.{EachNumbered, Pairs, day_at}
 use Rattle.irs_base.specs.Rounding.{Rounded}
 use Rattle.irs_base.specs.declared.rounding.Direction.TheVariants.{Nearest}
 use Rattle.irs_base.proofs.Decided.{order_of}
@@ -21,8 +21,7 @@ use Rattle.irs_resets.specs.Rates.{RateTable}
 use Rattle.irs_observed.specs.DailyRates.{DailyRates, daily_rates}
 use Rattle.irs_observed.specs.Factors.{Grows as GrowsFine, GrowsBy as GrowsFineBy, one_factor as one_fine}
 use Rattle.irs_observed.specs.ObservationPeriods.{observed_period}
-use Rattle.irs_observed.specs.ObservationWalk.{good_at}
-use Rattle.irs_observed.specs.Observations.{AreObserved as AreObservedFine, IsObservation as IsObserved, place_observed}
+use Rattle.irs_observed.specs.Observations.{AreObserved as AreObservedFine, IsObservation as IsObserved}
 use Rattle.irs_observed.specs.Observations.{total_weight}
 use Rattle.irs_observed.specs.ObservedRates.{Fraction, IsObservedRate, days_of_year, rate_precision}
 use Rattle.irs_observed.specs.OvernightRates.{IsOvernightRate, IsRateOver, OvernightSource, period_of, printed}
@@ -45,14 +44,15 @@ use Rattle.irs_overnight.specs.Observations.{AreObservations, AreObserved, IsObs
 use Rattle.irs_overnight.specs.Sources.{RateLines, daily_lines, rate_by}
 use Rattle.irs_overnight.specs.Starts.{AreStarts, Starts}
 use Rattle.irs_overnight.specs.TwoPrecisions.{AgreeAsPrinted, AgreeInStream, AgreeUnrounded, AreNear, CompoundedPeriod}
-use Rattle.irs_overnight.specs.TwoPrecisions.{HasDays, IsObservedIn, IsOneStream, StaysLow, compounded_period, up_to_ten}
-use Rattle.irs_overnight.specs.TwoPrecisions.{with_parameters, without_parameters}
+use Rattle.irs_overnight.specs.TwoPrecisions.{HasDays, IsObservedIn, IsOneStream, StaysLow, compounded_period}
+use Rattle.irs_overnight.specs.TwoPrecisions.{up_to_ten, with_parameters, without_parameters}
 use Rattle.irs_overnight.specs.declared.derived.DerivedRow.{DerivedRow}
 use Rattle.irs_overnight.specs.declared.derived.Found.{Found}
 use Rattle.irs_overnight.specs.declared.derived.Found.TheVariants.{Rate}
 use Rattle.irs_overnight.specs.declared.observations.Observation.{Observation}
 use Rattle.irs_overnight.proofs.PeriodLemmas.{some_basis}
-use Rattle.irs_overnight.proofs.TwoProducts.{Close, Near, Stays, near_by, near_fractions, near_printed, stays_next, stays_one}
+use Rattle.irs_overnight.proofs.TwoProducts.{Close, Near, Stays, near_by, near_fractions, near_printed, stays_next}
+use Rattle.irs_overnight.proofs.TwoProducts.{stays_one}
 
 -- ---- the same members
 
@@ -171,7 +171,8 @@ module _ (basis : ℕ) (some : 0 < 10 ^ 9 * basis) (daily : DailyRates) where
       subst (λ (w : ℤ). Rounded Nearest (g *ℤ (year_of basis +ℤ coarse.rate *ℤ w)) (year_of basis) k) same.weight
       coarse.rounded in
       let by : Rounded Nearest (g *ℤ (year_of basis +ℤ fine.rate *ℤ pos o.weight)) (year_of basis) k =
-      subst (λ (r : ℤ). Rounded Nearest (g *ℤ (year_of basis +ℤ r *ℤ pos o.weight)) (year_of basis) k) (sym rate) days in
+      subst (λ (r : ℤ). Rounded Nearest (g *ℤ (year_of basis +ℤ r *ℤ pos o.weight)) (year_of basis) k) (sym rate)
+      days in
       stays_next (10 ^ 9 * basis) o.weight v some same.above few fine.rate f g h k
       (rate_meets (λ r. pos 0 ≤ℤ r) (daily o.observed) fine.rate low fine.is_rate) s fine.rounded by
 
@@ -288,7 +289,8 @@ module _ (p : CompoundedPeriod) (has : HasDays p) (low : StaysLow p) (x : Fracti
       within = omega arith;
       factor = is.is_rate.factor;
       reaches = subst
-          (λ (os : List Observed). GrowsFine (days_of_year p.year) (daily_rates p.rates p.index) os (one_fine up_to_ten) is.is_rate.factor)
+          (λ (os : List Observed). GrowsFine (days_of_year p.year) (daily_rates p.rates p.index) os
+          (one_fine up_to_ten) is.is_rate.factor)
           (sym (take_all (length is.observations) is.observations (omega arith))) is.is_rate.grows;
       passes = subst (λ (f : ℤ). 10 ^ 19 < unsigned_abs f) (sym stays.is_fine) past;
     }))
@@ -365,7 +367,10 @@ denominator_above year daily os x some is =
 known_over : (source : OvernightSource) (rates : RateTable) (i : ℕ) (x : Fraction)
     → IsOvernightRate source rates i (Known x)
     → IsRateOver source.method (daily_rates rates source.index) (period_of source i) (Known x)
-known_over source rates i x is = elim is.is_rate [ inl stated ↦ absurd (not_stated x stated.0 stated.2) | inr over ↦ over.1 ]
+known_over source rates i x is = elim is.is_rate [
+  | inl stated ↦ absurd (not_stated x stated.0 stated.2)
+  | inr over ↦ over.1
+]
   where
     not_stated : (x : Fraction) (rate : ℤ) → Known x ≡ Stated rate → ⊥
     not_stated x rate e = cc

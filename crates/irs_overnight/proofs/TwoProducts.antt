@@ -1,5 +1,5 @@
 -- One product at two precisions: a factor f in units of 10^-18 and a factor g in units of 10^-15 stay close.
-use Rattle.std.proofs.Common.{◌≡◌, ℕ, zero, suc, ◌+◌, ◌*◌, ◌^◌, ◌<◌, ◌≤◌, ℤ, pos, negsuc, ◌+ℤ◌, ◌-ℤ◌, ◌*ℤ◌, ◌≤ℤ◌, ◌<ℤ◌}
+use Rattle.std.proofs.Common.{◌≡◌, ℕ, ◌+◌, ◌*◌, ◌^◌, ◌<◌, ◌≤◌, ℤ, pos, negsuc, ◌+ℤ◌, ◌-ℤ◌, ◌*ℤ◌, ◌≤ℤ◌, ◌<ℤ◌}
 use Rattle.std.proofs.Common.{unsigned_abs, refl, subst, arith, inl, inr}
 use Rattle.std.proofs.Math.Nat.{mul-le-mul_left, mul-le-mul}
 use Rattle.std.proofs.lemmas.Bool.{cases_lt}
@@ -39,8 +39,8 @@ pub record Close (w f g : ℕ) : Type 0 where
   pub above : 10 ^ 18 * f ≤ 10 ^ 21 * g + 501 * (w * f)
   pub below : 10 ^ 21 * g ≤ 10 ^ 18 * f + 501 * (w * f)
 
-module _ (y m f g h k v w : ℕ) (some : 0 < y) (day : 1 ≤ w) (few : v ≤ 10 ^ 15) (large : 10 ^ 18 ≤ h) (fine : Next y m f h)
-    (coarse : Next y m g k) where
+module _ (y m f g h k v w : ℕ) (some : 0 < y) (day : 1 ≤ w) (few : v ≤ 10 ^ 15) (large : 10 ^ 18 ≤ h)
+    (fine : Next y m f h) (coarse : Next y m g k) where
   -- what rounding adds is within the share of a day
   room : 501 * v + 1001 * 10 ^ 18 ≤ 1002 * (w * h)
   room =

@@ -1,12 +1,12 @@
--- One period compounded at two precisions: its observed rate, by factors of 18 decimals, and the rate that is derived for
--- it, by factors of 15.
+-- One period compounded at two precisions: its observed rate, by factors of 18 decimals, and its derived rate, by
+-- factors of 15.
 use Rattle.std.specs.Prelude.{◌≡◌, ℕ, ◌-◌, ◌*◌, ◌^◌, ◌<◌, ◌≤◌, List, Some, ℤ, pos, ◌-ℤ◌, ◌*ℤ◌, ◌≤ℤ◌, ◌<ℤ◌, unsigned_abs}
 use Rattle.irs_base.specs.Days.{IsDay}
 use Rattle.irs_base.specs.Members.{day_at}
 use Rattle.irs_terms.specs.declared.parameters.ObservationOffset.TheVariants.{Absent}
 use Rattle.irs_calendar.specs.GoodDays.{DaySet}
 use Rattle.irs_resets.specs.Rates.{RateTable}
-use Rattle.irs_observed.specs.DailyRates.{DailyRates, daily_rates}
+use Rattle.irs_observed.specs.DailyRates.{daily_rates}
 use Rattle.irs_observed.specs.Factors.{FactorPasses as PassesAt, Precision}
 use Rattle.irs_observed.specs.ObservationPeriods.{ObservedPeriod, observed_period}
 use Rattle.irs_observed.specs.Observations.{AreObservations as AreObserved}
