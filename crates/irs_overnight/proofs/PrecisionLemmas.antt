@@ -334,6 +334,7 @@ near_of x y a b c d xn xd yn yd near =
     (subst (λ (v : ℤ). AreNear (record { numerator = v; denominator = b }) (record { numerator = c; denominator = d }))
     (sym xn) near)))
 
+-- before they are rounded the two rates of a period are near
 pub agree_unrounded : (p : CompoundedPeriod) → AgreeUnrounded p
 agree_unrounded p has low x y is derived =
     let end = ends p has low x is derived.observations derived.are_observations derived.factor derived.grows in
@@ -344,6 +345,7 @@ agree_unrounded p has low x y is derived =
     (derived.denominator ∙ ap (λ (d : ℤ). pos (10 ^ 15) *ℤ d) end.days)
     (near_fractions basis end.weight end.fine end.coarse end.some end.near)
 
+-- as they are printed the two rates of a period differ by at most 1
 pub agree_as_printed : (p : CompoundedPeriod) → AgreeAsPrinted p
 agree_as_printed p has low x z r is shown finds =
     let end = ends p has low x is finds.observations finds.are finds.is.factor finds.is.grows in
@@ -400,6 +402,7 @@ module _ (observed : OvernightSource) (derived : DailySource) (rates : RateTable
       subst (λ (l : RateLines). FindsRate (daily_period (days_of_year year) l observed.applicable
       (day_at observed.adjusted (i - 1)) (day_at observed.adjusted i)) (Rate r)) one.lines d
 
+-- so do the rates of each period of a stream in both forms
 pub agree_in_stream : (observed : OvernightSource) (derived : DailySource) (rates : RateTable) (year : YearDays)
     → AgreeInStream observed derived rates year
 agree_in_stream observed derived rates year one i x row r has low is row_is found =

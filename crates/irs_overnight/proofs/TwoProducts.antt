@@ -156,6 +156,7 @@ pub record Near (b w a c : ℕ) : Type 0 where
   pub above : b * a ≤ 1000 * (b * c) + 1828650 * w
   pub below : 1000 * (b * c) ≤ b * a + 1828650 * w
 
+-- two factors that are close give fractions that are near
 pub near_by : (b w a c : ℕ) → b ≤ 365 → 10 ^ 18 + a ≤ 10 ^ 19 → Close w (10 ^ 18 + a) (10 ^ 15 + c) → Near b w a c
 near_by b w a c year small close =
     let size : w * (10 ^ 18 + a) ≤ w * 10 ^ 19 = mul-le-mul_left w small in

@@ -27,8 +27,8 @@ use Rattle.irs_overnight.specs.declared.derived.DerivedRow.{DerivedRow}
 use Rattle.irs_overnight.specs.declared.derived.Found.TheVariants.{Rate}
 use Rattle.irs_overnight.specs.declared.observations.Observation.{Observation}
 
--- a calculation period from its adjusted start to its adjusted end, its business days, the daily rates of an index, and
--- the days of a year
+-- A calculation period from its adjusted start to its adjusted end. It has its business days, the daily rates
+-- of an index, and the days of a year.
 pub record CompoundedPeriod : Type 0 where
   pub year : YearDays
   pub days : DaySet
@@ -96,8 +96,8 @@ AgreeAsPrinted p =
 
 -- ---- over a stream
 
--- what the observed rates of a stream are found from with calculation parameters, and what its derived rates are found
--- from without them: the same calculation periods, business days, daily rates and year
+-- One stream in both forms: with calculation parameters it has observed rates, and without them derived ones.
+-- Both are found from the same calculation periods, business days, daily rates and year.
 pub record IsOneStream (observed : OvernightSource) (derived : DailySource) (rates : RateTable) (year : YearDays)
     : Type 0 where
   pub method : observed.method ≡ Compounding year
